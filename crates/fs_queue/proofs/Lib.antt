@@ -1,0 +1,5 @@
+pub mod ReadLemmas
+pub mod WalkLemmas
+pub mod TakeLemmas
+pub mod OfferLemmas
+pub mod ReturnLemmas

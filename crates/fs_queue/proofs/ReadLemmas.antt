@@ -1,0 +1,63 @@
+-- reads of ranges, by the addresses that were reached
+use Rattle.std.proofs.Common.{◌≡◌, ℕ, true, ◌+◌, ◌^◌, ◌<◌, nat_lt, eqb, List, [], ◌++◌, length, map, take, drop, ap, sym, ◌∙◌, append-nil, arith}
+use Rattle.std.specs.Prelude.{is_ok}
+use Rattle.std.specs.Int.{w16, w32, w64, from_le_bytes}
+use Rattle.std.proofs.lemmas.Bool.Decides.{nat_tests}
+use Rattle.std.proofs.lemmas.List.{take_all, drop_all, take_at, drop_at, map-append, length-map}
+use Rattle.vm_values.specs.declared.address.GuestAddress.{GuestAddress}
+use Rattle.vm_memory_core.specs.Host.{Host}
+use Rattle.vm_memory_core.specs.declared.permissions.Permissions.TheVariants.{Read}
+use Rattle.vm_memory.specs.Layout.{Region, place}
+use Rattle.vm_memory.specs.Memory.{Memory, memory_of, addresses, circular, reached, reach, byte, bytes, transferred}
+use Rattle.vm_memory.proofs.Places.{circular-is, length-circular, length-addresses, list_all-reached, addresses-append}
+use Rattle.fs_queue.specs.Chain.{descriptor_at}
+
+-- a transfer succeeds where all was done
+pub is_ok-transferred : (a : GuestAddress) (n k : ℕ) → is_ok (transferred a n k) ≡ eqb k n
+is_ok-transferred a n k = grind arith
+
+below : (n : ℕ) → n < 2 ^ 64 → nat_lt n (2 ^ 64) ≡ true
+below n h = grind (arith, nat_tests)
+
+-- a range is reached where each of its addresses is
+pub reach-is : (h : Host) (l : List Region) (a n : ℕ) → a + n < 2 ^ 64 → reach (memory_of h l) Read a n ≡ eqb (reached (place l) (circular a n)) n
+reach-is h l a n fits =
+    rw (below (a + n) fits) (list_all-reached (addresses a n) (place l)
+    ∙ ap (eqb (reached (place l) (addresses a n))) (length-addresses n a)
+    ∙ ap (λ (xs : List ℕ). eqb (reached (place l) xs) n) (sym (circular-is n a fits)))
+
+-- a buffer that was read to its end
+pub read_all : (m : Memory) (a n k : ℕ) (old new : List ℕ) → a + n < 2 ^ 64 → length old ≡ n → k ≡ n →
+    new ≡ map (byte m) (take k (circular a n)) ++ drop k old → new ≡ bytes m a n
+read_all m a n k old new fits size all is =
+    let front : take k (circular a n) ≡ addresses a n = take_all k (circular a n) (omega (arith, length-circular n a)) ∙ circular-is n a fits in
+    let back : drop k old ≡ [] = drop_all k old (omega arith) in
+    is ∙ rw (front, back) (append-nil (map (byte m) (addresses a n)))
+
+-- the front and the rest of a range's bytes
+bytes-append : (m : Memory) (a j k : ℕ) → bytes m a (j + k) ≡ bytes m a j ++ bytes m (a + j) k
+bytes-append m a j k = ap (map (byte m)) (addresses-append j k a) ∙ map-append (byte m) (addresses a j) (addresses (a + j) k)
+
+length-bytes : (m : Memory) (a n : ℕ) → length (bytes m a n) ≡ n
+length-bytes m a n = length-map (addresses a n) (byte m) ∙ length-addresses n a
+
+front_bytes : (m : Memory) (a j k : ℕ) → take j (bytes m a (j + k)) ≡ bytes m a j
+front_bytes m a j k = ap (take j) (bytes-append m a j k) ∙ take_at (bytes m a j) (bytes m (a + j) k) j (length-bytes m a j)
+
+back_bytes : (m : Memory) (a j k : ℕ) → drop j (bytes m a (j + k)) ≡ bytes m (a + j) k
+back_bytes m a j k = ap (drop j) (bytes-append m a j k) ∙ drop_at (bytes m a j) (bytes m (a + j) k) j (length-bytes m a j)
+
+-- sixteen bytes spell the descriptor at their address
+pub decoded : (m : Memory) (a : ℕ) (b : List ℕ) → b ≡ bytes m a 16 →
+    record {
+      addr = from_le_bytes w64 (take 8 b);
+      len = from_le_bytes w32 (take 4 (drop 8 b));
+      flags = from_le_bytes w16 (take 2 (drop 12 b));
+      next = from_le_bytes w16 (drop 14 b);
+    } ≡ descriptor_at m a
+decoded m a b is =
+    let p1 : take 8 b ≡ bytes m a 8 = ap (take 8) is ∙ front_bytes m a 8 8 in
+    let p2 : take 4 (drop 8 b) ≡ bytes m (a + 8) 4 = ap (λ (l : List ℕ). take 4 (drop 8 l)) is ∙ ap (take 4) (back_bytes m a 8 8) ∙ front_bytes m (a + 8) 4 4 in
+    let p3 : take 2 (drop 12 b) ≡ bytes m (a + 12) 2 = ap (λ (l : List ℕ). take 2 (drop 12 l)) is ∙ ap (take 2) (back_bytes m a 12 4) ∙ front_bytes m (a + 12) 2 2 in
+    let p4 : drop 14 b ≡ bytes m (a + 14) 2 = ap (drop 14) is ∙ back_bytes m a 14 2 in
+    rw (p1, p2, p3, p4)

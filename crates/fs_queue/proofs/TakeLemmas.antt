@@ -1,0 +1,212 @@
+-- the descriptors of one direction, one at a time, and what a queue offers by its parts
+use mathlib.Core.Bool.{beq}
+use Rattle.std.proofs.Common.{◌≡◌, ℕ, Bool, true, false, ◌+◌, ◌^◌, ◌<◌, ◌≤◌, ◌&&◌, ◌||◌, ◌++◌, not, nat_lt, List, [], ◌∷◌, drop, map, filter, length, refl, ap, sym, ◌∙◌, arith, suc, Option, Some, None, append-nil, length-append}
+use Rattle.std.specs.Prelude.{is_some}
+use Rattle.std.specs.List.{list_all, flat_map}
+use Rattle.std.specs.Option.{option_map, option_and_then}
+use Rattle.std.proofs.lemmas.List.{map-append, drop_all}
+use Rattle.std.proofs.lemmas.List.Elements.{All-filter}
+use Rattle.std.proofs.lemmas.List.Sums.{sum_by-cons}
+use Rattle.std.proofs.lemmas.Bool.Decides.{nat_tests}
+use Rattle.std.proofs.Math.Bool.{and_assoc}
+use Rattle.vm_memory_core.specs.Host.{Host, Place}
+use Rattle.vm_memory_core.specs.Window.{AllLieIn}
+use Rattle.vm_memory_core.specs.declared.permissions.Permissions.{Permissions}
+use Rattle.vm_memory_core.specs.declared.permissions.Permissions.TheVariants.{Read, Write}
+use Rattle.vm_memory_core.specs.Window.{byte_in}
+use Rattle.vm_memory.specs.Layout.{Region, place}
+use Rattle.vm_memory.specs.Memory.{Memory, memory_of, addresses, located, after, reach, byte, bytes}
+use Rattle.fs_queue.specs.declared.fault.ChainFault.TheVariants.{RequestUnreachable, RoomUnreachable}
+use Rattle.fs_queue.specs.Walking.{AllFit}
+use Rattle.fs_queue.specs.Taking.{readable, writable, total_len, all_reach, asked_by, Asks, CannotAsk}
+use Rattle.fs_queue.specs.declared.descriptor.Descriptor.{Descriptor}
+use Rattle.fs_queue.specs.Chain.{is_writable}
+use Rattle.fs_queue.specs.Held.{part, addresses_of}
+use Rattle.vm_memory.proofs.Places.{Where, length-addresses, located-append, after-after, bytes-located}
+
+parts : (o : Option Place) (r : Option (List Place)) (ps : List Place) →
+    option_and_then (λ (p : Place). option_map (λ (qs : List Place). p ∷ qs) r) o ≡ Some ps →
+    (p : Place) × (qs : List Place) × (o ≡ Some p) × (r ≡ Some qs) × (ps ≡ p ∷ qs)
+parts None r ps e = absurd (cc)
+parts (Some p) None ps e = absurd (cc)
+parts (Some p) (Some qs) ps e = (p, qs, refl, refl, cc)
+
+-- each address has one place
+pub length-located : (xs : List ℕ) (f : Where) (ps : List Place) → located f xs ≡ Some ps → length ps ≡ length xs
+unfolding located
+length-located [] f ps e = let none : [] ≡ ps = cc in ap length (sym none)
+length-located (x ∷ xs) f ps e =
+    let s = parts (f x) (located f xs) ps e in
+    ap length s.4 ∙ ap suc (length-located xs f s.1 s.3)
+
+pub length-range : (n a : ℕ) (f : Where) (ps : List Place) → located f (addresses a n) ≡ Some ps → length ps ≡ n
+length-range n a f ps e = length-located (addresses a n) f ps e ∙ length-addresses n a
+
+pub none_lies : (lengths : List ℕ) → AllLieIn lengths []
+unfolding AllLieIn
+none_lies lengths k d h = absurd (omega arith)
+
+pub after_empty : (o : Option (List Place)) (ps : List Place) → after [] o ≡ Some ps → o ≡ Some ps
+after_empty None ps e = absurd (cc)
+after_empty (Some qs) ps e = e
+
+-- ---- one direction
+
+same_bool : (w b : Bool) → beq w b ≡ true → w ≡ b
+same_bool true true e = refl
+same_bool true false e = absurd (cc)
+same_bool false true e = absurd (cc)
+same_bool false false e = refl
+
+other_bool : (w b : Bool) → beq w b ≡ false → w ≡ not b
+other_bool true true e = absurd (cc)
+other_bool true false e = refl
+other_bool false true e = refl
+other_bool false false e = absurd (cc)
+
+part-kept : (b : Bool) (d : Descriptor) (ds : List Descriptor) → beq (is_writable d) b ≡ true → part b (d ∷ ds) ≡ d ∷ part b ds
+part-kept true d ds e = rw (same_bool (is_writable d) true e)
+part-kept false d ds e = rw (same_bool (is_writable d) false e)
+
+part-other : (b : Bool) (d : Descriptor) (ds : List Descriptor) → beq (is_writable d) b ≡ false → part b (d ∷ ds) ≡ part b ds
+part-other true d ds e = rw (other_bool (is_writable d) true e)
+part-other false d ds e = rw (other_bool (is_writable d) false e)
+
+lost_step : (o : Option Place) (r s : Option (List Place)) → option_and_then (λ (p : Place). option_map (λ (qs : List Place). p ∷ qs) r) o ≡ None →
+    (r ≡ None → s ≡ None) → option_and_then (λ (p : Place). option_map (λ (qs : List Place). p ∷ qs) s) o ≡ None
+lost_step None r s e h = refl
+lost_step (Some p) None s e h = rw (h refl)
+lost_step (Some p) (Some qs) s e h = absurd (cc)
+
+located-lost : (xs ys : List ℕ) (f : Where) → located f xs ≡ None → located f (xs ++ ys) ≡ None
+unfolding located
+located-lost [] ys f e = absurd (cc)
+located-lost (x ∷ xs) ys f e = lost_step (f x) (located f xs) (located f (xs ++ ys)) e (located-lost xs ys f)
+
+after_found : (o : Option (List Place)) (xs ys : List ℕ) (f : Where) (old new : List Place) → located f xs ≡ o → after old o ≡ Some new →
+    after old (located f (xs ++ ys)) ≡ after new (located f ys)
+after_found None xs ys f old new h e = absurd (cc)
+after_found (Some ps) xs ys f old new h e =
+    let is : old ++ ps ≡ new = cc in
+    ap (after old) (located-append xs ys f ps h) ∙ after-after (located f ys) old ps ∙ ap (λ (l : List Place). after l (located f ys)) is
+
+after_lost : (o : Option (List Place)) (xs ys : List ℕ) (f : Where) (old : List Place) → located f xs ≡ o → after old o ≡ None →
+    after old (located f (xs ++ ys)) ≡ None
+after_lost None xs ys f old h e = ap (after old) (located-lost xs ys f h)
+after_lost (Some ps) xs ys f old h e = absurd (cc)
+
+pub part_found : (f : Where) (b : Bool) (ds : List Descriptor) (i : ℕ) (d : Descriptor) (old new : List Place) → drop i ds ≡ d ∷ drop (i + 1) ds → beq (is_writable d) b ≡ true →
+    after old (located f (addresses d.addr d.len)) ≡ Some new →
+    after old (located f (addresses_of (part b (drop i ds)))) ≡ after new (located f (addresses_of (part b (drop (i + 1) ds))))
+part_found f b ds i d old new next kept found =
+    ap (λ (l : List Descriptor). after old (located f (addresses_of l))) (ap (part b) next ∙ part-kept b d (drop (i + 1) ds) kept)
+    ∙ after_found (located f (addresses d.addr d.len)) (addresses d.addr d.len) (addresses_of (part b (drop (i + 1) ds))) f old new refl found
+
+pub part_lost : (f : Where) (b : Bool) (ds : List Descriptor) (i : ℕ) (d : Descriptor) (old : List Place) → drop i ds ≡ d ∷ drop (i + 1) ds → beq (is_writable d) b ≡ true →
+    after old (located f (addresses d.addr d.len)) ≡ None → after old (located f (addresses_of (part b (drop i ds)))) ≡ None
+part_lost f b ds i d old next kept lost =
+    ap (λ (l : List Descriptor). after old (located f (addresses_of l))) (ap (part b) next ∙ part-kept b d (drop (i + 1) ds) kept)
+    ∙ after_lost (located f (addresses d.addr d.len)) (addresses d.addr d.len) (addresses_of (part b (drop (i + 1) ds))) f old refl lost
+
+pub part_other : (f : Where) (b : Bool) (ds : List Descriptor) (i : ℕ) (d : Descriptor) (old : List Place) → drop i ds ≡ d ∷ drop (i + 1) ds → beq (is_writable d) b ≡ false →
+    after old (located f (addresses_of (part b (drop i ds)))) ≡ after old (located f (addresses_of (part b (drop (i + 1) ds))))
+part_other f b ds i d old next other =
+    ap (λ (l : List Descriptor). after old (located f (addresses_of l))) (ap (part b) next ∙ part-other b d (drop (i + 1) ds) other)
+
+-- the end of the list
+pub part_done : (f : Where) (b : Bool) (ds : List Descriptor) (i : ℕ) (old : List Place) → length ds ≤ i → after old (located f (addresses_of (part b (drop i ds)))) ≡ Some old
+unfolding located
+part_done f true ds i old h = rw (drop_all i ds h) (ap Some (append-nil old))
+part_done f false ds i old h = rw (drop_all i ds h) (ap Some (append-nil old))
+
+pub after-none : (o : Option (List Place)) → after [] o ≡ o
+after-none None = refl
+after-none (Some ps) = refl
+
+abbrev pub no_descriptor : Descriptor
+no_descriptor = record { addr = 0; len = 0; flags = 0; next = 0 }
+
+-- ---- what a chain asks
+
+pub fits_filter : (p : Descriptor → Bool) (ds : List Descriptor) → AllFit ds → AllFit (filter p ds)
+unfolding AllFit
+fits_filter p ds all = All-filter p (λ (d : Descriptor). d.addr + d.len < 2 ^ 64) ds all
+
+some_step : (o : Option Place) (r : Option (List Place)) (b : Bool) → b ≡ is_some r → (is_some o && b) ≡ is_some (option_and_then (λ (p : Place). option_map (λ (qs : List Place). p ∷ qs) r) o)
+some_step None r b e = refl
+some_step (Some p) None b e = e
+some_step (Some p) (Some qs) b e = e
+
+list_all-located : (xs : List ℕ) (f : Where) → list_all (λ a. is_some (f a)) xs ≡ is_some (located f xs)
+unfolding located
+list_all-located [] f = refl
+list_all-located (x ∷ xs) f = some_step (f x) (located f xs) (list_all (λ a. is_some (f a)) xs) (list_all-located xs f)
+
+list_all-append : (xs ys : List ℕ) (f : Where) → (list_all (λ a. is_some (f a)) xs && list_all (λ a. is_some (f a)) ys) ≡ list_all (λ a. is_some (f a)) (xs ++ ys)
+list_all-append [] ys f = refl
+list_all-append (x ∷ xs) ys f = and_assoc (is_some (f x)) (list_all (λ a. is_some (f a)) xs) (list_all (λ a. is_some (f a)) ys) ∙ ap (λ b. is_some (f x) && b) (list_all-append xs ys f)
+
+below : (n : ℕ) → n < 2 ^ 64 → nat_lt n (2 ^ 64) ≡ true
+below n h = grind (arith, nat_tests)
+
+-- a range without an IOMMU, whatever the access
+pub reach-range : (h : Host) (l : List Region) (access : Permissions) (a n : ℕ) → a + n < 2 ^ 64 → reach (memory_of h l) access a n ≡ is_some (located (place l) (addresses a n))
+reach-range h l access a n fits = rw (below (a + n) fits) (list_all-located (addresses a n) (place l))
+
+all_reach_list : (h : Host) (l : List Region) (access : Permissions) (ds : List Descriptor) → AllFit ds →
+    all_reach (memory_of h l) access ds ≡ list_all (λ a. is_some (place l a)) (addresses_of ds)
+unfolding AllFit
+all_reach_list h l access [] all = refl
+all_reach_list h l access (d ∷ ds) all =
+    let here : reach (memory_of h l) access d.addr d.len ≡ list_all (λ a. is_some (place l a)) (addresses d.addr d.len) = rw (below (d.addr + d.len) (all 0 d (omega arith))) in
+    rw (here, all_reach_list h l access ds (λ k x lt. all (suc k) x (omega arith))) (list_all-append (addresses d.addr d.len) (addresses_of ds) (place l))
+
+-- all of some descriptors are reached where their addresses have their places
+pub all_reach-located : (h : Host) (l : List Region) (access : Permissions) (ds : List Descriptor) → AllFit ds →
+    all_reach (memory_of h l) access ds ≡ is_some (located (place l) (addresses_of ds))
+all_reach-located h l access ds all = all_reach_list h l access ds all ∙ list_all-located (addresses_of ds) (place l)
+
+pub bytes-addresses_of : (m : Memory) (ds : List Descriptor) → flat_map (λ d. bytes m d.addr d.len) ds ≡ map (byte m) (addresses_of ds)
+bytes-addresses_of m [] = refl
+bytes-addresses_of m (d ∷ ds) = ap (λ (r : List ℕ). bytes m d.addr d.len ++ r) (bytes-addresses_of m ds) ∙ sym (map-append (byte m) (addresses d.addr d.len) (addresses_of ds))
+
+pub length-addresses_of : (ds : List Descriptor) → length (addresses_of ds) ≡ total_len ds
+length-addresses_of [] = refl
+length-addresses_of (d ∷ ds) =
+    let all = sum_by-cons (λ (x : Descriptor). x.len) d ds in
+    let rest = length-addresses_of ds in
+    let front = length-addresses d.len d.addr in
+    length-append (addresses d.addr d.len) (addresses_of ds) ∙ omega (arith, front, rest, all)
+
+not_above : (n limit : ℕ) → n ≤ limit → nat_lt limit n ≡ false
+not_above n limit h = grind (arith, nat_tests)
+
+within_limit : (limit a b : ℕ) → a ≤ limit → b ≤ limit → (nat_lt limit a || nat_lt limit b) ≡ false
+within_limit limit a b h k = rw (not_above a limit h, not_above b limit k)
+
+pub asks_nothing_read : (h : Host) (l : List Region) (limit : ℕ) (ds : List Descriptor) → AllFit ds → total_len (readable ds) ≤ limit → total_len (writable ds) ≤ limit →
+    None ≡ located (place l) (addresses_of (readable ds)) → asked_by (memory_of h l) limit ds ≡ CannotAsk RequestUnreachable
+asks_nothing_read h l limit ds all a b lost =
+    let r : all_reach (memory_of h l) Read (readable ds) ≡ false = all_reach-located h l Read (readable ds) (fits_filter (λ d. not (is_writable d)) ds all) ∙ ap is_some (sym lost) in
+    rw (within_limit limit (total_len (readable ds)) (total_len (writable ds)) a b, r)
+
+pub asks_nothing_written : (h : Host) (l : List Region) (limit : ℕ) (ds : List Descriptor) (ps : List Place) → AllFit ds → total_len (readable ds) ≤ limit → total_len (writable ds) ≤ limit →
+    Some ps ≡ located (place l) (addresses_of (readable ds)) → None ≡ located (place l) (addresses_of (writable ds)) → asked_by (memory_of h l) limit ds ≡ CannotAsk RoomUnreachable
+asks_nothing_written h l limit ds ps all a b found lost =
+    let r : all_reach (memory_of h l) Read (readable ds) ≡ true = all_reach-located h l Read (readable ds) (fits_filter (λ d. not (is_writable d)) ds all) ∙ ap is_some (sym found) in
+    let w : all_reach (memory_of h l) Write (writable ds) ≡ false = all_reach-located h l Write (writable ds) (fits_filter is_writable ds all) ∙ ap is_some (sym lost) in
+    rw (within_limit limit (total_len (readable ds)) (total_len (writable ds)) a b, r, w)
+
+pub asks : (h : Host) (l : List Region) (limit : ℕ) (ds : List Descriptor) (ps qs : List Place) → AllFit ds → total_len (readable ds) ≤ limit → total_len (writable ds) ≤ limit →
+    Some ps ≡ located (place l) (addresses_of (readable ds)) → Some qs ≡ located (place l) (addresses_of (writable ds)) →
+    asked_by (memory_of h l) limit ds ≡ Asks (map (byte_in h) ps) (addresses_of (writable ds))
+asks h l limit ds ps qs all a b found room =
+    let r : all_reach (memory_of h l) Read (readable ds) ≡ true = all_reach-located h l Read (readable ds) (fits_filter (λ d. not (is_writable d)) ds all) ∙ ap is_some (sym found) in
+    let w : all_reach (memory_of h l) Write (writable ds) ≡ true = all_reach-located h l Write (writable ds) (fits_filter is_writable ds all) ∙ ap is_some (sym room) in
+    let request : flat_map (λ d. bytes (memory_of h l) d.addr d.len) (readable ds) ≡ map (byte_in h) ps =
+    bytes-addresses_of (memory_of h l) (readable ds) ∙ bytes-located (addresses_of (readable ds)) (memory_of h l) ps (sym found) in
+    rw (within_limit limit (total_len (readable ds)) (total_len (writable ds)) a b, r, w) (ap (λ (x : List ℕ). Asks x (addresses_of (writable ds))) request)
+
+-- how many places a direction has
+pub length-part : (f : Where) (ds : List Descriptor) (ps : List Place) → Some ps ≡ located f (addresses_of ds) → length ps ≡ total_len ds
+length-part f ds ps e = length-located (addresses_of ds) f ps (sym e) ∙ length-addresses_of ds

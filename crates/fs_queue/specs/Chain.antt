@@ -1,0 +1,102 @@
+-- The chain of descriptors that begins at a head (VIRTIO 1.2, 2.7.5 and 2.7.5.3).
+use Rattle.std.specs.Prelude.{ℕ, zero, suc, ◌+◌, ◌-◌, ◌*◌, ◌^◌, Bool, false, not, ◌&&◌, nat_le, nat_lt, ◌==◌, List, [], ◌∷◌, Option, Some, None, if◌then◌else◌}
+use Rattle.std.specs.Int.{w16, w32, w64}
+use Rattle.vm_memory_core.specs.declared.permissions.Permissions.TheVariants.{Read}
+use Rattle.vm_memory.specs.Memory.{Memory, number, reach}
+use Rattle.fs_queue.specs.declared.fault.ChainFault.{ChainFault}
+use Rattle.fs_queue.specs.declared.fault.ChainFault.TheVariants.{TooLong, NextOutOfTable, AddressOverflow, TableUnreachable}
+use Rattle.fs_queue.specs.declared.descriptor.Descriptor.{Descriptor}
+use Rattle.fs_queue.specs.declared.walk.Verdict.{Verdict}
+use Rattle.fs_queue.specs.declared.walk.Verdict.TheVariants.{Joins, Faulty, Stops}
+use Rattle.fs_queue.specs.Queue.{Queue, has_bit}
+
+abbrev pub descriptor_at : Memory → ℕ → Descriptor
+descriptor_at m a = record { addr = number m w64 a; len = number m w32 (a + 8); flags = number m w16 (a + 12); next = number m w16 (a + 14) }
+
+abbrev pub has_next : Descriptor → Bool
+has_next d = has_bit d.flags 0
+
+abbrev pub is_writable : Descriptor → Bool
+is_writable d = has_bit d.flags 1
+
+abbrev pub is_indirect : Descriptor → Bool
+is_indirect d = has_bit d.flags 2
+
+-- a table of descriptors: the queue's own, or one that a descriptor names
+pub record DescriptorTable : Type 0 where
+  pub address : ℕ
+  pub entries : ℕ
+  pub indirect : Bool
+
+-- a step of a walk: an entry of a table, and how many descriptors the chain may still have
+pub record Visit : Type 0 where
+  pub table : DescriptorTable
+  pub index : ℕ
+  pub left : ℕ
+
+abbrev pub ends_in_64_bits : Descriptor → Bool
+ends_in_64_bits d = nat_lt (d.addr + d.len) (2 ^ 64)
+
+-- a descriptor that names a table: no table is read so far (2.7.5.3.1)
+abbrev pub indirect_verdict : Visit → Descriptor → Verdict
+indirect_verdict v d = Faulty TableUnreachable
+
+-- any other
+abbrev pub ordinary_verdict : Visit → Descriptor → Verdict
+ordinary_verdict v d =
+    if v.left == 0 then Faulty TooLong
+    else if nat_lt 0 d.len && not (ends_in_64_bits d) then Faulty AddressOverflow
+    else Joins d
+
+abbrev pub verdict_at : Memory → Visit → ℕ → Verdict
+verdict_at m v a =
+    if not (reach m Read a 16) then (if v.table.indirect then Faulty TableUnreachable else Stops)
+    else if is_indirect (descriptor_at m a) then indirect_verdict v (descriptor_at m a)
+    else ordinary_verdict v (descriptor_at m a)
+
+abbrev pub verdict : Memory → Visit → Verdict
+verdict m v =
+    if nat_le v.table.entries v.index then Faulty NextOutOfTable
+    else verdict_at m v (v.table.address + 16 * v.index)
+
+abbrev pub after : Visit → Verdict → Option Visit
+after v (Joins d) = if has_next d then Some (record { table = v.table; index = d.next; left = v.left - 1 }) else None
+after v (Faulty fault) = None
+after v Stops = None
+
+abbrev pub onward : (Visit → List Visit) → Option Visit → List Visit
+onward next None = []
+onward next (Some v) = next v
+
+-- the steps from one on, at most n of them
+unfoldable pub path : Memory → ℕ → Visit → List Visit
+path m zero v = []
+path m (suc n) v = v ∷ onward (path m n) (after v (verdict m v))
+
+-- the walk from a head. It has at most size + 2 steps
+abbrev pub walk : Memory → Queue → ℕ → List Visit
+walk m q head = path m (q.size + 2) (record { table = record { address = q.desc; entries = q.size; indirect = false }; index = head; left = q.size })
+
+-- what a walk finds
+pub data Found : Type 0 where
+  IsChain : List Descriptor → Found
+  HasFault : ChainFault → Found
+  StopsQueue : Found
+
+abbrev pub with_front : Descriptor → Found → Found
+with_front d (IsChain ds) = IsChain (d ∷ ds)
+with_front d (HasFault fault) = HasFault fault
+with_front d StopsQueue = StopsQueue
+
+abbrev pub joined : Verdict → Found → Found
+joined (Joins d) rest = with_front d rest
+joined (Faulty fault) rest = HasFault fault
+joined Stops rest = StopsQueue
+
+-- the descriptors that joined, if each step passes; otherwise what the last step has
+unfoldable pub found : Memory → List Visit → Found
+found m [] = IsChain []
+found m (v ∷ vs) = joined (verdict m v) (found m vs)
+
+abbrev pub chain : Memory → Queue → ℕ → Found
+chain m q head = found m (walk m q head)

@@ -1,0 +1,9 @@
+pub mod Lawful
+pub mod Queue
+pub mod Chain
+pub mod Walking
+pub mod Taking
+pub mod Look
+pub mod Returning
+pub mod Held
+pub mod Writing

@@ -1,0 +1,25 @@
+-- What a queue that isn't stopped finds in its available ring (VIRTIO 1.2, 2.7.6 and 2.7.13 from the device's side).
+use Rattle.std.specs.Prelude.{◌+◌, ◌*◌, not, nat_le, nat_lt, ◌==◌, if◌then◌else◌}
+use Rattle.vm_memory_core.specs.declared.permissions.Permissions.TheVariants.{Read}
+use Rattle.vm_memory.specs.Memory.{Memory, reach}
+use Rattle.fs_queue.specs.declared.look.Look.{Look}
+use Rattle.fs_queue.specs.declared.look.Look.TheVariants.{Idle, Head, Refused}
+use Rattle.fs_queue.specs.declared.fault.QueueError.{QueueError}
+use Rattle.fs_queue.specs.declared.fault.QueueError.TheVariants.{AvailIndexUnreachable, AvailTooFar, RingEntryUnreachable, HeadOutOfTable}
+use Rattle.fs_queue.specs.Queue.{Queue, waiting, slot, head}
+
+-- the head that waits, nothing, or the first refusal that applies
+abbrev pub looked : Memory → Queue → Look
+looked m q =
+    if not (reach m Read (q.avail + 2) 2) then Refused AvailIndexUnreachable
+    else if waiting m q == 0 then Idle
+    else if nat_lt q.size (waiting m q) then Refused AvailTooFar
+    else if not (reach m Read (q.avail + 4 + 2 * slot q) 2) then Refused RingEntryUnreachable
+    else if nat_le q.size (head m q) then Refused HeadOutOfTable
+    else Head (head m q)
+
+-- of a refusal
+abbrev pub IfRefused : Look → (QueueError → Type 0) → Type 0
+IfRefused Idle P = Unit {0}
+IfRefused (Head h) P = Unit {0}
+IfRefused (Refused e) P = P e

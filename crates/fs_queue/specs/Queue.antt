@@ -1,0 +1,44 @@
+-- A split virtqueue: where its parts are, and its available ring (VIRTIO 1.2, 2.7 and 2.7.6).
+use Rattle.std.specs.Prelude.{ℕ, ◌+◌, ◌-◌, ◌*◌, ◌%◌, ◌^◌, Bool, false, not, ◌==◌, bit_and}
+use Rattle.std.specs.Int.{w16}
+use Rattle.vm_memory.specs.Memory.{Memory, number}
+use Rattle.fs_queue.specs.declared.layout.QueueLayout.{QueueLayout}
+
+-- where a queue's parts are, how many chains were taken from it, modulo 2^16, and whether it stopped
+pub record Queue : Type 0 where
+  pub size : ℕ
+  pub desc : ℕ
+  pub avail : ℕ
+  pub used : ℕ
+  pub position : ℕ
+  pub stopped : Bool
+
+-- a queue of this layout from which no chain was taken
+abbrev pub fresh : (size desc avail used : ℕ) → Queue
+fresh size desc avail used = record { size = size; desc = desc; avail = avail; used = used; position = 0; stopped = false }
+
+-- a queue of this layout at a position, which isn't stopped
+abbrev pub at_position : QueueLayout → (position : ℕ) → Queue
+at_position l position = record { size = l.size; desc = l.desc; avail = l.avail; used = l.used; position = position; stopped = false }
+
+-- whether bit k of a number is 1
+abbrev pub has_bit : ℕ → ℕ → Bool
+has_bit n k = not (bit_and n (2 ^ k) == 0)
+
+-- how many chains the driver has made available that were not taken
+abbrev pub waiting : Memory → Queue → ℕ
+waiting m q = (number m w16 (q.avail + 2) + (2 ^ 16 - q.position)) % 2 ^ 16
+
+abbrev pub slot : Queue → ℕ
+slot q = q.position % q.size
+
+-- the head of the next chain
+abbrev pub head : Memory → Queue → ℕ
+head m q = number m w16 (q.avail + 4 + 2 * slot q)
+
+-- where the used element and the used index are (VIRTIO 1.2, 2.7.8)
+abbrev pub element_at : Queue → ℕ
+element_at q = q.used + 4 + 8 * slot q
+
+abbrev pub index_at : Queue → ℕ
+index_at q = q.used + 2

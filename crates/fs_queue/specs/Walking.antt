@@ -1,0 +1,34 @@
+-- What the walk's values say.
+use Rattle.std.specs.Prelude.{ℕ, ◌+◌, ◌^◌, ◌<◌, All, false, List}
+use Rattle.fs_queue.specs.declared.layout.QueueLayout.{QueueLayout}
+use Rattle.fs_queue.specs.declared.descriptor.Descriptor.{Descriptor}
+use Rattle.fs_queue.specs.declared.walk.Verdict.{Verdict}
+use Rattle.fs_queue.specs.declared.walk.Verdict.TheVariants.{Joins, Faulty, Stops}
+use Rattle.fs_queue.specs.declared.walk.Walked as walked
+use Rattle.fs_queue.specs.declared.walk.Walked.TheVariants as comes_to
+use Rattle.fs_queue.specs.Chain.{Visit, Found, IsChain, HasFault, StopsQueue}
+
+-- a step at an entry of the queue's own table
+abbrev pub in_table : QueueLayout → (index left : ℕ) → Visit
+in_table l index left = record { table = record { address = l.desc; entries = l.size; indirect = false }; index = index; left = left }
+
+-- what a walk found
+abbrev pub found_of : walked.Walked → Found
+found_of (comes_to.Chain v) = IsChain v.items
+found_of (comes_to.Faulty fault) = HasFault fault
+found_of comes_to.Stopped = StopsQueue
+
+-- of a descriptor that joins the chain
+abbrev pub IfJoins : Verdict → (Descriptor → Type 0) → Type 0
+IfJoins (Joins d) P = P d
+IfJoins (Faulty fault) P = Unit {0}
+IfJoins Stops P = Unit {0}
+
+-- no descriptor of a chain ends past 2^64 - 1
+unfoldable pub AllFit : List Descriptor → Type 0
+AllFit ds = All (λ d. d.addr + d.len < 2 ^ 64) ds
+
+abbrev pub DescriptorsFit : walked.Walked → Type 0
+DescriptorsFit (comes_to.Chain v) = AllFit v.items
+DescriptorsFit (comes_to.Faulty fault) = Unit {0}
+DescriptorsFit comes_to.Stopped = Unit {0}

@@ -1,0 +1,70 @@
+//! A chain that was taken from a queue.
+
+ghost use Rattle.std.specs.Prelude.{◌≡◌, length, MatchResult};
+ghost use Rattle.vm_memory_core.specs.Window.{places};
+
+use crate::fault::ChainFault;
+use vm_memory_core::VolatileSlice;
+
+/// The windows of a chain: its request, and the room for its reply, each in the order of its descriptors.
+#[derive(Drop)]
+pub struct Chain {
+    pub head: u16,
+    pub readable: Vec<VolatileSlice>,
+    pub writable: Vec<VolatileSlice>,
+    pub(crate) request_len: usize,
+    pub(crate) room_len: usize,
+    pub ghost request_counted: { request_len ≡ length (places readable.items) },
+    pub ghost room_counted: { room_len ≡ length (places writable.items) },
+}
+
+impl Chain {
+    /// How many bytes the request has.
+    pub fn request_len(&self) -> usize
+        ensures { result ≡ length (places self.now.readable.items) }
+    {
+        self.request_len
+    }
+
+    /// How many bytes of reply there is room for.
+    pub fn room_len(&self) -> usize
+        ensures { result ≡ length (places self.now.writable.items) }
+    {
+        self.room_len
+    }
+}
+
+/// The windows of a used element, the used index and the available flags.
+#[derive(Drop)]
+pub struct ReturnWindows {
+    pub element: Vec<VolatileSlice>,
+    pub index: Vec<VolatileSlice>,
+    pub flags: Vec<VolatileSlice>,
+}
+
+/// A chain that was taken and not yet given back, or its fault.
+#[derive(Drop)]
+pub struct Taken {
+    pub head: u16,
+    pub chain: Result<Chain, ChainFault>,
+    pub ends: ReturnWindows,
+}
+
+impl Taken {
+    /// The chain's head: its first descriptor's index in the queue's table.
+    pub fn head(&self) -> u16
+        ensures { result ≡ self.now.head }
+    {
+        self.head
+    }
+
+    /// The chain, or what is wrong with it.
+    pub fn chain(&self) -> Result<&Chain, ChainFault>
+        ensures { MatchResult result (λ c. self.now.chain ≡ Ok c.now) (λ fault. self.now.chain ≡ Err fault) }
+    {
+        match &self.chain {
+            Ok(chain) => Ok(chain),
+            Err(fault) => Err(*fault),
+        }
+    }
+}

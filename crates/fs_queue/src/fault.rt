@@ -1,0 +1,62 @@
+//! What is wrong with a chain, a queue or a queue's layout.
+
+use thiserror::Error;
+
+/// Why a chain is returned without being served.
+#[derive(Clone, Copy, Debug, PartialEq, Eq, Error)]
+pub enum ChainFault {
+    #[error("more descriptors than the queue has")]
+    TooLong = 1,
+    #[error("the next descriptor is past its table")]
+    NextOutOfTable = 2,
+    #[error("a descriptor ends past the last address")]
+    AddressOverflow = 3,
+    #[error("a descriptor that names a table names a next one too")]
+    IndirectWithNext = 4,
+    #[error("a table names another table")]
+    IndirectNested = 5,
+    #[error("a table is empty or no whole number of descriptors")]
+    IndirectLength = 6,
+    #[error("a table can't be read")]
+    TableUnreachable = 7,
+    #[error("the request or the room is too long")]
+    OverLimit = 8,
+    #[error("the request can't be read")]
+    RequestUnreachable = 9,
+    #[error("the room can't be written")]
+    RoomUnreachable = 10,
+}
+
+/// Why a queue hands out no chain. All but the first and the last stop it until it is reset.
+#[derive(Clone, Copy, Debug, PartialEq, Eq, Error)]
+pub enum QueueError {
+    #[error("the queue is stopped")]
+    Stopped = 1,
+    #[error("the available index can't be read")]
+    AvailIndexUnreachable = 2,
+    #[error("more chains wait than the queue holds")]
+    AvailTooFar = 3,
+    #[error("the available ring's entry can't be read")]
+    RingEntryUnreachable = 4,
+    #[error("the head is past the table")]
+    HeadOutOfTable = 5,
+    #[error("the used ring can't be written")]
+    UsedUnreachable = 6,
+    #[error("the available flags can't be read")]
+    AvailFlagsUnreachable = 7,
+    #[error("a descriptor can't be read")]
+    DescriptorUnreachable = 8,
+    #[error("out of memory")]
+    OutOfMemory = 9,
+}
+
+/// Why a queue can't have a layout.
+#[derive(Clone, Copy, Debug, PartialEq, Eq, Error)]
+pub enum QueueLayoutError {
+    #[error("the size is no power of two from 1 to 32768")]
+    BadSize = 1,
+    #[error("a part of the queue is misaligned")]
+    Misaligned = 2,
+    #[error("a part of the queue ends past the last address")]
+    EndOverflow = 3,
+}

@@ -1,0 +1,84 @@
+//! Where the driver puts a queue's three parts (VIRTIO 1.2, 2.7).
+
+ghost use Rattle.std.specs.Prelude.{◌≡◌, ◌+◌, ◌*◌, ◌<◌, ◌≤◌, ◌^◌, Ok, Err, MatchResult, None, Some, nat_le};
+ghost use Rattle.fs_queue.specs.Lawful.{layout_error};
+
+use crate::fault::QueueLayoutError;
+
+/// A queue's size and the addresses of its descriptor table, available ring and used ring.
+#[derive(Clone, Copy, Debug)]
+pub struct QueueLayout {
+    size: u16,
+    desc: u64,
+    avail: u64,
+    used: u64,
+    pub ghost lawful: { layout_error size desc avail used ≡ None },
+    pub ghost sized: { 0 < size },
+    pub ghost table: { desc + 16 * size < 2 ^ 64 },
+    pub ghost available: { avail + (6 + 2 * size) < 2 ^ 64 },
+    pub ghost used_ring: { used + (6 + 8 * size) < 2 ^ 64 },
+}
+
+// Whether `len` bytes from an address on end past 2^64 - 1.
+fn ends_past(addr: u64, len: u64) -> bool
+    ensures { result ≡ nat_le (2 ^ 64) (addr + len) }
+{
+    addr > u64::MAX - len
+}
+
+impl QueueLayout {
+    /// The layout of a queue of `size` descriptors, a power of two up to 32768, whose parts begin at these addresses.
+    pub fn new(size: u16, desc: u64, avail: u64, used: u64) -> Result<QueueLayout, QueueLayoutError>
+        ensures { MatchResult result
+            (λ l. (layout_error size desc avail used ≡ None) × (l.size ≡ size) × (l.desc ≡ desc) × (l.avail ≡ avail) × (l.used ≡ used))
+            (λ e. layout_error size desc avail used ≡ Some e) }
+    {
+        if !size.is_power_of_two() {
+            return Err(QueueLayoutError::BadSize);
+        }
+        if desc % 16 != 0 || avail % 2 != 0 || used % 4 != 0 {
+            return Err(QueueLayoutError::Misaligned);
+        }
+        let size_bytes = u64::from(size);
+        if ends_past(desc, 16 * size_bytes)
+            || ends_past(avail, 6 + 2 * size_bytes)
+            || ends_past(used, 6 + 8 * size_bytes)
+        {
+            return Err(QueueLayoutError::EndOverflow);
+        }
+        Ok(QueueLayout {
+            size,
+            desc,
+            avail,
+            used,
+        })
+    }
+
+    /// How many descriptors the table has.
+    pub fn size(&self) -> u16
+        ensures { result ≡ self.now.size }
+    {
+        self.size
+    }
+
+    /// The address of the descriptor table.
+    pub fn desc(&self) -> u64
+        ensures { result ≡ self.now.desc }
+    {
+        self.desc
+    }
+
+    /// The address of the available ring.
+    pub fn avail(&self) -> u64
+        ensures { result ≡ self.now.avail }
+    {
+        self.avail
+    }
+
+    /// The address of the used ring.
+    pub fn used(&self) -> u64
+        ensures { result ≡ self.now.used }
+    {
+        self.used
+    }
+}

@@ -1,0 +1,152 @@
+//! A split virtqueue (VIRTIO 1.2, 2.7).
+
+ghost use Rattle.std.specs.Prelude.{◌≡◌, ◌+◌, ◌<◌, ◌≤◌, ◌^◌, ◌++◌, List, length, IfOk, IfSome};
+ghost use Rattle.std.specs.List.{zip};
+ghost use Rattle.std.specs.Int.{w32, to_le_bytes};
+ghost use Rattle.vm_memory_core.specs.Host.{host_of, lengths};
+ghost use Rattle.vm_memory_core.specs.Window.{put_all};
+ghost use Rattle.vm_memory.specs.Layout.{Region, AreHeld};
+ghost use Rattle.vm_memory.specs.Memory.{memory_of};
+
+use crate::chain::{Chain, Taken};
+use crate::fault::{ChainFault, QueueError};
+use crate::layout::QueueLayout;
+use crate::take::{Asking, ask};
+use std::alloc::Global;
+use std::marker::Model;
+use vm_memory::GuestMemoryMmap;
+use vm_memory_core::{HostMemory, NewBitmap};
+
+/// A queue: where its parts are, how many chains were returned, modulo 2^16, and whether it stopped.
+#[derive(Debug, Drop)]
+pub struct Queue {
+    layout: QueueLayout,
+    position: u16,
+    stopped: bool,
+}
+
+impl Model for Queue {
+    ghost use Rattle.fs_queue.specs.Queue.{Queue};
+
+    ghost Value = { Queue };
+
+    ghost view = { λ q. record { size = q.layout.size; desc = q.layout.desc; avail = q.layout.avail; used = q.layout.used; position = q.position; stopped = q.stopped } };
+}
+
+ghost use Rattle.fs_queue.specs.Queue.{fresh};
+ghost use Rattle.fs_queue.specs.Taking.{Asked};
+ghost use Rattle.fs_queue.specs.Returning.{returned, wants_notice, advanced};
+ghost use Rattle.fs_queue.specs.Held.{Takes, after_taking, IsTaken, TakenLiesIn, ChainLiesIn, room_places, room_of};
+ghost use Rattle.fs_queue.specs.Writing.{chain_places};
+
+// A used element: le32 head, le32 length of the reply (VIRTIO 1.2, 2.7.8).
+fn used_element(head: u32, len: u32) -> [u8; 8]
+    ensures { result ≡ to_le_bytes w32 head ++ to_le_bytes w32 len }
+{
+    let mut element = [0u8; 8];
+    element[..4].copy_from_slice(&head.to_le_bytes());
+    element[4..].copy_from_slice(&len.to_le_bytes());
+    element
+}
+
+// Writes the reply over the room of a chain.
+#[tactic(auto, unfolding(vm_memory_core::specs::Window::put_all))]
+fn write_reply<B: NewBitmap>(
+    host: &mut HostMemory<B>,
+    chain: &Result<Chain, ChainFault>,
+    reply: &[u8],
+)
+    requires lies { ChainLiesIn (lengths (host_of host.old)) chain.now }
+    requires fits { length reply.now ≤ room_places chain.now }
+    ensures stored { host_of host.new ≡ put_all (host_of host.old) (zip (chain_places chain.now) reply.now) }
+    ensures lengths { lengths (host_of host.new) ≡ lengths (host_of host.old) }
+{
+    match chain {
+        Ok(chain) => host.write_windows(&chain.writable, reply),
+        Err(_) => {}
+    }
+}
+
+impl Queue {
+    /// A queue from which no chain was taken.
+    pub fn new(layout: QueueLayout) -> Queue
+        ensures { result ≡ fresh layout.size layout.desc layout.avail layout.used }
+    {
+        Queue {
+            layout,
+            position: 0,
+            stopped: false,
+        }
+    }
+
+    /// How many chains were returned, modulo 2^16.
+    pub fn position(&self) -> u16
+        ensures { result ≡ self.now.position }
+    {
+        self.position
+    }
+
+    /// Whether a refusal stopped the queue.
+    pub fn is_stopped(&self) -> bool
+        ensures { result ≡ self.now.stopped }
+    {
+        self.stopped
+    }
+
+    /// The chain that waits at the queue's position, with its windows. The position stays until the chain is given back.
+    /// Requests and rooms longer than `limit` make a chain faulty.
+    pub fn take<B: NewBitmap>(
+        &mut self,
+        alloc: Global,
+        host: &HostMemory<B>,
+        mem: &GuestMemoryMmap,
+        limit: u32,
+    ) -> Result<Option<Taken>, QueueError>
+        requires { AreHeld (lengths (host_of host.now)) mem.now }
+        ensures takes { Takes (memory_of (host_of host.now) mem.now) limit self.old result }
+        ensures queue { self.new ≡ after_taking self.old result }
+        ensures lie { IfOk result (λ o. IfSome o (TakenLiesIn (lengths (host_of host.now)))) }
+    {
+        if self.stopped {
+            return Err(QueueError::Stopped);
+        }
+        match ask(alloc, self.layout, self.position, host, mem, limit) {
+            Err(_) => Err(QueueError::OutOfMemory),
+            Ok(Asking::Nobody) => Ok(None),
+            Ok(Asking::Took(taken)) => Ok(Some(taken)),
+            Ok(Asking::Refused(error)) => {
+                self.stopped = true;
+                Err(error)
+            }
+        }
+    }
+
+    /// Writes the reply over the room, then the used element, then the used index, and says whether the driver wants to be
+    /// told. The chain was taken at this position, and the reply is no longer than its room.
+    pub fn give_back<B: NewBitmap>(
+        &mut self,
+        host: &mut HostMemory<B>,
+        taken: Taken,
+        reply: &[u8],
+    ) -> bool
+        requires lies { TakenLiesIn (lengths (host_of host.old)) taken }
+        requires fits { length reply.now ≤ room_places taken.chain }
+        requires small { length reply.now < 2 ^ 32 }
+        ensures stored { (l : List Region) (asked : Asked) → IsTaken (memory_of (host_of host.old) l) self.old asked taken →
+            memory_of (host_of host.new) l ≡ returned (memory_of (host_of host.old) l) self.old taken.head (room_of asked) reply.now }
+        ensures told { (l : List Region) (asked : Asked) → IsTaken (memory_of (host_of host.old) l) self.old asked taken →
+            result ≡ wants_notice (memory_of (host_of host.new) l) self.old }
+        ensures queue { self.new ≡ advanced self.old }
+        ensures lengths { lengths (host_of host.new) ≡ lengths (host_of host.old) }
+    {
+        write_reply(host, &taken.chain, reply);
+        let element = used_element(u32::from(taken.head), reply.len() as u32);
+        host.write_windows(&taken.ends.element, &element);
+        self.position = self.position.wrapping_add(1);
+        let index = self.position.to_le_bytes();
+        host.write_windows(&taken.ends.index, &index);
+        let mut flags = [0u8; 2];
+        host.read_windows(&taken.ends.flags, &mut flags);
+        u16::from_le_bytes(flags) & 1 == 0
+    }
+}

@@ -1,0 +1,56 @@
+-- Which place a guest's physical address has: a partial function, given by regions.
+use Rattle.std.specs.Prelude.{ℕ, ◌≡◌, ◌+◌, ◌-◌, ◌<◌, ◌≤◌, ◌^◌, Bool, ◌&&◌, not, nat_le, nat_lt, ◌==◌, List, [], ◌∷◌, length, Option, Some, None, if◌then◌else◌, slice_index_or}
+use Rattle.std.specs.List.{filter}
+use Rattle.std.specs.Option.{option_or}
+use Rattle.vm_memory_core.specs.Table.{is_within}
+use Rattle.vm_memory_core.specs.Host.{Place}
+
+-- size addresses from start on, which are the offsets of a block from 0 on
+pub record Region : Type 0 where
+  pub start : ℕ
+  pub size : ℕ
+  pub block : ℕ
+
+-- the place of an address in one region
+abbrev pub place_in : Region → ℕ → Option Place
+place_in r a = if is_within r.start r.size a then Some (record { block = r.block; offset = a - r.start }) else None
+
+-- the place of an address
+unfoldable pub place : List Region → ℕ → Option Place
+place [] a = None
+place (r ∷ rs) a = option_or (place_in r a) (place rs a)
+
+-- whether two regions have an address in common
+abbrev pub overlap : Region → Region → Bool
+overlap r s = nat_lt r.start (s.start + s.size) && nat_lt s.start (r.start + r.size)
+
+-- whether the last address of a region fits 64 bits
+abbrev pub fits : Region → Bool
+fits r = nat_le (r.start + r.size) (2 ^ 64)
+
+-- regions stand by ascending start: the layout with one more
+abbrev pub with_region : Region → List Region → List Region
+with_region r [] = r ∷ []
+with_region r (s ∷ rest) = if nat_lt r.start s.start then r ∷ s ∷ rest else s ∷ with_region r rest
+
+abbrev pub is_region : ℕ → ℕ → Region → Bool
+is_region base size r = r.start == base && r.size == size
+
+-- the layout without the region of this base and size
+abbrev pub without_region : ℕ → ℕ → List Region → List Region
+without_region base size layout = filter (λ r. not (is_region base size r)) layout
+
+-- no region begins below an address
+abbrev pub AllFrom : ℕ → List Region → Type 0
+AllFrom a [] = Unit {0}
+AllFrom a (r ∷ rs) = (a ≤ r.start) × AllFrom a rs
+
+-- the regions are ascending, none is empty or ends past 2^64, and no two have an address in common
+abbrev pub IsLayout : List Region → Type 0
+IsLayout [] = Unit {0}
+IsLayout (r ∷ rs) = (0 < r.size) × (r.start + r.size ≤ 2 ^ 64) × AllFrom (r.start + r.size) rs × IsLayout rs
+
+-- blocks of these lengths have the regions, each as long as its block
+abbrev pub AreHeld : List ℕ → List Region → Type 0
+AreHeld lengths [] = Unit {0}
+AreHeld lengths (r ∷ rs) = (r.block < length lengths) × (slice_index_or lengths r.block 0 ≡ r.size) × AreHeld lengths rs

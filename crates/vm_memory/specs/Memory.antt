@@ -1,0 +1,104 @@
+-- Memory as a device sees it: each address is translated by itself.
+use Rattle.std.specs.Prelude.{ℕ, zero, suc, ◌+◌, ◌%◌, ◌^◌, ◌==◌, Bool, false, ◌&&◌, nat_lt, List, [], ◌∷◌, ◌++◌, map, Option, Some, None, if◌then◌else◌, unwrap_or, option_and_then, slice_get, is_some, option_map, Result, Ok, Err}
+use Rattle.std.specs.List.{list_all}
+use Rattle.std.specs.Int.{Width, byte_len, from_le_bytes}
+use Rattle.vm_memory_core.specs.declared.permissions.Permissions.{Permissions}
+use Rattle.vm_memory_core.specs.declared.permissions.Permissions.TheVariants.{Read, Write}
+use Rattle.vm_memory_core.specs.Table.{Mapping, Table, nothing_mapped, allows}
+use Rattle.vm_memory_core.specs.Host.{Host, Place, byte_at, with_byte, with_block_mark, with_io_mark}
+use Rattle.vm_memory.specs.Layout.{Region, place}
+use Rattle.vm_values.specs.declared.address.GuestAddress.{GuestAddress}
+use Rattle.vm_memory.specs.declared.error.GuestMemoryError.{GuestMemoryError}
+use Rattle.vm_memory.specs.declared.error.GuestMemoryError.TheVariants.{InvalidGuestAddress, PartialBuffer}
+
+-- a host, a layout, the numbers of the device's table and of its set of I/O pages, and whether the table is used
+pub record Memory : Type 0 where
+  pub host : Host
+  pub layout : List Region
+  pub table : ℕ
+  pub io_pages : ℕ
+  pub translates : Bool
+
+abbrev pub table_of : Memory → Table
+table_of m = unwrap_or (slice_get m.host.tables m.table) nothing_mapped
+
+-- the place of what an address is mapped to, where the access is allowed
+abbrev pub place_behind : List Region → Permissions → Option Mapping → Option Place
+place_behind layout access None = None
+place_behind layout access (Some to) = if allows to.perm access then place layout to.target else None
+
+-- where an address is, for an access
+abbrev pub location : Memory → Permissions → ℕ → Option Place
+location m access a = if m.translates then place_behind m.layout access (table_of m a) else place m.layout a
+
+-- n addresses from a on
+unfoldable pub addresses : ℕ → ℕ → List ℕ
+addresses a zero = []
+addresses a (suc n) = a ∷ addresses (a + 1) n
+
+-- n addresses from a on, where 0 comes after the greatest
+abbrev pub circular : ℕ → ℕ → List ℕ
+circular a n = map (λ x. x % 2 ^ 64) (addresses a n)
+
+-- whether each of n addresses from a on has a place, for an access
+abbrev pub reach : Memory → Permissions → ℕ → ℕ → Bool
+reach m access a n = nat_lt (a + n) (2 ^ 64) && list_all (λ x. is_some (location m access x)) (addresses a n)
+
+-- the byte at an address
+abbrev pub byte : Memory → ℕ → ℕ
+byte m a = unwrap_or (option_and_then (byte_at m.host) (location m Read a)) 0
+
+-- the bytes at n addresses from a on
+abbrev pub bytes : Memory → ℕ → ℕ → List ℕ
+bytes m a n = map (byte m) (addresses a n)
+
+-- the little-endian number at an address
+abbrev pub number : Memory → Width → ℕ → ℕ
+number m w a = from_le_bytes w (bytes m a (byte_len w))
+
+-- the host after a byte was written at a place which has this address: it stands there and its page is marked, in the block, or by its address in the I/O pages
+abbrev pub marked_for : Memory → ℕ → Place → Host → Host
+marked_for m a p h = if m.translates then with_io_mark h m.io_pages a else with_block_mark h p
+
+abbrev pub stored_at : Memory → ℕ → ℕ → Option Place → Memory
+stored_at m a b None = m
+stored_at m a b (Some p) = record m { host = marked_for m a p (with_byte m.host p b) }
+
+-- the memory after a byte was written at an address
+abbrev pub stored : Memory → ℕ × ℕ → Memory
+stored m write = stored_at m write.0 write.1 (location m Write write.0)
+
+-- the memory after writes in order; the last at a place stands
+unfoldable pub stored_all : Memory → List (ℕ × ℕ) → Memory
+stored_all m [] = m
+stored_all m (write ∷ writes) = stored_all (stored m write) writes
+
+-- the same memory by physical addresses
+abbrev pub physical : Memory → Memory
+physical m = record m { translates = false }
+
+-- a host under a layout, where no table is used
+abbrev pub memory_of : Host → List Region → Memory
+memory_of h layout = record { host = h; layout = layout; table = 0; io_pages = 0; translates = false }
+
+-- the places of some addresses, if each has one
+unfoldable pub located : (ℕ → Option Place) → List ℕ → Option (List Place)
+located where_is [] = Some []
+located where_is (a ∷ as') = option_and_then (λ p. option_map (λ ps. p ∷ ps) (located where_is as')) (where_is a)
+
+-- how many of some addresses, from the first on, have a place
+unfoldable pub reached : (ℕ → Option Place) → List ℕ → ℕ
+reached where_is [] = 0
+reached where_is (a ∷ as') = if is_some (where_is a) then suc (reached where_is as') else 0
+
+-- a list that stands before the one that is there, if one is
+abbrev pub after : {X : Type 0} → List X → Option (List X) → Option (List X)
+after old None = None
+after old (Some xs) = Some (old ++ xs)
+
+-- what a transfer of n bytes at an address answers, of which as many were done as have a place
+abbrev pub transferred : GuestAddress → (n done : ℕ) → Result (Unit {0}) GuestMemoryError
+transferred addr n done =
+    if done == n then Ok tt
+    else if done == 0 then Err (InvalidGuestAddress addr)
+    else Err (PartialBuffer n done)

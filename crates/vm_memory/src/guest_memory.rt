@@ -1,0 +1,235 @@
+//! The regions of a guest (vm-memory's `GuestMemoryMmap`).
+
+ghost use Rattle.std.specs.Prelude.{◌≡◌, ◌+◌, ◌++◌, ◌^◌, ◌<◌, ◌≤◌, ◌↔◌, ℕ, List, None, Some, Ok, Err, IfSome, IfOk, OnOk, IsTrue, OnErr, IsErrOf, false, [], ◌∷◌, length, take, drop, map, replicate, if◌then◌else◌, slice_get};
+ghost use Rattle.std.specs.List.{zip, list_all};
+ghost use Rattle.std.specs.Option.{is_some};
+ghost use Rattle.vm_memory_core.specs.Host.{host_of, lengths, Block};
+ghost use Rattle.vm_memory_core.specs.Window.{places, places_of, LiesIn, AllLieIn};
+ghost use Rattle.vm_memory_core.specs.declared.permissions.Permissions.TheVariants.{Read, Write};
+ghost use Rattle.vm_memory.specs.Layout.{place, AreHeld};
+ghost use Rattle.vm_memory.specs.Making.{IsMadeOf};
+ghost use Rattle.vm_memory.specs.Memory.{memory_of, addresses, circular, located, reached, after, byte, stored_all, transferred};
+
+use crate::error::{FromRangesError, GuestMemoryError, MmapRegionError};
+use crate::region::GuestRegionMmap;
+use std::alloc::{AllocError, Global};
+use std::marker::Model;
+use vm_memory_core::{GuestAddress, HostMemory, NewBitmap, Permissions, VolatileSlice, put_at};
+
+/// The regions of a guest's physical memory, by ascending address.
+#[derive(Drop)]
+pub struct GuestMemoryMmap {
+    regions: Vec<GuestRegionMmap>,
+}
+
+impl Model for GuestMemoryMmap {
+    ghost use Rattle.std.specs.Prelude.{List};
+    ghost use Rattle.vm_memory.specs.Layout.{Region, IsLayout};
+
+    ghost Value = { List Region };
+
+    ghost view = { λ m. m.regions.items };
+
+    ghost invariant = { λ m. IsLayout m.regions.items };
+}
+
+impl GuestMemoryMmap {
+    /// Memory of no region.
+    pub fn new(alloc: Global) -> GuestMemoryMmap
+        ensures { result ≡ [] }
+    {
+        GuestMemoryMmap {
+            regions: Vec::new(alloc),
+        }
+    }
+
+    /// Memory of the regions that begin at these addresses and have these sizes, each over a new block; so far of one region.
+    pub fn from_ranges<B: NewBitmap>(
+        alloc: Global,
+        host: &mut HostMemory<B>,
+        ranges: &[(GuestAddress, usize)],
+    ) -> Result<GuestMemoryMmap, FromRangesError>
+        requires { length ranges.now ≡ 1 }
+        ensures { IfSome (slice_get ranges.now 0) (λ r. IsMadeOf B.count host.old host.new r.0.0 r.1 result) }
+    {
+        let (base, size) = ranges[0];
+        GuestMemoryMmap::from_range(alloc, host, base.0, size)
+    }
+
+    // Memory of one region over a new block.
+    fn from_range<B: NewBitmap>(
+        alloc: Global,
+        host: &mut HostMemory<B>,
+        base: u64,
+        size: usize,
+    ) -> Result<GuestMemoryMmap, FromRangesError>
+        ensures { IsMadeOf B.count host.old host.new base size result }
+    {
+        if size == 0 {
+            return Err(FromRangesError::MmapRegion(MmapRegionError::Mmap));
+        }
+        let Ok(mut regions) = Vec::with_capacity(alloc, 1) else {
+            return Err(FromRangesError::OutOfMemory);
+        };
+        let Ok(block) = host.new_block(size) else {
+            return Err(FromRangesError::OutOfMemory);
+        };
+        if base > u64::MAX - (size as u64 - 1) {
+            return Err(FromRangesError::InvalidGuestRegion);
+        }
+        regions
+            .push(GuestRegionMmap::new(base, size as u64, block))
+            .unwrap();
+        Ok(GuestMemoryMmap { regions })
+    }
+
+    // The longest window of at most `most` bytes from an address on, if the address has a place.
+    fn window_at(&self, addr: u64, most: usize) -> Option<VolatileSlice>
+        requires { 0 < most }
+        ensures none { result ≡ None → place self.now addr ≡ None }
+        ensures some { IfSome result (λ w. (0 < w.len) × (w.len ≤ most) × (addr + w.len ≤ 2 ^ 64)
+            × (located (place self.now) (addresses addr w.len) ≡ Some (places_of w))) }
+        ensures held { (lengths : List ℕ) → AreHeld lengths self.now → IfSome result (LiesIn lengths) }
+    {
+        for region in &self.regions {
+            if region.address_in_range(addr) {
+                return Some(region.window_from(addr, most));
+            }
+        }
+        None
+    }
+
+    // How many of `len` addresses from one on, where 0 comes after the greatest, have a place.
+    fn reached_len(&self, addr: u64, len: usize) -> usize
+        ensures { result ≡ reached (place self.now) (circular addr len) }
+    {
+        let mut done = 0;
+        while done < len {
+            let Some(window) = self.window_at(addr.wrapping_add(done as u64), len - done) else {
+                return done;
+            };
+            done += window.len();
+        }
+        done
+    }
+
+    /// Whether each of `len` addresses from one on has a place, where 0 comes after the greatest address. Without an IOMMU
+    /// each access is allowed.
+    pub fn check_range(&self, addr: GuestAddress, len: usize, access: Permissions) -> bool
+        ensures { result ≡ list_all (λ a. is_some (place self.now a)) (circular addr.0 len) }
+    {
+        let _ = access;
+        self.reached_len(addr.0, len) == len
+    }
+
+    /// Adds the windows of `len` addresses from one on, joined, or answers that one of them has no place. Where 0 comes
+    /// after the greatest address, and without an IOMMU each access is allowed.
+    pub fn push_windows(
+        &self,
+        addr: GuestAddress,
+        len: usize,
+        windows: &mut Vec<VolatileSlice>,
+    ) -> Result<bool, AllocError>
+        ensures found { IfOk result (λ found.
+            after (places windows.old.items) (located (place self.now) (circular addr.0 len)) ≡ (if found then Some (places windows.new.items) else None)) }
+        ensures held { (lengths : List ℕ) → AreHeld lengths self.now → AllLieIn lengths windows.old.items → AllLieIn lengths windows.new.items }
+    {
+        let mut done = 0;
+        while done < len {
+            let Some(window) = self.window_at(addr.0.wrapping_add(done as u64), len - done) else {
+                return Ok(false);
+            };
+            windows.push(window)?;
+            done += window.len();
+        }
+        Ok(true)
+    }
+
+    // Reads as many bytes from an address on as are there, and says how many.
+    fn read_some<B: NewBitmap>(&self, host: &HostMemory<B>, buffer: &mut [u8], addr: u64) -> usize
+        requires { AreHeld (lengths (host_of host.now)) self.now }
+        ensures count { result ≡ reached (place self.now) (circular addr (length buffer.old)) }
+        ensures bytes { buffer.new ≡ map (byte (memory_of (host_of host.now) self.now)) (take result (circular addr (length buffer.old))) ++ drop result buffer.old }
+    {
+        let mut done = 0;
+        while done < buffer.len() {
+            let Some(window) = self.window_at(addr.wrapping_add(done as u64), buffer.len() - done)
+            else {
+                return done;
+            };
+            put_at(buffer, done, host.bytes(window));
+            done += window.len();
+        }
+        done
+    }
+
+    // Writes as many bytes from an address on as have a place, and says how many.
+    fn write_some<B: NewBitmap>(&self, host: &mut HostMemory<B>, bytes: &[u8], addr: u64) -> usize
+        requires { AreHeld (lengths (host_of host.old)) self.now }
+        ensures count { result ≡ reached (place self.now) (circular addr (length bytes.now)) }
+        ensures stored { memory_of (host_of host.new) self.now ≡ stored_all (memory_of (host_of host.old) self.now) (zip (take result (circular addr (length bytes.now))) bytes.now) }
+        ensures lengths { lengths (host_of host.new) ≡ lengths (host_of host.old) }
+    {
+        let mut done = 0;
+        while done < bytes.len() {
+            let Some(window) = self.window_at(addr.wrapping_add(done as u64), bytes.len() - done)
+            else {
+                return done;
+            };
+            host.write(window, &bytes[done..][..window.len()]);
+            done += window.len();
+        }
+        done
+    }
+
+    /// Reads a buffer full of bytes from an address on, where 0 comes after the greatest address. Where fewer are there,
+    /// these are read, and the answer says how many.
+    pub fn read_slice<B: NewBitmap>(
+        &self,
+        host: &HostMemory<B>,
+        buffer: &mut [u8],
+        addr: GuestAddress,
+    ) -> Result<(), GuestMemoryError>
+        requires { AreHeld (lengths (host_of host.now)) self.now }
+        ensures result { result ≡ transferred addr (length buffer.old) (reached (place self.now) (circular addr.0 (length buffer.old))) }
+        ensures bytes { let all = circular addr.0 (length buffer.old) in let n = reached (place self.now) all in
+            buffer.new ≡ map (byte (memory_of (host_of host.now) self.now)) (take n all) ++ drop n buffer.old }
+    {
+        let completed = self.read_some(host, buffer, addr.0);
+        outcome(addr, buffer.len(), completed)
+    }
+
+    /// Writes bytes from an address on, where 0 comes after the greatest address, and marks their pages. Where fewer have a
+    /// place, these are written, and the answer says how many.
+    pub fn write_slice<B: NewBitmap>(
+        &self,
+        host: &mut HostMemory<B>,
+        bytes: &[u8],
+        addr: GuestAddress,
+    ) -> Result<(), GuestMemoryError>
+        requires { AreHeld (lengths (host_of host.old)) self.now }
+        ensures result { result ≡ transferred addr (length bytes.now) (reached (place self.now) (circular addr.0 (length bytes.now))) }
+        ensures stored { let all = circular addr.0 (length bytes.now) in
+            memory_of (host_of host.new) self.now ≡ stored_all (memory_of (host_of host.old) self.now) (zip (take (reached (place self.now) all) all) bytes.now) }
+        ensures lengths { lengths (host_of host.new) ≡ lengths (host_of host.old) }
+    {
+        let completed = self.write_some(host, bytes, addr.0);
+        outcome(addr, bytes.len(), completed)
+    }
+}
+
+// What a transfer of this many bytes at an address answers, of which this many were done.
+fn outcome(addr: GuestAddress, expected: usize, completed: usize) -> Result<(), GuestMemoryError>
+    ensures { result ≡ transferred addr expected completed }
+{
+    if completed == expected {
+        Ok(())
+    } else if completed == 0 {
+        Err(GuestMemoryError::InvalidGuestAddress(addr))
+    } else {
+        Err(GuestMemoryError::PartialBuffer {
+            expected,
+            completed,
+        })
+    }
+}

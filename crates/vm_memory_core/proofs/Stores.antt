@@ -1,0 +1,177 @@
+-- bytes put at places of one block, one after another, are a run of bytes
+use Rattle.std.proofs.Common.{◌≡◌, ℕ, ◌+◌, ◌/◌, ◌^◌, ◌<◌, ◌≤◌, Bool, List, [], ◌∷◌, ◌++◌, length, map, set, get_or, take, drop, refl, ap, sym, ◌∙◌, arith, zero, suc, add-one, length-set, length-append, length-drop, true, false, nat_lt, if◌then◌else◌, Option, Some}
+use Rattle.std.specs.Prelude.{slice_get, unwrap_or}
+use Rattle.std.specs.Option.{option_and_then}
+use Rattle.std.specs.List.{zip}
+use Rattle.std.proofs.lemmas.List.{drop_more, get_or-map, length-map, length-take-le}
+use Rattle.std.proofs.lemmas.Option.{slice_get-get_or}
+use Rattle.vm_bitmaps.proofs.Marks.{at_below}
+use Rattle.std.proofs.lemmas.List.Edits.{sets, sets-eq}
+use Rattle.vm_bitmaps.specs.Pages.{marked_at, marked_range}
+use Rattle.vm_memory_core.specs.Host.{Host, Block, Place, changed_at, marked, unmarked, host_of, lengths}
+use Rattle.vm_memory_core.specs.Window.{Window, span, places_of, LiesIn, byte_in, put_byte, put_all}
+
+length_if : (b : Bool) (x y : List Bool) (n : ℕ) → length x ≡ n → length y ≡ n → length (if b then x else y) ≡ n
+length_if true x y n p q = p
+length_if false x y n p q = q
+
+-- no mark changes how many there are
+pub length-marked_range : (n s : ℕ) (m : List Bool) (o : ℕ) → length (marked_range s m o n) ≡ length m
+unfolding marked_range
+length-marked_range zero s m o = refl
+length-marked_range (suc n) s m o =
+    length-marked_range n s (marked_at s m o) (o + 1) ∙ length_if (nat_lt o (2 ^ 64)) (set m (o / s) true) m (length m) (length-set m (o / s) true) refl
+
+-- a buffer that was written over as a whole keeps its length
+pub length_written : (n : ℕ) (new old : List ℕ) → length new ≡ length old → n ≡ length old → length (take n (new ++ drop (length new) old)) ≡ length old
+length_written n new old e f =
+    let front = length-append new (drop (length new) old) in
+    let back = length-drop (length new) old in
+    length-take-le n (new ++ drop (length new) old) (omega arith) ∙ f
+
+-- n pages marked one after another, byte by byte
+unfoldable pub marks_each : List Bool → ℕ → ℕ → List Bool
+marks_each m offset zero = m
+marks_each m offset (suc n) = marks_each (marked m offset) (offset + 1) n
+
+-- below 2^64 each byte has its page
+marked_range-is : (n : ℕ) (m : List Bool) (o : ℕ) → o + n ≤ 2 ^ 64 → marked_range 4096 m o n ≡ marks_each m o n
+unfolding marked_range marks_each
+marked_range-is zero m o h = refl
+marked_range-is (suc n) m o h = rw (at_below 4096 m o (omega arith)) (marked_range-is n (marked m o) (o + 1) (omega arith))
+
+abbrev block_with : List ℕ → List Bool → Block
+block_with bytes marks = record { bytes = bytes; marks = marks }
+
+-- what one block holds once bytes are put in it from offset on
+abbrev pub stored_in : ℕ → List ℕ → Block → Block
+stored_in offset xs b = block_with (sets b.bytes offset xs) (marks_each b.marks offset (length xs))
+
+changed_at-same : {X : Type 0} (l : List X) (i : ℕ) → changed_at l i (λ x. x) ≡ l
+changed_at-same [] i = refl
+changed_at-same (x ∷ l) zero = refl
+changed_at-same {X} (x ∷ l) (suc i) = ap (λ (r : List X). x ∷ r) (changed_at-same l i)
+
+changed_at-changed_at : {X : Type 0} (l : List X) (i : ℕ) (f g : X → X) → changed_at (changed_at l i f) i g ≡ changed_at l i (λ x. g (f x))
+changed_at-changed_at [] i f g = refl
+changed_at-changed_at (x ∷ l) zero f g = refl
+changed_at-changed_at {X} (x ∷ l) (suc i) f g = ap (λ (r : List X). x ∷ r) (changed_at-changed_at l i f g)
+
+changed_at-set : {X : Type 0} (l : List X) (i : ℕ) (f : X → X) (d : X) → changed_at l i f ≡ set l i (f (get_or l i d))
+changed_at-set [] i f d = refl
+changed_at-set (x ∷ l) zero f d = refl
+changed_at-set {X} (x ∷ l) (suc i) f d = ap (λ (r : List X). x ∷ r) (changed_at-set l i f d)
+
+abbrev with_blocks : Host → List Block → Host
+with_blocks h blocks = record h { blocks = blocks }
+
+-- a store to a span of one block changes that block alone
+pub put_all-span : (xs : List ℕ) (h : Host) (b offset n : ℕ) → length xs ≤ n →
+    put_all h (zip (span b offset n) xs) ≡ with_blocks h (changed_at h.blocks b (stored_in offset xs))
+unfolding put_all span marks_each
+put_all-span [] h b offset zero le = ap (with_blocks h) (sym (changed_at-same h.blocks b))
+put_all-span [] h b offset (suc n) le = ap (with_blocks h) (sym (changed_at-same h.blocks b))
+put_all-span (x ∷ xs) h b offset zero le = absurd (omega arith)
+put_all-span (x ∷ xs) h b offset (suc n) le =
+    let p : Place = record { block = b; offset = offset } in
+    let f : Block → Block = λ (k : Block). block_with (set k.bytes offset x) k.marks in
+    let g : Block → Block = λ (k : Block). block_with k.bytes (marked k.marks offset) in
+    put_all-span xs (put_byte h p x) b (offset + 1) n (omega arith)
+    ∙ ap (with_blocks h)
+    (ap (λ (l : List Block). changed_at l b (stored_in (offset + 1) xs)) (changed_at-changed_at h.blocks b f g)
+    ∙ changed_at-changed_at h.blocks b (λ (k : Block). g (f k)) (stored_in (offset + 1) xs)
+    ∙ ap (λ j. changed_at h.blocks b (λ (k : Block). block_with (sets (set k.bytes offset x) j xs) (marks_each (marked k.marks offset) (offset + 1) (length xs)))) (add-one offset))
+
+-- the bytes of a span are a run of the block's bytes
+pub bytes_in-span : (h : Host) (b n offset : ℕ) (k : Block) → slice_get h.blocks b ≡ Some k → offset + n ≤ length k.bytes →
+    map (byte_in h) (span b offset n) ≡ take n (drop offset k.bytes)
+unfolding span
+bytes_in-span h b zero offset k at le = refl
+bytes_in-span h b (suc n) offset k at le =
+    let there = drop_more k.bytes offset 0 (omega arith) in
+    let got = slice_get-get_or k.bytes offset 0 (omega arith) in
+    let byte : byte_in h (record { block = b; offset = offset }) ≡ get_or k.bytes offset 0 =
+    ap (λ (o : Option Block). unwrap_or (option_and_then (λ (c : Block). slice_get c.bytes offset) o) 0) at ∙ ap (λ (o : Option ℕ). unwrap_or o 0) got in
+    rw (there, byte) (ap (λ (r : List ℕ). get_or k.bytes offset 0 ∷ r) (bytes_in-span h b n (offset + 1) k at (omega arith)))
+
+lengths-changed_at : (l : List Block) (i : ℕ) (f : Block → Block) → ((k : Block) → length (f k).bytes ≡ length k.bytes) →
+    map (λ (k : Block). length k.bytes) (changed_at l i f) ≡ map (λ (k : Block). length k.bytes) l
+lengths-changed_at [] i f e = refl
+lengths-changed_at (x ∷ l) zero f e = ap (λ n. n ∷ map (λ (k : Block). length k.bytes) l) (e x)
+lengths-changed_at (x ∷ l) (suc i) f e = ap (λ (r : List ℕ). length x.bytes ∷ r) (lengths-changed_at l i f e)
+
+-- no store changes a length
+pub lengths-put_all : (ws : List (Place × ℕ)) (h : Host) → lengths (put_all h ws) ≡ lengths h
+unfolding put_all
+lengths-put_all [] h = refl
+lengths-put_all (w ∷ ws) h =
+    lengths-put_all ws (put_byte h w.0 w.1)
+    ∙ lengths-changed_at _ w.0.block (λ (k : Block). block_with k.bytes (marked k.marks w.0.offset)) (λ k. refl)
+    ∙ lengths-changed_at h.blocks w.0.block (λ (k : Block). block_with (set k.bytes w.0.offset w.1) k.marks) (λ k. length-set k.bytes w.0.offset w.1)
+
+abbrev no_block : Block
+no_block = block_with [] []
+
+-- a window that blocks of these lengths have lies in its block
+pub within_block : (blocks : List Block) (w : Window) (k : Block) → LiesIn (lengths (host_of blocks)) w → k ≡ get_or blocks w.block k →
+    (w.block < length blocks) × (w.offset + w.len ≤ length k.bytes)
+within_block blocks w k has at =
+    let len : (Block → ℕ) = λ (c : Block). length c.bytes in
+    let count = length-map blocks len in
+    let inside : w.block < length blocks = omega (arith, has.0) in
+    let there = get_or-map len blocks w.block k 0 inside in
+    let bytes : length k.bytes ≡ length (get_or blocks w.block k).bytes = ap len at in
+    (inside, omega (arith, has.1))
+
+-- what a store to one block leaves, as the code leaves it
+pub stored : (blocks inside : List Block) (w : Window) (xs : List ℕ) (old new : Block) →
+    inside ≡ blocks → LiesIn (lengths (host_of blocks)) w → length xs ≤ w.len → w.offset + length xs < 2 ^ 64 → old ≡ get_or inside w.block old →
+    new.bytes ≡ take w.offset old.bytes ++ xs ++ drop (w.offset + length xs) old.bytes → new.marks ≡ marked_range 4096 old.marks w.offset (length xs) →
+    host_of (set inside w.block new) ≡ put_all (host_of blocks) (zip (places_of w) xs)
+stored blocks inside w xs old new same has le fits at e m =
+    let here : old ≡ get_or blocks w.block old = at ∙ ap (λ (l : List Block). get_or l w.block old) same in
+    let room = within_block blocks w old has here in
+    let bytes-is : new.bytes ≡ sets old.bytes w.offset xs = e ∙ sym (sets-eq xs old.bytes w.offset (omega (arith, room.1))) in
+    let marks-is : new.marks ≡ marks_each old.marks w.offset (length xs) = m ∙ marked_range-is (length xs) old.marks w.offset (omega arith) in
+    let new-is : new ≡ stored_in w.offset xs old =
+    ap (λ (l : List ℕ). block_with l new.marks) bytes-is ∙ ap (λ (l : List Bool). block_with (sets old.bytes w.offset xs) l) marks-is in
+    ap host_of
+    (ap (λ (l : List Block). set l w.block new) same
+    ∙ ap (λ (c : Block). set blocks w.block c) (new-is ∙ ap (stored_in w.offset xs) here)
+    ∙ sym (changed_at-set blocks w.block (stored_in w.offset xs) old))
+    ∙ sym (put_all-span xs (host_of blocks) w.block w.offset w.len le)
+
+-- what a read of one block gives
+pub loaded : (blocks inside : List Block) (w : Window) (k : Block) (bytes : List ℕ) → inside ≡ blocks → LiesIn (lengths (host_of blocks)) w →
+    k ≡ get_or inside w.block k → bytes ≡ take w.len (drop w.offset k.bytes) → bytes ≡ map (byte_in (host_of blocks)) (places_of w)
+loaded blocks inside w k bytes same has at e =
+    let here : k ≡ get_or blocks w.block k = at ∙ ap (λ (l : List Block). get_or l w.block k) same in
+    let room = within_block blocks w k has here in
+    let found : slice_get blocks w.block ≡ Some k = slice_get-get_or blocks w.block k room.0 ∙ ap Some (sym here) in
+    e ∙ sym (bytes_in-span (host_of blocks) w.block w.len w.offset k found room.1)
+
+-- the same, where block and offset were asked of the window
+pub stored_at : (blocks inside : List Block) (w : Window) (xs : List ℕ) (old new : Block) (b o : ℕ) → b ≡ w.block → o ≡ w.offset →
+    inside ≡ blocks → LiesIn (lengths (host_of blocks)) w → length xs ≤ w.len → o + length xs < 2 ^ 64 → old ≡ get_or inside b old →
+    new.bytes ≡ take o old.bytes ++ xs ++ drop (o + length xs) old.bytes → new.marks ≡ marked_range 4096 old.marks o (length xs) →
+    host_of (set inside b new) ≡ put_all (host_of blocks) (zip (places_of w) xs)
+stored_at blocks inside w xs old new b o be oe same has le fits here e m =
+    rw be (stored blocks inside w xs old new same has le (omega arith) (rw be at here) (rw oe at e) (rw oe at m))
+
+pub loaded_at : (blocks inside : List Block) (w : Window) (k : Block) (bytes : List ℕ) (b o n : ℕ) → b ≡ w.block → o ≡ w.offset → n ≡ w.len →
+    inside ≡ blocks → LiesIn (lengths (host_of blocks)) w →
+    k ≡ get_or inside b k → bytes ≡ take n (drop o k.bytes) → bytes ≡ map (byte_in (host_of blocks)) (places_of w)
+loaded_at blocks inside w k bytes b o n be oe ne same has here e =
+    loaded blocks inside w k bytes same has (rw be at here) (rw (oe, ne) at e)
+
+pub changed_at-past : {X : Type 0} (l : List X) (i : ℕ) (f : X → X) → length l ≤ i → changed_at l i f ≡ l
+changed_at-past [] i f h = refl
+changed_at-past (x ∷ l) zero f h = absurd (omega arith)
+changed_at-past {X} (x ∷ l) (suc i) f h = ap (λ (r : List X). x ∷ r) (changed_at-past l i f (omega arith))
+
+-- one block without its marks
+pub reset_in : (blocks inside : List Block) (i : ℕ) (old new : Block) → inside ≡ blocks → old ≡ get_or inside i old → new ≡ unmarked old →
+    set inside i new ≡ changed_at blocks i unmarked
+reset_in blocks inside i old new same here e =
+    let there : old ≡ get_or blocks i old = here ∙ ap (λ (l : List Block). get_or l i old) same in
+    ap (λ (l : List Block). set l i new) same ∙ ap (λ (c : Block). set blocks i c) (e ∙ ap unmarked there) ∙ sym (changed_at-set blocks i unmarked old)

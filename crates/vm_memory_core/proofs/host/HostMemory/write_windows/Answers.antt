@@ -1,0 +1,23 @@
+use Rattle.std.proofs.Common.{arith, ◌∙◌}
+use Rattle.std.proofs.lemmas.List.{drop_all}
+use Rattle.vm_memory_core.specs.Host.{host_of}
+use Rattle.vm_memory_core.specs.Window.{put_all}
+use Rattle.vm_memory_core.proofs.WindowLemmas.{drop_item, places_step, length-places_step}
+use Rattle.vm_memory_core.proofs.host.HostMemory.write_windows.Goals as goal
+
+pub loop-window-preserved : goal.loop-window-preserved
+loop-window-preserved g c =
+    let next = drop_item c.args.windows.now c.loop-window.window-index c.window-item.result c.loop-window-test.true c.window-item.is in
+    let n = length-places_step c.args.windows.now c.loop-window.window-index _ next in
+    record {
+      within = omega arith;
+      fits = omega arith;
+      same_lengths = c.write.ensures.lengths ∙ c.loop-window.invariant.same_lengths;
+      stored = places_step c.args.windows.now c.loop-window.window-index c.min-count.result c.loop-window.done c.window-item.result c.args.bytes.now (host_of c.loop-window.self) (host_of c.write.new.self) next (omega arith) c.write.ensures.stored ∙ c.loop-window.invariant.stored;
+    }
+
+pub returns-clause-stored : goal.returns-clause-stored
+unfolding put_all
+returns-clause-stored g c =
+    let past = drop_all c.loop-window.window-index c.args.windows.now c.loop-window-test.false in
+    rw past at c.loop-window.invariant.stored

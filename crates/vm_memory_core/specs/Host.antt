@@ -1,0 +1,77 @@
+-- The memory of the host: numbered blocks of bytes with their marked pages, numbered tables, and numbered sets of marked I/O pages.
+use Rattle.std.specs.Prelude.{ℕ, zero, suc, ◌+◌, ◌/◌, Bool, true, false, ◌==◌, List, [], ◌∷◌, ◌++◌, length, map, replicate, Option, slice_get, slice_set, option_and_then}
+use Rattle.std.specs.List.{list_all}
+use Rattle.vm_memory_core.specs.Table.{Table}
+
+-- where a byte is: a block, and an offset in it
+pub record Place : Type 0 where
+  pub block : ℕ
+  pub offset : ℕ
+
+-- a block: its bytes, and whether each of its pages is marked
+pub record Block : Type 0 where
+  pub bytes : List ℕ
+  pub marks : List Bool
+
+pub record Host : Type 0 where
+  pub blocks : List Block
+  pub tables : List Table
+  pub io_marks : List (List Bool)
+
+-- the list with its element at i changed; nothing changes past the end
+abbrev pub changed_at : {X : Type 0} → List X → ℕ → (X → X) → List X
+changed_at [] i f = []
+changed_at (x ∷ xs) zero f = f x ∷ xs
+changed_at (x ∷ xs) (suc i) f = x ∷ changed_at xs i f
+
+-- the byte at a place
+abbrev pub byte_at : Host → Place → Option ℕ
+byte_at h p = option_and_then (λ b. slice_get b.bytes p.offset) (slice_get h.blocks p.block)
+
+-- the host with this byte at a place
+abbrev pub with_byte : Host → Place → ℕ → Host
+with_byte h p byte = record h { blocks = changed_at h.blocks p.block (λ b. record b { bytes = slice_set b.bytes p.offset byte }) }
+
+-- a page has 4096 bytes; the pages that n bytes take
+abbrev pub page_count : ℕ → ℕ
+page_count n = (n + 4095) / 4096
+
+-- the pages with the one of this offset marked; a page past the end is ignored
+abbrev pub marked : List Bool → ℕ → List Bool
+marked marks offset = slice_set marks (offset / 4096) true
+
+-- the host with the page of a place marked
+abbrev pub with_block_mark : Host → Place → Host
+with_block_mark h p = record h { blocks = changed_at h.blocks p.block (λ b. record b { marks = marked b.marks p.offset }) }
+
+-- the host with the page of an I/O address marked in a set
+abbrev pub with_io_mark : Host → ℕ → ℕ → Host
+with_io_mark h io a = record h { io_marks = changed_at h.io_marks io (λ marks. marked marks a) }
+
+-- whether each block has a mark for each of its pages
+abbrev pub has_its_marks : Host → Bool
+has_its_marks h = list_all (λ b. length b.marks == page_count (length b.bytes)) h.blocks
+
+-- a new block: zeros, no page marked
+abbrev pub new_block : ℕ → Block
+new_block n = record { bytes = replicate n 0; marks = replicate (page_count n) false }
+
+-- a block with no page marked
+abbrev pub unmarked : Block → Block
+unmarked b = record b { marks = map (λ _. false) b.marks }
+
+-- the host with no page of a block marked; the I/O pages stay
+abbrev pub cleared : Host → Host
+cleared h = record h { blocks = map unmarked h.blocks }
+
+-- the host with one more block
+abbrev pub with_block : Host → Block → Host
+with_block h b = record h { blocks = h.blocks ++ b ∷ [] }
+
+-- the lengths of the blocks, which no write changes
+abbrev pub lengths : Host → List ℕ
+lengths h = map (λ b. length b.bytes) h.blocks
+
+-- what a host's memory is: so far no table and no set of I/O pages
+abbrev pub host_of : List Block → Host
+host_of blocks = record { blocks = blocks; tables = []; io_marks = [] }

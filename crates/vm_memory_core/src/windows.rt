@@ -1,0 +1,61 @@
+//! Reads and writes of several windows, one after another.
+
+ghost use Rattle.std.specs.Prelude.{◌≡◌, ◌≤◌, IfOk, length, map};
+ghost use Rattle.std.specs.List.{zip};
+ghost use Rattle.vm_memory_core.specs.Host.{host_of, lengths};
+ghost use Rattle.vm_memory_core.specs.Window.{places, AllLieIn, byte_in, put_all};
+
+use crate::host::{HostMemory, put_at};
+use crate::window::VolatileSlice;
+use std::alloc::{AllocError, Global};
+use vm_bitmaps::NewBitmap;
+
+impl<B: NewBitmap> HostMemory<B> {
+    /// Writes bytes at the first places of the windows, joined, and marks their pages.
+    #[tactic(auto, unfolding(crate::specs::Window::AllLieIn))]
+    pub fn write_windows(&mut self, windows: &[VolatileSlice], bytes: &[u8])
+        requires lie { AllLieIn (lengths (host_of self.old)) windows.now }
+        requires fits { length bytes.now ≤ length (places windows.now) }
+        ensures stored { host_of self.new ≡ put_all (host_of self.old) (zip (places windows.now) bytes.now) }
+        ensures lengths { lengths (host_of self.new) ≡ lengths (host_of self.old) }
+    {
+        let mut done = 0;
+        for window in windows {
+            let count = window.len().min(bytes.len() - done);
+            self.write(*window, &bytes[done..][..count]);
+            done += count;
+        }
+    }
+
+    /// Reads the windows, joined, into a buffer that they fill.
+    #[tactic(auto, unfolding(crate::specs::Window::AllLieIn))]
+    pub fn read_windows(&self, windows: &[VolatileSlice], buffer: &mut [u8])
+        requires lie { AllLieIn (lengths (host_of self.now)) windows.now }
+        requires fits { length buffer.old ≡ length (places windows.now) }
+        ensures { buffer.new ≡ map (byte_in (host_of self.now)) (places windows.now) }
+    {
+        let mut done = 0;
+        for window in windows {
+            put_at(buffer, done, self.bytes(*window));
+            done += window.len();
+        }
+    }
+
+    /// The bytes of the windows, joined; there are about `capacity` of them.
+    #[tactic(auto, unfolding(crate::specs::Window::AllLieIn))]
+    pub fn fetch_windows(
+        &self,
+        alloc: Global,
+        windows: &[VolatileSlice],
+        capacity: usize,
+    ) -> Result<Vec<u8>, AllocError>
+        requires { AllLieIn (lengths (host_of self.now)) windows.now }
+        ensures { IfOk result (λ v. v.items ≡ map (byte_in (host_of self.now)) (places windows.now)) }
+    {
+        let mut bytes = Vec::with_capacity(alloc, capacity)?;
+        for window in windows {
+            bytes.extend_from_slice(self.bytes(*window))?;
+        }
+        Ok(bytes)
+    }
+}

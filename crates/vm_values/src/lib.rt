@@ -1,0 +1,6 @@
+//! Values of guest memory: addresses.
+#![tactic(auto)]
+
+pub mod address;
+
+pub use address::GuestAddress;
