@@ -1,148 +1,217 @@
--- marking byte by byte marks a run of pages
-use Rattle.std.proofs.Common.{◌≡◌, ℕ, ◌+◌, ◌-◌, ◌*◌, ◌/◌, ◌%◌, ◌^◌, ◌<◌, ◌≤◌, ◌⊎◌, inl, inr, nat_lt, Bool, true, false, if◌then◌else◌, List, [], ◌∷◌, ◌++◌, length, set, take, drop, replicate, refl, ap, sym, ◌∙◌, arith, zero, suc, add-one, min, length-set}
-use Rattle.std.proofs.lemmas.List.{set-set, set_past, length-replicate, take-replicate}
-use Rattle.std.proofs.lemmas.List.Edits.{sets, sets-eq}
-use Rattle.std.proofs.lemmas.Nat.{div-mul-add, div-add-mod', mod_below, le-div}
+-- writing the pages of a range byte by byte writes a run of pages
+use Rattle.std.proofs.Common.{◌≡◌, ℕ, ◌+◌, ◌*◌, ◌/◌, ◌^◌, ◌<◌, ◌≤◌, inl, inr, Bool, true, false, cond, ltb, List, [], length, get_or, set, refl, ap, sym, ◌∙◌, arith, zero, suc}
+use Rattle.std.proofs.lemmas.List.{set_past, length-set, get_or-set_same, get_or-set_other, ext_get_or, nil_from_length}
+use Rattle.std.proofs.lemmas.Option.{unwrap_or-slice_get}
+use Rattle.std.proofs.lemmas.Nat.{div-mul-add, le-div, mul-le}
 use Rattle.std.proofs.Math.Nat.{div-mul-le_self}
-use Rattle.std.proofs.lemmas.Bool.{cases_lt}
-use Rattle.std.proofs.lemmas.Bool.Decides.{nat_tests}
-use Rattle.vm_bitmaps.specs.Pages.{marked_at, marked_range}
+use Rattle.std.proofs.lemmas.Bool.{cases_lt, cases_eq, lt-ltb, le-ltb, cond-true, cond-false}
+use Rattle.vm_bitmaps.specs.Pages.{mark_of, marked_at, marked_range, cleared_at, cleared_range}
 
-pub at_below : (s : ℕ) (m : List Bool) (o : ℕ) → o < 2 ^ 64 → marked_at s m o ≡ set m (o / s) true
-at_below s m o h = let is : nat_lt o (2 ^ 64) ≡ true = Prim.grind (arith, nat_tests) in rw is
+-- the pages with that of one byte below top written, and with those of a range of bytes
+abbrev written_at : Bool → (top size : ℕ) → List Bool → (offset : ℕ) → List Bool
+written_at v top size marks offset = cond (ltb offset top) (set marks (offset / size) v) marks
 
-at_past : (s : ℕ) (m : List Bool) (o : ℕ) → 2 ^ 64 ≤ o → marked_at s m o ≡ m
-at_past s m o h = let is : nat_lt o (2 ^ 64) ≡ false = Prim.grind (arith, nat_tests) in rw is
+unfoldable pub written_range : Bool → (top size : ℕ) → List Bool → (offset n : ℕ) → List Bool
+written_range v top size marks offset zero = marks
+written_range v top size marks offset (suc n) = written_range v top size (written_at v top size marks offset) (offset + 1) n
 
--- no byte lies at or past 2^64
-range_past : (n s : ℕ) (m : List Bool) (o : ℕ) → 2 ^ 64 ≤ o → marked_range s m o n ≡ m
-unfolding marked_range
-range_past zero s m o h = refl
-range_past (suc n) s m o h = rw (at_past s m o h) (range_past n s m (o + 1) (omega arith))
+pub marked_range-is : (n size : ℕ) (marks : List Bool) (offset : ℕ) → marked_range size marks offset n ≡ written_range true (2 ^ 64) size marks offset n
+unfolding marked_range written_range
+marked_range-is zero size marks offset = refl
+marked_range-is (suc n) size marks offset = marked_range-is n size (marked_at size marks offset) (offset + 1)
 
-range_split : (k n s : ℕ) (m : List Bool) (o : ℕ) → marked_range s m o (k + n) ≡ marked_range s (marked_range s m o k) (o + k) n
-unfolding marked_range
-range_split zero n s m o =
-    let a : 0 + n ≡ n = omega arith in
-    let b : o + 0 ≡ o = omega arith in
-    rw (a, b)
-range_split (suc k) n s m o =
-    let a : suc k + n ≡ suc (k + n) = omega arith in
-    let b : o + suc k ≡ o + 1 + k = omega arith in
-    rw (a, b) (range_split k n s (marked_at s m o) (o + 1))
-
--- of a range that goes past 2^64, the part below
-pub range_cut : (len s : ℕ) (m : List Bool) (o : ℕ) → o ≤ 2 ^ 64 → 2 ^ 64 ≤ o + len → marked_range s m o len ≡ marked_range s m o (2 ^ 64 - o)
-range_cut len s m o h le =
-    let e : len ≡ 2 ^ 64 - o + (len - (2 ^ 64 - o)) = omega arith in
-    ap (marked_range s m o) e ∙ range_split (2 ^ 64 - o) (len - (2 ^ 64 - o)) s m o ∙ range_past (len - (2 ^ 64 - o)) s _ (o + (2 ^ 64 - o)) (omega arith)
-
-div_is : (a w b n : ℕ) → b < w → n ≡ a * w + b → n / w ≡ a
-div_is a w b n h e = ap (λ m. m / w) e ∙ div-mul-add a w b h
-
--- the next byte is on the same page or on the next one
-next_page : (o s : ℕ) → 0 < s → ((o + 1) / s ≡ o / s) ⊎ ((o + 1) / s ≡ o / s + 1)
-next_page o s h =
-    let split = div-add-mod' o s in
-    let below = mod_below o s h in
-    elim (cases_lt (o % s + 1) s) [
-      | inl l ↦ inl (div_is (o / s) s (o % s + 1) (o + 1) l (omega arith))
-      | inr g ↦ inr (div_is (o / s + 1) s 0 (o + 1) h (omega arith))
-    ]
+pub cleared_range-is : (n size : ℕ) (marks : List Bool) (offset : ℕ) → cleared_range size marks offset n ≡ written_range false (2 ^ 64) size marks offset n
+unfolding cleared_range written_range
+cleared_range-is zero size marks offset = refl
+cleared_range-is (suc n) size marks offset = cleared_range-is n size (cleared_at size marks offset) (offset + 1)
 
 pub div-le-div : (a b s : ℕ) → 0 < s → a ≤ b → a / s ≤ b / s
 div-le-div a b s h le = let k = div-mul-le_self a s in le-div (a / s) b s h (omega arith)
 
-range_run : (n c s : ℕ) (m : List Bool) (o : ℕ) → 0 < s → o + n < 2 ^ 64 → o / s + c ≡ (o + n) / s →
-    marked_range s m o (suc n) ≡ sets (set m (o / s) true) (suc (o / s)) (replicate c true)
-unfolding marked_range
-range_run zero c s m o h w e =
-    let same : (o + zero) / s ≡ o / s = ap (λ k. k / s) (omega arith) in
-    let none : c ≡ 0 = omega arith in
-    rw (at_below s m o (omega arith), none)
-range_run (suc n) zero s m o h w e =
-    let shifted : (o + 1 + n) / s ≡ (o + suc n) / s = ap (λ k. k / s) (omega arith) in
-    let more = div-le-div (o + 1) (o + suc n) s h (omega arith) in
-    elim (next_page o s h) [
-      | inl same ↦ ap (λ (l : List Bool). marked_range s l (o + 1) (suc n)) (at_below s m o (omega arith)) ∙ range_run n zero s (set m (o / s) true) (o + 1) h (omega arith) (omega arith) ∙ rw (same, set-set)
-      | inr next ↦ absurd (omega arith)
-    ]
-range_run (suc n) (suc d) s m o h w e =
-    let shifted : (o + 1 + n) / s ≡ (o + suc n) / s = ap (λ k. k / s) (omega arith) in
-    elim (next_page o s h) [
-      | inl same ↦ ap (λ (l : List Bool). marked_range s l (o + 1) (suc n)) (at_below s m o (omega arith)) ∙ range_run n (suc d) s (set m (o / s) true) (o + 1) h (omega arith) (omega arith) ∙ rw (same, set-set)
-      | inr next ↦ ap (λ (l : List Bool). marked_range s l (o + 1) (suc n)) (at_below s m o (omega arith)) ∙ range_run n d s (set m (o / s) true) (o + 1) h (omega arith) (omega arith) ∙ rw (next, add-one)
-    ]
+-- the marks after a write of either kind
+pub chosen_range-is : (mark : Bool) (size : ℕ) (marks : List Bool) (offset n : ℕ) →
+    cond mark (marked_range size marks offset n) (cleared_range size marks offset n) ≡ written_range mark (2 ^ 64) size marks offset n
+chosen_range-is true size marks offset n = marked_range-is n size marks offset
+chosen_range-is false size marks offset n = cleared_range-is n size marks offset
 
-sets_past : {A : Type 0} (vs l : List A) (i : ℕ) → length l ≤ i → sets l i vs ≡ l
-sets_past [] l i h = refl
-sets_past (v ∷ vs) l i h = rw (set_past l i v h) (sets_past vs l (suc i) (omega arith))
+at_below : (v : Bool) (top s : ℕ) (m : List Bool) (o : ℕ) → o < top → written_at v top s m o ≡ set m (o / s) v
+at_below v top s m o l = cond-true (ltb o top) (set m (o / s) v) m (lt-ltb o top l)
 
--- what is past the end is left out
-sets_within : {A : Type 0} (vs l : List A) (i k : ℕ) → i + k ≡ length l → sets l i vs ≡ sets l i (take k vs)
-sets_within [] l i zero e = refl
-sets_within [] l i (suc k) e = refl
-sets_within (v ∷ vs) l i zero e = sets_past (v ∷ vs) l i (omega arith)
-sets_within (v ∷ vs) l i (suc k) e =
-    let n = length-set l i v in
-    sets_within vs (set l i v) (suc i) k (omega arith)
+at_past : (v : Bool) (top s : ℕ) (m : List Bool) (o : ℕ) → top ≤ o → written_at v top s m o ≡ m
+at_past v top s m o g = cond-false (ltb o top) (set m (o / s) v) m (le-ltb o top g)
 
-run_of : (m : List Bool) (f k : ℕ) → f + k ≤ length m → take f m ++ replicate k true ++ drop (f + k) m ≡ sets m f (replicate k true)
-run_of m f k w =
-    let n : length (replicate k true) ≡ k = length-replicate k true in
-    sym (sets-eq (replicate k true) m f (omega arith) ∙ rw n)
+length-at : (v : Bool) (top s : ℕ) (m : List Bool) (o : ℕ) → length (written_at v top s m o) ≡ length m
+length-at v top s m o = elim (cases_lt o top) [
+  | inl l ↦ ap length (at_below v top s m o l) ∙ length-set m (o / s) v
+  | inr g ↦ ap length (at_past v top s m o g)
+]
 
-run_within : (m : List Bool) (f k c : ℕ) → k ≤ suc c → f + k ≤ length m → (k ≡ suc c) ⊎ (f + k ≡ length m) →
-    take f m ++ replicate k true ++ drop (f + k) m ≡ sets m f (replicate (suc c) true)
-run_within m f k c le w (inl e) = run_of m f k w ∙ ap (λ j. sets m f (replicate j true)) e
-run_within m f k c le w (inr e) =
-    run_of m f k w ∙ sym (sets_within (replicate (suc c) true) m f k e ∙ ap (sets m f) (take-replicate k (suc c) true le))
+pub length-range : (n : ℕ) (v : Bool) (top s : ℕ) (m : List Bool) (o : ℕ) → length (written_range v top s m o n) ≡ length m
+unfolding written_range
+length-range zero v top s m o = refl
+length-range (suc n) v top s m o = length-range n v top s (written_at v top s m o) (o + 1) ∙ length-at v top s m o
 
--- the marks of a run of bytes, as a run of pages that ends at the last mark or after the last byte's page
-range-is : (n first end s : ℕ) (m : List Bool) (o : ℕ) → 0 < s → o + n < 2 ^ 64 → first ≡ o / s → first < end → end ≤ length m →
-    end ≡ min ((o + n) / s + 1) (length m) →
-    take first m ++ replicate (end - first) true ++ drop end m ≡ marked_range s m o (suc n)
-range-is n first end s m o h fits at l w e =
-    let grows = div-le-div o (o + n) s h (omega arith) in
-    let c : ℕ = (o + n) / s - o / s in
-    let k : ℕ = end - first in
-    let end-is : end ≡ first + k = omega arith in
-    let choice : (k ≡ suc c) ⊎ (first + k ≡ length m) =
-    elim (cases_lt (length m) ((o + n) / s + 1)) [ inl a ↦ inr (omega arith) | inr b ↦ inl (omega arith) ] in
-    let pages : take first m ++ replicate k true ++ drop (first + k) m ≡ sets m first (replicate (suc c) true) =
-    run_within m first k c (omega arith) (omega arith) choice in
-    let whole = range_run n c s m o h fits (omega arith) in
-    ap (λ j. take first m ++ replicate (end - first) true ++ drop j m) end-is ∙ pages ∙ ap (λ j. sets m j (replicate (suc c) true)) at ∙ sym whole
+-- bytes that do not exist
+pub range_past : (n : ℕ) (v : Bool) (top s : ℕ) (m : List Bool) (o : ℕ) → top ≤ o → written_range v top s m o n ≡ m
+unfolding written_range
+range_past zero v top s m o g = refl
+range_past (suc n) v top s m o g =
+    range_past n v top s (written_at v top s m o) (o + 1) (omega arith) ∙ at_past v top s m o g
 
--- bytes past the last mark
-range_beyond : (n s : ℕ) (m : List Bool) (o : ℕ) → 0 < s → o + n ≤ 2 ^ 64 → length m ≤ o / s → m ≡ marked_range s m o n
-unfolding marked_range
-range_beyond zero s m o h fits past = refl
-range_beyond (suc n) s m o h fits past =
-    let here : marked_at s m o ≡ m = at_below s m o (omega arith) ∙ set_past m (o / s) true past in
+-- bytes past the last page
+pub range_beyond : (n : ℕ) (v : Bool) (top s : ℕ) (m : List Bool) (o : ℕ) → 0 < s → length m ≤ o / s → written_range v top s m o n ≡ m
+unfolding written_range
+range_beyond zero v top s m o h g = refl
+range_beyond (suc n) v top s m o h g =
     let more = div-le-div o (o + 1) s h (omega arith) in
-    rw here (range_beyond n s m (o + 1) h (omega arith) (omega arith))
+    let same : written_at v top s m o ≡ m = elim (cases_lt o top) [
+      | inl l ↦ at_below v top s m o l ∙ set_past m (o / s) v g
+      | inr past ↦ at_past v top s m o past
+    ] in
+    range_beyond n v top s (written_at v top s m o) (o + 1) h (omega (arith, length-at v top s m o)) ∙ same
 
-below_cut : (len first end last s : ℕ) (m : List Bool) (o : ℕ) → 0 < s → 0 < len → o + len ≤ 2 ^ 64 → last ≡ o + len - 1 → first ≡ o / s →
-    end ≡ min (last / s + 1) (length m) → (new : List Bool) →
-    (first < end → new ≡ take first m ++ replicate (end - first) true ++ drop end m) → (end ≤ first → new ≡ m) →
-    new ≡ marked_range s m o len
-below_cut zero first end last s m o h some fits l f e new marks same = absurd (omega arith)
-below_cut (suc n) first end last s m o h some fits l f e new marks same =
-    let last-is : last / s ≡ (o + n) / s = ap (λ k. k / s) (omega arith) in
-    let grows = div-le-div o (o + n) s h (omega arith) in
-    elim (cases_lt first end) [
-      | inl a ↦ marks a ∙ range-is n first end s m o h (omega arith) f a (omega arith) (omega arith)
-      | inr b ↦ same b ∙ range_beyond (suc n) s m o h (omega arith) (omega arith)
+-- a page that no byte of the range lies in
+kept_at : (v : Bool) (top s : ℕ) (m : List Bool) (o p : ℕ) (d : Bool) → (o < top → o / s ≡ p → ⊥) → get_or (written_at v top s m o) p d ≡ get_or m p d
+kept_at v top s m o p d none = elim (cases_lt o top) [
+  | inl l ↦ ap (λ m'. get_or m' p d) (at_below v top s m o l) ∙ get_or-set_other m (o / s) p v d (λ e. none l (sym e))
+  | inr g ↦ ap (λ m'. get_or m' p d) (at_past v top s m o g)
+]
+
+kept : (n : ℕ) (v : Bool) (top s : ℕ) (m : List Bool) (o p : ℕ) (d : Bool) →
+    ((b : ℕ) → o ≤ b → b < o + n → b < top → b / s ≡ p → ⊥) → get_or (written_range v top s m o n) p d ≡ get_or m p d
+unfolding written_range
+kept zero v top s m o p d none = refl
+kept (suc n) v top s m o p d none =
+    kept n v top s (written_at v top s m o) (o + 1) p d (λ b low high l e. none b (omega arith) (omega arith) l e) ∙
+    kept_at v top s m o p d (λ l e. none o (omega arith) (omega arith) l e)
+
+-- a page once written stays so
+stays_at : (v : Bool) (top s : ℕ) (m : List Bool) (o p : ℕ) (d : Bool) → p < length m → get_or m p d ≡ v → get_or (written_at v top s m o) p d ≡ v
+stays_at v top s m o p d w e = elim (cases_eq (o / s) p) [
+  | inl same ↦ elim (cases_lt o top) [
+    | inl l ↦ ap (λ m'. get_or m' p d) (at_below v top s m o l ∙ ap (λ i. set m i v) same) ∙ get_or-set_same m p v d w
+    | inr g ↦ ap (λ m'. get_or m' p d) (at_past v top s m o g) ∙ e
+  ]
+  | inr ne ↦ kept_at v top s m o p d (λ l f. ne f) ∙ e
+]
+
+stays : (n : ℕ) (v : Bool) (top s : ℕ) (m : List Bool) (o p : ℕ) (d : Bool) → p < length m → get_or m p d ≡ v → get_or (written_range v top s m o n) p d ≡ v
+unfolding written_range
+stays zero v top s m o p d w e = e
+stays (suc n) v top s m o p d w e =
+    let k = length-at v top s m o in
+    stays n v top s (written_at v top s m o) (o + 1) p d (omega arith) (stays_at v top s m o p d w e)
+
+-- a page that a byte of the range lies in
+hit : (n : ℕ) (v : Bool) (top s : ℕ) (m : List Bool) (o p : ℕ) (d : Bool) (b : ℕ) →
+    o ≤ b → b < o + n → b < top → b / s ≡ p → p < length m → get_or (written_range v top s m o n) p d ≡ v
+unfolding written_range
+hit zero v top s m o p d b low high l e w = absurd (omega arith)
+hit (suc n) v top s m o p d b low high l e w =
+    let k = length-at v top s m o in
+    elim (cases_eq o b) [
+      | inl same ↦
+          let at : o / s ≡ p = ap (λ i. i / s) same ∙ e in
+          let now : get_or (written_at v top s m o) p d ≡ v =
+          ap (λ m'. get_or m' p d) (at_below v top s m o (omega arith) ∙ ap (λ i. set m i v) at) ∙ get_or-set_same m p v d w in
+          stays n v top s (written_at v top s m o) (o + 1) p d (omega arith) now
+      | inr ne ↦ hit n v top s (written_at v top s m o) (o + 1) p d b (omega arith) (omega arith) l e (omega arith)
     ]
 
--- what a call leaves: the pages from the first byte's up to the last byte's, as far as there are any
-pub marked_run : (len first end last s : ℕ) (m : List Bool) (o : ℕ) → 0 < s → 0 < len → o < 2 ^ 64 → last ≡ min (o + (len - 1)) (2 ^ 64 - 1) → first ≡ o / s →
-    end ≡ min (last / s + 1) (length m) → (new : List Bool) →
-    (first < end → new ≡ take first m ++ replicate (end - first) true ++ drop end m) → (end ≤ first → new ≡ m) →
-    new ≡ marked_range s m o len
-marked_run len first end last s m o h some below l f e new marks same =
-    elim (cases_lt (2 ^ 64) (o + len)) [
-      | inl over ↦ below_cut (2 ^ 64 - o) first end last s m o h (omega arith) (omega arith) (omega arith) f e new marks same ∙ sym (range_cut len s m o (omega arith) (omega arith))
-      | inr within ↦ below_cut len first end last s m o h some within (omega arith) f e new marks same
-    ]
+-- the first byte of a page after that of o is past o
+page_after : (o s p : ℕ) → 0 < s → o / s < p → o ≤ p * s
+page_after o s p h l = elim (cases_lt (p * s) o) [
+  | inl small ↦ let k = le-div p o s h (omega arith) in absurd (omega arith)
+  | inr large ↦ large
+]
+
+mul-div : (p s : ℕ) → 0 < s → p * s / s ≡ p
+mul-div p s h = ap (λ m. m / s) (omega arith) ∙ div-mul-add p s 0 h
+
+mul_mono : (a b c : ℕ) → a ≤ b → a * c ≤ b * c
+mul_mono a b c l = mul-le a c b c l (omega arith)
+
+-- a page between that of the first byte and that of the last has a byte of the range
+byte_of : (o final s p : ℕ) → 0 < s → o ≤ final → o / s ≤ p → p ≤ final / s → (b : ℕ) × (o ≤ b) × (b ≤ final) × (b / s ≡ p)
+byte_of o final s p h le low high = elim (cases_eq (o / s) p) [
+  | inl same ↦ (o, omega arith, le, same)
+  | inr ne ↦
+      let past = page_after o s p h (omega arith) in
+      let inside : p * s ≤ final = elim (cases_lt final (p * s)) [
+        | inl over ↦ absurd (let k = div-mul-le_self final s in let more = mul_mono p (final / s) s high in omega arith)
+        | inr fine ↦ fine
+      ] in
+      (p * s, past, inside, mul-div p s h)
+]
+
+-- a list whose pages from that of the first byte to that of the last are written, and the others are as they were
+pub run_is : (v : Bool) (top s : ℕ) (m new : List Bool) (o n final : ℕ) → 0 < s → o ≤ final → final < o + n → final < top →
+    ((b : ℕ) → b < o + n → b < top → b ≤ final) → length new ≡ length m →
+    ((p : ℕ) → p < length m → o / s ≤ p → p ≤ final / s → get_or new p false ≡ v) →
+    ((p : ℕ) → p < length m → p < o / s → get_or new p false ≡ get_or m p false) →
+    ((p : ℕ) → p < length m → final / s < p → get_or new p false ≡ get_or m p false) →
+    new ≡ written_range v top s m o n
+run_is v top s m new o n final h le fits below last count inside before after =
+    let k = length-range n v top s m o in
+    ext_get_or false new (written_range v top s m o n) (omega arith) (λ p w.
+    elim (cases_lt p (o / s)) [
+      | inl low ↦ before p (omega arith) low ∙ sym (kept n v top s m o p false (λ b bl bh bt e. let g = div-le-div o b s h bl in absurd (omega arith)))
+      | inr from ↦ elim (cases_lt (final / s) p) [
+        | inl high ↦ after p (omega arith) high ∙ sym (kept n v top s m o p false (λ b bl bh bt e. let g = div-le-div b final s h (last b bh bt) in absurd (omega arith)))
+        | inr to ↦
+            let b = byte_of o final s p h le from to in
+            inside p (omega arith) from to ∙ sym (hit n v top s m o p false b.0 b.1 (omega arith) (omega arith) b.3 (omega arith))
+      ]
+    ])
+
+-- where there are no pages, or no byte of the range exists, nothing is marked
+nil_from : (m : List Bool) → length m ≡ 0 → ◌≡◌ {A = List Bool} [] m
+nil_from m e = sym (nil_from_length m e)
+
+pub marked_none : (n s o : ℕ) → ◌≡◌ {A = List Bool} [] (marked_range s [] o n)
+marked_none n s o = nil_from (marked_range s [] o n) (ap length (marked_range-is n s [] o) ∙ length-range n true (2 ^ 64) s [] o)
+
+pub marked_past : (n s : ℕ) (m : List Bool) (o : ℕ) → 2 ^ 64 ≤ o → m ≡ marked_range s m o n
+marked_past n s m o g = sym (marked_range-is n s m o ∙ range_past n true (2 ^ 64) s m o g)
+
+-- ---- what a caller may cite
+
+pub length-marked_range : (n s : ℕ) (m : List Bool) (o : ℕ) → length (marked_range s m o n) ≡ length m
+length-marked_range n s m o = ap length (marked_range-is n s m o) ∙ length-range n true (2 ^ 64) s m o
+
+more : (n k s : ℕ) (m : List Bool) (o : ℕ) → k ≡ suc n → marked_range s m o k ≡ marked_range s (marked_at s m o) (o + 1) n
+unfolding marked_range
+more n k s m o e = ap (marked_range s m o) e
+
+-- a range in two parts
+pub marked_range-add : (a b s : ℕ) (m : List Bool) (o : ℕ) → marked_range s (marked_range s m o a) (o + a) b ≡ marked_range s m o (a + b)
+unfolding marked_range
+marked_range-add zero b s m o =
+    let start : o + zero ≡ o = omega arith in
+    let count : b ≡ zero + b = omega arith in
+    ap (λ i. marked_range s m i b) start ∙ ap (marked_range s m o) count
+marked_range-add (suc a) b s m o =
+    let start : o + suc a ≡ o + 1 + a = omega arith in
+    let count : suc a + b ≡ suc (a + b) = omega arith in
+    ap (λ i. marked_range s (marked_range s (marked_at s m o) (o + 1) a) i b) start ∙
+    marked_range-add a b s (marked_at s m o) (o + 1) ∙ sym (more (a + b) (suc a + b) s m o count)
+
+-- the page of a byte of the range is marked
+pub mark_of-inside : (n s : ℕ) (m : List Bool) (o b : ℕ) → o ≤ b → b < o + n → b < 2 ^ 64 → b / s < length m →
+    mark_of (marked_range s m o n) (b / s) ≡ true
+mark_of-inside n s m o b low high fits within =
+    unwrap_or-slice_get (marked_range s m o n) (b / s) false ∙ ap (λ l. get_or l (b / s) false) (marked_range-is n s m o) ∙
+    hit n true (2 ^ 64) s m o (b / s) false b low high fits refl within
+
+-- a page with no byte of the range is as it was
+pub mark_of-outside : (n s : ℕ) (m : List Bool) (o p : ℕ) → ((b : ℕ) → o ≤ b → b < o + n → b < 2 ^ 64 → b / s ≡ p → ⊥) →
+    mark_of (marked_range s m o n) p ≡ mark_of m p
+mark_of-outside n s m o p none =
+    unwrap_or-slice_get (marked_range s m o n) p false ∙ ap (λ l. get_or l p false) (marked_range-is n s m o) ∙
+    kept n true (2 ^ 64) s m o p false none ∙ sym (unwrap_or-slice_get m p false)
+
+-- a page that is marked stays so
+pub mark_of-stays : (n s : ℕ) (m : List Bool) (o p : ℕ) → p < length m → mark_of m p ≡ true → mark_of (marked_range s m o n) p ≡ true
+mark_of-stays n s m o p within marked =
+    unwrap_or-slice_get (marked_range s m o n) p false ∙ ap (λ l. get_or l p false) (marked_range-is n s m o) ∙
+    stays n true (2 ^ 64) s m o p false within (sym (unwrap_or-slice_get m p false) ∙ marked)

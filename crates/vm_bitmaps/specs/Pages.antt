@@ -1,6 +1,7 @@
 -- The dirty pages of a range of bytes: a truth value for each page (vm-memory, bitmap).
-use Rattle.std.specs.Prelude.{ℕ, zero, suc, ◌+◌, ◌/◌, ◌^◌, Bool, true, false, nat_lt, if◌then◌else◌, List, replicate, slice_set, slice_get, unwrap_or}
+use Rattle.std.specs.Prelude.{ℕ, zero, suc, ◌+◌, ◌*◌, ◌/◌, ◌^◌, Bool, true, false, nat_lt, if◌then◌else◌, List, length, map, replicate, slice_set, slice_get, unwrap_or}
 use Rattle.std.specs.Int.{div_ceil}
+use Rattle.std.specs.List.{range_with_len}
 
 -- the pages of byte_size bytes, each of page_size bytes but the last, which may be shorter, and whether each is marked
 pub record PageSet : Type 0 where
@@ -16,6 +17,10 @@ pages_of size n = div_ceil n size
 abbrev pub clear_pages : (size : ℕ) → (n : ℕ) → List Bool
 clear_pages size n = replicate (pages_of size n) false
 
+-- n bytes in pages of size bytes, none of them marked
+abbrev pub clear_set : (size : ℕ) → (n : ℕ) → PageSet
+clear_set size n = record { page_size = size; byte_size = n; marks = clear_pages size n }
+
 -- the pages with that of one byte marked: no byte lies at or past 2^64, and a page past the end is ignored
 abbrev pub marked_at : (size : ℕ) → List Bool → (offset : ℕ) → List Bool
 marked_at size marks offset = if nat_lt offset (2 ^ 64) then slice_set marks (offset / size) true else marks
@@ -25,6 +30,28 @@ unfoldable pub marked_range : (size : ℕ) → List Bool → (offset n : ℕ) �
 marked_range size marks offset zero = marks
 marked_range size marks offset (suc n) = marked_range size (marked_at size marks offset) (offset + 1) n
 
+-- the pages with that of one byte cleared: no byte lies at or past 2^64, and a page past the end is ignored
+abbrev pub cleared_at : (size : ℕ) → List Bool → (offset : ℕ) → List Bool
+cleared_at size marks offset = if nat_lt offset (2 ^ 64) then slice_set marks (offset / size) false else marks
+
+-- the pages with those of n bytes from offset on cleared, byte by byte
+unfoldable pub cleared_range : (size : ℕ) → List Bool → (offset n : ℕ) → List Bool
+cleared_range size marks offset zero = marks
+cleared_range size marks offset (suc n) = cleared_range size (cleared_at size marks offset) (offset + 1) n
+
+-- whether the page p is marked: a page past the end is not
+abbrev pub mark_of : List Bool → (p : ℕ) → Bool
+mark_of marks p = unwrap_or (slice_get marks p) false
+
 -- whether the page of a byte is marked
 abbrev pub is_marked : (size : ℕ) → List Bool → (offset : ℕ) → Bool
 is_marked size marks offset = if nat_lt offset (2 ^ 64) then unwrap_or (slice_get marks (offset / size)) false else false
+
+-- the lowest k bits of the word whose bit 0 tells the page first, and whose bit j the page first + j
+unfoldable pub word_from : List Bool → (first k : ℕ) → ℕ
+word_from marks first zero = 0
+word_from marks first (suc k) = (if mark_of marks (first + k) then 1 else 0) * 2 ^ k + word_from marks first k
+
+-- the marks as words of 64 bits: bit k of word i tells the page 64 * i + k, and a bit past the last page is 0
+abbrev pub words_of : List Bool → List ℕ
+words_of marks = map (λ i. word_from marks (64 * i) 64) (range_with_len 0 (div_ceil (length marks) 64))

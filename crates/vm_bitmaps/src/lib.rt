@@ -2,7 +2,13 @@
 #![tactic(auto)]
 
 pub mod bitmap;
+pub mod offset_bitmap;
 pub mod page_bitmap;
+mod page_words;
 
 pub use bitmap::{Bitmap, NewBitmap};
+pub use offset_bitmap::{BaseSlice, RefSlice};
 pub use page_bitmap::PageBitmap;
+
+#[cfg(test)]
+mod tests;

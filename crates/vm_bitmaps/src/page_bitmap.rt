@@ -1,101 +1,212 @@
-//! The dirty pages of an area, as one truth value a page.
+//! The dirty pages of some bytes, as the bits of words.
 
-ghost use Rattle.std.specs.Prelude.{◌≡◌, ◌+◌, ◌-◌, ◌++◌, ◌<◌, ◌≤◌, ◌^◌, take, drop, replicate, length, map, unwrap_or, slice_get, ◌==◌, vec_len, true, false, IfOk};
-ghost use Rattle.vm_bitmaps.specs.Pages.{PageSet, clear_pages, pages_of, marked_range};
+ghost use Rattle.std.specs.Prelude.{◌≡◌, ℕ, ◌+◌, ◌-◌, ◌^◌, ◌<◌, ◌/◌, IfOk, OnOk, OnErr, length, min, if◌then◌else◌, refl, vec_len};
+ghost use Rattle.std.specs.Int.{div_ceil};
+ghost use Rattle.std.specs.NonZero.{non_zero_usize_get};
 
 use crate::bitmap::{Bitmap, NewBitmap};
+use crate::page_words::{clear, write_run, zeros, zeros_like};
 use std::alloc::{AllocError, Global};
 use std::marker::Model;
+use std::mem;
 use std::num::NonZeroUsize;
 
-/// The dirty pages of some bytes.
-#[derive(Drop)]
+/// The dirty pages of some bytes: a mark for each page (the counterpart of vm-memory's `AtomicBitmap`
+/// behind an exclusive reference).
+#[derive(Clone, Drop)]
 pub struct PageBitmap {
     page_size: usize,
     byte_size: usize,
-    marks: Vec<bool>,
+    len: usize,
+    words: Vec<u64>,
 }
 
 impl Model for PageBitmap {
-    ghost use Rattle.std.specs.Prelude.{◌<◌, ◌≡◌, length};
+    ghost use Rattle.std.specs.Prelude.{◌<◌, ◌≡◌};
     ghost use Rattle.vm_bitmaps.specs.Pages.{PageSet, pages_of};
+    ghost use Rattle.vm_bitmaps.specs.Words.{marks_of, IsClean};
 
     ghost Value = { PageSet };
 
-    ghost view = { λ b. record { page_size = b.page_size; byte_size = b.byte_size; marks = b.marks.items } };
+    ghost view = { λ b. record {
+      page_size = b.page_size;
+      byte_size = b.byte_size;
+      marks = marks_of b.len b.words.items;
+    } };
 
-    ghost invariant = { λ b. (0 < b.page_size) × (length b.marks.items ≡ pages_of b.page_size b.byte_size) };
+    ghost invariant = { λ b. (0 < b.page_size) × (b.len ≡ pages_of b.page_size b.byte_size) × IsClean b.len b.words.items };
 }
 
-// The pages from `first` up to `end` are marked.
-fn mark_run(marks: &mut Vec<bool>, first: usize, end: usize)
-    requires ordered { first ≤ end }
-    requires within { end ≤ vec_len marks.old }
-    ensures { marks.new.items ≡ take first marks.old.items ++ replicate (end - first) true ++ drop end marks.old.items }
+// The page of the last of `len` bytes from `start` on, of those below 2^64.
+#[inline]
+fn last_page(page_size: usize, start: usize, len: usize) -> usize
+    requires positive { 0 < page_size }
+    requires some { 0 < len }
+    ensures { result ≡ (min (start + len) (2 ^ 64) - 1) / page_size }
 {
-    marks[first..end].fill(true);
+    if len <= page_size - start % page_size {
+        start / page_size
+    } else {
+        start.saturating_add(len - 1) / page_size
+    }
 }
 
 impl PageBitmap {
-    /// How many pages there are.
+    ghost use Rattle.vm_bitmaps.specs.Pages.{clear_set, cleared_range, is_marked, mark_of, marked_range, pages_of, words_of};
+    ghost use Rattle.vm_bitmaps.specs.Words.{page_bit, bit_of};
+
+    // Clear marks for `byte_size` bytes.
+    fn made(alloc: Global, byte_size: usize, page_size: usize) -> Result<Self, AllocError>
+        requires { 0 < page_size }
+        ensures { IfOk result (λ b. b ≡ clear_set page_size byte_size) }
+    {
+        let len = byte_size.div_ceil(page_size);
+        Ok(PageBitmap {
+            page_size,
+            byte_size,
+            len,
+            words: zeros(alloc, len.div_ceil(64))?,
+        })
+    }
+
+    /// Clear marks for `byte_size` bytes in pages of `page_size` bytes (vm-memory's `AtomicBitmap::new`).
+    pub fn new(alloc: Global, byte_size: usize, page_size: NonZeroUsize) -> Result<Self, AllocError>
+        ensures { IfOk result (λ b. b ≡ clear_set (non_zero_usize_get page_size) byte_size) }
+    {
+        PageBitmap::made(alloc, byte_size, page_size.get())
+    }
+
+    /// The number of pages: the bytes over the bytes of a page, rounded up (vm-memory's `AtomicBitmap::len`).
     pub fn len(&self) -> usize
-        ensures { result ≡ length self.now.marks }
+        ensures pages { result ≡ pages_of self.now.page_size self.now.byte_size }
+        ensures marks { result ≡ length self.now.marks }
     {
-        self.marks.len()
+        self.len
     }
 
-    /// Whether there is no page.
-    pub fn is_empty(&self) -> bool
-        ensures { result ≡ (length self.now.marks == 0) }
+    /// The number of bytes (vm-memory's `AtomicBitmap::byte_size`).
+    pub fn byte_size(&self) -> usize
+        ensures { result ≡ self.now.byte_size }
     {
-        self.marks.is_empty()
+        self.byte_size
     }
 
-    /// Whether a page is marked; one past the end is not.
+    /// The bytes of a page.
+    pub fn page_size(&self) -> usize
+        ensures size { result ≡ self.now.page_size }
+        ensures positive { 0 < result }
+    {
+        self.page_size
+    }
+
+    /// Whether the page number `index` is marked: one past the end is not (vm-memory's
+    /// `AtomicBitmap::is_bit_set`).
     pub fn is_bit_set(&self, index: usize) -> bool
-        ensures { result ≡ unwrap_or (slice_get self.now.marks index) false }
+        ensures { result ≡ mark_of self.now.marks index }
     {
-        self.marks.get(index).copied().unwrap_or(false)
+        index < self.len && (self.words[index / 64] >> (index % 64)) & 1 == 1
     }
 
-    /// Clears all marks.
-    pub fn reset(&mut self)
-        ensures { self.new ≡ record self.old { marks = map (λ _. false) self.old.marks } }
+    /// Whether the page of the byte at `addr` is marked (vm-memory's `AtomicBitmap::is_addr_set`).
+    pub fn is_addr_set(&self, addr: usize) -> bool
+        ensures { result ≡ is_marked self.now.page_size self.now.marks addr }
     {
-        self.marks.fill(false);
+        self.is_bit_set(addr / self.page_size)
+    }
+
+    // Writes the marks of the pages of `len` bytes from `start` on.
+    #[inline]
+    fn write_range(&mut self, start: usize, len: usize, mark: bool)
+        ensures { self.new ≡ record self.old {
+          marks = if mark
+              then marked_range self.old.page_size self.old.marks start len
+              else cleared_range self.old.page_size self.old.marks start len;
+        } }
+    {
+        if len == 0 {
+            return;
+        }
+        let first = start / self.page_size;
+        if first >= self.len {
+            return;
+        }
+        let last = last_page(self.page_size, start, len).min(self.len - 1);
+        write_run(&mut self.words, first, last, mark);
+    }
+
+    /// Marks the pages of `len` bytes from `start` on. Bytes past the end are ignored (vm-memory's
+    /// `AtomicBitmap::set_addr_range`).
+    pub fn set_addr_range(&mut self, start: usize, len: usize)
+        ensures { self.new ≡ record self.old {
+          marks = marked_range self.old.page_size self.old.marks start len;
+        } }
+    {
+        self.write_range(start, len, true);
+    }
+
+    /// Clears the pages of `len` bytes from `start` on. Bytes past the end are ignored (vm-memory's
+    /// `AtomicBitmap::reset_addr_range`).
+    pub fn reset_addr_range(&mut self, start: usize, len: usize)
+        ensures { self.new ≡ record self.old {
+          marks = cleared_range self.old.page_size self.old.marks start len;
+        } }
+    {
+        self.write_range(start, len, false);
+    }
+
+    /// Clears all marks (vm-memory's `AtomicBitmap::reset`).
+    pub fn reset(&mut self)
+        ensures { self.new ≡ clear_set self.old.page_size self.old.byte_size }
+    {
+        clear(&mut self.words);
+    }
+
+    /// The marks as words of 64 pages, which are all cleared. Page p is bit p mod 64 of word p / 64
+    /// (vm-memory's `AtomicBitmap::get_and_reset`). The memory is of the allocator that this value was made
+    /// with; where there is none, nothing changes.
+    pub fn get_and_reset(&mut self) -> Result<Vec<u64>, AllocError>
+        ensures words { IfOk result (λ words. words.items ≡ words_of self.old.marks) }
+        ensures count { IfOk result (λ words. vec_len words ≡ div_ceil (length self.old.marks) 64) }
+        ensures bits { IfOk result (λ words. (p : ℕ) → page_bit words.items p ≡ bit_of (mark_of self.old.marks p)) }
+        ensures ok { OnOk result (self.new ≡ clear_set self.old.page_size self.old.byte_size) }
+        ensures err { OnErr result (self.new ≡ self.old) }
+    {
+        let fresh = zeros_like(&self.words)?;
+        Ok(mem::replace(&mut self.words, fresh))
     }
 }
 
 impl Bitmap for PageBitmap {
     ghost page_size = { λ b. b.page_size };
+
     ghost base = { λ b. 0 };
+
     ghost marks = { λ b. b.marks };
 
+    ghost Keeps = { λ old new. new.byte_size ≡ old.byte_size };
+
+    ghost keeps_same = { λ b. refl };
+
     fn mark_dirty(&mut self, offset: usize, len: usize) {
-        if len == 0 {
-            return;
-        }
-        let last = offset.saturating_add(len - 1);
-        let first = offset / self.page_size;
-        let end = (last / self.page_size).saturating_add(1).min(self.marks.len());
-        if first < end {
-            mark_run(&mut self.marks, first, end);
-        }
+        self.write_range(offset, len, true);
     }
 
     fn dirty_at(&self, offset: usize) -> bool {
-        self.marks.get(offset / self.page_size).copied().unwrap_or(false)
+        self.is_addr_set(offset)
     }
 }
 
 impl NewBitmap for PageBitmap {
+    ghost use Rattle.std.specs.Prelude.{false, replicate};
+    ghost use Rattle.vm_bitmaps.specs.Pages.{clear_set, pages_of};
+
     ghost count = { λ n. pages_of 4096 n };
 
-    fn with_len(alloc: Global, len: usize) -> Result<Self, AllocError> {
-        Ok(PageBitmap {
-            page_size: 4096,
-            byte_size: len,
-            marks: vec![in alloc; false; len.div_ceil(4096)]?,
-        })
+    fn with_len(alloc: Global, len: usize) -> Result<Self, AllocError>
+        ensures size { IfOk result (λ b. b.page_size ≡ 4096) }
+        ensures clear { IfOk result (λ b. b.marks ≡ replicate (pages_of 4096 len) false) }
+        ensures set { IfOk result (λ b. b ≡ clear_set 4096 len) }
+    {
+        PageBitmap::made(alloc, len, 4096)
     }
 }

@@ -1,11 +1,11 @@
 -- bytes put at places of one block, one after another, are a run of bytes
-use Rattle.std.proofs.Common.{◌≡◌, ℕ, ◌+◌, ◌/◌, ◌^◌, ◌<◌, ◌≤◌, Bool, List, [], ◌∷◌, ◌++◌, length, map, set, get_or, take, drop, refl, ap, sym, ◌∙◌, arith, zero, suc, add-one, length-set, length-append, length-drop, true, false, nat_lt, if◌then◌else◌, Option, Some}
+use Rattle.std.proofs.Common.{◌≡◌, ℕ, ◌+◌, ◌/◌, ◌^◌, ◌<◌, ◌≤◌, Bool, List, [], ◌∷◌, ◌++◌, length, map, replicate, set, get_or, take, drop, refl, ap, sym, ◌∙◌, arith, zero, suc, add-one, length-set, length-append, length-drop, true, false, nat_lt, if◌then◌else◌, Option, Some}
 use Rattle.std.specs.Prelude.{slice_get, unwrap_or}
 use Rattle.std.specs.Option.{option_and_then}
 use Rattle.std.specs.List.{zip}
 use Rattle.std.proofs.lemmas.List.{drop_more, get_or-map, length-map, length-take-le}
 use Rattle.std.proofs.lemmas.Option.{slice_get-get_or}
-use Rattle.vm_bitmaps.proofs.Marks.{at_below}
+use Rattle.std.proofs.lemmas.Bool.{lt-ltb, cond-true}
 use Rattle.std.proofs.lemmas.List.Edits.{sets, sets-eq}
 use Rattle.vm_bitmaps.specs.Pages.{marked_at, marked_range}
 use Rattle.vm_memory_core.specs.Host.{Host, Block, Place, changed_at, marked, unmarked, host_of, lengths}
@@ -33,6 +33,9 @@ length_written n new old e f =
 unfoldable pub marks_each : List Bool → ℕ → ℕ → List Bool
 marks_each m offset zero = m
 marks_each m offset (suc n) = marks_each (marked m offset) (offset + 1) n
+
+at_below : (s : ℕ) (m : List Bool) (o : ℕ) → o < 2 ^ 64 → marked_at s m o ≡ set m (o / s) true
+at_below s m o l = cond-true (nat_lt o (2 ^ 64)) (set m (o / s) true) m (lt-ltb o (2 ^ 64) l)
 
 -- below 2^64 each byte has its page
 marked_range-is : (n : ℕ) (m : List Bool) (o : ℕ) → o + n ≤ 2 ^ 64 → marked_range 4096 m o n ≡ marks_each m o n
@@ -168,6 +171,13 @@ pub changed_at-past : {X : Type 0} (l : List X) (i : ℕ) (f : X → X) → leng
 changed_at-past [] i f h = refl
 changed_at-past (x ∷ l) zero f h = absurd (omega arith)
 changed_at-past {X} (x ∷ l) (suc i) f h = ap (λ (r : List X). x ∷ r) (changed_at-past l i f (omega arith))
+
+-- no page marked, of as many as there were
+pub clear-is : (m : List Bool) (n : ℕ) → n ≡ length m → replicate n false ≡ map (λ b. false) m
+clear-is [] zero e = refl
+clear-is [] (suc n) e = absurd (omega arith)
+clear-is (b ∷ m) zero e = absurd (omega arith)
+clear-is (b ∷ m) (suc n) e = ap (λ (r : List Bool). false ∷ r) (clear-is m n (omega arith))
 
 -- one block without its marks
 pub reset_in : (blocks inside : List Block) (i : ℕ) (old new : Block) → inside ≡ blocks → old ≡ get_or inside i old → new ≡ unmarked old →

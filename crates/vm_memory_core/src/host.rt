@@ -151,6 +151,18 @@ impl<B: NewBitmap> HostMemory<B> {
         }
     }
 
+    /// The bytes of a block, and its dirty pages.
+    pub fn bytes_and_bitmap(&self, block: usize) -> Option<(&[u8], &B)>
+        ensures bytes { option_map (λ p. p.0.now) result ≡ option_map (λ b. b.bytes) (slice_get self.now block) }
+        ensures marks { option_map (λ p. B.marks p.1.now) result ≡ option_map (λ b. b.marks) (slice_get self.now block) }
+        ensures count { IfSome result (λ p. length (B.marks p.1.now) ≡ B.count (length p.0.now)) }
+    {
+        match self.blocks.get(block) {
+            Some(block) => Some((&block.bytes, &block.bitmap)),
+            None => None,
+        }
+    }
+
     /// A window of a block, where the block has all of it.
     pub fn window(&self, block: usize, offset: usize, len: usize) -> Option<VolatileSlice>
         ensures value { IfSome result (λ w. w ≡ record { block = block; offset = offset; len = len }) }
@@ -177,8 +189,10 @@ impl HostMemory<PageBitmap> {
         if block >= self.blocks.len() {
             return false;
         }
-        let block = &mut self.blocks[block];
-        block.bitmap.reset();
+        let bitmap = &mut self.blocks[block].bitmap;
+        let pages = bitmap.len();
+        bitmap.reset();
+        prove_eq!(bitmap.len(), pages);
         true
     }
 }

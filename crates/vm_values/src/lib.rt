@@ -1,6 +1,15 @@
-//! Values of guest memory: addresses.
+//! Values of guest memory: addresses, and values that are spelled by a fixed number of bytes.
 #![tactic(auto)]
 
 pub mod address;
+pub mod byte_valued;
+pub mod endian;
+pub mod place;
 
-pub use address::GuestAddress;
+pub use address::{Address, AddressValue, GuestAddress, GuestUsize, MemoryRegionAddress};
+pub use byte_valued::ByteValued;
+pub use endian::{Be16, Be32, Be64, Le16, Le32, Le64};
+pub use place::{get, put, read_and_written, written_and_read};
+
+#[cfg(test)]
+mod tests;

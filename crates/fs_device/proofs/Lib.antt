@@ -1,0 +1,3 @@
+pub mod ServeLemmas
+pub mod StepLemmas
+pub mod HarvestLemmas

@@ -1,0 +1,4 @@
+pub mod Parts
+pub mod Step
+pub mod Copies
+pub mod Views

@@ -1,0 +1,19 @@
+//! What both directions of the FUSE protocol use: numbers of users, groups and errors, flags and shared records.
+#![tactic(auto)]
+
+pub mod constants;
+pub mod flags;
+pub mod ids;
+pub mod records;
+pub mod stats;
+
+pub use flags::{
+    FsOptions, IoctlFlags, NotifyInvalEntryOutFlags, OpenOptions, SetattrValid, SetupmappingFlags,
+    SetxattrFlags,
+};
+pub use ids::{Errno, GuestGid, GuestUid, HostGid, HostUid};
+pub use records::{Attr, FileLock, Kstatfs};
+pub use stats::{Stat, StatVfs};
+
+#[cfg(test)]
+mod tests;

@@ -1,0 +1,41 @@
+-- Which request a number asks for, and which extension a number names (linux/fuse.h).
+use Rattle.std.specs.Prelude.{ℕ, List, [], ◌∷◌, Option, Some, None, Result, Ok, Err, slice_get, nat_lt, ◌==◌, if◌then◌else◌}
+use Rattle.fuse_wire.specs.declared.opcodes.Opcode.{Opcode}
+use Rattle.fuse_wire.specs.declared.opcodes.Opcode.TheVariants as op
+use Rattle.fuse_wire.specs.declared.opcodes.ExtType.{ExtType}
+use Rattle.fuse_wire.specs.declared.opcodes.ExtType.TheVariants.{SecCtx, SupGroups}
+
+-- the requests by their numbers, from 0 to 51
+abbrev pub opcodes : List (Option Opcode)
+opcodes =
+    None ∷ Some op.Lookup ∷ Some op.Forget ∷ Some op.Getattr ∷ Some op.Setattr ∷ Some op.Readlink ∷ Some op.Symlink ∷
+    None ∷ Some op.Mknod ∷ Some op.Mkdir ∷ Some op.Unlink ∷ Some op.Rmdir ∷ Some op.Rename ∷ Some op.Link ∷
+    Some op.Open ∷ Some op.Read ∷ Some op.Write ∷ Some op.Statfs ∷ Some op.Release ∷ None ∷ Some op.Fsync ∷
+    Some op.Setxattr ∷ Some op.Getxattr ∷ Some op.Listxattr ∷ Some op.Removexattr ∷ Some op.Flush ∷ Some op.Init ∷
+    Some op.Opendir ∷ Some op.Readdir ∷ Some op.Releasedir ∷ Some op.Fsyncdir ∷ Some op.Getlk ∷ Some op.Setlk ∷
+    Some op.Setlkw ∷ Some op.Access ∷ Some op.Create ∷ Some op.Interrupt ∷ Some op.Bmap ∷ Some op.Destroy ∷
+    Some op.Ioctl ∷ Some op.Poll ∷ Some op.NotifyReply ∷ Some op.BatchForget ∷ Some op.Fallocate ∷ Some op.Readdirplus ∷
+    Some op.Rename2 ∷ Some op.Lseek ∷ Some op.CopyFileRange ∷ Some op.SetupMapping ∷ Some op.RemoveMapping ∷
+    Some op.Syncfs ∷ Some op.TmpFile ∷ []
+
+-- the request that a place of the list names
+abbrev pub named : Option (Option Opcode) → Option Opcode
+named None = None
+named (Some o) = o
+
+-- the request that has this number
+abbrev pub opcode_of : ℕ → Option Opcode
+opcode_of n = named (slice_get opcodes n)
+
+-- a request, or the error of a number that has none
+abbrev pub read_as : Option Opcode → Result Opcode (Unit {0})
+read_as None = Err tt
+read_as (Some o) = Ok o
+
+-- a request's number as it is read
+abbrev pub read_opcode : ℕ → Result Opcode (Unit {0})
+read_opcode n = read_as (opcode_of n)
+
+-- an extension's number as it is read: 0 to 31 count security contexts, 32 is the groups
+abbrev pub read_ext_type : ℕ → Result ExtType (Unit {0})
+read_ext_type n = if nat_lt n 32 then Ok (SecCtx n) else if n == 32 then Ok SupGroups else Err tt

@@ -1,0 +1,52 @@
+//! A part of a bitmap's bytes (vm-memory's `BaseSlice`, `RefSlice`).
+
+ghost use Rattle.std.specs.Prelude.{◌≡◌, ◌+◌, refl};
+
+use crate::bitmap::Bitmap;
+
+/// The bytes of a bitmap from an offset on.
+#[derive(Drop)]
+pub struct BaseSlice<B> {
+    inner: B,
+    offset: usize,
+}
+
+/// The bytes of a bitmap from an offset on, behind a reference to it.
+pub type RefSlice<'a, B> = BaseSlice<&'a mut B>;
+
+impl<B> BaseSlice<B> {
+    /// The bytes of `inner` from `offset` on.
+    pub fn new(inner: B, offset: usize) -> BaseSlice<B>
+        ensures inner { result.inner ≡ inner }
+        ensures offset { result.offset ≡ offset }
+    {
+        BaseSlice { inner, offset }
+    }
+}
+
+/// Each offset is counted from the slice's own. Where the sum does not fit 64 bits there is no byte, so
+/// nothing is marked and nothing is dirty.
+impl<B: Bitmap> Bitmap for BaseSlice<B> {
+    ghost page_size = { λ s. B.page_size s.inner };
+
+    ghost base = { λ s. B.base s.inner + s.offset };
+
+    ghost marks = { λ s. B.marks s.inner };
+
+    ghost Keeps = { λ old new. (new.offset ≡ old.offset) × B.Keeps old.inner new.inner };
+
+    ghost keeps_same = { λ s. (refl, B.keeps_same s.inner) };
+
+    fn mark_dirty(&mut self, offset: usize, len: usize) {
+        if let Some(offset) = self.offset.checked_add(offset) {
+            self.inner.mark_dirty(offset, len);
+        }
+    }
+
+    fn dirty_at(&self, offset: usize) -> bool {
+        match self.offset.checked_add(offset) {
+            Some(offset) => self.inner.dirty_at(offset),
+            None => false,
+        }
+    }
+}

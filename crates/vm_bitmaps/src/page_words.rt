@@ -1,0 +1,97 @@
+//! Runs of pages in words: page p is bit p mod 64 of word p / 64.
+
+ghost use Rattle.std.specs.Prelude.{◌≡◌, ℕ, ◌+◌, ◌-◌, ◌*◌, ◌^◌, ◌++◌, ◌<◌, ◌≤◌, length, take, drop, replicate, slice_index, IfOk};
+ghost use Rattle.vm_bitmaps.specs.Words.{WritesBits, WritesRun};
+
+use std::alloc::{AllocError, Global};
+
+// Words of zeros.
+pub fn zeros(alloc: Global, count: usize) -> Result<Vec<u64>, AllocError>
+    ensures { IfOk result (λ words. words.items ≡ replicate count 0) }
+{
+    let words = vec![in alloc; 0; count]?;
+    Ok(words)
+}
+
+// As many words of zeros as `words` has, from its allocator.
+pub fn zeros_like(words: &Vec<u64>) -> Result<Vec<u64>, AllocError>
+    ensures zeros { IfOk result (λ zeros. zeros.items ≡ replicate (length words.now.items) 0) }
+    ensures fits { (i : ℕ) → slice_index words.now.items i < 2 ^ 64 }
+{
+    zeros(*words.allocator(), words.len())
+}
+
+// Makes each word 0.
+pub fn clear(words: &mut [u64])
+    ensures { words.new ≡ replicate (length words.old) 0 }
+{
+    words.fill(0);
+}
+
+// The bits from `from` up to `to`.
+#[inline]
+fn mask(from: usize, to: usize) -> u64
+    requires ordered { from < to }
+    requires within { to ≤ 64 }
+    ensures { result ≡ 2 ^ to - 2 ^ from }
+{
+    (u64::MAX >> (64 - (to - from))) << from
+}
+
+// The word with its bits from `from` up to `to` written.
+#[inline]
+fn written(word: u64, from: usize, to: usize, mark: bool) -> u64
+    requires ordered { from < to }
+    requires within { to ≤ 64 }
+    ensures { WritesBits word result from to mark }
+{
+    let run = mask(from, to);
+    if mark { word | run } else { word & !run }
+}
+
+// Writes the bits from `from` up to `to` of one word.
+#[inline]
+fn write_in_word(words: &mut [u64], index: usize, from: usize, to: usize, mark: bool)
+    requires inside { index < length words.old }
+    requires ordered { from < to }
+    requires within { to ≤ 64 }
+    ensures { WritesRun words.old words.new (64 * index + from) (64 * index + to) mark }
+{
+    words[index] = written(words[index], from, to, mark);
+}
+
+// Makes each word from `from` up to `to` the same.
+fn fill_words(words: &mut [u64], from: usize, to: usize, word: u64)
+    requires ordered { from ≤ to }
+    requires within { to ≤ length words.old }
+    ensures { words.new ≡ take from words.old ++ replicate (to - from) word ++ drop to words.old }
+{
+    words[from..to].fill(word);
+}
+
+// Writes whole words, from word `from` up to word `to`.
+fn write_whole_words(words: &mut [u64], from: usize, to: usize, mark: bool)
+    requires ordered { from ≤ to }
+    requires within { to ≤ length words.old }
+    ensures { WritesRun words.old words.new (64 * from) (64 * to) mark }
+{
+    fill_words(words, from, to, if mark { u64::MAX } else { 0 });
+}
+
+// Writes the pages from `first` up to `last`, and `last` too.
+#[inline]
+pub fn write_run(words: &mut [u64], first: usize, last: usize, mark: bool)
+    requires ordered { first ≤ last }
+    requires within { last < 64 * length words.old }
+    ensures { WritesRun words.old words.new first (last + 1) mark }
+{
+    let head = first / 64;
+    let tail = last / 64;
+    if head == tail {
+        write_in_word(words, head, first % 64, last % 64 + 1, mark);
+    } else {
+        write_in_word(words, head, first % 64, 64, mark);
+        write_whole_words(words, head + 1, tail, mark);
+        write_in_word(words, tail, 0, last % 64 + 1, mark);
+    }
+}

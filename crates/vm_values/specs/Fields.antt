@@ -1,0 +1,71 @@
+-- How a value is spelled: field by field, without gaps.
+use Rattle.std.specs.Prelude.{◌≡◌, ℕ, ◌<◌, ◌^◌, ℤ, pos, List, [], ◌∷◌, ◌++◌, length, slice_index}
+use Rattle.std.specs.List.{flat_map}
+use Rattle.std.specs.Int.{Width, w8, w16, w32, w64, to_le_bytes, to_be_bytes, cast_unsigned}
+use Rattle.std.specs.Int.RustNames.{FitsSigned}
+use mir.Val.{bits}
+
+-- an unsigned number, a signed one, an unsigned one with its highest byte first, or n unsigned ones
+pub data Field : Type 0 where
+  unsigned : Width → ℕ → Field
+  signed : Width → ℤ → Field
+  big_endian : Width → ℕ → Field
+  array : Width → ℕ → List ℕ → Field
+
+-- fields by their widths: a byte, two, four, eight, and signed ones of four and eight
+abbrev pub b : ℕ → Field
+b n = unsigned w8 n
+
+abbrev pub w : ℕ → Field
+w n = unsigned w16 n
+
+abbrev pub d : ℕ → Field
+d n = unsigned w32 n
+
+abbrev pub q : ℕ → Field
+q n = unsigned w64 n
+
+abbrev pub i : ℤ → Field
+i z = signed w32 z
+
+abbrev pub l : ℤ → Field
+l z = signed w64 z
+
+-- n numbers of four bytes
+abbrev pub ds : ℕ → List ℕ → Field
+ds n xs = array w32 n xs
+
+-- its bytes
+unfoldable pub bytes : Field → List ℕ
+bytes (unsigned w n) = to_le_bytes w n
+bytes (signed w z) = to_le_bytes w (cast_unsigned w z)
+bytes (big_endian w n) = to_be_bytes w n
+bytes (array w n xs) = flat_map (to_le_bytes w) xs
+
+-- it is a value of its type
+unfoldable pub Fits : Field → Type 0
+Fits (unsigned w n) = n < 2 ^ bits w
+Fits (signed w z) = FitsSigned w z
+Fits (big_endian w n) = n < 2 ^ bits w
+Fits (array w n xs) = (length xs ≡ n) × ((k : ℕ) → k < n → slice_index xs k < 2 ^ bits w)
+
+-- the same field of zeros
+abbrev pub blank : Field → Field
+blank (unsigned w n) = unsigned w 0
+blank (signed w z) = signed w (pos 0)
+blank (big_endian w n) = big_endian w 0
+blank (array w n xs) = array w n []
+
+-- bytes, and then those of the fields
+abbrev pub then_fields : List ℕ → List Field → List ℕ
+then_fields before [] = before
+then_fields before (f ∷ fs) = then_fields (before ++ bytes f) fs
+
+-- the bytes of the fields in their order
+abbrev pub spelled : List Field → List ℕ
+spelled fs = then_fields [] fs
+
+-- each field is a value of its type
+abbrev pub AllFit : List Field → Type 0
+AllFit [] = Unit {0}
+AllFit (f ∷ fs) = Fits f × AllFit fs
