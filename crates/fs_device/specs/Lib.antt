@@ -2,3 +2,4 @@ pub mod Parts
 pub mod Step
 pub mod Copies
 pub mod Views
+pub mod Examples

@@ -10,3 +10,6 @@ pub use copies::{HarvestedPage, harvest};
 pub use device::Device;
 pub use error::DeviceError;
 pub use exchange::{Exchange, Fault};
+
+#[cfg(test)]
+mod tests;

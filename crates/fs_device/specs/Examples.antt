@@ -1,0 +1,158 @@
+-- Worked examples that compute: one region from 0 to 0x10000, and a queue of four descriptors, its table at 0, its rings at 0x100 and 0x200.
+use Rattle.std.specs.Prelude.{◌≡◌, ℕ, ◌+◌, ◌^◌, Bool, true, false, List, [], ◌∷◌, ◌++◌, replicate, length, refl, Some, None}
+use Rattle.std.specs.List.{zip}
+use Rattle.std.specs.Int.{w16, w32, w64, to_le_bytes}
+use Rattle.vm_memory_core.specs.Host.{Host, Block, host_of, new_block, cleared}
+use Rattle.vm_memory.specs.Layout.{Region, place}
+use Rattle.vm_memory.specs.Memory.{Memory, memory_of, addresses, bytes, stored_all}
+use Rattle.fs_queue.specs.declared.fault.ChainFault.TheVariants as chain_fault
+use Rattle.fs_queue.specs.declared.fault.QueueError.TheVariants as queue_error
+use Rattle.fs_queue.specs.Queue.{Queue}
+use Rattle.fs_queue.specs.Chain.{path, found}
+use Rattle.fs_queue.specs.Taking.{Offer, Idle, Refuses, Offers, Asks, CannotAsk, offer}
+use Rattle.fs_queue.specs.Returning.{returned}
+use Rattle.virtiofsd_fuse.specs.declared.error.Error.TheVariants as error
+use Rattle.virtiofsd_fuse.specs.Grammar.{IsFault, Replies, meaning}
+use Rattle.virtiofsd_fuse.specs.Serving.{served}
+use Rattle.fs_device.specs.declared.error.DeviceError.TheVariants as device_error
+use Rattle.fs_device.specs.declared.exchange.Fault.TheVariants as fault
+use Rattle.fs_device.specs.Step.{State, Exchange, Refused, Exchanged, Step, after_return, faulty, stopped}
+use Rattle.fs_device.specs.Step as step
+
+abbrev le16 : ℕ → List ℕ
+le16 n = to_le_bytes w16 n
+
+abbrev le32 : ℕ → List ℕ
+le32 n = to_le_bytes w32 n
+
+abbrev le64 : ℕ → List ℕ
+le64 n = to_le_bytes w64 n
+
+abbrev zeros : ℕ → List ℕ
+zeros n = replicate n 0
+
+abbrev blank : Memory
+blank = memory_of (host_of (new_block 0x10000 ∷ [])) (record { start = 0; size = 0x10000; block = 0 } ∷ [])
+
+abbrev queue : Queue
+queue = record { size = 4; desc = 0; avail = 0x100; used = 0x200; position = 0; stopped = false }
+
+-- bytes that the guest writes at an address
+abbrev put : Memory → ℕ → List ℕ → Memory
+put m a bs = stored_all m (zip (addresses a (length bs)) bs)
+
+abbrev descriptor : ℕ → ℕ → ℕ → ℕ → List ℕ
+descriptor addr len flags next = le64 addr ++ le32 len ++ le16 flags ++ le16 next
+
+-- a request of a header alone
+abbrev header : ℕ → ℕ → ℕ → List ℕ
+header len opcode unique = le32 len ++ le32 opcode ++ le64 unique ++ zeros 24
+
+abbrev request : List ℕ
+request = header 40 7 1
+
+-- the request at 0x1000 in a chain with a room of 16 bytes at 0x2000
+abbrev waiting : Memory
+waiting =
+    let a = put blank 0x1000 request in
+    let b = put a 0 (descriptor 0x1000 40 1 1 ++ descriptor 0x2000 16 2 0) in
+    put b 0x100 (le16 0 ++ le16 1 ++ le16 0)
+
+abbrev gives : Memory → Offer
+gives m = offer m 0x101000 queue
+
+-- nothing waits in zeros
+nothing_waits : gives blank ≡ Idle
+unfolding offer place addresses stored_all path found
+nothing_waits = refl
+
+-- 40 bytes of request, 16 bytes of room
+one_request : gives waiting ≡ Offers 0 (Asks request (addresses 0x2000 16))
+unfolding offer place addresses stored_all path found
+one_request = refl
+
+-- a descriptor that leads to itself
+too_long : gives (put waiting 0 (descriptor 0x1000 40 1 0)) ≡ Offers 0 (CannotAsk chain_fault.TooLong)
+unfolding offer place addresses stored_all path found
+too_long = refl
+
+next_past_table : gives (put waiting 0 (descriptor 0x1000 40 1 4)) ≡ Offers 0 (CannotAsk chain_fault.NextOutOfTable)
+unfolding offer place addresses stored_all path found
+next_past_table = refl
+
+index_too_far : gives (put waiting 0x102 (le16 5)) ≡ Refuses queue_error.AvailTooFar
+unfolding offer place addresses stored_all path found
+index_too_far = refl
+
+head_past_table : gives (put waiting 0x104 (le16 4)) ≡ Refuses queue_error.HeadOutOfTable
+unfolding offer place addresses stored_all path found
+head_past_table = refl
+
+past_64_bits : gives (put waiting 0 (descriptor 0xfffffffffffffff8 8 1 1)) ≡ Offers 0 (CannotAsk chain_fault.AddressOverflow)
+unfolding offer place addresses stored_all path found
+past_64_bits = refl
+
+over_limit : gives (put waiting 0 (descriptor 0x1000 0x101001 1 1)) ≡ Offers 0 (CannotAsk chain_fault.OverLimit)
+unfolding offer place addresses stored_all path found
+over_limit = refl
+
+request_far_away : gives (put waiting 0 (descriptor 0xfff0 40 1 1)) ≡ Offers 0 (CannotAsk chain_fault.RequestUnreachable)
+unfolding offer place addresses stored_all path found
+request_far_away = refl
+
+room_far_away : gives (put waiting 16 (descriptor 0x20000 16 2 0)) ≡ Offers 0 (CannotAsk chain_fault.RoomUnreachable)
+unfolding offer place addresses stored_all path found
+room_far_away = refl
+
+-- ---- requests
+
+unknown : meaning request ≡ Replies (0x10 ∷ 0 ∷ 0 ∷ 0 ∷ 0xda ∷ 0xff ∷ 0xff ∷ 0xff ∷ 1 ∷ zeros 7)
+unknown = refl
+
+too_great_a_length : meaning (header 0x101001 7 1) ≡ Replies (0x10 ∷ 0 ∷ 0 ∷ 0 ∷ 0xf4 ∷ 0xff ∷ 0xff ∷ 0xff ∷ 1 ∷ zeros 7)
+too_great_a_length = refl
+
+too_short : meaning (zeros 39) ≡ IsFault error.DecodeMessage
+too_short = refl
+
+-- ---- whole steps
+
+abbrev device : Memory → Queue → State
+device m q = record { memory = m; queues = q ∷ []; limit = 0x101000 }
+
+abbrev unknown_reply : List ℕ
+unknown_reply = 0x10 ∷ 0 ∷ 0 ∷ 0 ∷ 0xda ∷ 0xff ∷ 0xff ∷ 0xff ∷ 1 ∷ zeros 7
+
+abbrev unknown_exchange : Exchange
+unknown_exchange = record { head = 0; request = request; reply = unknown_reply; fault = None }
+
+-- the state after that reply, over a memory
+abbrev after_reply : Memory → Queue → State
+after_reply m q = after_return (device m q) 0 q 0 (addresses 0x2000 16) unknown_reply
+
+one_step : Step (device waiting queue) 0 (Exchanged unknown_exchange true) (after_reply waiting queue)
+unfolding offer place addresses stored_all path found
+one_step = record { exchange = refl; state = refl; told = refl }
+
+-- what then stands in memory
+reply_stands : bytes (after_reply waiting queue).memory 0x2000 16 ≡ unknown_reply
+unfolding offer place addresses stored_all path found
+reply_stands = refl
+
+element_stands : bytes (after_reply waiting queue).memory 0x202 10 ≡ 1 ∷ 0 ∷ 0 ∷ 0 ∷ 0 ∷ 0 ∷ 0x10 ∷ 0 ∷ 0 ∷ 0 ∷ []
+unfolding offer place addresses stored_all path found
+element_stands = refl
+
+-- the driver asks not to be told
+not_told : Step (device (put waiting 0x100 (le16 1)) queue) 0 (Exchanged unknown_exchange false) (after_reply (put waiting 0x100 (le16 1)) queue)
+unfolding offer place addresses stored_all path found
+not_told = record { exchange = refl; state = refl; told = refl }
+
+-- a queue that is told of too many chains stops
+far_stops : Step (device (put waiting 0x102 (le16 5)) queue) 0 (Refused (device_error.Queue queue_error.AvailTooFar)) (device (put waiting 0x102 (le16 5)) (stopped queue))
+unfolding offer place addresses stored_all path found
+far_stops = (refl, refl)
+
+no_queue : Step (device waiting queue) 1 (Refused device_error.NoSuchQueue) (device waiting queue)
+unfolding offer
+no_queue = (refl, refl)
