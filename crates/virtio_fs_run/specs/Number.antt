@@ -1,0 +1,14 @@
+-- How a script writes a number.
+use Rattle.std.specs.Prelude.{ℕ, List, Bool, ◌==◌, ◌&&◌, if◌then◌else◌, slice_index, drop}
+
+-- the word begins with `0x`
+abbrev pub is_hexadecimal : List ℕ → Bool
+is_hexadecimal word = (slice_index word 0 == 48) && (slice_index word 1 == 120)
+
+-- sixteen behind `0x`, and else ten
+abbrev pub radix_of : List ℕ → ℕ
+radix_of word = if is_hexadecimal word then 16 else 10
+
+-- the digits: the word without a leading `0x`
+abbrev pub digits_of : List ℕ → List ℕ
+digits_of word = if is_hexadecimal word then drop 2 word else word

@@ -1,0 +1,43 @@
+//! Why a script ends before its last line is run.
+
+use std::alloc::AllocError;
+use std::io;
+use thiserror::Error;
+
+/// Why a script ends early.
+#[derive(Clone, Copy, Debug, PartialEq, Eq, Error)]
+pub enum Halt {
+    #[error("script too long")]
+    TooLong,
+    /// The line of this number isn't a command, or not one that may stand there.
+    #[error("line {0}: not a command")]
+    NotACommand(usize),
+    #[error("out of memory")]
+    OutOfMemory,
+    /// The script can't be read, or what is printed can't be written.
+    #[error("a stream failed")]
+    Stream,
+}
+
+impl Halt {
+    /// The status that the program then ends with.
+    pub fn status(&self) -> u8 {
+        match self {
+            Halt::TooLong | Halt::NotACommand(_) => 1,
+            Halt::OutOfMemory => 2,
+            Halt::Stream => 3,
+        }
+    }
+}
+
+impl From<AllocError> for Halt {
+    fn from(_error: AllocError) -> Halt {
+        Halt::OutOfMemory
+    }
+}
+
+impl From<io::Error> for Halt {
+    fn from(_error: io::Error) -> Halt {
+        Halt::Stream
+    }
+}

@@ -1,0 +1,136 @@
+//! The commands of a script, and how a line is read as one.
+
+use crate::number::parse_number;
+use hex::FromHexError;
+use std::alloc::{AllocError, Global};
+
+/// A command of the script.
+#[derive(Debug, Drop, PartialEq, Eq)]
+pub enum Line {
+    /// A queue of this size, with the addresses of its three areas.
+    Queue {
+        size: u16,
+        desc: u64,
+        avail: u64,
+        used: u64,
+    },
+    /// A region of guest memory over a new block.
+    Region {
+        base: u64,
+        size: u64,
+    },
+    /// The guest writes these bytes.
+    Write {
+        addr: u64,
+        bytes: Vec<u8>,
+    },
+    /// The guest reads that many bytes.
+    Read {
+        addr: u64,
+        len: u64,
+    },
+    /// The device serves at most that many requests of a queue.
+    Kick {
+        queue: u64,
+        most: u16,
+    },
+    /// The marked pages are gathered, and their marks cleared.
+    Harvest,
+}
+
+// What is left of a line: words with one space between each two, or nothing after the last.
+#[derive(Drop)]
+struct Words<'a> {
+    rest: Option<&'a [u8]>,
+}
+
+impl<'a> Words<'a> {
+    fn next_word(&mut self) -> Option<&'a [u8]> {
+        let rest = self.rest?;
+        match rest.iter().position(|byte| *byte == b' ') {
+            Some(space) => {
+                self.rest = Some(&rest[space + 1..]);
+                Some(&rest[..space])
+            }
+            None => {
+                self.rest = None;
+                Some(rest)
+            }
+        }
+    }
+
+    fn next_number(&mut self) -> Option<u64> {
+        parse_number(self.next_word()?)
+    }
+
+    fn next_short(&mut self) -> Option<u16> {
+        u16::try_from(self.next_number()?).ok()
+    }
+
+    fn is_at_end(&self) -> bool {
+        self.rest.is_none()
+    }
+}
+
+// The bytes that a word of at least two hexadecimal digits writes.
+fn parse_bytes(alloc: Global, word: &[u8]) -> Result<Option<Vec<u8>>, AllocError> {
+    if word.is_empty() {
+        return Ok(None);
+    }
+    match hex::decode(alloc, word) {
+        Ok(bytes) => Ok(Some(bytes)),
+        Err(FromHexError::OutOfMemory) => Err(AllocError),
+        Err(_) => Ok(None),
+    }
+}
+
+// The rest of a `write` line.
+fn parse_write(alloc: Global, words: &mut Words<'_>) -> Result<Option<Line>, AllocError> {
+    let Some(addr) = words.next_number() else {
+        return Ok(None);
+    };
+    let Some(word) = words.next_word() else {
+        return Ok(None);
+    };
+    if !words.is_at_end() {
+        return Ok(None);
+    }
+    Ok(parse_bytes(alloc, word)?.map(|bytes| Line::Write { addr, bytes }))
+}
+
+// A line of numbers alone, behind its first word.
+fn parse_numbers(name: &[u8], words: &mut Words<'_>) -> Option<Line> {
+    let line = match name {
+        b"queue" => Line::Queue {
+            size: words.next_short()?,
+            desc: words.next_number()?,
+            avail: words.next_number()?,
+            used: words.next_number()?,
+        },
+        b"region" => Line::Region {
+            base: words.next_number()?,
+            size: words.next_number()?,
+        },
+        b"read" => Line::Read {
+            addr: words.next_number()?,
+            len: words.next_number()?,
+        },
+        b"kick" => Line::Kick {
+            queue: words.next_number()?,
+            most: words.next_short()?,
+        },
+        b"harvest" => Line::Harvest,
+        _ => return None,
+    };
+    if words.is_at_end() { Some(line) } else { None }
+}
+
+/// The command of a line, if it is one.
+pub fn parse(alloc: Global, line: &[u8]) -> Result<Option<Line>, AllocError> {
+    let mut words = Words { rest: Some(line) };
+    match words.next_word() {
+        Some(b"write") => parse_write(alloc, &mut words),
+        Some(name) => Ok(parse_numbers(name, &mut words)),
+        None => Ok(None),
+    }
+}

@@ -1,0 +1,113 @@
+//! What is printed of a command's outcome.
+
+use crate::refusal::Refusal;
+use fs_device::{Exchange, Fault, HarvestedPage};
+use fs_queue::{ChainFault, QueueLayoutError};
+use std::io;
+use std::io::Write;
+use virtiofsd_fuse::Error;
+
+const CHUNK: usize = 32;
+
+const PAGE_BYTES: usize = 4096;
+
+/// That a command was done which has nothing to tell.
+pub fn print_ok<W: Write>(writer: &mut W) -> io::Result<()> {
+    writer.write_all(b"ok\n")
+}
+
+/// Why a queue's layout isn't one.
+pub fn print_bad_layout<W: Write>(writer: &mut W, error: QueueLayoutError) -> io::Result<()> {
+    let number = error as u8;
+    writeln!(writer, "badlayout {number}")
+}
+
+/// Why a command was refused.
+pub fn print_refused<W: Write>(writer: &mut W, refusal: Refusal) -> io::Result<()> {
+    print_refused_number(writer, refusal.number())
+}
+
+/// Why a command was refused, by its number.
+pub fn print_refused_number<W: Write>(writer: &mut W, number: u8) -> io::Result<()> {
+    writeln!(writer, "refused {number}")
+}
+
+/// The block of a region.
+pub fn print_block<W: Write>(writer: &mut W, block: usize) -> io::Result<()> {
+    writeln!(writer, "block {block}")
+}
+
+/// The bytes that the guest read, in hexadecimal digits.
+pub fn print_bytes<W: Write>(writer: &mut W, bytes: &[u8]) -> io::Result<()> {
+    writer.write_all(b"bytes ")?;
+    let mut rest = bytes;
+    while !rest.is_empty() {
+        let (chunk, others) = rest.split_at(rest.len().min(CHUNK));
+        let mut text = [0u8; 2 * CHUNK];
+        let digits = &mut text[..2 * chunk.len()];
+        hex::encode_to_slice(chunk, digits).unwrap();
+        writer.write_all(digits)?;
+        rest = others;
+    }
+    writer.write_all(b"\n")
+}
+
+// The name of what is wrong with a chain.
+fn chain_fault_name(fault: &ChainFault) -> &'static str {
+    match fault {
+        ChainFault::TooLong => "TooLong",
+        ChainFault::NextOutOfTable => "NextOutOfTable",
+        ChainFault::AddressOverflow => "AddressOverflow",
+        ChainFault::IndirectWithNext => "IndirectWithNext",
+        ChainFault::IndirectNested => "IndirectNested",
+        ChainFault::IndirectLength => "IndirectLength",
+        ChainFault::TableUnreachable => "TableUnreachable",
+        ChainFault::OverLimit => "OverLimit",
+        ChainFault::RequestUnreachable => "RequestUnreachable",
+        ChainFault::RoomUnreachable => "RoomUnreachable",
+    }
+}
+
+// The name of the server's error.
+fn error_name(error: &Error) -> &'static str {
+    match error {
+        Error::DecodeMessage => "DecodeMessage",
+        Error::EncodeMessage => "EncodeMessage",
+    }
+}
+
+// The name of a fault, or a dash where there is none.
+fn fault_name(fault: &Option<Fault>) -> &'static str {
+    match fault {
+        None => "-",
+        Some(Fault::Chain(fault)) => chain_fault_name(fault),
+        Some(Fault::Served(error)) => error_name(error),
+    }
+}
+
+/// A request that was returned, served or for a fault, and whether the guest is notified.
+pub fn print_done<W: Write>(writer: &mut W, exchange: &Exchange, notify: bool) -> io::Result<()> {
+    let head = exchange.head;
+    let len = exchange.reply.len();
+    let fault = fault_name(&exchange.fault);
+    let notify = u8::from(notify);
+    writeln!(writer, "done {head} {len} {fault} {notify}")
+}
+
+/// That no request was waiting.
+pub fn print_idle<W: Write>(writer: &mut W) -> io::Result<()> {
+    writer.write_all(b"idle\n")
+}
+
+/// The pages that were marked.
+pub fn print_pages<W: Write>(writer: &mut W, pages: &[HarvestedPage]) -> io::Result<()> {
+    if pages.is_empty() {
+        return writer.write_all(b"none\n");
+    }
+    for page in pages {
+        let block = page.block;
+        let number = page.offset / PAGE_BYTES;
+        writeln!(writer, "page {block} {number}")?;
+    }
+    Ok(())
+}

@@ -1,0 +1,80 @@
+//! A whole script: it is read, and run line by line.
+
+use crate::halt::Halt;
+use crate::line::parse;
+use crate::session::Session;
+use std::alloc::Global;
+use std::io::{Read, Write};
+
+/// The most bytes of a script.
+pub const MOST_BYTES: usize = 1_048_576;
+
+const BUFFER: usize = 4096;
+
+// The whole script, if it isn't too long.
+fn read_script<R: Read>(alloc: Global, reader: &mut R) -> Result<Vec<u8>, Halt> {
+    let mut script = Vec::new(alloc);
+    let mut buffer = [0u8; BUFFER];
+    for _ in 0..=MOST_BYTES {
+        let room = BUFFER.min((MOST_BYTES + 1).saturating_sub(script.len()));
+        let count = reader.read(&mut buffer[..room])?;
+        if count == 0 {
+            break;
+        }
+        script.extend_from_slice(&buffer[..count])?;
+    }
+    if script.len() > MOST_BYTES {
+        return Err(Halt::TooLong);
+    }
+    Ok(script)
+}
+
+// Runs each line in turn, up to the first that can't be run.
+fn run_lines<W: Write>(alloc: Global, script: &[u8], writer: &mut W) -> Result<(), Halt> {
+    let mut session = Session::new(alloc);
+    for (index, text) in script.split(|byte| *byte == b'\n').enumerate() {
+        if text.is_empty() || text[0] == b'#' {
+            continue;
+        }
+        let number = index.saturating_add(1);
+        let line = parse(alloc, text)?.ok_or(Halt::NotACommand(number))?;
+        if !session.accepts(&line) {
+            return Err(Halt::NotACommand(number));
+        }
+        session.run(line, writer)?;
+    }
+    Ok(())
+}
+
+// Reads a script and runs its lines.
+fn read_and_run<R: Read, W: Write>(
+    alloc: Global,
+    reader: &mut R,
+    writer: &mut W,
+) -> Result<(), Halt> {
+    let script = read_script(alloc, reader)?;
+    run_lines(alloc, &script, writer)
+}
+
+// Prints why a script ended early, where a stream can still say it.
+fn print_halt<W: Write>(halt: Halt, writer: &mut W) -> Result<(), Halt> {
+    if halt != Halt::Stream {
+        writeln!(writer, "{halt}")?;
+    }
+    Ok(())
+}
+
+/// Reads a script, runs it, prints what its lines print, and answers the program's status.
+pub fn run_script<R: Read, W: Write>(alloc: Global, reader: &mut R, writer: &mut W) -> u8 {
+    let status = match read_and_run(alloc, reader, writer) {
+        Ok(()) => 0,
+        Err(halt) => match print_halt(halt, writer) {
+            Ok(()) => halt.status(),
+            Err(failed) => failed.status(),
+        },
+    };
+    match writer.flush() {
+        Ok(()) => status,
+        Err(_) => Halt::Stream.status(),
+    }
+}
