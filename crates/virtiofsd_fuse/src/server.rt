@@ -21,6 +21,7 @@ pub const OUT_HEADER_LEN: usize = 16;
 const MAX_REQUEST_LEN: u32 = 0x101000;
 
 const ENOMEM: u32 = 12;
+
 const ENOSYS: u32 = 38;
 
 // The field len of a request's header.
