@@ -1,23 +1,19 @@
 -- Worked examples that compute: one region from 0 to 0x10000, and a queue of four descriptors, its table at 0, its rings at 0x100 and 0x200.
-use Rattle.std.specs.Prelude.{◌≡◌, ℕ, ◌+◌, ◌^◌, Bool, true, false, List, [], ◌∷◌, ◌++◌, replicate, length, refl, Some, None}
+use Rattle.std.specs.Prelude.{◌≡◌, ℕ, true, false, List, [], ◌∷◌, ◌++◌, replicate, length, refl, None}
 use Rattle.std.specs.List.{zip}
 use Rattle.std.specs.Int.{w16, w32, w64, to_le_bytes}
-use Rattle.vm_memory_core.specs.Host.{Host, Block, host_of, new_block, cleared}
-use Rattle.vm_memory.specs.Layout.{Region, place}
+use Rattle.vm_memory_core.specs.Host.{host_of, new_block}
+use Rattle.vm_memory.specs.Layout.{place}
 use Rattle.vm_memory.specs.Memory.{Memory, memory_of, addresses, bytes, stored_all}
 use Rattle.fs_queue.specs.declared.fault.ChainFault.TheVariants as chain_fault
 use Rattle.fs_queue.specs.declared.fault.QueueError.TheVariants as queue_error
 use Rattle.fs_queue.specs.Queue.{Queue}
 use Rattle.fs_queue.specs.Chain.{path, found}
 use Rattle.fs_queue.specs.Taking.{Offer, Idle, Refuses, Offers, Asks, CannotAsk, offer}
-use Rattle.fs_queue.specs.Returning.{returned}
 use Rattle.virtiofsd_fuse.specs.declared.error.Error.TheVariants as error
 use Rattle.virtiofsd_fuse.specs.Grammar.{IsFault, Replies, meaning}
-use Rattle.virtiofsd_fuse.specs.Serving.{served}
 use Rattle.fs_device.specs.declared.error.DeviceError.TheVariants as device_error
-use Rattle.fs_device.specs.declared.exchange.Fault.TheVariants as fault
-use Rattle.fs_device.specs.Step.{State, Exchange, Refused, Exchanged, Step, after_return, faulty, stopped}
-use Rattle.fs_device.specs.Step as step
+use Rattle.fs_device.specs.Step.{State, Exchange, Refused, Exchanged, Step, after_return, stopped}
 
 abbrev le16 : ℕ → List ℕ
 le16 n = to_le_bytes w16 n
