@@ -1,5 +1,7 @@
 //! Why a step is refused.
 
+ghost use Rattle.std.specs.Prelude.{◌≡◌};
+
 use fs_queue::QueueError;
 use thiserror::Error;
 
@@ -13,8 +15,12 @@ pub enum DeviceError {
 }
 
 impl DeviceError {
-    /// The number that tells the refusal apart.
-    pub fn number(&self) -> u8 {
+    ghost use Rattle.fs_device.specs.Refusing.{refusal_number};
+
+    /// The number that tells the refusal apart: 1 to 9 are the queue's, 10 is a missing queue.
+    pub fn number(&self) -> u8
+        ensures { result ≡ refusal_number self.now }
+    {
         match self {
             DeviceError::Queue(error) => *error as u8,
             DeviceError::NoSuchQueue => 10,

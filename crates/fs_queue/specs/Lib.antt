@@ -7,3 +7,4 @@ pub mod Look
 pub mod Returning
 pub mod Held
 pub mod Writing
+pub mod Windows

@@ -38,6 +38,7 @@ ghost use Rattle.fs_queue.specs.Taking.{Asked};
 ghost use Rattle.fs_queue.specs.Returning.{returned, wants_notice, advanced};
 ghost use Rattle.fs_queue.specs.Held.{Takes, after_taking, IsTaken, TakenLiesIn, ChainLiesIn, room_places, room_of};
 ghost use Rattle.fs_queue.specs.Writing.{chain_places};
+ghost use Rattle.fs_queue.specs.Windows.{HasItsWindows};
 
 // A used element: le32 head, le32 length of the reply (VIRTIO 1.2, 2.7.8).
 fn used_element(head: u32, len: u32) -> [u8; 8]
@@ -104,6 +105,7 @@ impl Queue {
     ) -> Result<Option<Taken>, QueueError>
         requires { AreHeld (lengths (host_of host.now)) mem.now }
         ensures takes { Takes (memory_of (host_of host.now) mem.now) limit self.old result }
+        ensures windows { IfOk result (λ o. IfSome o (HasItsWindows (memory_of (host_of host.now) mem.now) self.old)) }
         ensures queue { self.new ≡ after_taking self.old result }
         ensures lie { IfOk result (λ o. IfSome o (TakenLiesIn (lengths (host_of host.now)))) }
     {

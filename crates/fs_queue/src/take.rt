@@ -30,6 +30,8 @@ pub enum Asking {
 ghost use Rattle.fs_queue.specs.Queue.{at_position};
 ghost use Rattle.fs_queue.specs.Taking.{total_len, asked_by, offer, may_lack_memory};
 ghost use Rattle.fs_queue.specs.Held.{part, addresses_of, ends_of, ends_at, stops_queue, EndsLieIn, ChainLiesIn, HoldsChain, AskingAs, AskingLiesIn};
+ghost use Rattle.fs_queue.specs.Chain.{IsChain};
+ghost use Rattle.fs_queue.specs.Windows.{HoldsWindows, HasItsWindows, IfTook};
 
 // The windows that a return at this position writes and reads besides the room.
 fn hold_ends(
@@ -106,6 +108,7 @@ fn hold_chain(
     requires { AllFit descriptors.now }
     ensures asked { (h : Host) → IfOk result (HoldsChain (memory_of h mem.now) (asked_by (memory_of h mem.now) limit descriptors.now)) }
     ensures lie { (lengths : List ℕ) → AreHeld lengths mem.now → IfOk result (ChainLiesIn lengths) }
+    ensures windows { (h : Host) → IfOk result (λ c. HoldsWindows (memory_of h mem.now) head c (IsChain descriptors.now)) }
 {
     let request_len = count_bytes(descriptors, false);
     let room_len = count_bytes(descriptors, true);
@@ -139,6 +142,7 @@ pub fn ask<B: NewBitmap>(
     requires { AreHeld (lengths (host_of host.now)) mem.now }
     ensures asking { IfOk result (AskingAs (memory_of (host_of host.now) mem.now) limit (at_position layout position)) }
     ensures lie { IfOk result (AskingLiesIn (lengths (host_of host.now))) }
+    ensures windows { IfOk result (λ a. IfTook a (HasItsWindows (memory_of (host_of host.now) mem.now) (at_position layout position))) }
     ensures memory { OnErr result (let m = memory_of (host_of host.now) mem.now in IsTrue (may_lack_memory m (offer m limit (at_position layout position)))) }
 {
     let head = match next_head(layout, position, host, mem) {

@@ -56,7 +56,9 @@ fn error_reply(unique: u64, errno: u32) -> [u8; 16]
 
 impl Server {
     /// A server.
-    pub fn new() -> Server {
+    pub fn new() -> Server
+        ensures { result ≡ record {} }
+    {
         Server
     }
 

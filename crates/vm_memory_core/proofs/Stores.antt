@@ -1,15 +1,15 @@
 -- bytes put at places of one block, one after another, are a run of bytes
-use Rattle.std.proofs.Common.{◌≡◌, ℕ, ◌+◌, ◌/◌, ◌^◌, ◌<◌, ◌≤◌, Bool, List, [], ◌∷◌, ◌++◌, length, map, replicate, set, get_or, take, drop, refl, ap, sym, ◌∙◌, arith, zero, suc, add-one, length-set, length-append, length-drop, true, false, nat_lt, if◌then◌else◌, Option, Some}
+use Rattle.std.proofs.Common.{◌≡◌, ℕ, ◌+◌, ◌-◌, ◌/◌, ◌^◌, ◌<◌, ◌≤◌, Bool, List, [], ◌∷◌, ◌++◌, length, map, replicate, set, get_or, take, drop, refl, ap, sym, ◌∙◌, arith, zero, suc, add-one, length-set, length-append, length-drop, true, false, nat_lt, if◌then◌else◌, Option, Some}
 use Rattle.std.specs.Prelude.{slice_get, unwrap_or}
 use Rattle.std.specs.Option.{option_and_then}
 use Rattle.std.specs.List.{zip}
-use Rattle.std.proofs.lemmas.List.{drop_more, get_or-map, length-map, length-take-le}
+use Rattle.std.proofs.lemmas.List.{drop_more, get_or-map, get_or-append_right, get_or_append_left, length-map, length-take-le, set-append_left, set-append_right}
 use Rattle.std.proofs.lemmas.Option.{slice_get-get_or}
 use Rattle.std.proofs.lemmas.Bool.{lt-ltb, cond-true}
 use Rattle.std.proofs.lemmas.List.Edits.{sets, sets-eq}
 use Rattle.vm_bitmaps.specs.Pages.{marked_at, marked_range}
-use Rattle.vm_memory_core.specs.Host.{Host, Block, Place, changed_at, marked, unmarked, host_of, lengths}
-use Rattle.vm_memory_core.specs.Window.{Window, span, places_of, LiesIn, byte_in, put_byte, put_all}
+use Rattle.vm_memory_core.specs.Host.{Host, Block, Place, changed_at, marked, unmarked, host_of, lengths, with_byte}
+use Rattle.vm_memory_core.specs.Window.{Window, span, places_of, LiesIn, byte_in, put_byte, put_all, set_all}
 
 length_if : (b : Bool) (x y : List Bool) (n : ℕ) → length x ≡ n → length y ≡ n → length (if b then x else y) ≡ n
 length_if true x y n p q = p
@@ -185,3 +185,63 @@ pub reset_in : (blocks inside : List Block) (i : ℕ) (old new : Block) → insi
 reset_in blocks inside i old new same here e =
     let there : old ≡ get_or blocks i old = here ∙ ap (λ (l : List Block). get_or l i old) same in
     ap (λ (l : List Block). set l i new) same ∙ ap (λ (c : Block). set blocks i c) (e ∙ ap unmarked there) ∙ sym (changed_at-set blocks i unmarked old)
+
+-- what one block holds once bytes are set in it from offset on
+abbrev pub set_in : ℕ → List ℕ → Block → Block
+set_in offset xs b = block_with (sets b.bytes offset xs) b.marks
+
+-- bytes set in a span of one block change that block alone
+pub set_all-span : (xs : List ℕ) (h : Host) (b offset n : ℕ) → length xs ≤ n →
+    set_all h (zip (span b offset n) xs) ≡ with_blocks h (changed_at h.blocks b (set_in offset xs))
+unfolding set_all span
+set_all-span [] h b offset zero le = ap (with_blocks h) (sym (changed_at-same h.blocks b))
+set_all-span [] h b offset (suc n) le = ap (with_blocks h) (sym (changed_at-same h.blocks b))
+set_all-span (x ∷ xs) h b offset zero le = absurd (omega arith)
+set_all-span (x ∷ xs) h b offset (suc n) le =
+    let p : Place = record { block = b; offset = offset } in
+    let f : Block → Block = λ (k : Block). block_with (set k.bytes offset x) k.marks in
+    set_all-span xs (with_byte h p x) b (offset + 1) n (omega arith)
+    ∙ ap (with_blocks h)
+    (changed_at-changed_at h.blocks b f (set_in (offset + 1) xs)
+    ∙ ap (λ j. changed_at h.blocks b (λ (k : Block). block_with (sets (set k.bytes offset x) j xs) k.marks)) (add-one offset))
+
+-- setting bytes changes no length
+pub lengths-set_all : (ws : List (Place × ℕ)) (h : Host) → lengths (set_all h ws) ≡ lengths h
+unfolding set_all
+lengths-set_all [] h = refl
+lengths-set_all (w ∷ ws) h =
+    lengths-set_all ws (with_byte h w.0 w.1)
+    ∙ lengths-changed_at h.blocks w.0.block (λ (k : Block). block_with (set k.bytes w.0.offset w.1) k.marks) (λ k. length-set k.bytes w.0.offset w.1)
+
+-- what setting bytes of one block leaves, as the code leaves it
+pub set_stored : (blocks inside : List Block) (w : Window) (xs : List ℕ) (old new : Block) →
+    inside ≡ blocks → LiesIn (lengths (host_of blocks)) w → length xs ≡ w.len → old ≡ get_or inside w.block old →
+    new ≡ block_with (take w.offset old.bytes ++ xs ++ drop (w.offset + length xs) old.bytes) old.marks →
+    host_of (set inside w.block new) ≡ set_all (host_of blocks) (zip (span w.block w.offset (length xs)) xs)
+set_stored blocks inside w xs old new same has le at e =
+    let here : old ≡ get_or blocks w.block old = at ∙ ap (λ (l : List Block). get_or l w.block old) same in
+    let room = within_block blocks w old has here in
+    let new-is : new ≡ set_in w.offset xs old =
+    e ∙ ap (λ (l : List ℕ). block_with l old.marks) (sym (sets-eq xs old.bytes w.offset (omega (arith, room.1)))) in
+    ap host_of
+    (ap (λ (l : List Block). set l w.block new) same
+    ∙ ap (λ (c : Block). set blocks w.block c) (new-is ∙ ap (set_in w.offset xs) here)
+    ∙ sym (changed_at-set blocks w.block (set_in w.offset xs) old))
+    ∙ sym (set_all-span xs (host_of blocks) w.block w.offset (length xs) (omega arith))
+
+-- the blocks on both sides of a seam
+pub set-back : (l low high : List Block) (d : ℕ) (x : Block) → l ≡ low ++ high → length low ≡ d → low ++ set high 0 x ≡ set l d x
+set-back l low high d x e n =
+    let none : d - d ≡ 0 = omega arith in
+    sym (ap (λ (m : List Block). set m d x) e ∙ set-append_right low high d d x n (omega arith) ∙ ap (λ i. low ++ set high i x) none)
+
+pub set-front : (l low high : List Block) (i : ℕ) (x : Block) → l ≡ low ++ high → i < length low → set low i x ++ high ≡ set l i x
+set-front l low high i x e h = sym (ap (λ (m : List Block). set m i x) e ∙ set-append_left low high i x h)
+
+pub read-back : (l low high : List Block) (d : ℕ) (x : Block) → l ≡ low ++ high → length low ≡ d → get_or high 0 x ≡ get_or l d x
+read-back l low high d x e n =
+    let none : d - d ≡ 0 = omega arith in
+    sym (ap (λ (m : List Block). get_or m d x) e ∙ get_or-append_right low high d d x n (omega arith) ∙ ap (λ i. get_or high i x) none)
+
+pub read-front : (l low high : List Block) (i : ℕ) (x : Block) → l ≡ low ++ high → i < length low → get_or low i x ≡ get_or l i x
+read-front l low high i x e h = sym (ap (λ (m : List Block). get_or m i x) e ∙ get_or_append_left low high x i h)

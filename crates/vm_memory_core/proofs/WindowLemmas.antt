@@ -1,7 +1,8 @@
 -- stores through several windows are one list of stores
 use Rattle.std.proofs.Common.{◌≡◌, ℕ, ◌+◌, ◌-◌, ◌<◌, ◌≤◌, List, [], ◌∷◌, ◌++◌, length, map, append_assoc, append-nil, get_or, take, drop, refl, ap, sym, ◌∙◌, arith, zero, suc, min, length-append, length-drop}
 use Rattle.std.specs.List.{zip}
-use Rattle.std.proofs.lemmas.List.{drop_more, drop-drop, take_rest, drop_all, map-append, length-take-le, take_at}
+use Rattle.vm_memory_core.specs.Parts.{part_of}
+use Rattle.std.proofs.lemmas.List.{length-map, drop_more, drop-drop, take_rest, drop_all, map-append, length-take-le, take_at}
 use Rattle.vm_memory_core.specs.Host.{Host, Place}
 use Rattle.vm_memory_core.specs.Window.{Window, span, places, places_of, byte_in, put_byte, put_all}
 
@@ -68,3 +69,46 @@ take-put old bytes at n e h =
 -- the next item of a list
 pub drop_item : {X : Type 0} (xs : List X) (i : ℕ) (x : X) → i < length xs → x ≡ get_or xs i x → drop i xs ≡ x ∷ drop (i + 1) xs
 drop_item {X} xs i x lt is = drop_more xs i x lt ∙ ap (λ (y : X). y ∷ drop (i + 1) xs) (sym is)
+
+-- the first places of a span
+pub span-part : (n m block offset : ℕ) → n ≤ m → span block offset n ≡ take n (span block offset m)
+unfolding span
+span-part zero m b o h = refl
+span-part (suc n) zero b o h = absurd (omega arith)
+span-part (suc n) (suc m) b o h =
+    ap (λ (r : List Place). let p : Place = record { block = b; offset = o } in p ∷ r) (span-part n m b (o + 1) (omega arith))
+
+pub places-part : (w : Window) (n : ℕ) → n ≤ w.len → places_of (part_of w 0 n) ≡ take n (places_of w)
+places-part w n h =
+    let start : w.offset + 0 ≡ w.offset = omega arith in
+    ap (λ o. span w.block o n) start ∙ span-part n w.len w.block w.offset h
+
+map-take : {X Y : Type 0} (f : X → Y) (n : ℕ) (l : List X) → map f (take n l) ≡ take n (map f l)
+map-take f zero l = refl
+map-take f (suc n) [] = refl
+map-take {X} {Y} f (suc n) (x ∷ l) = ap (λ (r : List Y). f x ∷ r) (map-take f n l)
+
+pub zip-take : {X Y : Type 0} (a : List X) (b : List Y) (n : ℕ) → n ≡ min (length a) (length b) → zip (take n a) (take n b) ≡ zip a b
+zip-take [] b zero e = refl
+zip-take [] b (suc n) e = absurd (omega arith)
+zip-take (x ∷ a) [] zero e = refl
+zip-take (x ∷ a) [] (suc n) e = absurd (omega arith)
+zip-take (x ∷ a) (y ∷ b) zero e = absurd (omega arith)
+zip-take {X} {Y} (x ∷ a) (y ∷ b) (suc n) e = ap (λ (l : List (X × Y)). (x, y) ∷ l) (zip-take a b n (omega arith))
+
+-- a copy of the bytes that two windows have both
+pub zip-parts : (h : Host) (source dest : Window) (n : ℕ) → n ≡ min source.len dest.len →
+    zip (places_of (part_of dest 0 n)) (map (byte_in h) (places_of (part_of source 0 n))) ≡ zip (places_of dest) (map (byte_in h) (places_of source))
+zip-parts h source dest n e =
+    let to = length-span dest.len dest.block dest.offset in
+    let from = length-span source.len source.block source.offset in
+    let read = length-map (places_of source) (byte_in h) in
+    rw (places-part dest n (omega arith), places-part source n (omega arith), map-take (byte_in h) n (places_of source))
+    (zip-take (places_of dest) (map (byte_in h) (places_of source)) n (omega arith))
+
+-- bytes past the last place are not stored
+pub zip-take_right : {X Y : Type 0} (a : List X) (b : List Y) (n : ℕ) → n ≡ length a → zip a (take n b) ≡ zip a b
+zip-take_right [] b n e = refl
+zip-take_right (x ∷ a) b zero e = absurd (omega arith)
+zip-take_right (x ∷ a) [] (suc n) e = refl
+zip-take_right {X} {Y} (x ∷ a) (y ∷ b) (suc n) e = ap (λ (l : List (X × Y)). (x, y) ∷ l) (zip-take_right a b n (omega arith))

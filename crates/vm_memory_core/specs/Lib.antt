@@ -1,3 +1,6 @@
 pub mod Table
 pub mod Host
 pub mod Window
+pub mod Parts
+pub mod Access
+pub mod Reached

@@ -42,3 +42,8 @@ put_byte h p byte = with_block_mark (with_byte h p byte) p
 unfoldable pub put_all : Host → List (Place × ℕ) → Host
 put_all h [] = h
 put_all h (write ∷ writes) = put_all (put_byte h write.0 write.1) writes
+
+-- the host after bytes were set at places, one after another: no page is marked
+unfoldable pub set_all : Host → List (Place × ℕ) → Host
+set_all h [] = h
+set_all h (write ∷ writes) = set_all (with_byte h write.0 write.1) writes

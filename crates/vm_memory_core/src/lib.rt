@@ -1,13 +1,28 @@
 //! Host memory: numbered blocks of bytes with their dirty pages, and windows over them.
 #![tactic(auto)]
 
+pub mod access;
+mod copy;
+pub mod element;
+pub mod error;
 pub mod host;
+pub mod memory;
 pub mod permissions;
 pub mod window;
 pub mod windows;
 
+pub use access::Bytes;
+pub use element::{VolatileArrayRef, VolatileRef};
+pub use error::{VolatileMemoryError, compute_offset};
 pub use host::{HostMemory, put_at};
+pub use memory::VolatileMemory;
 pub use permissions::Permissions;
-pub use vm_bitmaps::{Bitmap, NewBitmap, PageBitmap};
-pub use vm_values::GuestAddress;
+pub use vm_bitmaps::{BaseSlice, Bitmap, NewBitmap, PageBitmap, RefSlice};
+pub use vm_values::{
+    Address, AddressValue, Be16, Be32, Be64, ByteValued, GuestAddress, GuestUsize, Le16, Le32,
+    Le64, MemoryRegionAddress,
+};
 pub use window::VolatileSlice;
+
+#[cfg(test)]
+mod tests;

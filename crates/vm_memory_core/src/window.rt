@@ -1,7 +1,9 @@
 //! A window over host memory (vm-memory's `VolatileSlice`).
 
-ghost use Rattle.std.specs.Prelude.{◌≡◌, ◌==◌, ◌+◌, ◌<◌, ◌^◌};
+ghost use Rattle.std.specs.Prelude.{IfOk, ◌≡◌, ◌==◌, ◌+◌, ◌<◌, ◌≤◌, ◌^◌};
+ghost use Rattle.vm_memory_core.specs.Parts.{halves_of, part_of, reached, rest_of, sub_window};
 
+use crate::error::{VolatileMemoryError, compute_offset};
 use std::marker::Model;
 
 /// Some bytes of a block of host memory. It is a plain value: calls that touch bytes are lent the host.
@@ -61,5 +63,78 @@ impl VolatileSlice {
         ensures { result ≡ (self.now.len == 0) }
     {
         self.len == 0
+    }
+
+    /// What follows its first `count` bytes (vm-memory's `VolatileSlice::offset`).
+    pub fn offset(&self, count: usize) -> Result<VolatileSlice, VolatileMemoryError>
+        ensures { result ≡ rest_of self.now count }
+    {
+        if count > self.len {
+            return Err(VolatileMemoryError::OutOfBounds { addr: count });
+        }
+        Ok(VolatileSlice::new(self.block, self.offset + count, self.len - count))
+    }
+
+    /// Its `count` bytes from an offset on (vm-memory's `VolatileSlice::subslice`).
+    pub fn subslice(
+        &self,
+        offset: usize,
+        count: usize,
+    ) -> Result<VolatileSlice, VolatileMemoryError>
+        ensures { result ≡ sub_window self.now offset count }
+    {
+        match compute_offset(offset, count) {
+            Ok(end) if end <= self.len => Ok(VolatileSlice::new(
+                self.block,
+                self.offset + offset,
+                count,
+            )),
+            Ok(addr) => Err(VolatileMemoryError::OutOfBounds { addr }),
+            Err(error) => Err(error),
+        }
+    }
+
+    /// Its first `mid` bytes, and what follows them (vm-memory's `VolatileSlice::split_at`).
+    pub fn split_at(
+        &self,
+        mid: usize,
+    ) -> Result<(VolatileSlice, VolatileSlice), VolatileMemoryError>
+        ensures { result ≡ halves_of self.now mid }
+    {
+        if mid > self.len {
+            return Err(VolatileMemoryError::OutOfBounds { addr: mid });
+        }
+        let front = VolatileSlice::new(self.block, self.offset, mid);
+        let back = VolatileSlice::new(self.block, self.offset + mid, self.len - mid);
+        Ok((front, back))
+    }
+
+    // Its `count` bytes from an offset on, which it has.
+    pub(crate) fn part(&self, offset: usize, count: usize) -> VolatileSlice
+        requires { offset + count ≤ self.now.len }
+        ensures { result ≡ part_of self.now offset count }
+    {
+        VolatileSlice::new(self.block, self.offset + offset, count)
+    }
+
+    // The bytes that an access of `count` bytes from `addr` on reaches.
+    pub(crate) fn reached(
+        &self,
+        addr: usize,
+        count: usize,
+    ) -> Result<VolatileSlice, VolatileMemoryError>
+        ensures window { result ≡ reached self.now addr count }
+        ensures block { IfOk result (λ w. w.block ≡ self.now.block) }
+        ensures inside { IfOk result (λ w. w.offset + w.len ≤ self.now.offset + self.now.len) }
+        ensures most { IfOk result (λ w. w.len ≤ count) }
+    {
+        if count == 0 {
+            return Ok(VolatileSlice::new(self.block, self.offset, 0));
+        }
+        if addr >= self.len {
+            return Err(VolatileMemoryError::OutOfBounds { addr });
+        }
+        let count = count.min(self.len - addr);
+        Ok(VolatileSlice::new(self.block, self.offset + addr, count))
     }
 }

@@ -68,3 +68,10 @@ returns-clause-lie g c =
       | in-Faulty w ↦ rw w.chain-is (record { ends = lie; chain = tt })
       | in-Chain+in_ok-chain-in-Chain w ↦ rw w.chain-is (record { ends = lie; chain = w.in_ok-chain-in-Chain.ensures.lie (lengths (host_of c.args.host.now)) c.requires })
     ]
+
+pub returns-clause-windows : goal.returns-clause-windows
+returns-clause-windows g c =
+    elim c.match-branch-4.branch [
+      | in-Faulty w ↦ rw w.chain-is tt
+      | in-Chain+in_ok-chain-in-Chain w ↦ rw (w.chain-is, ← (rw w.in-Chain.is at c.in_ok-walk.ensures.chain)) (rw w.deref.ensures.value at (w.in_ok-chain-in-Chain.ensures.windows (host_of c.args.host.now)))
+    ]

@@ -33,3 +33,6 @@ returns-clause-asked c h =
 
 pub returns-clause-lie : goal.returns-clause-lie
 returns-clause-lie c lengths held = (rw c.in-Some.is at (c.in_ok-readable.ensures.lie lengths held), rw c.in-Some-2.is at (c.in_ok-writable.ensures.lie lengths held))
+
+pub returns-clause-windows : goal.returns-clause-windows
+returns-clause-windows c h = (refl, sym (rw c.in-Some.is at c.in_ok-readable.ensures.found), sym (rw c.in-Some-2.is at c.in_ok-writable.ensures.found))

@@ -1,0 +1,32 @@
+-- An access reaches at most as many places as it asks for.
+use Rattle.std.specs.Prelude.{◌≡◌, ℕ, zero, suc, ◌+◌, ◌-◌, ◌≤◌, ◌==◌, List, length, min, nat_lt, if◌then◌else◌, true, false, Result, Ok, Err, refl}
+use Rattle.std.proofs.Common.{ap, sym, subst, arith}
+use Rattle.vm_memory_core.specs.Host.{Place}
+use Rattle.vm_memory_core.specs.Window.{Window, span}
+use Rattle.vm_memory_core.specs.Parts.{part_of}
+use Rattle.vm_memory_core.specs.Access.{places_in, reached_places}
+use Rattle.vm_memory_core.specs.declared.error.VolatileMemoryError.{VolatileMemoryError}
+use Rattle.vm_memory_core.specs.declared.error.VolatileMemoryError.TheVariants.{OutOfBounds}
+
+count-span : (n block offset : ℕ) → length (span block offset n) ≡ n
+unfolding span
+count-span zero b o = refl
+count-span (suc n) b o = ap suc (count-span n b (o + 1))
+
+-- no more than n places are reached
+abbrev AtMost : ℕ → Result (List Place) VolatileMemoryError → Type 0
+AtMost n (Ok ps) = length ps ≤ n
+AtMost n (Err e) = Unit {0}
+
+at_most : (w : Window) (a n : ℕ) → AtMost n (reached_places w a n)
+at_most w a n =
+    elim (n == 0) as (λ b. AtMost n (places_in (if b then Ok (part_of w 0 0) else (if nat_lt a w.len then Ok (part_of w a (min n (w.len - a))) else Err (OutOfBounds a))))) [
+      | true ↦ omega (arith, count-span 0 w.block (w.offset + 0))
+      | false ↦ elim (nat_lt a w.len) as (λ b. AtMost n (places_in (if b then Ok (part_of w a (min n (w.len - a))) else Err (OutOfBounds a)))) [
+        | true ↦ omega (arith, count-span (min n (w.len - a)) w.block (w.offset + a))
+        | false ↦ tt
+      ]
+    ]
+
+pub length-reached_places : (w : Window) (a n : ℕ) (places : List Place) → Ok places ≡ reached_places w a n → length places ≤ n
+length-reached_places w a n places e = subst (λ r. AtMost n r) (sym e) (at_most w a n)

@@ -1,0 +1,196 @@
+//! Reads and writes of bytes by their address (vm-memory's `Bytes`).
+
+ghost use Rattle.std.specs.Prelude.{◌≡◌, ◌==◌, ◌≤◌, ℕ, List, Result, Ok, length, if◌then◌else◌};
+ghost use Rattle.vm_values.specs.Fields.{spelled};
+ghost use Rattle.vm_memory_core.specs.Host.{Host, Place, host_of, lengths};
+ghost use Rattle.vm_memory_core.specs.Window.{LiesIn};
+ghost use Rattle.vm_memory_core.specs.Access.{ReadsAll, ReadsSome, ReadsValue, WritesAll, WritesSome, reached_places};
+ghost use Rattle.vm_memory_core.specs.Reached.{length-reached_places};
+ghost use Rattle.vm_memory_core.specs.declared.permissions.Permissions.{Permissions};
+ghost use Rattle.vm_memory_core.specs.declared.error.VolatileMemoryError.TheVariants.{PartialBuffer};
+
+use crate::error::VolatileMemoryError;
+use crate::host::{HostMemory, put_at};
+use crate::permissions::Permissions;
+use crate::window::VolatileSlice;
+use vm_bitmaps::NewBitmap;
+use vm_values::ByteValued;
+
+/// Memory whose bytes are read and written by their address (vm-memory's `Bytes`). The host is lent to each
+/// call.
+pub trait Bytes<A> {
+    /// What a refused access answers.
+    type E;
+
+    // whether a host has this memory
+    ghost IsHeld: { Self → Host → Type 0 };
+
+    // whether an access of some bytes from an address on may reach these places, or be refused so
+    ghost Reaches: { Self → Host → A → ℕ → Permissions → Result (List Place) Self.E → Type 0 };
+
+    // what refuses an access to so many bytes of which only some are there
+    ghost partial: { ℕ → ℕ → Self.E };
+
+    /// Reads as many bytes as are there, at most as many as the buffer has: how many.
+    fn read<B: NewBitmap>(
+        &self,
+        h: &HostMemory<B>,
+        buf: &mut [u8],
+        addr: A,
+    ) -> Result<usize, Self::E>
+        requires { IsHeld self.now (host_of h.now) }
+        ensures { ReadsSome (Reaches self.now (host_of h.now) addr (length buf.old) Permissions.Read) (host_of h.now) buf.old buf.new result };
+
+    /// Writes as many bytes as are there, and marks their pages: how many.
+    fn write<B: NewBitmap>(
+        &self,
+        h: &mut HostMemory<B>,
+        buf: &[u8],
+        addr: A,
+    ) -> Result<usize, Self::E>
+        requires { IsHeld self.now (host_of h.old) }
+        ensures written { WritesSome (Reaches self.now (host_of h.old) addr (length buf.now) Permissions.Write) buf.now (host_of h.old) (host_of h.new) result }
+        ensures held { IsHeld self.now (host_of h.new) }
+        ensures lengths { lengths (host_of h.new) ≡ lengths (host_of h.old) };
+
+    /// Fills a buffer. Where only some bytes are there, these are read.
+    fn read_slice<B: NewBitmap>(
+        &self,
+        h: &HostMemory<B>,
+        buf: &mut [u8],
+        addr: A,
+    ) -> Result<(), Self::E>
+        requires { IsHeld self.now (host_of h.now) }
+        ensures { ReadsAll (Reaches self.now (host_of h.now) addr (length buf.old) Permissions.Read) partial (host_of h.now) buf.old buf.new result };
+
+    /// Writes all of a buffer, and marks the pages. Where only some bytes are there, these are written.
+    fn write_slice<B: NewBitmap>(
+        &self,
+        h: &mut HostMemory<B>,
+        buf: &[u8],
+        addr: A,
+    ) -> Result<(), Self::E>
+        requires { IsHeld self.now (host_of h.old) }
+        ensures written { WritesAll (Reaches self.now (host_of h.old) addr (length buf.now) Permissions.Write) partial buf.now (host_of h.old) (host_of h.new) result }
+        ensures held { IsHeld self.now (host_of h.new) }
+        ensures lengths { lengths (host_of h.new) ≡ lengths (host_of h.old) };
+
+    /// The value that the bytes from an address on spell.
+    final fn read_obj<T: ByteValued, B: NewBitmap>(
+        &self,
+        h: &HostMemory<B>,
+        addr: A,
+    ) -> Result<T, Self::E>
+        requires { IsHeld self.now (host_of h.now) }
+        ensures { ReadsValue (Reaches self.now (host_of h.now) addr T.SIZE Permissions.Read) partial T.fields T.SIZE (host_of h.now) result }
+    {
+        let mut buffer = [0; 256];
+        let bytes = &mut buffer[..T::SIZE];
+        match self.read_slice(h, bytes, addr) {
+            Ok(()) => Ok(T::get_bytes(bytes)),
+            Err(error) => Err(error),
+        }
+    }
+
+    /// Writes a value's bytes from an address on, and marks their pages. Where only some bytes are there, these
+    /// are written.
+    final fn write_obj<T: ByteValued, B: NewBitmap>(
+        &self,
+        h: &mut HostMemory<B>,
+        value: T,
+        addr: A,
+    ) -> Result<(), Self::E>
+        requires { IsHeld self.now (host_of h.old) }
+        ensures written { WritesAll (Reaches self.now (host_of h.old) addr T.SIZE Permissions.Write) partial (spelled (T.fields value)) (host_of h.old) (host_of h.new) result }
+        ensures held { IsHeld self.now (host_of h.new) }
+        ensures lengths { lengths (host_of h.new) ≡ lengths (host_of h.old) }
+    {
+        let mut buffer = [0; 256];
+        value.put_bytes(&mut buffer[..T::SIZE]);
+        self.write_slice(h, &buffer[..T::SIZE], addr)
+    }
+
+    // an access reaches at most as many places as it asks for
+    ghost at_most: { (m : Self) (h : Host) (a : A) (n : ℕ) (p : Permissions) (places : List Place) → Reaches m h a n p (Ok places) → length places ≤ n };
+}
+
+/// A window's bytes, addressed from its start.
+impl Bytes<usize> for VolatileSlice {
+    type E = VolatileMemoryError;
+
+    ghost IsHeld = { λ w h. LiesIn (lengths h) w };
+
+    ghost Reaches = { λ w h a n p places. places ≡ reached_places w a n };
+
+    ghost partial = { λ n k. PartialBuffer n k };
+
+    ghost at_most = { λ w h a n p places e. length-reached_places w a n places e };
+
+    fn read<B: NewBitmap>(
+        &self,
+        h: &HostMemory<B>,
+        buf: &mut [u8],
+        addr: usize,
+    ) -> Result<usize, VolatileMemoryError> {
+        match self.reached(addr, buf.len()) {
+            Ok(window) => {
+                put_at(buf, 0, h.bytes(window));
+                Ok(window.len())
+            }
+            Err(error) => Err(error),
+        }
+    }
+
+    fn write<B: NewBitmap>(
+        &self,
+        h: &mut HostMemory<B>,
+        buf: &[u8],
+        addr: usize,
+    ) -> Result<usize, VolatileMemoryError> {
+        match self.reached(addr, buf.len()) {
+            Ok(window) => {
+                h.write(window, &buf[..window.len()]);
+                Ok(window.len())
+            }
+            Err(error) => Err(error),
+        }
+    }
+
+    fn read_slice<B: NewBitmap>(
+        &self,
+        h: &HostMemory<B>,
+        buf: &mut [u8],
+        addr: usize,
+    ) -> Result<(), VolatileMemoryError> {
+        match self.read(h, buf, addr) {
+            Ok(completed) => in_full(buf.len(), completed),
+            Err(error) => Err(error),
+        }
+    }
+
+    fn write_slice<B: NewBitmap>(
+        &self,
+        h: &mut HostMemory<B>,
+        buf: &[u8],
+        addr: usize,
+    ) -> Result<(), VolatileMemoryError> {
+        match self.write(h, buf, addr) {
+            Ok(completed) => in_full(buf.len(), completed),
+            Err(error) => Err(error),
+        }
+    }
+}
+
+// Whether an access had all of its bytes.
+fn in_full(expected: usize, completed: usize) -> Result<(), VolatileMemoryError>
+    ensures { result ≡ if completed == expected then Ok tt else Err (PartialBuffer expected completed) }
+{
+    if completed == expected {
+        Ok(())
+    } else {
+        Err(VolatileMemoryError::PartialBuffer {
+            expected,
+            completed,
+        })
+    }
+}

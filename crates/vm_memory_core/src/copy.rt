@@ -1,0 +1,93 @@
+//! Copies between windows and lists of values, and from one window to another.
+
+ghost use Rattle.std.specs.Prelude.{◌≡◌, ◌≢◌, ◌+◌, ◌*◌, ◌<◌, ◌≤◌, ◌++◌, length, map, take, drop, min};
+ghost use Rattle.std.specs.List.{zip};
+ghost use Rattle.vm_memory_core.specs.Host.{host_of, lengths};
+ghost use Rattle.vm_memory_core.specs.Window.{LiesIn, byte_in, places_of, put_all, span};
+ghost use Rattle.vm_memory_core.specs.Parts.{EachFits, part_of, spelled_all, whole_elements};
+
+use crate::host::HostMemory;
+use crate::window::VolatileSlice;
+use vm_bitmaps::NewBitmap;
+use vm_values::ByteValued;
+
+// Reads the values that some bytes spell, one after another.
+fn get_values<T: ByteValued>(bytes: &[u8], out: &mut [T])
+    requires { length bytes.now ≡ length out.old * T.SIZE }
+    ensures bytes { spelled_all T.fields out.new ≡ bytes.now }
+    ensures fits { EachFits T.fields out.new }
+{
+    let mut at = 0;
+    for k in 0..out.len() {
+        out[k] = T::get_bytes(&bytes[at..at + T::SIZE]);
+        at += T::SIZE;
+    }
+}
+
+// Puts the bytes of values, one after another, in a buffer from `at` on.
+pub(crate) fn put_values<T: ByteValued>(buffer: &mut [u8], at: usize, values: &[T])
+    requires { at + length values.now * T.SIZE ≤ length buffer.old }
+    ensures stored { buffer.new ≡ take at buffer.old ++ spelled_all T.fields values.now ++ drop (at + length values.now * T.SIZE) buffer.old }
+    ensures count { length (spelled_all T.fields values.now) ≡ length values.now * T.SIZE }
+    ensures len { length buffer.new ≡ length buffer.old }
+{
+    let mut place = at;
+    for k in 0..values.len() {
+        values[k].put_bytes(&mut buffer[place..place + T::SIZE]);
+        place += T::SIZE;
+    }
+}
+
+// How many whole values both `len` bytes and a list of `count` hold.
+fn whole_values<T: ByteValued>(len: usize, count: usize) -> usize
+    ensures whole { result ≡ whole_elements T.SIZE len count }
+    ensures fits { result * T.SIZE ≤ len }
+    ensures most { result ≤ count }
+{
+    if T::SIZE == 0 {
+        0
+    } else {
+        (len / T::SIZE).min(count)
+    }
+}
+
+impl VolatileSlice {
+    /// Reads as many whole values as both it and the list hold, none of no byte: how many (vm-memory's
+    /// `VolatileSlice::copy_to`).
+    pub fn copy_to<T: ByteValued, B: NewBitmap>(&self, h: &HostMemory<B>, values: &mut [T]) -> usize
+        requires { LiesIn (lengths (host_of h.now)) self.now }
+        ensures count { result ≡ whole_elements T.SIZE self.now.len (length values.old) }
+        ensures bytes { spelled_all T.fields (take result values.new) ≡ map (byte_in (host_of h.now)) (places_of (part_of self.now 0 (result * T.SIZE))) }
+        ensures fits { EachFits T.fields (take result values.new) }
+        ensures rest { drop result values.new ≡ drop result values.old }
+    {
+        let count = whole_values::<T>(self.len(), values.len());
+        let part = self.part(0, count * T::SIZE);
+        get_values(h.bytes(part), &mut values[..count]);
+        count
+    }
+
+    /// Writes as many whole values as both it and the list hold, none of no byte, and marks their pages
+    /// (vm-memory's `VolatileSlice::copy_from`).
+    pub fn copy_from<T: ByteValued, B: NewBitmap>(&self, h: &mut HostMemory<B>, values: &[T])
+        requires { LiesIn (lengths (host_of h.old)) self.now }
+        ensures stored { host_of h.new ≡ put_all (host_of h.old) (zip (places_of self.now) (spelled_all T.fields (take (whole_elements T.SIZE self.now.len (length values.now)) values.now))) }
+        ensures lengths { lengths (host_of h.new) ≡ lengths (host_of h.old) }
+    {
+        let count = whole_values::<T>(self.len(), values.len());
+        h.write_values(*self, &values[..count]);
+    }
+
+    /// Copies its first bytes, as many as both windows have, to another window and marks their pages: the
+    /// bytes that it had before, also where the two overlap (vm-memory's
+    /// `VolatileSlice::copy_to_volatile_slice`).
+    pub fn copy_to_volatile_slice<B: NewBitmap>(&self, h: &mut HostMemory<B>, dest: VolatileSlice)
+        requires source { LiesIn (lengths (host_of h.old)) self.now }
+        requires dest { LiesIn (lengths (host_of h.old)) dest }
+        ensures stored { host_of h.new ≡ put_all (host_of h.old) (zip (places_of dest) (map (byte_in (host_of h.old)) (places_of self.now))) }
+        ensures lengths { lengths (host_of h.new) ≡ lengths (host_of h.old) }
+    {
+        let count = self.len().min(dest.len());
+        h.copy_window(self.part(0, count), dest.part(0, count));
+    }
+}
