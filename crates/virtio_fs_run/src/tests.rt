@@ -30,8 +30,8 @@ struct SlowReader<'a> {
 }
 
 impl<'a> Read for SlowReader<'a> {
-    fn read(&mut self, buf: &mut [u8]) -> io::Result<usize> {
-        match (self.text.split_first(), buf.first_mut(), self.fails) {
+    fn read(&mut self, buffer: &mut [u8]) -> io::Result<usize> {
+        match (self.text.split_first(), buffer.first_mut(), self.fails) {
             (Some((byte, rest)), Some(place), _) => {
                 *place = *byte;
                 self.text = rest;
@@ -51,12 +51,12 @@ struct FullWriter {
 }
 
 impl Write for FullWriter {
-    fn write(&mut self, buf: &[u8]) -> io::Result<usize> {
-        if self.room < buf.len() {
+    fn write(&mut self, bytes: &[u8]) -> io::Result<usize> {
+        if self.room < bytes.len() {
             return Err(io::Error::from(ErrorKind::BrokenPipe));
         }
-        self.room -= buf.len();
-        Ok(buf.len())
+        self.room -= bytes.len();
+        Ok(bytes.len())
     }
 
     fn flush(&mut self) -> io::Result<()> {
