@@ -11,7 +11,7 @@ ghost use Rattle.vm_memory.specs.Memory.{memory_of, addresses, located, after, r
 
 use std::alloc::{AllocError, Global};
 use vm_memory::GuestMemoryMmap;
-use vm_memory_core::{GuestAddress, HostMemory, NewBitmap, VolatileSlice};
+use vm_memory_core::{GuestAddress, HostMemory, NewBitmap, Windows};
 
 /// Reads a buffer full of bytes from an address on, or answers that one of them isn't there.
 pub fn read<B: NewBitmap>(
@@ -47,7 +47,7 @@ pub fn add_windows(
     mem: &GuestMemoryMmap,
     addr: u64,
     len: usize,
-    windows: &mut Vec<VolatileSlice>,
+    windows: &mut Windows,
 ) -> Result<bool, AllocError>
     requires { addr + len < 2 ^ 64 }
     ensures found { IfOk result (λ found.
@@ -63,13 +63,13 @@ pub fn hold(
     mem: &GuestMemoryMmap,
     addr: u64,
     len: usize,
-) -> Result<Option<Vec<VolatileSlice>>, AllocError>
+) -> Result<Option<Windows>, AllocError>
     requires { addr + len < 2 ^ 64 }
     ensures found { IfOk result (λ o. option_map (λ v. places v.items) o ≡ located (place mem.now) (addresses addr len)) }
     ensures len { IfOk result (λ o. IfSome o (λ v. length (places v.items) ≡ len)) }
     ensures lie { (lengths : List ℕ) → AreHeld lengths mem.now → IfOk result (λ o. IfSome o (λ v. AllLieIn lengths v.items)) }
 {
-    let mut windows = Vec::new(alloc);
+    let mut windows = Windows::new(alloc);
     if add_windows(mem, addr, len, &mut windows)? {
         Ok(Some(windows))
     } else {

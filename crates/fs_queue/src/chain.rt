@@ -4,14 +4,14 @@ ghost use Rattle.std.specs.Prelude.{◌≡◌, length, MatchResult};
 ghost use Rattle.vm_memory_core.specs.Window.{places};
 
 use crate::fault::ChainFault;
-use vm_memory_core::VolatileSlice;
+use vm_memory_core::Windows;
 
 /// The windows of a chain: its request, and the room for its reply, each in the order of its descriptors.
 #[derive(Drop)]
 pub struct Chain {
     pub head: u16,
-    pub readable: Vec<VolatileSlice>,
-    pub writable: Vec<VolatileSlice>,
+    pub readable: Windows,
+    pub writable: Windows,
     pub(crate) request_len: usize,
     pub(crate) room_len: usize,
     pub ghost request_counted: { request_len ≡ length (places readable.items) },
@@ -37,9 +37,9 @@ impl Chain {
 /// The windows of a used element, the used index and the available flags.
 #[derive(Drop)]
 pub struct ReturnWindows {
-    pub element: Vec<VolatileSlice>,
-    pub index: Vec<VolatileSlice>,
-    pub flags: Vec<VolatileSlice>,
+    pub element: Windows,
+    pub index: Windows,
+    pub flags: Windows,
 }
 
 /// A chain that was taken and not yet given back, or its fault.

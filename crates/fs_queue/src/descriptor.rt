@@ -9,17 +9,21 @@ ghost use Rattle.vm_memory.specs.Memory.{memory_of, reach};
 ghost use Rattle.fs_queue.specs.Chain.{descriptor_at};
 
 use crate::access::read;
+use smallvec::SmallVec;
 use vm_memory::GuestMemoryMmap;
 use vm_memory_core::{HostMemory, NewBitmap};
 
 /// An entry of a descriptor table: le64 addr, le32 len, le16 flags, le16 next, 16 bytes in all (VIRTIO 1.2, 2.7.5).
-#[derive(Clone, Copy, Debug, PartialEq, Eq)]
+#[derive(Clone, Copy, Debug, Default, PartialEq, Eq)]
 pub struct Descriptor {
     pub addr: u64,
     pub len: u32,
     pub flags: u16,
     pub next: u16,
 }
+
+/// Descriptors in order, of which the first eight take no memory.
+pub type Descriptors = SmallVec<Descriptor, 8>;
 
 const NEXT: u16 = 1;
 

@@ -10,14 +10,14 @@ ghost use Rattle.fs_queue.specs.Walking.{AllFit};
 
 use crate::access::{add_windows, hold};
 use crate::chain::{Chain, ReturnWindows, Taken};
-use crate::descriptor::Descriptor;
+use crate::descriptor::{Descriptor, Descriptors};
 use crate::fault::{ChainFault, QueueError};
 use crate::layout::QueueLayout;
 use crate::look::{Look, next_head};
 use crate::walk::{Walked, walk};
 use std::alloc::{AllocError, Global};
 use vm_memory::GuestMemoryMmap;
-use vm_memory_core::{GuestAddress, HostMemory, NewBitmap, VolatileSlice};
+use vm_memory_core::{GuestAddress, HostMemory, NewBitmap, Windows};
 
 /// Nothing, a refusal, or a chain.
 #[derive(Drop)]
@@ -81,12 +81,12 @@ fn hold_part(
     mem: &GuestMemoryMmap,
     descriptors: &[Descriptor],
     write_only: bool,
-) -> Result<Option<Vec<VolatileSlice>>, AllocError>
+) -> Result<Option<Windows>, AllocError>
     requires { AllFit descriptors.now }
     ensures found { IfOk result (λ o. option_map (λ v. places v.items) o ≡ located (place mem.now) (addresses_of (part write_only descriptors.now))) }
     ensures lie { (lengths : List ℕ) → AreHeld lengths mem.now → IfOk result (λ o. IfSome o (λ v. AllLieIn lengths v.items)) }
 {
-    let mut windows = Vec::new(alloc);
+    let mut windows = Windows::new(alloc);
     for descriptor in descriptors {
         if descriptor.is_write_only() == write_only
             && !add_windows(mem, descriptor.addr, descriptor.len as usize, &mut windows)?
@@ -130,6 +130,22 @@ fn hold_chain(
     }))
 }
 
+// The request and the room of the chain that a walk found, or its fault.
+fn hold_walked(
+    alloc: Global,
+    mem: &GuestMemoryMmap,
+    head: u16,
+    descriptors: Descriptors,
+    limit: u32,
+) -> Result<Result<Chain, ChainFault>, AllocError>
+    requires { AllFit descriptors.items }
+    ensures asked { (h : Host) → IfOk result (HoldsChain (memory_of h mem.now) (asked_by (memory_of h mem.now) limit descriptors.items)) }
+    ensures lie { (lengths : List ℕ) → AreHeld lengths mem.now → IfOk result (ChainLiesIn lengths) }
+    ensures windows { (h : Host) → IfOk result (λ c. HoldsWindows (memory_of h mem.now) head c (IsChain descriptors.items)) }
+{
+    hold_chain(alloc, mem, head, &descriptors, limit)
+}
+
 /// What a queue that isn't stopped answers, at a position, when a chain is asked for.
 pub fn ask<B: NewBitmap>(
     alloc: Global,
@@ -157,7 +173,7 @@ pub fn ask<B: NewBitmap>(
     let chain = match walk(alloc, layout, host, mem, head)? {
         Walked::Stopped => return Ok(Asking::Refused(QueueError::DescriptorUnreachable)),
         Walked::Faulty(fault) => Err(fault),
-        Walked::Chain(descriptors) => hold_chain(alloc, mem, head, &descriptors, limit)?,
+        Walked::Chain(descriptors) => hold_walked(alloc, mem, head, descriptors, limit)?,
     };
     Ok(Asking::Took(Taken { head, chain, ends }))
 }

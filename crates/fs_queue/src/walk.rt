@@ -6,7 +6,7 @@ ghost use Rattle.vm_memory.specs.Layout.{AreHeld};
 ghost use Rattle.vm_memory.specs.Memory.{memory_of};
 ghost use Rattle.fs_queue.specs.Queue.{at_position};
 
-use crate::descriptor::{Descriptor, read_descriptor};
+use crate::descriptor::{Descriptor, Descriptors, read_descriptor};
 use crate::fault::ChainFault;
 use crate::layout::QueueLayout;
 use std::alloc::{AllocError, Global};
@@ -24,7 +24,7 @@ pub enum Verdict {
 /// What a walk comes to: the chain's descriptors in order, a fault of the chain, or a stop of the queue.
 #[derive(Drop)]
 pub enum Walked {
-    Chain(Vec<Descriptor>),
+    Chain(Descriptors),
     Faulty(ChainFault),
     Stopped,
 }
@@ -85,7 +85,7 @@ pub fn walk<B: NewBitmap>(
     ensures chain { IfOk result (λ w. found_of w ≡ chain (memory_of (host_of host.now) mem.now) (at_position layout 0) head) }
     ensures fit { IfOk result DescriptorsFit }
 {
-    let mut descriptors = Vec::new(alloc);
+    let mut descriptors = Descriptors::new(alloc);
     let mut index = head;
     let mut left = layout.size();
     loop {

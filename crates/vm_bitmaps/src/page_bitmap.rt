@@ -37,6 +37,19 @@ impl Model for PageBitmap {
     ghost invariant = { λ b. (0 < b.page_size) × (b.len ≡ pages_of b.page_size b.byte_size) × IsClean b.len b.words.items };
 }
 
+// The page of the byte at `addr`. Pages of 4096 bytes, as those of guest memory, need no division.
+#[inline]
+fn page_of(page_size: usize, addr: usize) -> usize
+    requires { 0 < page_size }
+    ensures { result ≡ addr / page_size }
+{
+    if page_size == 4096 {
+        addr / 4096
+    } else {
+        addr / page_size
+    }
+}
+
 // The page of the last of `len` bytes from `start` on, of those below 2^64.
 #[inline]
 fn last_page(page_size: usize, start: usize, len: usize) -> usize
@@ -44,11 +57,7 @@ fn last_page(page_size: usize, start: usize, len: usize) -> usize
     requires some { 0 < len }
     ensures { result ≡ (min (start + len) (2 ^ 64) - 1) / page_size }
 {
-    if len <= page_size - start % page_size {
-        start / page_size
-    } else {
-        start.saturating_add(len - 1) / page_size
-    }
+    page_of(page_size, start.saturating_add(len - 1))
 }
 
 impl PageBitmap {
@@ -111,7 +120,7 @@ impl PageBitmap {
     pub fn is_addr_set(&self, addr: usize) -> bool
         ensures { result ≡ is_marked self.now.page_size self.now.marks addr }
     {
-        self.is_bit_set(addr / self.page_size)
+        self.is_bit_set(page_of(self.page_size, addr))
     }
 
     // Writes the marks of the pages of `len` bytes from `start` on.
@@ -126,7 +135,7 @@ impl PageBitmap {
         if len == 0 {
             return;
         }
-        let first = start / self.page_size;
+        let first = page_of(self.page_size, start);
         if first >= self.len {
             return;
         }

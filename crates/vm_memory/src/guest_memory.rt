@@ -14,7 +14,9 @@ use crate::error::{FromRangesError, GuestMemoryError, MmapRegionError};
 use crate::region::GuestRegionMmap;
 use std::alloc::{AllocError, Global};
 use std::marker::Model;
-use vm_memory_core::{GuestAddress, HostMemory, NewBitmap, Permissions, VolatileSlice, put_at};
+use vm_memory_core::{
+    GuestAddress, HostMemory, NewBitmap, Permissions, VolatileSlice, Windows, put_at,
+};
 
 /// The regions of a guest's physical memory, by ascending address.
 #[derive(Drop)]
@@ -128,7 +130,7 @@ impl GuestMemoryMmap {
         &self,
         addr: GuestAddress,
         len: usize,
-        windows: &mut Vec<VolatileSlice>,
+        windows: &mut Windows,
     ) -> Result<bool, AllocError>
         ensures found { IfOk result (λ found.
             after (places windows.old.items) (located (place self.now) (circular addr.0 len)) ≡ (if found then Some (places windows.new.items) else None)) }

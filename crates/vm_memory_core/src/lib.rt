@@ -22,7 +22,7 @@ pub use vm_values::{
     Address, AddressValue, Be16, Be32, Be64, ByteValued, GuestAddress, GuestUsize, Le16, Le32,
     Le64, MemoryRegionAddress,
 };
-pub use window::VolatileSlice;
+pub use window::{VolatileSlice, Windows};
 
 #[cfg(test)]
 mod tests;

@@ -4,15 +4,19 @@ ghost use Rattle.std.specs.Prelude.{IfOk, ◌≡◌, ◌==◌, ◌+◌, ◌<◌,
 ghost use Rattle.vm_memory_core.specs.Parts.{halves_of, part_of, reached, rest_of, sub_window};
 
 use crate::error::{VolatileMemoryError, compute_offset};
+use smallvec::SmallVec;
 use std::marker::Model;
 
 /// Some bytes of a block of host memory. It is a plain value: calls that touch bytes are lent the host.
-#[derive(Clone, Copy)]
+#[derive(Clone, Copy, Default)]
 pub struct VolatileSlice {
     block: usize,
     offset: usize,
     len: usize,
 }
+
+/// Windows in order, of which the first two take no memory.
+pub type Windows = SmallVec<VolatileSlice, 2>;
 
 impl Model for VolatileSlice {
     ghost use Rattle.std.specs.Prelude.{◌+◌, ◌<◌, ◌^◌};

@@ -57,7 +57,7 @@ returns-clause-asking g c =
       | in-Chain+in_ok-chain-in-Chain w ↦ rw w.chain-is (
         asked_by (memory_of (host_of c.args.host.now) c.args.mem.now) c.args.limit w.in-Chain.descriptors.items,
         offer_found (host_of c.args.host.now) c.args.mem.now c.args.limit c.args.layout c.args.position c.in-Head.head _ _ _ (IsChain w.in-Chain.descriptors.items) c.in-Head.ensures.look ends (rw w.in-Chain.is at c.in_ok-walk.ensures.chain),
-        record { ends = kept; chain = rw w.deref.ensures.value at (w.in_ok-chain-in-Chain.ensures.asked (host_of c.args.host.now)) },
+        record { ends = kept; chain = w.in_ok-chain-in-Chain.ensures.asked (host_of c.args.host.now) },
       )
     ]
 
@@ -73,5 +73,5 @@ pub returns-clause-windows : goal.returns-clause-windows
 returns-clause-windows g c =
     elim c.match-branch-4.branch [
       | in-Faulty w ↦ rw w.chain-is tt
-      | in-Chain+in_ok-chain-in-Chain w ↦ rw (w.chain-is, ← (rw w.in-Chain.is at c.in_ok-walk.ensures.chain)) (rw w.deref.ensures.value at (w.in_ok-chain-in-Chain.ensures.windows (host_of c.args.host.now)))
+      | in-Chain+in_ok-chain-in-Chain w ↦ rw (w.chain-is, ← (rw w.in-Chain.is at c.in_ok-walk.ensures.chain)) (w.in_ok-chain-in-Chain.ensures.windows (host_of c.args.host.now))
     ]

@@ -22,17 +22,17 @@ returns-in-Faulty-clause-chain g c =
 
 pub returns-then-not-has_next-clause-chain : goal.returns-then-not-has_next-clause-chain
 returns-then-not-has_next-clause-chain g c =
-    ap IsChain c.in_ok-push-in-Joins.ensures.items
+    ap IsChain c.in_ok-push-in-Joins.ensures.ok
     ∙ walk_ends (memory_of (host_of c.args.host.now) c.args.mem.now) c.args.layout c.loop-descriptors.index c.loop-descriptors.left c.in-Joins.descriptor c.loop-descriptors.descriptors.items _ c.in-Joins.ensures.verdict (sym c.if-not-has_next.ensures) c.loop-descriptors.invariant.chain
 
 pub returns-then-not-has_next-clause-fit : goal.returns-then-not-has_next-clause-fit
 unfolding AllFit
 returns-then-not-has_next-clause-fit g c =
-    rw c.in_ok-push-in-Joins.ensures.items (All-push (λ (d : Descriptor). d.addr + d.len < 2 ^ 64) _ _ c.loop-descriptors.invariant.fit c.in-Joins.ensures.fits)
+    rw c.in_ok-push-in-Joins.ensures.ok (All-push (λ (d : Descriptor). d.addr + d.len < 2 ^ 64) _ _ c.loop-descriptors.invariant.fit c.in-Joins.ensures.fits)
 
 pub loop-descriptors-preserved : goal.loop-descriptors-preserved
 unfolding AllFit
-loop-descriptors-preserved g c = rw c.in_ok-push-in-Joins.ensures.items (record {
+loop-descriptors-preserved g c = rw c.in_ok-push-in-Joins.ensures.ok (record {
   chain = walk_next (memory_of (host_of c.args.host.now) c.args.mem.now) c.args.layout c.loop-descriptors.index c.loop-descriptors.left c.in-Joins.descriptor c.loop-descriptors.descriptors.items _ c.in-Joins.ensures.verdict (sym c.has_next.ensures ∙ c.if-not-has_next.false) c.in-Joins.ensures.more c.loop-descriptors.invariant.chain;
   fit = All-push (λ (d : Descriptor). d.addr + d.len < 2 ^ 64) _ _ c.loop-descriptors.invariant.fit c.in-Joins.ensures.fits;
 })

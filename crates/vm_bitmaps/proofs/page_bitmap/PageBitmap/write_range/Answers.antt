@@ -11,7 +11,7 @@ returns-then-len-eq0 c = none_written c.args.mark c.args.self.now c.args.start c
 pub returns-then-first-self : goal.returns-then-first-self
 returns-then-first-self c =
     let old = c.self.inside in
-    past_written c.args.mark c.args.self.now old.page_size old.byte_size old.len old.words.items c.args.start c.args.len c.self.view_is c.self.invariant.0 c.if-first-self.true
+    past_written c.args.mark c.args.self.now old.page_size old.byte_size old.len old.words.items c.args.start c.args.len c.self.view_is c.self.invariant.0 (rw (← c.page_of-first.ensures) c.if-first-self.true)
 
 -- the words after the write
 words_are : (c : goal.After-self-1) → (with_items c.self.inside.words c.write_run.new.words).items ≡ c.write_run.new.words
@@ -19,7 +19,7 @@ words_are c = with_items_is c.self.inside.words c.write_run.new.words (c.write_r
 
 run_is : (c : goal.After-self-1) →
     WritesRun c.self.inside.words.items (with_items c.self.inside.words c.write_run.new.words).items (c.args.start / c.self.inside.page_size) (c.min-last.result + 1) c.args.mark
-run_is c = rw (words_are c, ← c.deref_mut.ensures.value) c.write_run.ensures
+run_is c = rw (words_are c, ← c.deref_mut.ensures.value, ← c.page_of-first.ensures) c.write_run.ensures
 
 pub returns : goal.returns
 returns c =

@@ -21,19 +21,19 @@ returns-in_default-clause-found c =
 
 pub returns-in_err-push-clause-held : goal.returns-in_err-push-clause-held
 returns-in_err-push-clause-held c lengths held old =
-    rw c.in_err-push.ensures.items (c.loop-done.invariant.held lengths held old)
+    rw c.in_err-push.ensures.err (c.loop-done.invariant.held lengths held old)
 
 pub loop-done-preserved : goal.loop-done-preserved
 unfolding AllLieIn
 loop-done-preserved c =
     let le : c.loop-done.done + c.in-Some.window.len ≤ c.args.len = omega (arith, c.in-Some.ensures.some.1) in
     let more : places c.push.new.self.items ≡ places c.loop-done.windows.items ++ places_of c.in-Some.window =
-    ap places c.in_ok-push.ensures.items ∙ sym (flat_map_more places_of [] c.loop-done.windows.items c.in-Some.window) in
+    ap places c.in_ok-push.ensures.ok ∙ sym (flat_map_more places_of [] c.loop-done.windows.items c.in-Some.window) in
     rw c.len-done.ensures.len (record {
       within = le;
       found = find_step (place c.args.self.now) c.args.addr.0 c.loop-done.done c.args.len c.in-Some.window.len _ _ (places c.loop-done.windows.items) (places c.push.new.self.items) refl c.in-Some.ensures.some.2 le c.in-Some.ensures.some.3 more ∙ c.loop-done.invariant.found;
       held = λ lengths held old.
-          rw c.in_ok-push.ensures.items (All-push (LiesIn lengths) _ _ (c.loop-done.invariant.held lengths held old) (c.in-Some.ensures.held lengths held));
+          rw c.in_ok-push.ensures.ok (All-push (LiesIn lengths) _ _ (c.loop-done.invariant.held lengths held old) (c.in-Some.ensures.held lengths held));
     })
 
 pub returns-clause-found : goal.returns-clause-found

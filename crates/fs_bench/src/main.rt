@@ -1,0 +1,52 @@
+//! Measures windows of memory and whole kicks beside plain slice copies.
+//!
+//! Without an argument each case runs a few times, and the checksum of what was done is printed. An argument is how many
+//! samples are taken of each case; the times are then printed on standard error.
+#![tactic(auto)]
+
+mod fault;
+mod kick;
+mod measure;
+mod plain;
+mod window;
+
+use fault::BenchFault;
+use kick::measure_kicks;
+use measure::Meter;
+use plain::measure_copies;
+use std::alloc::{Alloc, Global};
+use std::env::{self, Env};
+use std::io;
+use std::process::ExitCode;
+use std::time::Clock;
+use window::measure_windows;
+
+// How many samples of each case the first argument asks for.
+fn samples_asked<R: Env + Alloc>(rt: &R) -> io::Result<Option<usize>> {
+    match env::args(rt)?.nth(1) {
+        Some(text) => Ok(text.parse().ok()),
+        None => Ok(None),
+    }
+}
+
+// Runs each family of cases, and answers the checksum.
+fn run<R: Clock + Eprint>(
+    rt: &R,
+    alloc: Global,
+    samples: Option<usize>,
+) -> Result<u64, BenchFault> {
+    let mut meter = Meter::new(rt, alloc, samples);
+    measure_copies(&mut meter, alloc)?;
+    measure_windows(&mut meter, alloc)?;
+    measure_kicks(&mut meter, alloc)?;
+    Ok(meter.checksum())
+}
+
+fn main(rt: HostRuntime) -> ExitCode {
+    let samples = samples_asked(&rt).unwrap_or(None);
+    let printed = match run(&rt, rt.alloc(), samples) {
+        Ok(checksum) => println!(rt; "checksum {checksum}"),
+        Err(fault) => println!(rt; "{fault}"),
+    };
+    ExitCode::from(if printed.is_ok() { 0 } else { 1 })
+}

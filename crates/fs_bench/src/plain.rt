@@ -1,0 +1,55 @@
+//! Plain copies of slices, which the others are compared with.
+
+ghost use Rattle.std.specs.Prelude.{◌≡◌, length};
+
+use crate::fault::BenchFault;
+use crate::measure::{Case, Label, Meter};
+use std::alloc::Global;
+use std::time::Clock;
+
+// How many bytes are copied, under which name, and how often in one sample.
+const COPIES: [(&str, usize, u16); 4] = [
+    ("copy-16", 16, 1 << 15),
+    ("copy-4k", 0x1000, 1 << 12),
+    ("copy-64k", 0x10000, 1 << 8),
+    ("copy-1m", 0x100000, 1 << 4),
+];
+
+// A slice that is copied over another of its length.
+#[derive(Drop)]
+struct SliceCopy {
+    source: Vec<u8>,
+    dest: Vec<u8>,
+    ghost same: { length source.items ≡ length dest.items },
+}
+
+impl Case for SliceCopy {
+    fn prepare(&mut self, _runs: u16) {}
+
+    fn run(&mut self) -> u64 {
+        self.dest.copy_from_slice(&self.source);
+        u64::from(self.dest.last().copied().unwrap_or(0))
+    }
+}
+
+/// Measures copies of each size.
+pub fn measure_copies<R: Clock + Eprint>(
+    meter: &mut Meter<'_, R>,
+    alloc: Global,
+) -> Result<(), BenchFault> {
+    for (name, bytes, runs) in COPIES {
+        let label = Label {
+            kind: "plain",
+            case: name,
+            split: 1,
+            bytes,
+            runs,
+        };
+        let mut case = SliceCopy {
+            source: vec![in alloc; 7; bytes]?,
+            dest: vec![in alloc; 0; bytes]?,
+        };
+        meter.measure(label, &mut case)?;
+    }
+    Ok(())
+}

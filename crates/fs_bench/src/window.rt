@@ -1,0 +1,150 @@
+//! Reads, writes and copies of windows, with their page marks.
+
+ghost use Rattle.vm_memory_core.specs.Host.{host_of, lengths};
+ghost use Rattle.vm_memory_core.specs.Window.{LiesIn};
+ghost use Rattle.fs_bench.specs.Held.{LiesIn-prop};
+
+use crate::fault::BenchFault;
+use crate::measure::{Case, Label, Meter};
+use std::alloc::Global;
+use std::time::Clock;
+use vm_memory_core::{Bytes, HostMemory, PageBitmap, VolatileSlice};
+
+// How many bytes a case moves, under which name, and how often in one sample.
+type Sizes = [(&'static str, usize, u16); 4];
+
+const READS: Sizes = [
+    ("read-16", 16, 1 << 15),
+    ("read-4k", 0x1000, 1 << 12),
+    ("read-64k", 0x10000, 1 << 8),
+    ("read-1m", 0x100000, 1 << 4),
+];
+
+const WRITES: Sizes = [
+    ("write-16", 16, 1 << 15),
+    ("write-4k", 0x1000, 1 << 12),
+    ("write-64k", 0x10000, 1 << 8),
+    ("write-1m", 0x100000, 1 << 4),
+];
+
+const COPIES: Sizes = [
+    ("copy-16", 16, 1 << 15),
+    ("copy-4k", 0x1000, 1 << 12),
+    ("copy-64k", 0x10000, 1 << 8),
+    ("copy-1m", 0x100000, 1 << 4),
+];
+
+fn label(case: &'static str, bytes: usize, runs: u16) -> Label {
+    Label {
+        kind: "window",
+        case,
+        split: 1,
+        bytes,
+        runs,
+    }
+}
+
+// A window of a host, a second one of the same length, and a buffer of that length.
+#[derive(Drop)]
+struct Windows {
+    host: HostMemory<PageBitmap>,
+    first: VolatileSlice,
+    second: VolatileSlice,
+    buffer: Vec<u8>,
+    ghost first_held: { LiesIn (lengths (host_of host)) first } by { LiesIn-prop (lengths (host_of host)) first },
+    ghost second_held: { LiesIn (lengths (host_of host)) second } by { LiesIn-prop (lengths (host_of host)) second },
+}
+
+impl Windows {
+    fn new(alloc: Global, bytes: usize) -> Result<Windows, BenchFault> {
+        let mut host = HostMemory::new(alloc);
+        let buffer = vec![in alloc; 7; bytes]?;
+        let _ = host.new_block(0x100000)?;
+        let _ = host.new_block(0x100000)?;
+        let Some(first) = host.window(0, 0, bytes) else {
+            return Err(BenchFault::Guest);
+        };
+        let Some(second) = host.window(1, 0, bytes) else {
+            return Err(BenchFault::Guest);
+        };
+        Ok(Windows {
+            host,
+            first,
+            second,
+            buffer,
+        })
+    }
+
+    fn read(&mut self) -> u64 {
+        match self.first.read(&self.host, &mut self.buffer, 0) {
+            Ok(count) => count as u64,
+            Err(_) => 0,
+        }
+    }
+
+    fn write(&mut self) -> u64 {
+        match self.first.write(&mut self.host, &self.buffer, 0) {
+            Ok(count) => count as u64,
+            Err(_) => 0,
+        }
+    }
+
+    fn copy(&mut self) -> u64 {
+        self.first
+            .copy_to_volatile_slice(&mut self.host, self.second);
+        self.second.len() as u64
+    }
+}
+
+#[derive(Drop)]
+struct Reading(Windows);
+
+impl Case for Reading {
+    fn prepare(&mut self, _runs: u16) {}
+
+    fn run(&mut self) -> u64 {
+        self.0.read()
+    }
+}
+
+#[derive(Drop)]
+struct Writing(Windows);
+
+impl Case for Writing {
+    fn prepare(&mut self, _runs: u16) {}
+
+    fn run(&mut self) -> u64 {
+        self.0.write()
+    }
+}
+
+#[derive(Drop)]
+struct Copying(Windows);
+
+impl Case for Copying {
+    fn prepare(&mut self, _runs: u16) {}
+
+    fn run(&mut self) -> u64 {
+        self.0.copy()
+    }
+}
+
+/// Measures reads, writes and copies of each size.
+pub fn measure_windows<R: Clock + Eprint>(
+    meter: &mut Meter<'_, R>,
+    alloc: Global,
+) -> Result<(), BenchFault> {
+    for (name, bytes, runs) in READS {
+        let mut case = Reading(Windows::new(alloc, bytes)?);
+        meter.measure(label(name, bytes, runs), &mut case)?;
+    }
+    for (name, bytes, runs) in WRITES {
+        let mut case = Writing(Windows::new(alloc, bytes)?);
+        meter.measure(label(name, bytes, runs), &mut case)?;
+    }
+    for (name, bytes, runs) in COPIES {
+        let mut case = Copying(Windows::new(alloc, bytes)?);
+        meter.measure(label(name, bytes, runs), &mut case)?;
+    }
+    Ok(())
+}
