@@ -1,3 +1,6 @@
 pub mod ServeLemmas
 pub mod StepLemmas
+pub mod KickLemmas
+pub mod RunLemmas
+pub mod GuestLemmas
 pub mod HarvestLemmas

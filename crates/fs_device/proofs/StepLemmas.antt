@@ -25,7 +25,7 @@ set-same [] i q e = refl
 set-same (x ∷ l) zero q e = let is : x ≡ q = cc in ap (λ (y : Queue). y ∷ l) (sym is)
 set-same (x ∷ l) (suc i) q e = ap (λ (r : List Queue). x ∷ r) (set-same l i q e)
 
-abbrev state : Memory → List Queue → ℕ → State
+abbrev pub state : Memory → List Queue → ℕ → State
 state m queues limit = record { memory = m; queues = queues; limit = limit }
 
 unchanged : (m m' : Memory) (limit : ℕ) (queues : List Queue) (i : ℕ) (q q' : Queue) → slice_get queues i ≡ Some q → q' ≡ q → m' ≡ m →

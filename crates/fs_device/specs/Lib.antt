@@ -3,4 +3,8 @@ pub mod Step
 pub mod Copies
 pub mod Views
 pub mod Refusing
+pub mod Run
+pub mod Running
+pub mod Held
+pub mod Machines
 pub mod Examples

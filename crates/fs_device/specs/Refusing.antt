@@ -4,6 +4,8 @@ use Rattle.fs_queue.specs.declared.fault.QueueError.{QueueError}
 use Rattle.fs_queue.specs.declared.fault.QueueError.TheVariants as stop
 use Rattle.fs_device.specs.declared.error.DeviceError.{DeviceError}
 use Rattle.fs_device.specs.declared.error.DeviceError.TheVariants as device
+use Rattle.fs_device.specs.declared.refusal.Refusal.{Refusal}
+use Rattle.fs_device.specs.declared.refusal.Refusal.TheVariants as why
 
 -- a queue's refusals, 1 to 9
 abbrev pub queue_number : QueueError → ℕ
@@ -21,3 +23,9 @@ queue_number stop.OutOfMemory = 9
 abbrev pub refusal_number : DeviceError → ℕ
 refusal_number (device.Queue e) = queue_number e
 refusal_number device.NoSuchQueue = 10
+
+-- a command's refusals
+abbrev pub command_refusal_number : Refusal → ℕ
+command_refusal_number why.NoPlace = 1
+command_refusal_number why.NoSuchQueue = 8
+command_refusal_number why.OutOfMemory = 9

@@ -1,6 +1,6 @@
 //! The device: its queues are served one chain a step.
 
-ghost use Rattle.std.specs.Prelude.{◌≡◌, ◌≤◌, ◌^◌, List, length, slice_get, vec_capacity, [], IfOk, IfSome, option_map};
+ghost use Rattle.std.specs.Prelude.{◌≡◌, ◌≤◌, ◌<◌, ◌^◌, List, length, set, slice_get, vec_capacity, [], IfErr, IfOk, IfSome, None, OnOk, option_map};
 ghost use Rattle.vm_memory_core.specs.Host.{host_of, lengths};
 ghost use Rattle.vm_memory_core.specs.Window.{places};
 ghost use Rattle.vm_memory.specs.Layout.{AreHeld};
@@ -10,9 +10,10 @@ ghost use Rattle.fs_queue.specs.Queue.{Queue};
 ghost use Rattle.fs_queue.specs.Taking.{Asked};
 ghost use Rattle.fs_queue.specs.Held.{IsTaken, TakenLiesIn, room_places};
 
+use crate::command::QueueRun;
 use crate::error::DeviceError;
 use crate::exchange::{Exchange, Fault};
-use fs_queue::{Queue, QueueError, Taken};
+use fs_queue::{Queue, QueueError, QueueLayout, Taken};
 use std::alloc::{AllocError, Global};
 use std::marker::Model;
 use virtiofsd_fuse::Server;
@@ -41,6 +42,9 @@ ghost use Rattle.virtiofsd_fuse.specs.Grammar.{meaning};
 ghost use Rattle.virtiofsd_fuse.specs.Serving.{served};
 ghost use Rattle.fs_device.specs.Step.{Step, served_fault};
 ghost use Rattle.fs_device.specs.Views.{exchange_of, outcome_of, state_of, exchange_for, StepsOne};
+ghost use Rattle.fs_device.specs.Run.{fresh_queue};
+ghost use Rattle.fs_device.specs.Running.{ServesQueue};
+ghost use Rattle.fs_device.specs.declared.error.DeviceError.TheVariants.{NoSuchQueue};
 
 // Asks the server, and puts its reply in an empty buffer with room for it. Nothing is refused from here on.
 fn answer(server: &mut Server, request: &[u8], room: usize, reply: &mut Vec<u8>) -> Option<Fault>
@@ -163,5 +167,47 @@ impl Device {
             Ok(exchanged) => Ok(exchanged),
             Err(error) => Err(DeviceError::Queue(error)),
         }
+    }
+
+    /// Serves the next chains of a queue one after another, until `most` are done, none waits or a step is refused. A missing
+    /// queue is refused first; then comes room for `most` exchanges, where there is no memory for it.
+    pub fn process_queue<B: NewBitmap>(
+        &mut self,
+        alloc: Global,
+        host: &mut HostMemory<B>,
+        mem: &GuestMemoryMmap,
+        queue: usize,
+        most: u16,
+    ) -> Result<QueueRun, DeviceError>
+        requires { AreHeld (lengths (host_of host.old)) mem.now }
+        ensures run { ServesQueue (state_of (host_of host.old) mem.now self.old) queue most result (state_of (host_of host.new) mem.now self.new) }
+        ensures lengths { lengths (host_of host.new) ≡ lengths (host_of host.old) }
+    {
+        if queue >= self.queues.len() {
+            return Err(DeviceError::NoSuchQueue);
+        }
+        let Ok(mut done) = Vec::with_capacity(alloc, usize::from(most)) else {
+            return Err(DeviceError::Queue(QueueError::OutOfMemory));
+        };
+        for _ in 0..most {
+            match self.process_one(alloc, host, mem, queue) {
+                Ok(Some(exchanged)) => done.push(exchanged).unwrap(),
+                Ok(None) => return Ok(QueueRun::ended(done)),
+                Err(error) => return Ok(QueueRun::refused(done, error)),
+            }
+        }
+        Ok(QueueRun::ended(done))
+    }
+
+    /// Begins a queue anew: its position is 0, and it isn't stopped.
+    pub fn reset_queue(&mut self, queue: usize, layout: QueueLayout) -> Result<(), DeviceError>
+        ensures missing { IfErr result (λ e. (e ≡ NoSuchQueue) × (slice_get self.old.queues queue ≡ None) × (self.new ≡ self.old)) }
+        ensures there { OnOk result ((queue < length self.old.queues) × (self.new ≡ record self.old { queues = set self.old.queues queue (fresh_queue layout) })) }
+    {
+        if queue >= self.queues.len() {
+            return Err(DeviceError::NoSuchQueue);
+        }
+        self.queues[queue] = Queue::new(layout);
+        Ok(())
     }
 }

@@ -1,15 +1,22 @@
 //! A virtio-fs device.
 #![tactic(auto)]
 
+pub mod command;
 pub mod copies;
 pub mod device;
 pub mod error;
 pub mod exchange;
+pub mod machine;
+pub mod refusal;
+mod run;
 
+pub use command::{Answer, Command, QueueRun};
 pub use copies::{HarvestedPage, harvest};
 pub use device::Device;
 pub use error::DeviceError;
 pub use exchange::{Exchange, Fault};
+pub use machine::Machine;
+pub use refusal::Refusal;
 
 #[cfg(test)]
 mod tests;

@@ -1,0 +1,59 @@
+-- what a guest reads and writes of its own memory
+use Rattle.std.proofs.Common.{◌≡◌, ℕ, Bool, true, false, ◌+◌, ◌^◌, ◌<◌, ◌≤◌, ◌&&◌, nat_lt, eqb, List, ◌++◌, length, map, take, drop, zip, ap, sym, ◌∙◌, refl, arith}
+use Rattle.std.specs.Prelude.{is_some}
+use Rattle.std.specs.List.{list_all}
+use Rattle.std.proofs.lemmas.Bool.{eqb-true}
+use Rattle.std.proofs.lemmas.Bool.Decides.{nat_tests}
+use Rattle.std.proofs.lemmas.List.{take_all}
+use Rattle.vm_memory_core.specs.declared.permissions.Permissions.{Permissions}
+use Rattle.vm_memory_core.specs.declared.permissions.Permissions.TheVariants.{Read, Write}
+use Rattle.vm_memory_core.specs.Host.{Host}
+use Rattle.vm_memory.specs.Layout.{Region, place}
+use Rattle.vm_memory.specs.Memory.{Memory, memory_of, addresses, circular, reached, reach, byte, bytes, stored_all}
+use Rattle.vm_memory.proofs.Places.{circular-is, length-circular}
+use Rattle.fs_queue.proofs.ReadLemmas.{reach-is, read_all}
+use Rattle.fs_device.specs.Run.{guest_written}
+
+below : (n : ℕ) → n < 2 ^ 64 → nat_lt n (2 ^ 64) ≡ true
+below n h = grind (arith, nat_tests)
+
+above : (n : ℕ) → 2 ^ 64 ≤ n → nat_lt n (2 ^ 64) ≡ false
+above n h = grind (arith, nat_tests)
+
+below_of : (n : ℕ) → nat_lt n (2 ^ 64) ≡ true → n < 2 ^ 64
+below_of n h = grind (arith, nat_tests)
+
+pub reach_fits : (h : Host) (l : List Region) (access : Permissions) (a n : ℕ) → a + n < 2 ^ 64 →
+    list_all (λ (x : ℕ). is_some (place l x)) (circular a n) ≡ reach (memory_of h l) access a n
+reach_fits h l access a n fits = rw (below (a + n) fits, circular-is n a fits) refl
+
+pub reach_wraps : (h : Host) (l : List Region) (access : Permissions) (a n : ℕ) → 2 ^ 64 ≤ a + n → false ≡ reach (memory_of h l) access a n
+reach_wraps h l access a n out = rw (above (a + n) out) refl
+
+both_first : (x y : Bool) → (x && y) ≡ true → x ≡ true
+both_first true y h = refl
+both_first false y h = absurd (cc)
+
+-- a range that is reached ends below 2^64
+pub reach_ends : (h : Host) (l : List Region) (access : Permissions) (a n : ℕ) → reach (memory_of h l) access a n ≡ true → a + n < 2 ^ 64
+reach_ends h l access a n all = below_of (a + n) (both_first (nat_lt (a + n) (2 ^ 64)) _ all)
+
+-- all of it was done
+all_reached : (h : Host) (l : List Region) (a n : ℕ) → reach (memory_of h l) Read a n ≡ true → reached (place l) (circular a n) ≡ n
+all_reached h l a n all = eqb-true _ _ (sym (reach-is h l a n (reach_ends h l Read a n all)) ∙ all)
+
+pub filled : (h : Host) (l : List Region) (a n : ℕ) (old new : List ℕ) → length old ≡ n → reach (memory_of h l) Read a n ≡ true →
+    new ≡ map (byte (memory_of h l)) (take (reached (place l) (circular a n)) (circular a n)) ++ drop (reached (place l) (circular a n)) old →
+    new ≡ bytes (memory_of h l) a n
+filled h l a n old new size all is = read_all (memory_of h l) a n _ old new (reach_ends h l Read a n all) size (all_reached h l a n all) is
+
+pub written : (h h' : Host) (l : List Region) (a : ℕ) (bs : List ℕ) → reach (memory_of h l) Write a (length bs) ≡ true →
+    memory_of h' l ≡ stored_all (memory_of h l) (zip (take (reached (place l) (circular a (length bs))) (circular a (length bs))) bs) →
+    memory_of h' l ≡ guest_written (memory_of h l) a bs
+written h h' l a bs all is =
+    let n = length bs in
+    let whole : take (reached (place l) (circular a n)) (circular a n) ≡ addresses a n =
+    ap (λ (k : ℕ). take k (circular a n)) (all_reached h l a n all) ∙ take_all n (circular a n) (omega (arith, length-circular n a)) ∙ circular-is n a (reach_ends h l Write a n all) in
+    let host : h' ≡ (stored_all (memory_of h l) (zip (addresses a n) bs)).host =
+    ap (λ (m : Memory). m.host) is ∙ ap (λ (as' : List ℕ). (stored_all (memory_of h l) (zip as' bs)).host) whole in
+    ap (λ (x : Host). memory_of x l) host

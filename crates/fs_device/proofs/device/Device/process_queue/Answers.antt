@@ -1,0 +1,40 @@
+use Rattle.std.proofs.Common.{◌≡◌, ◌<◌, ◌-◌, ◌++◌, ◌∷◌, ◌∙◌, [], length, map, arith, ap, sym, refl, subst, rules}
+use Rattle.std.proofs.lemmas.List.{map-append}
+use Rattle.vm_memory_core.specs.Host.{host_of}
+use Rattle.fs_device.specs.Step.{Exchange}
+use Rattle.fs_device.specs.Views.{state_of}
+use Rattle.fs_device.specs.Run.{KickRun}
+use Rattle.fs_device.specs.Running.{turn_of}
+use Rattle.fs_device.proofs.KickLemmas.{ends_idle, ends_refused, ends_full, goes_on}
+use Rattle.fs_device.proofs.device.Device.process_queue.Goals as goal
+
+pub returns-in-Ok-None-clause-run : goal.returns-in-Ok-None-clause-run
+returns-in-Ok-None-clause-run g c = (
+  Prim.search rules,
+  rw c.ended.ensures (ends_idle _ _ _ c.args.queue c.args.most _ _ c.loop.invariant.run (omega arith) (rw c.in-Ok-None.field-0-is at c.in-Ok-None.ensures.step)),
+)
+
+pub returns-in-Err-clause-run : goal.returns-in-Err-clause-run
+returns-in-Err-clause-run g c = (
+  Prim.search rules,
+  rw c.refused.ensures (ends_refused _ _ _ c.args.queue c.args.most _ _ _ c.loop.invariant.run (omega arith) c.in-Err.ensures.step),
+)
+
+pub loop-preserved : goal.loop-preserved
+loop-preserved g c =
+    let pushed : c.push.new.self.items ≡ c.loop.done.items ++ c.in-Ok-Some.exchanged ∷ [] = rw c.unwrap.ensures at c.push.ensures.items in
+    let turns : map turn_of c.push.new.self.items ≡ map turn_of c.loop.done.items ++ turn_of c.in-Ok-Some.exchanged ∷ [] =
+    ap (map turn_of) pushed ∙ map-append turn_of c.loop.done.items (c.in-Ok-Some.exchanged ∷ []) in
+    record {
+  count = Prim.search rules;
+  most = omega arith;
+  room = Prim.search rules;
+  kept = Prim.search rules;
+  run = rw turns (goes_on _ _ _ c.args.queue c.args.most _ _ (map turn_of c.loop.done.items) (turn_of c.in-Ok-Some.exchanged) c.loop.invariant.run (omega (arith, c.loop-test.true)) (rw c.in-Ok-Some.field-0-is at c.in-Ok-Some.ensures.step));
+}
+
+pub returns-clause-run : goal.returns-clause-run
+returns-clause-run g c = (
+  Prim.search rules,
+  rw c.ended-2.ensures (ends_full _ _ c.args.queue c.args.most _ _ c.loop.invariant.run (omega arith)),
+)

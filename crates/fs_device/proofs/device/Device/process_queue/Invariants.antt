@@ -1,0 +1,19 @@
+use Rattle.std.proofs.Common.{◌≡◌, ◌≤◌, ◌-◌, ◌++◌, ℕ, Bool, List, length, map, Option, vec_capacity}
+use Rattle.vm_memory_core.specs.Host.{host_of, lengths}
+use Rattle.fs_device.specs.declared.error.DeviceError.{DeviceError}
+use Rattle.fs_device.specs.Step.{State, Exchange}
+use Rattle.fs_device.specs.Views.{state_of}
+use Rattle.fs_device.specs.Run.{KickRun}
+use Rattle.fs_device.specs.Running.{turn_of}
+use Rattle.fs_device.proofs.device.Device.process_queue.Given as goal
+
+abbrev pub invariant-loop : goal.invariant-loop
+invariant-loop g l = record {
+  count : length l.done.items ≡ l.counter;
+  most : l.counter ≤ l.most;
+  room : l.most ≤ vec_capacity l.done;
+  kept : lengths (host_of l.host) ≡ lengths (host_of l.initial.host);
+  run : (rest : List (Exchange × Bool)) (refused : Option DeviceError) (after : State) →
+      KickRun (state_of (host_of l.host) l.mem l.self) l.queue (l.most - l.counter) rest refused after →
+      KickRun (state_of (host_of l.initial.host) l.mem l.initial.self) l.queue l.most (map turn_of l.done.items ++ rest) refused after;
+}

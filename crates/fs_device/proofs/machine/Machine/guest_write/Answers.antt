@@ -1,0 +1,11 @@
+use Rattle.std.proofs.Common.{◌∙◌, sym, refl}
+use Rattle.fs_device.specs.Run.{effect}
+use Rattle.fs_device.proofs.machine.Machine.guest_write.Goals as goal
+
+pub returns-then-not-reaches : goal.returns-then-not-reaches
+unfolding effect
+returns-then-not-reaches c = rw (sym c.reaches.ensures ∙ c.if-not-reaches.true) refl
+
+pub returns : goal.returns
+unfolding effect
+returns c = rw (sym c.reaches.ensures ∙ c.if-not-reaches.false, c.store.ensures) refl

@@ -1,0 +1,15 @@
+use Rattle.std.proofs.Common.{◌∙◌, sym, refl}
+use Rattle.vm_memory_core.specs.Host.{host_of}
+use Rattle.vm_memory.specs.Memory.{memory_of}
+use Rattle.fs_device.specs.Run.{effect}
+use Rattle.fs_device.proofs.KickLemmas.{reset_there}
+use Rattle.fs_device.proofs.machine.Machine.reset_queue.Goals as goal
+
+pub returns-in-Ok : goal.returns-in-Ok
+unfolding effect
+returns-in-Ok c =
+    rw c.in-Ok.ensures.there.1 (reset_there (memory_of (host_of c.args.self.now.host) c.args.self.now.mem) c.args.self.now.device.queues c.args.self.now.device.limit c.args.queue c.args.layout c.in-Ok.ensures.there.0)
+
+pub returns-in-Err : goal.returns-in-Err
+unfolding effect
+returns-in-Err c = rw (c.in-Err.ensures.missing.1, c.in-Err.ensures.missing.2) refl

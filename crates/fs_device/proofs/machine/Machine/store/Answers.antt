@@ -1,0 +1,11 @@
+use Rattle.std.proofs.Common.{ap}
+use Rattle.vm_memory_core.specs.Host.{host_of}
+use Rattle.vm_memory.specs.Memory.{Memory}
+use Rattle.fs_device.proofs.GuestLemmas.{written}
+use Rattle.fs_device.proofs.StepLemmas.{state}
+use Rattle.fs_device.proofs.machine.Machine.store.Goals as goal
+
+pub returns : goal.returns
+returns c =
+    ap (λ (m : Memory). state m c.args.self.now.device.queues c.args.self.now.device.limit)
+    (written (host_of c.args.self.now.host) (host_of c.write_slice.new.host) c.args.self.now.mem c.args.addr c.args.bytes.now c.requires c.write_slice.ensures.stored)

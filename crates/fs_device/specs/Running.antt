@@ -1,0 +1,37 @@
+-- What the machine's commands, answers and kicks say.
+use Rattle.std.specs.Prelude.{◌≡◌, ◌<◌, ℕ, Bool, List, [], length, map, Option, Some, None, Result, Ok, Err, slice_get}
+use Rattle.fs_queue.specs.declared.fault.QueueError.TheVariants as stop
+use Rattle.fs_device.specs.declared.error.DeviceError.{DeviceError}
+use Rattle.fs_device.specs.declared.error.DeviceError.TheVariants as device
+use Rattle.fs_device.specs.declared.exchange.Exchange as code
+use Rattle.fs_device.specs.declared.command.Command as asked
+use Rattle.fs_device.specs.declared.command.Answer as told
+use Rattle.fs_device.specs.declared.command.QueueRun.{QueueRun}
+use Rattle.fs_device.specs.Step.{State, Exchange}
+use Rattle.fs_device.specs.Run.{Command, GuestRead, GuestWrite, Kick, ResetQueue, Kicked, Answer, Done, Bytes, Served, IsRefused, KickRun}
+use Rattle.fs_device.specs.Views.{exchange_of}
+
+abbrev pub turn_of : code.Exchange × Bool → Exchange × Bool
+turn_of x = (exchange_of x.0, x.1)
+
+abbrev pub kicked_of : QueueRun → Kicked
+kicked_of run = record { exchanges = map turn_of run.done.items; refused = run.refused }
+
+abbrev pub command_of : asked.Command → Command
+command_of (asked.TheVariants.GuestRead a n) = GuestRead a n
+command_of (asked.TheVariants.GuestWrite a bs) = GuestWrite a bs.items
+command_of (asked.TheVariants.Kick queue most) = Kick queue most
+command_of (asked.TheVariants.ResetQueue queue l) = ResetQueue queue l
+
+abbrev pub answer_of : told.Answer → Answer
+answer_of told.TheVariants.Done = Done
+answer_of (told.TheVariants.Bytes bs) = Bytes bs.items
+answer_of (told.TheVariants.Served run) = Served (kicked_of run)
+answer_of (told.TheVariants.Refused why) = IsRefused why
+
+-- what serving a queue's chains answers: of a missing queue that alone, and nothing is done where the exchanges have no room
+abbrev pub ServesQueue : State → (queue most : ℕ) → Result QueueRun DeviceError → State → Type 0
+ServesQueue s i most (Ok run) after = (i < length s.queues) × KickRun s i most (map turn_of run.done.items) run.refused after
+ServesQueue s i most (Err device.NoSuchQueue) after = (slice_get s.queues i ≡ None) × (after ≡ s)
+ServesQueue s i most (Err (device.Queue stop.OutOfMemory)) after = (after ≡ s)
+ServesQueue s i most (Err e) after = ⊥

@@ -1,0 +1,60 @@
+//! What is asked of a machine, and what it answers.
+
+ghost use Rattle.std.specs.Prelude.{◌≡◌, None, Some};
+
+use crate::error::DeviceError;
+use crate::exchange::Exchange;
+use crate::refusal::Refusal;
+use fs_queue::QueueLayout;
+
+/// What a guest or its monitor does.
+#[derive(Debug, Drop)]
+pub enum Command {
+    /// The guest reads `len` bytes from a physical address on, all of them or none.
+    GuestRead { addr: u64, len: usize },
+    /// The guest writes bytes from a physical address on, all of them or none.
+    GuestWrite { addr: u64, bytes: Vec<u8> },
+    /// A queue's chains are served, at most so many.
+    Kick { queue: usize, most: u16 },
+    /// A queue begins anew, with this layout.
+    ResetQueue { queue: usize, layout: QueueLayout },
+}
+
+/// The chains that were exchanged one after another, each with whether the driver is to be told, and why none came after
+/// them, if that is a refusal.
+#[derive(Debug, Drop)]
+pub struct QueueRun {
+    pub done: Vec<(Exchange, bool)>,
+    pub refused: Option<DeviceError>,
+}
+
+impl QueueRun {
+    // Chains after which none waits, or none more was wanted.
+    pub(crate) fn ended(done: Vec<(Exchange, bool)>) -> QueueRun
+        ensures { result ≡ record { done = done; refused = None } }
+    {
+        QueueRun {
+            done,
+            refused: None,
+        }
+    }
+
+    // Chains after which a step was refused.
+    pub(crate) fn refused(done: Vec<(Exchange, bool)>, error: DeviceError) -> QueueRun
+        ensures { result ≡ record { done = done; refused = Some error } }
+    {
+        QueueRun {
+            done,
+            refused: Some(error),
+        }
+    }
+}
+
+/// What a command comes to.
+#[derive(Debug, Drop)]
+pub enum Answer {
+    Done,
+    Bytes(Vec<u8>),
+    Served(QueueRun),
+    Refused(Refusal),
+}

@@ -1,0 +1,31 @@
+//! A guest's memory and the device that serves it, as one machine.
+
+ghost use Rattle.std.specs.Prelude.{◌≡◌};
+ghost use Rattle.vm_memory_core.specs.Host.{host_of, lengths};
+ghost use Rattle.vm_memory.specs.Layout.{AreHeld};
+ghost use Rattle.fs_device.specs.Held.{AreHeld-prop};
+
+use crate::device::Device;
+use vm_memory::GuestMemoryMmap;
+use vm_memory_core::{HostMemory, PageBitmap};
+
+/// A guest's memory and its device. Each event is one command.
+#[derive(Drop)]
+pub struct Machine {
+    pub host: HostMemory<PageBitmap>,
+    pub mem: GuestMemoryMmap,
+    pub device: Device,
+    pub ghost held: { AreHeld (lengths (host_of host)) mem } by { AreHeld-prop (lengths (host_of host)) mem },
+}
+
+impl Machine {
+    /// A machine of a host, a layout over its blocks, and a device.
+    pub fn new(host: HostMemory<PageBitmap>, mem: GuestMemoryMmap, device: Device) -> Machine
+        requires { AreHeld (lengths (host_of host)) mem }
+        ensures host { result.host ≡ host }
+        ensures mem { result.mem ≡ mem }
+        ensures device { result.device ≡ device }
+    {
+        Machine { host, mem, device }
+    }
+}

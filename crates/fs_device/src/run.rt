@@ -1,0 +1,121 @@
+//! A machine does commands one after another.
+
+ghost use Rattle.std.specs.Prelude.{◌≡◌, IfOk, OnErr, true, length, map, zip};
+ghost use Rattle.vm_memory_core.specs.Host.{host_of};
+ghost use Rattle.vm_memory_core.specs.declared.permissions.Permissions.TheVariants.{Read, Write};
+ghost use Rattle.vm_memory.specs.Memory.{memory_of, reach, bytes};
+ghost use Rattle.fs_device.specs.Run.{Run, Performs, GuestRead, GuestWrite, Kick, ResetQueue, guest_written};
+ghost use Rattle.fs_device.specs.Running.{answer_of, command_of};
+ghost use Rattle.fs_device.specs.Machines.{machine_of};
+
+use crate::command::{Answer, Command, QueueRun};
+use crate::error::DeviceError;
+use crate::machine::Machine;
+use crate::refusal::Refusal;
+use fs_queue::QueueLayout;
+use std::alloc::{AllocError, Global};
+use vm_memory_core::{GuestAddress, Permissions};
+
+impl Machine {
+    // Whether the guest reaches that many bytes from an address on.
+    fn reaches(&self, addr: u64, len: usize, access: Permissions) -> bool
+        ensures { result ≡ reach (memory_of (host_of self.now.host) self.now.mem) access addr len }
+    {
+        match addr.checked_add(len as u64) {
+            Some(_) => self.mem.check_range(GuestAddress(addr), len, access),
+            None => false,
+        }
+    }
+
+    // Reads bytes that the guest reaches.
+    fn fill(&self, addr: u64, buffer: &mut [u8])
+        requires { reach (memory_of (host_of self.now.host) self.now.mem) Read addr (length buffer.old) ≡ true }
+        ensures { buffer.new ≡ bytes (memory_of (host_of self.now.host) self.now.mem) addr (length buffer.old) }
+    {
+        let _ = self.mem.read_slice(&self.host, buffer, GuestAddress(addr));
+    }
+
+    // Writes bytes that the guest reaches.
+    fn store(&mut self, addr: u64, bytes: &[u8])
+        requires { reach (memory_of (host_of self.old.host) self.old.mem) Write addr (length bytes.now) ≡ true }
+        ensures { machine_of self.new ≡ record (machine_of self.old) { memory = guest_written (machine_of self.old).memory addr bytes.now } }
+    {
+        let _ = self
+            .mem
+            .write_slice(&mut self.host, bytes, GuestAddress(addr));
+    }
+
+    fn guest_read(&self, alloc: Global, addr: u64, len: usize) -> Answer
+        ensures { Performs (machine_of self.now) (GuestRead addr len) (answer_of result) (machine_of self.now) }
+    {
+        if !self.reaches(addr, len, Permissions::Read) {
+            return Answer::Refused(Refusal::NoPlace);
+        }
+        let Ok(mut bytes) = vec![in alloc; 0u8; len] else {
+            return Answer::Refused(Refusal::OutOfMemory);
+        };
+        self.fill(addr, &mut bytes);
+        Answer::Bytes(bytes)
+    }
+
+    fn guest_write(&mut self, addr: u64, bytes: &[u8]) -> Answer
+        ensures { Performs (machine_of self.old) (GuestWrite addr bytes.now) (answer_of result) (machine_of self.new) }
+    {
+        if !self.reaches(addr, bytes.len(), Permissions::Write) {
+            return Answer::Refused(Refusal::NoPlace);
+        }
+        self.store(addr, bytes);
+        Answer::Done
+    }
+
+    fn kick(&mut self, alloc: Global, queue: usize, most: u16) -> Answer
+        ensures { Performs (machine_of self.old) (Kick queue most) (answer_of result) (machine_of self.new) }
+    {
+        match self
+            .device
+            .process_queue(alloc, &mut self.host, &self.mem, queue, most)
+        {
+            Ok(run) => Answer::Served(run),
+            Err(DeviceError::NoSuchQueue) => Answer::Served(QueueRun::refused(
+                Vec::new(alloc),
+                DeviceError::NoSuchQueue,
+            )),
+            Err(DeviceError::Queue(_)) => Answer::Refused(Refusal::OutOfMemory),
+        }
+    }
+
+    fn reset_queue(&mut self, queue: usize, layout: QueueLayout) -> Answer
+        ensures { Performs (machine_of self.old) (ResetQueue queue layout) (answer_of result) (machine_of self.new) }
+    {
+        match self.device.reset_queue(queue, layout) {
+            Ok(()) => Answer::Done,
+            Err(_) => Answer::Refused(Refusal::NoSuchQueue),
+        }
+    }
+
+    // Does one command.
+    fn perform(&mut self, alloc: Global, command: Command) -> Answer
+        ensures { Performs (machine_of self.old) (command_of command) (answer_of result) (machine_of self.new) }
+    {
+        match command {
+            Command::GuestRead { addr, len } => self.guest_read(alloc, addr, len),
+            Command::GuestWrite { addr, bytes } => self.guest_write(addr, &bytes),
+            Command::Kick { queue, most } => self.kick(alloc, queue, most),
+            Command::ResetQueue { queue, layout } => self.reset_queue(queue, layout),
+        }
+    }
+
+    /// Does commands one after another, and answers each. Room for the answers is made before anything is done.
+    pub fn run(&mut self, alloc: Global, commands: Vec<Command>) -> Result<Vec<Answer>, AllocError>
+        ensures run { IfOk result (λ answers. Run (machine_of self.old) (zip (map command_of commands.items) (map answer_of answers.items)) (machine_of self.new)) }
+        ensures all { IfOk result (λ answers. length answers.items ≡ length commands.items) }
+        ensures err { OnErr result (machine_of self.new ≡ machine_of self.old) }
+    {
+        let mut answers = Vec::with_capacity(alloc, commands.len())?;
+        for command in commands {
+            let answer = self.perform(alloc, command);
+            answers.push(answer).unwrap();
+        }
+        Ok(answers)
+    }
+}
