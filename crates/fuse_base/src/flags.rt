@@ -99,17 +99,15 @@ impl SetattrValid {
     pub const CTIME: Self = FlagSet(1 << 10, PhantomData);
     /// Drop the set-id bits.
     pub const KILL_SUIDGID: Self = FlagSet(1 << 11, PhantomData);
-    // Each under its name.
-    const FLAGS: &'static [Flag<Self>] = named!(SetattrValid;
-        MODE UID GID SIZE ATIME MTIME ATIME_NOW MTIME_NOW CTIME KILL_SUIDGID
-    );
 }
 
 impl FlagNames<u32> for SetattrValidNames {
     ghost table = { setattr_valid };
 
     fn flags<'a>() -> &'a [Flag<SetattrValid>] {
-        SetattrValid::FLAGS
+        named!(SetattrValid;
+            MODE UID GID SIZE ATIME MTIME ATIME_NOW MTIME_NOW CTIME KILL_SUIDGID
+        )
     }
 }
 
@@ -134,17 +132,15 @@ impl OpenOptions {
     pub const NOFLUSH: Self = FlagSet(1 << 5, PhantomData);
     /// Direct writes side by side.
     pub const PARALLEL_DIRECT_WRITES: Self = FlagSet(1 << 6, PhantomData);
-    // Each under its name.
-    const FLAGS: &'static [Flag<Self>] = named!(OpenOptions;
-        DIRECT_IO KEEP_CACHE NONSEEKABLE CACHE_DIR STREAM NOFLUSH PARALLEL_DIRECT_WRITES
-    );
 }
 
 impl FlagNames<u32> for OpenOptionsNames {
     ghost table = { open_options };
 
     fn flags<'a>() -> &'a [Flag<OpenOptions>] {
-        OpenOptions::FLAGS
+        named!(OpenOptions;
+            DIRECT_IO KEEP_CACHE NONSEEKABLE CACHE_DIR STREAM NOFLUSH PARALLEL_DIRECT_WRITES
+        )
     }
 }
 
@@ -169,18 +165,16 @@ impl IoctlFlags {
     pub const IOCTL_COMPAT_X32: Self = FlagSet(1 << 5, PhantomData);
     /// The bit of the greatest number of windows.
     pub const IOCTL_MAX_IOV: Self = FlagSet(1 << 8, PhantomData);
-    // Each under its name.
-    const FLAGS: &'static [Flag<Self>] = named!(IoctlFlags;
-        IOCTL_COMPAT IOCTL_UNRESTRICTED IOCTL_RETRY IOCTL_32BIT IOCTL_DIR IOCTL_COMPAT_X32
-        IOCTL_MAX_IOV
-    );
 }
 
 impl FlagNames<u32> for IoctlFlagsNames {
     ghost table = { ioctl_flags };
 
     fn flags<'a>() -> &'a [Flag<IoctlFlags>] {
-        IoctlFlags::FLAGS
+        named!(IoctlFlags;
+            IOCTL_COMPAT IOCTL_UNRESTRICTED IOCTL_RETRY IOCTL_32BIT IOCTL_DIR IOCTL_COMPAT_X32
+            IOCTL_MAX_IOV
+        )
     }
 }
 
@@ -193,15 +187,13 @@ pub type SetxattrFlags = FlagSet<u32, SetxattrFlagsNames>;
 impl SetxattrFlags {
     /// Drop the set-group-id bit where an ACL is set.
     pub const SETXATTR_ACL_KILL_SGID: Self = FlagSet(1 << 0, PhantomData);
-    // Each under its name.
-    const FLAGS: &'static [Flag<Self>] = named!(SetxattrFlags; SETXATTR_ACL_KILL_SGID);
 }
 
 impl FlagNames<u32> for SetxattrFlagsNames {
     ghost table = { setxattr_flags };
 
     fn flags<'a>() -> &'a [Flag<SetxattrFlags>] {
-        SetxattrFlags::FLAGS
+        named!(SetxattrFlags; SETXATTR_ACL_KILL_SGID)
     }
 }
 
@@ -214,15 +206,13 @@ pub type NotifyInvalEntryOutFlags = FlagSet<u32, NotifyInvalEntryOutFlagsNames>;
 impl NotifyInvalEntryOutFlags {
     /// It expires and is not dropped.
     pub const EXPIRE_ONLY: Self = FlagSet(1 << 0, PhantomData);
-    // Each under its name.
-    const FLAGS: &'static [Flag<Self>] = named!(NotifyInvalEntryOutFlags; EXPIRE_ONLY);
 }
 
 impl FlagNames<u32> for NotifyInvalEntryOutFlagsNames {
     ghost table = { notify_inval_entry_out_flags };
 
     fn flags<'a>() -> &'a [Flag<NotifyInvalEntryOutFlags>] {
-        NotifyInvalEntryOutFlags::FLAGS
+        named!(NotifyInvalEntryOutFlags; EXPIRE_ONLY)
     }
 }
 
@@ -237,15 +227,13 @@ impl SetupmappingFlags {
     pub const WRITE: Self = FlagSet(1 << 0, PhantomData);
     /// It may be read.
     pub const READ: Self = FlagSet(1 << 1, PhantomData);
-    // Each under its name.
-    const FLAGS: &'static [Flag<Self>] = named!(SetupmappingFlags; WRITE READ);
 }
 
 impl FlagNames<u64> for SetupmappingFlagsNames {
     ghost table = { setupmapping_flags };
 
     fn flags<'a>() -> &'a [Flag<SetupmappingFlags>] {
-        SetupmappingFlags::FLAGS
+        named!(SetupmappingFlags; WRITE READ)
     }
 }
 
@@ -344,22 +332,20 @@ impl FsOptions {
             | Self::ALLOW_IDMAP.0,
         PhantomData,
     );
-    // Each under its name.
-    const FLAGS: &'static [Flag<Self>] = named!(FsOptions;
-        ASYNC_READ POSIX_LOCKS FILE_OPS ATOMIC_O_TRUNC EXPORT_SUPPORT BIG_WRITES DONT_MASK
-        SPLICE_WRITE SPLICE_MOVE SPLICE_READ FLOCK_LOCKS HAS_IOCTL_DIR AUTO_INVAL_DATA
-        DO_READDIRPLUS READDIRPLUS_AUTO ASYNC_DIO WRITEBACK_CACHE ZERO_MESSAGE_OPEN
-        PARALLEL_DIROPS HANDLE_KILLPRIV POSIX_ACL ABORT_ERROR MAX_PAGES CACHE_SYMLINKS
-        ZERO_MESSAGE_OPENDIR EXPLICIT_INVAL_DATA SUBMOUNTS HANDLE_KILLPRIV_V2 SETXATTR_EXT
-        INIT_EXT INIT_RESERVED SECURITY_CTX HAS_INODE_DAX CREATE_SUPP_GROUP DIRECT_IO_ALLOW_MMAP
-        ALLOW_IDMAP
-    );
 }
 
 impl FlagNames<u64> for FsOptionsNames {
     ghost table = { fs_options };
 
     fn flags<'a>() -> &'a [Flag<FsOptions>] {
-        FsOptions::FLAGS
+        named!(FsOptions;
+            ASYNC_READ POSIX_LOCKS FILE_OPS ATOMIC_O_TRUNC EXPORT_SUPPORT BIG_WRITES DONT_MASK
+            SPLICE_WRITE SPLICE_MOVE SPLICE_READ FLOCK_LOCKS HAS_IOCTL_DIR AUTO_INVAL_DATA
+            DO_READDIRPLUS READDIRPLUS_AUTO ASYNC_DIO WRITEBACK_CACHE ZERO_MESSAGE_OPEN
+            PARALLEL_DIROPS HANDLE_KILLPRIV POSIX_ACL ABORT_ERROR MAX_PAGES CACHE_SYMLINKS
+            ZERO_MESSAGE_OPENDIR EXPLICIT_INVAL_DATA SUBMOUNTS HANDLE_KILLPRIV_V2 SETXATTR_EXT
+            INIT_EXT INIT_RESERVED SECURITY_CTX HAS_INODE_DAX CREATE_SUPP_GROUP DIRECT_IO_ALLOW_MMAP
+            ALLOW_IDMAP
+        )
     }
 }
