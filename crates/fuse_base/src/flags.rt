@@ -1,10 +1,12 @@
 //! Sets of flags.
 
-ghost use Rattle.std.specs.Prelude.{⊤, ◌≡◌};
+ghost use Rattle.std.specs.Prelude.{⊤, ◌≡◌, List, map};
 ghost use Rattle.std.specs.Int.RustNames.{bit_and, bit_or};
+ghost use Rattle.bitflags.specs.Sets.{Row};
 ghost use Rattle.fuse_base.specs.Flags.{setattr_valid, open_options, ioctl_flags, setxattr_flags, notify_inval_entry_out_flags, setupmapping_flags, fs_options};
 
-use bitflags::{Flag, Flags};
+use bitflags::{Bits, Flag, Flags};
+use std::marker::PhantomData;
 use std::ops::{BitAnd, BitOr};
 
 // Flags under their names.
@@ -14,454 +16,308 @@ macro_rules! named {
     };
 }
 
+/// Which flags a set is of.
+pub trait FlagNames<B: Bits>: Sized {
+    // Their names and bits.
+    ghost table: { List Row };
+
+    /// Each flag under its name.
+    fn flags<'a>() -> &'a [Flag<FlagSet<B, Self>>]
+        ensures { map (λ f. (f.name.now, B.pattern f.value.0)) result.now ≡ table };
+}
+
+/// A set of the flags that `N` names, as the bits of a number.
+#[derive_where(Clone, Copy, Debug, PartialEq, Eq; B)]
+pub struct FlagSet<B, N>(B, PhantomData<N>);
+
+impl<B: Bits + Copy, N: FlagNames<B>> Flags for FlagSet<B, N> {
+    type Bits = B;
+
+    ghost exact = { ⊤ };
+
+    ghost table = { N.table };
+
+    ghost set_of = { λ x. B.pattern x.0 };
+
+    fn flags<'a>() -> &'a [Flag<Self>] {
+        N::flags()
+    }
+
+    fn bits(&self) -> B {
+        self.0
+    }
+
+    fn from_bits_retain(bits: B) -> Self {
+        FlagSet(bits, PhantomData)
+    }
+}
+
+impl<B: Bits, N> BitOr for FlagSet<B, N> {
+    type Output = Self;
+
+    ghost bitor_gives = { λ x y r. B.pattern r.0 ≡ bit_or (B.pattern x.0) (B.pattern y.0) };
+
+    fn bitor(self, other: Self) -> Self {
+        FlagSet(self.0 | other.0, PhantomData)
+    }
+}
+
+impl<B: Bits, N> BitAnd for FlagSet<B, N> {
+    type Output = Self;
+
+    ghost bitand_gives = { λ x y r. B.pattern r.0 ≡ bit_and (B.pattern x.0) (B.pattern y.0) };
+
+    fn bitand(self, other: Self) -> Self {
+        FlagSet(self.0 & other.0, PhantomData)
+    }
+}
+
+/// The flags of `SetattrValid`.
+pub struct SetattrValidNames;
+
 /// Which fields of a `SetattrIn` are meant (`FATTR_` in linux/fuse.h).
-#[derive(Clone, Copy, Debug, PartialEq, Eq)]
-pub struct SetattrValid(u32);
+pub type SetattrValid = FlagSet<u32, SetattrValidNames>;
 
 impl SetattrValid {
     /// The mode.
-    pub const MODE: Self = Self(1 << 0);
+    pub const MODE: Self = FlagSet(1 << 0, PhantomData);
     /// The user.
-    pub const UID: Self = Self(1 << 1);
+    pub const UID: Self = FlagSet(1 << 1, PhantomData);
     /// The group.
-    pub const GID: Self = Self(1 << 2);
+    pub const GID: Self = FlagSet(1 << 2, PhantomData);
     /// The size.
-    pub const SIZE: Self = Self(1 << 3);
+    pub const SIZE: Self = FlagSet(1 << 3, PhantomData);
     /// The time of access.
-    pub const ATIME: Self = Self(1 << 4);
+    pub const ATIME: Self = FlagSet(1 << 4, PhantomData);
     /// The time of change.
-    pub const MTIME: Self = Self(1 << 5);
+    pub const MTIME: Self = FlagSet(1 << 5, PhantomData);
     /// The time of access is now.
-    pub const ATIME_NOW: Self = Self(1 << 7);
+    pub const ATIME_NOW: Self = FlagSet(1 << 7, PhantomData);
     /// The time of change is now.
-    pub const MTIME_NOW: Self = Self(1 << 8);
+    pub const MTIME_NOW: Self = FlagSet(1 << 8, PhantomData);
     /// The time of the last change of the node.
-    pub const CTIME: Self = Self(1 << 10);
+    pub const CTIME: Self = FlagSet(1 << 10, PhantomData);
     /// Drop the set-id bits.
-    pub const KILL_SUIDGID: Self = Self(1 << 11);
-    // Each under its name.
-    const FLAGS: &'static [Flag<Self>] = named!(SetattrValid;
-        MODE UID GID SIZE ATIME MTIME ATIME_NOW MTIME_NOW CTIME KILL_SUIDGID
-    );
+    pub const KILL_SUIDGID: Self = FlagSet(1 << 11, PhantomData);
 }
 
-impl Flags for SetattrValid {
-    type Bits = u32;
-
-    ghost exact = { ⊤ };
-
+impl FlagNames<u32> for SetattrValidNames {
     ghost table = { setattr_valid };
 
-    ghost set_of = { λ x. x.0 };
-
-    fn flags<'a>() -> &'a [Flag<Self>] {
-        Self::FLAGS
-    }
-
-    fn bits(&self) -> u32 {
-        self.0
-    }
-
-    fn from_bits_retain(bits: u32) -> Self {
-        Self(bits)
+    fn flags<'a>() -> &'a [Flag<SetattrValid>] {
+        named!(SetattrValid;
+            MODE UID GID SIZE ATIME MTIME ATIME_NOW MTIME_NOW CTIME KILL_SUIDGID
+        )
     }
 }
 
-impl BitOr for SetattrValid {
-    type Output = Self;
-
-    ghost bitor_gives = { λ x y r. r.0 ≡ bit_or x.0 y.0 };
-
-    fn bitor(self, other: Self) -> Self {
-        Self(self.0 | other.0)
-    }
-}
-
-impl BitAnd for SetattrValid {
-    type Output = Self;
-
-    ghost bitand_gives = { λ x y r. r.0 ≡ bit_and x.0 y.0 };
-
-    fn bitand(self, other: Self) -> Self {
-        Self(self.0 & other.0)
-    }
-}
+/// The flags of `OpenOptions`.
+pub struct OpenOptionsNames;
 
 /// How an open file is treated (`FOPEN_` in linux/fuse.h).
-#[derive(Clone, Copy, Debug, PartialEq, Eq)]
-pub struct OpenOptions(u32);
+pub type OpenOptions = FlagSet<u32, OpenOptionsNames>;
 
 impl OpenOptions {
     /// Past the page cache.
-    pub const DIRECT_IO: Self = Self(1 << 0);
+    pub const DIRECT_IO: Self = FlagSet(1 << 0, PhantomData);
     /// What is cached stays.
-    pub const KEEP_CACHE: Self = Self(1 << 1);
+    pub const KEEP_CACHE: Self = FlagSet(1 << 1, PhantomData);
     /// It has no position.
-    pub const NONSEEKABLE: Self = Self(1 << 2);
+    pub const NONSEEKABLE: Self = FlagSet(1 << 2, PhantomData);
     /// A directory may be cached.
-    pub const CACHE_DIR: Self = Self(1 << 3);
+    pub const CACHE_DIR: Self = FlagSet(1 << 3, PhantomData);
     /// A stream, with no position at all.
-    pub const STREAM: Self = Self(1 << 4);
+    pub const STREAM: Self = FlagSet(1 << 4, PhantomData);
     /// No flush at a close.
-    pub const NOFLUSH: Self = Self(1 << 5);
+    pub const NOFLUSH: Self = FlagSet(1 << 5, PhantomData);
     /// Direct writes side by side.
-    pub const PARALLEL_DIRECT_WRITES: Self = Self(1 << 6);
-    // Each under its name.
-    const FLAGS: &'static [Flag<Self>] = named!(OpenOptions;
-        DIRECT_IO KEEP_CACHE NONSEEKABLE CACHE_DIR STREAM NOFLUSH PARALLEL_DIRECT_WRITES
-    );
+    pub const PARALLEL_DIRECT_WRITES: Self = FlagSet(1 << 6, PhantomData);
 }
 
-impl Flags for OpenOptions {
-    type Bits = u32;
-
-    ghost exact = { ⊤ };
-
+impl FlagNames<u32> for OpenOptionsNames {
     ghost table = { open_options };
 
-    ghost set_of = { λ x. x.0 };
-
-    fn flags<'a>() -> &'a [Flag<Self>] {
-        Self::FLAGS
-    }
-
-    fn bits(&self) -> u32 {
-        self.0
-    }
-
-    fn from_bits_retain(bits: u32) -> Self {
-        Self(bits)
+    fn flags<'a>() -> &'a [Flag<OpenOptions>] {
+        named!(OpenOptions;
+            DIRECT_IO KEEP_CACHE NONSEEKABLE CACHE_DIR STREAM NOFLUSH PARALLEL_DIRECT_WRITES
+        )
     }
 }
 
-impl BitOr for OpenOptions {
-    type Output = Self;
-
-    ghost bitor_gives = { λ x y r. r.0 ≡ bit_or x.0 y.0 };
-
-    fn bitor(self, other: Self) -> Self {
-        Self(self.0 | other.0)
-    }
-}
-
-impl BitAnd for OpenOptions {
-    type Output = Self;
-
-    ghost bitand_gives = { λ x y r. r.0 ≡ bit_and x.0 y.0 };
-
-    fn bitand(self, other: Self) -> Self {
-        Self(self.0 & other.0)
-    }
-}
+/// The flags of `IoctlFlags`.
+pub struct IoctlFlagsNames;
 
 /// How an ioctl is sent and answered (`FUSE_IOCTL_` in linux/fuse.h).
-#[derive(Clone, Copy, Debug, PartialEq, Eq)]
-pub struct IoctlFlags(u32);
+pub type IoctlFlags = FlagSet<u32, IoctlFlagsNames>;
 
 impl IoctlFlags {
     /// A call of 32 bits on a machine of 64.
-    pub const IOCTL_COMPAT: Self = Self(1 << 0);
+    pub const IOCTL_COMPAT: Self = FlagSet(1 << 0, PhantomData);
     /// Any argument, with retries.
-    pub const IOCTL_UNRESTRICTED: Self = Self(1 << 1);
+    pub const IOCTL_UNRESTRICTED: Self = FlagSet(1 << 1, PhantomData);
     /// Try again with these windows.
-    pub const IOCTL_RETRY: Self = Self(1 << 2);
+    pub const IOCTL_RETRY: Self = FlagSet(1 << 2, PhantomData);
     /// A call of 32 bits.
-    pub const IOCTL_32BIT: Self = Self(1 << 3);
+    pub const IOCTL_32BIT: Self = FlagSet(1 << 3, PhantomData);
     /// It is a directory.
-    pub const IOCTL_DIR: Self = Self(1 << 4);
+    pub const IOCTL_DIR: Self = FlagSet(1 << 4, PhantomData);
     /// A call of x32 on a machine of 64.
-    pub const IOCTL_COMPAT_X32: Self = Self(1 << 5);
+    pub const IOCTL_COMPAT_X32: Self = FlagSet(1 << 5, PhantomData);
     /// The bit of the greatest number of windows.
-    pub const IOCTL_MAX_IOV: Self = Self(1 << 8);
-    // Each under its name.
-    const FLAGS: &'static [Flag<Self>] = named!(IoctlFlags;
-        IOCTL_COMPAT IOCTL_UNRESTRICTED IOCTL_RETRY IOCTL_32BIT IOCTL_DIR IOCTL_COMPAT_X32
-        IOCTL_MAX_IOV
-    );
+    pub const IOCTL_MAX_IOV: Self = FlagSet(1 << 8, PhantomData);
 }
 
-impl Flags for IoctlFlags {
-    type Bits = u32;
-
-    ghost exact = { ⊤ };
-
+impl FlagNames<u32> for IoctlFlagsNames {
     ghost table = { ioctl_flags };
 
-    ghost set_of = { λ x. x.0 };
-
-    fn flags<'a>() -> &'a [Flag<Self>] {
-        Self::FLAGS
-    }
-
-    fn bits(&self) -> u32 {
-        self.0
-    }
-
-    fn from_bits_retain(bits: u32) -> Self {
-        Self(bits)
+    fn flags<'a>() -> &'a [Flag<IoctlFlags>] {
+        named!(IoctlFlags;
+            IOCTL_COMPAT IOCTL_UNRESTRICTED IOCTL_RETRY IOCTL_32BIT IOCTL_DIR IOCTL_COMPAT_X32
+            IOCTL_MAX_IOV
+        )
     }
 }
 
-impl BitOr for IoctlFlags {
-    type Output = Self;
-
-    ghost bitor_gives = { λ x y r. r.0 ≡ bit_or x.0 y.0 };
-
-    fn bitor(self, other: Self) -> Self {
-        Self(self.0 | other.0)
-    }
-}
-
-impl BitAnd for IoctlFlags {
-    type Output = Self;
-
-    ghost bitand_gives = { λ x y r. r.0 ≡ bit_and x.0 y.0 };
-
-    fn bitand(self, other: Self) -> Self {
-        Self(self.0 & other.0)
-    }
-}
+/// The flags of `SetxattrFlags`.
+pub struct SetxattrFlagsNames;
 
 /// What a setxattr does beside its work (`FUSE_SETXATTR_` in linux/fuse.h).
-#[derive(Clone, Copy, Debug, PartialEq, Eq)]
-pub struct SetxattrFlags(u32);
+pub type SetxattrFlags = FlagSet<u32, SetxattrFlagsNames>;
 
 impl SetxattrFlags {
     /// Drop the set-group-id bit where an ACL is set.
-    pub const SETXATTR_ACL_KILL_SGID: Self = Self(1 << 0);
-    // Each under its name.
-    const FLAGS: &'static [Flag<Self>] = named!(SetxattrFlags; SETXATTR_ACL_KILL_SGID);
+    pub const SETXATTR_ACL_KILL_SGID: Self = FlagSet(1 << 0, PhantomData);
 }
 
-impl Flags for SetxattrFlags {
-    type Bits = u32;
-
-    ghost exact = { ⊤ };
-
+impl FlagNames<u32> for SetxattrFlagsNames {
     ghost table = { setxattr_flags };
 
-    ghost set_of = { λ x. x.0 };
-
-    fn flags<'a>() -> &'a [Flag<Self>] {
-        Self::FLAGS
-    }
-
-    fn bits(&self) -> u32 {
-        self.0
-    }
-
-    fn from_bits_retain(bits: u32) -> Self {
-        Self(bits)
+    fn flags<'a>() -> &'a [Flag<SetxattrFlags>] {
+        named!(SetxattrFlags; SETXATTR_ACL_KILL_SGID)
     }
 }
 
-impl BitOr for SetxattrFlags {
-    type Output = Self;
-
-    ghost bitor_gives = { λ x y r. r.0 ≡ bit_or x.0 y.0 };
-
-    fn bitor(self, other: Self) -> Self {
-        Self(self.0 | other.0)
-    }
-}
-
-impl BitAnd for SetxattrFlags {
-    type Output = Self;
-
-    ghost bitand_gives = { λ x y r. r.0 ≡ bit_and x.0 y.0 };
-
-    fn bitand(self, other: Self) -> Self {
-        Self(self.0 & other.0)
-    }
-}
+/// The flags of `NotifyInvalEntryOutFlags`.
+pub struct NotifyInvalEntryOutFlagsNames;
 
 /// How an entry is made invalid (`FUSE_EXPIRE_ONLY` in linux/fuse.h).
-#[derive(Clone, Copy, Debug, PartialEq, Eq)]
-pub struct NotifyInvalEntryOutFlags(u32);
+pub type NotifyInvalEntryOutFlags = FlagSet<u32, NotifyInvalEntryOutFlagsNames>;
 
 impl NotifyInvalEntryOutFlags {
     /// It expires and is not dropped.
-    pub const EXPIRE_ONLY: Self = Self(1 << 0);
-    // Each under its name.
-    const FLAGS: &'static [Flag<Self>] = named!(NotifyInvalEntryOutFlags; EXPIRE_ONLY);
+    pub const EXPIRE_ONLY: Self = FlagSet(1 << 0, PhantomData);
 }
 
-impl Flags for NotifyInvalEntryOutFlags {
-    type Bits = u32;
-
-    ghost exact = { ⊤ };
-
+impl FlagNames<u32> for NotifyInvalEntryOutFlagsNames {
     ghost table = { notify_inval_entry_out_flags };
 
-    ghost set_of = { λ x. x.0 };
-
-    fn flags<'a>() -> &'a [Flag<Self>] {
-        Self::FLAGS
-    }
-
-    fn bits(&self) -> u32 {
-        self.0
-    }
-
-    fn from_bits_retain(bits: u32) -> Self {
-        Self(bits)
+    fn flags<'a>() -> &'a [Flag<NotifyInvalEntryOutFlags>] {
+        named!(NotifyInvalEntryOutFlags; EXPIRE_ONLY)
     }
 }
 
-impl BitOr for NotifyInvalEntryOutFlags {
-    type Output = Self;
-
-    ghost bitor_gives = { λ x y r. r.0 ≡ bit_or x.0 y.0 };
-
-    fn bitor(self, other: Self) -> Self {
-        Self(self.0 | other.0)
-    }
-}
-
-impl BitAnd for NotifyInvalEntryOutFlags {
-    type Output = Self;
-
-    ghost bitand_gives = { λ x y r. r.0 ≡ bit_and x.0 y.0 };
-
-    fn bitand(self, other: Self) -> Self {
-        Self(self.0 & other.0)
-    }
-}
+/// The flags of `SetupmappingFlags`.
+pub struct SetupmappingFlagsNames;
 
 /// What a mapping allows (`FUSE_SETUPMAPPING_FLAG_` in linux/fuse.h).
-#[derive(Clone, Copy, Debug, PartialEq, Eq)]
-pub struct SetupmappingFlags(u64);
+pub type SetupmappingFlags = FlagSet<u64, SetupmappingFlagsNames>;
 
 impl SetupmappingFlags {
     /// It may be written.
-    pub const WRITE: Self = Self(1 << 0);
+    pub const WRITE: Self = FlagSet(1 << 0, PhantomData);
     /// It may be read.
-    pub const READ: Self = Self(1 << 1);
-    // Each under its name.
-    const FLAGS: &'static [Flag<Self>] = named!(SetupmappingFlags; WRITE READ);
+    pub const READ: Self = FlagSet(1 << 1, PhantomData);
 }
 
-impl Flags for SetupmappingFlags {
-    type Bits = u64;
-
-    ghost exact = { ⊤ };
-
+impl FlagNames<u64> for SetupmappingFlagsNames {
     ghost table = { setupmapping_flags };
 
-    ghost set_of = { λ x. x.0 };
-
-    fn flags<'a>() -> &'a [Flag<Self>] {
-        Self::FLAGS
-    }
-
-    fn bits(&self) -> u64 {
-        self.0
-    }
-
-    fn from_bits_retain(bits: u64) -> Self {
-        Self(bits)
+    fn flags<'a>() -> &'a [Flag<SetupmappingFlags>] {
+        named!(SetupmappingFlags; WRITE READ)
     }
 }
 
-impl BitOr for SetupmappingFlags {
-    type Output = Self;
-
-    ghost bitor_gives = { λ x y r. r.0 ≡ bit_or x.0 y.0 };
-
-    fn bitor(self, other: Self) -> Self {
-        Self(self.0 | other.0)
-    }
-}
-
-impl BitAnd for SetupmappingFlags {
-    type Output = Self;
-
-    ghost bitand_gives = { λ x y r. r.0 ≡ bit_and x.0 y.0 };
-
-    fn bitand(self, other: Self) -> Self {
-        Self(self.0 & other.0)
-    }
-}
+/// The flags of `FsOptions`.
+pub struct FsOptionsNames;
 
 /// What the two sides can agree on (the flags of `struct fuse_init_in`, the low half and the high half).
-#[derive(Clone, Copy, Debug, PartialEq, Eq)]
-pub struct FsOptions(u64);
+pub type FsOptions = FlagSet<u64, FsOptionsNames>;
 
 impl FsOptions {
     /// Reads side by side.
-    pub const ASYNC_READ: Self = Self(1 << 0);
+    pub const ASYNC_READ: Self = FlagSet(1 << 0, PhantomData);
     /// Locks of records are served.
-    pub const POSIX_LOCKS: Self = Self(1 << 1);
+    pub const POSIX_LOCKS: Self = FlagSet(1 << 1, PhantomData);
     /// Handles come with attributes.
-    pub const FILE_OPS: Self = Self(1 << 2);
+    pub const FILE_OPS: Self = FlagSet(1 << 2, PhantomData);
     /// An open truncates.
-    pub const ATOMIC_O_TRUNC: Self = Self(1 << 3);
+    pub const ATOMIC_O_TRUNC: Self = FlagSet(1 << 3, PhantomData);
     /// `.` and `..` are looked up.
-    pub const EXPORT_SUPPORT: Self = Self(1 << 4);
+    pub const EXPORT_SUPPORT: Self = FlagSet(1 << 4, PhantomData);
     /// Writes above 4 KiB.
-    pub const BIG_WRITES: Self = Self(1 << 5);
+    pub const BIG_WRITES: Self = FlagSet(1 << 5, PhantomData);
     /// The umask is left to the server.
-    pub const DONT_MASK: Self = Self(1 << 6);
+    pub const DONT_MASK: Self = FlagSet(1 << 6, PhantomData);
     /// Splices into the device.
-    pub const SPLICE_WRITE: Self = Self(1 << 7);
+    pub const SPLICE_WRITE: Self = FlagSet(1 << 7, PhantomData);
     /// Splices that move pages.
-    pub const SPLICE_MOVE: Self = Self(1 << 8);
+    pub const SPLICE_MOVE: Self = FlagSet(1 << 8, PhantomData);
     /// Splices out of the device.
-    pub const SPLICE_READ: Self = Self(1 << 9);
+    pub const SPLICE_READ: Self = FlagSet(1 << 9, PhantomData);
     /// Locks of whole files are served.
-    pub const FLOCK_LOCKS: Self = Self(1 << 10);
+    pub const FLOCK_LOCKS: Self = FlagSet(1 << 10, PhantomData);
     /// An ioctl on a directory.
-    pub const HAS_IOCTL_DIR: Self = Self(1 << 11);
+    pub const HAS_IOCTL_DIR: Self = FlagSet(1 << 11, PhantomData);
     /// Cached pages go as a time changes.
-    pub const AUTO_INVAL_DATA: Self = Self(1 << 12);
+    pub const AUTO_INVAL_DATA: Self = FlagSet(1 << 12, PhantomData);
     /// READDIRPLUS is served.
-    pub const DO_READDIRPLUS: Self = Self(1 << 13);
+    pub const DO_READDIRPLUS: Self = FlagSet(1 << 13, PhantomData);
     /// READDIRPLUS where it pays.
-    pub const READDIRPLUS_AUTO: Self = Self(1 << 14);
+    pub const READDIRPLUS_AUTO: Self = FlagSet(1 << 14, PhantomData);
     /// Direct calls side by side.
-    pub const ASYNC_DIO: Self = Self(1 << 15);
+    pub const ASYNC_DIO: Self = FlagSet(1 << 15, PhantomData);
     /// Writes gather in the cache.
-    pub const WRITEBACK_CACHE: Self = Self(1 << 16);
+    pub const WRITEBACK_CACHE: Self = FlagSet(1 << 16, PhantomData);
     /// OPEN may be left out.
-    pub const ZERO_MESSAGE_OPEN: Self = Self(1 << 17);
+    pub const ZERO_MESSAGE_OPEN: Self = FlagSet(1 << 17, PhantomData);
     /// Lookups and lists side by side.
-    pub const PARALLEL_DIROPS: Self = Self(1 << 18);
+    pub const PARALLEL_DIROPS: Self = FlagSet(1 << 18, PhantomData);
     /// The server drops set-id bits.
-    pub const HANDLE_KILLPRIV: Self = Self(1 << 19);
+    pub const HANDLE_KILLPRIV: Self = FlagSet(1 << 19, PhantomData);
     /// ACLs are served.
-    pub const POSIX_ACL: Self = Self(1 << 20);
+    pub const POSIX_ACL: Self = FlagSet(1 << 20, PhantomData);
     /// An abort is told from an end.
-    pub const ABORT_ERROR: Self = Self(1 << 21);
+    pub const ABORT_ERROR: Self = FlagSet(1 << 21, PhantomData);
     /// `max_pages` is meant.
-    pub const MAX_PAGES: Self = Self(1 << 22);
+    pub const MAX_PAGES: Self = FlagSet(1 << 22, PhantomData);
     /// Links are cached.
-    pub const CACHE_SYMLINKS: Self = Self(1 << 23);
+    pub const CACHE_SYMLINKS: Self = FlagSet(1 << 23, PhantomData);
     /// OPENDIR may be left out.
-    pub const ZERO_MESSAGE_OPENDIR: Self = Self(1 << 24);
+    pub const ZERO_MESSAGE_OPENDIR: Self = FlagSet(1 << 24, PhantomData);
     /// Cached pages go at a notice alone.
-    pub const EXPLICIT_INVAL_DATA: Self = Self(1 << 25);
+    pub const EXPLICIT_INVAL_DATA: Self = FlagSet(1 << 25, PhantomData);
     /// Other mounts are marked.
-    pub const SUBMOUNTS: Self = Self(1 << 27);
+    pub const SUBMOUNTS: Self = FlagSet(1 << 27, PhantomData);
     /// The server drops set-id bits when told.
-    pub const HANDLE_KILLPRIV_V2: Self = Self(1 << 28);
+    pub const HANDLE_KILLPRIV_V2: Self = FlagSet(1 << 28, PhantomData);
     /// SETXATTR has its longer record.
-    pub const SETXATTR_EXT: Self = Self(1 << 29);
+    pub const SETXATTR_EXT: Self = FlagSet(1 << 29, PhantomData);
     /// INIT has its longer record.
-    pub const INIT_EXT: Self = Self(1 << 30);
+    pub const INIT_EXT: Self = FlagSet(1 << 30, PhantomData);
     /// Kept free.
-    pub const INIT_RESERVED: Self = Self(1 << 31);
+    pub const INIT_RESERVED: Self = FlagSet(1 << 31, PhantomData);
     /// A new node comes with a security context.
-    pub const SECURITY_CTX: Self = Self(1 << 32);
+    pub const SECURITY_CTX: Self = FlagSet(1 << 32, PhantomData);
     /// Files choose their own mapping.
-    pub const HAS_INODE_DAX: Self = Self(1 << 33);
+    pub const HAS_INODE_DAX: Self = FlagSet(1 << 33, PhantomData);
     /// A new node comes with a group.
-    pub const CREATE_SUPP_GROUP: Self = Self(1 << 34);
+    pub const CREATE_SUPP_GROUP: Self = FlagSet(1 << 34, PhantomData);
     /// Direct files may be mapped.
-    pub const DIRECT_IO_ALLOW_MMAP: Self = Self(1 << 36);
+    pub const DIRECT_IO_ALLOW_MMAP: Self = FlagSet(1 << 36, PhantomData);
     /// Mounts with mapped users.
-    pub const ALLOW_IDMAP: Self = Self(1 << 40);
+    pub const ALLOW_IDMAP: Self = FlagSet(1 << 40, PhantomData);
     /// The options that are agreed wherever the guest offers them.
-    pub const DEFAULT: Self = Self(
+    pub const DEFAULT: Self = FlagSet(
         Self::ASYNC_READ.0
             | Self::ATOMIC_O_TRUNC.0
             | Self::BIG_WRITES.0
@@ -474,57 +330,22 @@ impl FsOptions {
             | Self::INIT_EXT.0
             | Self::CREATE_SUPP_GROUP.0
             | Self::ALLOW_IDMAP.0,
-    );
-    // Each under its name.
-    const FLAGS: &'static [Flag<Self>] = named!(FsOptions;
-        ASYNC_READ POSIX_LOCKS FILE_OPS ATOMIC_O_TRUNC EXPORT_SUPPORT BIG_WRITES DONT_MASK
-        SPLICE_WRITE SPLICE_MOVE SPLICE_READ FLOCK_LOCKS HAS_IOCTL_DIR AUTO_INVAL_DATA
-        DO_READDIRPLUS READDIRPLUS_AUTO ASYNC_DIO WRITEBACK_CACHE ZERO_MESSAGE_OPEN
-        PARALLEL_DIROPS HANDLE_KILLPRIV POSIX_ACL ABORT_ERROR MAX_PAGES CACHE_SYMLINKS
-        ZERO_MESSAGE_OPENDIR EXPLICIT_INVAL_DATA SUBMOUNTS HANDLE_KILLPRIV_V2 SETXATTR_EXT
-        INIT_EXT INIT_RESERVED SECURITY_CTX HAS_INODE_DAX CREATE_SUPP_GROUP DIRECT_IO_ALLOW_MMAP
-        ALLOW_IDMAP
+        PhantomData,
     );
 }
 
-impl Flags for FsOptions {
-    type Bits = u64;
-
-    ghost exact = { ⊤ };
-
+impl FlagNames<u64> for FsOptionsNames {
     ghost table = { fs_options };
 
-    ghost set_of = { λ x. x.0 };
-
-    fn flags<'a>() -> &'a [Flag<Self>] {
-        Self::FLAGS
-    }
-
-    fn bits(&self) -> u64 {
-        self.0
-    }
-
-    fn from_bits_retain(bits: u64) -> Self {
-        Self(bits)
-    }
-}
-
-impl BitOr for FsOptions {
-    type Output = Self;
-
-    ghost bitor_gives = { λ x y r. r.0 ≡ bit_or x.0 y.0 };
-
-    fn bitor(self, other: Self) -> Self {
-        Self(self.0 | other.0)
-    }
-}
-
-impl BitAnd for FsOptions {
-    type Output = Self;
-
-    ghost bitand_gives = { λ x y r. r.0 ≡ bit_and x.0 y.0 };
-
-    fn bitand(self, other: Self) -> Self {
-        Self(self.0 & other.0)
+    fn flags<'a>() -> &'a [Flag<FsOptions>] {
+        named!(FsOptions;
+            ASYNC_READ POSIX_LOCKS FILE_OPS ATOMIC_O_TRUNC EXPORT_SUPPORT BIG_WRITES DONT_MASK
+            SPLICE_WRITE SPLICE_MOVE SPLICE_READ FLOCK_LOCKS HAS_IOCTL_DIR AUTO_INVAL_DATA
+            DO_READDIRPLUS READDIRPLUS_AUTO ASYNC_DIO WRITEBACK_CACHE ZERO_MESSAGE_OPEN
+            PARALLEL_DIROPS HANDLE_KILLPRIV POSIX_ACL ABORT_ERROR MAX_PAGES CACHE_SYMLINKS
+            ZERO_MESSAGE_OPENDIR EXPLICIT_INVAL_DATA SUBMOUNTS HANDLE_KILLPRIV_V2 SETXATTR_EXT
+            INIT_EXT INIT_RESERVED SECURITY_CTX HAS_INODE_DAX CREATE_SUPP_GROUP DIRECT_IO_ALLOW_MMAP
+            ALLOW_IDMAP
+        )
     }
 }

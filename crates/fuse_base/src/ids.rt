@@ -28,7 +28,8 @@ impl ByteValued for GuestUid {
     ghost fields = { λ x. d x.0 ∷ [] };
 
     fn put_bytes(&self, out: &mut [u8]) {
-        self.0.put_bytes(out);
+        let GuestUid(number) = *self;
+        number.put_bytes(out);
     }
 
     fn get_bytes(bytes: &[u8]) -> Self {
@@ -58,7 +59,8 @@ impl ByteValued for GuestGid {
     ghost fields = { λ x. d x.0 ∷ [] };
 
     fn put_bytes(&self, out: &mut [u8]) {
-        self.0.put_bytes(out);
+        let GuestGid(number) = *self;
+        number.put_bytes(out);
     }
 
     fn get_bytes(bytes: &[u8]) -> Self {

@@ -209,15 +209,15 @@ impl BitOr<u64> for MemoryRegionAddress {
 }
 
 impl AddressValue for MemoryRegionAddress {
-    type V = u64;
+    type V = GuestUsize;
 
     ghost number = { λ n. n };
 
-    fn zero() -> u64 {
+    fn zero() -> GuestUsize {
         0
     }
 
-    fn one() -> u64 {
+    fn one() -> GuestUsize {
         1
     }
 }

@@ -89,7 +89,7 @@ impl ByteValued for u8 {
 
     #[tactic(auto, using(crate::proofs::Places::one_byte), unfolding(crate::specs::Fields::bytes, crate::specs::Fields::Fits))]
     fn get_bytes(bytes: &[u8]) -> Self {
-        bytes[0]
+        u8::from_le_bytes([bytes[0]])
     }
 
     ghost lawful = { (λ x y. refl, λ x y h. Prim.search rules, Prim.search rules) };

@@ -40,8 +40,7 @@ impl From<Le16> for u16 {
     ghost from_gives = { λ x n. n ≡ x.0 };
 
     fn from(x: Le16) -> Self {
-        let Le16(number) = x;
-        number
+        x.to_native()
     }
 }
 
@@ -96,8 +95,7 @@ impl From<Be16> for u16 {
     ghost from_gives = { λ x n. n ≡ x.0 };
 
     fn from(x: Be16) -> Self {
-        let Be16(number) = x;
-        number
+        x.to_native()
     }
 }
 
@@ -154,8 +152,7 @@ impl From<Le32> for u32 {
     ghost from_gives = { λ x n. n ≡ x.0 };
 
     fn from(x: Le32) -> Self {
-        let Le32(number) = x;
-        number
+        x.to_native()
     }
 }
 
@@ -210,8 +207,7 @@ impl From<Be32> for u32 {
     ghost from_gives = { λ x n. n ≡ x.0 };
 
     fn from(x: Be32) -> Self {
-        let Be32(number) = x;
-        number
+        x.to_native()
     }
 }
 
@@ -268,8 +264,7 @@ impl From<Le64> for u64 {
     ghost from_gives = { λ x n. n ≡ x.0 };
 
     fn from(x: Le64) -> Self {
-        let Le64(number) = x;
-        number
+        x.to_native()
     }
 }
 
@@ -324,8 +319,7 @@ impl From<Be64> for u64 {
     ghost from_gives = { λ x n. n ≡ x.0 };
 
     fn from(x: Be64) -> Self {
-        let Be64(number) = x;
-        number
+        x.to_native()
     }
 }
 
