@@ -4,50 +4,73 @@ use Rattle.std.specs.Prelude.{slice_get}
 use Rattle.std.proofs.lemmas.Option.{slice_get-get_or}
 use Rattle.vm_memory.specs.Memory.{Memory}
 use Rattle.fs_queue.specs.declared.layout.QueueLayout.{QueueLayout}
+use Rattle.fs_queue.specs.declared.fault.QueueError.TheVariants as stop
 use Rattle.fs_queue.specs.Queue.{Queue}
 use Rattle.fs_device.specs.declared.error.DeviceError.{DeviceError}
-use Rattle.fs_device.specs.Step.{State, Exchange, Idle, Refused, Exchanged, Step}
+use Rattle.fs_device.specs.declared.error.DeviceError.TheVariants as device
+use Rattle.fs_device.specs.Step.{State, Exchange, Calls, May, Idle, Refused, Exchanged, StepOf, Step}
 use Rattle.fs_device.specs.Run.{KickRun, Done, fresh_queue, reset}
-use Rattle.fs_device.proofs.StepLemmas.{state, changed_at-set}
+use Rattle.fs_device.proofs.StepLemmas.{Fixed, state, changed_at-set}
+
+-- a step that is idle makes no call
+idle_of : {F : Type 0} (may : May F) (s after : State F) (i : ℕ) (o : Option Queue) (calls : Calls) → StepOf may s i o calls Idle after → StepOf may s i o [] Idle after
+idle_of may s after i None calls t = absurd (cc)
+idle_of may s after i (Some q) calls t = (t.0, record { same = t.1.same; no_call = refl })
+
+-- nor does one that is refused
+refused_of : {F : Type 0} (may : May F) (s after : State F) (i : ℕ) (o : Option Queue) (e : DeviceError) (calls : Calls) → StepOf may s i o calls (Refused e) after → StepOf may s i o [] (Refused e) after
+refused_of may s after i None e calls t = (t.0, record { same = t.1.same; no_call = refl })
+refused_of may s after i (Some q) device.NoSuchQueue calls t = absurd t
+refused_of may s after i (Some q) (device.Queue stop.OutOfMemory) calls t = (t.0, record { same = t.1.same; no_call = refl })
+refused_of may s after i (Some q) (device.Queue stop.Stopped) calls t = (t.0, refl, t.2)
+refused_of may s after i (Some q) (device.Queue stop.AvailIndexUnreachable) calls t = (t.0, refl, t.2)
+refused_of may s after i (Some q) (device.Queue stop.AvailTooFar) calls t = (t.0, refl, t.2)
+refused_of may s after i (Some q) (device.Queue stop.RingEntryUnreachable) calls t = (t.0, refl, t.2)
+refused_of may s after i (Some q) (device.Queue stop.HeadOutOfTable) calls t = (t.0, refl, t.2)
+refused_of may s after i (Some q) (device.Queue stop.UsedUnreachable) calls t = (t.0, refl, t.2)
+refused_of may s after i (Some q) (device.Queue stop.AvailFlagsUnreachable) calls t = (t.0, refl, t.2)
+refused_of may s after i (Some q) (device.Queue stop.DescriptorUnreachable) calls t = (t.0, refl, t.2)
 
 -- what a kick comes to, given that it goes on so
-abbrev Goes : State → ℕ → ℕ → List (Exchange × Bool) → State → ℕ → Type 0
-Goes s i most done mid left =
-    (rest : List (Exchange × Bool)) (refused : Option DeviceError) (after : State) → KickRun mid i left rest refused after → KickRun s i most (done ++ rest) refused after
+abbrev Goes : {F : Type 0} → May F → State F → ℕ → ℕ → List (Exchange × Bool) → State F → ℕ → Type 0
+Goes {F} may s i most done mid left =
+    (rest : List (Exchange × Bool)) (refused : Option DeviceError) (after : State F) → KickRun may mid i left rest refused after → KickRun may s i most (done ++ rest) refused after
 
-ended : (s mid after : State) (i most left : ℕ) (done : List (Exchange × Bool)) (refused : Option DeviceError) → Goes s i most done mid left →
-    KickRun mid i left [] refused after → KickRun s i most done refused after
-ended s mid after i most left done refused goes end =
-    subst (λ (xs : List (Exchange × Bool)). KickRun s i most xs refused after) (append-nil done) (goes [] refused after end)
+ended : {F : Type 0} (may : May F) (s mid after : State F) (i most left : ℕ) (done : List (Exchange × Bool)) (refused : Option DeviceError) → Goes may s i most done mid left →
+    KickRun may mid i left [] refused after → KickRun may s i most done refused after
+ended may s mid after i most left done refused goes end =
+    subst (λ (xs : List (Exchange × Bool)). KickRun may s i most xs refused after) (append-nil done) (goes [] refused after end)
 
-pub ends_idle : (s mid after : State) (i most left : ℕ) (done : List (Exchange × Bool)) → Goes s i most done mid left →
-    0 < left → Step mid i Idle after → KickRun s i most done None after
+pub ends_idle : {F : Type 0} (may : May F) (s mid after : State F) (i most left : ℕ) (done : List (Exchange × Bool)) (calls : Calls) → Goes may s i most done mid left →
+    0 < left → Step may mid i calls Idle after → KickRun may s i most done None after
 unfolding KickRun
-ends_idle s mid after i most zero done goes some step = absurd (omega arith)
-ends_idle s mid after i most (suc left) done goes some step = ended s mid after i most (suc left) done None goes step
+ends_idle may s mid after i most zero done calls goes some step = absurd (omega arith)
+ends_idle may s mid after i most (suc left) done calls goes some step =
+    ended may s mid after i most (suc left) done None goes (idle_of may mid after i (slice_get mid.queues i) calls step)
 
-pub ends_refused : (s mid after : State) (i most left : ℕ) (done : List (Exchange × Bool)) (e : DeviceError) → Goes s i most done mid left →
-    0 < left → Step mid i (Refused e) after → KickRun s i most done (Some e) after
+pub ends_refused : {F : Type 0} (may : May F) (s mid after : State F) (i most left : ℕ) (done : List (Exchange × Bool)) (e : DeviceError) (calls : Calls) → Goes may s i most done mid left →
+    0 < left → Step may mid i calls (Refused e) after → KickRun may s i most done (Some e) after
 unfolding KickRun
-ends_refused s mid after i most zero done e goes some step = absurd (omega arith)
-ends_refused s mid after i most (suc left) done e goes some step = ended s mid after i most (suc left) done (Some e) goes step
+ends_refused may s mid after i most zero done e calls goes some step = absurd (omega arith)
+ends_refused may s mid after i most (suc left) done e calls goes some step =
+    ended may s mid after i most (suc left) done (Some e) goes (refused_of may mid after i (slice_get mid.queues i) e calls step)
 
-pub ends_full : (s mid : State) (i most left : ℕ) (done : List (Exchange × Bool)) → Goes s i most done mid left → left ≡ 0 → KickRun s i most done None mid
+pub ends_full : {F : Type 0} (may : May F) (s mid : State F) (i most left : ℕ) (done : List (Exchange × Bool)) → Goes may s i most done mid left → left ≡ 0 → KickRun may s i most done None mid
 unfolding KickRun
-ends_full s mid i most zero done goes none = ended s mid mid i most 0 done None goes refl
-ends_full s mid i most (suc left) done goes none = absurd (omega arith)
+ends_full may s mid i most zero done goes none = ended may s mid mid i most 0 done None goes refl
+ends_full may s mid i most (suc left) done goes none = absurd (omega arith)
 
-pub goes_on : (s mid next : State) (i most left more : ℕ) (done : List (Exchange × Bool)) (x : Exchange × Bool) → Goes s i most done mid left →
-    left ≡ suc more → Step mid i (Exchanged x.0 x.1) next → Goes s i most (done ++ x ∷ []) next more
+pub goes_on : {F : Type 0} (may : May F) (s mid next : State F) (i most left more : ℕ) (done : List (Exchange × Bool)) (x : Exchange × Bool) (calls : Calls) → Goes may s i most done mid left →
+    left ≡ suc more → Step may mid i calls (Exchanged x.0 x.1) next → Goes may s i most (done ++ x ∷ []) next more
 unfolding KickRun
-goes_on s mid next i most zero more done x goes some step rest refused after run = absurd (omega arith)
-goes_on s mid next i most (suc left) more done x goes some step rest refused after run =
+goes_on may s mid next i most zero more done x calls goes some step rest refused after run = absurd (omega arith)
+goes_on may s mid next i most (suc left) more done x calls goes some step rest refused after run =
     let same : more ≡ left = omega arith in
-    subst (λ (xs : List (Exchange × Bool)). KickRun s i most xs refused after) (sym (append_assoc done (x ∷ []) rest))
-    (goes (x ∷ rest) refused after (next, step, subst (λ (n : ℕ). KickRun next i n rest refused after) same run))
+    subst (λ (xs : List (Exchange × Bool)). KickRun may s i most xs refused after) (sym (append_assoc done (x ∷ []) rest))
+    (goes (x ∷ rest) refused after (calls, next, step, subst (λ (n : ℕ). KickRun may next i n rest refused after) same run))
 
 -- a queue that is there begins anew
-pub reset_there : (m : Memory) (queues : List Queue) (limit i : ℕ) (l : QueueLayout) → i < length queues →
-    (Done, state m (set queues i (fresh_queue l)) limit) ≡ reset (state m queues limit) i l (slice_get queues i)
-reset_there m queues limit i l there =
-    rw (slice_get-get_or queues i (fresh_queue l) there) (ap (λ (qs : List Queue). (Done, state m qs limit)) (sym (changed_at-set queues i (fresh_queue l))))
+pub reset_there : {F : Type 0} (f : Fixed) (m : Memory) (queues : List Queue) (s : ℕ × F) (i : ℕ) (l : QueueLayout) → i < length queues →
+    (Done, state f m (set queues i (fresh_queue l)) s) ≡ reset (state f m queues s) i l (slice_get queues i)
+reset_there f m queues s i l there =
+    rw (slice_get-get_or queues i (fresh_queue l) there) (ap (λ (qs : List Queue). (Done, state f m qs s)) (sym (changed_at-set queues i (fresh_queue l))))

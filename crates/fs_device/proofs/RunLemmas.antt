@@ -1,6 +1,6 @@
 -- a run goes on by one command
 use Rattle.std.proofs.Common.{◌≡◌, ℕ, suc, List, [], ◌∷◌, ◌++◌, length, map, zip, append_assoc, append-nil, ◌∙◌, arith, sym, refl, ap, subst}
-use Rattle.fs_device.specs.Step.{State}
+use Rattle.fs_device.specs.Step.{State, May}
 use Rattle.fs_device.specs.Run.{Command, Answer, Performs, Run}
 
 -- one more of each
@@ -12,20 +12,20 @@ zip_more f g (a ∷ xs) [] x y same = absurd (omega arith)
 zip_more {X} {Y} {A} {B} f g (a ∷ xs) (b ∷ ys) x y same = ap (λ (l : List (A × B)). (f a, g b) ∷ l) (zip_more f g xs ys x y (omega arith))
 
 -- what a run comes to, given that it goes on so
-abbrev Goes : State → List (Command × Answer) → State → Type 0
-Goes s done mid = (events : List (Command × Answer)) (after : State) → Run mid events after → Run s (done ++ events) after
+abbrev Goes : {F : Type 0} → May F → State F → List (Command × Answer) → State F → Type 0
+Goes {F} may s done mid = (events : List (Command × Answer)) (after : State F) → Run may mid events after → Run may s (done ++ events) after
 
-pub run_more : {X Y : Type 0} (f : X → Command) (g : Y → Answer) (s mid next : State) (xs : List X) (ys : List Y) (x : X) (y : Y) → length ys ≡ length xs →
-    Goes s (zip (map f xs) (map g ys)) mid → Performs mid (f x) (g y) next → Goes s (zip (map f (xs ++ x ∷ [])) (map g (ys ++ y ∷ []))) next
+pub run_more : {F X Y : Type 0} (may : May F) (f : X → Command) (g : Y → Answer) (s mid next : State F) (xs : List X) (ys : List Y) (x : X) (y : Y) → length ys ≡ length xs →
+    Goes may s (zip (map f xs) (map g ys)) mid → Performs may mid (f x) (g y) next → Goes may s (zip (map f (xs ++ x ∷ [])) (map g (ys ++ y ∷ []))) next
 unfolding Run
-run_more f g s mid next xs ys x y same goes done events after run =
+run_more may f g s mid next xs ys x y same goes done events after run =
     let one : zip (map f (xs ++ x ∷ [])) (map g (ys ++ y ∷ [])) ++ events ≡ zip (map f xs) (map g ys) ++ (f x, g y) ∷ events =
     ap (λ (l : List (Command × Answer)). l ++ events) (zip_more f g xs ys x y same) ∙ append_assoc (zip (map f xs) (map g ys)) ((f x, g y) ∷ []) events in
-    subst (λ (l : List (Command × Answer)). Run s l after) (sym one) (goes ((f x, g y) ∷ events) after (next, done, run))
+    subst (λ (l : List (Command × Answer)). Run may s l after) (sym one) (goes ((f x, g y) ∷ events) after (next, done, run))
 
-pub run_ends : (s mid : State) (done : List (Command × Answer)) → Goes s done mid → Run s done mid
+pub run_ends : {F : Type 0} (may : May F) (s mid : State F) (done : List (Command × Answer)) → Goes may s done mid → Run may s done mid
 unfolding Run
-run_ends s mid done goes = subst (λ (l : List (Command × Answer)). Run s l mid) (append-nil done) (goes [] mid refl)
+run_ends may s mid done goes = subst (λ (l : List (Command × Answer)). Run may s l mid) (append-nil done) (goes [] mid refl)
 
 pub nothing_left : {X : Type 0} (l : List X) → length l ≡ 0 → l ≡ []
 nothing_left [] h = refl

@@ -12,8 +12,8 @@ use Rattle.fs_queue.specs.Held.{room_of}
 use Rattle.fs_device.specs.declared.error.DeviceError.{DeviceError}
 use Rattle.fs_device.specs.declared.error.DeviceError.TheVariants as device
 use Rattle.fs_device.specs.declared.exchange.Exchange as code
-use Rattle.fs_device.specs.Step.{State, Exchange, Returns, Takes, Acts, StepOf, Step, stopped}
-use Rattle.fs_device.specs.Views.{exchange_of, outcome_of, exchange_for, StepsOne}
+use Rattle.fs_device.specs.Step.{State, Exchange, Outcome, Calls, May, Returns, Takes, Acts, StepOf, Step, stopped}
+use Rattle.fs_device.specs.Views.{exchange_of, outcome_of, ServesChain, StepsOne}
 
 pub changed_at-set : (l : List Queue) (i : ℕ) (q : Queue) → changed_at l i (λ _. q) ≡ set l i q
 changed_at-set [] i q = refl
@@ -25,60 +25,85 @@ set-same [] i q e = refl
 set-same (x ∷ l) zero q e = let is : x ≡ q = cc in ap (λ (y : Queue). y ∷ l) (sym is)
 set-same (x ∷ l) (suc i) q e = ap (λ (r : List Queue). x ∷ r) (set-same l i q e)
 
-abbrev pub state : Memory → List Queue → ℕ → State
-state m queues limit = record { memory = m; queues = queues; limit = limit }
+-- what never changes: the longest request, and the size of a page
+pub record Fixed : Type 0 where
+  pub limit : ℕ
+  pub page_size : ℕ
 
-unchanged : (m m' : Memory) (limit : ℕ) (queues : List Queue) (i : ℕ) (q q' : Queue) → slice_get queues i ≡ Some q → q' ≡ q → m' ≡ m →
-    state m' (set queues i q') limit ≡ state m queues limit
-unchanged m m' limit queues i q q' there same kept =
-    ap (λ (x : Memory). state x (set queues i q') limit) kept
-    ∙ ap (λ (l : List Queue). state m l limit) (ap (set queues i) same ∙ set-same queues i q there)
+abbrev pub state : {F : Type 0} → Fixed → Memory → List Queue → ℕ × F → State F
+state f m queues s = record { memory = m; queues = queues; options = s.0; files = s.1; limit = f.limit; page_size = f.page_size }
 
-stopped_state : (m m' : Memory) (limit : ℕ) (queues : List Queue) (i : ℕ) (q q' : Queue) → q' ≡ stopped q → m' ≡ m →
-    state m' (set queues i q') limit ≡ state m (changed_at queues i (λ _. stopped q)) limit
-stopped_state m m' limit queues i q q' same kept =
-    ap (λ (x : Memory). state x (set queues i q') limit) kept
-    ∙ ap (λ (l : List Queue). state m l limit) (ap (set queues i) same ∙ sym (changed_at-set queues i (stopped q)))
+unchanged : {F : Type 0} (f : Fixed) (m m' : Memory) (queues : List Queue) (i : ℕ) (q q' : Queue) (s s' : ℕ × F) → slice_get queues i ≡ Some q → q' ≡ q → m' ≡ m → s' ≡ s →
+    state f m' (set queues i q') s' ≡ state f m queues s
+unchanged {F} f m m' queues i q q' s s' there same kept still =
+    ap (λ (x : Memory). state f x (set queues i q') s') kept
+    ∙ ap (λ (l : List Queue). state f m l s') (ap (set queues i) same ∙ set-same queues i q there)
+    ∙ ap (λ (x : ℕ × F). state f m queues x) still
+
+stopped_state : {F : Type 0} (f : Fixed) (m m' : Memory) (queues : List Queue) (i : ℕ) (q q' : Queue) (s s' : ℕ × F) → q' ≡ stopped q → m' ≡ m → s' ≡ s →
+    state f m' (set queues i q') s' ≡ state f m (changed_at queues i (λ _. stopped q)) s
+stopped_state {F} f m m' queues i q q' s s' same kept still =
+    ap (λ (x : Memory). state f x (set queues i q') s') kept
+    ∙ ap (λ (l : List Queue). state f m l s') (ap (set queues i) same ∙ sym (changed_at-set queues i (stopped q)))
+    ∙ ap (λ (x : ℕ × F). state f m (changed_at queues i (λ _. stopped q)) x) still
 
 -- the code's answer, as the device's
 abbrev pub device_result : Result (Option (code.Exchange × Bool)) QueueError → Result (Option (code.Exchange × Bool)) DeviceError
 device_result (Ok x) = Ok x
 device_result (Err e) = Err (device.Queue e)
 
-returns : (m m' : Memory) (limit : ℕ) (queues : List Queue) (i : ℕ) (q q' : Queue) (room : List ℕ) (expected x : Exchange) (notice : Bool) → x ≡ expected →
-    m' ≡ returned m q expected.head room x.reply → notice ≡ wants_notice m' q → q' ≡ advanced q →
-    Returns (state m queues limit) i q room expected x notice (state m' (set queues i q') limit)
-returns m m' limit queues i q q' room expected x notice same stored told moved = record {
+returns : {F : Type 0} (f : Fixed) (m m' : Memory) (queues : List Queue) (i : ℕ) (q q' : Queue) (s s' : ℕ × F) (room : List ℕ) (expected x : Exchange) (options : ℕ) (notice : Bool) → x ≡ expected →
+    s'.0 ≡ options → m' ≡ returned m q expected.head room x.reply → notice ≡ wants_notice m' q → q' ≡ advanced q →
+    Returns (state f m queues s) i q room expected options x notice (state f m' (set queues i q') s')
+returns f m m' queues i q q' s s' room expected x options notice same agreed stored told moved = record {
   exchange = same;
   state =
-      ap (λ (y : Memory). state y (set queues i q') limit) (stored ∙ ap (λ (y : Exchange). returned m q expected.head room y.reply) same)
-      ∙ ap (λ (l : List Queue). state (returned m q expected.head room expected.reply) l limit) (ap (set queues i) moved ∙ sym (changed_at-set queues i (advanced q)));
+      ap (λ (y : Memory). state f y (set queues i q') s') (stored ∙ ap (λ (y : Exchange). returned m q expected.head room y.reply) same)
+      ∙ ap (λ (l : List Queue). state f (returned m q expected.head room expected.reply) l s') (ap (set queues i) moved ∙ sym (changed_at-set queues i (advanced q)))
+      ∙ ap (λ (o : ℕ). state f (returned m q expected.head room expected.reply) (changed_at queues i (λ _. advanced q)) (o, s'.1)) agreed;
   told = told;
 }
 
-takes : (m m' : Memory) (limit : ℕ) (queues : List Queue) (i : ℕ) (q q' : Queue) (x : code.Exchange) (notice : Bool) (asked : Asked) → exchange_of x ≡ exchange_for x.head asked →
+takes : {F : Type 0} (may : May F) (f : Fixed) (m m' : Memory) (queues : List Queue) (i : ℕ) (q q' : Queue) (s s' : ℕ × F) (x : code.Exchange) (notice : Bool) (asked : Asked) (calls : Calls) →
+    ServesChain may f.page_size s x.head asked calls (exchange_of x) s' →
     m' ≡ returned m q x.head (room_of asked) x.reply.items → notice ≡ wants_notice m' q → q' ≡ advanced q →
-    Takes (state m queues limit) i q (Offers x.head asked) (exchange_of x) notice (state m' (set queues i q') limit)
-takes m m' limit queues i q q' x notice (CannotAsk why) same stored told moved = returns m m' limit queues i q q' [] (exchange_for x.head (CannotAsk why)) (exchange_of x) notice same stored told moved
-takes m m' limit queues i q q' x notice (Asks request room) same stored told moved = returns m m' limit queues i q q' room (exchange_for x.head (Asks request room)) (exchange_of x) notice same stored told moved
+    Takes may (state f m queues s) i q (Offers x.head asked) calls (exchange_of x) notice (state f m' (set queues i q') s')
+takes may f m m' queues i q q' s s' x notice (CannotAsk why) calls served stored told moved = record {
+  no_call = served.1;
+  files = ap (λ p. p.1) served.2;
+  returns = returns f m m' queues i q q' s s' [] _ (exchange_of x) s.0 notice served.0 (ap (λ p. p.0) served.2) stored told moved;
+}
+takes may f m m' queues i q q' s s' x notice (Asks request room) calls served stored told moved = record {
+  given = served.0;
+  serves = served.1;
+  returns = returns f m m' queues i q q' s s' room _ (exchange_of x) _ notice served.2 served.3 stored told moved;
+}
 
-acts : (m m' : Memory) (limit : ℕ) (queues : List Queue) (i : ℕ) (q q' : Queue) (r : Result (Option (code.Exchange × Bool)) QueueError) → slice_get queues i ≡ Some q →
-    StepsOne m limit q r q' m' → Acts (state m queues limit) i q (offer m limit q) (outcome_of (device_result r)) (state m' (set queues i q') limit)
-acts m m' limit queues i q q' (Ok None) there s = (s.0, unchanged m m' limit queues i q q' there s.1 s.2)
-acts m m' limit queues i q q' (Ok (Some x)) there s =
-    subst (λ (o : Offer). Takes (state m queues limit) i q o (exchange_of x.0) x.1 (state m' (set queues i q') limit)) (sym s.1) (takes m m' limit queues i q q' x.0 x.1 s.0 s.2 s.3 s.4 s.5)
-acts m m' limit queues i q q' (Err stop.OutOfMemory) there s = (s.0, unchanged m m' limit queues i q q' there s.1 s.2)
-acts m m' limit queues i q q' (Err stop.Stopped) there s = (s.0, unchanged m m' limit queues i q q' there s.1 s.2)
-acts m m' limit queues i q q' (Err stop.AvailIndexUnreachable) there s = (s.0, stopped_state m m' limit queues i q q' s.1 s.2)
-acts m m' limit queues i q q' (Err stop.AvailTooFar) there s = (s.0, stopped_state m m' limit queues i q q' s.1 s.2)
-acts m m' limit queues i q q' (Err stop.RingEntryUnreachable) there s = (s.0, stopped_state m m' limit queues i q q' s.1 s.2)
-acts m m' limit queues i q q' (Err stop.HeadOutOfTable) there s = (s.0, stopped_state m m' limit queues i q q' s.1 s.2)
-acts m m' limit queues i q q' (Err stop.UsedUnreachable) there s = (s.0, stopped_state m m' limit queues i q q' s.1 s.2)
-acts m m' limit queues i q q' (Err stop.AvailFlagsUnreachable) there s = (s.0, stopped_state m m' limit queues i q q' s.1 s.2)
-acts m m' limit queues i q q' (Err stop.DescriptorUnreachable) there s = (s.0, stopped_state m m' limit queues i q q' s.1 s.2)
+acts : {F : Type 0} (may : May F) (f : Fixed) (m m' : Memory) (queues : List Queue) (i : ℕ) (q q' : Queue) (s s' : ℕ × F) (r : Result (Option (code.Exchange × Bool)) QueueError) →
+    slice_get queues i ≡ Some q → StepsOne may f.page_size m f.limit q s r q' m' s' →
+    (calls : Calls) × Acts may (state f m queues s) i q (offer m f.limit q) calls (outcome_of (device_result r)) (state f m' (set queues i q') s')
+acts may f m m' queues i q q' s s' (Ok None) there t = ([], t.0, record { same = unchanged f m m' queues i q q' s s' there t.1 t.2 t.3; no_call = refl })
+acts may f m m' queues i q q' s s' (Ok (Some x)) there t = (
+  t.1,
+  subst (λ (o : Offer). Takes may (state f m queues s) i q o t.1 (exchange_of x.0) x.1 (state f m' (set queues i q') s')) (sym t.2)
+  (takes may f m m' queues i q q' s s' x.0 x.1 t.0 t.1 t.3 t.4 t.5 t.6),
+)
+acts may f m m' queues i q q' s s' (Err stop.OutOfMemory) there t = ([], t.0, record { same = unchanged f m m' queues i q q' s s' there t.1 t.2 t.3; no_call = refl })
+acts may f m m' queues i q q' s s' (Err stop.Stopped) there t = ([], t.0, refl, unchanged f m m' queues i q q' s s' there t.1 t.2 t.3)
+acts may f m m' queues i q q' s s' (Err stop.AvailIndexUnreachable) there t = ([], t.0, refl, stopped_state f m m' queues i q q' s s' t.1 t.2 t.3)
+acts may f m m' queues i q q' s s' (Err stop.AvailTooFar) there t = ([], t.0, refl, stopped_state f m m' queues i q q' s s' t.1 t.2 t.3)
+acts may f m m' queues i q q' s s' (Err stop.RingEntryUnreachable) there t = ([], t.0, refl, stopped_state f m m' queues i q q' s s' t.1 t.2 t.3)
+acts may f m m' queues i q q' s s' (Err stop.HeadOutOfTable) there t = ([], t.0, refl, stopped_state f m m' queues i q q' s s' t.1 t.2 t.3)
+acts may f m m' queues i q q' s s' (Err stop.UsedUnreachable) there t = ([], t.0, refl, stopped_state f m m' queues i q q' s s' t.1 t.2 t.3)
+acts may f m m' queues i q q' s s' (Err stop.AvailFlagsUnreachable) there t = ([], t.0, refl, stopped_state f m m' queues i q q' s s' t.1 t.2 t.3)
+acts may f m m' queues i q q' s s' (Err stop.DescriptorUnreachable) there t = ([], t.0, refl, stopped_state f m m' queues i q q' s s' t.1 t.2 t.3)
 
 -- a step of the queue at i, as a step of the device
-pub steps : (m m' : Memory) (limit : ℕ) (queues : List Queue) (i : ℕ) (q q' : Queue) (r : Result (Option (code.Exchange × Bool)) QueueError) → slice_get queues i ≡ Some q →
-    StepsOne m limit q r q' m' → Step (state m queues limit) i (outcome_of (device_result r)) (state m' (set queues i q') limit)
-steps m m' limit queues i q q' r there s =
-    subst (λ (o : Option Queue). StepOf (state m queues limit) i o (outcome_of (device_result r)) (state m' (set queues i q') limit)) (sym there) (acts m m' limit queues i q q' r there s)
+pub steps : {F : Type 0} (may : May F) (f : Fixed) (m m' : Memory) (queues : List Queue) (i : ℕ) (q q' : Queue) (s s' : ℕ × F) (r : Result (Option (code.Exchange × Bool)) QueueError) →
+    slice_get queues i ≡ Some q → StepsOne may f.page_size m f.limit q s r q' m' s' →
+    (calls : Calls) × Step may (state f m queues s) i calls (outcome_of (device_result r)) (state f m' (set queues i q') s')
+steps may f m m' queues i q q' s s' r there t =
+    let done = acts may f m m' queues i q q' s s' r there t in (
+      done.0,
+      subst (λ (o : Option Queue). StepOf may (state f m queues s) i o done.0 (outcome_of (device_result r)) (state f m' (set queues i q') s')) (sym there) done.1,
+    )

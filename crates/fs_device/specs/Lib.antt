@@ -2,6 +2,7 @@ pub mod Parts
 pub mod Step
 pub mod Copies
 pub mod Views
+pub mod Replies
 pub mod Refusing
 pub mod Run
 pub mod Running

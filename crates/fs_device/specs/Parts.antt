@@ -2,6 +2,9 @@
 use Rattle.std.specs.Prelude.{ℕ, List}
 use Rattle.fs_queue.specs.Queue.{Queue}
 
-pub record Parts : Type 0 where
+pub record Parts (F : Type 0) : Type 0 where
   pub queues : List Queue
+  pub options : ℕ
+  pub files : F
   pub limit : ℕ
+  pub page_size : ℕ

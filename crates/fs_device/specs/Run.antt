@@ -8,7 +8,7 @@ use Rattle.fs_device.specs.declared.error.DeviceError.{DeviceError}
 use Rattle.fs_device.specs.declared.error.DeviceError.TheVariants as device
 use Rattle.fs_device.specs.declared.refusal.Refusal.{Refusal}
 use Rattle.fs_device.specs.declared.refusal.Refusal.TheVariants as why
-use Rattle.fs_device.specs.Step.{State, Exchange, Idle, Refused, Exchanged, Step, with_queue}
+use Rattle.fs_device.specs.Step.{State, Exchange, Idle, Refused, Exchanged, Calls, May, Step, with_queue}
 
 -- what is asked of the machine
 pub data Command : Type 0 where
@@ -31,15 +31,15 @@ pub data Answer : Type 0 where
 -- ---- what each command but a kick does
 
 -- an answer, and the state after
-abbrev pub Effect : Type 0
-Effect = Answer × State
+abbrev pub Effect : Type 0 → Type 0
+Effect F = Answer × State F
 
 -- refused, and nothing changed
-abbrev pub no : Refusal → State → Effect
+abbrev pub no : {F : Type 0} → Refusal → State F → Effect F
 no refusal s = (IsRefused refusal, s)
 
 -- a guest reads its physical addresses, all of them or none
-abbrev pub guest_read : State → ℕ → ℕ → Effect
+abbrev pub guest_read : {F : Type 0} → State F → ℕ → ℕ → Effect F
 guest_read s a n = if reach (physical s.memory) Read a n then (Bytes (bytes (physical s.memory) a n), s) else no why.NoPlace s
 
 -- the memory after a guest wrote
@@ -47,7 +47,7 @@ abbrev pub guest_written : Memory → ℕ → List ℕ → Memory
 guest_written m a bs = record m { host = (stored_all (physical m) (zip (addresses a (length bs)) bs)).host }
 
 -- a guest writes its physical addresses, all of them or none
-abbrev pub guest_write : State → ℕ → List ℕ → Effect
+abbrev pub guest_write : {F : Type 0} → State F → ℕ → List ℕ → Effect F
 guest_write s a bs =
     if reach (physical s.memory) Write a (length bs) then (Done, record s { memory = guest_written s.memory a bs })
     else no why.NoPlace s
@@ -56,11 +56,11 @@ abbrev pub fresh_queue : QueueLayout → Queue
 fresh_queue l = fresh l.size l.desc l.avail l.used
 
 -- a queue begins anew
-abbrev pub reset : State → ℕ → QueueLayout → Option Queue → Effect
+abbrev pub reset : {F : Type 0} → State F → ℕ → QueueLayout → Option Queue → Effect F
 reset s i l None = no why.NoSuchQueue s
 reset s i l (Some q) = (Done, with_queue s i (fresh_queue l))
 
-unfoldable pub effect : State → Command → Effect
+unfoldable pub effect : {F : Type 0} → State F → Command → Effect F
 effect s (GuestRead a n) = guest_read s a n
 effect s (GuestWrite a bs) = guest_write s a bs
 effect s (Kick queue most) = (Done, s)
@@ -68,23 +68,24 @@ effect s (ResetQueue queue l) = reset s queue l (slice_get s.queues queue)
 
 -- ---- kicks
 
--- a kick ends after most exchanges, or at a step that is idle or refused
-abbrev pub KickEnds : State → ℕ → ℕ → Option DeviceError → State → Type 0
-KickEnds s i zero None after = after ≡ s
-KickEnds s i (suc most) None after = Step s i Idle after
-KickEnds s i zero (Some e) after = ⊥
-KickEnds s i (suc most) (Some e) after = Step s i (Refused e) after
+-- a kick ends after most exchanges, or at a step that is idle or refused, which makes no call
+abbrev pub KickEnds : {F : Type 0} → May F → State F → ℕ → ℕ → Option DeviceError → State F → Type 0
+KickEnds may s i zero None after = after ≡ s
+KickEnds may s i (suc most) None after = Step may s i [] Idle after
+KickEnds may s i zero (Some e) after = ⊥
+KickEnds may s i (suc most) (Some e) after = Step may s i [] (Refused e) after
 
--- these exchanges, one after the other, and this end
-unfoldable pub KickRun : State → ℕ → ℕ → List (Exchange × Bool) → Option DeviceError → State → Type 0
-KickRun s i most [] refused after = KickEnds s i most refused after
-KickRun s i zero (x ∷ xs) refused after = ⊥
-KickRun s i (suc most) (x ∷ xs) refused after = (mid : State) × Step s i (Exchanged x.0 x.1) mid × KickRun mid i most xs refused after
+-- these exchanges, one after the other, each with its calls, and this end
+unfoldable pub KickRun : {F : Type 0} → May F → State F → ℕ → ℕ → List (Exchange × Bool) → Option DeviceError → State F → Type 0
+KickRun may s i most [] refused after = KickEnds may s i most refused after
+KickRun may s i zero (x ∷ xs) refused after = ⊥
+KickRun {F} may s i (suc most) (x ∷ xs) refused after =
+    (calls : Calls) × (mid : State F) × Step may s i calls (Exchanged x.0 x.1) mid × KickRun may mid i most xs refused after
 
 -- of a missing queue a kick lists that, whatever most
-abbrev pub Kicks : State → ℕ → ℕ → Option Queue → Kicked → State → Type 0
-Kicks s i most None k after = (after ≡ s) × (k ≡ record { exchanges = []; refused = Some device.NoSuchQueue })
-Kicks s i most (Some q) k after = KickRun s i most k.exchanges k.refused after
+abbrev pub Kicks : {F : Type 0} → May F → State F → ℕ → ℕ → Option Queue → Kicked → State F → Type 0
+Kicks may s i most None k after = (after ≡ s) × (k ≡ record { exchanges = []; refused = Some device.NoSuchQueue })
+Kicks may s i most (Some q) k after = KickRun may s i most k.exchanges k.refused after
 
 -- ---- runs
 
@@ -95,17 +96,17 @@ takes_memory (ResetQueue queue l) = false
 takes_memory _ = true
 
 -- a command that has enough memory
-abbrev pub Does : State → Command → Answer → State → Type 0
-Does s (Kick queue most) (Served k) after = Kicks s queue most (slice_get s.queues queue) k after
-Does s (Kick queue most) answer after = ⊥
-Does s command answer after = (answer, after) ≡ effect s command
+abbrev pub Does : {F : Type 0} → May F → State F → Command → Answer → State F → Type 0
+Does may s (Kick queue most) (Served k) after = Kicks may s queue most (slice_get s.queues queue) k after
+Does may s (Kick queue most) answer after = ⊥
+Does may s command answer after = (answer, after) ≡ effect s command
 
 -- a command may be answered so, and leave this state
-abbrev pub Performs : State → Command → Answer → State → Type 0
-Performs s command (IsRefused why.OutOfMemory) after = IsTrue (takes_memory command) × (after ≡ s)
-Performs s command answer after = Does s command answer after
+abbrev pub Performs : {F : Type 0} → May F → State F → Command → Answer → State F → Type 0
+Performs may s command (IsRefused why.OutOfMemory) after = IsTrue (takes_memory command) × (after ≡ s)
+Performs may s command answer after = Does may s command answer after
 
 -- these answers to these commands, one after the other
-unfoldable pub Run : State → List (Command × Answer) → State → Type 0
-Run s [] after = after ≡ s
-Run s (e ∷ es) after = (mid : State) × Performs s e.0 e.1 mid × Run mid es after
+unfoldable pub Run : {F : Type 0} → May F → State F → List (Command × Answer) → State F → Type 0
+Run may s [] after = after ≡ s
+Run {F} may s (e ∷ es) after = (mid : State F) × Performs may s e.0 e.1 mid × Run may mid es after

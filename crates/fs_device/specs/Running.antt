@@ -7,7 +7,7 @@ use Rattle.fs_device.specs.declared.exchange.Exchange as code
 use Rattle.fs_device.specs.declared.command.Command as asked
 use Rattle.fs_device.specs.declared.command.Answer as told
 use Rattle.fs_device.specs.declared.command.QueueRun.{QueueRun}
-use Rattle.fs_device.specs.Step.{State, Exchange}
+use Rattle.fs_device.specs.Step.{State, Exchange, May}
 use Rattle.fs_device.specs.Run.{Command, GuestRead, GuestWrite, Kick, ResetQueue, Kicked, Answer, Done, Bytes, Served, IsRefused, KickRun}
 use Rattle.fs_device.specs.Views.{exchange_of}
 
@@ -30,8 +30,8 @@ answer_of (told.TheVariants.Served run) = Served (kicked_of run)
 answer_of (told.TheVariants.Refused why) = IsRefused why
 
 -- what serving a queue's chains answers: of a missing queue that alone, and nothing is done where the exchanges have no room
-abbrev pub ServesQueue : State → (queue most : ℕ) → Result QueueRun DeviceError → State → Type 0
-ServesQueue s i most (Ok run) after = (i < length s.queues) × KickRun s i most (map turn_of run.done.items) run.refused after
-ServesQueue s i most (Err device.NoSuchQueue) after = (slice_get s.queues i ≡ None) × (after ≡ s)
-ServesQueue s i most (Err (device.Queue stop.OutOfMemory)) after = (after ≡ s)
-ServesQueue s i most (Err e) after = ⊥
+abbrev pub ServesQueue : {F : Type 0} → May F → State F → (queue most : ℕ) → Result QueueRun DeviceError → State F → Type 0
+ServesQueue may s i most (Ok run) after = (i < length s.queues) × KickRun may s i most (map turn_of run.done.items) run.refused after
+ServesQueue may s i most (Err device.NoSuchQueue) after = (slice_get s.queues i ≡ None) × (after ≡ s)
+ServesQueue may s i most (Err (device.Queue stop.OutOfMemory)) after = (after ≡ s)
+ServesQueue may s i most (Err e) after = ⊥

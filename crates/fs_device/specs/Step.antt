@@ -1,5 +1,5 @@
 -- One step of the device on one queue.
-use Rattle.std.specs.Prelude.{◌≡◌, ℕ, Bool, true, IsTrue, List, [], length, Option, Some, None, slice_get}
+use Rattle.std.specs.Prelude.{◌≡◌, ℕ, Bool, true, IsTrue, List, [], length, map, Option, Some, None, slice_get}
 use Rattle.vm_memory_core.specs.Host.{changed_at}
 use Rattle.vm_memory.specs.Memory.{Memory}
 use Rattle.fs_queue.specs.declared.fault.ChainFault.{ChainFault}
@@ -9,19 +9,23 @@ use Rattle.fs_queue.specs.Queue.{Queue}
 use Rattle.fs_queue.specs.Taking.{Asks, CannotAsk, Offer, Refuses, Offers, offer, may_lack_memory}
 use Rattle.fs_queue.specs.Taking as taking
 use Rattle.fs_queue.specs.Returning.{returned, wants_notice, advanced}
+use Rattle.fuse_fs.specs.Calls.{FileCall, FileAnswer, FileRun}
 use Rattle.virtiofsd_fuse.specs.declared.error.Error.{Error}
 use Rattle.virtiofsd_fuse.specs.Grammar.{meaning}
-use Rattle.virtiofsd_fuse.specs.Serving.{Served, served}
+use Rattle.virtiofsd_fuse.specs.Serving.{Served, served, setting}
 use Rattle.fs_device.specs.declared.error.DeviceError.{DeviceError}
 use Rattle.fs_device.specs.declared.error.DeviceError.TheVariants as device
 use Rattle.fs_device.specs.declared.exchange.Fault.{Fault}
 use Rattle.fs_device.specs.declared.exchange.Fault.TheVariants as fault
 
--- the plain machine: its memory and its queues; the limit never changes
-pub record State : Type 0 where
+-- the plain machine: its memory, its queues, the options that client and server agreed on, and the file system; limit and page size never change
+pub record State (F : Type 0) : Type 0 where
   pub memory : Memory
   pub queues : List Queue
+  pub options : ℕ
+  pub files : F
   pub limit : ℕ
+  pub page_size : ℕ
 
 -- a chain that was taken and returned
 pub record Exchange : Type 0 where
@@ -36,30 +40,54 @@ pub data Outcome : Type 0 where
   Refused : DeviceError → Outcome
   Exchanged : Exchange → (notice : Bool) → Outcome
 
+-- the calls of a file system, in order, with what each was answered
+abbrev pub Calls : Type 0
+Calls = List (FileCall × FileAnswer)
+
+-- what an implementer of the file system lets it answer, and become
+abbrev pub May : Type 0 → Type 1
+May F = F → FileCall → FileAnswer → F → Type 0
+
 abbrev pub stopped : Queue → Queue
 stopped q = record q { stopped = true }
 
-abbrev pub with_queue : State → ℕ → Queue → State
+abbrev pub with_queue : {F : Type 0} → State F → ℕ → Queue → State F
 with_queue s i q = record s { queues = changed_at s.queues i (λ _. q) }
 
 -- a stopped queue stays as it was; each other refusal stops it
-abbrev pub after_refusal : State → ℕ → Queue → QueueError → State
+abbrev pub after_refusal : {F : Type 0} → State F → ℕ → Queue → QueueError → State F
 after_refusal s i q stop.Stopped = s
 after_refusal s i q _ = with_queue s i (stopped q)
 
--- the state after a chain was returned
-abbrev pub after_return : State → ℕ → Queue → (head : ℕ) → (room reply : List ℕ) → State
-after_return s i q head room reply =
-    record s { memory = returned s.memory q head room reply; queues = changed_at s.queues i (λ _. advanced q) }
+-- nothing changed and no call was made
+pub record Unchanged {F : Type 0} (before : State F) (calls : Calls) (after : State F) : Type 0 where
+  pub same : after ≡ before
+  pub no_call : calls ≡ []
+
+-- the state after a chain was returned, with these options and this file system
+abbrev pub after_return : {F : Type 0} → State F → ℕ → Queue → (head : ℕ) → (room reply : List ℕ) → ℕ → F → State F
+after_return s i q head room reply options files =
+    record s {
+      memory = returned s.memory q head room reply;
+      queues = changed_at s.queues i (λ _. advanced q);
+      options = options;
+      files = files;
+    }
 
 abbrev pub served_fault : Option Error → Option Fault
 served_fault None = None
 served_fault (Some e) = Some (fault.Served e)
 
+-- what the server does for a request: these calls, along which the file system's state moves, and what comes of their answers
+pub record Serves {F : Type 0} (may : May F) (page_size options : ℕ) (request : List ℕ) (room : ℕ) (before : F) (calls : Calls) (given : Served) (after : F) : Type 0 where
+  pub gives : given ≡ served (setting page_size options room) (meaning options request room) (map (λ step. step.1) calls)
+  pub asks : given.calls ≡ map (λ step. step.0) calls
+  pub run : FileRun may before calls after
+
 -- a chain goes back with this exchange
-pub record Returns (before : State) (i : ℕ) (q : Queue) (room : List ℕ) (expected x : Exchange) (notice : Bool) (after : State) : Type 0 where
+pub record Returns {F : Type 0} (before : State F) (i : ℕ) (q : Queue) (room : List ℕ) (expected : Exchange) (options : ℕ) (x : Exchange) (notice : Bool) (after : State F) : Type 0 where
   pub exchange : x ≡ expected
-  pub state : after ≡ after_return before i q expected.head room expected.reply
+  pub state : after ≡ after_return before i q expected.head room expected.reply options after.files
   pub told : notice ≡ wants_notice after.memory q
 
 -- a faulty chain goes back with nothing
@@ -70,26 +98,37 @@ faulty head why = record { head = head; request = []; reply = []; fault = Some (
 abbrev pub answered : (head : ℕ) → (request : List ℕ) → Served → Exchange
 answered head request given = record { head = head; request = request; reply = given.reply; fault = served_fault given.fault }
 
+-- a faulty chain goes back with nothing, and no call is made
+pub record ReturnsFaulty {F : Type 0} (before : State F) (i : ℕ) (q : Queue) (head : ℕ) (why : ChainFault) (calls : Calls) (x : Exchange) (notice : Bool) (after : State F) : Type 0 where
+  pub no_call : calls ≡ []
+  pub files : after.files ≡ before.files
+  pub returns : Returns before i q [] (faulty head why) before.options x notice after
+
+-- a request is answered: what it means, its calls in order, its reply whole or not at all, then the used element and the used index
+pub record Answers {F : Type 0} (may : May F) (before : State F) (i : ℕ) (q : Queue) (head : ℕ) (request room : List ℕ) (calls : Calls) (x : Exchange) (notice : Bool) (after : State F) : Type 0 where
+  pub given : Served
+  pub serves : Serves may before.page_size before.options request (length room) before.files calls given after.files
+  pub returns : Returns before i q room (answered head request given) given.options x notice after
+
 -- a chain that was offered is exchanged
-abbrev pub Takes : State → ℕ → Queue → Offer → Exchange → Bool → State → Type 0
-Takes before i q (Offers head (CannotAsk why)) x notice after = Returns before i q [] (faulty head why) x notice after
-Takes before i q (Offers head (Asks request room)) x notice after =
-    Returns before i q room (answered head request (served (length room) (meaning request))) x notice after
-Takes before i q taking.Idle x notice after = ⊥
-Takes before i q (Refuses e) x notice after = ⊥
+abbrev pub Takes : {F : Type 0} → May F → State F → ℕ → Queue → Offer → Calls → Exchange → Bool → State F → Type 0
+Takes may before i q (Offers head (CannotAsk why)) calls x notice after = ReturnsFaulty before i q head why calls x notice after
+Takes may before i q (Offers head (Asks request room)) calls x notice after = Answers may before i q head request room calls x notice after
+Takes may before i q taking.Idle calls x notice after = ⊥
+Takes may before i q (Refuses e) calls x notice after = ⊥
 
--- what may happen at an offer: a step may be refused for want of memory, and then nothing changes
-abbrev pub Acts : State → ℕ → Queue → Offer → Outcome → State → Type 0
-Acts before i q offered Idle after = (offered ≡ taking.Idle) × (after ≡ before)
-Acts before i q offered (Refused (device.Queue stop.OutOfMemory)) after = IsTrue (may_lack_memory before.memory offered) × (after ≡ before)
-Acts before i q offered (Refused (device.Queue e)) after = (offered ≡ Refuses e) × (after ≡ after_refusal before i q e)
-Acts before i q offered (Refused device.NoSuchQueue) after = ⊥
-Acts before i q offered (Exchanged x notice) after = Takes before i q offered x notice after
+-- what may happen at an offer: a step may be refused for want of memory, and then nothing changes and no call is made
+abbrev pub Acts : {F : Type 0} → May F → State F → ℕ → Queue → Offer → Calls → Outcome → State F → Type 0
+Acts may before i q offered calls Idle after = (offered ≡ taking.Idle) × Unchanged before calls after
+Acts may before i q offered calls (Refused (device.Queue stop.OutOfMemory)) after = IsTrue (may_lack_memory before.memory offered) × Unchanged before calls after
+Acts may before i q offered calls (Refused (device.Queue e)) after = (offered ≡ Refuses e) × (calls ≡ []) × (after ≡ after_refusal before i q e)
+Acts may before i q offered calls (Refused device.NoSuchQueue) after = ⊥
+Acts may before i q offered calls (Exchanged x notice) after = Takes may before i q offered calls x notice after
 
-abbrev pub StepOf : State → ℕ → Option Queue → Outcome → State → Type 0
-StepOf before i None outcome after = (outcome ≡ Refused device.NoSuchQueue) × (after ≡ before)
-StepOf before i (Some q) outcome after = Acts before i q (offer before.memory before.limit q) outcome after
+abbrev pub StepOf : {F : Type 0} → May F → State F → ℕ → Option Queue → Calls → Outcome → State F → Type 0
+StepOf may before i None calls outcome after = (outcome ≡ Refused device.NoSuchQueue) × Unchanged before calls after
+StepOf may before i (Some q) calls outcome after = Acts may before i q (offer before.memory before.limit q) calls outcome after
 
--- a step on queue i may end so, and leave this state
-abbrev pub Step : State → ℕ → Outcome → State → Type 0
-Step before i outcome after = StepOf before i (slice_get before.queues i) outcome after
+-- a step on queue i may make these calls, end so, and leave this state
+abbrev pub Step : {F : Type 0} → May F → State F → ℕ → Calls → Outcome → State F → Type 0
+Step may before i calls outcome after = StepOf may before i (slice_get before.queues i) calls outcome after

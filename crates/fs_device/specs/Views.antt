@@ -10,12 +10,11 @@ use Rattle.fs_queue.specs.Taking.{Asked, Asks, CannotAsk, Offer, Refuses, Offers
 use Rattle.fs_queue.specs.Taking as taking
 use Rattle.fs_queue.specs.Returning.{returned, wants_notice, advanced}
 use Rattle.fs_queue.specs.Held.{room_of, after_taking}
-use Rattle.virtiofsd_fuse.specs.Grammar.{meaning}
-use Rattle.virtiofsd_fuse.specs.Serving.{served}
+use Rattle.virtiofsd_fuse.specs.Serving.{Served}
 use Rattle.fs_device.specs.declared.error.DeviceError.{DeviceError}
 use Rattle.fs_device.specs.declared.exchange.Exchange as code
 use Rattle.fs_device.specs.declared.copies.HarvestedPage.{HarvestedPage}
-use Rattle.fs_device.specs.Step.{State, Exchange, Outcome, Idle, Refused, Exchanged, faulty, answered}
+use Rattle.fs_device.specs.Step.{State, Exchange, Outcome, Idle, Refused, Exchanged, Calls, May, Serves, faulty, answered}
 use Rattle.fs_device.specs.Copies.{Page}
 use Rattle.fs_device.specs.Parts.{Parts}
 
@@ -28,22 +27,23 @@ outcome_of (Ok (Some x)) = Exchanged (exchange_of x.0) x.1
 outcome_of (Err e) = Refused e
 
 -- a device over a host and a layout, as the plain machine
-abbrev pub state_of : Host → List Region → Parts → State
-state_of h layout d = record { memory = memory_of h layout; queues = d.queues; limit = d.limit }
-
--- what serving an offered chain gives
-abbrev pub exchange_for : (head : ℕ) → Asked → Exchange
-exchange_for head (CannotAsk why) = faulty head why
-exchange_for head (Asks request room) = answered head request (served (length room) (meaning request))
+abbrev pub state_of : {F : Type 0} → Host → List Region → Parts F → State F
+state_of h layout d = record { memory = memory_of h layout; queues = d.queues; options = d.options; files = d.files; limit = d.limit; page_size = d.page_size }
 
 abbrev pub page_of : HarvestedPage → Page
 page_of p = record { block = p.block; offset = p.offset; bytes = p.bytes.items }
 
--- what a step does to one queue
-abbrev pub StepsOne : Memory → ℕ → Queue → Result (Option (code.Exchange × Bool)) QueueError → Queue → Memory → Type 0
-StepsOne m limit q (Ok None) q' m' = (offer m limit q ≡ taking.Idle) × (q' ≡ q) × (m' ≡ m)
-StepsOne m limit q (Ok (Some x)) q' m' =
-    (asked : Asked) × (offer m limit q ≡ Offers x.0.head asked) × (exchange_of x.0 ≡ exchange_for x.0.head asked)
+-- serving a chain that was offered so: a faulty one makes no call
+abbrev pub ServesChain : {F : Type 0} → May F → (page_size : ℕ) → ℕ × F → (head : ℕ) → Asked → Calls → Exchange → ℕ × F → Type 0
+ServesChain may page_size old head (CannotAsk why) calls x new = (x ≡ faulty head why) × (calls ≡ []) × (new ≡ old)
+ServesChain may page_size old head (Asks request room) calls x new =
+    (given : Served) × Serves may page_size old.0 request (length room) old.1 calls given new.1 × (x ≡ answered head request given) × (new.0 ≡ given.options)
+
+-- what a step does to one queue, and to the options and the file system of the server
+abbrev pub StepsOne : {F : Type 0} → May F → (page_size : ℕ) → Memory → ℕ → Queue → ℕ × F → Result (Option (code.Exchange × Bool)) QueueError → Queue → Memory → ℕ × F → Type 0
+StepsOne may page m limit q s (Ok None) q' m' s' = (offer m limit q ≡ taking.Idle) × (q' ≡ q) × (m' ≡ m) × (s' ≡ s)
+StepsOne may page m limit q s (Ok (Some x)) q' m' s' =
+    (asked : Asked) × (calls : Calls) × (offer m limit q ≡ Offers x.0.head asked) × ServesChain may page s x.0.head asked calls (exchange_of x.0) s'
     × (m' ≡ returned m q x.0.head (room_of asked) x.0.reply.items) × (x.1 ≡ wants_notice m' q) × (q' ≡ advanced q)
-StepsOne m limit q (Err stop.OutOfMemory) q' m' = IsTrue (may_lack_memory m (offer m limit q)) × (q' ≡ q) × (m' ≡ m)
-StepsOne m limit q (Err e) q' m' = (offer m limit q ≡ Refuses e) × (q' ≡ after_taking q (Err e)) × (m' ≡ m)
+StepsOne may page m limit q s (Err stop.OutOfMemory) q' m' s' = IsTrue (may_lack_memory m (offer m limit q)) × (q' ≡ q) × (m' ≡ m) × (s' ≡ s)
+StepsOne may page m limit q s (Err e) q' m' s' = (offer m limit q ≡ Refuses e) × (q' ≡ after_taking q (Err e)) × (m' ≡ m) × (s' ≡ s)

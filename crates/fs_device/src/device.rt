@@ -1,118 +1,62 @@
 //! The device: its queues are served one chain a step.
 
-ghost use Rattle.std.specs.Prelude.{◌≡◌, ◌≤◌, ◌<◌, ◌^◌, List, length, set, slice_get, vec_capacity, [], IfErr, IfOk, IfSome, None, OnOk, option_map};
+ghost use Rattle.std.specs.Prelude.{◌≡◌, ◌≤◌, ◌<◌, ◌^◌, ◌×◌, List, length, set, slice_get, [], IfErr, IfOk, IfSome, None, OnErr, OnOk, option_map};
 ghost use Rattle.vm_memory_core.specs.Host.{host_of, lengths};
-ghost use Rattle.vm_memory_core.specs.Window.{places};
-ghost use Rattle.vm_memory.specs.Layout.{AreHeld};
+ghost use Rattle.vm_memory.specs.Layout.{AreHeld, Region};
 ghost use Rattle.vm_memory.specs.Memory.{memory_of};
-ghost use Rattle.vm_memory.specs.Layout.{Region};
 ghost use Rattle.fs_queue.specs.Queue.{Queue};
 ghost use Rattle.fs_queue.specs.Taking.{Asked};
 ghost use Rattle.fs_queue.specs.Held.{IsTaken, TakenLiesIn, room_places};
 
 use crate::command::QueueRun;
 use crate::error::DeviceError;
-use crate::exchange::{Exchange, Fault};
-use fs_queue::{Queue, QueueError, QueueLayout, Taken};
-use std::alloc::{AllocError, Global};
+use crate::serve::serve;
+use crate::exchange::Exchange;
+use fs_queue::{Queue, QueueError, QueueLayout};
+use fuse_fs::FileSystem;
+use std::alloc::Global;
 use std::marker::Model;
 use virtiofsd_fuse::Server;
-use virtiofsd_fuse::server::OUT_HEADER_LEN;
 use vm_memory::GuestMemoryMmap;
 use vm_memory_core::{HostMemory, NewBitmap};
 
 /// A server behind its queues, of which there are 1 to 64. A request or a room longer than the limit, from 0x101000 to 2^31
 /// bytes, makes a chain faulty.
 #[derive(Drop)]
-pub struct Device {
-    server: Server,
+pub struct Device<F> {
+    server: Server<F>,
     queues: Vec<Queue>,
     limit: u32,
+    ghost short: { limit < 2 ^ 32 },
 }
 
-impl Model for Device {
+impl<F> Model for Device<F> {
     ghost use Rattle.fs_device.specs.Parts.{Parts};
 
-    ghost Value = { Parts };
+    ghost Value = { Parts F };
 
-    ghost view = { λ d. record { queues = d.queues.items; limit = d.limit } };
+    ghost view = { λ d. record { queues = d.queues.items; options = d.server.options.0; files = d.server.fs; limit = d.limit; page_size = d.server.page_size } };
 }
 
-ghost use Rattle.virtiofsd_fuse.specs.Grammar.{meaning};
-ghost use Rattle.virtiofsd_fuse.specs.Serving.{served};
-ghost use Rattle.fs_device.specs.Step.{Step, served_fault};
-ghost use Rattle.fs_device.specs.Views.{exchange_of, outcome_of, state_of, exchange_for, StepsOne};
+ghost use Rattle.fs_device.specs.Step.{Calls, Step};
+ghost use Rattle.fs_device.specs.Views.{outcome_of, state_of, StepsOne};
 ghost use Rattle.fs_device.specs.Run.{fresh_queue};
 ghost use Rattle.fs_device.specs.Running.{ServesQueue};
 ghost use Rattle.fs_device.specs.declared.error.DeviceError.TheVariants.{NoSuchQueue};
 
-// Asks the server, and puts its reply in an empty buffer with room for it. Nothing is refused from here on.
-fn answer(server: &mut Server, request: &[u8], room: usize, reply: &mut Vec<u8>) -> Option<Fault>
-    requires empty { reply.old.items ≡ [] }
-    requires reserved { 16 ≤ vec_capacity reply.old }
-    ensures reply { reply.new.items ≡ (served room (meaning request.now)).reply }
-    ensures fault { result ≡ served_fault (served room (meaning request.now)).fault }
-    ensures fits { length reply.new.items ≤ room }
-    ensures small { length reply.new.items ≤ 16 }
-{
-    match server.handle_message(request, room) {
-        Ok(bytes) => {
-            reply.extend_from_slice(&bytes).unwrap();
-            None
-        }
-        Err(error) => Some(Fault::Served(error)),
-    }
-}
-
-// Serves a chain that was taken. Nothing is written, and nothing is refused once the server was asked.
-fn serve<B: NewBitmap>(
-    alloc: Global,
-    server: &mut Server,
-    host: &HostMemory<B>,
-    taken: &Taken,
-) -> Result<Exchange, AllocError>
-    requires { TakenLiesIn (lengths (host_of host.now)) taken.now }
-    ensures exchange { (l : List Region) (q : Queue) (asked : Asked) → IsTaken (memory_of (host_of host.now) l) q asked taken.now →
-        IfOk result (λ e. exchange_of e ≡ exchange_for taken.now.head asked) }
-    ensures fits { IfOk result (λ e. length e.reply.items ≤ room_places taken.now.chain) }
-    ensures small { IfOk result (λ e. length e.reply.items ≤ 16) }
-    ensures head { IfOk result (λ e. e.head ≡ taken.now.head) }
-{
-    let mut reply = Vec::with_capacity(alloc, OUT_HEADER_LEN)?;
-    let head = taken.head();
-    let chain = match taken.chain() {
-        Ok(chain) => chain,
-        Err(fault) => {
-            return Ok(Exchange {
-                head,
-                request: Vec::new(alloc),
-                reply,
-                fault: Some(Fault::Chain(fault)),
-            });
-        }
-    };
-    let request = host.fetch_windows(alloc, &chain.readable, chain.request_len())?;
-    let fault = answer(server, &request, chain.room_len(), &mut reply);
-    Ok(Exchange {
-        head,
-        request,
-        reply,
-        fault,
-    })
-}
-
 // One step of one queue.
-fn step<B: NewBitmap>(
+fn step<F: FileSystem, B: NewBitmap>(
     alloc: Global,
-    server: &mut Server,
+    server: &mut Server<F>,
     host: &mut HostMemory<B>,
     mem: &GuestMemoryMmap,
     limit: u32,
     queue: &mut Queue,
 ) -> Result<Option<(Exchange, bool)>, QueueError>
     requires { AreHeld (lengths (host_of host.old)) mem.now }
-    ensures step { StepsOne (memory_of (host_of host.old) mem.now) limit queue.old result queue.new (memory_of (host_of host.new) mem.now) }
+    ensures step { StepsOne F.may server.old.page_size (memory_of (host_of host.old) mem.now) limit queue.old (server.old.options.0, server.old.fs) result queue.new (memory_of (host_of host.new) mem.now) (server.new.options.0, server.new.fs) }
     ensures lengths { lengths (host_of host.new) ≡ lengths (host_of host.old) }
+    ensures page_size { server.new.page_size ≡ server.old.page_size }
 {
     let Some(taken) = queue.take(alloc, host, mem, limit)? else {
         return Ok(None);
@@ -124,14 +68,14 @@ fn step<B: NewBitmap>(
     Ok(Some((exchange, notify)))
 }
 
-impl Device {
+impl<F: FileSystem> Device<F> {
     /// A device.
-    pub fn new(server: Server, queues: Vec<Queue>, limit: u32) -> Device
+    pub fn new(server: Server<F>, queues: Vec<Queue>, limit: u32) -> Device<F>
         requires some { 1 ≤ length queues.items }
         requires few { length queues.items ≤ 64 }
         requires low { 0x101000 ≤ limit }
         requires high { limit ≤ 2 ^ 31 }
-        ensures { result ≡ record { queues = queues.items; limit = limit } }
+        ensures { result ≡ record { queues = queues.items; options = server.options.0; files = server.fs; limit = limit; page_size = server.page_size } }
     {
         Device {
             server,
@@ -156,7 +100,7 @@ impl Device {
         queue: usize,
     ) -> Result<Option<(Exchange, bool)>, DeviceError>
         requires { AreHeld (lengths (host_of host.old)) mem.now }
-        ensures step { Step (state_of (host_of host.old) mem.now self.old) queue (outcome_of result) (state_of (host_of host.new) mem.now self.new) }
+        ensures step { (calls : Calls) × Step F.may (state_of (host_of host.old) mem.now self.old) queue calls (outcome_of result) (state_of (host_of host.new) mem.now self.new) }
         ensures lengths { lengths (host_of host.new) ≡ lengths (host_of host.old) }
     {
         if queue >= self.queues.len() {
@@ -180,7 +124,7 @@ impl Device {
         most: u16,
     ) -> Result<QueueRun, DeviceError>
         requires { AreHeld (lengths (host_of host.old)) mem.now }
-        ensures run { ServesQueue (state_of (host_of host.old) mem.now self.old) queue most result (state_of (host_of host.new) mem.now self.new) }
+        ensures run { ServesQueue F.may (state_of (host_of host.old) mem.now self.old) queue most result (state_of (host_of host.new) mem.now self.new) }
         ensures lengths { lengths (host_of host.new) ≡ lengths (host_of host.old) }
     {
         if queue >= self.queues.len() {

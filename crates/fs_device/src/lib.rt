@@ -9,6 +9,7 @@ pub mod exchange;
 pub mod machine;
 pub mod refusal;
 mod run;
+mod serve;
 
 pub use command::{Answer, Command, QueueRun};
 pub use copies::{HarvestedPage, harvest};

@@ -6,21 +6,22 @@ ghost use Rattle.vm_memory.specs.Layout.{AreHeld};
 ghost use Rattle.fs_device.specs.Held.{AreHeld-prop};
 
 use crate::device::Device;
+use fuse_fs::FileSystem;
 use vm_memory::GuestMemoryMmap;
 use vm_memory_core::{HostMemory, PageBitmap};
 
 /// A guest's memory and its device. Each event is one command.
 #[derive(Drop)]
-pub struct Machine {
+pub struct Machine<F> {
     pub host: HostMemory<PageBitmap>,
     pub mem: GuestMemoryMmap,
-    pub device: Device,
+    pub device: Device<F>,
     pub ghost held: { AreHeld (lengths (host_of host)) mem } by { AreHeld-prop (lengths (host_of host)) mem },
 }
 
-impl Machine {
+impl<F: FileSystem> Machine<F> {
     /// A machine of a host, a layout over its blocks, and a device.
-    pub fn new(host: HostMemory<PageBitmap>, mem: GuestMemoryMmap, device: Device) -> Machine
+    pub fn new(host: HostMemory<PageBitmap>, mem: GuestMemoryMmap, device: Device<F>) -> Machine<F>
         requires { AreHeld (lengths (host_of host)) mem }
         ensures host { result.host ≡ host }
         ensures mem { result.mem ≡ mem }

@@ -13,10 +13,11 @@ use crate::error::DeviceError;
 use crate::machine::Machine;
 use crate::refusal::Refusal;
 use fs_queue::QueueLayout;
+use fuse_fs::FileSystem;
 use std::alloc::{AllocError, Global};
 use vm_memory_core::{GuestAddress, Permissions};
 
-impl Machine {
+impl<F: FileSystem> Machine<F> {
     // Whether the guest reaches that many bytes from an address on.
     fn reaches(&self, addr: u64, len: usize, access: Permissions) -> bool
         ensures { result ≡ reach (memory_of (host_of self.now.host) self.now.mem) access addr len }
@@ -46,7 +47,7 @@ impl Machine {
     }
 
     fn guest_read(&self, alloc: Global, addr: u64, len: usize) -> Answer
-        ensures { Performs (machine_of self.now) (GuestRead addr len) (answer_of result) (machine_of self.now) }
+        ensures { Performs F.may (machine_of self.now) (GuestRead addr len) (answer_of result) (machine_of self.now) }
     {
         if !self.reaches(addr, len, Permissions::Read) {
             return Answer::Refused(Refusal::NoPlace);
@@ -59,7 +60,7 @@ impl Machine {
     }
 
     fn guest_write(&mut self, addr: u64, bytes: &[u8]) -> Answer
-        ensures { Performs (machine_of self.old) (GuestWrite addr bytes.now) (answer_of result) (machine_of self.new) }
+        ensures { Performs F.may (machine_of self.old) (GuestWrite addr bytes.now) (answer_of result) (machine_of self.new) }
     {
         if !self.reaches(addr, bytes.len(), Permissions::Write) {
             return Answer::Refused(Refusal::NoPlace);
@@ -69,7 +70,7 @@ impl Machine {
     }
 
     fn kick(&mut self, alloc: Global, queue: usize, most: u16) -> Answer
-        ensures { Performs (machine_of self.old) (Kick queue most) (answer_of result) (machine_of self.new) }
+        ensures { Performs F.may (machine_of self.old) (Kick queue most) (answer_of result) (machine_of self.new) }
     {
         match self
             .device
@@ -85,7 +86,7 @@ impl Machine {
     }
 
     fn reset_queue(&mut self, queue: usize, layout: QueueLayout) -> Answer
-        ensures { Performs (machine_of self.old) (ResetQueue queue layout) (answer_of result) (machine_of self.new) }
+        ensures { Performs F.may (machine_of self.old) (ResetQueue queue layout) (answer_of result) (machine_of self.new) }
     {
         match self.device.reset_queue(queue, layout) {
             Ok(()) => Answer::Done,
@@ -95,7 +96,7 @@ impl Machine {
 
     // Does one command.
     fn perform(&mut self, alloc: Global, command: Command) -> Answer
-        ensures { Performs (machine_of self.old) (command_of command) (answer_of result) (machine_of self.new) }
+        ensures { Performs F.may (machine_of self.old) (command_of command) (answer_of result) (machine_of self.new) }
     {
         match command {
             Command::GuestRead { addr, len } => self.guest_read(alloc, addr, len),
@@ -107,7 +108,7 @@ impl Machine {
 
     /// Does commands one after another, and answers each. Room for the answers is made before anything is done.
     pub fn run(&mut self, alloc: Global, commands: Vec<Command>) -> Result<Vec<Answer>, AllocError>
-        ensures run { IfOk result (λ answers. Run (machine_of self.old) (zip (map command_of commands.items) (map answer_of answers.items)) (machine_of self.new)) }
+        ensures run { IfOk result (λ answers. Run F.may (machine_of self.old) (zip (map command_of commands.items) (map answer_of answers.items)) (machine_of self.new)) }
         ensures all { IfOk result (λ answers. length answers.items ≡ length commands.items) }
         ensures err { OnErr result (machine_of self.new ≡ machine_of self.old) }
     {

@@ -108,6 +108,7 @@ impl Queue {
         ensures windows { IfOk result (λ o. IfSome o (HasItsWindows (memory_of (host_of host.now) mem.now) self.old)) }
         ensures queue { self.new ≡ after_taking self.old result }
         ensures lie { IfOk result (λ o. IfSome o (TakenLiesIn (lengths (host_of host.now)))) }
+        ensures short { IfOk result (λ o. IfSome o (λ t. room_places t.chain ≤ limit)) }
     {
         if self.stopped {
             return Err(QueueError::Stopped);

@@ -1,6 +1,6 @@
 //! What is taken of a chain: windows with its request and its room, and those of its return.
 
-ghost use Rattle.std.specs.Prelude.{◌≡◌, ◌+◌, ◌-◌, ◌<◌, ◌^◌, MatchResult, List, ℕ, min, length, IfOk, IfErr, IfSome, OnErr, IsTrue};
+ghost use Rattle.std.specs.Prelude.{◌≡◌, ◌+◌, ◌-◌, ◌<◌, ◌≤◌, ◌^◌, MatchResult, List, ℕ, min, length, IfOk, IfErr, IfSome, OnErr, IsTrue};
 ghost use Rattle.std.specs.Option.{option_map};
 ghost use Rattle.vm_memory_core.specs.Host.{Host, host_of, lengths};
 ghost use Rattle.vm_memory_core.specs.Window.{places, AllLieIn};
@@ -29,7 +29,7 @@ pub enum Asking {
 
 ghost use Rattle.fs_queue.specs.Queue.{at_position};
 ghost use Rattle.fs_queue.specs.Taking.{total_len, asked_by, offer, may_lack_memory};
-ghost use Rattle.fs_queue.specs.Held.{part, addresses_of, ends_of, ends_at, stops_queue, EndsLieIn, ChainLiesIn, HoldsChain, AskingAs, AskingLiesIn};
+ghost use Rattle.fs_queue.specs.Held.{room_places, part, addresses_of, ends_of, ends_at, stops_queue, EndsLieIn, ChainLiesIn, HoldsChain, AskingAs, AskingLiesIn};
 ghost use Rattle.fs_queue.specs.Chain.{IsChain};
 ghost use Rattle.fs_queue.specs.Windows.{HoldsWindows, HasItsWindows, IfTook};
 
@@ -109,6 +109,7 @@ fn hold_chain(
     ensures asked { (h : Host) → IfOk result (HoldsChain (memory_of h mem.now) (asked_by (memory_of h mem.now) limit descriptors.now)) }
     ensures lie { (lengths : List ℕ) → AreHeld lengths mem.now → IfOk result (ChainLiesIn lengths) }
     ensures windows { (h : Host) → IfOk result (λ c. HoldsWindows (memory_of h mem.now) head c (IsChain descriptors.now)) }
+    ensures short { IfOk result (λ c. room_places c ≤ limit) }
 {
     let request_len = count_bytes(descriptors, false);
     let room_len = count_bytes(descriptors, true);
@@ -142,6 +143,7 @@ fn hold_walked(
     ensures asked { (h : Host) → IfOk result (HoldsChain (memory_of h mem.now) (asked_by (memory_of h mem.now) limit descriptors.items)) }
     ensures lie { (lengths : List ℕ) → AreHeld lengths mem.now → IfOk result (ChainLiesIn lengths) }
     ensures windows { (h : Host) → IfOk result (λ c. HoldsWindows (memory_of h mem.now) head c (IsChain descriptors.items)) }
+    ensures short { IfOk result (λ c. room_places c ≤ limit) }
 {
     hold_chain(alloc, mem, head, &descriptors, limit)
 }
@@ -159,6 +161,7 @@ pub fn ask<B: NewBitmap>(
     ensures asking { IfOk result (AskingAs (memory_of (host_of host.now) mem.now) limit (at_position layout position)) }
     ensures lie { IfOk result (AskingLiesIn (lengths (host_of host.now))) }
     ensures windows { IfOk result (λ a. IfTook a (HasItsWindows (memory_of (host_of host.now) mem.now) (at_position layout position))) }
+    ensures short { IfOk result (λ a. IfTook a (λ t. room_places t.chain ≤ limit)) }
     ensures memory { OnErr result (let m = memory_of (host_of host.now) mem.now in IsTrue (may_lack_memory m (offer m limit (at_position layout position)))) }
 {
     let head = match next_head(layout, position, host, mem) {

@@ -13,7 +13,7 @@ invariant-loop g l = record {
   most : l.counter ≤ l.most;
   room : l.most ≤ vec_capacity l.done;
   kept : lengths (host_of l.host) ≡ lengths (host_of l.initial.host);
-  run : (rest : List (Exchange × Bool)) (refused : Option DeviceError) (after : State) →
-      KickRun (state_of (host_of l.host) l.mem l.self) l.queue (l.most - l.counter) rest refused after →
-      KickRun (state_of (host_of l.initial.host) l.mem l.initial.self) l.queue l.most (map turn_of l.done.items ++ rest) refused after;
+  run : (rest : List (Exchange × Bool)) (refused : Option DeviceError) (after : State _) →
+      KickRun g.F.FileSystem.may (state_of (host_of l.host) l.mem l.self) l.queue (l.most - l.counter) rest refused after →
+      KickRun g.F.FileSystem.may (state_of (host_of l.initial.host) l.mem l.initial.self) l.queue l.most (map turn_of l.done.items ++ rest) refused after;
 }

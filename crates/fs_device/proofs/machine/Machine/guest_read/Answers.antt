@@ -6,11 +6,11 @@ use Rattle.fs_device.proofs.machine.Machine.guest_read.Goals as goal
 
 pub returns-then-not-reaches : goal.returns-then-not-reaches
 unfolding effect
-returns-then-not-reaches c = rw (sym c.reaches.ensures ∙ c.if-not-reaches.true) refl
+returns-then-not-reaches g c = rw (sym c.reaches.ensures ∙ c.if-not-reaches.true) refl
 
 pub returns : goal.returns
 unfolding effect
-returns c =
+returns g c =
     let items : (with_items c.in-Ok.bytes c.fill.new.buffer).items ≡ c.fill.new.buffer = with_items_is c.in-Ok.bytes c.fill.new.buffer (c.fill.auto.buffer ∙ c.deref_mut.ensures.len) in
     let size : length c.deref_mut.result.now ≡ c.args.len = Prim.search rules in
     rw (sym c.reaches.ensures ∙ c.if-not-reaches.false, items, c.fill.ensures, size) refl

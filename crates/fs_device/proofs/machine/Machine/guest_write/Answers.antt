@@ -4,8 +4,8 @@ use Rattle.fs_device.proofs.machine.Machine.guest_write.Goals as goal
 
 pub returns-then-not-reaches : goal.returns-then-not-reaches
 unfolding effect
-returns-then-not-reaches c = rw (sym c.reaches.ensures ∙ c.if-not-reaches.true) refl
+returns-then-not-reaches g c = rw (sym c.reaches.ensures ∙ c.if-not-reaches.true) refl
 
 pub returns : goal.returns
 unfolding effect
-returns c = rw (sym c.reaches.ensures ∙ c.if-not-reaches.false, c.store.ensures) refl
+returns g c = rw (sym c.reaches.ensures ∙ c.if-not-reaches.false, c.store.ensures) refl

@@ -7,9 +7,10 @@ use Rattle.fs_device.proofs.machine.Machine.reset_queue.Goals as goal
 
 pub returns-in-Ok : goal.returns-in-Ok
 unfolding effect
-returns-in-Ok c =
-    rw c.in-Ok.ensures.there.1 (reset_there (memory_of (host_of c.args.self.now.host) c.args.self.now.mem) c.args.self.now.device.queues c.args.self.now.device.limit c.args.queue c.args.layout c.in-Ok.ensures.there.0)
+returns-in-Ok g c =
+    let d = c.args.self.now.device in
+    rw c.in-Ok.ensures.there.1 (reset_there (record { limit = d.limit; page_size = d.page_size }) (memory_of (host_of c.args.self.now.host) c.args.self.now.mem) d.queues (d.options, d.files) c.args.queue c.args.layout c.in-Ok.ensures.there.0)
 
 pub returns-in-Err : goal.returns-in-Err
 unfolding effect
-returns-in-Err c = rw (c.in-Err.ensures.missing.1, c.in-Err.ensures.missing.2) refl
+returns-in-Err g c = rw (c.in-Err.ensures.missing.1, c.in-Err.ensures.missing.2) refl

@@ -7,7 +7,7 @@ use Rattle.fs_device.proofs.RunLemmas.{count_more, run_more, run_ends, nothing_l
 use Rattle.fs_device.proofs.machine.Machine.run.Goals as goal
 
 pub loop-command-preserved : goal.loop-command-preserved
-loop-command-preserved c =
+loop-command-preserved g c =
     let at = c.loop-command in
     let x = c.in-Some.command in
     let steps : into_iter_items at.command-iterator ≡ x ∷ into_iter_items c.next.new.self = c.in-Some.ensures.steps.0 in
@@ -24,13 +24,13 @@ loop-command-preserved c =
       );
       count = rw pushed (count_more at.yielded at.answers.items x c.perform-answer.result at.invariant.count);
       room = Prim.search rules;
-      run = rw pushed (run_more command_of answer_of _ _ _ at.yielded at.answers.items x c.perform-answer.result at.invariant.count at.invariant.run c.perform-answer.ensures);
+      run = rw pushed (run_more g.F.FileSystem.may command_of answer_of _ _ _ at.yielded at.answers.items x c.perform-answer.result at.invariant.count at.invariant.run c.perform-answer.ensures);
     }
 
 pub returns-clause-run : goal.returns-clause-run
-returns-clause-run c =
+returns-clause-run g c =
     let at = c.loop-command in
     let none = c.in-None.ensures.steps in
     let empty : into_iter_items at.command-iterator ≡ [] = nothing_left _ (sym at.invariant.left ∙ none.0) in
     let all = sym (append-nil at.yielded) ∙ rw empty at at.invariant.all ∙ c.into_iter-command-iterator.ensures.into_iter_gives.0 in
-    rw (← all) (run_ends _ _ _ at.invariant.run)
+    rw (← all) (run_ends g.F.FileSystem.may _ _ _ at.invariant.run)

@@ -6,6 +6,7 @@ use Rattle.fs_device.proofs.StepLemmas.{state}
 use Rattle.fs_device.proofs.machine.Machine.store.Goals as goal
 
 pub returns : goal.returns
-returns c =
-    ap (λ (m : Memory). state m c.args.self.now.device.queues c.args.self.now.device.limit)
+returns g c =
+    let d = c.args.self.now.device in
+    ap (λ (m : Memory). state (record { limit = d.limit; page_size = d.page_size }) m d.queues (d.options, d.files))
     (written (host_of c.args.self.now.host) (host_of c.write_slice.new.host) c.args.self.now.mem c.args.addr c.args.bytes.now c.requires c.write_slice.ensures.stored)

@@ -1,0 +1,94 @@
+//! What is exchanged for a chain that was taken.
+
+ghost use Rattle.std.specs.Prelude.{◌≡◌, ◌≤◌, ◌<◌, ◌^◌, List, length, IfOk, IfSome, OnErr, IfNone};
+ghost use Rattle.vm_memory_core.specs.Host.{host_of, lengths};
+ghost use Rattle.vm_memory.specs.Layout.{Region};
+ghost use Rattle.vm_memory.specs.Memory.{memory_of};
+ghost use Rattle.fs_queue.specs.Queue.{Queue};
+ghost use Rattle.fs_queue.specs.Taking.{Asked};
+ghost use Rattle.fs_queue.specs.Held.{IsTaken, TakenLiesIn, room_places};
+
+use crate::exchange::{Exchange, Fault};
+use fs_queue::Taken;
+use fuse_fs::FileSystem;
+use std::alloc::{AllocError, Global};
+use virtiofsd_fuse::{Error, Reader, Server, Writer};
+use vm_memory_core::{HostMemory, NewBitmap};
+
+/// A reply, or why there is none.
+#[derive(Drop)]
+pub struct Reply {
+    pub bytes: Vec<u8>,
+    pub fault: Option<Fault>,
+}
+
+ghost use Rattle.fs_device.specs.Step.{Calls, Serves, Exchange as Plain, served_fault};
+ghost use Rattle.fs_device.specs.Views.{exchange_of, ServesChain};
+ghost use Rattle.fs_device.specs.Replies.{Replies};
+
+// Has the server answer a request into a room of so many bytes; nothing where memory was wanting, and then nothing changed.
+fn answer<F: FileSystem>(
+    alloc: Global,
+    server: &mut Server<F>,
+    request: &[u8],
+    room: usize,
+) -> Option<Reply>
+    requires { room < 2 ^ 32 }
+    ensures some { IfSome result (λ r. (calls : Calls) × Replies F.may server.old.page_size (server.old.options.0, server.old.fs) request.now room calls r.bytes.items r.fault (server.new.options.0, server.new.fs)) }
+    ensures fits { IfSome result (λ r. length r.bytes.items ≤ room) }
+    ensures none { IfNone result ((server.new.options.0 ≡ server.old.options.0) × (server.new.fs ≡ server.old.fs)) }
+    ensures page_size { server.new.page_size ≡ server.old.page_size }
+{
+    let mut writer = Writer::new(alloc, room);
+    match server.handle_message(alloc, Reader::new(request), &mut writer) {
+        Ok(_) => Some(Reply {
+            bytes: writer.into_written(),
+            fault: None,
+        }),
+        Err(Error::OutOfMemory) => None,
+        Err(error) => Some(Reply {
+            bytes: Vec::new(alloc),
+            fault: Some(Fault::Served(error)),
+        }),
+    }
+}
+
+/// Serves a chain that was taken. Nothing is written, and nothing is refused once the file system was asked.
+pub fn serve<F: FileSystem, B: NewBitmap>(
+    alloc: Global,
+    server: &mut Server<F>,
+    host: &HostMemory<B>,
+    taken: &Taken,
+) -> Result<Exchange, AllocError>
+    requires lies { TakenLiesIn (lengths (host_of host.now)) taken.now }
+    requires short { room_places taken.now.chain < 2 ^ 32 }
+    ensures exchange { (l : List Region) (q : Queue) (asked : Asked) → IsTaken (memory_of (host_of host.now) l) q asked taken.now →
+        IfOk result (λ e. (calls : Calls) × ServesChain F.may server.old.page_size (server.old.options.0, server.old.fs) taken.now.head asked calls (exchange_of e) (server.new.options.0, server.new.fs)) }
+    ensures fits { IfOk result (λ e. length e.reply.items ≤ room_places taken.now.chain) }
+    ensures head { IfOk result (λ e. e.head ≡ taken.now.head) }
+    ensures err { OnErr result ((server.new.options.0 ≡ server.old.options.0) × (server.new.fs ≡ server.old.fs)) }
+    ensures page_size { server.new.page_size ≡ server.old.page_size }
+{
+    let head = taken.head();
+    let chain = match taken.chain() {
+        Ok(chain) => chain,
+        Err(fault) => {
+            return Ok(Exchange {
+                head,
+                request: Vec::new(alloc),
+                reply: Vec::new(alloc),
+                fault: Some(Fault::Chain(fault)),
+            });
+        }
+    };
+    let request = host.fetch_windows(alloc, &chain.readable, chain.request_len())?;
+    match answer(alloc, server, &request, chain.room_len()) {
+        Some(reply) => Ok(Exchange {
+            head,
+            request,
+            reply: reply.bytes,
+            fault: reply.fault,
+        }),
+        None => Err(AllocError),
+    }
+}
