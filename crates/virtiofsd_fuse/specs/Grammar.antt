@@ -1,13 +1,35 @@
--- What a request means, by its bytes (linux/fuse.h). No request is known so far.
-use Rattle.std.specs.Prelude.{ℕ, ◌-◌, ◌^◌, nat_lt, if◌then◌else◌, List, ◌++◌, length, take, drop}
-use Rattle.std.specs.Int.{w32, w64, to_le_bytes, from_le_bytes}
+-- What a request means, by the options that client and server agreed on, its bytes and the length of its room (linux/fuse.h).
+use Rattle.std.specs.Prelude.{ℕ, ◌+◌, ◌-◌, ◌*◌, ◌/◌, ◌^◌, ◌%◌, Bool, true, false, not, ◌==◌, nat_le, nat_lt, List, ◌++◌, length, replicate, Option, Some, None, Result, Ok, Err, if◌then◌else◌, bit_and, pos, neg_ℤ}
+use Rattle.std.specs.Int.{w32, cast_signed}
+use Rattle.vm_values.specs.Fields.{spelled}
+use Rattle.fuse_in.specs.declared.session.InHeader.{InHeader}
+use Rattle.fuse_in.specs.declared.session.ForgetIn.{ForgetIn}
+use Rattle.fuse_in.specs.declared.session.InitInCompat.{InitInCompat}
+use Rattle.fuse_in.specs.declared.files.ReadIn.{ReadIn}
+use Rattle.fuse_wire.specs.declared.replies.InitOut.{InitOut}
+use Rattle.fuse_wire.specs.declared.replies.OutHeader.{OutHeader}
+use Rattle.fuse_wire.specs.declared.opcodes.Opcode.{Opcode}
+use Rattle.fuse_wire.specs.declared.opcodes.Opcode.TheVariants as op
+use Rattle.fuse_wire.specs.Records.{init_out, out_header}
+use Rattle.fuse_wire.specs.Opcodes.{opcode_of}
+use Rattle.fuse_fs.specs.Answers.{context_of}
+use Rattle.fuse_fs.specs.Calls.{FileCall, Lookup, Forget, Read}
 use Rattle.virtiofsd_fuse.specs.declared.error.Error.{Error}
-use Rattle.virtiofsd_fuse.specs.declared.error.Error.TheVariants.{DecodeMessage}
+use Rattle.virtiofsd_fuse.specs.declared.error.Error.TheVariants.{DecodeMessage, EncodeMessage, InvalidHeaderLength}
+use Rattle.virtiofsd_fuse.specs.Reading.{Refusal, Faults, Sends, Reading, ◌>>=◌, ◌>>◌, give, refuse, needs, exactly, within, last_name}
+use Rattle.virtiofsd_fuse.specs.Records.{in_header, forget_in, read_in, init_in_compat, init_in_ext}
 
--- what a request means: a fault, or a reply that asks no file system
+-- a file command: one call, or INIT
+pub data Command : Type 0 where
+  One : (unique : ℕ) → FileCall → Command
+  Starts : (unique capable readahead : ℕ) → Command
+
+-- what a request means: a fault, a reply that asks no file system, silence, or a file command
 pub data Meaning : Type 0 where
   IsFault : Error → Meaning
   Replies : (bytes : List ℕ) → Meaning
+  IsSilent : Meaning
+  Asks : Command → Meaning
 
 -- error numbers
 abbrev pub ENOMEM : ℕ
@@ -16,20 +38,141 @@ ENOMEM = 12
 abbrev pub ENOSYS : ℕ
 ENOSYS = 38
 
--- struct fuse_out_header of an error; its number goes out as its negative
-abbrev pub error_bytes : (unique errno : ℕ) → List ℕ
-error_bytes unique errno = to_le_bytes w32 16 ++ to_le_bytes w32 (2 ^ 32 - errno) ++ to_le_bytes w64 unique
+abbrev pub EPROTO : ℕ
+EPROTO = 71
 
--- the fields len and unique of struct fuse_in_header
-abbrev pub len_of : List ℕ → ℕ
-len_of request = from_le_bytes w32 (take 4 request)
+-- struct fuse_out_header and what follows it
+unfoldable pub reply_bytes : (unique : ℕ) → List ℕ → List ℕ
+reply_bytes unique bytes = spelled (out_header (record { len = 16 + length bytes; error = pos 0; unique = unique })) ++ bytes
 
-abbrev pub unique_of : List ℕ → ℕ
-unique_of request = from_le_bytes w64 (take 8 (drop 8 request))
+-- struct fuse_out_header of an error, whose number goes out as its negative
+unfoldable pub error_bytes : (unique errno : ℕ) → List ℕ
+error_bytes unique errno = spelled (out_header (record { len = 16; error = neg_ℤ (pos errno); unique = unique }))
 
--- a request without its header of 40 bytes is a fault; a length that is too great is answered ENOMEM, any opcode ENOSYS
-abbrev pub meaning : List ℕ → Meaning
-meaning request =
-    if nat_lt (length request) 40 then IsFault DecodeMessage
-    else if nat_lt 0x101000 (len_of request) then Replies (error_bytes (unique_of request) ENOMEM)
-    else Replies (error_bytes (unique_of request) ENOSYS)
+-- what the rows of the grammar know besides the bytes
+pub record Given : Type 0 where
+  pub header : InHeader
+  pub options : ℕ
+  pub room : ℕ
+
+abbrev pub given : InHeader → (options room : ℕ) → Given
+given header options room = record { header = header; options = options; room = room }
+
+abbrev pub one : Given → FileCall → Reading Meaning
+one g call = give (Asks (One g.header.unique call))
+
+-- as many bytes as the header's length leaves after k bytes of record
+abbrev pub counted : (len k : ℕ) → Reading (List ℕ)
+counted len k = needs (nat_le (40 + k) len) (Faults InvalidHeaderLength) >> exactly (len - 40 - k)
+
+-- these bytes are one name
+unfoldable pub one_name : (len k : ℕ) → Reading (List ℕ)
+one_name len k = counted len k >>= λ bytes. within bytes last_name
+
+-- whether bit k of a number is 1
+abbrev pub has_bit : ℕ → ℕ → Bool
+has_bit n k = not (bit_and n (2 ^ k) == 0)
+
+abbrev pub if_set : Bool → ℕ → Option ℕ
+if_set test n = if test then Some n else None
+
+-- every option that is known, and those that are agreed on without being wanted
+abbrev pub known_options : ℕ
+known_options = 0x117fbffffff
+
+abbrev pub default_options : ℕ
+default_options = 0x10448449829
+
+-- struct fuse_init_out
+abbrev pub init_record : (readahead options max_background congestion max_write gran max_pages : ℕ) → InitOut
+init_record readahead options max_background congestion max_write gran max_pages =
+    record {
+      major = 7;
+      minor = 38;
+      max_readahead = readahead;
+      flags = options % 2 ^ 32;
+      max_background = max_background;
+      congestion_threshold = congestion;
+      max_write = max_write;
+      time_gran = gran;
+      max_pages = max_pages;
+      map_alignment = 0;
+      flags2 = options / 2 ^ 32;
+      unused = replicate 7 0;
+    }
+
+-- the record that tells a client of a later version which one is spoken
+unfoldable pub versions_bytes : List ℕ
+versions_bytes = spelled (init_out (init_record 0 0 0 0 0 0 0))
+
+-- the versions first, and then what both sides can
+abbrev pub started : Given → InitInCompat → ℕ → Reading Meaning
+started g r flags2 =
+    if nat_lt r.major 7 then refuse (Sends EPROTO)
+    else if nat_lt 7 r.major then give (Replies (reply_bytes g.header.unique versions_bytes))
+    else if nat_lt r.minor 27 then refuse (Sends EPROTO)
+    else give (Asks (Starts g.header.unique (bit_and (flags2 * 2 ^ 32 + r.flags) known_options) r.max_readahead))
+
+abbrev pub flags2_of : InitInCompat → Reading ℕ
+flags2_of r = if has_bit r.flags 30 then (init_in_ext >>= λ more. give more.flags2) else give 0
+
+-- the calls that requests ask for
+abbrev pub lookup_call : InHeader → List ℕ → FileCall
+lookup_call h name = Lookup (context_of h) h.nodeid name
+
+abbrev pub forget_call : InHeader → ForgetIn → FileCall
+forget_call h r = Forget (context_of h) h.nodeid r.nlookup
+
+abbrev pub read_call : InHeader → (room : ℕ) → ReadIn → FileCall
+read_call h room r = Read (context_of h) h.nodeid r.fh room r.size r.offset (if_set (has_bit r.read_flags 1) r.lock_owner) r.flags
+
+-- the rows of the grammar, one for each request
+abbrev pub lookup_row : Given → Reading Meaning
+lookup_row g = one_name g.header.len 0 >>= λ name. one g (lookup_call g.header name)
+
+abbrev pub forget_row : Given → Reading Meaning
+forget_row g = forget_in >>= λ r. one g (forget_call g.header r)
+
+abbrev pub read_asked : Given → ReadIn → Reading Meaning
+read_asked g r = needs (nat_le 16 g.room) (Faults EncodeMessage) >> one g (read_call g.header (g.room - 16) r)
+
+abbrev pub read_row : Given → Reading Meaning
+read_row g = read_in >>= λ r. read_asked g r
+
+abbrev pub init_row : Given → Reading Meaning
+init_row g = init_in_compat >>= λ r. flags2_of r >>= λ flags2. started g r flags2
+
+-- the row of a request; those that aren't served yet are answered ENOSYS
+unfoldable pub row : Given → Opcode → Reading Meaning
+row g op.Lookup = lookup_row g
+row g op.Forget = forget_row g
+row g op.Read = read_row g
+row g op.Init = init_row g
+row g _ = refuse (Sends ENOSYS)
+
+abbrev pub refused : ℕ → Refusal → Meaning
+refused unique (Faults fault) = IsFault fault
+refused unique (Sends errno) = Replies (error_bytes unique errno)
+
+abbrev pub ended : ℕ → Result (Meaning × List ℕ) Refusal → Meaning
+ended unique (Ok x) = x.0
+ended unique (Err r) = refused unique r
+
+abbrev pub row_of : Given → Option Opcode → Reading Meaning
+row_of g None = refuse (Sends ENOSYS)
+row_of g (Some opcode) = row g opcode
+
+-- after the header: a length that is too great, then the opcode's row
+abbrev pub body : Given → Reading Meaning
+body g = needs (nat_le g.header.len 0x101000) (Sends ENOMEM) >> row_of g (opcode_of g.header.opcode)
+
+-- what the bytes after the header mean
+unfoldable pub meant : Given → List ℕ → Meaning
+meant g bytes = ended g.header.unique (body g bytes)
+
+abbrev pub with_header : ℕ → ℕ → Result (InHeader × List ℕ) Refusal → Meaning
+with_header options room (Err r) = IsFault DecodeMessage
+with_header options room (Ok x) = meant (given x.0 options room) x.1
+
+unfoldable pub meaning : (options : ℕ) (request : List ℕ) (room : ℕ) → Meaning
+meaning options request room = with_header options room (in_header request)

@@ -1,26 +1,138 @@
--- What the server does for a meaning: its reply, whole or not at all.
-use Rattle.std.specs.Prelude.{ℕ, nat_lt, if◌then◌else◌, List, [], length, Option, Some, None, Result, Ok, Err}
+-- What the server does for a meaning: its calls, given the answers so far, and its reply.
+use Rattle.std.specs.Prelude.{◌≡◌, ℕ, ◌+◌, ◌-◌, ◌/◌, ◌^◌, Bool, true, false, nat_lt, List, [], ◌∷◌, map, length, Option, Some, None, Result, Ok, Err, if◌then◌else◌, bit_and, bit_or, MatchBool}
+use Rattle.vm_values.specs.Fields.{spelled}
+use Rattle.fuse_wire.specs.Records.{entry_out, init_out}
+use Rattle.fuse_fs.specs.Answers.{entry_out_of}
+use Rattle.fuse_fs.specs.Calls.{FileCall, FileAnswer, FileRun, Init, Destroy, Forget, BatchForget, Getlk, Setlk, Setlkw, Bmap, Ioctl, Poll, NotifyReply, Failed, Found, Bytes, Wants}
 use Rattle.virtiofsd_fuse.specs.declared.error.Error.{Error}
-use Rattle.virtiofsd_fuse.specs.declared.error.Error.TheVariants.{EncodeMessage}
-use Rattle.virtiofsd_fuse.specs.Grammar.{Meaning, IsFault, Replies}
+use Rattle.virtiofsd_fuse.specs.declared.error.Error.TheVariants.{EncodeMessage, OutOfMemory}
+use Rattle.virtiofsd_fuse.specs.Grammar.{Meaning, IsFault, Replies, IsSilent, Asks, Command, One, Starts, reply_bytes, error_bytes, init_record, default_options}
 
--- the reply, and the fault where there is one
+-- what serving gives so far: the calls, the last of which may wait for its answer, the options after, the reply, and the fault if there is one
 pub record Served : Type 0 where
+  pub calls : List FileCall
+  pub options : ℕ
   pub reply : List ℕ
   pub fault : Option Error
 
-abbrev pub no_reply : Error → Served
-no_reply fault = record { reply = []; fault = Some fault }
+-- what follows the header, by the answer
+abbrev pub body_bytes : FileAnswer → List ℕ
+body_bytes (Found e) = spelled (entry_out (entry_out_of e))
+body_bytes (Bytes bytes) = bytes
+body_bytes _ = []
+
+-- the calls whose good answer is not told
+abbrev pub is_silent : FileCall → Bool
+is_silent (Forget c n k) = true
+is_silent (BatchForget c counts) = true
+is_silent Getlk = true
+is_silent Setlk = true
+is_silent Setlkw = true
+is_silent Bmap = true
+is_silent Ioctl = true
+is_silent Poll = true
+is_silent NotifyReply = true
+is_silent Destroy = true
+is_silent _ = false
+
+-- the reply to a call's answer
+abbrev pub answered : ℕ → FileCall → FileAnswer → List ℕ
+answered unique call (Failed errno) = error_bytes unique errno
+answered unique call answer = if is_silent call then [] else reply_bytes unique (body_bytes answer)
+
+-- DESTROY ends what was agreed
+abbrev pub options_after : ℕ → FileCall → ℕ
+options_after options Destroy = 0
+options_after options _ = options
+
+-- of what both sides can, what the file system wants and what is agreed on anyway
+abbrev pub agreed : (capable wanted : ℕ) → ℕ
+agreed capable wanted = bit_and capable (bit_or wanted default_options)
+
+-- struct fuse_init_out: 65535 requests in the background, throttled from 49149 on, writes of at most 2^20 bytes, times to the nanosecond, and as many pages as 2^20 bytes take
+unfoldable pub started_bytes : (page_size readahead options : ℕ) → List ℕ
+started_bytes page_size readahead options = spelled (init_out (init_record readahead options 65535 49149 (2 ^ 20) 1 ((2 ^ 20 - 1) / page_size + 1)))
+
+-- the reply to an answer of `init`
+abbrev pub start_answered : (page_size unique capable readahead : ℕ) → FileAnswer → List ℕ
+start_answered page_size unique capable readahead (Wants wanted) = reply_bytes unique (started_bytes page_size readahead (agreed capable wanted))
+start_answered page_size unique capable readahead (Failed errno) = error_bytes unique errno
+start_answered page_size unique capable readahead _ = []
+
+-- the options after it
+abbrev pub start_options : (options capable : ℕ) → FileAnswer → ℕ
+start_options options capable (Wants wanted) = agreed capable wanted
+start_options options capable _ = options
+
+abbrev pub no_reply : List FileCall → ℕ → Option Error → Served
+no_reply calls options fault = record { calls = calls; options = options; reply = []; fault = fault }
 
 -- the whole reply, or none where it is longer than the room
-abbrev pub replied : (room : ℕ) → List ℕ → Served
-replied room bytes = if nat_lt room (length bytes) then no_reply EncodeMessage else record { reply = bytes; fault = None }
+abbrev pub replied : (room : ℕ) → List FileCall → ℕ → List ℕ → Served
+replied room calls options bytes =
+    if nat_lt room (length bytes) then no_reply calls options (Some EncodeMessage)
+    else record { calls = calls; options = options; reply = bytes; fault = None }
 
-abbrev pub served : (room : ℕ) → Meaning → Served
-served room (IsFault fault) = no_reply fault
-served room (Replies bytes) = replied room bytes
+-- what the server knows besides a meaning
+pub record Setting : Type 0 where
+  pub page_size : ℕ
+  pub options : ℕ
+  pub room : ℕ
 
--- what an answer of the server says
-abbrev pub served_of : Result (List ℕ) Error → Served
-served_of (Ok bytes) = record { reply = bytes; fault = None }
-served_of (Err fault) = no_reply fault
+abbrev pub setting : (page_size options room : ℕ) → Setting
+setting page_size options room = record { page_size = page_size; options = options; room = room }
+
+abbrev pub commanded : Setting → Command → List FileAnswer → Served
+commanded s (One unique call) [] = no_reply (call ∷ []) s.options None
+commanded s (One unique call) (answer ∷ answers) = replied s.room (call ∷ []) (options_after s.options call) (answered unique call answer)
+commanded s (Starts unique capable readahead) [] = no_reply (Init capable ∷ []) s.options None
+commanded s (Starts unique capable readahead) (answer ∷ answers) = replied s.room (Init capable ∷ []) (start_options s.options capable answer) (start_answered s.page_size unique capable readahead answer)
+
+-- the calls of a meaning and its reply, by the answers so far
+abbrev pub served : Setting → Meaning → List FileAnswer → Served
+served s (IsFault fault) answers = no_reply [] s.options (Some fault)
+served s (Replies bytes) answers = replied s.room [] s.options bytes
+served s IsSilent answers = no_reply [] s.options None
+served s (Asks command) answers = commanded s command answers
+
+-- what an answer of the server says, after these calls
+abbrev pub served_of : List FileCall → (options : ℕ) → Result ℕ Error → (written : List ℕ) → Served
+served_of calls options (Ok n) written = record { calls = calls; options = options; reply = written; fault = None }
+served_of calls options (Err fault) written = no_reply calls options (Some fault)
+
+-- a request served whole: calls, each with its answer, along which the file system's state moves, and what comes of them
+pub record Serves {F : Type 0} (may : F → FileCall → FileAnswer → F → Type 0) (s : Setting) (m : Meaning) (before : F) (result : Result ℕ Error) (written : List ℕ) (options : ℕ) (after : F) : Type 0 where
+  pub steps : List (FileCall × FileAnswer)
+  pub run : FileRun may before steps after
+  pub gives : served s m (map (λ step. step.1) steps) ≡ served_of (map (λ step. step.0) steps) options result written
+
+-- whether memory is wanting
+abbrev pub is_memory : Error → Bool
+is_memory OutOfMemory = true
+is_memory _ = false
+
+abbrev pub lacks_memory : Result ℕ Error → Bool
+lacks_memory (Ok n) = false
+lacks_memory (Err e) = is_memory e
+
+-- a request is served, or memory is wanting and nothing has changed
+abbrev pub Handles : {F : Type 0} → (F → FileCall → FileAnswer → F → Type 0) → Setting → Meaning → F → Result ℕ Error → List ℕ → ℕ → F → Type 0
+Handles may s m before result written options after = MatchBool (lacks_memory result) ((options ≡ s.options) × (after ≡ before)) (Serves may s m before result written options after)
+
+-- a writer's answer with what it wrote, and the reply that it is to be: whole, or not at all
+abbrev pub told : Result ℕ Error → List ℕ → Result (List ℕ) Error
+told (Ok n) written = Ok written
+told (Err e) written = Err e
+
+abbrev pub sent : (room : ℕ) → List ℕ → Result (List ℕ) Error
+sent room bytes = if nat_lt room (length bytes) then Err EncodeMessage else Ok bytes
+
+-- the reply to an answer of `read`, with the bytes that were put in
+abbrev pub data_reply : ℕ → Result ℕ ℕ → List ℕ → List ℕ
+data_reply unique (Ok n) bytes = reply_bytes unique bytes
+data_reply unique (Err errno) bytes = error_bytes unique errno
+
+-- the reply to an answer of `lookup`
+abbrev pub entry_reply : ℕ → FileAnswer → List ℕ
+entry_reply unique (Failed errno) = error_bytes unique errno
+entry_reply unique answer = reply_bytes unique (body_bytes answer)

@@ -1,82 +1,126 @@
-//! The server: it answers flat requests (virtiofsd's `Server`).
+//! The server: it reads a request, asks its file system, and writes the reply (virtiofsd's `Server`).
 
-ghost use Rattle.std.specs.Prelude.{◌≡◌, ◌-◌, ◌^◌, ◌≤◌, ◌<◌, ◌++◌, length, take, drop};
-ghost use Rattle.std.specs.Int.{w32, w64, to_le_bytes};
-ghost use Rattle.virtiofsd_fuse.specs.Grammar.{meaning, error_bytes, len_of, unique_of};
-ghost use Rattle.virtiofsd_fuse.specs.Serving.{served, served_of};
+ghost use Rattle.std.specs.Prelude.{◌≡◌, ◌<◌, ◌≤◌, ◌^◌, min, [], length, IfOk, IsTrue};
+ghost use Rattle.fuse_wire.specs.Opcodes.{opcode_of};
+ghost use Rattle.virtiofsd_fuse.specs.Pages.{is_page_size};
+ghost use Rattle.virtiofsd_fuse.specs.Grammar.{given, meant, meaning};
+ghost use Rattle.virtiofsd_fuse.specs.Serving.{setting, Handles};
 
 use crate::error::Error;
-
-/// A server that knows no request: each is answered by an error.
-#[derive(Debug, Drop)]
-pub struct Server;
-
-/// The length of a request's header, `struct fuse_in_header`.
-const IN_HEADER_LEN: usize = 40;
-
-/// The length of a reply's header, `struct fuse_out_header`.
-pub const OUT_HEADER_LEN: usize = 16;
+use crate::reader::Reader;
+use crate::records::read_in_header;
+use crate::replies::reply_error;
+use crate::writer::Writer;
+use bitflags::Flags;
+use fuse_fs::FileSystem;
+use fuse_in::InHeader;
+use fuse_wire::{Errno, FsOptions, Opcode};
+use std::alloc::Global;
 
 /// The longest request: 2^20 bytes of data, and one page.
 const MAX_REQUEST_LEN: u32 = 0x101000;
 
-const ENOMEM: u32 = 12;
+/// The longest reply that holds no data: a header and `struct fuse_entry_out`.
+const SHORT_REPLY_LEN: usize = 144;
 
-const ENOSYS: u32 = 38;
-
-// The field len of a request's header.
-fn read_len(request: &[u8]) -> u32
-    requires { 40 ≤ length request.now }
-    ensures { result ≡ len_of request.now }
-{
-    u32::from_le_bytes([request[0], request[1], request[2], request[3]])
+/// A server of one file system.
+#[derive(Drop)]
+pub struct Server<F> {
+    pub(crate) fs: F,
+    pub(crate) page_size: u32,
+    pub(crate) options: FsOptions,
+    ghost pages: { IsTrue (is_page_size page_size) },
 }
 
-// The field unique of a request's header.
-fn read_unique(request: &[u8]) -> u64
-    requires { 40 ≤ length request.now }
-    ensures { result ≡ unique_of request.now }
+// The request that a number asks for.
+fn opcode_of(number: u32) -> Option<Opcode>
+    ensures { result ≡ opcode_of number }
 {
-    let at = &request[8..][..8];
-    u64::from_le_bytes([at[0], at[1], at[2], at[3], at[4], at[5], at[6], at[7]])
+    match Opcode::try_from(number) {
+        Ok(opcode) => Some(opcode),
+        Err(()) => None,
+    }
 }
 
-// The reply that tells an error.
-fn error_reply(unique: u64, errno: u32) -> [u8; 16]
-    requires some { 0 < errno }
-    requires small { errno < 2 ^ 12 }
-    ensures { result ≡ error_bytes unique errno }
-{
-    let mut reply = [0u8; OUT_HEADER_LEN];
-    reply[..4].copy_from_slice(&16u32.to_le_bytes());
-    reply[4..8].copy_from_slice(&(u32::MAX - errno + 1).to_le_bytes());
-    reply[8..].copy_from_slice(&unique.to_le_bytes());
-    reply
-}
-
-impl Server {
-    /// A server.
-    pub fn new() -> Server
-        ensures { result ≡ record {} }
+impl<F: FileSystem> Server<F> {
+    /// A server with which nothing was agreed yet. The guest's pages have `page_size` bytes.
+    pub fn new(fs: F, page_size: u32) -> Server<F>
+        requires { IsTrue (is_page_size page_size) }
+        ensures fs { result.fs ≡ fs }
+        ensures page_size { result.page_size ≡ page_size }
+        ensures options { result.options.0 ≡ 0 }
     {
-        Server
+        Server {
+            fs,
+            page_size,
+            options: FsOptions::from_bits_retain(0),
+        }
     }
 
-    /// Answers a request into a room of this many bytes: the whole reply, or why there is none.
-    pub fn handle_message(&mut self, request: &[u8], room: usize) -> Result<[u8; 16], Error>
-        ensures { served_of result ≡ served room (meaning request.now) }
+    /// The options that were agreed.
+    pub fn options(&self) -> FsOptions
+        ensures { result ≡ self.now.options }
     {
-        if request.len() < IN_HEADER_LEN {
-            return Err(Error::DecodeMessage);
+        self.options
+    }
+
+    /// The file system.
+    pub fn fs(&self) -> &F
+        ensures { result.now ≡ self.now.fs }
+    {
+        &self.fs
+    }
+
+    // Serves a request whose header was read.
+    fn serve(
+        &mut self,
+        alloc: Global,
+        head: &InHeader,
+        r: &mut Reader<'_>,
+        w: &mut Writer,
+    ) -> Result<usize, Error>
+        requires fresh { w.old.written ≡ [] }
+        requires room { w.old.free < 2 ^ 32 }
+        requires memory { min 144 w.old.free ≤ w.old.reserved }
+        ensures handles { Handles F.may (setting self.old.page_size self.old.options.0 w.old.free) (meant (given head.now self.old.options.0 w.old.free) r.old) self.old.fs result w.new.written self.new.options.0 self.new.fs }
+        ensures length { IfOk result (λ n. n ≡ length w.new.written) }
+        ensures page_size { self.new.page_size ≡ self.old.page_size }
+    {
+        if head.len > MAX_REQUEST_LEN {
+            return reply_error(w, head.unique, Errno::ENOMEM);
         }
-        if room < OUT_HEADER_LEN {
-            return Err(Error::EncodeMessage);
-        }
-        let errno = if read_len(request) > MAX_REQUEST_LEN {
-            ENOMEM
-        } else {
-            ENOSYS
+        let Some(opcode) = opcode_of(head.opcode) else {
+            return reply_error(w, head.unique, Errno::ENOSYS);
         };
-        Ok(error_reply(read_unique(request), errno))
+        match opcode {
+            Opcode::Lookup => self.lookup(head, r, w),
+            Opcode::Forget => self.forget(head, r, w),
+            Opcode::Read => self.read(alloc, head, r, w),
+            Opcode::Init => self.init(head, r, w),
+            _ => reply_error(w, head.unique, Errno::ENOSYS),
+        }
+    }
+
+    /// Serves one request: what its bytes mean, by calls of the file system that may be answered so. Answers the reply's
+    /// length; the reply stands in the writer, which holds anything after an error. `OutOfMemory` comes before any call.
+    pub fn handle_message(
+        &mut self,
+        alloc: Global,
+        mut r: Reader<'_>,
+        w: &mut Writer,
+    ) -> Result<usize, Error>
+        requires fresh { w.old.written ≡ [] }
+        requires room { w.old.free < 2 ^ 32 }
+        ensures handles { Handles F.may (setting self.old.page_size self.old.options.0 w.old.free) (meaning self.old.options.0 r.entry w.old.free) self.old.fs result w.new.written self.new.options.0 self.new.fs }
+        ensures length { IfOk result (λ n. n ≡ length w.new.written) }
+        ensures page_size { self.new.page_size ≡ self.old.page_size }
+    {
+        match read_in_header(&mut r) {
+            Ok(head) => {
+                w.reserve(SHORT_REPLY_LEN)?;
+                self.serve(alloc, &head, &mut r, w)
+            }
+            Err(error) => Err(error),
+        }
     }
 }

@@ -1,0 +1,164 @@
+-- What a server asks of a file system, and what it may be answered.
+use Rattle.std.specs.Prelude.{◌≡◌, ℕ, Bool, true, false, not, ◌&&◌, IsTrue, nat_lt, nat_le, ◌^◌, List, [], ◌∷◌, length, Option}
+use Rattle.fuse_base.specs.declared.records.Attr.{Attr}
+use Rattle.fuse_base.specs.declared.stats.StatVfs.{StatVfs}
+use Rattle.fuse_in.specs.declared.nodes.SetattrIn.{SetattrIn}
+use Rattle.fuse_fs.specs.declared.answers.Context.{Context}
+use Rattle.fuse_fs.specs.declared.answers.Entry.{Entry}
+use Rattle.fuse_fs.specs.Times.{Duration}
+
+-- a security label, by the name of its kind
+pub record SecurityContext : Type 0 where
+  pub name : List ℕ
+  pub label : List ℕ
+
+-- what comes with a request that makes a node
+pub record Extra : Type 0 where
+  pub security : Option SecurityContext
+  pub group : Option ℕ
+
+-- an entry of a directory
+pub record Listed : Type 0 where
+  pub ino : ℕ
+  pub offset : ℕ
+  pub kind : ℕ
+  pub name : List ℕ
+
+-- a call of a file system; node and file numbers are below 2^64, and room is how many bytes a read may put in
+pub data FileCall : Type 0 where
+  Init : (capable : ℕ) → FileCall
+  Destroy : FileCall
+  Lookup : Context → (node : ℕ) → (name : List ℕ) → FileCall
+  Forget : Context → (node count : ℕ) → FileCall
+  BatchForget : Context → (counts : List (ℕ × ℕ)) → FileCall
+  Getattr : Context → (node : ℕ) → (handle : Option ℕ) → FileCall
+  Setattr : Context → (node : ℕ) → SetattrIn → (handle : Option ℕ) → (valid : ℕ) → FileCall
+  Readlink : Context → (node : ℕ) → FileCall
+  Symlink : Context → (link : List ℕ) → (node : ℕ) → (name : List ℕ) → Extra → FileCall
+  Mknod : Context → (node : ℕ) → (name : List ℕ) → (mode rdev umask : ℕ) → Extra → FileCall
+  Mkdir : Context → (node : ℕ) → (name : List ℕ) → (mode umask : ℕ) → Extra → FileCall
+  Unlink : Context → (node : ℕ) → (name : List ℕ) → FileCall
+  Rmdir : Context → (node : ℕ) → (name : List ℕ) → FileCall
+  Rename : Context → (node : ℕ) → (old : List ℕ) → (new_dir : ℕ) → (new : List ℕ) → (flags : ℕ) → FileCall
+  Link : Context → (old_node node : ℕ) → (name : List ℕ) → FileCall
+  Open : Context → (node : ℕ) → (kill : Bool) → (flags : ℕ) → FileCall
+  Read : Context → (node handle room size offset : ℕ) → (owner : Option ℕ) → (flags : ℕ) → FileCall
+  Write : Context → (node handle : ℕ) → (bytes : List ℕ) → (size offset : ℕ) → (owner : Option ℕ) → (delayed kill : Bool) → (flags : ℕ) → FileCall
+  Statfs : Context → (node : ℕ) → FileCall
+  Release : Context → (node flags handle : ℕ) → (flush unlock : Bool) → (owner : Option ℕ) → FileCall
+  Fsync : Context → (node : ℕ) → (data_only : Bool) → (handle : ℕ) → FileCall
+  Fsyncdir : Context → (node : ℕ) → (data_only : Bool) → (handle : ℕ) → FileCall
+  Setxattr : Context → (node : ℕ) → (name value : List ℕ) → (flags extra : ℕ) → FileCall
+  Getxattr : Context → (node : ℕ) → (name : List ℕ) → (size : ℕ) → FileCall
+  Listxattr : Context → (node size : ℕ) → FileCall
+  Removexattr : Context → (node : ℕ) → (name : List ℕ) → FileCall
+  Flush : Context → (node handle owner : ℕ) → FileCall
+  Opendir : Context → (node flags : ℕ) → FileCall
+  Readdir : Context → (node handle size offset : ℕ) → FileCall
+  Releasedir : Context → (node flags handle : ℕ) → FileCall
+  Getlk : FileCall
+  Setlk : FileCall
+  Setlkw : FileCall
+  Bmap : FileCall
+  Ioctl : FileCall
+  Poll : FileCall
+  NotifyReply : FileCall
+  Access : Context → (node mask : ℕ) → FileCall
+  Create : Context → (node : ℕ) → (name : List ℕ) → (mode : ℕ) → (kill : Bool) → (flags umask : ℕ) → Extra → FileCall
+  Fallocate : Context → (node handle mode offset len : ℕ) → FileCall
+  Lseek : Context → (node handle offset whence : ℕ) → FileCall
+  CopyFileRange : Context → (node handle offset node_out handle_out offset_out len flags : ℕ) → FileCall
+  Syncfs : Context → (node : ℕ) → FileCall
+  TmpFile : FileCall
+
+-- an answer of a file system: an error number, or what the call asked for
+pub data FileAnswer : Type 0 where
+  Failed : (errno : ℕ) → FileAnswer
+  Done : FileAnswer
+  Found : Entry ℕ → FileAnswer
+  HasAttr : Attr → Duration → FileAnswer
+  Opened : (handle : Option ℕ) → (options : ℕ) → FileAnswer
+  Created : Entry ℕ → (handle : Option ℕ) → (options : ℕ) → FileAnswer
+  Bytes : List ℕ → FileAnswer
+  Count : (bytes : ℕ) → FileAnswer
+  Stats : StatVfs → FileAnswer
+  Wrote : (bytes : ℕ) → FileAnswer
+  Offset : ℕ → FileAnswer
+  Entries : List Listed → FileAnswer
+  Wants : (options : ℕ) → FileAnswer
+
+-- the kinds of good answer
+pub data Kind : Type 0 where
+  IsDone : Kind
+  IsNeverGood : Kind
+  IsEntry : Kind
+  IsAttr : Kind
+  IsOpen : Kind
+  IsCreate : Kind
+  IsBytes : Kind
+  IsBytesOrCount : Kind
+  IsStats : Kind
+  IsWritten : Kind
+  IsOffset : Kind
+  IsEntries : Kind
+  IsWish : Kind
+
+-- what a good answer to a call is
+abbrev pub kind_of : FileCall → Kind
+kind_of (Lookup c n name) = IsEntry
+kind_of (Symlink c l n name x) = IsEntry
+kind_of (Mknod c n name m r u x) = IsEntry
+kind_of (Mkdir c n name m u x) = IsEntry
+kind_of (Link c o n name) = IsEntry
+kind_of (Create c n name m k f u x) = IsCreate
+kind_of (Getattr c n h) = IsAttr
+kind_of (Setattr c n r h v) = IsAttr
+kind_of (Open c n k f) = IsOpen
+kind_of (Opendir c n f) = IsOpen
+kind_of (Readlink c n) = IsBytes
+kind_of (Read c n h r s o w f) = IsBytes
+kind_of (Getxattr c n name s) = IsBytesOrCount
+kind_of (Listxattr c n s) = IsBytesOrCount
+kind_of (Statfs c n) = IsStats
+kind_of (Write c n h b s o w d k f) = IsWritten
+kind_of (CopyFileRange c n h o n' h' o' l f) = IsWritten
+kind_of (Lseek c n h o w) = IsOffset
+kind_of (Readdir c n h s o) = IsEntries
+kind_of (Init c) = IsWish
+kind_of TmpFile = IsNeverGood
+kind_of _ = IsDone
+
+-- the calls that can't fail
+abbrev pub never_fails : FileCall → Bool
+never_fails (Forget c n k) = true
+never_fails (BatchForget c counts) = true
+never_fails Destroy = true
+never_fails _ = false
+
+-- whether a good answer is of a kind; a node's number has 64 bits
+abbrev pub is_of : Kind → FileAnswer → Bool
+is_of IsDone Done = true
+is_of IsEntry (Found e) = nat_lt e.inode (2 ^ 64)
+is_of IsAttr (HasAttr a t) = true
+is_of IsOpen (Opened h o) = true
+is_of IsCreate (Created e h o) = nat_lt e.inode (2 ^ 64)
+is_of IsBytes (Bytes b) = true
+is_of IsBytesOrCount (Bytes b) = true
+is_of IsBytesOrCount (Count n) = true
+is_of IsStats (Stats st) = true
+is_of IsWritten (Wrote n) = true
+is_of IsOffset (Offset n) = true
+is_of IsEntries (Entries ds) = true
+is_of IsWish (Wants o) = true
+is_of _ _ = false
+
+-- whether an answer is one that the call can have
+abbrev pub suits : FileCall → FileAnswer → Bool
+suits call (Failed errno) = not (never_fails call) && nat_lt 0 errno && nat_lt errno 4096
+suits (Read c n h room size o w f) (Bytes b) = nat_le (length b) room
+suits call answer = is_of (kind_of call) answer
+
+-- calls with their answers, along which the file system's state moves as its implementer's relation lets it
+abbrev pub FileRun : {F : Type 0} → (F → FileCall → FileAnswer → F → Type 0) → F → List (FileCall × FileAnswer) → F → Type 0
+FileRun {F} may before [] after = after ≡ before
+FileRun {F} may before (step ∷ steps) after = (between : F) × IsTrue (suits step.0 step.1) × may before step.0 step.1 between × FileRun may between steps after

@@ -1,0 +1,108 @@
+//! The values that a file system is given and answers.
+
+ghost use Rattle.std.specs.Prelude.{◌≡◌, ◌<◌, ◌^◌, SomeIff};
+
+use fuse_base::{Attr, GuestGid, GuestUid};
+use fuse_in::InHeader;
+use fuse_wire::EntryOut;
+use std::marker::Model;
+
+/// How long an answer stays good: whole seconds, and nanoseconds below 10^9 (in place of std's `Duration`).
+#[derive(Clone, Copy, Debug, PartialEq, Eq)]
+pub struct Timeout {
+    secs: u64,
+    nanos: u32,
+}
+
+impl Model for Timeout {
+    ghost use Rattle.std.specs.Prelude.{◌<◌, ◌^◌};
+    ghost use Rattle.fuse_fs.specs.Times.{Duration};
+
+    ghost Value = { Duration };
+
+    ghost view = { λ t. record { seconds = t.secs; nanos = t.nanos } };
+
+    ghost invariant = { λ t. t.nanos < 10 ^ 9 };
+
+    ghost inverse = { λ d. record { secs = d.seconds; nanos = d.nanos } };
+}
+
+impl Timeout {
+    /// A timeout; None where the nanoseconds are a second or more.
+    pub fn new(secs: u64, nanos: u32) -> Option<Timeout>
+        ensures { SomeIff result (nanos < 10 ^ 9) (record { seconds = secs; nanos = nanos }) }
+    {
+        if nanos < 1_000_000_000 {
+            Some(Timeout { secs, nanos })
+        } else {
+            None
+        }
+    }
+
+    /// Its whole seconds.
+    pub fn secs(self) -> u64
+        ensures { result ≡ self.seconds }
+    {
+        self.secs
+    }
+
+    /// Its nanoseconds, below 10^9.
+    pub fn nanos(self) -> u32
+        ensures value { result ≡ self.nanos }
+        ensures range { result < 10 ^ 9 }
+    {
+        self.nanos
+    }
+}
+
+/// What a name stands for. Node 0 is a name that is known not to be there.
+#[derive(Drop)]
+pub struct Entry<I> {
+    pub inode: I,
+    pub generation: u64,
+    pub attr: Attr,
+    /// How long the attributes stay good.
+    pub attr_timeout: Timeout,
+    /// How long the name stays good.
+    pub entry_timeout: Timeout,
+}
+
+/// Who asks: the guest's process, and in whose name it runs.
+#[derive(Clone, Copy, Debug)]
+pub struct Context {
+    pub uid: GuestUid,
+    pub gid: GuestGid,
+    pub pid: i32,
+}
+
+ghost use Rattle.fuse_fs.specs.Answers.{context_of, entry_out_of, numbered};
+
+impl From<InHeader> for Context {
+    ghost from_gives = { λ h c. c ≡ context_of h };
+
+    fn from(header: InHeader) -> Context {
+        Context {
+            uid: header.uid,
+            gid: header.gid,
+            pid: header.pid.cast_signed(),
+        }
+    }
+}
+
+use crate::file_system::FileNumber;
+
+impl<I: FileNumber> From<Entry<I>> for EntryOut {
+    ghost from_gives = { λ e r. r ≡ entry_out_of (numbered I.number e) };
+
+    fn from(entry: Entry<I>) -> EntryOut {
+        EntryOut {
+            nodeid: entry.inode.as_number(),
+            generation: entry.generation,
+            entry_valid: entry.entry_timeout.secs(),
+            attr_valid: entry.attr_timeout.secs(),
+            entry_valid_nsec: entry.entry_timeout.nanos(),
+            attr_valid_nsec: entry.attr_timeout.nanos(),
+            attr: entry.attr,
+        }
+    }
+}

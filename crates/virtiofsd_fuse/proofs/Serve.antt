@@ -1,0 +1,68 @@
+-- How a meaning is served.
+use Rattle.std.proofs.Common.{◌≡◌, ℕ, ◌+◌, ◌-◌, ◌<◌, ◌≤◌, Bool, true, false, List, [], ◌∷◌, ◌++◌, length, Result, Ok, Err, Option, Some, None, refl, sym, ap, ◌∙◌, cond, arith}
+use Rattle.std.specs.Prelude.{IsTrue, nat_lt}
+use Rattle.std.specs.Bool.{MatchBool}
+use Rattle.fuse_fs.specs.Calls.{FileCall, FileAnswer, FileRun, suits, Init, Lookup, Forget, Done}
+use Rattle.virtiofsd_fuse.specs.Reading.{Refusal, Read, Faults, Sends, and_then, value_of}
+use Rattle.virtiofsd_fuse.specs.Grammar.{Meaning, IsFault, Replies, Asks, One, Starts, Given, given, lookup_row, refused, ended, error_bytes}
+use Rattle.virtiofsd_fuse.specs.Serving.{Served, Setting, Serves, Handles, served, served_of, replied, no_reply, answered, options_after, start_options, start_answered, lacks_memory, is_memory, told, sent}
+use Rattle.virtiofsd_fuse.specs.declared.error.Error.{Error}
+use Rattle.virtiofsd_fuse.specs.declared.error.Error.TheVariants.{EncodeMessage, OutOfMemory}
+
+told_by : (t : Bool) (calls : List FileCall) (options : ℕ) (bytes : List ℕ) (result : Result ℕ Error) (written : List ℕ) → told result written ≡ cond t (Err EncodeMessage) (Ok bytes)
+    → cond t (no_reply calls options (Some EncodeMessage)) (record { calls = calls; options = options; reply = bytes; fault = None }) ≡ served_of calls options result written
+told_by true calls options bytes (Ok n) written e = absurd (cc)
+told_by true calls options bytes (Err f) written e = let same : EncodeMessage ≡ f = cc in ap (λ x. no_reply calls options (Some x)) same
+told_by false calls options bytes (Ok n) written e = let same : bytes ≡ written = cc in ap (λ x. record { calls = calls; options = options; reply = x; fault = None }) same
+told_by false calls options bytes (Err f) written e = absurd (cc)
+
+-- what was told is the whole reply, or none
+pub told_replied : (room : ℕ) (calls : List FileCall) (options : ℕ) (bytes : List ℕ) (result : Result ℕ Error) (written : List ℕ) → told result written ≡ sent room bytes → replied room calls options bytes ≡ served_of calls options result written
+told_replied room calls options bytes result written e = told_by (nat_lt room (length bytes)) calls options bytes result written e
+
+memory_by : (t : Bool) (bytes : List ℕ) (e : Error) → Err e ≡ cond t (Err EncodeMessage) (Ok bytes) → lacks_memory (Err e) ≡ false
+memory_by true bytes e h = let same : e ≡ EncodeMessage = cc in rw same refl
+memory_by false bytes e h = absurd (cc)
+
+pub told_memory : (room : ℕ) (bytes : List ℕ) (result : Result ℕ Error) (written : List ℕ) → told result written ≡ sent room bytes → lacks_memory result ≡ false
+told_memory room bytes (Ok n) written h = refl
+told_memory room bytes (Err e) written h = memory_by (nat_lt room (length bytes)) bytes e h
+
+module _ {F : Type 0} (may : F → FileCall → FileAnswer → F → Type 0) where
+  handled : (s : Setting) (m : Meaning) (before : F) (result : Result ℕ Error) (written : List ℕ) (options : ℕ) (after : F) → lacks_memory result ≡ false → Serves may s m before result written options after → Handles may s m before result written options after
+  handled s m before result written options after e h = rw e h
+
+  -- a reply that needs no call
+  pub handles_reply : (s : Setting) (m : Meaning) (bytes : List ℕ) (before : F) (result : Result ℕ Error) (written : List ℕ) → m ≡ Replies bytes → told result written ≡ sent s.room bytes → Handles may s m before result written s.options before
+  handles_reply s m bytes before result written e h =
+      rw e (handled s (Replies bytes) before result written s.options before (told_memory s.room bytes result written h) (record { steps = []; run = refl; gives = told_replied s.room [] s.options bytes result written h }))
+
+  -- a fault
+  pub handles_fault : (s : Setting) (m : Meaning) (e : Error) (before : F) (written : List ℕ) → m ≡ IsFault e → is_memory e ≡ false → Handles may s m before (Err e) written s.options before
+  handles_fault s m e before written h q =
+      rw h (handled s (IsFault e) before (Err e) written s.options before q (record { steps = []; run = refl; gives = refl }))
+
+  -- no memory
+  pub handles_nothing : (s : Setting) (m : Meaning) (before : F) (written : List ℕ) → Handles may s m before (Err OutOfMemory) written s.options before
+  handles_nothing s m before written = (refl, refl)
+
+  -- one call, and its reply
+  pub handles_one : (s : Setting) (m : Meaning) (unique : ℕ) (call : FileCall) (answer : FileAnswer) (before after : F) (result : Result ℕ Error) (written : List ℕ) (options : ℕ) → m ≡ Asks (One unique call) → IsTrue (suits call answer) → may before call answer after → options ≡ options_after s.options call → told result written ≡ sent s.room (answered unique call answer) → Handles may s m before result written options after
+  handles_one s m unique call answer before after result written options e fits step o h =
+      rw (e, o) (handled s (Asks (One unique call)) before result written (options_after s.options call) after (told_memory s.room (answered unique call answer) result written h)
+      (record { steps = (call, answer) ∷ []; run = (after, fits, step, refl); gives = told_replied s.room (call ∷ []) (options_after s.options call) (answered unique call answer) result written h }))
+
+  -- INIT
+  pub handles_start : (s : Setting) (m : Meaning) (unique capable readahead : ℕ) (answer : FileAnswer) (before after : F) (result : Result ℕ Error) (written : List ℕ) (options : ℕ) → m ≡ Asks (Starts unique capable readahead) → IsTrue (suits (Init capable) answer) → may before (Init capable) answer after → options ≡ start_options s.options capable answer → told result written ≡ sent s.room (start_answered s.page_size unique capable readahead answer) → Handles may s m before result written options after
+  handles_start s m unique capable readahead answer before after result written options e fits step o h =
+      rw (e, o) (handled s (Asks (Starts unique capable readahead)) before result written (start_options s.options capable answer) after (told_memory s.room (start_answered s.page_size unique capable readahead answer) result written h)
+      (record { steps = (Init capable, answer) ∷ []; run = (after, fits, step, refl); gives = told_replied s.room (Init capable ∷ []) (start_options s.options capable answer) (start_answered s.page_size unique capable readahead answer) result written h }))
+
+-- what is asked for by what was read
+abbrev pub ask_of : {A : Type 0} → ℕ → (A → FileCall) → Result A Refusal → Meaning
+ask_of unique f (Ok x) = Asks (One unique (f x))
+ask_of unique f (Err r) = refused unique r
+
+pub ended_ask : {A : Type 0} (unique : ℕ) (f : A → FileCall) (r : Read A) → ended unique (and_then r (λ x. Ok (Asks (One unique (f x.0)), x.1))) ≡ ask_of unique f (value_of r)
+ended_ask unique f (Ok x) = refl
+ended_ask unique f (Err r) = refl

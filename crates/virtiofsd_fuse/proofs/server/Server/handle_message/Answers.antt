@@ -1,0 +1,14 @@
+use Rattle.std.proofs.Common.{◌≡◌, Some, refl, sym, ap, ◌∙◌, arith}
+use Rattle.fuse_base.specs.declared.flags.FsOptions.{FsOptions}
+use Rattle.virtiofsd_fuse.specs.Serving.{setting}
+use Rattle.virtiofsd_fuse.proofs.Serve.{handles_fault}
+use Rattle.virtiofsd_fuse.proofs.Rows.{meaning_head, meaning_fault}
+use Rattle.virtiofsd_fuse.proofs.server.Server.handle_message.Goals as goal
+
+pub returns-in-Err-clause-handles : goal.returns-in-Err-clause-handles
+returns-in-Err-clause-handles g c =
+    rw c.in-Err.ensures.fault (handles_fault g.F.FileSystem.may (setting c.args.self.now.page_size c.args.self.now.options.0 c.args.w.now.free) _ _ _ _ (meaning_fault _ _ _ _ c.in-Err.ensures.reads) refl)
+
+pub returns-in_ok-reserve-in-Ok-clause-handles : goal.returns-in_ok-reserve-in-Ok-clause-handles
+returns-in_ok-reserve-in-Ok-clause-handles g c =
+    rw (meaning_head c.args.self.now.options.0 c.args.w.now.free c.args.r _ _ c.in-Ok.ensures.reads) (rw c.reserve.ensures.free at c.serve.ensures.handles)

@@ -1,0 +1,88 @@
+-- Reading a request from its front, with the first refusal that is met.
+use Rattle.std.specs.Prelude.{ℕ, Bool, ◌==◌, nat_lt, List, [], ◌∷◌, length, take, drop, Option, Some, None, Result, Ok, Err, if◌then◌else◌, option_map}
+use Rattle.std.specs.Borrow.{Bor}
+use Rattle.virtiofsd_fuse.specs.declared.error.Error.{Error}
+use Rattle.virtiofsd_fuse.specs.declared.error.Error.TheVariants.{DecodeMessage, InvalidCString}
+
+-- why a request isn't read to its end: a fault, or an error number that is the reply
+pub data Refusal : Type 0 where
+  Faults : Error → Refusal
+  Sends : (errno : ℕ) → Refusal
+
+-- what reading gives: a value and the bytes after it, or a refusal
+abbrev pub Read : Type 0 → Type 0
+Read X = Result (X × List ℕ) Refusal
+
+abbrev pub Reading : Type 0 → Type 0
+Reading X = List ℕ → Read X
+
+abbrev pub and_then : {A B : Type 0} → Result A Refusal → (A → Result B Refusal) → Result B Refusal
+and_then (Ok x) f = f x
+and_then (Err r) f = Err r
+
+infixl 10 ◌>>=◌
+-- one reading, and then another
+abbrev pub ◌>>=◌ : {A B : Type 0} → Reading A → (A → Reading B) → Reading B
+p >>= f = λ bytes. and_then (p bytes) (λ x. f x.0 x.1)
+
+infixl 10 ◌>>◌
+abbrev pub ◌>>◌ : {A B : Type 0} → Reading A → Reading B → Reading B
+p >> q = λ bytes. and_then (p bytes) (λ x. q x.1)
+
+-- a value, and nothing read
+abbrev pub give : {A : Type 0} → A → Reading A
+give x = λ bytes. Ok (x, bytes)
+
+abbrev pub refuse : {A : Type 0} → Refusal → Reading A
+refuse r = λ bytes. Err r
+
+-- goes on only where the test holds
+abbrev pub needs : Bool → Refusal → Reading (Unit {0})
+needs test r = λ bytes. if test then Ok (tt, bytes) else Err r
+
+-- all that is left
+abbrev pub rest : Reading (List ℕ)
+rest = λ bytes. Ok (bytes, [])
+
+-- n bytes
+abbrev pub exactly : ℕ → Reading (List ℕ)
+exactly n = λ bytes. if nat_lt (length bytes) n then Err (Faults DecodeMessage) else Ok (take n bytes, drop n bytes)
+
+-- a reading of these bytes alone, of which what is left is ignored
+abbrev pub within : {A : Type 0} → List ℕ → Reading A → Reading A
+within bytes p = λ others. and_then (p bytes) (λ x. Ok (x.0, others))
+
+abbrev pub before_zero : ℕ → Option (List ℕ × List ℕ) → Option (List ℕ × List ℕ)
+before_zero b split = option_map (λ p. (b ∷ p.0, p.1)) split
+
+-- the bytes before the first zero byte, and those after it
+abbrev pub at_zero : List ℕ → Option (List ℕ × List ℕ)
+at_zero [] = None
+at_zero (b ∷ bs) = if b == 0 then Some ([], bs) else before_zero b (at_zero bs)
+
+abbrev pub ended_or : Error → Option (List ℕ × List ℕ) → Read (List ℕ)
+ended_or e None = Err (Faults e)
+ended_or e (Some split) = Ok split
+
+-- a name up to its zero byte; e where there is none
+abbrev pub name_or : Error → Reading (List ℕ)
+name_or e = λ bytes. ended_or e (at_zero bytes)
+
+-- all that is left is one name, which ends with its only zero byte
+unfoldable pub last_name : Reading (List ℕ)
+last_name = name_or InvalidCString >>= λ name. rest >>= λ more. needs (length more == 0) (Faults InvalidCString) >> give name
+
+-- what was read, whatever is left
+abbrev pub value_of : {A : Type 0} → Read A → Result A Refusal
+value_of (Ok x) = Ok x.0
+value_of (Err r) = Err r
+
+-- what a function that reads says, with the bytes that it leaves
+abbrev pub read_result : {A : Type 0} → Result A Error → List ℕ → Read A
+read_result (Ok x) more = Ok (x, more)
+read_result (Err e) more = Err (Faults e)
+
+-- what a function that reads bytes in place says, whatever it leaves
+abbrev pub bytes_result : Result (Bor (List ℕ)) Error → Result (List ℕ) Refusal
+bytes_result (Ok bytes) = Ok bytes.now
+bytes_result (Err e) = Err (Faults e)

@@ -1,0 +1,129 @@
+//! Requests about names and nodes.
+
+ghost use Rattle.std.specs.Prelude.{◌≡◌, ◌≤◌, min, [], length, IfOk, IsTrue, Ok};
+ghost use Rattle.vm_values.specs.Fields.{spelled};
+ghost use Rattle.fuse_wire.specs.Records.{entry_out};
+ghost use Rattle.fuse_fs.specs.Answers.{entry_answer, entry_out_of, numbered};
+ghost use Rattle.fuse_fs.specs.Calls.{suits, Done};
+ghost use Rattle.virtiofsd_fuse.specs.Grammar.{given, ended, lookup_row, forget_row, lookup_call, forget_call};
+ghost use Rattle.virtiofsd_fuse.specs.Serving.{setting, Handles, told, sent, entry_reply};
+
+use crate::error::Error;
+use crate::names::read_name;
+use crate::reader::Reader;
+use crate::records::read_forget_in;
+use crate::replies::{reply, reply_error};
+use crate::server::Server;
+use crate::writer::Writer;
+use fuse_fs::{Context, Entry, FileNumber, FileSystem};
+use fuse_in::{ForgetIn, InHeader};
+use fuse_wire::{EntryOut, Errno};
+use vm_values::ByteValued;
+
+// An entry's record.
+fn entry_bytes<I: FileNumber>(entry: Entry<I>) -> [u8; 128]
+    ensures { result ≡ spelled (entry_out (entry_out_of (numbered I.number entry))) }
+{
+    let mut bytes = [0u8; 128];
+    EntryOut::from(entry).put_bytes(&mut bytes);
+    bytes
+}
+
+// Replies with an entry, or with an error.
+fn reply_entry<I: FileNumber>(
+    w: &mut Writer,
+    unique: u64,
+    answer: Result<Entry<I>, Errno>,
+) -> Result<usize, Error>
+    requires fresh { w.old.written ≡ [] }
+    requires memory { min 144 w.old.free ≤ w.old.reserved }
+    ensures sent { told result w.new.written ≡ sent w.old.free (entry_reply unique (entry_answer I.number answer)) }
+    ensures length { IfOk result (λ n. n ≡ length w.new.written) }
+{
+    match answer {
+        Ok(entry) => reply(w, unique, &entry_bytes(entry)),
+        Err(error) => reply_error(w, unique, error),
+    }
+}
+
+impl<F: FileSystem> Server<F> {
+    // Asks for a name.
+    fn ask_lookup(&mut self, head: &InHeader, name: &[u8]) -> Result<Entry<F::Inode>, Errno>
+        ensures may { F.may self.old.fs (lookup_call head.now name.now) (entry_answer F.Inode.number result) self.new.fs }
+        ensures suits { IsTrue (suits (lookup_call head.now name.now) (entry_answer F.Inode.number result)) }
+        ensures options { self.new.options ≡ self.old.options }
+        ensures page_size { self.new.page_size ≡ self.old.page_size }
+    {
+        let parent = F::Inode::numbered(head.nodeid);
+        match self.fs.lookup(Context::from(*head), parent, name) {
+            Ok(entry) => {
+                let _number = entry.inode.as_number();
+                Ok(entry)
+            }
+            Err(error) => {
+                let _number = error.raw();
+                Err(error)
+            }
+        }
+    }
+
+    // Tells that a node is held less.
+    fn ask_forget(&mut self, head: &InHeader, request: &ForgetIn)
+        ensures may { F.may self.old.fs (forget_call head.now request.now) Done self.new.fs }
+        ensures options { self.new.options ≡ self.old.options }
+        ensures page_size { self.new.page_size ≡ self.old.page_size }
+    {
+        let inode = F::Inode::numbered(head.nodeid);
+        self.fs.forget(Context::from(*head), inode, request.nlookup);
+    }
+
+    /// LOOKUP: `struct fuse_entry_out` of a name.
+    pub(crate) fn lookup(
+        &mut self,
+        head: &InHeader,
+        r: &mut Reader<'_>,
+        w: &mut Writer,
+    ) -> Result<usize, Error>
+        requires fresh { w.old.written ≡ [] }
+        requires memory { min 144 w.old.free ≤ w.old.reserved }
+        ensures handles { Handles F.may (setting self.old.page_size self.old.options.0 w.old.free) (ended head.now.unique (lookup_row (given head.now self.old.options.0 w.old.free) r.old)) self.old.fs result w.new.written self.new.options.0 self.new.fs }
+        ensures length { IfOk result (λ n. n ≡ length w.new.written) }
+        ensures page_size { self.new.page_size ≡ self.old.page_size }
+    {
+        match read_name(head.len, 0, r) {
+            Ok(name) => {
+                let answer = self.ask_lookup(head, name);
+                reply_entry(w, head.unique, answer)
+            }
+            Err(error) => Err(error),
+        }
+    }
+
+    /// FORGET, which has no reply.
+    pub(crate) fn forget(
+        &mut self,
+        head: &InHeader,
+        r: &mut Reader<'_>,
+        w: &Writer,
+    ) -> Result<usize, Error>
+        requires fresh { w.now.written ≡ [] }
+        ensures handles { Handles F.may (setting self.old.page_size self.old.options.0 w.now.free) (ended head.now.unique (forget_row (given head.now self.old.options.0 w.now.free) r.old)) self.old.fs result w.now.written self.new.options.0 self.new.fs }
+        ensures length { IfOk result (λ n. n ≡ length w.now.written) }
+        ensures page_size { self.new.page_size ≡ self.old.page_size }
+    {
+        match read_forget_in(r) {
+            Ok(request) => {
+                self.ask_forget(head, &request);
+                silence()
+            }
+            Err(error) => Err(error),
+        }
+    }
+}
+
+// No reply.
+fn silence() -> Result<usize, Error>
+    ensures { result ≡ Ok 0 }
+{
+    Ok(0)
+}

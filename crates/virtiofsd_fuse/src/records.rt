@@ -1,0 +1,57 @@
+//! The records of requests, read from a reader.
+
+ghost use Rattle.std.specs.Prelude.{◌≡◌, ◌<◌, ◌++◌, length, IfOk, IfErr};
+ghost use Rattle.vm_values.specs.Fields.{spelled, AllFit};
+ghost use Rattle.virtiofsd_fuse.specs.Reading.{read_result};
+ghost use Rattle.virtiofsd_fuse.specs.Records.{in_header, forget_in, read_in, init_in_compat, init_in_ext};
+
+use crate::error::Error;
+use crate::reader::Reader;
+use fuse_in::{ForgetIn, InHeader, InitInCompat, InitInExt, ReadIn};
+use vm_values::ByteValued;
+
+// A record; a short rest can't be decoded.
+fn decode<T: ByteValued>(r: &mut Reader<'_>) -> Result<T, Error>
+    ensures ok { IfOk result (λ x. (r.old ≡ spelled (T.fields x) ++ r.new) × AllFit (T.fields x)) }
+    ensures err { IfErr result (λ e. (e ≡ Error.DecodeMessage) × (length r.old < T.SIZE)) }
+{
+    match r.read_obj() {
+        Ok(record) => Ok(record),
+        Err(_) => Err(Error::DecodeMessage),
+    }
+}
+
+pub fn read_in_header(r: &mut Reader<'_>) -> Result<InHeader, Error>
+    ensures reads { read_result result r.new ≡ in_header r.old }
+    ensures fault { IfErr result (λ e. e ≡ Error.DecodeMessage) }
+{
+    decode(r)
+}
+
+pub fn read_forget_in(r: &mut Reader<'_>) -> Result<ForgetIn, Error>
+    ensures reads { read_result result r.new ≡ forget_in r.old }
+    ensures fault { IfErr result (λ e. e ≡ Error.DecodeMessage) }
+{
+    decode(r)
+}
+
+pub fn read_read_in(r: &mut Reader<'_>) -> Result<ReadIn, Error>
+    ensures reads { read_result result r.new ≡ read_in r.old }
+    ensures fault { IfErr result (λ e. e ≡ Error.DecodeMessage) }
+{
+    decode(r)
+}
+
+pub fn read_init_in_compat(r: &mut Reader<'_>) -> Result<InitInCompat, Error>
+    ensures reads { read_result result r.new ≡ init_in_compat r.old }
+    ensures fault { IfErr result (λ e. e ≡ Error.DecodeMessage) }
+{
+    decode(r)
+}
+
+pub fn read_init_in_ext(r: &mut Reader<'_>) -> Result<InitInExt, Error>
+    ensures reads { read_result result r.new ≡ init_in_ext r.old }
+    ensures fault { IfErr result (λ e. e ≡ Error.DecodeMessage) }
+{
+    decode(r)
+}

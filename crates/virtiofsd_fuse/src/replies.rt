@@ -1,0 +1,66 @@
+//! Replies, whole or not at all.
+
+ghost use Rattle.std.specs.Prelude.{◌≡◌, ◌+◌, ◌<◌, ◌≤◌, ◌^◌, min, [], length, pos, neg_ℤ, IfOk};
+ghost use Rattle.vm_values.specs.Fields.{spelled};
+ghost use Rattle.fuse_wire.specs.Records.{out_header};
+ghost use Rattle.virtiofsd_fuse.specs.Grammar.{reply_bytes, error_bytes};
+ghost use Rattle.virtiofsd_fuse.specs.Serving.{told, sent};
+
+use crate::error::Error;
+use crate::writer::Writer;
+use fuse_wire::{Errno, OutHeader};
+use vm_values::ByteValued;
+
+/// The length of a reply's header, `struct fuse_out_header`.
+pub const OUT_HEADER_LEN: usize = 16;
+
+/// The bytes of a reply's header.
+pub fn header_bytes(len: u32, error: i32, unique: u64) -> [u8; OUT_HEADER_LEN]
+    ensures { result ≡ spelled (out_header (record { len = len; error = error; unique = unique })) }
+{
+    let mut bytes = [0u8; OUT_HEADER_LEN];
+    let header = OutHeader { len, error, unique };
+    header.put_bytes(&mut bytes);
+    bytes
+}
+
+/// The bytes of an error's reply.
+#[tactic(auto, unfolding(crate::specs::Grammar::error_bytes))]
+pub fn error_reply(unique: u64, error: Errno) -> [u8; OUT_HEADER_LEN]
+    ensures { result ≡ error_bytes unique error }
+{
+    header_bytes(16, -(error.raw() as i32), unique)
+}
+
+/// Writes a good reply of at most 144 bytes.
+#[tactic(auto, using(crate::proofs::ReplyLemmas::reply_long, crate::proofs::ReplyLemmas::reply_fits))]
+pub fn reply(w: &mut Writer, unique: u64, body: &[u8]) -> Result<usize, Error>
+    requires fresh { w.old.written ≡ [] }
+    requires short { length body.now ≤ 128 }
+    requires memory { min 144 w.old.free ≤ w.old.reserved }
+    ensures sent { told result w.new.written ≡ sent w.old.free (reply_bytes unique body.now) }
+    ensures length { IfOk result (λ n. n ≡ length w.new.written) }
+{
+    let len = OUT_HEADER_LEN + body.len();
+    if w.available_bytes() < len {
+        return Err(Error::EncodeMessage);
+    }
+    w.put(&header_bytes(len as u32, 0, unique));
+    w.put(body);
+    Ok(len)
+}
+
+/// Writes an error.
+#[tactic(auto, using(crate::proofs::ReplyLemmas::error_long, crate::proofs::ReplyLemmas::error_fits))]
+pub fn reply_error(w: &mut Writer, unique: u64, error: Errno) -> Result<usize, Error>
+    requires fresh { w.old.written ≡ [] }
+    requires memory { min 144 w.old.free ≤ w.old.reserved }
+    ensures sent { told result w.new.written ≡ sent w.old.free (error_bytes unique error) }
+    ensures length { IfOk result (λ n. n ≡ length w.new.written) }
+{
+    if w.available_bytes() < OUT_HEADER_LEN {
+        return Err(Error::EncodeMessage);
+    }
+    w.put(&error_reply(unique, error));
+    Ok(OUT_HEADER_LEN)
+}
