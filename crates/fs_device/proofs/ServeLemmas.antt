@@ -1,5 +1,7 @@
--- what serving a chain gives
-use Rattle.std.proofs.Common.{◌≡◌, ℕ, List, length, map, ap, sym, ◌∙◌, Option, Ok}
+-- what the server's answer says
+use Rattle.std.proofs.Common.{◌≡◌, ℕ, Bool, true, false, ◌≤◌, nat_lt, List, [], ◌∷◌, length, map, ap, sym, ◌∙◌, refl, subst, arith, Option, Some, None, Ok, Err}
+use Rattle.std.specs.Prelude.{MatchBool, if◌then◌else◌}
+use Rattle.std.proofs.lemmas.Bool.Decides.{nat_tests}
 use Rattle.vm_memory_core.specs.Host.{Host}
 use Rattle.vm_memory_core.specs.Window.{places, byte_in}
 use Rattle.vm_memory.specs.Layout.{Region, place}
@@ -8,25 +10,81 @@ use Rattle.fs_queue.specs.declared.chain.Chain.{Chain}
 use Rattle.fs_queue.specs.Taking.{Asked, Asks, CannotAsk}
 use Rattle.fs_queue.specs.Held.{HoldsChain}
 use Rattle.fs_queue.proofs.TakeLemmas.{length-located}
-use Rattle.virtiofsd_fuse.specs.Grammar.{meaning}
-use Rattle.virtiofsd_fuse.specs.Serving.{served}
+use Rattle.fuse_fs.specs.Calls.{FileCall, FileAnswer}
+use Rattle.virtiofsd_fuse.specs.declared.error.Error.{Error}
+use Rattle.virtiofsd_fuse.specs.Grammar.{Meaning, IsFault, Replies, IsSilent, Asks as Commands, One, Starts, meaning}
+use Rattle.virtiofsd_fuse.specs.declared.error.Error.TheVariants.{EncodeMessage}
+use Rattle.virtiofsd_fuse.specs.Serving.{Served, no_reply, Setting, setting, served, served_of, replied, Handles, is_memory}
+use Rattle.virtiofsd_fuse.specs.Serving as server
 use Rattle.fs_device.specs.declared.exchange.Fault.{Fault}
-use Rattle.fs_device.specs.Step.{Exchange, served_fault, answered}
-use Rattle.fs_device.specs.Views.{exchange_for}
+use Rattle.fs_device.specs.declared.exchange.Fault.TheVariants as fault
+use Rattle.fs_device.specs.Step.{Exchange, Calls, May, Serves, answered}
+use Rattle.fs_device.specs.Views.{ServesChain}
+use Rattle.fs_device.specs.Replies as device
+
+not_more : (room n : ℕ) → nat_lt room n ≡ false → n ≤ room
+not_more room n h = grind (arith, nat_tests)
+
+-- a reply fits its room
+fits_if : (b : Bool) (room : ℕ) (calls : List FileCall) (options : ℕ) (bytes : List ℕ) → nat_lt room (length bytes) ≡ b →
+    length ((if b then no_reply calls options (Some EncodeMessage) else record { calls = calls; options = options; reply = bytes; fault = None }).reply) ≤ room
+fits_if true room calls options bytes e = omega arith
+fits_if false room calls options bytes e = not_more room (length bytes) e
+
+replied_fits : (room : ℕ) (calls : List FileCall) (options : ℕ) (bytes : List ℕ) → length (replied room calls options bytes).reply ≤ room
+replied_fits room calls options bytes = fits_if (nat_lt room (length bytes)) room calls options bytes refl
+
+served_fits : (s : Setting) (m : Meaning) (answers : List FileAnswer) → length (served s m answers).reply ≤ s.room
+served_fits s (IsFault fault) answers = omega arith
+served_fits s (Replies bytes) answers = replied_fits s.room [] s.options bytes
+served_fits s IsSilent answers = omega arith
+served_fits s (Commands (One unique call)) [] = omega arith
+served_fits s (Commands (One unique call)) (answer ∷ answers) = replied_fits s.room _ _ _
+served_fits s (Commands (Starts unique capable readahead)) [] = omega arith
+served_fits s (Commands (Starts unique capable readahead)) (answer ∷ answers) = replied_fits s.room _ _ _
+
+-- a reply that was written whole
+pub replied_ok : {F : Type 0} (may : May F) (page options room : ℕ) (request : List ℕ) (before after : F) (n : ℕ) (written : List ℕ) (agreed : ℕ) →
+    Handles may (setting page options room) (meaning options request room) before (Ok n) written agreed after →
+    (calls : Calls) × device.Replies may page (options, before) request room calls written None (agreed, after)
+replied_ok may page options room request before after n written agreed h = (h.steps, (served_of (map (λ step. step.0) h.steps) agreed (Ok n) written, record { gives = sym h.gives; asks = refl; run = h.run }, refl, refl, refl))
+
+-- a fault
+pub replied_err : {F : Type 0} (may : May F) (page options room : ℕ) (request : List ℕ) (before after : F) (e : Error) (written : List ℕ) (agreed : ℕ) → is_memory e ≡ false →
+    Handles may (setting page options room) (meaning options request room) before (Err e) written agreed after →
+    (calls : Calls) × device.Replies may page (options, before) request room calls [] (Some (fault.Served e)) (agreed, after)
+replied_err {F} may page options room request before after e written agreed is h =
+    let s : server.Serves may (setting page options room) (meaning options request room) before (Err e) written agreed after = rw is at h in
+    (s.steps, (served_of (map (λ step. step.0) s.steps) agreed (Err e) written, record { gives = sym s.gives; asks = refl; run = s.run }, refl, refl, refl))
+
+-- want of memory, after which nothing has changed
+pub lacked : {F : Type 0} (may : May F) (s : Setting) (m : Meaning) (before after : F) (e : Error) (written : List ℕ) (agreed : ℕ) → is_memory e ≡ true →
+    Handles may s m before (Err e) written agreed after → (agreed ≡ s.options) × (after ≡ before)
+lacked {F} may s m before after e written agreed is h = rw is at h
+
+pub reply_fits : {F : Type 0} (may : May F) (page : ℕ) (old new : ℕ × F) (request : List ℕ) (room : ℕ) (calls : Calls) (reply : List ℕ) (fault : Option Fault) →
+    device.Replies may page old request room calls reply fault new → length reply ≤ room
+reply_fits may page old new request room calls reply fault r =
+    let same : reply ≡ (served (setting page old.0 room) (meaning old.0 request room) (map (λ step. step.1) calls)).reply = r.2 ∙ ap (λ (g : Served). g.reply) r.1.gives in
+    subst (λ (bytes : List ℕ). length bytes ≤ room) (sym same) (served_fits (setting page old.0 room) (meaning old.0 request room) (map (λ step. step.1) calls))
 
 abbrev exchange : (head : ℕ) → (request reply : List ℕ) → Option Fault → Exchange
 exchange head request reply fault = record { head = head; request = request; reply = reply; fault = fault }
 
 -- the code's exchange is the one that the chain's request and room ask for
-pub served_chain : (h : Host) (l : List Region) (asked : Asked) (c : Chain) (head at : ℕ) (request : List ℕ) (fault : Option Fault) (reply : List ℕ) → HoldsChain (memory_of h l) asked (Ok c) →
-    at ≡ head → request ≡ map (byte_in h) (places c.readable.items) →
-    fault ≡ served_fault (served (length (places c.writable.items)) (meaning request)).fault → reply ≡ (served (length (places c.writable.items)) (meaning request)).reply →
-    exchange at request reply fault ≡ exchange_for head asked
-served_chain h l (CannotAsk why) c head at request fault reply held a e f r = absurd held
-served_chain h l (Asks bytes room) c head at request fault reply held a e f r =
+pub served_chain : {F : Type 0} (may : May F) (page : ℕ) (old new : ℕ × F) (h : Host) (l : List Region) (asked : Asked) (c : Chain) (head at : ℕ) (request : List ℕ) (fault : Option Fault) (reply : List ℕ) (calls : Calls) →
+    HoldsChain (memory_of h l) asked (Ok c) → at ≡ head → request ≡ map (byte_in h) (places c.readable.items) →
+    device.Replies may page old request (length (places c.writable.items)) calls reply fault new →
+    ServesChain may page old head asked calls (exchange at request reply fault) new
+served_chain may page old new h l (CannotAsk why) c head at request fault reply calls held a e r = absurd held
+served_chain {F} may page old new h l (Asks bytes room) c head at request fault reply calls held a e r =
     let same : request ≡ bytes = e ∙ sym held.0 in
     let count : length (places c.writable.items) ≡ length room = length-located room (place l) (places c.writable.items) held.1 in
-    ap (λ n. exchange n request reply fault) a
-    ∙ ap (λ (x : List ℕ). exchange head request x fault) r ∙ ap (exchange head request _) f
-    ∙ ap (λ (x : List ℕ). answered head x (served (length (places c.writable.items)) (meaning x))) same
-    ∙ ap (λ n. answered head bytes (served n (meaning bytes))) count
+    let serves = subst (λ (n : ℕ). Serves may page old.0 bytes n old.1 calls r.0 new.1) count (subst (λ (x : List ℕ). Serves may page old.0 x (length (places c.writable.items)) old.1 calls r.0 new.1) same r.1) in (
+      r.0,
+      serves,
+      ap (λ n. exchange n request reply fault) a
+      ∙ ap (λ (x : List ℕ). exchange head x reply fault) same
+      ∙ ap (λ (x : List ℕ). exchange head bytes x fault) r.2 ∙ ap (exchange head bytes _) r.3,
+      r.4,
+    )

@@ -82,21 +82,21 @@ takes may f m m' queues i q q' s s' x notice (Asks request room) calls served st
 acts : {F : Type 0} (may : May F) (f : Fixed) (m m' : Memory) (queues : List Queue) (i : ℕ) (q q' : Queue) (s s' : ℕ × F) (r : Result (Option (code.Exchange × Bool)) QueueError) →
     slice_get queues i ≡ Some q → StepsOne may f.page_size m f.limit q s r q' m' s' →
     (calls : Calls) × Acts may (state f m queues s) i q (offer m f.limit q) calls (outcome_of (device_result r)) (state f m' (set queues i q') s')
-acts may f m m' queues i q q' s s' (Ok None) there t = ([], t.0, record { same = unchanged f m m' queues i q q' s s' there t.1 t.2 t.3; no_call = refl })
+acts may f m m' queues i q q' s s' (Ok None) there t = ([], (t.0, record { same = unchanged f m m' queues i q q' s s' there t.1 t.2 t.3; no_call = refl }))
 acts may f m m' queues i q q' s s' (Ok (Some x)) there t = (
   t.1,
   subst (λ (o : Offer). Takes may (state f m queues s) i q o t.1 (exchange_of x.0) x.1 (state f m' (set queues i q') s')) (sym t.2)
-  (takes may f m m' queues i q q' s s' x.0 x.1 t.0 t.1 t.3 t.4 t.5 t.6),
+      (takes may f m m' queues i q q' s s' x.0 x.1 t.0 t.1 t.3 t.4 t.5 t.6),
 )
-acts may f m m' queues i q q' s s' (Err stop.OutOfMemory) there t = ([], t.0, record { same = unchanged f m m' queues i q q' s s' there t.1 t.2 t.3; no_call = refl })
-acts may f m m' queues i q q' s s' (Err stop.Stopped) there t = ([], t.0, refl, unchanged f m m' queues i q q' s s' there t.1 t.2 t.3)
-acts may f m m' queues i q q' s s' (Err stop.AvailIndexUnreachable) there t = ([], t.0, refl, stopped_state f m m' queues i q q' s s' t.1 t.2 t.3)
-acts may f m m' queues i q q' s s' (Err stop.AvailTooFar) there t = ([], t.0, refl, stopped_state f m m' queues i q q' s s' t.1 t.2 t.3)
-acts may f m m' queues i q q' s s' (Err stop.RingEntryUnreachable) there t = ([], t.0, refl, stopped_state f m m' queues i q q' s s' t.1 t.2 t.3)
-acts may f m m' queues i q q' s s' (Err stop.HeadOutOfTable) there t = ([], t.0, refl, stopped_state f m m' queues i q q' s s' t.1 t.2 t.3)
-acts may f m m' queues i q q' s s' (Err stop.UsedUnreachable) there t = ([], t.0, refl, stopped_state f m m' queues i q q' s s' t.1 t.2 t.3)
-acts may f m m' queues i q q' s s' (Err stop.AvailFlagsUnreachable) there t = ([], t.0, refl, stopped_state f m m' queues i q q' s s' t.1 t.2 t.3)
-acts may f m m' queues i q q' s s' (Err stop.DescriptorUnreachable) there t = ([], t.0, refl, stopped_state f m m' queues i q q' s s' t.1 t.2 t.3)
+acts may f m m' queues i q q' s s' (Err stop.OutOfMemory) there t = ([], (t.0, record { same = unchanged f m m' queues i q q' s s' there t.1 t.2 t.3; no_call = refl }))
+acts may f m m' queues i q q' s s' (Err stop.Stopped) there t = ([], (t.0, refl, unchanged f m m' queues i q q' s s' there t.1 t.2 t.3))
+acts may f m m' queues i q q' s s' (Err stop.AvailIndexUnreachable) there t = ([], (t.0, refl, stopped_state f m m' queues i q q' s s' t.1 t.2 t.3))
+acts may f m m' queues i q q' s s' (Err stop.AvailTooFar) there t = ([], (t.0, refl, stopped_state f m m' queues i q q' s s' t.1 t.2 t.3))
+acts may f m m' queues i q q' s s' (Err stop.RingEntryUnreachable) there t = ([], (t.0, refl, stopped_state f m m' queues i q q' s s' t.1 t.2 t.3))
+acts may f m m' queues i q q' s s' (Err stop.HeadOutOfTable) there t = ([], (t.0, refl, stopped_state f m m' queues i q q' s s' t.1 t.2 t.3))
+acts may f m m' queues i q q' s s' (Err stop.UsedUnreachable) there t = ([], (t.0, refl, stopped_state f m m' queues i q q' s s' t.1 t.2 t.3))
+acts may f m m' queues i q q' s s' (Err stop.AvailFlagsUnreachable) there t = ([], (t.0, refl, stopped_state f m m' queues i q q' s s' t.1 t.2 t.3))
+acts may f m m' queues i q q' s s' (Err stop.DescriptorUnreachable) there t = ([], (t.0, refl, stopped_state f m m' queues i q q' s s' t.1 t.2 t.3))
 
 -- a step of the queue at i, as a step of the device
 pub steps : {F : Type 0} (may : May F) (f : Fixed) (m m' : Memory) (queues : List Queue) (i : ℕ) (q q' : Queue) (s s' : ℕ × F) (r : Result (Option (code.Exchange × Bool)) QueueError) →

@@ -11,9 +11,11 @@ use Rattle.fs_queue.specs.Queue.{Queue}
 use Rattle.fs_queue.specs.Chain.{path, found}
 use Rattle.fs_queue.specs.Taking.{Offer, Idle, Refuses, Offers, Asks, CannotAsk, offer}
 use Rattle.virtiofsd_fuse.specs.declared.error.Error.TheVariants as error
-use Rattle.virtiofsd_fuse.specs.Grammar.{IsFault, Replies, meaning}
+use Rattle.vm_values.specs.Fields as fields
+use Rattle.virtiofsd_fuse.specs.Records.{in_header}
+use Rattle.virtiofsd_fuse.specs.Grammar.{IsFault, Replies, meaning, meant, error_bytes}
 use Rattle.fs_device.specs.declared.error.DeviceError.TheVariants as device_error
-use Rattle.fs_device.specs.Step.{State, Exchange, Refused, Exchanged, Step, after_return, stopped}
+use Rattle.fs_device.specs.Step.{State, Exchange, May, Refused, Exchanged, Step, after_return, stopped}
 
 abbrev le16 : ℕ → List ℕ
 le16 n = to_le_bytes w16 n
@@ -102,19 +104,28 @@ room_far_away = refl
 
 -- ---- requests
 
-unknown : meaning request ≡ Replies (0x10 ∷ 0 ∷ 0 ∷ 0 ∷ 0xda ∷ 0xff ∷ 0xff ∷ 0xff ∷ 1 ∷ zeros 7)
+unknown : meaning 0 request 16 ≡ Replies (0x10 ∷ 0 ∷ 0 ∷ 0 ∷ 0xda ∷ 0xff ∷ 0xff ∷ 0xff ∷ 1 ∷ zeros 7)
+unfolding meaning in_header meant error_bytes fields.bytes
 unknown = refl
 
-too_great_a_length : meaning (header 0x101001 7 1) ≡ Replies (0x10 ∷ 0 ∷ 0 ∷ 0 ∷ 0xf4 ∷ 0xff ∷ 0xff ∷ 0xff ∷ 1 ∷ zeros 7)
+too_great_a_length : meaning 0 (header 0x101001 7 1) 16 ≡ Replies (0x10 ∷ 0 ∷ 0 ∷ 0 ∷ 0xf4 ∷ 0xff ∷ 0xff ∷ 0xff ∷ 1 ∷ zeros 7)
+unfolding meaning in_header meant error_bytes fields.bytes
 too_great_a_length = refl
 
-too_short : meaning (zeros 39) ≡ IsFault error.DecodeMessage
+too_short : meaning 0 (zeros 39) 16 ≡ IsFault error.DecodeMessage
+unfolding meaning in_header meant error_bytes fields.bytes
 too_short = refl
 
--- ---- whole steps
+-- ---- whole steps, of a device whose file system is asked nothing
 
-abbrev device : Memory → Queue → State
-device m q = record { memory = m; queues = q ∷ []; limit = 0x101000 }
+abbrev Nothing : Type 0
+Nothing = Unit {0}
+
+abbrev may : May Nothing
+may before call answer after = ⊥
+
+abbrev device : Memory → Queue → State Nothing
+device m q = record { memory = m; queues = q ∷ []; options = 0; files = tt; limit = 0x101000; page_size = 4096 }
 
 abbrev unknown_reply : List ℕ
 unknown_reply = 0x10 ∷ 0 ∷ 0 ∷ 0 ∷ 0xda ∷ 0xff ∷ 0xff ∷ 0xff ∷ 1 ∷ zeros 7
@@ -123,12 +134,16 @@ abbrev unknown_exchange : Exchange
 unknown_exchange = record { head = 0; request = request; reply = unknown_reply; fault = None }
 
 -- the state after that reply, over a memory
-abbrev after_reply : Memory → Queue → State
-after_reply m q = after_return (device m q) 0 q 0 (addresses 0x2000 16) unknown_reply
+abbrev after_reply : Memory → Queue → State Nothing
+after_reply m q = after_return (device m q) 0 q 0 (addresses 0x2000 16) unknown_reply 0 tt
 
-one_step : Step (device waiting queue) 0 (Exchanged unknown_exchange true) (after_reply waiting queue)
-unfolding offer place addresses stored_all path found
-one_step = record { exchange = refl; state = refl; told = refl }
+one_step : Step may (device waiting queue) 0 [] (Exchanged unknown_exchange true) (after_reply waiting queue)
+unfolding offer place addresses stored_all path found meaning in_header meant error_bytes fields.bytes
+one_step = record {
+  given = record { calls = []; options = 0; reply = unknown_reply; fault = None };
+  serves = record { gives = refl; asks = refl; run = refl };
+  returns = record { exchange = refl; state = refl; told = refl };
+}
 
 -- what then stands in memory
 reply_stands : bytes (after_reply waiting queue).memory 0x2000 16 ≡ unknown_reply
@@ -140,15 +155,19 @@ unfolding offer place addresses stored_all path found
 element_stands = refl
 
 -- the driver asks not to be told
-not_told : Step (device (put waiting 0x100 (le16 1)) queue) 0 (Exchanged unknown_exchange false) (after_reply (put waiting 0x100 (le16 1)) queue)
-unfolding offer place addresses stored_all path found
-not_told = record { exchange = refl; state = refl; told = refl }
+not_told : Step may (device (put waiting 0x100 (le16 1)) queue) 0 [] (Exchanged unknown_exchange false) (after_reply (put waiting 0x100 (le16 1)) queue)
+unfolding offer place addresses stored_all path found meaning in_header meant error_bytes fields.bytes
+not_told = record {
+  given = record { calls = []; options = 0; reply = unknown_reply; fault = None };
+  serves = record { gives = refl; asks = refl; run = refl };
+  returns = record { exchange = refl; state = refl; told = refl };
+}
 
 -- a queue that is told of too many chains stops
-far_stops : Step (device (put waiting 0x102 (le16 5)) queue) 0 (Refused (device_error.Queue queue_error.AvailTooFar)) (device (put waiting 0x102 (le16 5)) (stopped queue))
+far_stops : Step may (device (put waiting 0x102 (le16 5)) queue) 0 [] (Refused (device_error.Queue queue_error.AvailTooFar)) (device (put waiting 0x102 (le16 5)) (stopped queue))
 unfolding offer place addresses stored_all path found
-far_stops = (refl, refl)
+far_stops = (refl, refl, refl)
 
-no_queue : Step (device waiting queue) 1 (Refused device_error.NoSuchQueue) (device waiting queue)
+no_queue : Step may (device waiting queue) 1 [] (Refused device_error.NoSuchQueue) (device waiting queue)
 unfolding offer
-no_queue = (refl, refl)
+no_queue = (refl, record { same = refl; no_call = refl })

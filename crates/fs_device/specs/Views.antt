@@ -1,5 +1,5 @@
 -- What the device's values say.
-use Rattle.std.specs.Prelude.{◌≡◌, ℕ, Bool, IsTrue, List, length, Option, Some, None, Result, Ok, Err}
+use Rattle.std.specs.Prelude.{◌≡◌, ℕ, Bool, IsTrue, List, [], length, Option, Some, None, Result, Ok, Err}
 use Rattle.vm_memory_core.specs.Host.{Host}
 use Rattle.vm_memory.specs.Layout.{Region}
 use Rattle.vm_memory.specs.Memory.{Memory, memory_of}

@@ -1,6 +1,6 @@
 //! The device: its queues are served one chain a step.
 
-ghost use Rattle.std.specs.Prelude.{◌≡◌, ◌≤◌, ◌<◌, ◌^◌, ◌×◌, List, length, set, slice_get, [], IfErr, IfOk, IfSome, None, OnErr, OnOk, option_map};
+ghost use Rattle.std.specs.Prelude.{◌≡◌, ◌≤◌, ◌<◌, ◌^◌, List, length, set, slice_get, [], IfErr, IfOk, IfSome, None, OnErr, OnOk, option_map};
 ghost use Rattle.vm_memory_core.specs.Host.{host_of, lengths};
 ghost use Rattle.vm_memory.specs.Layout.{AreHeld, Region};
 ghost use Rattle.vm_memory.specs.Memory.{memory_of};
@@ -10,8 +10,8 @@ ghost use Rattle.fs_queue.specs.Held.{IsTaken, TakenLiesIn, room_places};
 
 use crate::command::QueueRun;
 use crate::error::DeviceError;
-use crate::serve::serve;
 use crate::exchange::Exchange;
+use crate::serve::serve;
 use fs_queue::{Queue, QueueError, QueueLayout};
 use fuse_fs::FileSystem;
 use std::alloc::Global;

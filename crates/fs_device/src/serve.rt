@@ -22,9 +22,17 @@ pub struct Reply {
     pub fault: Option<Fault>,
 }
 
-ghost use Rattle.fs_device.specs.Step.{Calls, Serves, Exchange as Plain, served_fault};
+ghost use Rattle.virtiofsd_fuse.specs.Serving.{is_memory};
+ghost use Rattle.fs_device.specs.Step.{Calls};
 ghost use Rattle.fs_device.specs.Views.{exchange_of, ServesChain};
 ghost use Rattle.fs_device.specs.Replies.{Replies};
+
+// Whether memory was wanting.
+fn lacks_memory(error: Error) -> bool
+    ensures { result ≡ is_memory error }
+{
+    matches!(error, Error::OutOfMemory)
+}
 
 // Has the server answer a request into a room of so many bytes; nothing where memory was wanting, and then nothing changed.
 fn answer<F: FileSystem>(
@@ -45,11 +53,15 @@ fn answer<F: FileSystem>(
             bytes: writer.into_written(),
             fault: None,
         }),
-        Err(Error::OutOfMemory) => None,
-        Err(error) => Some(Reply {
-            bytes: Vec::new(alloc),
-            fault: Some(Fault::Served(error)),
-        }),
+        Err(error) => {
+            if lacks_memory(error) {
+                return None;
+            }
+            Some(Reply {
+                bytes: Vec::new(alloc),
+                fault: Some(Fault::Served(error)),
+            })
+        }
     }
 }
 

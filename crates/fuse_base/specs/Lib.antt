@@ -1,3 +1,4 @@
 pub mod Flags
 pub mod Records
 pub mod Stats
+pub mod Options

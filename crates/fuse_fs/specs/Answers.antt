@@ -1,7 +1,7 @@
 -- What the answers of a file system's methods say, as numbers and bytes.
 use Rattle.std.specs.Prelude.{ℕ, List, Result, Ok, Err}
 use Rattle.std.specs.Int.{w32, cast_signed}
-use Rattle.fuse_base.specs.declared.flags.FsOptions.{FsOptions}
+use Rattle.fuse_base.specs.Options.{FsOptions}
 use Rattle.fuse_in.specs.declared.session.InHeader.{InHeader}
 use Rattle.fuse_wire.specs.declared.replies.EntryOut.{EntryOut}
 use Rattle.fuse_fs.specs.declared.answers.Context.{Context}

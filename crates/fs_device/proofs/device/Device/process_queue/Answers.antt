@@ -26,12 +26,12 @@ loop-preserved g c =
     let turns : map turn_of c.push.new.self.items ≡ map turn_of c.loop.done.items ++ turn_of c.in-Ok-Some.exchanged ∷ [] =
     ap (map turn_of) pushed ∙ map-append turn_of c.loop.done.items (c.in-Ok-Some.exchanged ∷ []) in
     record {
-  count = Prim.search rules;
-  most = omega arith;
-  room = Prim.search rules;
-  kept = Prim.search rules;
-  run = rw turns (goes_on g.F.FileSystem.may _ _ _ c.args.queue c.args.most _ _ (map turn_of c.loop.done.items) (turn_of c.in-Ok-Some.exchanged) _ c.loop.invariant.run (omega (arith, c.loop-test.true)) (rw c.in-Ok-Some.field-0-is at c.in-Ok-Some.ensures.step.1));
-}
+      count = Prim.search rules;
+      most = omega arith;
+      room = Prim.search rules;
+      kept = Prim.search rules;
+      run = rw turns (goes_on g.F.FileSystem.may _ _ _ c.args.queue c.args.most _ _ (map turn_of c.loop.done.items) (turn_of c.in-Ok-Some.exchanged) _ c.loop.invariant.run (omega (arith, c.loop-test.true)) (rw c.in-Ok-Some.field-0-is at c.in-Ok-Some.ensures.step.1));
+    }
 
 pub returns-clause-run : goal.returns-clause-run
 returns-clause-run g c = (

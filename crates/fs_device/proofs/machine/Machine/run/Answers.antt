@@ -17,11 +17,11 @@ loop-command-preserved g c =
       finite = tt;
       all = append_assoc at.yielded (x ∷ []) _ ∙ rw (← steps) at.invariant.all;
       left = (
-        let was = at.invariant.left in
-            let gone = c.in-Some.ensures.steps.1 in
-            let short = ap length steps in
-            omega arith
-      );
+          let was = at.invariant.left in
+          let gone = c.in-Some.ensures.steps.1 in
+          let short = ap length steps in
+          omega arith
+          );
       count = rw pushed (count_more at.yielded at.answers.items x c.perform-answer.result at.invariant.count);
       room = Prim.search rules;
       run = rw pushed (run_more g.F.FileSystem.may command_of answer_of _ _ _ at.yielded at.answers.items x c.perform-answer.result at.invariant.count at.invariant.run c.perform-answer.ensures);

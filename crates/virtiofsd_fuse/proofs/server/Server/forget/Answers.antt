@@ -1,5 +1,5 @@
 use Rattle.std.proofs.Common.{◌≡◌, Some, refl, sym, ap, ◌∙◌, arith}
-use Rattle.fuse_base.specs.declared.flags.FsOptions.{FsOptions}
+use Rattle.fuse_base.specs.Options.{FsOptions}
 use Rattle.virtiofsd_fuse.specs.Grammar.{given}
 use Rattle.virtiofsd_fuse.proofs.Serve.{handles_one}
 use Rattle.virtiofsd_fuse.proofs.Rows.{forget_asks, silent_told}

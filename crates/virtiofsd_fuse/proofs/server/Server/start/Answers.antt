@@ -1,5 +1,5 @@
 use Rattle.std.proofs.Common.{◌≡◌, Ok, List, ℕ, refl, sym, ap, ◌∙◌, arith}
-use Rattle.fuse_base.specs.declared.flags.FsOptions.{FsOptions}
+use Rattle.fuse_base.specs.Options.{FsOptions}
 use Rattle.fuse_fs.specs.Calls.{Wants, Failed}
 use Rattle.virtiofsd_fuse.specs.Grammar.{Asks, Starts, given}
 use Rattle.virtiofsd_fuse.specs.Serving.{setting}

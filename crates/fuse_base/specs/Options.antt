@@ -1,0 +1,7 @@
+-- The options that client and server agree on, as contracts see them.
+use Rattle.std.specs.Prelude.{ℕ}
+use Rattle.fuse_base.specs.declared.flags.FlagSet.{FlagSet}
+use Rattle.fuse_base.specs.declared.flags.FsOptionsNames.{FsOptionsNames}
+
+abbrev pub FsOptions : Type 0
+FsOptions = FlagSet ℕ FsOptionsNames
