@@ -39,6 +39,7 @@ impl Guest {
                 self.mem = mem;
                 Ok(block)
             }
+            Err(FromRangesError::Collection(_)) => Err(Refusal::Overlap),
             Err(FromRangesError::MmapRegion(_)) => Err(Refusal::EmptyBlock),
             Err(FromRangesError::InvalidGuestRegion) => Err(Refusal::BadRegion),
             Err(FromRangesError::OutOfMemory) => Err(Refusal::OutOfMemory),

@@ -9,6 +9,8 @@ pub enum Refusal {
     EmptyBlock = 2,
     /// A region's last address would be past the greatest.
     BadRegion = 4,
+    /// An address would have two places.
+    Overlap = 5,
     OutOfMemory = 9,
 }
 

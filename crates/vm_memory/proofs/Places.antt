@@ -1,7 +1,7 @@
 -- the places of addresses
-use Rattle.std.proofs.Common.{◌≡◌, ℕ, Bool, true, false, ◌+◌, ◌-◌, ◌%◌, ◌^◌, ◌<◌, ◌≤◌, ◌&&◌, eqb, List, [], ◌∷◌, ◌++◌, length, get_or, take, drop, refl, ap, sym, ◌∙◌, append_assoc, append-nil, length-append, length-drop, map, subst, arith, zero, suc, Option, Some, None}
-use Rattle.std.specs.Prelude.{unwrap_or, is_some, if◌then◌else◌}
-use Rattle.std.specs.Option.{option_map, option_and_then}
+use Rattle.std.proofs.Common.{◌≡◌, ℕ, Bool, true, false, ◌+◌, ◌-◌, ◌%◌, ◌^◌, ◌<◌, ◌≤◌, ◌&&◌, eqb, List, [], ◌∷◌, ◌++◌, length, get_or, take, drop, refl, ap, sym, ◌∙◌, append_assoc, append-nil, length-append, length-drop, map, subst, arith, min, zero, suc, Option, Some, None}
+use Rattle.std.specs.Prelude.{unwrap_or, is_some, if◌then◌else◌, nat_le, Result, Ok, Err}
+use Rattle.std.specs.Option.{option_map, option_and_then, option_or}
 use Rattle.std.specs.List.{zip, list_all}
 use Rattle.std.proofs.Math.Dec.{eqb-zero-suc, eqb-suc-suc}
 use Rattle.std.proofs.lemmas.Bool.Decides.{nat_tests}
@@ -9,9 +9,12 @@ use Rattle.std.proofs.lemmas.List.{map-append, length-take-le, take_at, get_or_d
 use Rattle.vm_memory_core.specs.declared.permissions.Permissions.TheVariants.{Read}
 use Rattle.vm_memory_core.specs.Table.{is_within}
 use Rattle.vm_memory_core.specs.Host.{Host, Place, byte_at}
-use Rattle.vm_memory_core.specs.Window.{span, byte_in, put_byte, put_all}
+use Rattle.vm_memory_core.specs.Window.{Window, LiesIn, places_of, span, byte_in, put_byte, put_all}
 use Rattle.vm_memory_core.proofs.WindowLemmas.{take-put, zip-append}
-use Rattle.vm_memory.specs.Layout.{Region, place, AllFrom, IsLayout, AreHeld}
+use Rattle.vm_memory.specs.Layout.{Region, place, region_at, AllFrom, IsLayout, AreHeld}
+use Rattle.vm_memory.specs.Regions.{window_in}
+use Rattle.vm_memory.specs.declared.error.GuestMemoryError.{GuestMemoryError}
+use Rattle.vm_memory.specs.declared.error.GuestMemoryError.TheVariants.{InvalidBackendAddress}
 use Rattle.vm_memory.specs.Memory.{Memory, memory_of, addresses, circular, location, located, reached, after, byte, stored, stored_at, stored_all}
 
 -- ---- one address
@@ -364,3 +367,105 @@ store_step l start h h' bytes piece addr done len n x ps e w le size at so cut i
     ∙ ap (λ (m : Memory). stored_all m (zip (addresses x n) piece)) so
     ∙ sym (stored_all-append (zip a bytes) (zip (addresses x n) piece) start)
     ∙ ap (stored_all start) both
+
+-- ---- the region of an address
+
+-- the region of an address is one of the layout, and has it
+pub region_at-Some : (l : List Region) (a : ℕ) (r : Region) → region_at l a ≡ Some r → (r.start ≤ a) × (a < r.start + r.size) × (i : ℕ) × (i < length l) × (r ≡ get_or l i r)
+unfolding region_at
+region_at-Some [] a r e = absurd (cc)
+region_at-Some (x ∷ l) a r e =
+    elim (is_within x.start x.size a) as (λ b. is_within x.start x.size a ≡ b → (if b then Some x else region_at l a) ≡ Some r → (r.start ≤ a) × (a < r.start + r.size) × (i : ℕ) × (i < suc (length l)) × (r ≡ get_or (x ∷ l) i r)) [
+      | true ↦ λ inside found.
+          let same : x ≡ r = cc in
+          let low = within_low x a inside in
+          let high = within_high x a inside in
+          rw (← same) (low, high, 0, omega arith, refl)
+      | false ↦ λ outside found.
+          let more = region_at-Some l a r found in
+          (more.0, more.1, suc more.2, omega (arith, more.3), more.4)
+    ] refl e
+
+pub region_at-None : (l : List Region) (a : ℕ) → region_at l a ≡ None → place l a ≡ None
+unfolding region_at place
+region_at-None [] a e = refl
+region_at-None (x ∷ l) a e =
+    elim (is_within x.start x.size a) as (λ b. (if b then Some x else region_at l a) ≡ None → option_or (if b then Some (place_at x.block (a - x.start)) else None) (place l a) ≡ None) [
+      | true ↦ λ found. absurd (cc)
+      | false ↦ λ found. region_at-None l a found
+    ] e
+
+-- addresses from one on that lie in its region
+pub run_in : (l : List Region) (a n : ℕ) (r : Region) → IsLayout l → Some r ≡ region_at l a → a - r.start + n ≤ r.size →
+    located (place l) (addresses a n) ≡ Some (span r.block (a - r.start) n)
+run_in l a n r is found high =
+    let here = region_at-Some l a r (sym found) in
+    located_item l here.2 a n r is here.3 here.4 here.0 high
+
+pub held_there : (lengths : List ℕ) (l : List Region) (a : ℕ) (r : Region) → AreHeld lengths l → Some r ≡ region_at l a →
+    (r.block < length lengths) × (get_or lengths r.block 0 ≡ r.size)
+held_there lengths l a r held found =
+    let here = region_at-Some l a r (sym found) in
+    held_item lengths l here.2 r held here.3 here.4
+
+pub start_below : (l : List Region) (a : ℕ) (r : Region) → Some r ≡ region_at l a → r.start ≤ a
+start_below l a r found = (region_at-Some l a r (sym found)).0
+
+pub end_above : (l : List Region) (a : ℕ) (r : Region) → Some r ≡ region_at l a → a < r.start + r.size
+end_above l a r found = (region_at-Some l a r (sym found)).1
+
+abbrev pub ok_of : Window → Result Window GuestMemoryError
+ok_of w = Ok w
+
+abbrev pub err_of : GuestMemoryError → Result Window GuestMemoryError
+err_of e = Err e
+
+refused : (e : GuestMemoryError) (w : Window) → err_of e ≡ ok_of w → ⊥
+refused e w h = cc
+
+-- a window that its region has
+pub window_is : (r : Region) (o n : ℕ) → o + n ≤ r.size → window_in r o n ≡ ok_of (record { block = r.block; offset = o; len = n })
+window_is r o n h =
+    let test : nat_le (o + n) r.size ≡ true = grind (arith, nat_tests) in
+    ap (λ (b : Bool). if b then ok_of (record { block = r.block; offset = o; len = n }) else Err InvalidBackendAddress) test
+
+ok_is : (v w : Window) → ok_of v ≡ ok_of w → v ≡ w
+ok_is v w e = cc
+
+-- what the window from an address on is, and which addresses it has
+window_there : (l : List Region) (a most start size : ℕ) (r : Region) (w : Window) → Some r ≡ region_at l a → start ≡ r.start → size ≡ r.size →
+    ok_of w ≡ window_in r (a - start) (min (size - (a - start)) most) → w ≡ record { block = r.block; offset = a - r.start; len = min (r.size - (a - r.start)) most }
+window_there l a most start size r w found from many e =
+    let low = start_below l a r found in
+    let high = end_above l a r found in
+    ok_is w (record { block = r.block; offset = a - r.start; len = min (r.size - (a - r.start)) most })
+    (e ∙ ap (λ s. window_in r (a - s) (min (size - (a - s)) most)) from ∙ ap (λ n. window_in r (a - r.start) (min (n - (a - r.start)) most)) many
+    ∙ window_is r (a - r.start) (min (r.size - (a - r.start)) most) (omega arith))
+
+pub window_found : (l : List Region) (a most start size : ℕ) (r : Region) (w : Window) → IsLayout l → Some r ≡ region_at l a → start ≡ r.start → size ≡ r.size → 0 < most → r.start + r.size ≤ 2 ^ 64 →
+    ok_of w ≡ window_in r (a - start) (min (size - (a - start)) most) →
+    (0 < w.len) × (w.len ≤ most) × (a + w.len ≤ 2 ^ 64) × (located (place l) (addresses a w.len) ≡ Some (places_of w))
+window_found l a most start size r w is found from many some fits e =
+    let low = start_below l a r found in
+    let high = end_above l a r found in
+    let same = window_there l a most start size r w found from many e in
+    let n : ℕ = min (r.size - (a - r.start)) most in
+    rw same (omega arith, omega arith, omega arith, run_in l a n r is found (omega arith))
+
+pub window_held : (lengths : List ℕ) (l : List Region) (a most start size : ℕ) (r : Region) (w : Window) → Some r ≡ region_at l a → start ≡ r.start → size ≡ r.size →
+    ok_of w ≡ window_in r (a - start) (min (size - (a - start)) most) → AreHeld lengths l → LiesIn lengths w
+window_held lengths l a most start size r w found from many e held =
+    let low = start_below l a r found in
+    let high = end_above l a r found in
+    let same = window_there l a most start size r w found from many e in
+    let there = held_there lengths l a r held found in
+    rw same (there.0, omega (arith, there.1))
+
+-- the window from an address on is never refused
+pub window_refused : (l : List Region) (a most start size : ℕ) (r : Region) (e : GuestMemoryError) → Some r ≡ region_at l a → start ≡ r.start → size ≡ r.size →
+    err_of e ≡ window_in r (a - start) (min (size - (a - start)) most) → ⊥
+window_refused l a most start size r e found from many is =
+    let low = start_below l a r found in
+    let high = end_above l a r found in
+    let there = window_is r (a - start) (min (size - (a - start)) most) (omega arith) in
+    refused e _ (is ∙ there)

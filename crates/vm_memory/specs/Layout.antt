@@ -1,7 +1,9 @@
 -- Which place a guest's physical address has: a partial function, given by regions.
-use Rattle.std.specs.Prelude.{ℕ, ◌≡◌, ◌+◌, ◌-◌, ◌<◌, ◌≤◌, ◌^◌, Bool, ◌&&◌, not, nat_le, nat_lt, ◌==◌, List, [], ◌∷◌, length, Option, Some, None, if◌then◌else◌, slice_index_or}
+use Rattle.std.specs.Prelude.{ℕ, zero, suc, ◌≡◌, ◌+◌, ◌-◌, ◌<◌, ◌≤◌, ◌^◌, Bool, ◌&&◌, not, nat_le, nat_lt, ◌==◌, List, [], ◌∷◌, length, map, Option, Some, None, if◌then◌else◌, slice_index_or}
 use Rattle.std.specs.List.{filter}
 use Rattle.std.specs.Option.{option_or}
+use Rattle.std.specs.Arc.{arc_value}
+use Rattle.std.specs.declared.sync.Arc.{Arc}
 use Rattle.vm_memory_core.specs.Table.{is_within}
 use Rattle.vm_memory_core.specs.Host.{Place}
 
@@ -11,6 +13,19 @@ pub record Region : Type 0 where
   pub size : ℕ
   pub block : ℕ
 
+-- a block and its length
+pub record Backing : Type 0 where
+  pub size : ℕ
+  pub block : ℕ
+
+-- a region is not empty, and its last address fits 64 bits
+abbrev pub IsLawful : Region → Type 0
+IsLawful r = (0 < r.size) × (r.size < 2 ^ 64) × (r.start + r.size ≤ 2 ^ 64)
+
+-- the last address of a region
+abbrev pub last_address : Region → ℕ
+last_address r = r.start + r.size - 1
+
 -- the place of an address in one region
 abbrev pub place_in : Region → ℕ → Option Place
 place_in r a = if is_within r.start r.size a then Some (record { block = r.block; offset = a - r.start }) else None
@@ -19,6 +34,27 @@ place_in r a = if is_within r.start r.size a then Some (record { block = r.block
 unfoldable pub place : List Region → ℕ → Option Place
 place [] a = None
 place (r ∷ rs) a = option_or (place_in r a) (place rs a)
+
+-- the region that has an address
+unfoldable pub region_at : List Region → ℕ → Option Region
+region_at [] a = None
+region_at (r ∷ rs) a = if is_within r.start r.size a then Some r else region_at rs a
+
+-- the regions that are shared
+abbrev pub regions_of : {X Z : Type 0} → (X → Region) → List (Arc X Z) → List Region
+regions_of region shared = map (λ a. region (arc_value a)) shared
+
+-- where the i-th region begins
+abbrev pub start_at : List Region → ℕ → ℕ
+start_at [] i = 0
+start_at (r ∷ rs) zero = r.start
+start_at (r ∷ rs) (suc i) = start_at rs i
+
+-- the address that follows the i-th region
+abbrev pub end_at : List Region → ℕ → ℕ
+end_at [] i = 0
+end_at (r ∷ rs) zero = r.start + r.size
+end_at (r ∷ rs) (suc i) = end_at rs i
 
 -- whether two regions have an address in common
 abbrev pub overlap : Region → Region → Bool

@@ -1,3 +1,6 @@
 pub mod Layout
+pub mod Regions
+pub mod Collecting
 pub mod Memory
+pub mod Backend
 pub mod Making

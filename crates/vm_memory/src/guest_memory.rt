@@ -1,91 +1,79 @@
-//! The regions of a guest (vm-memory's `GuestMemoryMmap`).
+//! Guest memory by address: what is there, reads and writes (vm-memory's `GuestMemoryMmap`).
 
-ghost use Rattle.std.specs.Prelude.{◌≡◌, ◌+◌, ◌++◌, ◌^◌, ◌<◌, ◌≤◌, ◌↔◌, ℕ, List, None, Some, Ok, Err, IfSome, IfOk, OnOk, IsTrue, OnErr, IsErrOf, false, [], ◌∷◌, length, take, drop, map, replicate, if◌then◌else◌, slice_get};
+ghost use Rattle.std.specs.Prelude.{◌≡◌, ◌+◌, ◌++◌, ◌^◌, ◌<◌, ◌≤◌, ℕ, List, None, Some, Ok, IfSome, IfOk, length, take, drop, map, if◌then◌else◌};
 ghost use Rattle.std.specs.List.{zip, list_all};
 ghost use Rattle.std.specs.Option.{is_some};
-ghost use Rattle.vm_memory_core.specs.Host.{host_of, lengths, Block};
+ghost use Rattle.vm_memory_core.specs.Host.{host_of, lengths};
 ghost use Rattle.vm_memory_core.specs.Window.{places, places_of, LiesIn, AllLieIn};
-ghost use Rattle.vm_memory_core.specs.declared.permissions.Permissions.TheVariants.{Read, Write};
-ghost use Rattle.vm_memory.specs.Layout.{place, AreHeld};
-ghost use Rattle.vm_memory.specs.Making.{IsMadeOf};
+ghost use Rattle.vm_memory.specs.Layout.{place, regions_of, AreHeld};
+ghost use Rattle.vm_memory.specs.Making.{shared_regions, AreRegionsMade, IsMadeOf};
 ghost use Rattle.vm_memory.specs.Memory.{memory_of, addresses, circular, located, reached, after, byte, stored_all, transferred};
 
-use crate::error::{FromRangesError, GuestMemoryError, MmapRegionError};
-use crate::region::GuestRegionMmap;
+use crate::collection::GuestRegionCollection;
+use crate::error::{FromRangesError, GuestMemoryError};
+use crate::region::{GuestMemoryRegion, GuestRegionMmap};
 use std::alloc::{AllocError, Global};
-use std::marker::Model;
+use std::sync::Arc;
 use vm_memory_core::{
-    GuestAddress, HostMemory, NewBitmap, Permissions, VolatileSlice, Windows, put_at,
+    GuestAddress, HostMemory, MemoryRegionAddress, NewBitmap, Permissions, VolatileSlice, Windows,
+    put_at,
 };
 
-/// The regions of a guest's physical memory, by ascending address.
-#[derive(Drop)]
-pub struct GuestMemoryMmap {
-    regions: Vec<GuestRegionMmap>,
-}
+/// A guest's physical memory over blocks of the host (vm-memory's `GuestMemoryMmap`).
+pub type GuestMemoryMmap = GuestRegionCollection<GuestRegionMmap>;
 
-impl Model for GuestMemoryMmap {
-    ghost use Rattle.std.specs.Prelude.{List};
-    ghost use Rattle.vm_memory.specs.Layout.{Region, IsLayout};
-
-    ghost Value = { List Region };
-
-    ghost view = { λ m. m.regions.items };
-
-    ghost invariant = { λ m. IsLayout m.regions.items };
-}
-
-impl GuestMemoryMmap {
-    /// Memory of no region.
-    pub fn new(alloc: Global) -> GuestMemoryMmap
-        ensures { result ≡ [] }
-    {
-        GuestMemoryMmap {
-            regions: Vec::new(alloc),
-        }
-    }
-
-    /// Memory of the regions that begin at these addresses and have these sizes, each over a new block; so far of one region.
+impl GuestRegionCollection<GuestRegionMmap> {
+    /// Memory of the regions that begin at these addresses and have these sizes, each over a new block. Blocks that were
+    /// made before a refusal stay in the host.
     pub fn from_ranges<B: NewBitmap>(
         alloc: Global,
         host: &mut HostMemory<B>,
         ranges: &[(GuestAddress, usize)],
     ) -> Result<GuestMemoryMmap, FromRangesError>
-        requires { length ranges.now ≡ 1 }
-        ensures { IfSome (slice_get ranges.now 0) (λ r. IsMadeOf B.count host.old host.new r.0.0 r.1 result) }
+        ensures made { IsMadeOf B.count host.old host.new ranges.now result }
+        ensures held { IfOk result (AreHeld (lengths (host_of host.new))) }
     {
-        let (base, size) = ranges[0];
-        GuestMemoryMmap::from_range(alloc, host, base.0, size)
-    }
-
-    // Memory of one region over a new block.
-    fn from_range<B: NewBitmap>(
-        alloc: Global,
-        host: &mut HostMemory<B>,
-        base: u64,
-        size: usize,
-    ) -> Result<GuestMemoryMmap, FromRangesError>
-        ensures { IsMadeOf B.count host.old host.new base size result }
-    {
-        if size == 0 {
-            return Err(FromRangesError::MmapRegion(MmapRegionError::Mmap));
+        match regions_over(alloc, host, ranges) {
+            Ok(regions) => match GuestRegionCollection::from_arc_regions(alloc, regions) {
+                Ok(memory) => Ok(memory),
+                Err(fault) => Err(FromRangesError::Collection(fault)),
+            },
+            Err(error) => Err(error),
         }
-        let Ok(mut regions) = Vec::with_capacity(alloc, 1) else {
-            return Err(FromRangesError::OutOfMemory);
-        };
-        let Ok(block) = host.new_block(size) else {
-            return Err(FromRangesError::OutOfMemory);
-        };
-        if base > u64::MAX - (size as u64 - 1) {
-            return Err(FromRangesError::InvalidGuestRegion);
-        }
-        regions
-            .push(GuestRegionMmap::new(base, size as u64, block))
-            .unwrap();
-        Ok(GuestMemoryMmap { regions })
     }
+}
 
+// Regions over new blocks, one for each range.
+fn regions_over<B: NewBitmap>(
+    alloc: Global,
+    host: &mut HostMemory<B>,
+    ranges: &[(GuestAddress, usize)],
+) -> Result<Vec<Arc<GuestRegionMmap>>, FromRangesError>
+    ensures { AreRegionsMade B.count host.old host.new ranges.now (shared_regions (λ r. r) result) }
+{
+    let Ok(mut regions) = Vec::with_capacity(alloc, ranges.len()) else {
+        return Err(FromRangesError::OutOfMemory);
+    };
+    for range in ranges {
+        match GuestRegionMmap::from_range(alloc, host, range.0, range.1) {
+            Ok(region) => {
+                let Ok(region) = Arc::new(alloc, region) else {
+                    return Err(FromRangesError::OutOfMemory);
+                };
+                match regions.push(region) {
+                    Ok(()) => {}
+                    Err(_) => return Err(FromRangesError::OutOfMemory),
+                }
+            }
+            Err(error) => return Err(error),
+        }
+    }
+    Ok(regions)
+}
+
+impl<R: GuestMemoryRegion> GuestRegionCollection<R> {
     // The longest window of at most `most` bytes from an address on, if the address has a place.
+    #[inline]
     fn window_at(&self, addr: u64, most: usize) -> Option<VolatileSlice>
         requires { 0 < most }
         ensures none { result ≡ None → place self.now addr ≡ None }
@@ -93,12 +81,17 @@ impl GuestMemoryMmap {
             × (located (place self.now) (addresses addr w.len) ≡ Some (places_of w))) }
         ensures held { (lengths : List ℕ) → AreHeld lengths self.now → IfSome result (LiesIn lengths) }
     {
-        for region in &self.regions {
-            if region.address_in_range(addr) {
-                return Some(region.window_from(addr, most));
+        match self.find(addr) {
+            Some(region) => {
+                let offset = addr - region.start_addr().0;
+                let len = (region.len() - offset).min(most as u64) as usize;
+                match region.get_slice(MemoryRegionAddress(offset), len) {
+                    Ok(window) => Some(window),
+                    Err(_) => None,
+                }
             }
+            None => None,
         }
-        None
     }
 
     // How many of `len` addresses from one on, where 0 comes after the greatest, have a place.

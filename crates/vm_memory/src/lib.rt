@@ -1,10 +1,19 @@
 //! Guest memory: addresses over host blocks, each translated by itself.
 #![tactic(auto)]
 
+pub mod backend;
+pub mod collection;
 pub mod error;
 pub mod guest_memory;
+pub mod mmap;
 pub mod region;
 
-pub use error::{FromRangesError, GuestMemoryError, MmapRegionError};
+pub use backend::{GuestMemoryBackend, RegionIter};
+pub use collection::GuestRegionCollection;
+pub use error::{FromRangesError, GuestMemoryError, GuestRegionCollectionError, MmapRegionError};
 pub use guest_memory::GuestMemoryMmap;
-pub use region::GuestRegionMmap;
+pub use mmap::MmapRegion;
+pub use region::{GuestMemoryRegion, GuestRegionMmap, HostAddress};
+
+#[cfg(test)]
+mod tests;

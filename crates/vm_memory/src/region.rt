@@ -1,10 +1,134 @@
-//! A region of guest addresses over a block of host memory (vm-memory's `GuestRegionMmap`).
+//! A region of guest addresses over a block of host memory (vm-memory's `GuestMemoryRegion` and `GuestRegionMmap`).
 
-ghost use Rattle.std.specs.Prelude.{◌≡◌, ◌+◌, ◌-◌, ◌<◌, ◌≤◌, ◌^◌, ◌&&◌, nat_le, nat_lt, min};
-ghost use Rattle.vm_memory_core.specs.Table.{is_within};
+ghost use Rattle.std.specs.Prelude.{◌≡◌, ◌+◌, ◌-◌, ◌<◌, ◌≤◌, ◌^◌, nat_lt};
+ghost use Rattle.vm_memory.specs.Layout.{IsLawful, Region, last_address};
+ghost use Rattle.vm_memory.specs.Making.{IsRegionMade, region_over};
+ghost use Rattle.vm_memory.specs.Regions.{checked_in, host_address_in, offset_in, window_in};
 
+use crate::error::{FromRangesError, GuestMemoryError, MmapRegionError};
+use crate::mmap::MmapRegion;
+use std::alloc::Global;
 use std::marker::Model;
-use vm_memory_core::VolatileSlice;
+use vm_memory_core::{
+    GuestAddress, GuestUsize, HostMemory, MemoryRegionAddress, NewBitmap, VolatileSlice,
+};
+
+/// Where a byte is in the host: it stands for a host pointer.
+#[derive(Clone, Copy, Debug, PartialEq, Eq)]
+pub struct HostAddress {
+    /// The number of its block.
+    pub block: usize,
+    /// Where it stands in its block, in bytes.
+    pub offset: usize,
+}
+
+/// Guest addresses that follow one another and are the bytes of a block, from its first on (vm-memory's
+/// `GuestMemoryRegion`). Offsets count bytes from the first address.
+pub trait GuestMemoryRegion: Drop {
+    // its addresses, and their block
+    ghost region: { Self → Region };
+
+    /// How many addresses it has.
+    fn len(&self) -> GuestUsize
+        ensures len { result ≡ (region self.now).size }
+        ensures lawful { IsLawful (region self.now) };
+
+    /// Its first address.
+    fn start_addr(&self) -> GuestAddress
+        ensures start { result.0 ≡ (region self.now).start }
+        ensures lawful { IsLawful (region self.now) };
+
+    /// The window of `count` bytes from an offset on, where it has them.
+    fn get_slice(
+        &self,
+        offset: MemoryRegionAddress,
+        count: usize,
+    ) -> Result<VolatileSlice, GuestMemoryError>
+        ensures { result ≡ window_in (region self.now) offset.0 count };
+
+    /// Its last address.
+    #[inline]
+    final fn last_addr(&self) -> GuestAddress
+        ensures last { result.0 ≡ last_address (region self.now) }
+        ensures lawful { IsLawful (region self.now) }
+    {
+        GuestAddress(self.start_addr().0 + (self.len() - 1))
+    }
+
+    /// Whether it has an offset.
+    #[inline]
+    final fn address_in_range(&self, addr: MemoryRegionAddress) -> bool
+        ensures { result ≡ nat_lt addr.0 (region self.now).size }
+    {
+        addr.0 < self.len()
+    }
+
+    /// An offset, if the region has it.
+    #[inline]
+    final fn check_address(&self, addr: MemoryRegionAddress) -> Option<MemoryRegionAddress>
+        ensures { result ≡ checked_in (region self.now) addr.0 }
+    {
+        if self.address_in_range(addr) {
+            Some(addr)
+        } else {
+            None
+        }
+    }
+
+    /// The offset that lies `offset` bytes behind another, if the region has it.
+    #[inline]
+    final fn checked_offset(
+        &self,
+        base: MemoryRegionAddress,
+        offset: usize,
+    ) -> Option<MemoryRegionAddress>
+        ensures { result ≡ checked_in (region self.now) (base.0 + offset) }
+    {
+        let size = self.len();
+        match base.0.checked_add(offset as u64) {
+            Some(addr) if addr < size => Some(MemoryRegionAddress(addr)),
+            _ => None,
+        }
+    }
+
+    /// The offset of a guest's address, if the region has the address.
+    #[inline]
+    final fn to_region_addr(&self, addr: GuestAddress) -> Option<MemoryRegionAddress>
+        ensures { result ≡ offset_in (region self.now) addr.0 }
+    {
+        let start = self.start_addr().0;
+        if start <= addr.0 {
+            self.check_address(MemoryRegionAddress(addr.0 - start))
+        } else {
+            None
+        }
+    }
+
+    /// All of its bytes.
+    #[inline]
+    final fn as_volatile_slice(&self) -> Result<VolatileSlice, GuestMemoryError>
+        ensures { result ≡ window_in (region self.now) 0 (region self.now).size }
+    {
+        self.get_slice(MemoryRegionAddress(0), self.len() as usize)
+    }
+
+    /// Where the byte at an offset is in the host.
+    #[inline]
+    final fn get_host_address(
+        &self,
+        addr: MemoryRegionAddress,
+    ) -> Result<HostAddress, GuestMemoryError>
+        ensures { result ≡ host_address_in (region self.now) addr.0 }
+    {
+        match self.get_slice(addr, 1) {
+            Ok(window) => Ok(HostAddress {
+                block: window.block(),
+                offset: window.block_offset(),
+            }),
+            Err(error) => Err(error),
+        }
+    }
+}
 
 /// Addresses from `start` on, which are the bytes of a block from its first on.
 #[derive(Clone, Copy)]
@@ -15,43 +139,78 @@ pub struct GuestRegionMmap {
 }
 
 impl Model for GuestRegionMmap {
-    ghost use Rattle.std.specs.Prelude.{◌+◌, ◌<◌, ◌≤◌, ◌^◌};
-    ghost use Rattle.vm_memory.specs.Layout.{Region};
+    ghost use Rattle.vm_memory.specs.Layout.{Region, IsLawful};
 
     ghost Value = { Region };
 
     ghost view = { λ r. record { start = r.start; size = r.size; block = r.block } };
 
-    ghost invariant = { λ r. (r.size < 2 ^ 64) × (r.start + r.size ≤ 2 ^ 64) };
+    ghost invariant = { λ r. IsLawful (record { start = r.start; size = r.size; block = r.block }) };
 
     ghost inverse = { λ r. record { start = r.start; size = r.size; block = r.block } };
 }
 
 impl GuestRegionMmap {
-    /// The region of `size` addresses from `start` on, over a block of `size` bytes.
-    pub fn new(start: u64, size: u64, block: usize) -> GuestRegionMmap
-        requires { start + size ≤ 2 ^ 64 }
-        ensures { result ≡ record { start = start; size = size; block = block } }
+    /// The region from an address on over all of a block, where its last address fits 64 bits.
+    pub fn new(region: MmapRegion, base: GuestAddress) -> Option<GuestRegionMmap>
+        ensures { result ≡ region_over region base.0 }
     {
-        GuestRegionMmap { start, size, block }
+        let size = region.size() as u64;
+        if base.0 > u64::MAX - (size - 1) {
+            return None;
+        }
+        Some(GuestRegionMmap {
+            start: base.0,
+            size,
+            block: region.block(),
+        })
     }
 
-    /// Whether the region has an address.
-    pub fn address_in_range(&self, addr: u64) -> bool
-        ensures { result ≡ is_within self.now.start self.now.size addr }
+    /// The region of `size` addresses from one on, over a new block; the block stays in the host where the last
+    /// address does not fit.
+    pub fn from_range<B: NewBitmap>(
+        alloc: Global,
+        h: &mut HostMemory<B>,
+        base: GuestAddress,
+        size: usize,
+    ) -> Result<GuestRegionMmap, FromRangesError>
+        ensures { IsRegionMade B.count h.old h.new base.0 size result }
     {
-        self.start <= addr && addr - self.start < self.size
+        let region = match MmapRegion::new(alloc, h, size) {
+            Ok(region) => region,
+            Err(MmapRegionError::OutOfMemory) => return Err(FromRangesError::OutOfMemory),
+            Err(error) => return Err(FromRangesError::MmapRegion(error)),
+        };
+        match GuestRegionMmap::new(region, base) {
+            Some(region) => Ok(region),
+            None => Err(FromRangesError::InvalidGuestRegion),
+        }
+    }
+}
+
+impl GuestMemoryRegion for GuestRegionMmap {
+    ghost region = { λ r. r };
+
+    #[inline]
+    fn len(&self) -> GuestUsize {
+        self.size
     }
 
-    /// The window of at most `most` bytes from an address on.
-    pub fn window_from(&self, addr: u64, most: usize) -> VolatileSlice
-        requires low { self.now.start ≤ addr }
-        requires high { addr < self.now.start + self.now.size }
-        ensures window { result ≡ record { block = self.now.block; offset = addr - self.now.start; len = min (self.now.size - (addr - self.now.start)) most } }
-        ensures fits { self.now.start + self.now.size ≤ 2 ^ 64 }
-    {
-        let offset = addr - self.start;
-        let len = (self.size - offset).min(most as u64);
-        VolatileSlice::new(self.block, offset as usize, len as usize)
+    #[inline]
+    fn start_addr(&self) -> GuestAddress {
+        GuestAddress(self.start)
+    }
+
+    #[inline]
+    fn get_slice(
+        &self,
+        offset: MemoryRegionAddress,
+        count: usize,
+    ) -> Result<VolatileSlice, GuestMemoryError> {
+        if offset.0 <= self.size && count as u64 <= self.size - offset.0 {
+            Ok(VolatileSlice::new(self.block, offset.0 as usize, count))
+        } else {
+            Err(GuestMemoryError::InvalidBackendAddress)
+        }
     }
 }

@@ -1,0 +1,60 @@
+-- Which regions are a layout, and how a layout changes.
+use Rattle.std.specs.Prelude.{◌≡◌, ℕ, false, true, nat_lt, List, [], ◌∷◌, find, Option, Some, None, if◌then◌else◌, Result, Ok, Err}
+use Rattle.std.specs.List.{list_any}
+use Rattle.std.specs.Option.{option_or}
+use Rattle.std.specs.Arc.{arc_value}
+use Rattle.std.specs.declared.sync.Arc.{Arc}
+use Rattle.vm_memory.specs.Layout.{Region, overlap, with_region, is_region, without_region}
+use Rattle.vm_memory.specs.declared.error.GuestRegionCollectionError.{GuestRegionCollectionError}
+use Rattle.vm_memory.specs.declared.error.GuestRegionCollectionError.TheVariants.{NoMemoryRegion, MemoryRegionOverlap, UnsortedMemoryRegions, OutOfMemory}
+
+-- what is wrong with two regions that stand one after the other, if anything is
+abbrev pub fault_between : Region → Region → Option GuestRegionCollectionError
+fault_between r s =
+    if nat_lt s.start r.start then Some UnsortedMemoryRegions
+    else if overlap r s then Some MemoryRegionOverlap
+    else None
+
+-- the first fault among neighbours
+unfoldable pub fault_after : Region → List Region → Option GuestRegionCollectionError
+fault_after r [] = None
+fault_after r (s ∷ rest) = option_or (fault_between r s) (fault_after s rest)
+
+-- what is wrong with some regions, if anything is
+abbrev pub fault_of : List Region → Option GuestRegionCollectionError
+fault_of [] = Some NoMemoryRegion
+fault_of (r ∷ rest) = fault_after r rest
+
+-- some regions, unless there is a fault
+abbrev pub unless : Option GuestRegionCollectionError → List Region → Result (List Region) GuestRegionCollectionError
+unless None regions = Ok regions
+unless (Some fault) regions = Err fault
+
+-- some regions are a layout, or what is wrong with them; memory may be wanting
+abbrev pub Collects : List Region → Result (List Region) GuestRegionCollectionError → Type 0
+Collects regions (Ok layout) = (fault_of regions ≡ None) × (layout ≡ regions)
+Collects regions (Err NoMemoryRegion) = fault_of regions ≡ Some NoMemoryRegion
+Collects regions (Err MemoryRegionOverlap) = fault_of regions ≡ Some MemoryRegionOverlap
+Collects regions (Err UnsortedMemoryRegions) = fault_of regions ≡ Some UnsortedMemoryRegions
+Collects regions (Err OutOfMemory) = Unit {0}
+
+-- a layout with one more region, which has no address in common with any that is there
+abbrev pub Inserts : Region → List Region → Result (List Region) GuestRegionCollectionError → Type 0
+Inserts r layout (Ok new) = (list_any (overlap r) layout ≡ false) × (new ≡ with_region r layout)
+Inserts r layout (Err NoMemoryRegion) = ⊥
+Inserts r layout (Err MemoryRegionOverlap) = list_any (overlap r) layout ≡ true
+Inserts r layout (Err UnsortedMemoryRegions) = ⊥
+Inserts r layout (Err OutOfMemory) = Unit {0}
+
+-- the layout that is left, and the region that was shared
+abbrev pub with_removed : {X Z : Type 0} → (X → Region) → Result (List Region × Arc X Z) GuestRegionCollectionError → Result (List Region × Region) GuestRegionCollectionError
+with_removed region (Ok left) = Ok (left.0, region (arc_value left.1))
+with_removed region (Err e) = Err e
+
+-- a layout without the region of this base and size, and that region
+abbrev pub Removes : (base size : ℕ) → List Region → Result (List Region × Region) GuestRegionCollectionError → Type 0
+Removes base size layout (Ok left) = (find (is_region base size) layout ≡ Some left.1) × (left.0 ≡ without_region base size layout)
+Removes base size layout (Err NoMemoryRegion) = find (is_region base size) layout ≡ None
+Removes base size layout (Err MemoryRegionOverlap) = ⊥
+Removes base size layout (Err UnsortedMemoryRegions) = ⊥
+Removes base size layout (Err OutOfMemory) = Unit {0}

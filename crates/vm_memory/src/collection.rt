@@ -1,0 +1,303 @@
+//! Regions that ascend and have no address in common (vm-memory's `GuestRegionCollection`).
+
+ghost use Rattle.std.specs.Prelude.{◌≡◌, ◌+◌, ◌-◌, ◌<◌, ◌≤◌, [], length, map, option_map, slice_get, Some, None, IfOk, IfSome, OnOk};
+ghost use Rattle.std.specs.Bool.{OnFalse, OnTrue};
+ghost use Rattle.std.specs.List.{list_any};
+ghost use Rattle.std.specs.Arc.{arc_value};
+ghost use Rattle.vm_memory.specs.Layout.{Region, end_at, overlap, region_at, start_at, regions_of, IsLawful, IsLayout};
+ghost use Rattle.vm_memory.specs.Collecting.{fault_between, fault_of, unless, with_removed, Collects, Inserts, Removes};
+
+use crate::error::GuestRegionCollectionError;
+use crate::region::GuestMemoryRegion;
+use std::alloc::{AllocError, Global};
+use std::marker::Model;
+use std::sync::Arc;
+use vm_memory_core::{GuestAddress, GuestUsize};
+
+/// The regions of a guest's physical memory, by ascending address. Collections share their regions.
+#[derive(Drop)]
+pub struct GuestRegionCollection<R: GuestMemoryRegion> {
+    alloc: Global,
+    regions: Vec<Arc<R>>,
+}
+
+impl<R: GuestMemoryRegion> Model for GuestRegionCollection<R> {
+    ghost use Rattle.std.specs.Prelude.{List};
+    ghost use Rattle.vm_memory.specs.Layout.{Region, IsLayout, regions_of};
+
+    ghost Value = { List Region };
+
+    ghost view = { λ m. regions_of R.region m.regions.items };
+
+    ghost invariant = { λ m. IsLayout (regions_of R.region m.regions.items) };
+}
+
+impl<R: GuestMemoryRegion> GuestRegionCollection<R> {
+    /// No region.
+    pub fn new(alloc: Global) -> GuestRegionCollection<R>
+        ensures { result ≡ [] }
+    {
+        GuestRegionCollection {
+            alloc,
+            regions: Vec::new(alloc),
+        }
+    }
+
+    /// Some regions, which have to ascend and to have no address in common.
+    pub fn from_regions(
+        alloc: Global,
+        regions: Vec<R>,
+    ) -> Result<GuestRegionCollection<R>, GuestRegionCollectionError>
+        ensures { Collects (map R.region regions.items) result }
+    {
+        match share(alloc, regions) {
+            Ok(regions) => GuestRegionCollection::from_arc_regions(alloc, regions),
+            Err(_) => Err(GuestRegionCollectionError::OutOfMemory),
+        }
+    }
+
+    /// Some regions that others may share, which have to ascend and to have no address in common.
+    pub fn from_arc_regions(
+        alloc: Global,
+        regions: Vec<Arc<R>>,
+    ) -> Result<GuestRegionCollection<R>, GuestRegionCollectionError>
+        ensures { result ≡ unless (fault_of (regions_of R.region regions.items)) (regions_of R.region regions.items) }
+    {
+        match fault_among(&regions) {
+            None => Ok(GuestRegionCollection { alloc, regions }),
+            Some(fault) => Err(fault),
+        }
+    }
+
+    /// The regions and one more, where it has no address in common with any that is there.
+    pub fn insert_region(
+        &self,
+        region: Arc<R>,
+    ) -> Result<GuestRegionCollection<R>, GuestRegionCollectionError>
+        ensures { Inserts (R.region (arc_value region)) self.now result }
+    {
+        let start = region.start_addr().0;
+        let last = region.last_addr().0;
+        let at = self.begun(start);
+        if self.collides(at, start, last) {
+            return Err(GuestRegionCollectionError::MemoryRegionOverlap);
+        }
+        let Ok(mut regions) = self.copied(1) else {
+            return Err(GuestRegionCollectionError::OutOfMemory);
+        };
+        match regions.insert(at, region) {
+            Ok(()) => Ok(GuestRegionCollection {
+                alloc: self.alloc,
+                regions,
+            }),
+            Err(_) => Err(GuestRegionCollectionError::OutOfMemory),
+        }
+    }
+
+    // Whether one of the regions has an address from one to another; `at` of them begin at the first address or below it.
+    fn collides(&self, at: usize, start: u64, last: u64) -> bool
+        requires order { start ≤ last }
+        requires most { at ≤ length self.now }
+        requires below { 0 < at → start_at self.now (at - 1) ≤ start }
+        requires above { at < length self.now → start < start_at self.now at }
+        ensures { result ≡ list_any (overlap (record { start = start; size = last - start + 1; block = 0 })) self.now }
+    {
+        if self.ends_past(at, start) {
+            return true;
+        }
+        self.begins_by(at, last)
+    }
+
+    // Whether the region before the `at`-th has an address or one above it.
+    fn ends_past(&self, at: usize, addr: u64) -> bool
+        requires { at ≤ length self.now }
+        ensures past { OnTrue result ((0 < at) × (addr < end_at self.now (at - 1))) }
+        ensures before { OnFalse result (0 < at → end_at self.now (at - 1) ≤ addr) }
+    {
+        if at == 0 {
+            return false;
+        }
+        addr <= self.region(at - 1).last_addr().0
+    }
+
+    // Whether the `at`-th region begins at an address or below it.
+    fn begins_by(&self, at: usize, addr: u64) -> bool
+        ensures by { OnTrue result ((at < length self.now) × (start_at self.now at ≤ addr)) }
+        ensures above { OnFalse result (at < length self.now → addr < start_at self.now at) }
+        ensures layout { IsLayout self.now }
+    {
+        if at >= self.count() {
+            return false;
+        }
+        self.region(at).start_addr().0 <= addr
+    }
+
+    /// The regions without the one that begins at an address and has a size, and that one.
+    pub fn remove_region(
+        &self,
+        base: GuestAddress,
+        size: GuestUsize,
+    ) -> Result<(GuestRegionCollection<R>, Arc<R>), GuestRegionCollectionError>
+        ensures { Removes base.0 size self.now (with_removed R.region result) }
+    {
+        let begun = self.begun(base.0);
+        if begun == 0 {
+            return Err(GuestRegionCollectionError::NoMemoryRegion);
+        }
+        let last = self.region(begun - 1);
+        if last.start_addr().0 != base.0 {
+            return Err(GuestRegionCollectionError::NoMemoryRegion);
+        }
+        if last.len() != size {
+            return Err(GuestRegionCollectionError::NoMemoryRegion);
+        }
+        let Ok(mut regions) = self.copied(0) else {
+            return Err(GuestRegionCollectionError::OutOfMemory);
+        };
+        let removed = regions.remove(begun - 1);
+        Ok((
+            GuestRegionCollection {
+                alloc: self.alloc,
+                regions,
+            },
+            removed,
+        ))
+    }
+
+    /// The same regions once more.
+    pub fn try_clone(&self) -> Result<GuestRegionCollection<R>, AllocError>
+        ensures { IfOk result (λ m. m ≡ self.now) }
+    {
+        let regions = self.copied(0)?;
+        Ok(GuestRegionCollection {
+            alloc: self.alloc,
+            regions,
+        })
+    }
+
+    // The regions, with room for more.
+    fn copied(&self, more: usize) -> Result<Vec<Arc<R>>, AllocError>
+        requires { more ≤ 1 }
+        ensures { IfOk result (λ v. regions_of R.region v.items ≡ self.now) }
+    {
+        let mut all = Vec::with_capacity(self.alloc, self.regions.len().saturating_add(more))?;
+        for region in &self.regions {
+            all.push(Arc::try_clone(region)?)?;
+        }
+        Ok(all)
+    }
+
+    // How many regions there are.
+    #[inline]
+    pub(crate) fn count(&self) -> usize
+        ensures count { result ≡ length self.now }
+        ensures layout { IsLayout self.now }
+    {
+        self.regions.len()
+    }
+
+    // The regions.
+    pub(crate) fn shared(&self) -> &[Arc<R>]
+        ensures { regions_of R.region result.now ≡ self.now }
+    {
+        &self.regions
+    }
+
+    // A region by its number.
+    #[inline]
+    pub(crate) fn region(&self, at: usize) -> &R
+        requires { at < length self.now }
+        ensures { slice_get self.now at ≡ Some (R.region result.now) }
+    {
+        &self.regions[at]
+    }
+
+    // How many regions begin at an address or below it.
+    #[inline]
+    fn begun(&self, addr: u64) -> usize
+        ensures most { result ≤ length self.now }
+        ensures below { 0 < result → start_at self.now (result - 1) ≤ addr }
+        ensures above { result < length self.now → addr < start_at self.now result }
+        ensures layout { IsLayout self.now }
+    {
+        let mut low = 0;
+        let mut high = self.count();
+        while low < high {
+            let middle = low + (high - low) / 2;
+            if self.region(middle).start_addr().0 <= addr {
+                low = middle + 1;
+            } else {
+                high = middle;
+            }
+        }
+        low
+    }
+
+    // The region that has an address.
+    #[inline]
+    pub(crate) fn find(&self, addr: u64) -> Option<&R>
+        ensures found { option_map (λ r. R.region r.now) result ≡ region_at self.now addr }
+        ensures layout { IsLayout self.now }
+    {
+        let begun = self.begun(addr);
+        if begun == 0 {
+            return None;
+        }
+        let region = self.region(begun - 1);
+        if addr - region.start_addr().0 < region.len() {
+            Some(region)
+        } else {
+            None
+        }
+    }
+}
+
+// Regions that others may share.
+fn share<R: GuestMemoryRegion>(alloc: Global, regions: Vec<R>) -> Result<Vec<Arc<R>>, AllocError>
+    ensures { IfOk result (λ v. regions_of R.region v.items ≡ map R.region regions.items) }
+{
+    let mut all = Vec::with_capacity(alloc, regions.len())?;
+    for region in regions {
+        match Arc::new(alloc, region) {
+            Ok(region) => all.push(region)?,
+            Err(_) => return Err(AllocError),
+        }
+    }
+    Ok(all)
+}
+
+// What is wrong with two regions that stand one after the other.
+fn fault_of_pair<R: GuestMemoryRegion>(first: &R, second: &R) -> Option<GuestRegionCollectionError>
+    ensures fault { result ≡ fault_between (R.region first.now) (R.region second.now) }
+    ensures lawful { IsLawful (R.region second.now) }
+{
+    let start = second.start_addr().0;
+    let size = second.len();
+    if start < first.start_addr().0 {
+        Some(GuestRegionCollectionError::UnsortedMemoryRegions)
+    } else if start <= first.last_addr().0 {
+        Some(GuestRegionCollectionError::MemoryRegionOverlap)
+    } else {
+        let _ = size;
+        None
+    }
+}
+
+// What is wrong with some regions.
+fn fault_among<R: GuestMemoryRegion>(regions: &[Arc<R>]) -> Option<GuestRegionCollectionError>
+    ensures fault { result ≡ fault_of (regions_of R.region regions.now) }
+    ensures layout { result ≡ None → IsLayout (regions_of R.region regions.now) }
+{
+    let count = regions.len();
+    if count == 0 {
+        return Some(GuestRegionCollectionError::NoMemoryRegion);
+    }
+    let _ = regions[0].len();
+    for at in 1..count {
+        match fault_of_pair(&*regions[at - 1], &*regions[at]) {
+            Some(fault) => return Some(fault),
+            None => {}
+        }
+    }
+    None
+}

@@ -1,0 +1,76 @@
+//! A block of the host that stands behind a region (vm-memory's `MmapRegion`).
+
+ghost use Rattle.std.specs.Prelude.{◌≡◌, ◌<◌, ◌^◌};
+ghost use Rattle.vm_memory_core.specs.Host.{host_of};
+ghost use Rattle.vm_memory.specs.Making.{IsMapped, backing_at};
+
+use crate::error::MmapRegionError;
+use std::alloc::Global;
+use std::marker::Model;
+use vm_memory_core::{HostMemory, NewBitmap};
+
+/// All bytes of a block of host memory, at least one.
+#[derive(Clone, Copy)]
+pub struct MmapRegion {
+    size: usize,
+    block: usize,
+}
+
+impl Model for MmapRegion {
+    ghost use Rattle.std.specs.Prelude.{◌<◌, ◌^◌};
+    ghost use Rattle.vm_memory.specs.Layout.{Backing};
+
+    ghost Value = { Backing };
+
+    ghost view = { λ m. record { size = m.size; block = m.block } };
+
+    ghost invariant = { λ m. (0 < m.size) × (m.size < 2 ^ 64) };
+
+    ghost inverse = { λ m. record { size = m.size; block = m.block } };
+}
+
+impl MmapRegion {
+    /// A new block of `size` zeros, none of whose pages is marked.
+    pub fn new<B: NewBitmap>(
+        alloc: Global,
+        h: &mut HostMemory<B>,
+        size: usize,
+    ) -> Result<MmapRegion, MmapRegionError>
+        ensures { IsMapped B.count h.old h.new size result }
+    {
+        let _ = alloc;
+        if size == 0 {
+            return Err(MmapRegionError::Mmap);
+        }
+        match h.new_block(size) {
+            Ok(block) => Ok(MmapRegion { size, block }),
+            Err(_) => Err(MmapRegionError::OutOfMemory),
+        }
+    }
+
+    /// A block that the host has; None where it has no such block, or one without a byte.
+    pub fn of_block<B: NewBitmap>(h: &HostMemory<B>, b: usize) -> Option<MmapRegion>
+        ensures { result ≡ backing_at h.now b }
+    {
+        match h.block_len(b) {
+            Some(size) if size > 0 => Some(MmapRegion { size, block: b }),
+            _ => None,
+        }
+    }
+
+    /// How many bytes it has.
+    pub fn size(&self) -> usize
+        ensures size { result ≡ self.now.size }
+        ensures not_empty { 0 < self.now.size }
+        ensures fits { self.now.size < 2 ^ 64 }
+    {
+        self.size
+    }
+
+    /// The number of its block.
+    pub fn block(&self) -> usize
+        ensures { result ≡ self.now.block }
+    {
+        self.block
+    }
+}

@@ -1,0 +1,207 @@
+//! Layouts and guest memory, as worked examples.
+
+ghost use Rattle.std.specs.Prelude.{◌≡◌, IfOk};
+ghost use Rattle.vm_memory_core.specs.Host.{host_of, lengths};
+ghost use Rattle.vm_memory.specs.Layout.{AreHeld};
+
+use crate::FromRangesError::{Collection, InvalidGuestRegion, MmapRegion};
+use crate::GuestMemoryError::{InvalidBackendAddress, InvalidGuestAddress};
+use crate::GuestRegionCollectionError::{
+    MemoryRegionOverlap, NoMemoryRegion, UnsortedMemoryRegions,
+};
+use crate::{
+    GuestMemoryBackend, GuestMemoryMmap, GuestMemoryRegion, GuestRegionCollection, GuestRegionMmap,
+    HostAddress, MmapRegionError,
+};
+use std::alloc::Global;
+use std::process::Abort;
+use std::sync::Arc;
+use std::test::Fail;
+use vm_memory_core::{
+    GuestAddress, HostMemory, MemoryRegionAddress, PageBitmap, Permissions, VolatileSlice,
+};
+
+type Host = HostMemory<PageBitmap>;
+
+// Two regions of 0x1000 bytes, from 0 and from 0x1000.
+const TWO: [(GuestAddress, usize); 2] = [(GuestAddress(0), 0x1000), (GuestAddress(0x1000), 0x1000)];
+
+fn made(alloc: Global, ranges: &[(GuestAddress, usize)]) -> Result<(Host, GuestMemoryMmap), Fail>
+    ensures { IfOk result (λ t. AreHeld (lengths (host_of t.0)) t.1) }
+{
+    let mut host = HostMemory::new(alloc);
+    let mem = GuestMemoryMmap::from_ranges(alloc, &mut host, ranges)?;
+    Ok((host, mem))
+}
+
+// How many bytes lie between a region's first address and an address, by the bound alone.
+fn offset_of<M: GuestMemoryBackend>(mem: &M, addr: u64) -> Option<u64> {
+    match mem.to_region_addr(GuestAddress(addr)) {
+        Some((_, offset)) => Some(offset.0),
+        None => None,
+    }
+}
+
+// The addresses of all regions, added up, by the bound alone.
+fn size_of_all<M: GuestMemoryBackend>(mem: &M) -> u64 {
+    let mut size = 0u64;
+    for region in mem.iter() {
+        size = size.wrapping_add(region.len());
+    }
+    size
+}
+
+#[test]
+fn bytes_go_over_the_edge_of_a_region(rt: HostRuntime) -> Result<(), Fail> {
+    let (mut host, mem) = made(rt.alloc(), &TWO)?;
+    let written = mem.write_slice(&mut host, &[1, 2, 3, 4, 5], GuestAddress(0xffc));
+    assert_eq!(rt; written, Ok(()));
+    let mut bytes = [0; 5];
+    let read = mem.read_slice(&host, &mut bytes, GuestAddress(0xffc));
+    assert_eq!(rt; read, Ok(()));
+    assert_eq!(rt; bytes, [1, 2, 3, 4, 5]);
+    assert_eq!(rt; host.byte_at(0, 0xfff), Some(4));
+    assert_eq!(rt; host.byte_at(1, 0), Some(5));
+    assert!(rt; mem.check_range(GuestAddress(0xffc), 5, Permissions::Read));
+    assert!(rt; !mem.check_range(GuestAddress(0x1ffe), 5, Permissions::Read));
+    let mut windows = Vec::new(rt.alloc());
+    assert!(rt; mem.push_windows(GuestAddress(0xffc), 5, &mut windows)?);
+    assert_eq!(rt; windows.len(), 2);
+    Ok(())
+}
+
+#[test]
+fn the_greatest_address_comes_before_0(rt: HostRuntime) -> Result<(), Fail> {
+    let ranges = [
+        (GuestAddress(0), 0x1000),
+        (GuestAddress(0xffff_ffff_ffff_f000), 0x1000),
+    ];
+    let (mut host, mem) = made(rt.alloc(), &ranges)?;
+    let written = mem.write_slice(&mut host, &[1, 2], GuestAddress(u64::MAX));
+    assert_eq!(rt; written, Ok(()));
+    assert_eq!(rt; host.byte_at(1, 0xfff), Some(1));
+    assert_eq!(rt; host.byte_at(0, 0), Some(2));
+    assert_eq!(rt; mem.last_addr(), GuestAddress(u64::MAX));
+    Ok(())
+}
+
+#[test]
+fn addresses_are_found(rt: HostRuntime) -> Result<(), Fail> {
+    let (_, mem) = made(rt.alloc(), &TWO)?;
+    let there = HostAddress {
+        block: 1,
+        offset: 4,
+    };
+    assert_eq!(rt; mem.get_host_address(GuestAddress(0x1004)), Ok(there));
+    let past = GuestAddress(0x2000);
+    assert_eq!(rt; mem.get_host_address(past), Err(InvalidGuestAddress(past)));
+    assert_eq!(rt;
+        mem.get_slice(GuestAddress(0x1004), 0xffd).err(),
+        Some(InvalidBackendAddress)
+    );
+    let slice = mem
+        .get_slice(GuestAddress(0x1004), 0xffc)
+        .unwrap_or(VolatileSlice::new(0, 0, 0));
+    assert_eq!(rt;
+        (slice.block(), slice.block_offset(), slice.len()),
+        (1, 4, 0xffc)
+    );
+    assert_eq!(rt; mem.num_regions(), 2);
+    assert!(rt; mem.find_region(GuestAddress(0x1fff)).is_some());
+    assert!(rt; !mem.address_in_range(past));
+    assert_eq!(rt;
+        mem.check_address(GuestAddress(0xfff)),
+        Some(GuestAddress(0xfff))
+    );
+    assert_eq!(rt;
+        mem.checked_offset(GuestAddress(0x1000), 0xfff),
+        Some(GuestAddress(0x1fff))
+    );
+    assert_eq!(rt; mem.checked_offset(GuestAddress(0x1000), 0x1000), None);
+    assert_eq!(rt; mem.last_addr(), GuestAddress(0x1fff));
+    assert_eq!(rt; offset_of(&mem, 0x1004), Some(4));
+    assert_eq!(rt; size_of_all(&mem), 0x2000);
+    Ok(())
+}
+
+#[test]
+fn layouts_are_refused(rt: HostRuntime) -> Result<(), Fail> {
+    let back = [(GuestAddress(0x1000), 0x1000), (GuestAddress(0), 0x1000)];
+    let mut host: Host = HostMemory::new(rt.alloc());
+    let refused = GuestMemoryMmap::from_ranges(rt.alloc(), &mut host, &back).err();
+    assert_eq!(rt; refused, Some(Collection(UnsortedMemoryRegions)));
+    assert_eq!(rt; host.block_count(), 2);
+    let over = [(GuestAddress(0), 0x1001), (GuestAddress(0x1000), 0x1000)];
+    let refused = GuestMemoryMmap::from_ranges(rt.alloc(), &mut host, &over).err();
+    assert_eq!(rt; refused, Some(Collection(MemoryRegionOverlap)));
+    let refused = GuestMemoryMmap::from_ranges(
+        rt.alloc(),
+        &mut host,
+        &[(GuestAddress(0), 0)],
+    ).err();
+    assert_eq!(rt; refused, Some(MmapRegion(MmapRegionError::Mmap)));
+    assert_eq!(rt; host.block_count(), 4);
+    let none: Vec<GuestRegionMmap> = Vec::new(rt.alloc());
+    let refused = GuestRegionCollection::from_regions(rt.alloc(), none).err();
+    assert_eq!(rt; refused, Some(NoMemoryRegion));
+    Ok(())
+}
+
+#[test]
+fn layouts_change(rt: HostRuntime) -> Result<(), Fail> {
+    let (host, mem) = made(rt.alloc(), &TWO)?;
+    let (first, removed) = mem.remove_region(GuestAddress(0x1000), 0x1000)?;
+    assert_eq!(rt; first.num_regions(), 1);
+    assert_eq!(rt; removed.start_addr(), GuestAddress(0x1000));
+    assert_eq!(rt; mem.num_regions(), 2);
+    let (none, _) = first.remove_region(GuestAddress(0), 0x1000)?;
+    assert_eq!(rt; none.num_regions(), 0);
+    assert_eq!(rt; none.last_addr(), GuestAddress(0));
+    let refused = none.remove_region(GuestAddress(0), 0x1000).err();
+    assert_eq!(rt; refused, Some(NoMemoryRegion));
+    let alias = crate::MmapRegion::of_block(&host, 0).expect(&rt, "a block");
+    let region = GuestRegionMmap::new(alias, GuestAddress(0x1800)).expect(&rt, "a region");
+    let refused = mem.insert_region(Arc::new(rt.alloc(), region)?).err();
+    assert_eq!(rt; refused, Some(MemoryRegionOverlap));
+    let region = GuestRegionMmap::new(alias, GuestAddress(0x2000)).expect(&rt, "a region");
+    let three = mem.insert_region(Arc::new(rt.alloc(), region)?)?;
+    assert_eq!(rt; three.num_regions(), 3);
+    assert_eq!(rt; three.last_addr(), GuestAddress(0x2fff));
+    assert_eq!(rt; three.try_clone()?.num_regions(), 3);
+    assert_eq!(rt; GuestMemoryMmap::new(rt.alloc()).num_regions(), 0);
+    Ok(())
+}
+
+#[test]
+fn regions_are_made(rt: HostRuntime) -> Result<(), Fail> {
+    let mut host: Host = HostMemory::new(rt.alloc());
+    let refused = crate::MmapRegion::new(rt.alloc(), &mut host, 0).err();
+    assert_eq!(rt; refused, Some(MmapRegionError::Mmap));
+    let region = GuestRegionMmap::from_range(rt.alloc(), &mut host, GuestAddress(0x1000), 0x1000)?;
+    assert_eq!(rt; region.last_addr(), GuestAddress(0x1fff));
+    let refused = GuestRegionMmap::from_range(
+        rt.alloc(),
+        &mut host,
+        GuestAddress(u64::MAX),
+        2,
+    ).err();
+    assert_eq!(rt; refused, Some(InvalidGuestRegion));
+    let mapped = crate::MmapRegion::new(rt.alloc(), &mut host, 1)?;
+    assert_eq!(rt; (mapped.size(), mapped.block()), (1, 2));
+    assert!(rt; GuestRegionMmap::new(mapped, GuestAddress(u64::MAX)).is_some());
+    assert!(rt; crate::MmapRegion::of_block(&host, 3).is_none());
+    let offset = MemoryRegionAddress(0xfff);
+    assert!(rt; region.address_in_range(offset));
+    assert_eq!(rt; region.check_address(offset), Some(offset));
+    assert_eq!(rt; region.checked_offset(offset, 1), None);
+    assert_eq!(rt; region.to_region_addr(GuestAddress(0x1fff)), Some(offset));
+    let there = HostAddress {
+        block: 0,
+        offset: 0xfff,
+    };
+    assert_eq!(rt; region.get_host_address(offset), Ok(there));
+    let whole = region.as_volatile_slice()?;
+    assert_eq!(rt; (whole.block_offset(), whole.len()), (0, 0x1000));
+    assert_eq!(rt; region.len(), 0x1000);
+    Ok(())
+}
