@@ -1,11 +1,10 @@
 -- How a meaning is served.
-use Rattle.std.proofs.Common.{◌≡◌, ℕ, ◌+◌, ◌-◌, ◌<◌, ◌≤◌, Bool, true, false, List, [], ◌∷◌, ◌++◌, length, Result, Ok, Err, Option, Some, None, refl, sym, ap, ◌∙◌, cond, arith}
+use Rattle.std.proofs.Common.{◌≡◌, ℕ, Bool, true, false, List, [], ◌∷◌, length, Result, Ok, Err, Some, None, refl, ap, cond}
 use Rattle.std.specs.Prelude.{IsTrue, nat_lt}
-use Rattle.std.specs.Bool.{MatchBool}
-use Rattle.fuse_fs.specs.Calls.{FileCall, FileAnswer, FileRun, suits, Init, Lookup, Forget, Done}
-use Rattle.virtiofsd_fuse.specs.Reading.{Refusal, Read, Faults, Sends, and_then, value_of}
-use Rattle.virtiofsd_fuse.specs.Grammar.{Meaning, IsFault, Replies, Asks, One, Starts, Given, given, lookup_row, refused, ended, error_bytes}
-use Rattle.virtiofsd_fuse.specs.Serving.{Served, Setting, Serves, Handles, served, served_of, replied, no_reply, answered, options_after, start_options, start_answered, lacks_memory, is_memory, told, sent}
+use Rattle.fuse_fs.specs.Calls.{FileCall, FileAnswer, suits, Init}
+use Rattle.virtiofsd_fuse.specs.Reading.{Refusal, Read, and_then, value_of}
+use Rattle.virtiofsd_fuse.specs.Grammar.{Meaning, IsFault, Replies, Asks, One, Starts, refused, ended}
+use Rattle.virtiofsd_fuse.specs.Serving.{Setting, Serves, Handles, served_of, replied, no_reply, answered, options_after, start_options, start_answered, lacks_memory, is_memory, told, sent}
 use Rattle.virtiofsd_fuse.specs.declared.error.Error.{Error}
 use Rattle.virtiofsd_fuse.specs.declared.error.Error.TheVariants.{EncodeMessage, OutOfMemory}
 
