@@ -84,7 +84,7 @@ served_chain {F} may page old new h l (Asks bytes room) c head at request fault 
       r.0,
       serves,
       ap (λ n. exchange n request reply fault) a
-      ∙ ap (λ (x : List ℕ). exchange head x reply fault) same
-      ∙ ap (λ (x : List ℕ). exchange head bytes x fault) r.2 ∙ ap (exchange head bytes _) r.3,
+          ∙ ap (λ (x : List ℕ). exchange head x reply fault) same
+          ∙ ap (λ (x : List ℕ). exchange head bytes x fault) r.2 ∙ ap (exchange head bytes _) r.3,
       r.4,
     )

@@ -91,6 +91,15 @@ impl<F: FileSystem> Device<F> {
         self.queues.get(queue)
     }
 
+    /// The server.
+    pub fn server(&self) -> &Server<F>
+        ensures files { result.now.fs ≡ self.now.files }
+        ensures options { result.now.options.0 ≡ self.now.options }
+        ensures page_size { result.now.page_size ≡ self.now.page_size }
+    {
+        &self.server
+    }
+
     /// Serves the next chain of a queue: what was exchanged, and whether the driver wants to be told; nothing where none waits.
     pub fn process_one<B: NewBitmap>(
         &mut self,

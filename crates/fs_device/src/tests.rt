@@ -1,19 +1,117 @@
 //! Chains served from the guest's bytes, as worked examples.
 
-ghost use Rattle.std.specs.Prelude.{◌≡◌, IfOk};
+ghost use Rattle.std.specs.Prelude.{⊤, ◌≡◌, IfOk};
 ghost use Rattle.vm_memory_core.specs.Host.{host_of, lengths};
 ghost use Rattle.vm_memory.specs.Layout.{AreHeld};
 
-use crate::{Device, DeviceError, Exchange, Fault, harvest};
+use crate::{Answer, Command, Device, DeviceError, Exchange, Fault, Machine, Refusal, harvest};
+use bitflags::Flags;
 use fs_queue::{ChainFault, Queue, QueueError, QueueLayout, QueueLayoutError};
+use fuse_fs::{Context, Entry, FileSystem, PositionedFile, Timeout, WritevFlags, ZeroCopyWriter};
+use fuse_wire::{Attr, Errno, FsOptions};
 use std::alloc::Global;
 use std::process::Abort;
 use std::test::Fail;
-use virtiofsd_fuse::Server;
+use virtiofsd_fuse::{Error, Server};
 use vm_memory::GuestMemoryMmap;
 use vm_memory_core::{GuestAddress, HostMemory, PageBitmap, Permissions};
 
 type Host = HostMemory<PageBitmap>;
+
+type Files = Device<Recorder>;
+
+// A file system that counts what it is asked. Its file has five bytes.
+#[derive(Drop)]
+struct Recorder {
+    asked: u64,
+    forgotten: u64,
+}
+
+// The bytes of `hello`.
+#[derive(Drop)]
+struct Hello {}
+
+impl PositionedFile for Hello {
+    ghost read_gives = { λ f n off r g. ⊤ };
+
+    ghost write_gives = { λ f bytes off flags r g. ⊤ };
+
+    fn read_at(&mut self, buf: &mut [u8], off: u64) -> Result<usize, Errno> {
+        let all = b"hello";
+        let rest = if off < 5 { &all[off as usize..] } else { &[] };
+        let count = rest.len().min(buf.len());
+        buf[..count].copy_from_slice(&rest[..count]);
+        Ok(count)
+    }
+
+    fn write_at(
+        &mut self,
+        _buf: &[u8],
+        _off: u64,
+        _flags: Option<WritevFlags>,
+    ) -> Result<usize, Errno> {
+        Err(Errno::EINVAL)
+    }
+}
+
+impl FileSystem for Recorder {
+    type Inode = u64;
+
+    type Handle = u64;
+
+    ghost may = { λ before call answer after. ⊤ };
+
+    fn init(&mut self, _capable: FsOptions) -> Result<FsOptions, Errno> {
+        self.asked = self.asked.saturating_add(1);
+        Ok(FsOptions::from_bits_retain(0))
+    }
+
+    fn lookup(&mut self, _ctx: Context, _parent: u64, _name: &[u8]) -> Result<Entry<u64>, Errno> {
+        self.asked = self.asked.saturating_add(1);
+        let Some(second) = Timeout::new(1, 0) else {
+            return Err(Errno::EIO);
+        };
+        Ok(Entry {
+            inode: 2,
+            generation: 0,
+            attr: Attr::default(),
+            attr_timeout: second,
+            entry_timeout: second,
+        })
+    }
+
+    fn forget(&mut self, _ctx: Context, _inode: u64, count: u64) {
+        self.asked = self.asked.saturating_add(1);
+        self.forgotten = self.forgotten.saturating_add(count);
+    }
+
+    fn read<W: ZeroCopyWriter>(
+        &mut self,
+        _ctx: Context,
+        _inode: u64,
+        _handle: u64,
+        w: &mut W,
+        size: u32,
+        offset: u64,
+        _lock_owner: Option<u64>,
+        _flags: u32,
+    ) -> Result<usize, Errno> {
+        self.asked = self.asked.saturating_add(1);
+        w.read_from_file_at(&mut Hello {}, size as usize, offset)
+    }
+}
+
+// A device whose queue of four descriptors has its table at 0, its rings at 0x100 and 0x200.
+fn device(alloc: Global) -> Result<Files, Fail> {
+    let layout = QueueLayout::new(4, 0, 0x100, 0x200)?;
+    let mut queues = Vec::with_capacity(alloc, 1)?;
+    queues.push(Queue::new(layout)).unwrap();
+    let files = Recorder {
+        asked: 0,
+        forgotten: 0,
+    };
+    Ok(Device::new(Server::new(files, 4096), queues, 0x101000))
+}
 
 const NEXT: u16 = 1;
 
@@ -30,15 +128,12 @@ const REQUEST: [u8; 40] = [
 const ENOSYS_REPLY: [u8; 16] = [16, 0, 0, 0, 0xda, 0xff, 0xff, 0xff, 1, 0, 0, 0, 0, 0, 0, 0];
 
 // One region from 0 to 0x10000, and a queue of four descriptors: its table at 0, its rings at 0x100 and 0x200.
-fn guest(alloc: Global) -> Result<(Host, GuestMemoryMmap, Device), Fail>
+fn guest(alloc: Global) -> Result<(Host, GuestMemoryMmap, Files), Fail>
     ensures { IfOk result (λ t. AreHeld (lengths (host_of t.0)) t.1) }
 {
     let mut host = HostMemory::new(alloc);
     let mem = GuestMemoryMmap::from_ranges(alloc, &mut host, &[(GuestAddress(0), 0x10000)])?;
-    let layout = QueueLayout::new(4, 0, 0x100, 0x200)?;
-    let mut queues = Vec::with_capacity(alloc, 1)?;
-    queues.push(Queue::new(layout)).unwrap();
-    Ok((host, mem, Device::new(Server::new(), queues, 0x101000)))
+    Ok((host, mem, device(alloc)?))
 }
 
 fn put(rt: &impl Abort, host: &mut Host, mem: &GuestMemoryMmap, addr: u64, bytes: &[u8])
@@ -122,7 +217,7 @@ fn exchanged(
     alloc: Global,
     host: &mut Host,
     mem: &GuestMemoryMmap,
-    device: &mut Device,
+    device: &mut Files,
 ) -> Result<(Exchange, bool), Fail>
     requires { AreHeld (lengths (host_of host.old)) mem.now }
     ensures { lengths (host_of host.new) ≡ lengths (host_of host.old) }
@@ -291,5 +386,177 @@ fn ranges_are_checked_address_by_address(rt: HostRuntime) -> Result<(), Fail> {
     assert!(rt; !mem.check_range(GuestAddress(0xffff), 2, Permissions::Write));
     let mut two = [0u8; 2];
     assert_eq!(rt; mem.read_slice(&host, &mut two, GuestAddress(0x10)), Ok(()));
+    Ok(())
+}
+
+// A machine whose guest has that memory and the request's chain `times` over; the marks of it are cleared.
+fn machine(rt: &impl Abort, alloc: Global, times: u16) -> Result<Machine<Recorder>, Fail> {
+    let (mut host, mem, device) = guest(alloc)?;
+    put_request(rt, alloc, &mut host, &mem, 0x2000)?;
+    put(rt, &mut host, &mem, 0x102, &times.to_le_bytes());
+    let _ = harvest(alloc, &mut host)?;
+    Ok(Machine::new(host, mem, device))
+}
+
+// What one command comes to.
+fn done(alloc: Global, machine: &mut Machine<Recorder>, command: Command) -> Result<Answer, Fail> {
+    let mut commands = Vec::with_capacity(alloc, 1)?;
+    commands.push(command).unwrap();
+    let mut answers = machine.run(alloc, commands)?;
+    match answers.pop() {
+        Some(answer) => Ok(answer),
+        None => Err(Fail::from("no answer")),
+    }
+}
+
+// How many exchanges a kick lists, and its refusal.
+fn kicked(
+    alloc: Global,
+    machine: &mut Machine<Recorder>,
+    queue: usize,
+    most: u16,
+) -> Result<(usize, Option<DeviceError>), Fail> {
+    match done(alloc, machine, Command::Kick { queue, most })? {
+        Answer::Served(run) => Ok((run.done.len(), run.refused)),
+        _ => Err(Fail::from("not served")),
+    }
+}
+
+#[test]
+fn kick_serves_at_most_so_many(rt: HostRuntime) -> Result<(), Fail> {
+    let mut machine = machine(&rt, rt.alloc(), 2)?;
+    assert_eq!(rt; kicked(rt.alloc(), &mut machine, 0, 1)?, (1, None));
+    assert_eq!(rt; kicked(rt.alloc(), &mut machine, 0, 9)?, (1, None));
+    assert_eq!(rt; kicked(rt.alloc(), &mut machine, 0, 9)?, (0, None));
+    assert_eq!(rt; kicked(rt.alloc(), &mut machine, 0, 0)?, (0, None));
+    let missing = Some(DeviceError::NoSuchQueue);
+    assert_eq!(rt; kicked(rt.alloc(), &mut machine, 1, 0)?, (0, missing));
+    Ok(())
+}
+
+#[test]
+fn guest_reads_and_writes_whole_or_not_at_all(rt: HostRuntime) -> Result<(), Fail> {
+    let mut machine = machine(&rt, rt.alloc(), 0)?;
+    let past = Command::GuestRead {
+        addr: 0x10000,
+        len: 1,
+    };
+    let answer = done(rt.alloc(), &mut machine, past)?;
+    assert!(rt; matches!(&answer, Answer::Refused(Refusal::NoPlace)));
+    let bytes = vec![in rt.alloc(); 7; 2]?;
+    let across = Command::GuestWrite {
+        addr: 0xffff,
+        bytes,
+    };
+    let answer = done(rt.alloc(), &mut machine, across)?;
+    assert!(rt; matches!(&answer, Answer::Refused(Refusal::NoPlace)));
+    let bytes = vec![in rt.alloc(); 7; 2]?;
+    let inside = Command::GuestWrite {
+        addr: 0x5000,
+        bytes,
+    };
+    let answer = done(rt.alloc(), &mut machine, inside)?;
+    assert!(rt; matches!(&answer, Answer::Done));
+    let read = Command::GuestRead {
+        addr: 0x4fff,
+        len: 3,
+    };
+    let answer = done(rt.alloc(), &mut machine, read)?;
+    assert!(rt;
+        matches!(&answer, Answer::Bytes(bytes) if bytes.as_slice() == [0, 7, 7].as_slice())
+    );
+    expect_pages(&rt, rt.alloc(), &mut machine.host, &[5])
+}
+
+#[test]
+fn queue_that_is_reset_begins_anew(rt: HostRuntime) -> Result<(), Fail> {
+    let mut machine = machine(&rt, rt.alloc(), 1)?;
+    assert_eq!(rt; kicked(rt.alloc(), &mut machine, 0, 9)?, (1, None));
+    let layout = QueueLayout::new(4, 0, 0x100, 0x200)?;
+    let missing = Command::ResetQueue { queue: 1, layout };
+    let answer = done(rt.alloc(), &mut machine, missing)?;
+    assert!(rt; matches!(&answer, Answer::Refused(Refusal::NoSuchQueue)));
+    assert_eq!(rt; Refusal::NoSuchQueue.number(), 8);
+    let answer = done(
+        rt.alloc(),
+        &mut machine,
+        Command::ResetQueue { queue: 0, layout },
+    )?;
+    assert!(rt; matches!(&answer, Answer::Done));
+    assert_eq!(rt; kicked(rt.alloc(), &mut machine, 0, 9)?, (1, None));
+    Ok(())
+}
+
+// A header: its length, opcode and unique number, of node 2.
+fn header(len: u32, opcode: u32, unique: u64) -> [u8; 40] {
+    let mut header = [0; 40];
+    header[..4].copy_from_slice(&len.to_le_bytes());
+    header[4..8].copy_from_slice(&opcode.to_le_bytes());
+    header[8..16].copy_from_slice(&unique.to_le_bytes());
+    header[16] = 2;
+    header
+}
+
+#[test]
+fn nodes_are_forgotten_without_a_room(rt: HostRuntime) -> Result<(), Fail> {
+    let (mut host, mem, mut device) = guest(rt.alloc())?;
+    put(&rt, &mut host, &mem, 0x1000, &header(48, 2, 2));
+    put(&rt, &mut host, &mem, 0x1028, &3u64.to_le_bytes());
+    put_descriptor(&rt, &mut host, &mem, 0, 0x1000, 48, 0, 0);
+    put(&rt, &mut host, &mem, 0x102, &[1, 0, 0, 0]);
+    let (exchange, _) = exchanged(&rt, rt.alloc(), &mut host, &mem, &mut device)?;
+    assert_eq!(rt; exchange.fault, None);
+    assert_eq!(rt; exchange.reply.len(), 0);
+    assert_eq!(rt; device.server().fs().forgotten, 3);
+    expect_bytes(&rt, &host, 0x202, &[1, 0, 0, 0, 0, 0, 0, 0, 0, 0]);
+    Ok(())
+}
+
+// A READ of node 2 in three odd parts, and its reply in two.
+#[test]
+fn read_is_the_same_however_it_is_cut(rt: HostRuntime) -> Result<(), Fail> {
+    let (mut host, mem, mut device) = guest(rt.alloc())?;
+    put(&rt, &mut host, &mem, 0x1000, &header(80, 15, 7)[..33]);
+    put(&rt, &mut host, &mem, 0x3000, &[0; 7]);
+    put(&rt, &mut host, &mem, 0x3007, &[0, 0, 0, 0, 0, 0, 0, 0, 1]);
+    put(&rt, &mut host, &mem, 0x3017, &[0x40]);
+    put_descriptor(&rt, &mut host, &mem, 0, 0x1000, 33, NEXT, 1);
+    put_descriptor(&rt, &mut host, &mem, 1, 0x3000, 47, NEXT, 2);
+    put_descriptor(&rt, &mut host, &mem, 2, 0x2000, 3, NEXT | WRITE, 3);
+    put_descriptor(&rt, &mut host, &mem, 3, 0x2803, 61, WRITE, 0);
+    put(&rt, &mut host, &mem, 0x102, &[1, 0, 0, 0]);
+    let (exchange, _) = exchanged(&rt, rt.alloc(), &mut host, &mem, &mut device)?;
+    assert_eq!(rt; exchange.fault, None);
+    expect_bytes(&rt, &host, 0x2000, &[20, 0, 0]);
+    expect_bytes(&rt, &host, 0x2803, &[0, 0, 0, 0, 0, 7, 0, 0, 0, 0, 0, 0, 0]);
+    expect_bytes(&rt, &host, 0x2810, b"ello");
+    Ok(())
+}
+
+#[test]
+fn entry_that_has_no_room_is_asked_for_all_the_same(rt: HostRuntime) -> Result<(), Fail> {
+    let (mut host, mem, mut device) = guest(rt.alloc())?;
+    put(&rt, &mut host, &mem, 0x1000, &header(42, 1, 5));
+    put(&rt, &mut host, &mem, 0x1028, b"a");
+    put_descriptor(&rt, &mut host, &mem, 0, 0x1000, 42, NEXT, 1);
+    put_descriptor(&rt, &mut host, &mem, 1, 0x2000, 143, WRITE, 0);
+    put(&rt, &mut host, &mem, 0x102, &[1, 0, 0, 0]);
+    let (exchange, _) = exchanged(&rt, rt.alloc(), &mut host, &mem, &mut device)?;
+    assert_eq!(rt; exchange.fault, Some(Fault::Served(Error::EncodeMessage)));
+    assert_eq!(rt; device.server().fs().asked, 1);
+    expect_bytes(&rt, &host, 0x2000, &[0; 16]);
+    Ok(())
+}
+
+#[test]
+fn read_without_room_for_a_header_asks_nothing(rt: HostRuntime) -> Result<(), Fail> {
+    let (mut host, mem, mut device) = guest(rt.alloc())?;
+    put(&rt, &mut host, &mem, 0x1000, &header(80, 15, 7));
+    put_descriptor(&rt, &mut host, &mem, 0, 0x1000, 80, NEXT, 1);
+    put_descriptor(&rt, &mut host, &mem, 1, 0x2000, 15, WRITE, 0);
+    put(&rt, &mut host, &mem, 0x102, &[1, 0, 0, 0]);
+    let (exchange, _) = exchanged(&rt, rt.alloc(), &mut host, &mem, &mut device)?;
+    assert_eq!(rt; exchange.fault, Some(Fault::Served(Error::EncodeMessage)));
+    assert_eq!(rt; device.server().fs().asked, 0);
     Ok(())
 }

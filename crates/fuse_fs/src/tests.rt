@@ -38,6 +38,41 @@ impl PositionedFile for Text {
     }
 }
 
+// The same bytes, given by one copy.
+#[derive(Drop)]
+struct Copied {
+    bytes: [u8; 5],
+}
+
+impl PositionedFile for Copied {
+    ghost use Rattle.std.specs.Prelude.{⊤};
+
+    ghost read_gives = { λ f n off r g. ⊤ };
+
+    ghost write_gives = { λ f bytes off flags r g. ⊤ };
+
+    fn read_at(&mut self, _buf: &mut [u8], _off: u64) -> Result<usize, Errno> {
+        Ok(0)
+    }
+
+    fn write_at(
+        &mut self,
+        _buf: &[u8],
+        _off: u64,
+        _flags: Option<WritevFlags>,
+    ) -> Result<usize, Errno> {
+        Err(Errno::EINVAL)
+    }
+
+    fn append_at(&mut self, out: &mut Vec<u8>, most: usize, off: u64) -> Result<usize, Errno> {
+        let from = off.min(5) as usize;
+        let rest = &self.bytes[from..];
+        let n = rest.len().min(most);
+        out.extend_from_slice(&rest[..n]).unwrap();
+        Ok(n)
+    }
+}
+
 // What a number is after it was made into a value, by the bound alone.
 fn there_and_back<N: FileNumber>(n: u64) -> u64 {
     N::numbered(n).as_number()
@@ -103,5 +138,8 @@ fn files_append(rt: HostRuntime) -> Result<(), Fail> {
     assert_eq!(rt; file.append_at(&mut out, 1, 5), Ok(0));
     assert_eq!(rt; out.len(), 6);
     assert!(rt; file.write_at(b"x", 0, Some(WritevFlags(1))).is_err());
+    let mut copied = Copied { bytes: *b"hello" };
+    assert_eq!(rt; copied.append_at(&mut out, 2, 3), Ok(2));
+    assert_eq!(rt; out.as_slice(), b"abellolo".as_slice());
     Ok(())
 }

@@ -1,5 +1,5 @@
 -- Bytes that are a name, and bytes that aren't.
-use Rattle.std.proofs.Common.{◌≡◌, ◌≢◌, ℕ, zero, suc, ◌+◌, ◌-◌, ◌<◌, ◌≤◌, List, [], ◌∷◌, ◌++◌, length, take, drop, Result, Ok, Err, Option, Some, None, Bool, true, false, not, refl, sym, ap, ◌∙◌, arith, cond, length-append}
+use Rattle.std.proofs.Common.{◌≡◌, ◌≢◌, ℕ, suc, ◌+◌, ◌-◌, ◌<◌, ◌≤◌, List, [], ◌∷◌, ◌++◌, length, take, drop, Ok, Err, Some, None, Bool, true, false, not, refl, sym, ap, ◌∙◌, arith, cond, length-append}
 use Rattle.std.specs.Prelude.{position, ◌==◌, nat_le}
 use Rattle.std.specs.List.{prefix_len}
 use Rattle.std.proofs.Math.Dec.{ltb}
@@ -7,7 +7,7 @@ use Rattle.std.proofs.lemmas.Bool.{lt-ltb, le-ltb}
 use Rattle.std.proofs.lemmas.Bool.Decides.{nat_tests}
 use Rattle.std.proofs.lemmas.List.{take_at, drop_at, length-drop}
 use Rattle.virtiofsd_fuse.specs.declared.error.Error.TheVariants.{InvalidCString, DecodeMessage, InvalidHeaderLength}
-use Rattle.virtiofsd_fuse.specs.Reading.{Refusal, Read, Faults, and_then, at_zero, before_zero, ended_or, last_name, value_of}
+use Rattle.virtiofsd_fuse.specs.Reading.{Read, Faults, and_then, at_zero, before_zero, last_name, value_of}
 use Rattle.virtiofsd_fuse.specs.Grammar.{one_name}
 
 abbrev not_zero : ℕ → Bool

@@ -1,6 +1,6 @@
 -- Options and pages as numbers.
 use Rattle.std.proofs.Common.{◌≡◌, ℕ, ◌≤◌, arith, refl}
-use Rattle.std.specs.Prelude.{IsTrue, ◌==◌}
+use Rattle.std.specs.Prelude.{IsTrue}
 use Rattle.std.proofs.lemmas.Bool.Decides.{nat_tests}
 use Rattle.bitflags.specs.Sets.{known_bits, known_from}
 use Rattle.fuse_base.specs.Flags.{fs_options}

@@ -1,5 +1,5 @@
 -- Records are read from the bytes that spell them.
-use Rattle.std.proofs.Common.{◌≡◌, ℕ, zero, suc, ◌+◌, ◌*◌, ◌<◌, ◌≤◌, ◌^◌, List, [], ◌∷◌, ◌++◌, length, take, drop, slice_index, Result, Ok, Err, refl, sym, ap, ◌∙◌, arith, length-append, IfOk, IfErr}
+use Rattle.std.proofs.Common.{◌≡◌, ℕ, zero, suc, ◌+◌, ◌*◌, ◌<◌, ◌≤◌, ◌^◌, List, [], ◌∷◌, ◌++◌, length, drop, slice_index, Result, Ok, Err, refl, sym, ap, ◌∙◌, arith, length-append, IfOk, IfErr}
 use Rattle.std.specs.List.{flat_map}
 use Rattle.std.specs.Int.{w16, w32, w64, to_le_bytes, from_le_bytes}
 use Rattle.std.proofs.lemmas.Bool.{lt-ltb, le-ltb}
@@ -15,7 +15,7 @@ use Rattle.fuse_in.specs.declared.session.ForgetIn.{ForgetIn}
 use Rattle.fuse_in.specs.declared.files.ReadIn.{ReadIn}
 use Rattle.virtiofsd_fuse.specs.declared.error.Error.TheVariants.{DecodeMessage}
 use Rattle.virtiofsd_fuse.specs.declared.error.Error.{Error}
-use Rattle.virtiofsd_fuse.specs.Reading.{Refusal, Faults, Reading, read_result}
+use Rattle.virtiofsd_fuse.specs.Reading.{Faults, Reading, read_result}
 use Rattle.virtiofsd_fuse.specs.Records.{Part, u16, u32, u64, u32s, Said, size_of, numbers, said, Takes, size, made, record_of, in_header, forget_in, read_in, init_in_compat, init_in_ext}
 
 -- what all parts say

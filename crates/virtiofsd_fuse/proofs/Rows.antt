@@ -1,7 +1,6 @@
 -- The rows of the grammar, by what was read.
-use Rattle.std.proofs.Common.{◌≡◌, ◌≢◌, ℕ, ◌+◌, ◌-◌, ◌<◌, ◌≤◌, Bool, true, false, List, [], ◌∷◌, ◌++◌, length, Result, Ok, Err, Option, Some, None, refl, sym, ap, ◌∙◌, cond, arith, subst}
-use Rattle.std.specs.Prelude.{IsTrue, nat_lt, nat_le, ◌==◌, bit_and, ◌*◌, ◌^◌, IfOk, IfErr, drop}
-use Rattle.std.specs.Borrow.{Bor}
+use Rattle.std.proofs.Common.{◌≡◌, ◌≢◌, ℕ, ◌+◌, ◌-◌, ◌<◌, ◌≤◌, true, false, List, [], ◌++◌, length, Result, Ok, Err, Option, Some, None, refl, sym, ap, ◌∙◌, arith}
+use Rattle.std.specs.Prelude.{IsTrue, nat_le, bit_and, ◌*◌, ◌^◌, IfErr, drop}
 use Rattle.std.proofs.lemmas.Bool.{lt-ltb, le-ltb}
 use Rattle.std.proofs.lemmas.Bool.Decides.{nat_tests}
 use Rattle.fuse_in.specs.declared.session.InHeader.{InHeader}
@@ -13,15 +12,14 @@ use Rattle.fuse_wire.specs.declared.opcodes.Opcode.TheVariants as op
 use Rattle.fuse_wire.specs.Opcodes.{opcode_of}
 use Rattle.fuse_fs.specs.declared.answers.Entry.{Entry}
 use Rattle.fuse_fs.specs.Answers.{entry_answer, data_answer}
-use Rattle.fuse_fs.specs.Calls.{FileCall, FileAnswer, suits, Done, Failed}
-use Rattle.virtiofsd_fuse.specs.Reading.{Refusal, Read, Faults, Sends, refuse, and_then, value_of, read_result, bytes_result}
+use Rattle.fuse_fs.specs.Calls.{suits}
+use Rattle.virtiofsd_fuse.specs.Reading.{Read, Faults, Sends, refuse, value_of}
 use Rattle.virtiofsd_fuse.specs.Records.{in_header, forget_in, read_in, init_in_compat}
-use Rattle.virtiofsd_fuse.specs.Grammar.{Meaning, IsFault, Replies, Asks, One, Starts, Given, given, one_name, row, row_of, body, meant, meaning, lookup_row, forget_row, read_row, lookup_call, forget_call, refused, ended, error_bytes, reply_bytes, versions_bytes, started, known_options, read_asked, read_call, init_row, flags2_of}
-use Rattle.virtiofsd_fuse.specs.Serving.{Setting, setting, Handles, answered, lacks_memory, told, sent, entry_reply, data_reply}
+use Rattle.virtiofsd_fuse.specs.Grammar.{Meaning, IsFault, Replies, Asks, One, Starts, Given, given, one_name, row, row_of, meant, meaning, lookup_row, forget_row, read_row, lookup_call, forget_call, ended, error_bytes, reply_bytes, versions_bytes, started, known_options, read_asked, read_call, init_row, flags2_of}
+use Rattle.virtiofsd_fuse.specs.Serving.{answered, told, sent, entry_reply, data_reply}
 use Rattle.virtiofsd_fuse.specs.declared.error.Error.{Error}
-use Rattle.virtiofsd_fuse.specs.declared.error.Error.TheVariants.{DecodeMessage, EncodeMessage, InvalidHeaderLength, InvalidCString, OutOfMemory}
+use Rattle.virtiofsd_fuse.specs.declared.error.Error.TheVariants.{DecodeMessage, EncodeMessage}
 use Rattle.std.proofs.lemmas.List.{drop_at}
-use Rattle.std.proofs.Common.{length-append}
 use Rattle.virtiofsd_fuse.proofs.ReplyLemmas.{sent_fits, length_reply, length_error}
 use Rattle.virtiofsd_fuse.proofs.Serve.{ask_of, ended_ask}
 

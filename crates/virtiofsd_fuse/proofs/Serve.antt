@@ -1,11 +1,11 @@
 -- How a meaning is served.
-use Rattle.std.proofs.Common.{◌≡◌, ℕ, ◌+◌, ◌-◌, ◌<◌, ◌≤◌, Bool, true, false, List, [], ◌∷◌, ◌++◌, length, Result, Ok, Err, Option, Some, None, refl, sym, ap, ◌∙◌, cond, arith}
-use Rattle.std.specs.Prelude.{IsTrue, nat_lt}
-use Rattle.std.specs.Bool.{MatchBool}
-use Rattle.fuse_fs.specs.Calls.{FileCall, FileAnswer, FileRun, suits, Init, Lookup, Forget, Done}
-use Rattle.virtiofsd_fuse.specs.Reading.{Refusal, Read, Faults, Sends, and_then, value_of}
-use Rattle.virtiofsd_fuse.specs.Grammar.{Meaning, IsFault, Replies, Asks, One, Starts, Given, given, lookup_row, refused, ended, error_bytes}
-use Rattle.virtiofsd_fuse.specs.Serving.{Served, Setting, Serves, Handles, served, served_of, replied, no_reply, answered, options_after, start_options, start_answered, lacks_memory, is_memory, told, sent}
+use Rattle.std.proofs.Common.{◌≡◌, ◌≤◌, ℕ, Bool, true, false, List, [], ◌∷◌, length, map, Result, Ok, Err, Some, None, refl, ap, cond, arith, subst}
+use Rattle.std.proofs.lemmas.Bool.Decides.{nat_tests}
+use Rattle.std.specs.Prelude.{IsTrue, OnOk, nat_lt}
+use Rattle.fuse_fs.specs.Calls.{FileCall, FileAnswer, suits, Init}
+use Rattle.virtiofsd_fuse.specs.Reading.{Refusal, Read, and_then, value_of}
+use Rattle.virtiofsd_fuse.specs.Grammar.{Meaning, IsFault, Replies, IsSilent, Asks, One, Starts, refused, ended}
+use Rattle.virtiofsd_fuse.specs.Serving.{Served, served, Setting, Serves, Handles, served_of, replied, no_reply, answered, options_after, start_options, start_answered, lacks_memory, is_memory, told, sent}
 use Rattle.virtiofsd_fuse.specs.declared.error.Error.{Error}
 use Rattle.virtiofsd_fuse.specs.declared.error.Error.TheVariants.{EncodeMessage, OutOfMemory}
 
@@ -66,3 +66,26 @@ ask_of unique f (Err r) = refused unique r
 pub ended_ask : {A : Type 0} (unique : ℕ) (f : A → FileCall) (r : Read A) → ended unique (and_then r (λ x. Ok (Asks (One unique (f x.0)), x.1))) ≡ ask_of unique f (value_of r)
 ended_ask unique f (Ok x) = refl
 ended_ask unique f (Err r) = refl
+
+fits_by : (t : Bool) (room : ℕ) (calls : List FileCall) (options : ℕ) (bytes : List ℕ) → nat_lt room (length bytes) ≡ t → length (cond t (no_reply calls options (Some EncodeMessage)) (record { calls = calls; options = options; reply = bytes; fault = None })).reply ≤ room
+fits_by true room calls options bytes e = omega arith
+fits_by false room calls options bytes e = grind (arith, nat_tests, e)
+
+replied_fits : (room : ℕ) (calls : List FileCall) (options : ℕ) (bytes : List ℕ) → length (replied room calls options bytes).reply ≤ room
+replied_fits room calls options bytes = fits_by (nat_lt room (length bytes)) room calls options bytes refl
+
+-- no reply is longer than the room
+served_fits : (s : Setting) (m : Meaning) (answers : List FileAnswer) → length (served s m answers).reply ≤ s.room
+served_fits s (IsFault fault) answers = omega arith
+served_fits s (Replies bytes) answers = replied_fits s.room [] s.options bytes
+served_fits s IsSilent answers = omega arith
+served_fits s (Asks (One unique call)) [] = omega arith
+served_fits s (Asks (One unique call)) (answer ∷ answers) = replied_fits s.room (call ∷ []) (options_after s.options call) (answered unique call answer)
+served_fits s (Asks (Starts unique capable readahead)) [] = omega arith
+served_fits s (Asks (Starts unique capable readahead)) (answer ∷ answers) = replied_fits s.room (Init capable ∷ []) (start_options s.options capable answer) (start_answered s.page_size unique capable readahead answer)
+
+pub handles_fits : {F : Type 0} (may : F → FileCall → FileAnswer → F → Type 0) (s : Setting) (m : Meaning) (before : F) (result : Result ℕ Error) (written : List ℕ) (options : ℕ) (after : F) → Handles may s m before result written options after → OnOk result (length written ≤ s.room)
+handles_fits may s m before (Ok n) written options after h =
+    let same : (served s m (map (λ step. step.1) h.steps)).reply ≡ written = ap (λ (x : Served). x.reply) h.gives in
+    subst (λ b. length b ≤ s.room) same (served_fits s m (map (λ step. step.1) h.steps))
+handles_fits may s m before (Err e) written options after h = tt

@@ -1,13 +1,11 @@
 -- What a request means, by the options that client and server agreed on, its bytes and the length of its room (linux/fuse.h).
-use Rattle.std.specs.Prelude.{ℕ, ◌+◌, ◌-◌, ◌*◌, ◌/◌, ◌^◌, ◌%◌, Bool, true, false, not, ◌==◌, nat_le, nat_lt, List, ◌++◌, length, replicate, Option, Some, None, Result, Ok, Err, if◌then◌else◌, bit_and, pos, neg_ℤ}
-use Rattle.std.specs.Int.{w32, cast_signed}
+use Rattle.std.specs.Prelude.{ℕ, ◌+◌, ◌-◌, ◌*◌, ◌/◌, ◌^◌, ◌%◌, Bool, not, ◌==◌, nat_le, nat_lt, List, ◌++◌, length, replicate, Option, Some, None, Result, Ok, Err, if◌then◌else◌, bit_and, pos, neg_ℤ}
 use Rattle.vm_values.specs.Fields.{spelled}
 use Rattle.fuse_in.specs.declared.session.InHeader.{InHeader}
 use Rattle.fuse_in.specs.declared.session.ForgetIn.{ForgetIn}
 use Rattle.fuse_in.specs.declared.session.InitInCompat.{InitInCompat}
 use Rattle.fuse_in.specs.declared.files.ReadIn.{ReadIn}
 use Rattle.fuse_wire.specs.declared.replies.InitOut.{InitOut}
-use Rattle.fuse_wire.specs.declared.replies.OutHeader.{OutHeader}
 use Rattle.fuse_wire.specs.declared.opcodes.Opcode.{Opcode}
 use Rattle.fuse_wire.specs.declared.opcodes.Opcode.TheVariants as op
 use Rattle.fuse_wire.specs.Records.{init_out, out_header}

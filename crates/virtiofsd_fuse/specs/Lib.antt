@@ -1,4 +1,5 @@
 pub mod Errors
+pub mod Examples
 pub mod Grammar
 pub mod Pages
 pub mod Reading

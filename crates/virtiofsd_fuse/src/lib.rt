@@ -21,3 +21,6 @@ pub use reader::Reader;
 pub use server::Server;
 pub use writer::Writer;
 pub use zero_copy::ZcWriter;
+
+#[cfg(test)]
+mod tests;

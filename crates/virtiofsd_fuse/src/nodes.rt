@@ -73,8 +73,8 @@ impl<F: FileSystem> Server<F> {
         ensures options { self.new.options ≡ self.old.options }
         ensures page_size { self.new.page_size ≡ self.old.page_size }
     {
-        let inode = F::Inode::numbered(head.nodeid);
-        self.fs.forget(Context::from(*head), inode, request.nlookup);
+        let (ctx, inode) = (Context::from(*head), F::Inode::numbered(head.nodeid));
+        self.fs.forget(ctx, inode, request.nlookup);
     }
 
     /// LOOKUP: `struct fuse_entry_out` of a name.

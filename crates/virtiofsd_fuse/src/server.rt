@@ -1,6 +1,6 @@
 //! The server: it reads a request, asks its file system, and writes the reply (virtiofsd's `Server`).
 
-ghost use Rattle.std.specs.Prelude.{◌≡◌, ◌<◌, ◌≤◌, ◌^◌, min, [], length, IfOk, IsTrue};
+ghost use Rattle.std.specs.Prelude.{◌≡◌, ◌<◌, ◌≤◌, ◌^◌, min, [], length, IfOk, OnOk, IsTrue};
 ghost use Rattle.fuse_wire.specs.Opcodes.{opcode_of};
 ghost use Rattle.virtiofsd_fuse.specs.Pages.{is_page_size};
 ghost use Rattle.virtiofsd_fuse.specs.Grammar.{given, meant, meaning};
@@ -113,6 +113,7 @@ impl<F: FileSystem> Server<F> {
         requires room { w.old.free < 2 ^ 32 }
         ensures handles { Handles F.may (setting self.old.page_size self.old.options.0 w.old.free) (meaning self.old.options.0 r.entry w.old.free) self.old.fs result w.new.written self.new.options.0 self.new.fs }
         ensures length { IfOk result (λ n. n ≡ length w.new.written) }
+        ensures fits { OnOk result (length w.new.written ≤ w.old.free) }
         ensures page_size { self.new.page_size ≡ self.old.page_size }
     {
         match read_in_header(&mut r) {

@@ -1,6 +1,6 @@
 //! What a reply is written to (virtiofsd's `Writer`).
 
-ghost use Rattle.std.specs.Prelude.{◌≡◌, ℕ, ◌+◌, ◌<◌, ◌≤◌, min, List, [], ◌++◌, length, drop, OnOk, OnErr, IfErr};
+ghost use Rattle.std.specs.Prelude.{◌≡◌, ℕ, ◌+◌, ◌<◌, ◌≤◌, min, List, [], ◌++◌, length, drop, IsOk, OnOk, IfErr};
 ghost use Rattle.virtiofsd_fuse.specs.Transfer.{ReadsOnce};
 
 use crate::error::Error;
@@ -75,6 +75,7 @@ impl Writer {
         ensures free { self.new.free ≡ self.old.free }
         ensures ok { OnOk result (min n self.new.free ≤ self.new.reserved) }
         ensures err { IfErr result (λ e. e ≡ Error.OutOfMemory) }
+        ensures held { min n self.old.free ≤ self.old.reserved → IsOk result }
     {
         let most = n.min(self.room - self.bytes.len());
         if self.bytes.reserve(most).is_err() {

@@ -11,5 +11,5 @@ returns-in-Some-clause-exchange g c l q asked taken =
     let told = rw (c.room_len.ensures, c.deref-2.ensures.value) at c.in-Some.ensures.some in (
       told.0,
       served_chain g.F.FileSystem.may _ _ _ (host_of c.args.host.now) l asked c.in-Ok.chain.now c.args.taken.now.head c.head-head.result _ _ _ told.0 held c.head-head.ensures
-      (rw c.deref.ensures at c.in_ok-request.ensures) told.1,
+          (rw c.deref.ensures at c.in_ok-request.ensures) told.1,
     )

@@ -1,4 +1,4 @@
-use Rattle.std.proofs.Common.{◌≡◌, refl}
+use Rattle.std.proofs.Common.{refl}
 use Rattle.virtiofsd_fuse.proofs.ReplyLemmas.{data_put}
 use Rattle.virtiofsd_fuse.proofs.files.reply_data.Goals as goal
 

@@ -1,4 +1,4 @@
-use Rattle.std.proofs.Common.{◌≡◌, ◌+◌, ◌≤◌, length, arith, refl}
+use Rattle.std.proofs.Common.{◌+◌, ◌≤◌, length, arith, refl}
 use Rattle.virtiofsd_fuse.proofs.ReplyLemmas.{reply_put}
 use Rattle.virtiofsd_fuse.proofs.replies.reply.Goals as goal
 

@@ -1,7 +1,6 @@
-use Rattle.std.proofs.Common.{◌≡◌, Some, refl, sym, ap, ◌∙◌, arith}
-use Rattle.fuse_base.specs.Options.{FsOptions}
+use Rattle.std.proofs.Common.{refl}
 use Rattle.virtiofsd_fuse.specs.Serving.{setting}
-use Rattle.virtiofsd_fuse.proofs.Serve.{handles_fault}
+use Rattle.virtiofsd_fuse.proofs.Serve.{handles_fault, handles_fits}
 use Rattle.virtiofsd_fuse.proofs.Rows.{meaning_head, meaning_fault}
 use Rattle.virtiofsd_fuse.proofs.server.Server.handle_message.Goals as goal
 
@@ -12,3 +11,7 @@ returns-in-Err-clause-handles g c =
 pub returns-in_ok-reserve-in-Ok-clause-handles : goal.returns-in_ok-reserve-in-Ok-clause-handles
 returns-in_ok-reserve-in-Ok-clause-handles g c =
     rw (meaning_head c.args.self.now.options.0 c.args.w.now.free c.args.r _ _ c.in-Ok.ensures.reads) (rw c.reserve.ensures.free at c.serve.ensures.handles)
+
+pub returns-in_ok-reserve-in-Ok-clause-fits : goal.returns-in_ok-reserve-in-Ok-clause-fits
+returns-in_ok-reserve-in-Ok-clause-fits g c =
+    rw c.reserve.ensures.free at (handles_fits g.F.FileSystem.may _ _ _ _ _ _ _ c.serve.ensures.handles)

@@ -1,5 +1,4 @@
 use Rattle.std.proofs.Common.{◌≡◌, Ok, ◌+◌, ◌-◌, ◌≤◌, length, refl, sym, ap, ◌∙◌, arith}
-use Rattle.std.proofs.lemmas.Grind.{common_steps}
 use Rattle.fuse_base.specs.Options.{FsOptions}
 use Rattle.fuse_fs.specs.Answers.{data_answer}
 use Rattle.virtiofsd_fuse.specs.Grammar.{given, read_call}

@@ -1,4 +1,4 @@
-use Rattle.std.proofs.Common.{◌≡◌, Ok, List, ℕ, refl, sym, ap, ◌∙◌, arith}
+use Rattle.std.proofs.Common.{sym, ap, ◌∙◌}
 use Rattle.fuse_base.specs.Options.{FsOptions}
 use Rattle.fuse_fs.specs.Calls.{Wants, Failed}
 use Rattle.virtiofsd_fuse.specs.Grammar.{Asks, Starts, given}

@@ -1,4 +1,4 @@
-use Rattle.std.proofs.Common.{arith, ◌≡◌, sym}
+use Rattle.std.proofs.Common.{sym}
 use Rattle.virtiofsd_fuse.proofs.Gathering.{so_far_stops, so_far_goes}
 use Rattle.virtiofsd_fuse.proofs.zero_copy.ZcWriterZeroCopyWriter.read_from_file_at.Goals as goal
 
