@@ -8,7 +8,6 @@ ghost use Rattle.fs_queue.specs.Queue.{Queue};
 ghost use Rattle.fs_queue.specs.Taking.{Asked};
 ghost use Rattle.fs_queue.specs.Held.{IsTaken, TakenLiesIn, room_places};
 
-use crate::command::QueueRun;
 use crate::error::DeviceError;
 use crate::exchange::Exchange;
 use crate::serve::serve;
@@ -25,7 +24,7 @@ use vm_memory_core::{HostMemory, NewBitmap};
 #[derive(Drop)]
 pub struct Device<F> {
     server: Server<F>,
-    queues: Vec<Queue>,
+    pub(crate) queues: Vec<Queue>,
     limit: u32,
     ghost short: { limit < 2 ^ 32 },
 }
@@ -41,7 +40,6 @@ impl<F> Model for Device<F> {
 ghost use Rattle.fs_device.specs.Step.{Calls, Step};
 ghost use Rattle.fs_device.specs.Views.{outcome_of, state_of, StepsOne};
 ghost use Rattle.fs_device.specs.Run.{fresh_queue};
-ghost use Rattle.fs_device.specs.Running.{ServesQueue};
 ghost use Rattle.fs_device.specs.declared.error.DeviceError.TheVariants.{NoSuchQueue};
 
 // One step of one queue.
@@ -122,45 +120,16 @@ impl<F: FileSystem> Device<F> {
         }
     }
 
-    /// Serves the next chains of a queue one after another, until `most` are done, none waits or a step is refused. A missing
-    /// queue is refused first; then comes room for `most` exchanges, where there is no memory for it.
-    pub fn process_queue<B: NewBitmap>(
-        &mut self,
-        alloc: Global,
-        host: &mut HostMemory<B>,
-        mem: &GuestMemoryMmap,
-        queue: usize,
-        most: u16,
-    ) -> Result<QueueRun, DeviceError>
-        requires { AreHeld (lengths (host_of host.old)) mem.now }
-        ensures run { ServesQueue F.may (state_of (host_of host.old) mem.now self.old) queue most result (state_of (host_of host.new) mem.now self.new) }
-        ensures lengths { lengths (host_of host.new) ≡ lengths (host_of host.old) }
-    {
-        if queue >= self.queues.len() {
-            return Err(DeviceError::NoSuchQueue);
-        }
-        let Ok(mut done) = Vec::with_capacity(alloc, usize::from(most)) else {
-            return Err(DeviceError::Queue(QueueError::OutOfMemory));
-        };
-        for _ in 0..most {
-            match self.process_one(alloc, host, mem, queue) {
-                Ok(Some(exchanged)) => done.push(exchanged).unwrap(),
-                Ok(None) => return Ok(QueueRun::ended(done)),
-                Err(error) => return Ok(QueueRun::refused(done, error)),
-            }
-        }
-        Ok(QueueRun::ended(done))
-    }
-
     /// Begins a queue anew: its position is 0, and it isn't stopped.
     pub fn reset_queue(&mut self, queue: usize, layout: QueueLayout) -> Result<(), DeviceError>
         ensures missing { IfErr result (λ e. (e ≡ NoSuchQueue) × (slice_get self.old.queues queue ≡ None) × (self.new ≡ self.old)) }
         ensures there { OnOk result ((queue < length self.old.queues) × (self.new ≡ record self.old { queues = set self.old.queues queue (fresh_queue layout) })) }
     {
-        if queue >= self.queues.len() {
-            return Err(DeviceError::NoSuchQueue);
+        if queue < self.queues.len() {
+            self.queues[queue] = Queue::new(layout);
+            Ok(())
+        } else {
+            Err(DeviceError::NoSuchQueue)
         }
-        self.queues[queue] = Queue::new(layout);
-        Ok(())
     }
 }

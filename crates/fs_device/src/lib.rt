@@ -7,6 +7,7 @@ pub mod device;
 pub mod error;
 pub mod exchange;
 pub mod machine;
+mod queues;
 pub mod refusal;
 mod run;
 mod serve;

@@ -516,7 +516,8 @@ fn nodes_are_forgotten_without_a_room(rt: HostRuntime) -> Result<(), Fail> {
 #[test]
 fn read_is_the_same_however_it_is_cut(rt: HostRuntime) -> Result<(), Fail> {
     let (mut host, mem, mut device) = guest(rt.alloc())?;
-    put(&rt, &mut host, &mem, 0x1000, &header(80, 15, 7)[..33]);
+    let head = header(80, 15, 7);
+    put(&rt, &mut host, &mem, 0x1000, &head[..33]);
     put(&rt, &mut host, &mem, 0x3000, &[0; 7]);
     put(&rt, &mut host, &mem, 0x3007, &[0, 0, 0, 0, 0, 0, 0, 0, 1]);
     put(&rt, &mut host, &mem, 0x3017, &[0x40]);
