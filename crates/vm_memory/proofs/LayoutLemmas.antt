@@ -1,15 +1,15 @@
 -- layouts: the search for the region of an address
 use Rattle.std.proofs.Common.{max, subst, inl, inr, ◌≡◌, ℕ, Bool, true, false, ◌+◌, ◌-◌, ◌<◌, ◌≤◌, List, [], ◌∷◌, length, refl, ap, sym, ◌∙◌, arith, zero, suc, Option, Some, None}
-use Rattle.std.specs.Prelude.{slice_get, nat_lt, if◌then◌else◌, get_or, drop, take, map, ◌++◌}
+use Rattle.std.specs.Prelude.{slice_index_or, slice_get, nat_lt, if◌then◌else◌, get_or, drop, take, map, ◌++◌}
 use Rattle.std.specs.Option.{option_or}
 use Rattle.std.specs.Arc.{arc_value}
 use Rattle.std.specs.declared.sync.Arc.{Arc}
 use Rattle.std.proofs.lemmas.Bool.{cases_eq}
 use Rattle.std.proofs.lemmas.Bool.Decides.{nat_tests}
-use Rattle.std.proofs.lemmas.Option.{slice_get_within}
+use Rattle.std.proofs.lemmas.Option.{get_or_from_slice_get, slice_get_within}
 use Rattle.std.proofs.lemmas.List.{drop_more, drop_all, length-map, map-append, take-map, take_more}
 use Rattle.vm_memory_core.specs.Table.{is_within}
-use Rattle.vm_memory.specs.Layout.{last_address, Region, region_at, start_at, regions_of, overlap, AllFrom, IsLawful, IsLayout}
+use Rattle.vm_memory.specs.Layout.{AreHeld, last_address, Region, region_at, start_at, regions_of, overlap, AllFrom, IsLawful, IsLayout}
 use Rattle.vm_memory.specs.Backend.{last_of}
 use Rattle.vm_memory.specs.Collecting.{fault_between, fault_after, fault_of}
 use Rattle.vm_memory.specs.declared.error.GuestRegionCollectionError.{GuestRegionCollectionError}
@@ -194,3 +194,27 @@ last_is (x ∷ (y ∷ l)) (suc i) r is e h =
     let above = from_start (y ∷ l) (x.start + x.size) i is.2 within in
     let begins = start_at-get (y ∷ l) i r e in
     ap (max (last_address x)) more ∙ max_right (last_address x) (last_address r) (omega (arith, is.0))
+
+-- ---- regions and their blocks
+
+abbrev pub HasBlock : List ℕ → Region → Type 0
+HasBlock lengths r = (r.block < length lengths) × (slice_index_or lengths r.block 0 ≡ r.size)
+
+pub blocks_more : (lengths : List ℕ) (l : List Region) (i : ℕ) (r : Region) → ((k : ℕ) → k < i → HasBlock lengths (region_of l k)) → slice_get l i ≡ Some r → HasBlock lengths r → (k : ℕ) → k < i + 1 → HasBlock lengths (region_of l k)
+blocks_more lengths l i r below is here k h =
+    let same : region_of l i ≡ r = get_or_from_slice_get l i r no_region is in
+    elim (cases_eq k i) [
+      | inl at ↦ subst (λ n. HasBlock lengths (region_of l n)) (sym at) (subst (HasBlock lengths) (sym same) here)
+      | inr other ↦ below k (omega arith)
+    ]
+
+pub held_all : (lengths : List ℕ) (l : List Region) → ((k : ℕ) → k < length l → HasBlock lengths (region_of l k)) → AreHeld lengths l
+held_all lengths [] each = tt
+held_all lengths (r ∷ l) each =
+    let here : HasBlock lengths r = each 0 (omega arith) in
+    (here.0, here.1, held_all lengths l (λ k h. each (suc k) (omega arith)))
+
+pub block_of : (lengths : List ℕ) (l : List Region) (i : ℕ) (r : Region) → AreHeld lengths l → slice_get l i ≡ Some r → HasBlock lengths r
+block_of lengths [] i r held e = absurd (cc)
+block_of lengths (x ∷ l) zero r held e = let same : x ≡ r = cc in subst (HasBlock lengths) same (held.0, held.1)
+block_of lengths (x ∷ l) (suc i) r held e = block_of lengths l i r held.2 e

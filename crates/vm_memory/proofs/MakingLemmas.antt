@@ -6,6 +6,8 @@ use Rattle.std.specs.List.{list_all}
 use Rattle.std.proofs.lemmas.Bool.Decides.{nat_tests}
 use Rattle.std.proofs.lemmas.List.{map-append, length-map, take_more, length-take-le, get_or_at, length_push, length-replicate}
 use Rattle.vm_values.specs.declared.address.GuestAddress.{GuestAddress}
+use Rattle.vm_memory_core.specs.Window.{LiesIn}
+use Rattle.vm_memory.specs.Regions.{whole_of}
 use Rattle.vm_memory_core.specs.Host.{Block, host_of, lengths}
 use Rattle.std.specs.Arc.{arc_value}
 use Rattle.std.specs.declared.sync.Arc.{Arc}
@@ -118,3 +120,15 @@ refused_at count blocks now new xs i d x (MmapRegion mmap.OutOfMemory) h at good
 refused_at count blocks now new xs i d x InvalidGuestRegion h at good before made =
     (i, x, (good, slice_get-get_or xs i d h ∙ ap Some at), made.1, made.0, grown_more count blocks now new xs i d x h at before made.2)
 refused_at count blocks now new xs i d x OutOfMemory h at good before made = (i, good, made.1 ∙ before)
+
+-- the block of one region is in memory
+pub lies_made : (count : ℕ → ℕ) (before after : List Block) (size : ℕ) → after ≡ grown count before size → LiesIn (lengths (host_of after)) (record { block = length before; offset = 0; len = size })
+lies_made count before after size e =
+    let y : ℕ = length (replicate size 0) in
+    let all : map length_of after ≡ map length_of before ++ y ∷ [] = ap (map length_of) e ∙ map-append length_of before (fresh count size ∷ []) in
+    let same = length-map before length_of in
+    let there : get_or (map length_of before ++ y ∷ []) (length before) 0 ≡ size = get_or_at (map length_of before) y [] 0 (length before) same ∙ length-replicate size 0 in
+    subst (λ (ls : List ℕ). (length before < length ls) × (0 + size ≤ get_or ls (length before) 0)) (sym all) (omega (arith, length-append (map length_of before) (y ∷ []), same), omega (arith, there))
+
+pub lies_there : (count : ℕ → ℕ) (before after : List Block) (base size : ℕ) (r : Region) → IsRegionMade count before after base size (Ok r) → LiesIn (lengths (host_of after)) (whole_of r)
+lies_there count before after base size r m = rw m.2 (lies_made count before after size m.3)

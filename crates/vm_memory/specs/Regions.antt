@@ -23,3 +23,7 @@ window_in r o n = if nat_le (o + n) r.size then Ok (record { block = r.block; of
 -- where the byte at an offset is, if the region has it
 abbrev pub host_address_in : Region → ℕ → Result HostAddress GuestMemoryError
 host_address_in r o = if nat_lt o r.size then Ok (record { block = r.block; offset = o }) else Err InvalidBackendAddress
+
+-- all bytes of a region
+abbrev pub whole_of : Region → Window
+whole_of r = record { block = r.block; offset = 0; len = r.size }

@@ -141,7 +141,12 @@ impl<R: GuestMemoryRegion> GuestRegionCollection<R> {
     }
 
     // Reads as many bytes from an address on as are there, and says how many.
-    fn read_some<B: NewBitmap>(&self, host: &HostMemory<B>, buffer: &mut [u8], addr: u64) -> usize
+    pub(crate) fn read_some<B: NewBitmap>(
+        &self,
+        host: &HostMemory<B>,
+        buffer: &mut [u8],
+        addr: u64,
+    ) -> usize
         requires { AreHeld (lengths (host_of host.now)) self.now }
         ensures count { result ≡ reached (place self.now) (circular addr (length buffer.old)) }
         ensures bytes { buffer.new ≡ map (byte (memory_of (host_of host.now) self.now)) (take result (circular addr (length buffer.old))) ++ drop result buffer.old }
@@ -159,7 +164,12 @@ impl<R: GuestMemoryRegion> GuestRegionCollection<R> {
     }
 
     // Writes as many bytes from an address on as have a place, and says how many.
-    fn write_some<B: NewBitmap>(&self, host: &mut HostMemory<B>, bytes: &[u8], addr: u64) -> usize
+    pub(crate) fn write_some<B: NewBitmap>(
+        &self,
+        host: &mut HostMemory<B>,
+        bytes: &[u8],
+        addr: u64,
+    ) -> usize
         requires { AreHeld (lengths (host_of host.old)) self.now }
         ensures count { result ≡ reached (place self.now) (circular addr (length bytes.now)) }
         ensures stored { memory_of (host_of host.new) self.now ≡ stored_all (memory_of (host_of host.old) self.now) (zip (take result (circular addr (length bytes.now))) bytes.now) }

@@ -2,13 +2,16 @@
 #![tactic(auto)]
 
 pub mod backend;
+pub mod bytes;
 pub mod collection;
 pub mod error;
 pub mod guest_memory;
+pub mod held;
 pub mod mmap;
 pub mod region;
 
 pub use backend::{GuestMemoryBackend, RegionIter};
+pub use bytes::GuestMemoryRegionBytes;
 pub use collection::GuestRegionCollection;
 pub use error::{FromRangesError, GuestMemoryError, GuestRegionCollectionError, MmapRegionError};
 pub use guest_memory::GuestMemoryMmap;

@@ -1,9 +1,11 @@
 //! A region of guest addresses over a block of host memory (vm-memory's `GuestMemoryRegion` and `GuestRegionMmap`).
 
-ghost use Rattle.std.specs.Prelude.{◌≡◌, ◌+◌, ◌-◌, ◌<◌, ◌≤◌, ◌^◌, nat_lt};
+ghost use Rattle.std.specs.Prelude.{◌≡◌, ◌+◌, ◌-◌, ◌<◌, ◌≤◌, ◌^◌, nat_lt, IfOk};
+ghost use Rattle.vm_memory_core.specs.Host.{host_of, lengths};
+ghost use Rattle.vm_memory_core.specs.Window.{LiesIn};
 ghost use Rattle.vm_memory.specs.Layout.{IsLawful, Region, last_address};
 ghost use Rattle.vm_memory.specs.Making.{IsRegionMade, region_over};
-ghost use Rattle.vm_memory.specs.Regions.{checked_in, host_address_in, offset_in, window_in};
+ghost use Rattle.vm_memory.specs.Regions.{checked_in, host_address_in, offset_in, whole_of, window_in};
 
 use crate::error::{FromRangesError, GuestMemoryError, MmapRegionError};
 use crate::mmap::MmapRegion;
@@ -174,7 +176,8 @@ impl GuestRegionMmap {
         base: GuestAddress,
         size: usize,
     ) -> Result<GuestRegionMmap, FromRangesError>
-        ensures { IsRegionMade B.count h.old h.new base.0 size result }
+        ensures made { IsRegionMade B.count h.old h.new base.0 size result }
+        ensures held { IfOk result (λ r. LiesIn (lengths (host_of h.new)) (whole_of r)) }
     {
         let region = match MmapRegion::new(alloc, h, size) {
             Ok(region) => region,
@@ -185,6 +188,16 @@ impl GuestRegionMmap {
             Some(region) => Ok(region),
             None => Err(FromRangesError::InvalidGuestRegion),
         }
+    }
+}
+
+impl GuestRegionMmap {
+    // All of its bytes.
+    #[inline]
+    pub(crate) fn whole(&self) -> VolatileSlice
+        ensures { result ≡ whole_of self.now }
+    {
+        VolatileSlice::new(self.block, 0, self.size as usize)
     }
 }
 

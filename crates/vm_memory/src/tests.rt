@@ -5,7 +5,7 @@ ghost use Rattle.vm_memory_core.specs.Host.{host_of, lengths};
 ghost use Rattle.vm_memory.specs.Layout.{AreHeld};
 
 use crate::FromRangesError::{Collection, InvalidGuestRegion, MmapRegion};
-use crate::GuestMemoryError::{InvalidBackendAddress, InvalidGuestAddress};
+use crate::GuestMemoryError::{InvalidBackendAddress, InvalidGuestAddress, PartialBuffer};
 use crate::GuestRegionCollectionError::{
     MemoryRegionOverlap, NoMemoryRegion, UnsortedMemoryRegions,
 };
@@ -18,7 +18,7 @@ use std::process::Abort;
 use std::sync::Arc;
 use std::test::Fail;
 use vm_memory_core::{
-    GuestAddress, HostMemory, MemoryRegionAddress, PageBitmap, Permissions, VolatileSlice,
+    Bytes, GuestAddress, HostMemory, MemoryRegionAddress, PageBitmap, Permissions, VolatileSlice,
 };
 
 type Host = HostMemory<PageBitmap>;
@@ -67,6 +67,65 @@ fn bytes_go_over_the_edge_of_a_region(rt: HostRuntime) -> Result<(), Fail> {
     let mut windows = Vec::new(rt.alloc());
     assert!(rt; mem.push_windows(GuestAddress(0xffc), 5, &mut windows)?);
     assert_eq!(rt; windows.len(), 2);
+    Ok(())
+}
+
+#[test]
+fn some_bytes_are_there(rt: HostRuntime) -> Result<(), Fail> {
+    let (mut host, mem) = made(rt.alloc(), &TWO)?;
+    let end = GuestAddress(0x1ffe);
+    assert_eq!(rt; Bytes::write(&mem, &mut host, &[1, 2, 3, 4, 5], end), Ok(2));
+    let mut bytes = [9; 5];
+    assert_eq!(rt; Bytes::read(&mem, &host, &mut bytes, end), Ok(2));
+    assert_eq!(rt; bytes, [1, 2, 9, 9, 9]);
+    let past = GuestAddress(0x2000);
+    assert_eq!(rt;
+        Bytes::read(&mem, &host, &mut bytes, past),
+        Err(InvalidGuestAddress(past))
+    );
+    let partial = PartialBuffer {
+        expected: 5,
+        completed: 2,
+    };
+    assert_eq!(rt;
+        Bytes::read_slice(&mem, &host, &mut bytes, end),
+        Err(partial)
+    );
+    assert_eq!(rt;
+        Bytes::write_slice(&mem, &mut host, &bytes, end),
+        Err(partial)
+    );
+    assert_eq!(rt;
+        mem.read_obj::<u8, PageBitmap>(&host, GuestAddress(0x1fff)),
+        Ok(2)
+    );
+    assert!(rt; host.holds(&mem));
+    let other: Host = HostMemory::new(rt.alloc());
+    assert!(rt; !other.holds(&mem));
+    Ok(())
+}
+
+#[test]
+fn bytes_of_one_region(rt: HostRuntime) -> Result<(), Fail> {
+    let mut host: Host = HostMemory::new(rt.alloc());
+    let region = GuestRegionMmap::from_range(rt.alloc(), &mut host, GuestAddress(0x1000), 0x1000)?;
+    let last = MemoryRegionAddress(0xfff);
+    assert_eq!(rt; region.write(&mut host, &[7, 8], last), Ok(1));
+    assert_eq!(rt; host.byte_at(0, 0xfff), Some(7));
+    let mut bytes = [0; 2];
+    assert_eq!(rt; region.read(&host, &mut bytes, last), Ok(1));
+    assert_eq!(rt; bytes, [7, 0]);
+    let past = MemoryRegionAddress(0x1000);
+    assert_eq!(rt;
+        region.read(&host, &mut bytes, past),
+        Err(InvalidBackendAddress)
+    );
+    let partial = PartialBuffer {
+        expected: 2,
+        completed: 1,
+    };
+    assert_eq!(rt; region.read_slice(&host, &mut bytes, last), Err(partial));
+    assert_eq!(rt; region.write_slice(&mut host, &bytes, last), Err(partial));
     Ok(())
 }
 

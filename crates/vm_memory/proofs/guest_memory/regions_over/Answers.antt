@@ -4,7 +4,7 @@ use Rattle.vm_memory.proofs.guest_memory.regions_over.Goals as goal
 
 pub returns-in_default-new : goal.returns-in_default-new
 returns-in_default-new g c =
-    let made = c.in-Ok-from_range.ensures in (
+    let made = c.in-Ok-from_range.ensures.made in (
       c.loop-range.range-index + 1,
       all_more c.args.ranges.now c.loop-range.range-index no_range _ c.loop-range-test.true refl c.loop-range.invariant.good made.0 made.1,
       grown_more g.B.NewBitmap.count c.args.host.now c.loop-range.host c.from_range.new.h c.args.ranges.now c.loop-range.range-index no_range _ c.loop-range-test.true refl c.loop-range.invariant.host made.3,
@@ -12,7 +12,7 @@ returns-in_default-new g c =
 
 pub returns-in-Err-push : goal.returns-in-Err-push
 returns-in-Err-push g c =
-    let made = c.in-Ok-from_range.ensures in (
+    let made = c.in-Ok-from_range.ensures.made in (
       c.loop-range.range-index + 1,
       all_more c.args.ranges.now c.loop-range.range-index no_range _ c.loop-range-test.true refl c.loop-range.invariant.good made.0 made.1,
       grown_more g.B.NewBitmap.count c.args.host.now c.loop-range.host c.from_range.new.h c.args.ranges.now c.loop-range.range-index no_range _ c.loop-range-test.true refl c.loop-range.invariant.host made.3,
@@ -20,7 +20,7 @@ returns-in-Err-push g c =
 
 pub loop-range-preserved : goal.loop-range-preserved
 loop-range-preserved g c =
-    let made = c.in-Ok-from_range.ensures in
+    let made = c.in-Ok-from_range.ensures.made in
     let count = length-grown_by g.B.NewBitmap.count c.args.host.now c.args.ranges.now c.loop-range.range-index (omega arith) in
     record {
       good = all_more c.args.ranges.now c.loop-range.range-index no_range _ c.loop-range-test.true refl c.loop-range.invariant.good made.0 made.1;
@@ -30,4 +30,4 @@ loop-range-preserved g c =
     }
 
 pub returns-in-Err : goal.returns-in-Err
-returns-in-Err g c = refused_at g.B.NewBitmap.count c.args.host.now c.loop-range.host c.from_range.new.h c.args.ranges.now c.loop-range.range-index no_range _ c.in-Err.error c.loop-range-test.true refl c.loop-range.invariant.good c.loop-range.invariant.host c.in-Err.ensures
+returns-in-Err g c = refused_at g.B.NewBitmap.count c.args.host.now c.loop-range.host c.from_range.new.h c.args.ranges.now c.loop-range.range-index no_range _ c.in-Err.error c.loop-range-test.true refl c.loop-range.invariant.good c.loop-range.invariant.host c.in-Err.ensures.made

@@ -1,0 +1,37 @@
+//! Whether a host has the blocks of a layout.
+
+ghost use Rattle.std.specs.Prelude.{◌≡◌, ◌<◌, IsTrue, ◌↔◌, length, slice_index_or};
+ghost use Rattle.vm_memory_core.specs.Host.{host_of, lengths};
+ghost use Rattle.vm_memory.specs.Layout.{AreHeld};
+
+use crate::collection::GuestRegionCollection;
+use crate::region::GuestMemoryRegion;
+use vm_memory_core::{HeldIn, HostMemory, MemoryRegionAddress, NewBitmap};
+
+impl<R: GuestMemoryRegion> HeldIn for GuestRegionCollection<R> {
+    ghost IsHeld = { λ m h. AreHeld (lengths h) m };
+
+    fn is_held<B: NewBitmap>(&self, h: &HostMemory<B>) -> bool {
+        for at in 0..self.count() {
+            if !has_block(h, self.region(at)) {
+                return false;
+            }
+        }
+        true
+    }
+}
+
+// Whether a host has the block of a region, with its length.
+fn has_block<B: NewBitmap, R: GuestMemoryRegion>(h: &HostMemory<B>, region: &R) -> bool
+    ensures { IsTrue result ↔ (((R.region region.now).block < length (lengths (host_of h.now)))
+        × (slice_index_or (lengths (host_of h.now)) (R.region region.now).block 0 ≡ (R.region region.now).size)) }
+{
+    let size = region.len();
+    match region.get_host_address(MemoryRegionAddress(0)) {
+        Ok(first) => match h.block_len(first.block) {
+            Some(len) => len as u64 == size,
+            None => false,
+        },
+        Err(_) => false,
+    }
+}

@@ -1,0 +1,26 @@
+//! What names blocks of a host.
+
+ghost use Rattle.std.specs.Prelude.{IsTrue, ◌↔◌};
+ghost use Rattle.vm_memory_core.specs.Host.{Host, host_of};
+
+use crate::host::HostMemory;
+use vm_bitmaps::NewBitmap;
+
+/// What names blocks of a host with their lengths, as a layout does.
+pub trait HeldIn {
+    // whether a host has all that it names
+    ghost IsHeld: { Self → Host → Type 0 };
+
+    /// Whether a host has all that it names. `HostMemory::holds` asks it.
+    fn is_held<B: NewBitmap>(&self, h: &HostMemory<B>) -> bool
+        ensures { IsTrue result ↔ IsHeld self.now (host_of h.now) };
+}
+
+impl<B: NewBitmap> HostMemory<B> {
+    /// Whether this memory has all blocks that something names, with their lengths.
+    pub fn holds<M: HeldIn>(&self, m: &M) -> bool
+        ensures { IsTrue result ↔ M.IsHeld m.now (host_of self.now) }
+    {
+        m.is_held(self)
+    }
+}
