@@ -5,6 +5,7 @@ ghost use Rattle.vm_memory.specs.Layout.{AreHeld};
 ghost use Rattle.fs_bench.specs.Held.{AreHeld-prop};
 
 use crate::fault::BenchFault;
+use crate::files::Files;
 use crate::measure::{Case, Label, Meter};
 use fs_device::Device;
 use fs_queue::{Queue, QueueLayout};
@@ -31,6 +32,8 @@ const MEMORY: usize = 0x400000;
 
 const LIMIT: u32 = 0x101000;
 
+const PAGE_SIZE: u32 = 4096;
+
 // Flags of a descriptor (VIRTIO 1.2, 2.7.5).
 const NEXT: u16 = 1;
 
@@ -39,14 +42,61 @@ const WRITE: u16 = 2;
 // The splits that are measured.
 const SPLITS: [u16; 3] = [1, 2, 16];
 
-// A request with an opcode that the server doesn't know.
-const UNKNOWN: [u8; 40] = [
-    40, 0, 0, 0, 7, 0, 0, 0, 1, 0, 0, 0, 0, 0, 0, 0, 0, 0, 0, 0, 0, 0, 0, 0, 0, 0, 0, 0, 0, 0, 0,
-    0, 0, 0, 0, 0, 0, 0, 0, 0,
-];
+// The greatest request: a header of 40 bytes and READ's 40.
+const MOST: usize = 80;
 
-// How many bytes of room its reply has.
-const UNKNOWN_ROOM: u32 = 16;
+// A request, and how much room its reply has.
+#[derive(Drop)]
+struct Asked {
+    case: &'static str,
+    request: [u8; MOST],
+    len: usize,
+    room: u32,
+}
+
+// A header (`struct fuse_in_header`) of this length and opcode, on a node.
+fn header(len: u32, opcode: u32, node: u64) -> [u8; MOST] {
+    let mut bytes = [0; MOST];
+    bytes[..4].copy_from_slice(&len.to_le_bytes());
+    bytes[4..8].copy_from_slice(&opcode.to_le_bytes());
+    bytes[8] = 1;
+    bytes[16..24].copy_from_slice(&node.to_le_bytes());
+    bytes
+}
+
+// An opcode that the server doesn't know.
+fn unknown() -> Asked {
+    Asked {
+        case: "unknown",
+        request: header(40, 7, 0),
+        len: 40,
+        room: 16,
+    }
+}
+
+// LOOKUP of a name of one byte.
+fn lookup() -> Asked {
+    let mut request = header(42, 1, 1);
+    request[40] = b'a';
+    Asked {
+        case: "lookup",
+        request,
+        len: 42,
+        room: 144,
+    }
+}
+
+// READ of so many bytes from the file's start.
+fn read(case: &'static str, size: u32) -> Asked {
+    let mut request = header(80, 15, 2);
+    request[56..60].copy_from_slice(&size.to_le_bytes());
+    Asked {
+        case,
+        request,
+        len: MOST,
+        room: size.saturating_add(16),
+    }
+}
 
 // A guest that has the same chain served over and over, and its device.
 #[derive(Drop)]
@@ -54,7 +104,7 @@ struct Kicking {
     alloc: Global,
     host: HostMemory<PageBitmap>,
     mem: GuestMemoryMmap,
-    device: Device,
+    device: Device<Files>,
     available: u16,
     ghost held: { AreHeld (lengths (host_of host)) mem } by { AreHeld-prop (lengths (host_of host)) mem },
 }
@@ -71,7 +121,7 @@ impl Kicking {
             alloc,
             host,
             mem,
-            device: Device::new(Server::new(), queues, LIMIT),
+            device: Device::new(Server::new(Files::new(alloc)?, PAGE_SIZE), queues, LIMIT),
             available: 0,
         })
     }
@@ -163,22 +213,41 @@ impl Case for Kicking {
     }
 }
 
-/// Measures kicks of a request that the server doesn't know, cut into ever more descriptors.
+/// Measures kicks of a request that the server doesn't know, of LOOKUP and of READ, each cut into ever more descriptors.
 pub fn measure_kicks<R: Clock + Eprint>(
     meter: &mut Meter<'_, R>,
     alloc: Global,
 ) -> Result<(), BenchFault> {
-    for split in SPLITS {
-        let mut case = Kicking::new(alloc)?;
-        case.put_chain(&UNKNOWN, UNKNOWN_ROOM, split)?;
-        let label = Label {
-            kind: "kick",
-            case: "unknown",
-            split,
-            bytes: UNKNOWN.len() + UNKNOWN_ROOM as usize,
-            runs: u16::from(QUEUE_SIZE),
-        };
-        meter.measure(label, &mut case)?;
+    for asked in [
+        unknown(),
+        lookup(),
+        read("read-4k", 0x1000),
+        read("read-64k", 0x10000),
+        read("read-1m", 0x100000),
+    ] {
+        for split in SPLITS {
+            measure_kick(meter, alloc, &asked, split)?;
+        }
     }
     Ok(())
+}
+
+// Measures kicks of one request.
+fn measure_kick<R: Clock + Eprint>(
+    meter: &mut Meter<'_, R>,
+    alloc: Global,
+    asked: &Asked,
+    split: u16,
+) -> Result<(), BenchFault> {
+    let mut case = Kicking::new(alloc)?;
+    let len = asked.len.min(MOST);
+    case.put_chain(&asked.request[..len], asked.room, split)?;
+    let label = Label {
+        kind: "kick",
+        case: asked.case,
+        split,
+        bytes: len + asked.room as usize,
+        runs: if asked.room > 0x2000 { 16 } else { QUEUE_SIZE },
+    };
+    meter.measure(label, &mut case)
 }

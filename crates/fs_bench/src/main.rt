@@ -5,6 +5,7 @@
 #![tactic(auto)]
 
 mod fault;
+mod files;
 mod kick;
 mod measure;
 mod plain;
