@@ -9,7 +9,7 @@ use crate::files::Files;
 use crate::measure::{Case, Label, Meter};
 use fs_device::Device;
 use fs_queue::{Queue, QueueLayout};
-use std::alloc::{AllocError, Global};
+use std::alloc::Global;
 use std::time::Clock;
 use virtiofsd_fuse::Server;
 use vm_memory::GuestMemoryMmap;
@@ -98,6 +98,17 @@ fn read(case: &'static str, size: u32) -> Asked {
     }
 }
 
+// A device of one queue.
+fn served(alloc: Global) -> Result<Device<Files>, BenchFault> {
+    let Ok(layout) = QueueLayout::new(QUEUE_SIZE, TABLE, AVAIL, USED) else {
+        return Err(BenchFault::Guest);
+    };
+    let files = Files::new(alloc)?;
+    let mut queues = Vec::with_capacity(alloc, 1)?;
+    queues.push(Queue::new(layout)).unwrap();
+    Ok(Device::new(Server::new(files, PAGE_SIZE), queues, LIMIT))
+}
+
 // A guest that has the same chain served over and over, and its device.
 #[derive(Drop)]
 struct Kicking {
@@ -111,17 +122,14 @@ struct Kicking {
 
 impl Kicking {
     fn new(alloc: Global) -> Result<Kicking, BenchFault> {
+        let device = served(alloc)?;
         let mut host = HostMemory::new(alloc);
         let mem = GuestMemoryMmap::from_ranges(alloc, &mut host, &[(GuestAddress(0), MEMORY)])?;
-        let Ok(layout) = QueueLayout::new(QUEUE_SIZE, TABLE, AVAIL, USED) else {
-            return Err(BenchFault::Guest);
-        };
-        let queues = vec![in alloc; Queue::new(layout)].map_err(AllocError::from)?;
         Ok(Kicking {
             alloc,
             host,
             mem,
-            device: Device::new(Server::new(Files::new(alloc)?, PAGE_SIZE), queues, LIMIT),
+            device,
             available: 0,
         })
     }

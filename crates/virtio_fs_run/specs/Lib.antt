@@ -1,2 +1,1 @@
 pub mod Number
-pub mod Held

@@ -1,101 +1,96 @@
-//! A guest's memory: its layout over the blocks of the host.
+//! A guest with its device, and what is asked of the two.
 
-ghost use Rattle.vm_memory_core.specs.Host.{host_of, lengths};
-ghost use Rattle.vm_memory.specs.Layout.{AreHeld};
-ghost use Rattle.virtio_fs_run.specs.Held.{AreHeld-prop};
+ghost use Rattle.std.specs.Prelude.{◌≤◌, length};
 
-use crate::refusal::Refusal;
-use fs_device::{Device, DeviceError, Exchange, HarvestedPage};
+use crate::calls::CallLog;
+use crate::files::Files;
+use crate::refusal::RegionRefusal;
+use fs_device::{Answer, Command, Device, HarvestedPage, Machine};
+use fs_queue::Queue;
 use std::alloc::{AllocError, Global};
+use std::cell::Cell;
+use virtiofsd_fuse::Server;
 use vm_memory::{FromRangesError, GuestMemoryMmap};
-use vm_memory_core::{GuestAddress, HostMemory, PageBitmap, Permissions};
+use vm_memory_core::{GuestAddress, HostMemory};
 
-/// The host's blocks, and where the guest has them. So far at most one region.
+// The longest request, and the longest reply.
+const LIMIT: u32 = 0x101000;
+
+// How many bytes a page of the guest has.
+const PAGE_BYTES: u32 = 4096;
+
+/// A guest and the device that serves it. So far at most one region.
 #[derive(Drop)]
-pub struct Guest {
+pub struct Guest<'a> {
     alloc: Global,
-    host: HostMemory<PageBitmap>,
-    mem: GuestMemoryMmap,
-    ghost held: { AreHeld (lengths (host_of host)) mem } by { AreHeld-prop (lengths (host_of host)) mem },
+    log: &'a Cell<CallLog>,
+    machine: Machine<Files<'a>>,
+    has_region: bool,
 }
 
-impl Guest {
-    /// A guest without memory.
-    pub fn new(alloc: Global) -> Guest {
+impl<'a> Guest<'a> {
+    /// A guest without memory, whose device has these queues. What the device's file system is asked is logged.
+    pub fn new(alloc: Global, log: &'a Cell<CallLog>, queues: Vec<Queue>) -> Guest<'a>
+        requires some { 1 ≤ length queues.items }
+        requires few { length queues.items ≤ 64 }
+    {
+        let server = Server::new(Files::new(log), PAGE_BYTES);
+        let device = Device::new(server, queues, LIMIT);
+        let host = HostMemory::new(alloc);
+        let mem = GuestMemoryMmap::new(alloc);
         Guest {
             alloc,
-            host: HostMemory::new(alloc),
-            mem: GuestMemoryMmap::new(alloc),
+            log,
+            machine: Machine::new(host, mem, device),
+            has_region: false,
         }
+    }
+
+    /// Whether there is a queue of this number.
+    pub fn has_queue(&self, queue: usize) -> bool {
+        self.machine.device.queue(queue).is_some()
+    }
+
+    /// Whether the guest has memory.
+    pub fn has_region(&self) -> bool {
+        self.has_region
     }
 
     /// Makes a region over a new block the guest's memory, and answers the block's number.
     #[tactic(auto, using(crate::proofs::Holding::held_after_making))]
-    pub fn set_region(&mut self, base: u64, size: u64) -> Result<usize, Refusal> {
-        let block = self.host.block_count();
+    pub fn set_region(&mut self, base: u64, size: u64) -> Result<usize, RegionRefusal> {
+        let machine = &mut self.machine;
+        let block = machine.host.block_count();
         let ranges = [(GuestAddress(base), size as usize)];
-        match GuestMemoryMmap::from_ranges(self.alloc, &mut self.host, &ranges) {
+        match GuestMemoryMmap::from_ranges(self.alloc, &mut machine.host, &ranges) {
             Ok(mem) => {
-                self.mem = mem;
+                machine.mem = mem;
+                self.has_region = true;
                 Ok(block)
             }
-            Err(FromRangesError::Collection(_)) => Err(Refusal::Overlap),
-            Err(FromRangesError::MmapRegion(_)) => Err(Refusal::EmptyBlock),
-            Err(FromRangesError::InvalidGuestRegion) => Err(Refusal::BadRegion),
-            Err(FromRangesError::OutOfMemory) => Err(Refusal::OutOfMemory),
+            Err(FromRangesError::Collection(_)) => Err(RegionRefusal::Overlap),
+            Err(FromRangesError::MmapRegion(_)) => Err(RegionRefusal::EmptyBlock),
+            Err(FromRangesError::InvalidGuestRegion) => Err(RegionRefusal::BadRegion),
+            Err(FromRangesError::OutOfMemory) => Err(RegionRefusal::OutOfMemory),
         }
     }
 
-    // Whether the guest may access that many bytes from an address on.
-    fn reaches(&self, addr: u64, len: u64, access: Permissions) -> bool {
-        addr.checked_add(len).is_some()
-            && self
-                .mem
-                .check_range(GuestAddress(addr), len as usize, access)
+    /// Does one command of the machine.
+    pub fn perform(&mut self, command: Command) -> Result<Answer, AllocError> {
+        let mut commands = Vec::with_capacity(self.alloc, 1)?;
+        commands.push(command).unwrap();
+        let mut answers = self.machine.run(self.alloc, commands)?;
+        Ok(answers.pop().unwrap())
     }
 
-    /// The bytes that the guest reads.
-    pub fn read(&self, addr: u64, len: u64) -> Result<Vec<u8>, Refusal> {
-        if !self.reaches(addr, len, Permissions::Read) {
-            return Err(Refusal::NoPlace);
-        }
-        let Ok(mut bytes) = vec![in self.alloc; 0u8; len as usize] else {
-            return Err(Refusal::OutOfMemory);
-        };
-        match self
-            .mem
-            .read_slice(&self.host, &mut bytes, GuestAddress(addr))
-        {
-            Ok(()) => Ok(bytes),
-            Err(_) => Err(Refusal::NoPlace),
-        }
-    }
-
-    /// Writes the guest's bytes, whole or not at all.
-    pub fn write(&mut self, addr: u64, bytes: &[u8]) -> Result<(), Refusal> {
-        if !self.reaches(addr, bytes.len() as u64, Permissions::Write) {
-            return Err(Refusal::NoPlace);
-        }
-        match self
-            .mem
-            .write_slice(&mut self.host, bytes, GuestAddress(addr))
-        {
-            Ok(()) => Ok(()),
-            Err(_) => Err(Refusal::NoPlace),
-        }
-    }
-
-    /// Has the device serve one request of a queue.
-    pub fn serve(
-        &mut self,
-        device: &mut Device,
-        queue: usize,
-    ) -> Result<Option<(Exchange, bool)>, DeviceError> {
-        device.process_one(self.alloc, &mut self.host, &self.mem, queue)
+    /// What the file system was asked since this was called last.
+    pub fn take_log(&self) -> CallLog {
+        self.log.take()
     }
 
     /// The marked pages, whose marks are then cleared.
     pub fn harvest(&mut self) -> Result<Vec<HarvestedPage>, AllocError> {
-        fs_device::harvest(self.alloc, &mut self.host)
+        let machine = &mut self.machine;
+        fs_device::harvest(self.alloc, &mut machine.host)
     }
 }

@@ -1,39 +1,41 @@
 //! The commands of a script, and how a line is read as one.
 
 use crate::number::parse_number;
+use fs_queue::{QueueLayout, QueueLayoutError};
 use hex::FromHexError;
 use std::alloc::{AllocError, Global};
+
+/// A queue's size, and the addresses of its three areas.
+#[derive(Clone, Copy, Debug, PartialEq, Eq)]
+pub struct AskedLayout {
+    pub size: u16,
+    pub desc: u64,
+    pub avail: u64,
+    pub used: u64,
+}
+
+impl AskedLayout {
+    /// The layout, if it is one.
+    pub fn layout(self) -> Result<QueueLayout, QueueLayoutError> {
+        QueueLayout::new(self.size, self.desc, self.avail, self.used)
+    }
+}
 
 /// A command of the script.
 #[derive(Debug, Drop, PartialEq, Eq)]
 pub enum Line {
-    /// A queue of this size, with the addresses of its three areas.
-    Queue {
-        size: u16,
-        desc: u64,
-        avail: u64,
-        used: u64,
-    },
+    /// One more queue.
+    Queue(AskedLayout),
     /// A region of guest memory over a new block.
-    Region {
-        base: u64,
-        size: u64,
-    },
+    Region { base: u64, size: u64 },
     /// The guest writes these bytes.
-    Write {
-        addr: u64,
-        bytes: Vec<u8>,
-    },
+    Write { addr: u64, bytes: Vec<u8> },
     /// The guest reads that many bytes.
-    Read {
-        addr: u64,
-        len: u64,
-    },
+    Read { addr: u64, len: u64 },
     /// The device serves at most that many requests of a queue.
-    Kick {
-        queue: u64,
-        most: u16,
-    },
+    Kick { queue: u64, most: u16 },
+    /// A queue begins anew.
+    Reset { queue: u64, layout: AskedLayout },
     /// The marked pages are gathered, and their marks cleared.
     Harvest,
 }
@@ -65,6 +67,15 @@ impl<'a> Words<'a> {
 
     fn next_short(&mut self) -> Option<u16> {
         u16::try_from(self.next_number()?).ok()
+    }
+
+    fn next_layout(&mut self) -> Option<AskedLayout> {
+        Some(AskedLayout {
+            size: self.next_short()?,
+            desc: self.next_number()?,
+            avail: self.next_number()?,
+            used: self.next_number()?,
+        })
     }
 
     fn is_at_end(&self) -> bool {
@@ -101,12 +112,7 @@ fn parse_write(alloc: Global, words: &mut Words<'_>) -> Result<Option<Line>, All
 // A line of numbers alone, behind its first word.
 fn parse_numbers(name: &[u8], words: &mut Words<'_>) -> Option<Line> {
     let line = match name {
-        b"queue" => Line::Queue {
-            size: words.next_short()?,
-            desc: words.next_number()?,
-            avail: words.next_number()?,
-            used: words.next_number()?,
-        },
+        b"queue" => Line::Queue(words.next_layout()?),
         b"region" => Line::Region {
             base: words.next_number()?,
             size: words.next_number()?,
@@ -118,6 +124,10 @@ fn parse_numbers(name: &[u8], words: &mut Words<'_>) -> Option<Line> {
         b"kick" => Line::Kick {
             queue: words.next_number()?,
             most: words.next_short()?,
+        },
+        b"reset" => Line::Reset {
+            queue: words.next_number()?,
+            layout: words.next_layout()?,
         },
         b"harvest" => Line::Harvest,
         _ => return None,

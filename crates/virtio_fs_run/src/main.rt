@@ -1,6 +1,10 @@
 //! Runs a script of guest accesses and kicks, read from standard input, on a virtio-fs device.
 #![tactic(auto)]
 
+mod calls;
+#[cfg(test)]
+mod file_tests;
+mod files;
 mod guest;
 mod halt;
 mod line;

@@ -1,7 +1,7 @@
 //! What is printed of a command's outcome.
 
-use crate::refusal::Refusal;
-use fs_device::{Exchange, Fault, HarvestedPage};
+use crate::calls::{Call, CallLog};
+use fs_device::{Answer, Exchange, Fault, HarvestedPage, QueueRun};
 use fs_queue::{ChainFault, QueueLayoutError};
 use std::io;
 use std::io::Write;
@@ -22,13 +22,8 @@ pub fn print_bad_layout<W: Write>(writer: &mut W, error: QueueLayoutError) -> io
     writeln!(writer, "badlayout {number}")
 }
 
-/// Why a command was refused.
-pub fn print_refused<W: Write>(writer: &mut W, refusal: Refusal) -> io::Result<()> {
-    print_refused_number(writer, refusal.number())
-}
-
 /// Why a command was refused, by its number.
-pub fn print_refused_number<W: Write>(writer: &mut W, number: u8) -> io::Result<()> {
+pub fn print_refused<W: Write>(writer: &mut W, number: u8) -> io::Result<()> {
     writeln!(writer, "refused {number}")
 }
 
@@ -37,9 +32,8 @@ pub fn print_block<W: Write>(writer: &mut W, block: usize) -> io::Result<()> {
     writeln!(writer, "block {block}")
 }
 
-/// The bytes that the guest read, in hexadecimal digits.
-pub fn print_bytes<W: Write>(writer: &mut W, bytes: &[u8]) -> io::Result<()> {
-    writer.write_all(b"bytes ")?;
+// Bytes in hexadecimal digits.
+fn print_hexadecimal<W: Write>(writer: &mut W, bytes: &[u8]) -> io::Result<()> {
     let mut rest = bytes;
     while !rest.is_empty() {
         let (chunk, others) = rest.split_at(rest.len().min(CHUNK));
@@ -49,7 +43,40 @@ pub fn print_bytes<W: Write>(writer: &mut W, bytes: &[u8]) -> io::Result<()> {
         writer.write_all(digits)?;
         rest = others;
     }
+    Ok(())
+}
+
+// The bytes that the guest read.
+fn print_bytes<W: Write>(writer: &mut W, bytes: &[u8]) -> io::Result<()> {
+    writer.write_all(b"bytes ")?;
+    print_hexadecimal(writer, bytes)?;
     writer.write_all(b"\n")
+}
+
+// A call of the file system.
+fn print_call<W: Write>(writer: &mut W, call: &Call) -> io::Result<()> {
+    match call {
+        Call::Init => writer.write_all(b"call init\n"),
+        Call::Lookup { parent, name } => {
+            write!(writer, "call lookup {parent} ")?;
+            print_hexadecimal(writer, name.as_slice())?;
+            writer.write_all(b"\n")
+        }
+        Call::Forget { node, count } => writeln!(writer, "call forget {node} {count}"),
+        Call::Read { node } => writeln!(writer, "call read {node}"),
+    }
+}
+
+/// The calls of the file system in one step.
+pub fn print_calls<W: Write>(writer: &mut W, log: &CallLog) -> io::Result<()> {
+    for call in log.calls.as_slice() {
+        print_call(writer, call)?;
+    }
+    if log.more > 0 {
+        let more = log.more;
+        writeln!(writer, "more {more}")?;
+    }
+    Ok(())
 }
 
 // The name of what is wrong with a chain.
@@ -73,6 +100,17 @@ fn error_name(error: &Error) -> &'static str {
     match error {
         Error::DecodeMessage => "DecodeMessage",
         Error::EncodeMessage => "EncodeMessage",
+        Error::FlushMessage => "FlushMessage",
+        Error::MissingParameter => "MissingParameter",
+        Error::MissingExtension => "MissingExtension",
+        Error::InvalidHeaderLength => "InvalidHeaderLength",
+        Error::InvalidCString => "InvalidCString",
+        Error::InvalidCString2 => "InvalidCString2",
+        Error::InvalidXattrSize(_) => "InvalidXattrSize",
+        Error::DescriptorChainOverflow => "DescriptorChainOverflow",
+        Error::SplitOutOfBounds(_) => "SplitOutOfBounds",
+        Error::IoError(_) => "IoError",
+        Error::OutOfMemory => "OutOfMemory",
     }
 }
 
@@ -85,13 +123,34 @@ fn fault_name(fault: &Option<Fault>) -> &'static str {
     }
 }
 
-/// A request that was returned, served or for a fault, and whether the guest is notified.
-pub fn print_done<W: Write>(writer: &mut W, exchange: &Exchange, notify: bool) -> io::Result<()> {
+// A request that was returned, served or for a fault, and whether the guest is notified.
+fn print_done<W: Write>(writer: &mut W, exchange: &Exchange, notify: bool) -> io::Result<()> {
     let head = exchange.head;
     let len = exchange.reply.len();
     let fault = fault_name(&exchange.fault);
     let notify = u8::from(notify);
     writeln!(writer, "done {head} {len} {fault} {notify}")
+}
+
+// The requests that were returned, and why none came after them, if that is a refusal.
+fn print_run<W: Write>(writer: &mut W, run: &QueueRun) -> io::Result<()> {
+    for (exchange, notify) in &run.done {
+        print_done(writer, exchange, *notify)?;
+    }
+    match &run.refused {
+        Some(error) => print_refused(writer, error.number()),
+        None => Ok(()),
+    }
+}
+
+/// What a command of the machine came to.
+pub fn print_answer<W: Write>(writer: &mut W, answer: &Answer) -> io::Result<()> {
+    match answer {
+        Answer::Done => print_ok(writer),
+        Answer::Bytes(bytes) => print_bytes(writer, bytes),
+        Answer::Served(run) => print_run(writer, run),
+        Answer::Refused(refusal) => print_refused(writer, refusal.number()),
+    }
 }
 
 /// That no request was waiting.

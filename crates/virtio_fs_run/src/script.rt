@@ -1,9 +1,11 @@
 //! A whole script: it is read, and run line by line.
 
+use crate::calls::CallLog;
 use crate::halt::Halt;
 use crate::line::parse;
 use crate::session::Session;
 use std::alloc::Global;
+use std::cell::Cell;
 use std::io::{Read, Write};
 
 /// The most bytes of a script.
@@ -31,17 +33,15 @@ fn read_script<R: Read>(alloc: Global, reader: &mut R) -> Result<Vec<u8>, Halt> 
 
 // Runs each line in turn, up to the first that can't be run.
 fn run_lines<W: Write>(alloc: Global, script: &[u8], writer: &mut W) -> Result<(), Halt> {
-    let mut session = Session::new(alloc);
+    let log = Cell::new(CallLog::default());
+    let mut session = Session::new(alloc, &log);
     for (index, text) in script.split(|byte| *byte == b'\n').enumerate() {
         if text.is_empty() || text[0] == b'#' {
             continue;
         }
         let number = index.saturating_add(1);
         let line = parse(alloc, text)?.ok_or(Halt::NotACommand(number))?;
-        if !session.accepts(&line) {
-            return Err(Halt::NotACommand(number));
-        }
-        session.run(line, writer)?;
+        session.run(number, line, writer)?;
     }
     Ok(())
 }

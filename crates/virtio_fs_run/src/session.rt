@@ -1,82 +1,71 @@
 //! What a script's commands do, one after another.
 
+ghost use Rattle.std.specs.Prelude.{◌≤◌, length};
+
+use crate::calls::CallLog;
 use crate::guest::Guest;
 use crate::halt::Halt;
-use crate::line::Line;
+use crate::line::{AskedLayout, Line};
 use crate::print::{
-    print_bad_layout, print_block, print_bytes, print_done, print_idle, print_ok, print_pages,
-    print_refused, print_refused_number,
+    print_answer, print_bad_layout, print_block, print_calls, print_idle, print_ok, print_pages,
+    print_refused,
 };
-use crate::refusal::Refusal;
-use fs_device::{Device, DeviceError};
-use fs_queue::{Queue, QueueLayout, QueueLayoutError};
+use fs_device::{Answer, Command, DeviceError, Refusal};
+use fs_queue::Queue;
 use std::alloc::{AllocError, Global};
-use std::io;
+use std::cell::Cell;
 use std::io::Write;
-use virtiofsd_fuse::Server;
+use std::{io, mem};
 
-// How many queues a device has.
-const QUEUES: u64 = 1;
+// The most queues of a device.
+const MOST_QUEUES: usize = 64;
 
-// The longest request, and the longest reply.
-const LIMIT: u32 = 0x101000;
-
-/// A guest and the device that serves it, as the commands so far left them.
+/// The queues so far, and from the first other command on a guest whose device has them.
 #[derive(Drop)]
-pub struct Session {
+pub struct Session<'a> {
     alloc: Global,
-    guest: Guest,
-    device: Option<Device>,
-    has_region: bool,
+    log: &'a Cell<CallLog>,
+    queues: Vec<Queue>,
+    guest: Option<Guest<'a>>,
+    ghost few: { length queues.items ≤ 64 },
 }
 
-impl Session {
-    /// A guest without memory, and no queue yet.
-    pub fn new(alloc: Global) -> Session {
+impl<'a> Session<'a> {
+    /// No queue yet. What the file system is asked goes through the log.
+    pub fn new(alloc: Global, log: &'a Cell<CallLog>) -> Session<'a> {
         Session {
             alloc,
-            guest: Guest::new(alloc),
-            device: None,
-            has_region: false,
+            log,
+            queues: Vec::new(alloc),
+            guest: None,
         }
     }
 
-    /// Whether a command may stand here: a queue comes first, and it and a region are accepted once each.
-    pub fn accepts(&self, line: &Line) -> bool {
-        match line {
-            Line::Queue { .. } => self.device.is_none(),
-            Line::Region { .. } => self.device.is_some() && !self.has_region,
-            _ => self.device.is_some(),
+    /// Runs the command of a line, and prints what came of it. 1 to 64 queues come first.
+    pub fn run<W: Write>(&mut self, number: usize, line: Line, writer: &mut W) -> Result<(), Halt> {
+        if let Line::Queue(layout) = line {
+            return self.add_queue(number, layout, writer);
         }
-    }
-
-    /// Runs a command, and prints what came of it.
-    pub fn run<W: Write>(&mut self, line: Line, writer: &mut W) -> Result<(), Halt> {
-        match line {
-            Line::Queue {
-                size,
-                desc,
-                avail,
-                used,
-            } => return self.add_queue(QueueLayout::new(size, desc, avail, used), writer),
-            Line::Region { base, size } => self.set_region(base, size, writer)?,
-            Line::Write { addr, bytes } => self.write(addr, &bytes, writer)?,
-            Line::Read { addr, len } => self.read(addr, len, writer)?,
-            Line::Kick { queue, most } => self.kick(queue, most, writer)?,
-            Line::Harvest => self.harvest(writer)?,
+        self.start();
+        match &mut self.guest {
+            Some(guest) => run_on(guest, number, line, writer),
+            None => Err(Halt::NotACommand(number)),
         }
-        Ok(())
     }
 
     fn add_queue<W: Write>(
         &mut self,
-        layout: Result<QueueLayout, QueueLayoutError>,
+        number: usize,
+        asked: AskedLayout,
         writer: &mut W,
     ) -> Result<(), Halt> {
-        match layout {
+        if self.guest.is_some() || self.queues.len() == MOST_QUEUES {
+            return Err(Halt::NotACommand(number));
+        }
+        match asked.layout() {
             Ok(layout) => {
-                let queues = vec![in self.alloc; Queue::new(layout)].map_err(AllocError::from)?;
-                self.device = Some(Device::new(Server::new(), queues, LIMIT));
+                let pushed = self.queues.push(Queue::new(layout));
+                pushed.map_err(AllocError::from)?;
                 print_ok(writer)?;
             }
             Err(error) => print_bad_layout(writer, error)?,
@@ -84,60 +73,138 @@ impl Session {
         Ok(())
     }
 
-    fn set_region<W: Write>(&mut self, base: u64, size: u64, writer: &mut W) -> io::Result<()> {
-        match self.guest.set_region(base, size) {
-            Ok(block) => {
-                self.has_region = true;
-                print_block(writer, block)
+    // Makes the guest, once there is a queue.
+    fn start(&mut self) {
+        if !self.queues.is_empty() {
+            let queues = mem::replace(&mut self.queues, Vec::new(self.alloc));
+            self.guest = Some(Guest::new(self.alloc, self.log, queues));
+        }
+    }
+}
+
+// Runs a command that isn't a queue.
+fn run_on<W: Write>(
+    guest: &mut Guest<'_>,
+    number: usize,
+    line: Line,
+    writer: &mut W,
+) -> Result<(), Halt> {
+    match line {
+        Line::Queue(_) => return Err(Halt::NotACommand(number)),
+        Line::Region { base, size } => {
+            if guest.has_region() {
+                return Err(Halt::NotACommand(number));
             }
-            Err(refusal) => print_refused(writer, refusal),
+            set_region(guest, base, size, writer)?;
         }
+        Line::Write { addr, bytes } => {
+            perform(guest, Command::GuestWrite { addr, bytes }, writer)?;
+        }
+        Line::Read { addr, len } => {
+            let len = len as usize;
+            perform(guest, Command::GuestRead { addr, len }, writer)?;
+        }
+        Line::Kick { queue, most } => kick(guest, queue, most, writer)?,
+        Line::Reset { queue, layout } => reset(guest, queue, layout, writer)?,
+        Line::Harvest => harvest(guest, writer)?,
     }
+    Ok(())
+}
 
-    fn write<W: Write>(&mut self, addr: u64, bytes: &[u8], writer: &mut W) -> io::Result<()> {
-        match self.guest.write(addr, bytes) {
-            Ok(()) => print_ok(writer),
-            Err(refusal) => print_refused(writer, refusal),
-        }
+fn set_region<W: Write>(
+    guest: &mut Guest<'_>,
+    base: u64,
+    size: u64,
+    writer: &mut W,
+) -> io::Result<()> {
+    match guest.set_region(base, size) {
+        Ok(block) => print_block(writer, block),
+        Err(refusal) => print_refused(writer, refusal.number()),
     }
+}
 
-    fn read<W: Write>(&self, addr: u64, len: u64, writer: &mut W) -> io::Result<()> {
-        match self.guest.read(addr, len) {
-            Ok(bytes) => print_bytes(writer, &bytes),
-            Err(refusal) => print_refused(writer, refusal),
-        }
-    }
+// Does one command of the machine, and prints its answer.
+fn perform<W: Write>(guest: &mut Guest<'_>, command: Command, writer: &mut W) -> Result<(), Halt> {
+    let answer = guest.perform(command)?;
+    print_answer(writer, &answer)?;
+    Ok(())
+}
 
-    // Serves requests of a queue until none is waiting, one step is refused, or `most` are done.
-    fn kick<W: Write>(&mut self, queue: u64, most: u16, writer: &mut W) -> io::Result<()> {
-        let missing = DeviceError::NoSuchQueue.number();
-        let Some(device) = &mut self.device else {
-            return print_refused_number(writer, missing);
-        };
-        if queue >= QUEUES {
-            return print_refused_number(writer, missing);
-        }
-        let mut is_idle = true;
-        for _ in 0..most {
-            match self.guest.serve(device, queue as usize) {
-                Ok(Some((exchange, notify))) => {
-                    is_idle = false;
-                    print_done(writer, &exchange, notify)?;
-                }
-                Ok(None) => break,
-                Err(error) => return print_refused_number(writer, error.number()),
+// What a step of a queue came to.
+enum StepOutcome {
+    Idle,
+    Done,
+    Refused,
+}
+
+// Serves the next request of a queue, and prints it behind the file system's calls.
+fn step<W: Write>(
+    guest: &mut Guest<'_>,
+    queue: usize,
+    writer: &mut W,
+) -> Result<StepOutcome, Halt> {
+    let answer = guest.perform(Command::Kick { queue, most: 1 })?;
+    print_calls(writer, &guest.take_log())?;
+    print_answer(writer, &answer)?;
+    match &answer {
+        Answer::Served(run) => {
+            if run.refused.is_some() {
+                Ok(StepOutcome::Refused)
+            } else if run.done.is_empty() {
+                Ok(StepOutcome::Idle)
+            } else {
+                Ok(StepOutcome::Done)
             }
         }
-        if is_idle {
-            print_idle(writer)?;
-        }
-        Ok(())
+        _ => Ok(StepOutcome::Refused),
     }
+}
 
-    fn harvest<W: Write>(&mut self, writer: &mut W) -> io::Result<()> {
-        match self.guest.harvest() {
-            Ok(pages) => print_pages(writer, &pages),
-            Err(_) => print_refused(writer, Refusal::OutOfMemory),
+// Serves requests of a queue until none is waiting, one step is refused, or `most` are done.
+fn kick<W: Write>(
+    guest: &mut Guest<'_>,
+    queue: u64,
+    most: u16,
+    writer: &mut W,
+) -> Result<(), Halt> {
+    let queue = queue as usize;
+    if !guest.has_queue(queue) {
+        print_refused(writer, DeviceError::NoSuchQueue.number())?;
+        return Ok(());
+    }
+    let mut is_idle = true;
+    for _ in 0..most {
+        match step(guest, queue, writer)? {
+            StepOutcome::Idle => break,
+            StepOutcome::Done => is_idle = false,
+            StepOutcome::Refused => return Ok(()),
         }
+    }
+    if is_idle {
+        print_idle(writer)?;
+    }
+    Ok(())
+}
+
+fn reset<W: Write>(
+    guest: &mut Guest<'_>,
+    queue: u64,
+    asked: AskedLayout,
+    writer: &mut W,
+) -> Result<(), Halt> {
+    let queue = queue as usize;
+    match asked.layout() {
+        Ok(layout) => perform(guest, Command::ResetQueue { queue, layout }, writer),
+        Err(error) => {
+            print_bad_layout(writer, error)?;
+            Ok(())
+        }
+    }
+}
+
+fn harvest<W: Write>(guest: &mut Guest<'_>, writer: &mut W) -> io::Result<()> {
+    match guest.harvest() {
+        Ok(pages) => print_pages(writer, &pages),
+        Err(_) => print_refused(writer, Refusal::OutOfMemory.number()),
     }
 }

@@ -187,7 +187,7 @@ fn refuses_what_is_no_command(rt: HostRuntime) -> Result<(), Fail> {
         b"write 0 00 00",
         b"move",
         b"alias 0 0",
-        b"reset 0 4 0 0x100 0x200",
+        b"reset 0 4 0 0x100",
         b"map 0 0 1 r",
         b"iommu on",
         b"region 0",
