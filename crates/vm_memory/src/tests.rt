@@ -19,6 +19,7 @@ use std::sync::Arc;
 use std::test::Fail;
 use vm_memory_core::{
     Bytes, GuestAddress, HostMemory, MemoryRegionAddress, PageBitmap, Permissions, VolatileSlice,
+    Windows,
 };
 
 type Host = HostMemory<PageBitmap>;
@@ -64,7 +65,7 @@ fn bytes_go_over_the_edge_of_a_region(rt: HostRuntime) -> Result<(), Fail> {
     assert_eq!(rt; host.byte_at(1, 0), Some(5));
     assert!(rt; mem.check_range(GuestAddress(0xffc), 5, Permissions::Read));
     assert!(rt; !mem.check_range(GuestAddress(0x1ffe), 5, Permissions::Read));
-    let mut windows = Vec::new(rt.alloc());
+    let mut windows = Windows::new(rt.alloc());
     assert!(rt; mem.push_windows(GuestAddress(0xffc), 5, &mut windows)?);
     assert_eq!(rt; windows.len(), 2);
     Ok(())
