@@ -12,9 +12,11 @@ use fuse_wire::{Attr, Errno, FsOptions};
 use std::alloc::Global;
 use std::process::Abort;
 use std::test::Fail;
-use virtiofsd_fuse::{Error, Server};
+use virtiofsd_fuse::Server;
 use vm_memory::GuestMemoryMmap;
 use vm_memory_core::{GuestAddress, HostMemory, PageBitmap, Permissions};
+
+mod requests;
 
 type Host = HostMemory<PageBitmap>;
 
@@ -484,80 +486,5 @@ fn queue_that_is_reset_begins_anew(rt: HostRuntime) -> Result<(), Fail> {
     )?;
     assert!(rt; matches!(&answer, Answer::Done));
     assert_eq!(rt; kicked(rt.alloc(), &mut machine, 0, 9)?, (1, None));
-    Ok(())
-}
-
-// A header: its length, opcode and unique number, of node 2.
-fn header(len: u32, opcode: u32, unique: u64) -> [u8; 40] {
-    let mut header = [0; 40];
-    header[..4].copy_from_slice(&len.to_le_bytes());
-    header[4..8].copy_from_slice(&opcode.to_le_bytes());
-    header[8..16].copy_from_slice(&unique.to_le_bytes());
-    header[16] = 2;
-    header
-}
-
-#[test]
-fn nodes_are_forgotten_without_a_room(rt: HostRuntime) -> Result<(), Fail> {
-    let (mut host, mem, mut device) = guest(rt.alloc())?;
-    put(&rt, &mut host, &mem, 0x1000, &header(48, 2, 2));
-    put(&rt, &mut host, &mem, 0x1028, &3u64.to_le_bytes());
-    put_descriptor(&rt, &mut host, &mem, 0, 0x1000, 48, 0, 0);
-    put(&rt, &mut host, &mem, 0x102, &[1, 0, 0, 0]);
-    let (exchange, _) = exchanged(&rt, rt.alloc(), &mut host, &mem, &mut device)?;
-    assert_eq!(rt; exchange.fault, None);
-    assert_eq!(rt; exchange.reply.len(), 0);
-    assert_eq!(rt; device.server().fs().forgotten, 3);
-    expect_bytes(&rt, &host, 0x202, &[1, 0, 0, 0, 0, 0, 0, 0, 0, 0]);
-    Ok(())
-}
-
-// A READ of node 2 in three odd parts, and its reply in two.
-#[test]
-fn read_is_the_same_however_it_is_cut(rt: HostRuntime) -> Result<(), Fail> {
-    let (mut host, mem, mut device) = guest(rt.alloc())?;
-    let head = header(80, 15, 7);
-    put(&rt, &mut host, &mem, 0x1000, &head[..33]);
-    put(&rt, &mut host, &mem, 0x3000, &[0; 7]);
-    put(&rt, &mut host, &mem, 0x3007, &[0, 0, 0, 0, 0, 0, 0, 0, 1]);
-    put(&rt, &mut host, &mem, 0x3017, &[0x40]);
-    put_descriptor(&rt, &mut host, &mem, 0, 0x1000, 33, NEXT, 1);
-    put_descriptor(&rt, &mut host, &mem, 1, 0x3000, 47, NEXT, 2);
-    put_descriptor(&rt, &mut host, &mem, 2, 0x2000, 3, NEXT | WRITE, 3);
-    put_descriptor(&rt, &mut host, &mem, 3, 0x2803, 61, WRITE, 0);
-    put(&rt, &mut host, &mem, 0x102, &[1, 0, 0, 0]);
-    let (exchange, _) = exchanged(&rt, rt.alloc(), &mut host, &mem, &mut device)?;
-    assert_eq!(rt; exchange.fault, None);
-    expect_bytes(&rt, &host, 0x2000, &[20, 0, 0]);
-    expect_bytes(&rt, &host, 0x2803, &[0, 0, 0, 0, 0, 7, 0, 0, 0, 0, 0, 0, 0]);
-    expect_bytes(&rt, &host, 0x2810, b"ello");
-    Ok(())
-}
-
-#[test]
-fn entry_that_has_no_room_is_asked_for_all_the_same(rt: HostRuntime) -> Result<(), Fail> {
-    let (mut host, mem, mut device) = guest(rt.alloc())?;
-    put(&rt, &mut host, &mem, 0x1000, &header(42, 1, 5));
-    put(&rt, &mut host, &mem, 0x1028, b"a");
-    put_descriptor(&rt, &mut host, &mem, 0, 0x1000, 42, NEXT, 1);
-    put_descriptor(&rt, &mut host, &mem, 1, 0x2000, 143, WRITE, 0);
-    put(&rt, &mut host, &mem, 0x102, &[1, 0, 0, 0]);
-    let (exchange, _) = exchanged(&rt, rt.alloc(), &mut host, &mem, &mut device)?;
-    assert_eq!(rt; exchange.fault, Some(Fault::Served(Error::EncodeMessage)));
-    assert_eq!(rt; device.server().fs().asked, 1);
-    expect_bytes(&rt, &host, 0x2000, &[0; 16]);
-    Ok(())
-}
-
-#[test]
-fn read_without_room_for_a_header_asks_nothing(rt: HostRuntime) -> Result<(), Fail> {
-    let (mut host, mem, mut device) = guest(rt.alloc())?;
-    put(&rt, &mut host, &mem, 0x1000, &header(80, 15, 7));
-    put_descriptor(&rt, &mut host, &mem, 0, 0x1000, 80, NEXT, 1);
-    put_descriptor(&rt, &mut host, &mem, 1, 0x2000, 15, WRITE, 0);
-    put(&rt, &mut host, &mem, 0x102, &[1, 0, 0, 0]);
-    let (exchange, _) = exchanged(&rt, rt.alloc(), &mut host, &mem, &mut device)?;
-    assert_eq!(rt; exchange.fault, Some(Fault::Served(Error::EncodeMessage)));
-    assert_eq!(rt; device.server().fs().asked, 0);
     Ok(())
 }
