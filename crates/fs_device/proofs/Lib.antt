@@ -4,3 +4,4 @@ pub mod KickLemmas
 pub mod RunLemmas
 pub mod GuestLemmas
 pub mod HarvestLemmas
+pub mod LayoutLemmas

@@ -27,5 +27,10 @@ refusal_number device.NoSuchQueue = 10
 -- a command's refusals
 abbrev pub command_refusal_number : Refusal → ℕ
 command_refusal_number why.NoPlace = 1
+command_refusal_number why.EmptyBlock = 2
+command_refusal_number why.UnknownBlock = 3
+command_refusal_number why.BadRegion = 4
+command_refusal_number why.Overlap = 5
+command_refusal_number why.NoRegion = 6
 command_refusal_number why.NoSuchQueue = 8
 command_refusal_number why.OutOfMemory = 9

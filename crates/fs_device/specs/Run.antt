@@ -1,6 +1,9 @@
 -- Whole runs of the plain machine.
-use Rattle.std.specs.Prelude.{◌≡◌, ℕ, zero, suc, Bool, false, true, IsTrue, List, [], ◌∷◌, length, zip, Option, Some, None, if◌then◌else◌, slice_get}
+use Rattle.std.specs.Prelude.{◌≡◌, ◌==◌, ◌||◌, not, ℕ, zero, suc, Bool, false, true, IsTrue, List, [], ◌∷◌, length, zip, Option, Some, None, if◌then◌else◌, slice_get}
+use Rattle.std.specs.List.{list_all, list_any}
 use Rattle.vm_memory_core.specs.declared.permissions.Permissions.TheVariants.{Read, Write}
+use Rattle.vm_memory_core.specs.Host.{Host, Block, new_block, with_block}
+use Rattle.vm_memory.specs.Layout.{Region, fits, overlap, with_region, is_region, without_region}
 use Rattle.vm_memory.specs.Memory.{Memory, addresses, reach, bytes, stored_all, physical}
 use Rattle.fs_queue.specs.declared.layout.QueueLayout.{QueueLayout}
 use Rattle.fs_queue.specs.Queue.{Queue, fresh}
@@ -14,6 +17,10 @@ use Rattle.fs_device.specs.Step.{State, Exchange, Idle, Refused, Exchanged, Call
 pub data Command : Type 0 where
   GuestRead : (addr len : ℕ) → Command
   GuestWrite : (addr : ℕ) → (bytes : List ℕ) → Command
+  NewBlock : (len : ℕ) → Command
+  InsertRegion : (base block : ℕ) → Command
+  RemoveRegion : (base size : ℕ) → Command
+  SetLayout : List Region → Command
   Kick : (queue most : ℕ) → Command
   ResetQueue : (queue : ℕ) → QueueLayout → Command
 
@@ -25,6 +32,7 @@ pub record Kicked : Type 0 where
 pub data Answer : Type 0 where
   Done : Answer
   Bytes : List ℕ → Answer
+  NewBlockIs : ℕ → Answer
   Served : Kicked → Answer
   IsRefused : Refusal → Answer
 
@@ -52,6 +60,57 @@ guest_write s a bs =
     if reach (physical s.memory) Write a (length bs) then (Done, record s { memory = guest_written s.memory a bs })
     else no why.NoPlace s
 
+abbrev pub with_host : {F : Type 0} → State F → Host → State F
+with_host s h = record s { memory = record s.memory { host = h } }
+
+abbrev pub with_layout : {F : Type 0} → State F → List Region → State F
+with_layout s layout = record s { memory = record s.memory { layout = layout } }
+
+-- a block of zeros more, none of whose pages is marked; it is told its number
+abbrev pub make_block : {F : Type 0} → State F → ℕ → Effect F
+make_block s n =
+    if n == 0 then no why.EmptyBlock s
+    else (NewBlockIs (length s.memory.host.blocks), with_host s (with_block s.memory.host (new_block n)))
+
+-- a region more, where its last address fits and no address gets a second place
+abbrev pub insert : {F : Type 0} → State F → Region → Effect F
+insert s r =
+    if not (fits r) then no why.BadRegion s
+    else if list_any (overlap r) s.memory.layout then no why.Overlap s
+    else (Done, with_layout s (with_region r s.memory.layout))
+
+-- the region from an address on that is all of a block
+abbrev pub insert_block : {F : Type 0} → State F → (base block : ℕ) → Option Block → Effect F
+insert_block s base block None = no why.UnknownBlock s
+insert_block s base block (Some b) = insert s (record { start = base; size = length b.bytes; block = block })
+
+-- the layout without a region
+abbrev pub remove_region : {F : Type 0} → State F → (base size : ℕ) → Effect F
+remove_region s base size =
+    if list_any (is_region base size) s.memory.layout then (Done, with_layout s (without_region base size s.memory.layout))
+    else no why.NoRegion s
+
+abbrev pub has_len : ℕ → Option Block → Bool
+has_len n None = false
+has_len n (Some b) = length b.bytes == n
+
+-- whether the host has a region's block, with the region's length
+abbrev pub is_known : Host → Region → Bool
+is_known h r = has_len r.size (slice_get h.blocks r.block)
+
+-- whether an address would have two places
+abbrev pub some_overlap : List Region → Bool
+some_overlap [] = false
+some_overlap (r ∷ rs) = list_any (overlap r) rs || some_overlap rs
+
+-- another layout
+abbrev pub set_layout : {F : Type 0} → State F → List Region → Effect F
+set_layout s layout =
+    if not (list_all (is_known s.memory.host) layout) then no why.UnknownBlock s
+    else if not (list_all fits layout) then no why.BadRegion s
+    else if some_overlap layout then no why.Overlap s
+    else (Done, with_layout s layout)
+
 abbrev pub fresh_queue : QueueLayout → Queue
 fresh_queue l = fresh l.size l.desc l.avail l.used
 
@@ -63,6 +122,10 @@ reset s i l (Some q) = (Done, with_queue s i (fresh_queue l))
 unfoldable pub effect : {F : Type 0} → State F → Command → Effect F
 effect s (GuestRead a n) = guest_read s a n
 effect s (GuestWrite a bs) = guest_write s a bs
+effect s (NewBlock n) = make_block s n
+effect s (InsertRegion base block) = insert_block s base block (slice_get s.memory.host.blocks block)
+effect s (RemoveRegion base size) = remove_region s base size
+effect s (SetLayout layout) = set_layout s layout
 effect s (Kick queue most) = (Done, s)
 effect s (ResetQueue queue l) = reset s queue l (slice_get s.queues queue)
 

@@ -8,7 +8,7 @@ use Rattle.fs_device.specs.declared.command.Command as asked
 use Rattle.fs_device.specs.declared.command.Answer as told
 use Rattle.fs_device.specs.declared.command.QueueRun.{QueueRun}
 use Rattle.fs_device.specs.Step.{State, Exchange, May}
-use Rattle.fs_device.specs.Run.{Command, GuestRead, GuestWrite, Kick, ResetQueue, Kicked, Answer, Done, Bytes, Served, IsRefused, KickRun}
+use Rattle.fs_device.specs.Run.{Command, GuestRead, GuestWrite, NewBlock, InsertRegion, RemoveRegion, SetLayout, Kick, ResetQueue, Kicked, Answer, Done, Bytes, NewBlockIs, Served, IsRefused, KickRun}
 use Rattle.fs_device.specs.Views.{exchange_of}
 
 abbrev pub turn_of : code.Exchange × Bool → Exchange × Bool
@@ -20,12 +20,17 @@ kicked_of run = record { exchanges = map turn_of run.done.items; refused = run.r
 abbrev pub command_of : asked.Command → Command
 command_of (asked.TheVariants.GuestRead a n) = GuestRead a n
 command_of (asked.TheVariants.GuestWrite a bs) = GuestWrite a bs.items
+command_of (asked.TheVariants.NewBlock n) = NewBlock n
+command_of (asked.TheVariants.InsertRegion base block) = InsertRegion base block
+command_of (asked.TheVariants.RemoveRegion base size) = RemoveRegion base size
+command_of (asked.TheVariants.SetLayout layout) = SetLayout layout
 command_of (asked.TheVariants.Kick queue most) = Kick queue most
 command_of (asked.TheVariants.ResetQueue queue l) = ResetQueue queue l
 
 abbrev pub answer_of : told.Answer → Answer
 answer_of told.TheVariants.Done = Done
 answer_of (told.TheVariants.Bytes bs) = Bytes bs.items
+answer_of (told.TheVariants.Block number) = NewBlockIs number
 answer_of (told.TheVariants.Served run) = Served (kicked_of run)
 answer_of (told.TheVariants.Refused why) = IsRefused why
 

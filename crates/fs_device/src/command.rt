@@ -6,14 +6,23 @@ use crate::error::DeviceError;
 use crate::exchange::Exchange;
 use crate::refusal::Refusal;
 use fs_queue::QueueLayout;
+use vm_memory::GuestMemoryMmap;
 
 /// What a guest or its monitor does.
-#[derive(Debug, Drop)]
+#[derive(Drop)]
 pub enum Command {
     /// The guest reads `len` bytes from a physical address on, all of them or none.
     GuestRead { addr: u64, len: usize },
     /// The guest writes bytes from a physical address on, all of them or none.
     GuestWrite { addr: u64, bytes: Vec<u8> },
+    /// The host gets a block of `len` zeros more, none of whose pages is marked.
+    NewBlock { len: usize },
+    /// All of a block lies in guest memory from an address on, once more where it lies there already.
+    InsertRegion { base: u64, block: usize },
+    /// The region that begins at an address and has `size` of them goes; its block stays.
+    RemoveRegion { base: u64, size: u64 },
+    /// Other regions take the place of all that are there.
+    SetLayout(GuestMemoryMmap),
     /// A queue's chains are served, at most so many.
     Kick { queue: usize, most: u16 },
     /// A queue begins anew, with this layout.
@@ -55,6 +64,8 @@ impl QueueRun {
 pub enum Answer {
     Done,
     Bytes(Vec<u8>),
+    /// The number of a new block.
+    Block(usize),
     Served(QueueRun),
     Refused(Refusal),
 }

@@ -6,6 +6,7 @@ pub mod copies;
 pub mod device;
 pub mod error;
 pub mod exchange;
+mod layouts;
 pub mod machine;
 mod queues;
 pub mod refusal;

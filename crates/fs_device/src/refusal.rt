@@ -9,6 +9,16 @@ use thiserror::Error;
 pub enum Refusal {
     #[error("an address has no place")]
     NoPlace,
+    #[error("a block has at least one byte")]
+    EmptyBlock,
+    #[error("there is no such block, or it has another length")]
+    UnknownBlock,
+    #[error("a region's last address is past the greatest")]
+    BadRegion,
+    #[error("two regions have an address in common")]
+    Overlap,
+    #[error("there is no such region")]
+    NoRegion,
     #[error("there is no such queue")]
     NoSuchQueue,
     #[error("out of memory")]
@@ -24,6 +34,11 @@ impl Refusal {
     {
         match self {
             Refusal::NoPlace => 1,
+            Refusal::EmptyBlock => 2,
+            Refusal::UnknownBlock => 3,
+            Refusal::BadRegion => 4,
+            Refusal::Overlap => 5,
+            Refusal::NoRegion => 6,
             Refusal::NoSuchQueue => 8,
             Refusal::OutOfMemory => 9,
         }

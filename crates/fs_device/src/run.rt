@@ -101,6 +101,10 @@ impl<F: FileSystem> Machine<F> {
         match command {
             Command::GuestRead { addr, len } => self.guest_read(alloc, addr, len),
             Command::GuestWrite { addr, bytes } => self.guest_write(addr, &bytes),
+            Command::NewBlock { len } => self.new_block(len),
+            Command::InsertRegion { base, block } => self.insert_region(alloc, base, block),
+            Command::RemoveRegion { base, size } => self.remove_region(base, size),
+            Command::SetLayout(layout) => self.set_layout(layout),
             Command::Kick { queue, most } => self.kick(alloc, queue, most),
             Command::ResetQueue { queue, layout } => self.reset_queue(queue, layout),
         }

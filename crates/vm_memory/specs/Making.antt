@@ -1,5 +1,5 @@
 -- What making blocks, regions and layouts answers, and what it leaves in the host.
-use Rattle.std.specs.Prelude.{◌≡◌, ℕ, ◌+◌, ◌<◌, ◌≤◌, ◌^◌, nat_le, nat_lt, Bool, true, false, ◌&&◌, List, [], ◌∷◌, ◌++◌, length, map, take, replicate, Option, Some, None, if◌then◌else◌, option_and_then, slice_get, Result, Ok, Err}
+use Rattle.std.specs.Prelude.{◌≡◌, ℕ, ◌+◌, ◌<◌, ◌≤◌, ◌^◌, nat_le, nat_lt, Bool, true, false, ◌&&◌, List, [], ◌∷◌, ◌++◌, length, map, take, replicate, Option, Some, None, if◌then◌else◌, option_map, slice_get, Result, Ok, Err}
 use Rattle.std.specs.List.{list_all}
 use Rattle.vm_values.specs.declared.address.GuestAddress.{GuestAddress}
 use Rattle.vm_memory_core.specs.Host.{Block}
@@ -29,7 +29,7 @@ IsMapped count before after size (Err mmap.OutOfMemory) = (0 < size) × (after �
 -- a block of the host with its length, if it has one
 abbrev pub backing_at : List Block → ℕ → Option Backing
 backing_at blocks b =
-    option_and_then (λ block. if nat_lt 0 (length block.bytes) then Some (record { size = length block.bytes; block = b }) else None) (slice_get blocks b)
+    option_map (λ block. record { size = length block.bytes; block = b }) (slice_get blocks b)
 
 -- the region over a block from an address on, if its last address fits 64 bits
 abbrev pub region_over : Backing → (base : ℕ) → Option Region

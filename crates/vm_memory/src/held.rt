@@ -2,7 +2,7 @@
 
 ghost use Rattle.std.specs.Prelude.{◌≡◌, ◌<◌, IsTrue, ◌↔◌, length, slice_index_or};
 ghost use Rattle.vm_memory_core.specs.Host.{host_of, lengths};
-ghost use Rattle.vm_memory.specs.Layout.{AreHeld};
+ghost use Rattle.vm_memory.specs.Layout.{AreHeld, IsLayout};
 
 use crate::collection::GuestRegionCollection;
 use crate::region::GuestMemoryRegion;
@@ -10,6 +10,8 @@ use vm_memory_core::{HeldIn, HostMemory, MemoryRegionAddress, NewBitmap};
 
 impl<R: GuestMemoryRegion> HeldIn for GuestRegionCollection<R> {
     ghost IsHeld = { λ m h. AreHeld (lengths h) m };
+
+    ghost IsSound = { IsLayout };
 
     fn is_held<B: NewBitmap>(&self, h: &HostMemory<B>) -> bool {
         for at in 0..self.count() {

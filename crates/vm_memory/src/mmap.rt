@@ -48,13 +48,13 @@ impl MmapRegion {
         }
     }
 
-    /// A block that the host has; None where it has no such block, or one without a byte.
+    /// A block that the host has; None where it has no such block.
     pub fn of_block<B: NewBitmap>(h: &HostMemory<B>, b: usize) -> Option<MmapRegion>
         ensures { result ≡ backing_at h.now b }
     {
         match h.block_len(b) {
-            Some(size) if size > 0 => Some(MmapRegion { size, block: b }),
-            _ => None,
+            Some(size) => Some(MmapRegion { size, block: b }),
+            None => None,
         }
     }
 

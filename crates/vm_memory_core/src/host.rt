@@ -22,14 +22,14 @@ struct Block<B: NewBitmap> {
 }
 
 impl<B: NewBitmap> Model for Block<B> {
-    ghost use Rattle.std.specs.Prelude.{◌≡◌, length};
+    ghost use Rattle.std.specs.Prelude.{◌≡◌, ◌<◌, length};
     ghost use Rattle.vm_memory_core.specs.Host.{Block};
 
     ghost Value = { Block };
 
     ghost view = { λ b. record { bytes = b.bytes.items; marks = B.marks b.bitmap } };
 
-    ghost invariant = { λ b. (B.page_size b.bitmap ≡ 4096) × (B.base b.bitmap ≡ 0) × (length (B.marks b.bitmap) ≡ B.count (length b.bytes.items)) };
+    ghost invariant = { λ b. (B.page_size b.bitmap ≡ 4096) × (B.base b.bitmap ≡ 0) × (length (B.marks b.bitmap) ≡ B.count (length b.bytes.items)) × (0 < length b.bytes.items) };
 }
 
 /// The memory that guests and devices share: blocks, numbered from 0, each with a bitmap of its dirty pages.
@@ -161,9 +161,10 @@ impl<B: NewBitmap> HostMemory<B> {
         self.blocks.len()
     }
 
-    /// How many bytes a block has.
+    /// How many bytes a block has, which are never none.
     pub fn block_len(&self, block: usize) -> Option<usize>
-        ensures { result ≡ option_map (λ b. length b.bytes) (slice_get self.now block) }
+        ensures len { result ≡ option_map (λ b. length b.bytes) (slice_get self.now block) }
+        ensures some { IfSome result (λ len. 0 < len) }
     {
         match self.blocks.get(block) {
             Some(block) => Some(block.bytes.len()),

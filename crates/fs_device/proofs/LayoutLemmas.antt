@@ -1,0 +1,128 @@
+-- blocks and layouts that change under a machine
+use Rattle.std.proofs.Common.{◌≡◌, ℕ, zero, suc, Bool, true, false, ◌+◌, ◌<◌, ◌≤◌, ◌^◌, List, [], ◌∷◌, ◌++◌, length, map, ap, sym, ◌∙◌, refl, arith, eqb, Option, Some, None, length-append}
+use Rattle.std.specs.Prelude.{◌&&◌, ◌||◌, not, nat_lt, cond, find, slice_get, slice_index_or, if◌then◌else◌}
+use Rattle.std.specs.List.{list_all, list_any}
+use Rattle.std.proofs.lemmas.Bool.{eqb-true}
+use Rattle.std.proofs.lemmas.Bool.Decides.{nat_tests}
+use Rattle.vm_memory_core.specs.Host.{Block, host_of, lengths}
+use Rattle.vm_memory.specs.Layout.{Region, fits, overlap, with_region, is_region, without_region, AllFrom, IsLayout, AreHeld}
+use Rattle.fs_device.specs.Run.{is_known, has_len, some_overlap}
+
+-- the host's blocks with a region's
+abbrev pub HasBlock : List ℕ → Region → Type 0
+HasBlock lengths r = (r.block < length lengths) × (slice_index_or lengths r.block 0 ≡ r.size)
+
+-- ---- one more block
+
+index_before : (xs ys : List ℕ) (i : ℕ) → i < length xs → slice_index_or (xs ++ ys) i 0 ≡ slice_index_or xs i 0
+index_before [] ys i h = absurd (omega arith)
+index_before (x ∷ xs) ys zero h = refl
+index_before (x ∷ xs) ys (suc i) h = index_before xs ys i (omega arith)
+
+pub held_grown : (xs ys : List ℕ) (l : List Region) → AreHeld xs l → AreHeld (xs ++ ys) l
+held_grown xs ys [] held = tt
+held_grown xs ys (r ∷ l) held =
+    let count = length-append xs ys in
+    (omega (arith, held.0, count), index_before xs ys r.block held.0 ∙ held.1, held_grown xs ys l held.2)
+
+-- ---- one region more or less
+
+pub held_with : (xs : List ℕ) (r : Region) (l : List Region) → HasBlock xs r → AreHeld xs l → AreHeld xs (with_region r l)
+held_with xs r [] here held = (here.0, here.1, tt)
+held_with xs r (s ∷ l) here held =
+    elim (nat_lt r.start s.start) as (λ b. AreHeld xs (if b then r ∷ s ∷ l else s ∷ with_region r l)) [
+      | true ↦ (here.0, here.1, held)
+      | false ↦ (held.0, held.1, held_with xs r l here held.2)
+    ]
+
+pub held_without : (xs : List ℕ) (base size : ℕ) (l : List Region) → AreHeld xs l → AreHeld xs (without_region base size l)
+held_without xs base size [] held = tt
+held_without xs base size (r ∷ l) held =
+    elim (not (is_region base size r)) as (λ b. AreHeld xs (cond b (r ∷ without_region base size l) (without_region base size l))) [
+      | true ↦ (held.0, held.1, held_without xs base size l held.2)
+      | false ↦ held_without xs base size l held.2
+    ]
+
+or_false : (b : Bool) → (false || b) ≡ b
+or_false b = refl
+
+pub found_any : {X : Type 0} (p : X → Bool) (l : List X) (x : X) → find p l ≡ Some x → list_any p l ≡ true
+found_any p [] x e = absurd (cc)
+found_any p (y ∷ l) x e =
+    elim (p y) as (λ b. (if b then Some y else find p l) ≡ Some x → (b || list_any p l) ≡ true) [
+      | true ↦ λ here. refl
+      | false ↦ λ more. found_any p l x more
+    ] e
+
+pub found_none : {X : Type 0} (p : X → Bool) (l : List X) → find p l ≡ None → list_any p l ≡ false
+found_none p [] e = refl
+found_none p (y ∷ l) e =
+    elim (p y) as (λ b. (if b then Some y else find p l) ≡ None → (b || list_any p l) ≡ false) [
+      | true ↦ λ here. absurd (cc)
+      | false ↦ λ more. found_none p l more
+    ] e
+
+-- ---- known blocks
+
+pub block_there : (blocks : List Block) (i : ℕ) (b : Block) → slice_get blocks i ≡ Some b → (i < length (lengths (host_of blocks))) × (slice_index_or (lengths (host_of blocks)) i 0 ≡ length b.bytes)
+block_there [] i b e = absurd (cc)
+block_there (x ∷ blocks) zero b e =
+    let same : x ≡ b = cc in
+    (omega arith, ap (λ (y : Block). length y.bytes) same)
+block_there (x ∷ blocks) (suc i) b e =
+    let more = block_there blocks i b e in
+    (omega (arith, more.0), more.1)
+
+known_of : (blocks : List Block) (i n : ℕ) → i < length (lengths (host_of blocks)) → slice_index_or (lengths (host_of blocks)) i 0 ≡ n → has_len n (slice_get blocks i) ≡ true
+known_of [] i n h e = absurd (omega arith)
+known_of (x ∷ blocks) zero n h e = grind (arith, nat_tests)
+known_of (x ∷ blocks) (suc i) n h e = known_of blocks i n (omega arith) e
+
+has_of : (blocks : List Block) (i n : ℕ) → has_len n (slice_get blocks i) ≡ true → (i < length (lengths (host_of blocks))) × (slice_index_or (lengths (host_of blocks)) i 0 ≡ n)
+has_of [] i n e = absurd (cc)
+has_of (x ∷ blocks) zero n e = (omega arith, eqb-true _ _ e)
+has_of (x ∷ blocks) (suc i) n e =
+    let more = has_of blocks i n e in
+    (omega (arith, more.0), more.1)
+
+pub all_known : (blocks : List Block) (l : List Region) → AreHeld (lengths (host_of blocks)) l → list_all (is_known (host_of blocks)) l ≡ true
+all_known blocks [] held = refl
+all_known blocks (r ∷ l) held = rw (known_of blocks r.block r.size held.0 held.1, all_known blocks l held.2) refl
+
+both : (a b : Bool) → (a && b) ≡ true → (a ≡ true) × (b ≡ true)
+both true b e = (refl, e)
+both false b e = absurd (cc)
+
+all_held : (blocks : List Block) (l : List Region) → list_all (is_known (host_of blocks)) l ≡ true → AreHeld (lengths (host_of blocks)) l
+all_held blocks [] known = tt
+all_held blocks (r ∷ l) known =
+    let parts = both _ _ known in
+    let here = has_of blocks r.block r.size parts.0 in
+    (here.0, here.1, all_held blocks l parts.1)
+
+pub not_known : (blocks : List Block) (l : List Region) → (AreHeld (lengths (host_of blocks)) l → ⊥) → list_all (is_known (host_of blocks)) l ≡ false
+not_known blocks l none =
+    elim (list_all (is_known (host_of blocks)) l) as (λ b. list_all (is_known (host_of blocks)) l ≡ b → b ≡ false) [
+      | true ↦ λ known. absurd (none (all_held blocks l known))
+      | false ↦ λ known. refl
+    ] refl
+
+-- ---- a layout's regions fit, and are apart
+
+pub all_fit : (l : List Region) → IsLayout l → list_all fits l ≡ true
+all_fit [] is = refl
+all_fit (r ∷ l) is =
+    let end : r.start + r.size ≤ 2 ^ 64 = is.1 in
+    let here : fits r ≡ true = grind (arith, nat_tests) in
+    rw (here, all_fit l is.3) refl
+
+above_all : (l : List Region) (r : Region) (e : ℕ) → AllFrom e l → r.start + r.size ≤ e → list_any (overlap r) l ≡ false
+above_all [] r e from h = refl
+above_all (x ∷ l) r e from h =
+    let low : e ≤ x.start = from.0 in
+    let here : overlap r x ≡ false = grind (arith, nat_tests) in
+    rw (here, above_all l r e from.1 h)
+
+pub all_apart : (l : List Region) → IsLayout l → some_overlap l ≡ false
+all_apart [] is = refl
+all_apart (r ∷ l) is = rw (above_all l r (r.start + r.size) is.2 (omega arith), all_apart l is.3) refl

@@ -1,0 +1,74 @@
+//! What a machine does to its blocks and its layout.
+
+ghost use Rattle.std.specs.Prelude.{◌≡◌};
+ghost use Rattle.fs_device.specs.Run.{Performs, NewBlock, InsertRegion, RemoveRegion, SetLayout};
+ghost use Rattle.fs_device.specs.Running.{answer_of};
+ghost use Rattle.fs_device.specs.Machines.{machine_of};
+
+use crate::command::Answer;
+use crate::machine::Machine;
+use crate::refusal::Refusal;
+use fuse_fs::FileSystem;
+use std::alloc::Global;
+use std::sync::Arc;
+use vm_memory::{GuestMemoryMmap, GuestRegionCollectionError, GuestRegionMmap, MmapRegion};
+use vm_memory_core::GuestAddress;
+
+impl<F: FileSystem> Machine<F> {
+    pub(crate) fn new_block(&mut self, len: usize) -> Answer
+        ensures { Performs F.may (machine_of self.old) (NewBlock len) (answer_of result) (machine_of self.new) }
+    {
+        if len == 0 {
+            return Answer::Refused(Refusal::EmptyBlock);
+        }
+        match self.host.new_block(len) {
+            Ok(number) => Answer::Block(number),
+            Err(_) => Answer::Refused(Refusal::OutOfMemory),
+        }
+    }
+
+    pub(crate) fn insert_region(&mut self, alloc: Global, base: u64, block: usize) -> Answer
+        ensures { Performs F.may (machine_of self.old) (InsertRegion base block) (answer_of result) (machine_of self.new) }
+    {
+        let Some(region) = MmapRegion::of_block(&self.host, block) else {
+            return Answer::Refused(Refusal::UnknownBlock);
+        };
+        let Some(region) = GuestRegionMmap::new(region, GuestAddress(base)) else {
+            return Answer::Refused(Refusal::BadRegion);
+        };
+        let Ok(region) = Arc::new(alloc, region) else {
+            return Answer::Refused(Refusal::OutOfMemory);
+        };
+        match self.mem.insert_region(region) {
+            Ok(layout) => {
+                self.mem = layout;
+                Answer::Done
+            }
+            Err(GuestRegionCollectionError::MemoryRegionOverlap) => Answer::Refused(Refusal::Overlap),
+            Err(_) => Answer::Refused(Refusal::OutOfMemory),
+        }
+    }
+
+    pub(crate) fn remove_region(&mut self, base: u64, size: u64) -> Answer
+        ensures { Performs F.may (machine_of self.old) (RemoveRegion base size) (answer_of result) (machine_of self.new) }
+    {
+        match self.mem.remove_region(GuestAddress(base), size) {
+            Ok((layout, _)) => {
+                self.mem = layout;
+                Answer::Done
+            }
+            Err(GuestRegionCollectionError::NoMemoryRegion) => Answer::Refused(Refusal::NoRegion),
+            Err(_) => Answer::Refused(Refusal::OutOfMemory),
+        }
+    }
+
+    pub(crate) fn set_layout(&mut self, layout: GuestMemoryMmap) -> Answer
+        ensures { Performs F.may (machine_of self.old) (SetLayout layout) (answer_of result) (machine_of self.new) }
+    {
+        if !self.host.holds(&layout) {
+            return Answer::Refused(Refusal::UnknownBlock);
+        }
+        self.mem = layout;
+        Answer::Done
+    }
+}
