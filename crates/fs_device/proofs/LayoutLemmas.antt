@@ -1,12 +1,21 @@
 -- blocks and layouts that change under a machine
-use Rattle.std.proofs.Common.{◌≡◌, ℕ, zero, suc, Bool, true, false, ◌+◌, ◌<◌, ◌≤◌, ◌^◌, List, [], ◌∷◌, ◌++◌, length, map, ap, sym, ◌∙◌, refl, arith, eqb, Option, Some, None, length-append}
-use Rattle.std.specs.Prelude.{◌&&◌, ◌||◌, not, nat_lt, cond, find, slice_get, slice_index_or, if◌then◌else◌}
+use Rattle.std.proofs.Common.{◌≡◌, ℕ, zero, suc, Bool, true, false, ◌+◌, ◌<◌, ◌≤◌, ◌^◌, List, [], ◌∷◌, ◌++◌, length, map, ap, sym, ◌∙◌, refl, arith, eqb, Option, Some, None, length-append, subst}
+use Rattle.std.specs.declared.alloc.AllocError.{AllocError}
+use Rattle.std.specs.Result.{IfOk, OnErr}
+use Rattle.std.proofs.lemmas.List.{map-append}
+use Rattle.std.specs.Prelude.{option_map, Result, Ok, Err, replicate, ◌==◌, ◌&&◌, ◌||◌, not, nat_lt, cond, find, slice_get, slice_index_or, if◌then◌else◌}
 use Rattle.std.specs.List.{list_all, list_any}
 use Rattle.std.proofs.lemmas.Bool.{eqb-true}
 use Rattle.std.proofs.lemmas.Bool.Decides.{nat_tests}
 use Rattle.vm_memory_core.specs.Host.{Block, host_of, lengths}
 use Rattle.vm_memory.specs.Layout.{Region, fits, overlap, with_region, is_region, without_region, AllFrom, IsLayout, AreHeld}
-use Rattle.fs_device.specs.Run.{is_known, has_len, some_overlap}
+use Rattle.vm_bitmaps.specs.Pages.{pages_of}
+use Rattle.vm_memory_core.specs.Host.{page_count}
+use Rattle.vm_memory.specs.Layout.{Backing}
+use Rattle.vm_memory.specs.Making.{backing_at, region_over}
+use Rattle.fs_device.specs.declared.refusal.Refusal.TheVariants as why
+use Rattle.fs_device.specs.Step.{State}
+use Rattle.fs_device.specs.Run.{is_known, has_len, some_overlap, insert_block, insert, no}
 
 -- the host's blocks with a region's
 abbrev pub HasBlock : List ℕ → Region → Type 0
@@ -24,6 +33,22 @@ held_grown xs ys [] held = tt
 held_grown xs ys (r ∷ l) held =
     let count = length-append xs ys in
     (omega (arith, held.0, count), index_before xs ys r.block held.0 ∙ held.1, held_grown xs ys l held.2)
+
+-- the blocks hold the layout as before, whether or not there is one more
+pub kept : (count : ℕ → ℕ) (n : ℕ) (old new : List Block) (l : List Region) (made : Result ℕ AllocError) →
+    IfOk made (λ number. new ≡ old ++ record { bytes = replicate n 0; marks = replicate (count n) false } ∷ []) → OnErr made (new ≡ old) →
+    AreHeld (lengths (host_of old)) l → AreHeld (lengths (host_of new)) l
+kept count n old new l (Ok number) ok err held =
+    let block : Block = record { bytes = replicate n 0; marks = replicate (count n) false } in
+    let more : lengths (host_of new) ≡ lengths (host_of old) ++ length block.bytes ∷ [] = ap (map (λ (b : Block). length b.bytes)) ok ∙ map-append (λ (b : Block). length b.bytes) old (block ∷ []) in
+    subst (λ (xs : List ℕ). AreHeld xs l) (sym more) (held_grown (lengths (host_of old)) (length block.bytes ∷ []) l held)
+kept count n old new l (Err e) ok err held = subst (λ (bs : List Block). AreHeld (lengths (host_of bs)) l) (sym err) held
+
+pub page_count-is : (n : ℕ) → pages_of 4096 n ≡ page_count n
+page_count-is n = omega arith
+
+pub no_bytes : (n : ℕ) → (n ≡ 0 → ⊥) → (n == 0) ≡ false
+no_bytes n some = grind (arith, nat_tests)
 
 -- ---- one region more or less
 
@@ -106,6 +131,59 @@ not_known blocks l none =
       | true ↦ λ known. absurd (none (all_held blocks l known))
       | false ↦ λ known. refl
     ] refl
+
+-- ---- a region over a block
+
+abbrev pub over : ℕ → Backing → Region
+over base m = record { start = base; size = m.size; block = m.block }
+
+abbrev with_number : ℕ → Block → Backing
+with_number block b = record { size = length b.bytes; block = block }
+
+unknown_in : {F : Type 0} (s : State F) (base block : ℕ) (o : Option Block) → None ≡ option_map (with_number block) o → insert_block s base block o ≡ no why.UnknownBlock s
+unknown_in s base block None e = refl
+unknown_in s base block (Some b) e = absurd (cc)
+
+-- no block of this number
+pub unknown : {F : Type 0} (s : State F) (base block : ℕ) → None ≡ backing_at s.memory.host.blocks block → insert_block s base block (slice_get s.memory.host.blocks block) ≡ no why.UnknownBlock s
+unknown s base block e = unknown_in s base block (slice_get s.memory.host.blocks block) e
+
+known_in : {F : Type 0} (s : State F) (base block : ℕ) (m : Backing) (o : Option Block) → Some m ≡ option_map (with_number block) o → insert_block s base block o ≡ insert s (over base m)
+known_in s base block m None e = absurd (cc)
+known_in s base block m (Some b) e =
+    let same : with_number block b ≡ m = cc in
+    ap (λ (k : Backing). insert s (over base k)) same
+
+-- the block of this number
+pub known : {F : Type 0} (s : State F) (base block : ℕ) (m : Backing) → Some m ≡ backing_at s.memory.host.blocks block → insert_block s base block (slice_get s.memory.host.blocks block) ≡ insert s (over base m)
+known s base block m e = known_in s base block m (slice_get s.memory.host.blocks block) e
+
+-- its last address doesn't fit
+pub past_end : (base : ℕ) (m : Backing) → None ≡ region_over m base → fits (over base m) ≡ false
+past_end base m e =
+    elim (fits (over base m)) as (λ b. None ≡ (if b then Some (over base m) else None) → b ≡ false) [
+      | true ↦ λ none. absurd (cc)
+      | false ↦ λ none. refl
+    ] e
+
+-- its last address fits
+pub within : (base : ℕ) (m : Backing) (r : Region) → Some r ≡ region_over m base → (fits (over base m) ≡ true) × (over base m ≡ r)
+within base m r e =
+    elim (fits (over base m)) as (λ b. Some r ≡ (if b then Some (over base m) else None) → (b ≡ true) × (over base m ≡ r)) [
+      | true ↦ λ some. (refl, cc)
+      | false ↦ λ some. absurd (cc)
+    ] e
+
+has_in : (blocks : List Block) (block : ℕ) (m : Backing) (o : Option Block) → slice_get blocks block ≡ o → Some m ≡ option_map (with_number block) o →
+    (m.block < length (lengths (host_of blocks))) × (slice_index_or (lengths (host_of blocks)) m.block 0 ≡ m.size)
+has_in blocks block m None there e = absurd (cc)
+has_in blocks block m (Some b) there e =
+    let same : with_number block b ≡ m = cc in
+    subst (λ (k : Backing). (k.block < length (lengths (host_of blocks))) × (slice_index_or (lengths (host_of blocks)) k.block 0 ≡ k.size)) same (block_there blocks block b there)
+
+pub has_block : (blocks : List Block) (base block : ℕ) (m : Backing) (r : Region) → Some m ≡ backing_at blocks block → Some r ≡ region_over m base → HasBlock (lengths (host_of blocks)) r
+has_block blocks base block m r there e =
+    subst (HasBlock (lengths (host_of blocks))) (within base m r e).1 (has_in blocks block m (slice_get blocks block) refl there)
 
 -- ---- a layout's regions fit, and are apart
 

@@ -1,0 +1,42 @@
+use Rattle.std.proofs.Common.{◌≡◌, ◌∙◌, ap, sym, refl, subst}
+use Rattle.vm_memory_core.specs.Host.{host_of, lengths}
+use Rattle.vm_memory.specs.Layout.{AreHeld}
+use Rattle.fs_device.specs.Run.{effect}
+use Rattle.fs_device.specs.Machines.{machine_of}
+use Rattle.fs_device.proofs.LayoutLemmas.{HasBlock, held_with, unknown, known, past_end, within, has_block}
+use Rattle.fs_device.proofs.machine.Machine.insert_region.Goals as goal
+
+pub returns-in_default : goal.returns-in_default
+unfolding effect
+returns-in_default g c = sym (unknown (machine_of c.args.self.now) c.args.base c.args.block c.in_default.ensures)
+
+pub returns-in_default-new : goal.returns-in_default-new
+unfolding effect
+returns-in_default-new g c =
+    let m = c.in-Some.region in
+    rw (known (machine_of c.args.self.now) c.args.base c.args.block m c.in-Some.ensures, past_end c.args.base m c.in_default-new.ensures) refl
+
+pub invariant_of-self : goal.invariant_of-self
+invariant_of-self g c =
+    let r = c.in-Ok.region.value in
+    let new : r ≡ c.in-Some-new.region = c.in-Ok.ensures.ok in
+    let there = lengths (host_of c.args.self.now.host) in
+    let here = subst (HasBlock there) (sym new) (has_block c.args.self.now.host c.args.base c.args.block c.in-Some.region c.in-Some-new.region c.in-Some.ensures c.in-Some-new.ensures) in
+    record { held = subst (AreHeld there) (sym c.in-Ok-insert_region.ensures.1) (held_with there r c.args.self.now.mem here c.args.self.now.held); }
+
+pub returns-in-Ok-insert_region : goal.returns-in-Ok-insert_region
+unfolding effect
+returns-in-Ok-insert_region g c =
+    let m = c.in-Some.region in
+    let new = c.in-Ok.ensures.ok in
+    let is = within c.args.base m c.in-Some-new.region c.in-Some-new.ensures in
+    rw (known (machine_of c.args.self.now) c.args.base c.args.block m c.in-Some.ensures, is.0, is.1, ← new, c.in-Ok-insert_region.ensures.0, c.in-Ok-insert_region.ensures.1) refl
+
+pub returns-in-Err-MemoryRegionOverlap : goal.returns-in-Err-MemoryRegionOverlap
+unfolding effect
+returns-in-Err-MemoryRegionOverlap g c =
+    let m = c.in-Some.region in
+    let new = c.in-Ok.ensures.ok in
+    let is = within c.args.base m c.in-Some-new.region c.in-Some-new.ensures in
+    let common = rw c.in-Err-MemoryRegionOverlap.field-0-is at c.in-Err-MemoryRegionOverlap.ensures in
+    rw (known (machine_of c.args.self.now) c.args.base c.args.block m c.in-Some.ensures, is.0, is.1, ← new, common) refl
