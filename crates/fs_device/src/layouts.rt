@@ -44,7 +44,9 @@ impl<F: FileSystem> Machine<F> {
                 self.mem = layout;
                 Answer::Done
             }
-            Err(GuestRegionCollectionError::MemoryRegionOverlap) => Answer::Refused(Refusal::Overlap),
+            Err(GuestRegionCollectionError::MemoryRegionOverlap) => Answer::Refused(
+                Refusal::Overlap,
+            ),
             Err(_) => Answer::Refused(Refusal::OutOfMemory),
         }
     }

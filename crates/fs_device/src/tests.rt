@@ -16,6 +16,7 @@ use virtiofsd_fuse::Server;
 use vm_memory::GuestMemoryMmap;
 use vm_memory_core::{GuestAddress, HostMemory, PageBitmap, Permissions};
 
+mod layouts;
 mod requests;
 
 type Host = HostMemory<PageBitmap>;

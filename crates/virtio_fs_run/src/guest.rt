@@ -4,14 +4,13 @@ ghost use Rattle.std.specs.Prelude.{◌≤◌, length};
 
 use crate::calls::CallLog;
 use crate::files::Files;
-use crate::refusal::RegionRefusal;
 use fs_device::{Answer, Command, Device, HarvestedPage, Machine};
 use fs_queue::Queue;
 use std::alloc::{AllocError, Global};
 use std::cell::Cell;
 use virtiofsd_fuse::Server;
-use vm_memory::{FromRangesError, GuestMemoryMmap};
-use vm_memory_core::{GuestAddress, HostMemory};
+use vm_memory::GuestMemoryMmap;
+use vm_memory_core::HostMemory;
 
 // The longest request, and the longest reply.
 const LIMIT: u32 = 0x101000;
@@ -19,13 +18,12 @@ const LIMIT: u32 = 0x101000;
 // How many bytes a page of the guest has.
 const PAGE_BYTES: u32 = 4096;
 
-/// A guest and the device that serves it. So far at most one region.
+/// A guest and the device that serves it.
 #[derive(Drop)]
 pub struct Guest<'a> {
     alloc: Global,
     log: &'a Cell<CallLog>,
     machine: Machine<Files<'a>>,
-    has_region: bool,
 }
 
 impl<'a> Guest<'a> {
@@ -42,37 +40,12 @@ impl<'a> Guest<'a> {
             alloc,
             log,
             machine: Machine::new(host, mem, device),
-            has_region: false,
         }
     }
 
     /// Whether there is a queue of this number.
     pub fn has_queue(&self, queue: usize) -> bool {
         self.machine.device.queue(queue).is_some()
-    }
-
-    /// Whether the guest has memory.
-    pub fn has_region(&self) -> bool {
-        self.has_region
-    }
-
-    /// Makes a region over a new block the guest's memory, and answers the block's number.
-    #[tactic(auto, using(crate::proofs::Holding::held_after_making))]
-    pub fn set_region(&mut self, base: u64, size: u64) -> Result<usize, RegionRefusal> {
-        let machine = &mut self.machine;
-        let block = machine.host.block_count();
-        let ranges = [(GuestAddress(base), size as usize)];
-        match GuestMemoryMmap::from_ranges(self.alloc, &mut machine.host, &ranges) {
-            Ok(mem) => {
-                machine.mem = mem;
-                self.has_region = true;
-                Ok(block)
-            }
-            Err(FromRangesError::Collection(_)) => Err(RegionRefusal::Overlap),
-            Err(FromRangesError::MmapRegion(_)) => Err(RegionRefusal::EmptyBlock),
-            Err(FromRangesError::InvalidGuestRegion) => Err(RegionRefusal::BadRegion),
-            Err(FromRangesError::OutOfMemory) => Err(RegionRefusal::OutOfMemory),
-        }
     }
 
     /// Does one command of the machine.

@@ -28,6 +28,10 @@ pub enum Line {
     Queue(AskedLayout),
     /// A region of guest memory over a new block.
     Region { base: u64, size: u64 },
+    /// A region over all of a block that there is.
+    Alias { base: u64, block: u64 },
+    /// The region of this base and size goes.
+    Unregion { base: u64, size: u64 },
     /// The guest writes these bytes.
     Write { addr: u64, bytes: Vec<u8> },
     /// The guest reads that many bytes.
@@ -114,6 +118,14 @@ fn parse_numbers(name: &[u8], words: &mut Words<'_>) -> Option<Line> {
     let line = match name {
         b"queue" => Line::Queue(words.next_layout()?),
         b"region" => Line::Region {
+            base: words.next_number()?,
+            size: words.next_number()?,
+        },
+        b"alias" => Line::Alias {
+            base: words.next_number()?,
+            block: words.next_number()?,
+        },
+        b"unregion" => Line::Unregion {
             base: words.next_number()?,
             size: words.next_number()?,
         },

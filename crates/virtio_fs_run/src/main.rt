@@ -10,7 +10,6 @@ mod halt;
 mod line;
 mod number;
 mod print;
-mod refusal;
 mod script;
 mod session;
 #[cfg(test)]

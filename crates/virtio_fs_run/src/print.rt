@@ -27,8 +27,8 @@ pub fn print_refused<W: Write>(writer: &mut W, number: u8) -> io::Result<()> {
     writeln!(writer, "refused {number}")
 }
 
-/// The block of a region.
-pub fn print_block<W: Write>(writer: &mut W, block: usize) -> io::Result<()> {
+// The block of a region.
+fn print_block<W: Write>(writer: &mut W, block: usize) -> io::Result<()> {
     writeln!(writer, "block {block}")
 }
 
@@ -148,6 +148,7 @@ pub fn print_answer<W: Write>(writer: &mut W, answer: &Answer) -> io::Result<()>
     match answer {
         Answer::Done => print_ok(writer),
         Answer::Bytes(bytes) => print_bytes(writer, bytes),
+        Answer::Block(block) => print_block(writer, *block),
         Answer::Served(run) => print_run(writer, run),
         Answer::Refused(refusal) => print_refused(writer, refusal.number()),
     }

@@ -7,8 +7,7 @@ use crate::guest::Guest;
 use crate::halt::Halt;
 use crate::line::{AskedLayout, Line};
 use crate::print::{
-    print_answer, print_bad_layout, print_block, print_calls, print_idle, print_ok, print_pages,
-    print_refused,
+    print_answer, print_bad_layout, print_calls, print_idle, print_ok, print_pages, print_refused,
 };
 use fs_device::{Answer, Command, DeviceError, Refusal};
 use fs_queue::Queue;
@@ -91,11 +90,13 @@ fn run_on<W: Write>(
 ) -> Result<(), Halt> {
     match line {
         Line::Queue(_) => return Err(Halt::NotACommand(number)),
-        Line::Region { base, size } => {
-            if guest.has_region() {
-                return Err(Halt::NotACommand(number));
-            }
-            set_region(guest, base, size, writer)?;
+        Line::Region { base, size } => region(guest, base, size, writer)?,
+        Line::Alias { base, block } => {
+            let block = block as usize;
+            perform(guest, Command::InsertRegion { base, block }, writer)?;
+        }
+        Line::Unregion { base, size } => {
+            perform(guest, Command::RemoveRegion { base, size }, writer)?;
         }
         Line::Write { addr, bytes } => {
             perform(guest, Command::GuestWrite { addr, bytes }, writer)?;
@@ -111,16 +112,24 @@ fn run_on<W: Write>(
     Ok(())
 }
 
-fn set_region<W: Write>(
+// Makes a block and a region over all of it. Where the region is refused the block stays.
+fn region<W: Write>(
     guest: &mut Guest<'_>,
     base: u64,
     size: u64,
     writer: &mut W,
-) -> io::Result<()> {
-    match guest.set_region(base, size) {
-        Ok(block) => print_block(writer, block),
-        Err(refusal) => print_refused(writer, refusal.number()),
-    }
+) -> Result<(), Halt> {
+    let len = size as usize;
+    let made = guest.perform(Command::NewBlock { len })?;
+    let answer = match made {
+        Answer::Block(block) => match guest.perform(Command::InsertRegion { base, block })? {
+            Answer::Done => made,
+            refused => refused,
+        },
+        refused => refused,
+    };
+    print_answer(writer, &answer)?;
+    Ok(())
 }
 
 // Does one command of the machine, and prints its answer.

@@ -137,8 +137,8 @@ fn runs_lines_in_order(rt: HostRuntime) -> Result<(), Fail> {
         ),
         (
             b"queue 4 0 0x100 0x200\nregion 0 0xffffffffffffffff\nregion 0 0\nregion 0xffffffffffffffff 2\nregion 4096 0x1000\nregion 0 1\n",
-            b"ok\nrefused 9\nrefused 2\nrefused 4\nblock 1\nline 6: not a command\n",
-            1,
+            b"ok\nrefused 9\nrefused 2\nrefused 4\nblock 1\nblock 2\n",
+            0,
         ),
         (
             b"queue 4 0 0x100 0x200\nregion 0xfffffffffffff000 0x1000\nwrite 0xfffffffffffffffc aBcD09\nread 0xfffffffffffffffc 3\nread 0xfffffffffffffffc 4\nread 0xffffffffffffefff 2\nharvest\nharvest",
@@ -152,6 +152,32 @@ fn runs_lines_in_order(rt: HostRuntime) -> Result<(), Fail> {
         assert_eq!(rt; ended, status);
     }
     Ok(())
+}
+
+#[test]
+fn lays_out_blocks_in_many_regions(rt: HostRuntime) {
+    let script = b"queue 4 0 0x100 0x200\n\
+        region 0 0x1000\n\
+        region 0x1000 0x1000\n\
+        region 0xfff 2\n\
+        alias 0x10000 0\n\
+        alias 0x20000 9\n\
+        alias 0xffffffffffffffff 2\n\
+        write 0xffe 01020304\n\
+        read 0x10ffe 2\n\
+        read 0x10ffe 3\n\
+        unregion 0x1000 0xfff\n\
+        unregion 0x1000 0x1000\n\
+        read 0x1000 2\n\
+        alias 0x11000 1\n\
+        read 0x10ffe 4\n\
+        harvest\n";
+    let (printed, status) = run(rt.alloc(), script);
+    let want = b"ok\nblock 0\nblock 1\nrefused 5\nok\nrefused 3\nrefused 4\nok\n\
+        bytes 0102\nrefused 1\nrefused 6\nok\nrefused 1\nok\nbytes 01020304\n\
+        page 0 0\npage 1 0\n";
+    assert_eq!(rt; printed.as_slice(), want.as_slice());
+    assert_eq!(rt; status, 0);
 }
 
 #[test]
@@ -186,7 +212,7 @@ fn refuses_what_is_no_command(rt: HostRuntime) -> Result<(), Fail> {
         b"write 0 0x00",
         b"write 0 00 00",
         b"move",
-        b"alias 0 0",
+        b"alias 0",
         b"reset 0 4 0 0x100",
         b"map 0 0 1 r",
         b"iommu on",

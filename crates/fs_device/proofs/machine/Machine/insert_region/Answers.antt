@@ -22,7 +22,7 @@ invariant_of-self g c =
     let new : r ≡ c.in-Some-new.region = c.in-Ok.ensures.ok in
     let there = lengths (host_of c.args.self.now.host) in
     let here = subst (HasBlock there) (sym new) (has_block c.args.self.now.host c.args.base c.args.block c.in-Some.region c.in-Some-new.region c.in-Some.ensures c.in-Some-new.ensures) in
-    record { held = subst (AreHeld there) (sym c.in-Ok-insert_region.ensures.1) (held_with there r c.args.self.now.mem here c.args.self.now.held); }
+    record { held = subst (AreHeld there) (sym c.in-Ok-insert_region.ensures.1) (held_with there r c.args.self.now.mem here c.args.self.now.held) }
 
 pub returns-in-Ok-insert_region : goal.returns-in-Ok-insert_region
 unfolding effect

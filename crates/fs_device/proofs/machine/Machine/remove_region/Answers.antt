@@ -8,7 +8,7 @@ use Rattle.fs_device.proofs.machine.Machine.remove_region.Goals as goal
 pub invariant_of-self : goal.invariant_of-self
 invariant_of-self g c =
     let there = lengths (host_of c.args.self.now.host) in
-    record { held = subst (AreHeld there) (sym c.in-Ok.ensures.1) (held_without there c.args.base c.args.size c.args.self.now.mem c.args.self.now.held); }
+    record { held = subst (AreHeld there) (sym c.in-Ok.ensures.1) (held_without there c.args.base c.args.size c.args.self.now.mem c.args.self.now.held) }
 
 pub returns-in-Ok : goal.returns-in-Ok
 unfolding effect
