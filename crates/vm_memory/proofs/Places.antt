@@ -92,14 +92,14 @@ length-addresses (suc n) a = ap suc (length-addresses n (a + 1))
 pub length-circular : (n a : ℕ) → length (circular a n) ≡ n
 length-circular n a = length-map (addresses a n) (λ x. x % 2 ^ 64) ∙ length-addresses n a
 
-circular-append : (m n a : ℕ) → circular a (m + n) ≡ circular a m ++ circular (a + m) n
+pub circular-append : (m n a : ℕ) → circular a (m + n) ≡ circular a m ++ circular (a + m) n
 circular-append m n a = ap (map (λ x. x % 2 ^ 64)) (addresses-append m n a) ∙ map-append (λ x. x % 2 ^ 64) (addresses a m) (addresses (a + m) n)
 
 next_low : (a x : ℕ) → x ≡ a % 2 ^ 64 → x + 1 < 2 ^ 64 → x + 1 ≡ (a + 1) % 2 ^ 64
 next_low a x e h = omega arith
 
 -- below 2^64 one address comes after the other
-circular-low : (n a x : ℕ) → x ≡ a % 2 ^ 64 → x + n ≤ 2 ^ 64 → circular a n ≡ addresses x n
+pub circular-low : (n a x : ℕ) → x ≡ a % 2 ^ 64 → x + n ≤ 2 ^ 64 → circular a n ≡ addresses x n
 unfolding addresses
 circular-low zero a x e h = refl
 circular-low (suc zero) a x e h = ap (λ y. y ∷ []) (sym e)
@@ -129,7 +129,7 @@ unfolding located
 located-append [] ys f ps e = let none : [] ≡ ps = cc in rw (← none) (after-nil (located f ys))
 located-append (x ∷ xs) ys f ps e = located_step (f x) (located f xs) _ _ ps e (λ qs h. located-append xs ys f qs h)
 
-parts : (o : Option Place) (r : Option (List Place)) (ps : List Place) →
+pub parts : (o : Option Place) (r : Option (List Place)) (ps : List Place) →
     option_and_then (λ (p : Place). option_map (λ (qs : List Place). p ∷ qs) r) o ≡ Some ps →
     (p : Place) × (qs : List Place) × (o ≡ Some p) × (r ≡ Some qs) × (ps ≡ p ∷ qs)
 parts None r ps e = absurd (cc)
@@ -310,7 +310,7 @@ find_end f addr done len old h = ap (λ (l : List ℕ). after old (located f l))
 
 -- ---- what such a loop has read or written
 
-take_circular : (addr done len : ℕ) → done ≤ len → take done (circular addr len) ≡ circular addr done
+pub take_circular : (addr done len : ℕ) → done ≤ len → take done (circular addr len) ≡ circular addr done
 take_circular addr done len h =
     let count : len ≡ done + (len - done) = omega arith in
     ap (λ k. take done (circular addr k)) count ∙ ap (take done) (circular-append done (len - done) addr) ∙ take_at (circular addr done) (circular (addr + done) (len - done)) done (length-circular done addr)

@@ -1,5 +1,5 @@
 -- Which place a guest's physical address has: a partial function, given by regions.
-use Rattle.std.specs.Prelude.{ℕ, zero, suc, ◌≡◌, ◌+◌, ◌-◌, ◌<◌, ◌≤◌, ◌^◌, Bool, ◌&&◌, not, nat_le, nat_lt, ◌==◌, List, [], ◌∷◌, length, map, Option, Some, None, if◌then◌else◌, slice_index_or}
+use Rattle.std.specs.Prelude.{ℕ, zero, suc, ◌≡◌, ◌+◌, ◌-◌, ◌<◌, ◌≤◌, ◌^◌, Bool, ◌&&◌, not, nat_le, nat_lt, ◌==◌, List, [], ◌∷◌, length, map, Option, Some, None, if◌then◌else◌, slice_index_or, refl}
 use Rattle.std.specs.List.{filter}
 use Rattle.std.specs.Option.{option_or}
 use Rattle.std.specs.Arc.{arc_value}
@@ -34,6 +34,10 @@ place_in r a = if is_within r.start r.size a then Some (record { block = r.block
 unfoldable pub place : List Region → ℕ → Option Place
 place [] a = None
 place (r ∷ rs) a = option_or (place_in r a) (place rs a)
+
+-- layouts that are the same have an address at the same place
+pub place-same : (l m : List Region) (a : ℕ) → ◌≡◌ {A = Option (List Region)} (Some l) (Some m) → place l a ≡ place m a
+place-same l m a e = let same : l ≡ m = cc in rw same refl
 
 -- the region that has an address
 unfoldable pub region_at : List Region → ℕ → Option Region

@@ -5,3 +5,5 @@ pub mod Memory
 pub mod Backend
 pub mod Bytes
 pub mod Making
+pub mod Slices
+pub mod MemorySlices

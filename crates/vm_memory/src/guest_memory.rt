@@ -12,11 +12,11 @@ ghost use Rattle.vm_memory.specs.Memory.{memory_of, addresses, circular, located
 use crate::collection::GuestRegionCollection;
 use crate::error::{FromRangesError, GuestMemoryError};
 use crate::region::{GuestMemoryRegion, GuestRegionMmap};
+use crate::slice_iterator::window_at;
 use std::alloc::{AllocError, Global};
 use std::sync::Arc;
 use vm_memory_core::{
-    GuestAddress, HostMemory, MemoryRegionAddress, NewBitmap, Permissions, VolatileSlice, Windows,
-    put_at,
+    GuestAddress, HostMemory, NewBitmap, Permissions, VolatileSlice, Windows, put_at,
 };
 
 /// A guest's physical memory over blocks of the host (vm-memory's `GuestMemoryMmap`).
@@ -81,17 +81,7 @@ impl<R: GuestMemoryRegion> GuestRegionCollection<R> {
             × (located (place self.now) (addresses addr w.len) ≡ Some (places_of w))) }
         ensures held { (lengths : List ℕ) → AreHeld lengths self.now → IfSome result (LiesIn lengths) }
     {
-        match self.find(addr) {
-            Some(region) => {
-                let offset = addr - region.start_addr().0;
-                let len = (region.len() - offset).min(most as u64) as usize;
-                match region.get_slice(MemoryRegionAddress(offset), len) {
-                    Ok(window) => Some(window),
-                    Err(_) => None,
-                }
-            }
-            None => None,
-        }
+        window_at(self, addr, most)
     }
 
     // How many of `len` addresses from one on, where 0 comes after the greatest, have a place.

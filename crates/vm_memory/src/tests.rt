@@ -10,7 +10,8 @@ use crate::GuestRegionCollectionError::{
     MemoryRegionOverlap, NoMemoryRegion, UnsortedMemoryRegions,
 };
 use crate::{
-    GuestMemoryBackend, GuestMemoryMmap, GuestMemoryRegion, GuestRegionCollection, GuestRegionMmap,
+    GuestMemory, GuestMemoryBackend, GuestMemoryError, GuestMemoryMmap, GuestMemoryRegion,
+    GuestMemorySliceIterator, GuestMemorySlices, GuestRegionCollection, GuestRegionMmap,
     HostAddress, MmapRegionError,
 };
 use std::alloc::Global;
@@ -50,6 +51,48 @@ fn size_of_all<M: GuestMemoryBackend>(mem: &M) -> u64 {
         size = size.wrapping_add(region.len());
     }
     size
+}
+
+// The windows of some addresses, by the bound alone.
+fn slices_at<'a, M: GuestMemory>(
+    mem: &'a M,
+    host: &Host,
+    addr: u64,
+    count: usize,
+) -> Result<GuestMemorySlices<'a, M::PhysicalMemory>, GuestMemoryError> {
+    mem.get_slices(host, GuestAddress(addr), count, Permissions::Read)
+}
+
+// Whether some addresses have places, by the bound alone.
+fn are_there<M: GuestMemory>(mem: &M, host: &Host, addr: u64, count: usize) -> bool {
+    mem.check_range(host, GuestAddress(addr), count, Permissions::Write)
+}
+
+// A window's block, and its offset and length there.
+fn parts(window: VolatileSlice) -> (usize, usize, usize) {
+    (window.block(), window.block_offset(), window.len())
+}
+
+// The next window or error, by the bound alone.
+fn next_of<I: GuestMemorySliceIterator>(
+    slices: &mut I,
+) -> Option<Result<(usize, usize, usize), GuestMemoryError>> {
+    match slices.next() {
+        Some(Ok(window)) => Some(Ok(parts(window))),
+        Some(Err(error)) => Some(Err(error)),
+        None => None,
+    }
+}
+
+// The first window up to an error, by the bound alone.
+fn first_of<I: GuestMemorySliceIterator>(
+    slices: I,
+) -> Result<Option<(usize, usize, usize)>, GuestMemoryError> {
+    let mut windows = slices.stop_on_error()?;
+    match windows.next() {
+        Some(window) => Ok(Some(parts(window))),
+        None => Ok(None),
+    }
 }
 
 #[test]
@@ -263,5 +306,57 @@ fn regions_are_made(rt: HostRuntime) -> Result<(), Fail> {
     let whole = region.as_volatile_slice()?;
     assert_eq!(rt; (whole.block_offset(), whole.len()), (0, 0x1000));
     assert_eq!(rt; region.len(), 0x1000);
+    Ok(())
+}
+
+#[test]
+fn windows_come_in_order(rt: HostRuntime) -> Result<(), Fail> {
+    let (host, mem) = made(rt.alloc(), &TWO)?;
+    let mut slices = slices_at(&mem, &host, 0xffc, 5)?;
+    assert_eq!(rt; next_of(&mut slices), Some(Ok((0, 0xffc, 4))));
+    assert_eq!(rt; next_of(&mut slices), Some(Ok((1, 0, 1))));
+    assert_eq!(rt; next_of(&mut slices), None);
+    assert!(rt; are_there(&mem, &host, 0xffc, 5));
+    let mut none = slices_at(&mem, &host, 0x2000, 0)?;
+    assert_eq!(rt; next_of(&mut none), None);
+    assert!(rt; are_there(&mem, &host, 0x2000, 0));
+    assert_eq!(rt; mem.physical_memory().map(|m| m.num_regions()), Some(2));
+    Ok(())
+}
+
+#[test]
+fn the_first_address_without_a_place_is_an_error(rt: HostRuntime) -> Result<(), Fail> {
+    let (host, mem) = made(rt.alloc(), &TWO)?;
+    let missing = InvalidGuestAddress(GuestAddress(0x2000));
+    let mut slices = slices_at(&mem, &host, 0x1ffe, 5)?;
+    assert_eq!(rt; slices.next_error(), None);
+    assert_eq!(rt; next_of(&mut slices), Some(Ok((1, 0xffe, 2))));
+    assert_eq!(rt; slices.next_error(), Some(missing));
+    assert_eq!(rt; next_of(&mut slices), Some(Err(missing)));
+    assert_eq!(rt; next_of(&mut slices), None);
+    assert!(rt; !are_there(&mem, &host, 0x1ffe, 5));
+    let mut windows = slices_at(&mem, &host, 0x1ffe, 5)?.stop_on_error()?;
+    assert_eq!(rt; windows.next().map(parts), Some((1, 0xffe, 2)));
+    assert_eq!(rt; windows.next().map(parts), None);
+    let refused = slices_at(&mem, &host, 0x2000, 1)?.stop_on_error().err();
+    assert_eq!(rt; refused, Some(missing));
+    assert_eq!(rt; first_of(slices_at(&mem, &host, 0x2000, 1)?), Err(missing));
+    assert_eq!(rt; first_of(slices_at(&mem, &host, 0x2000, 0)?), Ok(None));
+    Ok(())
+}
+
+#[test]
+fn windows_go_on_at_0(rt: HostRuntime) -> Result<(), Fail> {
+    let ranges = [
+        (GuestAddress(0), 0x1000),
+        (GuestAddress(0xffff_ffff_ffff_f000), 0x1000),
+    ];
+    let (host, mem) = made(rt.alloc(), &ranges)?;
+    let mut slices = slices_at(&mem, &host, u64::MAX, 2)?;
+    assert_eq!(rt; next_of(&mut slices), Some(Ok((1, 0xfff, 1))));
+    assert_eq!(rt; next_of(&mut slices), Some(Ok((0, 0, 1))));
+    assert_eq!(rt; next_of(&mut slices), None);
+    assert!(rt; are_there(&mem, &host, u64::MAX, 2));
+    assert!(rt; !are_there(&mem, &host, u64::MAX, 0x1002));
     Ok(())
 }

@@ -1,0 +1,50 @@
+-- Windows of some addresses of guest memory, one after another.
+use Rattle.std.specs.Prelude.{◌≡◌, ℕ, ◌<◌, ◌≤◌, List, [], ◌∷◌, length, take, drop, Option, Some, None, if◌then◌else◌, is_some, Result, Ok, Err}
+use Rattle.vm_memory_core.specs.Host.{Place}
+use Rattle.vm_memory_core.specs.Window.{Window, places_of}
+use Rattle.vm_memory.specs.Layout.{Region, place}
+use Rattle.vm_memory.specs.Memory.{located, reached}
+use Rattle.vm_memory.specs.declared.error.GuestMemoryError.{GuestMemoryError}
+use Rattle.vm_memory.specs.declared.error.GuestMemoryError.TheVariants.{InvalidGuestAddress}
+
+-- where an address is, and the addresses whose windows are still to come
+pub record Slices : Type 0 where
+  pub where_is : ℕ → Option Place
+  pub left : List ℕ
+
+-- the same of physical addresses, which are where a layout says
+pub record PhysicalSlices : Type 0 where
+  pub layout : List Region
+  pub left : List ℕ
+
+abbrev pub slices_in : PhysicalSlices → Slices
+slices_in s = record { where_is = place s.layout; left = s.left }
+
+abbrev error_of : (ℕ → Option Place) → List ℕ → Option GuestMemoryError
+error_of where_is [] = None
+error_of where_is (a ∷ rest) = if is_some (where_is a) then None else Some (InvalidGuestAddress (record { 0 = a }))
+
+-- the error of the first of some addresses, if there is one and it has no place
+abbrev pub first_error : Slices → Option GuestMemoryError
+first_error s = error_of s.where_is s.left
+
+-- a window that is not empty, whose places are those of the first addresses, and what is left after these
+abbrev pub TakesWindow : Slices → Window → Slices → Type 0
+TakesWindow s w t =
+    (0 < w.len) × (w.len ≤ length s.left) × (located s.where_is (take w.len s.left) ≡ Some (places_of w))
+    × (t ≡ record { where_is = s.where_is; left = drop w.len s.left })
+
+-- nothing is left
+abbrev pub IsUsedUp : Slices → Slices → Type 0
+IsUsedUp s t = t ≡ record { where_is = s.where_is; left = [] }
+
+-- what comes next, and what is left then: a window, or the error of an address without a place, after which nothing comes
+abbrev pub Gives : Slices → Option (Result Window GuestMemoryError) → Slices → Type 0
+Gives s None t = (s.left ≡ []) × IsUsedUp s t
+Gives s (Some (Ok w)) t = TakesWindow s w t
+Gives s (Some (Err e)) t = (first_error s ≡ Some e) × IsUsedUp s t
+
+-- the same up to the first address without a place
+abbrev pub GivesWindow : Slices → Option Window → Slices → Type 0
+GivesWindow s None t = (reached s.where_is s.left ≡ 0) × IsUsedUp s t
+GivesWindow s (Some w) t = TakesWindow s w t

@@ -1,0 +1,62 @@
+//! Windows of a range of guest memory (vm-memory's `GuestMemorySliceIterator`).
+
+ghost use Rattle.std.specs.Prelude.{◌≡◌, length, Option, Result, Some, None, MatchResult};
+ghost use Rattle.std.specs.Iterator.{at_most};
+ghost use Rattle.vm_memory_core.specs.Window.{Window};
+ghost use Rattle.vm_memory.specs.Slices.{Slices, first_error, Gives, GivesWindow};
+ghost use Rattle.vm_memory.specs.declared.error.GuestMemoryError.{GuestMemoryError};
+
+use crate::error::GuestMemoryError;
+use crate::slice_iterator::GuestMemoryBackendSliceIterator;
+use vm_memory_core::VolatileSlice;
+
+/// Windows of some addresses, one after another, or the error of the first address without a place (vm-memory's
+/// `GuestMemorySliceIterator`).
+pub trait GuestMemorySliceIterator: Iterator<Item = Result<VolatileSlice, GuestMemoryError>> {
+    // where addresses are, and which are left
+    ghost slices: { Self → Slices };
+
+    /// The error that comes next, if one does.
+    fn next_error(&self) -> Option<GuestMemoryError>
+        ensures { result ≡ first_error (slices self.now) };
+
+    // the next window may always be asked for
+    ghost callable: { (s : Self) → Self.can_next s };
+
+    // what comes next is that of the addresses that are left
+    ghost by_address: { (s : Self) (r : Option (Result Window GuestMemoryError)) (t : Self) → Self.next_gives s r t → Gives (slices s) r (slices t) };
+
+    /// The windows before the first error, or the error that comes first.
+    final fn stop_on_error(self) -> Result<SlicesBeforeError<Self>, GuestMemoryError>
+    where
+        Self: Sized,
+        ensures { MatchResult result (λ s. (first_error (slices self) ≡ None) × (slices s.slices ≡ slices self)) (λ e. first_error (slices self) ≡ Some e) }
+    {
+        match self.next_error() {
+            Some(error) => Err(error),
+            None => Ok(SlicesBeforeError { slices: self }),
+        }
+    }
+}
+
+/// Windows up to the first address without a place.
+#[derive(Drop)]
+pub struct SlicesBeforeError<I: GuestMemorySliceIterator> {
+    slices: I,
+}
+
+impl<I: GuestMemorySliceIterator> Iterator for SlicesBeforeError<I> {
+    type Item = VolatileSlice;
+
+    ghost next_gives = { λ s r t. GivesWindow (I.slices s.slices) r (I.slices t.slices) };
+
+    ghost remaining = { λ s. at_most (length (I.slices s.slices).left) };
+
+    fn next(&mut self) -> Option<VolatileSlice> {
+        match self.slices.next() {
+            Some(Ok(window)) => Some(window),
+            Some(Err(_)) => None,
+            None => None,
+        }
+    }
+}
