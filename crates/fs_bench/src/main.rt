@@ -1,4 +1,4 @@
-//! Measures windows of memory and whole kicks beside plain slice copies.
+//! Measures windows of memory, memory of many regions and whole kicks beside plain slice copies.
 //!
 //! Without an argument each case runs a few times, and the checksum of what was done is printed. An argument is how many
 //! samples are taken of each case; the times are then printed on standard error.
@@ -9,12 +9,14 @@ mod files;
 mod kick;
 mod measure;
 mod plain;
+mod regions;
 mod window;
 
 use fault::BenchFault;
 use kick::measure_kicks;
 use measure::Meter;
 use plain::measure_copies;
+use regions::measure_regions;
 use std::alloc::{Alloc, Global};
 use std::env::{self, Env};
 use std::io;
@@ -39,6 +41,7 @@ fn run<R: Clock + Eprint>(
     let mut meter = Meter::new(rt, alloc, samples);
     measure_copies(&mut meter, alloc)?;
     measure_windows(&mut meter, alloc)?;
+    measure_regions(&mut meter, alloc)?;
     measure_kicks(&mut meter, alloc)?;
     Ok(meter.checksum())
 }
