@@ -8,4 +8,5 @@ pub mod Run
 pub mod Running
 pub mod Held
 pub mod Machines
+pub mod Laws
 pub mod Examples

@@ -6,6 +6,7 @@ pub mod copies;
 pub mod device;
 pub mod error;
 pub mod exchange;
+pub mod laws;
 mod layouts;
 pub mod machine;
 mod queues;

@@ -4,7 +4,10 @@ ghost use Rattle.std.specs.Prelude.{◌≡◌};
 ghost use Rattle.vm_memory_core.specs.Host.{host_of, lengths};
 ghost use Rattle.vm_memory.specs.Layout.{AreHeld};
 
-use super::{Host, NEXT, WRITE, exchanged, expect_bytes, expect_pages, guest, put, put_descriptor};
+use super::{
+    Host, NEXT, Recorder, WRITE, exchanged, expect_bytes, expect_pages, guest, put, put_descriptor,
+};
+use crate::laws::law_cuts;
 use crate::{Fault, harvest};
 use bitflags::Flags;
 use std::alloc::Global;
@@ -56,6 +59,7 @@ fn read_is_the_same_however_it_is_cut(rt: HostRuntime) -> Result<(), Fail> {
     expect_bytes(&rt, &host, 0x2000, &[20, 0, 0]);
     expect_bytes(&rt, &host, 0x2803, &[0, 0, 0, 0, 0, 7, 0, 0, 0, 0, 0, 0, 0]);
     expect_bytes(&rt, &host, 0x2810, b"ello");
+    law_cuts::<Recorder>();
     Ok(())
 }
 
