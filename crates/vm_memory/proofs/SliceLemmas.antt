@@ -1,5 +1,5 @@
 -- windows of addresses that follow one another
-use Rattle.std.proofs.Common.{◌≡◌, ℕ, ◌+◌, ◌-◌, ◌%◌, ◌^◌, ◌<◌, ◌≤◌, List, [], ◌∷◌, ◌++◌, length, take, drop, refl, ap, sym, ◌∙◌, subst, arith, zero, suc, Option, Some, None}
+use Rattle.std.proofs.Common.{◌≡◌, ℕ, ◌+◌, ◌-◌, ◌%◌, ◌^◌, ◌<◌, ◌≤◌, List, [], ◌∷◌, take, drop, refl, ap, sym, ◌∙◌, subst, arith, zero, suc, Option, Some, None}
 use Rattle.std.specs.Prelude.{is_some, if◌then◌else◌, Result, Err}
 use Rattle.std.proofs.lemmas.List.{drop_at}
 use Rattle.vm_memory_core.specs.Host.{Place}
@@ -59,7 +59,7 @@ error_step : (o : Option Place) (x k : ℕ) (e : GuestMemoryError) → (if is_so
 error_step None x k e h = refl
 error_step (Some p) x k e h = absurd (cc)
 
-reached_error : (f : Where) (xs : List ℕ) (e : GuestMemoryError) → first_error (record { where_is = f; left = xs }) ≡ Some e → reached f xs ≡ 0
+pub reached_error : (f : Where) (xs : List ℕ) (e : GuestMemoryError) → first_error (record { where_is = f; left = xs }) ≡ Some e → reached f xs ≡ 0
 unfolding reached
 reached_error f [] e h = absurd (cc)
 reached_error f (x ∷ xs) e h = error_step (f x) x (reached f xs) e h

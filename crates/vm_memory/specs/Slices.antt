@@ -1,7 +1,7 @@
 -- Windows of some addresses of guest memory, one after another.
-use Rattle.std.specs.Prelude.{◌≡◌, ℕ, ◌<◌, ◌≤◌, List, [], ◌∷◌, length, take, drop, Option, Some, None, if◌then◌else◌, is_some, Result, Ok, Err}
+use Rattle.std.specs.Prelude.{◌≡◌, ℕ, ◌<◌, ◌≤◌, List, [], ◌∷◌, ◌++◌, length, map, take, drop, Option, Some, None, if◌then◌else◌, is_some, Result, Ok, Err}
 use Rattle.vm_memory_core.specs.Host.{Place}
-use Rattle.vm_memory_core.specs.Window.{Window, places_of}
+use Rattle.vm_memory_core.specs.Window.{Window, places, places_of}
 use Rattle.vm_memory.specs.Layout.{Region, place}
 use Rattle.vm_memory.specs.Memory.{located, reached}
 use Rattle.vm_memory.specs.declared.error.GuestMemoryError.{GuestMemoryError}
@@ -20,11 +20,12 @@ pub record PhysicalSlices : Type 0 where
 abbrev pub slices_in : PhysicalSlices → Slices
 slices_in s = record { where_is = place s.layout; left = s.left }
 
-abbrev error_of : (ℕ → Option Place) → List ℕ → Option GuestMemoryError
+-- the error of the first of some addresses, if there is one and it has no place
+abbrev pub error_of : (ℕ → Option Place) → List ℕ → Option GuestMemoryError
 error_of where_is [] = None
 error_of where_is (a ∷ rest) = if is_some (where_is a) then None else Some (InvalidGuestAddress (record { 0 = a }))
 
--- the error of the first of some addresses, if there is one and it has no place
+-- the error that comes first, if one does
 abbrev pub first_error : Slices → Option GuestMemoryError
 first_error s = error_of s.where_is s.left
 
@@ -48,3 +49,22 @@ Gives s (Some (Err e)) t = (first_error s ≡ Some e) × IsUsedUp s t
 abbrev pub GivesWindow : Slices → Option Window → Slices → Type 0
 GivesWindow s None t = (reached s.where_is s.left ≡ 0) × IsUsedUp s t
 GivesWindow s (Some w) t = TakesWindow s w t
+
+-- an error alone, if there is one
+abbrev pub error_items : Option GuestMemoryError → List (Result Window GuestMemoryError)
+error_items None = []
+error_items (Some e) = Err e ∷ []
+
+-- windows that, joined, are the places of the first n addresses, and then the error of the next one, if it has no place
+abbrev pub AreAllUpTo : Slices → (n : ℕ) → List (Result Window GuestMemoryError) → Type 0
+AreAllUpTo s n items =
+    (windows : List Window) × (located s.where_is (take n s.left) ≡ Some (places windows))
+    × (items ≡ map (λ w. Ok w) windows ++ error_items (error_of s.where_is (drop n s.left)))
+
+-- all that comes: the places up to the first address without one, and the error of that address, if there is one
+abbrev pub AreAllOf : Slices → List (Result Window GuestMemoryError) → Type 0
+AreAllOf s items = AreAllUpTo s (reached s.where_is s.left) items
+
+-- all windows before the first error: joined, they are the places up to the first address without one
+abbrev pub AreWindowsOf : Slices → List Window → Type 0
+AreWindowsOf s windows = located s.where_is (take (reached s.where_is s.left) s.left) ≡ Some (places windows)

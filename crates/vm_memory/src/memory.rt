@@ -1,13 +1,15 @@
 //! Guest memory as a device reaches it (vm-memory's `GuestMemory`).
 
-ghost use Rattle.std.specs.Prelude.{◌≡◌, ℕ, List, length, Option, Some, option_map, is_some, IsSome, IsOk, IfOk};
-ghost use Rattle.std.specs.Iterator.{at_most};
+ghost use Rattle.std.specs.Prelude.{◌≡◌, ℕ, List, length, Option, Some, option_map, is_some, IsSome, IsOk, IfOk, Result};
+ghost use Rattle.std.specs.Iterator.{at_most, Drains};
 ghost use Rattle.std.specs.List.{list_all};
 ghost use Rattle.vm_memory_core.specs.Host.{Host, Place, host_of};
+ghost use Rattle.vm_memory_core.specs.Window.{Window};
 ghost use Rattle.vm_memory_core.specs.declared.permissions.Permissions.{Permissions};
 ghost use Rattle.vm_memory.specs.Layout.{Region, place, place-same};
 ghost use Rattle.vm_memory.specs.Memory.{circular};
-ghost use Rattle.vm_memory.specs.Slices.{Gives};
+ghost use Rattle.vm_memory.specs.declared.error.GuestMemoryError.{GuestMemoryError};
+ghost use Rattle.vm_memory.specs.Slices.{AreAllOf, Gives};
 
 use crate::backend::GuestMemoryBackend;
 use crate::collection::GuestRegionCollection;
@@ -89,6 +91,8 @@ pub trait GuestMemory {
         access: Permissions,
     ) -> Result<GuestMemorySlices<'a, Self::PhysicalMemory>, GuestMemoryError>
         ensures slices { IfOk result (λ s. slices_of s ≡ record { where_is = where_is self.now (host_of h.now) access; left = circular addr.0 count }) }
+        ensures joined { IfOk result (λ s. (items : List (Result Window GuestMemoryError)) → Drains (λ s r t. Gives (slices_of s) r (slices_of t)) s items
+            → AreAllOf (record { where_is = where_is self.now (host_of h.now) access; left = circular addr.0 count }) items) }
         ensures never_refused { IsSome (physical self.now) → IsOk result };
 
     /// The memory by physical addresses, if these are the addresses that a device uses.

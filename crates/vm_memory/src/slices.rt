@@ -1,13 +1,12 @@
 //! Windows of a range of guest memory (vm-memory's `GuestMemorySliceIterator`).
 
-ghost use Rattle.std.specs.Prelude.{◌≡◌, length, Option, Result, Some, None, MatchResult};
-ghost use Rattle.std.specs.Iterator.{at_most};
+ghost use Rattle.std.specs.Prelude.{◌≡◌, List, length, Option, Result, Some, None, IfOk, MatchResult};
+ghost use Rattle.std.specs.Iterator.{at_most, Drains};
 ghost use Rattle.vm_memory_core.specs.Window.{Window};
-ghost use Rattle.vm_memory.specs.Slices.{Slices, first_error, Gives, GivesWindow};
+ghost use Rattle.vm_memory.specs.Slices.{AreWindowsOf, Gives, GivesWindow, Slices, first_error};
 ghost use Rattle.vm_memory.specs.declared.error.GuestMemoryError.{GuestMemoryError};
 
 use crate::error::GuestMemoryError;
-use crate::slice_iterator::GuestMemoryBackendSliceIterator;
 use vm_memory_core::VolatileSlice;
 
 /// Windows of some addresses, one after another, or the error of the first address without a place (vm-memory's
@@ -30,7 +29,9 @@ pub trait GuestMemorySliceIterator: Iterator<Item = Result<VolatileSlice, GuestM
     final fn stop_on_error(self) -> Result<SlicesBeforeError<Self>, GuestMemoryError>
     where
         Self: Sized,
-        ensures { MatchResult result (λ s. (first_error (slices self) ≡ None) × (slices s.slices ≡ slices self)) (λ e. first_error (slices self) ≡ Some e) }
+        ensures outcome { MatchResult result (λ s. (first_error (slices self) ≡ None) × (slices s.slices ≡ slices self)) (λ e. first_error (slices self) ≡ Some e) }
+        ensures joined { IfOk result (λ s. (windows : List Window) → Drains (λ s r t. GivesWindow (slices s.slices) r (slices t.slices)) s windows
+            → AreWindowsOf (slices self) windows) }
     {
         match self.next_error() {
             Some(error) => Err(error),

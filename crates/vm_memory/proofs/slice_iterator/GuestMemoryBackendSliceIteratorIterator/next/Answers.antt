@@ -1,5 +1,4 @@
-use Rattle.std.proofs.Common.{ℕ, ◌+◌, ◌-◌, ◌%◌, ◌^◌, ◌<◌, length, arith, refl, ap, ◌∙◌}
-use Rattle.vm_memory.specs.Memory.{circular}
+use Rattle.std.proofs.Common.{◌+◌, ◌-◌, ◌%◌, ◌^◌, length, arith, refl, ap}
 use Rattle.vm_memory.specs.Slices.{PhysicalSlices}
 use Rattle.vm_memory.proofs.Places.{length-circular}
 use Rattle.vm_memory.proofs.SliceLemmas.{end_given, error_given, window_taken}

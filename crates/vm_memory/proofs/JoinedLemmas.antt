@@ -1,0 +1,96 @@
+-- the windows and the error of some addresses as a whole
+use Rattle.std.proofs.Common.{◌≡◌, ℕ, ◌+◌, ◌≤◌, List, [], ◌∷◌, ◌++◌, length, map, take, drop, refl, ap, sym, ◌∙◌, subst, arith, Option, Some, None}
+use Rattle.std.specs.Prelude.{Result, Ok, Err}
+use Rattle.std.specs.Iterator.{Drains, Yields}
+use Rattle.std.proofs.lemmas.List.{drop-drop, length-take-le, take-append-drop}
+use Rattle.std.proofs.Math.Seq.{take-add}
+use Rattle.vm_memory_core.specs.Window.{Window, places, places_of}
+use Rattle.vm_memory.specs.Memory.{located, reached, after}
+use Rattle.vm_memory.specs.Slices.{AreAllOf, AreAllUpTo, AreWindowsOf, Gives, GivesWindow, Slices, TakesWindow, error_items, error_of, first_error}
+use Rattle.vm_memory.specs.declared.error.GuestMemoryError.{GuestMemoryError}
+use Rattle.vm_memory.proofs.Places.{Where, located-append, reached-append}
+use Rattle.vm_memory.proofs.SliceLemmas.{reached_error}
+
+abbrev Items : Type 0
+Items = List (Result Window GuestMemoryError)
+
+abbrev steps_of : {S : Type 0} → (S → Slices) → S → Option (Result Window GuestMemoryError) → S → Type 0
+steps_of v s r t = Gives (v s) r (v t)
+
+no_error_of : (s : Slices) (e : GuestMemoryError) → s.left ≡ [] → first_error s ≡ Some e → ⊥
+no_error_of s e empty h = let none : error_of s.where_is s.left ≡ None = ap (error_of s.where_is) empty in cc
+
+-- where no address is left, nothing comes
+none_left : {S : Type 0} (v : S → Slices) (items : Items) (s t : S) → (v s).left ≡ [] → Yields (steps_of v) s items t → items ≡ []
+none_left v [] s t e y = refl
+none_left v (Ok w ∷ items) s t e y = let count = ap length e in absurd (omega (arith, y.1.0, y.1.1, count))
+none_left v (Err x ∷ items) s t e y = absurd (no_error_of (v s) x e y.1.0)
+
+none_of : (f : Where) → AreAllOf (record { where_is = f; left = [] }) []
+unfolding located reached
+none_of f = ([], refl, refl)
+
+all_of_none : (s : Slices) → s.left ≡ [] → AreAllOf s []
+all_of_none s e = subst (λ (l : List ℕ). AreAllOf (record { where_is = s.where_is; left = l }) []) (sym e) (none_of s.where_is)
+
+error_first : (s : Slices) (e : GuestMemoryError) → first_error s ≡ Some e → AreAllUpTo s 0 (Err e ∷ [])
+unfolding located
+error_first s e h = ([], refl, sym (ap error_items h))
+
+all_of_error : (s : Slices) (e : GuestMemoryError) → first_error s ≡ Some e → AreAllOf s (Err e ∷ [])
+all_of_error s e h = subst (λ n. AreAllUpTo s n (Err e ∷ [])) (sym (reached_error s.where_is s.left e h)) (error_first s e h)
+
+-- one window more at the front
+window_first : (f : Where) (left : List ℕ) (w : Window) (m : ℕ) (items : Items) → w.len ≤ length left → located f (take w.len left) ≡ Some (places_of w) →
+    AreAllUpTo (record { where_is = f; left = drop w.len left }) m items → AreAllUpTo (record { where_is = f; left = left }) (w.len + m) (Ok w ∷ items)
+window_first f left w m items le front rest = (
+  w ∷ rest.0,
+  ap (located f) (take-add w.len m left) ∙ located-append (take w.len left) (take m (drop w.len left)) f (places_of w) front ∙ ap (after (places_of w)) rest.1,
+  ap (λ (l : Items). Ok w ∷ l) (rest.2 ∙ ap (λ (d : List ℕ). map (λ x. Ok x) rest.0 ++ error_items (error_of f d)) (drop-drop m w.len left)),
+)
+
+reached_more : (f : Where) (left : List ℕ) (w : Window) → w.len ≤ length left → located f (take w.len left) ≡ Some (places_of w) → reached f left ≡ w.len + reached f (drop w.len left)
+reached_more f left w le front =
+    let count = length-take-le w.len left le in
+    ap (reached f) (sym (take-append-drop w.len left)) ∙ reached-append (take w.len left) (drop w.len left) f (places_of w) front ∙ ap (λ n. n + reached f (drop w.len left)) count
+
+all_of_more : (s t : Slices) (w : Window) (items : Items) → TakesWindow s w t → AreAllOf t items → AreAllOf s (Ok w ∷ items)
+all_of_more s t w items taken rest =
+    let more : AreAllOf (record { where_is = s.where_is; left = drop w.len s.left }) items = subst (λ (x : Slices). AreAllOf x items) taken.3 rest in
+    subst (λ n. AreAllUpTo s n (Ok w ∷ items)) (sym (reached_more s.where_is s.left w taken.1 taken.2)) (window_first s.where_is s.left w (reached s.where_is (drop w.len s.left)) items taken.1 taken.2 more)
+
+all_of_run : {S : Type 0} (v : S → Slices) (items : Items) (s t u : S) → Yields (steps_of v) s items t → Gives (v t) None (v u) → AreAllOf (v s) items
+all_of_run v [] s t u y end = all_of_none (v s) (ap (λ x. (v x).left) y ∙ end.0)
+all_of_run v (Ok w ∷ items) s t u y end = all_of_more (v s) (v y.0) w items y.1 (all_of_run v items y.0 t u y.2 end)
+all_of_run v (Err e ∷ items) s t u y end =
+    let none = none_left v items y.0 t (ap (λ (x : Slices). x.left) y.1.1) y.2 in
+    rw none (all_of_error (v s) e y.1.0)
+
+-- all that comes of some addresses
+pub all_of_drained : {S : Type 0} (v : S → Slices) (s : S) (items : Items) → Drains (steps_of v) s items → AreAllOf (v s) items
+all_of_drained v s items d = all_of_run v items s d.1.0 d.0 d.1.1 d.1.2
+
+-- ---- the windows before the first error
+
+abbrev AreWindowsUpTo : Slices → (n : ℕ) → List Window → Type 0
+AreWindowsUpTo s n windows = located s.where_is (take n s.left) ≡ Some (places windows)
+
+none_up_to : (s : Slices) → AreWindowsUpTo s 0 []
+unfolding located
+none_up_to s = refl
+
+windows_of_more : (s t : Slices) (w : Window) (windows : List Window) → TakesWindow s w t → AreWindowsOf t windows → AreWindowsOf s (w ∷ windows)
+windows_of_more s t w windows taken rest =
+    let left : List ℕ = drop w.len s.left in
+    let m : ℕ = reached s.where_is left in
+    let more : AreWindowsOf (record { where_is = s.where_is; left = left }) windows = subst (λ (x : Slices). AreWindowsOf x windows) taken.3 rest in
+    subst (λ n. AreWindowsUpTo s n (w ∷ windows)) (sym (reached_more s.where_is s.left w taken.1 taken.2))
+    (ap (located s.where_is) (take-add w.len m s.left) ∙ located-append (take w.len s.left) (take m left) s.where_is (places_of w) taken.2 ∙ ap (after (places_of w)) more)
+
+windows_of_run : {S : Type 0} (v : S → Slices) (windows : List Window) (s t u : S) → Yields (λ a r b. GivesWindow (v a) r (v b)) s windows t → GivesWindow (v t) None (v u) → AreWindowsOf (v s) windows
+windows_of_run v [] s t u y end = subst (λ n. AreWindowsUpTo (v s) n []) (sym (ap (λ x. reached (v x).where_is (v x).left) y ∙ end.0)) (none_up_to (v s))
+windows_of_run v (w ∷ windows) s t u y end = windows_of_more (v s) (v y.0) w windows y.1 (windows_of_run v windows y.0 t u y.2 end)
+
+-- all windows that come before the first error
+pub windows_of_drained : {S : Type 0} (v : S → Slices) (s : S) (windows : List Window) → Drains (λ a r b. GivesWindow (v a) r (v b)) s windows → AreWindowsOf (v s) windows
+windows_of_drained v s windows d = windows_of_run v windows s d.1.0 d.0 d.1.1 d.1.2
