@@ -17,6 +17,7 @@ pub record PhysicalSlices : Type 0 where
   pub layout : List Region
   pub left : List ℕ
 
+-- the places of physical addresses, by their layout
 abbrev pub slices_in : PhysicalSlices → Slices
 slices_in s = record { where_is = place s.layout; left = s.left }
 
