@@ -180,8 +180,8 @@ fn the_greatest_address_comes_before_0(rt: HostRuntime) -> Result<(), Fail> {
         (GuestAddress(0xffff_ffff_ffff_f000), 0x1000),
     ];
     let (mut host, mem) = made(rt.alloc(), &ranges)?;
-    let written = mem.write_slice(&mut host, &[1, 2], GuestAddress(u64::MAX));
-    assert_eq!(rt; written, Ok(()));
+    let written = Bytes::write(&mem, &mut host, &[1, 2], GuestAddress(u64::MAX));
+    assert_eq!(rt; written, Ok(2));
     assert_eq!(rt; host.byte_at(1, 0xfff), Some(1));
     assert_eq!(rt; host.byte_at(0, 0), Some(2));
     assert_eq!(rt; mem.last_addr(), GuestAddress(u64::MAX));
@@ -272,6 +272,24 @@ fn layouts_change(rt: HostRuntime) -> Result<(), Fail> {
     assert_eq!(rt; three.last_addr(), GuestAddress(0x2fff));
     assert_eq!(rt; three.try_clone()?.num_regions(), 3);
     assert_eq!(rt; GuestMemoryMmap::new(rt.alloc()).num_regions(), 0);
+    Ok(())
+}
+
+#[test]
+fn shared_regions_are_the_same_layout(rt: HostRuntime) -> Result<(), Fail> {
+    let (_, mem) = made(rt.alloc(), &TWO)?;
+    let (first, upper) = mem.remove_region(GuestAddress(0x1000), 0x1000)?;
+    let (_, lower) = first.remove_region(GuestAddress(0), 0x1000)?;
+    let mut shared = Vec::with_capacity(rt.alloc(), 2)?;
+    shared.push(lower).unwrap();
+    shared.push(upper).unwrap();
+    let again = GuestMemoryMmap::from_arc_regions(rt.alloc(), shared)?;
+    let clone = mem.try_clone()?;
+    for addr in [0, 0xfff, 0x1000, 0x1004, 0x1fff, 0x2000] {
+        let there = again.get_host_address(GuestAddress(addr));
+        assert_eq!(rt; there, clone.get_host_address(GuestAddress(addr)));
+    }
+    assert_eq!(rt; (again.num_regions(), clone.num_regions()), (2, 2));
     Ok(())
 }
 
