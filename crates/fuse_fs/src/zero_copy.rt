@@ -70,10 +70,10 @@ pub trait ZeroCopyWriter {
             × Gathers F.read_gives file.old (min count (room self.old)) off bytes result file.new };
 }
 
-impl<W: ZeroCopyWriter> ZeroCopyWriter for &mut W {
-    ghost put = { λ w. W.put w.now };
+impl<Inner: ZeroCopyWriter> ZeroCopyWriter for &mut Inner {
+    ghost put = { λ w. Inner.put w.now };
 
-    ghost room = { λ w. W.room w.now };
+    ghost room = { λ w. Inner.room w.now };
 
     fn read_from_file_at<F: PositionedFile>(
         &mut self,
