@@ -19,15 +19,15 @@ struct MemoryFile {
 
 /// A file system whose one file is node 2.
 #[derive(Drop)]
-pub struct Files {
+pub struct MemoryFiles {
     file: MemoryFile,
 }
 
-impl Files {
+impl MemoryFiles {
     /// The file system, whose file is made.
-    pub fn new(alloc: Global) -> Result<Files, BenchFault> {
+    pub fn new(alloc: Global) -> Result<MemoryFiles, BenchFault> {
         let bytes = vec![in alloc; 7; FILE_LEN]?;
-        Ok(Files {
+        Ok(MemoryFiles {
             file: MemoryFile { bytes },
         })
     }
@@ -70,7 +70,7 @@ impl PositionedFile for MemoryFile {
     }
 }
 
-impl FileSystem for Files {
+impl FileSystem for MemoryFiles {
     type Inode = u64;
 
     type Handle = u64;

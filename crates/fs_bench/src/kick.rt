@@ -5,7 +5,7 @@ ghost use Rattle.vm_memory.specs.Layout.{AreHeld};
 ghost use Rattle.fs_bench.specs.Held.{AreHeld-prop};
 
 use crate::fault::BenchFault;
-use crate::files::Files;
+use crate::files::MemoryFiles;
 use crate::measure::{Case, Label, Meter};
 use fs_device::Device;
 use fs_queue::{Queue, QueueLayout};
@@ -99,11 +99,11 @@ fn read(case: &'static str, size: u32) -> Asked {
 }
 
 // A device of one queue.
-fn served(alloc: Global) -> Result<Device<Files>, BenchFault> {
+fn served(alloc: Global) -> Result<Device<MemoryFiles>, BenchFault> {
     let Ok(layout) = QueueLayout::new(QUEUE_SIZE, TABLE, AVAIL, USED) else {
         return Err(BenchFault::Guest);
     };
-    let files = Files::new(alloc)?;
+    let files = MemoryFiles::new(alloc)?;
     let mut queues = Vec::with_capacity(alloc, 1)?;
     queues.push(Queue::new(layout)).unwrap();
     Ok(Device::new(Server::new(files, PAGE_SIZE), queues, LIMIT))
@@ -115,7 +115,7 @@ struct Kicking {
     alloc: Global,
     host: HostMemory<PageBitmap>,
     mem: GuestMemoryMmap,
-    device: Device<Files>,
+    device: Device<MemoryFiles>,
     available: u16,
     ghost held: { AreHeld (lengths (host_of host)) mem } by { AreHeld-prop (lengths (host_of host)) mem },
 }

@@ -3,7 +3,7 @@
 ghost use Rattle.std.specs.Prelude.{◌≤◌, length};
 
 use crate::calls::CallLog;
-use crate::files::Files;
+use crate::files::LoggingFiles;
 use fs_device::{Answer, Command, Device, HarvestedPage, Machine};
 use fs_queue::Queue;
 use std::alloc::{AllocError, Global};
@@ -23,7 +23,7 @@ const PAGE_BYTES: u32 = 4096;
 pub struct Guest<'a> {
     alloc: Global,
     log: &'a Cell<CallLog>,
-    machine: Machine<Files<'a>>,
+    machine: Machine<LoggingFiles<'a>>,
 }
 
 impl<'a> Guest<'a> {
@@ -32,7 +32,7 @@ impl<'a> Guest<'a> {
         requires some { 1 ≤ length queues.items }
         requires few { length queues.items ≤ 64 }
     {
-        let server = Server::new(Files::new(log), PAGE_BYTES);
+        let server = Server::new(LoggingFiles::new(log), PAGE_BYTES);
         let device = Device::new(server, queues, LIMIT);
         let host = HostMemory::new(alloc);
         let mem = GuestMemoryMmap::new(alloc);

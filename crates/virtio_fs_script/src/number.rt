@@ -3,7 +3,7 @@
 ghost use Rattle.std.specs.Prelude.{◌≡◌, ◌<◌, ◌≤◌, ◌^◌, length, IsTrue};
 ghost use Rattle.std.specs.Option.{SomeIff};
 ghost use Rattle.std.specs.Str.Parse.{IsNumeral, digits_value};
-ghost use Rattle.virtio_fs_run.specs.Number.{is_hexadecimal, radix_of, digits_of};
+ghost use Rattle.virtio_fs_script.specs.Number.{is_hexadecimal, radix_of, digits_of};
 
 // The number that digits in a radix write, if there are any and it fits.
 fn parse_digits(radix: u32, digits: &[u8]) -> Option<u64>

@@ -71,15 +71,15 @@ impl PositionedFile for Contents {
 
 /// Root 1 with the file `a`, which is node 2. What it is asked stands in the log.
 #[derive(Drop)]
-pub struct Files<'a> {
+pub struct LoggingFiles<'a> {
     log: &'a Cell<CallLog>,
     contents: Contents,
 }
 
-impl<'a> Files<'a> {
+impl<'a> LoggingFiles<'a> {
     /// The file holds `hello`.
-    pub fn new(log: &'a Cell<CallLog>) -> Files<'a> {
-        Files {
+    pub fn new(log: &'a Cell<CallLog>) -> LoggingFiles<'a> {
+        LoggingFiles {
             log,
             contents: Contents::new(),
         }
@@ -105,7 +105,7 @@ impl<'a> Files<'a> {
 }
 
 // A file system whose relation lets it answer anything: what it answers is shown by tests.
-impl<'a> FileSystem for Files<'a> {
+impl<'a> FileSystem for LoggingFiles<'a> {
     type Inode = u64;
 
     type Handle = u64;

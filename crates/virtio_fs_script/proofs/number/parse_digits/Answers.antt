@@ -2,8 +2,8 @@
 use Rattle.std.proofs.Common.{◌≡◌, ◌≤◌, ◌+◌, ◌*◌, drop, get_or, [], ap, arith}
 use Rattle.std.specs.Char.{digit_value}
 use Rattle.std.specs.Str.Parse.{AllDigits, digits_value, digits_value_after}
-use Rattle.virtio_fs_run.proofs.Digits.{next_at_least, drop_all}
-use Rattle.virtio_fs_run.proofs.number.parse_digits.Goals as goal
+use Rattle.virtio_fs_script.proofs.Digits.{next_at_least, drop_all}
+use Rattle.virtio_fs_script.proofs.number.parse_digits.Goals as goal
 
 pub returns-in_err-checked_mul : goal.returns-in_err-checked_mul
 returns-in_err-checked_mul c =

@@ -6,12 +6,15 @@ use crate::line::parse;
 use crate::session::Session;
 use std::alloc::Global;
 use std::cell::Cell;
-use std::io::{Read, Write};
+use std::io::{BufWriter, Read, Write};
 
-/// The most bytes of a script.
-pub const MOST_BYTES: usize = 1_048_576;
+// The most bytes of a script.
+const MOST_BYTES: usize = 1_048_576;
 
 const BUFFER: usize = 4096;
+
+// The status of a call with arguments.
+const USAGE_STATUS: u8 = 1;
 
 // The whole script, if it isn't too long.
 fn read_script<R: Read>(alloc: Global, reader: &mut R) -> Result<Vec<u8>, Halt> {
@@ -56,25 +59,38 @@ fn read_and_run<R: Read, W: Write>(
     run_lines(alloc, &script, writer)
 }
 
-// Prints why a script ended early, where a stream can still say it.
-fn print_halt<W: Write>(halt: Halt, writer: &mut W) -> Result<(), Halt> {
-    if halt != Halt::Stream {
-        writeln!(writer, "{halt}")?;
+// Prints why a script ended early, where a stream can still say it, and answers the status.
+fn print_halt<W: Write>(halt: Halt, writer: &mut W) -> u8 {
+    if halt != Halt::Stream && writeln!(writer, "{halt}").is_err() {
+        return Halt::Stream.status();
     }
-    Ok(())
+    halt.status()
+}
+
+// Reads a script and runs it, and answers the status. What is printed may still stand in the writer's buffer.
+fn run_and_tell<R: Read, W: Write>(alloc: Global, reader: &mut R, writer: &mut W) -> u8 {
+    match read_and_run(alloc, reader, writer) {
+        Ok(()) => 0,
+        Err(halt) => print_halt(halt, writer),
+    }
 }
 
 /// Reads a script, runs it, prints what its lines print, and answers the program's status.
 pub fn run_script<R: Read, W: Write>(alloc: Global, reader: &mut R, writer: &mut W) -> u8 {
-    let status = match read_and_run(alloc, reader, writer) {
-        Ok(()) => 0,
-        Err(halt) => match print_halt(halt, writer) {
-            Ok(()) => halt.status(),
-            Err(failed) => failed.status(),
-        },
+    let Ok(mut buffered) = BufWriter::new(alloc, &mut *writer) else {
+        return print_halt(Halt::OutOfMemory, writer);
     };
-    match writer.flush() {
+    let status = run_and_tell(alloc, reader, &mut buffered);
+    match buffered.flush() {
         Ok(()) => status,
+        Err(_) => Halt::Stream.status(),
+    }
+}
+
+/// Prints how the program is called, in place of a run, and answers its status.
+pub fn print_usage<W: Write>(writer: &mut W) -> u8 {
+    match writer.write_all(b"usage: virtio_fs_run < script\n") {
+        Ok(()) => USAGE_STATUS,
         Err(_) => Halt::Stream.status(),
     }
 }

@@ -1,0 +1,17 @@
+//! Tests of the script program: what scripts print, and the statuses that they end with.
+#![tactic(auto)]
+
+#[cfg(test)]
+mod calls;
+#[cfg(test)]
+mod layouts;
+#[cfg(test)]
+mod lines;
+#[cfg(test)]
+mod queues;
+#[cfg(test)]
+mod requests;
+#[cfg(test)]
+mod steps;
+#[cfg(test)]
+mod streams;

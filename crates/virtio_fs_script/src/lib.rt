@@ -1,0 +1,18 @@
+//! Runs a script of guest accesses and kicks on a virtio-fs device, over any reader and writer.
+#![tactic(auto)]
+
+mod calls;
+mod files;
+mod guest;
+mod halt;
+mod line;
+mod number;
+mod print;
+mod script;
+mod session;
+
+pub use calls::{Call, CallLog};
+pub use halt::Halt;
+pub use number::parse_number;
+pub use print::print_calls;
+pub use script::{print_usage, run_script};
