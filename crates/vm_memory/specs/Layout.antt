@@ -44,6 +44,18 @@ unfoldable pub region_at : List Region → ℕ → Option Region
 region_at [] a = None
 region_at (r ∷ rs) a = if is_within r.start r.size a then Some r else region_at rs a
 
+-- how many addresses from one on its region still has
+abbrev pub left_of : ℕ → Option Region → ℕ
+left_of a None = 0
+left_of a (Some r) = r.start + r.size - a
+
+abbrev pub left_at : List Region → ℕ → ℕ
+left_at layout a = left_of a (region_at layout a)
+
+-- layouts that are the same have as many addresses left
+pub left_at-same : (l m : List Region) (a : ℕ) → ◌≡◌ {A = Option (List Region)} (Some l) (Some m) → left_at l a ≡ left_at m a
+left_at-same l m a e = let same : l ≡ m = cc in rw same refl
+
 -- the regions that are shared
 abbrev pub regions_of : {X Z : Type 0} → (X → Region) → List (Arc X Z) → List Region
 regions_of region shared = map (λ a. region (arc_value a)) shared
