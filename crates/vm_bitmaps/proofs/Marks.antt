@@ -1,11 +1,10 @@
 -- writing the pages of a range byte by byte writes a run of pages
 use Rattle.std.proofs.Common.{◌≡◌, ℕ, ◌+◌, ◌*◌, ◌/◌, ◌^◌, ◌<◌, ◌≤◌, inl, inr, Bool, true, false, cond, ltb, List, [], length, get_or, set, refl, ap, sym, ◌∙◌, arith, zero, suc}
 use Rattle.std.proofs.lemmas.List.{set_past, length-set, get_or-set_same, get_or-set_other, ext_get_or, nil_from_length}
-use Rattle.std.proofs.lemmas.Option.{unwrap_or-slice_get}
 use Rattle.std.proofs.lemmas.Nat.{div-mul-add, le-div, mul-le}
 use Rattle.std.proofs.Math.Nat.{div-mul-le_self}
 use Rattle.std.proofs.lemmas.Bool.{cases_lt, cases_eq, lt-ltb, le-ltb, cond-true, cond-false}
-use Rattle.vm_bitmaps.specs.Pages.{mark_of, marked_at, marked_range, cleared_at, cleared_range}
+use Rattle.vm_bitmaps.specs.Pages.{marked_at, marked_range, cleared_at, cleared_range}
 
 -- the pages with that of one byte below top written, and with those of a range of bytes
 abbrev written_at : Bool → (top size : ℕ) → List Bool → (offset : ℕ) → List Bool
@@ -178,40 +177,3 @@ marked_past n s m o g = sym (marked_range-is n s m o ∙ range_past n true (2 ^ 
 
 pub length-marked_range : (n s : ℕ) (m : List Bool) (o : ℕ) → length (marked_range s m o n) ≡ length m
 length-marked_range n s m o = ap length (marked_range-is n s m o) ∙ length-range n true (2 ^ 64) s m o
-
-more : (n k s : ℕ) (m : List Bool) (o : ℕ) → k ≡ suc n → marked_range s m o k ≡ marked_range s (marked_at s m o) (o + 1) n
-unfolding marked_range
-more n k s m o e = ap (marked_range s m o) e
-
--- a range in two parts
-pub marked_range-add : (a b s : ℕ) (m : List Bool) (o : ℕ) → marked_range s (marked_range s m o a) (o + a) b ≡ marked_range s m o (a + b)
-unfolding marked_range
-marked_range-add zero b s m o =
-    let start : o + zero ≡ o = omega arith in
-    let count : b ≡ zero + b = omega arith in
-    ap (λ i. marked_range s m i b) start ∙ ap (marked_range s m o) count
-marked_range-add (suc a) b s m o =
-    let start : o + suc a ≡ o + 1 + a = omega arith in
-    let count : suc a + b ≡ suc (a + b) = omega arith in
-    ap (λ i. marked_range s (marked_range s (marked_at s m o) (o + 1) a) i b) start ∙
-    marked_range-add a b s (marked_at s m o) (o + 1) ∙ sym (more (a + b) (suc a + b) s m o count)
-
--- the page of a byte of the range is marked
-pub mark_of-inside : (n s : ℕ) (m : List Bool) (o b : ℕ) → o ≤ b → b < o + n → b < 2 ^ 64 → b / s < length m →
-    mark_of (marked_range s m o n) (b / s) ≡ true
-mark_of-inside n s m o b low high fits within =
-    unwrap_or-slice_get (marked_range s m o n) (b / s) false ∙ ap (λ l. get_or l (b / s) false) (marked_range-is n s m o) ∙
-    hit n true (2 ^ 64) s m o (b / s) false b low high fits refl within
-
--- a page with no byte of the range is as it was
-pub mark_of-outside : (n s : ℕ) (m : List Bool) (o p : ℕ) → ((b : ℕ) → o ≤ b → b < o + n → b < 2 ^ 64 → b / s ≡ p → ⊥) →
-    mark_of (marked_range s m o n) p ≡ mark_of m p
-mark_of-outside n s m o p none =
-    unwrap_or-slice_get (marked_range s m o n) p false ∙ ap (λ l. get_or l p false) (marked_range-is n s m o) ∙
-    kept n true (2 ^ 64) s m o p false none ∙ sym (unwrap_or-slice_get m p false)
-
--- a page that is marked stays so
-pub mark_of-stays : (n s : ℕ) (m : List Bool) (o p : ℕ) → p < length m → mark_of m p ≡ true → mark_of (marked_range s m o n) p ≡ true
-mark_of-stays n s m o p within marked =
-    unwrap_or-slice_get (marked_range s m o n) p false ∙ ap (λ l. get_or l p false) (marked_range-is n s m o) ∙
-    stays n true (2 ^ 64) s m o p false within (sym (unwrap_or-slice_get m p false) ∙ marked)

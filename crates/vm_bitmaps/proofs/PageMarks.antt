@@ -69,13 +69,6 @@ run_words v top s n o c last old new h some below has e run =
     (λ p l low. get_or-marks_of n new p false (omega arith) ∙ ap (λ b. eqb b 1) (run.below p low) ∙ sym (get_or-marks_of n old p false (omega arith)))
     (λ p l high. get_or-marks_of n new p false (omega arith) ∙ ap (λ b. eqb b 1) (run.above p (omega arith)) ∙ sym (get_or-marks_of n old p false (omega arith)))
 
-pub clean_after : (n first last : ℕ) (old new : List ℕ) (v : Bool) → IsClean n old → length new ≡ length old → last < n →
-    WritesRun old new first (last + 1) v → IsClean n new
-clean_after n first last old new v clean same l run = record {
-  count = same ∙ clean.count;
-  rest = λ p g. run.above p (omega arith) ∙ clean.rest p g;
-}
-
 -- words of zeros
 get_or-zeros : (k i : ℕ) → get_or {A = ℕ} (replicate k 0) i 0 ≡ 0
 get_or-zeros k i = elim (cases_lt i k) [
@@ -99,11 +92,6 @@ clean_zeros n k e = record {
   count = length-replicate k 0 ∙ e;
   rest = λ p g. page_bit-zeros k p;
 }
-
--- the marks as words
-bit_of-lt : (mark : Bool) → bit_of mark < 2
-bit_of-lt true = omega arith
-bit_of-lt false = omega arith
 
 bit_at-bit_of : (mark : Bool) → bit_at (bit_of mark) 0 ≡ bit_of mark
 bit_at-bit_of true = refl
@@ -202,12 +190,6 @@ cleared_set size bytes n old new count p view is e =
     subst P view (ap (λ (m : List Bool). let q : PageSet = record { page_size = size; byte_size = bytes; marks = m } in q) marks)
 
 -- ---- what a caller of `get_and_reset` may cite
-
--- the code's test of a word's bit tells the page's mark
-pub word_tells : (words : List ℕ) (marks : List Bool) (p word : ℕ) → ((q : ℕ) → page_bit words q ≡ bit_of (mark_of marks q)) →
-    p / 64 < length words → word ≡ get_or words (p / 64) word → eqb (bit_and (word / 2 ^ (p % 64)) 1) 1 ≡ mark_of marks p
-word_tells words marks p word bits l e =
-    bit_read words p word l e ∙ ap (λ b. eqb b 1) (bits p) ∙ eqb-bit_of (mark_of marks p)
 
 pub length-words_of : (marks : List Bool) → length (words_of marks) ≡ div_ceil (length marks) 64
 length-words_of marks = length-map-range_with_len (λ i. word_from marks (64 * i) 64) 0 (div_ceil (length marks) 64)

@@ -58,15 +58,6 @@ clear_bits word from to run fits runs l w e = record {
   above = λ k high. outside word run k fits runs (ap (λ m. bit_at m k) e ∙ bit_at_mask_above from to k high);
 }
 
--- a run that follows another
-pub then_run : {old mid new : List ℕ} {first middle end : ℕ} {mark : Bool} → first ≤ middle → middle ≤ end →
-    WritesRun old mid first middle mark → WritesRun mid new middle end mark → WritesRun old new first end mark
-then_run {first = first} {middle = middle} {end = end} l m a b = record {
-  inside = λ p low high. elim (cases_lt p middle) [ inl k ↦ b.below p k ∙ a.inside p low k | inr k ↦ b.inside p k high ];
-  below = λ p k. b.below p (omega arith) ∙ a.below p k;
-  above = λ p k. b.above p k ∙ a.above p (omega arith);
-}
-
 -- the bits of the one word that is written
 here : (words : List ℕ) (i word p : ℕ) → i < length words → p / 64 ≡ i → page_bit (set words i word) p ≡ bit_at word (p % 64)
 unfolding page_bit
@@ -105,9 +96,9 @@ filled words from to word j low high w =
     get_or-append_right (take from words) (replicate (to - from) word) from j 0 n low ∙
     get_or-replicate (to - from) (j - from) word 0 (omega arith)
 
-before : (words : List ℕ) (from to word j : ℕ) → j < from → from ≤ to → to ≤ length words →
+kept_before : (words : List ℕ) (from to word j : ℕ) → j < from → from ≤ to → to ≤ length words →
     get_or (take from words ++ replicate (to - from) word ++ drop to words) j 0 ≡ get_or words j 0
-before words from to word j low o w =
+kept_before words from to word j low o w =
     let n : length (take from words) ≡ from = length-take-le from words (omega arith) in
     let m : length (replicate (to - from) word) ≡ to - from = length-replicate (to - from) word in
     let k : length (take from words ++ replicate (to - from) word) ≡ length (take from words) + length (replicate (to - from) word) = length-append (take from words) (replicate (to - from) word) in
@@ -115,9 +106,9 @@ before words from to word j low o w =
     get_or_append_left (take from words) (replicate (to - from) word) 0 j (omega arith) ∙
     get_or-take from words j 0 low
 
-after : (words : List ℕ) (from to word j : ℕ) → to ≤ j → from ≤ to → to ≤ length words →
+kept_after : (words : List ℕ) (from to word j : ℕ) → to ≤ j → from ≤ to → to ≤ length words →
     get_or (take from words ++ replicate (to - from) word ++ drop to words) j 0 ≡ get_or words j 0
-after words from to word j high o w =
+kept_after words from to word j high o w =
     let n : length (take from words) ≡ from = length-take-le from words (omega arith) in
     let m : length (replicate (to - from) word) ≡ to - from = length-replicate (to - from) word in
     let k : length (take from words ++ replicate (to - from) word) ≡ length (take from words) + length (replicate (to - from) word) = length-append (take from words) (replicate (to - from) word) in
@@ -130,8 +121,8 @@ pub whole_words : (words : List ℕ) (from to word : ℕ) (mark : Bool) → from
 unfolding page_bit
 whole_words words from to word mark o w bits = record {
   inside = λ p low high. ap (λ m. bit_at m (p % 64)) (filled words from to word (p / 64) (omega arith) (omega arith) w) ∙ bits (p % 64) (omega arith);
-  below = λ p low. ap (λ m. bit_at m (p % 64)) (before words from to word (p / 64) (omega arith) o w);
-  above = λ p high. ap (λ m. bit_at m (p % 64)) (after words from to word (p / 64) (omega arith) o w);
+  below = λ p low. ap (λ m. bit_at m (p % 64)) (kept_before words from to word (p / 64) (omega arith) o w);
+  above = λ p high. ap (λ m. bit_at m (p % 64)) (kept_after words from to word (p / 64) (omega arith) o w);
 }
 
 -- the bits of a word that is all ones, or all zeros
@@ -140,11 +131,3 @@ all_ones k l = bit_at_ones 64 k l
 
 pub all_zeros : (k : ℕ) → k < 64 → bit_at 0 k ≡ bit_of false
 all_zeros k l = bit_at-zero k
-
--- a run by its words, in one word or in several
-pub run_at : {old new : List ℕ} {first end first' end' : ℕ} {mark : Bool} → first ≡ first' → end ≡ end' → WritesRun old new first end mark → WritesRun old new first' end' mark
-run_at {first = first} {end = end} {first' = first'} {end' = end'} f e r = record {
-  inside = λ p low high. r.inside p (omega arith) (omega arith);
-  below = λ p low. r.below p (omega arith);
-  above = λ p high. r.above p (omega arith);
-}

@@ -9,6 +9,3 @@ mod page_words;
 pub use bitmap::{Bitmap, NewBitmap};
 pub use offset_bitmap::{BaseSlice, RefSlice};
 pub use page_bitmap::PageBitmap;
-
-#[cfg(test)]
-mod tests;

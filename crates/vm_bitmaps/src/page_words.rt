@@ -6,7 +6,7 @@ ghost use Rattle.vm_bitmaps.specs.Words.{WritesBits, WritesRun};
 use std::alloc::{AllocError, Global};
 
 // Words of zeros.
-pub fn zeros(alloc: Global, count: usize) -> Result<Vec<u64>, AllocError>
+pub(crate) fn zeros(alloc: Global, count: usize) -> Result<Vec<u64>, AllocError>
     ensures { IfOk result (λ words. words.items ≡ replicate count 0) }
 {
     let words = vec![in alloc; 0; count]?;
@@ -14,7 +14,7 @@ pub fn zeros(alloc: Global, count: usize) -> Result<Vec<u64>, AllocError>
 }
 
 // As many words of zeros as `words` has, from its allocator.
-pub fn zeros_like(words: &Vec<u64>) -> Result<Vec<u64>, AllocError>
+pub(crate) fn zeros_like(words: &Vec<u64>) -> Result<Vec<u64>, AllocError>
     ensures zeros { IfOk result (λ zeros. zeros.items ≡ replicate (length words.now.items) 0) }
     ensures fits { (i : ℕ) → slice_index words.now.items i < 2 ^ 64 }
 {
@@ -22,7 +22,7 @@ pub fn zeros_like(words: &Vec<u64>) -> Result<Vec<u64>, AllocError>
 }
 
 // Makes each word 0.
-pub fn clear(words: &mut [u64])
+pub(crate) fn clear(words: &mut [u64])
     ensures { words.new ≡ replicate (length words.old) 0 }
 {
     words.fill(0);
@@ -80,7 +80,7 @@ fn write_whole_words(words: &mut [u64], from: usize, to: usize, mark: bool)
 
 // Writes the pages from `first` up to `last`, and `last` too.
 #[inline]
-pub fn write_run(words: &mut [u64], first: usize, last: usize, mark: bool)
+pub(crate) fn write_run(words: &mut [u64], first: usize, last: usize, mark: bool)
     requires ordered { first ≤ last }
     requires within { last < 64 * length words.old }
     ensures { WritesRun words.old words.new first (last + 1) mark }

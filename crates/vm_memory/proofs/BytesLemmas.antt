@@ -11,7 +11,8 @@ use Rattle.vm_memory_core.specs.Window.{byte_in, put_all}
 use Rattle.vm_memory_core.specs.Access.{count_of, in_full, read_over, written_over, ReadsSome, ReadsAll, WritesSome, WritesAll}
 use Rattle.vm_memory.specs.Layout.{Region, place}
 use Rattle.vm_memory.specs.Memory.{Memory, memory_of, circular, located, location, reached, byte, stored_all, transferred}
-use Rattle.vm_memory.specs.Bytes.{and_after, places_at, unless_none, reached_by, length-places_at}
+use Rattle.vm_memory.specs.Bytes.{and_after, places_at, unless_none, reached_by}
+use Rattle.vm_memory.specs.ReachedBytes.{length-places_at}
 use Rattle.vm_memory.specs.declared.error.GuestMemoryError.{GuestMemoryError}
 use Rattle.vm_memory.specs.declared.error.GuestMemoryError.TheVariants.{InvalidGuestAddress, PartialBuffer}
 use Rattle.vm_memory.proofs.Places.{Where, bytes-located, stored_all-zip, length-circular}

@@ -99,10 +99,6 @@ region_of-shared f (item ∷ items) (suc i) arc x h e is = region_of-shared f it
 abbrev pub fault_from : List Region → ℕ → Option GuestRegionCollectionError
 fault_from l i = fault_after (region_of l (i - 1)) (drop i l)
 
-pub fault_from-one : (l : List Region) → 0 < length l → fault_of l ≡ fault_from l 1
-fault_from-one [] h = absurd (omega arith)
-fault_from-one (r ∷ l) h = refl
-
 pub fault_step : (l : List Region) (i : ℕ) → i < length l → fault_from l i ≡ option_or (fault_between (region_of l (i - 1)) (region_of l i)) (fault_from l (i + 1))
 unfolding fault_after
 fault_step l i h =

@@ -6,13 +6,11 @@ use Rattle.std.specs.List.{list_all}
 use Rattle.std.proofs.lemmas.Bool.Decides.{nat_tests}
 use Rattle.std.proofs.lemmas.List.{map-append, length-map, take_more, length-take-le, get_or_at, length_push, length-replicate}
 use Rattle.vm_values.specs.declared.address.GuestAddress.{GuestAddress}
-use Rattle.vm_memory_core.specs.Window.{LiesIn}
-use Rattle.vm_memory.specs.Regions.{whole_of}
 use Rattle.vm_memory_core.specs.Host.{Block, host_of, lengths}
 use Rattle.std.specs.Arc.{arc_value}
 use Rattle.std.specs.declared.sync.Arc.{Arc}
 use Rattle.vm_memory.specs.Layout.{Region, regions_of, AreHeld}
-use Rattle.vm_memory.specs.Making.{fresh, grown, grown_by, regions_from, is_good, IsRegionMade, AreRegionsMade}
+use Rattle.vm_memory.specs.Making.{zero_block, grown, grown_by, regions_from, is_good, IsRegionMade, AreRegionsMade}
 use Rattle.vm_memory.specs.Collecting.{unless}
 use Rattle.vm_memory.specs.declared.error.GuestRegionCollectionError.{GuestRegionCollectionError}
 use Rattle.vm_memory.specs.declared.error.FromRangesError.{FromRangesError}
@@ -47,7 +45,7 @@ all_more xs i d x h e all some fits =
 
 grown_by-push : (count : ℕ → ℕ) (blocks : List Block) (xs : List Range) (x : Range) → grown_by count blocks (xs ++ x ∷ []) ≡ grown count (grown_by count blocks xs) x.1
 grown_by-push count blocks xs x =
-    let f : Range → Block = λ (r : Range). fresh count r.1 in
+    let f : Range → Block = λ (r : Range). zero_block count r.1 in
     ap (λ l. blocks ++ l) (map-append f xs (x ∷ [])) ∙ sym (append_assoc blocks (map f xs) (f x ∷ []))
 
 pub grown_more : (count : ℕ → ℕ) (blocks now new : List Block) (xs : List Range) (i : ℕ) (d x : Range) → i < length xs → get_or xs i d ≡ x → now ≡ grown_by count blocks (take i xs) → new ≡ grown count now x.1 →
@@ -57,7 +55,7 @@ grown_more count blocks now new xs i d x h e before is =
 
 pub length-grown_by : (count : ℕ → ℕ) (blocks : List Block) (xs : List Range) (i : ℕ) → i ≤ length xs → length (grown_by count blocks (take i xs)) ≡ length blocks + i
 length-grown_by count blocks xs i h =
-    let f : Range → Block = λ (r : Range). fresh count r.1 in
+    let f : Range → Block = λ (r : Range). zero_block count r.1 in
     length-append blocks (map f (take i xs)) ∙ ap (λ n. length blocks + n) (length-map (take i xs) f ∙ length-take-le i xs h)
 
 regions_from-push : (xs : List Range) (n : ℕ) (x : Range) → regions_from n (xs ++ x ∷ []) ≡ regions_from n xs ++ record { start = x.0.0; size = x.1; block = n + length xs } ∷ []
@@ -85,14 +83,14 @@ shared-push items new arc r e is =
 abbrev length_of : Block → ℕ
 length_of b = length b.bytes
 
-abbrev fresh_lengths : (ℕ → ℕ) → List Range → List ℕ
-fresh_lengths count xs = map length_of (map (λ (r : Range). fresh count r.1) xs)
+abbrev new_lengths : (ℕ → ℕ) → List Range → List ℕ
+new_lengths count xs = map length_of (map (λ (r : Range). zero_block count r.1) xs)
 
-held_from : (count : ℕ → ℕ) (xs : List Range) (front : List ℕ) → AreHeld (front ++ fresh_lengths count xs) (regions_from (length front) xs)
+held_from : (count : ℕ → ℕ) (xs : List Range) (front : List ℕ) → AreHeld (front ++ new_lengths count xs) (regions_from (length front) xs)
 held_from count [] front = tt
 held_from count (x ∷ xs) front =
     let y : ℕ = length (replicate x.1 0) in
-    let rest : List ℕ = fresh_lengths count xs in
+    let rest : List ℕ = new_lengths count xs in
     let more = held_from count xs (front ++ y ∷ []) in
     let there : AreHeld (front ++ y ∷ rest) (regions_from (length (front ++ y ∷ [])) xs) = subst (λ (ls : List ℕ). AreHeld ls (regions_from (length (front ++ y ∷ [])) xs)) (append_assoc front (y ∷ []) rest) more in (
       omega (arith, length-append front (y ∷ rest)),
@@ -103,8 +101,8 @@ held_from count (x ∷ xs) front =
 pub held_made : (count : ℕ → ℕ) (before after : List Block) (xs : List Range) → after ≡ grown_by count before xs → AreHeld (lengths (host_of after)) (regions_from (length before) xs)
 held_made count before after xs e =
     let from = held_from count xs (map length_of before) in
-    let there : AreHeld (map length_of before ++ fresh_lengths count xs) (regions_from (length before) xs) = subst (λ n. AreHeld (map length_of before ++ fresh_lengths count xs) (regions_from n xs)) (length-map before length_of) from in
-    subst (λ (ls : List ℕ). AreHeld ls (regions_from (length before) xs)) (sym (ap (map length_of) e ∙ map-append length_of before (map (λ (r : Range). fresh count r.1) xs))) there
+    let there : AreHeld (map length_of before ++ new_lengths count xs) (regions_from (length before) xs) = subst (λ n. AreHeld (map length_of before ++ new_lengths count xs) (regions_from n xs)) (length-map before length_of) from in
+    subst (λ (ls : List ℕ). AreHeld ls (regions_from (length before) xs)) (sym (ap (map length_of) e ∙ map-append length_of before (map (λ (r : Range). zero_block count r.1) xs))) there
 
 pub unless_ok : (fault : Option GuestRegionCollectionError) (regions layout : List Region) → ◌≡◌ {A = Result (List Region) GuestRegionCollectionError} (Ok layout) (unless fault regions) → layout ≡ regions
 unless_ok None regions layout e = cc
@@ -120,15 +118,3 @@ refused_at count blocks now new xs i d x (MmapRegion mmap.OutOfMemory) h at good
 refused_at count blocks now new xs i d x InvalidGuestRegion h at good before made =
     (i, x, (good, slice_get-get_or xs i d h ∙ ap Some at), made.1, made.0, grown_more count blocks now new xs i d x h at before made.2)
 refused_at count blocks now new xs i d x OutOfMemory h at good before made = (i, good, made.1 ∙ before)
-
--- the block of one region is in memory
-pub lies_made : (count : ℕ → ℕ) (before after : List Block) (size : ℕ) → after ≡ grown count before size → LiesIn (lengths (host_of after)) (record { block = length before; offset = 0; len = size })
-lies_made count before after size e =
-    let y : ℕ = length (replicate size 0) in
-    let all : map length_of after ≡ map length_of before ++ y ∷ [] = ap (map length_of) e ∙ map-append length_of before (fresh count size ∷ []) in
-    let same = length-map before length_of in
-    let there : get_or (map length_of before ++ y ∷ []) (length before) 0 ≡ size = get_or_at (map length_of before) y [] 0 (length before) same ∙ length-replicate size 0 in
-    subst (λ (ls : List ℕ). (length before < length ls) × (0 + size ≤ get_or ls (length before) 0)) (sym all) (omega (arith, length-append (map length_of before) (y ∷ []), same), omega (arith, there))
-
-pub lies_there : (count : ℕ → ℕ) (before after : List Block) (base size : ℕ) (r : Region) → IsRegionMade count before after base size (Ok r) → LiesIn (lengths (host_of after)) (whole_of r)
-lies_there count before after base size r m = rw m.2 (lies_made count before after size m.3)

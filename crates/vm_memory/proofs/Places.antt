@@ -11,7 +11,7 @@ use Rattle.vm_memory_core.specs.Table.{is_within}
 use Rattle.vm_memory_core.specs.Host.{Host, Place, byte_at}
 use Rattle.vm_memory_core.specs.Window.{Window, LiesIn, places_of, span, byte_in, put_byte, put_all}
 use Rattle.vm_memory_core.proofs.WindowLemmas.{take-put, zip-append}
-use Rattle.vm_memory.specs.Layout.{Region, place, region_at, AllFrom, IsLayout, AreHeld}
+use Rattle.vm_memory.specs.Layout.{Region, left_at, place, region_at, AllFrom, IsLayout, AreHeld}
 use Rattle.vm_memory.specs.Regions.{window_in}
 use Rattle.vm_memory.specs.declared.error.GuestMemoryError.{GuestMemoryError}
 use Rattle.vm_memory.specs.declared.error.GuestMemoryError.TheVariants.{InvalidBackendAddress}
@@ -48,10 +48,6 @@ place_here (r ∷ l) zero a d is h low high = rw (within_true r a low high)
 place_here (r ∷ l) (suc i) a d is h low high =
     let above = from_at l (r.start + r.size) i d is.2 (omega arith) in
     rw (within_false r a (λ _. omega arith)) (place_here l i a d is.3 (omega arith) low high)
-
-pub place_next : (r : Region) (l : List Region) (a : ℕ) → is_within r.start r.size a ≡ false → place (r ∷ l) a ≡ place l a
-unfolding place
-place_next r l a out = rw out
 
 -- ---- lists of addresses
 
@@ -214,9 +210,6 @@ put_none : (ps : List Place) (h : Host) → h ≡ put_all h (zip ps [])
 unfolding put_all
 put_none [] h = refl
 put_none (p ∷ ps) h = refl
-
-abbrev stored_to : Host → List Region → ℕ → Option Place → Memory
-stored_to h l x o = stored_at (memory_of h l) 0 x o
 
 stored_one : (a x : ℕ) (as' xs : List ℕ) (ps qs : List Place) (p : Place) (l : List Region) (h : Host) → place l a ≡ Some p → ps ≡ p ∷ qs →
     stored_all (memory_of (put_byte h p x) l) (zip as' xs) ≡ memory_of (put_all (put_byte h p x) (zip qs xs)) l →
@@ -451,6 +444,14 @@ window_found l a most start size r w is found from many some fits e =
     let same = window_there l a most start size r w found from many e in
     let n : ℕ = min (r.size - (a - r.start)) most in
     rw same (omega arith, omega arith, omega arith, run_in l a n r is found (omega arith))
+
+-- it is as long as its region and what is asked for allow
+pub window_longest : (l : List Region) (a most start size : ℕ) (r : Region) (w : Window) → Some r ≡ region_at l a → start ≡ r.start → size ≡ r.size →
+    ok_of w ≡ window_in r (a - start) (min (size - (a - start)) most) → w.len ≡ min most (left_at l a)
+window_longest l a most start size r w found from many e =
+    let low = start_below l a r found in
+    let same = window_there l a most start size r w found from many e in
+    ap (λ (v : Window). v.len) same ∙ rw (← found) (omega arith)
 
 pub window_held : (lengths : List ℕ) (l : List Region) (a most start size : ℕ) (r : Region) (w : Window) → Some r ≡ region_at l a → start ≡ r.start → size ≡ r.size →
     ok_of w ≡ window_in r (a - start) (min (size - (a - start)) most) → AreHeld lengths l → LiesIn lengths w

@@ -47,7 +47,8 @@ Inserts r layout (Err UnsortedMemoryRegions) = ⊥
 Inserts r layout (Err OutOfMemory) = Unit {0}
 
 -- the layout that is left, and the region that was shared
-abbrev pub with_removed : {X Z : Type 0} → (X → Region) → Result (List Region × Arc X Z) GuestRegionCollectionError → Result (List Region × Region) GuestRegionCollectionError
+abbrev pub with_removed : {X Z : Type 0} → (X → Region) → Result (List Region × Arc X Z) GuestRegionCollectionError
+    → Result (List Region × Region) GuestRegionCollectionError
 with_removed region (Ok left) = Ok (left.0, region (arc_value left.1))
 with_removed region (Err e) = Err e
 

@@ -5,7 +5,7 @@ use Rattle.std.specs.Option.{option_or}
 use Rattle.std.specs.Arc.{arc_value}
 use Rattle.std.specs.declared.sync.Arc.{Arc}
 use Rattle.vm_memory_core.specs.Table.{is_within}
-use Rattle.vm_memory_core.specs.Host.{Place}
+use Rattle.vm_memory_core.specs.Host.{Block, Place, host_of, lengths}
 
 -- size addresses from start on, which are the offsets of a block from 0 on
 pub record Region : Type 0 where
@@ -43,6 +43,18 @@ place-same l m a e = let same : l ≡ m = cc in rw same refl
 unfoldable pub region_at : List Region → ℕ → Option Region
 region_at [] a = None
 region_at (r ∷ rs) a = if is_within r.start r.size a then Some r else region_at rs a
+
+-- how many addresses from one on its region still has
+abbrev pub left_of : ℕ → Option Region → ℕ
+left_of a None = 0
+left_of a (Some r) = r.start + r.size - a
+
+abbrev pub left_at : List Region → ℕ → ℕ
+left_at layout a = left_of a (region_at layout a)
+
+-- layouts that are the same have as many addresses left
+pub left_at-same : (l m : List Region) (a : ℕ) → ◌≡◌ {A = Option (List Region)} (Some l) (Some m) → left_at l a ≡ left_at m a
+left_at-same l m a e = let same : l ≡ m = cc in rw same refl
 
 -- the regions that are shared
 abbrev pub regions_of : {X Z : Type 0} → (X → Region) → List (Arc X Z) → List Region
@@ -94,3 +106,7 @@ IsLayout (r ∷ rs) = (0 < r.size) × (r.start + r.size ≤ 2 ^ 64) × AllFrom (
 abbrev pub AreHeld : List ℕ → List Region → Type 0
 AreHeld lengths [] = Unit {0}
 AreHeld lengths (r ∷ rs) = (r.block < length lengths) × (slice_index_or lengths r.block 0 ≡ r.size) × AreHeld lengths rs
+
+-- the blocks of a host have the regions, each as long as its block
+abbrev pub HostHolds : List Block → List Region → Type 0
+HostHolds blocks layout = AreHeld (lengths (host_of blocks)) layout

@@ -4,6 +4,9 @@ pub mod Collecting
 pub mod Memory
 pub mod Backend
 pub mod Bytes
+pub mod ReachedBytes
+pub mod Numbers
 pub mod Making
 pub mod Slices
 pub mod MemorySlices
+pub mod OneProof

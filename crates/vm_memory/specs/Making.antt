@@ -13,12 +13,12 @@ use Rattle.vm_memory.specs.declared.error.MmapRegionError.{MmapRegionError}
 use Rattle.vm_memory.specs.declared.error.MmapRegionError.TheVariants as mmap
 
 -- a new block of zeros, none of whose pages is marked
-abbrev pub fresh : (ℕ → ℕ) → ℕ → Block
-fresh count size = record { bytes = replicate size 0; marks = replicate (count size) false }
+abbrev pub zero_block : (ℕ → ℕ) → ℕ → Block
+zero_block count size = record { bytes = replicate size 0; marks = replicate (count size) false }
 
 -- the host's blocks with a new one
 abbrev pub grown : (ℕ → ℕ) → List Block → ℕ → List Block
-grown count blocks size = blocks ++ fresh count size ∷ []
+grown count blocks size = blocks ++ zero_block count size ∷ []
 
 -- a new block of some size, which is not 0
 abbrev pub IsMapped : (count : ℕ → ℕ) → (before after : List Block) → (size : ℕ) → Result Backing MmapRegionError → Type 0
@@ -56,14 +56,15 @@ regions_from n (range ∷ rest) = record { start = range.0.0; size = range.1; bl
 
 -- the host's blocks with a new one for each of some ranges
 abbrev pub grown_by : (ℕ → ℕ) → List Block → List (GuestAddress × ℕ) → List Block
-grown_by count blocks ranges = blocks ++ map (λ range. fresh count range.1) ranges
+grown_by count blocks ranges = blocks ++ map (λ range. zero_block count range.1) ranges
 
 -- the k-th range is the first bad one
 abbrev pub IsFirstBad : List (GuestAddress × ℕ) → (k : ℕ) → GuestAddress × ℕ → Type 0
 IsFirstBad ranges k bad = (list_all is_good (take k ranges) ≡ true) × (slice_get ranges k ≡ Some bad)
 
 -- regions over new blocks, one for each range up to the first that is refused; their blocks stay in the host
-abbrev pub AreRegionsMade : (count : ℕ → ℕ) → (before after : List Block) → List (GuestAddress × ℕ) → Result (List Region) FromRangesError → Type 0
+abbrev pub AreRegionsMade : (count : ℕ → ℕ) → (before after : List Block) → List (GuestAddress × ℕ)
+    → Result (List Region) FromRangesError → Type 0
 AreRegionsMade count before after ranges (Ok regions) =
     (list_all is_good ranges ≡ true) × (regions ≡ regions_from (length before) ranges) × (after ≡ grown_by count before ranges)
 AreRegionsMade count before after ranges (Err (Collection e)) = ⊥
@@ -71,7 +72,8 @@ AreRegionsMade count before after ranges (Err (MmapRegion mmap.Mmap)) =
     (k : ℕ) × (bad : GuestAddress × ℕ) × IsFirstBad ranges k bad × (bad.1 ≡ 0) × (after ≡ grown_by count before (take k ranges))
 AreRegionsMade count before after ranges (Err (MmapRegion mmap.OutOfMemory)) = ⊥
 AreRegionsMade count before after ranges (Err InvalidGuestRegion) =
-    (k : ℕ) × (bad : GuestAddress × ℕ) × IsFirstBad ranges k bad × (2 ^ 64 < bad.0.0 + bad.1) × (0 < bad.1) × (after ≡ grown_by count before (take (k + 1) ranges))
+    (k : ℕ) × (bad : GuestAddress × ℕ) × IsFirstBad ranges k bad × (2 ^ 64 < bad.0.0 + bad.1) × (0 < bad.1)
+    × (after ≡ grown_by count before (take (k + 1) ranges))
 AreRegionsMade count before after ranges (Err OutOfMemory) =
     (k : ℕ) × (list_all is_good (take k ranges) ≡ true) × (after ≡ grown_by count before (take k ranges))
 

@@ -1,6 +1,6 @@
 -- Memory as a device sees it: each address is translated by itself.
-use Rattle.std.specs.Prelude.{ℕ, zero, suc, ◌+◌, ◌%◌, ◌^◌, ◌==◌, Bool, false, ◌&&◌, nat_lt, List, [], ◌∷◌, ◌++◌, map, Option, Some, None, if◌then◌else◌, unwrap_or, option_and_then, slice_get, is_some, option_map, Result, Ok, Err}
-use Rattle.std.specs.List.{list_all}
+use Rattle.std.specs.Prelude.{ℕ, zero, suc, ◌+◌, ◌%◌, ◌^◌, ◌==◌, Bool, false, ◌&&◌, nat_lt, List, [], ◌∷◌, ◌++◌, map, take, drop, Option, Some, None, if◌then◌else◌, unwrap_or, option_and_then, slice_get, is_some, option_map, Result, Ok, Err}
+use Rattle.std.specs.List.{list_all, zip}
 use Rattle.std.specs.Int.{Width, byte_len, from_le_bytes}
 use Rattle.vm_memory_core.specs.declared.permissions.Permissions.{Permissions}
 use Rattle.vm_memory_core.specs.declared.permissions.Permissions.TheVariants.{Read, Write}
@@ -90,6 +90,14 @@ located where_is (a ∷ as') = option_and_then (λ p. option_map (λ ps. p ∷ p
 unfoldable pub reached : (ℕ → Option Place) → List ℕ → ℕ
 reached where_is [] = 0
 reached where_is (a ∷ as') = if is_some (where_is a) then suc (reached where_is as') else 0
+
+-- a buffer after the first k of some addresses were read to its front
+abbrev pub read_first : Memory → List ℕ → (k : ℕ) → (old : List ℕ) → List ℕ
+read_first m as' k old = map (byte m) (take k as') ++ drop k old
+
+-- the memory after bytes were written at the first k of some addresses
+abbrev pub stored_first : Memory → List ℕ → (k : ℕ) → List ℕ → Memory
+stored_first m as' k bytes = stored_all m (zip (take k as') bytes)
 
 -- a list that stands before the one that is there, if one is
 abbrev pub after : {X : Type 0} → List X → Option (List X) → Option (List X)

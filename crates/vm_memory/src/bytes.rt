@@ -1,10 +1,11 @@
 //! Bytes of guest memory and of regions by address (vm-memory's `Bytes` and `GuestMemoryRegionBytes`).
 
-ghost use Rattle.std.specs.Prelude.{◌≡◌, ◌==◌, length, if◌then◌else◌, Result, Ok, Err};
-ghost use Rattle.vm_memory_core.specs.Host.{host_of, lengths};
+ghost use Rattle.std.specs.Prelude.{◌≡◌, ◌==◌, if◌then◌else◌, Result, Ok, Err};
+ghost use Rattle.vm_memory_core.specs.Host.{lengths};
 ghost use Rattle.vm_memory.specs.Layout.{AreHeld};
 ghost use Rattle.vm_memory_core.specs.Window.{LiesIn};
-ghost use Rattle.vm_memory.specs.Bytes.{length-reached_by, length-reached_in, reached_by, reached_in};
+ghost use Rattle.vm_memory.specs.Bytes.{reached_by, reached_in};
+ghost use Rattle.vm_memory.specs.ReachedBytes.{length-reached_by, length-reached_in};
 ghost use Rattle.vm_memory.specs.Regions.{whole_of};
 ghost use Rattle.vm_memory.specs.declared.error.GuestMemoryError.TheVariants.{InvalidGuestAddress, PartialBuffer};
 

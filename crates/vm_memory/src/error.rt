@@ -1,5 +1,7 @@
 //! Why guest memory is not made, or not reached.
 
+ghost use Rattle.std.specs.Prelude.{◌≡◌};
+
 use thiserror::Error;
 use vm_values::GuestAddress;
 
@@ -10,6 +12,20 @@ pub enum MmapRegionError {
     Mmap,
     #[error("out of memory")]
     OutOfMemory,
+}
+
+impl MmapRegionError {
+    ghost use Rattle.vm_memory.specs.Numbers.{mmap_number};
+
+    /// The number that tells the error apart.
+    pub fn number(&self) -> u8
+        ensures { result ≡ mmap_number self.now }
+    {
+        match self {
+            MmapRegionError::Mmap => 1,
+            MmapRegionError::OutOfMemory => 2,
+        }
+    }
 }
 
 /// Why regions are no layout, or a layout could not change (vm-memory's `GuestRegionCollectionError`).
@@ -25,6 +41,22 @@ pub enum GuestRegionCollectionError {
     OutOfMemory,
 }
 
+impl GuestRegionCollectionError {
+    ghost use Rattle.vm_memory.specs.Numbers.{collection_number};
+
+    /// The number that tells the error apart.
+    pub fn number(&self) -> u8
+        ensures { result ≡ collection_number self.now }
+    {
+        match self {
+            GuestRegionCollectionError::NoMemoryRegion => 1,
+            GuestRegionCollectionError::MemoryRegionOverlap => 2,
+            GuestRegionCollectionError::UnsortedMemoryRegions => 3,
+            GuestRegionCollectionError::OutOfMemory => 4,
+        }
+    }
+}
+
 /// Why ranges give no guest memory (vm-memory's `FromRangesError`).
 #[derive(Clone, Copy, Debug, PartialEq, Eq, Error)]
 pub enum FromRangesError {
@@ -36,6 +68,22 @@ pub enum FromRangesError {
     InvalidGuestRegion,
     #[error("out of memory")]
     OutOfMemory,
+}
+
+impl FromRangesError {
+    ghost use Rattle.vm_memory.specs.Numbers.{ranges_number};
+
+    /// The number that tells the error apart.
+    pub fn number(&self) -> u8
+        ensures { result ≡ ranges_number self.now }
+    {
+        match self {
+            FromRangesError::Collection(_) => 1,
+            FromRangesError::MmapRegion(_) => 2,
+            FromRangesError::InvalidGuestRegion => 3,
+            FromRangesError::OutOfMemory => 4,
+        }
+    }
 }
 
 /// Why guest memory is not read or written (vm-memory's `GuestMemoryError`).
@@ -56,4 +104,22 @@ pub enum GuestMemoryError {
     HostAddressNotAvailable,
     #[error("out of memory")]
     OutOfMemory,
+}
+
+impl GuestMemoryError {
+    ghost use Rattle.vm_memory.specs.Numbers.{memory_number};
+
+    /// The number that tells the error apart; 5 is kept for an IOMMU's errors.
+    pub fn number(&self) -> u8
+        ensures { result ≡ memory_number self.now }
+    {
+        match self {
+            GuestMemoryError::InvalidGuestAddress(_) => 1,
+            GuestMemoryError::PartialBuffer { .. } => 2,
+            GuestMemoryError::InvalidBackendAddress => 3,
+            GuestMemoryError::GuestAddressOverflow => 4,
+            GuestMemoryError::HostAddressNotAvailable => 6,
+            GuestMemoryError::OutOfMemory => 7,
+        }
+    }
 }

@@ -1,13 +1,14 @@
 //! Guest memory by address: what is there, reads and writes (vm-memory's `GuestMemoryMmap`).
 
-ghost use Rattle.std.specs.Prelude.{◌≡◌, ◌+◌, ◌++◌, ◌^◌, ◌<◌, ◌≤◌, ℕ, List, None, Some, Ok, IfSome, IfOk, length, take, drop, map, if◌then◌else◌};
-ghost use Rattle.std.specs.List.{zip, list_all};
+ghost use Rattle.std.specs.Prelude.{◌≡◌, ◌+◌, ◌^◌, ◌<◌, ◌≤◌, ℕ, List, None, Some, Ok, IfSome, IfOk, length, min, if◌then◌else◌};
+ghost use Rattle.std.specs.List.{list_all};
 ghost use Rattle.std.specs.Option.{is_some};
 ghost use Rattle.vm_memory_core.specs.Host.{host_of, lengths};
 ghost use Rattle.vm_memory_core.specs.Window.{places, places_of, LiesIn, AllLieIn};
-ghost use Rattle.vm_memory.specs.Layout.{place, regions_of, AreHeld};
+ghost use Rattle.vm_memory.specs.Layout.{left_at, place, AreHeld, HostHolds};
 ghost use Rattle.vm_memory.specs.Making.{shared_regions, AreRegionsMade, IsMadeOf};
-ghost use Rattle.vm_memory.specs.Memory.{memory_of, addresses, circular, located, reached, after, byte, stored_all, transferred};
+ghost use Rattle.vm_memory.specs.Memory.{memory_of, addresses, circular, located, reached, after, read_first, stored_first, transferred};
+ghost use Rattle.vm_memory.specs.Slices.{AddsLongest};
 
 use crate::collection::GuestRegionCollection;
 use crate::error::{FromRangesError, GuestMemoryError};
@@ -31,7 +32,7 @@ impl GuestRegionCollection<GuestRegionMmap> {
         ranges: &[(GuestAddress, usize)],
     ) -> Result<GuestMemoryMmap, FromRangesError>
         ensures made { IsMadeOf B.count host.old host.new ranges.now result }
-        ensures held { IfOk result (AreHeld (lengths (host_of host.new))) }
+        ensures held { IfOk result (HostHolds host.new) }
     {
         match regions_over(alloc, host, ranges) {
             Ok(regions) => match GuestRegionCollection::from_arc_regions(alloc, regions) {
@@ -79,6 +80,7 @@ impl<R: GuestMemoryRegion> GuestRegionCollection<R> {
         ensures none { result ≡ None → place self.now addr ≡ None }
         ensures some { IfSome result (λ w. (0 < w.len) × (w.len ≤ most) × (addr + w.len ≤ 2 ^ 64)
             × (located (place self.now) (addresses addr w.len) ≡ Some (places_of w))) }
+        ensures longest { IfSome result (λ w. w.len ≡ min most (left_at self.now addr)) }
         ensures held { (lengths : List ℕ) → AreHeld lengths self.now → IfSome result (LiesIn lengths) }
     {
         window_at(self, addr, most)
@@ -117,6 +119,7 @@ impl<R: GuestMemoryRegion> GuestRegionCollection<R> {
     ) -> Result<bool, AllocError>
         ensures found { IfOk result (λ found.
             after (places windows.old.items) (located (place self.now) (circular addr.0 len)) ≡ (if found then Some (places windows.new.items) else None)) }
+        ensures longest { AddsLongest (left_at self.now) (circular addr.0 len) windows.old.items windows.new.items }
         ensures held { (lengths : List ℕ) → AreHeld lengths self.now → AllLieIn lengths windows.old.items → AllLieIn lengths windows.new.items }
     {
         let mut done = 0;
@@ -137,9 +140,9 @@ impl<R: GuestMemoryRegion> GuestRegionCollection<R> {
         buffer: &mut [u8],
         addr: u64,
     ) -> usize
-        requires { AreHeld (lengths (host_of host.now)) self.now }
+        requires { HostHolds host.now self.now }
         ensures count { result ≡ reached (place self.now) (circular addr (length buffer.old)) }
-        ensures bytes { buffer.new ≡ map (byte (memory_of (host_of host.now) self.now)) (take result (circular addr (length buffer.old))) ++ drop result buffer.old }
+        ensures bytes { buffer.new ≡ read_first (memory_of (host_of host.now) self.now) (circular addr (length buffer.old)) result buffer.old }
     {
         let mut done = 0;
         while done < buffer.len() {
@@ -160,9 +163,10 @@ impl<R: GuestMemoryRegion> GuestRegionCollection<R> {
         bytes: &[u8],
         addr: u64,
     ) -> usize
-        requires { AreHeld (lengths (host_of host.old)) self.now }
+        requires { HostHolds host.old self.now }
         ensures count { result ≡ reached (place self.now) (circular addr (length bytes.now)) }
-        ensures stored { memory_of (host_of host.new) self.now ≡ stored_all (memory_of (host_of host.old) self.now) (zip (take result (circular addr (length bytes.now))) bytes.now) }
+        ensures stored { memory_of (host_of host.new) self.now
+            ≡ stored_first (memory_of (host_of host.old) self.now) (circular addr (length bytes.now)) result bytes.now }
         ensures lengths { lengths (host_of host.new) ≡ lengths (host_of host.old) }
     {
         let mut done = 0;
@@ -185,10 +189,10 @@ impl<R: GuestMemoryRegion> GuestRegionCollection<R> {
         buffer: &mut [u8],
         addr: GuestAddress,
     ) -> Result<(), GuestMemoryError>
-        requires { AreHeld (lengths (host_of host.now)) self.now }
+        requires { HostHolds host.now self.now }
         ensures result { result ≡ transferred addr (length buffer.old) (reached (place self.now) (circular addr.0 (length buffer.old))) }
-        ensures bytes { let all = circular addr.0 (length buffer.old) in let n = reached (place self.now) all in
-            buffer.new ≡ map (byte (memory_of (host_of host.now) self.now)) (take n all) ++ drop n buffer.old }
+        ensures bytes { let all = circular addr.0 (length buffer.old) in
+            buffer.new ≡ read_first (memory_of (host_of host.now) self.now) all (reached (place self.now) all) buffer.old }
     {
         let completed = self.read_some(host, buffer, addr.0);
         outcome(addr, buffer.len(), completed)
@@ -202,10 +206,11 @@ impl<R: GuestMemoryRegion> GuestRegionCollection<R> {
         bytes: &[u8],
         addr: GuestAddress,
     ) -> Result<(), GuestMemoryError>
-        requires { AreHeld (lengths (host_of host.old)) self.now }
+        requires { HostHolds host.old self.now }
         ensures result { result ≡ transferred addr (length bytes.now) (reached (place self.now) (circular addr.0 (length bytes.now))) }
         ensures stored { let all = circular addr.0 (length bytes.now) in
-            memory_of (host_of host.new) self.now ≡ stored_all (memory_of (host_of host.old) self.now) (zip (take (reached (place self.now) all) all) bytes.now) }
+            memory_of (host_of host.new) self.now
+            ≡ stored_first (memory_of (host_of host.old) self.now) all (reached (place self.now) all) bytes.now }
         ensures lengths { lengths (host_of host.new) ≡ lengths (host_of host.old) }
     {
         let completed = self.write_some(host, bytes, addr.0);

@@ -23,6 +23,3 @@ pub use mmap::MmapRegion;
 pub use region::{GuestMemoryRegion, GuestRegionMmap, HostAddress};
 pub use slice_iterator::GuestMemoryBackendSliceIterator;
 pub use slices::{GuestMemorySliceIterator, SlicesBeforeError};
-
-#[cfg(test)]
-mod tests;

@@ -6,10 +6,10 @@ ghost use Rattle.std.specs.List.{list_all};
 ghost use Rattle.vm_memory_core.specs.Host.{Host, Place, host_of};
 ghost use Rattle.vm_memory_core.specs.Window.{Window};
 ghost use Rattle.vm_memory_core.specs.declared.permissions.Permissions.{Permissions};
-ghost use Rattle.vm_memory.specs.Layout.{Region, place, place-same};
+ghost use Rattle.vm_memory.specs.Layout.{Region, left_at, left_at-same, place, place-same};
 ghost use Rattle.vm_memory.specs.Memory.{circular};
 ghost use Rattle.vm_memory.specs.declared.error.GuestMemoryError.{GuestMemoryError};
-ghost use Rattle.vm_memory.specs.Slices.{AreAllOf, Gives};
+ghost use Rattle.vm_memory.specs.Slices.{AreAllOf, Gives, slices_from};
 
 use crate::backend::GuestMemoryBackend;
 use crate::collection::GuestRegionCollection;
@@ -69,6 +69,9 @@ pub trait GuestMemory {
     // where an address is in a host, for an access
     ghost where_is: { Self → Host → Permissions → ℕ → Option Place };
 
+    // how many addresses from one on a window has at most, for an access
+    ghost longest: { Self → Host → Permissions → ℕ → ℕ };
+
     // the layout, if its addresses are those that a device uses
     ghost physical: { Self → Option (List Region) };
 
@@ -90,17 +93,19 @@ pub trait GuestMemory {
         count: usize,
         access: Permissions,
     ) -> Result<GuestMemorySlices<'a, Self::PhysicalMemory>, GuestMemoryError>
-        ensures slices { IfOk result (λ s. slices_of s ≡ record { where_is = where_is self.now (host_of h.now) access; left = circular addr.0 count }) }
+        ensures slices { IfOk result (λ s. slices_of s
+            ≡ slices_from (where_is self.now (host_of h.now) access) (longest self.now (host_of h.now) access) addr.0 count) }
         ensures joined { IfOk result (λ s. (items : List (Result Window GuestMemoryError)) → Drains (λ s r t. Gives (slices_of s) r (slices_of t)) s items
-            → AreAllOf (record { where_is = where_is self.now (host_of h.now) access; left = circular addr.0 count }) items) }
+            → AreAllOf (slices_from (where_is self.now (host_of h.now) access) (longest self.now (host_of h.now) access) addr.0 count) items) }
         ensures never_refused { IsSome (physical self.now) → IsOk result };
 
     /// The memory by physical addresses, if these are the addresses that a device uses.
     fn physical_memory(&self) -> Option<&Self::PhysicalMemory>
         ensures { option_map (λ m. Self.PhysicalMemory.layout m.now) result ≡ physical self.now };
 
-    // a layout says where its addresses are
-    ghost by_layout: { (m : Self) (layout : List Region) (h : Host) (access : Permissions) (a : ℕ) → physical m ≡ Some layout → where_is m h access a ≡ place layout a };
+    // a layout says where its addresses are, and that a window ends with its region
+    ghost by_layout: { (m : Self) (layout : List Region) (h : Host) (access : Permissions) (a : ℕ) → physical m ≡ Some layout
+        → (where_is m h access a ≡ place layout a) × (longest m h access a ≡ left_at layout a) };
 }
 
 impl<R: GuestMemoryRegion> GuestMemory for GuestRegionCollection<R> {
@@ -108,9 +113,11 @@ impl<R: GuestMemoryRegion> GuestMemory for GuestRegionCollection<R> {
 
     ghost where_is = { λ m h access a. place m a };
 
+    ghost longest = { λ m h access a. left_at m a };
+
     ghost physical = { λ m. Some m };
 
-    ghost by_layout = { λ m layout h access a same. place-same m layout a same };
+    ghost by_layout = { λ m layout h access a same. (place-same m layout a same, left_at-same m layout a same) };
 
     fn check_range<B: NewBitmap>(
         &self,

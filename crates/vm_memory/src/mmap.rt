@@ -1,7 +1,6 @@
 //! A block of the host that stands behind a region (vm-memory's `MmapRegion`).
 
 ghost use Rattle.std.specs.Prelude.{◌≡◌, ◌<◌, ◌^◌};
-ghost use Rattle.vm_memory_core.specs.Host.{host_of};
 ghost use Rattle.vm_memory.specs.Making.{IsMapped, backing_at};
 
 use crate::error::MmapRegionError;
@@ -10,7 +9,7 @@ use std::marker::Model;
 use vm_memory_core::{HostMemory, NewBitmap};
 
 /// All bytes of a block of host memory, at least one.
-#[derive(Clone, Copy)]
+#[derive(Clone, Copy, Debug)]
 pub struct MmapRegion {
     size: usize,
     block: usize,

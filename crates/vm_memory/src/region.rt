@@ -1,6 +1,6 @@
 //! A region of guest addresses over a block of host memory (vm-memory's `GuestMemoryRegion` and `GuestRegionMmap`).
 
-ghost use Rattle.std.specs.Prelude.{◌≡◌, ◌+◌, ◌-◌, ◌<◌, ◌≤◌, ◌^◌, nat_lt, IfOk};
+ghost use Rattle.std.specs.Prelude.{◌≡◌, ◌+◌, ◌-◌, ◌<◌, nat_lt, IfOk};
 ghost use Rattle.vm_memory_core.specs.Host.{host_of, lengths};
 ghost use Rattle.vm_memory_core.specs.Window.{LiesIn};
 ghost use Rattle.vm_memory.specs.Layout.{IsLawful, Region, last_address};
@@ -133,7 +133,7 @@ pub trait GuestMemoryRegion: Drop {
 }
 
 /// Addresses from `start` on, which are the bytes of a block from its first on.
-#[derive(Clone, Copy)]
+#[derive(Clone, Copy, Debug)]
 pub struct GuestRegionMmap {
     start: u64,
     size: u64,

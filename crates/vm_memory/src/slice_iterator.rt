@@ -1,9 +1,9 @@
 //! Windows of a range of physical addresses (vm-memory's `GuestMemoryBackendSliceIterator`).
 
-ghost use Rattle.std.specs.Prelude.{◌≡◌, ◌+◌, ◌<◌, ◌≤◌, ◌^◌, ℕ, List, length, Some, None, IfSome};
+ghost use Rattle.std.specs.Prelude.{◌≡◌, ◌+◌, ◌<◌, ◌≤◌, ◌^◌, ℕ, List, length, min, Some, None, IfSome};
 ghost use Rattle.std.specs.Iterator.{at_most};
 ghost use Rattle.vm_memory_core.specs.Window.{places_of, LiesIn};
-ghost use Rattle.vm_memory.specs.Layout.{place, AreHeld};
+ghost use Rattle.vm_memory.specs.Layout.{left_at, place, AreHeld};
 ghost use Rattle.vm_memory.specs.Memory.{addresses, circular, located};
 ghost use Rattle.vm_memory.specs.Slices.{slices_in, Gives};
 
@@ -105,6 +105,7 @@ pub(crate) fn window_at<M: GuestMemoryBackend>(
     ensures none { result ≡ None → place (M.layout memory.now) addr ≡ None }
     ensures some { IfSome result (λ w. (0 < w.len) × (w.len ≤ most) × (addr + w.len ≤ 2 ^ 64)
         × (located (place (M.layout memory.now)) (addresses addr w.len) ≡ Some (places_of w))) }
+    ensures longest { IfSome result (λ w. w.len ≡ min most (left_at (M.layout memory.now) addr)) }
     ensures held { (lengths : List ℕ) → AreHeld lengths (M.layout memory.now) → IfSome result (LiesIn lengths) }
 {
     match memory.find_region(GuestAddress(addr)) {

@@ -23,13 +23,15 @@ pub trait GuestMemorySliceIterator: Iterator<Item = Result<VolatileSlice, GuestM
     ghost callable: { (s : Self) → Self.can_next s };
 
     // what comes next is that of the addresses that are left
-    ghost by_address: { (s : Self) (r : Option (Result Window GuestMemoryError)) (t : Self) → Self.next_gives s r t → Gives (slices s) r (slices t) };
+    ghost by_address: { (s : Self) (r : Option (Result Window GuestMemoryError)) (t : Self)
+        → Self.next_gives s r t → Gives (slices s) r (slices t) };
 
     /// The windows before the first error, or the error that comes first.
     final fn stop_on_error(self) -> Result<SlicesBeforeError<Self>, GuestMemoryError>
     where
         Self: Sized,
-        ensures outcome { MatchResult result (λ s. (first_error (slices self) ≡ None) × (slices s.slices ≡ slices self)) (λ e. first_error (slices self) ≡ Some e) }
+        ensures outcome { MatchResult result (λ s. (first_error (slices self) ≡ None) × (slices s.slices ≡ slices self))
+            (λ e. first_error (slices self) ≡ Some e) }
         ensures joined { IfOk result (λ s. (windows : List Window) → Drains (λ s r t. GivesWindow (slices s.slices) r (slices t.slices)) s windows
             → AreWindowsOf (slices self) windows) }
     {

@@ -4,7 +4,7 @@ use Rattle.std.specs.List.{zip}
 use Rattle.vm_values.specs.Fields.{Field, AllFit, spelled}
 use Rattle.vm_memory_core.specs.Host.{Host, Place}
 use Rattle.vm_memory_core.specs.Window.{Window, byte_in, places_of, put_all}
-use Rattle.vm_memory_core.specs.Parts.{reached}
+use Rattle.vm_memory_core.specs.Parts.{reached_part}
 use Rattle.vm_memory_core.specs.declared.error.VolatileMemoryError.{VolatileMemoryError}
 
 -- how many places are reached
@@ -45,14 +45,16 @@ pub record ReadsSome {E : Type 0} (Reaches : Result (List Place) E → Type 0) (
   pub bytes : new ≡ read_over h places old
 
 -- the same, where the result tells whether the buffer was filled
-pub record ReadsAll {E : Type 0} (Reaches : Result (List Place) E → Type 0) (partial : ℕ → ℕ → E) (h : Host) (old new : List ℕ) (result : Result (Unit {0}) E) : Type 0 where
+pub record ReadsAll {E : Type 0} (Reaches : Result (List Place) E → Type 0) (partial : ℕ → ℕ → E)
+    (h : Host) (old new : List ℕ) (result : Result (Unit {0}) E) : Type 0 where
   pub places : Result (List Place) E
   pub may : Reaches places
   pub outcome : result ≡ in_full partial (length old) places
   pub bytes : new ≡ read_over h places old
 
 -- the value that the bytes of size places spell, where all of them are reached
-pub record ReadsValue {T E : Type 0} (Reaches : Result (List Place) E → Type 0) (partial : ℕ → ℕ → E) (fields : T → List Field) (size : ℕ) (h : Host) (result : Result T E) : Type 0 where
+pub record ReadsValue {T E : Type 0} (Reaches : Result (List Place) E → Type 0) (partial : ℕ → ℕ → E)
+    (fields : T → List Field) (size : ℕ) (h : Host) (result : Result T E) : Type 0 where
   pub places : Result (List Place) E
   pub may : Reaches places
   pub outcome : without_value result ≡ in_full partial size places
@@ -66,7 +68,8 @@ pub record WritesSome {E : Type 0} (Reaches : Result (List Place) E → Type 0) 
   pub stored : new ≡ written_over old places bytes
 
 -- the same, where the result tells whether all bytes were written
-pub record WritesAll {E : Type 0} (Reaches : Result (List Place) E → Type 0) (partial : ℕ → ℕ → E) (bytes : List ℕ) (old new : Host) (result : Result (Unit {0}) E) : Type 0 where
+pub record WritesAll {E : Type 0} (Reaches : Result (List Place) E → Type 0) (partial : ℕ → ℕ → E)
+    (bytes : List ℕ) (old new : Host) (result : Result (Unit {0}) E) : Type 0 where
   pub places : Result (List Place) E
   pub may : Reaches places
   pub outcome : result ≡ in_full partial (length bytes) places
@@ -79,4 +82,4 @@ places_in (Err e) = Err e
 
 -- the places of a window that n bytes from an address on reach
 abbrev pub reached_places : Window → (address n : ℕ) → Result (List Place) VolatileMemoryError
-reached_places w address n = places_in (reached w address n)
+reached_places w address n = places_in (reached_part w address n)

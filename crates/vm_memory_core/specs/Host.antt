@@ -1,6 +1,5 @@
 -- The memory of the host: numbered blocks of bytes with their marked pages, numbered tables, and numbered sets of marked I/O pages.
-use Rattle.std.specs.Prelude.{ℕ, zero, suc, ◌+◌, ◌/◌, Bool, true, false, ◌==◌, List, [], ◌∷◌, ◌++◌, length, map, replicate, Option, slice_get, slice_set, option_and_then}
-use Rattle.std.specs.List.{list_all}
+use Rattle.std.specs.Prelude.{ℕ, zero, suc, ◌+◌, ◌/◌, Bool, true, false, List, [], ◌∷◌, ◌++◌, length, map, replicate, Option, slice_get, slice_set, option_and_then}
 use Rattle.vm_memory_core.specs.Table.{Table}
 
 -- where a byte is: a block, and an offset in it
@@ -47,10 +46,6 @@ with_block_mark h p = record h { blocks = changed_at h.blocks p.block (λ b. rec
 -- the host with the page of an I/O address marked in a set
 abbrev pub with_io_mark : Host → ℕ → ℕ → Host
 with_io_mark h io a = record h { io_marks = changed_at h.io_marks io (λ marks. marked marks a) }
-
--- whether each block has a mark for each of its pages
-abbrev pub has_its_marks : Host → Bool
-has_its_marks h = list_all (λ b. length b.marks == page_count (length b.bytes)) h.blocks
 
 -- a new block: zeros, no page marked
 abbrev pub new_block : ℕ → Block

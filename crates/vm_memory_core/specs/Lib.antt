@@ -4,3 +4,4 @@ pub mod Window
 pub mod Parts
 pub mod Access
 pub mod Reached
+pub mod Numbers

@@ -57,8 +57,8 @@ abbrev pub whole_elements : (size len n : ℕ) → ℕ
 whole_elements size len n = if size == 0 then 0 else min (len / size) n
 
 -- the bytes of a window that n bytes from an address on reach: as many as there are, none of them refused
-abbrev pub reached : Window → (address n : ℕ) → Result Window VolatileMemoryError
-reached w address n =
+abbrev pub reached_part : Window → (address n : ℕ) → Result Window VolatileMemoryError
+reached_part w address n =
     if n == 0 then Ok (part_of w 0 0)
     else if nat_lt address w.len then Ok (part_of w address (min n (w.len - address)))
     else Err (OutOfBounds address)

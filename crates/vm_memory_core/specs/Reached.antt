@@ -1,4 +1,4 @@
--- An access reaches at most as many places as it asks for.
+-- An access reaches at most as many places as it asks for: proofs, of which nothing has to be believed.
 use Rattle.std.specs.Prelude.{◌≡◌, ℕ, zero, suc, ◌+◌, ◌-◌, ◌≤◌, ◌==◌, List, length, min, nat_lt, if◌then◌else◌, true, false, Result, Ok, Err, refl}
 use Rattle.std.proofs.Common.{ap, sym, subst, arith}
 use Rattle.vm_memory_core.specs.Host.{Place}
@@ -14,13 +14,14 @@ count-span zero b o = refl
 count-span (suc n) b o = ap suc (count-span n b (o + 1))
 
 -- no more than n places are reached
-abbrev AtMost : ℕ → Result (List Place) VolatileMemoryError → Type 0
+abbrev pub AtMost : {E : Type 0} → ℕ → Result (List Place) E → Type 0
 AtMost n (Ok ps) = length ps ≤ n
 AtMost n (Err e) = Unit {0}
 
-at_most : (w : Window) (a n : ℕ) → AtMost n (reached_places w a n)
-at_most w a n =
-    elim (n == 0) as (λ b. AtMost n (places_in (if b then Ok (part_of w 0 0) else (if nat_lt a w.len then Ok (part_of w a (min n (w.len - a))) else Err (OutOfBounds a))))) [
+of_window : (w : Window) (a n : ℕ) → AtMost n (reached_places w a n)
+of_window w a n =
+    let part : Result Window VolatileMemoryError = if nat_lt a w.len then Ok (part_of w a (min n (w.len - a))) else Err (OutOfBounds a) in
+    elim (n == 0) as (λ b. AtMost n (places_in (if b then Ok (part_of w 0 0) else part))) [
       | true ↦ omega (arith, count-span 0 w.block (w.offset + 0))
       | false ↦ elim (nat_lt a w.len) as (λ b. AtMost n (places_in (if b then Ok (part_of w a (min n (w.len - a))) else Err (OutOfBounds a)))) [
         | true ↦ omega (arith, count-span (min n (w.len - a)) w.block (w.offset + a))
@@ -29,4 +30,4 @@ at_most w a n =
     ]
 
 pub length-reached_places : (w : Window) (a n : ℕ) (places : List Place) → Ok places ≡ reached_places w a n → length places ≤ n
-length-reached_places w a n places e = subst (λ r. AtMost n r) (sym e) (at_most w a n)
+length-reached_places w a n places e = subst (λ r. AtMost n r) (sym e) (of_window w a n)

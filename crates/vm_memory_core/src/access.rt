@@ -9,8 +9,9 @@ ghost use Rattle.vm_memory_core.specs.Reached.{length-reached_places};
 ghost use Rattle.vm_memory_core.specs.declared.permissions.Permissions.{Permissions};
 ghost use Rattle.vm_memory_core.specs.declared.error.VolatileMemoryError.TheVariants.{PartialBuffer};
 
+use crate::copy::put_at;
 use crate::error::VolatileMemoryError;
-use crate::host::{HostMemory, put_at};
+use crate::host::HostMemory;
 use crate::permissions::Permissions;
 use crate::window::VolatileSlice;
 use vm_bitmaps::NewBitmap;
@@ -71,7 +72,8 @@ pub trait Bytes<A> {
         addr: A,
     ) -> Result<(), Self::E>
         requires { IsHeld self.now (host_of h.old) }
-        ensures written { WritesAll (Reaches self.now (host_of h.old) addr (length buf.now) Permissions.Write) partial buf.now (host_of h.old) (host_of h.new) result }
+        ensures written { WritesAll (Reaches self.now (host_of h.old) addr (length buf.now) Permissions.Write) partial
+            buf.now (host_of h.old) (host_of h.new) result }
         ensures held { IsHeld self.now (host_of h.new) }
         ensures lengths { lengths (host_of h.new) ≡ lengths (host_of h.old) };
 
@@ -101,7 +103,8 @@ pub trait Bytes<A> {
         addr: A,
     ) -> Result<(), Self::E>
         requires { IsHeld self.now (host_of h.old) }
-        ensures written { WritesAll (Reaches self.now (host_of h.old) addr T.SIZE Permissions.Write) partial (spelled (T.fields value)) (host_of h.old) (host_of h.new) result }
+        ensures written { WritesAll (Reaches self.now (host_of h.old) addr T.SIZE Permissions.Write) partial
+            (spelled (T.fields value)) (host_of h.old) (host_of h.new) result }
         ensures held { IsHeld self.now (host_of h.new) }
         ensures lengths { lengths (host_of h.new) ≡ lengths (host_of h.old) }
     {
@@ -132,7 +135,7 @@ impl Bytes<usize> for VolatileSlice {
         buf: &mut [u8],
         addr: usize,
     ) -> Result<usize, VolatileMemoryError> {
-        match self.reached(addr, buf.len()) {
+        match self.reached_part(addr, buf.len()) {
             Ok(window) => {
                 put_at(buf, 0, h.bytes(window));
                 Ok(window.len())
@@ -147,7 +150,7 @@ impl Bytes<usize> for VolatileSlice {
         buf: &[u8],
         addr: usize,
     ) -> Result<usize, VolatileMemoryError> {
-        match self.reached(addr, buf.len()) {
+        match self.reached_part(addr, buf.len()) {
             Ok(window) => {
                 h.write(window, &buf[..window.len()]);
                 Ok(window.len())

@@ -1,15 +1,23 @@
 //! Copies between windows and lists of values, and from one window to another.
 
-ghost use Rattle.std.specs.Prelude.{◌≡◌, ◌≢◌, ◌+◌, ◌*◌, ◌<◌, ◌≤◌, ◌++◌, length, map, take, drop, min};
-ghost use Rattle.std.specs.List.{zip};
+ghost use Rattle.std.specs.Prelude.{◌≡◌, ◌+◌, ◌*◌, ◌<◌, ◌≤◌, ◌++◌, length, map, take, drop, min};
 ghost use Rattle.vm_memory_core.specs.Host.{host_of, lengths};
-ghost use Rattle.vm_memory_core.specs.Window.{LiesIn, byte_in, places_of, put_all, span};
+ghost use Rattle.vm_memory_core.specs.Window.{LiesIn, Stores, byte_in, places_of};
 ghost use Rattle.vm_memory_core.specs.Parts.{EachFits, part_of, spelled_all, whole_elements};
 
 use crate::host::HostMemory;
 use crate::window::VolatileSlice;
 use vm_bitmaps::NewBitmap;
 use vm_values::ByteValued;
+
+/// Puts bytes in a buffer from `at` on.
+pub fn put_at(buffer: &mut [u8], at: usize, bytes: &[u8])
+    requires { at + length bytes.now ≤ length buffer.old }
+    ensures stored { buffer.new ≡ take at buffer.old ++ bytes.now ++ drop (at + length bytes.now) buffer.old }
+    ensures len { length buffer.new ≡ length buffer.old }
+{
+    buffer[at..at + bytes.len()].copy_from_slice(bytes);
+}
 
 // Reads the values that some bytes spell, one after another.
 fn get_values<T: ByteValued>(bytes: &[u8], out: &mut [T])
@@ -71,7 +79,8 @@ impl VolatileSlice {
     /// (vm-memory's `VolatileSlice::copy_from`).
     pub fn copy_from<T: ByteValued, B: NewBitmap>(&self, h: &mut HostMemory<B>, values: &[T])
         requires { LiesIn (lengths (host_of h.old)) self.now }
-        ensures stored { host_of h.new ≡ put_all (host_of h.old) (zip (places_of self.now) (spelled_all T.fields (take (whole_elements T.SIZE self.now.len (length values.now)) values.now))) }
+        ensures stored { Stores h.old h.new (places_of self.now)
+            (spelled_all T.fields (take (whole_elements T.SIZE self.now.len (length values.now)) values.now)) }
         ensures lengths { lengths (host_of h.new) ≡ lengths (host_of h.old) }
     {
         let count = whole_values::<T>(self.len(), values.len());
@@ -84,7 +93,7 @@ impl VolatileSlice {
     pub fn copy_to_volatile_slice<B: NewBitmap>(&self, h: &mut HostMemory<B>, dest: VolatileSlice)
         requires source { LiesIn (lengths (host_of h.old)) self.now }
         requires dest { LiesIn (lengths (host_of h.old)) dest }
-        ensures stored { host_of h.new ≡ put_all (host_of h.old) (zip (places_of dest) (map (byte_in (host_of h.old)) (places_of self.now))) }
+        ensures stored { Stores h.old h.new (places_of dest) (map (byte_in (host_of h.old)) (places_of self.now)) }
         ensures lengths { lengths (host_of h.new) ≡ lengths (host_of h.old) }
     {
         let count = self.len().min(dest.len());

@@ -1,10 +1,9 @@
 //! Values, and arrays of values, in a window (vm-memory's `VolatileRef`, `VolatileArrayRef`).
 
 ghost use Rattle.std.specs.Prelude.{◌≡◌, ◌==◌, ◌+◌, ◌*◌, ◌<◌, ◌≤◌, length, map, take, drop};
-ghost use Rattle.std.specs.List.{zip};
 ghost use Rattle.vm_values.specs.Fields.{AllFit, spelled};
 ghost use Rattle.vm_memory_core.specs.Host.{host_of, lengths};
-ghost use Rattle.vm_memory_core.specs.Window.{LiesIn, byte_in, places_of, put_all};
+ghost use Rattle.vm_memory_core.specs.Window.{LiesIn, Stores, byte_in, places_of};
 ghost use Rattle.vm_memory_core.specs.Parts.{EachFits, elements_copied, part_of, spelled_all, sub_elements, sub_window};
 
 use crate::error::VolatileMemoryError;
@@ -18,7 +17,7 @@ use vm_values::ByteValued;
 const MOST_BYTES: usize = 0x7fff_ffff_ffff_ffff;
 
 /// The place of a value in host memory: a window of its size (vm-memory's `VolatileRef`).
-#[derive(Clone, Copy)]
+#[derive(Clone, Copy, Debug)]
 pub struct VolatileRef<T: ByteValued> {
     place: VolatileSlice,
     of: PhantomData<T>,
@@ -50,7 +49,7 @@ impl<T: ByteValued> VolatileRef<T> {
     /// Writes a value's bytes, and marks their pages.
     pub fn store<B: NewBitmap>(&self, h: &mut HostMemory<B>, value: T)
         requires { LiesIn (lengths (host_of h.old)) self.now }
-        ensures stored { host_of h.new ≡ put_all (host_of h.old) (zip (places_of self.now) (spelled (T.fields value))) }
+        ensures stored { Stores h.old h.new (places_of self.now) (spelled (T.fields value)) }
         ensures lengths { lengths (host_of h.new) ≡ lengths (host_of h.old) }
     {
         let mut buffer = [0; 256];
@@ -75,7 +74,7 @@ impl<T: ByteValued> VolatileRef<T> {
 }
 
 /// The places of values that stand one after another in host memory (vm-memory's `VolatileArrayRef`).
-#[derive(Clone, Copy)]
+#[derive(Clone, Copy, Debug)]
 pub struct VolatileArrayRef<T: ByteValued> {
     window: VolatileSlice,
     count: usize,
@@ -146,7 +145,7 @@ impl<T: ByteValued> VolatileArrayRef<T> {
     pub fn store<B: NewBitmap>(&self, h: &mut HostMemory<B>, index: usize, value: T)
         requires lies { LiesIn (lengths (host_of h.old)) self.now.window }
         requires some { index < self.now.count }
-        ensures stored { host_of h.new ≡ put_all (host_of h.old) (zip (places_of (part_of self.now.window (index * T.SIZE) T.SIZE)) (spelled (T.fields value))) }
+        ensures stored { Stores h.old h.new (places_of (part_of self.now.window (index * T.SIZE) T.SIZE)) (spelled (T.fields value)) }
         ensures lengths { lengths (host_of h.new) ≡ lengths (host_of h.old) }
     {
         self.ref_at(index).store(h, value);
@@ -157,7 +156,8 @@ impl<T: ByteValued> VolatileArrayRef<T> {
     pub fn copy_to<B: NewBitmap>(&self, h: &HostMemory<B>, values: &mut [T]) -> usize
         requires { LiesIn (lengths (host_of h.now)) self.now.window }
         ensures count { result ≡ elements_copied T.SIZE self.now.count (length values.old) }
-        ensures bytes { spelled_all T.fields (take result values.new) ≡ map (byte_in (host_of h.now)) (places_of (part_of self.now.window 0 (result * T.SIZE))) }
+        ensures bytes { spelled_all T.fields (take result values.new)
+            ≡ map (byte_in (host_of h.now)) (places_of (part_of self.now.window 0 (result * T.SIZE))) }
         ensures fits { EachFits T.fields (take result values.new) }
         ensures rest { drop result values.new ≡ drop result values.old }
     {
@@ -168,7 +168,8 @@ impl<T: ByteValued> VolatileArrayRef<T> {
     #[tactic(auto, using(crate::proofs::ValueLemmas::whole_elements_is))]
     pub fn copy_from<B: NewBitmap>(&self, h: &mut HostMemory<B>, values: &[T])
         requires { LiesIn (lengths (host_of h.old)) self.now.window }
-        ensures stored { host_of h.new ≡ put_all (host_of h.old) (zip (places_of self.now.window) (spelled_all T.fields (take (elements_copied T.SIZE self.now.count (length values.now)) values.now))) }
+        ensures stored { Stores h.old h.new (places_of self.now.window)
+            (spelled_all T.fields (take (elements_copied T.SIZE self.now.count (length values.now)) values.now)) }
         ensures lengths { lengths (host_of h.new) ≡ lengths (host_of h.old) }
     {
         self.window.copy_from(h, values);
@@ -179,7 +180,7 @@ impl<T: ByteValued> VolatileArrayRef<T> {
     pub fn copy_to_volatile_slice<B: NewBitmap>(&self, h: &mut HostMemory<B>, dest: VolatileSlice)
         requires source { LiesIn (lengths (host_of h.old)) self.now.window }
         requires dest { LiesIn (lengths (host_of h.old)) dest }
-        ensures stored { host_of h.new ≡ put_all (host_of h.old) (zip (places_of dest) (map (byte_in (host_of h.old)) (places_of self.now.window))) }
+        ensures stored { Stores h.old h.new (places_of dest) (map (byte_in (host_of h.old)) (places_of self.now.window)) }
         ensures lengths { lengths (host_of h.new) ≡ lengths (host_of h.old) }
     {
         self.window.copy_to_volatile_slice(h, dest);

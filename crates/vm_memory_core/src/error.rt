@@ -26,6 +26,23 @@ pub enum VolatileMemoryError {
     PartialBuffer { expected: usize, completed: usize },
 }
 
+impl VolatileMemoryError {
+    ghost use Rattle.vm_memory_core.specs.Numbers.{volatile_memory_number};
+
+    /// The number that tells the error apart, from 1 on.
+    pub fn number(&self) -> u8
+        ensures { result ≡ volatile_memory_number self.now }
+    {
+        match self {
+            VolatileMemoryError::OutOfBounds { .. } => 1,
+            VolatileMemoryError::Overflow { .. } => 2,
+            VolatileMemoryError::TooBig { .. } => 3,
+            VolatileMemoryError::Misaligned => 4,
+            VolatileMemoryError::PartialBuffer { .. } => 5,
+        }
+    }
+}
+
 /// The sum of a place and an offset, in bytes (vm-memory's `compute_offset`).
 pub fn compute_offset(base: usize, offset: usize) -> Result<usize, VolatileMemoryError>
     ensures { result ≡ end_of base offset }

@@ -1,42 +1,22 @@
 //! Memory as numbered blocks, each with its dirty pages.
 
-ghost use Rattle.std.specs.Prelude.{[], ◌∷◌, IfOk, IfSome, IsSome, IsTrue, OnErr, false, ◌≡◌, ◌≢◌, ◌==◌, ◌↔◌, ◌+◌, ◌<◌, ◌≤◌, ◌^◌, ◌++◌, length, map, take, drop, replicate, slice_get, option_map, ◌*◌};
-ghost use Rattle.std.specs.List.{zip};
-ghost use Rattle.vm_bitmaps.specs.Pages.{marked_range};
-ghost use Rattle.vm_memory_core.specs.Host.{Block, host_of, lengths, byte_at, with_block};
-ghost use Rattle.std.specs.Bool.{OnFalse, OnTrue};
+ghost use Rattle.std.specs.Prelude.{[], ◌∷◌, ◌++◌, IfOk, IfSome, IsSome, IsTrue, OnErr, false, ◌≡◌, ◌↔◌, ◌<◌, ◌≤◌, ◌*◌, length, map, replicate, slice_get, option_map};
+ghost use Rattle.vm_memory_core.specs.Host.{Block, host_of, lengths, byte_at};
 ghost use Rattle.vm_memory_core.specs.Parts.{spelled_all};
-ghost use Rattle.vm_memory_core.specs.Window.{Window, places_of, LiesIn, byte_in, put_all, set_all, span};
+ghost use Rattle.vm_memory_core.specs.Window.{places_of, LiesIn, Stores, byte_in};
 
-use crate::copy::put_values;
+use crate::block::{Block, copy_across};
 use crate::window::VolatileSlice;
 use std::alloc::{AllocError, Global};
 use std::marker::Model;
 use vm_bitmaps::{NewBitmap, PageBitmap};
 use vm_values::ByteValued;
 
-#[derive(Drop)]
-struct Block<B: NewBitmap> {
-    bytes: Vec<u8>,
-    bitmap: B,
-}
-
-impl<B: NewBitmap> Model for Block<B> {
-    ghost use Rattle.std.specs.Prelude.{◌≡◌, ◌<◌, length};
-    ghost use Rattle.vm_memory_core.specs.Host.{Block};
-
-    ghost Value = { Block };
-
-    ghost view = { λ b. record { bytes = b.bytes.items; marks = B.marks b.bitmap } };
-
-    ghost invariant = { λ b. (B.page_size b.bitmap ≡ 4096) × (B.base b.bitmap ≡ 0) × (length (B.marks b.bitmap) ≡ B.count (length b.bytes.items)) × (0 < length b.bytes.items) };
-}
-
 /// The memory that guests and devices share: blocks, numbered from 0, each with a bitmap of its dirty pages.
 #[derive(Drop)]
 pub struct HostMemory<B: NewBitmap> {
     alloc: Global,
-    blocks: Vec<Block<B>>,
+    pub(crate) blocks: Vec<Block<B>>,
 }
 
 impl<B: NewBitmap> Model for HostMemory<B> {
@@ -46,87 +26,6 @@ impl<B: NewBitmap> Model for HostMemory<B> {
     ghost Value = { List Block };
 
     ghost view = { λ h. h.blocks.items };
-}
-
-/// Puts bytes in a buffer from `at` on.
-pub fn put_at(buffer: &mut [u8], at: usize, bytes: &[u8])
-    requires { at + length bytes.now ≤ length buffer.old }
-    ensures stored { buffer.new ≡ take at buffer.old ++ bytes.now ++ drop (at + length bytes.now) buffer.old }
-    ensures len { length buffer.new ≡ length buffer.old }
-{
-    buffer[at..at + bytes.len()].copy_from_slice(bytes);
-}
-
-impl<B: NewBitmap> Block<B> {
-    fn bytes(&self, offset: usize, len: usize) -> &[u8]
-        requires { offset + len ≤ length self.now.bytes }
-        ensures { result.now ≡ take len (drop offset self.now.bytes) }
-    {
-        &self.bytes[offset..][..len]
-    }
-
-    // Writes values, one after another.
-    fn write_values<T: ByteValued>(&mut self, offset: usize, values: &[T])
-        requires { offset + length values.now * T.SIZE ≤ length self.old.bytes }
-        ensures stored { self.new.bytes ≡ take offset self.old.bytes ++ spelled_all T.fields values.now ++ drop (offset + length (spelled_all T.fields values.now)) self.old.bytes }
-        ensures marked { self.new.marks ≡ marked_range 4096 self.old.marks offset (length (spelled_all T.fields values.now)) }
-        ensures fits { offset + length (spelled_all T.fields values.now) < 2 ^ 64 }
-        ensures count { length (spelled_all T.fields values.now) ≡ length values.now * T.SIZE }
-    {
-        put_values(&mut self.bytes, offset, values);
-        self.bitmap.mark_dirty(offset, values.len() * T::SIZE);
-    }
-
-    // Copies bytes from one offset to another: those that stood there before.
-    fn copy_within(&mut self, from: usize, to: usize, len: usize)
-        requires source { from + len ≤ length self.old.bytes }
-        requires dest { to + len ≤ length self.old.bytes }
-        ensures stored { self.new.bytes ≡ take to self.old.bytes ++ take len (drop from self.old.bytes) ++ drop (to + length (take len (drop from self.old.bytes))) self.old.bytes }
-        ensures marked { self.new.marks ≡ marked_range 4096 self.old.marks to (length (take len (drop from self.old.bytes))) }
-        ensures fits { to + length (take len (drop from self.old.bytes)) < 2 ^ 64 }
-        ensures count { length (take len (drop from self.old.bytes)) ≡ len }
-    {
-        self.bytes.copy_within(from..from + len, to);
-        self.bitmap.mark_dirty(to, len);
-    }
-
-    // Sets bytes, and marks no page.
-    fn set(&mut self, offset: usize, bytes: &[u8])
-        requires { offset + length bytes.now ≤ length self.old.bytes }
-        ensures { self.new ≡ record self.old { bytes = take offset self.old.bytes ++ bytes.now ++ drop (offset + length bytes.now) self.old.bytes } }
-    {
-        put_at(&mut self.bytes, offset, bytes);
-    }
-
-    fn write(&mut self, offset: usize, bytes: &[u8])
-        requires { offset + length bytes.now ≤ length self.old.bytes }
-        ensures stored { self.new.bytes ≡ take offset self.old.bytes ++ bytes.now ++ drop (offset + length bytes.now) self.old.bytes }
-        ensures marked { self.new.marks ≡ marked_range 4096 self.old.marks offset (length bytes.now) }
-        ensures fits { offset + length bytes.now < 2 ^ 64 }
-    {
-        put_at(&mut self.bytes, offset, bytes);
-        self.bitmap.mark_dirty(offset, bytes.len());
-    }
-}
-
-// Copies a window of one block to one of the same length in another.
-fn copy_across<B: NewBitmap>(blocks: &mut [Block<B>], source: VolatileSlice, dest: VolatileSlice)
-    requires source { LiesIn (lengths (host_of blocks.old)) source }
-    requires dest { LiesIn (lengths (host_of blocks.old)) dest }
-    requires len { source.len ≡ dest.len }
-    requires other { source.block ≢ dest.block }
-    ensures stored { host_of blocks.new ≡ put_all (host_of blocks.old) (zip (places_of dest) (map (byte_in (host_of blocks.old)) (places_of source))) }
-    ensures lengths { lengths (host_of blocks.new) ≡ lengths (host_of blocks.old) }
-{
-    if source.block() < dest.block() {
-        let (low, high) = blocks.split_at_mut(dest.block());
-        let bytes = low[source.block()].bytes(source.block_offset(), source.len());
-        high[0].write(dest.block_offset(), bytes);
-    } else {
-        let (low, high) = blocks.split_at_mut(source.block());
-        let bytes = high[0].bytes(source.block_offset(), source.len());
-        low[dest.block()].write(dest.block_offset(), bytes);
-    }
 }
 
 impl<B: NewBitmap> HostMemory<B> {
@@ -192,7 +91,7 @@ impl<B: NewBitmap> HostMemory<B> {
     pub fn write(&mut self, window: VolatileSlice, bytes: &[u8])
         requires lies { LiesIn (lengths (host_of self.old)) window }
         requires fits { length bytes.now ≤ window.len }
-        ensures stored { host_of self.new ≡ put_all (host_of self.old) (zip (places_of window) bytes.now) }
+        ensures stored { Stores self.old self.new (places_of window) bytes.now }
         ensures lengths { lengths (host_of self.new) ≡ lengths (host_of self.old) }
     {
         let block = &mut self.blocks[window.block()];
@@ -203,7 +102,7 @@ impl<B: NewBitmap> HostMemory<B> {
     pub(crate) fn write_values<T: ByteValued>(&mut self, window: VolatileSlice, values: &[T])
         requires lies { LiesIn (lengths (host_of self.old)) window }
         requires fits { length values.now * T.SIZE ≤ window.len }
-        ensures stored { host_of self.new ≡ put_all (host_of self.old) (zip (places_of window) (spelled_all T.fields values.now)) }
+        ensures stored { Stores self.old self.new (places_of window) (spelled_all T.fields values.now) }
         ensures lengths { lengths (host_of self.new) ≡ lengths (host_of self.old) }
     {
         let block = &mut self.blocks[window.block()];
@@ -215,7 +114,7 @@ impl<B: NewBitmap> HostMemory<B> {
         requires source { LiesIn (lengths (host_of self.old)) source }
         requires dest { LiesIn (lengths (host_of self.old)) dest }
         requires len { source.len ≡ dest.len }
-        ensures stored { host_of self.new ≡ put_all (host_of self.old) (zip (places_of dest) (map (byte_in (host_of self.old)) (places_of source))) }
+        ensures stored { Stores self.old self.new (places_of dest) (map (byte_in (host_of self.old)) (places_of source)) }
         ensures lengths { lengths (host_of self.new) ≡ lengths (host_of self.old) }
     {
         if source.block() == dest.block() {
@@ -226,9 +125,11 @@ impl<B: NewBitmap> HostMemory<B> {
         }
     }
 
-    /// The dirty pages of a block.
+    /// The dirty pages of a block, of 4096 bytes each.
     pub fn bitmap(&self, block: usize) -> Option<&B>
-        ensures { option_map (λ b. B.marks b.now) result ≡ option_map (λ b. b.marks) (slice_get self.now block) }
+        ensures size { IfSome result (λ b. B.page_size b.now ≡ 4096) }
+        ensures base { IfSome result (λ b. B.base b.now ≡ 0) }
+        ensures marks { option_map (λ b. B.marks b.now) result ≡ option_map (λ b. b.marks) (slice_get self.now block) }
     {
         match self.blocks.get(block) {
             Some(block) => Some(&block.bitmap),
@@ -245,37 +146,6 @@ impl<B: NewBitmap> HostMemory<B> {
         match self.blocks.get(block) {
             Some(block) => Some((&block.bytes, &block.bitmap)),
             None => None,
-        }
-    }
-
-    /// Reads bytes of a block, where it has all of them; else the buffer stays as it was.
-    pub fn read_block(&self, block: usize, offset: usize, buffer: &mut [u8]) -> bool
-        ensures found { IsTrue result ↔ LiesIn (lengths (host_of self.now)) (record { block = block; offset = offset; len = length buffer.old }) }
-        ensures read { OnTrue result (buffer.new ≡ map (byte_in (host_of self.now)) (span block offset (length buffer.old))) }
-        ensures refused { OnFalse result (buffer.new ≡ buffer.old) }
-    {
-        match self.window(block, offset, buffer.len()) {
-            Some(window) => {
-                buffer.copy_from_slice(self.bytes(window));
-                true
-            }
-            None => false,
-        }
-    }
-
-    /// Sets bytes of a block, where it has all of their places, and marks no page; else nothing changes.
-    pub fn write_block(&mut self, block: usize, offset: usize, bytes: &[u8]) -> bool
-        ensures found { IsTrue result ↔ LiesIn (lengths (host_of self.old)) (record { block = block; offset = offset; len = length bytes.now }) }
-        ensures set { OnTrue result (host_of self.new ≡ set_all (host_of self.old) (zip (span block offset (length bytes.now)) bytes.now)) }
-        ensures refused { OnFalse result (self.new ≡ self.old) }
-        ensures lengths { lengths (host_of self.new) ≡ lengths (host_of self.old) }
-    {
-        match self.window(block, offset, bytes.len()) {
-            Some(_) => {
-                self.blocks[block].set(offset, bytes);
-                true
-            }
-            None => false,
         }
     }
 
@@ -302,7 +172,6 @@ impl<B: NewBitmap> HostMemory<B> {
 }
 
 impl HostMemory<PageBitmap> {
-    ghost use Rattle.std.specs.Prelude.{slice_set};
     ghost use Rattle.vm_memory_core.specs.Host.{unmarked, changed_at};
 
     /// Clears the marks of a block, or changes nothing where there is no such block.

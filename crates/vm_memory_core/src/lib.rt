@@ -2,6 +2,7 @@
 #![tactic(auto)]
 
 pub mod access;
+mod block;
 mod copy;
 pub mod element;
 pub mod error;
@@ -9,14 +10,16 @@ pub mod held;
 pub mod host;
 pub mod memory;
 pub mod permissions;
+pub mod unmarked;
 pub mod window;
 pub mod windows;
 
 pub use access::Bytes;
+pub use copy::put_at;
 pub use element::{VolatileArrayRef, VolatileRef};
 pub use error::{VolatileMemoryError, compute_offset};
 pub use held::HeldIn;
-pub use host::{HostMemory, put_at};
+pub use host::HostMemory;
 pub use memory::VolatileMemory;
 pub use permissions::Permissions;
 pub use vm_bitmaps::{BaseSlice, Bitmap, NewBitmap, PageBitmap, RefSlice};
@@ -25,6 +28,3 @@ pub use vm_values::{
     Le64, MemoryRegionAddress,
 };
 pub use window::{VolatileSlice, Windows};
-
-#[cfg(test)]
-mod tests;

@@ -1,14 +1,14 @@
 //! A window over host memory (vm-memory's `VolatileSlice`).
 
 ghost use Rattle.std.specs.Prelude.{IfOk, ◌≡◌, ◌==◌, ◌+◌, ◌<◌, ◌≤◌, ◌^◌};
-ghost use Rattle.vm_memory_core.specs.Parts.{halves_of, part_of, reached, rest_of, sub_window};
+ghost use Rattle.vm_memory_core.specs.Parts.{halves_of, part_of, reached_part, rest_of, sub_window};
 
 use crate::error::{VolatileMemoryError, compute_offset};
 use smallvec::SmallVec;
 use std::marker::Model;
 
 /// Some bytes of a block of host memory. It is a plain value: calls that touch bytes are lent the host.
-#[derive(Clone, Copy, Default)]
+#[derive(Clone, Copy, Debug, Default)]
 pub struct VolatileSlice {
     block: usize,
     offset: usize,
@@ -122,12 +122,12 @@ impl VolatileSlice {
     }
 
     // The bytes that an access of `count` bytes from `addr` on reaches.
-    pub(crate) fn reached(
+    pub(crate) fn reached_part(
         &self,
         addr: usize,
         count: usize,
     ) -> Result<VolatileSlice, VolatileMemoryError>
-        ensures window { result ≡ reached self.now addr count }
+        ensures window { result ≡ reached_part self.now addr count }
         ensures block { IfOk result (λ w. w.block ≡ self.now.block) }
         ensures inside { IfOk result (λ w. w.offset + w.len ≤ self.now.offset + self.now.len) }
         ensures most { IfOk result (λ w. w.len ≤ count) }

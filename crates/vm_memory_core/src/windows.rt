@@ -1,11 +1,11 @@
 //! Reads and writes of several windows, one after another.
 
 ghost use Rattle.std.specs.Prelude.{◌≡◌, ◌≤◌, IfOk, length, map};
-ghost use Rattle.std.specs.List.{zip};
 ghost use Rattle.vm_memory_core.specs.Host.{host_of, lengths};
-ghost use Rattle.vm_memory_core.specs.Window.{places, AllLieIn, byte_in, put_all};
+ghost use Rattle.vm_memory_core.specs.Window.{places, AllLieIn, Stores, byte_in};
 
-use crate::host::{HostMemory, put_at};
+use crate::copy::put_at;
+use crate::host::HostMemory;
 use crate::window::VolatileSlice;
 use std::alloc::{AllocError, Global};
 use vm_bitmaps::NewBitmap;
@@ -16,7 +16,7 @@ impl<B: NewBitmap> HostMemory<B> {
     pub fn write_windows(&mut self, windows: &[VolatileSlice], bytes: &[u8])
         requires lie { AllLieIn (lengths (host_of self.old)) windows.now }
         requires fits { length bytes.now ≤ length (places windows.now) }
-        ensures stored { host_of self.new ≡ put_all (host_of self.old) (zip (places windows.now) bytes.now) }
+        ensures stored { Stores self.old self.new (places windows.now) bytes.now }
         ensures lengths { lengths (host_of self.new) ≡ lengths (host_of self.old) }
     {
         let mut done = 0;

@@ -6,12 +6,12 @@ use Rattle.vm_memory.proofs.slice_iterator.GuestMemoryBackendSliceIteratorIterat
 
 pub returns-then-self-eq0-clause-steps : goal.returns-then-self-eq0-clause-steps
 returns-then-self-eq0-clause-steps g c =
-    rw (← c.self.view_is) (refl, end_given _ c.self.inside.addr c.self.inside.count (omega arith))
+    rw (← c.self.view_is) (refl, end_given _ _ c.self.inside.addr c.self.inside.count (omega arith))
 
 pub returns-in-Some-clause-steps : goal.returns-in-Some-clause-steps
 returns-in-Some-clause-steps g c =
     rw (← c.self.view_is, c.len.ensures.len, c.len-in-Some.ensures.len)
-    (refl, window_taken _ c.self.inside.addr c.self.inside.count c.in-Some.window (omega arith) c.in-Some.ensures.some.0 c.in-Some.ensures.some.1 c.in-Some.ensures.some.2 c.in-Some.ensures.some.3)
+    (refl, window_taken _ _ c.self.inside.addr c.self.inside.count c.in-Some.window (omega arith) c.in-Some.ensures.some.0 c.in-Some.ensures.longest c.in-Some.ensures.some.2 c.in-Some.ensures.some.3)
 
 pub returns-in-Some-clause-goes : goal.returns-in-Some-clause-goes
 returns-in-Some-clause-goes g c =
@@ -24,7 +24,7 @@ returns-in-Some-clause-goes g c =
 pub returns-in-None-clause-steps : goal.returns-in-None-clause-steps
 returns-in-None-clause-steps g c =
     rw (← c.self.view_is)
-    (refl, error_given _ c.self.inside.addr c.self.inside.count (omega arith) (omega arith) (c.window_at.ensures.none c.in-None.is))
+    (refl, error_given _ _ c.self.inside.addr c.self.inside.count (omega arith) (omega arith) (c.window_at.ensures.none c.in-None.is))
 
 pub returns-in-None-clause-goes : goal.returns-in-None-clause-goes
 returns-in-None-clause-goes g c =

@@ -1,0 +1,38 @@
+-- The numbers that tell errors apart.
+use Rattle.std.specs.Prelude.{ℕ}
+use Rattle.vm_memory.specs.declared.error.MmapRegionError.{MmapRegionError}
+use Rattle.vm_memory.specs.declared.error.MmapRegionError.TheVariants as mmap
+use Rattle.vm_memory.specs.declared.error.GuestRegionCollectionError.{GuestRegionCollectionError}
+use Rattle.vm_memory.specs.declared.error.GuestRegionCollectionError.TheVariants as collection
+use Rattle.vm_memory.specs.declared.error.FromRangesError.{FromRangesError}
+use Rattle.vm_memory.specs.declared.error.FromRangesError.TheVariants as ranges
+use Rattle.vm_memory.specs.declared.error.GuestMemoryError.{GuestMemoryError}
+use Rattle.vm_memory.specs.declared.error.GuestMemoryError.TheVariants as memory
+
+-- why no block was made
+abbrev pub mmap_number : MmapRegionError → ℕ
+mmap_number mmap.Mmap = 1
+mmap_number mmap.OutOfMemory = 2
+
+-- why regions are no layout
+abbrev pub collection_number : GuestRegionCollectionError → ℕ
+collection_number collection.NoMemoryRegion = 1
+collection_number collection.MemoryRegionOverlap = 2
+collection_number collection.UnsortedMemoryRegions = 3
+collection_number collection.OutOfMemory = 4
+
+-- why ranges give no memory
+abbrev pub ranges_number : FromRangesError → ℕ
+ranges_number (ranges.Collection fault) = 1
+ranges_number (ranges.MmapRegion error) = 2
+ranges_number ranges.InvalidGuestRegion = 3
+ranges_number ranges.OutOfMemory = 4
+
+-- why guest memory is not read or written; 5 is kept for an IOMMU's errors
+abbrev pub memory_number : GuestMemoryError → ℕ
+memory_number (memory.InvalidGuestAddress addr) = 1
+memory_number (memory.PartialBuffer expected completed) = 2
+memory_number memory.InvalidBackendAddress = 3
+memory_number memory.GuestAddressOverflow = 4
+memory_number memory.HostAddressNotAvailable = 6
+memory_number memory.OutOfMemory = 7

@@ -1,0 +1,112 @@
+//! One block of host memory, and copies from one block to another.
+
+ghost use Rattle.std.specs.Prelude.{◌≡◌, ◌≢◌, ◌+◌, ◌<◌, ◌≤◌, ◌^◌, ◌*◌, ◌++◌, length, map, take, drop};
+ghost use Rattle.vm_bitmaps.specs.Pages.{marked_range};
+ghost use Rattle.vm_memory_core.specs.Host.{Block, host_of, lengths};
+ghost use Rattle.vm_memory_core.specs.Parts.{spelled_all};
+ghost use Rattle.vm_memory_core.specs.Window.{places_of, LiesIn, Stores, byte_in};
+
+use crate::copy::{put_at, put_values};
+use crate::window::VolatileSlice;
+use std::marker::Model;
+use vm_bitmaps::NewBitmap;
+use vm_values::ByteValued;
+
+// A block: its bytes, and their dirty pages.
+#[derive(Drop)]
+pub(crate) struct Block<B: NewBitmap> {
+    pub(crate) bytes: Vec<u8>,
+    pub(crate) bitmap: B,
+}
+
+impl<B: NewBitmap> Model for Block<B> {
+    ghost use Rattle.std.specs.Prelude.{◌≡◌, ◌<◌, length};
+    ghost use Rattle.vm_memory_core.specs.Host.{Block};
+
+    ghost Value = { Block };
+
+    ghost view = { λ b. record { bytes = b.bytes.items; marks = B.marks b.bitmap } };
+
+    ghost invariant = { λ b. (B.page_size b.bitmap ≡ 4096) × (B.base b.bitmap ≡ 0)
+        × (length (B.marks b.bitmap) ≡ B.count (length b.bytes.items)) × (0 < length b.bytes.items) };
+}
+
+impl<B: NewBitmap> Block<B> {
+    // Some of its bytes.
+    pub(crate) fn bytes(&self, offset: usize, len: usize) -> &[u8]
+        requires { offset + len ≤ length self.now.bytes }
+        ensures { result.now ≡ take len (drop offset self.now.bytes) }
+    {
+        &self.bytes[offset..][..len]
+    }
+
+    // Writes values, one after another.
+    pub(crate) fn write_values<T: ByteValued>(&mut self, offset: usize, values: &[T])
+        requires { offset + length values.now * T.SIZE ≤ length self.old.bytes }
+        ensures stored { self.new.bytes ≡ take offset self.old.bytes ++ spelled_all T.fields values.now
+            ++ drop (offset + length (spelled_all T.fields values.now)) self.old.bytes }
+        ensures marked { self.new.marks ≡ marked_range 4096 self.old.marks offset (length (spelled_all T.fields values.now)) }
+        ensures fits { offset + length (spelled_all T.fields values.now) < 2 ^ 64 }
+        ensures count { length (spelled_all T.fields values.now) ≡ length values.now * T.SIZE }
+    {
+        put_values(&mut self.bytes, offset, values);
+        self.bitmap.mark_dirty(offset, values.len() * T::SIZE);
+    }
+
+    // Copies bytes from one offset to another: those that stood there before.
+    pub(crate) fn copy_within(&mut self, from: usize, to: usize, len: usize)
+        requires source { from + len ≤ length self.old.bytes }
+        requires dest { to + len ≤ length self.old.bytes }
+        ensures stored { self.new.bytes ≡ take to self.old.bytes ++ take len (drop from self.old.bytes)
+            ++ drop (to + length (take len (drop from self.old.bytes))) self.old.bytes }
+        ensures marked { self.new.marks ≡ marked_range 4096 self.old.marks to (length (take len (drop from self.old.bytes))) }
+        ensures fits { to + length (take len (drop from self.old.bytes)) < 2 ^ 64 }
+        ensures count { length (take len (drop from self.old.bytes)) ≡ len }
+    {
+        self.bytes.copy_within(from..from + len, to);
+        self.bitmap.mark_dirty(to, len);
+    }
+
+    // Sets bytes, and marks no page.
+    pub(crate) fn set(&mut self, offset: usize, bytes: &[u8])
+        requires { offset + length bytes.now ≤ length self.old.bytes }
+        ensures { self.new ≡ record self.old { bytes = take offset self.old.bytes ++ bytes.now ++ drop (offset + length bytes.now) self.old.bytes } }
+    {
+        put_at(&mut self.bytes, offset, bytes);
+    }
+
+    // Writes bytes, and marks their pages.
+    pub(crate) fn write(&mut self, offset: usize, bytes: &[u8])
+        requires { offset + length bytes.now ≤ length self.old.bytes }
+        ensures stored { self.new.bytes ≡ take offset self.old.bytes ++ bytes.now ++ drop (offset + length bytes.now) self.old.bytes }
+        ensures marked { self.new.marks ≡ marked_range 4096 self.old.marks offset (length bytes.now) }
+        ensures fits { offset + length bytes.now < 2 ^ 64 }
+    {
+        put_at(&mut self.bytes, offset, bytes);
+        self.bitmap.mark_dirty(offset, bytes.len());
+    }
+}
+
+// Copies a window of one block to one of the same length in another.
+pub(crate) fn copy_across<B: NewBitmap>(
+    blocks: &mut [Block<B>],
+    source: VolatileSlice,
+    dest: VolatileSlice,
+)
+    requires source { LiesIn (lengths (host_of blocks.old)) source }
+    requires dest { LiesIn (lengths (host_of blocks.old)) dest }
+    requires len { source.len ≡ dest.len }
+    requires other { source.block ≢ dest.block }
+    ensures stored { Stores blocks.old blocks.new (places_of dest) (map (byte_in (host_of blocks.old)) (places_of source)) }
+    ensures lengths { lengths (host_of blocks.new) ≡ lengths (host_of blocks.old) }
+{
+    if source.block() < dest.block() {
+        let (low, high) = blocks.split_at_mut(dest.block());
+        let bytes = low[source.block()].bytes(source.block_offset(), source.len());
+        high[0].write(dest.block_offset(), bytes);
+    } else {
+        let (low, high) = blocks.split_at_mut(source.block());
+        let bytes = high[0].bytes(source.block_offset(), source.len());
+        low[dest.block()].write(dest.block_offset(), bytes);
+    }
+}
