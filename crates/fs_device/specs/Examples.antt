@@ -12,7 +12,7 @@ use Rattle.fs_queue.specs.Chain.{path, found}
 use Rattle.fs_queue.specs.Taking.{Offer, Idle, Refuses, Offers, Asks, CannotAsk, offer}
 use Rattle.virtiofsd_fuse.specs.declared.error.Error.TheVariants as error
 use Rattle.vm_values.specs.Fields as fields
-use Rattle.virtiofsd_fuse.specs.Records.{in_header}
+use Rattle.virtiofsd_fuse.specs.Records.{reading_in_header}
 use Rattle.virtiofsd_fuse.specs.Grammar.{IsFault, Replies, meaning, meant, error_bytes}
 use Rattle.fs_device.specs.declared.error.DeviceError.TheVariants as device_error
 use Rattle.fs_device.specs.Step.{State, Exchange, May, Refused, Exchanged, Step, after_return, stopped}
@@ -105,15 +105,15 @@ room_far_away = refl
 -- ---- requests
 
 unknown : meaning 0 request 16 ≡ Replies (0x10 ∷ 0 ∷ 0 ∷ 0 ∷ 0xda ∷ 0xff ∷ 0xff ∷ 0xff ∷ 1 ∷ zeros 7)
-unfolding meaning in_header meant error_bytes fields.bytes
+unfolding meaning reading_in_header meant error_bytes fields.field_bytes
 unknown = refl
 
 too_great_a_length : meaning 0 (header 0x101001 7 1) 16 ≡ Replies (0x10 ∷ 0 ∷ 0 ∷ 0 ∷ 0xf4 ∷ 0xff ∷ 0xff ∷ 0xff ∷ 1 ∷ zeros 7)
-unfolding meaning in_header meant error_bytes fields.bytes
+unfolding meaning reading_in_header meant error_bytes fields.field_bytes
 too_great_a_length = refl
 
 too_short : meaning 0 (zeros 39) 16 ≡ IsFault error.DecodeMessage
-unfolding meaning in_header meant error_bytes fields.bytes
+unfolding meaning reading_in_header meant error_bytes fields.field_bytes
 too_short = refl
 
 -- ---- whole steps, of a device whose file system is asked nothing
@@ -138,7 +138,7 @@ abbrev after_reply : Memory → Queue → State Nothing
 after_reply m q = after_return (device m q) 0 q 0 (addresses 0x2000 16) unknown_reply 0 tt
 
 one_step : Step may (device waiting queue) 0 [] (Exchanged unknown_exchange true) (after_reply waiting queue)
-unfolding offer place addresses stored_all path found meaning in_header meant error_bytes fields.bytes
+unfolding offer place addresses stored_all path found meaning reading_in_header meant error_bytes fields.field_bytes
 one_step = record {
   given = record { calls = []; options = 0; reply = unknown_reply; fault = None };
   serves = record { gives = refl; asks = refl; run = refl };
@@ -156,7 +156,7 @@ element_stands = refl
 
 -- the driver asks not to be told
 not_told : Step may (device (put waiting 0x100 (le16 1)) queue) 0 [] (Exchanged unknown_exchange false) (after_reply (put waiting 0x100 (le16 1)) queue)
-unfolding offer place addresses stored_all path found meaning in_header meant error_bytes fields.bytes
+unfolding offer place addresses stored_all path found meaning reading_in_header meant error_bytes fields.field_bytes
 not_told = record {
   given = record { calls = []; options = 0; reply = unknown_reply; fault = None };
   serves = record { gives = refl; asks = refl; run = refl };

@@ -1,6 +1,7 @@
 -- A split virtqueue: where its parts are, and its available ring (VIRTIO 1.2, 2.7 and 2.7.6).
-use Rattle.std.specs.Prelude.{ℕ, ◌+◌, ◌-◌, ◌*◌, ◌%◌, ◌^◌, Bool, false, not, ◌==◌, bit_and}
+use Rattle.std.specs.Prelude.{ℕ, ◌+◌, ◌-◌, ◌*◌, ◌%◌, ◌^◌, Bool, false, not}
 use Rattle.std.specs.Int.{w16}
+pub use Rattle.vm_values.specs.Bits.{has_bit}
 use Rattle.vm_memory.specs.Memory.{Memory, number}
 use Rattle.fs_queue.specs.declared.layout.QueueLayout.{QueueLayout}
 
@@ -20,10 +21,6 @@ fresh size desc avail used = record { size = size; desc = desc; avail = avail; u
 -- a queue of this layout at a position, which isn't stopped
 abbrev pub at_position : QueueLayout → (position : ℕ) → Queue
 at_position l position = record { size = l.size; desc = l.desc; avail = l.avail; used = l.used; position = position; stopped = false }
-
--- whether bit k of a number is 1
-abbrev pub has_bit : ℕ → ℕ → Bool
-has_bit n k = not (bit_and n (2 ^ k) == 0)
 
 -- how many chains the driver has made available that were not taken
 abbrev pub waiting : Memory → Queue → ℕ

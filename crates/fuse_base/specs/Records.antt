@@ -7,7 +7,9 @@ use Rattle.fuse_base.specs.declared.records.FileLock.{FileLock}
 
 -- struct fuse_attr, 88 bytes
 abbrev pub attr : Attr → List Field
-attr r = q r.ino ∷ q r.size ∷ q r.blocks ∷ q r.atime ∷ q r.mtime ∷ q r.ctime ∷ d r.atimensec ∷ d r.mtimensec ∷ d r.ctimensec ∷ d r.mode ∷ d r.nlink ∷ d r.uid.0 ∷ d r.gid.0 ∷ d r.rdev ∷ d r.blksize ∷ d r.flags ∷ []
+attr r =
+    q r.ino ∷ q r.size ∷ q r.blocks ∷ q r.atime ∷ q r.mtime ∷ q r.ctime ∷
+    d r.atimensec ∷ d r.mtimensec ∷ d r.ctimensec ∷ d r.mode ∷ d r.nlink ∷ d r.uid.0 ∷ d r.gid.0 ∷ d r.rdev ∷ d r.blksize ∷ d r.flags ∷ []
 
 -- struct fuse_kstatfs, 80 bytes
 abbrev pub kstatfs : Kstatfs → List Field

@@ -147,3 +147,18 @@ impl Errno {
         self.number
     }
 }
+
+// The numbers of the named errors (errno.h).
+const _: () = prove!(Errno::ENOENT.number == 2);
+
+const _: () = prove!(Errno::EIO.number == 5);
+
+const _: () = prove!(Errno::ENOMEM.number == 12);
+
+const _: () = prove!(Errno::EINVAL.number == 22);
+
+const _: () = prove!(Errno::ENOSYS.number == 38);
+
+const _: () = prove!(Errno::EPROTO.number == 71);
+
+const _: () = prove!(Errno::EOVERFLOW.number == 75);

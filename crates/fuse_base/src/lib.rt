@@ -14,6 +14,3 @@ pub use flags::{
 pub use ids::{Errno, GuestGid, GuestUid, HostGid, HostUid};
 pub use records::{Attr, FileLock, Kstatfs};
 pub use stats::{Stat, StatVfs};
-
-#[cfg(test)]
-mod tests;

@@ -85,7 +85,8 @@ impl Attr {
         G: FnOnce(HostGid) -> Result<GuestGid, Errno>,
         requires uid { U.pre uid_map (host_uid st) }
         requires gid { G.pre gid_map (host_gid st) }
-        ensures ok { IfOk result (λ a. BothMapped (λ u. U.post uid_map (host_uid st) (Ok u)) (λ g. G.post gid_map (host_gid st) (Ok g)) (λ u g. a ≡ attr_from st 0 u g)) }
+        ensures ok { IfOk result (λ a. BothMapped (λ u. U.post uid_map (host_uid st) (Ok u)) (λ g. G.post gid_map (host_gid st) (Ok g))
+            (λ u g. a ≡ attr_from st 0 u g)) }
         ensures err { IfErr result (λ e. FirstError (U.post uid_map (host_uid st)) (G.post gid_map (host_gid st)) e) }
     {
         Attr::try_with_flags(st, 0, uid_map, gid_map)
@@ -98,7 +99,8 @@ impl Attr {
         G: FnOnce(HostGid) -> Result<GuestGid, Errno>,
         requires uid { U.pre uid_map (host_uid st) }
         requires gid { G.pre gid_map (host_gid st) }
-        ensures ok { IfOk result (λ a. BothMapped (λ u. U.post uid_map (host_uid st) (Ok u)) (λ g. G.post gid_map (host_gid st) (Ok g)) (λ u g. a ≡ attr_from st flags u g)) }
+        ensures ok { IfOk result (λ a. BothMapped (λ u. U.post uid_map (host_uid st) (Ok u)) (λ g. G.post gid_map (host_gid st) (Ok g))
+            (λ u g. a ≡ attr_from st flags u g)) }
         ensures err { IfErr result (λ e. FirstError (U.post uid_map (host_uid st)) (G.post gid_map (host_gid st)) e) }
     {
         let uid = uid_map(HostUid(st.st_uid))?;

@@ -18,7 +18,16 @@ numbered number e = record { inode = number e.inode; generation = e.generation; 
 
 -- struct fuse_entry_out
 abbrev pub entry_out_of : Entry ℕ → EntryOut
-entry_out_of e = record { nodeid = e.inode; generation = e.generation; entry_valid = e.entry_timeout.seconds; attr_valid = e.attr_timeout.seconds; entry_valid_nsec = e.entry_timeout.nanos; attr_valid_nsec = e.attr_timeout.nanos; attr = e.attr }
+entry_out_of e =
+    record {
+      nodeid = e.inode;
+      generation = e.generation;
+      entry_valid = e.entry_timeout.seconds;
+      attr_valid = e.attr_timeout.seconds;
+      entry_valid_nsec = e.entry_timeout.nanos;
+      attr_valid_nsec = e.attr_timeout.nanos;
+      attr = e.attr;
+    }
 
 -- of `init`
 abbrev pub options_answer : Result FsOptions ℕ → FileAnswer

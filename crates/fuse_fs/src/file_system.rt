@@ -86,6 +86,8 @@ pub trait FileSystem {
         lock_owner: Option<u64>,
         flags: u32,
     ) -> Result<usize, Errno>
-        ensures { (bytes : List ℕ) × (W.put w.new ≡ W.put w.old ++ bytes) × (W.room w.old ≡ W.room w.new + length bytes) × IfOk result (λ n. n ≡ length bytes)
-            × may self.old (call.Read ctx (Self.Inode.number inode) (Self.Handle.number handle) (W.room w.old) size offset lock_owner flags) (data_answer result bytes) self.new };
+        ensures { (bytes : List ℕ) × (W.put w.new ≡ W.put w.old ++ bytes) × (W.room w.old ≡ W.room w.new + length bytes)
+            × IfOk result (λ n. n ≡ length bytes)
+            × may self.old (call.Read ctx (Self.Inode.number inode) (Self.Handle.number handle) (W.room w.old) size offset lock_owner flags)
+            (data_answer result bytes) self.new };
 }

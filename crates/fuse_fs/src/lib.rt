@@ -8,6 +8,3 @@ pub mod zero_copy;
 pub use answers::{Context, Entry, Timeout};
 pub use file_system::{FileNumber, FileSystem};
 pub use zero_copy::{PositionedFile, WritevFlags, ZeroCopyWriter};
-
-#[cfg(test)]
-mod tests;

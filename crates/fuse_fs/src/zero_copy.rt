@@ -31,7 +31,8 @@ pub trait PositionedFile {
     /// may give them by one copy; where it doesn't, the room is set to zero for `read_at` first.
     fn append_at(&mut self, out: &mut Vec<u8>, most: usize, off: u64) -> Result<usize, Errno>
         requires { vec_len out.old + most ≤ vec_capacity out.old }
-        ensures ok { IfOk result (λ n. (part : List ℕ) × (out.new.items ≡ out.old.items ++ part) × (n ≡ length part) × (n ≤ most) × read_gives self.old most off (Ok part) self.new) }
+        ensures ok { IfOk result (λ n. (part : List ℕ) × (out.new.items ≡ out.old.items ++ part) × (n ≡ length part) × (n ≤ most)
+            × read_gives self.old most off (Ok part) self.new) }
         ensures err { IfErr result (λ e. (out.new.items ≡ out.old.items) × read_gives self.old most off (Err e) self.new) }
         ensures capacity { vec_capacity out.old ≤ vec_capacity out.new }
     {
@@ -59,7 +60,7 @@ pub trait ZeroCopyWriter {
     ghost room: { Self → ℕ };
 
     /// Puts in what a file has at a place: it is read on until the count is done, the room is used up, or it answers 0 or
-    /// an error. A place past 2^64 - 1 is EIO.
+    /// an error, and each time it is asked for all that is left of both. A place past 2^64 - 1 is EIO.
     fn read_from_file_at<F: PositionedFile>(
         &mut self,
         file: &mut F,

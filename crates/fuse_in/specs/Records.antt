@@ -72,7 +72,9 @@ getattr_in r = d r.flags ∷ d r.dummy ∷ q r.fh ∷ []
 
 -- struct fuse_setattr_in, 88 bytes
 abbrev pub setattr_in : SetattrIn → List Field
-setattr_in r = d r.valid ∷ d r.padding ∷ q r.fh ∷ q r.size ∷ q r.lock_owner ∷ q r.atime ∷ q r.mtime ∷ q r.ctime ∷ d r.atimensec ∷ d r.mtimensec ∷ d r.ctimensec ∷ d r.mode ∷ d r.unused4 ∷ d r.uid.0 ∷ d r.gid.0 ∷ d r.unused5 ∷ []
+setattr_in r =
+    d r.valid ∷ d r.padding ∷ q r.fh ∷ q r.size ∷ q r.lock_owner ∷ q r.atime ∷ q r.mtime ∷ q r.ctime ∷
+    d r.atimensec ∷ d r.mtimensec ∷ d r.ctimensec ∷ d r.mode ∷ d r.unused4 ∷ d r.uid.0 ∷ d r.gid.0 ∷ d r.unused5 ∷ []
 
 -- struct fuse_mknod_in, 16 bytes
 abbrev pub mknod_in : MknodIn → List Field

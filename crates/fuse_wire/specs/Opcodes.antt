@@ -2,6 +2,8 @@
 use Rattle.std.specs.Prelude.{ℕ, List, [], ◌∷◌, Option, Some, None, Result, Ok, Err, slice_get, nat_lt, ◌==◌, if◌then◌else◌}
 use Rattle.fuse_wire.specs.declared.opcodes.Opcode.{Opcode}
 use Rattle.fuse_wire.specs.declared.opcodes.Opcode.TheVariants as op
+use Rattle.fuse_wire.specs.declared.opcodes.NotifyOpcode.{NotifyOpcode}
+use Rattle.fuse_wire.specs.declared.opcodes.NotifyOpcode.TheVariants as notice
 use Rattle.fuse_wire.specs.declared.opcodes.ExtType.{ExtType}
 use Rattle.fuse_wire.specs.declared.opcodes.ExtType.TheVariants.{SecCtx, SupGroups}
 
@@ -39,3 +41,13 @@ read_opcode n = read_as (opcode_of n)
 -- an extension's number as it is read: 0 to 31 count security contexts, 32 is the groups
 abbrev pub read_ext_type : ℕ → Result ExtType (Unit {0})
 read_ext_type n = if nat_lt n 32 then Ok (SecCtx n) else if n == 32 then Ok SupGroups else Err tt
+
+-- the number of a notice (enum fuse_notify_code)
+abbrev pub notice_number : NotifyOpcode → ℕ
+notice_number notice.Poll = 1
+notice_number notice.InvalInode = 2
+notice_number notice.InvalEntry = 3
+notice_number notice.Store = 4
+notice_number notice.Retrieve = 5
+notice_number notice.Delete = 6
+notice_number notice.CodeMax = 7

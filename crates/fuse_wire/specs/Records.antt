@@ -65,7 +65,9 @@ lk_out r = file_lock r.lk
 
 -- struct fuse_init_out, 64 bytes
 abbrev pub init_out : InitOut → List Field
-init_out r = d r.major ∷ d r.minor ∷ d r.max_readahead ∷ d r.flags ∷ w r.max_background ∷ w r.congestion_threshold ∷ d r.max_write ∷ d r.time_gran ∷ w r.max_pages ∷ w r.map_alignment ∷ d r.flags2 ∷ ds 7 r.unused ∷ []
+init_out r =
+    d r.major ∷ d r.minor ∷ d r.max_readahead ∷ d r.flags ∷ w r.max_background ∷ w r.congestion_threshold ∷ d r.max_write ∷
+    d r.time_gran ∷ w r.max_pages ∷ w r.map_alignment ∷ d r.flags2 ∷ ds 7 r.unused ∷ []
 
 -- struct fuse_lseek_out, 8 bytes
 abbrev pub lseek_out : LseekOut → List Field

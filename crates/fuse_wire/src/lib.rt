@@ -31,6 +31,3 @@ pub use replies::{
     AttrOut, Dirent, Direntplus, EntryOut, GetxattrOut, InitOut, LkOut, LseekOut, OpenOut,
     OutHeader, StatfsOut, WriteOut,
 };
-
-#[cfg(test)]
-mod tests;

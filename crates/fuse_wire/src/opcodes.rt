@@ -1,7 +1,7 @@
 //! Numbers that say what a message is.
 
-ghost use Rattle.std.specs.Prelude.{◌≡◌, slice_get};
-ghost use Rattle.fuse_wire.specs.Opcodes.{named, read_opcode, read_ext_type};
+ghost use Rattle.std.specs.Prelude.{◌≡◌, Some, slice_get};
+ghost use Rattle.fuse_wire.specs.Opcodes.{named, opcode_of, notice_number, read_opcode, read_ext_type};
 
 /// What a request asks for (`enum fuse_opcode`).
 #[derive(Clone, Copy, Debug, PartialEq, Eq)]
@@ -76,6 +76,24 @@ pub enum ExtType {
     SecCtx(u32),
     /// Groups of the caller.
     SupGroups,
+}
+
+impl Opcode {
+    /// Its number, by which `Opcode::try_from` gives it.
+    pub fn number(self) -> u32
+        ensures { opcode_of result ≡ Some self }
+    {
+        self as u32
+    }
+}
+
+impl NotifyOpcode {
+    /// Its number, from 1 to 7.
+    pub fn number(self) -> u32
+        ensures { result ≡ notice_number self }
+    {
+        self as u32
+    }
 }
 
 // The requests by their numbers; a hyphen stands where there is none.

@@ -2,18 +2,22 @@
 use Rattle.std.proofs.Common.{◌≡◌, ℕ, ◌+◌, ◌-◌, ◌<◌, ◌≤◌, min, List, [], ◌∷◌, ◌++◌, length, Result, Ok, refl, sym, ap, ◌∙◌, subst, arith, inl, inr, ⊎_elim, length-append, append_assoc}
 use Rattle.std.specs.List.{concat}
 use Rattle.std.proofs.lemmas.List.Folds.{concat-append}
-use Rattle.fuse_fs.specs.Transfers.{ReadsOn, ReadsEnd, Gathers}
+use Rattle.fuse_fs.specs.Transfers.{Gives, ReadsOn, ReadsEnd, Gathers}
 use Rattle.virtiofsd_fuse.specs.Transfer.{ReadsOnce}
 use Rattle.std.proofs.lemmas.List.{append-nil}
 
-module _ {F : Type 0} (gives : F → ℕ → ℕ → Result (List ℕ) ℕ → F → Type 0) where
+module _ {F : Type 0} (gives : Gives F) where
   -- reads go on by one
-  reads_more : (f : F) (most off : ℕ) (parts : List (List ℕ)) (g : F) (n : ℕ) (part : List ℕ) (h : F) → ReadsOn gives f most off parts g → n ≤ most - length (concat parts) → length part ≤ n → 0 < length part → gives g n (off + length (concat parts)) (Ok part) h → ReadsOn gives f most off (parts ++ part ∷ []) h
-  reads_more f most off [] g n part h y le lp some step =
-      (n, h, omega (arith, le), lp, some, subst (λ k. gives f n k (Ok part) h) (omega arith) (subst (λ k. gives k n (off + 0) (Ok part) h) y step), refl)
-  reads_more f most off (p ∷ parts) g n part h y le lp some step =
+  reads_more : (f : F) (most off : ℕ) (parts : List (List ℕ)) (g : F) (part : List ℕ) (h : F) → ReadsOn gives f most off parts g → length part ≤ most - length (concat parts) → 0 < length part → gives g (most - length (concat parts)) (off + length (concat parts)) (Ok part) h → ReadsOn gives f most off (parts ++ part ∷ []) h
+  reads_more f most off [] g part h y fits some step =
+      let all : most - 0 ≡ most = omega arith in
+      let here : off + 0 ≡ off = omega arith in
+      (h, omega (arith, fits), some, subst (λ k. gives f k off (Ok part) h) all (subst (λ k. gives f (most - 0) k (Ok part) h) here (subst (λ k. gives k (most - 0) (off + 0) (Ok part) h) y step)), refl)
+  reads_more f most off (p ∷ parts) g part h y fits some step =
       let e = length-append p (concat parts) in
-      (y.0, y.1, y.2, y.3, y.4, y.5, reads_more y.1 (most - length p) (off + length p) parts g n part h y.6 (omega arith) lp some (subst (λ k. gives g n k (Ok part) h) (omega arith) step))
+      let left : most - length (concat (p ∷ parts)) ≡ most - length p - length (concat parts) = omega (arith, e) in
+      let place : off + length (concat (p ∷ parts)) ≡ off + length p + length (concat parts) = omega (arith, e) in
+      (y.0, y.1, y.2, y.3, reads_more y.0 (most - length p) (off + length p) parts g part h y.4 (omega (arith, e, fits)) some (subst (λ k. gives g k (off + length p + length (concat parts)) (Ok part) h) left (subst (λ k. gives g (most - length (concat (p ∷ parts))) k (Ok part) h) place step)))
 
   -- what reads have put into a writer so far
   pub record SoFar (f : F) (most off done : ℕ) (before now : List ℕ) (free_before free : ℕ) (g : F) : Type 0 where
@@ -26,10 +30,10 @@ module _ {F : Type 0} (gives : F → ℕ → ℕ → Result (List ℕ) ℕ → F
   pub so_far_none : (f : F) (most off : ℕ) (before : List ℕ) (free : ℕ) → SoFar f most off 0 before before free free f
   so_far_none f most off before free = record { parts = []; reads = refl; count = refl; whole = sym (append-nil before); room = omega arith }
 
-  pub so_far_more : (f : F) (most off done : ℕ) (before now : List ℕ) (free_before free : ℕ) (g : F) (n : ℕ) (part new : List ℕ) (left : ℕ) (h : F) → SoFar f most off done before now free_before free g → n ≤ most - done → length part ≤ n → 0 < length part → gives g n (off + done) (Ok part) h → new ≡ now ++ part → free ≡ left + length part → SoFar f most off (done + length part) before new free_before left h
-  so_far_more f most off done before now free_before free g n part new left h s le lp some step e r = record {
+  pub so_far_more : (f : F) (most off done : ℕ) (before now : List ℕ) (free_before free : ℕ) (g : F) (part new : List ℕ) (left : ℕ) (h : F) → SoFar f most off done before now free_before free g → length part ≤ most - done → 0 < length part → gives g (most - done) (off + done) (Ok part) h → new ≡ now ++ part → free ≡ left + length part → SoFar f most off (done + length part) before new free_before left h
+  so_far_more f most off done before now free_before free g part new left h s fits some step e r = record {
     parts = s.parts ++ part ∷ [];
-    reads = reads_more f most off s.parts g n part h s.reads (omega (arith, s.count)) lp some (rw s.count step);
+    reads = reads_more f most off s.parts g part h s.reads (omega (arith, s.count, fits)) some (rw s.count step);
     count = rw (concat-append s.parts (part ∷ []), length-append (concat s.parts) (part ++ []), append-nil part, s.count) refl;
     whole = rw (e, s.whole, concat-append s.parts (part ∷ []), append-nil part) (append_assoc before (concat s.parts) part);
     room = omega (arith, s.room);
@@ -55,8 +59,8 @@ module _ {F : Type 0} (gives : F → ℕ → ℕ → Result (List ℕ) ℕ → F
         refl,
         ⊎_elim
             (λ (full : (min (count - done) free ≡ 0) × (part ≡ []) × (h ≡ g)). inl (omega (arith, full.0, most), full.2))
-            (λ (last : (m : ℕ) × (0 < m) × (m ≤ min (count - done) free) × (length part ≤ m) × gives g m place (Ok part) h).
-            inr (last.0, last.1, omega (arith, last.2, most), rw at (subst (λ p. gives g last.0 place (Ok p) h) empty last.4)))
+            (λ (last : (0 < min (count - done) free) × (n ≤ min (count - done) free) × gives g (min (count - done) free) place (Ok part) h).
+            inr (omega (arith, last.0, most), subst (λ k. gives g k (off + done) (Ok []) h) most (subst (λ k. gives g (min (count - done) free) k (Ok []) h) (sym at) (subst (λ p. gives g (min (count - done) free) place (Ok p) h) empty last.2))))
             once.1,
       ) in
       (concat s.parts, rw (e, empty, append-nil now) s.whole, omega (arith, s.room, s.count, same), record { parts = s.parts; mid = g; whole = refl; reads = s.reads; ends = rw s.count ends })
@@ -68,6 +72,7 @@ module _ {F : Type 0} (gives : F → ℕ → ℕ → Result (List ℕ) ℕ → F
       let most : min (count - done) free ≡ min count free_before - done = omega arith in
       ⊎_elim
       (λ (full : (min (count - done) free ≡ 0) × (part ≡ []) × (h ≡ g)). absurd (some (once.0 ∙ ap length full.1)))
-      (λ (last : (m : ℕ) × (0 < m) × (m ≤ min (count - done) free) × (length part ≤ m) × gives g m place (Ok part) h).
-      (omega (arith, once.0, last.2, last.3, within), rw once.0 (so_far_more f (min count free_before) off done before now free_before free g last.0 part new left h s (omega (arith, last.2, most)) last.3 (let m : 0 < length part = omega (arith, once.0, some) in m) (rw at last.4) e r)))
+      (λ (last : (0 < min (count - done) free) × (n ≤ min (count - done) free) × gives g (min (count - done) free) place (Ok part) h).
+      let step : gives g (min count free_before - done) (off + done) (Ok part) h = subst (λ k. gives g k (off + done) (Ok part) h) most (subst (λ k. gives g (min (count - done) free) k (Ok part) h) (sym at) last.2) in
+      (omega (arith, once.0, last.1, within), rw once.0 (so_far_more f (min count free_before) off done before now free_before free g part new left h s (omega (arith, last.1, most, once.0)) (omega (arith, once.0, some)) step e r)))
       once.1

@@ -3,7 +3,7 @@ use Rattle.std.proofs.Common.{◌≡◌, ℕ, ◌+◌, ◌<◌, ◌≤◌, List,
 use Rattle.std.specs.Prelude.{pos, neg_ℤ}
 use Rattle.std.proofs.lemmas.Bool.{lt-ltb, le-ltb}
 use Rattle.std.proofs.lemmas.List.{length-drop}
-use Rattle.vm_values.specs.Fields.{bytes, spelled}
+use Rattle.vm_values.specs.Fields.{field_bytes, spelled}
 use Rattle.fuse_wire.specs.Records.{out_header}
 use Rattle.fuse_wire.specs.declared.replies.OutHeader.{OutHeader}
 use Rattle.virtiofsd_fuse.specs.Grammar.{reply_bytes, error_bytes}
@@ -11,7 +11,7 @@ use Rattle.virtiofsd_fuse.specs.Serving.{sent}
 use Rattle.virtiofsd_fuse.specs.declared.error.Error.TheVariants.{EncodeMessage}
 
 pub length_header : (h : OutHeader) → length (spelled (out_header h)) ≡ 16
-unfolding bytes
+unfolding field_bytes
 length_header h = refl
 
 pub length_reply : (unique : ℕ) (body : List ℕ) → length (reply_bytes unique body) ≡ 16 + length body

@@ -14,11 +14,11 @@ use Rattle.fuse_fs.specs.declared.answers.Entry.{Entry}
 use Rattle.fuse_fs.specs.Answers.{entry_answer, data_answer}
 use Rattle.fuse_fs.specs.Calls.{suits}
 use Rattle.virtiofsd_fuse.specs.Reading.{Read, Faults, Sends, refuse, value_of}
-use Rattle.virtiofsd_fuse.specs.Records.{in_header, forget_in, read_in, init_in_compat}
-use Rattle.virtiofsd_fuse.specs.Grammar.{Meaning, IsFault, Replies, Asks, One, Starts, Given, given, one_name, row, row_of, meant, meaning, lookup_row, forget_row, read_row, lookup_call, forget_call, ended, error_bytes, reply_bytes, versions_bytes, started, known_options, read_asked, read_call, init_row, flags2_of}
-use Rattle.virtiofsd_fuse.specs.Serving.{answered, told, sent, entry_reply, data_reply}
+use Rattle.virtiofsd_fuse.specs.Records.{reading_in_header, reading_forget_in}
+use Rattle.virtiofsd_fuse.specs.Grammar.{Meaning, IsFault, Replies, Asks, One, Starts, Given, given, one_name, row, row_of, meant, meaning, lookup_row, forget_row, read_row, lookup_call, forget_call, ended, error_bytes, reply_bytes, versions_bytes, started, known_options, read_asked, read_call, init_row}
+use Rattle.virtiofsd_fuse.specs.Serving.{answer_bytes, told, sent, entry_reply, data_reply}
 use Rattle.virtiofsd_fuse.specs.declared.error.Error.{Error}
-use Rattle.virtiofsd_fuse.specs.declared.error.Error.TheVariants.{DecodeMessage, EncodeMessage}
+use Rattle.virtiofsd_fuse.specs.declared.error.Error.TheVariants.{DecodeMessage}
 use Rattle.std.proofs.lemmas.List.{drop_at}
 use Rattle.virtiofsd_fuse.proofs.ReplyLemmas.{sent_fits, length_reply, length_error}
 use Rattle.virtiofsd_fuse.proofs.Serve.{ask_of, ended_ask}
@@ -110,21 +110,15 @@ unfolding row
 meant_init g bytes h e = meant_row g bytes (Some op.Init) h e
 
 -- LOOKUP, by its name
-pub lookup_fault : (g : Given) (bytes : List ℕ) (e : Error) → Err (Faults e) ≡ value_of (one_name g.header.len 0 bytes) → ended g.header.unique (lookup_row g bytes) ≡ IsFault e
-lookup_fault g bytes e h = ended_ask g.header.unique (lookup_call g.header) (one_name g.header.len 0 bytes) ∙ ap (ask_of g.header.unique (lookup_call g.header)) (sym h)
-
 pub lookup_asks : (g : Given) (bytes name : List ℕ) → Ok name ≡ value_of (one_name g.header.len 0 bytes) → ended g.header.unique (lookup_row g bytes) ≡ Asks (One g.header.unique (lookup_call g.header name))
 lookup_asks g bytes name h = ended_ask g.header.unique (lookup_call g.header) (one_name g.header.len 0 bytes) ∙ ap (ask_of g.header.unique (lookup_call g.header)) (sym h)
 
 -- FORGET, by its record
-pub forget_fault : (g : Given) (bytes : List ℕ) (e : Error) → Err (Faults e) ≡ forget_in bytes → ended g.header.unique (forget_row g bytes) ≡ IsFault e
-forget_fault g bytes e h = rw (← h) refl
-
-pub forget_asks : (g : Given) (bytes more : List ℕ) (r : ForgetIn) → Ok (r, more) ≡ forget_in bytes → ended g.header.unique (forget_row g bytes) ≡ Asks (One g.header.unique (forget_call g.header r))
+pub forget_asks : (g : Given) (bytes more : List ℕ) (r : ForgetIn) → Ok (r, more) ≡ reading_forget_in bytes → ended g.header.unique (forget_row g bytes) ≡ Asks (One g.header.unique (forget_call g.header r))
 forget_asks g bytes more r h = rw (← h) refl
 
 -- the reply to an entry
-pub entry_told : {I : Type 0} (number : I → ℕ) (unique : ℕ) (h : InHeader) (name : List ℕ) (answer : Result (Entry I) ℕ) → entry_reply unique (entry_answer number answer) ≡ answered unique (lookup_call h name) (entry_answer number answer)
+pub entry_told : {I : Type 0} (number : I → ℕ) (unique : ℕ) (h : InHeader) (name : List ℕ) (answer : Result (Entry I) ℕ) → entry_reply unique (entry_answer number answer) ≡ answer_bytes unique (lookup_call h name) (entry_answer number answer)
 entry_told number unique h name (Ok e) = refl
 entry_told number unique h name (Err e) = refl
 
@@ -133,11 +127,11 @@ pub silent_told : (room : ℕ) (result : Result ℕ Error) (written : List ℕ) 
 silent_told room result written e w = let room_enough : 0 ≤ room = omega arith in rw (e, w, le-ltb room 0 room_enough) refl
 
 -- a request by its header
-pub meaning_head : (options room : ℕ) (request more : List ℕ) (h : InHeader) → Ok (h, more) ≡ in_header request → meaning options request room ≡ meant (given h options room) more
+pub meaning_head : (options room : ℕ) (request more : List ℕ) (h : InHeader) → Ok (h, more) ≡ reading_in_header request → meaning options request room ≡ meant (given h options room) more
 unfolding meaning
 meaning_head options room request more h e = rw (← e) refl
 
-pub meaning_fault : (options room : ℕ) (request : List ℕ) (e : Error) → Err (Faults e) ≡ in_header request → meaning options request room ≡ IsFault DecodeMessage
+pub meaning_fault : (options room : ℕ) (request : List ℕ) (e : Error) → Err (Faults e) ≡ reading_in_header request → meaning options request room ≡ IsFault DecodeMessage
 unfolding meaning
 meaning_fault options room request e h = rw (← h) refl
 
@@ -154,27 +148,7 @@ start_minor g r flags2 more a b d = rw (le-ltb r.major 7 a, le-ltb 7 r.major b, 
 pub start_asks : (g : Given) (r : InitInCompat) (flags2 : ℕ) (more : List ℕ) → 7 ≤ r.major → r.major ≤ 7 → 27 ≤ r.minor → ended g.header.unique (started g r flags2 more) ≡ Asks (Starts g.header.unique (bit_and (flags2 * 2 ^ 32 + r.flags) known_options) r.max_readahead)
 start_asks g r flags2 more a b d = rw (le-ltb r.major 7 a, le-ltb 7 r.major b, le-ltb r.minor 27 d) refl
 
-pub init_fault : (g : Given) (bytes : List ℕ) (e : Error) → Err (Faults e) ≡ init_in_compat bytes → ended g.header.unique (init_row g bytes) ≡ IsFault e
-init_fault g bytes e h = rw (← h) refl
-
-pub flags_fault : (g : Given) (bytes more : List ℕ) (r : InitInCompat) (e : Error) → Ok (r, more) ≡ init_in_compat bytes → Err (Faults e) ≡ flags2_of r more → ended g.header.unique (init_row g bytes) ≡ IsFault e
-flags_fault g bytes more r e h k = rw (← h, ← k) refl
-
-pub init_starts : (g : Given) (bytes more rest : List ℕ) (r : InitInCompat) (flags2 : ℕ) → Ok (r, more) ≡ init_in_compat bytes → Ok (flags2, rest) ≡ flags2_of r more → ended g.header.unique (init_row g bytes) ≡ ended g.header.unique (started g r flags2 rest)
-init_starts g bytes more rest r flags2 h k = rw (← h, ← k) refl
-
 -- READ, by its record
-pub read_fault : (g : Given) (bytes : List ℕ) (e : Error) → Err (Faults e) ≡ read_in bytes → ended g.header.unique (read_row g bytes) ≡ IsFault e
-read_fault g bytes e h = rw (← h) refl
-
-pub read_is_asked : (g : Given) (bytes more : List ℕ) (r : ReadIn) → Ok (r, more) ≡ read_in bytes → ended g.header.unique (read_row g bytes) ≡ ended g.header.unique (read_asked g r more)
-read_is_asked g bytes more r h = rw (← h) refl
-
-pub read_no_room : (g : Given) (r : ReadIn) (more : List ℕ) → g.room < 16 → ended g.header.unique (read_asked g r more) ≡ IsFault EncodeMessage
-read_no_room g r more h =
-    let test : nat_le 16 g.room ≡ false = grind (arith, nat_tests) in
-    rw test refl
-
 pub read_asks : (g : Given) (r : ReadIn) (more : List ℕ) → 16 ≤ g.room → ended g.header.unique (read_asked g r more) ≡ Asks (One g.header.unique (read_call g.header (g.room - 16) r))
 read_asks g r more h =
     let test : nat_le 16 g.room ≡ true = grind (arith, nat_tests) in
@@ -186,7 +160,7 @@ read_suits h room left r (Ok n) bytes e k = grind (arith, nat_tests, e)
 read_suits h room left r (Err n) bytes e k = grind (arith, nat_tests, k.0, k.1)
 
 -- a header, and the data behind it
-pub read_told : (room unique : ℕ) (h : InHeader) (left : ℕ) (r : ReadIn) (answer : Result ℕ ℕ) (front before written bytes : List ℕ) (n : ℕ) → length front ≡ 16 → before ≡ front ++ bytes → 16 + length bytes ≤ room → written ≡ data_reply unique answer (drop 16 before) → told (Ok n) written ≡ sent room (answered unique (read_call h left r) (data_answer answer bytes))
+pub read_told : (room unique : ℕ) (h : InHeader) (left : ℕ) (r : ReadIn) (answer : Result ℕ ℕ) (front before written bytes : List ℕ) (n : ℕ) → length front ≡ 16 → before ≡ front ++ bytes → 16 + length bytes ≤ room → written ≡ data_reply unique answer (drop 16 before) → told (Ok n) written ≡ sent room (answer_bytes unique (read_call h left r) (data_answer answer bytes))
 read_told room unique h left r (Ok k) front before written bytes n l e fits w =
     let back : drop 16 before ≡ bytes = rw e (drop_at front bytes 16 l) in
     ap Ok (w ∙ ap (reply_bytes unique) back) ∙ sym (sent_fits room (reply_bytes unique bytes) (rw (length_reply unique bytes) fits))

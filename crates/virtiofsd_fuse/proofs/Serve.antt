@@ -3,9 +3,9 @@ use Rattle.std.proofs.Common.{◌≡◌, ◌≤◌, ℕ, Bool, true, false, List
 use Rattle.std.proofs.lemmas.Bool.Decides.{nat_tests}
 use Rattle.std.specs.Prelude.{IsTrue, OnOk, nat_lt}
 use Rattle.fuse_fs.specs.Calls.{FileCall, FileAnswer, suits, Init}
-use Rattle.virtiofsd_fuse.specs.Reading.{Refusal, Read, and_then, value_of}
+use Rattle.virtiofsd_fuse.specs.Reading.{ReadFailure, Read, and_then, value_of}
 use Rattle.virtiofsd_fuse.specs.Grammar.{Meaning, IsFault, Replies, IsSilent, Asks, One, Starts, refused, ended}
-use Rattle.virtiofsd_fuse.specs.Serving.{Served, served, Setting, Serves, Handles, served_of, replied, no_reply, answered, options_after, start_options, start_answered, lacks_memory, is_memory, told, sent}
+use Rattle.virtiofsd_fuse.specs.Serving.{Served, served, Setting, Serves, Handles, served_of, replied, no_reply, answer_bytes, options_after, start_options, start_answered, lacks_memory, is_memory, told, sent}
 use Rattle.virtiofsd_fuse.specs.declared.error.Error.{Error}
 use Rattle.virtiofsd_fuse.specs.declared.error.Error.TheVariants.{EncodeMessage, OutOfMemory}
 
@@ -47,10 +47,10 @@ module _ {F : Type 0} (may : F → FileCall → FileAnswer → F → Type 0) whe
   handles_nothing s m before written = (refl, refl)
 
   -- one call, and its reply
-  pub handles_one : (s : Setting) (m : Meaning) (unique : ℕ) (call : FileCall) (answer : FileAnswer) (before after : F) (result : Result ℕ Error) (written : List ℕ) (options : ℕ) → m ≡ Asks (One unique call) → IsTrue (suits call answer) → may before call answer after → options ≡ options_after s.options call → told result written ≡ sent s.room (answered unique call answer) → Handles may s m before result written options after
+  pub handles_one : (s : Setting) (m : Meaning) (unique : ℕ) (call : FileCall) (answer : FileAnswer) (before after : F) (result : Result ℕ Error) (written : List ℕ) (options : ℕ) → m ≡ Asks (One unique call) → IsTrue (suits call answer) → may before call answer after → options ≡ options_after s.options call → told result written ≡ sent s.room (answer_bytes unique call answer) → Handles may s m before result written options after
   handles_one s m unique call answer before after result written options e fits step o h =
-      rw (e, o) (handled s (Asks (One unique call)) before result written (options_after s.options call) after (told_memory s.room (answered unique call answer) result written h)
-      (record { steps = (call, answer) ∷ []; run = (after, fits, step, refl); gives = told_replied s.room (call ∷ []) (options_after s.options call) (answered unique call answer) result written h }))
+      rw (e, o) (handled s (Asks (One unique call)) before result written (options_after s.options call) after (told_memory s.room (answer_bytes unique call answer) result written h)
+      (record { steps = (call, answer) ∷ []; run = (after, fits, step, refl); gives = told_replied s.room (call ∷ []) (options_after s.options call) (answer_bytes unique call answer) result written h }))
 
   -- INIT
   pub handles_start : (s : Setting) (m : Meaning) (unique capable readahead : ℕ) (answer : FileAnswer) (before after : F) (result : Result ℕ Error) (written : List ℕ) (options : ℕ) → m ≡ Asks (Starts unique capable readahead) → IsTrue (suits (Init capable) answer) → may before (Init capable) answer after → options ≡ start_options s.options capable answer → told result written ≡ sent s.room (start_answered s.page_size unique capable readahead answer) → Handles may s m before result written options after
@@ -59,7 +59,7 @@ module _ {F : Type 0} (may : F → FileCall → FileAnswer → F → Type 0) whe
       (record { steps = (Init capable, answer) ∷ []; run = (after, fits, step, refl); gives = told_replied s.room (Init capable ∷ []) (start_options s.options capable answer) (start_answered s.page_size unique capable readahead answer) result written h }))
 
 -- what is asked for by what was read
-abbrev pub ask_of : {A : Type 0} → ℕ → (A → FileCall) → Result A Refusal → Meaning
+abbrev pub ask_of : {A : Type 0} → ℕ → (A → FileCall) → Result A ReadFailure → Meaning
 ask_of unique f (Ok x) = Asks (One unique (f x))
 ask_of unique f (Err r) = refused unique r
 
@@ -80,7 +80,7 @@ served_fits s (IsFault fault) answers = omega arith
 served_fits s (Replies bytes) answers = replied_fits s.room [] s.options bytes
 served_fits s IsSilent answers = omega arith
 served_fits s (Asks (One unique call)) [] = omega arith
-served_fits s (Asks (One unique call)) (answer ∷ answers) = replied_fits s.room (call ∷ []) (options_after s.options call) (answered unique call answer)
+served_fits s (Asks (One unique call)) (answer ∷ answers) = replied_fits s.room (call ∷ []) (options_after s.options call) (answer_bytes unique call answer)
 served_fits s (Asks (Starts unique capable readahead)) [] = omega arith
 served_fits s (Asks (Starts unique capable readahead)) (answer ∷ answers) = replied_fits s.room (Init capable ∷ []) (start_options s.options capable answer) (start_answered s.page_size unique capable readahead answer)
 

@@ -1,5 +1,6 @@
 -- What a request means, by the options that client and server agreed on, its bytes and the length of its room (linux/fuse.h).
-use Rattle.std.specs.Prelude.{ℕ, ◌+◌, ◌-◌, ◌*◌, ◌/◌, ◌^◌, ◌%◌, Bool, not, ◌==◌, nat_le, nat_lt, List, ◌++◌, length, replicate, Option, Some, None, Result, Ok, Err, if◌then◌else◌, bit_and, pos, neg_ℤ}
+use Rattle.std.specs.Prelude.{ℕ, ◌+◌, ◌-◌, ◌*◌, ◌/◌, ◌^◌, ◌%◌, Bool, nat_le, nat_lt, List, ◌++◌, length, replicate, Option, Some, None, Result, Ok, Err, if◌then◌else◌, bit_and, pos, neg_ℤ}
+use Rattle.vm_values.specs.Bits.{has_bit}
 use Rattle.vm_values.specs.Fields.{spelled}
 use Rattle.fuse_in.specs.declared.session.InHeader.{InHeader}
 use Rattle.fuse_in.specs.declared.session.ForgetIn.{ForgetIn}
@@ -14,20 +15,20 @@ use Rattle.fuse_fs.specs.Answers.{context_of}
 use Rattle.fuse_fs.specs.Calls.{FileCall, Lookup, Forget, Read}
 use Rattle.virtiofsd_fuse.specs.declared.error.Error.{Error}
 use Rattle.virtiofsd_fuse.specs.declared.error.Error.TheVariants.{DecodeMessage, EncodeMessage, InvalidHeaderLength}
-use Rattle.virtiofsd_fuse.specs.Reading.{Refusal, Faults, Sends, Reading, ◌>>=◌, ◌>>◌, give, refuse, needs, exactly, within, last_name}
-use Rattle.virtiofsd_fuse.specs.Records.{in_header, forget_in, read_in, init_in_compat, init_in_ext}
+use Rattle.virtiofsd_fuse.specs.Reading.{ReadFailure, Faults, Sends, Reading, ◌>>=◌, ◌>>◌, give, refuse, needs, exactly, within, last_name}
+use Rattle.virtiofsd_fuse.specs.Records.{reading_in_header, reading_forget_in, reading_read_in, reading_init_in_compat, reading_init_in_ext}
 
 -- a file command: one call, or INIT
-pub data Command : Type 0 where
-  One : (unique : ℕ) → FileCall → Command
-  Starts : (unique capable readahead : ℕ) → Command
+pub data FileCommand : Type 0 where
+  One : (unique : ℕ) → FileCall → FileCommand
+  Starts : (unique capable readahead : ℕ) → FileCommand
 
 -- what a request means: a fault, a reply that asks no file system, silence, or a file command
 pub data Meaning : Type 0 where
   IsFault : Error → Meaning
   Replies : (bytes : List ℕ) → Meaning
   IsSilent : Meaning
-  Asks : Command → Meaning
+  Asks : FileCommand → Meaning
 
 -- error numbers
 abbrev pub ENOMEM : ℕ
@@ -66,10 +67,6 @@ counted len k = needs (nat_le (40 + k) len) (Faults InvalidHeaderLength) >> exac
 -- these bytes are one name
 unfoldable pub one_name : (len k : ℕ) → Reading (List ℕ)
 one_name len k = counted len k >>= λ bytes. within bytes last_name
-
--- whether bit k of a number is 1
-abbrev pub has_bit : ℕ → ℕ → Bool
-has_bit n k = not (bit_and n (2 ^ k) == 0)
 
 abbrev pub if_set : Bool → ℕ → Option ℕ
 if_set test n = if test then Some n else None
@@ -112,7 +109,7 @@ started g r flags2 =
     else give (Asks (Starts g.header.unique (bit_and (flags2 * 2 ^ 32 + r.flags) known_options) r.max_readahead))
 
 abbrev pub flags2_of : InitInCompat → Reading ℕ
-flags2_of r = if has_bit r.flags 30 then (init_in_ext >>= λ more. give more.flags2) else give 0
+flags2_of r = if has_bit r.flags 30 then (reading_init_in_ext >>= λ more. give more.flags2) else give 0
 
 -- the calls that requests ask for
 abbrev pub lookup_call : InHeader → List ℕ → FileCall
@@ -129,18 +126,18 @@ abbrev pub lookup_row : Given → Reading Meaning
 lookup_row g = one_name g.header.len 0 >>= λ name. one g (lookup_call g.header name)
 
 abbrev pub forget_row : Given → Reading Meaning
-forget_row g = forget_in >>= λ r. one g (forget_call g.header r)
+forget_row g = reading_forget_in >>= λ r. one g (forget_call g.header r)
 
 abbrev pub read_asked : Given → ReadIn → Reading Meaning
 read_asked g r = needs (nat_le 16 g.room) (Faults EncodeMessage) >> one g (read_call g.header (g.room - 16) r)
 
 abbrev pub read_row : Given → Reading Meaning
-read_row g = read_in >>= λ r. read_asked g r
+read_row g = reading_read_in >>= λ r. read_asked g r
 
 abbrev pub init_row : Given → Reading Meaning
-init_row g = init_in_compat >>= λ r. flags2_of r >>= λ flags2. started g r flags2
+init_row g = reading_init_in_compat >>= λ r. flags2_of r >>= λ flags2. started g r flags2
 
--- the row of a request; those that aren't served yet are answered ENOSYS
+-- the row of a request; those that aren't served yet are answer_bytes ENOSYS
 unfoldable pub row : Given → Opcode → Reading Meaning
 row g op.Lookup = lookup_row g
 row g op.Forget = forget_row g
@@ -148,11 +145,11 @@ row g op.Read = read_row g
 row g op.Init = init_row g
 row g _ = refuse (Sends ENOSYS)
 
-abbrev pub refused : ℕ → Refusal → Meaning
+abbrev pub refused : ℕ → ReadFailure → Meaning
 refused unique (Faults fault) = IsFault fault
 refused unique (Sends errno) = Replies (error_bytes unique errno)
 
-abbrev pub ended : ℕ → Result (Meaning × List ℕ) Refusal → Meaning
+abbrev pub ended : ℕ → Result (Meaning × List ℕ) ReadFailure → Meaning
 ended unique (Ok x) = x.0
 ended unique (Err r) = refused unique r
 
@@ -168,9 +165,9 @@ body g = needs (nat_le g.header.len 0x101000) (Sends ENOMEM) >> row_of g (opcode
 unfoldable pub meant : Given → List ℕ → Meaning
 meant g bytes = ended g.header.unique (body g bytes)
 
-abbrev pub with_header : ℕ → ℕ → Result (InHeader × List ℕ) Refusal → Meaning
+abbrev pub with_header : ℕ → ℕ → Result (InHeader × List ℕ) ReadFailure → Meaning
 with_header options room (Err r) = IsFault DecodeMessage
 with_header options room (Ok x) = meant (given x.0 options room) x.1
 
 unfoldable pub meaning : (options : ℕ) (request : List ℕ) (room : ℕ) → Meaning
-meaning options request room = with_header options room (in_header request)
+meaning options request room = with_header options room (reading_in_header request)

@@ -5,18 +5,18 @@ use Rattle.virtiofsd_fuse.specs.declared.error.Error.{Error}
 use Rattle.virtiofsd_fuse.specs.declared.error.Error.TheVariants.{DecodeMessage, InvalidCString}
 
 -- why a request isn't read to its end: a fault, or an error number that is the reply
-pub data Refusal : Type 0 where
-  Faults : Error → Refusal
-  Sends : (errno : ℕ) → Refusal
+pub data ReadFailure : Type 0 where
+  Faults : Error → ReadFailure
+  Sends : (errno : ℕ) → ReadFailure
 
 -- what reading gives: a value and the bytes after it, or a refusal
 abbrev pub Read : Type 0 → Type 0
-Read X = Result (X × List ℕ) Refusal
+Read X = Result (X × List ℕ) ReadFailure
 
 abbrev pub Reading : Type 0 → Type 0
 Reading X = List ℕ → Read X
 
-abbrev pub and_then : {A B : Type 0} → Result A Refusal → (A → Result B Refusal) → Result B Refusal
+abbrev pub and_then : {A B : Type 0} → Result A ReadFailure → (A → Result B ReadFailure) → Result B ReadFailure
 and_then (Ok x) f = f x
 and_then (Err r) f = Err r
 
@@ -33,11 +33,11 @@ p >> q = λ bytes. and_then (p bytes) (λ x. q x.1)
 abbrev pub give : {A : Type 0} → A → Reading A
 give x = λ bytes. Ok (x, bytes)
 
-abbrev pub refuse : {A : Type 0} → Refusal → Reading A
+abbrev pub refuse : {A : Type 0} → ReadFailure → Reading A
 refuse r = λ bytes. Err r
 
 -- goes on only where the test holds
-abbrev pub needs : Bool → Refusal → Reading (Unit {0})
+abbrev pub needs : Bool → ReadFailure → Reading (Unit {0})
 needs test r = λ bytes. if test then Ok (tt, bytes) else Err r
 
 -- all that is left
@@ -73,7 +73,7 @@ unfoldable pub last_name : Reading (List ℕ)
 last_name = name_or InvalidCString >>= λ name. rest >>= λ more. needs (length more == 0) (Faults InvalidCString) >> give name
 
 -- what was read, whatever is left
-abbrev pub value_of : {A : Type 0} → Read A → Result A Refusal
+abbrev pub value_of : {A : Type 0} → Read A → Result A ReadFailure
 value_of (Ok x) = Ok x.0
 value_of (Err r) = Err r
 
@@ -83,6 +83,6 @@ read_result (Ok x) more = Ok (x, more)
 read_result (Err e) more = Err (Faults e)
 
 -- what a function that reads bytes in place says, whatever it leaves
-abbrev pub bytes_result : Result (Bor (List ℕ)) Error → Result (List ℕ) Refusal
+abbrev pub bytes_result : Result (Bor (List ℕ)) Error → Result (List ℕ) ReadFailure
 bytes_result (Ok bytes) = Ok bytes.now
 bytes_result (Err e) = Err (Faults e)

@@ -41,9 +41,9 @@ said u64 bytes = from_le_bytes w64 bytes
 said (u32s n) bytes = numbers n bytes
 
 -- a function of what the parts say, in their order
-abbrev pub Takes : List Part → Type 0 → Type 0
-Takes [] R = R
-Takes (p ∷ ps) R = Said p → Takes ps R
+abbrev pub MakesOf : List Part → Type 0 → Type 0
+MakesOf [] R = R
+MakesOf (p ∷ ps) R = Said p → MakesOf ps R
 
 -- how many bytes the parts have, without gaps
 abbrev pub size : List Part → ℕ
@@ -51,33 +51,43 @@ size [] = 0
 size (p ∷ ps) = size_of p + size ps
 
 -- what is made of bytes, part by part
-abbrev pub made : {R : Type 0} → (ps : List Part) → Takes ps R → List ℕ → R
+abbrev pub made : {R : Type 0} → (ps : List Part) → MakesOf ps R → List ℕ → R
 made [] make bytes = make
 made (p ∷ ps) make bytes = made ps (make (said p (take (size_of p) bytes))) (drop (size_of p) bytes)
 
 -- a record of these parts
-abbrev pub record_of : {R : Type 0} → (ps : List Part) → Takes ps R → Reading R
+abbrev pub record_of : {R : Type 0} → (ps : List Part) → MakesOf ps R → Reading R
 record_of ps make = exactly (size ps) >>= λ bytes. give (made ps make bytes)
 
 -- struct fuse_in_header
-unfoldable pub in_header : Reading InHeader
-in_header = record_of (u32 ∷ u32 ∷ u64 ∷ u64 ∷ u32 ∷ u32 ∷ u32 ∷ u16 ∷ u16 ∷ []) (λ len opcode unique nodeid uid gid pid total_extlen padding.
-    record { len = len; opcode = opcode; unique = unique; nodeid = nodeid; uid = record { 0 = uid }; gid = record { 0 = gid }; pid = pid; total_extlen = total_extlen; padding = padding })
+unfoldable pub reading_in_header : Reading InHeader
+reading_in_header = record_of (u32 ∷ u32 ∷ u64 ∷ u64 ∷ u32 ∷ u32 ∷ u32 ∷ u16 ∷ u16 ∷ []) (λ len opcode unique nodeid uid gid pid total_extlen padding.
+    record {
+      len = len;
+      opcode = opcode;
+      unique = unique;
+      nodeid = nodeid;
+      uid = record { 0 = uid };
+      gid = record { 0 = gid };
+      pid = pid;
+      total_extlen = total_extlen;
+      padding = padding;
+    })
 
 -- struct fuse_forget_in
-unfoldable pub forget_in : Reading ForgetIn
-forget_in = record_of (u64 ∷ []) (λ nlookup. record { nlookup = nlookup })
+unfoldable pub reading_forget_in : Reading ForgetIn
+reading_forget_in = record_of (u64 ∷ []) (λ nlookup. record { nlookup = nlookup })
 
 -- struct fuse_read_in
-unfoldable pub read_in : Reading ReadIn
-read_in = record_of (u64 ∷ u64 ∷ u32 ∷ u32 ∷ u64 ∷ u32 ∷ u32 ∷ []) (λ fh offset size read_flags lock_owner flags padding.
+unfoldable pub reading_read_in : Reading ReadIn
+reading_read_in = record_of (u64 ∷ u64 ∷ u32 ∷ u32 ∷ u64 ∷ u32 ∷ u32 ∷ []) (λ fh offset size read_flags lock_owner flags padding.
     record { fh = fh; offset = offset; size = size; read_flags = read_flags; lock_owner = lock_owner; flags = flags; padding = padding })
 
 -- struct fuse_init_in, its first 16 bytes
-unfoldable pub init_in_compat : Reading InitInCompat
-init_in_compat = record_of (u32 ∷ u32 ∷ u32 ∷ u32 ∷ []) (λ major minor max_readahead flags.
+unfoldable pub reading_init_in_compat : Reading InitInCompat
+reading_init_in_compat = record_of (u32 ∷ u32 ∷ u32 ∷ u32 ∷ []) (λ major minor max_readahead flags.
     record { major = major; minor = minor; max_readahead = max_readahead; flags = flags })
 
 -- struct fuse_init_in, its last 48 bytes
-unfoldable pub init_in_ext : Reading InitInExt
-init_in_ext = record_of (u32 ∷ u32s 11 ∷ []) (λ flags2 unused. record { flags2 = flags2; unused = unused })
+unfoldable pub reading_init_in_ext : Reading InitInExt
+reading_init_in_ext = record_of (u32 ∷ u32s 11 ∷ []) (λ flags2 unused. record { flags2 = flags2; unused = unused })

@@ -6,7 +6,10 @@ use Rattle.fuse_fs.specs.Answers.{entry_out_of}
 use Rattle.fuse_fs.specs.Calls.{FileCall, FileAnswer, FileRun, Init, Destroy, Forget, BatchForget, Getlk, Setlk, Setlkw, Bmap, Ioctl, Poll, NotifyReply, Failed, Found, Bytes, Wants}
 use Rattle.virtiofsd_fuse.specs.declared.error.Error.{Error}
 use Rattle.virtiofsd_fuse.specs.declared.error.Error.TheVariants.{EncodeMessage, OutOfMemory}
-use Rattle.virtiofsd_fuse.specs.Grammar.{Meaning, IsFault, Replies, IsSilent, Asks, Command, One, Starts, reply_bytes, error_bytes, init_record, default_options}
+use Rattle.fuse_in.specs.declared.session.InHeader.{InHeader}
+use Rattle.virtiofsd_fuse.specs.declared.server.Server.{Server}
+use Rattle.virtiofsd_fuse.specs.Reading.{Reading}
+use Rattle.virtiofsd_fuse.specs.Grammar.{Meaning, IsFault, Replies, IsSilent, Asks, FileCommand, One, Starts, Given, given, ended, reply_bytes, error_bytes, init_record, default_options}
 
 -- what serving gives so far: the calls, the last of which may wait for its answer, the options after, the reply, and the fault if there is one
 pub record Served : Type 0 where
@@ -36,9 +39,9 @@ is_silent Destroy = true
 is_silent _ = false
 
 -- the reply to a call's answer
-abbrev pub answered : ℕ → FileCall → FileAnswer → List ℕ
-answered unique call (Failed errno) = error_bytes unique errno
-answered unique call answer = if is_silent call then [] else reply_bytes unique (body_bytes answer)
+abbrev pub answer_bytes : ℕ → FileCall → FileAnswer → List ℕ
+answer_bytes unique call (Failed errno) = error_bytes unique errno
+answer_bytes unique call answer = if is_silent call then [] else reply_bytes unique (body_bytes answer)
 
 -- DESTROY ends what was agreed
 abbrev pub options_after : ℕ → FileCall → ℕ
@@ -49,13 +52,16 @@ options_after options _ = options
 abbrev pub agreed : (capable wanted : ℕ) → ℕ
 agreed capable wanted = bit_and capable (bit_or wanted default_options)
 
--- struct fuse_init_out: 65535 requests in the background, throttled from 49149 on, writes of at most 2^20 bytes, times to the nanosecond, and as many pages as 2^20 bytes take
+-- struct fuse_init_out: 65535 requests in the background, throttled from 49149 on, writes of at most 2^20 bytes, times to the
+-- nanosecond, and as many pages as 2^20 bytes take
 unfoldable pub started_bytes : (page_size readahead options : ℕ) → List ℕ
-started_bytes page_size readahead options = spelled (init_out (init_record readahead options 65535 49149 (2 ^ 20) 1 ((2 ^ 20 - 1) / page_size + 1)))
+started_bytes page_size readahead options =
+    spelled (init_out (init_record readahead options 65535 49149 (2 ^ 20) 1 ((2 ^ 20 - 1) / page_size + 1)))
 
 -- the reply to an answer of `init`
 abbrev pub start_answered : (page_size unique capable readahead : ℕ) → FileAnswer → List ℕ
-start_answered page_size unique capable readahead (Wants wanted) = reply_bytes unique (started_bytes page_size readahead (agreed capable wanted))
+start_answered page_size unique capable readahead (Wants wanted) =
+    reply_bytes unique (started_bytes page_size readahead (agreed capable wanted))
 start_answered page_size unique capable readahead (Failed errno) = error_bytes unique errno
 start_answered page_size unique capable readahead _ = []
 
@@ -82,11 +88,14 @@ pub record Setting : Type 0 where
 abbrev pub setting : (page_size options room : ℕ) → Setting
 setting page_size options room = record { page_size = page_size; options = options; room = room }
 
-abbrev pub commanded : Setting → Command → List FileAnswer → Served
+abbrev pub commanded : Setting → FileCommand → List FileAnswer → Served
 commanded s (One unique call) [] = no_reply (call ∷ []) s.options None
-commanded s (One unique call) (answer ∷ answers) = replied s.room (call ∷ []) (options_after s.options call) (answered unique call answer)
+commanded s (One unique call) (answer ∷ answers) =
+    replied s.room (call ∷ []) (options_after s.options call) (answer_bytes unique call answer)
 commanded s (Starts unique capable readahead) [] = no_reply (Init capable ∷ []) s.options None
-commanded s (Starts unique capable readahead) (answer ∷ answers) = replied s.room (Init capable ∷ []) (start_options s.options capable answer) (start_answered s.page_size unique capable readahead answer)
+commanded s (Starts unique capable readahead) (answer ∷ answers) =
+    replied s.room (Init capable ∷ []) (start_options s.options capable answer)
+    (start_answered s.page_size unique capable readahead answer)
 
 -- the calls of a meaning and its reply, by the answers so far
 abbrev pub served : Setting → Meaning → List FileAnswer → Served
@@ -100,8 +109,13 @@ abbrev pub served_of : List FileCall → (options : ℕ) → Result ℕ Error �
 served_of calls options (Ok n) written = record { calls = calls; options = options; reply = written; fault = None }
 served_of calls options (Err fault) written = no_reply calls options (Some fault)
 
+-- what a file system may answer: its state before, the call, the answer, its state after
+abbrev pub May : Type 0 → Type 1
+May F = F → FileCall → FileAnswer → F → Type 0
+
 -- a request served whole: calls, each with its answer, along which the file system's state moves, and what comes of them
-pub record Serves {F : Type 0} (may : F → FileCall → FileAnswer → F → Type 0) (s : Setting) (m : Meaning) (before : F) (result : Result ℕ Error) (written : List ℕ) (options : ℕ) (after : F) : Type 0 where
+pub record Serves {F : Type 0} (may : May F) (s : Setting) (m : Meaning) (before : F)
+    (result : Result ℕ Error) (written : List ℕ) (options : ℕ) (after : F) : Type 0 where
   pub steps : List (FileCall × FileAnswer)
   pub run : FileRun may before steps after
   pub gives : served s m (map (λ step. step.1) steps) ≡ served_of (map (λ step. step.0) steps) options result written
@@ -116,8 +130,20 @@ lacks_memory (Ok n) = false
 lacks_memory (Err e) = is_memory e
 
 -- a request is served, or memory is wanting and nothing has changed
-abbrev pub Handles : {F : Type 0} → (F → FileCall → FileAnswer → F → Type 0) → Setting → Meaning → F → Result ℕ Error → List ℕ → ℕ → F → Type 0
-Handles may s m before result written options after = MatchBool (lacks_memory result) ((options ≡ s.options) × (after ≡ before)) (Serves may s m before result written options after)
+abbrev pub Handles : {F : Type 0} → May F → Setting → Meaning → F → Result ℕ Error → List ℕ → ℕ → F → Type 0
+Handles may s m before result written options after =
+    MatchBool (lacks_memory result) ((options ≡ s.options) × (after ≡ before)) (Serves may s m before result written options after)
+
+-- the same of a server, from one state to another
+abbrev pub ServerHandles : {F : Type 0} → May F → Server F → (room : ℕ) → Meaning → Result ℕ Error → List ℕ → Server F → Type 0
+ServerHandles may before room m result written after =
+    Handles may (setting before.page_size before.options.0 room) m before.fs result written after.options.0 after.fs
+
+-- and of a row of the grammar, which reads these bytes after the header
+abbrev pub RowHandles : {F : Type 0} → May F → Server F → (room : ℕ) → InHeader → (Given → Reading Meaning)
+    → List ℕ → Result ℕ Error → List ℕ → Server F → Type 0
+RowHandles may before room head row bytes result written after =
+    ServerHandles may before room (ended head.unique (row (given head before.options.0 room) bytes)) result written after
 
 -- a writer's answer with what it wrote, and the reply that it is to be: whole, or not at all
 abbrev pub told : Result ℕ Error → List ℕ → Result (List ℕ) Error

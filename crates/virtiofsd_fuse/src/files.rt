@@ -1,11 +1,13 @@
 //! Requests on open files.
 
-ghost use Rattle.std.specs.Prelude.{◌≡◌, ℕ, ◌+◌, ◌<◌, ◌≤◌, ◌^◌, min, List, [], ◌++◌, length, drop, IfOk, IfErr};
+ghost use Rattle.std.specs.Prelude.{◌≡◌, ℕ, ◌+◌, ◌<◌, ◌≤◌, ◌^◌, List, [], ◌++◌, length, drop, IfOk, IfErr};
 ghost use Rattle.std.specs.Result.{ForOk};
 ghost use Rattle.fuse_fs.specs.Answers.{data_answer};
-ghost use Rattle.virtiofsd_fuse.specs.Grammar.{given, ended, read_row, read_asked, read_call, if_set, has_bit};
-ghost use Rattle.virtiofsd_fuse.specs.Serving.{setting, Handles, data_reply};
+ghost use Rattle.virtiofsd_fuse.specs.Grammar.{read_row, read_asked, read_call, if_set};
+ghost use Rattle.vm_values.specs.Bits.{has_bit};
+ghost use Rattle.virtiofsd_fuse.specs.Serving.{RowHandles, data_reply};
 
+use crate::answers::received;
 use crate::error::Error;
 use crate::reader::Reader;
 use crate::records::read_read_in;
@@ -61,29 +63,25 @@ impl<F: FileSystem> Server<F> {
         request: &ReadIn,
         into: &mut ZcWriter,
     ) -> Result<usize, Errno>
-        ensures read { (bytes : List ℕ) × (into.new.writer.written ≡ into.old.writer.written ++ bytes) × (into.old.writer.free ≡ into.new.writer.free + length bytes) × IfOk result (λ n. n ≡ length bytes)
+        ensures read { (bytes : List ℕ) × (into.new.writer.written ≡ into.old.writer.written ++ bytes)
+            × (into.old.writer.free ≡ into.new.writer.free + length bytes) × IfOk result (λ n. n ≡ length bytes)
             × F.may self.old.fs (read_call head.now into.old.writer.free request.now) (data_answer result bytes) self.new.fs }
         ensures errno { IfErr result (λ e. (0 < e) × (e < 4096)) }
         ensures options { self.new.options ≡ self.old.options }
         ensures page_size { self.new.page_size ≡ self.old.page_size }
     {
-        let answer = self.fs.read(
-            Context::from(*head),
-            F::Inode::numbered(head.nodeid),
-            F::Handle::numbered(request.fh),
-            into,
-            request.size,
-            request.offset,
-            owner_of(request),
-            request.flags,
-        );
-        match answer {
-            Ok(n) => Ok(n),
-            Err(error) => {
-                let _number = error.raw();
-                Err(error)
-            }
-        }
+        received(
+            self.fs.read(
+                Context::from(*head),
+                F::Inode::numbered(head.nodeid),
+                F::Handle::numbered(request.fh),
+                into,
+                request.size,
+                request.offset,
+                owner_of(request),
+                request.flags,
+            ),
+        )
     }
 
     // READ, by its record: the data goes behind the header's place in the reply.
@@ -96,7 +94,7 @@ impl<F: FileSystem> Server<F> {
     ) -> Result<usize, Error>
         requires fresh { w.old.written ≡ [] }
         requires room { w.old.free < 2 ^ 32 }
-        ensures handles { (more : List ℕ) → Handles F.may (setting self.old.page_size self.old.options.0 w.old.free) (ended head.now.unique (read_asked (given head.now self.old.options.0 w.old.free) request.now more)) self.old.fs result w.new.written self.new.options.0 self.new.fs }
+        ensures handles { (more : List ℕ) → RowHandles F.may self.old w.old.free head.now (λ g. read_asked g request.now) more result w.new.written self.new }
         ensures length { IfOk result (λ n. n ≡ length w.new.written) }
         ensures page_size { self.new.page_size ≡ self.old.page_size }
     {
@@ -124,7 +122,7 @@ impl<F: FileSystem> Server<F> {
     ) -> Result<usize, Error>
         requires fresh { w.old.written ≡ [] }
         requires room { w.old.free < 2 ^ 32 }
-        ensures handles { Handles F.may (setting self.old.page_size self.old.options.0 w.old.free) (ended head.now.unique (read_row (given head.now self.old.options.0 w.old.free) r.old)) self.old.fs result w.new.written self.new.options.0 self.new.fs }
+        ensures handles { RowHandles F.may self.old w.old.free head.now read_row r.old result w.new.written self.new }
         ensures length { IfOk result (λ n. n ≡ length w.new.written) }
         ensures page_size { self.new.page_size ≡ self.old.page_size }
     {

@@ -1,6 +1,7 @@
 //! The FUSE server: it serves flat requests over a file system (virtiofsd's `Server`).
 #![tactic(auto)]
 
+mod answers;
 pub mod error;
 mod files;
 mod names;
@@ -21,6 +22,3 @@ pub use reader::Reader;
 pub use server::Server;
 pub use writer::Writer;
 pub use zero_copy::ZcWriter;
-
-#[cfg(test)]
-mod tests;

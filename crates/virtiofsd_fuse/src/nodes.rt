@@ -5,9 +5,10 @@ ghost use Rattle.vm_values.specs.Fields.{spelled};
 ghost use Rattle.fuse_wire.specs.Records.{entry_out};
 ghost use Rattle.fuse_fs.specs.Answers.{entry_answer, entry_out_of, numbered};
 ghost use Rattle.fuse_fs.specs.Calls.{suits, Done};
-ghost use Rattle.virtiofsd_fuse.specs.Grammar.{given, ended, lookup_row, forget_row, lookup_call, forget_call};
-ghost use Rattle.virtiofsd_fuse.specs.Serving.{setting, Handles, told, sent, entry_reply};
+ghost use Rattle.virtiofsd_fuse.specs.Grammar.{lookup_row, forget_row, lookup_call, forget_call};
+ghost use Rattle.virtiofsd_fuse.specs.Serving.{RowHandles, told, sent, entry_reply};
 
+use crate::answers::received;
 use crate::error::Error;
 use crate::names::read_name;
 use crate::reader::Reader;
@@ -55,15 +56,13 @@ impl<F: FileSystem> Server<F> {
         ensures page_size { self.new.page_size ≡ self.old.page_size }
     {
         let parent = F::Inode::numbered(head.nodeid);
-        match self.fs.lookup(Context::from(*head), parent, name) {
+        match received(self.fs.lookup(Context::from(*head), parent, name)) {
             Ok(entry) => {
+                // Read for its range alone: a node's number is below 2^64.
                 let _number = entry.inode.as_number();
                 Ok(entry)
             }
-            Err(error) => {
-                let _number = error.raw();
-                Err(error)
-            }
+            Err(error) => Err(error),
         }
     }
 
@@ -86,7 +85,7 @@ impl<F: FileSystem> Server<F> {
     ) -> Result<usize, Error>
         requires fresh { w.old.written ≡ [] }
         requires memory { min 144 w.old.free ≤ w.old.reserved }
-        ensures handles { Handles F.may (setting self.old.page_size self.old.options.0 w.old.free) (ended head.now.unique (lookup_row (given head.now self.old.options.0 w.old.free) r.old)) self.old.fs result w.new.written self.new.options.0 self.new.fs }
+        ensures handles { RowHandles F.may self.old w.old.free head.now lookup_row r.old result w.new.written self.new }
         ensures length { IfOk result (λ n. n ≡ length w.new.written) }
         ensures page_size { self.new.page_size ≡ self.old.page_size }
     {
@@ -107,7 +106,7 @@ impl<F: FileSystem> Server<F> {
         w: &Writer,
     ) -> Result<usize, Error>
         requires fresh { w.now.written ≡ [] }
-        ensures handles { Handles F.may (setting self.old.page_size self.old.options.0 w.now.free) (ended head.now.unique (forget_row (given head.now self.old.options.0 w.now.free) r.old)) self.old.fs result w.now.written self.new.options.0 self.new.fs }
+        ensures handles { RowHandles F.may self.old w.now.free head.now forget_row r.old result w.now.written self.new }
         ensures length { IfOk result (λ n. n ≡ length w.now.written) }
         ensures page_size { self.new.page_size ≡ self.old.page_size }
     {

@@ -3,7 +3,7 @@
 ghost use Rattle.std.specs.Prelude.{◌≡◌, ◌<◌, ◌++◌, length, IfOk, IfErr};
 ghost use Rattle.vm_values.specs.Fields.{spelled, AllFit};
 ghost use Rattle.virtiofsd_fuse.specs.Reading.{read_result};
-ghost use Rattle.virtiofsd_fuse.specs.Records.{in_header, forget_in, read_in, init_in_compat, init_in_ext};
+ghost use Rattle.virtiofsd_fuse.specs.Records.{reading_in_header, reading_forget_in, reading_read_in, reading_init_in_compat, reading_init_in_ext};
 
 use crate::error::Error;
 use crate::reader::Reader;
@@ -22,35 +22,35 @@ fn decode<T: ByteValued>(r: &mut Reader<'_>) -> Result<T, Error>
 }
 
 pub fn read_in_header(r: &mut Reader<'_>) -> Result<InHeader, Error>
-    ensures reads { read_result result r.new ≡ in_header r.old }
+    ensures reads { read_result result r.new ≡ reading_in_header r.old }
     ensures fault { IfErr result (λ e. e ≡ Error.DecodeMessage) }
 {
     decode(r)
 }
 
 pub fn read_forget_in(r: &mut Reader<'_>) -> Result<ForgetIn, Error>
-    ensures reads { read_result result r.new ≡ forget_in r.old }
+    ensures reads { read_result result r.new ≡ reading_forget_in r.old }
     ensures fault { IfErr result (λ e. e ≡ Error.DecodeMessage) }
 {
     decode(r)
 }
 
 pub fn read_read_in(r: &mut Reader<'_>) -> Result<ReadIn, Error>
-    ensures reads { read_result result r.new ≡ read_in r.old }
+    ensures reads { read_result result r.new ≡ reading_read_in r.old }
     ensures fault { IfErr result (λ e. e ≡ Error.DecodeMessage) }
 {
     decode(r)
 }
 
 pub fn read_init_in_compat(r: &mut Reader<'_>) -> Result<InitInCompat, Error>
-    ensures reads { read_result result r.new ≡ init_in_compat r.old }
+    ensures reads { read_result result r.new ≡ reading_init_in_compat r.old }
     ensures fault { IfErr result (λ e. e ≡ Error.DecodeMessage) }
 {
     decode(r)
 }
 
 pub fn read_init_in_ext(r: &mut Reader<'_>) -> Result<InitInExt, Error>
-    ensures reads { read_result result r.new ≡ init_in_ext r.old }
+    ensures reads { read_result result r.new ≡ reading_init_in_ext r.old }
     ensures fault { IfErr result (λ e. e ≡ Error.DecodeMessage) }
 {
     decode(r)

@@ -4,7 +4,6 @@ ghost use Rattle.std.specs.Prelude.{◌≡◌, ◌<◌, ◌≤◌, ◌^◌, min,
 ghost use Rattle.fuse_wire.specs.Opcodes.{opcode_of};
 ghost use Rattle.virtiofsd_fuse.specs.Pages.{is_page_size};
 ghost use Rattle.virtiofsd_fuse.specs.Grammar.{given, meant, meaning};
-ghost use Rattle.virtiofsd_fuse.specs.Serving.{setting, Handles};
 
 use crate::error::Error;
 use crate::reader::Reader;
@@ -43,6 +42,8 @@ fn opcode_of(number: u32) -> Option<Opcode>
 }
 
 impl<F: FileSystem> Server<F> {
+    ghost use Rattle.virtiofsd_fuse.specs.Serving.{ServerHandles};
+
     /// A server with which nothing was agreed yet. The guest's pages have `page_size` bytes.
     pub fn new(fs: F, page_size: u32) -> Server<F>
         requires { IsTrue (is_page_size page_size) }
@@ -82,7 +83,7 @@ impl<F: FileSystem> Server<F> {
         requires fresh { w.old.written ≡ [] }
         requires room { w.old.free < 2 ^ 32 }
         requires memory { min 144 w.old.free ≤ w.old.reserved }
-        ensures handles { Handles F.may (setting self.old.page_size self.old.options.0 w.old.free) (meant (given head.now self.old.options.0 w.old.free) r.old) self.old.fs result w.new.written self.new.options.0 self.new.fs }
+        ensures handles { ServerHandles F.may self.old w.old.free (meant (given head.now self.old.options.0 w.old.free) r.old) result w.new.written self.new }
         ensures length { IfOk result (λ n. n ≡ length w.new.written) }
         ensures page_size { self.new.page_size ≡ self.old.page_size }
     {
@@ -111,7 +112,7 @@ impl<F: FileSystem> Server<F> {
     ) -> Result<usize, Error>
         requires fresh { w.old.written ≡ [] }
         requires room { w.old.free < 2 ^ 32 }
-        ensures handles { Handles F.may (setting self.old.page_size self.old.options.0 w.old.free) (meaning self.old.options.0 r.entry w.old.free) self.old.fs result w.new.written self.new.options.0 self.new.fs }
+        ensures handles { ServerHandles F.may self.old w.old.free (meaning self.old.options.0 r.entry w.old.free) result w.new.written self.new }
         ensures length { IfOk result (λ n. n ≡ length w.new.written) }
         ensures fits { OnOk result (length w.new.written ≤ w.old.free) }
         ensures page_size { self.new.page_size ≡ self.old.page_size }

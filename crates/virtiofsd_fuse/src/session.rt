@@ -7,9 +7,10 @@ ghost use Rattle.fuse_fs.specs.Answers.{options_answer};
 ghost use Rattle.fuse_fs.specs.Calls.{suits, Init};
 ghost use Rattle.virtiofsd_fuse.specs.Pages.{is_page_size};
 ghost use Rattle.virtiofsd_fuse.specs.Reading.{read_result};
-ghost use Rattle.virtiofsd_fuse.specs.Grammar.{given, ended, init_row, flags2_of, started, versions_bytes, known_options};
-ghost use Rattle.virtiofsd_fuse.specs.Serving.{setting, Handles, agreed, started_bytes};
+ghost use Rattle.virtiofsd_fuse.specs.Grammar.{init_row, flags2_of, started, versions_bytes, known_options};
+ghost use Rattle.virtiofsd_fuse.specs.Serving.{RowHandles, agreed, started_bytes};
 
+use crate::answers::received;
 use crate::error::Error;
 use crate::reader::Reader;
 use crate::records::{read_init_in_compat, read_init_in_ext};
@@ -128,13 +129,7 @@ impl<F: FileSystem> Server<F> {
         ensures page_size { self.new.page_size ≡ self.old.page_size }
         ensures options { self.new.options ≡ self.old.options }
     {
-        match self.fs.init(capable) {
-            Ok(wanted) => Ok(wanted),
-            Err(error) => {
-                let _number = error.raw();
-                Err(error)
-            }
-        }
+        received(self.fs.init(capable))
     }
 
     // INIT, by its records: the versions first, and then what both sides can.
@@ -147,7 +142,8 @@ impl<F: FileSystem> Server<F> {
     ) -> Result<usize, Error>
         requires fresh { w.old.written ≡ [] }
         requires memory { min 144 w.old.free ≤ w.old.reserved }
-        ensures handles { (more : List ℕ) → Handles F.may (setting self.old.page_size self.old.options.0 w.old.free) (ended head.now.unique (started (given head.now self.old.options.0 w.old.free) request.now flags2 more)) self.old.fs result w.new.written self.new.options.0 self.new.fs }
+        ensures handles { (more : List ℕ)
+            → RowHandles F.may self.old w.old.free head.now (λ g. started g request.now flags2) more result w.new.written self.new }
         ensures length { IfOk result (λ n. n ≡ length w.new.written) }
         ensures page_size { self.new.page_size ≡ self.old.page_size }
     {
@@ -181,7 +177,7 @@ impl<F: FileSystem> Server<F> {
     ) -> Result<usize, Error>
         requires fresh { w.old.written ≡ [] }
         requires memory { min 144 w.old.free ≤ w.old.reserved }
-        ensures handles { Handles F.may (setting self.old.page_size self.old.options.0 w.old.free) (ended head.now.unique (init_row (given head.now self.old.options.0 w.old.free) r.old)) self.old.fs result w.new.written self.new.options.0 self.new.fs }
+        ensures handles { RowHandles F.may self.old w.old.free head.now init_row r.old result w.new.written self.new }
         ensures length { IfOk result (λ n. n ≡ length w.new.written) }
         ensures page_size { self.new.page_size ≡ self.old.page_size }
     {

@@ -114,7 +114,8 @@ impl Writer {
         self.bytes.clear();
     }
 
-    /// Writes what one read of a file gives at a place, at most `count` bytes; none is asked for where there is no room.
+    /// Writes what one read of a file gives at a place: it is asked for `count` bytes, or for as many as there is room for;
+    /// where that is none, it isn't asked.
     pub fn read_from_file_at<F: PositionedFile>(
         &mut self,
         file: &mut F,
@@ -122,7 +123,8 @@ impl Writer {
         off: u64,
     ) -> Result<usize, Errno>
         requires { min count self.old.free ≤ self.old.reserved }
-        ensures { (bytes : List ℕ) × (self.new.written ≡ self.old.written ++ bytes) × (self.old.free ≡ self.new.free + length bytes) × (self.old.reserved ≤ self.new.reserved + length bytes)
+        ensures { (bytes : List ℕ) × (self.new.written ≡ self.old.written ++ bytes) × (self.old.free ≡ self.new.free + length bytes)
+            × (self.old.reserved ≤ self.new.reserved + length bytes)
             × ReadsOnce F.read_gives file.old (min count self.old.free) off bytes result file.new }
     {
         let most = count.min(self.room - self.bytes.len());

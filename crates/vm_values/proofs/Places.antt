@@ -1,18 +1,14 @@
-use Rattle.std.proofs.Common.{◌%◌, ◌/◌, ◌*◌, ◌^◌, ◌≡◌, ℕ, ◌+◌, ◌-◌, ◌≤◌, ◌<◌, slice_index, List, [], ◌∷◌, ◌++◌, length, take, drop, ap, sym, ◌∙◌, append_assoc, append-nil, arith}
+use Rattle.std.proofs.Common.{◌%◌, ◌/◌, ◌*◌, ◌^◌, ◌≡◌, ℕ, ◌+◌, ◌-◌, ◌≤◌, ◌<◌, slice_index, List, [], ◌∷◌, ◌++◌, length, take, drop, ap, sym, ◌∙◌, append_assoc, arith}
 use Rattle.std.specs.List.{flat_map}
 use Rattle.std.specs.Int.{w32, w64, w128, to_le_bytes}
 use Rattle.std.proofs.lemmas.Grind.{flat_map-append, common_steps}
 use Rattle.std.proofs.Math.ListN.{set}
-use Rattle.std.proofs.lemmas.List.{take_all, take_more, take_more_set, take-append-drop, length-take-le, length-drop}
+use Rattle.std.proofs.lemmas.List.{drop-drop, take_all, take_more, take_more_set, take-append-drop, length-take-le, length-drop}
 use Rattle.std.proofs.lemmas.Slice.{take-put_mid}
 use Rattle.std.proofs.Math.Seq.{take-append-add}
 use borrow.Rule.Slice.PartMut.{put_mid}
-use Rattle.vm_values.specs.Fields.{Field, array, d, bytes, then_fields, spelled}
-use Rattle.vm_values.specs.Unique.{two_halves}
-
-pub then_is : (before : List ℕ) (fs : List Field) → then_fields before fs ≡ before ++ spelled fs
-then_is before [] = sym (append-nil before)
-then_is before (f ∷ fs) = then_is (before ++ bytes f) fs ∙ append_assoc before (bytes f) (spelled fs) ∙ ap (λ s. before ++ s) (sym (then_is (bytes f) fs))
+use Rattle.vm_values.specs.Fields.{Field, array, d, field_bytes, then_fields, spelled}
+use Rattle.vm_values.specs.Unique.{then_is, two_halves}
 
 pub take-add : (a n : ℕ) (xs : List ℕ) → a ≤ length xs → take (a + n) xs ≡ take a xs ++ take n (drop a xs)
 take-add a n xs h =
@@ -27,18 +23,24 @@ put_at a k n old part fs l h e = take-put_mid a k old part (a + n) (omega arith)
 pub get_at : (a k n : ℕ) (xs : List ℕ) (fs : List Field) → k ≡ n → a ≤ length xs → take k (drop a xs) ≡ spelled fs → take (a + n) xs ≡ then_fields (take a xs) fs
 get_at a k n xs fs l h e = take-add a n xs h ∙ ap (λ s. take a xs ++ s) (ap (λ m. take m (drop a xs)) (sym l) ∙ e) ∙ sym (then_is (take a xs) fs)
 
+-- what stands behind two parts in a row, each of which leaves it
+pub behind_both : (m n : ℕ) (xs ys zs : List ℕ) → m ≤ n → drop n xs ≡ drop n ys → drop m ys ≡ drop m zs → drop n xs ≡ drop n zs
+behind_both m n xs ys zs h e f =
+    let parts : m + (n - m) ≡ n = omega arith in
+    e ∙ ap (λ k. drop k ys) (sym parts) ∙ sym (drop-drop (n - m) m ys) ∙ ap (drop (n - m)) f ∙ drop-drop (n - m) m zs ∙ ap (λ k. drop k zs) parts
+
 pub whole : (n : ℕ) (xs ys : List ℕ) → take n xs ≡ ys → n ≡ length xs → xs ≡ ys
 whole n xs ys e h = sym (take_all n xs (omega arith)) ∙ e
 
 -- one number more
-pub more_array : (n k : ℕ) (xs before : List ℕ) → k < length xs → (before ++ bytes (array w32 n (take k xs))) ++ bytes (d (slice_index xs k)) ≡ before ++ bytes (array w32 n (take (k + 1) xs))
-unfolding bytes
+pub more_array : (n k : ℕ) (xs before : List ℕ) → k < length xs → (before ++ field_bytes (array w32 n (take k xs))) ++ field_bytes (d (slice_index xs k)) ≡ before ++ field_bytes (array w32 n (take (k + 1) xs))
+unfolding field_bytes
 more_array n k xs before h =
     append_assoc before (flat_map (to_le_bytes w32) (take k xs)) (to_le_bytes w32 (slice_index xs k))
     ∙ ap (λ s. before ++ s) (sym (ap (flat_map (to_le_bytes w32)) (take_more xs k 0 h) ∙ flat_map-append (to_le_bytes w32) (take k xs) (slice_index xs k ∷ [])))
 
-pub more_array_set : (n k : ℕ) (xs before : List ℕ) (x : ℕ) → k < length xs → (before ++ bytes (array w32 n (take k xs))) ++ bytes (d x) ≡ before ++ bytes (array w32 n (take (k + 1) (set xs k x)))
-unfolding bytes
+pub more_array_set : (n k : ℕ) (xs before : List ℕ) (x : ℕ) → k < length xs → (before ++ field_bytes (array w32 n (take k xs))) ++ field_bytes (d x) ≡ before ++ field_bytes (array w32 n (take (k + 1) (set xs k x)))
+unfolding field_bytes
 more_array_set n k xs before x h =
     append_assoc before (flat_map (to_le_bytes w32) (take k xs)) (to_le_bytes w32 x)
     ∙ ap (λ s. before ++ s) (sym (ap (flat_map (to_le_bytes w32)) (take_more_set xs k x h) ∙ flat_map-append (to_le_bytes w32) (take k xs) (x ∷ [])))

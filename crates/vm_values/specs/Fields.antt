@@ -36,11 +36,11 @@ abbrev pub ds : ℕ → List ℕ → Field
 ds n xs = array w32 n xs
 
 -- its bytes
-unfoldable pub bytes : Field → List ℕ
-bytes (unsigned w n) = to_le_bytes w n
-bytes (signed w z) = to_le_bytes w (cast_unsigned w z)
-bytes (big_endian w n) = to_be_bytes w n
-bytes (array w n xs) = flat_map (to_le_bytes w) xs
+unfoldable pub field_bytes : Field → List ℕ
+field_bytes (unsigned w n) = to_le_bytes w n
+field_bytes (signed w z) = to_le_bytes w (cast_unsigned w z)
+field_bytes (big_endian w n) = to_be_bytes w n
+field_bytes (array w n xs) = flat_map (to_le_bytes w) xs
 
 -- it is a value of its type
 unfoldable pub Fits : Field → Type 0
@@ -50,16 +50,16 @@ Fits (big_endian w n) = n < 2 ^ bits w
 Fits (array w n xs) = (length xs ≡ n) × ((k : ℕ) → k < n → slice_index xs k < 2 ^ bits w)
 
 -- the same field of zeros
-abbrev pub blank : Field → Field
-blank (unsigned w n) = unsigned w 0
-blank (signed w z) = signed w (pos 0)
-blank (big_endian w n) = big_endian w 0
-blank (array w n xs) = array w n []
+abbrev pub shape : Field → Field
+shape (unsigned w n) = unsigned w 0
+shape (signed w z) = signed w (pos 0)
+shape (big_endian w n) = big_endian w 0
+shape (array w n xs) = array w n []
 
 -- bytes, and then those of the fields
 abbrev pub then_fields : List ℕ → List Field → List ℕ
 then_fields before [] = before
-then_fields before (f ∷ fs) = then_fields (before ++ bytes f) fs
+then_fields before (f ∷ fs) = then_fields (before ++ field_bytes f) fs
 
 -- the bytes of the fields in their order
 abbrev pub spelled : List Field → List ℕ

@@ -1,4 +1,5 @@
--- Fields of one shape that fit and are spelled alike are equal.
+-- Fields of one shape that fit and are spelled alike are equal: a lemma with its proof, which the trait `ByteValued` cites, so
+-- it stands beside the definitions. Nothing here has to be believed: all of it is checked, and no contract speaks of it.
 use Rattle.std.proofs.Common.{◌≡◌, ℕ, zero, suc, ◌+◌, ◌<◌, ◌^◌, ◌/◌, ◌%◌, List, [], ◌∷◌, ◌++◌, length, map, reverse, take, drop, slice_index, refl, ap, sym, ◌∙◌, arith, length-append, append_assoc, append-nil}
 use Rattle.std.specs.List.{flat_map}
 use Rattle.std.specs.Int.{Width, w8, w16, w32, w64, w128, to_le_bytes, to_be_bytes, from_le_bytes, byte_len, bytes_low_first, cast_unsigned, cast_signed}
@@ -9,7 +10,7 @@ use Rattle.std.proofs.lemmas.List.{take_at, drop_at, reverse-reverse}
 use Rattle.std.proofs.Math.Facts.{Fits-of_z}
 use Rattle.std.proofs.Math.Nat.{div-div-eq-div-mul}
 use mir.Val.{bits}
-use Rattle.vm_values.specs.Fields.{Field, unsigned, signed, big_endian, array, bytes, Fits, AllFit, blank, then_fields, spelled}
+use Rattle.vm_values.specs.Fields.{Field, unsigned, signed, big_endian, array, field_bytes, Fits, AllFit, shape, then_fields, spelled}
 
 length_low : (i k n : ℕ) → length (bytes_low_first i k n) ≡ k
 length_low i zero n = refl
@@ -77,7 +78,7 @@ length_be w128 n = refl
 
 pub then_is : (before : List ℕ) (fs : List Field) → then_fields before fs ≡ before ++ spelled fs
 then_is before [] = sym (append-nil before)
-then_is before (f ∷ fs) = then_is (before ++ bytes f) fs ∙ append_assoc before (bytes f) (spelled fs) ∙ ap (λ s. before ++ s) (sym (then_is (bytes f) fs))
+then_is before (f ∷ fs) = then_is (before ++ field_bytes f) fs ∙ append_assoc before (field_bytes f) (spelled fs) ∙ ap (λ s. before ++ s) (sym (then_is (field_bytes f) fs))
 
 numbers_once : (v : Width) (xs ys : List ℕ) → length xs ≡ length ys → ((k : ℕ) → k < length xs → slice_index xs k < 2 ^ bits v) → ((k : ℕ) → k < length ys → slice_index ys k < 2 ^ bits v) → flat_map (to_le_bytes v) xs ≡ flat_map (to_le_bytes v) ys → xs ≡ ys
 numbers_once v [] [] l f g e = refl
@@ -99,8 +100,8 @@ length-numbers v (x ∷ xs) (y ∷ ys) l = length-append (to_le_bytes v x) (flat
     ∙ sym (length-append (to_le_bytes v y) (flat_map (to_le_bytes v) ys))
 
 -- two fields of one shape have spellings of one length, and of two that fit the spellings tell
-same_length : (f g : Field) → blank f ≡ blank g → Fits f → Fits g → length (bytes f) ≡ length (bytes g)
-unfolding bytes Fits
+same_length : (f g : Field) → shape f ≡ shape g → Fits f → Fits g → length (field_bytes f) ≡ length (field_bytes g)
+unfolding field_bytes Fits
 same_length (unsigned v m) (unsigned v' n) e p r = let a : v ≡ v' = cc in length-number v m ∙ ap byte_len a ∙ sym (length-number v' n)
 same_length (big_endian v m) (big_endian v' n) e p r = let a : v ≡ v' = cc in length_be v m ∙ ap byte_len a ∙ sym (length_be v' n)
 same_length (signed v m) (signed v' n) e p r = let a : v ≡ v' = cc in length-number v (cast_unsigned v m) ∙ ap byte_len a ∙ sym (length-number v' (cast_unsigned v' n))
@@ -121,8 +122,8 @@ same_length (array v m xs) (unsigned v' n) e p r = absurd (cc)
 same_length (array v m xs) (signed v' n) e p r = absurd (cc)
 same_length (array v m xs) (big_endian v' n) e p r = absurd (cc)
 
-field_once : (f g : Field) → blank f ≡ blank g → Fits f → Fits g → bytes f ≡ bytes g → f ≡ g
-unfolding bytes Fits
+field_once : (f g : Field) → shape f ≡ shape g → Fits f → Fits g → field_bytes f ≡ field_bytes g → f ≡ g
+unfolding field_bytes Fits
 field_once (unsigned v m) (unsigned v' n) e p r b =
     let a : v ≡ v' = cc in
     let below : n < 2 ^ bits v = rw a r in
@@ -158,18 +159,18 @@ field_once (array v m xs) (unsigned v' n) e p r b = absurd (cc)
 field_once (array v m xs) (signed v' n) e p r b = absurd (cc)
 field_once (array v m xs) (big_endian v' n) e p r b = absurd (cc)
 
-spelled-cons : (f : Field) (fs : List Field) → spelled (f ∷ fs) ≡ bytes f ++ spelled fs
-spelled-cons f fs = then_is (bytes f) fs
+spelled-cons : (f : Field) (fs : List Field) → spelled (f ∷ fs) ≡ field_bytes f ++ spelled fs
+spelled-cons f fs = then_is (field_bytes f) fs
 
 -- fields of one shape that fit and are spelled alike are equal
-pub fields_once : (fs gs : List Field) → map blank fs ≡ map blank gs → AllFit fs → AllFit gs → spelled fs ≡ spelled gs → fs ≡ gs
+pub fields_once : (fs gs : List Field) → map shape fs ≡ map shape gs → AllFit fs → AllFit gs → spelled fs ≡ spelled gs → fs ≡ gs
 fields_once [] [] e p r b = refl
 fields_once [] (g ∷ gs) e p r b = absurd (cc)
 fields_once (f ∷ fs) [] e p r b = absurd (cc)
 fields_once (f ∷ fs) (g ∷ gs) e p r b =
-    let s : blank f ≡ blank g = cc in
-    let t : map blank fs ≡ map blank gs = cc in
-    let q = halves (bytes f) (bytes g) (spelled fs) (spelled gs) (same_length f g s p.0 r.0) (sym (spelled-cons f fs) ∙ b ∙ spelled-cons g gs) in
+    let s : shape f ≡ shape g = cc in
+    let t : map shape fs ≡ map shape gs = cc in
+    let q = halves (field_bytes f) (field_bytes g) (spelled fs) (spelled gs) (same_length f g s p.0 r.0) (sym (spelled-cons f fs) ∙ b ∙ spelled-cons g gs) in
     let x : f ≡ g = field_once f g s p.0 r.0 q.0 in
     let y : fs ≡ gs = fields_once fs gs t p.1 r.1 q.1 in
     cc

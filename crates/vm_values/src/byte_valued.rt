@@ -1,10 +1,10 @@
 //! Values that are spelled by a fixed number of bytes.
 
-ghost use Rattle.std.specs.Prelude.{◌≡◌, ℕ, ◌+◌, ◌*◌, ◌≤◌, List, [], ◌∷◌, map, length, take, refl, replicate, ◌↔◌, IsSome, IfSome, IfOk, OnOk};
+ghost use Rattle.std.specs.Prelude.{◌≡◌, ℕ, ◌+◌, ◌*◌, ◌≤◌, List, [], ◌∷◌, map, length, refl, replicate, ◌↔◌, IsSome, IfSome, IfOk, OnOk};
 ghost use Rattle.std.specs.Int.{w8, w16, w32, w64, w128};
 ghost use Rattle.std.specs.Io.KnownBytes.{Appends, Consumes};
 ghost use Rattle.std.proofs.Common.{rules};
-ghost use Rattle.vm_values.specs.Fields.{Field, unsigned, signed, ds, spelled, then_fields, AllFit, blank};
+ghost use Rattle.vm_values.specs.Fields.{Field, unsigned, signed, spelled, AllFit, shape};
 ghost use Rattle.vm_values.specs.Unique.{fields_once};
 
 use std::io::{self, Read, Write};
@@ -70,7 +70,7 @@ pub trait ByteValued: Copy {
     }
 
     // Values have fields of one shape, fields tell values apart, and a value has at most 256 bytes.
-    ghost lawful: { ((x y : Self) → map blank (fields x) ≡ map blank (fields y)) × ((x y : Self) → fields x ≡ fields y → x ≡ y) × (SIZE ≤ 256) };
+    ghost lawful: { ((x y : Self) → map shape (fields x) ≡ map shape (fields y)) × ((x y : Self) → fields x ≡ fields y → x ≡ y) × (SIZE ≤ 256) };
 
     ghost one_reading: { (x y : Self) → AllFit (fields x) → AllFit (fields y) → spelled (fields x) ≡ spelled (fields y) → x ≡ y } = { λ x y p r e. lawful.1 x y (fields_once (fields x) (fields y) (lawful.0 x y) p r e) };
 }
@@ -82,12 +82,12 @@ impl ByteValued for u8 {
 
     ghost fields = { λ n. unsigned w8 n ∷ [] };
 
-    #[tactic(auto, using(crate::proofs::Places::one_byte), unfolding(crate::specs::Fields::bytes, crate::specs::Fields::Fits))]
+    #[tactic(auto, using(crate::proofs::Places::one_byte), unfolding(crate::specs::Fields::field_bytes, crate::specs::Fields::Fits))]
     fn put_bytes(&self, out: &mut [u8]) {
         out.copy_from_slice(&u8::to_le_bytes(*self));
     }
 
-    #[tactic(auto, using(crate::proofs::Places::one_byte), unfolding(crate::specs::Fields::bytes, crate::specs::Fields::Fits))]
+    #[tactic(auto, using(crate::proofs::Places::one_byte), unfolding(crate::specs::Fields::field_bytes, crate::specs::Fields::Fits))]
     fn get_bytes(bytes: &[u8]) -> Self {
         u8::from_le_bytes([bytes[0]])
     }
@@ -102,12 +102,12 @@ impl ByteValued for u16 {
 
     ghost fields = { λ n. unsigned w16 n ∷ [] };
 
-    #[tactic(auto, unfolding(crate::specs::Fields::bytes, crate::specs::Fields::Fits))]
+    #[tactic(auto, unfolding(crate::specs::Fields::field_bytes, crate::specs::Fields::Fits))]
     fn put_bytes(&self, out: &mut [u8]) {
         out.copy_from_slice(&u16::to_le_bytes(*self));
     }
 
-    #[tactic(auto, using(std::proofs::lemmas::Nat::le_bytes_2), unfolding(crate::specs::Fields::bytes, crate::specs::Fields::Fits))]
+    #[tactic(auto, using(std::proofs::lemmas::Nat::le_bytes_2), unfolding(crate::specs::Fields::field_bytes, crate::specs::Fields::Fits))]
     fn get_bytes(bytes: &[u8]) -> Self {
         u16::from_le_bytes([bytes[0], bytes[1]])
     }
@@ -122,12 +122,12 @@ impl ByteValued for u32 {
 
     ghost fields = { λ n. unsigned w32 n ∷ [] };
 
-    #[tactic(auto, unfolding(crate::specs::Fields::bytes, crate::specs::Fields::Fits))]
+    #[tactic(auto, unfolding(crate::specs::Fields::field_bytes, crate::specs::Fields::Fits))]
     fn put_bytes(&self, out: &mut [u8]) {
         out.copy_from_slice(&u32::to_le_bytes(*self));
     }
 
-    #[tactic(auto, using(std::proofs::lemmas::Nat::le_bytes_4), unfolding(crate::specs::Fields::bytes, crate::specs::Fields::Fits))]
+    #[tactic(auto, using(std::proofs::lemmas::Nat::le_bytes_4), unfolding(crate::specs::Fields::field_bytes, crate::specs::Fields::Fits))]
     fn get_bytes(bytes: &[u8]) -> Self {
         u32::from_le_bytes([bytes[0], bytes[1], bytes[2], bytes[3]])
     }
@@ -142,12 +142,12 @@ impl ByteValued for u64 {
 
     ghost fields = { λ n. unsigned w64 n ∷ [] };
 
-    #[tactic(auto, unfolding(crate::specs::Fields::bytes, crate::specs::Fields::Fits))]
+    #[tactic(auto, unfolding(crate::specs::Fields::field_bytes, crate::specs::Fields::Fits))]
     fn put_bytes(&self, out: &mut [u8]) {
         out.copy_from_slice(&u64::to_le_bytes(*self));
     }
 
-    #[tactic(auto, using(std::proofs::lemmas::Nat::le_bytes_8), unfolding(crate::specs::Fields::bytes, crate::specs::Fields::Fits))]
+    #[tactic(auto, using(std::proofs::lemmas::Nat::le_bytes_8), unfolding(crate::specs::Fields::field_bytes, crate::specs::Fields::Fits))]
     fn get_bytes(bytes: &[u8]) -> Self {
         u64::from_le_bytes([
             bytes[0], bytes[1], bytes[2], bytes[3], bytes[4], bytes[5], bytes[6], bytes[7],
@@ -164,12 +164,12 @@ impl ByteValued for u128 {
 
     ghost fields = { λ n. unsigned w128 n ∷ [] };
 
-    #[tactic(auto, unfolding(crate::specs::Fields::bytes, crate::specs::Fields::Fits))]
+    #[tactic(auto, unfolding(crate::specs::Fields::field_bytes, crate::specs::Fields::Fits))]
     fn put_bytes(&self, out: &mut [u8]) {
         out.copy_from_slice(&u128::to_le_bytes(*self));
     }
 
-    #[tactic(auto, unfolding(crate::specs::Fields::bytes, crate::specs::Fields::Fits))]
+    #[tactic(auto, unfolding(crate::specs::Fields::field_bytes, crate::specs::Fields::Fits))]
     fn get_bytes(bytes: &[u8]) -> Self {
         let low = u64::get_bytes(&bytes[..8]);
         let high = u64::get_bytes(&bytes[8..]);
@@ -186,12 +186,12 @@ impl ByteValued for usize {
 
     ghost fields = { λ n. unsigned w64 n ∷ [] };
 
-    #[tactic(auto, unfolding(crate::specs::Fields::bytes, crate::specs::Fields::Fits))]
+    #[tactic(auto, unfolding(crate::specs::Fields::field_bytes, crate::specs::Fields::Fits))]
     fn put_bytes(&self, out: &mut [u8]) {
         out.copy_from_slice(&usize::to_le_bytes(*self));
     }
 
-    #[tactic(auto, using(std::proofs::lemmas::Nat::le_bytes_8), unfolding(crate::specs::Fields::bytes, crate::specs::Fields::Fits))]
+    #[tactic(auto, using(std::proofs::lemmas::Nat::le_bytes_8), unfolding(crate::specs::Fields::field_bytes, crate::specs::Fields::Fits))]
     fn get_bytes(bytes: &[u8]) -> Self {
         usize::from_le_bytes([
             bytes[0], bytes[1], bytes[2], bytes[3], bytes[4], bytes[5], bytes[6], bytes[7],
@@ -208,12 +208,12 @@ impl ByteValued for i8 {
 
     ghost fields = { λ n. signed w8 n ∷ [] };
 
-    #[tactic(auto, using(crate::proofs::Places::one_byte), unfolding(crate::specs::Fields::bytes, crate::specs::Fields::Fits))]
+    #[tactic(auto, using(crate::proofs::Places::one_byte), unfolding(crate::specs::Fields::field_bytes, crate::specs::Fields::Fits))]
     fn put_bytes(&self, out: &mut [u8]) {
         out.copy_from_slice(&i8::to_le_bytes(*self));
     }
 
-    #[tactic(auto, using(crate::proofs::Places::one_byte), unfolding(crate::specs::Fields::bytes, crate::specs::Fields::Fits))]
+    #[tactic(auto, using(crate::proofs::Places::one_byte), unfolding(crate::specs::Fields::field_bytes, crate::specs::Fields::Fits))]
     fn get_bytes(bytes: &[u8]) -> Self {
         u8::get_bytes(bytes).cast_signed()
     }
@@ -228,12 +228,12 @@ impl ByteValued for i16 {
 
     ghost fields = { λ n. signed w16 n ∷ [] };
 
-    #[tactic(auto, unfolding(crate::specs::Fields::bytes, crate::specs::Fields::Fits))]
+    #[tactic(auto, unfolding(crate::specs::Fields::field_bytes, crate::specs::Fields::Fits))]
     fn put_bytes(&self, out: &mut [u8]) {
         out.copy_from_slice(&i16::to_le_bytes(*self));
     }
 
-    #[tactic(auto, using(std::proofs::lemmas::Nat::le_bytes_2), unfolding(crate::specs::Fields::bytes, crate::specs::Fields::Fits))]
+    #[tactic(auto, using(std::proofs::lemmas::Nat::le_bytes_2), unfolding(crate::specs::Fields::field_bytes, crate::specs::Fields::Fits))]
     fn get_bytes(bytes: &[u8]) -> Self {
         u16::get_bytes(bytes).cast_signed()
     }
@@ -248,12 +248,12 @@ impl ByteValued for i32 {
 
     ghost fields = { λ n. signed w32 n ∷ [] };
 
-    #[tactic(auto, unfolding(crate::specs::Fields::bytes, crate::specs::Fields::Fits))]
+    #[tactic(auto, unfolding(crate::specs::Fields::field_bytes, crate::specs::Fields::Fits))]
     fn put_bytes(&self, out: &mut [u8]) {
         out.copy_from_slice(&i32::to_le_bytes(*self));
     }
 
-    #[tactic(auto, using(std::proofs::lemmas::Nat::le_bytes_4), unfolding(crate::specs::Fields::bytes, crate::specs::Fields::Fits))]
+    #[tactic(auto, using(std::proofs::lemmas::Nat::le_bytes_4), unfolding(crate::specs::Fields::field_bytes, crate::specs::Fields::Fits))]
     fn get_bytes(bytes: &[u8]) -> Self {
         u32::get_bytes(bytes).cast_signed()
     }
@@ -268,12 +268,12 @@ impl ByteValued for i64 {
 
     ghost fields = { λ n. signed w64 n ∷ [] };
 
-    #[tactic(auto, unfolding(crate::specs::Fields::bytes, crate::specs::Fields::Fits))]
+    #[tactic(auto, unfolding(crate::specs::Fields::field_bytes, crate::specs::Fields::Fits))]
     fn put_bytes(&self, out: &mut [u8]) {
         out.copy_from_slice(&i64::to_le_bytes(*self));
     }
 
-    #[tactic(auto, using(std::proofs::lemmas::Nat::le_bytes_8), unfolding(crate::specs::Fields::bytes, crate::specs::Fields::Fits))]
+    #[tactic(auto, using(std::proofs::lemmas::Nat::le_bytes_8), unfolding(crate::specs::Fields::field_bytes, crate::specs::Fields::Fits))]
     fn get_bytes(bytes: &[u8]) -> Self {
         u64::get_bytes(bytes).cast_signed()
     }
@@ -288,12 +288,12 @@ impl ByteValued for i128 {
 
     ghost fields = { λ n. signed w128 n ∷ [] };
 
-    #[tactic(auto, unfolding(crate::specs::Fields::bytes, crate::specs::Fields::Fits))]
+    #[tactic(auto, unfolding(crate::specs::Fields::field_bytes, crate::specs::Fields::Fits))]
     fn put_bytes(&self, out: &mut [u8]) {
         out.copy_from_slice(&i128::to_le_bytes(*self));
     }
 
-    #[tactic(auto, unfolding(crate::specs::Fields::bytes, crate::specs::Fields::Fits))]
+    #[tactic(auto, unfolding(crate::specs::Fields::field_bytes, crate::specs::Fields::Fits))]
     fn get_bytes(bytes: &[u8]) -> Self {
         u128::get_bytes(bytes).cast_signed()
     }
@@ -308,12 +308,12 @@ impl ByteValued for isize {
 
     ghost fields = { λ n. signed w64 n ∷ [] };
 
-    #[tactic(auto, unfolding(crate::specs::Fields::bytes, crate::specs::Fields::Fits))]
+    #[tactic(auto, unfolding(crate::specs::Fields::field_bytes, crate::specs::Fields::Fits))]
     fn put_bytes(&self, out: &mut [u8]) {
         out.copy_from_slice(&isize::to_le_bytes(*self));
     }
 
-    #[tactic(auto, using(std::proofs::lemmas::Nat::le_bytes_8), unfolding(crate::specs::Fields::bytes, crate::specs::Fields::Fits))]
+    #[tactic(auto, using(std::proofs::lemmas::Nat::le_bytes_8), unfolding(crate::specs::Fields::field_bytes, crate::specs::Fields::Fits))]
     fn get_bytes(bytes: &[u8]) -> Self {
         usize::get_bytes(bytes).cast_signed()
     }

@@ -106,12 +106,12 @@ impl ByteValued for Be16 {
 
     ghost fields = { λ x. big_endian w16 x.0 ∷ [] };
 
-    #[tactic(auto, unfolding(crate::specs::Fields::bytes, crate::specs::Fields::Fits))]
+    #[tactic(auto, unfolding(crate::specs::Fields::field_bytes, crate::specs::Fields::Fits))]
     fn put_bytes(&self, out: &mut [u8]) {
         out.copy_from_slice(&u16::to_be_bytes(self.0));
     }
 
-    #[tactic(auto, using(std::proofs::lemmas::Nat::be_bytes_2), unfolding(crate::specs::Fields::bytes, crate::specs::Fields::Fits))]
+    #[tactic(auto, using(std::proofs::lemmas::Nat::be_bytes_2), unfolding(crate::specs::Fields::field_bytes, crate::specs::Fields::Fits))]
     fn get_bytes(bytes: &[u8]) -> Self {
         Be16(u16::from_be_bytes([bytes[0], bytes[1]]))
     }
@@ -218,12 +218,12 @@ impl ByteValued for Be32 {
 
     ghost fields = { λ x. big_endian w32 x.0 ∷ [] };
 
-    #[tactic(auto, unfolding(crate::specs::Fields::bytes, crate::specs::Fields::Fits))]
+    #[tactic(auto, unfolding(crate::specs::Fields::field_bytes, crate::specs::Fields::Fits))]
     fn put_bytes(&self, out: &mut [u8]) {
         out.copy_from_slice(&u32::to_be_bytes(self.0));
     }
 
-    #[tactic(auto, using(std::proofs::lemmas::Nat::be_bytes_4), unfolding(crate::specs::Fields::bytes, crate::specs::Fields::Fits))]
+    #[tactic(auto, using(std::proofs::lemmas::Nat::be_bytes_4), unfolding(crate::specs::Fields::field_bytes, crate::specs::Fields::Fits))]
     fn get_bytes(bytes: &[u8]) -> Self {
         Be32(u32::from_be_bytes([bytes[0], bytes[1], bytes[2], bytes[3]]))
     }
@@ -330,12 +330,12 @@ impl ByteValued for Be64 {
 
     ghost fields = { λ x. big_endian w64 x.0 ∷ [] };
 
-    #[tactic(auto, unfolding(crate::specs::Fields::bytes, crate::specs::Fields::Fits))]
+    #[tactic(auto, unfolding(crate::specs::Fields::field_bytes, crate::specs::Fields::Fits))]
     fn put_bytes(&self, out: &mut [u8]) {
         out.copy_from_slice(&u64::to_be_bytes(self.0));
     }
 
-    #[tactic(auto, using(std::proofs::lemmas::Nat::be_bytes_8), unfolding(crate::specs::Fields::bytes, crate::specs::Fields::Fits))]
+    #[tactic(auto, using(std::proofs::lemmas::Nat::be_bytes_8), unfolding(crate::specs::Fields::field_bytes, crate::specs::Fields::Fits))]
     fn get_bytes(bytes: &[u8]) -> Self {
         Be64(u64::from_be_bytes([
             bytes[0], bytes[1], bytes[2], bytes[3], bytes[4], bytes[5], bytes[6], bytes[7],

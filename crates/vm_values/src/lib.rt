@@ -10,6 +10,3 @@ pub use address::{Address, AddressValue, GuestAddress, GuestUsize, MemoryRegionA
 pub use byte_valued::ByteValued;
 pub use endian::{Be16, Be32, Be64, Le16, Le32, Le64};
 pub use place::{get, put, read_and_written, written_and_read};
-
-#[cfg(test)]
-mod tests;

@@ -1,8 +1,8 @@
 //! Values at a moving place, one after the other.
 
-ghost use Rattle.std.specs.Prelude.{◌≡◌, ◌+◌, ◌*◌, ◌≤◌, [], ◌∷◌, length, take, refl};
+ghost use Rattle.std.specs.Prelude.{◌≡◌, ◌+◌, ◌*◌, ◌≤◌, [], ◌∷◌, length, take, drop, refl};
 ghost use Rattle.std.proofs.Common.{rules};
-ghost use Rattle.vm_values.specs.Fields.{ds, spelled, then_fields, AllFit};
+ghost use Rattle.vm_values.specs.Fields.{ds, then_fields, AllFit};
 
 use crate::byte_valued::ByteValued;
 
@@ -32,6 +32,7 @@ pub fn put<T: ByteValued>(out: &mut [u8], at: &mut usize, value: &T)
     requires { at.old + T.SIZE ≤ length out.old }
     ensures place { at.new ≡ at.old + T.SIZE }
     ensures bytes { take at.new out.new ≡ then_fields (take at.old out.old) (T.fields value.now) }
+    ensures behind { drop at.new out.new ≡ drop at.new out.old }
     ensures whole { at.new ≡ length out.new → out.new ≡ then_fields (take at.old out.old) (T.fields value.now) }
     ensures fits { AllFit (T.fields value.now) }
 {
@@ -59,6 +60,7 @@ fn put_array<const N: usize>(out: &mut [u8], at: &mut usize, values: &[u32; N])
     requires { at.old + 4 * N ≤ length out.old }
     ensures place { at.new ≡ at.old + 4 * N }
     ensures bytes { take at.new out.new ≡ then_fields (take at.old out.old) (ds N values.now ∷ []) }
+    ensures behind { drop at.new out.new ≡ drop at.new out.old }
     ensures whole { at.new ≡ length out.new → out.new ≡ then_fields (take at.old out.old) (ds N values.now ∷ []) }
     ensures fits { AllFit (ds N values.now ∷ []) }
 {
