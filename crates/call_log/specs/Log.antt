@@ -1,6 +1,7 @@
 -- What the file system writes down, and what it may answer.
 use Rattle.std.specs.Prelude.{◌≡◌, ℕ, nat_lt, List, [], ◌∷◌, ◌++◌, length, if◌then◌else◌}
 use Rattle.fuse_fs.specs.Calls.{FileCall, FileAnswer, Init, Lookup, Forget, Read, Found, Failed, Wants}
+use Rattle.call_log.specs.declared.files.CallLog.{CallLog}
 use Rattle.call_log.specs.declared.log.LoggedCall.{LoggedCall}
 use Rattle.call_log.specs.declared.log.LoggedCall.TheVariants as log
 
@@ -29,3 +30,7 @@ MayAnswer (Lookup who parent name) (Found entry) = entry.inode ≡ 2
 MayAnswer (Lookup who parent name) (Failed errno) = errno ≡ 2
 MayAnswer (Lookup who parent name) _ = ⊥
 MayAnswer _ _ = Unit {0}
+
+-- each call grows the log by itself, and has one of the answers that it may have
+abbrev pub MayLog : CallLog → FileCall → FileAnswer → CallLog → Type 0
+MayLog before call answer after = (after.calls.items ≡ written before.calls.items (entry_of call)) × MayAnswer call answer

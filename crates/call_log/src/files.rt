@@ -1,7 +1,7 @@
 //! The file system: two files that never change, and a log that grows by each call.
 
 ghost use Rattle.std.specs.Prelude.{◌≡◌, ⊤, [], ◌∷◌};
-ghost use Rattle.call_log.specs.Log.{MayAnswer, entry_of, kept, written};
+ghost use Rattle.call_log.specs.Log.{MayLog, kept};
 
 use crate::log::{LoggedCall, MOST_CALLS};
 use arrayvec::ArrayVec;
@@ -93,7 +93,7 @@ impl FileSystem for CallLog {
 
     type Handle = u64;
 
-    ghost may = { λ before call answer after. (after.calls.items ≡ written before.calls.items (entry_of call)) × MayAnswer call answer };
+    ghost may = { MayLog };
 
     fn init(&mut self, _capable: FsOptions) -> Result<FsOptions, Errno> {
         self.note(LoggedCall::Init);

@@ -3,6 +3,8 @@
 
 pub mod files;
 pub mod log;
+pub mod run;
 
 pub use files::CallLog;
 pub use log::LoggedCall;
+pub use run::run_logged;
