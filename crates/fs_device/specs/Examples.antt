@@ -17,40 +17,40 @@ use Rattle.virtiofsd_fuse.specs.Grammar.{IsFault, Replies, meaning, meant, error
 use Rattle.fs_device.specs.declared.error.DeviceError.TheVariants as device_error
 use Rattle.fs_device.specs.Step.{State, Exchange, May, Refused, Exchanged, Step, after_return, stopped}
 
-abbrev le16 : ℕ → List ℕ
+abbrev pub le16 : ℕ → List ℕ
 le16 n = to_le_bytes w16 n
 
-abbrev le32 : ℕ → List ℕ
+abbrev pub le32 : ℕ → List ℕ
 le32 n = to_le_bytes w32 n
 
-abbrev le64 : ℕ → List ℕ
+abbrev pub le64 : ℕ → List ℕ
 le64 n = to_le_bytes w64 n
 
-abbrev zeros : ℕ → List ℕ
+abbrev pub zeros : ℕ → List ℕ
 zeros n = replicate n 0
 
-abbrev blank : Memory
+abbrev pub blank : Memory
 blank = memory_of (host_of (new_block 0x10000 ∷ [])) (record { start = 0; size = 0x10000; block = 0 } ∷ [])
 
-abbrev queue : Queue
+abbrev pub queue : Queue
 queue = record { size = 4; desc = 0; avail = 0x100; used = 0x200; position = 0; stopped = false }
 
 -- bytes that the guest writes at an address
-abbrev put : Memory → ℕ → List ℕ → Memory
+abbrev pub put : Memory → ℕ → List ℕ → Memory
 put m a bs = stored_all m (zip (addresses a (length bs)) bs)
 
-abbrev descriptor : ℕ → ℕ → ℕ → ℕ → List ℕ
+abbrev pub descriptor : ℕ → ℕ → ℕ → ℕ → List ℕ
 descriptor addr len flags next = le64 addr ++ le32 len ++ le16 flags ++ le16 next
 
 -- a request of a header alone
-abbrev header : ℕ → ℕ → ℕ → List ℕ
+abbrev pub header : ℕ → ℕ → ℕ → List ℕ
 header len opcode unique = le32 len ++ le32 opcode ++ le64 unique ++ zeros 24
 
-abbrev request : List ℕ
+abbrev pub request : List ℕ
 request = header 40 7 1
 
 -- the request at 0x1000 in a chain with a room of 16 bytes at 0x2000
-abbrev waiting : Memory
+abbrev pub waiting : Memory
 waiting =
     let a = put blank 0x1000 request in
     let b = put a 0 (descriptor 0x1000 40 1 1 ++ descriptor 0x2000 16 2 0) in
@@ -118,26 +118,26 @@ too_short = refl
 
 -- ---- whole steps, of a device whose file system is asked nothing
 
-abbrev Nothing : Type 0
+abbrev pub Nothing : Type 0
 Nothing = Unit {0}
 
-abbrev may : May Nothing
+abbrev pub may : May Nothing
 may before call answer after = ⊥
 
-abbrev device : Memory → Queue → State Nothing
+abbrev pub device : Memory → Queue → State Nothing
 device m q = record { memory = m; queues = q ∷ []; options = 0; files = tt; limit = 0x101000; page_size = 4096 }
 
-abbrev unknown_reply : List ℕ
+abbrev pub unknown_reply : List ℕ
 unknown_reply = 0x10 ∷ 0 ∷ 0 ∷ 0 ∷ 0xda ∷ 0xff ∷ 0xff ∷ 0xff ∷ 1 ∷ zeros 7
 
-abbrev unknown_exchange : Exchange
+abbrev pub unknown_exchange : Exchange
 unknown_exchange = record { head = 0; request = request; reply = unknown_reply; fault = None }
 
 -- the state after that reply, over a memory
-abbrev after_reply : Memory → Queue → State Nothing
+abbrev pub after_reply : Memory → Queue → State Nothing
 after_reply m q = after_return (device m q) 0 q 0 (addresses 0x2000 16) unknown_reply 0 tt
 
-one_step : Step may (device waiting queue) 0 [] (Exchanged unknown_exchange true) (after_reply waiting queue)
+pub one_step : Step may (device waiting queue) 0 [] (Exchanged unknown_exchange true) (after_reply waiting queue)
 unfolding offer place addresses stored_all path found meaning reading_in_header meant error_bytes fields.field_bytes
 one_step = record {
   given = record { calls = []; options = 0; reply = unknown_reply; fault = None };

@@ -10,3 +10,4 @@ pub mod Held
 pub mod Machines
 pub mod Laws
 pub mod Examples
+pub mod ExamplesOfRuns

@@ -21,6 +21,3 @@ pub use error::DeviceError;
 pub use exchange::{Exchange, Fault};
 pub use machine::Machine;
 pub use refusal::Refusal;
-
-#[cfg(test)]
-mod tests;

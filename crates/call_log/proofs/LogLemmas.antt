@@ -1,0 +1,250 @@
+-- from runs of the plain machine to the log of its file system
+use Rattle.std.proofs.Common.{◌≡◌, ℕ, zero, suc, Bool, true, false, List, [], ◌∷◌, ◌++◌, map, zip, length, append_assoc, append-nil, refl, sym, ap, ◌∙◌, arith, subst, Option, Some, None}
+use Rattle.std.specs.Prelude.{Result, Ok, Err, IfOk, if◌then◌else◌, slice_get, flat_map, not, nat_lt, nat_le, ◌==◌}
+use Rattle.std.specs.List.{list_any, list_all}
+use Rattle.vm_memory_core.specs.declared.permissions.Permissions.TheVariants.{Read, Write}
+use Rattle.vm_memory_core.specs.Host.{Block}
+use Rattle.vm_memory.specs.Layout.{Region, fits, overlap, is_region}
+use Rattle.vm_memory.specs.Memory.{reach, physical}
+use Rattle.fs_queue.specs.declared.layout.QueueLayout.{QueueLayout}
+use Rattle.fs_queue.specs.declared.fault.QueueError.TheVariants as stop
+use Rattle.fs_queue.specs.Queue.{Queue}
+use Rattle.fs_queue.specs.Taking.{Offer, Asks, CannotAsk, Refuses, Offers}
+use Rattle.fs_queue.specs.Taking as taking
+use Rattle.fuse_fs.specs.Calls.{FileCall, FileAnswer, FileRun}
+use Rattle.vm_values.specs.Fields as fields
+use Rattle.virtiofsd_fuse.specs.Records.{in_header}
+use Rattle.virtiofsd_fuse.specs.Grammar.{Meaning, IsFault, Replies, IsSilent, One, Starts, meaning, meant, error_bytes}
+use Rattle.virtiofsd_fuse.specs.Grammar as grammar
+use Rattle.virtiofsd_fuse.specs.Serving.{Served, Setting, served, setting, replied, no_reply}
+use Rattle.fs_device.specs.declared.error.DeviceError.{DeviceError}
+use Rattle.fs_device.specs.declared.error.DeviceError.TheVariants as device
+use Rattle.fs_device.specs.declared.refusal.Refusal.TheVariants as why
+use Rattle.fs_device.specs.Step.{State, Exchange, Calls, May, Idle, Refused, Exchanged, Takes, StepOf, Step}
+use Rattle.fs_device.specs.Run as run
+use Rattle.fs_device.specs.Run.{Command, Answer, Effect, KickEnds, KickRun, Kicks, Kicked, Does, Performs, Run, effect, insert, insert_block, is_known, some_overlap, reset}
+use Rattle.call_log.specs.declared.log.LoggedCall.{LoggedCall}
+use Rattle.call_log.specs.Log.{entry_of, kept, written}
+use Rattle.call_log.specs.Runs.{calls_meant, entries_of, IsLoggedBy, AreLoggedBy, exchanges_in, Grows}
+
+-- ---- logs
+
+written-append : (log front back : List LoggedCall) → written log (front ++ back) ≡ written (written log front) back
+written-append log [] back = refl
+written-append log (call ∷ front) back = written-append (kept log call) front back
+
+logged-append : (xs ys : List Exchange) (front back : List LoggedCall) → AreLoggedBy xs front → AreLoggedBy ys back → AreLoggedBy (xs ++ ys) (front ++ back)
+unfolding AreLoggedBy
+logged-append [] ys front back none more = subst (AreLoggedBy ys) (sym (ap (λ (l : List LoggedCall). l ++ back) none)) more
+logged-append (x ∷ xs) ys front back (own, rest, is, more, all) behind =
+    (own, rest ++ back, is, logged-append xs ys rest back more behind, ap (λ (l : List LoggedCall). l ++ back) all ∙ append_assoc own rest back)
+
+-- ---- what the server asks
+
+either : (b : Bool) (x y : Served) (calls : List FileCall) → x.calls ≡ calls → y.calls ≡ calls → (if b then x else y).calls ≡ calls
+either true x y calls p q = p
+either false x y calls p q = q
+
+replied_calls : (room : ℕ) (calls : List FileCall) (options : ℕ) (bytes : List ℕ) → (replied room calls options bytes).calls ≡ calls
+replied_calls room calls options bytes = either (nat_lt room (length bytes)) _ _ calls refl refl
+
+served_calls : (s : Setting) (m : Meaning) (answers : List FileAnswer) → (served s m answers).calls ≡ calls_meant m
+served_calls s (IsFault fault) answers = refl
+served_calls s (Replies bytes) answers = replied_calls s.room [] s.options bytes
+served_calls s IsSilent answers = refl
+served_calls s (grammar.Asks (One unique call)) [] = refl
+served_calls s (grammar.Asks (One unique call)) (answer ∷ answers) = replied_calls s.room (call ∷ []) _ _
+served_calls s (grammar.Asks (Starts unique capable readahead)) [] = refl
+served_calls s (grammar.Asks (Starts unique capable readahead)) (answer ∷ answers) = replied_calls s.room _ _ _
+
+-- ---- a file system that keeps a log
+
+-- from one state to another the log grew by what these exchanges write down
+abbrev Grew : {F : Type 0} → (F → List LoggedCall) → F → List Exchange → F → Type 0
+Grew log before xs after = (entries : List LoggedCall) × AreLoggedBy xs entries × (log after ≡ written (log before) entries)
+
+stayed : {F : Type 0} (log : F → List LoggedCall) (before after : F) → after ≡ before → Grew log before [] after
+unfolding AreLoggedBy
+stayed log before after same = ([], refl, ap log same)
+
+abbrev Keeps : {F : Type 0} → May F → (F → List LoggedCall) → Type 0
+Keeps {F} may log = (before : F) (call : FileCall) (answer : FileAnswer) (after : F) → may before call answer after → log after ≡ written (log before) (entry_of call)
+
+steps_logged : {F : Type 0} (may : May F) (log : F → List LoggedCall) → Keeps may log → (before : F) (steps : Calls) (after : F) → FileRun may before steps after →
+    log after ≡ written (log before) (entries_of (map (λ step. step.0) steps))
+steps_logged may log keeps before [] after same = ap log same
+steps_logged may log keeps before (step ∷ steps) after (between, suits, made, rest) =
+    steps_logged may log keeps between steps after rest
+    ∙ ap (λ (l : List LoggedCall). written l (entries_of (map (λ step. step.0) steps))) (keeps before step.0 step.1 between made)
+    ∙ sym (written-append (log before) (entry_of step.0) (entries_of (map (λ step. step.0) steps)))
+
+nothing_meant : [] ≡ entries_of (calls_meant (meaning 0 [] 0))
+unfolding meaning in_header meant error_bytes fields.bytes
+nothing_meant = refl
+
+-- ---- steps
+
+takes_logged : {F : Type 0} (may : May F) (log : F → List LoggedCall) → Keeps may log → (s : State F) (i : ℕ) (q : Queue) (o : Offer) (calls : Calls) (x : Exchange) (notice : Bool) (after : State F) →
+    Takes may s i q o calls x notice after → Grew log s.files (x ∷ []) after.files
+unfolding AreLoggedBy
+takes_logged may log keeps s i q (Offers head (CannotAsk fault)) calls x notice after r =
+    let request : x.request ≡ [] = ap (λ (e : Exchange). e.request) r.returns.exchange in
+    let own : [] ≡ entries_of (calls_meant (meaning 0 x.request 0)) = rw request nothing_meant in
+    ([], ([], [], (0, 0, own), refl, refl), ap log r.files)
+takes_logged may log keeps s i q (Offers head (Asks request room)) calls x notice after r =
+    let entries = entries_of (map (λ (step : FileCall × FileAnswer). step.0) calls) in
+    let same : x.request ≡ request = ap (λ (e : Exchange). e.request) r.returns.exchange in
+    let asked : r.given.calls ≡ calls_meant (meaning s.options request (length room)) =
+        ap (λ (g : Served). g.calls) r.serves.gives ∙ served_calls (setting s.page_size s.options (length room)) (meaning s.options request (length room)) _ in
+    let own : entries ≡ entries_of (calls_meant (meaning s.options x.request (length room))) =
+        ap entries_of (sym r.serves.asks ∙ asked) ∙ ap (λ (bytes : List ℕ). entries_of (calls_meant (meaning s.options bytes (length room)))) (sym same) in
+    (entries, (entries, [], (s.options, length room, own), refl, sym (append-nil entries)), steps_logged may log keeps s.files calls after.files r.serves.run)
+takes_logged may log keeps s i q taking.Idle calls x notice after r = absurd r
+takes_logged may log keeps s i q (Refuses e) calls x notice after r = absurd r
+
+exchange_logged : {F : Type 0} (may : May F) (log : F → List LoggedCall) → Keeps may log → (s : State F) (i : ℕ) (o : Option Queue) (calls : Calls) (x : Exchange) (notice : Bool) (after : State F) →
+    StepOf may s i o calls (Exchanged x notice) after → Grew log s.files (x ∷ []) after.files
+exchange_logged may log keeps s i None calls x notice after t = absurd (cc)
+exchange_logged may log keeps s i (Some q) calls x notice after t = takes_logged may log keeps s i q _ calls x notice after t
+
+idle_stays : {F : Type 0} (may : May F) (s : State F) (i : ℕ) (o : Option Queue) (calls : Calls) (after : State F) → StepOf may s i o calls Idle after → after.files ≡ s.files
+idle_stays may s i None calls after t = ap (λ s. s.files) t.1.same
+idle_stays may s i (Some q) calls after t = ap (λ s. s.files) t.1.same
+
+refused_stays : {F : Type 0} (may : May F) (s : State F) (i : ℕ) (o : Option Queue) (calls : Calls) (e : DeviceError) (after : State F) → StepOf may s i o calls (Refused e) after → after.files ≡ s.files
+refused_stays may s i None calls e after t = ap (λ s. s.files) t.1.same
+refused_stays may s i (Some q) calls device.NoSuchQueue after t = absurd t
+refused_stays may s i (Some q) calls (device.Queue stop.OutOfMemory) after t = ap (λ s. s.files) t.1.same
+refused_stays may s i (Some q) calls (device.Queue stop.Stopped) after t = ap (λ s. s.files) t.2
+refused_stays may s i (Some q) calls (device.Queue stop.AvailIndexUnreachable) after t = ap (λ s. s.files) t.2
+refused_stays may s i (Some q) calls (device.Queue stop.AvailTooFar) after t = ap (λ s. s.files) t.2
+refused_stays may s i (Some q) calls (device.Queue stop.RingEntryUnreachable) after t = ap (λ s. s.files) t.2
+refused_stays may s i (Some q) calls (device.Queue stop.HeadOutOfTable) after t = ap (λ s. s.files) t.2
+refused_stays may s i (Some q) calls (device.Queue stop.UsedUnreachable) after t = ap (λ s. s.files) t.2
+refused_stays may s i (Some q) calls (device.Queue stop.AvailFlagsUnreachable) after t = ap (λ s. s.files) t.2
+refused_stays may s i (Some q) calls (device.Queue stop.DescriptorUnreachable) after t = ap (λ s. s.files) t.2
+
+-- ---- kicks
+
+end_stays : {F : Type 0} (may : May F) (s : State F) (i most : ℕ) (refused : Option DeviceError) (after : State F) → KickEnds may s i most refused after → after.files ≡ s.files
+end_stays may s i zero None after same = ap (λ s. s.files) same
+end_stays may s i zero (Some e) after t = absurd t
+end_stays may s i (suc most) None after t = idle_stays may s i (slice_get s.queues i) [] after t
+end_stays may s i (suc most) (Some e) after t = refused_stays may s i (slice_get s.queues i) [] e after t
+
+-- what grew in two turns
+joined_growth : {F : Type 0} (log : F → List LoggedCall) (a b c : F) (xs ys : List Exchange) → Grew log a xs b → Grew log b ys c → Grew log a (xs ++ ys) c
+joined_growth log a b c xs ys (front, are, is) (back, more, on) =
+    (front ++ back, logged-append xs ys front back are more, on ∙ ap (λ (l : List LoggedCall). written l back) is ∙ sym (written-append (log a) front back))
+
+kick_logged : {F : Type 0} (may : May F) (log : F → List LoggedCall) → Keeps may log → (s : State F) (i most : ℕ) (xs : List (Exchange × Bool)) (refused : Option DeviceError) (after : State F) →
+    KickRun may s i most xs refused after → Grew log s.files (map (λ x. x.0) xs) after.files
+unfolding KickRun
+kick_logged may log keeps s i most [] refused after t = stayed log s.files after.files (end_stays may s i most refused after t)
+kick_logged may log keeps s i zero (x ∷ xs) refused after t = absurd t
+kick_logged may log keeps s i (suc most) (x ∷ xs) refused after (calls, mid, step, rest) =
+    joined_growth log s.files mid.files after.files (x.0 ∷ []) (map (λ x. x.0) xs)
+    (exchange_logged may log keeps s i (slice_get s.queues i) calls x.0 x.1 mid step)
+    (kick_logged may log keeps mid i most xs refused after rest)
+
+kicks_logged : {F : Type 0} (may : May F) (log : F → List LoggedCall) → Keeps may log → (s : State F) (i most : ℕ) (o : Option Queue) (k : Kicked) (after : State F) →
+    Kicks may s i most o k after → Grew log s.files (map (λ x. x.0) k.exchanges) after.files
+kicks_logged may log keeps s i most None k after t =
+    let none : map (λ (x : Exchange × Bool). x.0) k.exchanges ≡ [] = ap (λ (k : Kicked). map (λ x. x.0) k.exchanges) t.1 in
+    rw none (stayed log s.files after.files (ap (λ s. s.files) t.0))
+kicks_logged may log keeps s i most (Some q) k after t = kick_logged may log keeps s i most k.exchanges k.refused after t
+
+-- ---- the other commands ask nothing
+
+abbrev IsQuiet : {F : Type 0} → State F → Effect F → Type 0
+IsQuiet s e = (e.1.files ≡ s.files) × (exchanges_in e.0 ≡ [])
+
+whichever : {F : Type 0} (s : State F) (b : Bool) (x y : Effect F) → IsQuiet s x → IsQuiet s y → IsQuiet s (if b then x else y)
+whichever s true x y p q = p
+whichever s false x y p q = q
+
+insert_quiet : {F : Type 0} (s : State F) (r : Region) → IsQuiet s (insert s r)
+insert_quiet s r = whichever s (not (fits r)) _ _ (refl, refl) (whichever s (list_any (overlap r) s.memory.layout) _ _ (refl, refl) (refl, refl))
+
+block_quiet : {F : Type 0} (s : State F) (base block : ℕ) (o : Option Block) → IsQuiet s (insert_block s base block o)
+block_quiet s base block None = (refl, refl)
+block_quiet s base block (Some b) = insert_quiet s _
+
+reset_quiet : {F : Type 0} (s : State F) (i : ℕ) (l : QueueLayout) (o : Option Queue) → IsQuiet s (reset s i l o)
+reset_quiet s i l None = (refl, refl)
+reset_quiet s i l (Some q) = (refl, refl)
+
+effect_quiet : {F : Type 0} (s : State F) (command : Command) → IsQuiet s (effect s command)
+unfolding effect
+effect_quiet s (run.GuestRead a n) = whichever s (reach (physical s.memory) Read a n) _ _ (refl, refl) (refl, refl)
+effect_quiet s (run.GuestWrite a bs) = whichever s (reach (physical s.memory) Write a (length bs)) _ _ (refl, refl) (refl, refl)
+effect_quiet s (run.NewBlock n) = whichever s (n == 0) _ _ (refl, refl) (refl, refl)
+effect_quiet s (run.InsertRegion base block) = block_quiet s base block _
+effect_quiet s (run.RemoveRegion base size) = whichever s (list_any (is_region base size) s.memory.layout) _ _ (refl, refl) (refl, refl)
+effect_quiet s (run.SetLayout layout) =
+    whichever s (not (list_all (is_known s.memory.host) layout)) _ _ (refl, refl)
+    (whichever s (not (list_all fits layout)) _ _ (refl, refl) (whichever s (some_overlap layout) _ _ (refl, refl) (refl, refl)))
+effect_quiet s (run.Kick queue most) = (refl, refl)
+effect_quiet s (run.ResetQueue queue l) = reset_quiet s queue l _
+
+quiet_logged : {F : Type 0} (log : F → List LoggedCall) (s : State F) (e : Effect F) (answer : Answer) (after : State F) → IsQuiet s e → (answer, after) ≡ e → Grew log s.files (exchanges_in answer) after.files
+quiet_logged {F} log s e answer after quiet is =
+    let none : exchanges_in answer ≡ [] = ap (λ (p : Effect F). exchanges_in p.0) is ∙ quiet.1 in
+    rw none (stayed log s.files after.files (ap (λ (p : Effect F). p.1.files) is ∙ quiet.0))
+
+-- ---- runs
+
+does_logged : {F : Type 0} (may : May F) (log : F → List LoggedCall) → Keeps may log → (s : State F) (command : Command) (answer : Answer) (after : State F) →
+    Does may s command answer after → Grew log s.files (exchanges_in answer) after.files
+does_logged may log keeps s (run.Kick i most) (run.Served k) after t = kicks_logged may log keeps s i most (slice_get s.queues i) k after t
+does_logged may log keeps s (run.Kick i most) run.Done after t = absurd t
+does_logged may log keeps s (run.Kick i most) (run.Bytes bytes) after t = absurd t
+does_logged may log keeps s (run.Kick i most) (run.NewBlockIs number) after t = absurd t
+does_logged may log keeps s (run.Kick i most) (run.IsRefused refusal) after t = absurd t
+does_logged may log keeps s (run.GuestRead a n) answer after t = quiet_logged log s _ answer after (effect_quiet s (run.GuestRead a n)) t
+does_logged may log keeps s (run.GuestWrite a bs) answer after t = quiet_logged log s _ answer after (effect_quiet s (run.GuestWrite a bs)) t
+does_logged may log keeps s (run.NewBlock n) answer after t = quiet_logged log s _ answer after (effect_quiet s (run.NewBlock n)) t
+does_logged may log keeps s (run.InsertRegion base block) answer after t = quiet_logged log s _ answer after (effect_quiet s (run.InsertRegion base block)) t
+does_logged may log keeps s (run.RemoveRegion base size) answer after t = quiet_logged log s _ answer after (effect_quiet s (run.RemoveRegion base size)) t
+does_logged may log keeps s (run.SetLayout layout) answer after t = quiet_logged log s _ answer after (effect_quiet s (run.SetLayout layout)) t
+does_logged may log keeps s (run.ResetQueue queue l) answer after t = quiet_logged log s _ answer after (effect_quiet s (run.ResetQueue queue l)) t
+
+performs_logged : {F : Type 0} (may : May F) (log : F → List LoggedCall) → Keeps may log → (s : State F) (command : Command) (answer : Answer) (after : State F) →
+    Performs may s command answer after → Grew log s.files (exchanges_in answer) after.files
+performs_logged may log keeps s command (run.IsRefused why.OutOfMemory) after t = stayed log s.files after.files (ap (λ s. s.files) t.1)
+performs_logged may log keeps s command (run.IsRefused why.NoPlace) after t = does_logged may log keeps s command _ after t
+performs_logged may log keeps s command (run.IsRefused why.EmptyBlock) after t = does_logged may log keeps s command _ after t
+performs_logged may log keeps s command (run.IsRefused why.UnknownBlock) after t = does_logged may log keeps s command _ after t
+performs_logged may log keeps s command (run.IsRefused why.BadRegion) after t = does_logged may log keeps s command _ after t
+performs_logged may log keeps s command (run.IsRefused why.Overlap) after t = does_logged may log keeps s command _ after t
+performs_logged may log keeps s command (run.IsRefused why.NoRegion) after t = does_logged may log keeps s command _ after t
+performs_logged may log keeps s command (run.IsRefused why.NoSuchQueue) after t = does_logged may log keeps s command _ after t
+performs_logged may log keeps s command run.Done after t = does_logged may log keeps s command _ after t
+performs_logged may log keeps s command (run.Bytes bytes) after t = does_logged may log keeps s command _ after t
+performs_logged may log keeps s command (run.NewBlockIs number) after t = does_logged may log keeps s command _ after t
+performs_logged may log keeps s command (run.Served k) after t = does_logged may log keeps s command _ after t
+
+events_logged : {F : Type 0} (may : May F) (log : F → List LoggedCall) → Keeps may log → (s : State F) (events : List (Command × Answer)) (after : State F) → Run may s events after →
+    Grew log s.files (flat_map exchanges_in (map (λ e. e.1) events)) after.files
+unfolding Run
+events_logged may log keeps s [] after same = stayed log s.files after.files (ap (λ s. s.files) same)
+events_logged may log keeps s (e ∷ es) after (mid, performs, rest) =
+    joined_growth log s.files mid.files after.files (exchanges_in e.1) (flat_map exchanges_in (map (λ e. e.1) es))
+    (performs_logged may log keeps s e.0 e.1 mid performs) (events_logged may log keeps mid es after rest)
+
+answers_of : {X Y : Type 0} (xs : List X) (ys : List Y) → length ys ≡ length xs → map (λ e. e.1) (zip xs ys) ≡ ys
+answers_of [] [] same = refl
+answers_of [] (y ∷ ys) same = absurd (omega arith)
+answers_of (x ∷ xs) [] same = absurd (omega arith)
+answers_of {X} {Y} (x ∷ xs) (y ∷ ys) same = ap (λ (l : List Y). y ∷ l) (answers_of xs ys (omega arith))
+
+-- a run's log grew by the calls of its exchanges
+pub run_grows : {F : Type 0} (may : May F) (log : F → List LoggedCall) → Keeps may log → (s : State F) (commands : List Command) (answers : List Answer) (after : State F) →
+    length answers ≡ length commands → Run may s (zip commands answers) after → Grows (log s.files) answers (log after.files)
+run_grows may log keeps s commands answers after same t =
+    subst (λ (l : List Answer). Grew log s.files (flat_map exchanges_in l) after.files) (answers_of commands answers same) (events_logged may log keeps s (zip commands answers) after t)
+
+-- of a result of which two things are known
+pub of_both : {X E : Type 0} (r : Result X E) (P Q R : X → Type 0) → IfOk r P → IfOk r Q → ((x : X) → P x → Q x → R x) → IfOk r R
+of_both (Ok x) P Q R p q gives = gives x p q
+of_both (Err e) P Q R p q gives = tt

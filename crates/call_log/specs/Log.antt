@@ -1,0 +1,36 @@
+-- What the file system writes down, and what it may answer.
+use Rattle.std.specs.Prelude.{◌≡◌, ℕ, nat_lt, List, [], ◌∷◌, ◌++◌, length, if◌then◌else◌}
+use Rattle.fuse_fs.specs.Calls.{FileCall, FileAnswer, Init, Lookup, Forget, Read, Found, Failed, Wants}
+use Rattle.call_log.specs.declared.files.CallLog.{CallLog}
+use Rattle.call_log.specs.declared.log.LoggedCall.{LoggedCall}
+use Rattle.call_log.specs.declared.log.LoggedCall.TheVariants as log
+
+-- a call as it is written down; no other kind is made so far
+abbrev pub entry_of : FileCall → List LoggedCall
+entry_of (Init capable) = log.Init ∷ []
+entry_of (Lookup who parent name) = log.Lookup parent ∷ []
+entry_of (Forget who node count) = log.Forget node count ∷ []
+entry_of (Read who node handle room size offset owner flags) = log.Read node ∷ []
+entry_of _ = []
+
+-- a log with one more call; it holds 64
+abbrev pub kept : List LoggedCall → LoggedCall → List LoggedCall
+kept calls call = if nat_lt (length calls) 64 then calls ++ call ∷ [] else calls
+
+-- a log after calls were written down one after another
+abbrev pub written : List LoggedCall → List LoggedCall → List LoggedCall
+written calls [] = calls
+written calls (call ∷ more) = written (kept calls call) more
+
+-- what a call may be answered: a look-up finds node 2, or nothing (ENOENT); nothing is wanted of `init`
+abbrev pub MayAnswer : FileCall → FileAnswer → Type 0
+MayAnswer (Init capable) (Wants options) = options ≡ 0
+MayAnswer (Init capable) _ = ⊥
+MayAnswer (Lookup who parent name) (Found entry) = entry.inode ≡ 2
+MayAnswer (Lookup who parent name) (Failed errno) = errno ≡ 2
+MayAnswer (Lookup who parent name) _ = ⊥
+MayAnswer _ _ = Unit {0}
+
+-- each call grows the log by itself, and has one of the answers that it may have
+abbrev pub MayLog : CallLog → FileCall → FileAnswer → CallLog → Type 0
+MayLog before call answer after = (after.calls.items ≡ written before.calls.items (entry_of call)) × MayAnswer call answer

@@ -1,0 +1,10 @@
+//! A file system that writes down what it is asked, and what follows from that for whole runs of a machine.
+#![tactic(auto)]
+
+pub mod files;
+pub mod log;
+pub mod run;
+
+pub use files::CallLog;
+pub use log::LoggedCall;
+pub use run::run_logged;

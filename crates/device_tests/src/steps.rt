@@ -1,0 +1,216 @@
+//! Steps of a device: one chain is taken, served and given back.
+
+use crate::stand::{REQUEST_AT, RING, ROOM_AT, Stand};
+use call_log::files::PATTERN;
+use fuse_wire::Errno;
+use guest_driver::requests::{error_reply, header, read};
+use guest_driver::{Guest, Ring};
+use std::process::Abort;
+use std::test::Fail;
+
+#[test]
+fn unknown_opcode_is_answered_enosys(rt: HostRuntime) -> Result<(), Fail> {
+    let mut stand = Stand::new(rt.alloc())?;
+    stand.ask_unknown()?;
+    let (exchange, notify) = stand.exchange()?;
+    let reply = [16, 0, 0, 0, 0xda, 0xff, 0xff, 0xff, 1, 0, 0, 0, 0, 0, 0, 0];
+    assert_eq!(rt; exchange.head, 0);
+    assert_eq!(rt; exchange.request.as_slice(), header(40, 7, 1, 0).as_slice());
+    assert_eq!(rt; exchange.reply.as_slice(), reply.as_slice());
+    assert_eq!(rt; exchange.fault, None);
+    assert!(rt; notify);
+    assert_eq!(rt; stand.guest.bytes(ROOM_AT)?, reply);
+    stand.expect_used(&rt, 0, (0, 16), 1)?;
+    stand.expect_marked(&rt, &[(0, 0), (0, 2)])
+}
+
+#[test]
+fn too_great_a_length_is_answered_enomem(rt: HostRuntime) -> Result<(), Fail> {
+    let mut stand = Stand::new(rt.alloc())?;
+    stand.ask(&header(0x101001, 7, 1, 0), 16)?;
+    let (_, _) = stand.exchange()?;
+    let reply = [16, 0, 0, 0, 0xf4, 0xff, 0xff, 0xff, 1, 0, 0, 0, 0, 0, 0, 0];
+    assert_eq!(rt; stand.guest.bytes(ROOM_AT)?, reply);
+    Ok(())
+}
+
+#[test]
+fn nothing_waits_in_zeros(rt: HostRuntime) -> Result<(), Fail> {
+    let mut stand = Stand::new(rt.alloc())?;
+    let answer = stand.step();
+    assert!(rt; matches!(&answer, Ok(None)));
+    stand.expect_marked(&rt, &[])
+}
+
+#[test]
+fn request_across_two_regions_is_one_request(rt: HostRuntime) -> Result<(), Fail> {
+    let mut stand = Stand::over(rt.alloc(), &[(0, 0x1000), (0x1000, 0xf000)], RING)?;
+    stand
+        .guest
+        .chain(0, &header(40, 7, 1, 0), &[(0xfe8, 40)], &[(ROOM_AT, 16)])?;
+    stand.guest.clear_marks();
+    let (exchange, notify) = stand.exchange()?;
+    assert!(rt; notify);
+    assert_eq!(rt; exchange.request.as_slice(), header(40, 7, 1, 0).as_slice());
+    assert_eq!(rt; stand.guest.bytes(ROOM_AT)?, error_reply(1, Errno::ENOSYS));
+    stand.expect_used(&rt, 0, (0, 16), 1)?;
+    stand.expect_marked(&rt, &[(0, 0), (1, 1)])
+}
+
+#[test]
+fn element_and_index_stand_over_the_reply(rt: HostRuntime) -> Result<(), Fail> {
+    let mut stand = Stand::new(rt.alloc())?;
+    stand.guest.chain(
+        0,
+        &header(40, 7, 1, 0),
+        &[(REQUEST_AT, 40)],
+        &[(RING.used, 16)],
+    )?;
+    let (_, _) = stand.exchange()?;
+    let stands = [0x10, 0, 1, 0, 0, 0, 0, 0, 0x10, 0, 0, 0, 0, 0, 0, 0];
+    assert_eq!(rt; stand.guest.bytes(RING.used)?, stands);
+    Ok(())
+}
+
+#[test]
+fn request_is_read_before_the_reply_is_stored_over_it(rt: HostRuntime) -> Result<(), Fail> {
+    let mut stand = Stand::new(rt.alloc())?;
+    stand.guest.chain(
+        0,
+        &header(40, 7, 1, 0),
+        &[(REQUEST_AT, 40)],
+        &[(REQUEST_AT, 16)],
+    )?;
+    let (_, _) = stand.exchange()?;
+    assert_eq!(rt;
+        stand.guest.bytes(REQUEST_AT)?,
+        error_reply(1, Errno::ENOSYS)
+    );
+    Ok(())
+}
+
+#[test]
+fn position_is_not_read_from_the_used_index(rt: HostRuntime) -> Result<(), Fail> {
+    let mut stand = Stand::new(rt.alloc())?;
+    stand.ask_unknown()?;
+    let (_, _) = stand.exchange()?;
+    stand.guest.put(0x202, &[0xff, 0xff])?;
+    stand.ask_unknown()?;
+    let (_, _) = stand.exchange()?;
+    stand.expect_used(&rt, 1, (0, 16), 2)?;
+    assert_eq!(rt; stand.guest.bytes(0x20c)?, [0, 0, 0, 0, 16, 0, 0, 0]);
+    let position = stand.device.queue(0).map(|queue| queue.position());
+    assert_eq!(rt; position, Some(2));
+    Ok(())
+}
+
+#[test]
+fn driver_that_asks_not_to_be_told_is_not(rt: HostRuntime) -> Result<(), Fail> {
+    let mut stand = Stand::new(rt.alloc())?;
+    stand.guest.set_flags(1)?;
+    stand.ask_unknown()?;
+    let (_, notify) = stand.exchange()?;
+    assert!(rt; !notify);
+    Ok(())
+}
+
+// A queue of 32 descriptors.
+const WIDE: Ring = Ring {
+    size: 32,
+    desc: 0,
+    avail: 0x400,
+    used: 0x600,
+};
+
+// Ten pieces of eight bytes, in no order.
+const CUT: [(u64, u32); 10] = [
+    (0x1900, 8),
+    (0x1000, 8),
+    (0x1800, 8),
+    (0x1108, 8),
+    (0x1700, 8),
+    (0x1207, 8),
+    (0x1603, 8),
+    (0x1300, 8),
+    (0x1500, 8),
+    (0x1fff, 8),
+];
+
+// Ten pieces of sixteen bytes, in no order.
+const SPREAD: [(u64, u32); 10] = [
+    (0x3900, 16),
+    (0x3000, 16),
+    (0x3800, 16),
+    (0x3108, 16),
+    (0x3700, 16),
+    (0x3207, 16),
+    (0x3603, 16),
+    (0x3300, 16),
+    (0x3500, 16),
+    (0x3ff8, 16),
+];
+
+// The reply to READ of the pattern from byte 7 on, for unique number 9.
+fn pattern_reply<const N: usize>() -> [u8; N] {
+    let mut reply = [0; N];
+    let len = (N as u32).to_le_bytes();
+    for (k, byte) in reply.iter_mut().enumerate() {
+        *byte = match k {
+            0..4 => len[k],
+            8 => 9,
+            4..16 => 0,
+            _ => ((k - 16 + 7) % 251) as u8,
+        };
+    }
+    reply
+}
+
+#[test]
+fn chain_of_twenty_descriptors_is_one_request_and_one_room(rt: HostRuntime) -> Result<(), Fail> {
+    let mut stand = Stand::over(rt.alloc(), &[(0, 0x10000)], WIDE)?;
+    let request = read(rt.alloc(), 9, PATTERN, 0, 7, 144)?;
+    stand.guest.chain(12, &request, &CUT, &SPREAD)?;
+    let (exchange, _) = stand.exchange()?;
+    assert_eq!(rt; exchange.fault, None);
+    assert_eq!(rt; exchange.head, 12);
+    assert_eq!(rt; exchange.request.as_slice(), request.as_slice());
+    stand.expect_used(&rt, 0, (12, 160), 1)?;
+    expect_spread(&rt, &stand.guest)
+}
+
+// The reply of 160 bytes stands in the pieces, one after another.
+fn expect_spread(rt: &impl Abort, guest: &Guest) -> Result<(), Fail> {
+    let reply = pattern_reply::<160>();
+    for ((addr, _), part) in SPREAD.iter().zip(reply.chunks(16)) {
+        let there = guest.bytes::<16>(*addr)?;
+        assert_eq!(rt; there.as_slice(), part);
+    }
+    Ok(())
+}
+
+#[test]
+fn reply_over_several_pages_marks_each_of_them(rt: HostRuntime) -> Result<(), Fail> {
+    let mut stand = Stand::new(rt.alloc())?;
+    let request = read(rt.alloc(), 9, PATTERN, 0, 7, 9000)?;
+    stand
+        .guest
+        .chain(0, &request, &[(REQUEST_AT, 80)], &[(0x4ff0, 9016)])?;
+    stand.guest.clear_marks();
+    let (_, _) = stand.exchange()?;
+    assert_eq!(rt; stand.guest.bytes(0x4ff0)?, pattern_reply::<9016>());
+    stand.expect_used(&rt, 0, (0, 9016), 1)?;
+    stand.expect_marked(&rt, &[(0, 0), (0, 4), (0, 5), (0, 6), (0, 7)])
+}
+
+#[test]
+fn reply_over_two_regions_marks_the_pages_of_both(rt: HostRuntime) -> Result<(), Fail> {
+    let mut stand = Stand::over(rt.alloc(), &[(0, 0x5800), (0x5800, 0xa800)], RING)?;
+    let request = read(rt.alloc(), 9, PATTERN, 0, 7, 9000)?;
+    stand
+        .guest
+        .chain(0, &request, &[(REQUEST_AT, 80)], &[(0x4ff0, 9016)])?;
+    stand.guest.clear_marks();
+    let (_, _) = stand.exchange()?;
+    assert_eq!(rt; stand.guest.bytes(0x4ff0)?, pattern_reply::<9016>());
+    stand.expect_marked(&rt, &[(0, 0), (0, 4), (0, 5), (1, 0), (1, 1)])
+}

@@ -1,0 +1,228 @@
+-- Worked runs that compute: kicks, guest accesses, layouts that change, two regions, and harvests. Pages are compared by where they begin, or are small.
+use Rattle.std.specs.Prelude.{◌≡◌, ℕ, ◌-◌, ◌^◌, true, false, List, [], ◌∷◌, ◌++◌, length, map, refl, Some, None}
+use Rattle.vm_memory_core.specs.Host.{Host, host_of, new_block, cleared}
+use Rattle.vm_memory.specs.Layout.{Region, place}
+use Rattle.vm_memory.specs.Memory.{Memory, memory_of, addresses, bytes, stored_all}
+use Rattle.fs_queue.specs.declared.fault.QueueError.TheVariants as queue_error
+use Rattle.fs_queue.specs.declared.layout.QueueLayout.{QueueLayout}
+use Rattle.fs_queue.specs.Chain.{path, found}
+use Rattle.fs_queue.specs.Taking.{Asks, Offers, offer}
+use Rattle.fs_queue.specs.Returning.{advanced}
+use Rattle.vm_values.specs.Fields as fields
+use Rattle.virtiofsd_fuse.specs.Records.{in_header}
+use Rattle.virtiofsd_fuse.specs.Grammar.{meaning, meant, error_bytes}
+use Rattle.fs_device.specs.declared.error.DeviceError.TheVariants as device_error
+use Rattle.fs_device.specs.declared.refusal.Refusal.TheVariants as why
+use Rattle.fs_device.specs.Step.{State, Exchanged, Idle, Step, after_return, stopped}
+use Rattle.fs_device.specs.Copies.{Page, block_pages, pages_of, harvested}
+use Rattle.fs_device.specs.Run as run
+use Rattle.fs_device.specs.Run.{Command, Answer, Run, KickRun, effect, fresh_queue}
+use Rattle.fs_device.specs.Examples.{le16, zeros, queue, put, descriptor, request, waiting, Nothing, may, device, unknown_reply, unknown_exchange, after_reply, one_step}
+
+-- ---- kicks
+
+-- one exchange, and then nothing waits
+kick_serves_one : Run may (device waiting queue) ((run.Kick 0 9, run.Served (record { exchanges = (unknown_exchange, true) ∷ []; refused = None })) ∷ []) (after_reply waiting queue)
+unfolding Run KickRun offer place addresses stored_all path found
+kick_serves_one = (after_reply waiting queue, ([], after_reply waiting queue, one_step, (refl, record { same = refl; no_call = refl })), refl)
+
+-- no more than was asked for
+kick_of_none : Run may (device waiting queue) ((run.Kick 0 0, run.Served (record { exchanges = []; refused = None })) ∷ []) (device waiting queue)
+unfolding Run KickRun
+kick_of_none = (device waiting queue, refl, refl)
+
+-- a refusal is listed, and stops the queue; the next kick lists that it is stopped
+abbrev far : Memory
+far = put waiting 0x102 (le16 5)
+
+kick_stops : Run may (device far queue)
+    ((run.Kick 0 9, run.Served (record { exchanges = []; refused = Some (device_error.Queue queue_error.AvailTooFar) }))
+     ∷ (run.Kick 0 9, run.Served (record { exchanges = []; refused = Some (device_error.Queue queue_error.Stopped) })) ∷ [])
+    (device far (stopped queue))
+unfolding Run KickRun offer place addresses stored_all path found
+kick_stops = (device far (stopped queue), (refl, refl, refl), (device far (stopped queue), (refl, refl, refl), refl))
+
+-- of a missing queue that is listed, whatever was asked for
+kick_of_missing : Run may (device waiting queue) ((run.Kick 1 0, run.Served (record { exchanges = []; refused = Some device_error.NoSuchQueue })) ∷ []) (device waiting queue)
+unfolding Run
+kick_of_missing = (device waiting queue, (refl, refl), refl)
+
+-- a kick may be refused for want of memory: its chain stays, and the next kick serves it
+kick_lacks_memory : Run may (device waiting queue)
+    ((run.Kick 0 9, run.IsRefused why.OutOfMemory) ∷ (run.Kick 0 1, run.Served (record { exchanges = (unknown_exchange, true) ∷ []; refused = None })) ∷ [])
+    (after_reply waiting queue)
+unfolding Run KickRun
+kick_lacks_memory = (device waiting queue, (refl, refl), (after_reply waiting queue, ([], after_reply waiting queue, one_step, refl), refl))
+
+-- a queue that stopped begins anew
+resets : (l : QueueLayout) → effect (device far (stopped queue)) (run.ResetQueue 0 l) ≡ (run.Done, device far (fresh_queue l))
+unfolding effect
+resets l = refl
+
+resets_no_missing : (l : QueueLayout) → effect (device far queue) (run.ResetQueue 1 l) ≡ (run.IsRefused why.NoSuchQueue, device far queue)
+unfolding effect
+resets_no_missing l = refl
+
+-- ---- 32 bytes at 0, and what a guest does there
+
+abbrev small : State Nothing
+small = device (memory_of (host_of (new_block 32 ∷ [])) (record { start = 0; size = 32; block = 0 } ∷ [])) queue
+
+-- what commands come to that each do one thing
+abbrev comes_to : State Nothing → List Command → State Nothing
+comes_to s [] = s
+comes_to s (command ∷ commands) = comes_to (effect s command).1 commands
+
+abbrev answers : State Nothing → List Command → Command → Answer
+answers s commands last = (effect (comes_to s commands) last).0
+
+abbrev written : List Command
+written = run.GuestWrite 5 (7 ∷ 8 ∷ []) ∷ []
+
+reads_what_was_written : answers small written (run.GuestRead 4 4) ≡ run.Bytes (0 ∷ 7 ∷ 8 ∷ 0 ∷ [])
+unfolding effect place addresses stored_all
+reads_what_was_written = refl
+
+reads_nothing_past_the_end : answers small [] (run.GuestRead 32 1) ≡ run.IsRefused why.NoPlace
+unfolding effect place addresses
+reads_nothing_past_the_end = refl
+
+-- one of its addresses has no place: no byte is written
+writes_whole_or_not_at_all : effect small (run.GuestWrite 31 (7 ∷ 8 ∷ [])) ≡ (run.IsRefused why.NoPlace, small)
+unfolding effect place addresses
+writes_whole_or_not_at_all = refl
+
+-- of no byte at all, anywhere
+reads_none : answers small [] (run.GuestRead 0x10000 0) ≡ run.Bytes []
+unfolding effect addresses
+reads_none = refl
+
+-- ---- layouts that change
+
+makes_no_empty_block : effect small (run.NewBlock 0) ≡ (run.IsRefused why.EmptyBlock, small)
+unfolding effect
+makes_no_empty_block = refl
+
+numbers_blocks : answers small (run.NewBlock 2 ∷ []) (run.NewBlock 1) ≡ run.NewBlockIs 2
+unfolding effect
+numbers_blocks = refl
+
+inserts_no_unknown_block : answers small [] (run.InsertRegion 0x20000 7) ≡ run.IsRefused why.UnknownBlock
+unfolding effect
+inserts_no_unknown_block = refl
+
+-- at the very end of the addresses one byte fits, two don't
+inserts_last_byte : answers small (run.NewBlock 1 ∷ []) (run.InsertRegion (2 ^ 64 - 1) 1) ≡ run.Done
+unfolding effect
+inserts_last_byte = refl
+
+inserts_nothing_past_it : answers small (run.NewBlock 2 ∷ []) (run.InsertRegion (2 ^ 64 - 1) 1) ≡ run.IsRefused why.BadRegion
+unfolding effect
+inserts_nothing_past_it = refl
+
+inserts_no_overlap : answers small (run.NewBlock 2 ∷ []) (run.InsertRegion 31 1) ≡ run.IsRefused why.Overlap
+unfolding effect
+inserts_no_overlap = refl
+
+-- a block that lies there twice has one set of bytes
+sees_one_block_twice : answers small (run.InsertRegion 64 0 ∷ run.GuestWrite 65 (7 ∷ []) ∷ []) (run.GuestRead 0 3) ≡ run.Bytes (0 ∷ 7 ∷ 0 ∷ [])
+unfolding effect place addresses stored_all
+sees_one_block_twice = refl
+
+removes_once : answers small (run.RemoveRegion 0 32 ∷ []) (run.RemoveRegion 0 32) ≡ run.IsRefused why.NoRegion
+unfolding effect
+removes_once = refl
+
+removes_all_of_a_region : answers small [] (run.RemoveRegion 0 31) ≡ run.IsRefused why.NoRegion
+unfolding effect
+removes_all_of_a_region = refl
+
+-- what was removed has no place, and its block keeps its bytes
+keeps_the_block : answers small (run.GuestWrite 5 (7 ∷ []) ∷ run.RemoveRegion 0 32 ∷ run.InsertRegion 64 0 ∷ []) (run.GuestRead 69 1) ≡ run.Bytes (7 ∷ [])
+unfolding effect place addresses stored_all
+keeps_the_block = refl
+
+has_no_place_then : answers small (run.RemoveRegion 0 32 ∷ []) (run.GuestRead 0 1) ≡ run.IsRefused why.NoPlace
+unfolding effect place addresses
+has_no_place_then = refl
+
+abbrev region : ℕ → ℕ → Region
+region start size = record { start = start; size = size; block = 0 }
+
+sets_no_unknown_block : answers small [] (run.SetLayout (record { start = 0; size = 32; block = 1 } ∷ [])) ≡ run.IsRefused why.UnknownBlock
+unfolding effect
+sets_no_unknown_block = refl
+
+sets_no_other_length : answers small [] (run.SetLayout (region 0 31 ∷ [])) ≡ run.IsRefused why.UnknownBlock
+unfolding effect
+sets_no_other_length = refl
+
+sets_nothing_past_the_end : answers small [] (run.SetLayout (region (2 ^ 64 - 31) 32 ∷ [])) ≡ run.IsRefused why.BadRegion
+unfolding effect
+sets_nothing_past_the_end = refl
+
+sets_no_overlap : answers small [] (run.SetLayout (region 0 32 ∷ region 31 32 ∷ [])) ≡ run.IsRefused why.Overlap
+unfolding effect
+sets_no_overlap = refl
+
+sets_the_same_block_twice : answers small (run.SetLayout (region 0 32 ∷ region 32 32 ∷ []) ∷ run.GuestWrite 5 (7 ∷ []) ∷ []) (run.GuestRead 37 1) ≡ run.Bytes (7 ∷ [])
+unfolding effect place addresses stored_all
+sets_the_same_block_twice = refl
+
+-- without any region nothing is reached, and a kick lists that the available index can't be read
+abbrev nowhere : State Nothing
+nowhere = comes_to (device waiting queue) (run.SetLayout [] ∷ [])
+
+kick_without_memory : Run may nowhere ((run.Kick 0 1, run.Served (record { exchanges = []; refused = Some (device_error.Queue queue_error.AvailIndexUnreachable) })) ∷ []) (record nowhere { queues = stopped queue ∷ [] })
+unfolding Run KickRun effect offer place addresses stored_all
+kick_without_memory = (record nowhere { queues = stopped queue ∷ [] }, (refl, refl, refl), refl)
+
+-- ---- two regions, of 0x1000 and 0xf000 bytes, and a request that lies in both
+
+abbrev two : Memory
+two = memory_of (host_of (new_block 0x1000 ∷ new_block 0xf000 ∷ []))
+    (record { start = 0; size = 0x1000; block = 0 } ∷ record { start = 0x1000; size = 0xf000; block = 1 } ∷ [])
+
+abbrev across : Memory
+across =
+    let a = put two 0xfe8 request in
+    let b = put a 0 (descriptor 0xfe8 40 1 1 ++ descriptor 0x2000 16 2 0) in
+    let c = put b 0x100 (le16 0 ++ le16 1 ++ le16 0) in
+    record c { host = cleared c.host }
+
+serves_across : Step may (device across queue) 0 [] (Exchanged unknown_exchange true) (after_reply across queue)
+unfolding offer place addresses stored_all path found meaning reading_in_header meant error_bytes fields.field_bytes
+serves_across = record {
+  given = record { calls = []; options = 0; reply = unknown_reply; fault = None };
+  serves = record { gives = refl; asks = refl; run = refl };
+  returns = record { exchange = refl; state = refl; told = refl };
+}
+
+-- where the harvested pages begin, each in its block
+abbrev places_of_pages : Memory → List (ℕ × ℕ)
+places_of_pages m = map (λ p. (p.block, p.offset)) (harvested m.host)
+
+-- the element and the index in one block, the reply in the other
+harvests_both_blocks : places_of_pages (after_reply across queue).memory ≡ (0, 0) ∷ (1, 0x1000) ∷ []
+unfolding offer place addresses stored_all block_pages pages_of
+harvests_both_blocks = refl
+
+-- ---- harvests
+
+harvests_nothing_yet : harvested small.memory.host ≡ []
+unfolding block_pages pages_of
+harvests_nothing_yet = refl
+
+-- the last page of a block is as short as its block
+harvests_what_was_written : harvested (comes_to small written).memory.host ≡ record { block = 0; offset = 0; bytes = zeros 5 ++ 7 ∷ 8 ∷ zeros 25 } ∷ []
+unfolding effect place addresses stored_all block_pages pages_of
+harvests_what_was_written = refl
+
+harvests_once : harvested (cleared (comes_to small written).memory.host) ≡ []
+unfolding effect place addresses stored_all block_pages pages_of
+harvests_once = refl
+
+-- reading marks nothing
+harvests_no_read : harvested (comes_to small (run.GuestRead 0 32 ∷ [])).memory.host ≡ []
+unfolding effect place addresses stored_all block_pages pages_of
+harvests_no_read = refl

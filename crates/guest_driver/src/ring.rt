@@ -1,0 +1,237 @@
+//! A guest's memory with a split virtqueue in it, drawn entry by entry (VIRTIO 1.2, section 2.7).
+
+ghost use Rattle.std.specs.Prelude.{◌≡◌};
+ghost use Rattle.vm_memory_core.specs.Host.{host_of, lengths};
+ghost use Rattle.vm_memory.specs.Layout.{AreHeld};
+ghost use Rattle.guest_driver.specs.Held.{AreHeld-prop};
+
+use std::alloc::{AllocError, Global};
+use vm_memory::{FromRangesError, GuestMemoryError, GuestMemoryMmap};
+use vm_memory_core::{GuestAddress, HostMemory, PageBitmap};
+
+/// The flag of a descriptor after which another comes (VIRTIO 1.2, 2.7.5).
+pub const NEXT: u16 = 1;
+
+/// The flag of a descriptor that the device writes.
+pub const WRITE: u16 = 2;
+
+/// The flag of a descriptor whose bytes are a table of descriptors.
+pub const INDIRECT: u16 = 4;
+
+/// An entry of a descriptor table: le64 addr, le32 len, le16 flags, le16 next (VIRTIO 1.2, 2.7.5).
+#[derive(Clone, Copy, Debug, Default, PartialEq, Eq)]
+pub struct Descriptor {
+    pub addr: u64,
+    pub len: u32,
+    pub flags: u16,
+    pub next: u16,
+}
+
+/// An element of the used ring: le32 id, the chain's head, and le32 len, the reply's length (VIRTIO 1.2, 2.7.8).
+#[derive(Clone, Copy, Debug, PartialEq, Eq)]
+pub struct UsedElement {
+    pub id: u32,
+    pub len: u32,
+}
+
+/// A queue's size and the addresses of its descriptor table, available ring and used ring.
+#[derive(Clone, Copy, Debug)]
+pub struct Ring {
+    pub size: u16,
+    pub desc: u64,
+    pub avail: u64,
+    pub used: u64,
+}
+
+/// A guest's physical memory, a ring in it, and how many chains it has offered there, modulo 2^16.
+#[derive(Drop)]
+pub struct Guest {
+    pub host: HostMemory<PageBitmap>,
+    pub mem: GuestMemoryMmap,
+    pub ring: Ring,
+    offered: u16,
+    pub ghost held: { AreHeld (lengths (host_of host)) mem } by { AreHeld-prop (lengths (host_of host)) mem },
+}
+
+// Clears the marks of a host's pages.
+fn clear(host: &mut HostMemory<PageBitmap>)
+    ensures { lengths (host_of host.new) ≡ lengths (host_of host.old) }
+{
+    for block in 0..host.block_count() {
+        host.reset_bitmap(block);
+    }
+}
+
+impl Guest {
+    /// Zeros in these regions, each from an address on and so long, with a ring in which nothing is offered.
+    pub fn new(
+        alloc: Global,
+        regions: &[(GuestAddress, usize)],
+        ring: Ring,
+    ) -> Result<Guest, FromRangesError> {
+        let mut host = HostMemory::new(alloc);
+        let mem = GuestMemoryMmap::from_ranges(alloc, &mut host, regions)?;
+        Ok(Guest {
+            host,
+            mem,
+            ring,
+            offered: 0,
+        })
+    }
+
+    /// The memory alone.
+    pub fn into_memory(self) -> (HostMemory<PageBitmap>, GuestMemoryMmap)
+        ensures { AreHeld (lengths (host_of result.0)) result.1 }
+    {
+        (self.host, self.mem)
+    }
+
+    /// Puts bytes at an address.
+    pub fn put(&mut self, addr: u64, bytes: &[u8]) -> Result<(), GuestMemoryError> {
+        self.mem
+            .write_slice(&mut self.host, bytes, GuestAddress(addr))
+    }
+
+    /// The bytes from an address on.
+    pub fn bytes<const N: usize>(&self, addr: u64) -> Result<[u8; N], GuestMemoryError> {
+        let mut bytes = [0; N];
+        self.mem
+            .read_slice(&self.host, &mut bytes, GuestAddress(addr))?;
+        Ok(bytes)
+    }
+
+    /// Puts an entry of the descriptor table.
+    pub fn descriptor(
+        &mut self,
+        index: u16,
+        descriptor: Descriptor,
+    ) -> Result<(), GuestMemoryError> {
+        let table = self.ring.desc;
+        self.descriptor_in(table, index, descriptor)
+    }
+
+    /// Puts an entry of a table of descriptors that begins at an address.
+    pub fn descriptor_in(
+        &mut self,
+        table: u64,
+        index: u16,
+        descriptor: Descriptor,
+    ) -> Result<(), GuestMemoryError> {
+        let at = table.wrapping_add(16 * u64::from(index));
+        self.put(at, &descriptor.addr.to_le_bytes())?;
+        self.put(at.wrapping_add(8), &descriptor.len.to_le_bytes())?;
+        self.put(at.wrapping_add(12), &descriptor.flags.to_le_bytes())?;
+        self.put(at.wrapping_add(14), &descriptor.next.to_le_bytes())
+    }
+
+    /// Puts the available ring's flags: 1 where the driver doesn't want to be told.
+    pub fn set_flags(&mut self, flags: u16) -> Result<(), GuestMemoryError> {
+        let at = self.ring.avail;
+        self.put(at, &flags.to_le_bytes())
+    }
+
+    /// Puts the available ring's index.
+    pub fn set_available(&mut self, index: u16) -> Result<(), GuestMemoryError> {
+        let at = self.ring.avail.wrapping_add(2);
+        self.offered = index;
+        self.put(at, &index.to_le_bytes())
+    }
+
+    /// Makes a chain available, by its head: the next entry of the available ring, then its index.
+    pub fn offer(&mut self, head: u16) -> Result<(), GuestMemoryError> {
+        let slot = u64::from(self.offered % self.ring.size.max(1));
+        let at = self.ring.avail.wrapping_add(4 + 2 * slot);
+        self.put(at, &head.to_le_bytes())?;
+        self.set_available(self.offered.wrapping_add(1))
+    }
+
+    /// Offers a chain of the entries from `head` on: first a request's bytes, cut into these readable parts (address and
+    /// length), then these writable ones.
+    pub fn chain(
+        &mut self,
+        head: u16,
+        request: &[u8],
+        readable: &[(u64, u32)],
+        writable: &[(u64, u32)],
+    ) -> Result<(), GuestMemoryError> {
+        let mut left = readable.len().saturating_add(writable.len());
+        let mut index = head;
+        let mut rest = request;
+        for (addr, len) in readable {
+            let (part, behind) = rest.split_at((*len as usize).min(rest.len()));
+            self.put(*addr, part)?;
+            rest = behind;
+            left = left.saturating_sub(1);
+            self.link(index, *addr, *len, 0, left)?;
+            index = index.wrapping_add(1);
+        }
+        for (addr, len) in writable {
+            left = left.saturating_sub(1);
+            self.link(index, *addr, *len, WRITE, left)?;
+            index = index.wrapping_add(1);
+        }
+        self.offer(head)
+    }
+
+    // An entry of a chain, after which `left` more come, each at the next index.
+    fn link(
+        &mut self,
+        index: u16,
+        addr: u64,
+        len: u32,
+        flags: u16,
+        left: usize,
+    ) -> Result<(), GuestMemoryError> {
+        let next = index.wrapping_add(1);
+        let entry = if left == 0 {
+            Descriptor {
+                addr,
+                len,
+                flags,
+                next: 0,
+            }
+        } else {
+            Descriptor {
+                addr,
+                len,
+                flags: flags | NEXT,
+                next,
+            }
+        };
+        self.descriptor(index, entry)
+    }
+
+    /// The used ring's element in a slot.
+    pub fn used(&self, slot: u16) -> Result<UsedElement, GuestMemoryError> {
+        let at = self.ring.used.wrapping_add(4 + 8 * u64::from(slot));
+        let id = u32::from_le_bytes(self.bytes(at)?);
+        let len = u32::from_le_bytes(self.bytes(at.wrapping_add(4))?);
+        Ok(UsedElement { id, len })
+    }
+
+    /// The used ring's index.
+    pub fn used_index(&self) -> Result<u16, GuestMemoryError> {
+        let bytes = self.bytes(self.ring.used.wrapping_add(2))?;
+        Ok(u16::from_le_bytes(bytes))
+    }
+
+    /// Clears the marks of all pages.
+    pub fn clear_marks(&mut self) {
+        clear(&mut self.host);
+    }
+
+    /// The marked pages, by block and number in it.
+    pub fn marked(&self, alloc: Global) -> Result<Vec<(usize, usize)>, AllocError> {
+        let mut pages = Vec::new(alloc);
+        for block in 0..self.host.block_count() {
+            if let Some(bitmap) = self.host.bitmap(block) {
+                for page in 0..bitmap.len() {
+                    if bitmap.is_bit_set(page) {
+                        pages.push((block, page))?;
+                    }
+                }
+            }
+        }
+        Ok(pages)
+    }
+}
