@@ -13,7 +13,7 @@ use Rattle.fs_queue.specs.Taking.{Offer, Asks, CannotAsk, Refuses, Offers}
 use Rattle.fs_queue.specs.Taking as taking
 use Rattle.fuse_fs.specs.Calls.{FileCall, FileAnswer, FileRun}
 use Rattle.vm_values.specs.Fields as fields
-use Rattle.virtiofsd_fuse.specs.Records.{in_header}
+use Rattle.virtiofsd_fuse.specs.Records.{reading_in_header}
 use Rattle.virtiofsd_fuse.specs.Grammar.{Meaning, IsFault, Replies, IsSilent, One, Starts, meaning, meant, error_bytes}
 use Rattle.virtiofsd_fuse.specs.Grammar as grammar
 use Rattle.virtiofsd_fuse.specs.Serving.{Served, Setting, served, setting, replied, no_reply}
@@ -79,7 +79,7 @@ steps_logged may log keeps before (step ∷ steps) after (between, suits, made, 
     ∙ sym (written-append (log before) (entry_of step.0) (entries_of (map (λ step. step.0) steps)))
 
 nothing_meant : [] ≡ entries_of (calls_meant (meaning 0 [] 0))
-unfolding meaning in_header meant error_bytes fields.bytes
+unfolding meaning reading_in_header meant error_bytes fields.field_bytes
 nothing_meant = refl
 
 -- ---- steps

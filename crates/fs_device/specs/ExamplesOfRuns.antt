@@ -9,7 +9,7 @@ use Rattle.fs_queue.specs.Chain.{path, found}
 use Rattle.fs_queue.specs.Taking.{Asks, Offers, offer}
 use Rattle.fs_queue.specs.Returning.{advanced}
 use Rattle.vm_values.specs.Fields as fields
-use Rattle.virtiofsd_fuse.specs.Records.{in_header}
+use Rattle.virtiofsd_fuse.specs.Records.{reading_in_header}
 use Rattle.virtiofsd_fuse.specs.Grammar.{meaning, meant, error_bytes}
 use Rattle.fs_device.specs.declared.error.DeviceError.TheVariants as device_error
 use Rattle.fs_device.specs.declared.refusal.Refusal.TheVariants as why
