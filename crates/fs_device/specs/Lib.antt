@@ -1,12 +1,10 @@
-pub mod Parts
+pub mod DeviceParts
 pub mod Step
-pub mod Copies
-pub mod Views
-pub mod Replies
+pub mod Harvested
+pub mod DeviceView
 pub mod Refusing
 pub mod Run
-pub mod Running
-pub mod Held
-pub mod Machines
+pub mod CommandView
+pub mod MachineView
 pub mod Laws
 pub mod Examples
