@@ -1,0 +1,31 @@
+//! Tests of bitmaps, host memory and guest memory: worked examples, and each public function once where memory is ample.
+#![tactic(auto)]
+
+#[cfg(test)]
+mod accesses;
+#[cfg(test)]
+mod addresses;
+#[cfg(test)]
+mod bitmaps;
+#[cfg(test)]
+mod blocks;
+#[cfg(test)]
+mod bytes;
+#[cfg(test)]
+mod collections;
+#[cfg(test)]
+mod copies;
+#[cfg(test)]
+mod elements;
+#[cfg(test)]
+mod errors;
+#[cfg(test)]
+mod given;
+#[cfg(test)]
+mod permissions;
+#[cfg(test)]
+mod regions;
+#[cfg(test)]
+mod slices;
+#[cfg(test)]
+mod windows;
