@@ -1,5 +1,5 @@
 -- what a guest reads and writes of its own memory
-use Rattle.std.proofs.Common.{◌≡◌, ℕ, Bool, true, false, ◌+◌, ◌^◌, ◌<◌, ◌≤◌, ◌&&◌, nat_lt, eqb, List, ◌++◌, length, map, take, drop, zip, ap, sym, ◌∙◌, refl, arith}
+use Rattle.std.proofs.Common.{◌≡◌, ℕ, Bool, true, false, ◌+◌, ◌^◌, ◌<◌, ◌&&◌, nat_lt, List, ◌++◌, length, map, take, drop, zip, ap, sym, ◌∙◌, refl, arith}
 use Rattle.std.specs.Prelude.{is_some}
 use Rattle.std.specs.List.{list_all}
 use Rattle.std.proofs.lemmas.Bool.{eqb-true}
@@ -17,18 +17,12 @@ use Rattle.fs_device.specs.Run.{guest_written}
 below : (n : ℕ) → n < 2 ^ 64 → nat_lt n (2 ^ 64) ≡ true
 below n h = grind (arith, nat_tests)
 
-above : (n : ℕ) → 2 ^ 64 ≤ n → nat_lt n (2 ^ 64) ≡ false
-above n h = grind (arith, nat_tests)
-
 below_of : (n : ℕ) → nat_lt n (2 ^ 64) ≡ true → n < 2 ^ 64
 below_of n h = grind (arith, nat_tests)
 
 pub reach_fits : (h : Host) (l : List Region) (access : Permissions) (a n : ℕ) → a + n < 2 ^ 64 →
     list_all (λ (x : ℕ). is_some (place l x)) (circular a n) ≡ reach (memory_of h l) access a n
 reach_fits h l access a n fits = rw (below (a + n) fits, circular-is n a fits) refl
-
-pub reach_wraps : (h : Host) (l : List Region) (access : Permissions) (a n : ℕ) → 2 ^ 64 ≤ a + n → false ≡ reach (memory_of h l) access a n
-reach_wraps h l access a n out = rw (above (a + n) out) refl
 
 both_first : (x y : Bool) → (x && y) ≡ true → x ≡ true
 both_first true y h = refl

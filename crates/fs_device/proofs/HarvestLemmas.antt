@@ -2,10 +2,10 @@
 use Rattle.std.proofs.Common.{◌≡◌, ℕ, Bool, true, false, ◌+◌, ◌*◌, ◌<◌, ◌≤◌, ◌++◌, zero, suc, List, [], ◌∷◌, length, map, take, drop, get_or, refl, ap, sym, ◌∙◌, arith, append_assoc, append-nil, add-one, Option, Some, None}
 use Rattle.std.specs.Prelude.{slice_get, slice_range, unwrap_or, if◌then◌else◌}
 use Rattle.std.specs.Option.{option_map}
-use Rattle.std.proofs.lemmas.List.{drop_more, drop_all, take_all}
+use Rattle.std.proofs.lemmas.List.{drop_more, drop_all}
 use Rattle.std.proofs.lemmas.Option.{slice_get-get_or}
 use Rattle.vm_memory_core.specs.Host.{Block, changed_at, unmarked}
-use Rattle.fs_device.specs.Copies.{Page, block_pages, pages_of}
+use Rattle.fs_device.specs.Harvested.{Page, block_pages, host_pages}
 
 abbrev pub page_at : (block : ℕ) → List ℕ → (page : ℕ) → Page
 page_at block bytes page = record { block = block; offset = page * 4096; bytes = slice_range bytes (page * 4096) (page * 4096 + 4096) }
@@ -42,24 +42,24 @@ no_block = record { bytes = []; marks = [] }
 -- one block further
 pub block_next : (blocks : List Block) (i : ℕ) (bytes : List ℕ) (marks : List Bool) (old new whole : List Page) → i < length blocks →
     Some bytes ≡ option_map (λ b. b.bytes) (slice_get blocks i) → Some marks ≡ option_map (λ b. b.marks) (slice_get blocks i) →
-    new ≡ old ++ block_pages i bytes 0 marks → old ++ pages_of i (drop i blocks) ≡ whole → new ++ pages_of (i + 1) (drop (i + 1) blocks) ≡ whole
-unfolding pages_of
+    new ≡ old ++ block_pages i bytes 0 marks → old ++ host_pages i (drop i blocks) ≡ whole → new ++ host_pages (i + 1) (drop (i + 1) blocks) ≡ whole
+unfolding host_pages
 block_next blocks i bytes marks old new whole h eb em is all =
     let b : Block = get_or blocks i no_block in
     let found : slice_get blocks i ≡ Some b = slice_get-get_or blocks i no_block h in
     let same_bytes : Some bytes ≡ Some b.bytes = eb ∙ ap (option_map (λ (k : Block). k.bytes)) found in
     let same_marks : Some marks ≡ Some b.marks = em ∙ ap (option_map (λ (k : Block). k.marks)) found in
     let same : block_pages i bytes 0 marks ≡ block_pages i b.bytes 0 b.marks = ap (λ (x : List ℕ). block_pages i x 0 marks) (some_is bytes b.bytes same_bytes) ∙ ap (block_pages i b.bytes 0) (some_is marks b.marks same_marks) in
-    ap (λ (r : List Page). r ++ pages_of (i + 1) (drop (i + 1) blocks)) (is ∙ ap (λ (r : List Page). old ++ r) same)
-    ∙ append_assoc old (block_pages i b.bytes 0 b.marks) (pages_of (i + 1) (drop (i + 1) blocks))
-    ∙ sym (ap (λ (l : List Block). old ++ pages_of i l) (drop_more blocks i no_block h)) ∙ all
+    ap (λ (r : List Page). r ++ host_pages (i + 1) (drop (i + 1) blocks)) (is ∙ ap (λ (r : List Page). old ++ r) same)
+    ∙ append_assoc old (block_pages i b.bytes 0 b.marks) (host_pages (i + 1) (drop (i + 1) blocks))
+    ∙ sym (ap (λ (l : List Block). old ++ host_pages i l) (drop_more blocks i no_block h)) ∙ all
   where
     some_is : {X : Type 0} (x y : X) → Some x ≡ Some y → x ≡ y
     some_is x y e = cc
 
-pub blocks_done : (blocks : List Block) (i : ℕ) (old whole : List Page) → length blocks ≤ i → old ++ pages_of i (drop i blocks) ≡ whole → old ≡ whole
-unfolding pages_of
-blocks_done blocks i old whole h all = sym (append-nil old) ∙ ap (λ (r : List Page). old ++ r) (sym (ap (pages_of i) (drop_all i blocks h))) ∙ all
+pub blocks_done : (blocks : List Block) (i : ℕ) (old whole : List Page) → length blocks ≤ i → old ++ host_pages i (drop i blocks) ≡ whole → old ≡ whole
+unfolding host_pages
+blocks_done blocks i old whole h all = sym (append-nil old) ∙ ap (λ (r : List Page). old ++ r) (sym (ap (host_pages i) (drop_all i blocks h))) ∙ all
 
 -- a block that is there has its bytes
 pub not_none : {A B : Type 0} (f : A → B) (blocks : List A) (i : ℕ) (d : A) → i < length blocks → None ≡ option_map f (slice_get blocks i) → ⊥
@@ -75,9 +75,6 @@ cleared_at (x ∷ l) (suc i) h = ap (λ (r : List Block). unmarked x ∷ r) (cle
 
 pub cleared_step : (l now new : List Block) (i : ℕ) → i < length l → now ≡ map unmarked (take i l) ++ drop i l → new ≡ changed_at now i unmarked → new ≡ map unmarked (take (i + 1) l) ++ drop (i + 1) l
 cleared_step l now new i h e is = is ∙ ap (λ (r : List Block). changed_at r i unmarked) e ∙ rw add-one (cleared_at l i h)
-
-pub cleared_done : (l now : List Block) (i : ℕ) → length l ≤ i → now ≡ map unmarked (take i l) ++ drop i l → now ≡ map unmarked l
-cleared_done l now i h e = e ∙ rw (take_all i l h, drop_all i l h) (append-nil (map unmarked l))
 
 pub lengths-unmarked : (l : List Block) → map (λ (b : Block). length b.bytes) (map unmarked l) ≡ map (λ (b : Block). length b.bytes) l
 lengths-unmarked [] = refl

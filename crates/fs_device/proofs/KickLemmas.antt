@@ -1,7 +1,8 @@
 -- kicks end, or go on by one exchange
-use Rattle.std.proofs.Common.{◌≡◌, ℕ, Bool, zero, suc, ◌<◌, ◌++◌, List, [], ◌∷◌, map, append_assoc, append-nil, arith, sym, refl, ap, subst, Option, Some, None, length, set}
+use Rattle.std.proofs.Common.{◌≡◌, ℕ, Bool, true, zero, suc, ◌<◌, ◌&&◌, nat_lt, ◌++◌, List, [], ◌∷◌, append_assoc, append-nil, arith, sym, refl, ap, subst, Option, Some, None, length, set}
 use Rattle.std.specs.Prelude.{slice_get}
 use Rattle.std.proofs.lemmas.Option.{slice_get-get_or}
+use Rattle.std.proofs.lemmas.Bool.Decides.{nat_tests}
 use Rattle.vm_memory.specs.Memory.{Memory}
 use Rattle.fs_queue.specs.declared.layout.QueueLayout.{QueueLayout}
 use Rattle.fs_queue.specs.declared.fault.QueueError.TheVariants as stop
@@ -68,6 +69,10 @@ goes_on may s mid next i most (suc left) more done x calls goes some step rest r
     let same : more ≡ left = omega arith in
     subst (λ (xs : List (Exchange × Bool)). KickRun may s i most xs refused after) (sym (append_assoc done (x ∷ []) rest))
     (goes (x ∷ rest) refused after (calls, next, step, subst (λ (n : ℕ). KickRun may next i n rest refused after) same run))
+
+-- a kick of a queue that is there, for some exchanges, takes memory
+pub room_wanted : (i n most : ℕ) → i < n → 0 < most → (nat_lt i n && nat_lt 0 most) ≡ true
+room_wanted i n most there some = grind (arith, nat_tests)
 
 -- a queue that is there begins anew
 pub reset_there : {F : Type 0} (f : Fixed) (m : Memory) (queues : List Queue) (s : ℕ × F) (i : ℕ) (l : QueueLayout) → i < length queues →

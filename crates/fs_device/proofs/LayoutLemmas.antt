@@ -1,5 +1,5 @@
 -- blocks and layouts that change under a machine
-use Rattle.std.proofs.Common.{◌≡◌, ℕ, zero, suc, Bool, true, false, ◌+◌, ◌<◌, ◌≤◌, ◌^◌, List, [], ◌∷◌, ◌++◌, length, map, ap, sym, ◌∙◌, refl, arith, eqb, Option, Some, None, length-append, subst}
+use Rattle.std.proofs.Common.{◌≡◌, ℕ, zero, suc, Bool, true, false, ◌+◌, ◌<◌, ◌≤◌, ◌^◌, List, [], ◌∷◌, ◌++◌, length, map, ap, sym, ◌∙◌, refl, arith, Option, Some, None, length-append, subst}
 use Rattle.std.specs.declared.alloc.AllocError.{AllocError}
 use Rattle.std.specs.Result.{IfOk, OnErr}
 use Rattle.std.proofs.lemmas.List.{map-append}
@@ -67,9 +67,6 @@ held_without xs base size (r ∷ l) held =
       | true ↦ (held.0, held.1, held_without xs base size l held.2)
       | false ↦ held_without xs base size l held.2
     ]
-
-or_false : (b : Bool) → (false || b) ≡ b
-or_false b = refl
 
 pub found_any : {X : Type 0} (p : X → Bool) (l : List X) (x : X) → find p l ≡ Some x → list_any p l ≡ true
 found_any p [] x e = absurd (cc)

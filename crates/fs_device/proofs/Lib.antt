@@ -5,3 +5,4 @@ pub mod RunLemmas
 pub mod GuestLemmas
 pub mod HarvestLemmas
 pub mod LayoutLemmas
+pub mod CutLemmas

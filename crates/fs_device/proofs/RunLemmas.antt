@@ -1,5 +1,5 @@
 -- a run goes on by one command
-use Rattle.std.proofs.Common.{◌≡◌, ℕ, suc, List, [], ◌∷◌, ◌++◌, length, map, zip, append_assoc, append-nil, ◌∙◌, arith, sym, refl, ap, subst}
+use Rattle.std.proofs.Common.{◌≡◌, suc, List, [], ◌∷◌, ◌++◌, length, map, zip, append_assoc, append-nil, ◌∙◌, arith, sym, refl, ap, subst}
 use Rattle.fs_device.specs.Step.{State, May}
 use Rattle.fs_device.specs.Run.{Command, Answer, Performs, Run}
 

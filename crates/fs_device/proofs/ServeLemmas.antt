@@ -1,6 +1,6 @@
 -- what the server's answer says
 use Rattle.std.proofs.Common.{◌≡◌, ℕ, Bool, true, false, ◌≤◌, nat_lt, List, [], ◌∷◌, length, map, ap, sym, ◌∙◌, refl, subst, arith, Option, Some, None, Ok, Err}
-use Rattle.std.specs.Prelude.{MatchBool, if◌then◌else◌}
+use Rattle.std.specs.Prelude.{if◌then◌else◌}
 use Rattle.std.proofs.lemmas.Bool.Decides.{nat_tests}
 use Rattle.vm_memory_core.specs.Host.{Host}
 use Rattle.vm_memory_core.specs.Window.{places, byte_in}
@@ -8,7 +8,7 @@ use Rattle.vm_memory.specs.Layout.{Region, place}
 use Rattle.vm_memory.specs.Memory.{memory_of}
 use Rattle.fs_queue.specs.declared.chain.Chain.{Chain}
 use Rattle.fs_queue.specs.Taking.{Asked, Asks, CannotAsk}
-use Rattle.fs_queue.specs.Held.{HoldsChain}
+use Rattle.fs_queue.specs.Windows.{HoldsChain}
 use Rattle.fs_queue.proofs.TakeLemmas.{length-located}
 use Rattle.fuse_fs.specs.Calls.{FileCall, FileAnswer}
 use Rattle.virtiofsd_fuse.specs.declared.error.Error.{Error}
@@ -18,9 +18,8 @@ use Rattle.virtiofsd_fuse.specs.Serving.{Served, no_reply, Setting, setting, ser
 use Rattle.virtiofsd_fuse.specs.Serving as server
 use Rattle.fs_device.specs.declared.exchange.Fault.{Fault}
 use Rattle.fs_device.specs.declared.exchange.Fault.TheVariants as fault
-use Rattle.fs_device.specs.Step.{Exchange, Calls, May, Serves, answered}
-use Rattle.fs_device.specs.Views.{ServesChain}
-use Rattle.fs_device.specs.Replies as device
+use Rattle.fs_device.specs.Step.{Exchange, Calls, May, ServesRequest}
+use Rattle.fs_device.specs.DeviceView.{ServesChain, AnswersRequest}
 
 not_more : (room n : ℕ) → nat_lt room n ≡ false → n ≤ room
 not_more room n h = grind (arith, nat_tests)
@@ -46,13 +45,13 @@ served_fits s (Commands (Starts unique capable readahead)) (answer ∷ answers) 
 -- a reply that was written whole
 pub replied_ok : {F : Type 0} (may : May F) (page options room : ℕ) (request : List ℕ) (before after : F) (n : ℕ) (written : List ℕ) (agreed : ℕ) →
     Handles may (setting page options room) (meaning options request room) before (Ok n) written agreed after →
-    (calls : Calls) × device.Replies may page (options, before) request room calls written None (agreed, after)
+    (calls : Calls) × AnswersRequest may page (options, before) request room calls written None (agreed, after)
 replied_ok may page options room request before after n written agreed h = (h.steps, (served_of (map (λ step. step.0) h.steps) agreed (Ok n) written, record { gives = sym h.gives; asks = refl; run = h.run }, refl, refl, refl))
 
 -- a fault
 pub replied_err : {F : Type 0} (may : May F) (page options room : ℕ) (request : List ℕ) (before after : F) (e : Error) (written : List ℕ) (agreed : ℕ) → is_memory e ≡ false →
     Handles may (setting page options room) (meaning options request room) before (Err e) written agreed after →
-    (calls : Calls) × device.Replies may page (options, before) request room calls [] (Some (fault.Served e)) (agreed, after)
+    (calls : Calls) × AnswersRequest may page (options, before) request room calls [] (Some (fault.Served e)) (agreed, after)
 replied_err {F} may page options room request before after e written agreed is h =
     let s : server.Serves may (setting page options room) (meaning options request room) before (Err e) written agreed after = rw is at h in
     (s.steps, (served_of (map (λ step. step.0) s.steps) agreed (Err e) written, record { gives = sym s.gives; asks = refl; run = s.run }, refl, refl, refl))
@@ -63,7 +62,7 @@ pub lacked : {F : Type 0} (may : May F) (s : Setting) (m : Meaning) (before afte
 lacked {F} may s m before after e written agreed is h = rw is at h
 
 pub reply_fits : {F : Type 0} (may : May F) (page : ℕ) (old new : ℕ × F) (request : List ℕ) (room : ℕ) (calls : Calls) (reply : List ℕ) (fault : Option Fault) →
-    device.Replies may page old request room calls reply fault new → length reply ≤ room
+    AnswersRequest may page old request room calls reply fault new → length reply ≤ room
 reply_fits may page old new request room calls reply fault r =
     let same : reply ≡ (served (setting page old.0 room) (meaning old.0 request room) (map (λ step. step.1) calls)).reply = r.2 ∙ ap (λ (g : Served). g.reply) r.1.gives in
     subst (λ (bytes : List ℕ). length bytes ≤ room) (sym same) (served_fits (setting page old.0 room) (meaning old.0 request room) (map (λ step. step.1) calls))
@@ -74,13 +73,13 @@ exchange head request reply fault = record { head = head; request = request; rep
 -- the code's exchange is the one that the chain's request and room ask for
 pub served_chain : {F : Type 0} (may : May F) (page : ℕ) (old new : ℕ × F) (h : Host) (l : List Region) (asked : Asked) (c : Chain) (head at : ℕ) (request : List ℕ) (fault : Option Fault) (reply : List ℕ) (calls : Calls) →
     HoldsChain (memory_of h l) asked (Ok c) → at ≡ head → request ≡ map (byte_in h) (places c.readable.items) →
-    device.Replies may page old request (length (places c.writable.items)) calls reply fault new →
+    AnswersRequest may page old request (length (places c.writable.items)) calls reply fault new →
     ServesChain may page old head asked calls (exchange at request reply fault) new
 served_chain may page old new h l (CannotAsk why) c head at request fault reply calls held a e r = absurd held
 served_chain {F} may page old new h l (Asks bytes room) c head at request fault reply calls held a e r =
     let same : request ≡ bytes = e ∙ sym held.0 in
     let count : length (places c.writable.items) ≡ length room = length-located room (place l) (places c.writable.items) held.1 in
-    let serves = subst (λ (n : ℕ). Serves may page old.0 bytes n old.1 calls r.0 new.1) count (subst (λ (x : List ℕ). Serves may page old.0 x (length (places c.writable.items)) old.1 calls r.0 new.1) same r.1) in (
+    let serves = subst (λ (n : ℕ). ServesRequest may page old.0 bytes n old.1 calls r.0 new.1) count (subst (λ (x : List ℕ). ServesRequest may page old.0 x (length (places c.writable.items)) old.1 calls r.0 new.1) same r.1) in (
       r.0,
       serves,
       ap (λ n. exchange n request reply fault) a

@@ -6,14 +6,13 @@ use Rattle.vm_memory.specs.Memory.{Memory}
 use Rattle.fs_queue.specs.declared.fault.QueueError.{QueueError}
 use Rattle.fs_queue.specs.declared.fault.QueueError.TheVariants as stop
 use Rattle.fs_queue.specs.Queue.{Queue}
-use Rattle.fs_queue.specs.Taking.{Asked, Asks, CannotAsk, Offer, Offers, offer}
+use Rattle.fs_queue.specs.Taking.{Asked, Asks, CannotAsk, Offer, Offers, offer, after_refusal, room_of}
 use Rattle.fs_queue.specs.Returning.{returned, wants_notice, advanced}
-use Rattle.fs_queue.specs.Held.{room_of}
 use Rattle.fs_device.specs.declared.error.DeviceError.{DeviceError}
 use Rattle.fs_device.specs.declared.error.DeviceError.TheVariants as device
 use Rattle.fs_device.specs.declared.exchange.Exchange as code
-use Rattle.fs_device.specs.Step.{State, Exchange, Outcome, Calls, May, Returns, Takes, Acts, StepOf, Step, stopped}
-use Rattle.fs_device.specs.Views.{exchange_of, outcome_of, ServesChain, StepsOne}
+use Rattle.fs_device.specs.Step.{State, Exchange, Calls, May, Returns, Exchanges, Acts, StepOf, Step}
+use Rattle.fs_device.specs.DeviceView.{exchange_of, outcome_of, ServesChain, StepsOne}
 
 pub changed_at-set : (l : List Queue) (i : ℕ) (q : Queue) → changed_at l i (λ _. q) ≡ set l i q
 changed_at-set [] i q = refl
@@ -40,12 +39,12 @@ unchanged {F} f m m' queues i q q' s s' there same kept still =
     ∙ ap (λ (l : List Queue). state f m l s') (ap (set queues i) same ∙ set-same queues i q there)
     ∙ ap (λ (x : ℕ × F). state f m queues x) still
 
-stopped_state : {F : Type 0} (f : Fixed) (m m' : Memory) (queues : List Queue) (i : ℕ) (q q' : Queue) (s s' : ℕ × F) → q' ≡ stopped q → m' ≡ m → s' ≡ s →
-    state f m' (set queues i q') s' ≡ state f m (changed_at queues i (λ _. stopped q)) s
-stopped_state {F} f m m' queues i q q' s s' same kept still =
+moved : {F : Type 0} (f : Fixed) (m m' : Memory) (queues : List Queue) (i : ℕ) (q q' : Queue) (s s' : ℕ × F) → q' ≡ q → m' ≡ m → s' ≡ s →
+    state f m' (set queues i q') s' ≡ state f m (changed_at queues i (λ _. q)) s
+moved {F} f m m' queues i q q' s s' same kept still =
     ap (λ (x : Memory). state f x (set queues i q') s') kept
-    ∙ ap (λ (l : List Queue). state f m l s') (ap (set queues i) same ∙ sym (changed_at-set queues i (stopped q)))
-    ∙ ap (λ (x : ℕ × F). state f m (changed_at queues i (λ _. stopped q)) x) still
+    ∙ ap (λ (l : List Queue). state f m l s') (ap (set queues i) same ∙ sym (changed_at-set queues i q))
+    ∙ ap (λ (x : ℕ × F). state f m (changed_at queues i (λ _. q)) x) still
 
 -- the code's answer, as the device's
 abbrev pub device_result : Result (Option (code.Exchange × Bool)) QueueError → Result (Option (code.Exchange × Bool)) DeviceError
@@ -67,7 +66,7 @@ returns f m m' queues i q q' s s' room expected x options notice same agreed sto
 takes : {F : Type 0} (may : May F) (f : Fixed) (m m' : Memory) (queues : List Queue) (i : ℕ) (q q' : Queue) (s s' : ℕ × F) (x : code.Exchange) (notice : Bool) (asked : Asked) (calls : Calls) →
     ServesChain may f.page_size s x.head asked calls (exchange_of x) s' →
     m' ≡ returned m q x.head (room_of asked) x.reply.items → notice ≡ wants_notice m' q → q' ≡ advanced q →
-    Takes may (state f m queues s) i q (Offers x.head asked) calls (exchange_of x) notice (state f m' (set queues i q') s')
+    Exchanges may (state f m queues s) i q (Offers x.head asked) calls (exchange_of x) notice (state f m' (set queues i q') s')
 takes may f m m' queues i q q' s s' x notice (CannotAsk why) calls served stored told moved = record {
   no_call = served.1;
   files = ap (λ p. p.1) served.2;
@@ -85,18 +84,18 @@ acts : {F : Type 0} (may : May F) (f : Fixed) (m m' : Memory) (queues : List Que
 acts may f m m' queues i q q' s s' (Ok None) there t = ([], (t.0, record { same = unchanged f m m' queues i q q' s s' there t.1 t.2 t.3; no_call = refl }))
 acts may f m m' queues i q q' s s' (Ok (Some x)) there t = (
   t.1,
-  subst (λ (o : Offer). Takes may (state f m queues s) i q o t.1 (exchange_of x.0) x.1 (state f m' (set queues i q') s')) (sym t.2)
+  subst (λ (o : Offer). Exchanges may (state f m queues s) i q o t.1 (exchange_of x.0) x.1 (state f m' (set queues i q') s')) (sym t.2)
       (takes may f m m' queues i q q' s s' x.0 x.1 t.0 t.1 t.3 t.4 t.5 t.6),
 )
 acts may f m m' queues i q q' s s' (Err stop.OutOfMemory) there t = ([], (t.0, record { same = unchanged f m m' queues i q q' s s' there t.1 t.2 t.3; no_call = refl }))
-acts may f m m' queues i q q' s s' (Err stop.Stopped) there t = ([], (t.0, refl, unchanged f m m' queues i q q' s s' there t.1 t.2 t.3))
-acts may f m m' queues i q q' s s' (Err stop.AvailIndexUnreachable) there t = ([], (t.0, refl, stopped_state f m m' queues i q q' s s' t.1 t.2 t.3))
-acts may f m m' queues i q q' s s' (Err stop.AvailTooFar) there t = ([], (t.0, refl, stopped_state f m m' queues i q q' s s' t.1 t.2 t.3))
-acts may f m m' queues i q q' s s' (Err stop.RingEntryUnreachable) there t = ([], (t.0, refl, stopped_state f m m' queues i q q' s s' t.1 t.2 t.3))
-acts may f m m' queues i q q' s s' (Err stop.HeadOutOfTable) there t = ([], (t.0, refl, stopped_state f m m' queues i q q' s s' t.1 t.2 t.3))
-acts may f m m' queues i q q' s s' (Err stop.UsedUnreachable) there t = ([], (t.0, refl, stopped_state f m m' queues i q q' s s' t.1 t.2 t.3))
-acts may f m m' queues i q q' s s' (Err stop.AvailFlagsUnreachable) there t = ([], (t.0, refl, stopped_state f m m' queues i q q' s s' t.1 t.2 t.3))
-acts may f m m' queues i q q' s s' (Err stop.DescriptorUnreachable) there t = ([], (t.0, refl, stopped_state f m m' queues i q q' s s' t.1 t.2 t.3))
+acts may f m m' queues i q q' s s' (Err stop.Stopped) there t = ([], (t.0, refl, moved f m m' queues i (after_refusal q stop.Stopped) q' s s' t.1 t.2 t.3))
+acts may f m m' queues i q q' s s' (Err stop.AvailIndexUnreachable) there t = ([], (t.0, refl, moved f m m' queues i (after_refusal q stop.AvailIndexUnreachable) q' s s' t.1 t.2 t.3))
+acts may f m m' queues i q q' s s' (Err stop.AvailTooFar) there t = ([], (t.0, refl, moved f m m' queues i (after_refusal q stop.AvailTooFar) q' s s' t.1 t.2 t.3))
+acts may f m m' queues i q q' s s' (Err stop.RingEntryUnreachable) there t = ([], (t.0, refl, moved f m m' queues i (after_refusal q stop.RingEntryUnreachable) q' s s' t.1 t.2 t.3))
+acts may f m m' queues i q q' s s' (Err stop.HeadOutOfTable) there t = ([], (t.0, refl, moved f m m' queues i (after_refusal q stop.HeadOutOfTable) q' s s' t.1 t.2 t.3))
+acts may f m m' queues i q q' s s' (Err stop.UsedUnreachable) there t = ([], (t.0, refl, moved f m m' queues i (after_refusal q stop.UsedUnreachable) q' s s' t.1 t.2 t.3))
+acts may f m m' queues i q q' s s' (Err stop.AvailFlagsUnreachable) there t = ([], (t.0, refl, moved f m m' queues i (after_refusal q stop.AvailFlagsUnreachable) q' s s' t.1 t.2 t.3))
+acts may f m m' queues i q q' s s' (Err stop.DescriptorUnreachable) there t = ([], (t.0, refl, moved f m m' queues i (after_refusal q stop.DescriptorUnreachable) q' s s' t.1 t.2 t.3))
 
 -- a step of the queue at i, as a step of the device
 pub steps : {F : Type 0} (may : May F) (f : Fixed) (m m' : Memory) (queues : List Queue) (i : ℕ) (q q' : Queue) (s s' : ℕ × F) (r : Result (Option (code.Exchange × Bool)) QueueError) →

@@ -7,7 +7,7 @@ use Rattle.vm_memory.specs.Layout.{place}
 use Rattle.vm_memory.specs.Memory.{Memory, memory_of, addresses, bytes, stored_all}
 use Rattle.fs_queue.specs.declared.fault.ChainFault.TheVariants as chain_fault
 use Rattle.fs_queue.specs.declared.fault.QueueError.TheVariants as queue_error
-use Rattle.fs_queue.specs.Queue.{Queue}
+use Rattle.fs_queue.specs.Queue.{Queue, stopped}
 use Rattle.fs_queue.specs.Chain.{path, found}
 use Rattle.fs_queue.specs.Taking.{Offer, Idle, Refuses, Offers, Asks, CannotAsk, offer}
 use Rattle.virtiofsd_fuse.specs.declared.error.Error.TheVariants as error
@@ -15,7 +15,7 @@ use Rattle.vm_values.specs.Fields as fields
 use Rattle.virtiofsd_fuse.specs.Records.{in_header}
 use Rattle.virtiofsd_fuse.specs.Grammar.{IsFault, Replies, meaning, meant, error_bytes}
 use Rattle.fs_device.specs.declared.error.DeviceError.TheVariants as device_error
-use Rattle.fs_device.specs.Step.{State, Exchange, May, Refused, Exchanged, Step, after_return, stopped}
+use Rattle.fs_device.specs.Step.{State, Exchange, May, Refused, Exchanged, Step, after_return}
 
 abbrev pub le16 : ℕ → List ℕ
 le16 n = to_le_bytes w16 n

@@ -1,5 +1,5 @@
 -- Whole runs of the plain machine.
-use Rattle.std.specs.Prelude.{◌≡◌, ◌==◌, ◌||◌, not, ℕ, zero, suc, Bool, false, true, IsTrue, List, [], ◌∷◌, length, zip, Option, Some, None, if◌then◌else◌, slice_get}
+use Rattle.std.specs.Prelude.{◌≡◌, ◌==◌, ◌&&◌, ◌||◌, not, nat_lt, ℕ, zero, suc, Bool, false, true, IsTrue, List, [], ◌∷◌, length, zip, Option, Some, None, if◌then◌else◌, slice_get}
 use Rattle.std.specs.List.{list_all, list_any}
 use Rattle.vm_memory_core.specs.declared.permissions.Permissions.TheVariants.{Read, Write}
 use Rattle.vm_memory_core.specs.Host.{Host, Block, new_block, with_block}
@@ -152,11 +152,16 @@ Kicks may s i most (Some q) k after = KickRun may s i most k.exchanges k.refused
 
 -- ---- runs
 
+-- a kick makes room for its exchanges: none where its queue is missing or it is for none
+abbrev pub kick_takes_memory : {F : Type 0} → State F → (queue most : ℕ) → Bool
+kick_takes_memory s queue most = nat_lt queue (length s.queues) && nat_lt 0 most
+
 -- the commands that take memory, any of which may be refused for want of it
-abbrev pub takes_memory : Command → Bool
-takes_memory (GuestWrite a bs) = false
-takes_memory (ResetQueue queue l) = false
-takes_memory _ = true
+abbrev pub takes_memory : {F : Type 0} → State F → Command → Bool
+takes_memory s (GuestWrite a bs) = false
+takes_memory s (Kick queue most) = kick_takes_memory s queue most
+takes_memory s (ResetQueue queue l) = false
+takes_memory s _ = true
 
 -- a command that has enough memory
 abbrev pub Does : {F : Type 0} → May F → State F → Command → Answer → State F → Type 0
@@ -166,7 +171,7 @@ Does may s command answer after = (answer, after) ≡ effect s command
 
 -- a command may be answered so, and leave this state
 abbrev pub Performs : {F : Type 0} → May F → State F → Command → Answer → State F → Type 0
-Performs may s command (IsRefused why.OutOfMemory) after = IsTrue (takes_memory command) × (after ≡ s)
+Performs may s command (IsRefused why.OutOfMemory) after = IsTrue (takes_memory s command) × (after ≡ s)
 Performs may s command answer after = Does may s command answer after
 
 -- these answers to these commands, one after the other

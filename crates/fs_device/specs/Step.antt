@@ -1,12 +1,11 @@
 -- One step of the device on one queue.
-use Rattle.std.specs.Prelude.{◌≡◌, ℕ, Bool, true, IsTrue, List, [], length, map, Option, Some, None, slice_get}
+use Rattle.std.specs.Prelude.{◌≡◌, ℕ, Bool, IsTrue, List, [], length, map, Option, Some, None, slice_get}
 use Rattle.vm_memory_core.specs.Host.{changed_at}
 use Rattle.vm_memory.specs.Memory.{Memory}
 use Rattle.fs_queue.specs.declared.fault.ChainFault.{ChainFault}
-use Rattle.fs_queue.specs.declared.fault.QueueError.{QueueError}
 use Rattle.fs_queue.specs.declared.fault.QueueError.TheVariants as stop
 use Rattle.fs_queue.specs.Queue.{Queue}
-use Rattle.fs_queue.specs.Taking.{Asks, CannotAsk, Offer, Refuses, Offers, offer, may_lack_memory}
+use Rattle.fs_queue.specs.Taking.{Asks, CannotAsk, Offer, Refuses, Offers, offer, may_lack_memory, after_refusal}
 use Rattle.fs_queue.specs.Taking as taking
 use Rattle.fs_queue.specs.Returning.{returned, wants_notice, advanced}
 use Rattle.fuse_fs.specs.Calls.{FileCall, FileAnswer, FileRun}
@@ -40,7 +39,7 @@ pub data Outcome : Type 0 where
   Refused : DeviceError → Outcome
   Exchanged : Exchange → (notice : Bool) → Outcome
 
--- the calls of a file system, in order, with what each was answered
+-- the calls of a file system, in order, with what each was served_exchange
 abbrev pub Calls : Type 0
 Calls = List (FileCall × FileAnswer)
 
@@ -48,16 +47,8 @@ Calls = List (FileCall × FileAnswer)
 abbrev pub May : Type 0 → Type 1
 May F = F → FileCall → FileAnswer → F → Type 0
 
-abbrev pub stopped : Queue → Queue
-stopped q = record q { stopped = true }
-
 abbrev pub with_queue : {F : Type 0} → State F → ℕ → Queue → State F
 with_queue s i q = record s { queues = changed_at s.queues i (λ _. q) }
-
--- a stopped queue stays as it was; each other refusal stops it
-abbrev pub after_refusal : {F : Type 0} → State F → ℕ → Queue → QueueError → State F
-after_refusal s i q stop.Stopped = s
-after_refusal s i q _ = with_queue s i (stopped q)
 
 -- nothing changed and no call was made
 pub record Unchanged {F : Type 0} (before : State F) (calls : Calls) (after : State F) : Type 0 where
@@ -79,7 +70,7 @@ served_fault None = None
 served_fault (Some e) = Some (fault.Served e)
 
 -- what the server does for a request: these calls, along which the file system's state moves, and what comes of their answers
-pub record Serves {F : Type 0} (may : May F) (page_size options : ℕ) (request : List ℕ) (room : ℕ) (before : F) (calls : Calls) (given : Served) (after : F) : Type 0 where
+pub record ServesRequest {F : Type 0} (may : May F) (page_size options : ℕ) (request : List ℕ) (room : ℕ) (before : F) (calls : Calls) (given : Served) (after : F) : Type 0 where
   pub gives : given ≡ served (setting page_size options room) (meaning options request room) (map (λ step. step.1) calls)
   pub asks : given.calls ≡ map (λ step. step.0) calls
   pub run : FileRun may before calls after
@@ -95,8 +86,8 @@ abbrev pub faulty : (head : ℕ) → ChainFault → Exchange
 faulty head why = record { head = head; request = []; reply = []; fault = Some (fault.Chain why) }
 
 -- a request is answered by what it means: its reply whole, or not at all
-abbrev pub answered : (head : ℕ) → (request : List ℕ) → Served → Exchange
-answered head request given = record { head = head; request = request; reply = given.reply; fault = served_fault given.fault }
+abbrev pub served_exchange : (head : ℕ) → (request : List ℕ) → Served → Exchange
+served_exchange head request given = record { head = head; request = request; reply = given.reply; fault = served_fault given.fault }
 
 -- a faulty chain goes back with nothing, and no call is made
 pub record ReturnsFaulty {F : Type 0} (before : State F) (i : ℕ) (q : Queue) (head : ℕ) (why : ChainFault) (calls : Calls) (x : Exchange) (notice : Bool) (after : State F) : Type 0 where
@@ -107,23 +98,23 @@ pub record ReturnsFaulty {F : Type 0} (before : State F) (i : ℕ) (q : Queue) (
 -- a request is answered: what it means, its calls in order, its reply whole or not at all, then the used element and the used index
 pub record Answers {F : Type 0} (may : May F) (before : State F) (i : ℕ) (q : Queue) (head : ℕ) (request room : List ℕ) (calls : Calls) (x : Exchange) (notice : Bool) (after : State F) : Type 0 where
   pub given : Served
-  pub serves : Serves may before.page_size before.options request (length room) before.files calls given after.files
-  pub returns : Returns before i q room (answered head request given) given.options x notice after
+  pub serves : ServesRequest may before.page_size before.options request (length room) before.files calls given after.files
+  pub returns : Returns before i q room (served_exchange head request given) given.options x notice after
 
 -- a chain that was offered is exchanged
-abbrev pub Takes : {F : Type 0} → May F → State F → ℕ → Queue → Offer → Calls → Exchange → Bool → State F → Type 0
-Takes may before i q (Offers head (CannotAsk why)) calls x notice after = ReturnsFaulty before i q head why calls x notice after
-Takes may before i q (Offers head (Asks request room)) calls x notice after = Answers may before i q head request room calls x notice after
-Takes may before i q taking.Idle calls x notice after = ⊥
-Takes may before i q (Refuses e) calls x notice after = ⊥
+abbrev pub Exchanges : {F : Type 0} → May F → State F → ℕ → Queue → Offer → Calls → Exchange → Bool → State F → Type 0
+Exchanges may before i q (Offers head (CannotAsk why)) calls x notice after = ReturnsFaulty before i q head why calls x notice after
+Exchanges may before i q (Offers head (Asks request room)) calls x notice after = Answers may before i q head request room calls x notice after
+Exchanges may before i q taking.Idle calls x notice after = ⊥
+Exchanges may before i q (Refuses e) calls x notice after = ⊥
 
 -- what may happen at an offer: a step may be refused for want of memory, and then nothing changes and no call is made
 abbrev pub Acts : {F : Type 0} → May F → State F → ℕ → Queue → Offer → Calls → Outcome → State F → Type 0
 Acts may before i q offered calls Idle after = (offered ≡ taking.Idle) × Unchanged before calls after
 Acts may before i q offered calls (Refused (device.Queue stop.OutOfMemory)) after = IsTrue (may_lack_memory before.memory offered) × Unchanged before calls after
-Acts may before i q offered calls (Refused (device.Queue e)) after = (offered ≡ Refuses e) × (calls ≡ []) × (after ≡ after_refusal before i q e)
+Acts may before i q offered calls (Refused (device.Queue e)) after = (offered ≡ Refuses e) × (calls ≡ []) × (after ≡ with_queue before i (after_refusal q e))
 Acts may before i q offered calls (Refused device.NoSuchQueue) after = ⊥
-Acts may before i q offered calls (Exchanged x notice) after = Takes may before i q offered calls x notice after
+Acts may before i q offered calls (Exchanged x notice) after = Exchanges may before i q offered calls x notice after
 
 abbrev pub StepOf : {F : Type 0} → May F → State F → ℕ → Option Queue → Calls → Outcome → State F → Type 0
 StepOf may before i None calls outcome after = (outcome ≡ Refused device.NoSuchQueue) × Unchanged before calls after

@@ -1,9 +1,6 @@
 //! What is asked of a machine, and what it answers.
 
-ghost use Rattle.std.specs.Prelude.{◌≡◌, None, Some};
-
-use crate::error::DeviceError;
-use crate::exchange::Exchange;
+use crate::queues::QueueRun;
 use crate::refusal::Refusal;
 use fs_queue::QueueLayout;
 use vm_memory::GuestMemoryMmap;
@@ -27,36 +24,6 @@ pub enum Command {
     Kick { queue: usize, most: u16 },
     /// A queue begins anew, with this layout.
     ResetQueue { queue: usize, layout: QueueLayout },
-}
-
-/// The chains that were exchanged one after another, each with whether the driver is to be told, and why none came after
-/// them, if that is a refusal.
-#[derive(Debug, Drop)]
-pub struct QueueRun {
-    pub done: Vec<(Exchange, bool)>,
-    pub refused: Option<DeviceError>,
-}
-
-impl QueueRun {
-    // Chains after which none waits, or none more was wanted.
-    pub(crate) fn ended(done: Vec<(Exchange, bool)>) -> QueueRun
-        ensures { result ≡ record { done = done; refused = None } }
-    {
-        QueueRun {
-            done,
-            refused: None,
-        }
-    }
-
-    // Chains after which a step was refused.
-    pub(crate) fn refused(done: Vec<(Exchange, bool)>, error: DeviceError) -> QueueRun
-        ensures { result ≡ record { done = done; refused = Some error } }
-    {
-        QueueRun {
-            done,
-            refused: Some(error),
-        }
-    }
 }
 
 /// What a command comes to.

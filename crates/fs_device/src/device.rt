@@ -2,11 +2,11 @@
 
 ghost use Rattle.std.specs.Prelude.{◌≡◌, ◌≤◌, ◌<◌, ◌^◌, List, length, set, slice_get, [], IfErr, IfOk, IfSome, None, OnErr, OnOk, option_map};
 ghost use Rattle.vm_memory_core.specs.Host.{host_of, lengths};
-ghost use Rattle.vm_memory.specs.Layout.{AreHeld, Region};
+ghost use Rattle.vm_memory.specs.Layout.{Region, HostHolds};
 ghost use Rattle.vm_memory.specs.Memory.{memory_of};
 ghost use Rattle.fs_queue.specs.Queue.{Queue};
 ghost use Rattle.fs_queue.specs.Taking.{Asked};
-ghost use Rattle.fs_queue.specs.Held.{IsTaken, TakenLiesIn, room_places};
+ghost use Rattle.fs_queue.specs.Windows.{IsTaken, TakenLiesIn, room_places};
 
 use crate::error::DeviceError;
 use crate::exchange::Exchange;
@@ -30,15 +30,15 @@ pub struct Device<F> {
 }
 
 impl<F> Model for Device<F> {
-    ghost use Rattle.fs_device.specs.Parts.{Parts};
+    ghost use Rattle.fs_device.specs.DeviceParts.{DeviceParts};
 
-    ghost Value = { Parts F };
+    ghost Value = { DeviceParts F };
 
     ghost view = { λ d. record { queues = d.queues.items; options = d.server.options.0; files = d.server.fs; limit = d.limit; page_size = d.server.page_size } };
 }
 
 ghost use Rattle.fs_device.specs.Step.{Calls, Step};
-ghost use Rattle.fs_device.specs.Views.{outcome_of, state_of, StepsOne};
+ghost use Rattle.fs_device.specs.DeviceView.{outcome_of, state_of, StepsOne, server_state};
 ghost use Rattle.fs_device.specs.Run.{fresh_queue};
 ghost use Rattle.fs_device.specs.declared.error.DeviceError.TheVariants.{NoSuchQueue};
 
@@ -51,8 +51,8 @@ fn step<F: FileSystem, B: NewBitmap>(
     limit: u32,
     queue: &mut Queue,
 ) -> Result<Option<(Exchange, bool)>, QueueError>
-    requires { AreHeld (lengths (host_of host.old)) mem.now }
-    ensures step { StepsOne F.may server.old.page_size (memory_of (host_of host.old) mem.now) limit queue.old (server.old.options.0, server.old.fs) result queue.new (memory_of (host_of host.new) mem.now) (server.new.options.0, server.new.fs) }
+    requires { HostHolds host.old mem.now }
+    ensures step { StepsOne F.may server.old.page_size (memory_of (host_of host.old) mem.now) limit queue.old (server_state server.old) result queue.new (memory_of (host_of host.new) mem.now) (server_state server.new) }
     ensures lengths { lengths (host_of host.new) ≡ lengths (host_of host.old) }
     ensures page_size { server.new.page_size ≡ server.old.page_size }
 {
@@ -106,7 +106,7 @@ impl<F: FileSystem> Device<F> {
         mem: &GuestMemoryMmap,
         queue: usize,
     ) -> Result<Option<(Exchange, bool)>, DeviceError>
-        requires { AreHeld (lengths (host_of host.old)) mem.now }
+        requires { HostHolds host.old mem.now }
         ensures step { (calls : Calls) × Step F.may (state_of (host_of host.old) mem.now self.old) queue calls (outcome_of result) (state_of (host_of host.new) mem.now self.new) }
         ensures lengths { lengths (host_of host.new) ≡ lengths (host_of host.old) }
     {

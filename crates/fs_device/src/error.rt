@@ -22,7 +22,7 @@ impl DeviceError {
         ensures { result ≡ refusal_number self.now }
     {
         match self {
-            DeviceError::Queue(error) => *error as u8,
+            DeviceError::Queue(error) => error.number(),
             DeviceError::NoSuchQueue => 10,
         }
     }

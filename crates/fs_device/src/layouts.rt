@@ -2,8 +2,8 @@
 
 ghost use Rattle.std.specs.Prelude.{◌≡◌};
 ghost use Rattle.fs_device.specs.Run.{Performs, NewBlock, InsertRegion, RemoveRegion, SetLayout};
-ghost use Rattle.fs_device.specs.Running.{answer_of};
-ghost use Rattle.fs_device.specs.Machines.{machine_of};
+ghost use Rattle.fs_device.specs.CommandView.{answer_of};
+ghost use Rattle.fs_device.specs.MachineView.{machine_of};
 
 use crate::command::Answer;
 use crate::machine::Machine;

@@ -1,23 +1,24 @@
 //! A virtio-fs device.
 #![tactic(auto)]
 
-pub mod command;
-pub mod copies;
-pub mod device;
-pub mod error;
-pub mod exchange;
+mod command;
+mod device;
+mod error;
+mod exchange;
+mod harvested;
 pub mod laws;
 mod layouts;
-pub mod machine;
+mod machine;
 mod queues;
-pub mod refusal;
+mod refusal;
 mod run;
 mod serve;
 
-pub use command::{Answer, Command, QueueRun};
-pub use copies::{HarvestedPage, harvest};
+pub use command::{Answer, Command};
 pub use device::Device;
 pub use error::DeviceError;
 pub use exchange::{Exchange, Fault};
+pub use harvested::{HarvestedPage, harvest};
 pub use machine::Machine;
+pub use queues::QueueRun;
 pub use refusal::Refusal;

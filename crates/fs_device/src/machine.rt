@@ -2,8 +2,8 @@
 
 ghost use Rattle.std.specs.Prelude.{◌≡◌};
 ghost use Rattle.vm_memory_core.specs.Host.{host_of, lengths};
-ghost use Rattle.vm_memory.specs.Layout.{AreHeld};
-ghost use Rattle.fs_device.specs.Held.{AreHeld-prop};
+ghost use Rattle.vm_memory.specs.Layout.{AreHeld, HostHolds};
+ghost use Rattle.vm_memory.specs.OneProof.{AreHeld-prop};
 
 use crate::device::Device;
 use fuse_fs::FileSystem;
@@ -22,7 +22,7 @@ pub struct Machine<F> {
 impl<F: FileSystem> Machine<F> {
     /// A machine of a host, a layout over its blocks, and a device.
     pub fn new(host: HostMemory<PageBitmap>, mem: GuestMemoryMmap, device: Device<F>) -> Machine<F>
-        requires { AreHeld (lengths (host_of host)) mem }
+        requires { HostHolds host mem }
         ensures host { result.host ≡ host }
         ensures mem { result.mem ≡ mem }
         ensures device { result.device ≡ device }

@@ -1,23 +1,68 @@
 //! Chains of a queue, served one after another.
 
-ghost use Rattle.std.specs.Prelude.{◌≡◌};
+ghost use Rattle.std.specs.Prelude.{◌≡◌, ◌<◌, ◌≤◌, [], None, Some, IfOk, OnErr, vec_capacity};
 ghost use Rattle.vm_memory_core.specs.Host.{host_of, lengths};
-ghost use Rattle.vm_memory.specs.Layout.{AreHeld};
-ghost use Rattle.fs_device.specs.Views.{state_of};
-ghost use Rattle.fs_device.specs.Running.{ServesQueue};
+ghost use Rattle.vm_memory.specs.Layout.{HostHolds};
 
-use crate::command::QueueRun;
 use crate::device::Device;
 use crate::error::DeviceError;
+use crate::exchange::Exchange;
 use fs_queue::QueueError;
 use fuse_fs::FileSystem;
-use std::alloc::Global;
+use std::alloc::{AllocError, Global};
 use vm_memory::GuestMemoryMmap;
 use vm_memory_core::{HostMemory, NewBitmap};
 
+/// The chains that were exchanged one after another, each with whether the driver is to be told, and why none came after
+/// them, if that is a refusal.
+#[derive(Debug, Drop)]
+pub struct QueueRun {
+    pub done: Vec<(Exchange, bool)>,
+    pub refused: Option<DeviceError>,
+}
+
+impl QueueRun {
+    // Chains after which none waits, or none more was wanted.
+    pub(crate) fn ended(done: Vec<(Exchange, bool)>) -> QueueRun
+        ensures { result ≡ record { done = done; refused = None } }
+    {
+        QueueRun {
+            done,
+            refused: None,
+        }
+    }
+
+    // Chains after which a step was refused.
+    pub(crate) fn refused(done: Vec<(Exchange, bool)>, error: DeviceError) -> QueueRun
+        ensures { result ≡ record { done = done; refused = Some error } }
+    {
+        QueueRun {
+            done,
+            refused: Some(error),
+        }
+    }
+}
+
+// Room for so many exchanges: it takes no memory where none is wanted.
+fn room_for(alloc: Global, most: u16) -> Result<Vec<(Exchange, bool)>, AllocError>
+    ensures items { IfOk result (λ done. done.items ≡ []) }
+    ensures room { IfOk result (λ done. most ≤ vec_capacity done) }
+    ensures none { OnErr result (0 < most) }
+{
+    if most == 0 {
+        Ok(Vec::new(alloc))
+    } else {
+        Vec::with_capacity(alloc, usize::from(most))
+    }
+}
+
+ghost use Rattle.fs_device.specs.DeviceView.{state_of};
+ghost use Rattle.fs_device.specs.CommandView.{ServesQueue};
+
 impl<F: FileSystem> Device<F> {
     /// Serves the next chains of a queue one after another, until `most` are done, none waits or a step is refused. A missing
-    /// queue is refused first; then comes room for `most` exchanges, where there is no memory for it.
+    /// queue is refused first, whatever memory there is; 9 comes where there is no room for `most` exchanges.
+    #[tactic(auto, using(crate::proofs::KickLemmas::room_wanted))]
     pub fn process_queue<B: NewBitmap>(
         &mut self,
         alloc: Global,
@@ -26,14 +71,14 @@ impl<F: FileSystem> Device<F> {
         queue: usize,
         most: u16,
     ) -> Result<QueueRun, DeviceError>
-        requires { AreHeld (lengths (host_of host.old)) mem.now }
+        requires { HostHolds host.old mem.now }
         ensures run { ServesQueue F.may (state_of (host_of host.old) mem.now self.old) queue most result (state_of (host_of host.new) mem.now self.new) }
         ensures lengths { lengths (host_of host.new) ≡ lengths (host_of host.old) }
     {
         if queue >= self.queues.len() {
             return Err(DeviceError::NoSuchQueue);
         }
-        let Ok(mut done) = Vec::with_capacity(alloc, usize::from(most)) else {
+        let Ok(mut done) = room_for(alloc, most) else {
             return Err(DeviceError::Queue(QueueError::OutOfMemory));
         };
         for _ in 0..most {

@@ -5,12 +5,13 @@ ghost use Rattle.vm_memory_core.specs.Host.{host_of};
 ghost use Rattle.vm_memory_core.specs.declared.permissions.Permissions.TheVariants.{Read, Write};
 ghost use Rattle.vm_memory.specs.Memory.{memory_of, reach, bytes};
 ghost use Rattle.fs_device.specs.Run.{Run, Performs, GuestRead, GuestWrite, Kick, ResetQueue, guest_written};
-ghost use Rattle.fs_device.specs.Running.{answer_of, command_of};
-ghost use Rattle.fs_device.specs.Machines.{machine_of};
+ghost use Rattle.fs_device.specs.CommandView.{answer_of, command_of};
+ghost use Rattle.fs_device.specs.MachineView.{machine_of};
 
-use crate::command::{Answer, Command, QueueRun};
+use crate::command::{Answer, Command};
 use crate::error::DeviceError;
 use crate::machine::Machine;
+use crate::queues::QueueRun;
 use crate::refusal::Refusal;
 use fs_queue::QueueLayout;
 use fuse_fs::FileSystem;

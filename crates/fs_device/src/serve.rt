@@ -6,7 +6,7 @@ ghost use Rattle.vm_memory.specs.Layout.{Region};
 ghost use Rattle.vm_memory.specs.Memory.{memory_of};
 ghost use Rattle.fs_queue.specs.Queue.{Queue};
 ghost use Rattle.fs_queue.specs.Taking.{Asked};
-ghost use Rattle.fs_queue.specs.Held.{IsTaken, TakenLiesIn, room_places};
+ghost use Rattle.fs_queue.specs.Windows.{IsTaken, TakenLiesIn, room_places};
 
 use crate::exchange::{Exchange, Fault};
 use fs_queue::Taken;
@@ -24,8 +24,7 @@ pub struct Reply {
 
 ghost use Rattle.virtiofsd_fuse.specs.Serving.{is_memory};
 ghost use Rattle.fs_device.specs.Step.{Calls};
-ghost use Rattle.fs_device.specs.Views.{exchange_of, ServesChain};
-ghost use Rattle.fs_device.specs.Replies.{Replies};
+ghost use Rattle.fs_device.specs.DeviceView.{exchange_of, ServesChain, AnswersRequest, server_state};
 
 // Whether memory was wanting.
 fn lacks_memory(error: Error) -> bool
@@ -42,7 +41,7 @@ fn answer<F: FileSystem>(
     room: usize,
 ) -> Option<Reply>
     requires { room < 2 ^ 32 }
-    ensures some { IfSome result (λ r. (calls : Calls) × Replies F.may server.old.page_size (server.old.options.0, server.old.fs) request.now room calls r.bytes.items r.fault (server.new.options.0, server.new.fs)) }
+    ensures some { IfSome result (λ r. (calls : Calls) × AnswersRequest F.may server.old.page_size (server_state server.old) request.now room calls r.bytes.items r.fault (server_state server.new)) }
     ensures fits { IfSome result (λ r. length r.bytes.items ≤ room) }
     ensures none { IfNone result ((server.new.options.0 ≡ server.old.options.0) × (server.new.fs ≡ server.old.fs)) }
     ensures page_size { server.new.page_size ≡ server.old.page_size }
@@ -75,7 +74,7 @@ pub fn serve<F: FileSystem, B: NewBitmap>(
     requires lies { TakenLiesIn (lengths (host_of host.now)) taken.now }
     requires short { room_places taken.now.chain < 2 ^ 32 }
     ensures exchange { (l : List Region) (q : Queue) (asked : Asked) → IsTaken (memory_of (host_of host.now) l) q asked taken.now →
-        IfOk result (λ e. (calls : Calls) × ServesChain F.may server.old.page_size (server.old.options.0, server.old.fs) taken.now.head asked calls (exchange_of e) (server.new.options.0, server.new.fs)) }
+        IfOk result (λ e. (calls : Calls) × ServesChain F.may server.old.page_size (server_state server.old) taken.now.head asked calls (exchange_of e) (server_state server.new)) }
     ensures fits { IfOk result (λ e. length e.reply.items ≤ room_places taken.now.chain) }
     ensures head { IfOk result (λ e. e.head ≡ taken.now.head) }
     ensures err { OnErr result ((server.new.options.0 ≡ server.old.options.0) × (server.new.fs ≡ server.old.fs)) }

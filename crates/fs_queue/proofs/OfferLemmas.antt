@@ -1,54 +1,30 @@
 -- what a queue offers, by what was found on the way
-use Rattle.std.proofs.Common.{◌≡◌, ℕ, Bool, true, false, ◌+◌, ◌*◌, ◌%◌, ◌^◌, ◌<◌, ◌&&◌, not, nat_le, nat_lt, eqb, List, refl, ap, sym, ◌∙◌, arith, Option, Some, None, Ok, Err}
+use Rattle.std.proofs.Common.{◌≡◌, ℕ, true, false, ◌+◌, ◌*◌, ◌%◌, ◌^◌, ◌<◌, ◌&&◌, not, List, refl, ap, sym, ◌∙◌, arith, Option, Some, None, Ok, Err}
 use Rattle.std.specs.Prelude.{IsTrue, is_some, if◌then◌else◌, Result, OnErr}
 use Rattle.std.proofs.lemmas.Nat.{mod_below}
 use Rattle.vm_memory_core.specs.Host.{Host, Place}
 use Rattle.vm_memory_core.specs.declared.permissions.Permissions.TheVariants.{Read, Write}
 use Rattle.vm_memory.specs.Layout.{Region, place}
-use Rattle.vm_memory.specs.Memory.{Memory, memory_of, addresses, located, reach}
+use Rattle.vm_memory.specs.Memory.{Memory, memory_of, addresses, located}
 use Rattle.fs_queue.specs.declared.layout.QueueLayout.{QueueLayout}
-use Rattle.fs_queue.specs.declared.look.Look.{Look}
 use Rattle.fs_queue.specs.declared.look.Look.TheVariants as looks
 use Rattle.fs_queue.specs.declared.fault.QueueError.{QueueError}
 use Rattle.fs_queue.specs.declared.fault.QueueError.TheVariants as stop
-use Rattle.fs_queue.specs.Queue.{Queue, waiting, slot, head, element_at, index_at, at_position}
+use Rattle.fs_queue.specs.Queue.{Queue, element_at, index_at, at_position}
 use Rattle.fs_queue.specs.Chain.{Found, IsChain, HasFault, StopsQueue, chain}
 use Rattle.fs_queue.specs.Look.{looked}
-use Rattle.fs_queue.specs.Taking.{Offer, Idle, Refuses, offer_of, offer, may_lack_memory}
-use Rattle.fs_queue.specs.Held.{Ends, Lacks, ends_found, ends_at, HoldsChain}
-use Rattle.fs_queue.specs.Held as held
+use Rattle.fs_queue.specs.Taking.{Offer, Refuses, offer_of, on_head, on_look, offer, may_lack_memory}
+use Rattle.fs_queue.specs.Windows.{Ends, Lacks, ends_found, ends_at}
+use Rattle.fs_queue.specs.Windows as held
 use Rattle.fs_queue.proofs.TakeLemmas.{reach-range}
 
--- what is offered once there is a head
-abbrev pub on_head : Memory → ℕ → Queue → ℕ → Offer
-on_head m limit q h =
-    if not (reach m Write (element_at q) 8 && reach m Write (index_at q) 2) then Refuses stop.UsedUnreachable
-    else if not (reach m Read q.avail 2) then Refuses stop.AvailFlagsUnreachable
-    else offer_of m limit h (chain m q h)
-
-abbrev pub on_look : Memory → ℕ → Queue → Look → Offer
-on_look m limit q looks.Idle = Idle
-on_look m limit q (looks.Refused e) = Refuses e
-on_look m limit q (looks.Head h) = on_head m limit q h
-
-five : (f : Look → Offer) (b1 b2 b3 b4 b5 : Bool) (x1 x2 x3 x4 x5 y : Look) →
-    (if b1 then f x1 else if b2 then f x2 else if b3 then f x3 else if b4 then f x4 else if b5 then f x5 else f y)
-    ≡ f (if b1 then x1 else if b2 then x2 else if b3 then x3 else if b4 then x4 else if b5 then x5 else y)
-five f true b2 b3 b4 b5 x1 x2 x3 x4 x5 y = refl
-five f false true b3 b4 b5 x1 x2 x3 x4 x5 y = refl
-five f false false true b4 b5 x1 x2 x3 x4 x5 y = refl
-five f false false false true b5 x1 x2 x3 x4 x5 y = refl
-five f false false false false true x1 x2 x3 x4 x5 y = refl
-five f false false false false false x1 x2 x3 x4 x5 y = refl
-
+-- a queue that isn't stopped
 pub offer_looked : (m : Memory) (limit : ℕ) (q : Queue) → q.stopped ≡ false → offer m limit q ≡ on_look m limit q (looked m q)
 unfolding offer
-offer_looked m limit q on =
-    rw on (five (on_look m limit q) (not (reach m Read (q.avail + 2) 2)) (eqb (waiting m q) 0) (nat_lt q.size (waiting m q)) (not (reach m Read (q.avail + 4 + 2 * slot q) 2)) (nat_le q.size (head m q))
-    (looks.Refused stop.AvailIndexUnreachable) looks.Idle (looks.Refused stop.AvailTooFar) (looks.Refused stop.RingEntryUnreachable) (looks.Refused stop.HeadOutOfTable) (looks.Head (head m q)))
+offer_looked m limit q on = rw on refl
 
 abbrev pub on_ends : Ends → Offer → Offer
-on_ends (held.Found element index flags) rest = rest
+on_ends (held.Holds element index flags) rest = rest
 on_ends (Lacks e) rest = Refuses e
 
 three : (element index flags : Option (List Place)) (rest : Offer) →
@@ -105,7 +81,7 @@ on_err (Ok x) P p = tt
 on_err (Err e) P p = p
 
 -- the windows of the return are those of their addresses
-pub found_ends : (element index flags : List Place) (o1 o2 o3 : Option (List Place)) → held.Found element index flags ≡ ends_found o1 o2 o3 →
+pub found_ends : (element index flags : List Place) (o1 o2 o3 : Option (List Place)) → held.Holds element index flags ≡ ends_found o1 o2 o3 →
     (o1 ≡ Some element) × (o2 ≡ Some index) × (o3 ≡ Some flags)
 found_ends element index flags None o2 o3 e = absurd (cc)
 found_ends element index flags (Some a) None o3 e = absurd (cc)
@@ -119,7 +95,7 @@ offer_lacks h regions limit l position at e head ends =
     ∙ sym (ap (λ (x : Ends). on_ends x (offer_of (memory_of h regions) limit at (chain (memory_of h regions) (at_position l position) at))) ends)
 
 pub offer_found : (h : Host) (regions : List Region) (limit : ℕ) (l : QueueLayout) (position at : ℕ) (a b c : List Place) (f : Found) → looks.Head at ≡ looked (memory_of h regions) (at_position l position) →
-    held.Found a b c ≡ ends_at (place regions) (at_position l position) → f ≡ chain (memory_of h regions) (at_position l position) at →
+    held.Holds a b c ≡ ends_at (place regions) (at_position l position) → f ≡ chain (memory_of h regions) (at_position l position) at →
     offer (memory_of h regions) limit (at_position l position) ≡ offer_of (memory_of h regions) limit at f
 offer_found h regions limit l position at a b c f head ends found =
     offer_head h regions limit l position at head

@@ -1,15 +1,20 @@
 -- reads of ranges, by the addresses that were reached
-use Rattle.std.proofs.Common.{◌≡◌, ℕ, true, ◌+◌, ◌^◌, ◌<◌, nat_lt, eqb, List, [], ◌++◌, length, map, take, drop, ap, sym, ◌∙◌, append-nil, arith}
+use Rattle.std.proofs.Common.{◌≡◌, ℕ, true, ◌+◌, ◌^◌, ◌<◌, nat_lt, eqb, List, [], ◌∷◌, ◌++◌, length, map, take, drop, ap, sym, ◌∙◌, append-nil, arith}
 use Rattle.std.specs.Prelude.{is_ok}
-use Rattle.std.specs.Int.{w16, w32, w64, from_le_bytes}
+use Rattle.std.specs.Int.{w16, w32, w64, from_le_bytes, to_le_bytes}
 use Rattle.std.proofs.lemmas.Bool.Decides.{nat_tests}
+use Rattle.std.proofs.lemmas.Nat.{from_le_bytes-to_le_bytes_2, from_le_bytes-to_le_bytes_4, from_le_bytes-to_le_bytes_8}
 use Rattle.std.proofs.lemmas.List.{take_all, drop_all, take_at, drop_at, map-append, length-map}
 use Rattle.vm_values.specs.declared.address.GuestAddress.{GuestAddress}
+use Rattle.vm_values.specs.Fields.{AllFit, spelled}
+use Rattle.vm_values.specs.Fields as fields
 use Rattle.vm_memory_core.specs.Host.{Host}
 use Rattle.vm_memory_core.specs.declared.permissions.Permissions.TheVariants.{Read}
 use Rattle.vm_memory.specs.Layout.{Region, place}
-use Rattle.vm_memory.specs.Memory.{Memory, memory_of, addresses, circular, reached, reach, byte, bytes, transferred}
+use Rattle.vm_memory.specs.Memory.{Memory, memory_of, addresses, circular, reached, reach, byte, bytes, number, transferred}
 use Rattle.vm_memory.proofs.Places.{circular-is, length-circular, length-addresses, list_all-reached, addresses-append}
+use Rattle.fs_queue.specs.declared.descriptor.Descriptor.{Descriptor}
+use Rattle.fs_queue.specs.Records.{descriptor}
 use Rattle.fs_queue.specs.Chain.{descriptor_at}
 
 -- a transfer succeeds where all was done
@@ -47,17 +52,27 @@ front_bytes m a j k = ap (take j) (bytes-append m a j k) ∙ take_at (bytes m a 
 back_bytes : (m : Memory) (a j k : ℕ) → drop j (bytes m a (j + k)) ≡ bytes m (a + j) k
 back_bytes m a j k = ap (drop j) (bytes-append m a j k) ∙ drop_at (bytes m a j) (bytes m (a + j) k) j (length-bytes m a j)
 
--- sixteen bytes spell the descriptor at their address
-pub decoded : (m : Memory) (a : ℕ) (b : List ℕ) → b ≡ bytes m a 16 →
-    record {
-      addr = from_le_bytes w64 (take 8 b);
-      len = from_le_bytes w32 (take 4 (drop 8 b));
-      flags = from_le_bytes w16 (take 2 (drop 12 b));
-      next = from_le_bytes w16 (drop 14 b);
-    } ≡ descriptor_at m a
-decoded m a b is =
-    let p1 : take 8 b ≡ bytes m a 8 = ap (take 8) is ∙ front_bytes m a 8 8 in
-    let p2 : take 4 (drop 8 b) ≡ bytes m (a + 8) 4 = ap (λ (l : List ℕ). take 4 (drop 8 l)) is ∙ ap (take 4) (back_bytes m a 8 8) ∙ front_bytes m (a + 8) 4 4 in
-    let p3 : take 2 (drop 12 b) ≡ bytes m (a + 12) 2 = ap (λ (l : List ℕ). take 2 (drop 12 l)) is ∙ ap (take 2) (back_bytes m a 12 4) ∙ front_bytes m (a + 12) 2 2 in
-    let p4 : drop 14 b ≡ bytes m (a + 14) 2 = ap (drop 14) is ∙ back_bytes m a 14 2 in
-    rw (p1, p2, p3, p4)
+abbrev entry : (addr len flags next : ℕ) → Descriptor
+entry addr len flags next = record { addr = addr; len = len; flags = flags; next = next }
+
+-- the descriptor that is spelled by the sixteen bytes at an address
+pub decoded : (m : Memory) (a : ℕ) (r : Descriptor) → spelled (descriptor r) ≡ bytes m a 16 → AllFit (descriptor r) → r ≡ descriptor_at m a
+unfolding fields.bytes fields.Fits
+decoded m a r is fits =
+    let p1 : to_le_bytes w64 r.addr ≡ bytes m a 8 = ap (take 8) is ∙ front_bytes m a 8 8 in
+    let p2 : to_le_bytes w32 r.len ≡ bytes m (a + 8) 4 = ap (λ (l : List ℕ). take 4 (drop 8 l)) is ∙ ap (take 4) (back_bytes m a 8 8) ∙ front_bytes m (a + 8) 4 4 in
+    let p3 : to_le_bytes w16 r.flags ≡ bytes m (a + 12) 2 = ap (λ (l : List ℕ). take 2 (drop 12 l)) is ∙ ap (take 2) (back_bytes m a 12 4) ∙ front_bytes m (a + 12) 2 2 in
+    let p4 : to_le_bytes w16 r.next ≡ bytes m (a + 14) 2 = ap (drop 14) is ∙ back_bytes m a 14 2 in
+    let n1 : r.addr ≡ number m w64 a = sym (from_le_bytes-to_le_bytes_8 r.addr fits.0) ∙ ap (from_le_bytes w64) p1 in
+    let n2 : r.len ≡ number m w32 (a + 8) = sym (from_le_bytes-to_le_bytes_4 r.len fits.1.0) ∙ ap (from_le_bytes w32) p2 in
+    let n3 : r.flags ≡ number m w16 (a + 12) = sym (from_le_bytes-to_le_bytes_2 r.flags fits.1.1.0) ∙ ap (from_le_bytes w16) p3 in
+    let n4 : r.next ≡ number m w16 (a + 14) = sym (from_le_bytes-to_le_bytes_2 r.next fits.1.1.1.0) ∙ ap (from_le_bytes w16) p4 in
+    ap (λ (n : ℕ). entry n r.len r.flags r.next) n1
+    ∙ ap (λ (n : ℕ). entry (number m w64 a) n r.flags r.next) n2
+    ∙ ap (λ (n : ℕ). entry (number m w64 a) (number m w32 (a + 8)) n r.next) n3
+    ∙ ap (λ (n : ℕ). entry (number m w64 a) (number m w32 (a + 8)) (number m w16 (a + 12)) n) n4
+
+-- the number that two bytes spell
+pub spelled_number : (bs : List ℕ) (n : ℕ) → bs ≡ spelled (fields.w n ∷ []) → AllFit (fields.w n ∷ []) → n ≡ from_le_bytes w16 bs
+unfolding fields.bytes fields.Fits
+spelled_number bs n is fits = sym (from_le_bytes-to_le_bytes_2 n fits.0) ∙ ap (from_le_bytes w16) (sym is)

@@ -12,10 +12,9 @@ use Rattle.fs_queue.specs.declared.chain.Chain.{Chain}
 use Rattle.fs_queue.specs.declared.chain.Taken.{Taken}
 use Rattle.fs_queue.specs.declared.fault.ChainFault.{ChainFault}
 use Rattle.fs_queue.specs.Queue.{Queue, element_at, index_at}
-use Rattle.fs_queue.specs.Taking.{Asked, Asks, CannotAsk}
+use Rattle.fs_queue.specs.Taking.{Asked, Asks, CannotAsk, room_of}
 use Rattle.fs_queue.specs.Returning.{next_position, returned, wants_notice}
-use Rattle.fs_queue.specs.Held.{HoldsChain, IsTaken, room_of}
-use Rattle.fs_queue.specs.Writing.{chain_places}
+use Rattle.fs_queue.specs.Windows.{HoldsChain, IsTaken, chain_places}
 
 room_stored : (h : Host) (l : List Region) (reply : List ℕ) (asked : Asked) (chain : Result Chain ChainFault) → HoldsChain (memory_of h l) asked chain →
     stored_all (memory_of h l) (zip (room_of asked) reply) ≡ memory_of (put_all h (zip (chain_places chain) reply)) l

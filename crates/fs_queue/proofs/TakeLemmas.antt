@@ -17,11 +17,11 @@ use Rattle.vm_memory_core.specs.Window.{byte_in}
 use Rattle.vm_memory.specs.Layout.{Region, place}
 use Rattle.vm_memory.specs.Memory.{Memory, memory_of, addresses, located, after, reach, byte, bytes}
 use Rattle.fs_queue.specs.declared.fault.ChainFault.TheVariants.{RequestUnreachable, RoomUnreachable}
-use Rattle.fs_queue.specs.Walking.{AllFit}
+use Rattle.fs_queue.specs.Walking.{AllEndIn64Bits}
 use Rattle.fs_queue.specs.Taking.{readable, writable, total_len, all_reach, asked_by, Asks, CannotAsk}
 use Rattle.fs_queue.specs.declared.descriptor.Descriptor.{Descriptor}
 use Rattle.fs_queue.specs.Chain.{is_writable}
-use Rattle.fs_queue.specs.Held.{part, addresses_of}
+use Rattle.fs_queue.specs.Windows.{part, addresses_of}
 use Rattle.vm_memory.proofs.Places.{Where, length-addresses, located-append, after-after, bytes-located}
 
 parts : (o : Option Place) (r : Option (List Place)) (ps : List Place) →
@@ -128,8 +128,8 @@ no_descriptor = record { addr = 0; len = 0; flags = 0; next = 0 }
 
 -- ---- what a chain asks
 
-pub fits_filter : (p : Descriptor → Bool) (ds : List Descriptor) → AllFit ds → AllFit (filter p ds)
-unfolding AllFit
+pub fits_filter : (p : Descriptor → Bool) (ds : List Descriptor) → AllEndIn64Bits ds → AllEndIn64Bits (filter p ds)
+unfolding AllEndIn64Bits
 fits_filter p ds all = All-filter p (λ (d : Descriptor). d.addr + d.len < 2 ^ 64) ds all
 
 some_step : (o : Option Place) (r : Option (List Place)) (b : Bool) → b ≡ is_some r → (is_some o && b) ≡ is_some (option_and_then (λ (p : Place). option_map (λ (qs : List Place). p ∷ qs) r) o)
@@ -153,16 +153,16 @@ below n h = grind (arith, nat_tests)
 pub reach-range : (h : Host) (l : List Region) (access : Permissions) (a n : ℕ) → a + n < 2 ^ 64 → reach (memory_of h l) access a n ≡ is_some (located (place l) (addresses a n))
 reach-range h l access a n fits = rw (below (a + n) fits) (list_all-located (addresses a n) (place l))
 
-all_reach_list : (h : Host) (l : List Region) (access : Permissions) (ds : List Descriptor) → AllFit ds →
+all_reach_list : (h : Host) (l : List Region) (access : Permissions) (ds : List Descriptor) → AllEndIn64Bits ds →
     all_reach (memory_of h l) access ds ≡ list_all (λ a. is_some (place l a)) (addresses_of ds)
-unfolding AllFit
+unfolding AllEndIn64Bits
 all_reach_list h l access [] all = refl
 all_reach_list h l access (d ∷ ds) all =
     let here : reach (memory_of h l) access d.addr d.len ≡ list_all (λ a. is_some (place l a)) (addresses d.addr d.len) = rw (below (d.addr + d.len) (all 0 d (omega arith))) in
     rw (here, all_reach_list h l access ds (λ k x lt. all (suc k) x (omega arith))) (list_all-append (addresses d.addr d.len) (addresses_of ds) (place l))
 
 -- all of some descriptors are reached where their addresses have their places
-pub all_reach-located : (h : Host) (l : List Region) (access : Permissions) (ds : List Descriptor) → AllFit ds →
+pub all_reach-located : (h : Host) (l : List Region) (access : Permissions) (ds : List Descriptor) → AllEndIn64Bits ds →
     all_reach (memory_of h l) access ds ≡ is_some (located (place l) (addresses_of ds))
 all_reach-located h l access ds all = all_reach_list h l access ds all ∙ list_all-located (addresses_of ds) (place l)
 
@@ -184,20 +184,20 @@ not_above n limit h = grind (arith, nat_tests)
 within_limit : (limit a b : ℕ) → a ≤ limit → b ≤ limit → (nat_lt limit a || nat_lt limit b) ≡ false
 within_limit limit a b h k = rw (not_above a limit h, not_above b limit k)
 
-pub asks_nothing_read : (h : Host) (l : List Region) (limit : ℕ) (ds : List Descriptor) → AllFit ds → total_len (readable ds) ≤ limit → total_len (writable ds) ≤ limit →
+pub asks_nothing_read : (h : Host) (l : List Region) (limit : ℕ) (ds : List Descriptor) → AllEndIn64Bits ds → total_len (readable ds) ≤ limit → total_len (writable ds) ≤ limit →
     None ≡ located (place l) (addresses_of (readable ds)) → asked_by (memory_of h l) limit ds ≡ CannotAsk RequestUnreachable
 asks_nothing_read h l limit ds all a b lost =
     let r : all_reach (memory_of h l) Read (readable ds) ≡ false = all_reach-located h l Read (readable ds) (fits_filter (λ d. not (is_writable d)) ds all) ∙ ap is_some (sym lost) in
     rw (within_limit limit (total_len (readable ds)) (total_len (writable ds)) a b, r)
 
-pub asks_nothing_written : (h : Host) (l : List Region) (limit : ℕ) (ds : List Descriptor) (ps : List Place) → AllFit ds → total_len (readable ds) ≤ limit → total_len (writable ds) ≤ limit →
+pub asks_nothing_written : (h : Host) (l : List Region) (limit : ℕ) (ds : List Descriptor) (ps : List Place) → AllEndIn64Bits ds → total_len (readable ds) ≤ limit → total_len (writable ds) ≤ limit →
     Some ps ≡ located (place l) (addresses_of (readable ds)) → None ≡ located (place l) (addresses_of (writable ds)) → asked_by (memory_of h l) limit ds ≡ CannotAsk RoomUnreachable
 asks_nothing_written h l limit ds ps all a b found lost =
     let r : all_reach (memory_of h l) Read (readable ds) ≡ true = all_reach-located h l Read (readable ds) (fits_filter (λ d. not (is_writable d)) ds all) ∙ ap is_some (sym found) in
     let w : all_reach (memory_of h l) Write (writable ds) ≡ false = all_reach-located h l Write (writable ds) (fits_filter is_writable ds all) ∙ ap is_some (sym lost) in
     rw (within_limit limit (total_len (readable ds)) (total_len (writable ds)) a b, r, w)
 
-pub asks : (h : Host) (l : List Region) (limit : ℕ) (ds : List Descriptor) (ps qs : List Place) → AllFit ds → total_len (readable ds) ≤ limit → total_len (writable ds) ≤ limit →
+pub asks : (h : Host) (l : List Region) (limit : ℕ) (ds : List Descriptor) (ps qs : List Place) → AllEndIn64Bits ds → total_len (readable ds) ≤ limit → total_len (writable ds) ≤ limit →
     Some ps ≡ located (place l) (addresses_of (readable ds)) → Some qs ≡ located (place l) (addresses_of (writable ds)) →
     asked_by (memory_of h l) limit ds ≡ Asks (map (byte_in h) ps) (addresses_of (writable ds))
 asks h l limit ds ps qs all a b found room =

@@ -10,15 +10,19 @@ use Rattle.fs_queue.specs.declared.walk.Verdict.{Verdict}
 use Rattle.fs_queue.specs.declared.walk.Verdict.TheVariants.{Joins, Faulty, Stops}
 use Rattle.fs_queue.specs.Queue.{Queue, has_bit}
 
+-- the entry of a table at an address: le64 addr, le32 len, le16 flags, le16 next (2.7.5)
 abbrev pub descriptor_at : Memory → ℕ → Descriptor
 descriptor_at m a = record { addr = number m w64 a; len = number m w32 (a + 8); flags = number m w16 (a + 12); next = number m w16 (a + 14) }
 
+-- VIRTQ_DESC_F_NEXT: another descriptor follows
 abbrev pub has_next : Descriptor → Bool
 has_next d = has_bit d.flags 0
 
+-- VIRTQ_DESC_F_WRITE: the device writes its bytes; else it reads them
 abbrev pub is_writable : Descriptor → Bool
 is_writable d = has_bit d.flags 1
 
+-- VIRTQ_DESC_F_INDIRECT: its bytes are a table
 abbrev pub is_indirect : Descriptor → Bool
 is_indirect d = has_bit d.flags 2
 
@@ -34,6 +38,7 @@ pub record Visit : Type 0 where
   pub index : ℕ
   pub left : ℕ
 
+-- its end is an address
 abbrev pub ends_in_64_bits : Descriptor → Bool
 ends_in_64_bits d = nat_lt (d.addr + d.len) (2 ^ 64)
 
@@ -48,22 +53,26 @@ ordinary_verdict v d =
     else if nat_lt 0 d.len && not (ends_in_64_bits d) then Faulty AddressOverflow
     else Joins d
 
+-- what the rules say of a step whose entry is at an address
 abbrev pub verdict_at : Memory → Visit → ℕ → Verdict
 verdict_at m v a =
     if not (reach m Read a 16) then (if v.table.indirect then Faulty TableUnreachable else Stops)
     else if is_indirect (descriptor_at m a) then indirect_verdict v (descriptor_at m a)
     else ordinary_verdict v (descriptor_at m a)
 
+-- what the rules say of a step
 abbrev pub verdict : Memory → Visit → Verdict
 verdict m v =
     if nat_le v.table.entries v.index then Faulty NextOutOfTable
     else verdict_at m v (v.table.address + 16 * v.index)
 
-abbrev pub after : Visit → Verdict → Option Visit
-after v (Joins d) = if has_next d then Some (record { table = v.table; index = d.next; left = v.left - 1 }) else None
-after v (Faulty fault) = None
-after v Stops = None
+-- the step that a verdict leads to, if any
+abbrev pub next_visit : Visit → Verdict → Option Visit
+next_visit v (Joins d) = if has_next d then Some (record { table = v.table; index = d.next; left = v.left - 1 }) else None
+next_visit v (Faulty fault) = None
+next_visit v Stops = None
 
+-- the steps from the next one on, if there is one
 abbrev pub onward : (Visit → List Visit) → Option Visit → List Visit
 onward next None = []
 onward next (Some v) = next v
@@ -71,7 +80,7 @@ onward next (Some v) = next v
 -- the steps from one on, at most n of them
 unfoldable pub path : Memory → ℕ → Visit → List Visit
 path m zero v = []
-path m (suc n) v = v ∷ onward (path m n) (after v (verdict m v))
+path m (suc n) v = v ∷ onward (path m n) (next_visit v (verdict m v))
 
 -- the walk from a head. It has at most size + 2 steps
 abbrev pub walk : Memory → Queue → ℕ → List Visit
@@ -83,11 +92,13 @@ pub data Found : Type 0 where
   HasFault : ChainFault → Found
   StopsQueue : Found
 
+-- a descriptor in front of what the rest is found to be
 abbrev pub with_front : Descriptor → Found → Found
 with_front d (IsChain ds) = IsChain (d ∷ ds)
 with_front d (HasFault fault) = HasFault fault
 with_front d StopsQueue = StopsQueue
 
+-- what a step's verdict and the rest come to
 abbrev pub joined : Verdict → Found → Found
 joined (Joins d) rest = with_front d rest
 joined (Faulty fault) rest = HasFault fault
@@ -98,5 +109,6 @@ unfoldable pub found : Memory → List Visit → Found
 found m [] = IsChain []
 found m (v ∷ vs) = joined (verdict m v) (found m vs)
 
+-- what the walk from a head finds
 abbrev pub chain : Memory → Queue → ℕ → Found
 chain m q head = found m (walk m q head)

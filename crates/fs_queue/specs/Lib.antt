@@ -1,10 +1,10 @@
+pub mod Numbers
+pub mod Records
 pub mod Lawful
 pub mod Queue
 pub mod Chain
 pub mod Walking
-pub mod Taking
 pub mod Look
+pub mod Taking
 pub mod Returning
-pub mod Held
-pub mod Writing
 pub mod Windows

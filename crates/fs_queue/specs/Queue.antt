@@ -1,5 +1,5 @@
 -- A split virtqueue: where its parts are, and its available ring (VIRTIO 1.2, 2.7 and 2.7.6).
-use Rattle.std.specs.Prelude.{ℕ, ◌+◌, ◌-◌, ◌*◌, ◌%◌, ◌^◌, Bool, false, not, ◌==◌, bit_and}
+use Rattle.std.specs.Prelude.{ℕ, ◌+◌, ◌-◌, ◌*◌, ◌%◌, ◌^◌, Bool, true, false, not, ◌==◌, bit_and}
 use Rattle.std.specs.Int.{w16}
 use Rattle.vm_memory.specs.Memory.{Memory, number}
 use Rattle.fs_queue.specs.declared.layout.QueueLayout.{QueueLayout}
@@ -21,6 +21,10 @@ fresh size desc avail used = record { size = size; desc = desc; avail = avail; u
 abbrev pub at_position : QueueLayout → (position : ℕ) → Queue
 at_position l position = record { size = l.size; desc = l.desc; avail = l.avail; used = l.used; position = position; stopped = false }
 
+-- a queue that hands out no chain until it is reset
+abbrev pub stopped : Queue → Queue
+stopped q = record q { stopped = true }
+
 -- whether bit k of a number is 1
 abbrev pub has_bit : ℕ → ℕ → Bool
 has_bit n k = not (bit_and n (2 ^ k) == 0)
@@ -29,6 +33,7 @@ has_bit n k = not (bit_and n (2 ^ k) == 0)
 abbrev pub waiting : Memory → Queue → ℕ
 waiting m q = (number m w16 (q.avail + 2) + (2 ^ 16 - q.position)) % 2 ^ 16
 
+-- the entry of a ring that a position means
 abbrev pub slot : Queue → ℕ
 slot q = q.position % q.size
 
@@ -40,5 +45,6 @@ head m q = number m w16 (q.avail + 4 + 2 * slot q)
 abbrev pub element_at : Queue → ℕ
 element_at q = q.used + 4 + 8 * slot q
 
+-- the used index follows the used flags
 abbrev pub index_at : Queue → ℕ
 index_at q = q.used + 2

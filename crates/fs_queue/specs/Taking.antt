@@ -1,5 +1,5 @@
 -- What a queue offers: a chain's request and room, or why there is none.
-use Rattle.std.specs.Prelude.{ℕ, ◌+◌, ◌*◌, Bool, true, false, not, ◌&&◌, ◌||◌, nat_le, nat_lt, ◌==◌, List, if◌then◌else◌, sum_by, filter, flat_map}
+use Rattle.std.specs.Prelude.{ℕ, Bool, true, false, not, ◌&&◌, ◌||◌, nat_lt, List, [], if◌then◌else◌, sum_by, filter, flat_map}
 use Rattle.std.specs.List.{list_all}
 use Rattle.vm_memory_core.specs.declared.permissions.Permissions.{Permissions}
 use Rattle.vm_memory_core.specs.declared.permissions.Permissions.TheVariants.{Read, Write}
@@ -8,20 +8,26 @@ use Rattle.fs_queue.specs.declared.fault.ChainFault.{ChainFault}
 use Rattle.fs_queue.specs.declared.fault.ChainFault.TheVariants.{OverLimit, RequestUnreachable, RoomUnreachable}
 use Rattle.fs_queue.specs.declared.fault.QueueError.{QueueError}
 use Rattle.fs_queue.specs.declared.fault.QueueError.TheVariants as stop
-use Rattle.fs_queue.specs.Queue.{Queue, waiting, slot, head, element_at, index_at}
+use Rattle.fs_queue.specs.declared.look.Look.{Look}
+use Rattle.fs_queue.specs.declared.look.Look.TheVariants as look
+use Rattle.fs_queue.specs.Queue.{Queue, element_at, index_at, stopped}
 use Rattle.fs_queue.specs.declared.descriptor.Descriptor.{Descriptor}
 use Rattle.fs_queue.specs.Chain.{is_writable, Found, IsChain, HasFault, StopsQueue, chain}
+use Rattle.fs_queue.specs.Look.{looked}
 
--- the entries that the device reads, and those that it writes, in their order
+-- the entries that the device reads, in their order
 abbrev pub readable : List Descriptor → List Descriptor
 readable ds = filter (λ d. not (is_writable d)) ds
 
+-- those that it writes
 abbrev pub writable : List Descriptor → List Descriptor
 writable ds = filter is_writable ds
 
+-- how many bytes some descriptors have
 abbrev pub total_len : List Descriptor → ℕ
 total_len ds = sum_by (λ d. d.len) ds
 
+-- whether each address of some descriptors has a place, with this access
 abbrev pub all_reach : Memory → Permissions → List Descriptor → Bool
 all_reach m access ds = list_all (λ d. reach m access d.addr d.len) ds
 
@@ -30,6 +36,7 @@ pub data Asked : Type 0 where
   Asks : (request : List ℕ) (room : List ℕ) → Asked
   CannotAsk : ChainFault → Asked
 
+-- what the descriptors of a chain ask: too much, what can't be read, what can't be written, in this order, or a request and a room
 abbrev pub asked_by : Memory → ℕ → List Descriptor → Asked
 asked_by m limit ds =
     if nat_lt limit (total_len (readable ds)) || nat_lt limit (total_len (writable ds)) then CannotAsk OverLimit
@@ -43,26 +50,46 @@ pub data Offer : Type 0 where
   Refuses : QueueError → Offer
   Offers : (head : ℕ) → Asked → Offer
 
+-- what is offered by what the walk from a head finds
 abbrev pub offer_of : Memory → ℕ → ℕ → Found → Offer
 offer_of m limit head (IsChain ds) = Offers head (asked_by m limit ds)
 offer_of m limit head (HasFault fault) = Offers head (CannotAsk fault)
 offer_of m limit head StopsQueue = Refuses stop.DescriptorUnreachable
 
+-- what is offered once a head waits, by the places of what a return writes and reads (2.7.8 and 2.7.7)
+abbrev pub on_head : Memory → ℕ → Queue → (head : ℕ) → Offer
+on_head m limit q head =
+    if not (reach m Write (element_at q) 8 && reach m Write (index_at q) 2) then Refuses stop.UsedUnreachable
+    else if not (reach m Read q.avail 2) then Refuses stop.AvailFlagsUnreachable
+    else offer_of m limit head (chain m q head)
+
+-- what is offered by what the available ring holds
+abbrev pub on_look : Memory → ℕ → Queue → Look → Offer
+on_look m limit q look.Idle = Idle
+on_look m limit q (look.Refused e) = Refuses e
+on_look m limit q (look.Head head) = on_head m limit q head
+
 -- the next offer (2.7.13 from the device's side), with the first refusal that applies
 unfoldable pub offer : Memory → ℕ → Queue → Offer
-offer m limit q =
-    if q.stopped then Refuses stop.Stopped
-    else if not (reach m Read (q.avail + 2) 2) then Refuses stop.AvailIndexUnreachable
-    else if waiting m q == 0 then Idle
-    else if nat_lt q.size (waiting m q) then Refuses stop.AvailTooFar
-    else if not (reach m Read (q.avail + 4 + 2 * slot q) 2) then Refuses stop.RingEntryUnreachable
-    else if nat_le q.size (head m q) then Refuses stop.HeadOutOfTable
-    else if not (reach m Write (element_at q) 8 && reach m Write (index_at q) 2) then Refuses stop.UsedUnreachable
-    else if not (reach m Read q.avail 2) then Refuses stop.AvailFlagsUnreachable
-    else offer_of m limit (head m q) (chain m q (head m q))
+offer m limit q = if q.stopped then Refuses stop.Stopped else on_look m limit q (looked m q)
 
 -- whether a step may be refused for want of memory: not where the queue is stopped, nor where it is idle without the IOMMU
 abbrev pub may_lack_memory : Memory → Offer → Bool
 may_lack_memory m Idle = m.translates
 may_lack_memory m (Refuses stop.Stopped) = false
 may_lack_memory m _ = true
+
+-- whether a refusal stops the queue: all but those of a stopped queue and for want of memory do
+abbrev pub stops_queue : QueueError → Bool
+stops_queue stop.Stopped = false
+stops_queue stop.OutOfMemory = false
+stops_queue _ = true
+
+-- the queue after a refusal
+abbrev pub after_refusal : Queue → QueueError → Queue
+after_refusal q e = if stops_queue e then stopped q else q
+
+-- the addresses of what was asked to be written
+abbrev pub room_of : Asked → List ℕ
+room_of (Asks request room) = room
+room_of (CannotAsk why) = []

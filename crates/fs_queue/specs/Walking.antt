@@ -25,10 +25,10 @@ IfJoins (Faulty fault) P = Unit {0}
 IfJoins Stops P = Unit {0}
 
 -- no descriptor of a chain ends past 2^64 - 1
-unfoldable pub AllFit : List Descriptor → Type 0
-AllFit ds = All (λ d. d.addr + d.len < 2 ^ 64) ds
+unfoldable pub AllEndIn64Bits : List Descriptor → Type 0
+AllEndIn64Bits ds = All (λ d. d.addr + d.len < 2 ^ 64) ds
 
 abbrev pub DescriptorsFit : walked.Walked → Type 0
-DescriptorsFit (comes_to.Chain v) = AllFit v.items
+DescriptorsFit (comes_to.Chain v) = AllEndIn64Bits v.items
 DescriptorsFit (comes_to.Faulty fault) = Unit {0}
 DescriptorsFit comes_to.Stopped = Unit {0}

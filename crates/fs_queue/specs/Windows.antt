@@ -1,17 +1,113 @@
--- The windows of a chain that was taken: those of its descriptors, each address translated by itself.
-use Rattle.std.specs.Prelude.{◌≡◌, ℕ, Result, Ok, Some}
+-- What is kept of a chain that was taken: the windows of its descriptors and of its return, each address translated by itself.
+use Rattle.std.specs.Prelude.{◌≡◌, ℕ, Bool, true, false, IsTrue, List, [], length, map, Option, Some, None, Result, Ok, Err}
 use Rattle.vm_memory_core.specs.declared.permissions.Permissions.TheVariants.{Read, Write}
-use Rattle.vm_memory_core.specs.Window.{places}
-use Rattle.vm_memory.specs.Memory.{Memory, location, located}
+use Rattle.std.specs.List.{flat_map}
+use Rattle.vm_memory_core.specs.Host.{Place}
+use Rattle.vm_memory_core.specs.Window.{places, AllLieIn, byte_in}
+use Rattle.vm_memory.specs.Memory.{Memory, addresses, location, located}
 use Rattle.fs_queue.specs.declared.fault.ChainFault.{ChainFault}
+use Rattle.fs_queue.specs.declared.fault.QueueError.{QueueError}
+use Rattle.fs_queue.specs.declared.fault.QueueError.TheVariants as stop
+use Rattle.fs_queue.specs.declared.descriptor.Descriptor.{Descriptor}
 use Rattle.fs_queue.specs.declared.chain.Chain.{Chain}
+use Rattle.fs_queue.specs.declared.chain.ReturnWindows.{ReturnWindows}
 use Rattle.fs_queue.specs.declared.chain.Taken.{Taken}
 use Rattle.fs_queue.specs.declared.take.Asking.{Asking}
 use Rattle.fs_queue.specs.declared.take.Asking.TheVariants.{Nobody, Refused, Took}
-use Rattle.fs_queue.specs.Queue.{Queue}
+use Rattle.fs_queue.specs.Queue.{Queue, element_at, index_at}
 use Rattle.fs_queue.specs.Chain.{Found, IsChain, chain}
-use Rattle.fs_queue.specs.Taking.{readable, writable}
-use Rattle.fs_queue.specs.Held.{addresses_of}
+use Rattle.fs_queue.specs.Taking.{readable, writable, Asked, Asks, CannotAsk, Idle, Refuses, Offers, offer, may_lack_memory, stops_queue, after_refusal}
+
+-- the places of the used element, the used index and the available flags, or which of them has an address without a place
+pub data Ends : Type 0 where
+  Holds : (element index flags : List Place) → Ends
+  Lacks : QueueError → Ends
+
+abbrev pub ends_found : (element index flags : Option (List Place)) → Ends
+ends_found None index flags = Lacks stop.UsedUnreachable
+ends_found (Some element) None flags = Lacks stop.UsedUnreachable
+ends_found (Some element) (Some index) None = Lacks stop.AvailFlagsUnreachable
+ends_found (Some element) (Some index) (Some flags) = Holds element index flags
+
+abbrev pub ends_at : (ℕ → Option Place) → Queue → Ends
+ends_at where_is q =
+    ends_found (located where_is (addresses (element_at q) 8)) (located where_is (addresses (index_at q) 2)) (located where_is (addresses q.avail 2))
+
+abbrev pub ends_of : Result ReturnWindows QueueError → Ends
+ends_of (Ok ends) = Holds (places ends.element.items) (places ends.index.items) (places ends.flags.items)
+ends_of (Err e) = Lacks e
+
+-- the descriptors of one direction: those that the device writes, or those that it reads
+abbrev pub part : Bool → List Descriptor → List Descriptor
+part true ds = writable ds
+part false ds = readable ds
+
+-- the addresses of some descriptors, joined
+abbrev pub addresses_of : List Descriptor → List ℕ
+addresses_of ds = flat_map (λ d. addresses d.addr d.len) ds
+
+-- windows of these places, for writing: of the used element and the used index; for reading: of the available flags
+pub record HoldsEnds (m : Memory) (q : Queue) (ends : ReturnWindows) : Type 0 where
+  pub element : located (location m Write) (addresses (element_at q) 8) ≡ Some (places ends.element.items)
+  pub index : located (location m Write) (addresses (index_at q) 2) ≡ Some (places ends.index.items)
+  pub flags : located (location m Read) (addresses q.avail 2) ≡ Some (places ends.flags.items)
+
+-- windows with the request's bytes and the room's places, or the fault
+abbrev pub HoldsChain : Memory → Asked → Result Chain ChainFault → Type 0
+HoldsChain m (Asks request room) (Ok c) =
+    (request ≡ map (byte_in m.host) (places c.readable.items)) × (located (location m Write) room ≡ Some (places c.writable.items))
+HoldsChain m (CannotAsk why) (Err fault) = fault ≡ why
+HoldsChain m _ _ = ⊥
+
+-- a chain was taken from a queue that offered this
+pub record IsTaken (m : Memory) (q : Queue) (asked : Asked) (t : Taken) : Type 0 where
+  pub ends : HoldsEnds m q t.ends
+  pub chain : HoldsChain m asked t.chain
+
+-- the windows lie in blocks of these lengths
+abbrev pub ChainLiesIn : List ℕ → Result Chain ChainFault → Type 0
+ChainLiesIn lengths (Ok c) = AllLieIn lengths c.readable.items × AllLieIn lengths c.writable.items
+ChainLiesIn lengths (Err fault) = Unit {0}
+
+pub record EndsLieIn (lengths : List ℕ) (ends : ReturnWindows) : Type 0 where
+  pub element : AllLieIn lengths ends.element.items
+  pub index : AllLieIn lengths ends.index.items
+  pub flags : AllLieIn lengths ends.flags.items
+  pub element_len : length (places ends.element.items) ≡ 8
+  pub index_len : length (places ends.index.items) ≡ 2
+  pub flags_len : length (places ends.flags.items) ≡ 2
+
+pub record TakenLiesIn (lengths : List ℕ) (t : Taken) : Type 0 where
+  pub ends : EndsLieIn lengths t.ends
+  pub chain : ChainLiesIn lengths t.chain
+
+-- how many bytes of reply a chain has room for
+abbrev pub room_places : Result Chain ChainFault → ℕ
+room_places (Ok c) = length (places c.writable.items)
+room_places (Err fault) = 0
+
+-- what taking answers: nothing waits, a chain as it was offered, or a refusal; want of memory only where it may come
+abbrev pub Takes : Memory → ℕ → Queue → Result (Option Taken) QueueError → Type 0
+Takes m limit q (Ok None) = offer m limit q ≡ Idle
+Takes m limit q (Ok (Some t)) = (asked : Asked) × (offer m limit q ≡ Offers t.head asked) × IsTaken m q asked t
+Takes m limit q (Err stop.OutOfMemory) = IsTrue (may_lack_memory m (offer m limit q))
+Takes m limit q (Err e) = offer m limit q ≡ Refuses e
+
+-- a stopped queue stays as it was, and so does one that lacked memory; each other refusal stops it
+abbrev pub after_taking : Queue → Result (Option Taken) QueueError → Queue
+after_taking q (Ok o) = q
+after_taking q (Err e) = after_refusal q e
+
+-- the same of a queue that isn't stopped, before it may be
+abbrev pub AskingAs : Memory → ℕ → Queue → Asking → Type 0
+AskingAs m limit q Nobody = offer m limit q ≡ Idle
+AskingAs m limit q (Refused e) = (offer m limit q ≡ Refuses e) × IsTrue (stops_queue e)
+AskingAs m limit q (Took t) = (asked : Asked) × (offer m limit q ≡ Offers t.head asked) × IsTaken m q asked t
+
+abbrev pub AskingLiesIn : List ℕ → Asking → Type 0
+AskingLiesIn lengths Nobody = Unit {0}
+AskingLiesIn lengths (Refused e) = Unit {0}
+AskingLiesIn lengths (Took t) = TakenLiesIn lengths t
 
 -- a chain has this head, and windows of the places of these descriptors: of those that the device reads, and of those that it writes
 abbrev pub HoldsWindows : Memory → (head : ℕ) → Result Chain ChainFault → Found → Type 0
@@ -29,3 +125,8 @@ abbrev pub IfTook : Asking → (Taken → Type 0) → Type 0
 IfTook Nobody P = Unit {0}
 IfTook (Refused e) P = Unit {0}
 IfTook (Took t) P = P t
+
+-- where a chain's reply goes; a faulty chain has no room
+abbrev pub chain_places : Result Chain ChainFault → List Place
+chain_places (Ok c) = places c.writable.items
+chain_places (Err fault) = []

@@ -2,48 +2,71 @@
 
 ghost use Rattle.std.specs.Prelude.{◌≡◌, ◌+◌, ◌<◌, ◌^◌, ℕ, List, IsTrue, IfOk, IfSome, length, Some, None, if◌then◌else◌};
 ghost use Rattle.std.specs.Option.{option_map};
-ghost use Rattle.std.specs.Int.{w16};
+ghost use Rattle.std.specs.Int.{w16, from_le_bytes, to_le_bytes};
 ghost use Rattle.vm_memory_core.specs.Host.{host_of, lengths};
 ghost use Rattle.vm_memory_core.specs.declared.permissions.Permissions.TheVariants.{Read};
 ghost use Rattle.vm_memory_core.specs.Window.{places, AllLieIn};
-ghost use Rattle.vm_memory.specs.Layout.{place, AreHeld};
+ghost use Rattle.vm_memory.specs.Layout.{place, AreHeld, HostHolds};
 ghost use Rattle.vm_memory.specs.Memory.{memory_of, addresses, located, after, reach, bytes, number};
 
 use std::alloc::{AllocError, Global};
 use vm_memory::GuestMemoryMmap;
 use vm_memory_core::{GuestAddress, HostMemory, NewBitmap, Windows};
+use vm_values::{ByteValued, Le16};
 
 /// Reads a buffer full of bytes from an address on, or answers that one of them isn't there.
-pub fn read<B: NewBitmap>(
+pub(crate) fn read<B: NewBitmap>(
     host: &HostMemory<B>,
     mem: &GuestMemoryMmap,
     addr: u64,
     buffer: &mut [u8],
 ) -> bool
     requires fits { addr + length buffer.old < 2 ^ 64 }
-    requires held { AreHeld (lengths (host_of host.now)) mem.now }
+    requires held { HostHolds host.now mem.now }
     ensures found { result ≡ reach (memory_of (host_of host.now) mem.now) Read addr (length buffer.old) }
     ensures bytes { IsTrue result → buffer.new ≡ bytes (memory_of (host_of host.now) mem.now) addr (length buffer.old) }
 {
     mem.read_slice(host, buffer, GuestAddress(addr)).is_ok()
 }
 
+// The little-endian number that two bytes spell.
+#[tactic(auto, using(crate::proofs::ReadLemmas::spelled_number))]
+pub(crate) fn le16_number(bytes: &[u8; 2]) -> u16
+    ensures { result ≡ from_le_bytes w16 bytes.now }
+{
+    Le16::get_bytes(bytes).to_native()
+}
+
+// The two bytes that spell a number, the lowest first.
+#[tactic(auto, unfolding(vm_values::specs::Fields::bytes))]
+pub(crate) fn le16_bytes(number: u16) -> [u8; 2]
+    ensures { result ≡ to_le_bytes w16 number }
+{
+    let mut bytes = [0u8; 2];
+    Le16(number).put_bytes(&mut bytes);
+    bytes
+}
+
 /// The little-endian number in two bytes at an address.
-pub fn read_u16<B: NewBitmap>(host: &HostMemory<B>, mem: &GuestMemoryMmap, addr: u64) -> Option<u16>
+pub(crate) fn read_u16<B: NewBitmap>(
+    host: &HostMemory<B>,
+    mem: &GuestMemoryMmap,
+    addr: u64,
+) -> Option<u16>
     requires fits { addr + 2 < 2 ^ 64 }
-    requires held { AreHeld (lengths (host_of host.now)) mem.now }
+    requires held { HostHolds host.now mem.now }
     ensures { let m = memory_of (host_of host.now) mem.now in result ≡ (if reach m Read addr 2 then Some (number m w16 addr) else None) }
 {
     let mut bytes = [0u8; 2];
     if read(host, mem, addr, &mut bytes) {
-        Some(u16::from_le_bytes(bytes))
+        Some(le16_number(&bytes))
     } else {
         None
     }
 }
 
 /// Adds the windows of a range of addresses, or answers that one of them has no place.
-pub fn add_windows(
+pub(crate) fn add_windows(
     mem: &GuestMemoryMmap,
     addr: u64,
     len: usize,
@@ -58,7 +81,7 @@ pub fn add_windows(
 }
 
 /// The windows of a range of addresses, if each has a place.
-pub fn hold(
+pub(crate) fn hold(
     alloc: Global,
     mem: &GuestMemoryMmap,
     addr: u64,

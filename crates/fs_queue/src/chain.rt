@@ -36,18 +36,18 @@ impl Chain {
 
 /// The windows of a used element, the used index and the available flags.
 #[derive(Drop)]
-pub struct ReturnWindows {
-    pub element: Windows,
-    pub index: Windows,
-    pub flags: Windows,
+pub(crate) struct ReturnWindows {
+    pub(crate) element: Windows,
+    pub(crate) index: Windows,
+    pub(crate) flags: Windows,
 }
 
 /// A chain that was taken and not yet given back, or its fault.
 #[derive(Drop)]
 pub struct Taken {
-    pub head: u16,
-    pub chain: Result<Chain, ChainFault>,
-    pub ends: ReturnWindows,
+    pub(crate) head: u16,
+    pub(crate) chain: Result<Chain, ChainFault>,
+    pub(crate) ends: ReturnWindows,
 }
 
 impl Taken {

@@ -1,5 +1,7 @@
 //! What is wrong with a chain, a queue or a queue's layout.
 
+ghost use Rattle.std.specs.Prelude.{◌≡◌};
+
 use thiserror::Error;
 
 /// Why a chain is returned without being served.
@@ -27,6 +29,17 @@ pub enum ChainFault {
     RoomUnreachable = 10,
 }
 
+impl ChainFault {
+    ghost use Rattle.fs_queue.specs.Numbers.{fault_number};
+
+    /// The number that tells the fault apart.
+    pub fn number(&self) -> u8
+        ensures { result ≡ fault_number self.now }
+    {
+        *self as u8
+    }
+}
+
 /// Why a queue hands out no chain. All but the first and the last stop it until it is reset.
 #[derive(Clone, Copy, Debug, PartialEq, Eq, Error)]
 pub enum QueueError {
@@ -50,6 +63,17 @@ pub enum QueueError {
     OutOfMemory = 9,
 }
 
+impl QueueError {
+    ghost use Rattle.fs_queue.specs.Numbers.{queue_number};
+
+    /// The number that tells the refusal apart.
+    pub fn number(&self) -> u8
+        ensures { result ≡ queue_number self.now }
+    {
+        *self as u8
+    }
+}
+
 /// Why a queue can't have a layout.
 #[derive(Clone, Copy, Debug, PartialEq, Eq, Error)]
 pub enum QueueLayoutError {
@@ -59,4 +83,15 @@ pub enum QueueLayoutError {
     Misaligned = 2,
     #[error("a part of the queue ends past the last address")]
     EndOverflow = 3,
+}
+
+impl QueueLayoutError {
+    ghost use Rattle.fs_queue.specs.Numbers.{layout_error_number};
+
+    /// The number that tells the error apart.
+    pub fn number(&self) -> u8
+        ensures { result ≡ layout_error_number self.now }
+    {
+        *self as u8
+    }
 }

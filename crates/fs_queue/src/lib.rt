@@ -1,17 +1,19 @@
 //! A split virtqueue in guest memory (VIRTIO 1.2, section 2.7).
 #![tactic(auto)]
 
-pub mod access;
-pub mod chain;
-pub mod descriptor;
-pub mod fault;
-pub mod layout;
-pub mod look;
-pub mod queue;
-pub mod take;
-pub mod walk;
+mod access;
+mod chain;
+mod descriptor;
+mod fault;
+mod layout;
+mod look;
+mod queue;
+mod take;
+mod used;
+mod walk;
 
 pub use chain::{Chain, Taken};
+pub use descriptor::Descriptor;
 pub use fault::{ChainFault, QueueError, QueueLayoutError};
 pub use layout::QueueLayout;
 pub use queue::Queue;

@@ -1,12 +1,12 @@
 //! What waits in the available ring (VIRTIO 1.2, 2.7.6).
 
 ghost use Rattle.std.specs.Prelude.{◌≡◌, IsTrue};
-ghost use Rattle.vm_memory_core.specs.Host.{host_of, lengths};
-ghost use Rattle.vm_memory.specs.Layout.{AreHeld};
+ghost use Rattle.vm_memory_core.specs.Host.{host_of};
+ghost use Rattle.vm_memory.specs.Layout.{HostHolds};
 ghost use Rattle.vm_memory.specs.Memory.{memory_of};
 ghost use Rattle.fs_queue.specs.Queue.{at_position};
 ghost use Rattle.fs_queue.specs.Look.{looked, IfRefused};
-ghost use Rattle.fs_queue.specs.Held.{stops_queue};
+ghost use Rattle.fs_queue.specs.Taking.{stops_queue};
 
 use crate::access::read_u16;
 use crate::fault::QueueError;
@@ -16,20 +16,20 @@ use vm_memory_core::{HostMemory, NewBitmap};
 
 /// Nothing, the head of a chain, or why there is none.
 #[derive(Clone, Copy, Debug, PartialEq, Eq)]
-pub enum Look {
+pub(crate) enum Look {
     Idle,
     Head(u16),
     Refused(QueueError),
 }
 
 /// What waits at a position of a queue that isn't stopped.
-pub fn next_head<B: NewBitmap>(
+pub(crate) fn next_head<B: NewBitmap>(
     layout: QueueLayout,
     position: u16,
     host: &HostMemory<B>,
     mem: &GuestMemoryMmap,
 ) -> Look
-    requires { AreHeld (lengths (host_of host.now)) mem.now }
+    requires { HostHolds host.now mem.now }
     ensures look { result ≡ looked (memory_of (host_of host.now) mem.now) (at_position layout position) }
     ensures stops { IfRefused result (λ e. IsTrue (stops_queue e)) }
 {

@@ -1,21 +1,25 @@
 //! A split virtqueue (VIRTIO 1.2, 2.7).
 
-ghost use Rattle.std.specs.Prelude.{◌≡◌, ◌+◌, ◌<◌, ◌≤◌, ◌^◌, ◌++◌, List, length, IfOk, IfSome};
+ghost use Rattle.std.specs.Prelude.{◌≡◌, ◌+◌, ◌<◌, ◌≤◌, ◌^◌, List, length, IfOk, IfSome};
 ghost use Rattle.std.specs.List.{zip};
-ghost use Rattle.std.specs.Int.{w32, to_le_bytes};
 ghost use Rattle.vm_memory_core.specs.Host.{host_of, lengths};
 ghost use Rattle.vm_memory_core.specs.Window.{put_all};
-ghost use Rattle.vm_memory.specs.Layout.{Region, AreHeld};
+ghost use Rattle.vm_memory.specs.Layout.{Region, HostHolds};
 ghost use Rattle.vm_memory.specs.Memory.{memory_of};
 
+use crate::access::{le16_bytes, le16_number};
 use crate::chain::{Chain, Taken};
 use crate::fault::{ChainFault, QueueError};
 use crate::layout::QueueLayout;
 use crate::take::{Asking, ask};
+use crate::used::UsedElement;
 use std::alloc::Global;
 use std::marker::Model;
 use vm_memory::GuestMemoryMmap;
 use vm_memory_core::{HostMemory, NewBitmap};
+
+// The available flag by which the driver wants no notice (VIRTIO 1.2, 2.7.7).
+const NO_INTERRUPT: u16 = 1;
 
 /// A queue: where its parts are, how many chains were returned, modulo 2^16, and whether it stopped.
 #[derive(Debug, Drop)]
@@ -34,21 +38,9 @@ impl Model for Queue {
 }
 
 ghost use Rattle.fs_queue.specs.Queue.{fresh};
-ghost use Rattle.fs_queue.specs.Taking.{Asked};
+ghost use Rattle.fs_queue.specs.Taking.{Asked, room_of};
 ghost use Rattle.fs_queue.specs.Returning.{returned, wants_notice, advanced};
-ghost use Rattle.fs_queue.specs.Held.{Takes, after_taking, IsTaken, TakenLiesIn, ChainLiesIn, room_places, room_of};
-ghost use Rattle.fs_queue.specs.Writing.{chain_places};
-ghost use Rattle.fs_queue.specs.Windows.{HasItsWindows};
-
-// A used element: le32 head, le32 length of the reply (VIRTIO 1.2, 2.7.8).
-fn used_element(head: u32, len: u32) -> [u8; 8]
-    ensures { result ≡ to_le_bytes w32 head ++ to_le_bytes w32 len }
-{
-    let mut element = [0u8; 8];
-    element[..4].copy_from_slice(&head.to_le_bytes());
-    element[4..].copy_from_slice(&len.to_le_bytes());
-    element
-}
+ghost use Rattle.fs_queue.specs.Windows.{Takes, after_taking, IsTaken, TakenLiesIn, ChainLiesIn, room_places, chain_places, HasItsWindows};
 
 // Writes the reply over the room of a chain.
 #[tactic(auto, unfolding(vm_memory_core::specs::Window::put_all))]
@@ -103,7 +95,7 @@ impl Queue {
         mem: &GuestMemoryMmap,
         limit: u32,
     ) -> Result<Option<Taken>, QueueError>
-        requires { AreHeld (lengths (host_of host.now)) mem.now }
+        requires { HostHolds host.now mem.now }
         ensures takes { Takes (memory_of (host_of host.now) mem.now) limit self.old result }
         ensures windows { IfOk result (λ o. IfSome o (HasItsWindows (memory_of (host_of host.now) mem.now) self.old)) }
         ensures queue { self.new ≡ after_taking self.old result }
@@ -143,13 +135,15 @@ impl Queue {
         ensures lengths { lengths (host_of host.new) ≡ lengths (host_of host.old) }
     {
         write_reply(host, &taken.chain, reply);
-        let element = used_element(u32::from(taken.head), reply.len() as u32);
-        host.write_windows(&taken.ends.element, &element);
+        let element = UsedElement {
+            id: u32::from(taken.head),
+            len: reply.len() as u32,
+        };
+        host.write_windows(&taken.ends.element, &element.to_bytes());
         self.position = self.position.wrapping_add(1);
-        let index = self.position.to_le_bytes();
-        host.write_windows(&taken.ends.index, &index);
+        host.write_windows(&taken.ends.index, &le16_bytes(self.position));
         let mut flags = [0u8; 2];
         host.read_windows(&taken.ends.flags, &mut flags);
-        u16::from_le_bytes(flags) & 1 == 0
+        le16_number(&flags) & NO_INTERRUPT == 0
     }
 }

@@ -4,9 +4,9 @@ ghost use Rattle.std.specs.Prelude.{◌≡◌, ◌+◌, ◌-◌, ◌<◌, ◌≤
 ghost use Rattle.std.specs.Option.{option_map};
 ghost use Rattle.vm_memory_core.specs.Host.{Host, host_of, lengths};
 ghost use Rattle.vm_memory_core.specs.Window.{places, AllLieIn};
-ghost use Rattle.vm_memory.specs.Layout.{place, AreHeld};
+ghost use Rattle.vm_memory.specs.Layout.{place, AreHeld, HostHolds};
 ghost use Rattle.vm_memory.specs.Memory.{memory_of, located};
-ghost use Rattle.fs_queue.specs.Walking.{AllFit};
+ghost use Rattle.fs_queue.specs.Walking.{AllEndIn64Bits};
 
 use crate::access::{add_windows, hold};
 use crate::chain::{Chain, ReturnWindows, Taken};
@@ -21,17 +21,16 @@ use vm_memory_core::{GuestAddress, HostMemory, NewBitmap, Windows};
 
 /// Nothing, a refusal, or a chain.
 #[derive(Drop)]
-pub enum Asking {
+pub(crate) enum Asking {
     Nobody,
     Refused(QueueError),
     Took(Taken),
 }
 
 ghost use Rattle.fs_queue.specs.Queue.{at_position};
-ghost use Rattle.fs_queue.specs.Taking.{total_len, asked_by, offer, may_lack_memory};
-ghost use Rattle.fs_queue.specs.Held.{room_places, part, addresses_of, ends_of, ends_at, stops_queue, EndsLieIn, ChainLiesIn, HoldsChain, AskingAs, AskingLiesIn};
+ghost use Rattle.fs_queue.specs.Taking.{total_len, asked_by, offer, may_lack_memory, stops_queue};
+ghost use Rattle.fs_queue.specs.Windows.{room_places, part, addresses_of, ends_of, ends_at, EndsLieIn, ChainLiesIn, HoldsChain, AskingAs, AskingLiesIn, HoldsWindows, HasItsWindows, IfTook};
 ghost use Rattle.fs_queue.specs.Chain.{IsChain};
-ghost use Rattle.fs_queue.specs.Windows.{HoldsWindows, HasItsWindows, IfTook};
 
 // The windows that a return at this position writes and reads besides the room.
 fn hold_ends(
@@ -82,7 +81,7 @@ fn hold_part(
     descriptors: &[Descriptor],
     write_only: bool,
 ) -> Result<Option<Windows>, AllocError>
-    requires { AllFit descriptors.now }
+    requires { AllEndIn64Bits descriptors.now }
     ensures found { IfOk result (λ o. option_map (λ v. places v.items) o ≡ located (place mem.now) (addresses_of (part write_only descriptors.now))) }
     ensures lie { (lengths : List ℕ) → AreHeld lengths mem.now → IfOk result (λ o. IfSome o (λ v. AllLieIn lengths v.items)) }
 {
@@ -105,7 +104,7 @@ fn hold_chain(
     descriptors: &[Descriptor],
     limit: u32,
 ) -> Result<Result<Chain, ChainFault>, AllocError>
-    requires { AllFit descriptors.now }
+    requires { AllEndIn64Bits descriptors.now }
     ensures asked { (h : Host) → IfOk result (HoldsChain (memory_of h mem.now) (asked_by (memory_of h mem.now) limit descriptors.now)) }
     ensures lie { (lengths : List ℕ) → AreHeld lengths mem.now → IfOk result (ChainLiesIn lengths) }
     ensures windows { (h : Host) → IfOk result (λ c. HoldsWindows (memory_of h mem.now) head c (IsChain descriptors.now)) }
@@ -131,7 +130,7 @@ fn hold_chain(
     }))
 }
 
-// The request and the room of the chain that a walk found, or its fault.
+// The same of descriptors that a walk collected, whose memory goes with them.
 fn hold_walked(
     alloc: Global,
     mem: &GuestMemoryMmap,
@@ -139,7 +138,7 @@ fn hold_walked(
     descriptors: Descriptors,
     limit: u32,
 ) -> Result<Result<Chain, ChainFault>, AllocError>
-    requires { AllFit descriptors.items }
+    requires { AllEndIn64Bits descriptors.items }
     ensures asked { (h : Host) → IfOk result (HoldsChain (memory_of h mem.now) (asked_by (memory_of h mem.now) limit descriptors.items)) }
     ensures lie { (lengths : List ℕ) → AreHeld lengths mem.now → IfOk result (ChainLiesIn lengths) }
     ensures windows { (h : Host) → IfOk result (λ c. HoldsWindows (memory_of h mem.now) head c (IsChain descriptors.items)) }
@@ -149,7 +148,7 @@ fn hold_walked(
 }
 
 /// What a queue that isn't stopped answers, at a position, when a chain is asked for.
-pub fn ask<B: NewBitmap>(
+pub(crate) fn ask<B: NewBitmap>(
     alloc: Global,
     layout: QueueLayout,
     position: u16,
@@ -157,7 +156,7 @@ pub fn ask<B: NewBitmap>(
     mem: &GuestMemoryMmap,
     limit: u32,
 ) -> Result<Asking, AllocError>
-    requires { AreHeld (lengths (host_of host.now)) mem.now }
+    requires { HostHolds host.now mem.now }
     ensures asking { IfOk result (AskingAs (memory_of (host_of host.now) mem.now) limit (at_position layout position)) }
     ensures lie { IfOk result (AskingLiesIn (lengths (host_of host.now))) }
     ensures windows { IfOk result (λ a. IfTook a (HasItsWindows (memory_of (host_of host.now) mem.now) (at_position layout position))) }

@@ -1,8 +1,8 @@
 //! The walk through a chain of descriptors (VIRTIO 1.2, 2.7.5).
 
 ghost use Rattle.std.specs.Prelude.{◌≡◌, ◌+◌, ◌*◌, ◌<◌, ◌^◌, IfOk, false};
-ghost use Rattle.vm_memory_core.specs.Host.{host_of, lengths};
-ghost use Rattle.vm_memory.specs.Layout.{AreHeld};
+ghost use Rattle.vm_memory_core.specs.Host.{host_of};
+ghost use Rattle.vm_memory.specs.Layout.{HostHolds};
 ghost use Rattle.vm_memory.specs.Memory.{memory_of};
 ghost use Rattle.fs_queue.specs.Queue.{at_position};
 
@@ -15,7 +15,7 @@ use vm_memory_core::{HostMemory, NewBitmap};
 
 /// What the rules say of a step: its descriptor joins the chain, the chain is faulty, or the queue stops.
 #[derive(Clone, Copy, Debug, PartialEq, Eq)]
-pub enum Verdict {
+pub(crate) enum Verdict {
     Joins(Descriptor),
     Faulty(ChainFault),
     Stops,
@@ -23,7 +23,7 @@ pub enum Verdict {
 
 /// What a walk comes to: the chain's descriptors in order, a fault of the chain, or a stop of the queue.
 #[derive(Drop)]
-pub enum Walked {
+pub(crate) enum Walked {
     Chain(Descriptors),
     Faulty(ChainFault),
     Stopped,
@@ -55,7 +55,7 @@ fn step<B: NewBitmap>(
     index: u16,
     left: u16,
 ) -> Verdict
-    requires { AreHeld (lengths (host_of host.now)) mem.now }
+    requires { HostHolds host.now mem.now }
     ensures verdict { result ≡ verdict (memory_of (host_of host.now) mem.now) (in_table layout index left) }
     ensures fits { IfJoins result (λ d. d.addr + d.len < 2 ^ 64) }
     ensures more { IfJoins result (λ _. 0 < left) }
@@ -74,14 +74,14 @@ fn step<B: NewBitmap>(
 }
 
 /// The chain that begins at an entry of the queue's table.
-pub fn walk<B: NewBitmap>(
+pub(crate) fn walk<B: NewBitmap>(
     alloc: Global,
     layout: QueueLayout,
     host: &HostMemory<B>,
     mem: &GuestMemoryMmap,
     head: u16,
 ) -> Result<Walked, AllocError>
-    requires { AreHeld (lengths (host_of host.now)) mem.now }
+    requires { HostHolds host.now mem.now }
     ensures chain { IfOk result (λ w. found_of w ≡ chain (memory_of (host_of host.now) mem.now) (at_position layout 0) head) }
     ensures fit { IfOk result DescriptorsFit }
 {

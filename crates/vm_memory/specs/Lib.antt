@@ -7,3 +7,4 @@ pub mod Bytes
 pub mod Making
 pub mod Slices
 pub mod MemorySlices
+pub mod OneProof

@@ -5,7 +5,7 @@ ghost use Rattle.std.specs.List.{zip, list_all};
 ghost use Rattle.std.specs.Option.{is_some};
 ghost use Rattle.vm_memory_core.specs.Host.{host_of, lengths};
 ghost use Rattle.vm_memory_core.specs.Window.{places, places_of, LiesIn, AllLieIn};
-ghost use Rattle.vm_memory.specs.Layout.{place, regions_of, AreHeld};
+ghost use Rattle.vm_memory.specs.Layout.{place, regions_of, AreHeld, HostHolds};
 ghost use Rattle.vm_memory.specs.Making.{shared_regions, AreRegionsMade, IsMadeOf};
 ghost use Rattle.vm_memory.specs.Memory.{memory_of, addresses, circular, located, reached, after, byte, stored_all, transferred};
 
@@ -31,7 +31,7 @@ impl GuestRegionCollection<GuestRegionMmap> {
         ranges: &[(GuestAddress, usize)],
     ) -> Result<GuestMemoryMmap, FromRangesError>
         ensures made { IsMadeOf B.count host.old host.new ranges.now result }
-        ensures held { IfOk result (AreHeld (lengths (host_of host.new))) }
+        ensures held { IfOk result (HostHolds host.new) }
     {
         match regions_over(alloc, host, ranges) {
             Ok(regions) => match GuestRegionCollection::from_arc_regions(alloc, regions) {
@@ -137,7 +137,7 @@ impl<R: GuestMemoryRegion> GuestRegionCollection<R> {
         buffer: &mut [u8],
         addr: u64,
     ) -> usize
-        requires { AreHeld (lengths (host_of host.now)) self.now }
+        requires { HostHolds host.now self.now }
         ensures count { result ≡ reached (place self.now) (circular addr (length buffer.old)) }
         ensures bytes { buffer.new ≡ map (byte (memory_of (host_of host.now) self.now)) (take result (circular addr (length buffer.old))) ++ drop result buffer.old }
     {
@@ -160,7 +160,7 @@ impl<R: GuestMemoryRegion> GuestRegionCollection<R> {
         bytes: &[u8],
         addr: u64,
     ) -> usize
-        requires { AreHeld (lengths (host_of host.old)) self.now }
+        requires { HostHolds host.old self.now }
         ensures count { result ≡ reached (place self.now) (circular addr (length bytes.now)) }
         ensures stored { memory_of (host_of host.new) self.now ≡ stored_all (memory_of (host_of host.old) self.now) (zip (take result (circular addr (length bytes.now))) bytes.now) }
         ensures lengths { lengths (host_of host.new) ≡ lengths (host_of host.old) }
@@ -185,7 +185,7 @@ impl<R: GuestMemoryRegion> GuestRegionCollection<R> {
         buffer: &mut [u8],
         addr: GuestAddress,
     ) -> Result<(), GuestMemoryError>
-        requires { AreHeld (lengths (host_of host.now)) self.now }
+        requires { HostHolds host.now self.now }
         ensures result { result ≡ transferred addr (length buffer.old) (reached (place self.now) (circular addr.0 (length buffer.old))) }
         ensures bytes { let all = circular addr.0 (length buffer.old) in let n = reached (place self.now) all in
             buffer.new ≡ map (byte (memory_of (host_of host.now) self.now)) (take n all) ++ drop n buffer.old }
@@ -202,7 +202,7 @@ impl<R: GuestMemoryRegion> GuestRegionCollection<R> {
         bytes: &[u8],
         addr: GuestAddress,
     ) -> Result<(), GuestMemoryError>
-        requires { AreHeld (lengths (host_of host.old)) self.now }
+        requires { HostHolds host.old self.now }
         ensures result { result ≡ transferred addr (length bytes.now) (reached (place self.now) (circular addr.0 (length bytes.now))) }
         ensures stored { let all = circular addr.0 (length bytes.now) in
             memory_of (host_of host.new) self.now ≡ stored_all (memory_of (host_of host.old) self.now) (zip (take (reached (place self.now) all) all) bytes.now) }

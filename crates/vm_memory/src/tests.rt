@@ -2,7 +2,7 @@
 
 ghost use Rattle.std.specs.Prelude.{◌≡◌, IfOk};
 ghost use Rattle.vm_memory_core.specs.Host.{host_of, lengths};
-ghost use Rattle.vm_memory.specs.Layout.{AreHeld};
+ghost use Rattle.vm_memory.specs.Layout.{HostHolds};
 
 use crate::FromRangesError::{Collection, InvalidGuestRegion, MmapRegion};
 use crate::GuestMemoryError::{InvalidBackendAddress, InvalidGuestAddress, PartialBuffer};
@@ -29,7 +29,7 @@ type Host = HostMemory<PageBitmap>;
 const TWO: [(GuestAddress, usize); 2] = [(GuestAddress(0), 0x1000), (GuestAddress(0x1000), 0x1000)];
 
 fn made(alloc: Global, ranges: &[(GuestAddress, usize)]) -> Result<(Host, GuestMemoryMmap), Fail>
-    ensures { IfOk result (λ t. AreHeld (lengths (host_of t.0)) t.1) }
+    ensures { IfOk result (λ t. HostHolds t.0 t.1) }
 {
     let mut host = HostMemory::new(alloc);
     let mem = GuestMemoryMmap::from_ranges(alloc, &mut host, ranges)?;

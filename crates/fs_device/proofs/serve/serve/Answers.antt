@@ -1,7 +1,7 @@
 use Rattle.std.proofs.Common.{Ok}
 use Rattle.vm_memory_core.specs.Host.{host_of}
 use Rattle.vm_memory.specs.Memory.{memory_of}
-use Rattle.fs_queue.specs.Held.{HoldsChain}
+use Rattle.fs_queue.specs.Windows.{HoldsChain}
 use Rattle.fs_device.proofs.ServeLemmas.{served_chain}
 use Rattle.fs_device.proofs.serve.serve.Goals as goal
 

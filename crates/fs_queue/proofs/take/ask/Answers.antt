@@ -3,9 +3,9 @@ use Rattle.vm_memory_core.specs.Host.{host_of, lengths}
 use Rattle.vm_memory.specs.Memory.{memory_of}
 use Rattle.fs_queue.specs.Queue.{at_position}
 use Rattle.fs_queue.specs.Chain.{IsChain, HasFault, StopsQueue}
-use Rattle.fs_queue.specs.Taking.{CannotAsk, asked_by}
-use Rattle.fs_queue.specs.Held.{HoldsEnds}
-use Rattle.fs_queue.proofs.OfferLemmas.{on_look, offer_looked, offer_lacks, offer_found, lacks_memory, on_err, found_ends}
+use Rattle.fs_queue.specs.Taking.{CannotAsk, asked_by, on_look}
+use Rattle.fs_queue.specs.Windows.{HoldsEnds}
+use Rattle.fs_queue.proofs.OfferLemmas.{offer_looked, offer_lacks, offer_found, lacks_memory, on_err, found_ends}
 use Rattle.fs_queue.proofs.take.ask.Goals as goal
 use Rattle.fs_queue.proofs.take.ask.Goals.{in-Faulty, in-Chain+in_ok-chain-in-Chain}
 

@@ -3,7 +3,7 @@ use mathlib.Core.Bool.{beq}
 use Rattle.std.proofs.lemmas.List.{drop_more}
 use Rattle.vm_memory_core.specs.Window.{places}
 use Rattle.vm_memory.specs.Layout.{place}
-use Rattle.fs_queue.specs.Walking.{AllFit}
+use Rattle.fs_queue.specs.Walking.{AllEndIn64Bits}
 use Rattle.fs_queue.proofs.TakeLemmas.{no_descriptor, part_found, part_lost, part_other, part_done, after-none, none_lies}
 use Rattle.fs_queue.proofs.take.hold_part.Goals as goal
 use Rattle.fs_queue.proofs.take.hold_part.Goals.{else-is_write_only-write_only-via-then-is_write_only-write_only+in_ok-add_windows+else-not-branch, else-is_write_only-write_only-via-else-is_write_only-write_only}
@@ -12,7 +12,7 @@ pub loop-descriptor-init : goal.loop-descriptor-init
 loop-descriptor-init c = rw c.new-windows.ensures.items (record { found = after-none _; lie = λ lengths held. none_lies lengths })
 
 pub add_windows-requires : goal.add_windows-requires
-unfolding AllFit
+unfolding AllEndIn64Bits
 add_windows-requires c = c.requires _ _ c.loop-descriptor-test.true
 
 pub returns-then-not-branch-clause-found : goal.returns-then-not-branch-clause-found

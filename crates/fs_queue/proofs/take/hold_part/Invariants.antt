@@ -2,7 +2,7 @@ use Rattle.std.proofs.Common.{◌≡◌, ℕ, List, drop}
 use Rattle.vm_memory_core.specs.Window.{places, AllLieIn}
 use Rattle.vm_memory.specs.Layout.{place, AreHeld}
 use Rattle.vm_memory.specs.Memory.{located, after}
-use Rattle.fs_queue.specs.Held.{part, addresses_of}
+use Rattle.fs_queue.specs.Windows.{part, addresses_of}
 use Rattle.fs_queue.proofs.take.hold_part.Given as goal
 
 abbrev pub invariant-loop-descriptor : goal.invariant-loop-descriptor

@@ -4,12 +4,12 @@ use Rattle.vm_memory_core.specs.Host.{host_of}
 use Rattle.vm_memory.specs.Memory.{memory_of}
 use Rattle.fs_queue.specs.declared.descriptor.Descriptor.{Descriptor}
 use Rattle.fs_queue.specs.Chain.{IsChain}
-use Rattle.fs_queue.specs.Walking.{AllFit}
+use Rattle.fs_queue.specs.Walking.{AllEndIn64Bits}
 use Rattle.fs_queue.proofs.WalkLemmas.{walk_stops, walk_faulty, walk_ends, walk_next}
 use Rattle.fs_queue.proofs.walk.walk.Goals as goal
 
 pub loop-descriptors-init : goal.loop-descriptors-init
-unfolding AllFit
+unfolding AllEndIn64Bits
 loop-descriptors-init g c = rw (c.new-descriptors.ensures.items, c.size-left.ensures) (record { chain = refl; fit = λ k d h. absurd (omega arith) })
 
 pub returns-in-Stops-clause-chain : goal.returns-in-Stops-clause-chain
@@ -26,12 +26,12 @@ returns-then-not-has_next-clause-chain g c =
     ∙ walk_ends (memory_of (host_of c.args.host.now) c.args.mem.now) c.args.layout c.loop-descriptors.index c.loop-descriptors.left c.in-Joins.descriptor c.loop-descriptors.descriptors.items _ c.in-Joins.ensures.verdict (sym c.if-not-has_next.ensures) c.loop-descriptors.invariant.chain
 
 pub returns-then-not-has_next-clause-fit : goal.returns-then-not-has_next-clause-fit
-unfolding AllFit
+unfolding AllEndIn64Bits
 returns-then-not-has_next-clause-fit g c =
     rw c.in_ok-push-in-Joins.ensures.ok (All-push (λ (d : Descriptor). d.addr + d.len < 2 ^ 64) _ _ c.loop-descriptors.invariant.fit c.in-Joins.ensures.fits)
 
 pub loop-descriptors-preserved : goal.loop-descriptors-preserved
-unfolding AllFit
+unfolding AllEndIn64Bits
 loop-descriptors-preserved g c = rw c.in_ok-push-in-Joins.ensures.ok (record {
   chain = walk_next (memory_of (host_of c.args.host.now) c.args.mem.now) c.args.layout c.loop-descriptors.index c.loop-descriptors.left c.in-Joins.descriptor c.loop-descriptors.descriptors.items _ c.in-Joins.ensures.verdict (sym c.has_next.ensures ∙ c.if-not-has_next.false) c.in-Joins.ensures.more c.loop-descriptors.invariant.chain;
   fit = All-push (λ (d : Descriptor). d.addr + d.len < 2 ^ 64) _ _ c.loop-descriptors.invariant.fit c.in-Joins.ensures.fits;

@@ -2,9 +2,9 @@ use Rattle.std.proofs.Common.{◌≡◌, ◌≤◌, ◌-◌, ◌++◌, ℕ, Bool
 use Rattle.vm_memory_core.specs.Host.{host_of, lengths}
 use Rattle.fs_device.specs.declared.error.DeviceError.{DeviceError}
 use Rattle.fs_device.specs.Step.{State, Exchange}
-use Rattle.fs_device.specs.Views.{state_of}
+use Rattle.fs_device.specs.DeviceView.{state_of}
 use Rattle.fs_device.specs.Run.{KickRun}
-use Rattle.fs_device.specs.Running.{turn_of}
+use Rattle.fs_device.specs.CommandView.{turn_of}
 use Rattle.fs_device.proofs.device.Device.process_queue.Given as goal
 
 abbrev pub invariant-loop : goal.invariant-loop

@@ -2,7 +2,7 @@ use Rattle.std.proofs.Common.{◌≡◌, ◌∙◌, ap, sym, refl, subst}
 use Rattle.vm_memory_core.specs.Host.{host_of, lengths}
 use Rattle.vm_memory.specs.Layout.{AreHeld}
 use Rattle.fs_device.specs.Run.{effect}
-use Rattle.fs_device.specs.Machines.{machine_of}
+use Rattle.fs_device.specs.MachineView.{machine_of}
 use Rattle.fs_device.proofs.LayoutLemmas.{HasBlock, held_with, unknown, known, past_end, within, has_block}
 use Rattle.fs_device.proofs.machine.Machine.insert_region.Goals as goal
 

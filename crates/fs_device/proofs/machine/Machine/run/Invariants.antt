@@ -2,8 +2,8 @@ use Rattle.std.proofs.Common.{◌≡◌, ◌≤◌, ◌+◌, ◌++◌, List, len
 use Rattle.std.specs.Vec.Iter.{into_iter_items, into_iter_len}
 use Rattle.fs_device.specs.Step.{State}
 use Rattle.fs_device.specs.Run.{Command, Answer, Run}
-use Rattle.fs_device.specs.Running.{answer_of, command_of}
-use Rattle.fs_device.specs.Machines.{machine_of}
+use Rattle.fs_device.specs.CommandView.{answer_of, command_of}
+use Rattle.fs_device.specs.MachineView.{machine_of}
 use Rattle.fs_device.proofs.machine.Machine.run.Given as goal
 
 abbrev pub invariant-loop-command : goal.invariant-loop-command

@@ -5,9 +5,9 @@ use Rattle.fs_queue.proofs.queue.Queue.give_back.Goals as goal
 pub returns-clause-stored : goal.returns-clause-stored
 returns-clause-stored g c l asked taken =
     returned_is _ _ _ _ l c.args.self.now asked c.args.taken c.args.reply.now _ _ _ _ taken c.write_reply.ensures.stored
-    c.deref.ensures (rw c.from.ensures at c.used_element-element.ensures) c.write_windows.ensures.stored
-    c.deref-2.ensures (rw (← c.self.view_is) c.to_le_bytes-index.ensures) c.write_windows-2.ensures.stored
+    c.deref.ensures (rw c.from.ensures at c.to_bytes.ensures) c.write_windows.ensures.stored
+    c.deref-2.ensures (rw (← c.self.view_is) c.le16_bytes.ensures) c.write_windows-2.ensures.stored
 
 pub returns-clause-told : goal.returns-clause-told
 returns-clause-told g c l asked taken =
-    told_is (host_of c.args.host.now) (host_of c.write_windows-2.new.self) l c.args.self.now asked c.args.taken _ _ _ taken c.deref-3.ensures c.read_windows.ensures c.from_le_bytes.ensures
+    told_is (host_of c.args.host.now) (host_of c.write_windows-2.new.self) l c.args.self.now asked c.args.taken _ _ _ taken c.deref-3.ensures c.read_windows.ensures c.le16_number.ensures

@@ -1,0 +1,42 @@
+-- Commands, answers and kicks, as the plain machine has them.
+use Rattle.std.specs.Prelude.{◌≡◌, ◌<◌, ℕ, Bool, IsTrue, length, map, None, Result, Ok, Err, slice_get}
+use Rattle.fs_queue.specs.declared.fault.QueueError.TheVariants as stop
+use Rattle.fs_device.specs.declared.error.DeviceError.{DeviceError}
+use Rattle.fs_device.specs.declared.error.DeviceError.TheVariants as device
+use Rattle.fs_device.specs.declared.exchange.Exchange as code
+use Rattle.fs_device.specs.declared.command.Command as asked
+use Rattle.fs_device.specs.declared.command.Answer as told
+use Rattle.fs_device.specs.declared.queues.QueueRun.{QueueRun}
+use Rattle.fs_device.specs.Step.{State, Exchange, May}
+use Rattle.fs_device.specs.Run.{Command, GuestRead, GuestWrite, NewBlock, InsertRegion, RemoveRegion, SetLayout, Kick, ResetQueue, Kicked, Answer, Done, Bytes, NewBlockIs, Served, IsRefused, KickRun, kick_takes_memory}
+use Rattle.fs_device.specs.DeviceView.{exchange_of}
+
+abbrev pub turn_of : code.Exchange × Bool → Exchange × Bool
+turn_of x = (exchange_of x.0, x.1)
+
+abbrev pub kicked_of : QueueRun → Kicked
+kicked_of run = record { exchanges = map turn_of run.done.items; refused = run.refused }
+
+abbrev pub command_of : asked.Command → Command
+command_of (asked.TheVariants.GuestRead a n) = GuestRead a n
+command_of (asked.TheVariants.GuestWrite a bs) = GuestWrite a bs.items
+command_of (asked.TheVariants.NewBlock n) = NewBlock n
+command_of (asked.TheVariants.InsertRegion base block) = InsertRegion base block
+command_of (asked.TheVariants.RemoveRegion base size) = RemoveRegion base size
+command_of (asked.TheVariants.SetLayout layout) = SetLayout layout
+command_of (asked.TheVariants.Kick queue most) = Kick queue most
+command_of (asked.TheVariants.ResetQueue queue l) = ResetQueue queue l
+
+abbrev pub answer_of : told.Answer → Answer
+answer_of told.TheVariants.Done = Done
+answer_of (told.TheVariants.Bytes bs) = Bytes bs.items
+answer_of (told.TheVariants.Block number) = NewBlockIs number
+answer_of (told.TheVariants.Served run) = Served (kicked_of run)
+answer_of (told.TheVariants.Refused why) = IsRefused why
+
+-- what serving a queue's chains answers: of a missing queue that alone; nothing is done where there is no room for so many exchanges
+abbrev pub ServesQueue : {F : Type 0} → May F → State F → (queue most : ℕ) → Result QueueRun DeviceError → State F → Type 0
+ServesQueue may s i most (Ok run) after = (i < length s.queues) × KickRun may s i most (map turn_of run.done.items) run.refused after
+ServesQueue may s i most (Err device.NoSuchQueue) after = (slice_get s.queues i ≡ None) × (after ≡ s)
+ServesQueue may s i most (Err (device.Queue stop.OutOfMemory)) after = IsTrue (kick_takes_memory s i most) × (after ≡ s)
+ServesQueue may s i most (Err e) after = ⊥

@@ -1,0 +1,59 @@
+-- A device and what it answers, as the plain machine has them.
+use Rattle.std.specs.Prelude.{◌≡◌, ℕ, Bool, IsTrue, List, [], length, Option, Some, None, Result, Ok, Err}
+use Rattle.vm_memory_core.specs.Host.{Host}
+use Rattle.vm_memory.specs.Layout.{Region}
+use Rattle.vm_memory.specs.Memory.{Memory, memory_of}
+use Rattle.fs_queue.specs.declared.fault.QueueError.{QueueError}
+use Rattle.fs_queue.specs.declared.fault.QueueError.TheVariants as stop
+use Rattle.fs_queue.specs.Queue.{Queue}
+use Rattle.fs_queue.specs.Taking.{Asked, Asks, CannotAsk, Refuses, Offers, offer, may_lack_memory, room_of, after_refusal}
+use Rattle.fs_queue.specs.Taking as taking
+use Rattle.fs_queue.specs.Returning.{returned, wants_notice, advanced}
+use Rattle.virtiofsd_fuse.specs.declared.server.Server.{Server}
+use Rattle.virtiofsd_fuse.specs.Serving.{Served}
+use Rattle.fs_device.specs.declared.error.DeviceError.{DeviceError}
+use Rattle.fs_device.specs.declared.exchange.Exchange as code
+use Rattle.fs_device.specs.declared.exchange.Fault.{Fault}
+use Rattle.fs_device.specs.declared.harvested.HarvestedPage.{HarvestedPage}
+use Rattle.fs_device.specs.Step.{State, Exchange, Outcome, Idle, Refused, Exchanged, Calls, May, ServesRequest, faulty, served_exchange, served_fault}
+use Rattle.fs_device.specs.Harvested.{Page}
+use Rattle.fs_device.specs.DeviceParts.{DeviceParts}
+
+abbrev pub exchange_of : code.Exchange → Exchange
+exchange_of e = record { head = e.head; request = e.request.items; reply = e.reply.items; fault = e.fault }
+
+abbrev pub outcome_of : Result (Option (code.Exchange × Bool)) DeviceError → Outcome
+outcome_of (Ok None) = Idle
+outcome_of (Ok (Some x)) = Exchanged (exchange_of x.0) x.1
+outcome_of (Err e) = Refused e
+
+-- a device over a host and a layout, as the plain machine
+abbrev pub state_of : {F : Type 0} → Host → List Region → DeviceParts F → State F
+state_of h layout d = record { memory = memory_of h layout; queues = d.queues; options = d.options; files = d.files; limit = d.limit; page_size = d.page_size }
+
+abbrev pub page_of : HarvestedPage → Page
+page_of p = record { block = p.block; offset = p.offset; bytes = p.bytes.items }
+
+-- what a step may change of a server: the options that were agreed, and the file system
+abbrev pub server_state : {F : Type 0} → Server F → ℕ × F
+server_state server = (server.options.0, server.fs)
+
+-- serving a chain that was offered so: a faulty one makes no call
+abbrev pub ServesChain : {F : Type 0} → May F → (page_size : ℕ) → ℕ × F → (head : ℕ) → Asked → Calls → Exchange → ℕ × F → Type 0
+ServesChain may page_size old head (CannotAsk why) calls x new = (x ≡ faulty head why) × (calls ≡ []) × (new ≡ old)
+ServesChain may page_size old head (Asks request room) calls x new =
+    (given : Served) × ServesRequest may page_size old.0 request (length room) old.1 calls given new.1 × (x ≡ served_exchange head request given) × (new.0 ≡ given.options)
+
+-- what a step does to one queue, and to the options and the file system of the server
+abbrev pub StepsOne : {F : Type 0} → May F → (page_size : ℕ) → Memory → ℕ → Queue → ℕ × F → Result (Option (code.Exchange × Bool)) QueueError → Queue → Memory → ℕ × F → Type 0
+StepsOne may page m limit q s (Ok None) q' m' s' = (offer m limit q ≡ taking.Idle) × (q' ≡ q) × (m' ≡ m) × (s' ≡ s)
+StepsOne may page m limit q s (Ok (Some x)) q' m' s' =
+    (asked : Asked) × (calls : Calls) × (offer m limit q ≡ Offers x.0.head asked) × ServesChain may page s x.0.head asked calls (exchange_of x.0) s'
+    × (m' ≡ returned m q x.0.head (room_of asked) x.0.reply.items) × (x.1 ≡ wants_notice m' q) × (q' ≡ advanced q)
+StepsOne may page m limit q s (Err stop.OutOfMemory) q' m' s' = IsTrue (may_lack_memory m (offer m limit q)) × (q' ≡ q) × (m' ≡ m) × (s' ≡ s)
+StepsOne may page m limit q s (Err e) q' m' s' = (offer m limit q ≡ Refuses e) × (q' ≡ after_refusal q e) × (m' ≡ m) × (s' ≡ s)
+
+-- from these options and this file system a request is answered by this reply or fault, after these calls
+abbrev pub AnswersRequest : {F : Type 0} → May F → (page_size : ℕ) → ℕ × F → (request : List ℕ) → (room : ℕ) → Calls → (reply : List ℕ) → Option Fault → ℕ × F → Type 0
+AnswersRequest may page_size old request room calls reply fault new =
+    (given : Served) × ServesRequest may page_size old.0 request room old.1 calls given new.1 × (reply ≡ given.reply) × (fault ≡ served_fault given.fault) × (new.0 ≡ given.options)

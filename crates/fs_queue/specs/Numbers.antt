@@ -1,0 +1,39 @@
+-- The numbers that tell faults and refusals apart.
+use Rattle.std.specs.Prelude.{ℕ}
+use Rattle.fs_queue.specs.declared.fault.ChainFault.{ChainFault}
+use Rattle.fs_queue.specs.declared.fault.ChainFault.TheVariants as fault
+use Rattle.fs_queue.specs.declared.fault.QueueError.{QueueError}
+use Rattle.fs_queue.specs.declared.fault.QueueError.TheVariants as stop
+use Rattle.fs_queue.specs.declared.fault.QueueLayoutError.{QueueLayoutError}
+use Rattle.fs_queue.specs.declared.fault.QueueLayoutError.TheVariants as layout
+
+-- a chain's faults, 1 to 10
+abbrev pub fault_number : ChainFault → ℕ
+fault_number fault.TooLong = 1
+fault_number fault.NextOutOfTable = 2
+fault_number fault.AddressOverflow = 3
+fault_number fault.IndirectWithNext = 4
+fault_number fault.IndirectNested = 5
+fault_number fault.IndirectLength = 6
+fault_number fault.TableUnreachable = 7
+fault_number fault.OverLimit = 8
+fault_number fault.RequestUnreachable = 9
+fault_number fault.RoomUnreachable = 10
+
+-- a queue's refusals, 1 to 9
+abbrev pub queue_number : QueueError → ℕ
+queue_number stop.Stopped = 1
+queue_number stop.AvailIndexUnreachable = 2
+queue_number stop.AvailTooFar = 3
+queue_number stop.RingEntryUnreachable = 4
+queue_number stop.HeadOutOfTable = 5
+queue_number stop.UsedUnreachable = 6
+queue_number stop.AvailFlagsUnreachable = 7
+queue_number stop.DescriptorUnreachable = 8
+queue_number stop.OutOfMemory = 9
+
+-- what is wrong with a layout, 1 to 3
+abbrev pub layout_error_number : QueueLayoutError → ℕ
+layout_error_number layout.BadSize = 1
+layout_error_number layout.Misaligned = 2
+layout_error_number layout.EndOverflow = 3

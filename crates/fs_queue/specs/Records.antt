@@ -1,0 +1,12 @@
+-- The records of a split virtqueue as the fields that spell them (VIRTIO 1.2, 2.7.5 and 2.7.8).
+use Rattle.std.specs.Prelude.{List, [], ◌∷◌}
+use Rattle.vm_values.specs.Fields.{Field}
+use Rattle.vm_values.specs.Fields as fields
+use Rattle.fs_queue.specs.declared.descriptor.Descriptor.{Descriptor}
+use Rattle.fs_queue.specs.declared.used.UsedElement.{UsedElement}
+
+abbrev pub descriptor : Descriptor → List Field
+descriptor r = fields.q r.addr ∷ fields.d r.len ∷ fields.w r.flags ∷ fields.w r.next ∷ []
+
+abbrev pub used_element : UsedElement → List Field
+used_element r = fields.d r.id ∷ fields.d r.len ∷ []
