@@ -20,7 +20,7 @@ use Rattle.virtiofsd_fuse.specs.Serving.{Served, Setting, served, setting, repli
 use Rattle.fs_device.specs.declared.error.DeviceError.{DeviceError}
 use Rattle.fs_device.specs.declared.error.DeviceError.TheVariants as device
 use Rattle.fs_device.specs.declared.refusal.Refusal.TheVariants as why
-use Rattle.fs_device.specs.Step.{State, Exchange, Calls, May, Idle, Refused, Exchanged, Takes, StepOf, Step}
+use Rattle.fs_device.specs.Step.{State, Exchange, Calls, May, Idle, Refused, Exchanged, Exchanges, StepOf, Step}
 use Rattle.fs_device.specs.Run as run
 use Rattle.fs_device.specs.Run.{Command, Answer, Effect, KickEnds, KickRun, Kicks, Kicked, Does, Performs, Run, effect, insert, insert_block, is_known, some_overlap, reset}
 use Rattle.call_log.specs.declared.log.LoggedCall.{LoggedCall}
@@ -84,28 +84,28 @@ nothing_meant = refl
 
 -- ---- steps
 
-takes_logged : {F : Type 0} (may : May F) (log : F → List LoggedCall) → Keeps may log → (s : State F) (i : ℕ) (q : Queue) (o : Offer) (calls : Calls) (x : Exchange) (notice : Bool) (after : State F) →
-    Takes may s i q o calls x notice after → Grew log s.files (x ∷ []) after.files
+taken_logged : {F : Type 0} (may : May F) (log : F → List LoggedCall) → Keeps may log → (s : State F) (i : ℕ) (q : Queue) (o : Offer) (calls : Calls) (x : Exchange) (notice : Bool) (after : State F) →
+    Exchanges may s i q o calls x notice after → Grew log s.files (x ∷ []) after.files
 unfolding AreLoggedBy
-takes_logged may log keeps s i q (Offers head (CannotAsk fault)) calls x notice after r =
+taken_logged may log keeps s i q (Offers head (CannotAsk fault)) calls x notice after r =
     let request : x.request ≡ [] = ap (λ (e : Exchange). e.request) r.returns.exchange in
     let own : [] ≡ entries_of (calls_meant (meaning 0 x.request 0)) = rw request nothing_meant in
     ([], ([], [], (0, 0, own), refl, refl), ap log r.files)
-takes_logged may log keeps s i q (Offers head (Asks request room)) calls x notice after r =
+taken_logged may log keeps s i q (Offers head (Asks request room)) calls x notice after r =
     let entries = entries_of (map (λ (step : FileCall × FileAnswer). step.0) calls) in
     let same : x.request ≡ request = ap (λ (e : Exchange). e.request) r.returns.exchange in
     let asked : r.given.calls ≡ calls_meant (meaning s.options request (length room)) =
-        ap (λ (g : Served). g.calls) r.serves.gives ∙ served_calls (setting s.page_size s.options (length room)) (meaning s.options request (length room)) _ in
+    ap (λ (g : Served). g.calls) r.serves.gives ∙ served_calls (setting s.page_size s.options (length room)) (meaning s.options request (length room)) _ in
     let own : entries ≡ entries_of (calls_meant (meaning s.options x.request (length room))) =
-        ap entries_of (sym r.serves.asks ∙ asked) ∙ ap (λ (bytes : List ℕ). entries_of (calls_meant (meaning s.options bytes (length room)))) (sym same) in
+    ap entries_of (sym r.serves.asks ∙ asked) ∙ ap (λ (bytes : List ℕ). entries_of (calls_meant (meaning s.options bytes (length room)))) (sym same) in
     (entries, (entries, [], (s.options, length room, own), refl, sym (append-nil entries)), steps_logged may log keeps s.files calls after.files r.serves.run)
-takes_logged may log keeps s i q taking.Idle calls x notice after r = absurd r
-takes_logged may log keeps s i q (Refuses e) calls x notice after r = absurd r
+taken_logged may log keeps s i q taking.Idle calls x notice after r = absurd r
+taken_logged may log keeps s i q (Refuses e) calls x notice after r = absurd r
 
 exchange_logged : {F : Type 0} (may : May F) (log : F → List LoggedCall) → Keeps may log → (s : State F) (i : ℕ) (o : Option Queue) (calls : Calls) (x : Exchange) (notice : Bool) (after : State F) →
     StepOf may s i o calls (Exchanged x notice) after → Grew log s.files (x ∷ []) after.files
 exchange_logged may log keeps s i None calls x notice after t = absurd (cc)
-exchange_logged may log keeps s i (Some q) calls x notice after t = takes_logged may log keeps s i q _ calls x notice after t
+exchange_logged may log keeps s i (Some q) calls x notice after t = taken_logged may log keeps s i q _ calls x notice after t
 
 idle_stays : {F : Type 0} (may : May F) (s : State F) (i : ℕ) (o : Option Queue) (calls : Calls) (after : State F) → StepOf may s i o calls Idle after → after.files ≡ s.files
 idle_stays may s i None calls after t = ap (λ s. s.files) t.1.same

@@ -1,7 +1,7 @@
 //! Runs of a machine whose file system logs its calls.
 
 ghost use Rattle.std.specs.Prelude.{◌≡◌, map, IfOk, OnErr};
-ghost use Rattle.fs_device.specs.Running.{answer_of};
+ghost use Rattle.fs_device.specs.CommandView.{answer_of};
 ghost use Rattle.call_log.specs.Runs.{Grows};
 
 use crate::files::CallLog;

@@ -5,7 +5,7 @@ use fs_device::Fault;
 use fs_queue::ChainFault;
 use guest_driver::Descriptor;
 use guest_driver::ring::{INDIRECT, NEXT, WRITE};
-use std::test::Fail;
+use std::process::Abort;
 
 // The two descriptors of a chain that is served.
 const REQUEST: Descriptor = Descriptor {
@@ -91,41 +91,41 @@ const FAULTY: [(Descriptor, Descriptor, ChainFault); 9] = [
 ];
 
 #[test]
-fn faulty_chain_goes_back_with_nothing_and_asks_nothing(rt: HostRuntime) -> Result<(), Fail> {
+fn faulty_chain_goes_back_with_nothing_and_asks_nothing(rt: HostRuntime) {
     for (first, second, fault) in FAULTY {
-        let mut stand = Stand::new(rt.alloc())?;
-        stand.guest.descriptor(0, first)?;
-        stand.guest.descriptor(1, second)?;
-        stand.guest.offer(0)?;
-        stand.guest.clear_marks();
-        let (exchange, notify) = stand.exchange()?;
-        assert_eq!(rt; exchange.fault, Some(Fault::Chain(fault)));
-        assert!(rt;
-            notify && exchange.request.is_empty() && exchange.reply.is_empty(),
-            "{fault:?}"
-        );
-        stand.expect_used(&rt, 0, (0, 0), 1)?;
-        stand.expect_marked(&rt, &[(0, 0)])?;
-        assert!(rt; stand.device.server().fs().calls().is_empty(), "{fault:?}");
+        let mut stand = Stand::new(&rt, rt.alloc());
+        offer_two(&rt, &mut stand, first, second);
+        stand.expect_fault(&rt, Fault::Chain(fault));
+        stand.expect_used(&rt, 0, (0, 0), 1);
+        stand.expect_marked(&rt, &[(0, 0)]);
+        stand.expect_calls(&rt, &[]);
     }
-    Ok(())
 }
 
+// Makes a chain of the first two entries available; no page is marked.
+fn offer_two(rt: &impl Abort, stand: &mut Stand, first: Descriptor, second: Descriptor) {
+    stand.guest.descriptor(0, first).expect(rt, "a place");
+    stand.guest.descriptor(1, second).expect(rt, "a place");
+    stand.guest.offer(0).expect(rt, "a place");
+    stand.guest.clear_marks();
+}
+
+// No bytes, at an address that is in no region.
+const EMPTY: Descriptor = Descriptor {
+    addr: 0xffff_ffff_ffff_ffff,
+    len: 0,
+    flags: NEXT,
+    next: 0,
+};
+
 #[test]
-fn descriptor_of_no_bytes_adds_nothing_wherever_it_points(rt: HostRuntime) -> Result<(), Fail> {
-    let mut stand = Stand::new(rt.alloc())?;
-    let empty = Descriptor {
-        addr: 0xffff_ffff_ffff_ffff,
-        len: 0,
-        flags: NEXT,
-        next: 0,
-    };
-    stand.guest.descriptor(3, empty)?;
-    stand.ask_unknown()?;
-    stand.guest.offer(3)?;
-    let (_, _) = stand.exchange()?;
-    let (exchange, _) = stand.exchange()?;
-    assert_eq!(rt; exchange.head, 3);
-    assert_eq!(rt; exchange.reply.len(), 16);
-    stand.expect_used(&rt, 1, (3, 16), 2)
+fn descriptor_of_no_bytes_adds_nothing_wherever_it_points(rt: HostRuntime) {
+    let mut stand = Stand::new(&rt, rt.alloc());
+    stand.guest.descriptor(3, EMPTY).expect(&rt, "a place");
+    stand.ask_unknown(&rt);
+    stand.guest.offer(3).expect(&rt, "a place");
+    let (_, _) = stand.exchange(&rt);
+    let (exchange, _) = stand.exchange(&rt);
+    assert_eq!(rt; (exchange.head, exchange.reply.len()), (3, 16));
+    stand.expect_used(&rt, 1, (3, 16), 2);
 }

@@ -1,46 +1,60 @@
 //! The marked pages of a host, with their bytes.
 
-use crate::machines::{kicked, machine};
-use crate::stand::Stand;
-use fs_device::harvest;
-use std::test::Fail;
-use vm_memory_core::GuestAddress;
+ghost use Rattle.std.specs.Prelude.{◌≡◌};
+ghost use Rattle.vm_memory_core.specs.Host.{host_of, lengths};
 
-#[test]
-fn pages_of_an_exchange_are_harvested_once(rt: HostRuntime) -> Result<(), Fail> {
-    let mut machine = machine(rt.alloc(), 1)?;
-    assert_eq!(rt; kicked(rt.alloc(), &mut machine, 0, 9)?, (1, None));
-    let pages = harvest(rt.alloc(), &mut machine.host)?;
-    let mut offsets = [1; 2];
-    for (offset, page) in offsets.iter_mut().zip(&pages) {
-        *offset = page.offset;
-        assert_eq!(rt; (page.block, page.bytes.len()), (0, 4096));
-        let mut there = [0; 4096];
-        let read = machine.mem.read_slice(
-            &machine.host,
-            &mut there,
-            GuestAddress(page.offset as u64),
-        );
-        assert_eq!(rt; read, Ok(()));
-        assert_eq!(rt; page.bytes.as_slice(), there.as_slice());
+use crate::machines::{expect_kick, machine};
+use crate::stand::{RING, Stand};
+use fs_device::{HarvestedPage, harvest};
+use std::alloc::Global;
+use std::process::Abort;
+use vm_memory_core::{HostMemory, PageBitmap};
+
+// The marked pages are these, by block, place and length, each with its bytes; they are unmarked then.
+fn expect_pages(
+    rt: &impl Abort,
+    alloc: Global,
+    host: &mut HostMemory<PageBitmap>,
+    pages: &[(usize, usize, usize)],
+)
+    ensures { lengths (host_of host.new) ≡ lengths (host_of host.old) }
+{
+    let harvested = harvest(alloc, host).expect(rt, "memory");
+    assert_eq!(rt; harvested.len(), pages.len());
+    for (page, expected) in harvested.iter().zip(pages) {
+        assert_eq!(rt; (page.block, page.offset, page.bytes.len()), *expected);
+        expect_same(rt, alloc, host, page);
     }
-    assert_eq!(rt; (pages.len(), offsets), (2, [0, 0x2000]));
-    let again = harvest(rt.alloc(), &mut machine.host)?;
+    let again = harvest(alloc, host).expect(rt, "memory");
     assert_eq!(rt; again.len(), 0);
-    Ok(())
+}
+
+// A page has the bytes that stand in its block.
+fn expect_same(
+    rt: &impl Abort,
+    alloc: Global,
+    host: &HostMemory<PageBitmap>,
+    page: &HarvestedPage,
+) {
+    let mut there = vec![in alloc; 0; page.bytes.len()].expect(rt, "memory");
+    assert!(rt; host.read_block(page.block, page.offset, &mut there));
+    assert_eq!(rt; page.bytes.as_slice(), there.as_slice());
 }
 
 #[test]
-fn last_page_of_a_block_may_be_short(rt: HostRuntime) -> Result<(), Fail> {
+fn pages_of_an_exchange_are_harvested_once(rt: HostRuntime) {
+    let mut machine = machine(&rt, rt.alloc(), 1);
+    expect_kick(&rt, rt.alloc(), &mut machine, (0, 9), (1, None));
+    let pages = [(0, 0, 4096), (0, 0x2000, 4096)];
+    expect_pages(&rt, rt.alloc(), &mut machine.host, &pages);
+}
+
+#[test]
+fn last_page_of_a_block_may_be_short(rt: HostRuntime) {
     let regions = [(0, 0x1002), (0x2000, 3)];
-    let mut guest = Stand::over(rt.alloc(), &regions, crate::stand::RING)?.guest;
-    guest.put(0x1001, &[9])?;
-    guest.put(0x2000, &[1, 2, 3])?;
-    let pages = harvest(rt.alloc(), &mut guest.host)?;
-    let mut found = [(9, 9, 9); 2];
-    for (found, page) in found.iter_mut().zip(&pages) {
-        *found = (page.block, page.offset, page.bytes.len());
-    }
-    assert_eq!(rt; found, [(0, 0x1000, 2), (1, 0, 3)]);
-    Ok(())
+    let mut stand = Stand::over(&rt, rt.alloc(), &regions, RING);
+    stand.put(&rt, 0x1001, &[9]);
+    stand.put(&rt, 0x2000, &[1, 2, 3]);
+    let pages = [(0, 0x1000, 2), (1, 0, 3)];
+    expect_pages(&rt, rt.alloc(), &mut stand.guest.host, &pages);
 }

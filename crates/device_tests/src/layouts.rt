@@ -1,110 +1,102 @@
 //! Machines whose layout changes.
 
-use crate::machines::{done, kicked, machine, read, refusal, write};
+use crate::machines::{done, expect_kick, expect_read, expect_refusal, expect_write, machine};
 use call_log::CallLog;
-use fs_device::{Answer, Command, Machine, harvest};
+use fs_device::{Answer, Command, DeviceError, Machine};
+use fs_queue::QueueError;
 use std::alloc::Global;
-use std::test::Fail;
+use std::process::Abort;
 use vm_memory::{GuestMemoryBackend, GuestMemoryMmap};
-use vm_memory_core::{GuestAddress, HostMemory};
+use vm_memory_core::{GuestAddress, HostMemory, PageBitmap};
 
 const LAST: u64 = 0xffff_ffff_ffff_ffff;
 
-// The number of a new block.
-fn new_block(alloc: Global, machine: &mut Machine<CallLog>, len: usize) -> Result<usize, Fail> {
-    match done(alloc, machine, Command::NewBlock { len })? {
-        Answer::Block(number) => Ok(number),
-        _ => Err(Fail::from("no block")),
-    }
+// A new block has this number.
+fn expect_block(
+    rt: &impl Abort,
+    alloc: Global,
+    machine: &mut Machine<CallLog>,
+    len: usize,
+    number: usize,
+) {
+    let answer = done(rt, alloc, machine, Command::NewBlock { len });
+    assert!(rt; matches!(&answer, Answer::Block(block) if *block == number));
 }
 
 #[test]
-fn blocks_are_numbered_and_never_empty(rt: HostRuntime) -> Result<(), Fail> {
-    let mut machine = machine(rt.alloc(), 0)?;
+fn blocks_are_numbered_and_never_empty(rt: HostRuntime) {
+    let mut machine = machine(&rt, rt.alloc(), 0);
     let empty = Command::NewBlock { len: 0 };
-    assert_eq!(rt; refusal(rt.alloc(), &mut machine, empty)?, 2);
-    assert_eq!(rt; new_block(rt.alloc(), &mut machine, 2)?, 1);
-    assert_eq!(rt; new_block(rt.alloc(), &mut machine, 1)?, 2);
+    expect_refusal(&rt, rt.alloc(), &mut machine, empty, 2);
+    expect_block(&rt, rt.alloc(), &mut machine, 2, 1);
+    expect_block(&rt, rt.alloc(), &mut machine, 1, 2);
     assert_eq!(rt; machine.host.block_count(), 3);
-    Ok(())
 }
 
+// Where a region is inserted, of which block, and the refusal.
+const INSERTS: [(u64, usize, u8); 5] = [
+    (LAST, 7, 3),
+    (LAST, 1, 4),
+    (0xffff, 1, 5),
+    (LAST, 2, 0),
+    (LAST, 2, 5),
+];
+
+// Where a region is removed, how long it is, and the refusal.
+const REMOVES: [(u64, u64, u8); 4] = [(LAST, 2, 6), (LAST, 1, 0), (LAST, 1, 6), (0, 0xffff, 6)];
+
 #[test]
-fn regions_are_refused_in_order(rt: HostRuntime) -> Result<(), Fail> {
-    let mut machine = machine(rt.alloc(), 0)?;
-    let _ = new_block(rt.alloc(), &mut machine, 2)?;
-    let _ = new_block(rt.alloc(), &mut machine, 1)?;
-    let inserts = [
-        (LAST, 7, 3),
-        (LAST, 1, 4),
-        (0xffff, 1, 5),
-        (LAST, 2, 0),
-        (LAST, 2, 5),
-    ];
-    for (base, block, number) in inserts {
+fn regions_are_refused_in_order(rt: HostRuntime) {
+    let mut machine = machine(&rt, rt.alloc(), 0);
+    expect_block(&rt, rt.alloc(), &mut machine, 2, 1);
+    expect_block(&rt, rt.alloc(), &mut machine, 1, 2);
+    for (base, block, number) in INSERTS {
         let insert = Command::InsertRegion { base, block };
-        assert_eq!(rt;
-            refusal(rt.alloc(), &mut machine, insert)?,
-            number,
-            "{base} {block}"
-        );
+        expect_refusal(&rt, rt.alloc(), &mut machine, insert, number);
     }
-    let removes = [(LAST, 2, 6), (LAST, 1, 0), (LAST, 1, 6), (0, 0xffff, 6)];
-    for (base, size, number) in removes {
+    for (base, size, number) in REMOVES {
         let remove = Command::RemoveRegion { base, size };
-        assert_eq!(rt;
-            refusal(rt.alloc(), &mut machine, remove)?,
-            number,
-            "{base} {size}"
-        );
+        expect_refusal(&rt, rt.alloc(), &mut machine, remove, number);
     }
     assert_eq!(rt; machine.mem.num_regions(), 1);
-    Ok(())
 }
 
 #[test]
-fn what_stands_in_a_block_is_seen_at_each_of_its_regions(rt: HostRuntime) -> Result<(), Fail> {
-    let mut machine = machine(rt.alloc(), 0)?;
-    let alias = Command::InsertRegion {
-        base: 0x20000,
-        block: 0,
-    };
-    assert_eq!(rt; refusal(rt.alloc(), &mut machine, alias)?, 0);
-    let written = write(rt.alloc(), 0x25000, &[7, 7])?;
-    assert_eq!(rt; refusal(rt.alloc(), &mut machine, written)?, 0);
-    let there = read(rt.alloc(), &mut machine, 0x5000, 3)?;
-    assert_eq!(rt; there.as_slice(), [7, 7, 0].as_slice());
-    let marked = harvest(rt.alloc(), &mut machine.host)?;
-    assert_eq!(rt; marked.len(), 1);
-    assert_eq!(rt; marked.first().map(|page| page.offset), Some(0x5000));
-    Ok(())
+fn what_stands_in_a_block_is_seen_at_each_of_its_regions(rt: HostRuntime) {
+    let mut machine = machine(&rt, rt.alloc(), 0);
+    let base = 0x20000;
+    let alias = Command::InsertRegion { base, block: 0 };
+    expect_refusal(&rt, rt.alloc(), &mut machine, alias, 0);
+    expect_write(&rt, rt.alloc(), &mut machine, 0x25000, &[7, 7], 0);
+    expect_read(&rt, rt.alloc(), &mut machine, 0x5000, &[7, 7, 0]);
 }
 
-#[test]
-fn layout_that_the_host_lacks_is_refused(rt: HostRuntime) -> Result<(), Fail> {
-    let mut machine = machine(rt.alloc(), 1)?;
-    let mut other = HostMemory::<vm_memory_core::PageBitmap>::new(rt.alloc());
+// A layout whose blocks only another host has, as long as they are.
+fn foreign(rt: &impl Abort, alloc: Global) -> GuestMemoryMmap {
+    let mut other = HostMemory::<PageBitmap>::new(alloc);
     let ranges = [
         (GuestAddress(0x1000), 0x1000),
         (GuestAddress(0x3000), 0x1000),
     ];
-    let foreign = GuestMemoryMmap::from_ranges(rt.alloc(), &mut other, &ranges)?;
-    let unknown = Command::SetLayout(foreign);
-    assert_eq!(rt; refusal(rt.alloc(), &mut machine, unknown)?, 3);
-    assert_eq!(rt; kicked(rt.alloc(), &mut machine, 0, 1)?, (1, None));
-    Ok(())
+    GuestMemoryMmap::from_ranges(alloc, &mut other, &ranges).expect(rt, "regions")
 }
 
 #[test]
-fn queue_stops_where_the_layout_lacks_its_ring(rt: HostRuntime) -> Result<(), Fail> {
-    let mut machine = machine(rt.alloc(), 1)?;
-    let same = machine.mem.try_clone()?;
+fn layout_that_the_host_lacks_is_refused(rt: HostRuntime) {
+    let mut machine = machine(&rt, rt.alloc(), 1);
+    let unknown = Command::SetLayout(foreign(&rt, rt.alloc()));
+    expect_refusal(&rt, rt.alloc(), &mut machine, unknown, 3);
+    expect_kick(&rt, rt.alloc(), &mut machine, (0, 1), (1, None));
+}
+
+#[test]
+fn queue_stops_where_the_layout_lacks_its_ring(rt: HostRuntime) {
+    let mut machine = machine(&rt, rt.alloc(), 1);
+    let same = machine.mem.try_clone().expect(&rt, "memory");
     let none = Command::SetLayout(GuestMemoryMmap::new(rt.alloc()));
-    assert_eq!(rt; refusal(rt.alloc(), &mut machine, none)?, 0);
-    let (served, refused) = kicked(rt.alloc(), &mut machine, 0, 1)?;
-    assert_eq!(rt; (served, refused.map(|error| error.number())), (0, Some(2)));
-    let back = Command::SetLayout(same);
-    assert_eq!(rt; refusal(rt.alloc(), &mut machine, back)?, 0);
+    expect_refusal(&rt, rt.alloc(), &mut machine, none, 0);
+    let error = DeviceError::Queue(QueueError::AvailIndexUnreachable);
+    expect_kick(&rt, rt.alloc(), &mut machine, (0, 1), (0, Some(error)));
+    expect_refusal(&rt, rt.alloc(), &mut machine, Command::SetLayout(same), 0);
     assert_eq!(rt; machine.mem.num_regions(), 1);
-    Ok(())
 }

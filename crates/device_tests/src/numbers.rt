@@ -107,9 +107,8 @@ fn layouts_are_refused_in_order(rt: HostRuntime) {
 }
 
 #[test]
-fn layout_has_what_it_was_made_of(rt: HostRuntime) -> Result<(), QueueLayoutError> {
-    let layout = QueueLayout::new(4, 0x10, 0x100, 0x200)?;
+fn layout_has_what_it_was_made_of(rt: HostRuntime) {
+    let layout = QueueLayout::new(4, 0x10, 0x100, 0x200).expect(&rt, "a layout");
     let parts = (layout.size(), layout.desc(), layout.avail(), layout.used());
     assert_eq!(rt; parts, (4, 0x10, 0x100, 0x200));
-    Ok(())
 }

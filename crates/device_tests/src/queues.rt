@@ -1,82 +1,81 @@
 //! Queues alone, and chains of a queue one after another.
 
-use crate::stand::{LIMIT, RING, ROOM_AT, Stand, layout};
+use crate::stand::{LIMIT, RING, Stand, layout};
 use fs_device::DeviceError;
 use fs_queue::{Queue, Taken};
 use guest_driver::requests::header;
-use std::test::Fail;
+use std::process::Abort;
+
+// A chain of 40 bytes of request and 16 of room, in two parts each.
+fn stand(rt: &impl Abort, alloc: std::alloc::Global) -> Stand {
+    let mut stand = Stand::new(rt, alloc);
+    let request = [(0x1000, 33), (0x3000, 7)];
+    let room = [(0x2000, 3), (0x2803, 13)];
+    stand.chain(rt, 0, &header(40, 7, 1, 0), &request, &room);
+    stand
+}
 
 // How many bytes of request a chain has, and of room.
-fn lengths(taken: &Taken) -> Result<(usize, usize), Fail> {
-    match taken.chain() {
-        Ok(chain) => Ok((chain.request_len(), chain.room_len())),
-        Err(fault) => Err(Fail::from(fault)),
-    }
+fn expect_lengths(rt: &impl Abort, taken: &Taken, lengths: (usize, usize)) {
+    let chain = taken.chain().expect(rt, "no fault");
+    assert_eq!(rt; (chain.request_len(), chain.room_len()), lengths);
 }
 
 #[test]
-fn chain_is_taken_and_given_back(rt: HostRuntime) -> Result<(), Fail> {
-    let mut guest = Stand::new(rt.alloc())?.guest;
-    let cut = [(0x1000, 33), (0x3000, 7)];
-    guest.chain(0, &header(40, 7, 1, 0), &cut, &[(0x2000, 3), (0x2803, 13)])?;
-    guest.clear_marks();
-    let mut queue = Queue::new(layout(RING)?);
-    let taken = queue.take(rt.alloc(), &guest.host, &guest.mem, LIMIT)?;
-    let Some(taken) = taken else {
-        return Err(Fail::from("nothing waits"));
-    };
-    assert_eq!(rt; taken.head(), 0);
-    assert_eq!(rt; lengths(&taken)?, (40, 16));
-    assert_eq!(rt; (queue.position(), queue.is_stopped()), (0, false));
-    let told = queue.give_back(&mut guest.host, taken, &[]);
+fn chain_is_taken_and_given_back(rt: HostRuntime) {
+    let (mut host, mem) = stand(&rt, rt.alloc()).guest.into_memory();
+    let mut queue = Queue::new(layout(&rt, RING));
+    let taken = queue
+        .take(rt.alloc(), &host, &mem, LIMIT)
+        .expect(&rt, "no refusal")
+        .expect(&rt, "a chain that waits");
+    assert_eq!(rt; (taken.head(), queue.position()), (0, 0));
+    expect_lengths(&rt, &taken, (40, 16));
+    let told = queue.give_back(&mut host, taken, &[]);
     assert!(rt; told);
-    assert_eq!(rt; queue.position(), 1);
-    assert_eq!(rt; guest.bytes(0x202)?, [1, 0, 0, 0, 0, 0, 0, 0, 0, 0]);
-    let marked = guest.marked(rt.alloc())?;
-    assert_eq!(rt; marked.as_slice(), [(0, 0)].as_slice());
-    Ok(())
+    assert_eq!(rt; (queue.position(), queue.is_stopped()), (1, false));
+    let mut used = [9; 10];
+    assert!(rt; host.read_block(0, 0x202, &mut used));
+    assert_eq!(rt; used, [1, 0, 0, 0, 0, 0, 0, 0, 0, 0]);
 }
 
 #[test]
-fn nothing_is_taken_where_nothing_waits(rt: HostRuntime) -> Result<(), Fail> {
-    let guest = Stand::new(rt.alloc())?.guest;
-    let mut queue = Queue::new(layout(RING)?);
-    let taken = queue.take(rt.alloc(), &guest.host, &guest.mem, LIMIT)?;
+fn nothing_is_taken_where_nothing_waits(rt: HostRuntime) {
+    let guest = Stand::new(&rt, rt.alloc()).guest;
+    let mut queue = Queue::new(layout(&rt, RING));
+    let taken = queue
+        .take(rt.alloc(), &guest.host, &guest.mem, LIMIT)
+        .expect(&rt, "no refusal");
     assert!(rt; taken.is_none());
-    Ok(())
 }
 
-// How many exchanges a queue comes to, and its refusal.
-fn served(stand: &mut Stand, most: u16) -> Result<(usize, Option<DeviceError>), Fail> {
+// A queue comes to so many exchanges, without a refusal.
+fn expect_served(rt: &impl Abort, stand: &mut Stand, most: u16, count: usize) {
     let host = &mut stand.guest.host;
     let run = stand
         .device
-        .process_queue(stand.alloc, host, &stand.guest.mem, 0, most)?;
-    Ok((run.done.len(), run.refused))
+        .process_queue(stand.alloc, host, &stand.guest.mem, 0, most)
+        .expect(rt, "a queue");
+    assert_eq!(rt; (run.done.len(), run.refused), (count, None));
 }
 
 #[test]
-fn queue_serves_at_most_so_many(rt: HostRuntime) -> Result<(), Fail> {
-    let mut stand = Stand::new(rt.alloc())?;
-    stand.ask_unknown()?;
-    stand.guest.offer(0)?;
-    assert_eq!(rt; served(&mut stand, 0)?, (0, None));
-    assert_eq!(rt; served(&mut stand, 1)?, (1, None));
-    assert_eq!(rt; served(&mut stand, 9)?, (1, None));
-    assert_eq!(rt; served(&mut stand, 9)?, (0, None));
-    assert_eq!(rt; stand.guest.used_index()?, 2);
-    assert_eq!(rt; stand.guest.bytes(ROOM_AT)?, [16, 0, 0, 0]);
-    Ok(())
+fn queue_serves_at_most_so_many(rt: HostRuntime) {
+    let mut stand = stand(&rt, rt.alloc());
+    stand.guest.offer(0).expect(&rt, "a place");
+    for (most, count) in [(0, 0), (1, 1), (9, 1), (9, 0)] {
+        expect_served(&rt, &mut stand, most, count);
+    }
+    stand.expect_used(&rt, 1, (0, 16), 2);
 }
 
 #[test]
-fn queue_that_is_missing_serves_none(rt: HostRuntime) -> Result<(), Fail> {
-    let mut stand = Stand::new(rt.alloc())?;
+fn queue_that_is_missing_serves_none(rt: HostRuntime) {
+    let mut stand = Stand::new(&rt, rt.alloc());
     let host = &mut stand.guest.host;
     let refused = stand
         .device
-        .process_queue(rt.alloc(), host, &stand.guest.mem, 1, 0)
+        .process_queue(stand.alloc, host, &stand.guest.mem, 1, 0)
         .err();
     assert_eq!(rt; refused, Some(DeviceError::NoSuchQueue));
-    Ok(())
 }

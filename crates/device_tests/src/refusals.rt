@@ -5,7 +5,6 @@ use fs_device::DeviceError;
 use fs_queue::QueueError;
 use guest_driver::Ring;
 use std::process::Abort;
-use std::test::Fail;
 
 // Two regions; the addresses 0x100 and 0x101 lie in neither.
 const HOLED: [(u64, usize); 2] = [(0, 0x100), (0x102, 0xfefe)];
@@ -78,55 +77,53 @@ const REFUSED: [(Ring, [(u64, u16); 2], QueueError); 9] = [
 ];
 
 #[test]
-fn refused_queue_stops_until_it_is_reset(rt: HostRuntime) -> Result<(), Fail> {
+fn refused_queue_stops_until_it_is_reset(rt: HostRuntime) {
     for (ring, puts, error) in REFUSED {
-        let mut stand = Stand::over(rt.alloc(), &HOLED, ring)?;
+        let mut stand = Stand::over(&rt, rt.alloc(), &HOLED, ring);
         for (addr, number) in puts {
-            stand.guest.put(addr, &number.to_le_bytes())?;
+            stand.put(&rt, addr, &number.to_le_bytes());
         }
         stand.guest.clear_marks();
-        expect_stop(&rt, &mut stand, error)?;
-        expect_go_on(&rt, &mut stand)?;
+        expect_stop(&rt, &mut stand, error);
+        expect_go_on(&rt, &mut stand);
     }
-    Ok(())
 }
 
 // The refusal comes, and that of a stopped queue after it; no byte changes.
-fn expect_stop(rt: &impl Abort, stand: &mut Stand, error: QueueError) -> Result<(), Fail> {
-    let before = stand.guest.bytes::<0x300>(0x4000)?;
-    let refused = stand.step().err();
-    assert_eq!(rt; refused, Some(DeviceError::Queue(error)));
+fn expect_stop(rt: &impl Abort, stand: &mut Stand, error: QueueError) {
+    let before = stand.guest.bytes::<0x300>(0x4000).expect(rt, "a place");
+    stand.expect_refusal(rt, DeviceError::Queue(error));
     let stopped = stand.device.queue(0).map(|queue| queue.is_stopped());
     assert_eq!(rt; stopped, Some(true));
-    let again = stand.step().err();
-    assert_eq!(rt; again, Some(DeviceError::Queue(QueueError::Stopped)));
-    assert_eq!(rt; stand.guest.bytes::<0x300>(0x4000)?, before);
-    stand.expect_marked(rt, &[])
+    stand.expect_refusal(rt, DeviceError::Queue(QueueError::Stopped));
+    stand.expect_bytes(rt, 0x4000, &before);
+    stand.expect_marked(rt, &[]);
 }
 
 // The queue is reset to where it lies whole, and serves a chain there.
-fn expect_go_on(rt: &impl Abort, stand: &mut Stand) -> Result<(), Fail> {
-    assert_eq!(rt; stand.device.reset_queue(0, layout(GOOD)?), Ok(()));
+fn expect_go_on(rt: &impl Abort, stand: &mut Stand) {
+    let reset = stand.device.reset_queue(0, layout(rt, GOOD));
+    assert_eq!(rt; reset, Ok(()));
     stand.guest.ring = GOOD;
-    stand.guest.set_available(0)?;
-    stand.ask_unknown()?;
-    let (exchange, _) = stand.exchange()?;
+    stand.guest.set_available(0).expect(rt, "a place");
+    stand.ask_unknown(rt);
+    let (exchange, _) = stand.exchange(rt);
     assert_eq!(rt; exchange.reply.len(), 16);
-    stand.expect_used(rt, 0, (0, 16), 1)
+    stand.expect_used(rt, 0, (0, 16), 1);
 }
 
 #[test]
-fn missing_queue_is_refused_first(rt: HostRuntime) -> Result<(), Fail> {
-    let mut stand = Stand::new(rt.alloc())?;
-    stand.ask_unknown()?;
+fn missing_queue_is_refused_first(rt: HostRuntime) {
+    let mut stand = Stand::new(&rt, rt.alloc());
+    stand.ask_unknown(&rt);
     let host = &mut stand.guest.host;
     let refused = stand
         .device
-        .process_one(rt.alloc(), host, &stand.guest.mem, 1)
+        .process_one(stand.alloc, host, &stand.guest.mem, 1)
         .err();
     assert_eq!(rt; refused, Some(DeviceError::NoSuchQueue));
-    let reset = stand.device.reset_queue(1, layout(GOOD)?);
+    let reset = stand.device.reset_queue(1, layout(&rt, GOOD));
     assert_eq!(rt; reset, Err(DeviceError::NoSuchQueue));
     assert!(rt; stand.device.queue(1).is_none());
-    stand.expect_marked(&rt, &[])
+    stand.expect_marked(&rt, &[]);
 }

@@ -1,13 +1,12 @@
-//! What the tests share: a guest with one ring, and a device that serves it.
+//! What the tests share: a guest with one ring, and a device that serves it. What goes wrong in drawing ends the test.
 
-use call_log::CallLog;
-use fs_device::{Device, DeviceError, Exchange, Machine};
-use fs_queue::{Queue, QueueLayout, QueueLayoutError};
+use call_log::{CallLog, LoggedCall};
+use fs_device::{Device, DeviceError, Exchange, Fault, Machine};
+use fs_queue::{Queue, QueueLayout};
 use guest_driver::requests::header;
 use guest_driver::{Guest, Ring};
 use std::alloc::Global;
 use std::process::Abort;
-use std::test::Fail;
 use virtiofsd_fuse::Server;
 use vm_memory_core::GuestAddress;
 
@@ -36,45 +35,64 @@ pub struct Stand {
 }
 
 /// The layout of a ring.
-pub fn layout(ring: Ring) -> Result<QueueLayout, QueueLayoutError> {
-    QueueLayout::new(ring.size, ring.desc, ring.avail, ring.used)
+pub fn layout(rt: &impl Abort, ring: Ring) -> QueueLayout {
+    QueueLayout::new(ring.size, ring.desc, ring.avail, ring.used).expect(rt, "a layout")
 }
 
 impl Stand {
     /// Regions of zeros, each from an address on and so long, with this ring.
-    pub fn over(alloc: Global, regions: &[(u64, usize)], ring: Ring) -> Result<Stand, Fail> {
+    pub fn over(rt: &impl Abort, alloc: Global, regions: &[(u64, usize)], ring: Ring) -> Stand {
         let mut ranges = Vec::new(alloc);
         for (base, len) in regions {
-            ranges.push((GuestAddress(*base), *len))?;
+            ranges
+                .push((GuestAddress(*base), *len))
+                .expect(rt, "memory");
         }
-        let guest = Guest::new(alloc, &ranges, ring)?;
-        let mut queues = Vec::with_capacity(alloc, 1)?;
-        queues.push(Queue::new(layout(ring)?)).unwrap();
-        let device = Device::new(Server::new(CallLog::new(), 4096), queues, LIMIT);
-        Ok(Stand {
+        let guest = Guest::new(alloc, &ranges, ring).expect(rt, "regions");
+        let mut queues = Vec::with_capacity(alloc, 1).expect(rt, "memory");
+        queues.push(Queue::new(layout(rt, ring))).unwrap();
+        Stand {
             alloc,
             guest,
-            device,
-        })
+            device: Device::new(Server::new(CallLog::new(), 4096), queues, LIMIT),
+        }
     }
 
     /// One region from 0 to 0x10000.
-    pub fn new(alloc: Global) -> Result<Stand, Fail> {
-        Stand::over(alloc, &[(0, 0x10000)], RING)
+    pub fn new(rt: &impl Abort, alloc: Global) -> Stand {
+        Stand::over(rt, alloc, &[(0, 0x10000)], RING)
+    }
+
+    /// The guest puts bytes at an address.
+    pub fn put(&mut self, rt: &impl Abort, addr: u64, bytes: &[u8]) {
+        self.guest.put(addr, bytes).expect(rt, "a place");
+    }
+
+    /// A request, cut into these readable parts and followed by these writable ones, is made available by the entries from
+    /// `head` on; no page is marked.
+    pub fn chain(
+        &mut self,
+        rt: &impl Abort,
+        head: u16,
+        request: &[u8],
+        readable: &[(u64, u32)],
+        writable: &[(u64, u32)],
+    ) {
+        self.guest
+            .chain(head, request, readable, writable)
+            .expect(rt, "a place");
+        self.guest.clear_marks();
     }
 
     /// A request in one piece, with a room of so many bytes, is made available; no page is marked.
-    pub fn ask(&mut self, request: &[u8], room: u32) -> Result<(), Fail> {
+    pub fn ask(&mut self, rt: &impl Abort, request: &[u8], room: u32) {
         let len = request.len().min(0x1000) as u32;
-        self.guest
-            .chain(0, request, &[(REQUEST_AT, len)], &[(ROOM_AT, room)])?;
-        self.guest.clear_marks();
-        Ok(())
+        self.chain(rt, 0, request, &[(REQUEST_AT, len)], &[(ROOM_AT, room)]);
     }
 
     /// The request of an opcode that no request has, with the least room for a reply.
-    pub fn ask_unknown(&mut self) -> Result<(), Fail> {
-        self.ask(&header(40, 7, 1, 0), 16)
+    pub fn ask_unknown(&mut self, rt: &impl Abort) {
+        self.ask(rt, &header(40, 7, 1, 0), 16);
     }
 
     /// A step of the queue.
@@ -84,38 +102,64 @@ impl Stand {
     }
 
     /// A step that exchanges a chain.
-    pub fn exchange(&mut self) -> Result<(Exchange, bool), Fail> {
-        match self.step() {
-            Ok(Some(exchanged)) => Ok(exchanged),
-            Ok(None) => Err(Fail::from("nothing waits")),
-            Err(error) => Err(Fail::from(error)),
-        }
+    pub fn exchange(&mut self, rt: &impl Abort) -> (Exchange, bool) {
+        self.step()
+            .expect(rt, "no refusal")
+            .expect(rt, "a chain that waits")
+    }
+
+    /// A step exchanges a chain for this reply, which stands in the room; the driver is told.
+    pub fn expect_reply(&mut self, rt: &impl Abort, reply: &[u8]) {
+        let (exchange, notify) = self.exchange(rt);
+        assert_eq!(rt; exchange.fault, None);
+        assert_eq!(rt; exchange.reply.as_slice(), reply);
+        assert!(rt; notify);
+    }
+
+    /// A step gives a chain back with nothing, for this reason.
+    pub fn expect_fault(&mut self, rt: &impl Abort, fault: Fault) {
+        let (exchange, notify) = self.exchange(rt);
+        assert_eq!(rt; exchange.fault, Some(fault));
+        assert!(rt; exchange.reply.is_empty());
+        assert!(rt; notify);
+    }
+
+    /// A step is refused.
+    pub fn expect_refusal(&mut self, rt: &impl Abort, error: DeviceError) {
+        assert_eq!(rt; self.step().err(), Some(error));
+    }
+
+    /// These bytes stand at an address.
+    pub fn expect_bytes(&self, rt: &impl Abort, addr: u64, bytes: &[u8]) {
+        let mut there = vec![in self.alloc; 0; bytes.len()].expect(rt, "memory");
+        self.guest
+            .mem
+            .read_slice(&self.guest.host, &mut there, GuestAddress(addr))
+            .expect(rt, "a place");
+        assert_eq!(rt; there.as_slice(), bytes);
+    }
+
+    /// The element in a slot of the used ring, its head and its length, and the ring's index, are these.
+    pub fn expect_used(&self, rt: &impl Abort, slot: u16, element: (u32, u32), index: u16) {
+        let used = self.guest.used(slot).expect(rt, "a place");
+        assert_eq!(rt; (used.id, used.len), element);
+        assert_eq!(rt; self.guest.used_index(), Ok(index));
+    }
+
+    /// The marked pages are these, by block and number in it.
+    pub fn expect_marked(&self, rt: &impl Abort, pages: &[(usize, usize)]) {
+        let marked = self.guest.marked(self.alloc).expect(rt, "memory");
+        assert_eq!(rt; marked.as_slice(), pages);
+    }
+
+    /// The file system was asked this, in this order.
+    pub fn expect_calls(&self, rt: &impl Abort, calls: &[LoggedCall]) {
+        assert_eq!(rt; self.device.server().fs().calls(), calls);
     }
 
     /// The machine of this guest and this device.
     pub fn into_machine(self) -> Machine<CallLog> {
         let (host, mem) = self.guest.into_memory();
         Machine::new(host, mem, self.device)
-    }
-
-    /// The marked pages are these, by block and number in it.
-    pub fn expect_marked(&self, rt: &impl Abort, pages: &[(usize, usize)]) -> Result<(), Fail> {
-        let marked = self.guest.marked(self.alloc)?;
-        assert_eq!(rt; marked.as_slice(), pages);
-        Ok(())
-    }
-
-    /// The element in a slot of the used ring, and the ring's index, are these.
-    pub fn expect_used(
-        &self,
-        rt: &impl Abort,
-        slot: u16,
-        element: (u32, u32),
-        index: u16,
-    ) -> Result<(), Fail> {
-        let used = self.guest.used(slot)?;
-        assert_eq!(rt; (used.id, used.len), element);
-        assert_eq!(rt; self.guest.used_index()?, index);
-        Ok(())
     }
 }

@@ -5,6 +5,7 @@ use Rattle.vm_memory.specs.Layout.{Region, place}
 use Rattle.vm_memory.specs.Memory.{Memory, memory_of, addresses, bytes, stored_all}
 use Rattle.fs_queue.specs.declared.fault.QueueError.TheVariants as queue_error
 use Rattle.fs_queue.specs.declared.layout.QueueLayout.{QueueLayout}
+use Rattle.fs_queue.specs.Queue.{stopped}
 use Rattle.fs_queue.specs.Chain.{path, found}
 use Rattle.fs_queue.specs.Taking.{Asks, Offers, offer}
 use Rattle.fs_queue.specs.Returning.{advanced}
@@ -13,8 +14,8 @@ use Rattle.virtiofsd_fuse.specs.Records.{reading_in_header}
 use Rattle.virtiofsd_fuse.specs.Grammar.{meaning, meant, error_bytes}
 use Rattle.fs_device.specs.declared.error.DeviceError.TheVariants as device_error
 use Rattle.fs_device.specs.declared.refusal.Refusal.TheVariants as why
-use Rattle.fs_device.specs.Step.{State, Exchanged, Idle, Step, after_return, stopped}
-use Rattle.fs_device.specs.Copies.{Page, block_pages, pages_of, harvested}
+use Rattle.fs_device.specs.Step.{State, Exchanged, Idle, Step, after_return}
+use Rattle.fs_device.specs.Harvested.{Page, block_pages, host_pages, harvested}
 use Rattle.fs_device.specs.Run as run
 use Rattle.fs_device.specs.Run.{Command, Answer, Run, KickRun, effect, fresh_queue}
 use Rattle.fs_device.specs.Examples.{le16, zeros, queue, put, descriptor, request, waiting, Nothing, may, device, unknown_reply, unknown_exchange, after_reply, one_step}
@@ -204,25 +205,25 @@ places_of_pages m = map (λ p. (p.block, p.offset)) (harvested m.host)
 
 -- the element and the index in one block, the reply in the other
 harvests_both_blocks : places_of_pages (after_reply across queue).memory ≡ (0, 0) ∷ (1, 0x1000) ∷ []
-unfolding offer place addresses stored_all block_pages pages_of
+unfolding offer place addresses stored_all block_pages host_pages
 harvests_both_blocks = refl
 
 -- ---- harvests
 
 harvests_nothing_yet : harvested small.memory.host ≡ []
-unfolding block_pages pages_of
+unfolding block_pages host_pages
 harvests_nothing_yet = refl
 
 -- the last page of a block is as short as its block
 harvests_what_was_written : harvested (comes_to small written).memory.host ≡ record { block = 0; offset = 0; bytes = zeros 5 ++ 7 ∷ 8 ∷ zeros 25 } ∷ []
-unfolding effect place addresses stored_all block_pages pages_of
+unfolding effect place addresses stored_all block_pages host_pages
 harvests_what_was_written = refl
 
 harvests_once : harvested (cleared (comes_to small written).memory.host) ≡ []
-unfolding effect place addresses stored_all block_pages pages_of
+unfolding effect place addresses stored_all block_pages host_pages
 harvests_once = refl
 
 -- reading marks nothing
 harvests_no_read : harvested (comes_to small (run.GuestRead 0 32 ∷ [])).memory.host ≡ []
-unfolding effect place addresses stored_all block_pages pages_of
+unfolding effect place addresses stored_all block_pages host_pages
 harvests_no_read = refl

@@ -2,8 +2,8 @@
 
 ghost use Rattle.std.specs.Prelude.{◌≡◌};
 ghost use Rattle.vm_memory_core.specs.Host.{host_of, lengths};
-ghost use Rattle.vm_memory.specs.Layout.{AreHeld};
-ghost use Rattle.guest_driver.specs.Held.{AreHeld-prop};
+ghost use Rattle.vm_memory.specs.Layout.{HostHolds};
+ghost use Rattle.vm_memory.specs.OneProof.{AreHeld-prop};
 
 use std::alloc::{AllocError, Global};
 use vm_memory::{FromRangesError, GuestMemoryError, GuestMemoryMmap};
@@ -50,7 +50,7 @@ pub struct Guest {
     pub mem: GuestMemoryMmap,
     pub ring: Ring,
     offered: u16,
-    pub ghost held: { AreHeld (lengths (host_of host)) mem } by { AreHeld-prop (lengths (host_of host)) mem },
+    pub ghost held: { HostHolds host mem } by { AreHeld-prop (lengths (host_of host)) mem },
 }
 
 // Clears the marks of a host's pages.
@@ -81,7 +81,7 @@ impl Guest {
 
     /// The memory alone.
     pub fn into_memory(self) -> (HostMemory<PageBitmap>, GuestMemoryMmap)
-        ensures { AreHeld (lengths (host_of result.0)) result.1 }
+        ensures { HostHolds result.0 result.1 }
     {
         (self.host, self.mem)
     }
