@@ -11,12 +11,15 @@ use Rattle.fs_device.specs.Step.{State, Exchange, May}
 use Rattle.fs_device.specs.Run.{Command, GuestRead, GuestWrite, NewBlock, InsertRegion, RemoveRegion, SetLayout, Kick, ResetQueue, Kicked, Answer, Done, Bytes, NewBlockIs, Served, IsRefused, KickRun, kick_takes_memory}
 use Rattle.fs_device.specs.DeviceView.{exchange_of}
 
+-- an exchange with its notice
 abbrev pub turn_of : code.Exchange × Bool → Exchange × Bool
 turn_of x = (exchange_of x.0, x.1)
 
+-- what a kick lists
 abbrev pub kicked_of : QueueRun → Kicked
 kicked_of run = record { exchanges = map turn_of run.done.items; refused = run.refused }
 
+-- a command
 abbrev pub command_of : asked.Command → Command
 command_of (asked.TheVariants.GuestRead a n) = GuestRead a n
 command_of (asked.TheVariants.GuestWrite a bs) = GuestWrite a bs.items
@@ -27,6 +30,7 @@ command_of (asked.TheVariants.SetLayout layout) = SetLayout layout
 command_of (asked.TheVariants.Kick queue most) = Kick queue most
 command_of (asked.TheVariants.ResetQueue queue l) = ResetQueue queue l
 
+-- its answer
 abbrev pub answer_of : told.Answer → Answer
 answer_of told.TheVariants.Done = Done
 answer_of (told.TheVariants.Bytes bs) = Bytes bs.items

@@ -19,9 +19,11 @@ use Rattle.fs_device.specs.Step.{State, Exchange, Outcome, Idle, Refused, Exchan
 use Rattle.fs_device.specs.Harvested.{Page}
 use Rattle.fs_device.specs.DeviceParts.{DeviceParts}
 
+-- an exchange
 abbrev pub exchange_of : code.Exchange → Exchange
 exchange_of e = record { head = e.head; request = e.request.items; reply = e.reply.items; fault = e.fault }
 
+-- how a step ends
 abbrev pub outcome_of : Result (Option (code.Exchange × Bool)) DeviceError → Outcome
 outcome_of (Ok None) = Idle
 outcome_of (Ok (Some x)) = Exchanged (exchange_of x.0) x.1
@@ -31,6 +33,7 @@ outcome_of (Err e) = Refused e
 abbrev pub state_of : {F : Type 0} → Host → List Region → DeviceParts F → State F
 state_of h layout d = record { memory = memory_of h layout; queues = d.queues; options = d.options; files = d.files; limit = d.limit; page_size = d.page_size }
 
+-- a harvested page
 abbrev pub page_of : HarvestedPage → Page
 page_of p = record { block = p.block; offset = p.offset; bytes = p.bytes.items }
 

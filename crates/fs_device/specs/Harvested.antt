@@ -15,6 +15,7 @@ block_pages block bytes page (marked ∷ marks) =
     (if marked then record { block = block; offset = page * 4096; bytes = slice_range bytes (page * 4096) (page * 4096 + 4096) } ∷ [] else [])
     ++ block_pages block bytes (page + 1) marks
 
+-- those of all blocks, numbered from n on
 unfoldable pub host_pages : ℕ → List Block → List Page
 host_pages n [] = []
 host_pages n (b ∷ bs) = block_pages n b.bytes 0 b.marks ++ host_pages (n + 1) bs

@@ -29,6 +29,7 @@ pub record Kicked : Type 0 where
   pub exchanges : List (Exchange × Bool)
   pub refused : Option DeviceError
 
+-- what the machine answers
 pub data Answer : Type 0 where
   Done : Answer
   Bytes : List ℕ → Answer
@@ -60,9 +61,11 @@ guest_write s a bs =
     if reach (physical s.memory) Write a (length bs) then (Done, record s { memory = guest_written s.memory a bs })
     else no why.NoPlace s
 
+-- another host under the same layout
 abbrev pub with_host : {F : Type 0} → State F → Host → State F
 with_host s h = record s { memory = record s.memory { host = h } }
 
+-- another layout over the same host
 abbrev pub with_layout : {F : Type 0} → State F → List Region → State F
 with_layout s layout = record s { memory = record s.memory { layout = layout } }
 
@@ -90,6 +93,7 @@ remove_region s base size =
     if list_any (is_region base size) s.memory.layout then (Done, with_layout s (without_region base size s.memory.layout))
     else no why.NoRegion s
 
+-- whether there is a block, of this length
 abbrev pub has_len : ℕ → Option Block → Bool
 has_len n None = false
 has_len n (Some b) = length b.bytes == n
@@ -111,6 +115,7 @@ set_layout s layout =
     else if some_overlap layout then no why.Overlap s
     else (Done, with_layout s layout)
 
+-- a queue of this layout from which no chain was taken
 abbrev pub fresh_queue : QueueLayout → Queue
 fresh_queue l = fresh l.size l.desc l.avail l.used
 
@@ -119,6 +124,7 @@ abbrev pub reset : {F : Type 0} → State F → ℕ → QueueLayout → Option Q
 reset s i l None = no why.NoSuchQueue s
 reset s i l (Some q) = (Done, with_queue s i (fresh_queue l))
 
+-- what a command that isn't a kick answers, and the state that it leaves
 unfoldable pub effect : {F : Type 0} → State F → Command → Effect F
 effect s (GuestRead a n) = guest_read s a n
 effect s (GuestWrite a bs) = guest_write s a bs

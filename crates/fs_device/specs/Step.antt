@@ -47,6 +47,7 @@ Calls = List (FileCall × FileAnswer)
 abbrev pub May : Type 0 → Type 1
 May F = F → FileCall → FileAnswer → F → Type 0
 
+-- another queue in the place of queue i
 abbrev pub with_queue : {F : Type 0} → State F → ℕ → Queue → State F
 with_queue s i q = record s { queues = changed_at s.queues i (λ _. q) }
 
@@ -65,6 +66,7 @@ after_return s i q head room reply options files =
       files = files;
     }
 
+-- a fault of the server, as the exchange tells it
 abbrev pub served_fault : Option Error → Option Fault
 served_fault None = None
 served_fault (Some e) = Some (fault.Served e)
@@ -116,6 +118,7 @@ Acts may before i q offered calls (Refused (device.Queue e)) after = (offered �
 Acts may before i q offered calls (Refused device.NoSuchQueue) after = ⊥
 Acts may before i q offered calls (Exchanged x notice) after = Exchanges may before i q offered calls x notice after
 
+-- a step on a queue that may be missing
 abbrev pub StepOf : {F : Type 0} → May F → State F → ℕ → Option Queue → Calls → Outcome → State F → Type 0
 StepOf may before i None calls outcome after = (outcome ≡ Refused device.NoSuchQueue) × Unchanged before calls after
 StepOf may before i (Some q) calls outcome after = Acts may before i q (offer before.memory before.limit q) calls outcome after

@@ -5,8 +5,10 @@ use Rattle.vm_values.specs.Fields as fields
 use Rattle.fs_queue.specs.declared.descriptor.Descriptor.{Descriptor}
 use Rattle.fs_queue.specs.declared.used.UsedElement.{UsedElement}
 
+-- struct virtq_desc (2.7.5)
 abbrev pub descriptor : Descriptor → List Field
 descriptor r = fields.q r.addr ∷ fields.d r.len ∷ fields.w r.flags ∷ fields.w r.next ∷ []
 
+-- struct virtq_used_elem (2.7.8)
 abbrev pub used_element : UsedElement → List Field
 used_element r = fields.d r.id ∷ fields.d r.len ∷ []

@@ -28,6 +28,7 @@ IfJoins Stops P = Unit {0}
 unfoldable pub AllEndIn64Bits : List Descriptor → Type 0
 AllEndIn64Bits ds = All (λ d. d.addr + d.len < 2 ^ 64) ds
 
+-- the same of those that a walk collected
 abbrev pub DescriptorsFit : walked.Walked → Type 0
 DescriptorsFit (comes_to.Chain v) = AllEndIn64Bits v.items
 DescriptorsFit (comes_to.Faulty fault) = Unit {0}

@@ -23,16 +23,19 @@ pub data Ends : Type 0 where
   Holds : (element index flags : List Place) → Ends
   Lacks : QueueError → Ends
 
+-- of three lists of places, the first that is missing decides
 abbrev pub ends_found : (element index flags : Option (List Place)) → Ends
 ends_found None index flags = Lacks stop.UsedUnreachable
 ends_found (Some element) None flags = Lacks stop.UsedUnreachable
 ends_found (Some element) (Some index) None = Lacks stop.AvailFlagsUnreachable
 ends_found (Some element) (Some index) (Some flags) = Holds element index flags
 
+-- those of a queue
 abbrev pub ends_at : (ℕ → Option Place) → Queue → Ends
 ends_at where_is q =
     ends_found (located where_is (addresses (element_at q) 8)) (located where_is (addresses (index_at q) 2)) (located where_is (addresses q.avail 2))
 
+-- those of the windows that the code holds
 abbrev pub ends_of : Result ReturnWindows QueueError → Ends
 ends_of (Ok ends) = Holds (places ends.element.items) (places ends.index.items) (places ends.flags.items)
 ends_of (Err e) = Lacks e
@@ -69,6 +72,7 @@ abbrev pub ChainLiesIn : List ℕ → Result Chain ChainFault → Type 0
 ChainLiesIn lengths (Ok c) = AllLieIn lengths c.readable.items × AllLieIn lengths c.writable.items
 ChainLiesIn lengths (Err fault) = Unit {0}
 
+-- so do those of a return, with the lengths of what is written and read there
 pub record EndsLieIn (lengths : List ℕ) (ends : ReturnWindows) : Type 0 where
   pub element : AllLieIn lengths ends.element.items
   pub index : AllLieIn lengths ends.index.items
@@ -77,6 +81,7 @@ pub record EndsLieIn (lengths : List ℕ) (ends : ReturnWindows) : Type 0 where
   pub index_len : length (places ends.index.items) ≡ 2
   pub flags_len : length (places ends.flags.items) ≡ 2
 
+-- so do all windows of a chain that was taken
 pub record TakenLiesIn (lengths : List ℕ) (t : Taken) : Type 0 where
   pub ends : EndsLieIn lengths t.ends
   pub chain : ChainLiesIn lengths t.chain
@@ -104,6 +109,7 @@ AskingAs m limit q Nobody = offer m limit q ≡ Idle
 AskingAs m limit q (Refused e) = (offer m limit q ≡ Refuses e) × IsTrue (stops_queue e)
 AskingAs m limit q (Took t) = (asked : Asked) × (offer m limit q ≡ Offers t.head asked) × IsTaken m q asked t
 
+-- the same of what was asked for
 abbrev pub AskingLiesIn : List ℕ → Asking → Type 0
 AskingLiesIn lengths Nobody = Unit {0}
 AskingLiesIn lengths (Refused e) = Unit {0}
@@ -121,6 +127,7 @@ HoldsWindows m head _ _ = Unit {0}
 abbrev pub HasItsWindows : Memory → Queue → Taken → Type 0
 HasItsWindows m q t = HoldsWindows m t.head t.chain (chain m q t.head)
 
+-- of a chain that was taken
 abbrev pub IfTook : Asking → (Taken → Type 0) → Type 0
 IfTook Nobody P = Unit {0}
 IfTook (Refused e) P = Unit {0}
