@@ -17,6 +17,7 @@ fn refusals_of_a_step_are_numbered(rt: HostRuntime) {
         QueueError::OutOfMemory,
     ];
     for (error, number) in errors.iter().zip(1..10u8) {
+        assert_eq!(rt; error.number(), number);
         assert_eq!(rt; DeviceError::Queue(*error).number(), number);
     }
     assert_eq!(rt; DeviceError::NoSuchQueue.number(), 10);
@@ -54,7 +55,19 @@ fn faults_of_a_chain_are_numbered(rt: HostRuntime) {
         ChainFault::RoomUnreachable,
     ];
     for (fault, number) in faults.iter().zip(1..11u8) {
-        assert_eq!(rt; *fault as u8, number);
+        assert_eq!(rt; fault.number(), number);
+    }
+}
+
+#[test]
+fn errors_of_a_layout_are_numbered(rt: HostRuntime) {
+    let errors = [
+        QueueLayoutError::BadSize,
+        QueueLayoutError::Misaligned,
+        QueueLayoutError::EndOverflow,
+    ];
+    for (error, number) in errors.iter().zip(1..4u8) {
+        assert_eq!(rt; error.number(), number);
     }
 }
 
