@@ -1,6 +1,6 @@
 //! A guest with its device, and what is asked of the two.
 
-ghost use Rattle.std.specs.Prelude.{◌≤◌, length};
+ghost use Rattle.std.specs.Prelude.{◌≡◌, ◌≤◌, length, IfOk};
 
 use crate::calls::CallLog;
 use crate::files::LoggingFiles;
@@ -24,6 +24,15 @@ pub struct Guest<'a> {
     alloc: Global,
     log: &'a Cell<CallLog>,
     machine: Machine<LoggingFiles<'a>>,
+}
+
+// A list of one command.
+fn alone(alloc: Global, command: Command) -> Result<Vec<Command>, AllocError>
+    ensures { IfOk result (λ commands. length commands.items ≡ 1) }
+{
+    let mut commands = Vec::with_capacity(alloc, 1)?;
+    commands.push(command).unwrap();
+    Ok(commands)
 }
 
 impl<'a> Guest<'a> {
@@ -50,9 +59,7 @@ impl<'a> Guest<'a> {
 
     /// Does one command of the machine.
     pub fn perform(&mut self, command: Command) -> Result<Answer, AllocError> {
-        let mut commands = Vec::with_capacity(self.alloc, 1)?;
-        commands.push(command).unwrap();
-        let mut answers = self.machine.run(self.alloc, commands)?;
+        let mut answers = self.machine.run(self.alloc, alone(self.alloc, command)?)?;
         Ok(answers.pop().unwrap())
     }
 

@@ -6,7 +6,7 @@ use hex::FromHexError;
 use std::alloc::{AllocError, Global};
 
 /// A queue's size, and the addresses of its three areas.
-#[derive(Clone, Copy, Debug, PartialEq, Eq)]
+#[derive(Clone, Copy)]
 pub struct AskedLayout {
     pub size: u16,
     pub desc: u64,
@@ -22,7 +22,7 @@ impl AskedLayout {
 }
 
 /// A command of the script.
-#[derive(Debug, Drop, PartialEq, Eq)]
+#[derive(Drop)]
 pub enum Line {
     /// One more queue.
     Queue(AskedLayout),
@@ -69,6 +69,10 @@ impl<'a> Words<'a> {
         parse_number(self.next_word()?)
     }
 
+    fn next_pair(&mut self) -> Option<(u64, u64)> {
+        Some((self.next_number()?, self.next_number()?))
+    }
+
     fn next_short(&mut self) -> Option<u16> {
         u16::try_from(self.next_number()?).ok()
     }
@@ -113,37 +117,51 @@ fn parse_write(alloc: Global, words: &mut Words<'_>) -> Result<Option<Line>, All
     Ok(parse_bytes(alloc, word)?.map(|bytes| Line::Write { addr, bytes }))
 }
 
+// The rest of a `kick` line.
+fn parse_kick(words: &mut Words<'_>) -> Option<Line> {
+    Some(Line::Kick {
+        queue: words.next_number()?,
+        most: words.next_short()?,
+    })
+}
+
+// The rest of a `reset` line.
+fn parse_reset(words: &mut Words<'_>) -> Option<Line> {
+    Some(Line::Reset {
+        queue: words.next_number()?,
+        layout: words.next_layout()?,
+    })
+}
+
+// The line of a first word and two numbers.
+fn pair_line(name: &[u8], pair: (u64, u64)) -> Option<Line> {
+    let (base, size) = pair;
+    match name {
+        b"region" => Some(Line::Region { base, size }),
+        b"alias" => Some(Line::Alias { base, block: size }),
+        b"unregion" => Some(Line::Unregion { base, size }),
+        b"read" => Some(Line::Read {
+            addr: base,
+            len: size,
+        }),
+        _ => None,
+    }
+}
+
 // A line of numbers alone, behind its first word.
 fn parse_numbers(name: &[u8], words: &mut Words<'_>) -> Option<Line> {
-    let line = match name {
-        b"queue" => Line::Queue(words.next_layout()?),
-        b"region" => Line::Region {
-            base: words.next_number()?,
-            size: words.next_number()?,
-        },
-        b"alias" => Line::Alias {
-            base: words.next_number()?,
-            block: words.next_number()?,
-        },
-        b"unregion" => Line::Unregion {
-            base: words.next_number()?,
-            size: words.next_number()?,
-        },
-        b"read" => Line::Read {
-            addr: words.next_number()?,
-            len: words.next_number()?,
-        },
-        b"kick" => Line::Kick {
-            queue: words.next_number()?,
-            most: words.next_short()?,
-        },
-        b"reset" => Line::Reset {
-            queue: words.next_number()?,
-            layout: words.next_layout()?,
-        },
-        b"harvest" => Line::Harvest,
-        _ => return None,
-    };
+    match name {
+        b"queue" => Some(Line::Queue(words.next_layout()?)),
+        b"kick" => parse_kick(words),
+        b"reset" => parse_reset(words),
+        b"harvest" => Some(Line::Harvest),
+        _ => pair_line(name, words.next_pair()?),
+    }
+}
+
+// A line of numbers alone, with nothing behind the last.
+fn parse_all(name: &[u8], words: &mut Words<'_>) -> Option<Line> {
+    let line = parse_numbers(name, words)?;
     if words.is_at_end() { Some(line) } else { None }
 }
 
@@ -152,7 +170,7 @@ pub fn parse(alloc: Global, line: &[u8]) -> Result<Option<Line>, AllocError> {
     let mut words = Words { rest: Some(line) };
     match words.next_word() {
         Some(b"write") => parse_write(alloc, &mut words),
-        Some(name) => Ok(parse_numbers(name, &mut words)),
+        Some(name) => Ok(parse_all(name, &mut words)),
         None => Ok(None),
     }
 }

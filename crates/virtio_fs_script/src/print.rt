@@ -53,15 +53,18 @@ fn print_bytes<W: Write>(writer: &mut W, bytes: &[u8]) -> io::Result<()> {
     writer.write_all(b"\n")
 }
 
+// A look-up of a name.
+fn print_lookup<W: Write>(writer: &mut W, parent: u64, name: &[u8]) -> io::Result<()> {
+    write!(writer, "call lookup {parent} ")?;
+    print_hexadecimal(writer, name)?;
+    writer.write_all(b"\n")
+}
+
 // A call of the file system.
 fn print_call<W: Write>(writer: &mut W, call: &Call) -> io::Result<()> {
     match call {
         Call::Init => writer.write_all(b"call init\n"),
-        Call::Lookup { parent, name } => {
-            write!(writer, "call lookup {parent} ")?;
-            print_hexadecimal(writer, name.as_slice())?;
-            writer.write_all(b"\n")
-        }
+        Call::Lookup { parent, name } => print_lookup(writer, *parent, name.as_slice()),
         Call::Forget { node, count } => writeln!(writer, "call forget {node} {count}"),
         Call::Read { node } => writeln!(writer, "call read {node}"),
     }

@@ -34,17 +34,30 @@ fn read_script<R: Read>(alloc: Global, reader: &mut R) -> Result<Vec<u8>, Halt> 
     Ok(script)
 }
 
+// Runs the line of this number. An empty one and a comment are skipped.
+fn run_line<W: Write>(
+    alloc: Global,
+    session: &mut Session<'_>,
+    number: usize,
+    text: &[u8],
+    writer: &mut W,
+) -> Result<(), Halt> {
+    if text.is_empty() || text[0] == b'#' {
+        return Ok(());
+    }
+    match parse(alloc, text)? {
+        Some(line) => session.run(number, line, writer),
+        None => Err(Halt::NotACommand(number)),
+    }
+}
+
 // Runs each line in turn, up to the first that can't be run.
 fn run_lines<W: Write>(alloc: Global, script: &[u8], writer: &mut W) -> Result<(), Halt> {
     let log = Cell::new(CallLog::default());
     let mut session = Session::new(alloc, &log);
     for (index, text) in script.split(|byte| *byte == b'\n').enumerate() {
-        if text.is_empty() || text[0] == b'#' {
-            continue;
-        }
         let number = index.saturating_add(1);
-        let line = parse(alloc, text)?.ok_or(Halt::NotACommand(number))?;
-        session.run(number, line, writer)?;
+        run_line(alloc, &mut session, number, text, writer)?;
     }
     Ok(())
 }

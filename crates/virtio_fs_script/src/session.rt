@@ -89,27 +89,24 @@ fn run_on<W: Write>(
     writer: &mut W,
 ) -> Result<(), Halt> {
     match line {
-        Line::Queue(_) => return Err(Halt::NotACommand(number)),
-        Line::Region { base, size } => region(guest, base, size, writer)?,
+        Line::Queue(_) => Err(Halt::NotACommand(number)),
+        Line::Region { base, size } => region(guest, base, size, writer),
         Line::Alias { base, block } => {
             let block = block as usize;
-            perform(guest, Command::InsertRegion { base, block }, writer)?;
+            perform(guest, Command::InsertRegion { base, block }, writer)
         }
         Line::Unregion { base, size } => {
-            perform(guest, Command::RemoveRegion { base, size }, writer)?;
+            perform(guest, Command::RemoveRegion { base, size }, writer)
         }
-        Line::Write { addr, bytes } => {
-            perform(guest, Command::GuestWrite { addr, bytes }, writer)?;
-        }
+        Line::Write { addr, bytes } => perform(guest, Command::GuestWrite { addr, bytes }, writer),
         Line::Read { addr, len } => {
             let len = len as usize;
-            perform(guest, Command::GuestRead { addr, len }, writer)?;
+            perform(guest, Command::GuestRead { addr, len }, writer)
         }
-        Line::Kick { queue, most } => kick(guest, queue, most, writer)?,
-        Line::Reset { queue, layout } => reset(guest, queue, layout, writer)?,
-        Line::Harvest => harvest(guest, writer)?,
+        Line::Kick { queue, most } => kick(guest, queue, most, writer),
+        Line::Reset { queue, layout } => reset(guest, queue, layout, writer),
+        Line::Harvest => Ok(harvest(guest, writer)?),
     }
-    Ok(())
 }
 
 // Makes a block and a region over all of it. Where the region is refused the block stays.
@@ -119,17 +116,22 @@ fn region<W: Write>(
     size: u64,
     writer: &mut W,
 ) -> Result<(), Halt> {
-    let len = size as usize;
-    let made = guest.perform(Command::NewBlock { len })?;
-    let answer = match made {
-        Answer::Block(block) => match guest.perform(Command::InsertRegion { base, block })? {
-            Answer::Done => made,
-            refused => refused,
-        },
-        refused => refused,
-    };
+    let answer = insert_block(guest, base, size)?;
     print_answer(writer, &answer)?;
     Ok(())
+}
+
+// Makes a block and a region over all of it, and answers the block, or why there is no such region.
+fn insert_block(guest: &mut Guest<'_>, base: u64, size: u64) -> Result<Answer, AllocError> {
+    let len = size as usize;
+    let made = guest.perform(Command::NewBlock { len })?;
+    let Answer::Block(block) = made else {
+        return Ok(made);
+    };
+    match guest.perform(Command::InsertRegion { base, block })? {
+        Answer::Done => Ok(made),
+        refused => Ok(refused),
+    }
 }
 
 // Does one command of the machine, and prints its answer.
@@ -146,6 +148,16 @@ enum StepOutcome {
     Refused,
 }
 
+// What the answer to a kick of one request says of the step.
+fn outcome_of(answer: &Answer) -> StepOutcome {
+    match answer {
+        Answer::Served(run) if run.refused.is_some() => StepOutcome::Refused,
+        Answer::Served(run) if run.done.is_empty() => StepOutcome::Idle,
+        Answer::Served(_) => StepOutcome::Done,
+        _ => StepOutcome::Refused,
+    }
+}
+
 // Serves the next request of a queue, and prints it behind the file system's calls.
 fn step<W: Write>(
     guest: &mut Guest<'_>,
@@ -155,18 +167,7 @@ fn step<W: Write>(
     let answer = guest.perform(Command::Kick { queue, most: 1 })?;
     print_calls(writer, &guest.take_log())?;
     print_answer(writer, &answer)?;
-    match &answer {
-        Answer::Served(run) => {
-            if run.refused.is_some() {
-                Ok(StepOutcome::Refused)
-            } else if run.done.is_empty() {
-                Ok(StepOutcome::Idle)
-            } else {
-                Ok(StepOutcome::Done)
-            }
-        }
-        _ => Ok(StepOutcome::Refused),
-    }
+    Ok(outcome_of(&answer))
 }
 
 // Serves requests of a queue until none is waiting, one step is refused, or `most` are done.
