@@ -1,0 +1,3 @@
+pub mod Marks
+pub mod Taken
+pub mod Halves

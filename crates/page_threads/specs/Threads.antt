@@ -1,0 +1,50 @@
+-- What threads mark while another gathers, and what comes of all of it.
+use Rattle.std.specs.Prelude.{◌≡◌, ◌↔◌, ℕ, ◌*◌, ◌^◌, ◌<◌, max, Bool, false, ◌||◌, List, [], ◌∷◌, length}
+use Rattle.std.specs.declared.vec.Vec.{Vec}
+use Rattle.vm_bitmaps.specs.Words.{page_bit, bit_of}
+use Rattle.vm_atomic_bitmaps.specs.declared.counts.Tally.{Tally}
+use Rattle.vm_atomic_bitmaps.specs.declared.counts.PageCounts.{PageCounts}
+use Rattle.vm_atomic_bitmaps.specs.Counts.{tally_of, no_tally}
+use Rattle.vm_atomic_bitmaps.specs.Passes.{marks_page}
+use Rattle.page_threads.specs.declared.marking.ByteRange.{ByteRange}
+
+-- whether page p is one of those that the exact bitmap marks for some of the ranges
+abbrev pub is_in_ranges : (size len : ℕ) → List ByteRange → (p : ℕ) → Bool
+is_in_ranges size len [] p = false
+is_in_ranges size len (r ∷ rs) p = marks_page size len r.start r.len p || is_in_ranges size len rs p
+
+-- the same, for the ranges of some of the lists
+abbrev pub is_in_lists : {A : Type 0} → (size len : ℕ) → List (Vec ByteRange A) → (p : ℕ) → Bool
+is_in_lists size len [] p = false
+is_in_lists size len (v ∷ vs) p = is_in_ranges size len v.items p || is_in_lists size len vs p
+
+-- just the pages that are hit were marked besides, and none was taken
+pub record Marking (hit : ℕ → Bool) (old new : List Tally) : Type 0 where
+  pub count : length new ≡ length old
+  pub off : (p : ℕ) → (tally_of new p).off ≡ (tally_of old p).off
+  pub marked : (p : ℕ) → p < length old → (tally_of new p).marked ≡ (tally_of old p).marked || hit p
+
+-- no page was marked besides
+pub record Gathering (old new : List Tally) : Type 0 where
+  pub count : length new ≡ length old
+  pub marked : (p : ℕ) → (tally_of new p).marked ≡ (tally_of old p).marked
+
+-- the words have the bits of the pages that were taken
+abbrev pub HaveTaken : List Tally → (words : List ℕ) → Type 0
+HaveTaken pages words = (p : ℕ) → p < length pages → (0 < (tally_of pages p).off) ↔ (page_bit words p ≡ 1)
+
+-- both have the same part of all passes
+abbrev pub HaveSamePart : PageCounts → PageCounts → Type 0
+HaveSamePart v w = w.parts * 2 ^ v.depth ≡ v.parts * 2 ^ w.depth
+
+-- half of all passes
+abbrev pub HasHalf : PageCounts → Type 0
+HasHalf v = 2 * v.parts ≡ 2 ^ v.depth
+
+-- each page is among those that were gathered or those that are left exactly where some list has it
+abbrev pub NeitherLostNorInvented : {A : Type 0} → (size len : ℕ) → List (Vec ByteRange A) → (gathered left : List ℕ) → Type 0
+NeitherLostNorInvented size len lists gathered left = (p : ℕ) → p < len → max (page_bit gathered p) (page_bit left p) ≡ bit_of (is_in_lists size len lists p)
+
+-- a pass with half of all, that has counted nothing
+abbrev pub IsFresh : PageCounts → Type 0
+IsFresh v = (v.parts ≡ 1) × (v.depth ≡ 1) × ((p : ℕ) → tally_of v.pages p ≡ no_tally)

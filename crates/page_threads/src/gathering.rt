@@ -1,0 +1,77 @@
+//! A thread that gathers all words, again and again.
+
+ghost use Rattle.std.specs.Prelude.{◌≡◌, ◌<◌, length, vec_len};
+ghost use Rattle.std.specs.Int.{div_ceil};
+ghost use Rattle.vm_atomic_bitmaps.specs.Passes.{IsPassOf, counting};
+ghost use Rattle.page_threads.specs.Threads.{Gathering, HaveTaken};
+
+use vm_atomic_bitmaps::{AtomicBitmap, BitmapPass};
+
+// Gathers a word into those gathered before.
+fn gather_word(bitmap: &AtomicBitmap, pass: &mut BitmapPass, words: &mut [u64], word: usize)
+    requires own { IsPassOf bitmap.now pass.old }
+    requires room { length words.old ≡ div_ceil bitmap.now.len 64 }
+    requires inside { word < length words.old }
+    requires taken { HaveTaken pass.old.counts.pages words.old }
+    ensures own { IsPassOf bitmap.now pass.new }
+    ensures pass { pass.new ≡ counting pass.old pass.new.counts.pages }
+    ensures pages { Gathering pass.old.counts.pages pass.new.counts.pages }
+    ensures room { length words.new ≡ length words.old }
+    ensures taken { HaveTaken pass.new.counts.pages words.new }
+{
+    let found = bitmap.gather(pass, word);
+    words[word] |= found;
+}
+
+// Gathers each word once.
+fn gather_once(bitmap: &AtomicBitmap, pass: &mut BitmapPass, words: &mut [u64])
+    requires own { IsPassOf bitmap.now pass.old }
+    requires room { length words.old ≡ div_ceil bitmap.now.len 64 }
+    requires taken { HaveTaken pass.old.counts.pages words.old }
+    ensures own { IsPassOf bitmap.now pass.new }
+    ensures pass { pass.new ≡ counting pass.old pass.new.counts.pages }
+    ensures pages { Gathering pass.old.counts.pages pass.new.counts.pages }
+    ensures room { length words.new ≡ length words.old }
+    ensures taken { HaveTaken pass.new.counts.pages words.new }
+{
+    let mut word = 0;
+    while word < words.len() {
+        gather_word(bitmap, pass, words, word);
+        word += 1;
+    }
+}
+
+// Gathers each word as often as there are rounds.
+fn gather_rounds(bitmap: &AtomicBitmap, pass: &mut BitmapPass, words: &mut [u64], rounds: usize)
+    requires own { IsPassOf bitmap.now pass.old }
+    requires room { length words.old ≡ div_ceil bitmap.now.len 64 }
+    requires taken { HaveTaken pass.old.counts.pages words.old }
+    ensures own { IsPassOf bitmap.now pass.new }
+    ensures pass { pass.new ≡ counting pass.old pass.new.counts.pages }
+    ensures pages { Gathering pass.old.counts.pages pass.new.counts.pages }
+    ensures room { length words.new ≡ length words.old }
+    ensures taken { HaveTaken pass.new.counts.pages words.new }
+{
+    for _ in 0..rounds {
+        gather_once(bitmap, pass, words);
+    }
+}
+
+// The same, with a pass and words of its own.
+pub fn gather_into(
+    bitmap: &AtomicBitmap,
+    mut pass: BitmapPass,
+    mut words: Vec<u64>,
+    rounds: usize,
+) -> (BitmapPass, Vec<u64>)
+    requires own { IsPassOf bitmap.now pass }
+    requires room { vec_len words ≡ div_ceil bitmap.now.len 64 }
+    requires taken { HaveTaken pass.counts.pages words.items }
+    ensures own { IsPassOf bitmap.now result.0 }
+    ensures pass { result.0 ≡ counting pass result.0.counts.pages }
+    ensures pages { Gathering pass.counts.pages result.0.counts.pages }
+    ensures taken { HaveTaken result.0.counts.pages result.1.items }
+{
+    gather_rounds(bitmap, &mut pass, &mut words, rounds);
+    (pass, words)
+}

@@ -1,0 +1,102 @@
+-- What passes count of each page: whether they marked it, how often they set and cleared it, and what they have seen.
+use Rattle.std.specs.Prelude.{◌≡◌, ℕ, suc, ◌+◌, ◌-◌, ◌*◌, ◌/◌, ◌%◌, ◌^◌, max, Bool, true, false, cond, nat_eq, List, [], ◌∷◌, slice_index_or, replicate}
+use Rattle.std.specs.Int.{bit_at}
+use Rattle.vm_atomic_bitmaps.specs.declared.counts.Tally.{Tally}
+use Rattle.vm_atomic_bitmaps.specs.declared.counts.PageCounts.{PageCounts}
+
+-- nothing is counted of the page
+abbrev pub no_tally : Tally
+no_tally = record { marked = false; on = 0; off = 0; held = 0; seen = 0 }
+
+-- what is counted of page p: nothing past the list
+abbrev pub tally_of : List Tally → (p : ℕ) → Tally
+tally_of pages p = slice_index_or pages p no_tally
+
+-- f of a page's number and tally, for each page from the k-th on
+abbrev pub each_tally : (ℕ → Tally → Tally) → (k : ℕ) → List Tally → List Tally
+each_tally f k [] = []
+each_tally f k (t ∷ ts) = f k t ∷ each_tally f (suc k) ts
+
+-- the tally of a page that a mark met, whose bit was `was`: the mark stands, and more marks than clears are known of
+abbrev pub after_mark : (was : ℕ) → Tally → Tally
+after_mark was t = record { marked = true; on = t.on + (1 - was); off = t.off; held = max t.held (t.seen + 1); seen = t.seen }
+
+-- the tally of a page that a gather or a clear met, whose bit was `was`: as many clears as marks are known of
+abbrev pub after_taking : (was : ℕ) → Tally → Tally
+after_taking was t = record { marked = t.marked; on = t.on; off = t.off + was; held = t.held; seen = max t.held (t.seen + was) }
+
+-- page p lies in word i
+abbrev pub in_word : (i p : ℕ) → Bool
+in_word i p = nat_eq (p / 64) i
+
+-- page p lies in word i, and its bit in the mask is b
+abbrev pub picks : (i mask b p : ℕ) → Bool
+picks i mask b p = cond (in_word i p) (nat_eq (bit_at mask (p % 64)) b) false
+
+-- the tallies after a step that marks those pages of a word that are hit, where the word was `found`
+abbrev pub marked_by : (hit : ℕ → Bool) (found : ℕ) → List Tally → List Tally
+marked_by hit found = each_tally (λ p t. cond (hit p) (after_mark (bit_at found (p % 64)) t) t) 0
+
+-- the tallies after a step that takes those pages of a word that are hit, where the word was `found`
+abbrev pub taken_by : (hit : ℕ → Bool) (found : ℕ) → List Tally → List Tally
+taken_by hit found = each_tally (λ p t. cond (hit p) (after_taking (bit_at found (p % 64)) t) t) 0
+
+-- what two passes have counted of a page, in one
+abbrev pub both_of : Tally → Tally → Tally
+both_of t u = record { marked = cond t.marked true u.marked; on = t.on + u.on; off = t.off + u.off; held = max t.held u.held; seen = max t.seen u.seen }
+
+-- what a pass has seen of a page, without what it did
+abbrev pub only_seen : Tally → Tally
+only_seen t = record { marked = false; on = 0; off = 0; held = t.held; seen = t.seen }
+
+-- what a pass has counted of a page, with what another has seen of it
+abbrev pub met_of : Tally → Tally → Tally
+met_of t u = record { marked = t.marked; on = t.on; off = t.off; held = max t.held u.held; seen = max t.seen u.seen }
+
+-- the tallies with those of another pass
+abbrev pub joined_with : List Tally → List Tally → List Tally
+joined_with us = each_tally (λ p t. both_of t (tally_of us p)) 0
+
+-- the tallies with what another pass has seen
+abbrev pub met_with : List Tally → List Tally → List Tally
+met_with us = each_tally (λ p t. met_of t (tally_of us p)) 0
+
+-- as many tallies, of nothing
+abbrev pub clear_of : List Tally → List Tally
+clear_of = each_tally (λ p t. no_tally) 0
+
+-- what was seen alone
+abbrev pub seen_of : List Tally → List Tally
+seen_of = each_tally (λ p t. only_seen t) 0
+
+-- the first pass of len pages: it has counted nothing, and has every part
+abbrev pub first_pass : (len : ℕ) → PageCounts
+first_pass len = record { pages = replicate len no_tally; parts = 1; depth = 0 }
+
+-- what is left of a pass that another took in
+abbrev pub spent : PageCounts
+spent = record { pages = []; parts = 0; depth = 0 }
+
+-- the same part, with other tallies
+abbrev pub with_pages : PageCounts → List Tally → PageCounts
+with_pages v pages = record { pages = pages; parts = v.parts; depth = v.depth }
+
+-- a pass that keeps half of its part
+abbrev pub kept_half : PageCounts → PageCounts
+kept_half v = record { pages = v.pages; parts = v.parts; depth = suc v.depth }
+
+-- a pass that has counted nothing, with the other half
+abbrev pub new_half : PageCounts → PageCounts
+new_half v = record { pages = clear_of v.pages; parts = v.parts; depth = suc v.depth }
+
+-- what a pass has seen, with no part
+abbrev pub telling : PageCounts → PageCounts
+telling v = record { pages = seen_of v.pages; parts = 0; depth = 0 }
+
+-- both passes in one: what they counted, and their parts
+abbrev pub joined : PageCounts → PageCounts → PageCounts
+joined v w = record { pages = joined_with w.pages v.pages; parts = v.parts * 2 ^ w.depth + w.parts * 2 ^ v.depth; depth = v.depth + w.depth }
+
+-- the pass has every part, so that no other has marked, set or cleared a page
+abbrev pub IsWhole : PageCounts → Type 0
+IsWhole v = v.parts ≡ 2 ^ v.depth

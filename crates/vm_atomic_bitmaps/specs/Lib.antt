@@ -1,0 +1,4 @@
+pub mod Counts
+pub mod Rule
+pub mod Steps
+pub mod Passes

@@ -1,0 +1,61 @@
+-- What callers see of a bitmap that threads share, and of its passes.
+use Rattle.std.specs.Prelude.{◌≡◌, ℕ, ◌<◌, ◌≤◌, Bool, true, false, not, List, length, replicate}
+use Rattle.atomic_table.specs.Seated.{TableId}
+use Rattle.vm_bitmaps.specs.Pages.{marked_range, cleared_range, mark_of}
+use Rattle.vm_bitmaps.specs.Words.{page_bit}
+use Rattle.vm_atomic_bitmaps.specs.declared.counts.Tally.{Tally}
+use Rattle.vm_atomic_bitmaps.specs.declared.counts.PageCounts.{PageCounts}
+use Rattle.vm_atomic_bitmaps.specs.Counts.{tally_of, after_mark, after_taking, with_pages}
+
+-- a bitmap: its name, which no other has, and its pages
+pub record SharedPages : Type 0 where
+  pub name : TableId
+  pub page_size : ℕ
+  pub byte_size : ℕ
+  pub len : ℕ
+
+-- a pass: the name of its bitmap, and what it has counted
+pub record Pass : Type 0 where
+  pub name : TableId
+  pub counts : PageCounts
+
+-- the pass is this bitmap's
+abbrev pub IsPassOf : SharedPages → Pass → Type 0
+IsPassOf b p = (p.name ≡ b.name) × (length p.counts.pages ≡ b.len)
+
+-- the same pass with other tallies
+abbrev pub counting : Pass → List Tally → Pass
+counting p pages = record { name = p.name; counts = with_pages p.counts pages }
+
+-- a mark met the page, whose bit was 0 or 1
+abbrev pub ByMark : (p : ℕ) → Tally → Tally → Type 0
+ByMark p t u = (was : ℕ) × (was < 2) × (u ≡ after_mark was t)
+
+-- a gather or a clear met the page, whose bit was 0 or 1
+abbrev pub ByTaking : (p : ℕ) → Tally → Tally → Type 0
+ByTaking p t u = (was : ℕ) × (was < 2) × (u ≡ after_taking was t)
+
+-- a gather met the page, whose bit is that of the words
+abbrev pub ByTakingInto : List ℕ → (p : ℕ) → Tally → Tally → Type 0
+ByTakingInto words p t u = u ≡ after_taking (page_bit words p) t
+
+-- the tallies of the pages that are hit have changed so, and the others are as they were
+pub record Changes (Change : ℕ → Tally → Tally → Type 0) (hit : ℕ → Bool) (old new : List Tally) : Type 0 where
+  pub count : length new ≡ length old
+  pub changed : (p : ℕ) → p < length old → hit p ≡ true → Change p (tally_of old p) (tally_of new p)
+  pub same : (p : ℕ) → hit p ≡ false → tally_of new p ≡ tally_of old p
+
+-- the tallies of the pages from first up to end have changed so, and the others are as they were
+pub record ChangesRun (Change : ℕ → Tally → Tally → Type 0) (old new : List Tally) (first end : ℕ) : Type 0 where
+  pub count : length new ≡ length old
+  pub inside : (p : ℕ) → first ≤ p → p < end → p < length old → Change p (tally_of old p) (tally_of new p)
+  pub below : (p : ℕ) → p < first → tally_of new p ≡ tally_of old p
+  pub above : (p : ℕ) → end ≤ p → tally_of new p ≡ tally_of old p
+
+-- whether page p is one of those that the exact bitmap, with len pages, marks for n bytes from start on
+abbrev pub marks_page : (size len start n p : ℕ) → Bool
+marks_page size len start n p = mark_of (marked_range size (replicate len false) start n) p
+
+-- whether page p is one of those that the exact bitmap, with len pages, clears for n bytes from start on
+abbrev pub clears_page : (size len start n p : ℕ) → Bool
+clears_page size len start n p = not (mark_of (cleared_range size (replicate len true) start n) p)

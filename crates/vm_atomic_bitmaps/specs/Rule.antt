@@ -1,0 +1,70 @@
+-- The rule that holds of a bitmap's words and of all its passes, between any two steps of any threads.
+use Rattle.std.specs.Prelude.{◌≡◌, ◌↔◌, ℕ, ◌+◌, ◌-◌, ◌*◌, ◌^◌, ◌<◌, ◌≤◌, max, List, [], ◌∷◌, length}
+use Rattle.std.specs.Int.{div_ceil}
+use mathlib.Core.Option.{some}
+use lib.ListN.{get_elem?}
+use Rattle.atomic_table.specs.Table.{State}
+use Rattle.vm_bitmaps.specs.Words.{page_bit, bit_of}
+use Rattle.vm_atomic_bitmaps.specs.declared.counts.PageCounts.{PageCounts}
+use Rattle.vm_atomic_bitmaps.specs.Counts.{tally_of}
+
+-- f of each pass, added up
+abbrev pub total_by : (PageCounts → ℕ) → List PageCounts → ℕ
+total_by f [] = 0
+total_by f (v ∷ vs) = f v + total_by f vs
+
+-- 1 where the pass marked page p
+abbrev pub marks_at : (p : ℕ) → PageCounts → ℕ
+marks_at p v = bit_of (tally_of v.pages p).marked
+
+-- how often the pass found page p clear and set it
+abbrev pub on_at : (p : ℕ) → PageCounts → ℕ
+on_at p v = (tally_of v.pages p).on
+
+-- how often the pass found page p set and cleared it
+abbrev pub off_at : (p : ℕ) → PageCounts → ℕ
+off_at p v = (tally_of v.pages p).off
+
+-- what holds of each page.
+-- No bit past the last page is set.
+-- A page was set as often as it was cleared, and once more where it is set now.
+-- Some pass marked it exactly where some pass set it.
+-- No pass has seen it set or cleared more often than all passes did that
+pub record Counted (len : ℕ) (words : List ℕ) (views : List PageCounts) : Type 0 where
+  pub rest : (p : ℕ) → len ≤ p → page_bit words p ≡ 0
+  pub bits : (p : ℕ) → p < len → total_by (on_at p) views ≡ total_by (off_at p) views + page_bit words p
+  pub marks : (p : ℕ) → p < len → (0 < total_by (marks_at p) views) ↔ (0 < total_by (on_at p) views)
+  pub reached : (p : ℕ) → p < len → (id : ℕ) (v : PageCounts) → get_elem? views id ≡ some v
+      → ((tally_of v.pages p).held ≤ total_by (on_at p) views) × ((tally_of v.pages p).seen ≤ total_by (off_at p) views)
+
+-- a pass's part, parts / 2 ^ depth of the whole, in units of which the whole has 2 ^ k
+abbrev pub part_of : (k : ℕ) → PageCounts → ℕ
+part_of k v = v.parts * 2 ^ (k - v.depth)
+
+-- the pass has marked, set and cleared nothing
+abbrev pub IsIdle : PageCounts → Type 0
+IsIdle v = (p : ℕ) → (marks_at p v ≡ 0) × (on_at p v ≡ 0) × (off_at p v ≡ 0)
+
+-- the parts of all passes are the whole, and a pass with no part is idle
+pub record AddUp (views : List PageCounts) : Type 0 where
+  pub unit : ℕ
+  pub fits : (id : ℕ) (v : PageCounts) → get_elem? views id ≡ some v → v.depth ≤ unit
+  pub whole : total_by (part_of unit) views ≡ 2 ^ unit
+  pub idle : (id : ℕ) (v : PageCounts) → get_elem? views id ≡ some v → v.parts ≡ 0 → IsIdle v
+
+-- pages are neither lost nor invented
+pub record Pages (len : ℕ) (words : List ℕ) (views : List PageCounts) : Type 0 where
+  pub counted : Counted len words views
+  pub shared : AddUp views
+
+-- how many words a table has for len pages: at least one, on which passes are split and joined
+abbrev pub table_words : (len : ℕ) → ℕ
+table_words len = max 1 (div_ceil len 64)
+
+-- the rule, of a table
+abbrev pub holds : (len : ℕ) → State (Unit {0}) PageCounts → Type 0
+holds len s = (length s.words ≡ table_words len) × Pages len s.words s.views
+
+-- the rule holds of the words and of all passes, of which this is one
+abbrev pub Stands : (len : ℕ) → List ℕ → PageCounts → Type 0
+Stands len words v = (views : List PageCounts) × Pages len words views × ((id : ℕ) × (get_elem? views id ≡ some v))

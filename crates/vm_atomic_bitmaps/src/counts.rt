@@ -1,0 +1,102 @@
+//! What a pass counts, the rule that a bitmap keeps, and what each kind of step tells. No value of these types is made.
+
+use atomic_table::{Join, Play, Split, TableRule};
+use std::collections::LinkedList;
+
+/// What a pass has counted of one page: whether it marked it, how often it found it clear and set it (`on`), how often it
+/// found it set and cleared it (`off`), and how often all passes did the one and the other as far as it has seen.
+pub struct Tally {
+    pub marked: bool,
+    pub on: u64,
+    pub off: u64,
+    pub held: u64,
+    pub seen: u64,
+}
+
+/// What a pass has counted of each page, and its part of all passes: `parts` over 2 to the power of `depth`.
+pub struct PageCounts {
+    pub pages: LinkedList<Tally>,
+    pub parts: u64,
+    pub depth: u64,
+}
+
+/// The rule of a bitmap's words and of all its passes.
+pub struct PageRule;
+
+impl TableRule<(), PageCounts, usize> for PageRule {
+    ghost use Rattle.vm_atomic_bitmaps.specs.Counts.{first_pass};
+    ghost use Rattle.vm_atomic_bitmaps.specs.Rule.{holds};
+
+    ghost holds = { holds };
+
+    ghost first = { first_pass };
+}
+
+// A fetch_or.
+pub(crate) struct Mark;
+
+impl Play<(), PageCounts> for Mark {
+    ghost use Rattle.vm_atomic_bitmaps.specs.Steps.{Marks};
+
+    ghost then = { Marks };
+}
+
+// A swap with 0.
+pub(crate) struct Gather;
+
+impl Play<(), PageCounts> for Gather {
+    ghost use Rattle.vm_atomic_bitmaps.specs.Steps.{Gathers};
+
+    ghost then = { Gathers };
+}
+
+// A fetch_and.
+pub(crate) struct Clear;
+
+impl Play<(), PageCounts> for Clear {
+    ghost use Rattle.vm_atomic_bitmaps.specs.Steps.{Clears};
+
+    ghost then = { Clears };
+}
+
+// A load.
+pub(crate) struct Read;
+
+impl Play<(), PageCounts> for Read {
+    ghost use Rattle.vm_atomic_bitmaps.specs.Steps.{Reads};
+
+    ghost then = { Reads };
+}
+
+// Half of a pass's part for a new pass.
+pub(crate) struct Halve;
+
+impl Split<PageCounts> for Halve {
+    ghost use Rattle.vm_atomic_bitmaps.specs.Counts.{kept_half, new_half};
+
+    ghost left = { kept_half };
+
+    ghost right = { new_half };
+}
+
+// What a pass has seen, for another to take in.
+pub(crate) struct Tell;
+
+impl Split<PageCounts> for Tell {
+    ghost use Rattle.vm_atomic_bitmaps.specs.Counts.{telling};
+
+    ghost left = { λ v. v };
+
+    ghost right = { telling };
+}
+
+// A pass that another takes in.
+pub(crate) struct TakeIn;
+
+impl Join<PageCounts> for TakeIn {
+    ghost use Rattle.vm_atomic_bitmaps.specs.Counts.{joined, spent};
+
+    ghost both = { joined };
+
+    ghost spent = { spent };
+}

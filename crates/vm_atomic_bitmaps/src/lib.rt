@@ -1,0 +1,11 @@
+//! Dirty pages that threads mark and gather without a lock.
+#![tactic(auto)]
+
+pub mod atomic_bitmap;
+pub mod bitmap_pass;
+pub mod counts;
+mod ranges;
+mod spans;
+
+pub use atomic_bitmap::AtomicBitmap;
+pub use bitmap_pass::BitmapPass;

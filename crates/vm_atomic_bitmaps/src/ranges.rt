@@ -1,0 +1,233 @@
+//! Runs of many pages: one step for each word that they lie in.
+
+ghost use Rattle.std.specs.Prelude.{◌≡◌, ℕ, ◌+◌, ◌*◌, ◌<◌, ◌≤◌, ◌/◌, IfOk, OnErr, vec_len, slice_set, length, true, false, min, max, nat_eq};
+ghost use Rattle.std.specs.Int.{div_ceil};
+ghost use Rattle.vm_bitmaps.specs.Words.{page_bit, bit_of};
+ghost use Rattle.vm_atomic_bitmaps.specs.Counts.{tally_of, IsWhole};
+ghost use Rattle.vm_atomic_bitmaps.specs.Steps.{Settles, NoneBeyond};
+ghost use Rattle.vm_atomic_bitmaps.specs.Passes.{IsPassOf, counting, ByMark, ByTaking, ByTakingInto, Changes, ChangesRun, marks_page, clears_page};
+
+use crate::atomic_bitmap::AtomicBitmap;
+use crate::bitmap_pass::BitmapPass;
+use crate::spans::{last_page, mask, page_of, span};
+use std::alloc::AllocError;
+
+impl AtomicBitmap {
+    // Marks those pages from `first` to `last` that lie in a word, in one step.
+    #[inline]
+    fn mark_in_word(&self, pass: &mut BitmapPass, word: usize, first: usize, last: usize)
+        requires own { IsPassOf self.now pass.old }
+        requires ordered { first ≤ last }
+        requires from { first / 64 ≤ word }
+        requires to { word ≤ last / 64 }
+        requires within { last < self.now.len }
+        ensures pass { pass.new ≡ counting pass.old pass.new.counts.pages }
+        ensures pages { ChangesRun ByMark pass.old.counts.pages pass.new.counts.pages (max first (64 * word)) (min (last + 1) (64 * word + 64)) }
+    {
+        let (from, to) = span(word, first, last);
+        self.mark_word(pass, word, mask(from, to));
+    }
+
+    // Marks the pages from `first` to `last`, in one step for each word.
+    #[inline]
+    fn mark_run(&self, pass: &mut BitmapPass, first: usize, last: usize)
+        requires own { IsPassOf self.now pass.old }
+        requires ordered { first ≤ last }
+        requires within { last < self.now.len }
+        ensures pass { pass.new ≡ counting pass.old pass.new.counts.pages }
+        ensures pages { ChangesRun ByMark pass.old.counts.pages pass.new.counts.pages first (last + 1) }
+    {
+        let mut word = first / 64;
+        while word <= last / 64 {
+            self.mark_in_word(pass, word, first, last);
+            word += 1;
+        }
+    }
+
+    // Clears those pages from `first` to `last` that lie in a word, in one step.
+    #[inline]
+    fn clear_in_word(&self, pass: &mut BitmapPass, word: usize, first: usize, last: usize)
+        requires own { IsPassOf self.now pass.old }
+        requires ordered { first ≤ last }
+        requires from { first / 64 ≤ word }
+        requires to { word ≤ last / 64 }
+        requires within { last < self.now.len }
+        ensures pass { pass.new ≡ counting pass.old pass.new.counts.pages }
+        ensures pages { ChangesRun ByTaking pass.old.counts.pages pass.new.counts.pages (max first (64 * word)) (min (last + 1) (64 * word + 64)) }
+    {
+        let (from, to) = span(word, first, last);
+        self.clear_word(pass, word, mask(from, to));
+    }
+
+    // Clears the pages from `first` to `last`, in one step for each word.
+    #[inline]
+    fn clear_run(&self, pass: &mut BitmapPass, first: usize, last: usize)
+        requires own { IsPassOf self.now pass.old }
+        requires ordered { first ≤ last }
+        requires within { last < self.now.len }
+        ensures pass { pass.new ≡ counting pass.old pass.new.counts.pages }
+        ensures pages { ChangesRun ByTaking pass.old.counts.pages pass.new.counts.pages first (last + 1) }
+    {
+        let mut word = first / 64;
+        while word <= last / 64 {
+            self.clear_in_word(pass, word, first, last);
+            word += 1;
+        }
+    }
+
+    /// Marks a page. One past the end is ignored.
+    #[inline]
+    pub fn set_bit(&self, pass: &mut BitmapPass, index: usize)
+        requires { IsPassOf self.now pass.old }
+        ensures pass { pass.new ≡ counting pass.old pass.new.counts.pages }
+        ensures pages { Changes ByMark (nat_eq index) pass.old.counts.pages pass.new.counts.pages }
+        ensures own { IsPassOf self.now pass.new }
+    {
+        if index < self.len {
+            self.mark_in_word(pass, index / 64, index, index);
+        }
+    }
+
+    /// Clears a page. One past the end is ignored.
+    #[inline]
+    pub fn reset_bit(&self, pass: &mut BitmapPass, index: usize)
+        requires { IsPassOf self.now pass.old }
+        ensures pass { pass.new ≡ counting pass.old pass.new.counts.pages }
+        ensures pages { Changes ByTaking (nat_eq index) pass.old.counts.pages pass.new.counts.pages }
+        ensures own { IsPassOf self.now pass.new }
+    {
+        if index < self.len {
+            self.clear_in_word(pass, index / 64, index, index);
+        }
+    }
+
+    /// Marks the pages of `len` bytes from `start` on, in one step for each word. Bytes past the end are ignored.
+    #[inline]
+    pub fn set_addr_range(&self, pass: &mut BitmapPass, start: usize, len: usize)
+        requires { IsPassOf self.now pass.old }
+        ensures pass { pass.new ≡ counting pass.old pass.new.counts.pages }
+        ensures pages { Changes ByMark (marks_page self.now.page_size self.now.len start len) pass.old.counts.pages pass.new.counts.pages }
+        ensures own { IsPassOf self.now pass.new }
+    {
+        if len == 0 {
+            return;
+        }
+        let first = page_of(self.page_size, start);
+        if first >= self.len {
+            return;
+        }
+        let last = last_page(self.page_size, start, len).min(self.len - 1);
+        self.mark_run(pass, first, last);
+    }
+
+    /// Clears the pages of `len` bytes from `start` on, in one step for each word. Bytes past the end are ignored.
+    #[inline]
+    pub fn reset_addr_range(&self, pass: &mut BitmapPass, start: usize, len: usize)
+        requires { IsPassOf self.now pass.old }
+        ensures pass { pass.new ≡ counting pass.old pass.new.counts.pages }
+        ensures pages { Changes ByTaking (clears_page self.now.page_size self.now.len start len) pass.old.counts.pages pass.new.counts.pages }
+        ensures own { IsPassOf self.now pass.new }
+    {
+        if len == 0 {
+            return;
+        }
+        let first = page_of(self.page_size, start);
+        if first >= self.len {
+            return;
+        }
+        let last = last_page(self.page_size, start, len).min(self.len - 1);
+        self.clear_run(pass, first, last);
+    }
+
+    /// Whether a page is marked. One past the end is not.
+    #[inline]
+    pub fn is_bit_set(&self, pass: &mut BitmapPass, index: usize) -> bool
+        requires { IsPassOf self.now pass.old }
+        ensures pass { pass.new ≡ pass.old }
+        ensures past { self.now.len ≤ index → result ≡ false }
+        ensures whole { IsWhole pass.old.counts → index < self.now.len → Settles (tally_of pass.old.counts.pages index) (bit_of result) }
+        ensures own { IsPassOf self.now pass.new }
+    {
+        index < self.len && (self.word(pass, index / 64) >> (index % 64)) & 1 == 1
+    }
+
+    /// Whether the page of the byte at `addr` is marked.
+    #[inline]
+    pub fn is_addr_set(&self, pass: &mut BitmapPass, addr: usize) -> bool
+        requires { IsPassOf self.now pass.old }
+        ensures pass { pass.new ≡ pass.old }
+        ensures past { self.now.len ≤ addr / self.now.page_size → result ≡ false }
+        ensures whole { IsWhole pass.old.counts → addr / self.now.page_size < self.now.len → Settles (tally_of pass.old.counts.pages (addr / self.now.page_size)) (bit_of result) }
+        ensures own { IsPassOf self.now pass.new }
+    {
+        self.is_bit_set(pass, page_of(self.page_size, addr))
+    }
+
+    // Takes the marks of a word into `words`.
+    #[inline]
+    fn take_into(&self, pass: &mut BitmapPass, words: &mut [u64], word: usize)
+        requires own { IsPassOf self.now pass.old }
+        requires inside { word < div_ceil self.now.len 64 }
+        requires room { length words.old ≡ div_ceil self.now.len 64 }
+        ensures pass { pass.new ≡ counting pass.old pass.new.counts.pages }
+        ensures words { (bits : ℕ) × (words.new ≡ slice_set words.old word bits) × NoneBeyond self.now.len word bits }
+        ensures pages { ChangesRun (ByTakingInto words.new) pass.old.counts.pages pass.new.counts.pages (64 * word) (64 * word + 64) }
+    {
+        words[word] = self.gather(pass, word);
+    }
+
+    // Takes all marks into `words`.
+    fn take_all(&self, pass: &mut BitmapPass, words: &mut [u64])
+        requires own { IsPassOf self.now pass.old }
+        requires room { length words.old ≡ div_ceil self.now.len 64 }
+        requires clear { (p : ℕ) → page_bit words.old p ≡ 0 }
+        ensures pass { pass.new ≡ counting pass.old pass.new.counts.pages }
+        ensures count { length words.new ≡ length words.old }
+        ensures past { (p : ℕ) → self.now.len ≤ p → page_bit words.new p ≡ 0 }
+        ensures pages { ChangesRun (ByTakingInto words.new) pass.old.counts.pages pass.new.counts.pages 0 self.now.len }
+    {
+        let mut i = 0;
+        while i < words.len() {
+            self.take_into(pass, words, i);
+            i += 1;
+        }
+    }
+
+    /// Takes all marks, in one step for each word. Where there is no memory nothing is taken.
+    pub fn get_and_reset(&self, pass: &mut BitmapPass) -> Result<Vec<u64>, AllocError>
+        requires { IsPassOf self.now pass.old }
+        ensures err { OnErr result (pass.new ≡ pass.old) }
+        ensures pass { pass.new ≡ counting pass.old pass.new.counts.pages }
+        ensures count { IfOk result (λ words. vec_len words ≡ div_ceil self.now.len 64) }
+        ensures past { IfOk result (λ words. (p : ℕ) → self.now.len ≤ p → page_bit words.items p ≡ 0) }
+        ensures pages { IfOk result (λ words. Changes (ByTakingInto words.items) (λ p. true) pass.old.counts.pages pass.new.counts.pages) }
+        ensures own { IsPassOf self.now pass.new }
+    {
+        let mut words = vec![in self.alloc; 0; self.words()]?;
+        self.take_all(pass, &mut words);
+        Ok(words)
+    }
+
+    // Clears all marks, in one step for each word.
+    fn clear_all(&self, pass: &mut BitmapPass)
+        requires { IsPassOf self.now pass.old }
+        ensures pass { pass.new ≡ counting pass.old pass.new.counts.pages }
+        ensures pages { ChangesRun ByTaking pass.old.counts.pages pass.new.counts.pages 0 self.now.len }
+    {
+        let mut i = 0;
+        while i < self.words() {
+            self.gather(pass, i);
+            i += 1;
+        }
+    }
+
+    /// Clears all marks, in one step for each word.
+    pub fn reset(&self, pass: &mut BitmapPass)
+        requires { IsPassOf self.now pass.old }
+        ensures pass { pass.new ≡ counting pass.old pass.new.counts.pages }
+        ensures pages { Changes ByTaking (λ p. true) pass.old.counts.pages pass.new.counts.pages }
+        ensures own { IsPassOf self.now pass.new }
+    {
+        self.clear_all(pass);
+    }
+}
