@@ -57,7 +57,7 @@ entry addr len flags next = record { addr = addr; len = len; flags = flags; next
 
 -- the descriptor that is spelled by the sixteen bytes at an address
 pub decoded : (m : Memory) (a : ℕ) (r : Descriptor) → spelled (descriptor r) ≡ bytes m a 16 → AllFit (descriptor r) → r ≡ descriptor_at m a
-unfolding fields.bytes fields.Fits
+unfolding fields.field_bytes fields.Fits
 decoded m a r is fits =
     let p1 : to_le_bytes w64 r.addr ≡ bytes m a 8 = ap (take 8) is ∙ front_bytes m a 8 8 in
     let p2 : to_le_bytes w32 r.len ≡ bytes m (a + 8) 4 = ap (λ (l : List ℕ). take 4 (drop 8 l)) is ∙ ap (take 4) (back_bytes m a 8 8) ∙ front_bytes m (a + 8) 4 4 in
@@ -74,5 +74,5 @@ decoded m a r is fits =
 
 -- the number that two bytes spell
 pub spelled_number : (bs : List ℕ) (n : ℕ) → bs ≡ spelled (fields.w n ∷ []) → AllFit (fields.w n ∷ []) → n ≡ from_le_bytes w16 bs
-unfolding fields.bytes fields.Fits
+unfolding fields.field_bytes fields.Fits
 spelled_number bs n is fits = sym (from_le_bytes-to_le_bytes_2 n fits.0) ∙ ap (from_le_bytes w16) (sym is)

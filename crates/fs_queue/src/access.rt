@@ -38,7 +38,7 @@ pub(crate) fn le16_number(bytes: &[u8; 2]) -> u16
 }
 
 // The two bytes that spell a number, the lowest first.
-#[tactic(auto, unfolding(vm_values::specs::Fields::bytes))]
+#[tactic(auto, unfolding(vm_values::specs::Fields::field_bytes))]
 pub(crate) fn le16_bytes(number: u16) -> [u8; 2]
     ensures { result ≡ to_le_bytes w16 number }
 {

@@ -34,7 +34,7 @@ impl ByteValued for UsedElement {
 
 impl UsedElement {
     // Its bytes.
-    #[tactic(auto, unfolding(vm_values::specs::Fields::bytes))]
+    #[tactic(auto, unfolding(vm_values::specs::Fields::field_bytes))]
     pub(crate) fn to_bytes(self) -> [u8; 8]
         ensures { result ≡ to_le_bytes w32 self.id ++ to_le_bytes w32 self.len }
     {
