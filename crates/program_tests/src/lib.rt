@@ -12,6 +12,6 @@ mod queues;
 #[cfg(test)]
 mod requests;
 #[cfg(test)]
-mod steps;
-#[cfg(test)]
 mod streams;
+#[cfg(test)]
+mod transcript;

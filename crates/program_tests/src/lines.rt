@@ -1,61 +1,107 @@
 //! Which lines are commands, and where they may stand.
 
-use crate::steps::run;
-use std::alloc::Global;
+use crate::transcript::{check, played};
+use std::alloc::{AllocError, Global};
+use std::process::Abort;
 use std::test::Fail;
 
-// What a line prints behind a line that makes the queue, and the status.
-fn behind_a_queue(alloc: Global, line: &[u8]) -> Result<(String, u8), Fail> {
+// Each line counts, also one that is skipped; a `queue` comes before all else, a refused line too.
+const RUNS_LINES_IN_ORDER: &[u8] = b"\
+>
+>
+> # harvest
+> #
+status 0
+
+> harvest
+line 1: not a command
+status 1
+
+> queue 3 0 0 0
+>
+> # a
+> region 0 1
+badlayout 1
+line 4: not a command
+status 1
+
+> queue 4 0 0x100 0x200
+>
+> # a
+> queue 4 0 0x100 0x200
+> harvest
+ok
+ok
+none
+status 0
+
+> queue 4 0 0x100 0x200
+> harvest
+> queue 4 0 0x100 0x200
+ok
+none
+line 3: not a command
+status 1
+
+> queue 4 0 0x100 0x200
+> write 0 00
+> queue 4 0 0x100 0x200
+ok
+refused 1
+line 3: not a command
+status 1
+
+> queue 4 0 0x100 0x200
+> region 0 0
+> region 0 1
+> region 1 1
+ok
+refused 2
+block 0
+block 1
+status 0
+";
+
+#[test]
+fn runs_lines_in_order(rt: HostRuntime) -> Result<(), Fail> {
+    check(&rt, rt.alloc(), RUNS_LINES_IN_ORDER)
+}
+
+// A last line without its end, and no line at all.
+#[test]
+fn runs_a_last_line_without_its_end(rt: HostRuntime) -> Result<(), Fail> {
+    let cases: [(&[u8], &str); 4] = [
+        (b"", "status 0\n"),
+        (b"queue 4 0 0x100 0x200", "ok\nstatus 0\n"),
+        (b"#\n\nharvest", "line 3: not a command\nstatus 1\n"),
+        (
+            b"queue 4 0 0x100 0x200\nkick 0 1\nkick 0 1\nkick 0 0\nharvest",
+            "ok\nrefused 2\nrefused 1\nidle\nnone\nstatus 0\n",
+        ),
+    ];
+    for (script, printed) in cases {
+        assert_eq!(rt; played(rt.alloc(), script)?.as_str(), printed);
+    }
+    Ok(())
+}
+
+// A script of a line behind one that makes the queue.
+fn behind_a_queue(alloc: Global, line: &[u8]) -> Result<Vec<u8>, AllocError> {
     let mut script = Vec::new(alloc);
     script.extend_from_slice(b"queue 4 0 0x100 0x200\n")?;
     script.extend_from_slice(line)?;
-    run(alloc, &script)
+    Ok(script)
 }
 
-// Each line counts, also one that is skipped; a `queue` comes before all else, a refused line too.
-#[test]
-fn runs_lines_in_order(rt: HostRuntime) -> Result<(), Fail> {
-    let cases: [(&[u8], &[u8], u8); 11] = [
-        (b"", b"", 0),
-        (b"\n\n# harvest\n#\n", b"", 0),
-        (b"queue 4 0 0x100 0x200", b"ok\n", 0),
-        (b"harvest\n", b"line 1: not a command\n", 1),
-        (b"#\n\nharvest", b"line 3: not a command\n", 1),
-        (
-            b"queue 3 0 0 0\n\n# a\nregion 0 1\n",
-            b"badlayout 1\nline 4: not a command\n",
-            1,
-        ),
-        (
-            b"queue 4 0 0x100 0x200\n\n# a\nqueue 4 0 0x100 0x200\nharvest\n",
-            b"ok\nok\nnone\n",
-            0,
-        ),
-        (
-            b"queue 4 0 0x100 0x200\nharvest\nqueue 4 0 0x100 0x200\n",
-            b"ok\nnone\nline 3: not a command\n",
-            1,
-        ),
-        (
-            b"queue 4 0 0x100 0x200\nwrite 0 00\nqueue 4 0 0x100 0x200\n",
-            b"ok\nrefused 1\nline 3: not a command\n",
-            1,
-        ),
-        (
-            b"queue 4 0 0x100 0x200\nregion 0 0\nregion 0 1\nregion 1 1\n",
-            b"ok\nrefused 2\nblock 0\nblock 1\n",
-            0,
-        ),
-        (
-            b"queue 4 0 0x100 0x200\nkick 0 1\nkick 0 1\nkick 0 0\nharvest",
-            b"ok\nrefused 2\nrefused 1\nidle\nnone\n",
-            0,
-        ),
-    ];
-    for (script, printed, status) in cases {
-        let (said, ended) = run(rt.alloc(), script)?;
-        assert_eq!(rt; said.as_bytes(), printed);
-        assert_eq!(rt; ended, status);
+// Runs each of these lines by itself behind a queue: it is no command.
+fn check_refused(rt: &impl Abort, alloc: Global, lines: &[u8]) -> Result<(), Fail> {
+    for line in lines.split(|byte| *byte == b'\n') {
+        let script = behind_a_queue(alloc, line)?;
+        assert_eq!(rt;
+            played(alloc, &script)?.as_str(),
+            "ok\nline 2: not a command\nstatus 1\n",
+            "{line:?}"
+        );
     }
     Ok(())
 }
@@ -63,90 +109,101 @@ fn runs_lines_in_order(rt: HostRuntime) -> Result<(), Fail> {
 // Words that are no command, one too many or too few, and other blanks than one space.
 #[test]
 fn refuses_what_is_no_command(rt: HostRuntime) -> Result<(), Fail> {
-    let lines: [&[u8]; 27] = [
-        b" harvest",
-        b"harvest ",
-        b"harvest\r",
-        b"Harvest",
-        b"harvest 0",
-        b" ",
-        b"\t",
-        b" # harvest",
-        b"\xff",
-        b"kick",
-        b"kick 0",
-        b"kick 0 1 2",
-        b"kick  0 1",
-        b"kick 0\t1",
-        b"write 0",
-        b"write 0 ",
-        b"write 0 0",
-        b"write 0 0g",
-        b"write 0 0x00",
-        b"write 0 00 00",
-        b"alias 0",
-        b"reset 0 4 0 0x100",
-        b"region 0",
-        b"unregion 0",
-        b"move",
-        b"map 0 0 1 r",
-        b"iommu on",
-    ];
-    for line in lines {
-        let (said, status) = behind_a_queue(rt.alloc(), line)?;
-        assert_eq!(rt; said.as_str(), "ok\nline 2: not a command\n", "{line:?}");
-        assert_eq!(rt; status, 1);
-    }
-    Ok(())
+    let lines = b"\x20harvest\n\
+harvest \n\
+harvest\r\n\
+Harvest\n\
+harvest 0\n\
+\x20\n\
+\t\n\
+\x20# harvest\n\
+\xff\n\
+kick\n\
+kick 0\n\
+kick 0 1 2\n\
+kick  0 1\n\
+kick 0\t1\n\
+write 0\n\
+write 0 \n\
+write 0 0\n\
+write 0 0g\n\
+write 0 0x00\n\
+write 0 00 00\n\
+alias 0\n\
+reset 0 4 0 0x100\n\
+region 0\n\
+unregion 0\n\
+move\n\
+map 0 0 1 r\n\
+iommu on";
+    check_refused(&rt, rt.alloc(), lines)
 }
 
 #[test]
 fn refuses_what_is_no_number(rt: HostRuntime) -> Result<(), Fail> {
-    let lines: [&[u8]; 12] = [
-        b"kick 0 65536",
-        b"kick 0x 1",
-        b"kick 0X0 1",
-        b"kick +0 1",
-        b"kick -0 1",
-        b"kick 1_0 1",
-        b"kick 0a 1",
-        b"kick 0xg 1",
-        b"kick x0 1",
-        b"read 18446744073709551616 0",
-        b"read 0x10000000000000000 0",
-        b"reset 0 65536 0 0 0",
-    ];
-    for line in lines {
-        let (said, status) = behind_a_queue(rt.alloc(), line)?;
-        assert_eq!(rt; said.as_str(), "ok\nline 2: not a command\n", "{line:?}");
-        assert_eq!(rt; status, 1);
-    }
-    Ok(())
+    let lines = b"kick 0 65536\n\
+kick 0x 1\n\
+kick 0X0 1\n\
+kick +0 1\n\
+kick -0 1\n\
+kick 1_0 1\n\
+kick 0a 1\n\
+kick 0xg 1\n\
+kick x0 1\n\
+read 18446744073709551616 0\n\
+read 0x10000000000000000 0\n\
+reset 0 65536 0 0 0";
+    check_refused(&rt, rt.alloc(), lines)
 }
+
+// Each number up to its limit, in decimal and in hexadecimal digits, with zeros in front.
+const READS_NUMBERS_UP_TO_THEIR_LIMITS: &[u8] = b"\
+> queue 4 0 0x100 0x200
+ok
+> read 18446744073709551615 0
+bytes 
+status 0
+
+> queue 4 0 0x100 0x200
+ok
+> read 0xFFFFffffFFFFffff 0x0
+bytes 
+status 0
+
+> queue 4 0 0x100 0x200
+ok
+> read 00000000000000000000000000000018446744073709551615 0
+bytes 
+status 0
+
+> queue 4 0 0x100 0x200
+ok
+> read 0x00000000000000000000ffffffffffffffff 0
+bytes 
+status 0
+
+> queue 4 0 0x100 0x200
+ok
+> read 0 00
+bytes 
+status 0
+
+> queue 4 0 0x100 0x200
+ok
+> read 0x0123456789abcdef 0
+bytes 
+status 0
+
+> queue 4 0 0x100 0x200
+ok
+> kick 1 65535
+refused 10
+status 0
+";
 
 #[test]
 fn reads_numbers_up_to_their_limits(rt: HostRuntime) -> Result<(), Fail> {
-    let lines: [(&[u8], &str); 7] = [
-        (b"read 18446744073709551615 0", "ok\nbytes \n"),
-        (b"read 0xFFFFffffFFFFffff 0x0", "ok\nbytes \n"),
-        (
-            b"read 00000000000000000000000000000018446744073709551615 0",
-            "ok\nbytes \n",
-        ),
-        (
-            b"read 0x00000000000000000000ffffffffffffffff 0",
-            "ok\nbytes \n",
-        ),
-        (b"read 0 00", "ok\nbytes \n"),
-        (b"read 0x0123456789abcdef 0", "ok\nbytes \n"),
-        (b"kick 1 65535", "ok\nrefused 10\n"),
-    ];
-    for (line, printed) in lines {
-        let (said, status) = behind_a_queue(rt.alloc(), line)?;
-        assert_eq!(rt; said.as_str(), printed, "{line:?}");
-        assert_eq!(rt; status, 0);
-    }
-    Ok(())
+    check(&rt, rt.alloc(), READS_NUMBERS_UP_TO_THEIR_LIMITS)
 }
 
 // The value of a word, in decimal and in hexadecimal digits of both cases.

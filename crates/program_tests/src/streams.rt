@@ -1,8 +1,10 @@
 //! Scripts that are too long, and readers and writers that fail.
 
-use crate::steps::run;
+use crate::transcript::played;
+use std::alloc::Global;
 use std::io;
 use std::io::{ErrorKind, Read, Write};
+use std::process::Abort;
 use std::test::Fail;
 use virtio_fs_script::{Halt, print_usage, run_script};
 
@@ -60,30 +62,46 @@ fn reads_no_script_that_is_too_long(rt: HostRuntime) -> Result<(), Fail> {
     let mut script = Vec::new(rt.alloc());
     script.extend_from_slice(b"queue 4 0 0x100 0x200\n#")?;
     script.resize(MOST_BYTES, b'x')?;
-    for (printed, status) in [("ok\n", 0), ("script too long\n", 1)] {
-        let (said, ended) = run(rt.alloc(), &script)?;
-        assert_eq!(rt; said.as_str(), printed);
-        assert_eq!(rt; ended, status);
+    for printed in ["ok\nstatus 0\n", "script too long\nstatus 1\n"] {
+        assert_eq!(rt; played(rt.alloc(), &script)?.as_str(), printed);
         script.push(b'\n')?;
     }
     Ok(())
 }
 
+// Runs a script whose reader ends, or fails so, behind the last byte.
+fn check_reader(rt: &impl Abort, alloc: Global, fails: Option<ErrorKind>, want: &[u8], status: u8) {
+    let mut reader = SlowReader {
+        text: b"queue 4 0 0x100 0x200\nharvest\n",
+        fails,
+    };
+    let mut printed = Vec::new(alloc);
+    let ended = run_script(alloc, &mut reader, &mut printed);
+    assert_eq!(rt; ended, status);
+    assert_eq!(rt; printed.as_slice(), want);
+}
+
 // A reader that ends, fails or is interrupted behind the script's last byte.
 #[test]
 fn ends_where_a_reader_fails(rt: HostRuntime) {
-    let text = b"queue 4 0 0x100 0x200\nharvest\n";
-    for (fails, status, want) in [
-        (None, 0, b"ok\nnone\n".as_slice()),
-        (Some(ErrorKind::BrokenPipe), 3, b"".as_slice()),
-        (Some(ErrorKind::Interrupted), 3, b"".as_slice()),
-    ] {
-        let mut reader = SlowReader { text, fails };
-        let mut printed = Vec::new(rt.alloc());
-        let ended = run_script(rt.alloc(), &mut reader, &mut printed);
-        assert_eq!(rt; ended, status);
-        assert_eq!(rt; printed.as_slice(), want);
-    }
+    check_reader(&rt, rt.alloc(), None, b"ok\nnone\n", 0);
+    check_reader(&rt, rt.alloc(), Some(ErrorKind::BrokenPipe), b"", 3);
+    check_reader(&rt, rt.alloc(), Some(ErrorKind::Interrupted), b"", 3);
+}
+
+// Runs a script whose writer has that much room, and may fail where it is flushed.
+fn check_writer(
+    rt: &impl Abort,
+    alloc: Global,
+    script: &[u8],
+    room: usize,
+    flushes: bool,
+    status: u8,
+) {
+    let mut reader = script;
+    let mut writer = FullWriter { room, flushes };
+    let ended = run_script(alloc, &mut reader, &mut writer);
+    assert_eq!(rt; ended, status, "room for {room}");
 }
 
 // A writer with room for all, for less, and one that fails where it is flushed.
@@ -94,17 +112,10 @@ fn ends_where_a_writer_fails(rt: HostRuntime) {
         (b"move", 22, 1),
     ];
     for (script, len, status) in scripts {
-        for (room, flushes, want) in [
-            (len, true, status),
-            (len - 1, true, 3),
-            (0, true, 3),
-            (len, false, 3),
-        ] {
-            let mut reader = script;
-            let mut writer = FullWriter { room, flushes };
-            let ended = run_script(rt.alloc(), &mut reader, &mut writer);
-            assert_eq!(rt; ended, want, "room for {room}");
-        }
+        check_writer(&rt, rt.alloc(), script, len, true, status);
+        check_writer(&rt, rt.alloc(), script, len - 1, true, 3);
+        check_writer(&rt, rt.alloc(), script, 0, true, 3);
+        check_writer(&rt, rt.alloc(), script, len, false, 3);
     }
 }
 
@@ -112,10 +123,12 @@ fn ends_where_a_writer_fails(rt: HostRuntime) {
 fn prints_how_it_is_called(rt: HostRuntime) {
     let mut printed = Vec::new(rt.alloc());
     assert_eq!(rt; print_usage(&mut printed), 1);
-    assert_eq!(rt;
-        printed.as_slice(),
-        b"usage: virtio_fs_run < script\n".as_slice()
-    );
+    let usage = b"usage: virtio_fs_run < script\n".as_slice();
+    assert_eq!(rt; printed.as_slice(), usage);
+}
+
+#[test]
+fn ends_where_its_usage_has_no_room(rt: HostRuntime) {
     let mut full = FullWriter {
         room: 29,
         flushes: true,
@@ -123,18 +136,31 @@ fn prints_how_it_is_called(rt: HostRuntime) {
     assert_eq!(rt; print_usage(&mut full), 3);
 }
 
+// Prints why a script ends early, and compares the status too.
+fn check_halt(
+    rt: &impl Abort,
+    alloc: Global,
+    halt: Halt,
+    text: &str,
+    status: u8,
+) -> Result<(), Fail> {
+    let said = format!(in alloc; "{halt}")?;
+    assert_eq!(rt; said.as_str(), text);
+    assert_eq!(rt; halt.status(), status);
+    Ok(())
+}
+
 // What is printed of each end that comes early, and the status.
 #[test]
 fn says_why_a_script_ends(rt: HostRuntime) -> Result<(), Fail> {
-    for (halt, text, status) in [
-        (Halt::TooLong, "script too long", 1),
-        (Halt::NotACommand(7), "line 7: not a command", 1),
-        (Halt::OutOfMemory, "out of memory", 2),
-        (Halt::Stream, "a stream failed", 3),
-    ] {
-        let said = format!(in rt.alloc(); "{halt}")?;
-        assert_eq!(rt; said.as_str(), text);
-        assert_eq!(rt; halt.status(), status);
-    }
-    Ok(())
+    check_halt(&rt, rt.alloc(), Halt::TooLong, "script too long", 1)?;
+    check_halt(
+        &rt,
+        rt.alloc(),
+        Halt::NotACommand(7),
+        "line 7: not a command",
+        1,
+    )?;
+    check_halt(&rt, rt.alloc(), Halt::OutOfMemory, "out of memory", 2)?;
+    check_halt(&rt, rt.alloc(), Halt::Stream, "a stream failed", 3)
 }
