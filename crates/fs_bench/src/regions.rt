@@ -2,7 +2,7 @@
 
 ghost use Rattle.vm_memory_core.specs.Host.{host_of, lengths};
 ghost use Rattle.vm_memory.specs.Layout.{AreHeld};
-ghost use Rattle.fs_bench.specs.Held.{AreHeld-prop};
+ghost use Rattle.vm_memory.specs.OneProof.{AreHeld-prop};
 
 use crate::fault::BenchFault;
 use crate::measure::{Case, Label, Meter};

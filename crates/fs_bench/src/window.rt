@@ -2,7 +2,7 @@
 
 ghost use Rattle.vm_memory_core.specs.Host.{host_of, lengths};
 ghost use Rattle.vm_memory_core.specs.Window.{LiesIn};
-ghost use Rattle.fs_bench.specs.Held.{LiesIn-prop};
+ghost use Rattle.vm_memory.specs.OneProof.{LiesIn-prop};
 
 use crate::fault::BenchFault;
 use crate::measure::{Case, Label, Meter};
