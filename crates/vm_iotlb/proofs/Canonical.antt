@@ -1,12 +1,11 @@
 -- tables that do the same to each address keep the same ranges
-use Rattle.std.proofs.Common.{◌≡◌, ℕ, true, false, ◌+◌, ◌-◌, ◌<◌, ◌≤◌, List, [], ◌∷◌, refl, ap, sym, ◌∙◌, arith, Some, None, Option, inl, inr, ◌⊎◌}
+use Rattle.std.proofs.Common.{◌≡◌, ℕ, ◌+◌, ◌-◌, ◌<◌, ◌≤◌, List, [], ◌∷◌, refl, ap, sym, ◌∙◌, arith, Some, None, Option, inl, inr}
 use Rattle.std.proofs.lemmas.Bool.{cases_lt, true≢false}
 use Rattle.vm_iotlb.specs.declared.permissions.Permissions.{Permissions}
 use Rattle.vm_iotlb.specs.declared.range.IotlbRange.{IotlbRange}
-use Rattle.vm_iotlb.specs.Table.{Mapping, Table, AreSame}
+use Rattle.vm_iotlb.specs.Table.{Mapping, AreSame}
 use Rattle.vm_iotlb.specs.Ranges.{mapping_in, table_of, AreRanges, AreCanonical}
-use Rattle.vm_iotlb.specs.Runs.{go_together}
-use Rattle.vm_iotlb.proofs.RangeLemmas.{StartFrom, from_after, table_before, table_in, table_out}
+use Rattle.vm_iotlb.proofs.RangeLemmas.{from_after, table_before, table_in, table_out}
 use Rattle.vm_iotlb.proofs.RunLemmas.{together_in, apart}
 
 none_some : (m : Mapping) → ◌≡◌ {A = Option Mapping} None (Some m) → ⊥

@@ -1,21 +1,20 @@
 -- what a look-up over ranges answers
-use Rattle.std.proofs.Common.{◌≡◌, ℕ, zero, suc, Bool, true, false, ◌+◌, ◌-◌, ◌<◌, ◌≤◌, ◌^◌, List, [], ◌∷◌, ◌++◌, append_assoc, length, map, get_or, drop, leb, refl, ap, sym, ◌∙◌, arith, Some, None, Option, inl, inr, ◌⊎◌}
+use Rattle.std.proofs.Common.{◌≡◌, ℕ, zero, suc, true, false, ◌+◌, ◌-◌, ◌<◌, ◌≤◌, List, [], ◌∷◌, ◌++◌, append_assoc, length, map, get_or, drop, leb, refl, ap, sym, ◌∙◌, arith, Some, None, Option, inl, inr}
 use Rattle.std.proofs.Math.Numerals.{add-one}
 use Rattle.std.proofs.Math.Seq.{drop-cons}
-use Rattle.std.specs.Prelude.{nat_le, nat_lt, ◌&&◌, if◌then◌else◌, max, min, not}
-use Rattle.std.specs.List.{list_all, filter, flat_map, range_with_len}
+use Rattle.std.specs.Prelude.{nat_lt, if◌then◌else◌, max, min}
+use Rattle.std.specs.List.{range_with_len}
 use Rattle.std.proofs.lemmas.List.{append-nil}
-use Rattle.std.proofs.lemmas.Bool.{cases_lt, cases_Bool, and_parts, eqb-true, false≢true, true≢false, lt-ltb, le-ltb, lt-leb, le-leb}
+use Rattle.std.proofs.lemmas.Bool.{cases_lt, cases_Bool, and_parts, eqb-true, false≢true, lt-ltb, le-ltb, lt-leb, le-leb}
 use Rattle.vm_iotlb.specs.declared.permissions.Permissions.{Permissions}
 use Rattle.vm_iotlb.specs.declared.permissions.Permissions.TheVariants.{No}
 use Rattle.vm_iotlb.specs.declared.range.IotlbRange.{IotlbRange}
 use Rattle.vm_iotlb.specs.declared.iova.IovaRange.{IovaRange}
-use Rattle.vm_iotlb.specs.declared.iova.MappedRange.{MappedRange}
 use Rattle.vm_iotlb.specs.Table.{Mapping, Table, allows}
 use Rattle.vm_iotlb.specs.Ranges.{mapping_in, table_of, AreRanges, EndsAbove, Agree}
 use Rattle.vm_iotlb.specs.Pieces.{Cover, pieces_in}
 use Rattle.vm_iotlb.specs.Runs.{may, target_of, may_all, go_together, run_of, led_by, runs, missing, lacking, piece_of, pieces, joined, targets, between}
-use Rattle.vm_iotlb.proofs.RangeLemmas.{StartFrom, table_before, table_in}
+use Rattle.vm_iotlb.proofs.RangeLemmas.{table_before, table_in}
 use Rattle.vm_iotlb.proofs.RunLemmas.{runs_one, runs_more, gap_run, range_run, agree_rest, missing_run, missing_skip, lacking_run, lacking_skip, lacking_gap, pieces_run, nothing_left, may_stop, may_range}
 
 -- the ranges behind one that ends at an address or above it

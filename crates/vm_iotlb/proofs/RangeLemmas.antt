@@ -1,12 +1,12 @@
 -- lists of ranges, and the tables that they keep
-use Rattle.std.proofs.Common.{◌≡◌, ℕ, zero, suc, Bool, true, false, ◌+◌, ◌-◌, ◌<◌, ◌≤◌, ◌^◌, List, [], ◌∷◌, ◌++◌, length, get_or, take, drop, refl, ap, sym, ◌∙◌, arith, Some, None, Option, inl, inr, ◌⊎◌}
+use Rattle.std.proofs.Common.{◌≡◌, ℕ, zero, suc, Bool, true, false, ◌+◌, ◌-◌, ◌<◌, ◌≤◌, ◌^◌, List, [], ◌∷◌, ◌++◌, length, get_or, take, drop, refl, ap, sym, ◌∙◌, arith, Some, None, Option, inl, inr}
 use Rattle.std.specs.Prelude.{nat_le, nat_lt, ◌&&◌, if◌then◌else◌, max, min}
 use Rattle.std.proofs.lemmas.Bool.{cases_lt, and_parts, and_left, and_right, and_from, leb-true, le-leb, lt-leb, lt-ltb, le-ltb}
 use Rattle.std.proofs.lemmas.Bool.Decides.{nat_tests}
 use Rattle.vm_iotlb.specs.declared.permissions.Permissions.{Permissions}
 use Rattle.vm_iotlb.specs.declared.range.IotlbRange.{IotlbRange}
-use Rattle.vm_iotlb.specs.Table.{Mapping, Table}
-use Rattle.vm_iotlb.specs.Ranges.{has, mapping_in, table_of, IsRange, GoesOnIn, Precedes, PrecedesAll, AreRanges, EndBy, EndsAbove}
+use Rattle.vm_iotlb.specs.Table.{Mapping}
+use Rattle.vm_iotlb.specs.Ranges.{has, mapping_in, table_of, IsRange, GoesOnIn, Precedes, PrecedesAll, AreRanges, EndBy}
 
 -- ---- one range
 

@@ -1,18 +1,14 @@
 -- runs of addresses, and the ranges that they come from
-use Rattle.std.proofs.Common.{◌≡◌, ℕ, zero, suc, Bool, true, false, ◌+◌, ◌-◌, ◌<◌, ◌≤◌, ◌^◌, List, [], ◌∷◌, ◌++◌, length, map, refl, ap, sym, ◌∙◌, arith, Some, None, Option, inl, inr, ◌⊎◌, eqb, eq-eqb}
-use Rattle.std.specs.Prelude.{nat_le, nat_lt, ◌&&◌, if◌then◌else◌, max, min, not}
-use Rattle.std.specs.List.{list_all, filter, flat_map, range_with_len}
-use Rattle.std.proofs.lemmas.Bool.{cases_lt, and_parts, eqb-true, false_from_ne_true, false≢true, true≢false}
-use Rattle.std.proofs.lemmas.Bool.Decides.{nat_tests}
+use Rattle.std.proofs.Common.{◌≡◌, ℕ, zero, suc, true, false, ◌+◌, ◌-◌, ◌<◌, ◌≤◌, List, [], ◌∷◌, refl, ◌∙◌, arith, Some, None, inl, inr, eqb, eq-eqb}
+use Rattle.std.specs.Prelude.{◌&&◌, if◌then◌else◌}
+use Rattle.std.proofs.lemmas.Bool.{cases_lt, and_parts, eqb-true, false_from_ne_true, false≢true}
 use Rattle.vm_iotlb.specs.declared.permissions.Permissions.{Permissions}
 use Rattle.vm_iotlb.specs.declared.permissions.Permissions.TheVariants.{No, Read, Write, ReadWrite}
 use Rattle.vm_iotlb.specs.declared.range.IotlbRange.{IotlbRange}
 use Rattle.vm_iotlb.specs.declared.iova.IovaRange.{IovaRange}
-use Rattle.vm_iotlb.specs.declared.iova.MappedRange.{MappedRange}
 use Rattle.vm_iotlb.specs.Table.{Mapping, Table, allows}
-use Rattle.vm_iotlb.specs.Ranges.{has, mapping_in, table_of, IsRange, GoesOnIn, Precedes, PrecedesAll, AreRanges, EndBy, EndsAbove, Agree}
-use Rattle.vm_iotlb.specs.Pieces.{Cover, pieces_in}
-use Rattle.vm_iotlb.specs.Runs.{may, lacks, misses, target_of, may_all, go_together, run_of, led_by, runs, missing, lacking, piece_of, pieces, joined, targets, between}
+use Rattle.vm_iotlb.specs.Ranges.{has, mapping_in, table_of, AreRanges, Agree}
+use Rattle.vm_iotlb.specs.Runs.{may, may_all, go_together, run_of, runs, missing, lacking, pieces}
 use Rattle.vm_iotlb.proofs.RangeLemmas.{has_in, table_before, table_in, table_out}
 
 -- ---- runs of any table

@@ -1,11 +1,9 @@
 -- the ranges that a binary search leaves
-use Rattle.std.proofs.Common.{◌≡◌, ℕ, zero, suc, Bool, true, false, ◌+◌, ◌-◌, ◌<◌, ◌≤◌, List, [], ◌∷◌, length, get_or, take, drop, refl, ap, sym, ◌∙◌, arith, leb, Some, None}
+use Rattle.std.proofs.Common.{◌≡◌, ℕ, zero, suc, true, false, ◌<◌, ◌≤◌, List, [], ◌∷◌, length, get_or, drop, refl, ◌∙◌, arith, leb}
 use Rattle.std.specs.List.{AllWithin}
 use Rattle.std.proofs.lemmas.Bool.{leb-true, leb-false}
 use Rattle.vm_iotlb.specs.declared.range.IotlbRange.{IotlbRange}
-use Rattle.vm_iotlb.specs.declared.iova.MappedRange.{MappedRange}
-use Rattle.vm_iotlb.specs.Ranges.{table_of, AreRanges, EndBy, EndsAbove}
-use Rattle.vm_iotlb.specs.Pieces.{pieces_in}
+use Rattle.vm_iotlb.specs.Ranges.{table_of, AreRanges, EndsAbove}
 use Rattle.vm_iotlb.proofs.RangeLemmas.{from_after, from_at, ranges_at, table_out}
 
 -- ranges end one above the other

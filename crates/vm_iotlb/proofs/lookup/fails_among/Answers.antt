@@ -1,9 +1,8 @@
-use Rattle.std.proofs.Common.{◌≡◌, ℕ, false, true, ◌+◌, ◌-◌, ◌<◌, ◌≤◌, ◌∷◌, ◌++◌, List, length, get_or, drop, refl, ap, sym, ◌∙◌, arith}
+use Rattle.std.proofs.Common.{◌≡◌, ℕ, ◌+◌, ◌-◌, ◌∷◌, ◌++◌, List, get_or, drop, ap, sym, ◌∙◌, arith}
 use Rattle.vm_iotlb.specs.declared.permissions.Permissions.TheVariants.{No}
 use Rattle.vm_iotlb.specs.declared.range.IotlbRange.{IotlbRange}
 use Rattle.vm_iotlb.specs.declared.iova.IovaRange.{IovaRange}
-use Rattle.vm_iotlb.specs.Table.{allows}
-use Rattle.vm_iotlb.specs.Ranges.{table_of, AreRanges, Agree, EndsAbove}
+use Rattle.vm_iotlb.specs.Ranges.{AreRanges, Agree, EndsAbove}
 use Rattle.vm_iotlb.specs.Runs.{between, lacking, missing}
 use Rattle.vm_iotlb.proofs.RangeLemmas.{ranges_drop}
 use Rattle.vm_iotlb.proofs.RunLemmas.{agree_rest, nothing_left}

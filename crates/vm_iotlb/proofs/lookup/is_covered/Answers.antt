@@ -1,8 +1,8 @@
-use Rattle.std.proofs.Common.{◌≡◌, ℕ, false, true, ◌+◌, ◌-◌, ◌<◌, ◌≤◌, ◌∷◌, None, Some, length, get_or, drop, refl, sym, ◌∙◌, arith}
+use Rattle.std.proofs.Common.{◌≡◌, ℕ, false, true, ◌+◌, ◌∷◌, get_or, drop, refl, sym, ◌∙◌, arith}
 use Rattle.vm_iotlb.specs.declared.permissions.Permissions.TheVariants.{No}
 use Rattle.vm_iotlb.specs.declared.range.IotlbRange.{IotlbRange}
 use Rattle.vm_iotlb.specs.Table.{allows}
-use Rattle.vm_iotlb.specs.Ranges.{mapping_in, table_of, AreRanges, Agree, EndsAbove}
+use Rattle.vm_iotlb.specs.Ranges.{AreRanges, Agree, EndsAbove}
 use Rattle.vm_iotlb.specs.Runs.{may}
 use Rattle.vm_iotlb.proofs.RangeLemmas.{ranges_drop, table_before, table_in}
 use Rattle.vm_iotlb.proofs.RunLemmas.{agree_rest, nothing_left, may_stop, may_range}

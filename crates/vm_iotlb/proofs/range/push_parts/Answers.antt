@@ -1,5 +1,5 @@
-use Rattle.std.proofs.Common.{◌≡◌, ℕ, ◌+◌, ◌<◌, ◌≤◌, List, [], ◌∷◌, ◌++◌, length, get_or, take, arith}
-use Rattle.std.specs.Prelude.{◌&&◌, nat_le, nat_lt, max, min}
+use Rattle.std.proofs.Common.{ℕ, ◌<◌, [], ◌∷◌, ◌++◌, length, get_or, take, arith}
+use Rattle.std.specs.Prelude.{◌&&◌, nat_le, nat_lt, max}
 use Rattle.std.proofs.lemmas.List.{take_more}
 use Rattle.vm_iotlb.specs.declared.permissions.Permissions.TheVariants.{No}
 use Rattle.vm_iotlb.specs.declared.range.IotlbRange.{IotlbRange}

@@ -1,7 +1,6 @@
-use Rattle.std.proofs.Common.{◌≡◌, ℕ, ◌≤◌, List, [], ◌∷◌, ◌++◌, refl, arith}
+use Rattle.std.proofs.Common.{◌≡◌, [], ◌∷◌, ◌++◌, refl, arith}
 use Rattle.std.proofs.lemmas.Grind.{common_steps}
-use Rattle.vm_iotlb.specs.declared.range.IotlbRange.{IotlbRange}
-use Rattle.vm_iotlb.specs.Ranges.{table_of, AreRanges, EndBy, GoesOnIn}
+use Rattle.vm_iotlb.specs.Ranges.{table_of, AreRanges, EndBy}
 use Rattle.vm_iotlb.proofs.RangeLemmas.{ranges_front, ranges_joined, ranges_two, ends_front, ends_higher, ends_push, table_joined, table-push}
 use Rattle.vm_iotlb.proofs.range.push_range.Goals as goal
 

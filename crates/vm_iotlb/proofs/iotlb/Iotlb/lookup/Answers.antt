@@ -1,6 +1,5 @@
-use Rattle.std.proofs.Common.{◌≡◌, ℕ, true, ◌-◌, ◌<◌, ◌≤◌, sym, ◌∙◌, arith}
+use Rattle.std.proofs.Common.{◌≡◌, true, ◌-◌, ◌≤◌, sym, ◌∙◌, arith}
 use Rattle.vm_iotlb.specs.Ranges.{table_of, Agree}
-use Rattle.vm_iotlb.specs.Pieces.{Cover}
 use Rattle.vm_iotlb.specs.Runs.{may_all, pieces}
 use Rattle.vm_iotlb.proofs.PieceLemmas.{cover, pieces_cover, joined_pieces}
 use Rattle.vm_iotlb.proofs.iotlb.Iotlb.lookup.Goals as goal

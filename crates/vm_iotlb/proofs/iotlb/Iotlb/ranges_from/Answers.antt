@@ -1,4 +1,4 @@
-use Rattle.std.proofs.Common.{◌≡◌, ℕ, List, ◌∙◌, sym, arith, leb, leb-true, le-leb, rules}
+use Rattle.std.proofs.Common.{leb, rules}
 use Rattle.std.proofs.lemmas.List.{take_rest}
 use Rattle.std.proofs.lemmas.List.Sorted.{IsPartitionPoint-from_clause, IsPartitionedBy-leb}
 use Rattle.vm_iotlb.specs.declared.range.IotlbRange.{IotlbRange}
