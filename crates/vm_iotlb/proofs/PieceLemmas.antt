@@ -11,9 +11,9 @@ use Rattle.vm_iotlb.specs.declared.permissions.Permissions.TheVariants.{No}
 use Rattle.vm_iotlb.specs.declared.range.IotlbRange.{IotlbRange}
 use Rattle.vm_iotlb.specs.declared.iova.IovaRange.{IovaRange}
 use Rattle.vm_iotlb.specs.Table.{Mapping, Table, allows}
-use Rattle.vm_iotlb.specs.Ranges.{mapping_in, table_of, AreRanges, EndsAbove, Agree}
+use Rattle.vm_iotlb.specs.Ranges.{mapping_in, table_kept, AreRanges, EndsAbove, Agree}
 use Rattle.vm_iotlb.specs.Pieces.{Cover, pieces_in}
-use Rattle.vm_iotlb.specs.Runs.{may, target_of, may_all, go_together, run_of, led_by, runs, missing, lacking, piece_of, pieces, joined, targets, between}
+use Rattle.vm_iotlb.specs.Runs.{may_pass, target_of, may_all, go_together, run_of, led_by, runs, missing, lacking, piece_of, pieces, addresses_joined, targets, between}
 use Rattle.vm_iotlb.proofs.RangeLemmas.{table_before, table_in}
 use Rattle.vm_iotlb.proofs.RunLemmas.{runs_one, runs_more, gap_run, range_run, agree_rest, missing_run, missing_skip, lacking_run, lacking_skip, lacking_gap, pieces_run, nothing_left, may_stop, may_range}
 
@@ -23,19 +23,19 @@ above_rest r [] b are h = tt
 above_rest r (s ∷ l) b are h = omega (arith, are.1.0, are.2.0.0)
 
 pub agree_none : (t : Table) (a e : ℕ) → Agree t [] a e → a < e → t a ≡ None
-unfolding table_of
+unfolding table_kept
 agree_none t a e agree some = agree a (omega arith) some
 
 -- ---- pieces
 
-may_head : (t : Table) (access : Permissions) (a n : ℕ) → 0 < n → may_all t access a n ≡ true → may access (t a) ≡ true
+may_head : (t : Table) (access : Permissions) (a n : ℕ) → 0 < n → may_all t access a n ≡ true → may_pass access (t a) ≡ true
 unfolding may_all
 may_head t access a zero some all = absurd (omega arith)
 may_head t access a (suc n) some all = (and_parts _ _ all).0
 
 stopped : (t : Table) (access : Permissions) (a e : ℕ) → a < e → t a ≡ None → may_all t access a (e - a) ≡ true → ⊥
 stopped t access a e some none all =
-    let held : may access (t a) ≡ true = may_head t access a (e - a) (omega arith) all in
+    let held : may_pass access (t a) ≡ true = may_head t access a (e - a) (omega arith) all in
     false≢true (rw none at held)
 
 pub cover : (t : Table) (access : Permissions) (l : List IotlbRange) (a e : ℕ) → AreRanges l → EndsAbove a l → a ≤ e → Agree t l a e → may_all t access a (e - a) ≡ true → Cover l a e
@@ -50,7 +50,7 @@ cover t access (r ∷ l) a e are first order agree all = λ some.
       | inr high ↦ high
     ] in
     let held : t a ≡ Some (mapping_in r a) = agree a (omega arith) some ∙ table_in r l a low first in
-    let may_go : may access (t a) ≡ true = may_head t access a (e - a) (omega arith) all in
+    let may_go : may_pass access (t a) ≡ true = may_head t access a (e - a) (omega arith) all in
     let allowed : allows r.perm access ≡ true = rw held at may_go in
     let next = may_range t access r l a (min r.end e) e agree low (omega arith) (omega arith) (omega arith) allowed in
     let rest = agree_rest t r l a (min r.end e) e agree (omega arith) (λ more. omega arith) in
@@ -87,7 +87,7 @@ runs_head t a n =
       | false ↦ (1, runs t (a + 1) n, refl)
     ]
 
-next_target : (access : Permissions) (p q : Option Mapping) → go_together p q ≡ true → may access p ≡ true → target_of p + 1 ≡ target_of q
+next_target : (access : Permissions) (p q : Option Mapping) → go_together p q ≡ true → may_pass access p ≡ true → target_of p + 1 ≡ target_of q
 next_target access None q on held = absurd (false≢true held)
 next_target access (Some p) None on held = absurd (false≢true on)
 next_target access (Some p) (Some q) on held = eqb-true _ _ (and_parts _ _ on).0
@@ -100,20 +100,20 @@ no_runs t a = refl
 longer : (x y k : ℕ) (rest all : List ℕ) → x + 1 ≡ y → range_with_len y k ++ rest ≡ all → range_with_len x (k + 1) ++ rest ≡ x ∷ all
 longer x y k rest all next same = rw (add-one, next) (ap (λ (l : List ℕ). x ∷ l) same)
 
-pub joined_pieces : (t : Table) (access : Permissions) (n a : ℕ) → may_all t access a n ≡ true → joined (pieces t a n) ≡ targets t a n
+pub joined_pieces : (t : Table) (access : Permissions) (n a : ℕ) → may_all t access a n ≡ true → addresses_joined (pieces t a n) ≡ targets t a n
 unfolding pieces may_all
 joined_pieces t access zero a all = rw (no_runs t a) refl
 joined_pieces t access (suc zero) a all = rw (runs_one t a zero (λ some. absurd (omega arith)), no_runs t (a + 1)) refl
 joined_pieces t access (suc (suc n)) a all =
     let held = and_parts _ _ all in
-    let tail : joined (map (piece_of t) (runs t (a + 1) (suc n))) ≡ targets t (a + 1) (suc n) = joined_pieces t access (suc n) (a + 1) held.1 in
+    let tail : addresses_joined (map (piece_of t) (runs t (a + 1) (suc n))) ≡ targets t (a + 1) (suc n) = joined_pieces t access (suc n) (a + 1) held.1 in
     elim (cases_Bool (go_together (t a) (t (a + 1)))) [
       | inl on ↦
           let head = runs_head t (a + 1) n in
           let whole = runs_more t a (suc n) head.0 head.1 on head.2 in
           let next = next_target access (t a) (t (a + 1)) on held.0 in
           let first = rw head.2 at tail in
-          rw whole (longer (target_of (t a)) (target_of (t (a + 1))) head.0 (joined (map (piece_of t) head.1)) (targets t (a + 1) (suc n)) next first)
+          rw whole (longer (target_of (t a)) (target_of (t (a + 1))) head.0 (addresses_joined (map (piece_of t) head.1)) (targets t (a + 1) (suc n)) next first)
       | inr off ↦ rw (runs_one t a (suc n) (λ some. off)) (ap (λ (l : List ℕ). target_of (t a) ∷ l) tail)
     ]
 
@@ -172,13 +172,13 @@ covered_end t access a e agree =
     elim (cases_lt a e) [
       | inl some ↦
           let none : t a ≡ None = agree_none t a e agree some in
-          let denied : may access (t a) ≡ false = rw none refl in
+          let denied : may_pass access (t a) ≡ false = rw none refl in
           lt-leb e a some ∙ sym (may_stop t access a e some denied)
       | inr done ↦ le-leb e a done ∙ sym (nothing_left t access a e done).3
     ]
 
 pub fails_end : (t : Table) (access : Permissions) (a e : ℕ) → Agree t [] a e → (missing t a (e - a) ≡ between a e) × (lacking t access a (e - a) ≡ [])
-unfolding table_of
+unfolding table_kept
 fails_end t access a e agree =
     elim (cases_lt a e) [
       | inl some ↦

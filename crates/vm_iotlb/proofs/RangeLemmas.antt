@@ -6,7 +6,7 @@ use Rattle.std.proofs.lemmas.Bool.Decides.{nat_tests}
 use Rattle.vm_iotlb.specs.declared.permissions.Permissions.{Permissions}
 use Rattle.vm_iotlb.specs.declared.range.IotlbRange.{IotlbRange}
 use Rattle.vm_iotlb.specs.Table.{Mapping}
-use Rattle.vm_iotlb.specs.Ranges.{has, mapping_in, table_of, IsRange, GoesOnIn, Precedes, PrecedesAll, AreRanges, EndBy}
+use Rattle.vm_iotlb.specs.Ranges.{has, mapping_in, table_kept, IsRange, GoesOnIn, Precedes, PrecedesAll, AreRanges, EndBy}
 
 -- ---- one range
 
@@ -127,16 +127,16 @@ front_ends (y ∷ z ∷ l) x are =
 -- ---- tables
 
 -- an address that all ranges end below has no mapping
-pub table_past : (l : List IotlbRange) (e a : ℕ) → EndBy e l → e ≤ a → table_of l a ≡ None
-unfolding table_of
+pub table_past : (l : List IotlbRange) (e a : ℕ) → EndBy e l → e ≤ a → table_kept l a ≡ None
+unfolding table_kept
 table_past [] e a ends h = refl
 table_past (r ∷ l) e a ends h =
     let out : has r a ≡ false = has_above r a (omega (arith, ends.0)) in
     rw out (table_past l e a ends.1 h)
 
 -- an address that all ranges begin above has no mapping
-pub table_before : (l : List IotlbRange) (e a : ℕ) → AreRanges l → StartFrom e l → a < e → table_of l a ≡ None
-unfolding table_of
+pub table_before : (l : List IotlbRange) (e a : ℕ) → AreRanges l → StartFrom e l → a < e → table_kept l a ≡ None
+unfolding table_kept
 table_before [] e a are from h = refl
 table_before (r ∷ l) e a are from h =
     let out : has r a ≡ false = has_below r a (omega arith) in
@@ -147,22 +147,22 @@ pub ends_fit : (l : List IotlbRange) (e : ℕ) → AreRanges l → e ≡ 2 ^ 64 
 ends_fit [] e are h = tt
 ends_fit (r ∷ l) e are h = (omega (arith, are.0.1), ends_fit l e are.2 h)
 
-pub table_in : (r : IotlbRange) (l : List IotlbRange) (a : ℕ) → r.start ≤ a → a < r.end → table_of (r ∷ l) a ≡ Some (mapping_in r a)
-unfolding table_of
+pub table_in : (r : IotlbRange) (l : List IotlbRange) (a : ℕ) → r.start ≤ a → a < r.end → table_kept (r ∷ l) a ≡ Some (mapping_in r a)
+unfolding table_kept
 table_in r l a low high = let test : has r a ≡ true = has_in r a low high in rw test refl
 
-pub table_out : (r : IotlbRange) (l : List IotlbRange) (a : ℕ) → r.end ≤ a → table_of (r ∷ l) a ≡ table_of l a
-unfolding table_of
+pub table_out : (r : IotlbRange) (l : List IotlbRange) (a : ℕ) → r.end ≤ a → table_kept (r ∷ l) a ≡ table_kept l a
+unfolding table_kept
 table_out r l a h = let test : has r a ≡ false = has_above r a h in rw test refl
 
 not_both : (x r : IotlbRange) (a : ℕ) → has x a ≡ true → x.end ≤ r.start → has r a ≡ false
 not_both x r a test h = grind (arith, nat_tests)
 
-pub table-push : (l : List IotlbRange) (r : IotlbRange) (a : ℕ) → EndBy r.start l → table_of (l ++ r ∷ []) a ≡ (if has r a then Some (mapping_in r a) else table_of l a)
-unfolding table_of
+pub table-push : (l : List IotlbRange) (r : IotlbRange) (a : ℕ) → EndBy r.start l → table_kept (l ++ r ∷ []) a ≡ (if has r a then Some (mapping_in r a) else table_kept l a)
+unfolding table_kept
 table-push [] r a ends = refl
 table-push (x ∷ l) r a ends =
-    elim (has x a) as (λ b. has x a ≡ b → (if b then Some (mapping_in x a) else table_of (l ++ r ∷ []) a) ≡ (if has r a then Some (mapping_in r a) else (if b then Some (mapping_in x a) else table_of l a))) [
+    elim (has x a) as (λ b. has x a ≡ b → (if b then Some (mapping_in x a) else table_kept (l ++ r ∷ []) a) ≡ (if has r a then Some (mapping_in r a) else (if b then Some (mapping_in x a) else table_kept l a))) [
       | true ↦ λ test. let out : has r a ≡ false = not_both x r a test ends.0 in rw out refl
       | false ↦ λ test. table-push l r a ends.1
     ] refl
@@ -199,13 +199,13 @@ joined_at x r y a rest is are one s e t p =
     ]
 
 pub table_joined : (l : List IotlbRange) (x r y : IotlbRange) (a : ℕ) → AreRanges (l ++ x ∷ []) → IsRange r → GoesOnIn x r → x.start ≡ y.start → r.end ≡ y.end → x.target ≡ y.target → x.perm ≡ y.perm →
-    table_of (l ++ y ∷ []) a ≡ (if has r a then Some (mapping_in r a) else table_of (l ++ x ∷ []) a)
+    table_kept (l ++ y ∷ []) a ≡ (if has r a then Some (mapping_in r a) else table_kept (l ++ x ∷ []) a)
 table_joined l x r y a are is one s e t p =
     let ends : EndBy x.start l = front_ends l x are in
     let front = ranges_front l x are in
     let before = table-push l y a (ends_higher l x.start y.start ends (omega arith)) in
     let after = table-push l x a ends in
-    before ∙ joined_at x r y a (table_of l a) front.1 is one s e t p ∙ ap (λ (o : Option Mapping). if has r a then Some (mapping_in r a) else o) (sym after)
+    before ∙ joined_at x r y a (table_kept l a) front.1 is one s e t p ∙ ap (λ (o : Option Mapping). if has r a then Some (mapping_in r a) else o) (sym after)
 
 -- ---- parts of ranges
 
@@ -278,21 +278,21 @@ and_none false = refl
 
 -- the step of the loop over ranges
 pub parts_step : (l : List IotlbRange) (r : IotlbRange) (within : Bool) (a : ℕ) (old all new : Option Mapping) → EndBy r.start l →
-    new ≡ (if has r a && within then Some (mapping_in r a) else all) → all ≡ (if within then table_of l a else old) → new ≡ (if within then table_of (l ++ r ∷ []) a else old)
+    new ≡ (if has r a && within then Some (mapping_in r a) else all) → all ≡ (if within then table_kept l a else old) → new ≡ (if within then table_kept (l ++ r ∷ []) a else old)
 parts_step l r true a old all new ends first second =
     first ∙ ap (λ (b : Bool). if b then Some (mapping_in r a) else all) (and_one (has r a)) ∙ ap (λ (o : Option Mapping). if has r a then Some (mapping_in r a) else o) second ∙ sym (table-push l r a ends)
 parts_step l r false a old all new ends first second =
     first ∙ ap (λ (b : Bool). if b then Some (mapping_in r a) else all) (and_none (has r a)) ∙ second
 
-pub table-empty : (l : List IotlbRange) (a : ℕ) → l ≡ [] → table_of l a ≡ None
-unfolding table_of
+pub table-empty : (l : List IotlbRange) (a : ℕ) → l ≡ [] → table_kept l a ≡ None
+unfolding table_kept
 table-empty l a none = rw none refl
 
 -- the start of that loop
-pub parts_init : (old : List IotlbRange) (from to a : ℕ) → EndBy from old → table_of old a ≡ (if nat_le from a && nat_lt a to then table_of [] a else table_of old a)
-unfolding table_of
+pub parts_init : (old : List IotlbRange) (from to a : ℕ) → EndBy from old → table_kept old a ≡ (if nat_le from a && nat_lt a to then table_kept [] a else table_kept old a)
+unfolding table_kept
 parts_init old from to a ends =
-    elim (nat_le from a && nat_lt a to) as (λ b. (nat_le from a && nat_lt a to) ≡ b → table_of old a ≡ (if b then None else table_of old a)) [
+    elim (nat_le from a && nat_lt a to) as (λ b. (nat_le from a && nat_lt a to) ≡ b → table_kept old a ≡ (if b then None else table_kept old a)) [
       | true ↦ λ test. table_past old from a ends (leb-true from a (and_parts (nat_le from a) (nat_lt a to) test).0)
       | false ↦ λ test. refl
     ] refl

@@ -7,8 +7,8 @@ use Rattle.vm_iotlb.specs.declared.permissions.Permissions.TheVariants.{No, Read
 use Rattle.vm_iotlb.specs.declared.range.IotlbRange.{IotlbRange}
 use Rattle.vm_iotlb.specs.declared.iova.IovaRange.{IovaRange}
 use Rattle.vm_iotlb.specs.Table.{Mapping, Table, allows}
-use Rattle.vm_iotlb.specs.Ranges.{has, mapping_in, table_of, AreRanges, Agree}
-use Rattle.vm_iotlb.specs.Runs.{may, may_all, go_together, run_of, runs, missing, lacking, pieces}
+use Rattle.vm_iotlb.specs.Ranges.{has, mapping_in, table_kept, AreRanges, Agree}
+use Rattle.vm_iotlb.specs.Runs.{may_pass, may_all, go_together, run_of, runs, missing, lacking, pieces}
 use Rattle.vm_iotlb.proofs.RangeLemmas.{has_in, table_before, table_in, table_out}
 
 -- ---- runs of any table
@@ -87,8 +87,8 @@ together_in r x low =
     rw (same, allows_same r.perm) refl
 
 -- the last address of a range and the one that follows the range
-pub apart : (r : IotlbRange) (l : List IotlbRange) (x b : ℕ) → AreRanges (r ∷ l) → x + 1 ≡ b → b ≡ r.end → go_together (Some (mapping_in r x)) (table_of l b) ≡ false
-unfolding table_of
+pub apart : (r : IotlbRange) (l : List IotlbRange) (x b : ℕ) → AreRanges (r ∷ l) → x + 1 ≡ b → b ≡ r.end → go_together (Some (mapping_in r x)) (table_kept l b) ≡ false
+unfolding table_kept
 apart r [] x b are next end = refl
 apart r (s ∷ l) x b are next end =
     elim (cases_lt b s.start) [
@@ -147,19 +147,19 @@ nothing_left t access a e h = let none : e - a ≡ 0 = omega arith in (rw none r
 
 -- ---- accesses
 
-may_first : (t : Table) (access : Permissions) (a n : ℕ) → 0 < n → may access (t a) ≡ false → may_all t access a n ≡ false
+may_first : (t : Table) (access : Permissions) (a n : ℕ) → 0 < n → may_pass access (t a) ≡ false → may_all t access a n ≡ false
 unfolding may_all
 may_first t access a zero some denied = absurd (omega arith)
 may_first t access a (suc n) some denied = rw denied refl
 
-pub may_rest : (t : Table) (access : Permissions) (c a b m n : ℕ) → c + n ≡ m → a + c ≡ b → ((x : ℕ) → a ≤ x → x < b → may access (t x) ≡ true) → may_all t access a m ≡ may_all t access b n
+pub may_rest : (t : Table) (access : Permissions) (c a b m n : ℕ) → c + n ≡ m → a + c ≡ b → ((x : ℕ) → a ≤ x → x < b → may_pass access (t x) ≡ true) → may_all t access a m ≡ may_all t access b n
 unfolding may_all
 may_rest t access zero a b m n count end all = let same : m ≡ n = omega arith in let here : a ≡ b = omega arith in rw (same, here) refl
 may_rest t access (suc c) a b zero n count end all = absurd (omega arith)
 may_rest t access (suc c) a b (suc m) n count end all =
     rw (all a (omega arith) (omega arith)) (may_rest t access c (a + 1) b m n (omega arith) (omega arith) (λ x from to. all x (omega arith) to))
 
-pub may_stop : (t : Table) (access : Permissions) (a e : ℕ) → a < e → may access (t a) ≡ false → may_all t access a (e - a) ≡ false
+pub may_stop : (t : Table) (access : Permissions) (a e : ℕ) → a < e → may_pass access (t a) ≡ false → may_all t access a (e - a) ≡ false
 may_stop t access a e some denied = may_first t access a (e - a) (omega arith) denied
 
 pub may_range : (t : Table) (access : Permissions) (r : IotlbRange) (l : List IotlbRange) (a b e : ℕ) → Agree t (r ∷ l) a e → r.start ≤ a → a ≤ b → b ≤ r.end → b ≤ e → allows r.perm access ≡ true → may_all t access a (e - a) ≡ may_all t access b (e - b)

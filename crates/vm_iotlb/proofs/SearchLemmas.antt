@@ -3,7 +3,7 @@ use Rattle.std.proofs.Common.{◌≡◌, ℕ, zero, suc, true, false, ◌<◌, �
 use Rattle.std.specs.List.{AllWithin}
 use Rattle.std.proofs.lemmas.Bool.{leb-true, leb-false}
 use Rattle.vm_iotlb.specs.declared.range.IotlbRange.{IotlbRange}
-use Rattle.vm_iotlb.specs.Ranges.{table_of, AreRanges, EndsAbove}
+use Rattle.vm_iotlb.specs.Ranges.{table_kept, AreRanges, EndsAbove}
 use Rattle.vm_iotlb.proofs.RangeLemmas.{from_after, from_at, ranges_at, table_out}
 
 -- ranges end one above the other
@@ -18,7 +18,7 @@ ends_rise (r ∷ l) (suc i) zero d are order within = absurd (omega arith)
 ends_rise (r ∷ l) (suc i) (suc j) d are order within = ends_rise l i j d are.2 (omega arith) (omega arith)
 
 -- the ranges that end at an address or below it have no address from there on
-pub table-drop : (l : List IotlbRange) (k e a : ℕ) → AllWithin (λ (r : IotlbRange). leb r.end e ≡ true) l 0 k → k ≤ length l → e ≤ a → table_of l a ≡ table_of (drop k l) a
+pub table-drop : (l : List IotlbRange) (k e a : ℕ) → AllWithin (λ (r : IotlbRange). leb r.end e ≡ true) l 0 k → k ≤ length l → e ≤ a → table_kept l a ≡ table_kept (drop k l) a
 table-drop l zero e a below within low = refl
 table-drop [] (suc k) e a below within low = refl
 table-drop (r ∷ l) (suc k) e a below within low =

@@ -4,3 +4,4 @@ pub mod Runs
 pub mod Pieces
 pub mod Changes
 pub mod Numbers
+pub mod Examples

@@ -12,9 +12,9 @@ abbrev pub mapping_in : IotlbRange → ℕ → Mapping
 mapping_in r a = record { target = r.target + (a - r.start); perm = r.perm }
 
 -- the table that ranges keep: an address has the mapping of the range that has it
-unfoldable pub table_of : List IotlbRange → ℕ → Option Mapping
-table_of [] a = None
-table_of (r ∷ rs) a = if has r a then Some (mapping_in r a) else table_of rs a
+unfoldable pub table_kept : List IotlbRange → ℕ → Option Mapping
+table_kept [] a = None
+table_kept (r ∷ rs) a = if has r a then Some (mapping_in r a) else table_kept rs a
 
 -- a range is not empty, and its end and the end of what it maps to fit 64 bits
 abbrev pub IsRange : IotlbRange → Type 0
@@ -39,7 +39,7 @@ AreRanges (r ∷ rs) = IsRange r × PrecedesAll r rs × AreRanges rs
 
 -- lists of ranges that keep the same table are the same
 abbrev pub AreCanonical : Type 0
-AreCanonical = (one other : List IotlbRange) → AreRanges one → AreRanges other → AreSame (table_of one) (table_of other) → one ≡ other
+AreCanonical = (one other : List IotlbRange) → AreRanges one → AreRanges other → AreSame (table_kept one) (table_kept other) → one ≡ other
 
 -- no range ends above an address
 abbrev pub EndBy : ℕ → List IotlbRange → Type 0
@@ -53,4 +53,4 @@ EndsAbove a (r ∷ rs) = a < r.end
 
 -- ranges do what a table does, from one address up to another
 abbrev pub Agree : Table → List IotlbRange → ℕ → ℕ → Type 0
-Agree table l a e = (x : ℕ) → a ≤ x → x < e → table x ≡ table_of l x
+Agree table l a e = (x : ℕ) → a ≤ x → x < e → table x ≡ table_kept l x

@@ -9,9 +9,9 @@ use Rattle.vm_iotlb.specs.declared.lookup.LookupError.TheVariants.{Fails, OutOfM
 use Rattle.vm_iotlb.specs.Table.{Mapping, Table, allows}
 
 -- whether an access may go through what an address has
-abbrev pub may : Permissions → Option Mapping → Bool
-may access None = false
-may access (Some to) = allows to.perm access
+abbrev pub may_pass : Permissions → Option Mapping → Bool
+may_pass access None = false
+may_pass access (Some to) = allows to.perm access
 
 -- whether an address has a mapping, but one that lacks the permission
 abbrev pub lacks : Permissions → Option Mapping → Bool
@@ -28,7 +28,7 @@ target_of (Some to) = to.target
 
 -- whether an access may go through each of n addresses from a on
 unfoldable pub may_all : Table → Permissions → ℕ → ℕ → Bool
-may_all table access a n = list_all (λ x. may access (table x)) (range_with_len a n)
+may_all table access a n = list_all (λ x. may_pass access (table x)) (range_with_len a n)
 
 -- whether an address and the next go together: both have no mapping, or one of the same permission, to a target and the next
 abbrev pub go_together : Option Mapping → Option Mapping → Bool
@@ -68,8 +68,8 @@ unfoldable pub pieces : Table → ℕ → ℕ → List MappedRange
 pieces table a n = map (piece_of table) (runs table a n)
 
 -- the addresses of pieces, one after another
-abbrev pub joined : List MappedRange → List ℕ
-joined all = flat_map (λ p. range_with_len p.base.0 p.length) all
+abbrev pub addresses_joined : List MappedRange → List ℕ
+addresses_joined all = flat_map (λ p. range_with_len p.base.0 p.length) all
 
 -- the targets of n addresses from a on, address by address
 abbrev pub targets : Table → ℕ → ℕ → List ℕ
@@ -87,7 +87,7 @@ IsStopped table access iova n OutOfMemory = Unit {0}
 
 -- a look-up gives the pieces exactly where the end fits 64 bits and an access may go through each address, and else what stands in its way; memory may be wanting for that
 abbrev pub LooksUp : Table → (iova n : ℕ) → Permissions → Result (List MappedRange) LookupError → Type 0
-LooksUp table iova n access (Ok all) = (iova + n < 2 ^ 64) × (may_all table access iova n ≡ true) × (all ≡ pieces table iova n) × (joined all ≡ targets table iova n)
+LooksUp table iova n access (Ok all) = (iova + n < 2 ^ 64) × (may_all table access iova n ≡ true) × (all ≡ pieces table iova n) × (addresses_joined all ≡ targets table iova n)
 LooksUp table iova n access (Err error) =
     (iova + n < 2 ^ 64 → (may_all table access iova n ≡ false) × IsStopped table access iova n error)
     × (2 ^ 64 ≤ iova + n → IsMissedWhole iova n error)

@@ -2,7 +2,7 @@
 
 ghost use Rattle.std.specs.Prelude.{◌≡◌, ℕ, ◌≤◌, []};
 ghost use Rattle.vm_iotlb.specs.Changes.{InvalidatesMapping, SetsMapping};
-ghost use Rattle.vm_iotlb.specs.Ranges.{AreRanges, EndsAbove, table_of};
+ghost use Rattle.vm_iotlb.specs.Ranges.{AreRanges, EndsAbove, table_kept};
 ghost use Rattle.vm_iotlb.specs.Runs.{LooksUp};
 
 use crate::error::IommuError;
@@ -13,7 +13,7 @@ use std::alloc::Global;
 use std::marker::Model;
 use vm_values::GuestAddress;
 
-/// What each I/O address is mapped to, and what may be done there. Clauses see its ranges, and say by `table_of`
+/// What each I/O address is mapped to, and what may be done there. Clauses see its ranges, and say by `table_kept`
 /// what it does to each address.
 #[derive(Drop)]
 pub struct Iotlb {
@@ -115,7 +115,7 @@ impl Iotlb {
         length: usize,
         access: Permissions,
     ) -> Result<IotlbIterator<'_>, LookupError>
-        ensures found { LooksUp (table_of self.now) iova.0 length access result }
+        ensures found { LooksUp (table_kept self.now) iova.0 length access result }
         ensures ranges { AreRanges self.now }
     {
         let Some(end) = iova.0.checked_add(length as u64) else {
@@ -134,7 +134,7 @@ impl Iotlb {
     // The ranges that end above an address.
     fn ranges_from(&self, iova: u64) -> &[IotlbRange]
         ensures ranges { AreRanges result.now }
-        ensures table { (a : ℕ) → iova ≤ a → table_of self.now a ≡ table_of result.now a }
+        ensures table { (a : ℕ) → iova ≤ a → table_kept self.now a ≡ table_kept result.now a }
         ensures first { EndsAbove iova result.now }
     {
         let ended = self.ranges.partition_point(|range| range.end <= iova);

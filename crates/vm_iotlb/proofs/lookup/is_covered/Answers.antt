@@ -3,7 +3,7 @@ use Rattle.vm_iotlb.specs.declared.permissions.Permissions.TheVariants.{No}
 use Rattle.vm_iotlb.specs.declared.range.IotlbRange.{IotlbRange}
 use Rattle.vm_iotlb.specs.Table.{allows}
 use Rattle.vm_iotlb.specs.Ranges.{AreRanges, Agree, EndsAbove}
-use Rattle.vm_iotlb.specs.Runs.{may}
+use Rattle.vm_iotlb.specs.Runs.{may_pass}
 use Rattle.vm_iotlb.proofs.RangeLemmas.{ranges_drop, table_before, table_in}
 use Rattle.vm_iotlb.proofs.RunLemmas.{agree_rest, nothing_left, may_stop, may_range}
 use Rattle.vm_iotlb.proofs.PieceLemmas.{above_rest, covered_end, drop_more, drop_past}
@@ -22,7 +22,7 @@ returns-then-next-range c = λ table agree.
     let are : AreRanges (r ∷ drop (i + 1) c.args.ranges.now) = rw more at (ranges_drop c.args.ranges.now i c.requires.ranges) in
     let rest : Agree table (r ∷ drop (i + 1) c.args.ranges.now) c.loop-range.next c.args.end = rw more at (c.loop-range.invariant.rest table agree) in
     let none = rest c.loop-range.next (omega arith) (omega arith) ∙ table_before (r ∷ drop (i + 1) c.args.ranges.now) r.start c.loop-range.next are (omega arith) (omega arith) in
-    let denied : may c.args.access (table c.loop-range.next) ≡ false = rw none refl in
+    let denied : may_pass c.args.access (table c.loop-range.next) ≡ false = rw none refl in
     sym (c.loop-range.invariant.all table agree ∙ may_stop table c.args.access c.loop-range.next c.args.end (omega arith) denied)
 
 pub returns-then-not-allow : goal.returns-then-not-allow
@@ -35,7 +35,7 @@ returns-then-not-allow c = λ table agree.
     let first : EndsAbove c.loop-range.next (r ∷ drop (i + 1) c.args.ranges.now) = rw more at c.loop-range.invariant.first in
     let held = rest c.loop-range.next (omega arith) (omega arith) ∙ table_in r (drop (i + 1) c.args.ranges.now) c.loop-range.next (omega arith) first in
     let not_allowed : allows r.perm c.args.access ≡ false = sym c.if-not-allow.ensures in
-    let denied : may c.args.access (table c.loop-range.next) ≡ false = rw held not_allowed in
+    let denied : may_pass c.args.access (table c.loop-range.next) ≡ false = rw held not_allowed in
     sym (c.loop-range.invariant.all table agree ∙ may_stop table c.args.access c.loop-range.next c.args.end (omega arith) denied)
 
 pub loop-range-preserved : goal.loop-range-preserved

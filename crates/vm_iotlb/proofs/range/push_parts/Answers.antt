@@ -3,7 +3,7 @@ use Rattle.std.specs.Prelude.{◌&&◌, nat_le, nat_lt, max}
 use Rattle.std.proofs.lemmas.List.{take_more}
 use Rattle.vm_iotlb.specs.declared.permissions.Permissions.TheVariants.{No}
 use Rattle.vm_iotlb.specs.declared.range.IotlbRange.{IotlbRange}
-use Rattle.vm_iotlb.specs.Ranges.{table_of, EndBy}
+use Rattle.vm_iotlb.specs.Ranges.{table_kept, EndBy}
 use Rattle.vm_iotlb.proofs.RangeLemmas.{ends_higher, ends_front, ranges_at, parts_init, parts_step}
 use Rattle.vm_iotlb.proofs.range.push_parts.Goals as goal
 
@@ -40,5 +40,5 @@ loop-range-preserved c =
           let front = ends_front (take i c.args.others.now) r e both in
           c.in_ok-push_part.ensures.ends e (c.loop-range.invariant.ends e low front.0) (omega (arith, front.1));
       top = c.in_ok-push_part.ensures.ends c.args.to c.loop-range.invariant.top (omega arith);
-      table = λ a. rw more (parts_step (take i c.args.others.now) r (nat_le c.args.from a && nat_lt a c.args.to) a (table_of c.args.ranges.now.items a) (table_of c.loop-range.ranges.items a) (table_of c.push_part.new.ranges.items a) is.1 (c.in_ok-push_part.ensures.table a) (c.loop-range.invariant.table a));
+      table = λ a. rw more (parts_step (take i c.args.others.now) r (nat_le c.args.from a && nat_lt a c.args.to) a (table_kept c.args.ranges.now.items a) (table_kept c.loop-range.ranges.items a) (table_kept c.push_part.new.ranges.items a) is.1 (c.in_ok-push_part.ensures.table a) (c.loop-range.invariant.table a));
     }

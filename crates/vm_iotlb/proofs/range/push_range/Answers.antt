@@ -1,11 +1,11 @@
 use Rattle.std.proofs.Common.{◌≡◌, [], ◌∷◌, ◌++◌, refl, arith}
 use Rattle.std.proofs.lemmas.Grind.{common_steps}
-use Rattle.vm_iotlb.specs.Ranges.{table_of, AreRanges, EndBy}
+use Rattle.vm_iotlb.specs.Ranges.{table_kept, AreRanges, EndBy}
 use Rattle.vm_iotlb.proofs.RangeLemmas.{ranges_front, ranges_joined, ranges_two, ends_front, ends_higher, ends_push, table_joined, table-push}
 use Rattle.vm_iotlb.proofs.range.push_range.Goals as goal
 
 pub returns-in_default-clause-table : goal.returns-in_default-clause-table
-unfolding table_of
+unfolding table_kept
 returns-in_default-clause-table c =
     let new : c.push.new.self.items ≡ c.args.range ∷ [] = grind (arith, common_steps) in
     let old : c.args.ranges.now.items ≡ [] = grind (arith, common_steps) in
