@@ -1,0 +1,15 @@
+//! Tests of an IOMMU's table: worked look-ups, hostile ranges, texts and numbers of errors.
+#![tactic(auto)]
+
+#[cfg(test)]
+mod changes;
+#[cfg(test)]
+mod errors;
+#[cfg(test)]
+mod given;
+#[cfg(test)]
+mod hostile;
+#[cfg(test)]
+mod lookups;
+#[cfg(test)]
+mod permissions;

@@ -1,0 +1,40 @@
+-- A worked table that computes: eight addresses for reading and writing, two in their middle that are elsewhere and for reading alone.
+use Rattle.std.specs.Prelude.{◌≡◌, ℕ, true, false, List, [], ◌∷◌, refl}
+use Rattle.vm_iotlb.specs.declared.permissions.Permissions.TheVariants.{Read, Write, ReadWrite}
+use Rattle.vm_iotlb.specs.declared.iova.MappedRange.{MappedRange}
+use Rattle.vm_iotlb.specs.Table.{Table, nothing_mapped, mapped, unmapped}
+use Rattle.vm_iotlb.specs.Runs.{run_of, runs, pieces, missing, lacking, may_all}
+
+abbrev table : Table
+table = mapped 0x14 0x40 2 Read (mapped 0x10 0x80 8 ReadWrite nothing_mapped)
+
+abbrev piece : ℕ → ℕ → MappedRange
+piece a n = record { base = record { 0 = a }; length = n }
+
+-- a look-up that goes through each of them
+read_may : may_all table Read 0x12 6 ≡ true
+unfolding may_all
+read_may = refl
+
+read_pieces : pieces table 0x12 6 ≡ piece 0x82 2 ∷ piece 0x40 2 ∷ piece 0x86 2 ∷ []
+unfolding pieces runs
+read_pieces = refl
+
+-- one that the two in the middle stop
+write_may_not : may_all table Write 0x12 6 ≡ false
+unfolding may_all
+write_may_not = refl
+
+write_lacks : lacking table Write 0x12 6 ≡ run_of 0x14 2 ∷ []
+unfolding lacking runs
+write_lacks = refl
+
+-- one that begins before all of them
+front_misses : missing table 0xe 4 ≡ run_of 0xe 2 ∷ []
+unfolding missing runs
+front_misses = refl
+
+-- the first one after the two were taken out
+middle_misses : missing (unmapped 0x14 2 table) 0x12 6 ≡ run_of 0x14 2 ∷ []
+unfolding missing runs
+middle_misses = refl

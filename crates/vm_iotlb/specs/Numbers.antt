@@ -1,0 +1,20 @@
+-- The numbers of errors, and which ranges are one.
+use Rattle.std.specs.Prelude.{ℕ, ◌≡◌, ◌-◌, ◌<◌, ◌≤◌, Result, Ok, Err}
+use Rattle.std.specs.declared.ops.Range.{Range}
+use Rattle.vm_iotlb.specs.declared.iova.IovaRange.{IovaRange}
+use Rattle.vm_iotlb.specs.declared.error.IommuError.{IommuError}
+use Rattle.vm_iotlb.specs.declared.error.IommuError.TheVariants.{CannotResolve, Fragmented, IommuMisconfigured, OutOfMemory}
+
+abbrev pub iommu_error_number : IommuError → ℕ
+iommu_error_number (CannotResolve range) = 1
+iommu_error_number Fragmented = 2
+iommu_error_number IommuMisconfigured = 3
+iommu_error_number OutOfMemory = 4
+
+-- the addresses from one up to another are a range unless they end before they begin
+abbrev pub IsIovaRange : Range ℕ → Result IovaRange IommuError → Type 0
+IsIovaRange span (Ok range) = (span.start ≤ span.end) × (range.base.0 ≡ span.start) × (range.length ≡ span.end - span.start)
+IsIovaRange span (Err IommuMisconfigured) = span.end < span.start
+IsIovaRange span (Err (CannotResolve range)) = ⊥
+IsIovaRange span (Err Fragmented) = ⊥
+IsIovaRange span (Err OutOfMemory) = ⊥

@@ -1,0 +1,56 @@
+-- Which table a list of ranges keeps. Clauses speak of the table alone; the ranges are how it is kept.
+use Rattle.std.specs.Prelude.{◌≡◌, ℕ, ◌+◌, ◌-◌, ◌<◌, ◌≤◌, ◌^◌, Bool, ◌&&◌, nat_le, nat_lt, List, [], ◌∷◌, Option, Some, None, if◌then◌else◌}
+use Rattle.vm_iotlb.specs.declared.range.IotlbRange.{IotlbRange}
+use Rattle.vm_iotlb.specs.Table.{Mapping, Table, AreSame}
+
+-- whether a range has an address
+abbrev pub has : IotlbRange → ℕ → Bool
+has r a = nat_le r.start a && nat_lt a r.end
+
+-- what a range maps an address of its own to
+abbrev pub mapping_in : IotlbRange → ℕ → Mapping
+mapping_in r a = record { target = r.target + (a - r.start); perm = r.perm }
+
+-- the table that ranges keep: an address has the mapping of the range that has it
+unfoldable pub table_kept : List IotlbRange → ℕ → Option Mapping
+table_kept [] a = None
+table_kept (r ∷ rs) a = if has r a then Some (mapping_in r a) else table_kept rs a
+
+-- a range is not empty, and its end and the end of what it maps to fit 64 bits
+abbrev pub IsRange : IotlbRange → Type 0
+IsRange r = (r.start < r.end) × (r.end < 2 ^ 64) × (r.target + (r.end - r.start) < 2 ^ 64)
+
+-- one range goes on in another, so that one range would do for both
+abbrev pub GoesOnIn : IotlbRange → IotlbRange → Type 0
+GoesOnIn r s = (r.end ≡ s.start) × (r.target + (r.end - r.start) ≡ s.target) × (r.perm ≡ s.perm)
+
+-- one range ends before another, and doesn't go on in it
+abbrev pub Precedes : IotlbRange → IotlbRange → Type 0
+Precedes r s = (r.end ≤ s.start) × (GoesOnIn r s → ⊥)
+
+abbrev pub PrecedesAll : IotlbRange → List IotlbRange → Type 0
+PrecedesAll r [] = Unit {0}
+PrecedesAll r (s ∷ rest) = Precedes r s
+
+-- ranges ascend, have no address in common, and are as long as can be
+abbrev pub AreRanges : List IotlbRange → Type 0
+AreRanges [] = Unit {0}
+AreRanges (r ∷ rs) = IsRange r × PrecedesAll r rs × AreRanges rs
+
+-- lists of ranges that keep the same table are the same
+abbrev pub AreCanonical : Type 0
+AreCanonical = (one other : List IotlbRange) → AreRanges one → AreRanges other → AreSame (table_kept one) (table_kept other) → one ≡ other
+
+-- no range ends above an address
+abbrev pub EndBy : ℕ → List IotlbRange → Type 0
+EndBy e [] = Unit {0}
+EndBy e (r ∷ rs) = (r.end ≤ e) × EndBy e rs
+
+-- the first range ends above an address
+abbrev pub EndsAbove : ℕ → List IotlbRange → Type 0
+EndsAbove a [] = Unit {0}
+EndsAbove a (r ∷ rs) = a < r.end
+
+-- ranges do what a table does, from one address up to another
+abbrev pub Agree : Table → List IotlbRange → ℕ → ℕ → Type 0
+Agree table l a e = (x : ℕ) → a ≤ x → x < e → table x ≡ table_kept l x

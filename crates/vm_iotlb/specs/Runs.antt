@@ -1,0 +1,97 @@
+-- What a look-up answers: the addresses of a range, in runs as long as can be.
+use Rattle.std.specs.Prelude.{◌≡◌, ℕ, zero, suc, ◌+◌, ◌-◌, ◌<◌, ◌≤◌, ◌^◌, nat_lt, Bool, true, false, not, ◌&&◌, ◌==◌, List, [], ◌∷◌, map, Option, Some, None, if◌then◌else◌, Result, Ok, Err}
+use Rattle.std.specs.List.{list_all, filter, flat_map, range_with_len}
+use Rattle.vm_iotlb.specs.declared.permissions.Permissions.{Permissions}
+use Rattle.vm_iotlb.specs.declared.iova.IovaRange.{IovaRange}
+use Rattle.vm_iotlb.specs.declared.iova.MappedRange.{MappedRange}
+use Rattle.vm_iotlb.specs.declared.lookup.LookupError.{LookupError}
+use Rattle.vm_iotlb.specs.declared.lookup.LookupError.TheVariants.{Fails, OutOfMemory}
+use Rattle.vm_iotlb.specs.Table.{Mapping, Table, allows}
+
+-- whether an access may go through what an address has
+abbrev pub may_pass : Permissions → Option Mapping → Bool
+may_pass access None = false
+may_pass access (Some to) = allows to.perm access
+
+-- whether an address has a mapping, but one that lacks the permission
+abbrev pub lacks : Permissions → Option Mapping → Bool
+lacks access None = false
+lacks access (Some to) = not (allows to.perm access)
+
+abbrev pub misses : Option Mapping → Bool
+misses None = true
+misses (Some to) = false
+
+abbrev pub target_of : Option Mapping → ℕ
+target_of None = 0
+target_of (Some to) = to.target
+
+-- whether an access may go through each of n addresses from a on
+unfoldable pub may_all : Table → Permissions → ℕ → ℕ → Bool
+may_all table access a n = list_all (λ x. may_pass access (table x)) (range_with_len a n)
+
+-- whether an address and the next go together: both have no mapping, or one of the same permission, to a target and the next
+abbrev pub go_together : Option Mapping → Option Mapping → Bool
+go_together None None = true
+go_together None (Some next) = false
+go_together (Some this) None = false
+go_together (Some this) (Some next) = this.target + 1 == next.target && (allows this.perm next.perm && allows next.perm this.perm)
+
+-- n addresses from a on
+abbrev pub run_of : ℕ → ℕ → IovaRange
+run_of a n = record { base = record { 0 = a }; length = n }
+
+-- runs, the first of which begins one address earlier, at a
+abbrev pub led_by : ℕ → List IovaRange → List IovaRange
+led_by a [] = run_of a 1 ∷ []
+led_by a (r ∷ rest) = run_of a (r.length + 1) ∷ rest
+
+-- n addresses from a on, as the longest runs that go together
+unfoldable pub runs : Table → ℕ → ℕ → List IovaRange
+runs table a zero = []
+runs table a (suc n) = if go_together (table a) (table (a + 1)) then led_by a (runs table (a + 1) n) else run_of a 1 ∷ runs table (a + 1) n
+
+-- the runs among n addresses from a on whose addresses have no mapping
+unfoldable pub missing : Table → ℕ → ℕ → List IovaRange
+missing table a n = filter (λ r. misses (table r.base.0)) (runs table a n)
+
+-- the runs among n addresses from a on whose mapping lacks the permission
+unfoldable pub lacking : Table → Permissions → ℕ → ℕ → List IovaRange
+lacking table access a n = filter (λ r. lacks access (table r.base.0)) (runs table a n)
+
+-- what a run is mapped to
+abbrev pub piece_of : Table → IovaRange → MappedRange
+piece_of table r = record { base = record { 0 = target_of (table r.base.0) }; length = r.length }
+
+-- what n addresses from a on are mapped to, run by run
+unfoldable pub pieces : Table → ℕ → ℕ → List MappedRange
+pieces table a n = map (piece_of table) (runs table a n)
+
+-- the addresses of pieces, one after another
+abbrev pub addresses_joined : List MappedRange → List ℕ
+addresses_joined all = flat_map (λ p. range_with_len p.base.0 p.length) all
+
+-- the targets of n addresses from a on, address by address
+abbrev pub targets : Table → ℕ → ℕ → List ℕ
+targets table a n = map (λ x. target_of (table x)) (range_with_len a n)
+
+-- where the end of the asked range does not fit 64 bits, all of it is missing; memory may be wanting
+abbrev pub IsMissedWhole : (iova n : ℕ) → LookupError → Type 0
+IsMissedWhole iova n (Fails fails) = (fails.misses.items ≡ run_of iova n ∷ []) × (fails.access_fails.items ≡ [])
+IsMissedWhole iova n OutOfMemory = Unit {0}
+
+-- where it fits, what stands in the way
+abbrev pub IsStopped : Table → Permissions → (iova n : ℕ) → LookupError → Type 0
+IsStopped table access iova n (Fails fails) = (fails.misses.items ≡ missing table iova n) × (fails.access_fails.items ≡ lacking table access iova n)
+IsStopped table access iova n OutOfMemory = Unit {0}
+
+-- a look-up gives the pieces exactly where the end fits 64 bits and an access may go through each address, and else what stands in its way; memory may be wanting for that
+abbrev pub LooksUp : Table → (iova n : ℕ) → Permissions → Result (List MappedRange) LookupError → Type 0
+LooksUp table iova n access (Ok all) = (iova + n < 2 ^ 64) × (may_all table access iova n ≡ true) × (all ≡ pieces table iova n) × (addresses_joined all ≡ targets table iova n)
+LooksUp table iova n access (Err error) =
+    (iova + n < 2 ^ 64 → (may_all table access iova n ≡ false) × IsStopped table access iova n error)
+    × (2 ^ 64 ≤ iova + n → IsMissedWhole iova n error)
+
+-- the addresses from a up to e, if there are any
+abbrev pub between : ℕ → ℕ → List IovaRange
+between a e = if nat_lt a e then run_of a (e - a) ∷ [] else []

@@ -1,0 +1,143 @@
+//! An IOMMU's table (vm-memory's `Iotlb`).
+
+ghost use Rattle.std.specs.Prelude.{◌≡◌, ℕ, ◌≤◌, []};
+ghost use Rattle.vm_iotlb.specs.Changes.{InvalidatesMapping, SetsMapping};
+ghost use Rattle.vm_iotlb.specs.Ranges.{AreRanges, EndsAbove, table_kept};
+ghost use Rattle.vm_iotlb.specs.Runs.{LooksUp};
+
+use crate::error::IommuError;
+use crate::lookup::{IotlbIterator, LookupError, fails_among, is_covered, misses_whole};
+use crate::permissions::Permissions;
+use crate::range::{IotlbRange, with_range, without};
+use std::alloc::Global;
+use std::marker::Model;
+use vm_values::GuestAddress;
+
+/// What each I/O address is mapped to, and what may be done there. Clauses see its ranges, and say by `table_kept`
+/// what it does to each address.
+#[derive(Drop)]
+pub struct Iotlb {
+    alloc: Global,
+    ranges: Vec<IotlbRange>,
+}
+
+impl Model for Iotlb {
+    ghost use Rattle.std.specs.Prelude.{List};
+    ghost use Rattle.vm_iotlb.specs.declared.range.IotlbRange.{IotlbRange};
+    ghost use Rattle.vm_iotlb.specs.Ranges.{AreRanges};
+
+    ghost Value = { List IotlbRange };
+
+    ghost view = { λ t. t.ranges.items };
+
+    ghost invariant = { λ t. AreRanges t.ranges.items };
+}
+
+impl Iotlb {
+    /// No address is mapped.
+    pub fn new(alloc: Global) -> Iotlb
+        ensures { result ≡ [] }
+    {
+        Iotlb {
+            alloc,
+            ranges: Vec::new(alloc),
+        }
+    }
+
+    /// Maps `length` I/O addresses to those from a target on, whatever they had before.
+    pub fn set_mapping(
+        &mut self,
+        iova: GuestAddress,
+        target: GuestAddress,
+        length: usize,
+        perm: Permissions,
+    ) -> Result<(), IommuError>
+        ensures { SetsMapping iova.0 target.0 length perm self.old self.new result }
+    {
+        let Some(end) = iova.0.checked_add(length as u64) else {
+            return Err(IommuError::IommuMisconfigured);
+        };
+        if target.0.checked_add(length as u64).is_none() {
+            return Err(IommuError::IommuMisconfigured);
+        }
+        if length == 0 {
+            return Ok(());
+        }
+        let range = IotlbRange {
+            start: iova.0,
+            end,
+            target: target.0,
+            perm,
+        };
+        match with_range(self.alloc, &self.ranges, range) {
+            Ok(ranges) => {
+                self.ranges = ranges;
+                Ok(())
+            }
+            Err(_) => Err(IommuError::OutOfMemory),
+        }
+    }
+
+    /// Takes the mapping of `length` I/O addresses out.
+    pub fn invalidate_mapping(
+        &mut self,
+        iova: GuestAddress,
+        length: usize,
+    ) -> Result<(), IommuError>
+        ensures { InvalidatesMapping iova.0 length self.old self.new result }
+    {
+        let Some(end) = iova.0.checked_add(length as u64) else {
+            return Err(IommuError::IommuMisconfigured);
+        };
+        if length == 0 {
+            return Ok(());
+        }
+        match without(self.alloc, &self.ranges, iova.0, end) {
+            Ok(ranges) => {
+                self.ranges = ranges;
+                Ok(())
+            }
+            Err(_) => Err(IommuError::OutOfMemory),
+        }
+    }
+
+    /// Takes each mapping out.
+    pub fn invalidate_all(&mut self)
+        ensures { self.new ≡ [] }
+    {
+        self.ranges.clear();
+    }
+
+    /// What `length` I/O addresses are mapped to, if each may be accessed so. Only one that fails takes memory.
+    pub fn lookup(
+        &self,
+        iova: GuestAddress,
+        length: usize,
+        access: Permissions,
+    ) -> Result<IotlbIterator<'_>, LookupError>
+        ensures found { LooksUp (table_kept self.now) iova.0 length access result }
+        ensures ranges { AreRanges self.now }
+    {
+        let Some(end) = iova.0.checked_add(length as u64) else {
+            return Err(misses_whole(self.alloc, iova, length));
+        };
+        let ranges = self.ranges_from(iova.0);
+        if is_covered(ranges, iova.0, end, access) {
+            return Ok(IotlbIterator::over(ranges, iova.0, end));
+        }
+        match fails_among(self.alloc, ranges, iova.0, end, access) {
+            Ok(fails) => Err(LookupError::Fails(fails)),
+            Err(_) => Err(LookupError::OutOfMemory),
+        }
+    }
+
+    // The ranges that end above an address.
+    fn ranges_from(&self, iova: u64) -> &[IotlbRange]
+        ensures ranges { AreRanges result.now }
+        ensures table { (a : ℕ) → iova ≤ a → table_kept self.now a ≡ table_kept result.now a }
+        ensures first { EndsAbove iova result.now }
+    {
+        let ended = self.ranges.partition_point(|range| range.end <= iova);
+        &self.ranges[ended..]
+    }
+}

@@ -1,0 +1,16 @@
+//! An IOMMU's table: which address each I/O address is mapped to, and what may be done there.
+#![tactic(auto)]
+
+pub mod error;
+pub mod iotlb;
+pub mod iova;
+pub mod laws;
+pub mod lookup;
+pub mod permissions;
+mod range;
+
+pub use error::IommuError;
+pub use iotlb::Iotlb;
+pub use iova::{IovaRange, MappedRange};
+pub use lookup::{IotlbFails, IotlbIterator, LookupError};
+pub use permissions::Permissions;

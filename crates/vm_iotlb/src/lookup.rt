@@ -1,0 +1,190 @@
+//! What a look-up answers.
+
+ghost use Rattle.std.specs.Prelude.{◌≡◌, ℕ, ◌+◌, ◌-◌, ◌≤◌, ◌<◌, ◌^◌, ◌++◌, ◌∷◌, [], IfOk, OnOk, MatchOption, length};
+ghost use Rattle.std.specs.Iterator.{at_most};
+ghost use Rattle.vm_iotlb.specs.Ranges.{Agree, AreRanges, EndsAbove};
+ghost use Rattle.vm_iotlb.specs.Table.{Table};
+ghost use Rattle.vm_iotlb.specs.Pieces.{Cover, pieces_in};
+ghost use Rattle.vm_iotlb.specs.Runs.{IsMissedWhole, between, lacking, may_all, missing, run_of};
+
+use crate::iova::{IovaRange, MappedRange};
+use crate::permissions::Permissions;
+use crate::range::IotlbRange;
+use std::alloc::{AllocError, Global};
+use std::marker::Model;
+use thiserror::Error;
+use vm_values::GuestAddress;
+
+/// What stands in the way of a look-up (vm-memory's `IotlbFails`). Each range is as long as can be, and they ascend.
+#[derive(Debug, Drop)]
+pub struct IotlbFails {
+    /// Addresses that have no mapping.
+    pub misses: Vec<IovaRange>,
+    /// Addresses whose mapping lacks the permission.
+    pub access_fails: Vec<IovaRange>,
+}
+
+/// Why a look-up gave nothing.
+#[derive(Debug, Drop, Error)]
+pub enum LookupError {
+    /// Not each address is mapped with the permission.
+    #[error("not mapped throughout with the permission")]
+    Fails(IotlbFails),
+    #[error("out of memory")]
+    OutOfMemory,
+}
+
+/// What I/O addresses are mapped to, range by range (vm-memory's `IotlbIterator`).
+#[derive(Drop)]
+pub struct IotlbIterator<'a> {
+    ranges: &'a [IotlbRange],
+    next: u64,
+    end: u64,
+}
+
+impl<'a> Model for IotlbIterator<'a> {
+    ghost use Rattle.std.specs.Prelude.{List};
+    ghost use Rattle.vm_iotlb.specs.declared.iova.MappedRange.{MappedRange};
+    ghost use Rattle.vm_iotlb.specs.Pieces.{Cover, pieces_in};
+
+    ghost Value = { List MappedRange };
+
+    ghost view = { λ i. pieces_in i.ranges.now i.next i.end };
+
+    ghost invariant = { λ i. Cover i.ranges.now i.next i.end };
+}
+
+impl<'a> IotlbIterator<'a> {
+    // The pieces of the addresses from one up to another.
+    pub(crate) fn over(ranges: &'a [IotlbRange], iova: u64, end: u64) -> IotlbIterator<'a>
+        requires { Cover ranges.now iova end }
+        ensures { result ≡ pieces_in ranges.now iova end }
+    {
+        IotlbIterator {
+            ranges,
+            next: iova,
+            end,
+        }
+    }
+}
+
+impl<'a> Iterator for IotlbIterator<'a> {
+    type Item = MappedRange;
+
+    ghost next_gives = { λ s r t. MatchOption r ((s ≡ []) × (t ≡ [])) (λ x. s ≡ x ∷ t) };
+
+    ghost remaining = { λ s. at_most (length s) };
+
+    fn next(&mut self) -> Option<MappedRange> {
+        if self.end <= self.next {
+            return None;
+        }
+        match self.ranges.split_first() {
+            Some((first, rest)) => {
+                let stop = first.end.min(self.end);
+                let piece = MappedRange {
+                    base: GuestAddress(first.target + (self.next - first.start)),
+                    length: (stop - self.next) as usize,
+                };
+                self.ranges = rest;
+                self.next = stop;
+                Some(piece)
+            }
+            None => None,
+        }
+    }
+}
+
+// Whether an access may go through each address from one up to another.
+pub(crate) fn is_covered(ranges: &[IotlbRange], iova: u64, end: u64, access: Permissions) -> bool
+    requires ranges { AreRanges ranges.now }
+    requires first { EndsAbove iova ranges.now }
+    requires order { iova ≤ end }
+    ensures { (table : Table) → Agree table ranges.now iova end → result ≡ may_all table access iova (end - iova) }
+{
+    let mut next = iova;
+    for range in ranges {
+        if end <= next {
+            return true;
+        }
+        if next < range.start {
+            return false;
+        }
+        if !range.perm.allow(access) {
+            return false;
+        }
+        next = range.end.min(end);
+    }
+    end <= next
+}
+
+// The answer where the end of the asked range does not fit 64 bits.
+pub(crate) fn misses_whole(alloc: Global, iova: GuestAddress, length: usize) -> LookupError
+    ensures { IsMissedWhole iova.0 length result }
+{
+    let mut misses = Vec::new(alloc);
+    let range = IovaRange { base: iova, length };
+    match misses.push(range) {
+        Ok(()) => LookupError::Fails(IotlbFails {
+            misses,
+            access_fails: Vec::new(alloc),
+        }),
+        Err(_) => LookupError::OutOfMemory,
+    }
+}
+
+// Adds the addresses from one up to another, if there are any.
+fn push_between(ranges: &mut Vec<IovaRange>, start: u64, end: u64) -> Result<(), AllocError>
+    ensures { OnOk result (ranges.new.items ≡ ranges.old.items ++ between start end) }
+{
+    if end <= start {
+        return Ok(());
+    }
+    ranges.push(IovaRange {
+        base: GuestAddress(start),
+        length: (end - start) as usize,
+    })?;
+    Ok(())
+}
+
+// What stands in the way among the addresses from one up to another.
+pub(crate) fn fails_among(
+    alloc: Global,
+    ranges: &[IotlbRange],
+    iova: u64,
+    end: u64,
+    access: Permissions,
+) -> Result<IotlbFails, AllocError>
+    requires ranges { AreRanges ranges.now }
+    requires first { EndsAbove iova ranges.now }
+    requires order { iova ≤ end }
+    ensures misses { (table : Table) → Agree table ranges.now iova end → IfOk result (λ f. f.misses.items ≡ missing table iova (end - iova)) }
+    ensures access { (table : Table) → Agree table ranges.now iova end → IfOk result (λ f. f.access_fails.items ≡ lacking table access iova (end - iova)) }
+{
+    let mut misses = Vec::new(alloc);
+    let mut access_fails = Vec::new(alloc);
+    let mut next = iova;
+    for range in ranges {
+        if end <= next {
+            return Ok(IotlbFails {
+                misses,
+                access_fails,
+            });
+        }
+        let start = range.start.max(next).min(end);
+        let stop = range.end.min(end);
+        let denied = if range.perm.allow(access) {
+            stop
+        } else {
+            start
+        };
+        push_between(&mut misses, next, start)?;
+        push_between(&mut access_fails, denied, stop)?;
+        next = stop;
+    }
+    push_between(&mut misses, next, end)?;
+    Ok(IotlbFails {
+        misses,
+        access_fails,
+    })
+}
