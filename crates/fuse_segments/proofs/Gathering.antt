@@ -1,9 +1,9 @@
 -- What reads of a file have put into a writer.
-use Rattle.std.proofs.Common.{◌≡◌, ℕ, ◌+◌, ◌-◌, ◌<◌, ◌≤◌, min, List, [], ◌∷◌, ◌++◌, length, Result, Ok, Err, ◌⊎◌, refl, sym, ap, ◌∙◌, subst, arith, inl, inr, ⊎_elim, length-append, append_assoc}
+use Rattle.std.proofs.Common.{◌≡◌, ℕ, ◌+◌, ◌-◌, ◌<◌, ◌≤◌, min, List, [], ◌∷◌, ◌++◌, length, Result, Ok, Err, ◌⊎◌, refl, sym, ap, subst, arith, inl, inr, ⊎_elim, length-append, append_assoc}
 use Rattle.std.specs.List.{concat}
 use Rattle.std.proofs.lemmas.List.Folds.{concat-append}
 use Rattle.fuse_fs.specs.Transfers.{ReadsOn, ReadsEnd, Gathers}
-use Rattle.fuse_segments.specs.Transfers.{moved, with_bytes, ReadsOnce}
+use Rattle.fuse_segments.specs.Transfers.{moved, ReadsOnce}
 use Rattle.std.proofs.lemmas.List.{append-nil}
 
 module _ {F : Type 0} (gives : F → ℕ → ℕ → Result (List ℕ) ℕ → F → Type 0) where

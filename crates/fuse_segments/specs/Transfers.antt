@@ -36,12 +36,16 @@ added (n ∷ ns) = n + added ns
 -- writes one after another, none of them answering 0, each of the front of what those before left, at the place where they ended
 abbrev pub WritesOn : {F : Type 0} → (F → List ℕ → ℕ → Option ℕ → Result ℕ ℕ → F → Type 0) → F → List ℕ → (off : ℕ) → Option ℕ → List ℕ → F → Type 0
 WritesOn gives f all off flags [] g = g ≡ f
-WritesOn {F} gives f all off flags (n ∷ ns) g = (m : ℕ) × (mid : F) × (m ≤ length all) × (n ≤ m) × (0 < n) × gives f (take m all) off flags (Ok n) mid × WritesOn gives mid (drop n all) (off + n) flags ns g
+WritesOn {F} gives f all off flags (n ∷ ns) g =
+    (m : ℕ) × (mid : F) × (m ≤ length all) × (n ≤ m) × (0 < n) × gives f (take m all) off flags (Ok n) mid
+    × WritesOn gives mid (drop n all) (off + n) flags ns g
 
 -- how writes end: nothing is left, or the last answer is 0 or an error, or the place is past the greatest
 abbrev pub WritesEnd : {F : Type 0} → (F → List ℕ → ℕ → Option ℕ → Result ℕ ℕ → F → Type 0) → F → List ℕ → (off : ℕ) → Option ℕ → (total : ℕ) → Result ℕ ℕ → F → Type 0
-WritesEnd gives f all off flags total (Ok n) g = (n ≡ total) × (((all ≡ []) × (g ≡ f)) ⊎ ((m : ℕ) × (0 < m) × (m ≤ length all) × gives f (take m all) off flags (Ok 0) g))
-WritesEnd gives f all off flags total (Err e) g = ((e ≡ 5) × (2 ^ 64 ≤ off) × (g ≡ f)) ⊎ ((m : ℕ) × (0 < m) × (m ≤ length all) × gives f (take m all) off flags (Err e) g)
+WritesEnd gives f all off flags total (Ok n) g =
+    (n ≡ total) × (((all ≡ []) × (g ≡ f)) ⊎ ((m : ℕ) × (0 < m) × (m ≤ length all) × gives f (take m all) off flags (Ok 0) g))
+WritesEnd gives f all off flags total (Err e) g =
+    ((e ≡ 5) × (2 ^ 64 ≤ off) × (g ≡ f)) ⊎ ((m : ℕ) × (0 < m) × (m ≤ length all) × gives f (take m all) off flags (Err e) g)
 
 -- from f, these bytes are to be written from a place on, and so many of them were
 pub record Spends {F : Type 0} (gives : F → List ℕ → ℕ → Option ℕ → Result ℕ ℕ → F → Type 0) (f : F) (all : List ℕ) (off : ℕ) (flags : Option ℕ) (total : ℕ) (answer : Result ℕ ℕ) (g : F) : Type 0 where

@@ -36,7 +36,8 @@ impl<'a> Model for Reader<'a> {
 
     ghost view = { λ r. record { left = all_of r.first.now r.later.items; first = length r.first.now; read = r.read } };
 
-    ghost invariant = { λ r. (r.left ≡ length (all_of r.first.now r.later.items)) × (r.left + r.read < 2 ^ 64) × (length r.first.now ≡ 0 → all_of r.first.now r.later.items ≡ []) };
+    ghost invariant = { λ r. (r.left ≡ length (all_of r.first.now r.later.items)) × (r.left + r.read < 2 ^ 64)
+        × (length r.first.now ≡ 0 → all_of r.first.now r.later.items ≡ []) };
 }
 
 // A segment that isn't empty, where one is left: this one, or the next one of those behind it.
@@ -139,7 +140,8 @@ impl<'a> Reader<'a> {
 
     /// How many bytes are left.
     pub fn available_bytes(&self) -> usize
-        ensures { result ≡ length self.now.left }
+        ensures left { result ≡ length self.now.left }
+        ensures first { (self.now.first ≤ length self.now.left) × (0 < length self.now.left → 0 < self.now.first) }
     {
         self.left
     }
@@ -199,7 +201,8 @@ impl<'a> Reader<'a> {
 
     /// The value that the next bytes spell. Where there are too few, they are used up, and the end is unexpected.
     pub fn read_obj<T: ByteValued>(&mut self) -> Result<T, Error>
-        ensures ok { IfOk result (λ x. (self.old.left ≡ spelled (T.fields x) ++ self.new.left) × AllFit (T.fields x) × (self.new.read ≡ self.old.read + T.SIZE)) }
+        ensures ok { IfOk result (λ x. (self.old.left ≡ spelled (T.fields x) ++ self.new.left) × AllFit (T.fields x)
+            × (self.new.read ≡ self.old.read + T.SIZE)) }
         ensures first { OnOk result (T.SIZE < self.old.first → self.new.first + T.SIZE ≡ self.old.first) }
         ensures err { IfErr result (λ e. (e ≡ Error.IoError ErrorKind.UnexpectedEof) × (length self.old.left < T.SIZE) × (self.new.left ≡ [])
             × (self.new.read ≡ self.old.read + length self.old.left)) }
@@ -249,8 +252,10 @@ impl<'a> Reader<'a> {
         ensures left { OnOk result ((offset ≤ length self.old.left) × (self.new.left ≡ take offset self.old.left)) }
         ensures first { OnOk result (self.new.first ≡ min offset self.old.first) }
         ensures read { self.new.read ≡ self.old.read }
-        ensures other { IfOk result (λ r. (r.left ≡ drop offset self.old.left) × (r.read ≡ 0) × (offset < self.old.first → r.first + offset ≡ self.old.first)) }
-        ensures err { IfErr result (λ e. (e ≡ cond (nat_le offset (length self.old.left)) Error.OutOfMemory (Error.SplitOutOfBounds offset)) × (self.new ≡ self.old)) }
+        ensures other { IfOk result (λ r. (r.left ≡ drop offset self.old.left) × (r.read ≡ 0)
+            × (offset < self.old.first → r.first + offset ≡ self.old.first)) }
+        ensures err { IfErr result (λ e. (e ≡ cond (nat_le offset (length self.old.left)) Error.OutOfMemory (Error.SplitOutOfBounds offset))
+            × (self.new ≡ self.old)) }
     {
         if self.left < offset {
             return Err(Error::SplitOutOfBounds(offset));

@@ -22,7 +22,7 @@ use vm_values::ByteValued;
 pub struct Writer {
     bytes: Vec<u8>,
     room: usize,
-    // The places where one segment ends and the next one begins, ascending.
+    // The places where one segment ends and the next one begins.
     bounds: Vec<usize>,
     // The first bound that isn't reached.
     next: usize,
@@ -332,7 +332,8 @@ impl Writer {
         ensures behind { IfOk result (λ w. offset < self.old.first → w.first + offset ≡ self.old.first) }
         ensures rejoin { IfOk result (λ w. (self.new.rejoin ≡ w.segments) × (self.new.spare ≡ w.free)) }
         ensures segments { IfOk result (λ w. self.new.segments + w.segments ≤ self.old.segments + 1) }
-        ensures err { IfErr result (λ e. (e ≡ cond (nat_le offset self.old.free) Error.OutOfMemory (Error.SplitOutOfBounds offset)) × (self.new ≡ self.old)) }
+        ensures err { IfErr result (λ e. (e ≡ cond (nat_le offset self.old.free) Error.OutOfMemory (Error.SplitOutOfBounds offset))
+            × (self.new ≡ self.old)) }
     {
         let free = self.room - self.bytes.len();
         if free < offset {
@@ -353,8 +354,8 @@ impl Writer {
         Ok(other)
     }
 
-    /// Joins on the first bytes of a writer that a split handed out; its other room is free again. Both writers keep their
-    /// segments.
+    /// Joins on the first bytes of a writer that a split handed out; its other room is free again. It brings no more segments
+    /// and bytes than the split handed out.
     #[tactic(auto, using(crate::proofs::Bounds::joined_first))]
     pub fn rejoin(&mut self, other: Writer, count: usize)
         requires full { self.old.free ≡ 0 }

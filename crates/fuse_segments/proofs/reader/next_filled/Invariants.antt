@@ -1,4 +1,4 @@
-use Rattle.std.proofs.Common.{deque_len, deque_capacity, ◌≡◌, ◌∷◌, length}
+use Rattle.std.proofs.Common.{deque_len, ◌≡◌, ◌∷◌, length}
 use Rattle.fuse_segments.specs.Segments.{all_of, lengths, first_filled}
 use Rattle.fuse_segments.proofs.reader.next_filled.Given as goal
 

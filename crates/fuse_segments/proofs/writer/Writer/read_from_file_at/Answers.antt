@@ -1,4 +1,4 @@
-use Rattle.std.proofs.Common.{◌≡◌, ◌+◌, ◌<◌, ◌≤◌, min, ◌++◌, [], refl, sym, ◌∙◌, ap, arith, inl, inr, subst, append-nil, vec_len}
+use Rattle.std.proofs.Common.{◌≡◌, ◌<◌, min, ◌++◌, [], refl, sym, ◌∙◌, ap, arith, inl, inr, subst, append-nil, vec_len}
 use Rattle.fuse_segments.specs.Views.{WriterView}
 use Rattle.fuse_segments.specs.Transfers.{moved, with_bytes}
 use Rattle.fuse_segments.proofs.Bounds.{put_first_of, first_within_of, idle}

@@ -1,4 +1,4 @@
-use Rattle.std.proofs.Common.{drop, map, ◌≡◌, ◌+◌, ◌-◌, ◌≤◌, take, refl, sym, ◌∙◌, ap, arith, vec_len, length}
+use Rattle.std.proofs.Common.{drop, map, ◌≡◌, ◌+◌, ◌-◌, ◌≤◌, take, ◌∙◌, ap, arith, vec_len, length}
 use Rattle.std.proofs.lemmas.List.{take_all, length-drop}
 use Rattle.fuse_segments.specs.Views.{WriterView}
 use Rattle.fuse_segments.proofs.Bounds.{split_first_of, behind_first_of}
