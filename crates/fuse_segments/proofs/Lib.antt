@@ -1,0 +1,5 @@
+pub mod Bounds
+pub mod Cutting
+pub mod Filling
+pub mod Gathering
+pub mod Spending

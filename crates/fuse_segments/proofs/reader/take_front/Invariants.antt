@@ -1,0 +1,14 @@
+use Rattle.std.proofs.Common.{deque_len, deque_capacity, ◌≡◌, ◌+◌, ◌<◌, ◌≤◌, [], ◌++◌, length}
+use Rattle.fuse_segments.specs.Segments.{joined, all_of}
+use Rattle.fuse_segments.proofs.reader.take_front.Given as goal
+
+abbrev pub invariant-loop-part : goal.invariant-loop-part
+invariant-loop-part l = record {
+  all : joined l.front.items ++ all_of l.rest l.queue.items ≡ joined l.initial.queue.items;
+  len : length (joined l.front.items) + l.part ≡ l.offset;
+  rest : 0 < l.part → l.rest ≡ [];
+  room : deque_len l.front + deque_len l.queue ≤ deque_capacity l.front;
+}
+
+abbrev pub decreases-loop-part : goal.decreases-loop-part
+decreases-loop-part l = deque_len l.queue

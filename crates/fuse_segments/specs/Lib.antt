@@ -1,0 +1,4 @@
+pub mod Errors
+pub mod Segments
+pub mod Transfers
+pub mod Views

@@ -1,0 +1,19 @@
+//! What requests are read from and replies are written to, over segments (virtiofsd's `descriptor_utils`).
+#![tactic(auto)]
+
+pub mod error;
+pub mod reader;
+pub mod writer;
+pub mod zero_copy;
+
+pub use error::Error;
+pub use reader::Reader;
+pub use writer::Writer;
+pub use zero_copy::{ZcReader, ZcWriter, ZeroCopyReader};
+
+/// What a descriptor is for.
+#[derive(Clone, Copy, Debug, PartialEq, Eq)]
+pub enum DescriptorType {
+    Readable,
+    Writable,
+}

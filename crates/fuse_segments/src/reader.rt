@@ -1,0 +1,305 @@
+//! What a request is read from (virtiofsd's `Reader`).
+
+ghost use Rattle.std.specs.Prelude.{◌≡◌, ℕ, ◌+◌, ◌<◌, ◌≤◌, ◌^◌, min, List, [], ◌∷◌, ◌++◌, length, take, drop, map, cond, nat_le, Some, IsOk, IfOk, OnOk, IfErr, OnErr, option_map};
+ghost use Rattle.std.specs.Io.{ReadsAtMost};
+ghost use Rattle.std.specs.Io.KnownBytes.{Consumes, ReadConsumes};
+ghost use Rattle.std.specs.IoError.{error_kind};
+ghost use Rattle.vm_values.specs.Fields.{spelled, AllFit};
+ghost use Rattle.fuse_segments.specs.Segments.{joined, all_of, lengths, first_filled};
+ghost use Rattle.fuse_segments.specs.Transfers.{moved, WritesOnce};
+
+use crate::error::Error;
+use fuse_fs::{PositionedFile, WritevFlags};
+use fuse_wire::Errno;
+use std::alloc::Global;
+use std::collections::VecDeque;
+use std::io::{ErrorKind, Read};
+use std::marker::Model;
+use std::{io, mem};
+use vm_values::ByteValued;
+
+/// The bytes of a request that are left, in segments.
+#[derive(Drop)]
+pub struct Reader<'a> {
+    first: &'a [u8],
+    later: VecDeque<&'a [u8]>,
+    left: usize,
+    read: usize,
+}
+
+impl<'a> Model for Reader<'a> {
+    ghost use Rattle.std.specs.Prelude.{◌≡◌, ◌+◌, ◌<◌, ◌^◌, [], length};
+    ghost use Rattle.fuse_segments.specs.Views.{ReaderView};
+    ghost use Rattle.fuse_segments.specs.Segments.{all_of};
+
+    ghost Value = { ReaderView };
+
+    ghost view = { λ r. record { left = all_of r.first.now r.later.items; first = length r.first.now; read = r.read } };
+
+    ghost invariant = { λ r. (r.left ≡ length (all_of r.first.now r.later.items)) × (r.left + r.read < 2 ^ 64)
+        × (length r.first.now ≡ 0 → all_of r.first.now r.later.items ≡ []) };
+}
+
+// A segment that isn't empty, where one is left: this one, or the next one of those behind it.
+fn next_filled<'a>(segment: &'a [u8], later: &mut VecDeque<&'a [u8]>) -> &'a [u8]
+    ensures all { all_of result.now later.new.items ≡ all_of segment.now later.old.items }
+    ensures filled { length result.now ≡ 0 → all_of result.now later.new.items ≡ [] }
+    ensures len { length result.now ≡ first_filled (length segment.now ∷ lengths later.old.items) }
+{
+    let mut current = segment;
+    while current.is_empty() {
+        match later.pop_front() {
+            Some(next) => current = next,
+            None => return current,
+        }
+    }
+    current
+}
+
+// Takes the first bytes off a queue of segments, as a queue of their own; with what is left of the segment where they end.
+#[tactic(auto, using(crate::proofs::Cutting::moved_front, crate::proofs::Cutting::moved_len, crate::proofs::Cutting::nothing_past))]
+fn take_front<'a>(
+    alloc: Global,
+    queue: &mut VecDeque<&'a [u8]>,
+    offset: usize,
+) -> Result<(VecDeque<&'a [u8]>, &'a [u8]), Error>
+    requires { offset ≤ length (joined queue.old.items) }
+    ensures front { IfOk result (λ p. joined p.0.items ≡ take offset (joined queue.old.items)) }
+    ensures rest { IfOk result (λ p. all_of p.1.now queue.new.items ≡ drop offset (joined queue.old.items)) }
+    ensures err { IfErr result (λ e. (e ≡ Error.OutOfMemory) × (queue.new ≡ queue.old)) }
+{
+    let Ok(mut front) = VecDeque::with_capacity(alloc, queue.len()) else {
+        return Err(Error::OutOfMemory);
+    };
+    let mut rest: &'a [u8] = &[];
+    let mut part = offset;
+    while part > 0 {
+        match queue.pop_front() {
+            Some(segment) => {
+                let n = part.min(segment.len());
+                front.push_back(&segment[..n]).unwrap();
+                rest = &segment[n..];
+                part -= n;
+            }
+            None => return Ok((front, rest)),
+        }
+    }
+    Ok((front, rest))
+}
+
+// Writes over the first bytes.
+fn write_front(buf: &mut [u8], front: &[u8])
+    requires { length front.now ≤ length buf.old }
+    ensures { buf.new ≡ front.now ++ drop (length front.now) buf.old }
+{
+    buf[..front.len()].copy_from_slice(front);
+}
+
+// Writes these bytes at a place.
+#[tactic(auto, using(crate::proofs::Filling::placed))]
+fn write_at(buf: &mut [u8], at: usize, bytes: &[u8])
+    requires { at + length bytes.now ≤ length buf.old }
+    ensures { buf.new ≡ take at buf.old ++ bytes.now ++ drop (at + length bytes.now) buf.old }
+{
+    write_front(&mut buf[at..], bytes);
+}
+
+impl<'a> Reader<'a> {
+    /// A reader of these segments, one after another. DescriptorChainOverflow where their lengths' sum doesn't fit usize.
+    pub fn new(segments: Vec<&'a [u8]>) -> Result<Reader<'a>, Error>
+        ensures ok { IfOk result (λ r. (r.left ≡ joined segments.entry.items) × (r.first ≡ first_filled (lengths segments.entry.items)) × (r.read ≡ 0)) }
+        ensures fits { OnOk result (length (joined segments.entry.items) < 2 ^ 64) }
+        ensures err { IfErr result (λ e. (e ≡ Error.DescriptorChainOverflow) × (2 ^ 64 ≤ length (joined segments.entry.items))) }
+    {
+        let mut total: usize = 0;
+        for segment in &segments {
+            let Some(more) = total.checked_add(segment.len()) else {
+                return Err(Error::DescriptorChainOverflow);
+            };
+            total = more;
+        }
+        Ok(Reader::over(&[], VecDeque::from(segments), total))
+    }
+
+    // A reader of so many bytes, of which none was read.
+    fn over(segment: &'a [u8], later: VecDeque<&'a [u8]>, left: usize) -> Reader<'a>
+        requires { left ≡ length (all_of segment.now later.items) }
+        ensures left { result.left ≡ all_of segment.entry.now later.entry.items }
+        ensures first { result.first ≡ first_filled (length segment.entry.now ∷ lengths later.entry.items) }
+        ensures read { result.read ≡ 0 }
+    {
+        let mut later = later;
+        let first = next_filled(segment, &mut later);
+        Reader {
+            first,
+            later,
+            left,
+            read: 0,
+        }
+    }
+
+    /// How many bytes are left.
+    pub fn available_bytes(&self) -> usize
+        ensures left { result ≡ length self.now.left }
+        ensures first { (self.now.first ≤ length self.now.left) × (0 < length self.now.left → 0 < self.now.first) }
+    {
+        self.left
+    }
+
+    /// How many bytes were read.
+    pub fn bytes_read(&self) -> usize
+        ensures { result ≡ self.now.read }
+    {
+        self.read
+    }
+
+    // The first segment that isn't empty; an empty one where no byte is left.
+    fn segment(&self) -> &'a [u8]
+        ensures bytes { result.now ≡ take self.now.first self.now.left }
+        ensures len { length result.now ≡ self.now.first }
+        ensures within { self.now.first ≤ length self.now.left }
+        ensures end { self.now.first ≡ 0 → self.now.left ≡ [] }
+    {
+        self.first
+    }
+
+    // Reads over some bytes of the first segment.
+    fn advance(&mut self, n: usize)
+        requires { n ≤ self.old.first }
+        ensures left { self.new.left ≡ drop n self.old.left }
+        ensures first { n < self.old.first → self.new.first + n ≡ self.old.first }
+        ensures read { self.new.read ≡ self.old.read + n }
+        ensures none { n ≡ 0 → self.new.first ≡ self.old.first }
+    {
+        let segment = self.first;
+        self.first = next_filled(&segment[n..], &mut self.later);
+        self.left -= n;
+        self.read += n;
+    }
+
+    // Reads as many bytes as there are, and as there is room for; answers how many.
+    fn fill(&mut self, buf: &mut [u8]) -> usize
+        ensures count { result ≡ min (length buf.old) (length self.old.left) }
+        ensures bytes { buf.new ≡ take result self.old.left ++ drop result buf.old }
+        ensures left { self.new.left ≡ drop result self.old.left }
+        ensures first { result < self.old.first → self.new.first + result ≡ self.old.first }
+        ensures read { self.new.read ≡ self.old.read + result }
+    {
+        let mut done = 0;
+        while done < buf.len() {
+            let segment = self.segment();
+            if segment.is_empty() {
+                return done;
+            }
+            let n = segment.len().min(buf.len() - done);
+            write_at(buf, done, &segment[..n]);
+            self.advance(n);
+            done += n;
+        }
+        done
+    }
+
+    /// The value that the next bytes spell. Where there are too few, they are used up, and the end is unexpected.
+    pub fn read_obj<T: ByteValued>(&mut self) -> Result<T, Error>
+        ensures ok { IfOk result (λ x. (self.old.left ≡ spelled (T.fields x) ++ self.new.left) × AllFit (T.fields x)
+            × (self.new.read ≡ self.old.read + T.SIZE)) }
+        ensures first { OnOk result (T.SIZE < self.old.first → self.new.first + T.SIZE ≡ self.old.first) }
+        ensures err { IfErr result (λ e. (e ≡ Error.IoError ErrorKind.UnexpectedEof) × (length self.old.left < T.SIZE) × (self.new.left ≡ [])
+            × (self.new.read ≡ self.old.read + length self.old.left)) }
+    {
+        let segment = self.segment();
+        if T::SIZE <= segment.len() {
+            let value = T::get_bytes(&segment[..T::SIZE]);
+            self.advance(T::SIZE);
+            return Ok(value);
+        }
+        let mut buffer = [0; 256];
+        if self.fill(&mut buffer[..T::SIZE]) < T::SIZE {
+            return Err(Error::IoError(ErrorKind::UnexpectedEof));
+        }
+        Ok(T::get_bytes(&buffer[..T::SIZE]))
+    }
+
+    /// Lends the front of the first segment that isn't empty, cut to `count`, to one call of a file; without one where
+    /// nothing is left or `count` is 0. An error uses up nothing.
+    pub fn write_to_file_at<F: PositionedFile>(
+        &mut self,
+        file: &mut F,
+        count: usize,
+        off: u64,
+        flags: Option<WritevFlags>,
+    ) -> Result<usize, Errno>
+        ensures once { WritesOnce F.write_gives file.old self.old.left self.old.first count off (option_map (λ f. f.0) flags) result file.new }
+        ensures left { self.new.left ≡ drop (moved result) self.old.left }
+        ensures first { moved result < self.old.first → self.new.first + moved result ≡ self.old.first }
+        ensures read { self.new.read ≡ self.old.read + moved result }
+        ensures err { OnErr result (self.new ≡ self.old) }
+    {
+        let segment = self.segment();
+        let most = count.min(segment.len());
+        if most == 0 {
+            return Ok(0);
+        }
+        let n = file.write_at(&segment[..most], off, flags)?;
+        self.advance(n);
+        Ok(n)
+    }
+
+    /// Splits what is left at a place: what stands behind it goes to a reader of its own, with no byte read.
+    /// SplitOutOfBounds where the place is past the end. A refusal changes nothing.
+    #[tactic(auto, using(crate::proofs::Cutting::take_past, crate::proofs::Cutting::drop_past))]
+    pub fn split_at(&mut self, alloc: Global, offset: usize) -> Result<Reader<'a>, Error>
+        ensures left { OnOk result ((offset ≤ length self.old.left) × (self.new.left ≡ take offset self.old.left)) }
+        ensures first { OnOk result (self.new.first ≡ min offset self.old.first) }
+        ensures read { self.new.read ≡ self.old.read }
+        ensures other { IfOk result (λ r. (r.left ≡ drop offset self.old.left) × (r.read ≡ 0)
+            × (offset < self.old.first → r.first + offset ≡ self.old.first)) }
+        ensures err { IfErr result (λ e. (e ≡ cond (nat_le offset (length self.old.left)) Error.OutOfMemory (Error.SplitOutOfBounds offset))
+            × (self.new ≡ self.old)) }
+    {
+        if self.left < offset {
+            return Err(Error::SplitOutOfBounds(offset));
+        }
+        let left = self.left - offset;
+        let segment = self.first;
+        if offset <= segment.len() {
+            let later = mem::replace(&mut self.later, VecDeque::new(alloc));
+            self.first = &segment[..offset];
+            self.left = offset;
+            return Ok(Reader::over(&segment[offset..], later, left));
+        }
+        let (mut later, rest) = take_front(alloc, &mut self.later, offset - segment.len())?;
+        mem::swap(&mut later, &mut self.later);
+        self.left = offset;
+        Ok(Reader::over(rest, later, left))
+    }
+}
+
+impl<'a> Read for Reader<'a> {
+    ghost remaining = { λ r. Some r.left };
+
+    fn read(&mut self, buf: &mut [u8]) -> io::Result<usize>
+        ensures bound { ReadsAtMost result buf.new }
+        ensures bytes { ReadConsumes (Some self.old.left) (Some self.new.left) result buf.new }
+        ensures ok { IsOk result }
+        ensures count { IfOk result (λ n. n ≡ min (length buf.old) (length self.old.left)) }
+        ensures behind { IfOk result (λ n. buf.new ≡ take n self.old.left ++ drop n buf.old) }
+        ensures first { IfOk result (λ n. n < self.old.first → self.new.first + n ≡ self.old.first) }
+        ensures read { IfOk result (λ n. self.new.read ≡ self.old.read + n) }
+    {
+        Ok(self.fill(buf))
+    }
+
+    fn read_exact(&mut self, buf: &mut [u8]) -> io::Result<()>
+        ensures bytes { OnOk result (Consumes (Some self.old.left) (Some self.new.left) buf.new) }
+        ensures first { OnOk result (length buf.old < self.old.first → self.new.first + length buf.old ≡ self.old.first) }
+        ensures read { OnOk result (self.new.read ≡ self.old.read + length buf.old) }
+        ensures err { IfErr result (λ e. (error_kind e ≡ ErrorKind.UnexpectedEof) × (length self.old.left < length buf.old) × (self.new.left ≡ [])
+            × (self.new.read ≡ self.old.read + length self.old.left)) }
+    {
+        if self.fill(buf) < buf.len() {
+            return Err(io::Error::from(ErrorKind::UnexpectedEof));
+        }
+        Ok(())
+    }
+}

@@ -1,0 +1,11 @@
+//! Tests of readers and writers over segments.
+#![tactic(auto)]
+
+#[cfg(test)]
+mod errors;
+#[cfg(test)]
+mod files;
+#[cfg(test)]
+mod readers;
+#[cfg(test)]
+mod writers;
