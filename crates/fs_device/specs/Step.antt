@@ -39,7 +39,7 @@ pub data Outcome : Type 0 where
   Refused : DeviceError → Outcome
   Exchanged : Exchange → (notice : Bool) → Outcome
 
--- the calls of a file system, in order, with what each was served_exchange
+-- the calls of a file system, in order, with what each was answered
 abbrev pub Calls : Type 0
 Calls = List (FileCall × FileAnswer)
 

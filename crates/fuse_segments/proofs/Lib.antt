@@ -1,5 +1,4 @@
 pub mod Bounds
 pub mod Cutting
 pub mod Filling
-pub mod Gathering
 pub mod Spending

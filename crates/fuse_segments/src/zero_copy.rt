@@ -1,11 +1,10 @@
-//! Readers that files empty and writers that files fill (virtiofsd's `ZcReader` and `ZcWriter`).
+//! Readers that files empty (virtiofsd's `ZcReader`).
 
 ghost use Rattle.std.specs.Prelude.{◌≡◌, ℕ, ◌≤◌, List, length, take, drop, option_map};
 ghost use Rattle.fuse_segments.specs.Transfers.{Spends};
 
 use crate::reader::Reader;
-use crate::writer::Writer;
-use fuse_fs::{PositionedFile, WritevFlags, ZeroCopyWriter};
+use fuse_fs::{PositionedFile, WritevFlags};
 use fuse_wire::Errno;
 
 /// Where a file system takes the bytes from that it writes.
@@ -64,38 +63,6 @@ impl<'a> ZeroCopyReader for ZcReader<'a> {
             let n = self
                 .reader
                 .write_to_file_at(file, count - done, place, flags)?;
-            if n == 0 {
-                return Ok(done);
-            }
-            done += n;
-        }
-        Ok(done)
-    }
-}
-
-/// A writer for the data that a file system reads. A file is read on until the count is done or an answer is 0.
-#[derive(Drop)]
-pub struct ZcWriter {
-    pub writer: Writer,
-}
-
-impl ZeroCopyWriter for ZcWriter {
-    ghost put = { λ z. z.writer.written };
-
-    ghost room = { λ z. z.writer.free };
-
-    fn read_from_file_at<F: PositionedFile>(
-        &mut self,
-        file: &mut F,
-        count: usize,
-        off: u64,
-    ) -> Result<usize, Errno> {
-        let mut done = 0;
-        while done < count {
-            let Some(place) = off.checked_add(done as u64) else {
-                return Err(Errno::EIO);
-            };
-            let n = self.writer.read_from_file_at(file, count - done, place)?;
             if n == 0 {
                 return Ok(done);
             }

@@ -2,8 +2,8 @@
 
 ghost use Rattle.std.specs.Prelude.{⊤};
 
-use fuse_fs::{PositionedFile, WritevFlags, ZeroCopyWriter};
-use fuse_segments::{Reader, Writer, ZcReader, ZcWriter, ZeroCopyReader};
+use fuse_fs::{PositionedFile, WritevFlags};
+use fuse_segments::{Reader, Writer, ZcReader, ZeroCopyReader};
 use fuse_wire::Errno;
 use std::test::Fail;
 
@@ -126,18 +126,6 @@ fn files_are_written_on(rt: HostRuntime) -> Result<(), Fail> {
     Ok(())
 }
 
-#[test]
-fn files_are_read_on(rt: HostRuntime) -> Result<(), Fail> {
-    let mut z = ZcWriter {
-        writer: Writer::new(rt.alloc(), &[16, 8])?,
-    };
-    let mut disk = Disk::new();
-    assert!(rt; (&mut z).read_from_file_at(&mut disk, 20, 50) == Ok(14));
-    assert!(rt; z.read_from_file_at(&mut disk, 20, 0) == Ok(10));
-    assert_eq!(rt; z.writer.available_bytes(), 0);
-    Ok(())
-}
-
 // A file without an end, of which each byte is 1.
 #[derive(Drop)]
 struct Endless {}
@@ -164,12 +152,6 @@ impl PositionedFile for Endless {
 
 #[test]
 fn places_past_the_greatest(rt: HostRuntime) -> Result<(), Fail> {
-    let mut z = ZcWriter {
-        writer: Writer::new(rt.alloc(), &[1, 8])?,
-    };
-    let read = z.read_from_file_at(&mut Endless {}, 9, u64::MAX);
-    assert!(rt; read == Err(Errno::EIO));
-    assert_eq!(rt; z.writer.bytes_written(), 1);
     let data = [7; 9];
     let mut segments = Vec::new(rt.alloc());
     segments.push(&data[..1])?;

@@ -18,7 +18,7 @@ pub fn print_ok<W: Write>(writer: &mut W) -> io::Result<()> {
 
 /// Why a queue's layout isn't one.
 pub fn print_bad_layout<W: Write>(writer: &mut W, error: QueueLayoutError) -> io::Result<()> {
-    let number = error as u8;
+    let number = error.number();
     writeln!(writer, "badlayout {number}")
 }
 

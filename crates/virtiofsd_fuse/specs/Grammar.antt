@@ -137,7 +137,7 @@ read_row g = reading_read_in >>= λ r. read_asked g r
 abbrev pub init_row : Given → Reading Meaning
 init_row g = reading_init_in_compat >>= λ r. flags2_of r >>= λ flags2. started g r flags2
 
--- the row of a request; those that aren't served yet are answer_bytes ENOSYS
+-- the row of a request; those that aren't served yet are answered ENOSYS
 unfoldable pub row : Given → Opcode → Reading Meaning
 row g op.Lookup = lookup_row g
 row g op.Forget = forget_row g

@@ -43,7 +43,7 @@ next_len longest (a ∷ rest) = min (suc (length rest)) (longest a)
 -- windows of some addresses from the first on, one after another, each the longest that there is
 abbrev pub AreLongest : (ℕ → ℕ) → List ℕ → List Window → Type 0
 AreLongest longest left [] = Unit {0}
-AreLongest longest left (w ∷ rest) = (w.len ≡ next_len longest left) × AreLongest longest (drop w.len left) rest
+AreLongest longest left (w ∷ rest) = (0 < w.len) × (w.len ≡ next_len longest left) × AreLongest longest (drop w.len left) rest
 
 -- such windows were added to others
 abbrev pub AddsLongest : (ℕ → ℕ) → List ℕ → (old new : List Window) → Type 0
