@@ -7,7 +7,7 @@ use Rattle.vm_atomic_bitmaps.specs.declared.counts.PageCounts.{PageCounts}
 use Rattle.vm_atomic_bitmaps.specs.Counts.{tally_of, no_tally, after_mark, both_of, kept_half, new_half, joined}
 use Rattle.vm_atomic_bitmaps.specs.Passes.{ByMark, Changes}
 use Rattle.vm_atomic_bitmaps.proofs.Totals.{length-each_tally, at_each, at_past}
-use Rattle.vm_atomic_bitmaps.proofs.Steps.{at_clear_of}
+use Rattle.vm_atomic_bitmaps.proofs.Parts.{at_clear_of}
 use Rattle.page_threads.specs.declared.marking.ByteRange.{ByteRange}
 use Rattle.page_threads.specs.Threads.{is_in_ranges, is_in_lists, Marking}
 
@@ -25,7 +25,7 @@ or_true false = refl
 
 -- one range
 pub marking_of : (hit : ℕ → Bool) (old new : List Tally) → Changes ByMark hit old new → Marking hit old new
-marking_of hit old new c = record { count = c.count; off = off; marked = λ p within. by_hit p within (hit p) refl; }
+marking_of hit old new c = record { count = c.count; off = off; marked = λ p within. by_hit p within (hit p) refl }
   where
     by_hit : (p : ℕ) → p < length old → (b : Bool) → hit p ≡ b → (tally_of new p).marked ≡ (tally_of old p).marked || hit p
     by_hit p within true e = ap (λ (t : Tally). t.marked) (c.changed p within e).2 ∙ sym (ap (λ (b : Bool). (tally_of old p).marked || b) e ∙ or_true (tally_of old p).marked)
@@ -48,7 +48,7 @@ pub record Left (rest whole : ℕ → Bool) (old cur : List Tally) : Type 0 wher
   pub marked : (p : ℕ) → p < length old → (tally_of cur p).marked || rest p ≡ (tally_of old p).marked || whole p
 
 pub left_at_first : (whole : ℕ → Bool) (l : List Tally) → Left whole whole l l
-left_at_first whole l = record { count = refl; off = λ p. refl; marked = λ p h. refl; }
+left_at_first whole l = record { count = refl; off = λ p. refl; marked = λ p h. refl }
 
 pub left_more : (rest hit rest' whole : ℕ → Bool) (old cur new : List Tally) → Left rest whole old cur → ((p : ℕ) → rest p ≡ hit p || rest' p) → Marking hit cur new → Left rest' whole old new
 left_more rest hit rest' whole old cur new l split m = record {

@@ -18,7 +18,7 @@ use Rattle.page_threads.proofs.Marks.{either_marked}
 -- a word gathered into the words
 pub gathers_more : (l : List Tally) (words : List ℕ) (w found : ℕ) → w < length words → HaveTaken l words
     → HaveTaken (taken_by (in_word w) found l) (set words w (bit_or (get_or words w 0) found)) × Gathering l (taken_by (in_word w) found l)
-gathers_more l words w found inside g = (gathered, record { count = run.count; marked = marks; })
+gathers_more l words w found inside g = (gathered, record { count = run.count; marked = marks })
   where
     run : ChangesRun (λ p t u. u ≡ after_taking (bit_at found (p % 64)) t) l (taken_by (in_word w) found l) (64 * w) (64 * w + 64)
     run = gathers_word (λ p t u. u ≡ after_taking (bit_at found (p % 64)) t) l w found (λ p t h. refl)
@@ -70,11 +70,10 @@ gathers_more l words w found inside g = (gathered, record { count = run.count; m
 
 -- gathers, one after another
 pub no_gathering : (l : List Tally) → Gathering l l
-no_gathering l = record { count = refl; marked = λ p. refl; }
+no_gathering l = record { count = refl; marked = λ p. refl }
 
 pub gathering_then : (a b c : List Tally) → Gathering a b → Gathering b c → Gathering a c
-gathering_then a b c x y = record { count = y.count ∙ x.count; marked = λ p. y.marked p ∙ x.marked p; }
-
+gathering_then a b c x y = record { count = y.count ∙ x.count; marked = λ p. y.marked p ∙ x.marked p }
 
 page_bit-lt : (words : List ℕ) (p : ℕ) → page_bit words p < 2
 unfolding page_bit

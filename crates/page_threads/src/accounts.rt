@@ -113,8 +113,9 @@ pub fn mark_and_gather<R: Threads + Sync>(
 {
     let (bitmap, gatherer, marker) = open(alloc, byte_size, page_size)?;
     let words = zeros(alloc, bitmap.words())?;
-    let (marker, (gatherer, gathered)) =
-        mark_beside(rt, &bitmap, marker, lists, gatherer, words, rounds);
+    let (marker, (gatherer, gathered)) = mark_beside(
+        rt, &bitmap, marker, lists, gatherer, words, rounds,
+    );
     let left = settle(bitmap, marker, gatherer)?;
     Ok(Account { gathered, left })
 }

@@ -1,5 +1,6 @@
 pub mod Totals
 pub mod Steps
+pub mod Parts
 pub mod Own
 pub mod Runs
 pub mod RangePages

@@ -8,7 +8,7 @@ use Rattle.vm_atomic_bitmaps.specs.declared.counts.Tally.{Tally}
 use Rattle.vm_bitmaps.specs.Words.{page_bit}
 use Rattle.vm_atomic_bitmaps.specs.Counts.{tally_of, each_tally, after_mark, after_taking, picks, in_word, marked_by, taken_by, first_pass}
 use Rattle.vm_atomic_bitmaps.specs.Rule.{table_words, table_words, holds, Pages, Stands}
-use Rattle.vm_atomic_bitmaps.specs.Steps.{NoneBeyond, SettlesAll}
+use Rattle.vm_atomic_bitmaps.specs.Steps.{NoneBeyond, Settles, SettlesAll}
 use Rattle.vm_atomic_bitmaps.specs.Passes.{ChangesRun, ByMark, ByTaking, ByTakingInto}
 use Rattle.std.proofs.lemmas.List.{length-replicate, get_or-replicate, get_or_past, get_or-set_same}
 use mathlib.Core.Option.{some, some-injective, some-ne-none}
@@ -16,7 +16,7 @@ use lib.ListN.{get_elem?}
 use Rattle.atomic_table.specs.Table.{opening, State}
 use Rattle.vm_atomic_bitmaps.specs.declared.counts.PageCounts.{PageCounts}
 use Rattle.vm_atomic_bitmaps.proofs.Totals.{length-each_tally, at_each, at_past, each_same}
-use Rattle.vm_atomic_bitmaps.proofs.Steps.{begins, bit_else, rule_same, settles_all}
+use Rattle.vm_atomic_bitmaps.proofs.Steps.{begins, bit_else, bit_here, rule_same, settles_all}
 
 -- a step on the pages that are hit
 at_hit : (F : ℕ → Tally → Tally) (hit : ℕ → Bool) (l : List Tally) (p : ℕ) → p < length l → hit p ≡ true → tally_of (each_tally (λ p t. cond (hit p) (F p t) t) 0 l) p ≡ F p (tally_of l p)
@@ -198,6 +198,20 @@ clear_words len k e = begins len (replicate k 0) (length-replicate {A = ℕ} k 0
 -- what was taken before stays, when the word w is written
 pub into_before : (words : List ℕ) (w bits : ℕ) (p : ℕ) (t u : Tally) → p < 64 * w → ByTakingInto words p t u → ByTakingInto (set words w bits) p t u
 into_before words w bits p t u low e = e ∙ ap (λ (b : ℕ). after_taking b t) (sym (bit_else words w bits p (λ here. absurd (omega arith))))
+
+-- what a pass with all parts knows of the words before the word w, and of that word, when it is written
+pub settles_more : (old cur : List Tally) (words : List ℕ) (w bits : ℕ) → w < length words → ChangesRun (ByTakingInto words) old cur 0 (64 * w)
+    → ((p : ℕ) → p / 64 ≡ w → p < length cur → Settles (tally_of cur p) (bit_at bits (p % 64))) → ((p : ℕ) → p < length old → p < 64 * w → Settles (tally_of old p) (page_bit words p))
+    → (p : ℕ) → p < length old → p < 64 * w + 64 → Settles (tally_of old p) (page_bit (set words w bits) p)
+settles_more old cur words w bits inside r here before p l low = elim (cases_lt p (64 * w)) [
+  | inl less ↦ subst (Settles (tally_of old p)) (sym (bit_else words w bits p (λ e. absurd (omega arith)))) (before p l less)
+  | inr more ↦
+      let word : p / 64 ≡ w = omega arith in
+      let k = r.count in
+      let found = here p word (omega arith) in
+      let same = subst (λ (t : Tally). Settles t (bit_at bits (p % 64))) (r.above p more) found in
+      subst (Settles (tally_of old p)) (sym (bit_here words w bits p inside word)) same
+]
 
 pub zero_bits : (words : List ℕ) (k : ℕ) → words ≡ replicate k 0 → (p : ℕ) → page_bit words p ≡ 0
 unfolding page_bit

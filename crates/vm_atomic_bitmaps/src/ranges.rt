@@ -4,7 +4,7 @@ ghost use Rattle.std.specs.Prelude.{◌≡◌, ℕ, ◌+◌, ◌*◌, ◌<◌, �
 ghost use Rattle.std.specs.Int.{div_ceil};
 ghost use Rattle.vm_bitmaps.specs.Words.{page_bit, bit_of};
 ghost use Rattle.vm_atomic_bitmaps.specs.Counts.{tally_of, IsWhole};
-ghost use Rattle.vm_atomic_bitmaps.specs.Steps.{Settles, NoneBeyond};
+ghost use Rattle.vm_atomic_bitmaps.specs.Steps.{Settles, SettlesWord, SettlesAll, NoneBeyond};
 ghost use Rattle.vm_atomic_bitmaps.specs.Passes.{IsPassOf, counting, ByMark, ByTaking, ByTakingInto, Changes, ChangesRun, marks_page, clears_page};
 
 use crate::atomic_bitmap::AtomicBitmap;
@@ -170,7 +170,7 @@ impl AtomicBitmap {
         requires inside { word < div_ceil self.now.len 64 }
         requires room { length words.old ≡ div_ceil self.now.len 64 }
         ensures pass { pass.new ≡ counting pass.old pass.new.counts.pages }
-        ensures words { (bits : ℕ) × (words.new ≡ slice_set words.old word bits) × NoneBeyond self.now.len word bits }
+        ensures words { (bits : ℕ) × (words.new ≡ slice_set words.old word bits) × NoneBeyond self.now.len word bits × SettlesWord pass.old.counts word bits }
         ensures pages { ChangesRun (ByTakingInto words.new) pass.old.counts.pages pass.new.counts.pages (64 * word) (64 * word + 64) }
     {
         words[word] = self.gather(pass, word);
@@ -185,6 +185,7 @@ impl AtomicBitmap {
         ensures count { length words.new ≡ length words.old }
         ensures past { (p : ℕ) → self.now.len ≤ p → page_bit words.new p ≡ 0 }
         ensures pages { ChangesRun (ByTakingInto words.new) pass.old.counts.pages pass.new.counts.pages 0 self.now.len }
+        ensures whole { SettlesAll pass.old.counts words.new }
     {
         let mut i = 0;
         while i < words.len() {
@@ -201,6 +202,7 @@ impl AtomicBitmap {
         ensures count { IfOk result (λ words. vec_len words ≡ div_ceil self.now.len 64) }
         ensures past { IfOk result (λ words. (p : ℕ) → self.now.len ≤ p → page_bit words.items p ≡ 0) }
         ensures pages { IfOk result (λ words. Changes (ByTakingInto words.items) (λ p. true) pass.old.counts.pages pass.new.counts.pages) }
+        ensures whole { IfOk result (λ words. SettlesAll pass.old.counts words.items) }
         ensures own { IsPassOf self.now pass.new }
     {
         let mut words = vec![in self.alloc; 0; self.words()]?;

@@ -4,7 +4,7 @@ use Rattle.vm_atomic_bitmaps.specs.Counts.{met_of, tally_of, met_with, telling, 
 use Rattle.vm_atomic_bitmaps.specs.Passes.{counting}
 use Rattle.vm_atomic_bitmaps.proofs.Totals.{length-each_tally}
 use Rattle.vm_atomic_bitmaps.proofs.Own.{seat_of, own_after}
-use Rattle.vm_atomic_bitmaps.proofs.Steps.{joins_allowed, tells_allowed, meets}
+use Rattle.vm_atomic_bitmaps.proofs.Parts.{joins_allowed, tells_allowed, meets}
 use Rattle.vm_atomic_bitmaps.proofs.atomic_bitmap.AtomicBitmap.meet_pass.Goals as goal
 
 pub split_seat-seat-requires : goal.split_seat-seat-requires

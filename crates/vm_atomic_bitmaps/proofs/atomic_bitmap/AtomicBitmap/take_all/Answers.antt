@@ -1,8 +1,10 @@
 use Rattle.std.proofs.Common.{◌≡◌, ℕ, ◌+◌, ◌*◌, ◌<◌, length, List, ap, sym, subst, set, ◌∙◌, arith}
 use Rattle.std.proofs.lemmas.List.{length-set}
 use Rattle.vm_bitmaps.specs.Words.{page_bit}
+use Rattle.vm_atomic_bitmaps.specs.Counts.{tally_of, IsWhole}
+use Rattle.vm_atomic_bitmaps.specs.Steps.{Settles}
 use Rattle.vm_atomic_bitmaps.specs.Passes.{Pass, ChangesRun, ByTakingInto, counting}
-use Rattle.vm_atomic_bitmaps.proofs.Runs.{into_before, run_as, run_then}
+use Rattle.vm_atomic_bitmaps.proofs.Runs.{into_before, run_as, run_then, settles_more}
 use Rattle.vm_atomic_bitmaps.proofs.Steps.{rest_after}
 use Rattle.vm_atomic_bitmaps.proofs.atomic_bitmap.AtomicBitmap.take_all.Goals as goal
 
@@ -27,4 +29,15 @@ loop-i-preserved c =
       c.take_into.ensures.pass ∙ ap (λ (q : Pass). counting q new) c.loop-i.invariant.2,
       subst (ChangesRun (ByTakingInto c.take_into.new.words) old new 0) next run,
       λ p l. ap (λ (ws : List ℕ). page_bit ws p) is ∙ rest_after c.args.self.now.len before i bits inside c.loop-i.invariant.4 (λ q far here z. c.take_into.ensures.words.2 q far here) p l,
+      λ whole p l low. subst (λ (ws : List ℕ). Settles (tally_of old p) (page_bit ws p)) (sym is)
+          (settles_more old cur before i bits inside c.loop-i.invariant.3
+          (λ q here short. c.take_into.ensures.words.3 (subst (λ (q : Pass). IsWhole q.counts) (sym c.loop-i.invariant.2) whole) q short here)
+          (c.loop-i.invariant.5 whole) p l (omega arith)),
     )
+
+pub returns-clause-whole : goal.returns-clause-whole
+returns-clause-whole c =
+    let count = c.loop-i.invariant.0 in
+    let long = c.requires.own.1 in
+    let over = c.loop-i-test.false in
+    λ whole p l. c.loop-i.invariant.5 whole p l (omega arith)
