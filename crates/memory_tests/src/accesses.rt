@@ -2,9 +2,10 @@
 
 ghost use Rattle.vm_memory_core.specs.Host.{host_of};
 
-use crate::given::{bytes_of, eight};
+use crate::given::{Host, bytes_of, eight};
+use std::process::Abort;
 use std::test::Fail;
-use vm_memory_core::VolatileMemoryError::{OutOfBounds, PartialBuffer};
+use vm_memory_core::VolatileMemoryError::{self, OutOfBounds, PartialBuffer};
 use vm_memory_core::{Bytes, HostMemory, NewBitmap, PageBitmap, VolatileSlice};
 
 // A byte, by the bound alone.
@@ -16,59 +17,116 @@ where
     memory.read_obj::<u8, B>(h, addr).ok()
 }
 
-#[test]
-fn reads_stop_at_the_end(rt: HostRuntime) -> Result<(), Fail> {
-    let h = eight(&rt, rt.alloc())?;
+// What reading `len` bytes of eight answers, and four bytes of 0 with them read over.
+fn read(
+    rt: &impl Abort,
+    h: &Host,
+    len: usize,
+    addr: usize,
+) -> (Result<usize, VolatileMemoryError>, [u8; 4]) {
     let w = VolatileSlice::new(0, 0, 8);
     assert!(rt; h.has(&w));
     let mut bytes = [0; 4];
-    assert_eq!(rt; w.read(&h, &mut bytes, 5), Ok(3));
-    assert_eq!(rt; bytes, [6, 7, 8, 0]);
-    assert_eq!(rt; w.read(&h, &mut bytes, 8), Err(OutOfBounds { addr: 8 }));
-    assert_eq!(rt; w.read(&h, &mut bytes[..0], 8), Ok(0));
-    Ok(())
+    let answer = match bytes.get_mut(..len) {
+        Some(buffer) => w.read(h, buffer, addr),
+        None => Ok(9),
+    };
+    (answer, bytes)
+}
+
+// What filling four bytes of 0 answers, and the bytes.
+fn read_slice(
+    rt: &impl Abort,
+    h: &Host,
+    addr: usize,
+) -> (Result<(), VolatileMemoryError>, [u8; 4]) {
+    let w = VolatileSlice::new(0, 0, 8);
+    assert!(rt; h.has(&w));
+    let mut bytes = [0; 4];
+    let answer = w.read_slice(h, &mut bytes, addr);
+    (answer, bytes)
 }
 
 #[test]
-fn a_buffer_is_filled_or_refused(rt: HostRuntime) -> Result<(), Fail> {
+fn reads_stop_at_the_end(rt: HostRuntime) -> Result<(), Fail> {
     let h = eight(&rt, rt.alloc())?;
-    let w = VolatileSlice::new(0, 0, 8);
-    assert!(rt; h.has(&w));
+    let end = OutOfBounds { addr: 8 };
+    for (len, addr, answer, bytes) in [
+        (4, 5, Ok(3), [6, 7, 8, 0]),
+        (4, 8, Err(end), [0; 4]),
+        (0, 8, Ok(0), [0; 4]),
+    ] {
+        assert_eq!(rt; read(&rt, &h, len, addr), (answer, bytes), "at {addr}");
+    }
     let partial = PartialBuffer {
         expected: 4,
         completed: 2,
     };
-    let mut bytes = [0; 4];
-    assert_eq!(rt; w.read_slice(&h, &mut bytes, 6), Err(partial));
-    assert_eq!(rt; bytes, [7, 8, 0, 0]);
-    assert_eq!(rt; w.read_slice(&h, &mut bytes, 4), Ok(()));
-    assert_eq!(rt; bytes, [5, 6, 7, 8]);
+    for (addr, answer, bytes) in [(6, Err(partial), [7, 8, 0, 0]), (4, Ok(()), [5, 6, 7, 8])] {
+        assert_eq!(rt; read_slice(&rt, &h, addr), (answer, bytes), "at {addr}");
+    }
     Ok(())
 }
 
-#[test]
-fn values_are_read(rt: HostRuntime) -> Result<(), Fail> {
-    let h = eight(&rt, rt.alloc())?;
+// The two bytes at offset 1 as a number, and the bytes at 7 and at 8.
+fn values(rt: &impl Abort, h: &Host) -> (Option<u16>, Option<u8>, Option<u8>) {
     let w = VolatileSlice::new(0, 0, 8);
     assert!(rt; h.has(&w));
-    assert_eq!(rt; w.read_obj::<u16, PageBitmap>(&h, 1), Ok(0x0302));
-    assert_eq!(rt; (byte_of(&w, &h, 7), byte_of(&w, &h, 8)), (Some(8), None));
-    Ok(())
+    (
+        w.read_obj::<u16, PageBitmap>(h, 1).ok(),
+        byte_of(&w, h, 7),
+        byte_of(&w, h, 8),
+    )
+}
+
+// What a write of some bytes answers.
+fn write(
+    rt: &impl Abort,
+    h: &mut Host,
+    bytes: &[u8],
+    addr: usize,
+) -> Result<usize, VolatileMemoryError> {
+    let w = VolatileSlice::new(0, 0, 8);
+    assert!(rt; h.has(&w));
+    w.write(h, bytes, addr)
+}
+
+// What a write of all of some bytes answers.
+fn write_slice(
+    rt: &impl Abort,
+    h: &mut Host,
+    bytes: &[u8],
+    addr: usize,
+) -> Result<(), VolatileMemoryError> {
+    let w = VolatileSlice::new(0, 0, 8);
+    assert!(rt; h.has(&w));
+    w.write_slice(h, bytes, addr)
+}
+
+// What a write of a number of two bytes answers.
+fn write_obj(
+    rt: &impl Abort,
+    h: &mut Host,
+    value: u16,
+    addr: usize,
+) -> Result<(), VolatileMemoryError> {
+    let w = VolatileSlice::new(0, 0, 8);
+    assert!(rt; h.has(&w));
+    w.write_obj(h, value, addr)
 }
 
 #[test]
-fn writes_stop_at_the_end(rt: HostRuntime) -> Result<(), Fail> {
+fn values_are_read_and_writes_stop_at_the_end(rt: HostRuntime) -> Result<(), Fail> {
     let mut h = eight(&rt, rt.alloc())?;
-    let w = VolatileSlice::new(0, 0, 8);
-    assert!(rt; h.has(&w));
+    assert_eq!(rt; values(&rt, &h), (Some(0x0302), Some(8), None));
     let partial = PartialBuffer {
         expected: 2,
         completed: 1,
     };
-    assert_eq!(rt; w.write(&mut h, &[9], 8), Err(OutOfBounds { addr: 8 }));
-    assert_eq!(rt; w.write(&mut h, &[21, 22], 2), Ok(2));
-    assert_eq!(rt; w.write_slice(&mut h, &[28, 29], 7), Err(partial));
-    assert_eq!(rt; w.write_obj(&mut h, 0x1211u16, 0), Ok(()));
+    assert_eq!(rt; write(&rt, &mut h, &[9], 8), Err(OutOfBounds { addr: 8 }));
+    assert_eq!(rt; write(&rt, &mut h, &[21, 22], 2), Ok(2));
+    assert_eq!(rt; write_slice(&rt, &mut h, &[28, 29], 7), Err(partial));
+    assert_eq!(rt; write_obj(&rt, &mut h, 0x1211, 0), Ok(()));
     assert_eq!(rt; bytes_of(&rt, &h), [0x11, 0x12, 21, 22, 5, 6, 7, 28]);
     Ok(())
 }

@@ -2,8 +2,8 @@
 
 use crate::given::{ENDS, TWO, made, parts};
 use std::test::Fail;
-use vm_memory::GuestMemoryError::{InvalidBackendAddress, InvalidGuestAddress};
-use vm_memory::{GuestMemoryBackend, GuestMemoryRegion, HostAddress};
+use vm_memory::GuestMemoryError::{self, InvalidBackendAddress, InvalidGuestAddress};
+use vm_memory::{GuestMemoryBackend, GuestMemoryMmap, GuestMemoryRegion, HostAddress};
 use vm_memory_core::GuestAddress;
 
 // How many bytes lie between a region's first address and an address, by the bound alone.
@@ -23,82 +23,75 @@ fn size_of_all<M: GuestMemoryBackend>(mem: &M) -> u64 {
     size
 }
 
+// Whether an address is there, by each function that tells.
+fn are_there(mem: &GuestMemoryMmap, addr: GuestAddress) -> (bool, bool, bool) {
+    (
+        mem.address_in_range(addr),
+        mem.find_region(addr).is_some(),
+        mem.check_address(addr).is_some(),
+    )
+}
+
+// A place as block and offset.
+fn place_of(mem: &GuestMemoryMmap, addr: GuestAddress) -> Result<(usize, usize), GuestMemoryError> {
+    mem.get_host_address(addr)
+        .map(|there| (there.block, there.offset))
+}
+
 #[test]
 fn addresses_have_their_regions(rt: HostRuntime) -> Result<(), Fail> {
     let (_, mem) = made(rt.alloc(), &TWO)?;
-    for (addr, offset) in [
-        (0xfff, Some(0xfff)),
-        (0x1004, Some(4)),
-        (0x1fff, Some(0xfff)),
-        (0x2000, None),
+    let past = Err(InvalidGuestAddress(GuestAddress(0x2000)));
+    for (addr, offset, place) in [
+        (0xfff, Some(0xfff), Ok((0, 0xfff))),
+        (0x1004, Some(4), Ok((1, 4))),
+        (0x1fff, Some(0xfff), Ok((1, 0xfff))),
+        (0x2000, None, past),
     ] {
         assert_eq!(rt; offset_of(&mem, addr), offset, "at {addr}");
-        assert_eq!(rt; mem.address_in_range(GuestAddress(addr)), offset.is_some());
-        assert_eq!(rt;
-            mem.find_region(GuestAddress(addr)).is_some(),
-            offset.is_some()
-        );
-        assert_eq!(rt;
-            mem.check_address(GuestAddress(addr)).is_some(),
-            offset.is_some()
-        );
+        let there = offset.is_some();
+        assert_eq!(rt; are_there(&mem, GuestAddress(addr)), (there, there, there));
+        assert_eq!(rt; place_of(&mem, GuestAddress(addr)), place, "at {addr}");
     }
     Ok(())
 }
 
+// The block, offset and length of a slice.
+fn slice_at(
+    mem: &GuestMemoryMmap,
+    addr: u64,
+    count: usize,
+) -> Result<(usize, usize, usize), GuestMemoryError> {
+    mem.get_slice(GuestAddress(addr), count).map(parts)
+}
+
 #[test]
-fn offsets_end_at_the_last_address(rt: HostRuntime) -> Result<(), Fail> {
+fn offsets_and_slices_end_with_their_region(rt: HostRuntime) -> Result<(), Fail> {
     let (_, mem) = made(rt.alloc(), &TWO)?;
-    let base = GuestAddress(0x1000);
     for (offset, want) in [
         (0xfff, Some(GuestAddress(0x1fff))),
         (0x1000, None),
         (usize::MAX, None),
     ] {
-        assert_eq!(rt; mem.checked_offset(base, offset), want, "at {offset}");
+        let found = mem.checked_offset(GuestAddress(0x1000), offset);
+        assert_eq!(rt; found, want, "at {offset}");
+    }
+    for (addr, count, want) in [
+        (0x1004, 0xffd, Err(InvalidBackendAddress)),
+        (0x1004, 0xffc, Ok((1, 4, 0xffc))),
+        (0x2000, 0, Err(InvalidGuestAddress(GuestAddress(0x2000)))),
+    ] {
+        assert_eq!(rt; slice_at(&mem, addr, count), want, "{addr} {count}");
     }
     Ok(())
 }
 
 #[test]
-fn a_byte_has_its_host_address(rt: HostRuntime) -> Result<(), Fail> {
-    let (_, mem) = made(rt.alloc(), &TWO)?;
-    let there = HostAddress {
-        block: 1,
-        offset: 4,
-    };
-    assert_eq!(rt; mem.get_host_address(GuestAddress(0x1004)), Ok(there));
-    let past = GuestAddress(0x2000);
-    assert_eq!(rt; mem.get_host_address(past), Err(InvalidGuestAddress(past)));
-    Ok(())
-}
-
-#[test]
-fn a_slice_lies_in_one_region(rt: HostRuntime) -> Result<(), Fail> {
-    let (_, mem) = made(rt.alloc(), &TWO)?;
-    let addr = GuestAddress(0x1004);
-    assert_eq!(rt;
-        mem.get_slice(addr, 0xffd).err(),
-        Some(InvalidBackendAddress)
-    );
-    assert_eq!(rt;
-        mem.get_slice(addr, 0xffc).ok().map(parts),
-        Some((1, 4, 0xffc))
-    );
-    let past = GuestAddress(0x2000);
-    assert_eq!(rt;
-        mem.get_slice(past, 0).err(),
-        Some(InvalidGuestAddress(past))
-    );
-    Ok(())
-}
-
-#[test]
 fn regions_are_counted(rt: HostRuntime) -> Result<(), Fail> {
-    let (_, mem) = made(rt.alloc(), &TWO)?;
-    assert_eq!(rt; (mem.num_regions(), size_of_all(&mem)), (2, 0x2000));
-    assert_eq!(rt; mem.last_addr(), GuestAddress(0x1fff));
-    let (_, ends) = made(rt.alloc(), &ENDS)?;
-    assert_eq!(rt; ends.last_addr(), GuestAddress(u64::MAX));
+    for (ranges, last) in [(TWO, 0x1fff), (ENDS, u64::MAX)] {
+        let (_, mem) = made(rt.alloc(), &ranges)?;
+        assert_eq!(rt; (mem.num_regions(), size_of_all(&mem)), (2, 0x2000));
+        assert_eq!(rt; mem.last_addr(), GuestAddress(last));
+    }
     Ok(())
 }

@@ -1,6 +1,7 @@
 //! Bytes of guest memory by address.
 
 use crate::given::{ENDS, HOLE, Host, TWO, made};
+use std::alloc::Global;
 use std::test::Fail;
 use vm_memory::GuestMemoryError::{
     self, InvalidBackendAddress, InvalidGuestAddress, PartialBuffer,
@@ -9,6 +10,17 @@ use vm_memory::GuestRegionMmap;
 use vm_memory_core::{
     Bitmap, Bytes, GuestAddress, HostMemory, MemoryRegionAddress, PageBitmap, Permissions, Windows,
 };
+
+type Answer<T> = Result<T, GuestMemoryError>;
+
+type SomeOfFive = (
+    Answer<usize>,
+    Answer<usize>,
+    [u8; 5],
+    Answer<()>,
+    Answer<()>,
+    Answer<u8>,
+);
 
 const TWO_OF_FIVE: GuestMemoryError = PartialBuffer {
     expected: 5,
@@ -20,17 +32,74 @@ const ONE_OF_TWO: GuestMemoryError = PartialBuffer {
     completed: 1,
 };
 
+// What writing 1 to 5 from an address on answers, what reading five bytes there answers, the bytes over five nines,
+// and the bytes at both ends of the first block and of the second, and the first of the third.
+fn all_of_five(
+    alloc: Global,
+    ranges: &[(GuestAddress, usize)],
+    addr: u64,
+) -> Result<(Answer<()>, Answer<()>, [u8; 5], [Option<u8>; 5]), Fail> {
+    let (mut host, mem) = made(alloc, ranges)?;
+    let written = mem.write_slice(&mut host, &[1, 2, 3, 4, 5], GuestAddress(addr));
+    let mut bytes = [9; 5];
+    let read = mem.read_slice(&host, &mut bytes, GuestAddress(addr));
+    let places = [(0, 0), (0, 0xfff), (1, 0), (1, 0xfff), (2, 0)];
+    let stored = places.map(|(block, offset)| host.byte_at(block, offset));
+    Ok((written, read, bytes, stored))
+}
+
+// The same for as many of the five as there are, through the trait, and what its whole read and a whole write of nines
+// answer, and the byte at the address then.
+fn some_of_five(
+    alloc: Global,
+    ranges: &[(GuestAddress, usize)],
+    addr: u64,
+) -> Result<SomeOfFive, Fail> {
+    let (mut host, mem) = made(alloc, ranges)?;
+    let addr = GuestAddress(addr);
+    let written = Bytes::write(&mem, &mut host, &[1, 2, 3, 4, 5], addr);
+    let mut bytes = [9; 5];
+    let read = Bytes::read(&mem, &host, &mut bytes, addr);
+    let all_read = Bytes::read_slice(&mem, &host, &mut [0; 5], addr);
+    let all_written = Bytes::write_slice(&mem, &mut host, &[9; 5], addr);
+    let byte = mem.read_obj::<u8, PageBitmap>(&host, addr);
+    Ok((written, read, bytes, all_read, all_written, byte))
+}
+
 #[test]
-fn bytes_go_over_the_edge_of_a_region(rt: HostRuntime) -> Result<(), Fail> {
-    let (mut host, mem) = made(rt.alloc(), &TWO)?;
-    let addr = GuestAddress(0xffc);
-    assert_eq!(rt; mem.write_slice(&mut host, &[1, 2, 3, 4, 5], addr), Ok(()));
-    let mut bytes = [0; 5];
-    assert_eq!(rt; mem.read_slice(&host, &mut bytes, addr), Ok(()));
-    assert_eq!(rt; bytes, [1, 2, 3, 4, 5]);
+fn bytes_go_over_an_edge_and_end_at_a_hole(rt: HostRuntime) -> Result<(), Fail> {
+    let partial = Err(TWO_OF_FIVE);
+    let (five, two) = ([1, 2, 3, 4, 5], [1, 2, 9, 9, 9]);
+    for (ranges, addr, answer, bytes, stored) in [
+        (TWO, 0xffc, Ok(()), five, [0, 4, 5, 0]),
+        (ENDS, u64::MAX, Ok(()), five, [2, 0, 0, 1]),
+        (TWO, 0x1ffe, partial, two, [0, 0, 0, 2]),
+    ] {
+        let [first, second, third, fourth] = stored;
+        let stored = [Some(first), Some(second), Some(third), Some(fourth), None];
+        let found = all_of_five(rt.alloc(), &ranges, addr)?;
+        assert_eq!(rt; found, (answer, answer, bytes, stored), "at {addr}");
+    }
+    let stored = [Some(0), Some(0), Some(0), Some(2), Some(0)];
+    let found = all_of_five(rt.alloc(), &HOLE, 0x1ffe)?;
+    assert_eq!(rt; found, (partial, partial, two, stored));
+    Ok(())
+}
+
+#[test]
+fn some_bytes_are_there(rt: HostRuntime) -> Result<(), Fail> {
+    let past = Err(InvalidGuestAddress(GuestAddress(0x2000)));
+    let partial = Err(TWO_OF_FIVE);
+    let there = some_of_five(rt.alloc(), &TWO, 0x1ffe)?;
+    let over = some_of_five(rt.alloc(), &ENDS, u64::MAX)?;
+    let (_, read, ..) = some_of_five(rt.alloc(), &TWO, 0x2000)?;
     assert_eq!(rt;
-        (host.byte_at(0, 0xfff), host.byte_at(1, 0)),
-        (Some(4), Some(5))
+        (there, over, read),
+        (
+            (Ok(2), Ok(2), [1, 2, 9, 9, 9], partial, partial, Ok(9)),
+            (Ok(5), Ok(5), [1, 2, 3, 4, 5], Ok(()), Ok(()), Ok(9)),
+            past
+        )
     );
     Ok(())
 }
@@ -61,21 +130,6 @@ fn a_range_over_three_regions_is_marked_in_each(rt: HostRuntime) -> Result<(), F
         assert_eq!(rt; marks.dirty_at(offset), dirty, "{block} {offset}");
         assert_eq!(rt; host.byte_at(block, offset), Some(byte), "{block} {offset}");
     }
-    Ok(())
-}
-
-#[test]
-fn a_range_ends_at_a_hole(rt: HostRuntime) -> Result<(), Fail> {
-    let (mut host, mem) = made(rt.alloc(), &HOLE)?;
-    let addr = GuestAddress(0x1ffe);
-    assert_eq!(rt;
-        mem.write_slice(&mut host, &[1, 2, 3, 4, 5], addr),
-        Err(TWO_OF_FIVE)
-    );
-    let mut bytes = [9; 5];
-    assert_eq!(rt; mem.read_slice(&host, &mut bytes, addr), Err(TWO_OF_FIVE));
-    assert_eq!(rt; bytes, [1, 2, 9, 9, 9]);
-    assert_eq!(rt; host.byte_at(2, 0), Some(0));
     Ok(())
 }
 
@@ -111,42 +165,6 @@ fn windows_are_added(rt: HostRuntime) -> Result<(), Fail> {
 }
 
 #[test]
-fn some_bytes_are_there(rt: HostRuntime) -> Result<(), Fail> {
-    let (mut host, mem) = made(rt.alloc(), &TWO)?;
-    let end = GuestAddress(0x1ffe);
-    assert_eq!(rt; Bytes::write(&mem, &mut host, &[1, 2, 3, 4, 5], end), Ok(2));
-    let mut bytes = [9; 5];
-    assert_eq!(rt; Bytes::read(&mem, &host, &mut bytes, end), Ok(2));
-    assert_eq!(rt; bytes, [1, 2, 9, 9, 9]);
-    let past = GuestAddress(0x2000);
-    assert_eq!(rt;
-        Bytes::read(&mem, &host, &mut bytes, past),
-        Err(InvalidGuestAddress(past))
-    );
-    Ok(())
-}
-
-#[test]
-fn all_bytes_are_there_or_not(rt: HostRuntime) -> Result<(), Fail> {
-    let (mut host, mem) = made(rt.alloc(), &TWO)?;
-    let end = GuestAddress(0x1ffe);
-    let mut bytes = [9; 5];
-    assert_eq!(rt;
-        Bytes::write_slice(&mem, &mut host, &bytes, end),
-        Err(TWO_OF_FIVE)
-    );
-    assert_eq!(rt;
-        Bytes::read_slice(&mem, &host, &mut bytes, end),
-        Err(TWO_OF_FIVE)
-    );
-    assert_eq!(rt;
-        mem.read_obj::<u8, PageBitmap>(&host, GuestAddress(0x1fff)),
-        Ok(9)
-    );
-    Ok(())
-}
-
-#[test]
 fn a_region_is_read_and_written_by_offset(rt: HostRuntime) -> Result<(), Fail> {
     let mut host: Host = HostMemory::new(rt.alloc());
     let region = GuestRegionMmap::from_range(rt.alloc(), &mut host, GuestAddress(0x1000), 0x1000)?;
@@ -173,18 +191,6 @@ fn a_region_refuses_what_it_lacks(rt: HostRuntime) -> Result<(), Fail> {
     assert_eq!(rt;
         region.read(&host, &mut bytes, past),
         Err(InvalidBackendAddress)
-    );
-    Ok(())
-}
-
-#[test]
-fn the_greatest_address_comes_before_0(rt: HostRuntime) -> Result<(), Fail> {
-    let (mut host, mem) = made(rt.alloc(), &ENDS)?;
-    let written = Bytes::write(&mem, &mut host, &[1, 2], GuestAddress(u64::MAX));
-    assert_eq!(rt; written, Ok(2));
-    assert_eq!(rt;
-        (host.byte_at(1, 0xfff), host.byte_at(0, 0)),
-        (Some(1), Some(2))
     );
     Ok(())
 }

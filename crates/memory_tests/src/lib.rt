@@ -22,6 +22,8 @@ mod errors;
 #[cfg(test)]
 mod given;
 #[cfg(test)]
+mod joined;
+#[cfg(test)]
 mod permissions;
 #[cfg(test)]
 mod regions;

@@ -3,30 +3,29 @@
 use std::test::Fail;
 use vm_memory_core::Permissions::{self, No, Read, ReadWrite, Write};
 
-// Of each two: whether the first allows the second, what either allows, and what both allow.
-const PAIRS: [(Permissions, Permissions, bool, Permissions, Permissions); 7] = [
-    (Read, No, true, Read, No),
-    (Read, Read, true, Read, Read),
-    (Read, Write, false, ReadWrite, No),
-    (No, Read, false, Read, No),
-    (Write, ReadWrite, false, ReadWrite, Write),
-    (ReadWrite, Write, true, ReadWrite, Write),
-    (ReadWrite, ReadWrite, true, ReadWrite, ReadWrite),
+// Of each two: whether the first allows the second and whether it allows writing, what either allows, and what both allow.
+const PAIRS: [(
+    Permissions,
+    Permissions,
+    bool,
+    bool,
+    Permissions,
+    Permissions,
+); 7] = [
+    (Read, No, true, false, Read, No),
+    (Read, Read, true, false, Read, Read),
+    (Read, Write, false, false, ReadWrite, No),
+    (No, Read, false, false, Read, No),
+    (Write, ReadWrite, false, true, ReadWrite, Write),
+    (ReadWrite, Write, true, true, ReadWrite, Write),
+    (ReadWrite, ReadWrite, true, true, ReadWrite, ReadWrite),
 ];
 
 #[test]
 fn a_permission_allows_what_it_has(rt: HostRuntime) -> Result<(), Fail> {
-    for (one, other, allows, either, both) in PAIRS {
-        assert_eq!(rt; one.allow(other), allows);
+    for (one, other, allows, writes, either, both) in PAIRS {
+        assert_eq!(rt; (one.allow(other), one.has_write()), (allows, writes));
         assert_eq!(rt; (one | other, one & other), (either, both));
-    }
-    Ok(())
-}
-
-#[test]
-fn two_permissions_allow_writing(rt: HostRuntime) -> Result<(), Fail> {
-    for (one, writes) in [(No, false), (Read, false), (Write, true), (ReadWrite, true)] {
-        assert_eq!(rt; one.has_write(), writes);
     }
     Ok(())
 }
