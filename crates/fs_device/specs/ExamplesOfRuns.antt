@@ -38,7 +38,7 @@ far = put waiting 0x102 (le16 5)
 
 kick_stops : Run may (device far queue)
     ((run.Kick 0 9, run.Served (record { exchanges = []; refused = Some (device_error.Queue queue_error.AvailTooFar) }))
-     ∷ (run.Kick 0 9, run.Served (record { exchanges = []; refused = Some (device_error.Queue queue_error.Stopped) })) ∷ [])
+    ∷ (run.Kick 0 9, run.Served (record { exchanges = []; refused = Some (device_error.Queue queue_error.Stopped) })) ∷ [])
     (device far (stopped queue))
 unfolding Run KickRun offer place addresses stored_all path found
 kick_stops = (device far (stopped queue), (refl, refl, refl), (device far (stopped queue), (refl, refl, refl), refl))
