@@ -4,10 +4,10 @@ use Rattle.std.specs.declared.vec.Vec.{Vec}
 use Rattle.std.proofs.lemmas.Bool.{cases_lt}
 use Rattle.vm_atomic_bitmaps.specs.declared.counts.Tally.{Tally}
 use Rattle.vm_atomic_bitmaps.specs.declared.counts.PageCounts.{PageCounts}
-use Rattle.vm_atomic_bitmaps.specs.Counts.{tally_of, no_tally, after_mark, both_of, kept_half, new_half, joined}
+use Rattle.vm_atomic_bitmaps.specs.Counts.{tally_of, no_tally, both_of, new_half, both_passes}
 use Rattle.vm_atomic_bitmaps.specs.Passes.{ByMark, Changes}
-use Rattle.vm_atomic_bitmaps.proofs.Totals.{length-each_tally, at_each, at_past}
-use Rattle.vm_atomic_bitmaps.proofs.Parts.{at_clear_of}
+use Rattle.vm_atomic_bitmaps.proofs.PassTotals.{length-each_tally, at_each, at_past}
+use Rattle.vm_atomic_bitmaps.proofs.PassParts.{at_clear_of}
 use Rattle.page_threads.specs.declared.marking.ByteRange.{ByteRange}
 use Rattle.page_threads.specs.Threads.{is_in_ranges, is_in_lists, Marking}
 
@@ -24,15 +24,15 @@ or_true true = refl
 or_true false = refl
 
 -- one range
-pub marking_of : (hit : ℕ → Bool) (old new : List Tally) → Changes ByMark hit old new → Marking hit old new
-marking_of hit old new c = record { count = c.count; off = off; marked = λ p within. by_hit p within (hit p) refl }
+pub marking_of : (v : PageCounts) (hit : ℕ → Bool) (old new : List Tally) → Changes (ByMark v) hit old new → Marking hit old new
+marking_of v hit old new c = record { count = c.count; off = off; marked = λ p within. by_hit p within (hit p) refl }
   where
     by_hit : (p : ℕ) → p < length old → (b : Bool) → hit p ≡ b → (tally_of new p).marked ≡ (tally_of old p).marked || hit p
-    by_hit p within true e = ap (λ (t : Tally). t.marked) (c.changed p within e).2 ∙ sym (ap (λ (b : Bool). (tally_of old p).marked || b) e ∙ or_true (tally_of old p).marked)
+    by_hit p within true e = ap (λ (t : Tally). t.marked) (c.changed p within e).3 ∙ sym (ap (λ (b : Bool). (tally_of old p).marked || b) e ∙ or_true (tally_of old p).marked)
     by_hit p within false e = ap (λ (t : Tally). t.marked) (c.same p e) ∙ sym (ap (λ (b : Bool). (tally_of old p).marked || b) e ∙ or_false (tally_of old p).marked)
 
     off_by : (p : ℕ) → p < length old → (b : Bool) → hit p ≡ b → (tally_of new p).off ≡ (tally_of old p).off
-    off_by p within true e = ap (λ (t : Tally). t.off) (c.changed p within e).2
+    off_by p within true e = ap (λ (t : Tally). t.off) (c.changed p within e).3
     off_by p within false e = ap (λ (t : Tally). t.off) (c.same p e)
 
     off : (p : ℕ) → (tally_of new p).off ≡ (tally_of old p).off
@@ -78,7 +78,7 @@ either_marked false b = refl
 
 -- two halves, marked side by side and joined
 pub both_halves : (left right whole : ℕ → Bool) (v a b : PageCounts) → ((p : ℕ) → whole p ≡ left p || right p) → Marking left v.pages a.pages → Marking right (new_half v).pages b.pages
-    → Marking whole v.pages (joined a b).pages
+    → Marking whole v.pages (both_passes a b).pages
 both_halves left right whole v a b split l r = record {
   count = length-each_tally (λ p t. both_of t (tally_of b.pages p)) 0 a.pages ∙ l.count;
   off = off;
@@ -88,7 +88,7 @@ both_halves left right whole v a b split l r = record {
       ∙ sym (ap (λ (c : Bool). (tally_of v.pages p).marked || c) (split p));
 }
   where
-    page : (p : ℕ) → p < length a.pages → tally_of (joined a b).pages p ≡ both_of (tally_of a.pages p) (tally_of b.pages p)
+    page : (p : ℕ) → p < length a.pages → tally_of (both_passes a b).pages p ≡ both_of (tally_of a.pages p) (tally_of b.pages p)
     page p within = at_each (λ p t. both_of t (tally_of b.pages p)) a.pages p within
 
     second : (p : ℕ) → p < length v.pages → (tally_of b.pages p).marked ≡ right p
@@ -99,14 +99,14 @@ both_halves left right whole v a b split l r = record {
     none : (p : ℕ) → (tally_of b.pages p).off ≡ 0
     none p = r.off p ∙ ap (λ (t : Tally). t.off) (at_clear_of v.pages p)
 
-    off : (p : ℕ) → (tally_of (joined a b).pages p).off ≡ (tally_of v.pages p).off
+    off : (p : ℕ) → (tally_of (both_passes a b).pages p).off ≡ (tally_of v.pages p).off
     off p = elim (cases_lt p (length a.pages)) [
       | inl within ↦
-          let both : (tally_of (joined a b).pages p).off ≡ (tally_of a.pages p).off + (tally_of b.pages p).off = ap (λ (t : Tally). t.off) (page p within) in
+          let both : (tally_of (both_passes a b).pages p).off ≡ (tally_of a.pages p).off + (tally_of b.pages p).off = ap (λ (t : Tally). t.off) (page p within) in
           let n = none p in
           let o = l.off p in omega arith
       | inr past ↦
           let k = length-each_tally (λ p t. both_of t (tally_of b.pages p)) 0 a.pages in
           let c = l.count in
-          ap (λ (t : Tally). t.off) (at_past (joined a b).pages p (omega arith) ∙ sym (at_past v.pages p (omega arith)))
+          ap (λ (t : Tally). t.off) (at_past (both_passes a b).pages p (omega arith) ∙ sym (at_past v.pages p (omega arith)))
     ]

@@ -1,6 +1,7 @@
 -- What threads mark while another gathers, and what comes of all of it.
-use Rattle.std.specs.Prelude.{◌≡◌, ◌↔◌, ℕ, ◌*◌, ◌^◌, ◌<◌, max, Bool, false, ◌||◌, List, [], ◌∷◌, length}
+use Rattle.std.specs.Prelude.{◌≡◌, ◌↔◌, ℕ, ◌*◌, ◌^◌, ◌<◌, ◌≤◌, max, Bool, false, ◌||◌, List, [], ◌∷◌, length}
 use Rattle.std.specs.declared.vec.Vec.{Vec}
+use Rattle.std.specs.Int.{div_ceil}
 use Rattle.vm_bitmaps.specs.Words.{page_bit, bit_of}
 use Rattle.vm_atomic_bitmaps.specs.declared.counts.Tally.{Tally}
 use Rattle.vm_atomic_bitmaps.specs.declared.counts.PageCounts.{PageCounts}
@@ -29,9 +30,13 @@ pub record Gathering (old new : List Tally) : Type 0 where
   pub count : length new ≡ length old
   pub marked : (p : ℕ) → (tally_of new p).marked ≡ (tally_of old p).marked
 
--- the words have the bits of the pages that were taken
+-- the words have the bits of the pages that were taken, and no others
 abbrev pub HaveTaken : List Tally → (words : List ℕ) → Type 0
-HaveTaken pages words = (p : ℕ) → p < length pages → (0 < (tally_of pages p).off) ↔ (page_bit words p ≡ 1)
+HaveTaken pages words = (p : ℕ) → (0 < (tally_of pages p).off) ↔ (page_bit words p ≡ 1)
+
+-- of the pages below end as many clears as marks are known of: each was taken since the last mark that the pass knows of
+abbrev pub IsTakenTo : List Tally → (end : ℕ) → Type 0
+IsTakenTo pages end = (p : ℕ) → p < end → (tally_of pages p).held ≤ (tally_of pages p).seen
 
 -- both have the same part of all passes
 abbrev pub HaveSamePart : PageCounts → PageCounts → Type 0
@@ -44,6 +49,10 @@ HasHalf v = 2 * v.parts ≡ 2 ^ v.depth
 -- each page is among those that were gathered or those that are left exactly where some list has it
 abbrev pub NeitherLostNorInvented : {A : Type 0} → (size len : ℕ) → List (Vec ByteRange A) → (gathered left : List ℕ) → Type 0
 NeitherLostNorInvented size len lists gathered left = (p : ℕ) → p < len → max (page_bit gathered p) (page_bit left p) ≡ bit_of (is_in_lists size len lists p)
+
+-- the words have room for len pages and no more than that takes, and no bit past the last page is set
+abbrev pub AreWordsOf : (len : ℕ) (words : List ℕ) → Type 0
+AreWordsOf len words = (length words ≡ div_ceil len 64) × ((p : ℕ) → len ≤ p → page_bit words p ≡ 0)
 
 -- a pass with half of all, that has counted nothing
 abbrev pub IsFresh : PageCounts → Type 0

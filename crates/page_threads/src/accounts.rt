@@ -9,7 +9,7 @@ ghost use Rattle.vm_bitmaps.specs.Words.{page_bit};
 ghost use Rattle.vm_atomic_bitmaps.specs.Counts.{no_tally, tally_of, both_of};
 ghost use Rattle.vm_atomic_bitmaps.specs.Steps.{Settles};
 ghost use Rattle.vm_atomic_bitmaps.specs.Passes.{IsPassOf, counting};
-ghost use Rattle.page_threads.specs.Threads.{Marking, Gathering, HaveTaken, HaveSamePart, HasHalf, IsFresh, is_in_lists, NeitherLostNorInvented};
+ghost use Rattle.page_threads.specs.Threads.{Marking, Gathering, HaveTaken, HaveSamePart, HasHalf, IsFresh, IsTakenTo, AreWordsOf, is_in_lists, NeitherLostNorInvented};
 
 use crate::gathering::gather_into;
 use crate::marking::{ByteRange, mark_lists};
@@ -17,20 +17,13 @@ use std::alloc::{AllocError, Global};
 use std::num::NonZeroUsize;
 use std::thread::{Threads, join};
 use vm_atomic_bitmaps::{AtomicBitmap, BitmapPass};
+use vm_bitmaps::page_words::zeros;
 
 /// The pages that were gathered, and those that were left, as words: page p is bit p mod 64 of word p / 64.
 #[derive(Drop)]
 pub struct Account {
     pub gathered: Vec<u64>,
     pub left: Vec<u64>,
-}
-
-// Words of zeros.
-fn zeros(alloc: Global, count: usize) -> Result<Vec<u64>, AllocError>
-    ensures { IfOk result (λ words. words.items ≡ replicate count 0) }
-{
-    let words = vec![in alloc; 0; count]?;
-    Ok(words)
 }
 
 // A clear bitmap with two passes, each of half of all.
@@ -70,7 +63,9 @@ fn mark_beside<R: Threads + Sync>(
     ensures gatherer { IsPassOf bitmap.now result.1.0 }
     ensures pass { result.1.0 ≡ counting gatherer result.1.0.counts.pages }
     ensures gathered { Gathering gatherer.counts.pages result.1.0.counts.pages }
+    ensures room { length result.1.1.items ≡ div_ceil bitmap.now.len 64 }
     ensures taken { HaveTaken result.1.0.counts.pages result.1.1.items }
+    ensures rounds { 0 < rounds → IsTakenTo result.1.0.counts.pages bitmap.now.len }
 {
     join(
         rt,
@@ -90,7 +85,8 @@ fn settle(
     requires first { IsPassOf bitmap first }
     requires second { IsPassOf bitmap second }
     requires halves { HasHalf first.counts × HasHalf second.counts }
-    ensures { IfOk result (λ left. (p : ℕ) → p < bitmap.len → Settles (both_of (tally_of first.counts.pages p) (tally_of second.counts.pages p)) (page_bit left.items p)) }
+    ensures words { IfOk result (λ left. AreWordsOf bitmap.len left.items) }
+    ensures pages { IfOk result (λ left. (p : ℕ) → p < bitmap.len → Settles (both_of (tally_of first.counts.pages p) (tally_of second.counts.pages p)) (page_bit left.items p)) }
 {
     bitmap.join_pass(&mut first, second);
     match bitmap.close(first) {
@@ -109,7 +105,9 @@ pub fn mark_and_gather<R: Threads + Sync>(
     lists: &[Vec<ByteRange>],
     rounds: usize,
 ) -> Result<Account, AllocError>
-    ensures { IfOk result (λ r. NeitherLostNorInvented (non_zero_usize_get page_size) (pages_of (non_zero_usize_get page_size) byte_size) lists.now r.gathered.items r.left.items) }
+    ensures gathered { IfOk result (λ r. AreWordsOf (pages_of (non_zero_usize_get page_size) byte_size) r.gathered.items) }
+    ensures left { IfOk result (λ r. AreWordsOf (pages_of (non_zero_usize_get page_size) byte_size) r.left.items) }
+    ensures pages { IfOk result (λ r. NeitherLostNorInvented (non_zero_usize_get page_size) (pages_of (non_zero_usize_get page_size) byte_size) lists.now r.gathered.items r.left.items) }
 {
     let (bitmap, gatherer, marker) = open(alloc, byte_size, page_size)?;
     let words = zeros(alloc, bitmap.words())?;

@@ -1,9 +1,9 @@
 //! A thread that gathers all words, again and again.
 
-ghost use Rattle.std.specs.Prelude.{◌≡◌, ◌<◌, length, vec_len};
+ghost use Rattle.std.specs.Prelude.{◌≡◌, ◌+◌, ◌*◌, ◌<◌, length, vec_len};
 ghost use Rattle.std.specs.Int.{div_ceil};
 ghost use Rattle.vm_atomic_bitmaps.specs.Passes.{IsPassOf, counting};
-ghost use Rattle.page_threads.specs.Threads.{Gathering, HaveTaken};
+ghost use Rattle.page_threads.specs.Threads.{Gathering, HaveTaken, IsTakenTo};
 
 use vm_atomic_bitmaps::{AtomicBitmap, BitmapPass};
 
@@ -18,6 +18,7 @@ fn gather_word(bitmap: &AtomicBitmap, pass: &mut BitmapPass, words: &mut [u64], 
     ensures pages { Gathering pass.old.counts.pages pass.new.counts.pages }
     ensures room { length words.new ≡ length words.old }
     ensures taken { HaveTaken pass.new.counts.pages words.new }
+    ensures round { IsTakenTo pass.old.counts.pages (64 * word) → IsTakenTo pass.new.counts.pages (64 * word + 64) }
 {
     let found = bitmap.gather(pass, word);
     words[word] |= found;
@@ -33,6 +34,7 @@ fn gather_once(bitmap: &AtomicBitmap, pass: &mut BitmapPass, words: &mut [u64])
     ensures pages { Gathering pass.old.counts.pages pass.new.counts.pages }
     ensures room { length words.new ≡ length words.old }
     ensures taken { HaveTaken pass.new.counts.pages words.new }
+    ensures round { IsTakenTo pass.new.counts.pages bitmap.now.len }
 {
     let mut word = 0;
     while word < words.len() {
@@ -51,9 +53,12 @@ fn gather_rounds(bitmap: &AtomicBitmap, pass: &mut BitmapPass, words: &mut [u64]
     ensures pages { Gathering pass.old.counts.pages pass.new.counts.pages }
     ensures room { length words.new ≡ length words.old }
     ensures taken { HaveTaken pass.new.counts.pages words.new }
+    ensures rounds { 0 < rounds → IsTakenTo pass.new.counts.pages bitmap.now.len }
 {
-    for _ in 0..rounds {
+    let mut round = 0;
+    while round < rounds {
         gather_once(bitmap, pass, words);
+        round += 1;
     }
 }
 
@@ -70,7 +75,9 @@ pub fn gather_into(
     ensures own { IsPassOf bitmap.now result.0 }
     ensures pass { result.0 ≡ counting pass result.0.counts.pages }
     ensures pages { Gathering pass.counts.pages result.0.counts.pages }
+    ensures room { length result.1.items ≡ div_ceil bitmap.now.len 64 }
     ensures taken { HaveTaken result.0.counts.pages result.1.items }
+    ensures rounds { 0 < rounds → IsTakenTo result.0.counts.pages bitmap.now.len }
 {
     gather_rounds(bitmap, &mut pass, &mut words, rounds);
     (pass, words)

@@ -1,6 +1,6 @@
-pub mod Totals
-pub mod Steps
-pub mod Parts
-pub mod Own
-pub mod Runs
+pub mod PassTotals
+pub mod AllowedSteps
+pub mod PassParts
+pub mod PassSeats
+pub mod PageRuns
 pub mod RangePages

@@ -9,7 +9,7 @@ use Rattle.vm_bitmaps.specs.Pages.{mark_of, marked_range, cleared_range}
 use Rattle.vm_bitmaps.proofs.Marks.{written_range, marked_range-is, cleared_range-is, run_is}
 use Rattle.vm_atomic_bitmaps.specs.declared.counts.Tally.{Tally}
 use Rattle.vm_atomic_bitmaps.specs.Passes.{Changes, ChangesRun, marks_page, clears_page}
-use Rattle.vm_atomic_bitmaps.proofs.Totals.{at_past}
+use Rattle.vm_atomic_bitmaps.proofs.PassTotals.{at_past}
 
 -- whether page p lies between two pages
 abbrev pub is_between : (first last p : ℕ) → Bool

@@ -22,8 +22,12 @@ abbrev pub after_mark : (was : ℕ) → Tally → Tally
 after_mark was t = record { marked = true; on = t.on + (1 - was); off = t.off; held = max t.held (t.seen + 1); seen = t.seen }
 
 -- the tally of a page that a gather or a clear met, whose bit was `was`: as many clears as marks are known of
-abbrev pub after_taking : (was : ℕ) → Tally → Tally
-after_taking was t = record { marked = t.marked; on = t.on; off = t.off + was; held = t.held; seen = max t.held (t.seen + was) }
+abbrev pub after_clearing : (was : ℕ) → Tally → Tally
+after_clearing was t = record { marked = t.marked; on = t.on; off = t.off + was; held = t.held; seen = max t.held (t.seen + was) }
+
+-- the tally of a page that a read met, whose bit was `was`: as many marks as clears are known of, and `was` more
+abbrev pub after_read : (was : ℕ) → Tally → Tally
+after_read was t = record { marked = t.marked; on = t.on; off = t.off; held = max t.held (t.seen + was); seen = max t.seen (t.held - was) }
 
 -- page p lies in word i
 abbrev pub in_word : (i p : ℕ) → Bool
@@ -38,8 +42,12 @@ abbrev pub marked_by : (hit : ℕ → Bool) (found : ℕ) → List Tally → Lis
 marked_by hit found = each_tally (λ p t. cond (hit p) (after_mark (bit_at found (p % 64)) t) t) 0
 
 -- the tallies after a step that takes those pages of a word that are hit, where the word was `found`
-abbrev pub taken_by : (hit : ℕ → Bool) (found : ℕ) → List Tally → List Tally
-taken_by hit found = each_tally (λ p t. cond (hit p) (after_taking (bit_at found (p % 64)) t) t) 0
+abbrev pub cleared_by : (hit : ℕ → Bool) (found : ℕ) → List Tally → List Tally
+cleared_by hit found = each_tally (λ p t. cond (hit p) (after_clearing (bit_at found (p % 64)) t) t) 0
+
+-- the tallies after a step that reads those pages of a word that are hit, where the word was `found`
+abbrev pub read_by : (hit : ℕ → Bool) (found : ℕ) → List Tally → List Tally
+read_by hit found = each_tally (λ p t. cond (hit p) (after_read (bit_at found (p % 64)) t) t) 0
 
 -- what two passes have counted of a page, in one
 abbrev pub both_of : Tally → Tally → Tally
@@ -94,8 +102,8 @@ abbrev pub telling : PageCounts → PageCounts
 telling v = record { pages = seen_of v.pages; parts = 0; depth = 0 }
 
 -- both passes in one: what they counted, and their parts
-abbrev pub joined : PageCounts → PageCounts → PageCounts
-joined v w = record { pages = joined_with w.pages v.pages; parts = v.parts * 2 ^ w.depth + w.parts * 2 ^ v.depth; depth = v.depth + w.depth }
+abbrev pub both_passes : PageCounts → PageCounts → PageCounts
+both_passes v w = record { pages = joined_with w.pages v.pages; parts = v.parts * 2 ^ w.depth + w.parts * 2 ^ v.depth; depth = v.depth + w.depth }
 
 -- the pass has every part, so that no other has marked, set or cleared a page
 abbrev pub IsWhole : PageCounts → Type 0

@@ -1,11 +1,13 @@
 -- What callers see of a bitmap that threads share, and of its passes.
-use Rattle.std.specs.Prelude.{◌≡◌, ℕ, ◌<◌, ◌≤◌, Bool, true, false, not, List, length, replicate}
+use Rattle.std.specs.Prelude.{◌≡◌, ℕ, ◌<◌, ◌≤◌, ◌/◌, ◌%◌, Bool, true, false, not, List, length, replicate}
+use Rattle.std.specs.Int.{bit_at}
 use Rattle.atomic_table.specs.Seated.{TableId}
 use Rattle.vm_bitmaps.specs.Pages.{marked_range, cleared_range, mark_of}
 use Rattle.vm_bitmaps.specs.Words.{page_bit}
 use Rattle.vm_atomic_bitmaps.specs.declared.counts.Tally.{Tally}
 use Rattle.vm_atomic_bitmaps.specs.declared.counts.PageCounts.{PageCounts}
-use Rattle.vm_atomic_bitmaps.specs.Counts.{tally_of, after_mark, after_taking, with_pages}
+use Rattle.vm_atomic_bitmaps.specs.Counts.{tally_of, after_mark, after_clearing, in_word, read_by, with_pages, IsWhole}
+use Rattle.vm_atomic_bitmaps.specs.Steps.{Settles, SettlesWord}
 
 -- a bitmap: its name, which no other has, and its pages
 pub record SharedPages : Type 0 where
@@ -27,17 +29,23 @@ IsPassOf b p = (p.name ≡ b.name) × (length p.counts.pages ≡ b.len)
 abbrev pub counting : Pass → List Tally → Pass
 counting p pages = record { name = p.name; counts = with_pages p.counts pages }
 
--- a mark met the page, whose bit was 0 or 1
-abbrev pub ByMark : (p : ℕ) → Tally → Tally → Type 0
-ByMark p t u = (was : ℕ) × (was < 2) × (u ≡ after_mark was t)
+-- a mark of the pass v met the page, whose bit was 0 or 1: where the pass has every part, the bit that it knows
+abbrev pub ByMark : (v : PageCounts) (p : ℕ) → Tally → Tally → Type 0
+ByMark v p t u = (was : ℕ) × (was < 2) × (IsWhole v → Settles t was) × (u ≡ after_mark was t)
 
--- a gather or a clear met the page, whose bit was 0 or 1
-abbrev pub ByTaking : (p : ℕ) → Tally → Tally → Type 0
-ByTaking p t u = (was : ℕ) × (was < 2) × (u ≡ after_taking was t)
+-- a gather or a clear of the pass v met the page, whose bit was 0 or 1: where the pass has every part, the bit that it knows
+abbrev pub ByClearing : (v : PageCounts) (p : ℕ) → Tally → Tally → Type 0
+ByClearing v p t u = (was : ℕ) × (was < 2) × (IsWhole v → Settles t was) × (u ≡ after_clearing was t)
 
 -- a gather met the page, whose bit is that of the words
-abbrev pub ByTakingInto : List ℕ → (p : ℕ) → Tally → Tally → Type 0
-ByTakingInto words p t u = u ≡ after_taking (page_bit words p) t
+abbrev pub ByGathering : List ℕ → (p : ℕ) → Tally → Tally → Type 0
+ByGathering words p t u = u ≡ after_clearing (page_bit words p) t
+
+-- the pass has read the word of page p, and the bit of the page there is b
+abbrev pub HasRead : (old new : Pass) (p b : ℕ) → Type 0
+HasRead old new p b =
+    (found : ℕ) × (new ≡ counting old (read_by (in_word (p / 64)) found old.counts.pages)) × SettlesWord old.counts (p / 64) found
+    × (bit_at found (p % 64) ≡ b)
 
 -- the tallies of the pages that are hit have changed so, and the others are as they were
 pub record Changes (Change : ℕ → Tally → Tally → Type 0) (hit : ℕ → Bool) (old new : List Tally) : Type 0 where

@@ -38,8 +38,8 @@ pub record Counted (len : ℕ) (words : List ℕ) (views : List PageCounts) : Ty
       → ((tally_of v.pages p).held ≤ total_by (on_at p) views) × ((tally_of v.pages p).seen ≤ total_by (off_at p) views)
 
 -- a pass's part, parts / 2 ^ depth of the whole, in units of which the whole has 2 ^ k
-abbrev pub part_of : (k : ℕ) → PageCounts → ℕ
-part_of k v = v.parts * 2 ^ (k - v.depth)
+abbrev pub weight : (k : ℕ) → PageCounts → ℕ
+weight k v = v.parts * 2 ^ (k - v.depth)
 
 -- the pass has marked, set and cleared nothing
 abbrev pub IsIdle : PageCounts → Type 0
@@ -49,11 +49,11 @@ IsIdle v = (p : ℕ) → (marks_at p v ≡ 0) × (on_at p v ≡ 0) × (off_at p 
 pub record AddUp (views : List PageCounts) : Type 0 where
   pub unit : ℕ
   pub fits : (id : ℕ) (v : PageCounts) → get_elem? views id ≡ some v → v.depth ≤ unit
-  pub whole : total_by (part_of unit) views ≡ 2 ^ unit
+  pub whole : total_by (weight unit) views ≡ 2 ^ unit
   pub idle : (id : ℕ) (v : PageCounts) → get_elem? views id ≡ some v → v.parts ≡ 0 → IsIdle v
 
 -- pages are neither lost nor invented
-pub record Pages (len : ℕ) (words : List ℕ) (views : List PageCounts) : Type 0 where
+pub record PageAccount (len : ℕ) (words : List ℕ) (views : List PageCounts) : Type 0 where
   pub counted : Counted len words views
   pub shared : AddUp views
 
@@ -63,8 +63,8 @@ table_words len = max 1 (div_ceil len 64)
 
 -- the rule, of a table
 abbrev pub holds : (len : ℕ) → State (Unit {0}) PageCounts → Type 0
-holds len s = (length s.words ≡ table_words len) × Pages len s.words s.views
+holds len s = (length s.words ≡ table_words len) × PageAccount len s.words s.views
 
 -- the rule holds of the words and of all passes, of which this is one
 abbrev pub Stands : (len : ℕ) → List ℕ → PageCounts → Type 0
-Stands len words v = (views : List PageCounts) × Pages len words views × ((id : ℕ) × (get_elem? views id ≡ some v))
+Stands len words v = (views : List PageCounts) × PageAccount len words views × ((id : ℕ) × (get_elem? views id ≡ some v))

@@ -5,15 +5,16 @@ use Rattle.atomic_table.specs.Table.{Me, Step}
 use Rattle.vm_bitmaps.specs.Words.{page_bit}
 use Rattle.vm_atomic_bitmaps.specs.declared.counts.Tally.{Tally}
 use Rattle.vm_atomic_bitmaps.specs.declared.counts.PageCounts.{PageCounts}
-use Rattle.vm_atomic_bitmaps.specs.Counts.{tally_of, picks, in_word, marked_by, taken_by, with_pages, IsWhole}
+use Rattle.vm_atomic_bitmaps.specs.Counts.{tally_of, picks, in_word, marked_by, cleared_by, read_by, with_pages, IsWhole}
 
 -- the word i has no bit of a page past the last
 abbrev pub NoneBeyond : (len i found : ℕ) → Type 0
 NoneBeyond len i found = (p : ℕ) → len ≤ p → p / 64 ≡ i → bit_at found (p % 64) ≡ 0
 
--- what a pass with every part knows of a page whose bit is b: it was set as often as cleared, and once more where it is set; it was marked where it was ever set
+-- what a pass with every part knows of a page whose bit is b: it was set as often as cleared, and once more where it is set;
+-- it was marked where it was ever set; and what was seen is no more than what was counted
 abbrev pub Settles : Tally → (b : ℕ) → Type 0
-Settles t b = (t.on ≡ t.off + b) × ((t.marked ≡ true) ↔ (0 < t.on))
+Settles t b = (t.on ≡ t.off + b) × ((t.marked ≡ true) ↔ (0 < t.on)) × (t.held ≤ t.on) × (t.seen ≤ t.off)
 
 -- where the pass has every part, the word i is `found`
 abbrev pub SettlesWord : PageCounts → (i found : ℕ) → Type 0
@@ -28,19 +29,21 @@ abbrev pub PassSeat : Type 0
 PassSeat = Me (Unit {0}) PageCounts
 
 -- a fetch_or with a mask
-abbrev pub Marks : Step (Unit {0}) → PassSeat → (found : ℕ) → PassSeat → Type 0
-Marks st m found w = (w ≡ (with_pages m.0 (marked_by (picks st.word st.first 1) found m.0.pages), m.1)) × SettlesWord m.0 st.word found
+abbrev pub MarkStep : Step (Unit {0}) → PassSeat → (found : ℕ) → PassSeat → Type 0
+MarkStep st m found w = (w ≡ (with_pages m.0 (marked_by (picks st.word st.first 1) found m.0.pages), m.1)) × SettlesWord m.0 st.word found
 
 -- a swap with 0
-abbrev pub Gathers : Step (Unit {0}) → PassSeat → (found : ℕ) → PassSeat → Type 0
-Gathers st m found w =
-    (w ≡ (with_pages m.0 (taken_by (in_word st.word) found m.0.pages), m.1)) × SettlesWord m.0 st.word found
+abbrev pub GatherStep : Step (Unit {0}) → PassSeat → (found : ℕ) → PassSeat → Type 0
+GatherStep st m found w =
+    (w ≡ (with_pages m.0 (cleared_by (in_word st.word) found m.0.pages), m.1)) × SettlesWord m.0 st.word found
     × NoneBeyond (length m.0.pages) st.word found
 
 -- a fetch_and with a mask, which clears the pages that the mask hasn't
-abbrev pub Clears : Step (Unit {0}) → PassSeat → (found : ℕ) → PassSeat → Type 0
-Clears st m found w = (w ≡ (with_pages m.0 (taken_by (picks st.word st.first 0) found m.0.pages), m.1)) × SettlesWord m.0 st.word found
+abbrev pub ClearStep : Step (Unit {0}) → PassSeat → (found : ℕ) → PassSeat → Type 0
+ClearStep st m found w = (w ≡ (with_pages m.0 (cleared_by (picks st.word st.first 0) found m.0.pages), m.1)) × SettlesWord m.0 st.word found
 
 -- a load
-abbrev pub Reads : Step (Unit {0}) → PassSeat → (found : ℕ) → PassSeat → Type 0
-Reads st m found w = (w ≡ m) × SettlesWord m.0 st.word found × NoneBeyond (length m.0.pages) st.word found
+abbrev pub ReadStep : Step (Unit {0}) → PassSeat → (found : ℕ) → PassSeat → Type 0
+ReadStep st m found w =
+    (w ≡ (with_pages m.0 (read_by (in_word st.word) found m.0.pages), m.1)) × SettlesWord m.0 st.word found
+    × NoneBeyond (length m.0.pages) st.word found

@@ -7,7 +7,8 @@ ghost use Rattle.std.specs.Mem.Slots.{slots_items, slots_len, IsFull};
 ghost use mathlib.Core.Option.{some};
 ghost use lib.ListN.{get_elem?};
 ghost use Rattle.vm_bitmaps.specs.Pages.{pages_of};
-ghost use Rattle.vm_atomic_bitmaps.specs.Counts.{first_pass, marked_by, taken_by, picks, in_word, kept_half, new_half, joined, met_with};
+ghost use Rattle.vm_bitmaps.specs.Words.{page_bit};
+ghost use Rattle.vm_atomic_bitmaps.specs.Counts.{first_pass, marked_by, cleared_by, read_by, picks, in_word, kept_half, new_half, both_passes, met_with};
 ghost use Rattle.vm_atomic_bitmaps.specs.Rule.{Stands};
 ghost use Rattle.vm_atomic_bitmaps.specs.Steps.{SettlesWord, SettlesAll, NoneBeyond};
 ghost use Rattle.vm_atomic_bitmaps.specs.Passes.{IsPassOf, counting};
@@ -18,6 +19,7 @@ use atomic_table::{Closed, Table};
 use std::alloc::{AllocError, Global};
 use std::marker::Model;
 use std::num::NonZeroUsize;
+use vm_bitmaps::page_words::zeros;
 
 /// A mark for each page of some bytes (vm-memory's `AtomicBitmap`). Threads share it by `&`, each with a pass of its own.
 /// Page p is bit p mod 64 of word p / 64.
@@ -48,14 +50,6 @@ impl Model for AtomicBitmap {
     ghost invariant = { λ b.
         (0 < b.page_size) × (b.len ≡ pages_of b.page_size b.byte_size) × (b.table.shared.key ≡ b.len)
         × (b.table.shared.table_id.words ≡ table_words b.len) × (b.table.shared.table_id.slots ≡ 0) };
-}
-
-// Words of zeros.
-fn zeros(alloc: Global, count: usize) -> Result<Vec<u64>, AllocError>
-    ensures { IfOk result (λ words. words.items ≡ replicate count 0) }
-{
-    let words = vec![in alloc; 0; count]?;
-    Ok(words)
 }
 
 // The first words of a table that was closed.
@@ -127,7 +121,7 @@ impl AtomicBitmap {
     pub(crate) fn mark_word(&self, pass: &mut BitmapPass, word: usize, mask: u64) -> u64
         requires own { IsPassOf self.now pass.old }
         requires inside { word < div_ceil self.now.len 64 }
-        requires pages { NoneBeyond self.now.len word mask }
+        requires past { NoneBeyond self.now.len word mask }
         ensures pass { pass.new ≡ counting pass.old (marked_by (picks word mask 1) result pass.old.counts.pages) }
         ensures word { SettlesWord pass.old.counts word result }
     {
@@ -141,7 +135,7 @@ impl AtomicBitmap {
     pub(crate) fn clear_word(&self, pass: &mut BitmapPass, word: usize, mask: u64) -> u64
         requires own { IsPassOf self.now pass.old }
         requires inside { word < div_ceil self.now.len 64 }
-        ensures pass { pass.new ≡ counting pass.old (taken_by (picks word mask 1) result pass.old.counts.pages) }
+        ensures pass { pass.new ≡ counting pass.old (cleared_by (picks word mask 1) result pass.old.counts.pages) }
         ensures word { SettlesWord pass.old.counts word result }
     {
         self.table
@@ -154,23 +148,23 @@ impl AtomicBitmap {
     pub fn gather(&self, pass: &mut BitmapPass, word: usize) -> u64
         requires own { IsPassOf self.now pass.old }
         requires inside { word < div_ceil self.now.len 64 }
-        ensures pass { pass.new ≡ counting pass.old (taken_by (in_word word) result pass.old.counts.pages) }
+        ensures pass { pass.new ≡ counting pass.old (cleared_by (in_word word) result pass.old.counts.pages) }
         ensures own { IsPassOf self.now pass.new }
         ensures word { SettlesWord pass.old.counts word result }
-        ensures pages { NoneBeyond self.now.len word result }
+        ensures past { NoneBeyond self.now.len word result }
     {
         self.table.shared.swap::<Gather>(&mut pass.seat, word, 0)
     }
 
-    /// Reads a word.
+    /// Reads a word, in one step. The pass has then seen each of its pages set or cleared as often as its bit tells.
     #[inline]
     pub fn word(&self, pass: &mut BitmapPass, word: usize) -> u64
         requires own { IsPassOf self.now pass.old }
         requires inside { word < div_ceil self.now.len 64 }
-        ensures pass { pass.new ≡ pass.old }
+        ensures pass { pass.new ≡ counting pass.old (read_by (in_word word) result pass.old.counts.pages) }
         ensures own { IsPassOf self.now pass.new }
         ensures word { SettlesWord pass.old.counts word result }
-        ensures pages { NoneBeyond self.now.len word result }
+        ensures past { NoneBeyond self.now.len word result }
     {
         self.table.shared.load::<Read>(&mut pass.seat, word)
     }
@@ -192,7 +186,7 @@ impl AtomicBitmap {
     pub fn join_pass(&self, pass: &mut BitmapPass, other: BitmapPass)
         requires own { IsPassOf self.now pass.old }
         requires other { IsPassOf self.now other }
-        ensures pass { pass.new ≡ record { name = pass.old.name; counts = joined pass.old.counts other.counts } }
+        ensures pass { pass.new ≡ record { name = pass.old.name; counts = both_passes pass.old.counts other.counts } }
         ensures own { IsPassOf self.now pass.new }
     {
         let BitmapPass { seat } = other;
@@ -219,6 +213,7 @@ impl AtomicBitmap {
         requires { IsPassOf self pass }
         ensures err { IfErr result (λ r. (r.0 ≡ self) × (r.1 ≡ pass)) }
         ensures count { IfOk result (λ words. vec_len words ≡ div_ceil self.len 64) }
+        ensures past { IfOk result (λ words. (p : ℕ) → self.len ≤ p → page_bit words.items p ≡ 0) }
         ensures rule { IfOk result (λ words. Stands self.len words.items pass.counts) }
         ensures whole { IfOk result (λ words. SettlesAll pass.counts words.items) }
     {

@@ -36,36 +36,36 @@ impl TableRule<(), PageCounts, usize> for PageRule {
 pub(crate) struct Mark;
 
 impl Play<(), PageCounts> for Mark {
-    ghost use Rattle.vm_atomic_bitmaps.specs.Steps.{Marks};
+    ghost use Rattle.vm_atomic_bitmaps.specs.Steps.{MarkStep};
 
-    ghost then = { Marks };
+    ghost then = { MarkStep };
 }
 
 // A swap with 0.
 pub(crate) struct Gather;
 
 impl Play<(), PageCounts> for Gather {
-    ghost use Rattle.vm_atomic_bitmaps.specs.Steps.{Gathers};
+    ghost use Rattle.vm_atomic_bitmaps.specs.Steps.{GatherStep};
 
-    ghost then = { Gathers };
+    ghost then = { GatherStep };
 }
 
 // A fetch_and.
 pub(crate) struct Clear;
 
 impl Play<(), PageCounts> for Clear {
-    ghost use Rattle.vm_atomic_bitmaps.specs.Steps.{Clears};
+    ghost use Rattle.vm_atomic_bitmaps.specs.Steps.{ClearStep};
 
-    ghost then = { Clears };
+    ghost then = { ClearStep };
 }
 
 // A load.
 pub(crate) struct Read;
 
 impl Play<(), PageCounts> for Read {
-    ghost use Rattle.vm_atomic_bitmaps.specs.Steps.{Reads};
+    ghost use Rattle.vm_atomic_bitmaps.specs.Steps.{ReadStep};
 
-    ghost then = { Reads };
+    ghost then = { ReadStep };
 }
 
 // Half of a pass's part for a new pass.
@@ -94,9 +94,9 @@ impl Split<PageCounts> for Tell {
 pub(crate) struct TakeIn;
 
 impl Join<PageCounts> for TakeIn {
-    ghost use Rattle.vm_atomic_bitmaps.specs.Counts.{joined, spent};
+    ghost use Rattle.vm_atomic_bitmaps.specs.Counts.{both_passes, spent};
 
-    ghost both = { joined };
+    ghost both = { both_passes };
 
     ghost spent = { spent };
 }

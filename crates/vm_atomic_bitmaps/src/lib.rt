@@ -5,7 +5,6 @@ pub mod atomic_bitmap;
 pub mod bitmap_pass;
 pub mod counts;
 mod ranges;
-mod spans;
 
 pub use atomic_bitmap::AtomicBitmap;
 pub use bitmap_pass::BitmapPass;

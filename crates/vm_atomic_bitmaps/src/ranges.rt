@@ -3,14 +3,29 @@
 ghost use Rattle.std.specs.Prelude.{◌≡◌, ℕ, ◌+◌, ◌*◌, ◌<◌, ◌≤◌, ◌/◌, IfOk, OnErr, vec_len, slice_set, length, true, false, min, max, nat_eq};
 ghost use Rattle.std.specs.Int.{div_ceil};
 ghost use Rattle.vm_bitmaps.specs.Words.{page_bit, bit_of};
-ghost use Rattle.vm_atomic_bitmaps.specs.Counts.{tally_of, IsWhole};
-ghost use Rattle.vm_atomic_bitmaps.specs.Steps.{Settles, SettlesWord, SettlesAll, NoneBeyond};
-ghost use Rattle.vm_atomic_bitmaps.specs.Passes.{IsPassOf, counting, ByMark, ByTaking, ByTakingInto, Changes, ChangesRun, marks_page, clears_page};
+ghost use Rattle.vm_atomic_bitmaps.specs.Steps.{SettlesWord, SettlesAll, NoneBeyond};
+ghost use Rattle.vm_atomic_bitmaps.specs.Passes.{IsPassOf, counting, ByMark, ByClearing, ByGathering, HasRead, Changes, ChangesRun, marks_page, clears_page};
 
 use crate::atomic_bitmap::AtomicBitmap;
 use crate::bitmap_pass::BitmapPass;
-use crate::spans::{last_page, mask, page_of, span};
 use std::alloc::AllocError;
+use vm_bitmaps::page_bitmap::{last_page, page_of};
+use vm_bitmaps::page_words::mask;
+
+// Which bits of a word are pages from `first` to `last`.
+#[inline]
+fn bits_in_word(word: usize, first: usize, last: usize) -> (usize, usize)
+    requires ordered { first ≤ last }
+    requires from { first / 64 ≤ word }
+    requires to { word ≤ last / 64 }
+    ensures bits { (result.0 < result.1) × (result.1 ≤ 64) }
+    ensures first { max first (64 * word) ≡ 64 * word + result.0 }
+    ensures end { min (last + 1) (64 * word + 64) ≡ 64 * word + result.1 }
+{
+    let from = if word == first / 64 { first % 64 } else { 0 };
+    let to = if word == last / 64 { last % 64 + 1 } else { 64 };
+    (from, to)
+}
 
 impl AtomicBitmap {
     // Marks those pages from `first` to `last` that lie in a word, in one step.
@@ -22,9 +37,9 @@ impl AtomicBitmap {
         requires to { word ≤ last / 64 }
         requires within { last < self.now.len }
         ensures pass { pass.new ≡ counting pass.old pass.new.counts.pages }
-        ensures pages { ChangesRun ByMark pass.old.counts.pages pass.new.counts.pages (max first (64 * word)) (min (last + 1) (64 * word + 64)) }
+        ensures pages { ChangesRun (ByMark pass.old.counts) pass.old.counts.pages pass.new.counts.pages (max first (64 * word)) (min (last + 1) (64 * word + 64)) }
     {
-        let (from, to) = span(word, first, last);
+        let (from, to) = bits_in_word(word, first, last);
         self.mark_word(pass, word, mask(from, to));
     }
 
@@ -35,7 +50,7 @@ impl AtomicBitmap {
         requires ordered { first ≤ last }
         requires within { last < self.now.len }
         ensures pass { pass.new ≡ counting pass.old pass.new.counts.pages }
-        ensures pages { ChangesRun ByMark pass.old.counts.pages pass.new.counts.pages first (last + 1) }
+        ensures pages { ChangesRun (ByMark pass.old.counts) pass.old.counts.pages pass.new.counts.pages first (last + 1) }
     {
         let mut word = first / 64;
         while word <= last / 64 {
@@ -53,9 +68,9 @@ impl AtomicBitmap {
         requires to { word ≤ last / 64 }
         requires within { last < self.now.len }
         ensures pass { pass.new ≡ counting pass.old pass.new.counts.pages }
-        ensures pages { ChangesRun ByTaking pass.old.counts.pages pass.new.counts.pages (max first (64 * word)) (min (last + 1) (64 * word + 64)) }
+        ensures pages { ChangesRun (ByClearing pass.old.counts) pass.old.counts.pages pass.new.counts.pages (max first (64 * word)) (min (last + 1) (64 * word + 64)) }
     {
-        let (from, to) = span(word, first, last);
+        let (from, to) = bits_in_word(word, first, last);
         self.clear_word(pass, word, mask(from, to));
     }
 
@@ -66,7 +81,7 @@ impl AtomicBitmap {
         requires ordered { first ≤ last }
         requires within { last < self.now.len }
         ensures pass { pass.new ≡ counting pass.old pass.new.counts.pages }
-        ensures pages { ChangesRun ByTaking pass.old.counts.pages pass.new.counts.pages first (last + 1) }
+        ensures pages { ChangesRun (ByClearing pass.old.counts) pass.old.counts.pages pass.new.counts.pages first (last + 1) }
     {
         let mut word = first / 64;
         while word <= last / 64 {
@@ -80,7 +95,7 @@ impl AtomicBitmap {
     pub fn set_bit(&self, pass: &mut BitmapPass, index: usize)
         requires { IsPassOf self.now pass.old }
         ensures pass { pass.new ≡ counting pass.old pass.new.counts.pages }
-        ensures pages { Changes ByMark (nat_eq index) pass.old.counts.pages pass.new.counts.pages }
+        ensures pages { Changes (ByMark pass.old.counts) (nat_eq index) pass.old.counts.pages pass.new.counts.pages }
         ensures own { IsPassOf self.now pass.new }
     {
         if index < self.len {
@@ -93,7 +108,7 @@ impl AtomicBitmap {
     pub fn reset_bit(&self, pass: &mut BitmapPass, index: usize)
         requires { IsPassOf self.now pass.old }
         ensures pass { pass.new ≡ counting pass.old pass.new.counts.pages }
-        ensures pages { Changes ByTaking (nat_eq index) pass.old.counts.pages pass.new.counts.pages }
+        ensures pages { Changes (ByClearing pass.old.counts) (nat_eq index) pass.old.counts.pages pass.new.counts.pages }
         ensures own { IsPassOf self.now pass.new }
     {
         if index < self.len {
@@ -106,7 +121,7 @@ impl AtomicBitmap {
     pub fn set_addr_range(&self, pass: &mut BitmapPass, start: usize, len: usize)
         requires { IsPassOf self.now pass.old }
         ensures pass { pass.new ≡ counting pass.old pass.new.counts.pages }
-        ensures pages { Changes ByMark (marks_page self.now.page_size self.now.len start len) pass.old.counts.pages pass.new.counts.pages }
+        ensures pages { Changes (ByMark pass.old.counts) (marks_page self.now.page_size self.now.len start len) pass.old.counts.pages pass.new.counts.pages }
         ensures own { IsPassOf self.now pass.new }
     {
         if len == 0 {
@@ -125,7 +140,7 @@ impl AtomicBitmap {
     pub fn reset_addr_range(&self, pass: &mut BitmapPass, start: usize, len: usize)
         requires { IsPassOf self.now pass.old }
         ensures pass { pass.new ≡ counting pass.old pass.new.counts.pages }
-        ensures pages { Changes ByTaking (clears_page self.now.page_size self.now.len start len) pass.old.counts.pages pass.new.counts.pages }
+        ensures pages { Changes (ByClearing pass.old.counts) (clears_page self.now.page_size self.now.len start len) pass.old.counts.pages pass.new.counts.pages }
         ensures own { IsPassOf self.now pass.new }
     {
         if len == 0 {
@@ -139,25 +154,35 @@ impl AtomicBitmap {
         self.clear_run(pass, first, last);
     }
 
-    /// Whether a page is marked. One past the end is not.
+    // Whether a page below the end is marked.
+    #[inline]
+    fn reads_set(&self, pass: &mut BitmapPass, index: usize) -> bool
+        requires own { IsPassOf self.now pass.old }
+        requires inside { index < self.now.len }
+        ensures read { HasRead pass.old pass.new index (bit_of result) }
+        ensures own { IsPassOf self.now pass.new }
+    {
+        let word = self.word(pass, index / 64);
+        (word >> (index % 64)) & 1 == 1
+    }
+
+    /// Whether a page is marked, by one read of its word. One past the end is not, and no word is read.
     #[inline]
     pub fn is_bit_set(&self, pass: &mut BitmapPass, index: usize) -> bool
         requires { IsPassOf self.now pass.old }
-        ensures pass { pass.new ≡ pass.old }
-        ensures past { self.now.len ≤ index → result ≡ false }
-        ensures whole { IsWhole pass.old.counts → index < self.now.len → Settles (tally_of pass.old.counts.pages index) (bit_of result) }
+        ensures read { index < self.now.len → HasRead pass.old pass.new index (bit_of result) }
+        ensures past { self.now.len ≤ index → (result ≡ false) × (pass.new ≡ pass.old) }
         ensures own { IsPassOf self.now pass.new }
     {
-        index < self.len && (self.word(pass, index / 64) >> (index % 64)) & 1 == 1
+        index < self.len && self.reads_set(pass, index)
     }
 
     /// Whether the page of the byte at `addr` is marked.
     #[inline]
     pub fn is_addr_set(&self, pass: &mut BitmapPass, addr: usize) -> bool
         requires { IsPassOf self.now pass.old }
-        ensures pass { pass.new ≡ pass.old }
-        ensures past { self.now.len ≤ addr / self.now.page_size → result ≡ false }
-        ensures whole { IsWhole pass.old.counts → addr / self.now.page_size < self.now.len → Settles (tally_of pass.old.counts.pages (addr / self.now.page_size)) (bit_of result) }
+        ensures read { addr / self.now.page_size < self.now.len → HasRead pass.old pass.new (addr / self.now.page_size) (bit_of result) }
+        ensures past { self.now.len ≤ addr / self.now.page_size → (result ≡ false) × (pass.new ≡ pass.old) }
         ensures own { IsPassOf self.now pass.new }
     {
         self.is_bit_set(pass, page_of(self.page_size, addr))
@@ -171,7 +196,7 @@ impl AtomicBitmap {
         requires room { length words.old ≡ div_ceil self.now.len 64 }
         ensures pass { pass.new ≡ counting pass.old pass.new.counts.pages }
         ensures words { (bits : ℕ) × (words.new ≡ slice_set words.old word bits) × NoneBeyond self.now.len word bits × SettlesWord pass.old.counts word bits }
-        ensures pages { ChangesRun (ByTakingInto words.new) pass.old.counts.pages pass.new.counts.pages (64 * word) (64 * word + 64) }
+        ensures pages { ChangesRun (ByGathering words.new) pass.old.counts.pages pass.new.counts.pages (64 * word) (64 * word + 64) }
     {
         words[word] = self.gather(pass, word);
     }
@@ -184,7 +209,7 @@ impl AtomicBitmap {
         ensures pass { pass.new ≡ counting pass.old pass.new.counts.pages }
         ensures count { length words.new ≡ length words.old }
         ensures past { (p : ℕ) → self.now.len ≤ p → page_bit words.new p ≡ 0 }
-        ensures pages { ChangesRun (ByTakingInto words.new) pass.old.counts.pages pass.new.counts.pages 0 self.now.len }
+        ensures pages { ChangesRun (ByGathering words.new) pass.old.counts.pages pass.new.counts.pages 0 self.now.len }
         ensures whole { SettlesAll pass.old.counts words.new }
     {
         let mut i = 0;
@@ -201,7 +226,7 @@ impl AtomicBitmap {
         ensures pass { pass.new ≡ counting pass.old pass.new.counts.pages }
         ensures count { IfOk result (λ words. vec_len words ≡ div_ceil self.now.len 64) }
         ensures past { IfOk result (λ words. (p : ℕ) → self.now.len ≤ p → page_bit words.items p ≡ 0) }
-        ensures pages { IfOk result (λ words. Changes (ByTakingInto words.items) (λ p. true) pass.old.counts.pages pass.new.counts.pages) }
+        ensures pages { IfOk result (λ words. Changes (ByGathering words.items) (λ p. true) pass.old.counts.pages pass.new.counts.pages) }
         ensures whole { IfOk result (λ words. SettlesAll pass.old.counts words.items) }
         ensures own { IsPassOf self.now pass.new }
     {
@@ -214,7 +239,7 @@ impl AtomicBitmap {
     fn clear_all(&self, pass: &mut BitmapPass)
         requires { IsPassOf self.now pass.old }
         ensures pass { pass.new ≡ counting pass.old pass.new.counts.pages }
-        ensures pages { ChangesRun ByTaking pass.old.counts.pages pass.new.counts.pages 0 self.now.len }
+        ensures pages { ChangesRun (ByClearing pass.old.counts) pass.old.counts.pages pass.new.counts.pages 0 self.now.len }
     {
         let mut i = 0;
         while i < self.words() {
@@ -227,7 +252,7 @@ impl AtomicBitmap {
     pub fn reset(&self, pass: &mut BitmapPass)
         requires { IsPassOf self.now pass.old }
         ensures pass { pass.new ≡ counting pass.old pass.new.counts.pages }
-        ensures pages { Changes ByTaking (λ p. true) pass.old.counts.pages pass.new.counts.pages }
+        ensures pages { Changes (ByClearing pass.old.counts) (λ p. true) pass.old.counts.pages pass.new.counts.pages }
         ensures own { IsPassOf self.now pass.new }
     {
         self.clear_all(pass);

@@ -4,7 +4,7 @@
 pub mod bitmap;
 pub mod offset_bitmap;
 pub mod page_bitmap;
-mod page_words;
+pub mod page_words;
 
 pub use bitmap::{Bitmap, NewBitmap};
 pub use offset_bitmap::{BaseSlice, RefSlice};

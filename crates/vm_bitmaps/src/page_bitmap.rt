@@ -37,9 +37,9 @@ impl Model for PageBitmap {
     ghost invariant = { λ b. (0 < b.page_size) × (b.len ≡ pages_of b.page_size b.byte_size) × IsClean b.len b.words.items };
 }
 
-// The page of the byte at `addr`. Pages of 4096 bytes, as those of guest memory, need no division.
+/// The page of the byte at `addr`. Pages of 4096 bytes, as those of guest memory, need no division.
 #[inline]
-fn page_of(page_size: usize, addr: usize) -> usize
+pub fn page_of(page_size: usize, addr: usize) -> usize
     requires { 0 < page_size }
     ensures { result ≡ addr / page_size }
 {
@@ -50,9 +50,9 @@ fn page_of(page_size: usize, addr: usize) -> usize
     }
 }
 
-// The page of the last of `len` bytes from `start` on, of those below 2^64.
+/// The page of the last of `len` bytes from `start` on, of those below 2^64.
 #[inline]
-fn last_page(page_size: usize, start: usize, len: usize) -> usize
+pub fn last_page(page_size: usize, start: usize, len: usize) -> usize
     requires positive { 0 < page_size }
     requires some { 0 < len }
     ensures { result ≡ (min (start + len) (2 ^ 64) - 1) / page_size }

@@ -5,8 +5,8 @@ ghost use Rattle.vm_bitmaps.specs.Words.{WritesBits, WritesRun};
 
 use std::alloc::{AllocError, Global};
 
-// Words of zeros.
-pub(crate) fn zeros(alloc: Global, count: usize) -> Result<Vec<u64>, AllocError>
+/// Words of zeros.
+pub fn zeros(alloc: Global, count: usize) -> Result<Vec<u64>, AllocError>
     ensures { IfOk result (λ words. words.items ≡ replicate count 0) }
 {
     let words = vec![in alloc; 0; count]?;
@@ -28,9 +28,9 @@ pub(crate) fn clear(words: &mut [u64])
     words.fill(0);
 }
 
-// The bits from `from` up to `to`.
+/// The bits of a word from `from` up to `to`.
 #[inline]
-fn mask(from: usize, to: usize) -> u64
+pub fn mask(from: usize, to: usize) -> u64
     requires ordered { from < to }
     requires within { to ≤ 64 }
     ensures { result ≡ 2 ^ to - 2 ^ from }

@@ -1,6 +1,6 @@
-use Rattle.std.proofs.Common.{◌≡◌, ◌-◌, length}
+use Rattle.std.proofs.Common.{◌≡◌, ◌-◌, ◌*◌, length}
 use Rattle.vm_atomic_bitmaps.specs.Passes.{IsPassOf, counting}
-use Rattle.page_threads.specs.Threads.{Gathering, HaveTaken}
+use Rattle.page_threads.specs.Threads.{Gathering, HaveTaken, IsTakenTo}
 use Rattle.page_threads.proofs.gathering.gather_once.Given as goal
 
 abbrev pub invariant-loop-word : goal.invariant-loop-word
@@ -10,6 +10,7 @@ invariant-loop-word l = record {
   pass : l.pass ≡ counting l.initial.pass l.pass.counts.pages;
   pages : Gathering l.initial.pass.counts.pages l.pass.counts.pages;
   taken : HaveTaken l.pass.counts.pages l.words;
+  round : IsTakenTo l.pass.counts.pages (64 * l.word);
 }
 
 abbrev pub decreases-loop-word : goal.decreases-loop-word

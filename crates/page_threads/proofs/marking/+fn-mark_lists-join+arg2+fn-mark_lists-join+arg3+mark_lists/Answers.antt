@@ -1,7 +1,6 @@
-use Rattle.std.proofs.Common.{◌≡◌, ℕ, List, ap, sym, subst, ◌∙◌, rules}
-use Rattle.vm_atomic_bitmaps.specs.declared.counts.Tally.{Tally}
+use Rattle.std.proofs.Common.{◌≡◌, ℕ, ap, sym, subst, ◌∙◌, rules}
 use Rattle.vm_atomic_bitmaps.specs.declared.counts.PageCounts.{PageCounts}
-use Rattle.vm_atomic_bitmaps.specs.Counts.{kept_half, new_half, joined}
+use Rattle.vm_atomic_bitmaps.specs.Counts.{kept_half, new_half, both_passes}
 use Rattle.vm_atomic_bitmaps.specs.Passes.{Pass}
 use Rattle.page_threads.specs.Threads.{Marking, HaveSamePart, is_in_lists}
 use Rattle.page_threads.proofs.Marks.{both_halves, in_lists-append}
@@ -19,7 +18,7 @@ returns-clause-pages g t c =
     let right = c.split_at.result.1.now in
     let kept : c.split_pass.new.pass.counts ≡ kept_half v = ap (λ (p : Pass). p.counts) c.split_pass.ensures.pass in
     let second : c.unwrap-second.result ≡ record { name = c.args.pass.name; counts = new_half v } = search rules in
-    let joint : c.join_pass.new.pass.counts ≡ joined a b = ap (λ (p : Pass). p.counts) c.join_pass.ensures.pass in
+    let joint : c.join_pass.new.pass.counts ≡ both_passes a b = ap (λ (p : Pass). p.counts) c.join_pass.ensures.pass in
     let split = λ (p : ℕ). ap (λ l. is_in_lists size len l p) c.split_at.ensures.by_index.0 ∙ in_lists-append size len left right p in
     let first_marks : Marking (is_in_lists size len left) v.pages a.pages =
     subst (λ (w : PageCounts). Marking (is_in_lists size len left) w.pages a.pages) kept c.join-first.ensures.first.1.0 in
@@ -35,7 +34,7 @@ returns-clause-part g t c =
     let b = c.join-first.result.1.counts in
     let kept : c.split_pass.new.pass.counts ≡ kept_half v = ap (λ (p : Pass). p.counts) c.split_pass.ensures.pass in
     let second : c.unwrap-second.result ≡ record { name = c.args.pass.name; counts = new_half v } = search rules in
-    let joint : c.join_pass.new.pass.counts ≡ joined a b = ap (λ (p : Pass). p.counts) c.join_pass.ensures.pass in
+    let joint : c.join_pass.new.pass.counts ≡ both_passes a b = ap (λ (p : Pass). p.counts) c.join_pass.ensures.pass in
     let first_part : HaveSamePart (kept_half v) a = subst (λ (w : PageCounts). HaveSamePart w a) kept c.join-first.ensures.first.1.1 in
     let second_part : HaveSamePart (new_half v) b = subst (λ (q : Pass). HaveSamePart q.counts b) second c.join-first.ensures.second.1.1 in
     subst (HaveSamePart v) (sym joint) (joined_part v a b first_part second_part)

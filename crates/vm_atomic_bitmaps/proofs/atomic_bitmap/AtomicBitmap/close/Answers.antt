@@ -5,7 +5,7 @@ use Rattle.std.proofs.lemmas.List.{length-replicate}
 use Rattle.std.proofs.Math.Seq.{take-append_seam}
 use Rattle.vm_atomic_bitmaps.specs.Rule.{Stands}
 use Rattle.vm_atomic_bitmaps.specs.Passes.{SharedPages, Pass}
-use Rattle.vm_atomic_bitmaps.proofs.Runs.{closes, settles_closed}
+use Rattle.vm_atomic_bitmaps.proofs.PageRuns.{closes, settles_closed}
 use Rattle.vm_atomic_bitmaps.proofs.atomic_bitmap.AtomicBitmap.close.Goals as goal
 
 pub returns-clause-rule : goal.returns-clause-rule
@@ -25,3 +25,6 @@ returns-clause-rule c =
 
 pub returns-clause-whole : goal.returns-clause-whole
 returns-clause-whole c = settles_closed c.args.self.len _ c.args.pass.counts c.requires.1 (returns-clause-rule c)
+
+pub returns-clause-past : goal.returns-clause-past
+returns-clause-past c p l = let stands = returns-clause-rule c in stands.1.counted.rest p l

@@ -1,9 +1,9 @@
 use Rattle.std.proofs.Common.{length, ap, ◌∙◌}
 use Rattle.vm_atomic_bitmaps.specs.Counts.{both_of, tally_of}
 use Rattle.vm_atomic_bitmaps.specs.Passes.{Pass}
-use Rattle.vm_atomic_bitmaps.proofs.Totals.{length-each_tally}
-use Rattle.vm_atomic_bitmaps.proofs.Own.{seat_of}
-use Rattle.vm_atomic_bitmaps.proofs.Parts.{joins_allowed}
+use Rattle.vm_atomic_bitmaps.proofs.PassTotals.{length-each_tally}
+use Rattle.vm_atomic_bitmaps.proofs.PassSeats.{seat_of}
+use Rattle.vm_atomic_bitmaps.proofs.PassParts.{joins_allowed}
 use Rattle.vm_atomic_bitmaps.proofs.atomic_bitmap.AtomicBitmap.join_pass.Goals as goal
 
 pub join_seat-requires : goal.join_seat-requires

@@ -1,10 +1,10 @@
 use Rattle.std.proofs.Common.{◌≡◌, ℕ, ◌+◌, ◌*◌, ◌/◌, ap, subst, refl, ◌∙◌, min, max, arith}
 use Rattle.vm_atomic_bitmaps.specs.Passes.{Pass, ChangesRun, ByMark, counting}
-use Rattle.vm_atomic_bitmaps.proofs.Runs.{run_none, run_then}
+use Rattle.vm_atomic_bitmaps.proofs.PageRuns.{run_none, run_then}
 use Rattle.vm_atomic_bitmaps.proofs.atomic_bitmap.AtomicBitmap.mark_run.Goals as goal
 
 pub loop-word-init : goal.loop-word-init
-loop-word-init c = let h = c.requires.ordered in (omega arith, omega arith, refl, run_none ByMark c.args.pass.now.counts.pages c.args.first (min (c.args.last + 1) (64 * (c.args.first / 64))) (omega arith))
+loop-word-init c = let h = c.requires.ordered in (omega arith, omega arith, refl, run_none (ByMark c.args.pass.now.counts) c.args.pass.now.counts.pages c.args.first (min (c.args.last + 1) (64 * (c.args.first / 64))) (omega arith))
 
 pub mark_in_word-requires-clause-own : goal.mark_in_word-requires-clause-own
 mark_in_word-requires-clause-own c = (ap (λ (p : Pass). p.name) c.loop-word.invariant.2 ∙ c.requires.own.0, c.loop-word.invariant.3.count ∙ c.requires.own.1)
@@ -17,11 +17,13 @@ loop-word-preserved c =
     let lo : ℕ = max c.args.first (64 * c.loop-word.word) in
     let hi : ℕ = min (c.args.last + 1) (64 * c.loop-word.word + 64) in
     let o = c.requires.ordered in
-    let run = run_then ByMark c.args.pass.now.counts.pages c.loop-word.pass.counts.pages new c.args.first (min (c.args.last + 1) (64 * c.loop-word.word)) lo hi c.loop-word.invariant.3 c.mark_in_word.ensures.pages
+    let same = c.loop-word.invariant.2 in
+    let one = subst (λ (q : Pass). ChangesRun (ByMark q.counts) c.loop-word.pass.counts.pages new lo hi) same c.mark_in_word.ensures.pages in
+    let run = run_then (ByMark c.args.pass.now.counts) c.args.pass.now.counts.pages c.loop-word.pass.counts.pages new c.args.first (min (c.args.last + 1) (64 * c.loop-word.word)) lo hi c.loop-word.invariant.3 one
     (omega arith) (omega arith) (λ p a b. omega arith) (omega arith) in
     let next : hi ≡ min (c.args.last + 1) (64 * (c.loop-word.word + 1)) = omega arith in (
       omega arith,
       omega arith,
       c.mark_in_word.ensures.pass ∙ ap (λ (q : Pass). counting q new) c.loop-word.invariant.2,
-      subst (λ (n : ℕ). ChangesRun ByMark c.args.pass.now.counts.pages new c.args.first n) next run,
+      subst (λ (n : ℕ). ChangesRun (ByMark c.args.pass.now.counts) c.args.pass.now.counts.pages new c.args.first n) next run,
     )

@@ -1,10 +1,10 @@
 use Rattle.std.proofs.Common.{◌≡◌, ap, ◌∙◌}
 use Rattle.vm_atomic_bitmaps.specs.declared.counts.PageCounts.{PageCounts}
-use Rattle.vm_atomic_bitmaps.specs.Counts.{met_of, tally_of, met_with, telling, joined}
+use Rattle.vm_atomic_bitmaps.specs.Counts.{met_of, tally_of, met_with, telling, both_passes}
 use Rattle.vm_atomic_bitmaps.specs.Passes.{counting}
-use Rattle.vm_atomic_bitmaps.proofs.Totals.{length-each_tally}
-use Rattle.vm_atomic_bitmaps.proofs.Own.{seat_of, own_after}
-use Rattle.vm_atomic_bitmaps.proofs.Parts.{joins_allowed, tells_allowed, meets}
+use Rattle.vm_atomic_bitmaps.proofs.PassTotals.{length-each_tally}
+use Rattle.vm_atomic_bitmaps.proofs.PassSeats.{seat_of, own_after}
+use Rattle.vm_atomic_bitmaps.proofs.PassParts.{joins_allowed, tells_allowed, meets}
 use Rattle.vm_atomic_bitmaps.proofs.atomic_bitmap.AtomicBitmap.meet_pass.Goals as goal
 
 pub split_seat-seat-requires : goal.split_seat-seat-requires
@@ -26,9 +26,9 @@ join_seat-requires c =
 pub returns-clause-pass : goal.returns-clause-pass
 returns-clause-pass c =
     let name = c.join_seat.ensures.0 in
-    let me : c.join_seat.new.seat.me.0 ≡ joined c.pass.inside.seat.me.0 c.split_seat-seat.result.me.0 = ap (λ m. m.0) c.join_seat.ensures.2 in
+    let me : c.join_seat.new.seat.me.0 ≡ both_passes c.pass.inside.seat.me.0 c.split_seat-seat.result.me.0 = ap (λ m. m.0) c.join_seat.ensures.2 in
     let teller : c.split_seat-seat.result.me.0 ≡ telling c.other.inside.seat.me.0 = ap (λ m. m.0) c.split_seat-seat.ensures.4 in
-    let counts = me ∙ ap (λ (u : PageCounts). joined c.pass.inside.seat.me.0 u) teller ∙ meets c.pass.inside.seat.me.0 c.other.inside.seat.me.0 in
+    let counts = me ∙ ap (λ (u : PageCounts). both_passes c.pass.inside.seat.me.0 u) teller ∙ meets c.pass.inside.seat.me.0 c.other.inside.seat.me.0 in
     let here : record { name = c.join_seat.new.seat.table_id; counts = c.join_seat.new.seat.me.0 } ≡ counting (record { name = c.pass.inside.seat.table_id; counts = c.pass.inside.seat.me.0 }) (met_with c.other.inside.seat.me.0.pages c.pass.inside.seat.me.0.pages) =
     λ i. record { name = name i; counts = counts i } in
     here ∙ (λ i. counting (c.pass.view_is i) (met_with (c.other.view_is i).counts.pages (c.pass.view_is i).counts.pages))

@@ -1,6 +1,6 @@
 use Rattle.std.proofs.Common.{◌≡◌, ℕ, List, sym, subst, rules, replicate, []}
 use Rattle.vm_atomic_bitmaps.specs.Rule.{table_words}
-use Rattle.vm_atomic_bitmaps.proofs.Runs.{clear_words}
+use Rattle.vm_atomic_bitmaps.proofs.PageRuns.{clear_words}
 use Rattle.vm_atomic_bitmaps.proofs.atomic_bitmap.AtomicBitmap.new.Goals as goal
 
 pub of_words-requires : goal.of_words-requires

@@ -1,8 +1,22 @@
-use Rattle.vm_atomic_bitmaps.proofs.Own.{seat_of}
-use Rattle.vm_atomic_bitmaps.proofs.Steps.{reads_allowed}
+use Rattle.std.proofs.Common.{cond, ◌%◌, length, ap, ◌∙◌}
+use Rattle.std.specs.Int.{bit_at}
+use Rattle.vm_atomic_bitmaps.specs.Counts.{after_read, in_word}
+use Rattle.vm_atomic_bitmaps.specs.Passes.{Pass}
+use Rattle.vm_atomic_bitmaps.proofs.PassTotals.{length-each_tally}
+use Rattle.vm_atomic_bitmaps.proofs.PassSeats.{seat_of}
+use Rattle.vm_atomic_bitmaps.proofs.AllowedSteps.{reads_allowed}
 use Rattle.vm_atomic_bitmaps.proofs.atomic_bitmap.AtomicBitmap.word.Goals as goal
 
 pub load-requires : goal.load-requires
 load-requires c =
     let seat = seat_of _ _ _ _ _ _ _ _ _ c.pass.view_is c.self.view_is c.self.invariant.2 c.self.invariant.3 c.requires.own in
-    (seat.table, seat.word c.args.word c.requires.inside, reads_allowed _ _ _ _ _ seat.long)
+    let within = seat.inside c.args.word c.requires.inside in
+    (seat.table, seat.word c.args.word c.requires.inside, reads_allowed _ _ _ _ _ seat.long c.pass.invariant.1 within)
+
+pub returns-clause-own : goal.returns-clause-own
+returns-clause-own c =
+    let name = ap (λ (p : Pass). p.name) c.pass.view_is ∙ c.requires.own.0 in
+    let long = ap (λ (p : Pass). length p.counts.pages) c.pass.view_is ∙ c.requires.own.1 in
+    let pages = c.pass.inside.seat.me.0.pages in
+    let count = length-each_tally (λ p t. cond (in_word c.args.word p) (after_read (bit_at c.load.result (p % 64)) t) t) 0 pages in
+    (c.load.ensures.0 ∙ name, ap (λ m. length m.0.pages) c.load.ensures.2.0 ∙ count ∙ long)

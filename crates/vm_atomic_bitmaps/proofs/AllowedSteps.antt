@@ -8,14 +8,14 @@ use Rattle.std.proofs.lemmas.Nat.{pow-add, pow_pos}
 use mathlib.Core.Option.{none, some, some-ne-none}
 use lib.ListN.{get_elem?}
 use Rattle.atomic_table.specs.Table.{State, step, keeps, Allows, opening}
-use Rattle.atomic_table.proofs.Lists.{at_set, at_snoc, set_again}
+use Rattle.atomic_table.proofs.Lists.{at_set, at_snoc}
 use Rattle.vm_atomic_bitmaps.specs.declared.counts.Tally.{Tally}
 use Rattle.vm_atomic_bitmaps.specs.declared.counts.PageCounts.{PageCounts}
 use Rattle.vm_bitmaps.specs.Words.{page_bit, bit_of}
-use Rattle.vm_atomic_bitmaps.specs.Counts.{no_tally, tally_of, each_tally, after_mark, after_taking, picks, in_word, marked_by, taken_by, first_pass, with_pages, IsWhole}
-use Rattle.vm_atomic_bitmaps.specs.Rule.{table_words, total_by, marks_at, on_at, off_at, Counted, part_of, IsIdle, AddUp, Pages, holds}
-use Rattle.vm_atomic_bitmaps.specs.Steps.{NoneBeyond, Settles, SettlesWord, PassSeat, Marks, Gathers, Clears, Reads}
-use Rattle.vm_atomic_bitmaps.proofs.Totals.{total_set, total_part, total_alone, at_each, at_past}
+use Rattle.vm_atomic_bitmaps.specs.Counts.{no_tally, tally_of, each_tally, after_mark, after_clearing, after_read, picks, in_word, marked_by, cleared_by, read_by, first_pass, with_pages, IsWhole}
+use Rattle.vm_atomic_bitmaps.specs.Rule.{table_words, total_by, marks_at, on_at, off_at, Counted, weight, IsIdle, AddUp, PageAccount, holds}
+use Rattle.vm_atomic_bitmaps.specs.Steps.{NoneBeyond, Settles, SettlesWord, PassSeat, MarkStep, GatherStep, ClearStep, ReadStep}
+use Rattle.vm_atomic_bitmaps.proofs.PassTotals.{total_set, total_part, total_alone, at_each, at_past}
 
 -- what a step may do to the tally of a page, whose bit goes from b to b'
 pub record Moves (t u : Tally) (b b' : ℕ) : Type 0 where
@@ -53,8 +53,19 @@ mark_moves t b b' l e = record {
   reached = λ a o s h k. (omega arith, omega arith);
 }
 
-take_moves : (t : Tally) (b b' : ℕ) → b' ≡ 0 → Moves t (after_taking b t) b b'
-take_moves t b b' e = record {
+clear_moves : (t : Tally) (b b' : ℕ) → b' ≡ 0 → Moves t (after_clearing b t) b b'
+clear_moves t b b' e = record {
+  on = omega arith;
+  off = omega arith;
+  sums = omega arith;
+  keep = omega arith;
+  marks = inl (omega arith);
+  sets = inl refl;
+  reached = λ a o s h k. (omega arith, omega arith);
+}
+
+read_moves : (t : Tally) (b b' : ℕ) → b < 2 → b' ≡ b → Moves t (after_read b t) b b'
+read_moves t b b' l e = record {
   on = omega arith;
   off = omega arith;
   sums = omega arith;
@@ -134,8 +145,8 @@ shared_step views id v w at_id parts depth some_part c = record {
       (λ (x : (j ≢ id) × (get_elem? views j ≡ some u)). c.fits j u x.1)
       (at_set views id j w u e);
   whole =
-      let s = total_set (part_of c.unit) views id v w at_id in
-      let same : part_of c.unit w ≡ part_of c.unit v = λ i. parts i * 2 ^ (c.unit - depth i) in
+      let s = total_set (weight c.unit) views id v w at_id in
+      let same : weight c.unit w ≡ weight c.unit v = λ i. parts i * 2 ^ (c.unit - depth i) in
       let all = c.whole in omega arith;
   idle = λ j u e none. ⊎_elim
       (λ (x : (j ≡ id) × (w ≡ u)). absurd (let y : w.parts ≡ u.parts = ap (λ (z : PageCounts). z.parts) x.1 in omega arith))
@@ -180,10 +191,10 @@ mark_page words i mask p t inside =
     ]
 
 clear_page : (words : List ℕ) (i mask p : ℕ) (t : Tally) → i < length words
-    → Moves t (cond (picks i mask 0 p) (after_taking (bit_at (get_or words i 0) (p % 64)) t) t) (page_bit words p) (page_bit (set words i (bit_and (get_or words i 0) mask)) p)
+    → Moves t (cond (picks i mask 0 p) (after_clearing (bit_at (get_or words i 0) (p % 64)) t) t) (page_bit words p) (page_bit (set words i (bit_and (get_or words i 0) mask)) p)
 clear_page words i mask p t inside =
     let n : ℕ = get_or words i 0 in
-    let P : Bool → Type 0 = λ c. Moves t (cond c (after_taking (bit_at n (p % 64)) t) t) (page_bit words p) (page_bit (set words i (bit_and n mask)) p) in
+    let P : Bool → Type 0 = λ c. Moves t (cond c (after_clearing (bit_at n (p % 64)) t) t) (page_bit words p) (page_bit (set words i (bit_and n mask)) p) in
     elim (cases_eq (p / 64) i) [
       | inl here ↦
           let was = bit_was words i p here in
@@ -194,7 +205,7 @@ clear_page words i mask p t inside =
           let word : picks i mask 0 p ≡ eqb (bit_at mask (p % 64)) 0 = ap (λ (c : Bool). cond c (eqb (bit_at mask (p % 64)) 0) false) (eq-eqb (p / 64) i here) in
           elim (cases_eq (bit_at mask (p % 64)) 0) [
             | inl hit ↦ subst P (sym (word ∙ eq-eqb (bit_at mask (p % 64)) 0 hit))
-                (subst (λ (x : ℕ). Moves t (after_taking x t) (page_bit words p) (page_bit (set words i (bit_and n mask)) p)) was (take_moves t (page_bit words p) (page_bit (set words i (bit_and n mask)) p) (omega arith)))
+                (subst (λ (x : ℕ). Moves t (after_clearing x t) (page_bit words p) (page_bit (set words i (bit_and n mask)) p)) was (clear_moves t (page_bit words p) (page_bit (set words i (bit_and n mask)) p) (omega arith)))
             | inr miss ↦ subst P (sym (word ∙ ne_eqb (bit_at mask (p % 64)) 0 miss)) (still t (page_bit words p) (page_bit (set words i (bit_and n mask)) p) (omega arith))
           ]
       | inr away ↦ subst P (sym (ap (λ (c : Bool). cond c (eqb (bit_at mask (p % 64)) 0) false) (ne_eqb (p / 64) i away)))
@@ -202,18 +213,34 @@ clear_page words i mask p t inside =
     ]
 
 gather_page : (words : List ℕ) (i p : ℕ) (t : Tally) → i < length words
-    → Moves t (cond (in_word i p) (after_taking (bit_at (get_or words i 0) (p % 64)) t) t) (page_bit words p) (page_bit (set words i 0) p)
+    → Moves t (cond (in_word i p) (after_clearing (bit_at (get_or words i 0) (p % 64)) t) t) (page_bit words p) (page_bit (set words i 0) p)
 gather_page words i p t inside =
     let n : ℕ = get_or words i 0 in
-    let P : Bool → Type 0 = λ c. Moves t (cond c (after_taking (bit_at n (p % 64)) t) t) (page_bit words p) (page_bit (set words i 0) p) in
+    let P : Bool → Type 0 = λ c. Moves t (cond c (after_clearing (bit_at n (p % 64)) t) t) (page_bit words p) (page_bit (set words i 0) p) in
     elim (cases_eq (p / 64) i) [
       | inl here ↦
           let was = bit_was words i p here in
           let now = bit_here words i 0 p inside here in
           let gone = bit_at-zero (p % 64) in
           subst P (sym (eq-eqb (p / 64) i here))
-          (subst (λ (x : ℕ). Moves t (after_taking x t) (page_bit words p) (page_bit (set words i 0) p)) was (take_moves t (page_bit words p) (page_bit (set words i 0) p) (omega arith)))
+          (subst (λ (x : ℕ). Moves t (after_clearing x t) (page_bit words p) (page_bit (set words i 0) p)) was (clear_moves t (page_bit words p) (page_bit (set words i 0) p) (omega arith)))
       | inr away ↦ subst P (sym (ne_eqb (p / 64) i away)) (still t (page_bit words p) (page_bit (set words i 0) p) (bit_else words i 0 p away))
+    ]
+
+read_page : (words : List ℕ) (i p : ℕ) (t : Tally) → i < length words
+    → Moves t (cond (in_word i p) (after_read (bit_at (get_or words i 0) (p % 64)) t) t) (page_bit words p) (page_bit (set words i (get_or words i 0)) p)
+read_page words i p t inside =
+    let n : ℕ = get_or words i 0 in
+    let b : ℕ = page_bit words p in
+    let b' : ℕ = page_bit (set words i n) p in
+    let P : Bool → Type 0 = λ c. Moves t (cond c (after_read (bit_at n (p % 64)) t) t) b b' in
+    elim (cases_eq (p / 64) i) [
+      | inl here ↦
+          let was = bit_was words i p here in
+          let now = bit_here words i n p inside here in
+          let small = bit_at-lt n (p % 64) in
+          subst P (sym (eq-eqb (p / 64) i here)) (subst (λ (x : ℕ). Moves t (after_read x t) b b') was (read_moves t b b' (omega arith) (omega arith)))
+      | inr away ↦ subst P (sym (ne_eqb (p / 64) i away)) (still t b b' (bit_else words i n p away))
     ]
 
 -- the bits past the last page, after a step on the word i that leaves them clear
@@ -226,10 +253,10 @@ rest_after len words i n inside was clear p l = elim (cases_eq (p / 64) i) [
 
 -- a step on the word i, with what it leaves there and the pass's tallies afterwards
 rule_step : (len : ℕ) (s : State (Unit {0}) PageCounts) (id i n : ℕ) (v : PageCounts) (f : ℕ → Tally → Tally) → length v.pages ≡ len → 0 < v.parts → i < length s.words
-    → get_elem? s.views id ≡ some v → Pages len s.words s.views
+    → get_elem? s.views id ≡ some v → PageAccount len s.words s.views
     → ((p : ℕ) → len ≤ p → p / 64 ≡ i → bit_at (get_or s.words i 0) (p % 64) ≡ 0 → bit_at n (p % 64) ≡ 0)
     → ((p : ℕ) → Moves (tally_of v.pages p) (f p (tally_of v.pages p)) (page_bit s.words p) (page_bit (set s.words i n) p))
-    → Pages len (set s.words i n) (set s.views id (with_pages v (each_tally f 0 v.pages)))
+    → PageAccount len (set s.words i n) (set s.views id (with_pages v (each_tally f 0 v.pages)))
 rule_step len s id i n v f long some_part inside at_id r clear moves = record {
   counted = counted_step len s.words (set s.words i n) s.views id v (with_pages v (each_tally f 0 v.pages)) at_id r.counted
       (rest_after len s.words i n inside r.counted.rest clear)
@@ -238,7 +265,7 @@ rule_step len s id i n v f long some_part inside at_id r clear moves = record {
 }
 
 -- what a pass with all parts knows
-pub settles_all : (len : ℕ) (words : List ℕ) (views : List PageCounts) (id : ℕ) (v : PageCounts) → get_elem? views id ≡ some v → Pages len words views → IsWhole v
+pub settles_all : (len : ℕ) (words : List ℕ) (views : List PageCounts) (id : ℕ) (v : PageCounts) → get_elem? views id ≡ some v → PageAccount len words views → IsWhole v
     → (p : ℕ) → p < len → Settles (tally_of v.pages p) (page_bit words p)
 settles_all len words views id v at_id r all p l =
     let a : total_by (on_at p) views ≡ on_at p v = alone (on_at p) (λ w idle. (idle p).1) in
@@ -246,7 +273,12 @@ settles_all len words views id v at_id r all p l =
     let c : total_by (marks_at p) views ≡ marks_at p v = alone (marks_at p) (λ w idle. (idle p).0) in
     let d = r.counted.bits p l in
     let m = r.counted.marks p l in
-    (omega arith, ((λ h. let n : marks_at p v ≡ 1 = ap bit_of h in let z = m.0 (omega arith) in omega arith), (λ h. let z = m.1 (omega arith) in is_true (tally_of v.pages p).marked (omega arith))))
+    let reached = r.counted.reached p l id v at_id in
+    let held = reached.0 in
+    let seen = reached.1 in
+    let forth : (tally_of v.pages p).marked ≡ true → 0 < on_at p v = λ h. let n : marks_at p v ≡ 1 = ap bit_of h in let z = m.0 (omega arith) in omega arith in
+    let back : 0 < on_at p v → (tally_of v.pages p).marked ≡ true = λ h. let z = m.1 (omega arith) in is_true (tally_of v.pages p).marked (omega arith) in
+    (omega arith, (forth, back), omega arith, omega arith)
   where
     is_true : (b : Bool) → 0 < bit_of b → b ≡ true
     is_true true h = refl
@@ -260,16 +292,16 @@ settles_all len words views id v at_id r all p l =
         more a b = omega arith
 
     alone : (f : PageCounts → ℕ) → ((w : PageCounts) → IsIdle w → f w ≡ 0) → total_by f views ≡ f v
-    alone f zero_of = total_alone (part_of r.shared.unit) f views id v at_id
+    alone f zero_of = total_alone (weight r.shared.unit) f views id v at_id
         (r.shared.whole ∙ sym (ap (λ (n : ℕ). n * 2 ^ (r.shared.unit - v.depth)) all ∙ sym (pow-add 2 v.depth (r.shared.unit - v.depth)) ∙ ap (λ (n : ℕ). 2 ^ n) (let d = r.shared.fits id v at_id in omega arith)))
         (λ j u e z. zero_of u (r.shared.idle j u e (none_of u.parts (r.shared.unit - u.depth) z)))
 
-settles : (len : ℕ) (s : State (Unit {0}) PageCounts) (id : ℕ) (v : PageCounts) (i : ℕ) → length v.pages ≡ len → get_elem? s.views id ≡ some v → Pages len s.words s.views
+settles : (len : ℕ) (s : State (Unit {0}) PageCounts) (id : ℕ) (v : PageCounts) (i : ℕ) → length v.pages ≡ len → get_elem? s.views id ≡ some v → PageAccount len s.words s.views
     → SettlesWord v i (get_or s.words i 0)
 settles len s id v i long at_id r all p l here = subst (Settles (tally_of v.pages p)) (bit_was s.words i p here) (settles_all len s.words s.views id v at_id r all p (omega arith))
 
 pub marks_allowed : (len slots id : ℕ) (me : PassSeat) (i mask : ℕ) → length me.0.pages ≡ len → 0 < me.0.parts → i < div_ceil len 64 → NoneBeyond len i mask
-    → Allows (holds len) slots id me i (λ n. bit_or n mask) (Marks (step slots i mask 0 none) me)
+    → Allows (holds len) slots id me i (λ n. bit_or n mask) (MarkStep (step slots i mask 0 none) me)
 marks_allowed len slots id me i mask long some_part inside none_beyond s q _ at_id _ =
     let r = q.1 in
     let n : ℕ = get_or s.words i 0 in
@@ -287,17 +319,17 @@ marks_allowed len slots id me i mask long some_part inside none_beyond s q _ at_
     )
 
 pub clears_allowed : (len slots id : ℕ) (me : PassSeat) (i mask : ℕ) → length me.0.pages ≡ len → 0 < me.0.parts → i < div_ceil len 64
-    → Allows (holds len) slots id me i (λ n. bit_and n mask) (Clears (step slots i mask 0 none) me)
+    → Allows (holds len) slots id me i (λ n. bit_and n mask) (ClearStep (step slots i mask 0 none) me)
 clears_allowed len slots id me i mask long some_part inside s q _ at_id _ =
     let r = q.1 in
     let n : ℕ = get_or s.words i 0 in
     let room : i < length s.words = let c = q.0 in omega arith in (
-      with_pages me.0 (taken_by (picks i mask 0) n me.0.pages),
+      with_pages me.0 (cleared_by (picks i mask 0) n me.0.pages),
       keeps,
       tt,
       (
         length-set s.words i (bit_and n mask) ∙ q.0,
-        rule_step len s id i (bit_and n mask) me.0 (λ p t. cond (picks i mask 0 p) (after_taking (bit_at n (p % 64)) t) t) long some_part room at_id r
+        rule_step len s id i (bit_and n mask) me.0 (λ p t. cond (picks i mask 0 p) (after_clearing (bit_at n (p % 64)) t) t) long some_part room at_id r
             (λ p l here was. let both = bit_at_and n mask (p % 64) in omega arith)
             (λ p. clear_page s.words i mask p (tally_of me.0.pages p) room),
       ),
@@ -305,38 +337,40 @@ clears_allowed len slots id me i mask long some_part inside s q _ at_id _ =
     )
 
 pub gathers_allowed : (len slots id : ℕ) (me : PassSeat) (i : ℕ) → length me.0.pages ≡ len → 0 < me.0.parts → i < div_ceil len 64
-    → Allows (holds len) slots id me i (λ n. 0) (Gathers (step slots i 0 0 none) me)
+    → Allows (holds len) slots id me i (λ n. 0) (GatherStep (step slots i 0 0 none) me)
 gathers_allowed len slots id me i long some_part inside s q _ at_id _ =
     let r = q.1 in
     let n : ℕ = get_or s.words i 0 in
     let room : i < length s.words = let c = q.0 in omega arith in (
-      with_pages me.0 (taken_by (in_word i) n me.0.pages),
+      with_pages me.0 (cleared_by (in_word i) n me.0.pages),
       keeps,
       tt,
       (
         length-set s.words i 0 ∙ q.0,
-        rule_step len s id i 0 me.0 (λ p t. cond (in_word i p) (after_taking (bit_at n (p % 64)) t) t) long some_part room at_id r
+        rule_step len s id i 0 me.0 (λ p t. cond (in_word i p) (after_clearing (bit_at n (p % 64)) t) t) long some_part room at_id r
             (λ p l here was. bit_at-zero (p % 64))
             (λ p. gather_page s.words i p (tally_of me.0.pages p) room),
       ),
       (refl, settles len s id me.0 i long at_id r, λ p l here. sym (bit_was s.words i p here) ∙ r.counted.rest p (omega arith)),
     )
 
--- a load changes nothing
-pub reads_allowed : (len slots id : ℕ) (me : PassSeat) (i : ℕ) → length me.0.pages ≡ len → Allows (holds len) slots id me i (λ n. n) (Reads (step slots i 0 0 none) me)
-reads_allowed len slots id me i long s q _ at_id _ =
-    let r = q.1 in (
-      me.0,
+pub reads_allowed : (len slots id : ℕ) (me : PassSeat) (i : ℕ) → length me.0.pages ≡ len → 0 < me.0.parts → i < div_ceil len 64
+    → Allows (holds len) slots id me i (λ n. n) (ReadStep (step slots i 0 0 none) me)
+reads_allowed len slots id me i long some_part inside s q _ at_id _ =
+    let r = q.1 in
+    let n : ℕ = get_or s.words i 0 in
+    let room : i < length s.words = let c = q.0 in omega arith in (
+      with_pages me.0 (read_by (in_word i) n me.0.pages),
       keeps,
       tt,
-      (ap length (set_same s.words i) ∙ q.0, subst (λ (x : List ℕ × List PageCounts). Pages len x.0 x.1) (λ k. (sym (set_same s.words i) k, sym (set_again s.views id me.0 at_id) k)) r),
+      (
+        length-set s.words i n ∙ q.0,
+        rule_step len s id i n me.0 (λ p t. cond (in_word i p) (after_read (bit_at n (p % 64)) t) t) long some_part room at_id r
+            (λ p l here was. was)
+            (λ p. read_page s.words i p (tally_of me.0.pages p) room),
+      ),
       (refl, settles len s id me.0 i long at_id r, λ p l here. sym (bit_was s.words i p here) ∙ r.counted.rest p (omega arith)),
     )
-  where
-    set_same : (l : List ℕ) (i : ℕ) → set l i (get_or l i 0) ≡ l
-    set_same [] i = refl
-    set_same (x ∷ xs) zero = refl
-    set_same (x ∷ xs) (suc i) = ap (λ (ys : List ℕ). x ∷ ys) (set_same xs i)
 
 -- clear words and the first pass
 pub begins : (len : ℕ) (words : List ℕ) → length words ≡ table_words len → ((i : ℕ) → get_or words i 0 ≡ 0) → holds len (opening words [] (first_pass len))
@@ -373,7 +407,7 @@ begins len words count clear = (
     ]
 
 -- words with the same bits
-pub rule_same : (len : ℕ) (words words' : List ℕ) (views : List PageCounts) → ((p : ℕ) → page_bit words' p ≡ page_bit words p) → Pages len words views → Pages len words' views
+pub rule_same : (len : ℕ) (words words' : List ℕ) (views : List PageCounts) → ((p : ℕ) → page_bit words' p ≡ page_bit words p) → PageAccount len words views → PageAccount len words' views
 rule_same len words words' views same r = record {
   counted = record {
     rest = λ p l. same p ∙ r.counted.rest p l;

@@ -9,9 +9,9 @@ use Rattle.atomic_table.proofs.Lists.{at_set, at_snoc, set_again, set_here, set_
 use Rattle.vm_atomic_bitmaps.specs.declared.counts.Tally.{Tally}
 use Rattle.vm_atomic_bitmaps.specs.declared.counts.PageCounts.{PageCounts}
 use Rattle.vm_bitmaps.specs.Words.{bit_of}
-use Rattle.vm_atomic_bitmaps.specs.Counts.{no_tally, tally_of, both_of, only_seen, joined_with, clear_of, seen_of, spent, with_pages, kept_half, new_half, telling, joined, met_with}
-use Rattle.vm_atomic_bitmaps.specs.Rule.{total_by, marks_at, on_at, off_at, Counted, part_of, IsIdle, AddUp, holds}
-use Rattle.vm_atomic_bitmaps.proofs.Totals.{total_set, total_snoc, total_part, total_times, length-each_tally, at_each, at_past, each_same}
+use Rattle.vm_atomic_bitmaps.specs.Counts.{no_tally, tally_of, both_of, only_seen, joined_with, clear_of, seen_of, spent, with_pages, kept_half, new_half, telling, both_passes, met_with}
+use Rattle.vm_atomic_bitmaps.specs.Rule.{total_by, marks_at, on_at, off_at, Counted, weight, IsIdle, AddUp, holds}
+use Rattle.vm_atomic_bitmaps.proofs.PassTotals.{total_set, total_snoc, total_part, total_times, length-each_tally, at_each, at_past, each_same}
 
 -- where the pass's pages stay, and a new one has counted nothing, and seen no more than it
 counted_fork : (len : ℕ) (words : List ℕ) (views : List PageCounts) (id : ℕ) (v v' u : PageCounts) → get_elem? views id ≡ some v → ((p : ℕ) → tally_of v'.pages p ≡ tally_of v.pages p)
@@ -63,7 +63,7 @@ at_seen_of l p = elim (cases_lt p (length l)) [
 ]
 
 -- parts in a finer unit
-finer : (k m : ℕ) (v : PageCounts) → v.depth ≤ k → part_of (k + m) v ≡ part_of k v * 2 ^ m
+finer : (k m : ℕ) (v : PageCounts) → v.depth ≤ k → weight (k + m) v ≡ weight k v * 2 ^ m
 finer k m v h =
     let split : k + m - v.depth ≡ k - v.depth + m = omega arith in
     let power : 2 ^ (k + m - v.depth) ≡ 2 ^ (k - v.depth) * 2 ^ m = ap (λ (n : ℕ). 2 ^ n) split ∙ pow-add 2 (k - v.depth) m in
@@ -72,9 +72,9 @@ finer k m v h =
     assoc : (a b c : ℕ) → a * (b * c) ≡ a * b * c
     assoc a b c = omega arith
 
-finer_total : (k m : ℕ) (views : List PageCounts) → ((id : ℕ) (v : PageCounts) → get_elem? views id ≡ some v → v.depth ≤ k) → total_by (part_of k) views ≡ 2 ^ k → total_by (part_of (k + m)) views ≡ 2 ^ (k + m)
+finer_total : (k m : ℕ) (views : List PageCounts) → ((id : ℕ) (v : PageCounts) → get_elem? views id ≡ some v → v.depth ≤ k) → total_by (weight k) views ≡ 2 ^ k → total_by (weight (k + m)) views ≡ 2 ^ (k + m)
 finer_total k m views fits whole =
-    total_times (2 ^ m) (part_of k) (part_of (k + m)) views (λ id v e. finer k m v (fits id v e)) ∙ ap (λ (n : ℕ). n * 2 ^ m) whole ∙ sym (pow-add 2 k m)
+    total_times (2 ^ m) (weight k) (weight (k + m)) views (λ id v e. finer k m v (fits id v e)) ∙ ap (λ (n : ℕ). n * 2 ^ m) whole ∙ sym (pow-add 2 k m)
 
 pub halves_allowed : (len id : ℕ) (v : PageCounts) → 0 < v.parts → Splits (holds len) id v (kept_half v) (new_half v)
 halves_allowed len id v some_part s q at_id = let r = q.1 in (
@@ -94,13 +94,13 @@ halves_allowed len id v some_part s q at_id = let r = q.1 in (
           (λ (new : new_half v ≡ u). let d = deep in subst (λ (q : PageCounts). q.depth ≤ k + 1) new (omega arith))
           (at_snoc (set s.views id (kept_half v)) (new_half v) u j e);
       whole =
-          let a = total_snoc (part_of (k + 1)) (set s.views id (kept_half v)) (new_half v) in
-          let b = total_set (part_of (k + 1)) s.views id v (kept_half v) at_id in
+          let a = total_snoc (weight (k + 1)) (set s.views id (kept_half v)) (new_half v) in
+          let b = total_set (weight (k + 1)) s.views id v (kept_half v) at_id in
           let all = finer_total k 1 s.views r.shared.fits r.shared.whole in
           let one = finer k 1 v deep in
           let d = deep in let shift : k + 1 - suc v.depth ≡ k - v.depth = omega arith in
-          let half : part_of (k + 1) (kept_half v) ≡ part_of k v = ap (λ (n : ℕ). v.parts * 2 ^ n) shift in
-          let other : part_of (k + 1) (new_half v) ≡ part_of k v = ap (λ (n : ℕ). v.parts * 2 ^ n) shift in omega arith;
+          let half : weight (k + 1) (kept_half v) ≡ weight k v = ap (λ (n : ℕ). v.parts * 2 ^ n) shift in
+          let other : weight (k + 1) (new_half v) ≡ weight k v = ap (λ (n : ℕ). v.parts * 2 ^ n) shift in omega arith;
       idle = λ j u e none. ⊎_elim
           (λ (old : get_elem? (set s.views id (kept_half v)) j ≡ some u). ⊎_elim
           (λ (z : (j ≡ id) × (kept_half v ≡ u)). absurd (let y : v.parts ≡ u.parts = ap (λ (q : PageCounts). q.parts) z.1 in omega arith))
@@ -132,10 +132,10 @@ tells_allowed len id v some_part s q at_id = let r = q.1 in (
           (λ (new : telling v ≡ u). subst (λ (q : PageCounts). q.depth ≤ r.shared.unit) new (omega arith))
           (at_snoc (set s.views id v) (telling v) u j e);
       whole =
-          let a = total_snoc (part_of r.shared.unit) (set s.views id v) (telling v) in
-          let b = total_set (part_of r.shared.unit) s.views id v v at_id in
+          let a = total_snoc (weight r.shared.unit) (set s.views id v) (telling v) in
+          let b = total_set (weight r.shared.unit) s.views id v v at_id in
           let all = r.shared.whole in
-          let none : part_of r.shared.unit (telling v) ≡ 0 = omega arith in omega arith;
+          let none : weight r.shared.unit (telling v) ≡ 0 = omega arith in omega arith;
       idle = λ j u e none. ⊎_elim
           (λ (old : get_elem? (set s.views id v) j ≡ some u). r.shared.idle j u (subst (λ (l : List PageCounts). get_elem? l j ≡ some u) (set_again s.views id v at_id) old) none)
           (λ (new : telling v ≡ u). subst IsIdle new (idle_told v))
@@ -149,26 +149,26 @@ tells_allowed len id v some_part s q at_id = let r = q.1 in (
 
 -- two passes, of which the first takes in the other
 module _ (len : ℕ) (words : List ℕ) (views : List PageCounts) (id : ℕ) (v : PageCounts) (other : ℕ) (u : PageCounts) (long : length v.pages ≡ len) (at_id : get_elem? views id ≡ some v)
-    (apart : ¬ (other ≡ id)) (at_other : get_elem? (set views id (joined v u)) other ≡ some u) where
+    (apart : ¬ (other ≡ id)) (at_other : get_elem? (set views id (both_passes v u)) other ≡ some u) where
   abbrev joint : List PageCounts
-  joint = set (set views id (joined v u)) other spent
+  joint = set (set views id (both_passes v u)) other spent
 
   was_other : get_elem? views other ≡ some u
-  was_other = ⊎_elim (λ (z : (other ≡ id) × (joined v u ≡ u)). absurd (apart z.0)) (λ (z : (other ≢ id) × (get_elem? views other ≡ some u)). z.1) (at_set views id other (joined v u) u at_other)
+  was_other = ⊎_elim (λ (z : (other ≡ id) × (both_passes v u ≡ u)). absurd (apart z.0)) (λ (z : (other ≢ id) × (get_elem? views other ≡ some u)). z.1) (at_set views id other (both_passes v u) u at_other)
 
-  joint_sum : (f : PageCounts → ℕ) → f spent ≡ 0 → total_by f joint + f u + f v ≡ total_by f views + f (joined v u)
+  joint_sum : (f : PageCounts → ℕ) → f spent ≡ 0 → total_by f joint + f u + f v ≡ total_by f views + f (both_passes v u)
   joint_sum f z =
-      let a = total_set f (set views id (joined v u)) other u spent at_other in
-      let b = total_set f views id v (joined v u) at_id in omega arith
+      let a = total_set f (set views id (both_passes v u)) other u spent at_other in
+      let b = total_set f views id v (both_passes v u) at_id in omega arith
 
-  at_joint : (p : ℕ) → p < len → tally_of (joined v u).pages p ≡ both_of (tally_of v.pages p) (tally_of u.pages p)
+  at_joint : (p : ℕ) → p < len → tally_of (both_passes v u).pages p ≡ both_of (tally_of v.pages p) (tally_of u.pages p)
   at_joint p l = at_each (λ p t. both_of t (tally_of u.pages p)) v.pages p (omega arith)
 
   ons : (p : ℕ) → p < len → total_by (on_at p) joint ≡ total_by (on_at p) views
-  ons p l = let a = joint_sum (on_at p) refl in let b : on_at p (joined v u) ≡ on_at p v + on_at p u = ap (λ (t : Tally). t.on) (at_joint p l) in omega arith
+  ons p l = let a = joint_sum (on_at p) refl in let b : on_at p (both_passes v u) ≡ on_at p v + on_at p u = ap (λ (t : Tally). t.on) (at_joint p l) in omega arith
 
   offs : (p : ℕ) → p < len → total_by (off_at p) joint ≡ total_by (off_at p) views
-  offs p l = let a = joint_sum (off_at p) refl in let b : off_at p (joined v u) ≡ off_at p v + off_at p u = ap (λ (t : Tally). t.off) (at_joint p l) in omega arith
+  offs p l = let a = joint_sum (off_at p) refl in let b : off_at p (both_passes v u) ≡ off_at p v + off_at p u = ap (λ (t : Tally). t.off) (at_joint p l) in omega arith
 
   either_of : (a b : Bool) → bit_of (cond a true b) ≡ max (bit_of a) (bit_of b)
   either_of true true = refl
@@ -176,22 +176,22 @@ module _ (len : ℕ) (words : List ℕ) (views : List PageCounts) (id : ℕ) (v 
   either_of false true = refl
   either_of false false = refl
 
-  there : get_elem? joint id ≡ some (joined v u)
-  there = set_else (set views id (joined v u)) other id spent (λ e. apart (sym e)) ∙ set_here views id (joined v u) (within views id v at_id)
+  there : get_elem? joint id ≡ some (both_passes v u)
+  there = set_else (set views id (both_passes v u)) other id spent (λ e. apart (sym e)) ∙ set_here views id (both_passes v u) (within views id v at_id)
     where
       within : (l : List PageCounts) (i : ℕ) (x : PageCounts) → get_elem? l i ≡ some x → i < length l
       within [] i x e = absurd (some-ne-none x (sym e))
       within (y ∷ ys) zero x e = omega arith
       within (y ∷ ys) (suc i) x e = let r = within ys i x e in omega arith
 
-  fits_joint : (P : PageCounts → Type 0) → P spent → P (joined v u) → ((j : ℕ) (w : PageCounts) → get_elem? views j ≡ some w → P w) → (j : ℕ) (w : PageCounts) → get_elem? joint j ≡ some w → P w
+  fits_joint : (P : PageCounts → Type 0) → P spent → P (both_passes v u) → ((j : ℕ) (w : PageCounts) → get_elem? views j ≡ some w → P w) → (j : ℕ) (w : PageCounts) → get_elem? joint j ≡ some w → P w
   fits_joint P gone mine theirs j w e = ⊎_elim
       (λ (z : (j ≡ other) × (spent ≡ w)). subst P z.1 gone)
-      (λ (z : (j ≢ other) × (get_elem? (set views id (joined v u)) j ≡ some w)). ⊎_elim
-      (λ (y : (j ≡ id) × (joined v u ≡ w)). subst P y.1 mine)
+      (λ (z : (j ≢ other) × (get_elem? (set views id (both_passes v u)) j ≡ some w)). ⊎_elim
+      (λ (y : (j ≡ id) × (both_passes v u ≡ w)). subst P y.1 mine)
       (λ (y : (j ≢ id) × (get_elem? views j ≡ some w)). theirs j w y.1)
-      (at_set views id j (joined v u) w z.1))
-      (at_set (set views id (joined v u)) other j spent w e)
+      (at_set views id j (both_passes v u) w z.1))
+      (at_set (set views id (both_passes v u)) other j spent w e)
 
   counted_joint : Counted len words views → Counted len words joint
   counted_joint c = record {
@@ -201,8 +201,8 @@ module _ (len : ℕ) (words : List ℕ) (views : List PageCounts) (id : ℕ) (v 
         let m = c.marks p l in
         let x = ons p l in
         let a = joint_sum (marks_at p) refl in
-        let b : marks_at p (joined v u) ≡ max (marks_at p v) (marks_at p u) = ap (λ (t : Tally). bit_of t.marked) (at_joint p l) ∙ either_of (tally_of v.pages p).marked (tally_of u.pages p).marked in
-        let part = total_part (marks_at p) joint id (joined v u) there in (
+        let b : marks_at p (both_passes v u) ≡ max (marks_at p v) (marks_at p u) = ap (λ (t : Tally). bit_of t.marked) (at_joint p l) ∙ either_of (tally_of v.pages p).marked (tally_of u.pages p).marked in
+        let part = total_part (marks_at p) joint id (both_passes v u) there in (
           (λ h. let r = m.0 (omega arith) in omega arith),
           (λ h. let r = m.1 (omega arith) in omega arith),
         );
@@ -228,12 +228,12 @@ module _ (len : ℕ) (words : List ℕ) (views : List PageCounts) (id : ℕ) (v 
         let k = c.unit in
         let a = c.fits id v at_id in
         let b = c.fits other u was_other in
-        let none : part_of (k + k) spent ≡ 0 = omega arith in
-        let sum = joint_sum (part_of (k + k)) none in
+        let none : weight (k + k) spent ≡ 0 = omega arith in
+        let sum = joint_sum (weight (k + k)) none in
         let all = finer_total k k views c.fits c.whole in
-        let mine : (v.parts * 2 ^ u.depth) * 2 ^ (k + k - (v.depth + u.depth)) ≡ part_of (k + k) v = times v.parts u.depth (k + k - (v.depth + u.depth)) (k + k - v.depth) (omega arith) in
-        let its : (u.parts * 2 ^ v.depth) * 2 ^ (k + k - (v.depth + u.depth)) ≡ part_of (k + k) u = times u.parts v.depth (k + k - (v.depth + u.depth)) (k + k - u.depth) (omega arith) in
-        let both : part_of (k + k) (joined v u) ≡ part_of (k + k) v + part_of (k + k) u = spread2 (v.parts * 2 ^ u.depth) (u.parts * 2 ^ v.depth) (2 ^ (k + k - (v.depth + u.depth))) ∙ (λ i. mine i + its i) in omega arith;
+        let mine : (v.parts * 2 ^ u.depth) * 2 ^ (k + k - (v.depth + u.depth)) ≡ weight (k + k) v = times v.parts u.depth (k + k - (v.depth + u.depth)) (k + k - v.depth) (omega arith) in
+        let its : (u.parts * 2 ^ v.depth) * 2 ^ (k + k - (v.depth + u.depth)) ≡ weight (k + k) u = times u.parts v.depth (k + k - (v.depth + u.depth)) (k + k - u.depth) (omega arith) in
+        let both : weight (k + k) (both_passes v u) ≡ weight (k + k) v + weight (k + k) u = spread2 (v.parts * 2 ^ u.depth) (u.parts * 2 ^ v.depth) (2 ^ (k + k - (v.depth + u.depth))) ∙ (λ i. mine i + its i) in omega arith;
     idle = fits_joint (λ w. w.parts ≡ 0 → IsIdle w) (λ z p. (refl, refl, refl)) (λ z. absurd (let e : v.parts * 2 ^ u.depth + u.parts * 2 ^ v.depth ≡ 0 = z in let q = positive v.parts (2 ^ u.depth) some_part (pow_pos u.depth) in omega arith)) c.idle;
   }
     where
@@ -250,7 +250,7 @@ module _ (len : ℕ) (words : List ℕ) (views : List PageCounts) (id : ℕ) (v 
       positive (suc a) b h l = omega arith
       positive zero b h l = absurd (omega arith)
 
-pub joins_allowed : (len id : ℕ) (v : PageCounts) (other : ℕ) (u : PageCounts) → length v.pages ≡ len → 0 < v.parts → Joins (holds len) id v other u (joined v u) spent
+pub joins_allowed : (len id : ℕ) (v : PageCounts) (other : ℕ) (u : PageCounts) → length v.pages ≡ len → 0 < v.parts → Joins (holds len) id v other u (both_passes v u) spent
 joins_allowed len id v other u long some_part s q at_id apart at_other = let r = q.1 in (
   q.0,
   record {
@@ -260,7 +260,7 @@ joins_allowed len id v other u long some_part s q at_id apart at_other = let r =
 )
 
 -- a meeting
-pub meets : (v u : PageCounts) → joined v (telling u) ≡ with_pages v (met_with u.pages v.pages)
+pub meets : (v u : PageCounts) → both_passes v (telling u) ≡ with_pages v (met_with u.pages v.pages)
 meets v u = λ i. record { pages = pages i; parts = parts i; depth = depth i }
   where
     parts : v.parts * 1 + 0 * 2 ^ v.depth ≡ v.parts

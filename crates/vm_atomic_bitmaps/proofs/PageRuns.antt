@@ -1,22 +1,21 @@
 -- Steps that change a run of pages.
 use Rattle.std.proofs.Common.{◌≡◌, ◌⊎◌, ℕ, zero, suc, ◌+◌, ◌-◌, ◌*◌, ◌/◌, ◌%◌, ◌^◌, ◌<◌, ◌≤◌, Bool, true, false, cond, eqb, List, [], ◌∷◌, length, get_or, set, replicate, refl, sym, ap, ◌∙◌, subst, inl, inr, ⊎_elim, arith}
 use Rattle.std.specs.Int.{bit_at, div_ceil, bit_not, w64}
-use Rattle.std.proofs.lemmas.Nat.Bits.{ones_shr, bit_at_not, bit_at-zero, bit_at-lt, bit_at_mask_inside, bit_at_mask_below, bit_at_mask_above}
-use Rattle.std.proofs.lemmas.Nat.{pow_pos, pow-add, shl_whole}
+use Rattle.std.proofs.lemmas.Nat.Bits.{bit_at_not, bit_at-zero, bit_at-lt, bit_at_mask_inside, bit_at_mask_below, bit_at_mask_above}
 use Rattle.std.proofs.lemmas.Bool.{cases_lt, cases_eq, eq-eqb, ne_eqb}
 use Rattle.vm_atomic_bitmaps.specs.declared.counts.Tally.{Tally}
 use Rattle.vm_bitmaps.specs.Words.{page_bit}
-use Rattle.vm_atomic_bitmaps.specs.Counts.{tally_of, each_tally, after_mark, after_taking, picks, in_word, marked_by, taken_by, first_pass}
-use Rattle.vm_atomic_bitmaps.specs.Rule.{table_words, table_words, holds, Pages, Stands}
-use Rattle.vm_atomic_bitmaps.specs.Steps.{NoneBeyond, Settles, SettlesAll}
-use Rattle.vm_atomic_bitmaps.specs.Passes.{ChangesRun, ByMark, ByTaking, ByTakingInto}
+use Rattle.vm_atomic_bitmaps.specs.Counts.{tally_of, each_tally, after_mark, after_clearing, picks, in_word, marked_by, cleared_by, first_pass}
+use Rattle.vm_atomic_bitmaps.specs.Rule.{table_words, table_words, holds, PageAccount, Stands}
+use Rattle.vm_atomic_bitmaps.specs.Steps.{NoneBeyond, Settles, SettlesWord, SettlesAll}
+use Rattle.vm_atomic_bitmaps.specs.Passes.{ChangesRun, ByMark, ByClearing, ByGathering}
 use Rattle.std.proofs.lemmas.List.{length-replicate, get_or-replicate, get_or_past, get_or-set_same}
 use mathlib.Core.Option.{some, some-injective, some-ne-none}
 use lib.ListN.{get_elem?}
 use Rattle.atomic_table.specs.Table.{opening, State}
 use Rattle.vm_atomic_bitmaps.specs.declared.counts.PageCounts.{PageCounts}
-use Rattle.vm_atomic_bitmaps.proofs.Totals.{length-each_tally, at_each, at_past, each_same}
-use Rattle.vm_atomic_bitmaps.proofs.Steps.{begins, bit_else, bit_here, rule_same, settles_all}
+use Rattle.vm_atomic_bitmaps.proofs.PassTotals.{length-each_tally, at_each, at_past, each_same}
+use Rattle.vm_atomic_bitmaps.proofs.AllowedSteps.{begins, bit_else, bit_here, rule_same, settles_all}
 
 -- a step on the pages that are hit
 at_hit : (F : ℕ → Tally → Tally) (hit : ℕ → Bool) (l : List Tally) (p : ℕ) → p < length l → hit p ≡ true → tally_of (each_tally (λ p t. cond (hit p) (F p t) t) 0 l) p ≡ F p (tally_of l p)
@@ -36,21 +35,16 @@ run_none Change l first end h = record {
   above = λ p h. refl;
 }
 
-pub run_step : (Change : ℕ → Tally → Tally → Type 0) (F : ℕ → Tally → Tally) (hit : ℕ → Bool) (old cur : List Tally) (first end lo hi : ℕ) → ChangesRun Change old cur first end
-    → first ≤ lo → end ≤ lo → ((p : ℕ) → first ≤ p → p < lo → p < end) → lo ≤ hi
-    → ((p : ℕ) → lo ≤ p → p < hi → hit p ≡ true) → ((p : ℕ) → (p < lo) ⊎ (hi ≤ p) → hit p ≡ false) → ((p : ℕ) (t : Tally) → lo ≤ p → p < hi → Change p t (F p t))
-    → ChangesRun Change old (each_tally (λ p t. cond (hit p) (F p t) t) 0 cur) first hi
-run_step Change F hit old cur first end lo hi r start before covers order on_hit on_miss changes = record {
-  count = length-each_tally (λ p t. cond (hit p) (F p t) t) 0 cur ∙ r.count;
-  inside = λ p a b c. elim (cases_lt p lo) [
-    | inl low ↦ subst (Change p (tally_of old p)) (sym (at_miss F hit cur p (on_miss p (inl low)))) (r.inside p a (covers p a low) c)
-    | inr high ↦
-        let same = r.above p (omega arith) in
-        let k = r.count in
-        subst (Change p (tally_of old p)) (sym (at_hit F hit cur p (omega arith) (on_hit p high b) ∙ ap (F p) same)) (changes p (tally_of old p) high b)
-  ];
-  below = λ p a. at_miss F hit cur p (on_miss p (inl (omega arith))) ∙ r.below p a;
-  above = λ p a. at_miss F hit cur p (on_miss p (inr a)) ∙ r.above p (omega arith);
+-- a step on a run of pages
+pub one_run : (Change : ℕ → Tally → Tally → Type 0) (F : ℕ → Tally → Tally) (hit : ℕ → Bool) (l : List Tally) (lo hi : ℕ)
+    → ((p : ℕ) → lo ≤ p → p < hi → hit p ≡ true) → ((p : ℕ) → (p < lo) ⊎ (hi ≤ p) → hit p ≡ false)
+    → ((p : ℕ) → lo ≤ p → p < hi → p < length l → Change p (tally_of l p) (F p (tally_of l p)))
+    → ChangesRun Change l (each_tally (λ p t. cond (hit p) (F p t) t) 0 l) lo hi
+one_run Change F hit l lo hi on_hit on_miss changes = record {
+  count = length-each_tally (λ p t. cond (hit p) (F p t) t) 0 l;
+  inside = λ p low high within. subst (Change p (tally_of l p)) (sym (at_hit F hit l p within (on_hit p low high))) (changes p low high within);
+  below = λ p a. at_miss F hit l p (on_miss p (inl a));
+  above = λ p a. at_miss F hit l p (on_miss p (inr a));
 }
 
 -- the bits from a up to b of the word w
@@ -85,36 +79,42 @@ run_then Change old cur new first end lo hi r q start before covers order = reco
   above = λ p a. q.above p a ∙ r.above p (omega arith);
 }
 
--- a mark of the bits from a up to b
-pub marks_bits : (l : List Tally) (w a b found lo hi : ℕ) → a < b → b ≤ 64 → lo ≡ 64 * w + a → hi ≡ 64 * w + b → ChangesRun ByMark l (marked_by (picks w (2 ^ b - 2 ^ a) 1) found l) lo hi
-marks_bits l w a b found lo hi some_bit h low_is high_is =
-    run_step ByMark (λ p. after_mark (bit_at found (p % 64))) (picks w (2 ^ b - 2 ^ a) 1) l l lo lo lo hi (run_none ByMark l lo lo (omega arith)) (omega arith) (omega arith) (λ p x y. absurd (omega arith)) (omega arith)
-    (λ p low high. mask_hits w a b p h (omega arith) (omega arith))
-    (λ p out. mask_misses w a b p h (⊎_elim (λ (x : p < lo). inl (omega arith)) (λ (x : hi ≤ p). inr (omega arith)) out))
-    (λ p t low high. (bit_at found (p % 64), bit_at-lt found (p % 64), refl))
+pub is_cleared : (v : PageCounts) (w found p : ℕ) → SettlesWord v w found → p < length v.pages → p / 64 ≡ w
+    → ByClearing v p (tally_of v.pages p) (after_clearing (bit_at found (p % 64)) (tally_of v.pages p))
+is_cleared v w found p settled within here = (bit_at found (p % 64), bit_at-lt found (p % 64), (λ whole. settled whole p within here), refl)
 
-pub takes_bits : (l : List Tally) (w a b found lo hi : ℕ) → a < b → b ≤ 64 → lo ≡ 64 * w + a → hi ≡ 64 * w + b → ChangesRun ByTaking l (taken_by (picks w (2 ^ b - 2 ^ a) 1) found l) lo hi
-takes_bits l w a b found lo hi some_bit h low_is high_is =
-    run_step ByTaking (λ p. after_taking (bit_at found (p % 64))) (picks w (2 ^ b - 2 ^ a) 1) l l lo lo lo hi (run_none ByTaking l lo lo (omega arith)) (omega arith) (omega arith) (λ p x y. absurd (omega arith)) (omega arith)
+-- a mark of the bits from a up to b
+pub marks_bits : (v : PageCounts) (w a b found lo hi : ℕ) → b ≤ 64 → lo ≡ 64 * w + a → hi ≡ 64 * w + b → SettlesWord v w found
+    → ChangesRun (ByMark v) v.pages (marked_by (picks w (2 ^ b - 2 ^ a) 1) found v.pages) lo hi
+marks_bits v w a b found lo hi h low_is high_is settled =
+    one_run (ByMark v) (λ p. after_mark (bit_at found (p % 64))) (picks w (2 ^ b - 2 ^ a) 1) v.pages lo hi
     (λ p low high. mask_hits w a b p h (omega arith) (omega arith))
     (λ p out. mask_misses w a b p h (⊎_elim (λ (x : p < lo). inl (omega arith)) (λ (x : hi ≤ p). inr (omega arith)) out))
-    (λ p t low high. (bit_at found (p % 64), bit_at-lt found (p % 64), refl))
+    (λ p low high within. (bit_at found (p % 64), bit_at-lt found (p % 64), (λ whole. settled whole p within (omega arith)), refl))
+
+-- a clear of the bits from a up to b
+pub clears_bits : (v : PageCounts) (w a b found lo hi : ℕ) → b ≤ 64 → lo ≡ 64 * w + a → hi ≡ 64 * w + b → SettlesWord v w found
+    → ChangesRun (ByClearing v) v.pages (cleared_by (picks w (2 ^ b - 2 ^ a) 1) found v.pages) lo hi
+clears_bits v w a b found lo hi h low_is high_is settled =
+    one_run (ByClearing v) (λ p. after_clearing (bit_at found (p % 64))) (picks w (2 ^ b - 2 ^ a) 1) v.pages lo hi
+    (λ p low high. mask_hits w a b p h (omega arith) (omega arith))
+    (λ p out. mask_misses w a b p h (⊎_elim (λ (x : p < lo). inl (omega arith)) (λ (x : hi ≤ p). inr (omega arith)) out))
+    (λ p low high within. is_cleared v w found p settled within (omega arith))
 
 -- a gather of the word w, whatever is said of its pages
-pub gathers_word : (Change : ℕ → Tally → Tally → Type 0) (l : List Tally) (w found : ℕ) → ((p : ℕ) (t : Tally) → p / 64 ≡ w → Change p t (after_taking (bit_at found (p % 64)) t)) → ChangesRun Change l (taken_by (in_word w) found l) (64 * w) (64 * w + 64)
+pub gathers_word : (Change : ℕ → Tally → Tally → Type 0) (l : List Tally) (w found : ℕ)
+    → ((p : ℕ) → p < length l → p / 64 ≡ w → Change p (tally_of l p) (after_clearing (bit_at found (p % 64)) (tally_of l p)))
+    → ChangesRun Change l (cleared_by (in_word w) found l) (64 * w) (64 * w + 64)
 gathers_word Change l w found says =
-    run_step Change (λ p. after_taking (bit_at found (p % 64))) (in_word w) l l (64 * w) (64 * w) (64 * w) (64 * w + 64) (run_none Change l (64 * w) (64 * w) (omega arith)) (omega arith) (omega arith) (λ p x y. absurd (omega arith)) (omega arith)
+    one_run Change (λ p. after_clearing (bit_at found (p % 64))) (in_word w) l (64 * w) (64 * w + 64)
     (λ p low high. eq-eqb (p / 64) w (omega arith))
     (λ p out. ne_eqb (p / 64) w (λ e. ⊎_elim (λ (x : p < 64 * w). absurd (omega arith)) (λ (x : 64 * w + 64 ≤ p). absurd (omega arith)) out))
-    (λ p t low high. says p t (omega arith))
-
-pub is_taken : (found p : ℕ) (t : Tally) → ByTaking p t (after_taking (bit_at found (p % 64)) t)
-is_taken found p t = (bit_at found (p % 64), bit_at-lt found (p % 64), refl)
+    (λ p low high within. says p within (omega arith))
 
 -- the words with the bits that were found
-pub is_taken_into : (words : List ℕ) (w found p : ℕ) (t : Tally) → w < length words → p / 64 ≡ w → ByTakingInto (set words w found) p t (after_taking (bit_at found (p % 64)) t)
+pub is_gathered : (words : List ℕ) (w found p : ℕ) (t : Tally) → w < length words → p / 64 ≡ w → ByGathering (set words w found) p t (after_clearing (bit_at found (p % 64)) t)
 unfolding page_bit
-is_taken_into words w found p t inside here = ap (λ (b : ℕ). after_taking b t) (sym (ap (λ (k : ℕ). bit_at k (p % 64)) (ap (λ (k : ℕ). get_or (set words w found) k 0) here ∙ get_or-set_same words w found 0 inside)))
+is_gathered words w found p t inside here = ap (λ (b : ℕ). after_clearing b t) (sym (ap (λ (k : ℕ). bit_at k (p % 64)) (ap (λ (k : ℕ). get_or (set words w found) k 0) here ∙ get_or-set_same words w found 0 inside)))
 
 pub run_as : (C D : ℕ → Tally → Tally → Type 0) (old new : List Tally) (first end : ℕ) → ((p : ℕ) (t u : Tally) → p < end → C p t u → D p t u) → ChangesRun C old new first end → ChangesRun D old new first end
 run_as C D old new first end h r = record {
@@ -163,30 +163,12 @@ picks_not w m p h =
       | inr none ↦ ne_eqb (bit_at (bit_not w64 m) (p % 64)) 0 (λ e. absurd (omega arith)) ∙ sym (ne_eqb (bit_at m (p % 64)) 1 none)
     ])
 
-pub taken_not : (w m found : ℕ) (l : List Tally) → m < 2 ^ 64 → taken_by (picks w (bit_not w64 m) 0) found l ≡ taken_by (picks w m 1) found l
-taken_not w m found l h = each_same (λ p t. cond (picks w (bit_not w64 m) 0 p) (after_taking (bit_at found (p % 64)) t) t) (λ p t. cond (picks w m 1 p) (after_taking (bit_at found (p % 64)) t) t)
-    (λ p t. ap (λ (b : Bool). cond b (after_taking (bit_at found (p % 64)) t) t) (picks_not w m p h)) 0 l
+pub cleared_not : (w m found : ℕ) (l : List Tally) → m < 2 ^ 64 → cleared_by (picks w (bit_not w64 m) 0) found l ≡ cleared_by (picks w m 1) found l
+cleared_not w m found l h = each_same (λ p t. cond (picks w (bit_not w64 m) 0 p) (after_clearing (bit_at found (p % 64)) t) t) (λ p t. cond (picks w m 1 p) (after_clearing (bit_at found (p % 64)) t) t)
+    (λ p t. ap (λ (b : Bool). cond b (after_clearing (bit_at found (p % 64)) t) t) (picks_not w m p h)) 0 l
 
 pub none_of_past : (len w a b : ℕ) → b ≤ 64 → 64 * w + b ≤ len → (m : ℕ) → m ≡ 2 ^ b - 2 ^ a → NoneBeyond len w m
 none_of_past len w a b h l m e p past here = ap (λ (k : ℕ). bit_at k (p % 64)) e ∙ mask_inside len w a b h l p past here
-
-less_one : (a b : ℕ) → (a - 1) * b ≡ a * b - b
-less_one zero b = let none : zero - 1 ≡ zero = omega arith in ap (λ m. m * b) none ∙ omega arith
-less_one (suc a) b = let one : suc a - 1 ≡ a = omega arith in ap (λ m. m * b) one ∙ omega arith
-
--- a run of n ones from bit k on, as the code makes it
-mask_of : (n k : ℕ) → n + k ≤ 64 → (2 ^ 64 - 1) / 2 ^ (64 - n) * 2 ^ k % 2 ^ 64 ≡ 2 ^ (n + k) - 2 ^ k
-mask_of n k w =
-    let ones : (2 ^ 64 - 1) / 2 ^ (64 - n) ≡ 2 ^ (64 - (64 - n)) - 1 = ones_shr 64 (64 - n) (omega arith) in
-    let same : 2 ^ (64 - (64 - n)) ≡ 2 ^ n = ap (λ m. 2 ^ m) (omega arith) in
-    let pos : 0 < 2 ^ n = pow_pos n in
-    let product : 2 ^ (n + k) ≡ 2 ^ n * 2 ^ k = pow-add 2 n k in
-    let whole : (2 ^ n - 1) * 2 ^ k % 2 ^ 64 ≡ (2 ^ n - 1) * 2 ^ k = shl_whole (2 ^ n - 1) n k 64 (omega arith) w in
-    let one : (2 ^ 64 - 1) / 2 ^ (64 - n) ≡ 2 ^ n - 1 = ones ∙ ap (λ m. m - 1) same in
-    ap (λ m. m * 2 ^ k % 2 ^ 64) one ∙ whole ∙ less_one (2 ^ n) (2 ^ k) ∙ ap (λ m. m - 2 ^ k) (sym product)
-
-pub mask_is : (from to : ℕ) → from < to → to ≤ 64 → (2 ^ 64 - 1) / 2 ^ (64 - (to - from)) * 2 ^ from % 2 ^ 64 ≡ 2 ^ to - 2 ^ from
-mask_is from to l w = mask_of (to - from) from (omega arith) ∙ ap (λ m. 2 ^ m - 2 ^ from) (omega arith)
 
 -- words of zeros, and the first pass
 pub clear_words : (len k : ℕ) → k ≡ table_words len → holds len (opening (replicate k 0) [] (first_pass len))
@@ -196,11 +178,11 @@ clear_words len k e = begins len (replicate k 0) (length-replicate {A = ℕ} k 0
 ])
 
 -- what was taken before stays, when the word w is written
-pub into_before : (words : List ℕ) (w bits : ℕ) (p : ℕ) (t u : Tally) → p < 64 * w → ByTakingInto words p t u → ByTakingInto (set words w bits) p t u
-into_before words w bits p t u low e = e ∙ ap (λ (b : ℕ). after_taking b t) (sym (bit_else words w bits p (λ here. absurd (omega arith))))
+pub into_before : (words : List ℕ) (w bits : ℕ) (p : ℕ) (t u : Tally) → p < 64 * w → ByGathering words p t u → ByGathering (set words w bits) p t u
+into_before words w bits p t u low e = e ∙ ap (λ (b : ℕ). after_clearing b t) (sym (bit_else words w bits p (λ here. absurd (omega arith))))
 
 -- what a pass with all parts knows of the words before the word w, and of that word, when it is written
-pub settles_more : (old cur : List Tally) (words : List ℕ) (w bits : ℕ) → w < length words → ChangesRun (ByTakingInto words) old cur 0 (64 * w)
+pub settles_more : (old cur : List Tally) (words : List ℕ) (w bits : ℕ) → w < length words → ChangesRun (ByGathering words) old cur 0 (64 * w)
     → ((p : ℕ) → p / 64 ≡ w → p < length cur → Settles (tally_of cur p) (bit_at bits (p % 64))) → ((p : ℕ) → p < length old → p < 64 * w → Settles (tally_of old p) (page_bit words p))
     → (p : ℕ) → p < length old → p < 64 * w + 64 → Settles (tally_of old p) (page_bit (set words w bits) p)
 settles_more old cur words w bits inside r here before p l low = elim (cases_lt p (64 * w)) [
@@ -241,7 +223,7 @@ same_bits len all words count same rest p = elim (cases_lt (p / 64) (length word
 pub closes : (key len : ℕ) (s : State (Unit {0}) PageCounts) (id : ℕ) (v : PageCounts) (all words : List ℕ) → key ≡ len → holds key s → get_elem? s.views id ≡ some v → s.words ≡ all
     → length words ≡ div_ceil len 64 → ((i : ℕ) → i < length words → get_elem? all i ≡ some (get_or words i 0)) → Stands len words v
 closes key len s id v all words k h at_id is count same =
-    let r : Pages len s.words s.views = subst (λ (n : ℕ). Pages n s.words s.views) k h.1 in
+    let r : PageAccount len s.words s.views = subst (λ (n : ℕ). PageAccount n s.words s.views) k h.1 in
     let same' : (i : ℕ) → i < length words → get_elem? s.words i ≡ some (get_or words i 0) = λ i l. ap (λ (ws : List ℕ). get_elem? ws i) is ∙ same i l in
     (s.views, rule_same len s.words words s.views (same_bits len s.words words count same' r.counted.rest) r, (id, at_id))
 
