@@ -75,14 +75,25 @@ const CHANGES: [(Change, Change, u64, u64); 11] = [
     (Change::SetRange(0, 8960), Change::Reset, 0, 0),
 ];
 
+// The two words after both changes.
+fn words_after(
+    rt: &HostRuntime,
+    first: Change,
+    second: Change,
+) -> Result<Option<(u64, u64)>, Fail> {
+    let (bitmap, mut pass) = shared(rt, 8960)?;
+    apply(&bitmap, &mut pass, first);
+    apply(&bitmap, &mut pass, second);
+    match left(bitmap, pass)?.as_slice() {
+        [low, high] => Ok(Some((*low, *high))),
+        _ => Ok(None),
+    }
+}
+
 #[test]
 fn changes_leave_these_words(rt: HostRuntime) -> Result<(), Fail> {
     for (first, second, low, high) in CHANGES {
-        let (bitmap, mut pass) = shared(&rt, 8960)?;
-        apply(&bitmap, &mut pass, first);
-        apply(&bitmap, &mut pass, second);
-        assert_eq!(rt; read(&bitmap, &mut pass, 0), Some(low));
-        assert_eq!(rt; left(bitmap, pass)?.as_slice(), [low, high].as_slice());
+        assert_eq!(rt; words_after(&rt, first, second)?, Some((low, high)));
     }
     Ok(())
 }
@@ -116,17 +127,20 @@ fn a_bitmap_of_no_pages_has_passes(rt: HostRuntime) -> Result<(), Fail> {
     Ok(())
 }
 
-// Whether a page is marked, where page 7, the last, is.
-fn is_marked(rt: &HostRuntime, page: usize) -> Result<bool, Fail> {
+// Whether a page is marked, where page 7, the last, is, and the word that tells it.
+fn read_back(rt: &HostRuntime, page: usize) -> Result<(bool, Option<u64>), Fail> {
     let (bitmap, mut pass) = shared(rt, 1024)?;
     bitmap.set_bit(&mut pass, 7);
-    Ok(bitmap.is_bit_set(&mut pass, page))
+    Ok((
+        bitmap.is_bit_set(&mut pass, page),
+        read(&bitmap, &mut pass, 0),
+    ))
 }
 
 #[test]
 fn a_page_past_the_end_is_never_marked(rt: HostRuntime) -> Result<(), Fail> {
     for (page, want) in [(6, false), (7, true), (8, false), (usize::MAX, false)] {
-        assert_eq!(rt; is_marked(&rt, page)?, want, "page {page}");
+        assert_eq!(rt; read_back(&rt, page)?, (want, Some(128)), "page {page}");
     }
     Ok(())
 }
