@@ -1,11 +1,14 @@
 -- What a whole run writes down: the calls that the exchanged requests mean.
-use Rattle.std.specs.Prelude.{◌≡◌, ℕ, List, [], ◌∷◌, ◌++◌, map, flat_map}
-use Rattle.fuse_fs.specs.Calls.{FileCall, Init}
+use Rattle.std.specs.Prelude.{◌≡◌, List, [], ◌∷◌, ◌++◌, map, flat_map, Option, Some, None}
+use Rattle.fuse_fs.specs.Calls.{FileCall, FileAnswer, Init}
 use Rattle.virtiofsd_fuse.specs.Grammar.{Meaning, IsFault, Replies, IsSilent, Asks, One, Starts, meaning}
-use Rattle.fs_device.specs.Step.{Exchange}
+use Rattle.virtiofsd_fuse.specs.Serving.{Setting, served}
+use Rattle.fs_device.specs.declared.exchange.Fault.{Fault}
+use Rattle.fs_device.specs.declared.exchange.Fault.TheVariants as fault
+use Rattle.fs_device.specs.Step.{Exchange, served_exchange}
 use Rattle.fs_device.specs.Run.{Answer, Done, Bytes, NewBlockIs, Served, IsRefused}
 use Rattle.call_log.specs.declared.log.LoggedCall.{LoggedCall}
-use Rattle.call_log.specs.Log.{entry_of, written}
+use Rattle.call_log.specs.Log.{entry_of, with_calls}
 
 -- the calls of a meaning, whatever they are answered
 abbrev pub calls_meant : Meaning → List FileCall
@@ -18,9 +21,21 @@ calls_meant (Asks (Starts unique capable readahead)) = Init capable ∷ []
 abbrev pub entries_of : List FileCall → List LoggedCall
 entries_of calls = flat_map entry_of calls
 
--- what an exchange writes down: the calls that its request means, with some options agreed on and some room
+-- what a request writes down that was answered so: the calls that it means in some setting, and their answers make this exchange
+abbrev pub IsAnswered : Exchange → List LoggedCall → Type 0
+IsAnswered x entries = (s : Setting) × (answers : List FileAnswer)
+    × (entries ≡ entries_of (calls_meant (meaning s.options x.request s.room)))
+    × (x ≡ served_exchange x.head x.request (served s (meaning s.options x.request s.room) answers))
+
+-- what an exchange with this fault writes down: a faulty chain nothing
+abbrev pub WritesDown : Option Fault → Exchange → List LoggedCall → Type 0
+WritesDown (Some (fault.Chain why)) x entries = entries ≡ []
+WritesDown (Some (fault.Served e)) x entries = IsAnswered x entries
+WritesDown None x entries = IsAnswered x entries
+
+-- what an exchange writes down
 abbrev pub IsLoggedBy : Exchange → List LoggedCall → Type 0
-IsLoggedBy x entries = (options room : ℕ) × (entries ≡ entries_of (calls_meant (meaning options x.request room)))
+IsLoggedBy x entries = WritesDown x.fault x entries
 
 -- what exchanges write down, one after another
 unfoldable pub AreLoggedBy : List Exchange → List LoggedCall → Type 0
@@ -37,4 +52,4 @@ exchanges_in (IsRefused why) = []
 
 -- from one log to another, by commands that were answered so: it grew by the calls of the exchanges, in their order, and by nothing else
 abbrev pub Grows : List LoggedCall → List Answer → List LoggedCall → Type 0
-Grows before answers after = (entries : List LoggedCall) × AreLoggedBy (flat_map exchanges_in answers) entries × (after ≡ written before entries)
+Grows before answers after = (entries : List LoggedCall) × AreLoggedBy (flat_map exchanges_in answers) entries × (after ≡ with_calls before entries)
