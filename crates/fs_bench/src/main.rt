@@ -1,4 +1,5 @@
-//! Measures windows of memory, memory of many regions and whole kicks beside plain slice copies.
+//! Measures windows of memory, memory of many regions and whole kicks beside plain slice copies, and page marks beside bare
+//! steps on atomic words.
 //!
 //! Without an argument each case runs a few times, and the checksum of what was done is printed. An argument is how many
 //! samples are taken of each case; the times are then printed on standard error.
@@ -8,6 +9,7 @@ mod fault;
 mod files;
 mod kick;
 mod measure;
+mod pages;
 mod plain;
 mod regions;
 mod window;
@@ -15,12 +17,14 @@ mod window;
 use fault::BenchFault;
 use kick::measure_kicks;
 use measure::Meter;
+use pages::measure_pages;
 use plain::measure_copies;
 use regions::measure_regions;
 use std::alloc::{Alloc, Global};
 use std::env::{self, Env};
 use std::io;
 use std::process::ExitCode;
+use std::thread::Threads;
 use std::time::Clock;
 use window::measure_windows;
 
@@ -33,7 +37,7 @@ fn samples_asked<R: Env + Alloc>(rt: &R) -> io::Result<Option<usize>> {
 }
 
 // Runs each family of cases, and answers the checksum.
-fn run<R: Clock + Eprint>(
+fn run<R: Clock + Eprint + Threads + Sync>(
     rt: &R,
     alloc: Global,
     samples: Option<usize>,
@@ -43,6 +47,7 @@ fn run<R: Clock + Eprint>(
     measure_windows(&mut meter, alloc)?;
     measure_regions(&mut meter, alloc)?;
     measure_kicks(&mut meter, alloc)?;
+    measure_pages(&mut meter, rt, alloc)?;
     Ok(meter.checksum())
 }
 

@@ -52,6 +52,11 @@ impl<'a, R: Clock + Eprint> Meter<'a, R> {
         self.checksum
     }
 
+    /// How many samples of each case are asked for, if times are.
+    pub fn asked(&self) -> Option<usize> {
+        self.samples
+    }
+
     fn run_many<C: Case>(&mut self, case: &mut C, runs: u16) {
         let mut sum = self.checksum;
         for _ in 0..runs {
@@ -92,6 +97,14 @@ impl<'a, R: Clock + Eprint> Meter<'a, R> {
         for _ in 0..count {
             let nanos = self.sample(case, label.runs)?;
             samples.push(nanos).map_err(AllocError::from)?;
+        }
+        self.report(label, samples)
+    }
+
+    /// Prints what comes of samples, where times are asked for.
+    pub fn report(&self, label: Label, mut samples: Vec<u64>) -> Result<(), BenchFault> {
+        if self.samples.is_none() {
+            return Ok(());
         }
         samples.sort_unstable();
         self.print(label, &samples)
