@@ -1,5 +1,6 @@
 -- Each step on the words keeps the rule, and a bitmap begins with it.
-use Rattle.std.proofs.Common.{◌≡◌, ◌≢◌, ◌⊎◌, ℕ, zero, suc, ◌+◌, ◌-◌, ◌*◌, ◌/◌, ◌%◌, ◌^◌, ◌<◌, ◌≤◌, Bool, true, false, cond, eqb, List, [], ◌∷◌, length, get_or, set, replicate, refl, sym, ap, ◌∙◌, subst, inl, inr, ⊎_elim, arith, bit_and, bit_or}
+use Rattle.std.proofs.Common.{◌≡◌, ◌≢◌, ◌⊎◌, ℕ, zero, suc, ◌+◌, ◌-◌, ◌*◌, ◌/◌, ◌%◌, ◌^◌, ◌<◌, ◌≤◌, arith}
+use Rattle.std.proofs.Common.{Bool, true, false, cond, eqb, List, [], ◌∷◌, length, get_or, set, replicate, refl, sym, ap, ◌∙◌, subst, inl, inr, ⊎_elim, bit_and, bit_or}
 use Rattle.std.specs.Int.{bit_at, div_ceil}
 use Rattle.std.proofs.lemmas.List.{length-set, get_or-set_same, get_or-set_other, get_or-replicate, length-replicate}
 use Rattle.std.proofs.lemmas.Nat.Bits.{bit_at-lt, bit_at_or, bit_at_and, bit_at-zero}
@@ -124,7 +125,8 @@ counted_step len words words' views id v w at_id c rest moves = record {
         let n1 = n.1 in
         subst (λ (x : PageCounts). ((tally_of x.pages p).held ≤ total_by (on_at p) (set views id w)) × ((tally_of x.pages p).seen ≤ total_by (off_at p) (set views id w))) e (omega arith, omega arith)
 
-    theirs : (p : ℕ) → p < len → (j : ℕ) (u : PageCounts) → get_elem? views j ≡ some u → ((tally_of u.pages p).held ≤ total_by (on_at p) (set views id w)) × ((tally_of u.pages p).seen ≤ total_by (off_at p) (set views id w))
+    theirs : (p : ℕ) → p < len → (j : ℕ) (u : PageCounts) → get_elem? views j ≡ some u
+        → ((tally_of u.pages p).held ≤ total_by (on_at p) (set views id w)) × ((tally_of u.pages p).seen ≤ total_by (off_at p) (set views id w))
     theirs p l j u e =
         let m = moves p l in
         let up = m.on in
@@ -183,7 +185,9 @@ mark_page words i mask p t inside =
           let word : picks i mask 1 p ≡ eqb (bit_at mask (p % 64)) 1 = ap (λ (c : Bool). cond c (eqb (bit_at mask (p % 64)) 1) false) (eq-eqb (p / 64) i here) in
           elim (cases_eq (bit_at mask (p % 64)) 1) [
             | inl hit ↦ subst P (sym (word ∙ eq-eqb (bit_at mask (p % 64)) 1 hit))
-                (subst (λ (x : ℕ). Moves t (after_mark x t) (page_bit words p) (page_bit (set words i (bit_or n mask)) p)) was (mark_moves t (page_bit words p) (page_bit (set words i (bit_or n mask)) p) (omega arith) (omega arith)))
+                (subst (λ (x : ℕ). Moves t (after_mark x t) (page_bit words p) (page_bit (set words i (bit_or n mask)) p))
+                was (mark_moves t (page_bit words p) (page_bit (set words i (bit_or n mask)) p)
+                (omega arith) (omega arith)))
             | inr miss ↦ subst P (sym (word ∙ ne_eqb (bit_at mask (p % 64)) 1 miss)) (still t (page_bit words p) (page_bit (set words i (bit_or n mask)) p) (omega arith))
           ]
       | inr away ↦ subst P (sym (ap (λ (c : Bool). cond c (eqb (bit_at mask (p % 64)) 1) false) (ne_eqb (p / 64) i away)))
@@ -205,7 +209,8 @@ clear_page words i mask p t inside =
           let word : picks i mask 0 p ≡ eqb (bit_at mask (p % 64)) 0 = ap (λ (c : Bool). cond c (eqb (bit_at mask (p % 64)) 0) false) (eq-eqb (p / 64) i here) in
           elim (cases_eq (bit_at mask (p % 64)) 0) [
             | inl hit ↦ subst P (sym (word ∙ eq-eqb (bit_at mask (p % 64)) 0 hit))
-                (subst (λ (x : ℕ). Moves t (after_clearing x t) (page_bit words p) (page_bit (set words i (bit_and n mask)) p)) was (clear_moves t (page_bit words p) (page_bit (set words i (bit_and n mask)) p) (omega arith)))
+                (subst (λ (x : ℕ). Moves t (after_clearing x t) (page_bit words p) (page_bit (set words i (bit_and n mask)) p))
+                was (clear_moves t (page_bit words p) (page_bit (set words i (bit_and n mask)) p) (omega arith)))
             | inr miss ↦ subst P (sym (word ∙ ne_eqb (bit_at mask (p % 64)) 0 miss)) (still t (page_bit words p) (page_bit (set words i (bit_and n mask)) p) (omega arith))
           ]
       | inr away ↦ subst P (sym (ap (λ (c : Bool). cond c (eqb (bit_at mask (p % 64)) 0) false) (ne_eqb (p / 64) i away)))
@@ -381,18 +386,27 @@ begins len words count clear = (
     counted = record {
       rest = λ p l. zero_bit p;
       bits = λ p l. let z = zero_bit p in let t = first_at p in let a : on_at p (first_pass len) ≡ 0 = ap (λ (t : Tally). t.on) t in let b : off_at p (first_pass len) ≡ 0 = ap (λ (t : Tally). t.off) t in omega arith;
-      marks = λ p l. let t = first_at p in let a : on_at p (first_pass len) ≡ 0 = ap (λ (t : Tally). t.on) t in let b : marks_at p (first_pass len) ≡ 0 = ap (λ (t : Tally). bit_of t.marked) t in ((λ h. absurd (omega arith)), (λ h. absurd (omega arith)));
+      marks = λ p l. let t = first_at p in
+          let a : on_at p (first_pass len) ≡ 0 = ap (λ (t : Tally). t.on) t in
+          let b : marks_at p (first_pass len) ≡ 0 = ap (λ (t : Tally). bit_of t.marked) t in
+          ((λ h. absurd (omega arith)), (λ h. absurd (omega arith)));
       reached = λ p l j v e. ⊎_elim
           (λ (z : get_elem? [] j ≡ some v). absurd (some-ne-none v (sym z)))
           (λ (z : first_pass len ≡ v). subst (λ (q : PageCounts). ((tally_of q.pages p).held ≤ total_by (on_at p) (first_pass len ∷ [])) × ((tally_of q.pages p).seen ≤ total_by (off_at p) (first_pass len ∷ []))) z
-          (let t = first_at p in let a : (tally_of (first_pass len).pages p).held ≡ 0 = ap (λ (t : Tally). t.held) t in let b : (tally_of (first_pass len).pages p).seen ≡ 0 = ap (λ (t : Tally). t.seen) t in (omega arith, omega arith)))
+          (let t = first_at p in
+          let a : (tally_of (first_pass len).pages p).held ≡ 0 = ap (λ (t : Tally). t.held) t in
+          let b : (tally_of (first_pass len).pages p).seen ≡ 0 = ap (λ (t : Tally). t.seen) t in
+          (omega arith, omega arith)))
           (at_snoc [] (first_pass len) v j e);
     };
     shared = record {
       unit = 0;
       fits = λ j v e. ⊎_elim (λ (z : get_elem? [] j ≡ some v). absurd (some-ne-none v (sym z))) (λ (z : first_pass len ≡ v). subst (λ (q : PageCounts). q.depth ≤ 0) z (omega arith)) (at_snoc [] (first_pass len) v j e);
       whole = refl;
-      idle = λ j v e none. ⊎_elim (λ (z : get_elem? [] j ≡ some v). absurd (some-ne-none v (sym z))) (λ (z : first_pass len ≡ v). absurd (let y : 1 ≡ v.parts = ap (λ (q : PageCounts). q.parts) z in omega arith)) (at_snoc [] (first_pass len) v j e);
+      idle = λ j v e none. ⊎_elim
+          (λ (z : get_elem? [] j ≡ some v). absurd (some-ne-none v (sym z)))
+          (λ (z : first_pass len ≡ v). absurd (let y : 1 ≡ v.parts = ap (λ (q : PageCounts). q.parts) z in omega arith))
+          (at_snoc [] (first_pass len) v j e);
     };
   },
 )

@@ -1,5 +1,6 @@
 -- Steps that change a run of pages.
-use Rattle.std.proofs.Common.{◌≡◌, ◌⊎◌, ℕ, zero, suc, ◌+◌, ◌-◌, ◌*◌, ◌/◌, ◌%◌, ◌^◌, ◌<◌, ◌≤◌, Bool, true, false, cond, eqb, List, [], ◌∷◌, length, get_or, set, replicate, refl, sym, ap, ◌∙◌, subst, inl, inr, ⊎_elim, arith}
+use Rattle.std.proofs.Common.{◌≡◌, ◌⊎◌, ℕ, zero, suc, ◌+◌, ◌-◌, ◌*◌, ◌/◌, ◌%◌, ◌^◌, ◌<◌, ◌≤◌, Bool, true, false, cond, eqb, arith}
+use Rattle.std.proofs.Common.{List, [], ◌∷◌, length, get_or, set, replicate, refl, sym, ap, ◌∙◌, subst, inl, inr, ⊎_elim}
 use Rattle.std.specs.Int.{bit_at, div_ceil, bit_not, w64}
 use Rattle.std.proofs.lemmas.Nat.Bits.{bit_at_not, bit_at-zero, bit_at-lt, bit_at_mask_inside, bit_at_mask_below, bit_at_mask_above}
 use Rattle.std.proofs.lemmas.Bool.{cases_lt, cases_eq, eq-eqb, ne_eqb}
@@ -134,7 +135,9 @@ run_to_end C old new first end len long far r = record {
 }
 
 -- a run that ends at the last page goes on
-pub run_from_end : (C : ℕ → Tally → Tally → Type 0) (old new : List Tally) (first last end : ℕ) → (last + 1 ≡ end) ⊎ ((length old ≤ last + 1) × (last < end)) → ChangesRun C old new first (last + 1) → ChangesRun C old new first end
+pub run_from_end : (C : ℕ → Tally → Tally → Type 0) (old new : List Tally) (first last end : ℕ)
+    → (last + 1 ≡ end) ⊎ ((length old ≤ last + 1) × (last < end))
+    → ChangesRun C old new first (last + 1) → ChangesRun C old new first end
 run_from_end C old new first last end h r = ⊎_elim
     (λ (e : last + 1 ≡ end). subst (ChangesRun C old new first) e r)
     (λ (e : (length old ≤ last + 1) × (last < end)). let e0 = e.0 in let e1 = e.1 in record {

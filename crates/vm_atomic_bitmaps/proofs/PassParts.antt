@@ -31,7 +31,8 @@ counted_fork len words views id v v' u at_id same idle less c = record {
       (λ (z : (j ≢ id) × (get_elem? views j ≡ some w)). let r = c.reached p l j w z.1 in let r0 = r.0 in let r1 = r.1 in (omega arith, omega arith))
       (at_set views id j v' w old))
       (λ (new : u ≡ w). let r = c.reached p l id v at_id in let r0 = r.0 in let r1 = r.1 in let k = less p in let k0 = k.0 in let k1 = k.1 in
-      subst (λ (q : PageCounts). ((tally_of q.pages p).held ≤ total_by (on_at p) (set views id v' ++ u ∷ [])) × ((tally_of q.pages p).seen ≤ total_by (off_at p) (set views id v' ++ u ∷ []))) new (omega arith, omega arith))
+      subst (λ (q : PageCounts). ((tally_of q.pages p).held ≤ total_by (on_at p) (set views id v' ++ u ∷ [])) × ((tally_of q.pages p).seen ≤ total_by (off_at p) (set views id v' ++ u ∷ [])))
+      new (omega arith, omega arith))
       (at_snoc (set views id v') u w j e);
 }
   where
@@ -82,7 +83,10 @@ halves_allowed len id v some_part s q at_id = let r = q.1 in (
   record {
     counted = counted_fork len s.words s.views id v (kept_half v) (new_half v) at_id (λ p. refl)
         (λ p. let z = at_clear_of v.pages p in (ap (λ (t : Tally). bit_of t.marked) z, ap (λ (t : Tally). t.on) z, ap (λ (t : Tally). t.off) z))
-        (λ p. let z = at_clear_of v.pages p in let h : (tally_of (clear_of v.pages) p).held ≡ 0 = ap (λ (t : Tally). t.held) z in let k : (tally_of (clear_of v.pages) p).seen ≡ 0 = ap (λ (t : Tally). t.seen) z in (omega arith, omega arith))
+        (λ p. let z = at_clear_of v.pages p in
+        let h : (tally_of (clear_of v.pages) p).held ≡ 0 = ap (λ (t : Tally). t.held) z in
+        let k : (tally_of (clear_of v.pages) p).seen ≡ 0 = ap (λ (t : Tally). t.seen) z in
+        (omega arith, omega arith))
         r.counted;
     shared = record {
       unit = k + 1;
@@ -123,7 +127,10 @@ tells_allowed len id v some_part s q at_id = let r = q.1 in (
   q.0,
   record {
     counted = counted_fork len s.words s.views id v v (telling v) at_id (λ p. refl) (λ p. idle_told v p)
-        (λ p. let z = at_seen_of v.pages p in let h : (tally_of (seen_of v.pages) p).held ≡ (tally_of v.pages p).held = ap (λ (t : Tally). t.held) z in let k : (tally_of (seen_of v.pages) p).seen ≡ (tally_of v.pages p).seen = ap (λ (t : Tally). t.seen) z in (omega arith, omega arith))
+        (λ p. let z = at_seen_of v.pages p in
+        let h : (tally_of (seen_of v.pages) p).held ≡ (tally_of v.pages p).held = ap (λ (t : Tally). t.held) z in
+        let k : (tally_of (seen_of v.pages) p).seen ≡ (tally_of v.pages p).seen = ap (λ (t : Tally). t.seen) z in
+        (omega arith, omega arith))
         r.counted;
     shared = record {
       unit = r.shared.unit;
@@ -233,8 +240,11 @@ module _ (len : ℕ) (words : List ℕ) (views : List PageCounts) (id : ℕ) (v 
         let all = finer_total k k views c.fits c.whole in
         let mine : (v.parts * 2 ^ u.depth) * 2 ^ (k + k - (v.depth + u.depth)) ≡ weight (k + k) v = times v.parts u.depth (k + k - (v.depth + u.depth)) (k + k - v.depth) (omega arith) in
         let its : (u.parts * 2 ^ v.depth) * 2 ^ (k + k - (v.depth + u.depth)) ≡ weight (k + k) u = times u.parts v.depth (k + k - (v.depth + u.depth)) (k + k - u.depth) (omega arith) in
-        let both : weight (k + k) (both_passes v u) ≡ weight (k + k) v + weight (k + k) u = spread2 (v.parts * 2 ^ u.depth) (u.parts * 2 ^ v.depth) (2 ^ (k + k - (v.depth + u.depth))) ∙ (λ i. mine i + its i) in omega arith;
-    idle = fits_joint (λ w. w.parts ≡ 0 → IsIdle w) (λ z p. (refl, refl, refl)) (λ z. absurd (let e : v.parts * 2 ^ u.depth + u.parts * 2 ^ v.depth ≡ 0 = z in let q = positive v.parts (2 ^ u.depth) some_part (pow_pos u.depth) in omega arith)) c.idle;
+        let both : weight (k + k) (both_passes v u) ≡ weight (k + k) v + weight (k + k) u = spread2 (v.parts * 2 ^ u.depth) (u.parts * 2 ^ v.depth) (2 ^ (k + k - (v.depth + u.depth)))
+        ∙ (λ i. mine i + its i) in omega arith;
+    idle = fits_joint (λ w. w.parts ≡ 0 → IsIdle w) (λ z p. (refl, refl, refl))
+        (λ z. absurd (let e : v.parts * 2 ^ u.depth + u.parts * 2 ^ v.depth ≡ 0 = z in let q = positive v.parts (2 ^ u.depth) some_part (pow_pos u.depth) in omega arith))
+        c.idle;
   }
     where
       times : (a d r m : ℕ) → d + r ≡ m → (a * 2 ^ d) * 2 ^ r ≡ a * 2 ^ m
@@ -281,4 +291,6 @@ meets v u = λ i. record { pages = pages i; parts = parts i; depth = depth i }
     met p t = ap (λ (w : Tally). both_of t w) (at_seen_of u.pages p) ∙ one t (tally_of u.pages p)
 
     pages : joined_with (seen_of u.pages) v.pages ≡ met_with u.pages v.pages
-    pages = each_same (λ p t. both_of t (tally_of (seen_of u.pages) p)) (λ p t. record { marked = t.marked; on = t.on; off = t.off; held = max t.held (tally_of u.pages p).held; seen = max t.seen (tally_of u.pages p).seen }) met 0 v.pages
+    pages = each_same (λ p t. both_of t (tally_of (seen_of u.pages) p))
+        (λ p t. record { marked = t.marked; on = t.on; off = t.off; held = max t.held (tally_of u.pages p).held; seen = max t.seen (tally_of u.pages p).seen })
+        met 0 v.pages

@@ -30,7 +30,8 @@ between-is first last p from to = ap (λ (b : Bool). cond b false (cond (ltb las
 pub between-not : (first last p : ℕ) → (p < first) ⊎ (last < p) → is_between first last p ≡ false
 between-not first last p out = elim (cases_lt p first) [
   | inl low ↦ ap (λ (b : Bool). cond b false (cond (ltb last p) false true)) (lt-ltb p first low)
-  | inr from ↦ let high : last < p = ⊎_elim (λ (l : p < first). absurd (omega arith)) (λ (h : last < p). h) out in ap (λ (b : Bool). cond b false (cond (ltb last p) false true)) (le-ltb p first from) ∙ ap (λ (b : Bool). cond b false true) (lt-ltb last p high)
+  | inr from ↦ let high : last < p = ⊎_elim (λ (l : p < first). absurd (omega arith)) (λ (h : last < p). h) out in
+      ap (λ (b : Bool). cond b false (cond (ltb last p) false true)) (le-ltb p first from) ∙ ap (λ (b : Bool). cond b false true) (lt-ltb last p high)
 ]
 
 pub between-false : (first last p : ℕ) → is_between first last p ≡ false → (p < first) ⊎ (last < p)

@@ -25,15 +25,15 @@ on_at p v = (tally_of v.pages p).on
 abbrev pub off_at : (p : ℕ) → PageCounts → ℕ
 off_at p v = (tally_of v.pages p).off
 
--- what holds of each page.
--- No bit past the last page is set.
--- A page was set as often as it was cleared, and once more where it is set now.
--- Some pass marked it exactly where some pass set it.
--- No pass has seen it set or cleared more often than all passes did that
+-- what holds of each page
 pub record Counted (len : ℕ) (words : List ℕ) (views : List PageCounts) : Type 0 where
+  -- no bit past the last page is set
   pub rest : (p : ℕ) → len ≤ p → page_bit words p ≡ 0
+  -- a page was set as often as it was cleared, and once more where it is set now
   pub bits : (p : ℕ) → p < len → total_by (on_at p) views ≡ total_by (off_at p) views + page_bit words p
+  -- some pass marked it exactly where some pass set it
   pub marks : (p : ℕ) → p < len → (0 < total_by (marks_at p) views) ↔ (0 < total_by (on_at p) views)
+  -- no pass has seen it set or cleared more often than all passes did that
   pub reached : (p : ℕ) → p < len → (id : ℕ) (v : PageCounts) → get_elem? views id ≡ some v
       → ((tally_of v.pages p).held ≤ total_by (on_at p) views) × ((tally_of v.pages p).seen ≤ total_by (off_at p) views)
 

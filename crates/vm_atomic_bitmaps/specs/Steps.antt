@@ -11,8 +11,7 @@ use Rattle.vm_atomic_bitmaps.specs.Counts.{tally_of, picks, in_word, marked_by, 
 abbrev pub NoneBeyond : (len i found : ℕ) → Type 0
 NoneBeyond len i found = (p : ℕ) → len ≤ p → p / 64 ≡ i → bit_at found (p % 64) ≡ 0
 
--- what a pass with every part knows of a page whose bit is b: it was set as often as cleared, and once more where it is set;
--- it was marked where it was ever set; and what was seen is no more than what was counted
+-- what a pass with every part knows of a page whose bit is b: how often it was set and cleared, where it was marked, and what can have been seen
 abbrev pub Settles : Tally → (b : ℕ) → Type 0
 Settles t b = (t.on ≡ t.off + b) × ((t.marked ≡ true) ↔ (0 < t.on)) × (t.held ≤ t.on) × (t.seen ≤ t.off)
 

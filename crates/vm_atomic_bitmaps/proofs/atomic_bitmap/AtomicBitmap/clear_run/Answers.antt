@@ -4,7 +4,13 @@ use Rattle.vm_atomic_bitmaps.proofs.PageRuns.{run_none, run_then}
 use Rattle.vm_atomic_bitmaps.proofs.atomic_bitmap.AtomicBitmap.clear_run.Goals as goal
 
 pub loop-word-init : goal.loop-word-init
-loop-word-init c = let h = c.requires.ordered in (omega arith, omega arith, refl, run_none (ByClearing c.args.pass.now.counts) c.args.pass.now.counts.pages c.args.first (min (c.args.last + 1) (64 * (c.args.first / 64))) (omega arith))
+loop-word-init c = let h = c.requires.ordered in (
+  omega arith,
+  omega arith,
+  refl,
+  run_none (ByClearing c.args.pass.now.counts) c.args.pass.now.counts.pages c.args.first
+      (min (c.args.last + 1) (64 * (c.args.first / 64))) (omega arith),
+)
 
 pub clear_in_word-requires-clause-own : goal.clear_in_word-requires-clause-own
 clear_in_word-requires-clause-own c = (ap (λ (p : Pass). p.name) c.loop-word.invariant.2 ∙ c.requires.own.0, c.loop-word.invariant.3.count ∙ c.requires.own.1)

@@ -4,7 +4,13 @@ use Rattle.vm_atomic_bitmaps.proofs.PageRuns.{run_none, run_then}
 use Rattle.vm_atomic_bitmaps.proofs.atomic_bitmap.AtomicBitmap.mark_run.Goals as goal
 
 pub loop-word-init : goal.loop-word-init
-loop-word-init c = let h = c.requires.ordered in (omega arith, omega arith, refl, run_none (ByMark c.args.pass.now.counts) c.args.pass.now.counts.pages c.args.first (min (c.args.last + 1) (64 * (c.args.first / 64))) (omega arith))
+loop-word-init c = let h = c.requires.ordered in (
+  omega arith,
+  omega arith,
+  refl,
+  run_none (ByMark c.args.pass.now.counts) c.args.pass.now.counts.pages c.args.first
+      (min (c.args.last + 1) (64 * (c.args.first / 64))) (omega arith),
+)
 
 pub mark_in_word-requires-clause-own : goal.mark_in_word-requires-clause-own
 mark_in_word-requires-clause-own c = (ap (λ (p : Pass). p.name) c.loop-word.invariant.2 ∙ c.requires.own.0, c.loop-word.invariant.3.count ∙ c.requires.own.1)

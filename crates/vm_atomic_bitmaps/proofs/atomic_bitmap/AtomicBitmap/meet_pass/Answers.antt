@@ -29,7 +29,9 @@ returns-clause-pass c =
     let me : c.join_seat.new.seat.me.0 ≡ both_passes c.pass.inside.seat.me.0 c.split_seat-seat.result.me.0 = ap (λ m. m.0) c.join_seat.ensures.2 in
     let teller : c.split_seat-seat.result.me.0 ≡ telling c.other.inside.seat.me.0 = ap (λ m. m.0) c.split_seat-seat.ensures.4 in
     let counts = me ∙ ap (λ (u : PageCounts). both_passes c.pass.inside.seat.me.0 u) teller ∙ meets c.pass.inside.seat.me.0 c.other.inside.seat.me.0 in
-    let here : record { name = c.join_seat.new.seat.table_id; counts = c.join_seat.new.seat.me.0 } ≡ counting (record { name = c.pass.inside.seat.table_id; counts = c.pass.inside.seat.me.0 }) (met_with c.other.inside.seat.me.0.pages c.pass.inside.seat.me.0.pages) =
+    let here : record { name = c.join_seat.new.seat.table_id; counts = c.join_seat.new.seat.me.0 }
+    ≡ counting (record { name = c.pass.inside.seat.table_id; counts = c.pass.inside.seat.me.0 })
+    (met_with c.other.inside.seat.me.0.pages c.pass.inside.seat.me.0.pages) =
     λ i. record { name = name i; counts = counts i } in
     here ∙ (λ i. counting (c.pass.view_is i) (met_with (c.other.view_is i).counts.pages (c.pass.view_is i).counts.pages))
 
