@@ -25,7 +25,7 @@ use Rattle.fs_device.specs.Run as run
 use Rattle.fs_device.specs.Run.{Command, Answer, Effect, KickEnds, KickRun, Kicks, Kicked, Does, Performs, Run, effect, insert, insert_block, is_known, some_overlap, reset}
 use Rattle.call_log.specs.declared.log.LoggedCall.{LoggedCall}
 use Rattle.call_log.specs.Log.{entry_of, kept, with_calls}
-use Rattle.call_log.specs.Runs.{calls_meant, entries_of, IsAnswered, WritesDown, IsLoggedBy, AreLoggedBy, exchanges_in, Grows}
+use Rattle.call_log.specs.Runs.{calls_meant, entries_of, EachSuits, IsAnswered, WritesDown, IsLoggedBy, AreLoggedBy, exchanges_in, Grows}
 
 -- ---- logs
 
@@ -83,6 +83,11 @@ answered : (e : Option Error) (x : Exchange) (entries : List LoggedCall) → x.f
 answered None x entries same is = subst (λ (f : Option Fault). WritesDown f x entries) (sym same) is
 answered (Some e) x entries same is = subst (λ (f : Option Fault). WritesDown f x entries) (sym same) is
 
+-- the answers of a run of a file system suit
+all_suit : {F : Type 0} (may : May F) (before : F) (steps : Calls) (after : F) → FileRun may before steps after → EachSuits steps
+all_suit may before [] after same = tt
+all_suit may before (step ∷ steps) after (between, suits, made, rest) = (suits, all_suit may between steps after rest)
+
 -- ---- steps
 
 taken_logged : {F : Type 0} (may : May F) (log : F → List LoggedCall) → Keeps may log → (s : State F) (i : ℕ) (q : Queue) (o : Offer) (calls : Calls) (x : Exchange) (notice : Bool) (after : State F) →
@@ -99,8 +104,8 @@ taken_logged may log keeps s i q (Offers head (Asks request room)) calls x notic
     let same : x.request ≡ request = ap (λ (e : Exchange). e.request) r.returns.exchange in
     let asked : r.given.calls ≡ calls_meant (meaning s.options request (length room)) =
     ap (λ (g : Served). g.calls) r.serves.gives ∙ served_calls set (meaning s.options request (length room)) _ in
-    let own : entries ≡ entries_of (calls_meant (meaning s.options x.request (length room))) =
-    ap entries_of (sym r.serves.asks ∙ asked) ∙ ap (λ (bytes : List ℕ). entries_of (calls_meant (meaning s.options bytes (length room)))) (sym same) in
+    let own : map (λ (step : FileCall × FileAnswer). step.0) calls ≡ calls_meant (meaning s.options x.request (length room)) =
+    sym r.serves.asks ∙ asked ∙ ap (λ (bytes : List ℕ). calls_meant (meaning s.options bytes (length room))) (sym same) in
     let told : x ≡ served_exchange head request (served set (meaning s.options request (length room)) answers) =
     r.returns.exchange ∙ ap (λ (g : Served). served_exchange head request g) r.serves.gives in
     let is : x ≡ served_exchange x.head x.request (served set (meaning s.options x.request (length room)) answers) =
@@ -108,7 +113,7 @@ taken_logged may log keeps s i q (Offers head (Asks request room)) calls x notic
     (subst (λ (bytes : List ℕ). x ≡ served_exchange head bytes (served set (meaning s.options bytes (length room)) answers)) (sym same) told) in
     let fault : x.fault ≡ served_fault r.given.fault = ap (λ (e : Exchange). e.fault) r.returns.exchange in (
       entries,
-      (entries, [], answered r.given.fault x entries fault (set, answers, own, is), refl, sym (append-nil entries)),
+      (entries, [], answered r.given.fault x entries fault (set, calls, all_suit may s.files calls after.files r.serves.run, own, is, refl), refl, sym (append-nil entries)),
       steps_logged may log keeps s.files calls after.files r.serves.run,
     )
 taken_logged may log keeps s i q taking.Idle calls x notice after r = absurd r

@@ -1,11 +1,11 @@
 -- What a whole run writes down: the calls that the exchanged requests mean.
-use Rattle.std.specs.Prelude.{◌≡◌, List, [], ◌∷◌, ◌++◌, map, flat_map, Option, Some, None}
-use Rattle.fuse_fs.specs.Calls.{FileCall, FileAnswer, Init}
+use Rattle.std.specs.Prelude.{◌≡◌, IsTrue, List, [], ◌∷◌, ◌++◌, map, flat_map, Option, Some, None}
+use Rattle.fuse_fs.specs.Calls.{FileCall, Init, suits}
 use Rattle.virtiofsd_fuse.specs.Grammar.{Meaning, IsFault, Replies, IsSilent, Asks, One, Starts, meaning}
 use Rattle.virtiofsd_fuse.specs.Serving.{Setting, served}
 use Rattle.fs_device.specs.declared.exchange.Fault.{Fault}
 use Rattle.fs_device.specs.declared.exchange.Fault.TheVariants as fault
-use Rattle.fs_device.specs.Step.{Exchange, served_exchange}
+use Rattle.fs_device.specs.Step.{Calls, Exchange, served_exchange}
 use Rattle.fs_device.specs.Run.{Answer, Done, Bytes, NewBlockIs, Served, IsRefused}
 use Rattle.call_log.specs.declared.log.LoggedCall.{LoggedCall}
 use Rattle.call_log.specs.Log.{entry_of, with_calls}
@@ -18,14 +18,21 @@ calls_meant IsSilent = []
 calls_meant (Asks (One unique call)) = call ∷ []
 calls_meant (Asks (Starts unique capable readahead)) = Init capable ∷ []
 
+-- what calls write down, one after another
 abbrev pub entries_of : List FileCall → List LoggedCall
 entries_of calls = flat_map entry_of calls
 
--- what a request writes down that was answered so: the calls that it means in some setting, and their answers make this exchange
+-- each answer is one that its call can have
+abbrev pub EachSuits : Calls → Type 0
+EachSuits [] = Unit {0}
+EachSuits (step ∷ steps) = IsTrue (suits step.0 step.1) × EachSuits steps
+
+-- what a request writes down that was answered so: the calls that it means in some setting, whose answers make this exchange
 abbrev pub IsAnswered : Exchange → List LoggedCall → Type 0
-IsAnswered x entries = (s : Setting) × (answers : List FileAnswer)
-    × (entries ≡ entries_of (calls_meant (meaning s.options x.request s.room)))
-    × (x ≡ served_exchange x.head x.request (served s (meaning s.options x.request s.room) answers))
+IsAnswered x entries = (s : Setting) × (steps : Calls) × EachSuits steps
+    × (map (λ step. step.0) steps ≡ calls_meant (meaning s.options x.request s.room))
+    × (x ≡ served_exchange x.head x.request (served s (meaning s.options x.request s.room) (map (λ step. step.1) steps)))
+    × (entries ≡ entries_of (map (λ step. step.0) steps))
 
 -- what an exchange with this fault writes down: a faulty chain nothing
 abbrev pub WritesDown : Option Fault → Exchange → List LoggedCall → Type 0

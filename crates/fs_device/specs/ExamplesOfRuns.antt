@@ -124,7 +124,7 @@ kick_calls_the_files =
     let step : Step counts (counting 4) 0 ((files.Forget nobody 5 3, files.Done) ∷ []) (Exchanged (record { head = 0; request = forget; reply = []; fault = None }) true) forgotten =
     record {
       given = record { calls = files.Forget nobody 5 3 ∷ []; options = 0; reply = []; fault = None };
-      serves = record { gives = refl; asks = refl; run = (7, tt, refl, refl) };
+      serves = record { gives = refl; asks = refl; run = (7, refl, refl, refl) };
       returns = record { exchange = refl; state = refl; told = refl };
     } in
     (forgotten, ((files.Forget nobody 5 3, files.Done) ∷ [], forgotten, step, refl), refl)
