@@ -1,6 +1,6 @@
 //! Chains that go back with nothing.
 
-use crate::stand::{LIMIT, REQUEST_AT, ROOM_AT, Stand};
+use crate::stand::{LIMIT, REQUEST_AT, ROOM_AT, Stand, expect_same};
 use fs_device::Fault;
 use fs_queue::ChainFault;
 use guest_driver::Descriptor;
@@ -126,6 +126,6 @@ fn descriptor_of_no_bytes_adds_nothing_wherever_it_points(rt: HostRuntime) {
     stand.guest.offer(3).expect(&rt, "a place");
     let (_, _) = stand.exchange(&rt);
     let (exchange, _) = stand.exchange(&rt);
-    assert_eq!(rt; (exchange.head, exchange.reply.len()), (3, 16));
+    expect_same(&rt, (exchange.head, exchange.reply.len()), (3, 16));
     stand.expect_used(&rt, 1, (3, 16), 2);
 }

@@ -4,11 +4,11 @@ ghost use Rattle.std.specs.Prelude.{◌≡◌};
 ghost use Rattle.vm_memory_core.specs.Host.{host_of, lengths};
 
 use crate::machines::{expect_kick, machine};
-use crate::stand::{RING, Stand};
+use crate::stand::{RING, Stand, expect_same};
 use fs_device::{HarvestedPage, harvest};
 use std::alloc::Global;
 use std::process::Abort;
-use vm_memory_core::{HostMemory, PageBitmap};
+use vm_memory_core::{GuestAddress, HostMemory, PageBitmap};
 
 // The marked pages are these, by block, place and length, each with its bytes; they are unmarked then.
 fn expect_pages(
@@ -20,25 +20,29 @@ fn expect_pages(
     ensures { lengths (host_of host.new) ≡ lengths (host_of host.old) }
 {
     let harvested = harvest(alloc, host).expect(rt, "memory");
-    assert_eq!(rt; harvested.len(), pages.len());
+    expect_same(rt, harvested.len(), pages.len());
     for (page, expected) in harvested.iter().zip(pages) {
-        assert_eq!(rt; (page.block, page.offset, page.bytes.len()), *expected);
-        expect_same(rt, alloc, host, page);
+        expect_same(rt, (page.block, page.offset, page.bytes.len()), *expected);
+        expect_bytes(rt, alloc, host, page);
     }
     let again = harvest(alloc, host).expect(rt, "memory");
-    assert_eq!(rt; again.len(), 0);
+    expect_same(rt, again.len(), 0);
 }
 
 // A page has the bytes that stand in its block.
-fn expect_same(
+fn expect_bytes(
     rt: &impl Abort,
     alloc: Global,
     host: &HostMemory<PageBitmap>,
     page: &HarvestedPage,
 ) {
     let mut there = vec![in alloc; 0; page.bytes.len()].expect(rt, "memory");
-    assert!(rt; host.read_block(page.block, page.offset, &mut there));
-    assert_eq!(rt; page.bytes.as_slice(), there.as_slice());
+    let is_there = host.read_block(page.block, page.offset, &mut there);
+    expect_same(
+        rt,
+        (is_there, there.as_slice()),
+        (true, page.bytes.as_slice()),
+    );
 }
 
 #[test]
@@ -51,7 +55,7 @@ fn pages_of_an_exchange_are_harvested_once(rt: HostRuntime) {
 
 #[test]
 fn last_page_of_a_block_may_be_short(rt: HostRuntime) {
-    let regions = [(0, 0x1002), (0x2000, 3)];
+    let regions = [(GuestAddress(0), 0x1002), (GuestAddress(0x2000), 3)];
     let mut stand = Stand::over(&rt, rt.alloc(), &regions, RING);
     stand.put(&rt, 0x1001, &[9]);
     stand.put(&rt, 0x2000, &[1, 2, 3]);

@@ -1,6 +1,7 @@
 //! Machines whose layout changes.
 
 use crate::machines::{done, expect_kick, expect_read, expect_refusal, expect_write, machine};
+use crate::stand::expect_same;
 use call_log::CallLog;
 use fs_device::{Answer, Command, DeviceError, Machine};
 use fs_queue::QueueError;
@@ -30,7 +31,7 @@ fn blocks_are_numbered_and_never_empty(rt: HostRuntime) {
     expect_refusal(&rt, rt.alloc(), &mut machine, empty, 2);
     expect_block(&rt, rt.alloc(), &mut machine, 2, 1);
     expect_block(&rt, rt.alloc(), &mut machine, 1, 2);
-    assert_eq!(rt; machine.host.block_count(), 3);
+    expect_same(&rt, machine.host.block_count(), 3);
 }
 
 // Where a region is inserted, of which block, and the refusal.
@@ -58,7 +59,7 @@ fn regions_are_refused_in_order(rt: HostRuntime) {
         let remove = Command::RemoveRegion { base, size };
         expect_refusal(&rt, rt.alloc(), &mut machine, remove, number);
     }
-    assert_eq!(rt; machine.mem.num_regions(), 1);
+    expect_same(&rt, machine.mem.num_regions(), 1);
 }
 
 #[test]
@@ -98,5 +99,5 @@ fn queue_stops_where_the_layout_lacks_its_ring(rt: HostRuntime) {
     let error = DeviceError::Queue(QueueError::AvailIndexUnreachable);
     expect_kick(&rt, rt.alloc(), &mut machine, (0, 1), (0, Some(error)));
     expect_refusal(&rt, rt.alloc(), &mut machine, Command::SetLayout(same), 0);
-    assert_eq!(rt; machine.mem.num_regions(), 1);
+    expect_same(&rt, machine.mem.num_regions(), 1);
 }

@@ -1,6 +1,6 @@
 //! Runs of a machine: guest accesses, kicks and resets.
 
-use crate::stand::{RING, Stand, layout};
+use crate::stand::{RING, Stand, expect_same, layout};
 use call_log::{CallLog, LoggedCall, run_logged};
 use fs_device::{Answer, Command, DeviceError, Machine};
 use guest_driver::requests::forget;
@@ -23,8 +23,7 @@ pub fn done(
     machine: &mut Machine<CallLog>,
     command: Command,
 ) -> Answer {
-    let mut commands = Vec::with_capacity(alloc, 1).expect(rt, "memory");
-    commands.push(command).unwrap();
+    let commands = Vec::from_array(alloc, [command]).expect(rt, "memory");
     let mut answers = machine.run(alloc, commands).expect(rt, "memory");
     answers.pop().expect(rt, "an answer")
 }
@@ -42,7 +41,7 @@ pub fn expect_refusal(
         Answer::Refused(refusal) => Some(refusal.number()),
         _ => None,
     };
-    assert_eq!(rt; refused, Some(number));
+    expect_same(rt, refused, Some(number));
 }
 
 /// A kick lists so many exchanges, and this refusal.
@@ -58,7 +57,7 @@ pub fn expect_kick(
         Answer::Served(run) => Some((run.done.len(), run.refused)),
         _ => None,
     };
-    assert_eq!(rt; answer, Some(served));
+    expect_same(rt, answer, Some(served));
 }
 
 /// The guest writes bytes at an address; the number of the refusal.
@@ -80,6 +79,15 @@ pub fn expect_write(
     );
 }
 
+// An answer is these bytes.
+fn expect_read_bytes(rt: &impl Abort, answer: Option<&Answer>, bytes: &[u8]) {
+    let there = match answer {
+        Some(Answer::Bytes(there)) => Some(there.as_slice()),
+        _ => None,
+    };
+    expect_same(rt, there, Some(bytes));
+}
+
 /// The guest reads these bytes.
 pub fn expect_read(
     rt: &impl Abort,
@@ -90,7 +98,7 @@ pub fn expect_read(
 ) {
     let len = bytes.len();
     let answer = done(rt, alloc, machine, Command::GuestRead { addr, len });
-    assert!(rt; matches!(&answer, Answer::Bytes(there) if there.as_slice() == bytes));
+    expect_read_bytes(rt, Some(&answer), bytes);
 }
 
 #[test]
@@ -144,12 +152,10 @@ fn commands_are_done_one_after_another(rt: HostRuntime) {
     let mut machine = machine(&rt, rt.alloc(), 1);
     let commands = exchange_commands(&rt, rt.alloc());
     let answers = run_logged(rt.alloc(), &mut machine, commands).expect(&rt, "memory");
-    assert_eq!(rt; answers.len(), 6);
-    assert!(rt;
-        matches!(answers.last(), Some(Answer::Bytes(bytes)) if bytes.as_slice() == [2, 0].as_slice())
-    );
+    expect_same(&rt, answers.len(), 6);
+    expect_read_bytes(&rt, answers.last(), &[2, 0]);
     let calls = [LoggedCall::Forget { node: 5, count: 3 }];
-    assert_eq!(rt; machine.device.server().fs().calls(), calls.as_slice());
+    expect_same(&rt, machine.device.server().fs().calls(), &calls);
 }
 
 #[test]

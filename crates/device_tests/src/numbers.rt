@@ -1,74 +1,59 @@
 //! The numbers that tell errors apart, and the errors of layouts in their order.
 
+use crate::stand::expect_same;
 use fs_device::{DeviceError, Refusal};
 use fs_queue::{ChainFault, QueueError, QueueLayout, QueueLayoutError};
 
+// The number of a queue's error, and of the device's error that it becomes.
+fn numbers(error: QueueError) -> (u8, u8) {
+    (error.number(), DeviceError::Queue(error).number())
+}
+
 #[test]
 fn refusals_of_a_step_are_numbered(rt: HostRuntime) {
-    let errors = [
-        QueueError::Stopped,
-        QueueError::AvailIndexUnreachable,
-        QueueError::AvailTooFar,
-        QueueError::RingEntryUnreachable,
-        QueueError::HeadOutOfTable,
-        QueueError::UsedUnreachable,
-        QueueError::AvailFlagsUnreachable,
-        QueueError::DescriptorUnreachable,
-        QueueError::OutOfMemory,
-    ];
-    for (error, number) in errors.iter().zip(1..10u8) {
-        assert_eq!(rt; error.number(), number);
-        assert_eq!(rt; DeviceError::Queue(*error).number(), number);
-    }
-    assert_eq!(rt; DeviceError::NoSuchQueue.number(), 10);
+    expect_same(&rt, numbers(QueueError::Stopped), (1, 1));
+    expect_same(&rt, numbers(QueueError::AvailIndexUnreachable), (2, 2));
+    expect_same(&rt, numbers(QueueError::AvailTooFar), (3, 3));
+    expect_same(&rt, numbers(QueueError::RingEntryUnreachable), (4, 4));
+    expect_same(&rt, numbers(QueueError::HeadOutOfTable), (5, 5));
+    expect_same(&rt, numbers(QueueError::UsedUnreachable), (6, 6));
+    expect_same(&rt, numbers(QueueError::AvailFlagsUnreachable), (7, 7));
+    expect_same(&rt, numbers(QueueError::DescriptorUnreachable), (8, 8));
+    expect_same(&rt, numbers(QueueError::OutOfMemory), (9, 9));
+    expect_same(&rt, DeviceError::NoSuchQueue.number(), 10);
 }
 
 #[test]
 fn refusals_of_a_command_are_numbered(rt: HostRuntime) {
-    let refusals = [
-        (Refusal::NoPlace, 1),
-        (Refusal::EmptyBlock, 2),
-        (Refusal::UnknownBlock, 3),
-        (Refusal::BadRegion, 4),
-        (Refusal::Overlap, 5),
-        (Refusal::NoRegion, 6),
-        (Refusal::NoSuchQueue, 8),
-        (Refusal::OutOfMemory, 9),
-    ];
-    for (refusal, number) in refusals {
-        assert_eq!(rt; refusal.number(), number, "{refusal:?}");
-    }
+    expect_same(&rt, Refusal::NoPlace.number(), 1);
+    expect_same(&rt, Refusal::EmptyBlock.number(), 2);
+    expect_same(&rt, Refusal::UnknownBlock.number(), 3);
+    expect_same(&rt, Refusal::BadRegion.number(), 4);
+    expect_same(&rt, Refusal::Overlap.number(), 5);
+    expect_same(&rt, Refusal::NoRegion.number(), 6);
+    expect_same(&rt, Refusal::NoSuchQueue.number(), 8);
+    expect_same(&rt, Refusal::OutOfMemory.number(), 9);
 }
 
 #[test]
 fn faults_of_a_chain_are_numbered(rt: HostRuntime) {
-    let faults = [
-        ChainFault::TooLong,
-        ChainFault::NextOutOfTable,
-        ChainFault::AddressOverflow,
-        ChainFault::IndirectWithNext,
-        ChainFault::IndirectNested,
-        ChainFault::IndirectLength,
-        ChainFault::TableUnreachable,
-        ChainFault::OverLimit,
-        ChainFault::RequestUnreachable,
-        ChainFault::RoomUnreachable,
-    ];
-    for (fault, number) in faults.iter().zip(1..11u8) {
-        assert_eq!(rt; fault.number(), number);
-    }
+    expect_same(&rt, ChainFault::TooLong.number(), 1);
+    expect_same(&rt, ChainFault::NextOutOfTable.number(), 2);
+    expect_same(&rt, ChainFault::AddressOverflow.number(), 3);
+    expect_same(&rt, ChainFault::IndirectWithNext.number(), 4);
+    expect_same(&rt, ChainFault::IndirectNested.number(), 5);
+    expect_same(&rt, ChainFault::IndirectLength.number(), 6);
+    expect_same(&rt, ChainFault::TableUnreachable.number(), 7);
+    expect_same(&rt, ChainFault::OverLimit.number(), 8);
+    expect_same(&rt, ChainFault::RequestUnreachable.number(), 9);
+    expect_same(&rt, ChainFault::RoomUnreachable.number(), 10);
 }
 
 #[test]
 fn errors_of_a_layout_are_numbered(rt: HostRuntime) {
-    let errors = [
-        QueueLayoutError::BadSize,
-        QueueLayoutError::Misaligned,
-        QueueLayoutError::EndOverflow,
-    ];
-    for (error, number) in errors.iter().zip(1..4u8) {
-        assert_eq!(rt; error.number(), number);
-    }
+    expect_same(&rt, QueueLayoutError::BadSize.number(), 1);
+    expect_same(&rt, QueueLayoutError::Misaligned.number(), 2);
+    expect_same(&rt, QueueLayoutError::EndOverflow.number(), 3);
 }
 
 // A size and three addresses, and the first of the errors that they have.
@@ -115,7 +100,7 @@ const LAYOUTS: [(u16, u64, u64, u64, Option<QueueLayoutError>); 12] = [
 fn layouts_are_refused_in_order(rt: HostRuntime) {
     for (size, desc, avail, used, error) in LAYOUTS {
         let refused = QueueLayout::new(size, desc, avail, used).err();
-        assert_eq!(rt; refused, error, "{size} {desc} {avail} {used}");
+        expect_same(&rt, refused, error);
     }
 }
 
@@ -123,5 +108,5 @@ fn layouts_are_refused_in_order(rt: HostRuntime) {
 fn layout_has_what_it_was_made_of(rt: HostRuntime) {
     let layout = QueueLayout::new(4, 0x10, 0x100, 0x200).expect(&rt, "a layout");
     let parts = (layout.size(), layout.desc(), layout.avail(), layout.used());
-    assert_eq!(rt; parts, (4, 0x10, 0x100, 0x200));
+    expect_same(&rt, parts, (4, 0x10, 0x100, 0x200));
 }

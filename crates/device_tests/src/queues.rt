@@ -1,6 +1,6 @@
 //! Queues alone, and chains of a queue one after another.
 
-use crate::stand::{LIMIT, RING, Stand, layout};
+use crate::stand::{LIMIT, RING, Stand, expect_same, layout};
 use fs_device::DeviceError;
 use fs_queue::{Queue, Taken};
 use guest_driver::requests::header;
@@ -18,7 +18,7 @@ fn stand(rt: &impl Abort, alloc: std::alloc::Global) -> Stand {
 // How many bytes of request a chain has, and of room.
 fn expect_lengths(rt: &impl Abort, taken: &Taken, lengths: (usize, usize)) {
     let chain = taken.chain().expect(rt, "no fault");
-    assert_eq!(rt; (chain.request_len(), chain.room_len()), lengths);
+    expect_same(rt, (chain.request_len(), chain.room_len()), lengths);
 }
 
 #[test]
@@ -29,14 +29,17 @@ fn chain_is_taken_and_given_back(rt: HostRuntime) {
         .take(rt.alloc(), &host, &mem, LIMIT)
         .expect(&rt, "no refusal")
         .expect(&rt, "a chain that waits");
-    assert_eq!(rt; (taken.head(), queue.position()), (0, 0));
+    expect_same(&rt, (taken.head(), queue.position()), (0, 0));
     expect_lengths(&rt, &taken, (40, 16));
     let told = queue.give_back(&mut host, taken, &[]);
-    assert!(rt; told);
-    assert_eq!(rt; (queue.position(), queue.is_stopped()), (1, false));
+    expect_same(
+        &rt,
+        (told, queue.position(), queue.is_stopped()),
+        (true, 1, false),
+    );
     let mut used = [9; 10];
-    assert!(rt; host.read_block(0, 0x202, &mut used));
-    assert_eq!(rt; used, [1, 0, 0, 0, 0, 0, 0, 0, 0, 0]);
+    let there = host.read_block(0, 0x202, &mut used);
+    expect_same(&rt, (there, used), (true, [1, 0, 0, 0, 0, 0, 0, 0, 0, 0]));
 }
 
 #[test]
@@ -46,7 +49,7 @@ fn nothing_is_taken_where_nothing_waits(rt: HostRuntime) {
     let taken = queue
         .take(rt.alloc(), &guest.host, &guest.mem, LIMIT)
         .expect(&rt, "no refusal");
-    assert!(rt; taken.is_none());
+    expect_same(&rt, taken.is_none(), true);
 }
 
 // A queue comes to so many exchanges, without a refusal.
@@ -56,7 +59,7 @@ fn expect_served(rt: &impl Abort, stand: &mut Stand, most: u16, count: usize) {
         .device
         .process_queue(stand.alloc, host, &stand.guest.mem, 0, most)
         .expect(rt, "a queue");
-    assert_eq!(rt; (run.done.len(), run.refused), (count, None));
+    expect_same(rt, (run.done.len(), run.refused), (count, None));
 }
 
 #[test]
@@ -77,5 +80,5 @@ fn queue_that_is_missing_serves_none(rt: HostRuntime) {
         .device
         .process_queue(stand.alloc, host, &stand.guest.mem, 1, 0)
         .err();
-    assert_eq!(rt; refused, Some(DeviceError::NoSuchQueue));
+    expect_same(&rt, refused, Some(DeviceError::NoSuchQueue));
 }

@@ -1,13 +1,14 @@
 //! Queues that are refused, and stop until they are reset.
 
-use crate::stand::{Stand, layout};
+use crate::stand::{Stand, expect_same, layout};
 use fs_device::DeviceError;
 use fs_queue::QueueError;
 use guest_driver::Ring;
 use std::process::Abort;
+use vm_memory_core::GuestAddress;
 
 // Two regions; the addresses 0x100 and 0x101 lie in neither.
-const HOLED: [(u64, usize); 2] = [(0, 0x100), (0x102, 0xfefe)];
+const HOLED: [(GuestAddress, usize); 2] = [(GuestAddress(0), 0x100), (GuestAddress(0x102), 0xfefe)];
 
 // Where a queue lies whole.
 const GOOD: Ring = Ring {
@@ -93,8 +94,8 @@ fn refused_queue_stops_until_it_is_reset(rt: HostRuntime) {
 fn expect_stop(rt: &impl Abort, stand: &mut Stand, error: QueueError) {
     let before = stand.guest.bytes::<0x300>(0x4000).expect(rt, "a place");
     stand.expect_refusal(rt, DeviceError::Queue(error));
-    let stopped = stand.device.queue(0).map(|queue| queue.is_stopped());
-    assert_eq!(rt; stopped, Some(true));
+    let stopped = stand.device.queue(0).expect(rt, "a queue").is_stopped();
+    expect_same(rt, stopped, true);
     stand.expect_refusal(rt, DeviceError::Queue(QueueError::Stopped));
     stand.expect_bytes(rt, 0x4000, &before);
     stand.expect_marked(rt, &[]);
@@ -103,12 +104,12 @@ fn expect_stop(rt: &impl Abort, stand: &mut Stand, error: QueueError) {
 // The queue is reset to where it lies whole, and serves a chain there.
 fn expect_go_on(rt: &impl Abort, stand: &mut Stand) {
     let reset = stand.device.reset_queue(0, layout(rt, GOOD));
-    assert_eq!(rt; reset, Ok(()));
+    expect_same(rt, reset, Ok(()));
     stand.guest.ring = GOOD;
     stand.guest.set_available(0).expect(rt, "a place");
     stand.ask_unknown(rt);
     let (exchange, _) = stand.exchange(rt);
-    assert_eq!(rt; exchange.reply.len(), 16);
+    expect_same(rt, exchange.reply.len(), 16);
     stand.expect_used(rt, 0, (0, 16), 1);
 }
 
@@ -121,9 +122,9 @@ fn missing_queue_is_refused_first(rt: HostRuntime) {
         .device
         .process_one(stand.alloc, host, &stand.guest.mem, 1)
         .err();
-    assert_eq!(rt; refused, Some(DeviceError::NoSuchQueue));
+    expect_same(&rt, refused, Some(DeviceError::NoSuchQueue));
     let reset = stand.device.reset_queue(1, layout(&rt, GOOD));
-    assert_eq!(rt; reset, Err(DeviceError::NoSuchQueue));
-    assert!(rt; stand.device.queue(1).is_none());
+    expect_same(&rt, reset, Err(DeviceError::NoSuchQueue));
+    expect_same(&rt, stand.device.queue(1).is_none(), true);
     stand.expect_marked(&rt, &[]);
 }

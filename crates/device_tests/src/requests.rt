@@ -1,6 +1,6 @@
 //! Requests that ask the file system, each from the guest's bytes.
 
-use crate::stand::{REQUEST_AT, ROOM_AT, Stand};
+use crate::stand::{REQUEST_AT, ROOM_AT, Stand, expect_same};
 use bitflags::Flags;
 use call_log::files::HELLO;
 use call_log::{CallLog, LoggedCall};
@@ -64,7 +64,7 @@ fn entry_that_has_room_is_told(rt: HostRuntime) {
     let mut stand = Stand::new(&rt, rt.alloc());
     ask_entry(&rt, &mut stand, 144);
     let (exchange, _) = stand.exchange(&rt);
-    assert_eq!(rt; exchange.fault, None);
+    expect_same(&rt, exchange.fault, None);
     stand.expect_bytes(
         &rt,
         ROOM_AT,
@@ -133,8 +133,8 @@ fn client_of_this_version_agrees_on_options(rt: HostRuntime) {
     let mut stand = Stand::new(&rt, rt.alloc());
     ask_init(&rt, &mut stand, 7, 38, 80);
     let (exchange, _) = stand.exchange(&rt);
-    assert_eq!(rt; exchange.fault, None);
+    expect_same(&rt, exchange.fault, None);
     stand.expect_calls(&rt, &[LoggedCall::Init]);
-    assert_eq!(rt; stand.device.server().options().bits(), 1);
+    expect_same(&rt, stand.device.server().options().bits(), 1);
     stand.expect_bytes(&rt, 0x2010, &AGREED);
 }

@@ -6,6 +6,7 @@ use fs_queue::{Queue, QueueLayout};
 use guest_driver::requests::header;
 use guest_driver::{Guest, Ring};
 use std::alloc::Global;
+use std::fmt::Debug;
 use std::process::Abort;
 use virtiofsd_fuse::Server;
 use vm_memory_core::GuestAddress;
@@ -34,6 +35,11 @@ pub struct Stand {
     pub device: Device<CallLog>,
 }
 
+/// What was found is what is wanted. One generic assertion for all tests: each assertion of its own costs a proof.
+pub fn expect_same<T: PartialEq + Debug + Drop>(rt: &impl Abort, found: T, want: T) {
+    assert_eq!(rt; found, want);
+}
+
 /// The layout of a ring.
 pub fn layout(rt: &impl Abort, ring: Ring) -> QueueLayout {
     QueueLayout::new(ring.size, ring.desc, ring.avail, ring.used).expect(rt, "a layout")
@@ -41,16 +47,15 @@ pub fn layout(rt: &impl Abort, ring: Ring) -> QueueLayout {
 
 impl Stand {
     /// Regions of zeros, each from an address on and so long, with this ring.
-    pub fn over(rt: &impl Abort, alloc: Global, regions: &[(u64, usize)], ring: Ring) -> Stand {
-        let mut ranges = Vec::new(alloc);
-        for (base, len) in regions {
-            ranges
-                .push((GuestAddress(*base), *len))
-                .expect(rt, "memory");
-        }
-        let guest = Guest::new(alloc, &ranges, ring).expect(rt, "regions");
-        let mut queues = Vec::with_capacity(alloc, 1).expect(rt, "memory");
-        queues.push(Queue::new(layout(rt, ring))).unwrap();
+    pub fn over(
+        rt: &impl Abort,
+        alloc: Global,
+        regions: &[(GuestAddress, usize)],
+        ring: Ring,
+    ) -> Stand {
+        let guest = Guest::new(alloc, regions, ring).expect(rt, "regions");
+        let queue = Queue::new(layout(rt, ring));
+        let queues = Vec::from_array(alloc, [queue]).expect(rt, "memory");
         Stand {
             alloc,
             guest,
@@ -60,7 +65,7 @@ impl Stand {
 
     /// One region from 0 to 0x10000.
     pub fn new(rt: &impl Abort, alloc: Global) -> Stand {
-        Stand::over(rt, alloc, &[(0, 0x10000)], RING)
+        Stand::over(rt, alloc, &[(GuestAddress(0), 0x10000)], RING)
     }
 
     /// The guest puts bytes at an address.
@@ -111,22 +116,20 @@ impl Stand {
     /// A step exchanges a chain for this reply, which stands in the room; the driver is told.
     pub fn expect_reply(&mut self, rt: &impl Abort, reply: &[u8]) {
         let (exchange, notify) = self.exchange(rt);
-        assert_eq!(rt; exchange.fault, None);
-        assert_eq!(rt; exchange.reply.as_slice(), reply);
-        assert!(rt; notify);
+        expect_same(rt, (exchange.fault, notify), (None, true));
+        expect_same(rt, exchange.reply.as_slice(), reply);
     }
 
     /// A step gives a chain back with nothing, for this reason.
     pub fn expect_fault(&mut self, rt: &impl Abort, fault: Fault) {
         let (exchange, notify) = self.exchange(rt);
-        assert_eq!(rt; exchange.fault, Some(fault));
-        assert!(rt; exchange.reply.is_empty());
-        assert!(rt; notify);
+        expect_same(rt, (exchange.fault, notify), (Some(fault), true));
+        expect_same(rt, exchange.reply.as_slice(), &[]);
     }
 
     /// A step is refused.
     pub fn expect_refusal(&mut self, rt: &impl Abort, error: DeviceError) {
-        assert_eq!(rt; self.step().err(), Some(error));
+        expect_same(rt, self.step().err(), Some(error));
     }
 
     /// These bytes stand at an address.
@@ -136,25 +139,29 @@ impl Stand {
             .mem
             .read_slice(&self.guest.host, &mut there, GuestAddress(addr))
             .expect(rt, "a place");
-        assert_eq!(rt; there.as_slice(), bytes);
+        expect_same(rt, there.as_slice(), bytes);
     }
 
     /// The element in a slot of the used ring, its head and its length, and the ring's index, are these.
     pub fn expect_used(&self, rt: &impl Abort, slot: u16, element: (u32, u32), index: u16) {
         let used = self.guest.used(slot).expect(rt, "a place");
-        assert_eq!(rt; (used.id, used.len), element);
-        assert_eq!(rt; self.guest.used_index(), Ok(index));
+        let there = self.guest.used_index().expect(rt, "a place");
+        expect_same(
+            rt,
+            (used.id, used.len, there),
+            (element.0, element.1, index),
+        );
     }
 
     /// The marked pages are these, by block and number in it.
     pub fn expect_marked(&self, rt: &impl Abort, pages: &[(usize, usize)]) {
         let marked = self.guest.marked(self.alloc).expect(rt, "memory");
-        assert_eq!(rt; marked.as_slice(), pages);
+        expect_same(rt, marked.as_slice(), pages);
     }
 
     /// The file system was asked this, in this order.
     pub fn expect_calls(&self, rt: &impl Abort, calls: &[LoggedCall]) {
-        assert_eq!(rt; self.device.server().fs().calls(), calls);
+        expect_same(rt, self.device.server().fs().calls(), calls);
     }
 
     /// The machine of this guest and this device.

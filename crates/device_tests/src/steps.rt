@@ -1,10 +1,11 @@
 //! Steps of a device: one chain is taken, served and given back.
 
-use crate::stand::{REQUEST_AT, RING, ROOM_AT, Stand};
+use crate::stand::{REQUEST_AT, RING, ROOM_AT, Stand, expect_same};
 use call_log::files::PATTERN;
 use guest_driver::Ring;
 use guest_driver::requests::{header, read};
 use std::process::Abort;
+use vm_memory_core::GuestAddress;
 
 // The reply to the request whose opcode is unknown.
 const ENOSYS_REPLY: [u8; 16] = [16, 0, 0, 0, 0xda, 0xff, 0xff, 0xff, 1, 0, 0, 0, 0, 0, 0, 0];
@@ -33,19 +34,19 @@ fn too_great_a_length_is_answered_enomem(rt: HostRuntime) {
 #[test]
 fn nothing_waits_in_zeros(rt: HostRuntime) {
     let mut stand = Stand::new(&rt, rt.alloc());
-    let answer = stand.step();
-    assert!(rt; matches!(&answer, Ok(None)));
+    let chain = stand.step().expect(&rt, "no refusal");
+    expect_same(&rt, chain.is_none(), true);
     stand.expect_marked(&rt, &[]);
 }
 
 #[test]
 fn request_across_two_regions_is_one_request(rt: HostRuntime) {
-    let regions = [(0, 0x1000), (0x1000, 0xf000)];
+    let regions = [(GuestAddress(0), 0x1000), (GuestAddress(0x1000), 0xf000)];
     let mut stand = Stand::over(&rt, rt.alloc(), &regions, RING);
     let request = header(40, 7, 1, 0);
     stand.chain(&rt, 0, &request, &[(0xfe8, 40)], &[(ROOM_AT, 16)]);
     let (exchange, _) = stand.exchange(&rt);
-    assert_eq!(rt; exchange.request.as_slice(), request.as_slice());
+    expect_same(&rt, exchange.request.as_slice(), &request);
     stand.expect_bytes(&rt, ROOM_AT, &ENOSYS_REPLY);
     stand.expect_used(&rt, 0, (0, 16), 1);
     stand.expect_marked(&rt, &[(0, 0), (1, 1)]);
@@ -83,8 +84,8 @@ fn position_is_not_read_from_the_used_index(rt: HostRuntime) {
     stand.expect_reply(&rt, &ENOSYS_REPLY);
     stand.expect_used(&rt, 1, (0, 16), 2);
     stand.expect_bytes(&rt, 0x20c, &[0, 0, 0, 0, 16, 0, 0, 0]);
-    let position = stand.device.queue(0).map(|queue| queue.position());
-    assert_eq!(rt; position, Some(2));
+    let queue = stand.device.queue(0).expect(&rt, "a queue");
+    expect_same(&rt, queue.position(), 2);
 }
 
 #[test]
@@ -93,7 +94,7 @@ fn driver_that_asks_not_to_be_told_is_not(rt: HostRuntime) {
     stand.put(&rt, RING.avail, &[1, 0]);
     stand.ask_unknown(&rt);
     let (_, notify) = stand.exchange(&rt);
-    assert!(rt; !notify);
+    expect_same(&rt, notify, false);
 }
 
 // A queue of 32 descriptors.
@@ -149,7 +150,7 @@ fn pattern_reply<const N: usize>() -> [u8; N] {
 
 #[test]
 fn chain_of_twenty_descriptors_is_one_request_and_one_room(rt: HostRuntime) {
-    let mut stand = Stand::over(&rt, rt.alloc(), &[(0, 0x10000)], WIDE);
+    let mut stand = Stand::over(&rt, rt.alloc(), &[(GuestAddress(0), 0x10000)], WIDE);
     let request = read(rt.alloc(), 9, PATTERN, 0, 7, 144).expect(&rt, "memory");
     stand.chain(&rt, 12, &request, &CUT, &SPREAD);
     stand.expect_reply(&rt, &pattern_reply::<160>());
@@ -183,7 +184,7 @@ fn reply_over_several_pages_marks_each_of_them(rt: HostRuntime) {
 
 #[test]
 fn reply_over_two_regions_marks_the_pages_of_both(rt: HostRuntime) {
-    let regions = [(0, 0x5800), (0x5800, 0xa800)];
+    let regions = [(GuestAddress(0), 0x5800), (GuestAddress(0x5800), 0xa800)];
     let mut stand = Stand::over(&rt, rt.alloc(), &regions, RING);
     ask_pages(&rt, &mut stand);
     stand.expect_marked(&rt, &[(0, 0), (0, 4), (0, 5), (1, 0), (1, 1)]);

@@ -1,52 +1,67 @@
 //! Tables to look things up in, and what they answer as text.
 
-use std::fmt::Write;
-use std::test::Fail;
-use vm_iotlb::{Iotlb, IovaRange, LookupError, Permissions};
+use std::alloc::Global;
+use std::fmt::{Debug, Write};
+use std::process::Abort;
+use vm_iotlb::{Iotlb, IotlbIterator, IovaRange, LookupError, Permissions};
 use vm_values::GuestAddress;
 
 /// A mapping: the first I/O address, the first target, how many, and what may be done there.
-pub type Mapping = (u64, u64, usize, Permissions);
+pub type Entry = (u64, u64, usize, Permissions);
+
+/// What was found is what is wanted. One generic assertion for all tests: each assertion of its own costs a proof.
+pub fn expect_same<T: PartialEq + Debug + Drop>(rt: &impl Abort, found: T, want: T) {
+    assert_eq!(rt; found, want);
+}
 
 /// The table after some mappings, one after another.
-pub fn table(rt: &HostRuntime, mappings: &[Mapping]) -> Result<Iotlb, Fail> {
-    let mut table = Iotlb::new(rt.alloc());
+pub fn table(rt: &impl Abort, alloc: Global, mappings: &[Entry]) -> Iotlb {
+    let mut table = Iotlb::new(alloc);
     for (iova, target, length, perm) in mappings {
-        table.set_mapping(GuestAddress(*iova), GuestAddress(*target), *length, *perm)?;
+        table
+            .set_mapping(GuestAddress(*iova), GuestAddress(*target), *length, *perm)
+            .expect(rt, "a mapping");
     }
-    Ok(table)
+    table
 }
 
-fn write_ranges(text: &mut String, ranges: &[IovaRange]) -> Result<(), Fail> {
+// A range as base+length in hexadecimal.
+fn write_range(rt: &impl Abort, text: &mut String, base: GuestAddress, length: usize) {
+    write!(text, " {:x}+{:x}", base.0, length).expect(rt, "memory");
+}
+
+fn write_pieces(rt: &impl Abort, text: &mut String, pieces: IotlbIterator<'_>) {
+    text.push_str("at").expect(rt, "memory");
+    for piece in pieces {
+        write_range(rt, text, piece.base, piece.length);
+    }
+}
+
+fn write_ranges(rt: &impl Abort, text: &mut String, name: &str, ranges: &[IovaRange]) {
+    text.push_str(name).expect(rt, "memory");
     for range in ranges {
-        write!(text, " {:x}+{:x}", range.base.0, range.length)?;
+        write_range(rt, text, range.base, range.length);
     }
-    Ok(())
 }
 
-/// What a look-up answers: its pieces, or what misses and what lacks the permission, as base+length in hexadecimal.
-pub fn found(
-    rt: &HostRuntime,
+/// A look-up from an address on answers this: its pieces, or what misses and what lacks the permission.
+pub fn expect_found(
+    rt: &impl Abort,
+    alloc: Global,
     table: &Iotlb,
     iova: u64,
     length: usize,
     access: Permissions,
-) -> Result<String, Fail> {
-    let mut text = String::new(rt.alloc());
+    want: &str,
+) {
+    let mut text = String::new(alloc);
     match table.lookup(GuestAddress(iova), length, access) {
-        Ok(pieces) => {
-            write!(text, "at")?;
-            for piece in pieces {
-                write!(text, " {:x}+{:x}", piece.base.0, piece.length)?;
-            }
-        }
+        Ok(pieces) => write_pieces(rt, &mut text, pieces),
         Err(LookupError::Fails(fails)) => {
-            write!(text, "misses")?;
-            write_ranges(&mut text, &fails.misses)?;
-            write!(text, ", lacks")?;
-            write_ranges(&mut text, &fails.access_fails)?;
+            write_ranges(rt, &mut text, "misses", &fails.misses);
+            write_ranges(rt, &mut text, ", lacks", &fails.access_fails);
         }
-        Err(LookupError::OutOfMemory) => return Err(Fail::from("out of memory")),
+        Err(LookupError::OutOfMemory) => {}
     }
-    Ok(text)
+    expect_same(rt, text.as_str(), want);
 }

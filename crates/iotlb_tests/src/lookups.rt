@@ -1,25 +1,21 @@
 //! Look-ups in small tables.
 
-use crate::given::{found, table};
-use std::test::Fail;
+use crate::given::{expect_found, table};
+use std::alloc::Global;
+use std::process::Abort;
 use vm_iotlb::Permissions::{No, Read, ReadWrite, Write};
 use vm_iotlb::{Iotlb, Permissions};
 use vm_values::GuestAddress;
 
 // A page for reading and writing, with 0x100 bytes in its middle that are elsewhere and for reading alone.
-fn with_a_hole(rt: &HostRuntime) -> Result<Iotlb, Fail> {
-    table(
-        rt,
-        &[
-            (0x1000, 0x8000, 0x1000, ReadWrite),
-            (0x1800, 0x4000, 0x100, Read),
-        ],
-    )
+fn with_a_hole(rt: &impl Abort, alloc: Global) -> Iotlb {
+    let page = (0x1000, 0x8000, 0x1000, ReadWrite);
+    table(rt, alloc, &[page, (0x1800, 0x4000, 0x100, Read)])
 }
 
 #[test]
-fn a_look_up_goes_range_by_range(rt: HostRuntime) -> Result<(), Fail> {
-    let table = with_a_hole(&rt)?;
+fn a_look_up_goes_range_by_range(rt: HostRuntime) {
+    let table = with_a_hole(&rt, rt.alloc());
     let cases: [(u64, usize, Permissions, &str); 9] = [
         (0x1700, 0x300, Read, "at 8700+100 4000+100 8900+100"),
         (0x1700, 0x300, Write, "misses, lacks 1800+100"),
@@ -37,38 +33,56 @@ fn a_look_up_goes_range_by_range(rt: HostRuntime) -> Result<(), Fail> {
         (0x5000, 0, ReadWrite, "at"),
     ];
     for (iova, length, access, want) in cases {
-        let text = found(&rt, &table, iova, length, access)?;
-        assert_eq!(rt; text.as_str(), want, "at {iova:x}+{length:x}");
+        expect_found(&rt, rt.alloc(), &table, iova, length, access, want);
     }
-    Ok(())
 }
 
 #[test]
-fn what_was_taken_out_misses(rt: HostRuntime) -> Result<(), Fail> {
-    let mut table = with_a_hole(&rt)?;
-    table.invalidate_mapping(GuestAddress(0x1800), 0x100)?;
-    let text = found(&rt, &table, 0x1700, 0x300, Read)?;
-    assert_eq!(rt; text.as_str(), "misses 1800+100, lacks");
+fn what_was_taken_out_misses(rt: HostRuntime) {
+    let mut table = with_a_hole(&rt, rt.alloc());
+    table
+        .invalidate_mapping(GuestAddress(0x1800), 0x100)
+        .expect(&rt, "no mapping");
+    let middle = "misses 1800+100, lacks";
+    expect_found(&rt, rt.alloc(), &table, 0x1700, 0x300, Read, middle);
     table.invalidate_all();
-    let text = found(&rt, &table, 0x1700, 0x300, Read)?;
-    assert_eq!(rt; text.as_str(), "misses 1700+300, lacks");
-    Ok(())
+    expect_found(
+        &rt,
+        rt.alloc(),
+        &table,
+        0x1700,
+        0x300,
+        Read,
+        "misses 1700+300, lacks",
+    );
 }
 
 #[test]
-fn a_range_in_two_parts_has_two_pieces(rt: HostRuntime) -> Result<(), Fail> {
+fn a_range_in_two_parts_has_two_pieces(rt: HostRuntime) {
     let mappings = [
         (0x0, 0x0, 0x1000, ReadWrite),
         (0x1000, 0x1000, 0x14, Read),
         (0x1014, 0x6014, 0xfec, Read),
         (0x2000, 0x3000, 0x1000, Write),
     ];
-    let table = table(&rt, &mappings)?;
-    let text = found(&rt, &table, 0x1010, 8, Read)?;
-    assert_eq!(rt; text.as_str(), "at 1010+4 6014+4");
-    let text = found(&rt, &table, 0x1000, 40, Read)?;
-    assert_eq!(rt; text.as_str(), "at 1000+14 6014+14");
-    let text = found(&rt, &table, 0x1000, 0x1001, Read)?;
-    assert_eq!(rt; text.as_str(), "misses, lacks 2000+1");
-    Ok(())
+    let table = table(&rt, rt.alloc(), &mappings);
+    expect_found(&rt, rt.alloc(), &table, 0x1010, 8, Read, "at 1010+4 6014+4");
+    expect_found(
+        &rt,
+        rt.alloc(),
+        &table,
+        0x1000,
+        40,
+        Read,
+        "at 1000+14 6014+14",
+    );
+    expect_found(
+        &rt,
+        rt.alloc(),
+        &table,
+        0x1000,
+        0x1001,
+        Read,
+        "misses, lacks 2000+1",
+    );
 }

@@ -1,156 +1,127 @@
 //! Marks of pages.
 
+use crate::given::expect_same;
 use std::alloc::Global;
 use std::num::NonZeroUsize;
-use std::test::Fail;
+use std::process::Abort;
 use vm_bitmaps::{BaseSlice, Bitmap, NewBitmap, PageBitmap, RefSlice};
 
-fn bitmap(alloc: Global, byte_size: usize, page_size: usize) -> Result<PageBitmap, Fail> {
-    let page_size = NonZeroUsize::new(page_size).ok_or("a page has a byte")?;
-    Ok(PageBitmap::new(alloc, byte_size, page_size)?)
+fn bitmap(rt: &impl Abort, alloc: Global, byte_size: usize, page_size: usize) -> PageBitmap {
+    let page_size = NonZeroUsize::new(page_size).expect(rt, "a page has a byte");
+    PageBitmap::new(alloc, byte_size, page_size).expect(rt, "memory")
 }
 
 // A bitmap of eight pages of 128 bytes, of which the second and the third are marked.
-fn two_of_eight(alloc: Global) -> Result<PageBitmap, Fail> {
-    let mut b = bitmap(alloc, 1024, 128)?;
+fn two_of_eight(rt: &impl Abort, alloc: Global) -> PageBitmap {
+    let mut b = bitmap(rt, alloc, 1024, 128);
     b.set_addr_range(128, 129);
-    Ok(b)
+    b
 }
 
-// The marks of the first four pages by address, and by page.
-fn first_marks(b: &PageBitmap) -> ([bool; 4], [bool; 4]) {
-    let by_address = [0, 128, 256, 384].map(|addr| b.is_addr_set(addr));
-    let by_page = [0, 1, 2, 3].map(|page| b.is_bit_set(page));
-    (by_address, by_page)
-}
-
-// The marks of the second and the third page after one byte was cleared, after all were, and in a copy made before.
-fn cleared_marks(alloc: Global) -> Result<[bool; 5], Fail> {
-    let mut b = two_of_eight(alloc)?;
-    let copy = b.clone()?;
-    b.reset_addr_range(200, 1);
-    let one = (b.is_bit_set(1), b.is_bit_set(2));
-    b.reset();
-    Ok([
-        one.0,
-        one.1,
+// The marks of the first four pages.
+fn first_marks(b: &PageBitmap) -> [bool; 4] {
+    [
+        b.is_bit_set(0),
+        b.is_bit_set(1),
         b.is_bit_set(2),
-        copy.is_bit_set(1),
-        copy.is_bit_set(2),
-    ])
+        b.is_bit_set(3),
+    ]
+}
+
+// The marks of the first four pages of 128 bytes, by address.
+fn marks_by_address(b: &PageBitmap) -> [bool; 4] {
+    [
+        b.is_addr_set(0),
+        b.is_addr_set(128),
+        b.is_addr_set(256),
+        b.is_addr_set(384),
+    ]
 }
 
 #[test]
-fn a_range_marks_and_clears_the_pages_that_it_touches(rt: HostRuntime) -> Result<(), Fail> {
+fn a_range_marks_and_clears_the_pages_that_it_touches(rt: HostRuntime) {
     let marks = [false, true, true, false];
-    assert_eq!(rt;
-        (
-            first_marks(&two_of_eight(rt.alloc())?),
-            cleared_marks(rt.alloc())?
-        ),
-        ((marks, marks), [false, true, false, true, true])
-    );
-    Ok(())
+    let mut b = two_of_eight(&rt, rt.alloc());
+    expect_same(&rt, first_marks(&b), marks);
+    expect_same(&rt, marks_by_address(&b), marks);
+    let copy = b.clone().expect(&rt, "memory");
+    b.reset_addr_range(200, 1);
+    expect_same(&rt, first_marks(&b), [false, false, true, false]);
+    b.reset();
+    expect_same(&rt, first_marks(&b), [false; 4]);
+    expect_same(&rt, first_marks(&copy), marks);
 }
 
-// The pages, the bytes and the bytes of a page.
-fn sizes(alloc: Global, byte_size: usize, page_size: usize) -> Result<(usize, usize, usize), Fail> {
-    let b = bitmap(alloc, byte_size, page_size)?;
-    Ok((b.len(), b.byte_size(), b.page_size()))
+// How many pages some bytes have in pages of 128.
+fn expect_pages(rt: &impl Abort, alloc: Global, byte_size: usize, len: usize) {
+    let b = bitmap(rt, alloc, byte_size, 128);
+    let sizes = (b.len(), b.byte_size(), b.page_size());
+    expect_same(rt, sizes, (len, byte_size, 128));
 }
 
-// The pages of 8193 bytes, of which 4097 are marked, and the words.
-fn words_of_pages(alloc: Global) -> Result<(usize, Vec<u64>), Fail> {
-    let mut b = PageBitmap::with_len(alloc, 8193)?;
+// The words that are given next.
+fn expect_words(rt: &impl Abort, b: &mut PageBitmap, words: &[u64]) {
+    let found = b.get_and_reset().expect(rt, "memory");
+    expect_same(rt, found.as_slice(), words);
+}
+
+#[test]
+fn a_page_has_4096_bytes_and_the_last_may_be_short(rt: HostRuntime) {
+    expect_pages(&rt, rt.alloc(), 1024, 8);
+    expect_pages(&rt, rt.alloc(), 1025, 9);
+    expect_pages(&rt, rt.alloc(), 0, 0);
+    let mut b = PageBitmap::with_len(rt.alloc(), 8193).expect(&rt, "memory");
     b.mark_dirty(4096, 4097);
-    Ok((b.len(), b.get_and_reset()?))
+    expect_same(&rt, b.len(), 3);
+    expect_words(&rt, &mut b, &[6]);
 }
 
 #[test]
-fn a_page_has_4096_bytes_and_the_last_may_be_short(rt: HostRuntime) -> Result<(), Fail> {
-    for (byte_size, len) in [(1024, 8), (1025, 9), (0, 0)] {
-        let want = (len, byte_size, 128);
-        assert_eq!(rt; sizes(rt.alloc(), byte_size, 128)?, want);
-    }
-    let (len, words) = words_of_pages(rt.alloc())?;
-    assert_eq!(rt; (len, words.as_slice()), (3, [6].as_slice()));
-    Ok(())
-}
-
-// The words of two pages of eight, twice.
-fn words_twice(alloc: Global) -> Result<(Vec<u64>, Vec<u64>), Fail> {
-    let mut b = two_of_eight(alloc)?;
-    let first = b.get_and_reset()?;
-    Ok((first, b.get_and_reset()?))
-}
-
-// The words of 200 pages, all marked from the last of the first word on.
-fn words_of_all(alloc: Global) -> Result<Vec<u64>, Fail> {
-    let mut b = bitmap(alloc, 200, 1)?;
-    b.set_addr_range(63, usize::MAX);
-    Ok(b.get_and_reset()?)
+fn the_words_are_given_once_up_to_the_last_page(rt: HostRuntime) {
+    let mut b = two_of_eight(&rt, rt.alloc());
+    expect_words(&rt, &mut b, &[6]);
+    expect_words(&rt, &mut b, &[0]);
+    let mut all = bitmap(&rt, rt.alloc(), 200, 1);
+    all.set_addr_range(63, usize::MAX);
+    expect_words(&rt, &mut all, &[1 << 63, u64::MAX, u64::MAX, 255]);
 }
 
 #[test]
-fn the_words_are_given_once_up_to_the_last_page(rt: HostRuntime) -> Result<(), Fail> {
-    let (first, second) = words_twice(rt.alloc())?;
-    let all = words_of_all(rt.alloc())?;
-    assert_eq!(rt;
-        (first.as_slice(), second.as_slice(), all.as_slice()),
-        (
-            [6].as_slice(),
-            [0].as_slice(),
-            [1 << 63, u64::MAX, u64::MAX, 255].as_slice()
-        )
-    );
-    Ok(())
-}
-
-// What a slice from 0x400 on finds of the marks there, and where its own marks are.
-fn sliced_marks(alloc: Global) -> Result<([bool; 3], [bool; 3]), Fail> {
-    let mut b = bitmap(alloc, 0x800, 1)?;
+fn a_slice_marks_what_it_stands_for(rt: HostRuntime) {
+    let mut b = bitmap(&rt, rt.alloc(), 0x800, 1);
     b.mark_dirty(0x400, 0x100);
     let mut part = RefSlice::new(&mut b, 0x400);
-    let found = [0, 0xff, 0x100].map(|offset| part.dirty_at(offset));
+    let found = (part.dirty_at(0), part.dirty_at(0xff), part.dirty_at(0x100));
+    expect_same(&rt, found, (true, true, false));
     part.mark_dirty(0x100, 1);
     part.mark_dirty(usize::MAX, 1);
-    let set = [0x500, 0x501, 0x3ff].map(|offset| b.dirty_at(offset));
-    Ok((found, set))
+    let set = (b.dirty_at(0x500), b.dirty_at(0x501), b.dirty_at(0x3ff));
+    expect_same(&rt, set, (true, false, false));
 }
 
-// Marks the bytes from 5 up to 9, and tells whether those at 4, 5, 8 and 9 are dirty.
-fn marked_five_to_nine<B: Bitmap>(bitmap: &mut B) -> [bool; 4] {
+// The marks at 4, 5, 8 and 9 after the bytes from 5 up to 9 were marked.
+fn expect_marks<B: Bitmap>(rt: &impl Abort, bitmap: &mut B, marks: [bool; 4]) {
     bitmap.mark_dirty(5, 4);
-    [4, 5, 8, 9].map(|offset| bitmap.dirty_at(offset))
-}
-
-// Those marks in what has no page.
-fn marks_of_none(alloc: Global) -> Result<[[bool; 4]; 2], Fail> {
-    <() as NewBitmap>::with_len(alloc, 16)?;
-    let mut none: Option<PageBitmap> = None;
-    Ok([marked_five_to_nine(&mut ()), marked_five_to_nine(&mut none)])
-}
-
-// Those marks in each wrapper of a bitmap.
-fn marks_of_wrappers(alloc: Global) -> Result<[[bool; 4]; 3], Fail> {
-    let mut some = Some(bitmap(alloc, 16, 1)?);
-    let mut part = BaseSlice::new(bitmap(alloc, 16, 1)?, 3);
-    let mut b = bitmap(alloc, 16, 1)?;
-    Ok([
-        marked_five_to_nine(&mut some),
-        marked_five_to_nine(&mut part),
-        marked_five_to_nine(&mut &mut b),
-    ])
+    let found = [
+        bitmap.dirty_at(4),
+        bitmap.dirty_at(5),
+        bitmap.dirty_at(8),
+        bitmap.dirty_at(9),
+    ];
+    expect_same(rt, found, marks);
 }
 
 #[test]
-fn slices_and_wrappers_mark_what_they_stand_for(rt: HostRuntime) -> Result<(), Fail> {
-    let found = ([true, true, false], [true, false, false]);
-    assert_eq!(rt; sliced_marks(rt.alloc())?, found);
-    let inside = [false, true, true, false];
-    assert_eq!(rt;
-        (marks_of_none(rt.alloc())?, marks_of_wrappers(rt.alloc())?),
-        ([[false; 4]; 2], [inside; 3])
-    );
-    Ok(())
+fn wrappers_mark_what_they_stand_for(rt: HostRuntime) {
+    let marks = [false, true, true, false];
+    let mut some = Some(bitmap(&rt, rt.alloc(), 16, 1));
+    expect_marks(&rt, &mut some, marks);
+    let mut part = BaseSlice::new(bitmap(&rt, rt.alloc(), 16, 1), 3);
+    expect_marks(&rt, &mut part, marks);
+    let mut b = bitmap(&rt, rt.alloc(), 16, 1);
+    expect_marks(&rt, &mut &mut b, marks);
+    <() as NewBitmap>::with_len(rt.alloc(), 16).expect(&rt, "memory");
+    expect_marks(&rt, &mut (), [false; 4]);
+    let mut none: Option<PageBitmap> = None;
+    expect_marks(&rt, &mut none, [false; 4]);
 }

@@ -1,26 +1,17 @@
 //! Bytes of guest memory by address.
 
-use crate::given::{ENDS, HOLE, Host, TWO, made};
+use crate::given::{ENDS, HOLE, Host, TWO, expect_same, made};
 use std::alloc::Global;
-use std::test::Fail;
+use std::process::Abort;
 use vm_memory::GuestMemoryError::{
     self, InvalidBackendAddress, InvalidGuestAddress, PartialBuffer,
 };
-use vm_memory::GuestRegionMmap;
+use vm_memory::{GuestMemoryMmap, GuestRegionMmap};
 use vm_memory_core::{
     Bitmap, Bytes, GuestAddress, HostMemory, MemoryRegionAddress, PageBitmap, Permissions, Windows,
 };
 
 type Answer<T> = Result<T, GuestMemoryError>;
-
-type SomeOfFive = (
-    Answer<usize>,
-    Answer<usize>,
-    [u8; 5],
-    Answer<()>,
-    Answer<()>,
-    Answer<u8>,
-);
 
 const TWO_OF_FIVE: GuestMemoryError = PartialBuffer {
     expected: 5,
@@ -32,173 +23,180 @@ const ONE_OF_TWO: GuestMemoryError = PartialBuffer {
     completed: 1,
 };
 
-// What writing 1 to 5 from an address on answers, what reading five bytes there answers, the bytes over five nines,
-// and the bytes at both ends of the first block and of the second, and the first of the third.
-fn all_of_five(
+// What is said of the first address behind two regions.
+const PAST: GuestMemoryError = InvalidGuestAddress(GuestAddress(0x2000));
+
+// Writing 1 to 5 from an address on, and reading five bytes there over nines: both give this answer, the bytes are these
+// then, and these stand at both ends of the first block and of the second, and at the first of the third.
+fn expect_all_of_five(
+    rt: &impl Abort,
     alloc: Global,
     ranges: &[(GuestAddress, usize)],
     addr: u64,
-) -> Result<(Answer<()>, Answer<()>, [u8; 5], [Option<u8>; 5]), Fail> {
-    let (mut host, mem) = made(alloc, ranges)?;
+    want: (Answer<()>, [u8; 5], [Option<u8>; 5]),
+) {
+    let (mut host, mem) = made(rt, alloc, ranges);
     let written = mem.write_slice(&mut host, &[1, 2, 3, 4, 5], GuestAddress(addr));
     let mut bytes = [9; 5];
     let read = mem.read_slice(&host, &mut bytes, GuestAddress(addr));
-    let places = [(0, 0), (0, 0xfff), (1, 0), (1, 0xfff), (2, 0)];
-    let stored = places.map(|(block, offset)| host.byte_at(block, offset));
-    Ok((written, read, bytes, stored))
+    expect_same(rt, read, written);
+    let stored = [
+        host.byte_at(0, 0),
+        host.byte_at(0, 0xfff),
+        host.byte_at(1, 0),
+        host.byte_at(1, 0xfff),
+        host.byte_at(2, 0),
+    ];
+    expect_same(rt, (read, bytes, stored), want);
 }
 
-// The same for as many of the five as there are, through the trait, and what its whole read and a whole write of nines
-// answer, and the byte at the address then.
-fn some_of_five(
+#[test]
+fn bytes_go_over_an_edge_and_end_at_a_hole(rt: HostRuntime) {
+    let alloc = rt.alloc();
+    let (five, two) = ([1, 2, 3, 4, 5], [1, 2, 9, 9, 9]);
+    let edge = [Some(0), Some(4), Some(5), Some(0), None];
+    expect_all_of_five(&rt, alloc, &TWO, 0xffc, (Ok(()), five, edge));
+    let ends = [Some(2), Some(0), Some(0), Some(1), None];
+    expect_all_of_five(&rt, alloc, &ENDS, u64::MAX, (Ok(()), five, ends));
+    let partial = Err(TWO_OF_FIVE);
+    let end = [Some(0), Some(0), Some(0), Some(2), None];
+    expect_all_of_five(&rt, alloc, &TWO, 0x1ffe, (partial, two, end));
+    let hole = [Some(0), Some(0), Some(0), Some(2), Some(0)];
+    expect_all_of_five(&rt, alloc, &HOLE, 0x1ffe, (partial, two, hole));
+}
+
+// Through the trait: as many of 1 to 5 as there are places from an address on are written, and read over nines.
+fn expect_some_of_five(
+    rt: &impl Abort,
     alloc: Global,
     ranges: &[(GuestAddress, usize)],
     addr: u64,
-) -> Result<SomeOfFive, Fail> {
-    let (mut host, mem) = made(alloc, ranges)?;
+    answer: Answer<usize>,
+    bytes: [u8; 5],
+) {
+    let (mut host, mem) = made(rt, alloc, ranges);
     let addr = GuestAddress(addr);
     let written = Bytes::write(&mem, &mut host, &[1, 2, 3, 4, 5], addr);
-    let mut bytes = [9; 5];
-    let read = Bytes::read(&mem, &host, &mut bytes, addr);
-    let all_read = Bytes::read_slice(&mem, &host, &mut [0; 5], addr);
-    let all_written = Bytes::write_slice(&mem, &mut host, &[9; 5], addr);
+    let mut found = [9; 5];
+    let read = Bytes::read(&mem, &host, &mut found, addr);
+    expect_same(rt, (written, read, found), (answer, answer, bytes));
+}
+
+// Through the trait: a whole read and a whole write of five bytes of 9 give this answer, and a 9 stands at the address.
+fn expect_whole_five(
+    rt: &impl Abort,
+    alloc: Global,
+    ranges: &[(GuestAddress, usize)],
+    addr: u64,
+    answer: Answer<()>,
+) {
+    let (mut host, mem) = made(rt, alloc, ranges);
+    let addr = GuestAddress(addr);
+    let read = Bytes::read_slice(&mem, &host, &mut [0; 5], addr);
+    let written = Bytes::write_slice(&mem, &mut host, &[9; 5], addr);
     let byte = mem.read_obj::<u8, PageBitmap>(&host, addr);
-    Ok((written, read, bytes, all_read, all_written, byte))
+    expect_same(rt, (read, written, byte), (answer, answer, Ok(9)));
 }
 
 #[test]
-fn bytes_go_over_an_edge_and_end_at_a_hole(rt: HostRuntime) -> Result<(), Fail> {
-    let partial = Err(TWO_OF_FIVE);
-    let (five, two) = ([1, 2, 3, 4, 5], [1, 2, 9, 9, 9]);
-    for (ranges, addr, answer, bytes, stored) in [
-        (TWO, 0xffc, Ok(()), five, [0, 4, 5, 0]),
-        (ENDS, u64::MAX, Ok(()), five, [2, 0, 0, 1]),
-        (TWO, 0x1ffe, partial, two, [0, 0, 0, 2]),
-    ] {
-        let [first, second, third, fourth] = stored;
-        let stored = [Some(first), Some(second), Some(third), Some(fourth), None];
-        let found = all_of_five(rt.alloc(), &ranges, addr)?;
-        assert_eq!(rt; found, (answer, answer, bytes, stored), "at {addr}");
-    }
-    let stored = [Some(0), Some(0), Some(0), Some(2), Some(0)];
-    let found = all_of_five(rt.alloc(), &HOLE, 0x1ffe)?;
-    assert_eq!(rt; found, (partial, partial, two, stored));
-    Ok(())
+fn some_bytes_are_there(rt: HostRuntime) {
+    let alloc = rt.alloc();
+    expect_some_of_five(&rt, alloc, &TWO, 0x1ffe, Ok(2), [1, 2, 9, 9, 9]);
+    expect_whole_five(&rt, alloc, &TWO, 0x1ffe, Err(TWO_OF_FIVE));
+    expect_some_of_five(&rt, alloc, &TWO, 0x2000, Err(PAST), [9; 5]);
+    expect_some_of_five(&rt, alloc, &ENDS, u64::MAX, Ok(5), [1, 2, 3, 4, 5]);
+    expect_whole_five(&rt, alloc, &ENDS, u64::MAX, Ok(()));
+}
+
+// A byte, and whether its page is dirty.
+fn expect_byte(rt: &impl Abort, host: &Host, block: usize, offset: usize, byte: u8, dirty: bool) {
+    let marks = host.bitmap(block).expect(rt, "a block");
+    let found = (host.byte_at(block, offset), marks.dirty_at(offset));
+    expect_same(rt, found, (Some(byte), dirty));
 }
 
 #[test]
-fn some_bytes_are_there(rt: HostRuntime) -> Result<(), Fail> {
-    let past = Err(InvalidGuestAddress(GuestAddress(0x2000)));
-    let partial = Err(TWO_OF_FIVE);
-    let there = some_of_five(rt.alloc(), &TWO, 0x1ffe)?;
-    let over = some_of_five(rt.alloc(), &ENDS, u64::MAX)?;
-    let (_, read, ..) = some_of_five(rt.alloc(), &TWO, 0x2000)?;
-    assert_eq!(rt;
-        (there, over, read),
-        (
-            (Ok(2), Ok(2), [1, 2, 9, 9, 9], partial, partial, Ok(9)),
-            (Ok(5), Ok(5), [1, 2, 3, 4, 5], Ok(()), Ok(()), Ok(9)),
-            past
-        )
-    );
-    Ok(())
-}
-
-#[test]
-fn a_range_over_three_regions_is_marked_in_each(rt: HostRuntime) -> Result<(), Fail> {
+fn a_range_over_three_regions_is_marked_in_each(rt: HostRuntime) {
     let ranges = [
         (GuestAddress(0), 0x2000),
         (GuestAddress(0x2000), 0x1000),
         (GuestAddress(0x3000), 0x2000),
     ];
-    let (mut host, mem) = made(rt.alloc(), &ranges)?;
-    let bytes = vec![in rt.alloc(); 7u8; 0x1002]?;
-    assert_eq!(rt;
-        mem.write_slice(&mut host, &bytes, GuestAddress(0x1fff)),
-        Ok(())
-    );
-    for (block, offset, dirty, byte) in [
-        (0, 0xfff, false, 0),
-        (0, 0x1fff, true, 7),
-        (1, 0, true, 7),
-        (1, 0xfff, true, 7),
-        (2, 0, true, 7),
-        (2, 1, true, 0),
-        (2, 0x1000, false, 0),
-    ] {
-        let marks = host.bitmap(block).ok_or("no block")?;
-        assert_eq!(rt; marks.dirty_at(offset), dirty, "{block} {offset}");
-        assert_eq!(rt; host.byte_at(block, offset), Some(byte), "{block} {offset}");
-    }
-    Ok(())
+    let (mut host, mem) = made(&rt, rt.alloc(), &ranges);
+    let bytes = vec![in rt.alloc(); 7u8; 0x1002].expect(&rt, "memory");
+    let written = mem.write_slice(&mut host, &bytes, GuestAddress(0x1fff));
+    expect_same(&rt, written, Ok(()));
+    expect_byte(&rt, &host, 0, 0xfff, 0, false);
+    expect_byte(&rt, &host, 0, 0x1fff, 7, true);
+    expect_byte(&rt, &host, 1, 0, 7, true);
+    expect_byte(&rt, &host, 1, 0xfff, 7, true);
+    expect_byte(&rt, &host, 2, 0, 7, true);
+    expect_byte(&rt, &host, 2, 1, 0, true);
+    expect_byte(&rt, &host, 2, 0x1000, 0, false);
+}
+
+// Whether a range is there.
+fn is_there(mem: &GuestMemoryMmap, addr: u64, len: usize) -> bool {
+    mem.check_range(GuestAddress(addr), len, Permissions::Read)
 }
 
 #[test]
-fn ranges_are_checked(rt: HostRuntime) -> Result<(), Fail> {
-    let (_, mem) = made(rt.alloc(), &HOLE)?;
-    for (addr, len, there) in [
-        (0xffc, 5, true),
-        (0, 0x2000, true),
-        (0x1ffe, 5, false),
-        (0x2000, 0, true),
-        (0x2000, 0x1001, false),
-    ] {
-        let checked = mem.check_range(GuestAddress(addr), len, Permissions::Read);
-        assert_eq!(rt; checked, there, "{addr} {len}");
-    }
-    Ok(())
+fn ranges_are_checked(rt: HostRuntime) {
+    let (_, mem) = made(&rt, rt.alloc(), &HOLE);
+    expect_same(&rt, is_there(&mem, 0xffc, 5), true);
+    expect_same(&rt, is_there(&mem, 0, 0x2000), true);
+    expect_same(&rt, is_there(&mem, 0x1ffe, 5), false);
+    expect_same(&rt, is_there(&mem, 0x2000, 0), true);
+    expect_same(&rt, is_there(&mem, 0x2000, 0x1001), false);
+}
+
+// Whether the windows of a range are added whole, and how many are added.
+fn expect_windows(
+    rt: &impl Abort,
+    alloc: Global,
+    mem: &GuestMemoryMmap,
+    range: (u64, usize),
+    want: (bool, usize),
+) {
+    let mut windows = Windows::new(alloc);
+    let whole = mem.push_windows(GuestAddress(range.0), range.1, &mut windows);
+    expect_same(rt, (whole.expect(rt, "memory"), windows.len()), want);
 }
 
 #[test]
-fn windows_are_added(rt: HostRuntime) -> Result<(), Fail> {
-    let (_, mem) = made(rt.alloc(), &HOLE)?;
-    for (addr, len, found, count) in [
-        (0xffc, 5, true, 2),
-        (0, 0x2000, true, 2),
-        (0x1ffe, 5, false, 1),
-    ] {
-        let mut windows = Windows::new(rt.alloc());
-        let answer = mem.push_windows(GuestAddress(addr), len, &mut windows)?;
-        assert_eq!(rt; (answer, windows.len()), (found, count), "{addr} {len}");
-    }
-    Ok(())
+fn windows_are_added(rt: HostRuntime) {
+    let (_, mem) = made(&rt, rt.alloc(), &HOLE);
+    expect_windows(&rt, rt.alloc(), &mem, (0xffc, 5), (true, 2));
+    expect_windows(&rt, rt.alloc(), &mem, (0, 0x2000), (true, 2));
+    expect_windows(&rt, rt.alloc(), &mem, (0x1ffe, 5), (false, 1));
 }
 
 #[test]
-fn a_region_is_read_and_written_by_offset(rt: HostRuntime) -> Result<(), Fail> {
+fn a_region_is_read_and_written_by_offset(rt: HostRuntime) {
     let mut host: Host = HostMemory::new(rt.alloc());
-    let region = GuestRegionMmap::from_range(rt.alloc(), &mut host, GuestAddress(0x1000), 0x1000)?;
+    let region = GuestRegionMmap::from_range(
+        rt.alloc(),
+        &mut host,
+        GuestAddress(0x1000),
+        0x1000,
+    ).expect(&rt, "a region");
     let last = MemoryRegionAddress(0xfff);
-    assert_eq!(rt; region.write(&mut host, &[7, 8], last), Ok(1));
     let mut bytes = [0; 2];
-    assert_eq!(rt; region.read(&host, &mut bytes, last), Ok(1));
-    assert_eq!(rt; (bytes, host.byte_at(0, 0xfff)), ([7, 0], Some(7)));
-    Ok(())
+    let written = region.write(&mut host, &[7, 8], last);
+    let read = region.read(&host, &mut bytes, last);
+    expect_same(&rt, (written, read, bytes), (Ok(1), Ok(1), [7, 0]));
+    expect_same(&rt, host.byte_at(0, 0xfff), Some(7));
+    let read = region.read_slice(&host, &mut bytes, last);
+    let written = region.write_slice(&mut host, &bytes, last);
+    let partial = Err(ONE_OF_TWO);
+    expect_same(&rt, (read, written), (partial, partial));
+    let past = region.read(&host, &mut bytes, MemoryRegionAddress(0x1000));
+    expect_same(&rt, past, Err(InvalidBackendAddress));
 }
 
 #[test]
-fn a_region_refuses_what_it_lacks(rt: HostRuntime) -> Result<(), Fail> {
-    let mut host: Host = HostMemory::new(rt.alloc());
-    let region = GuestRegionMmap::from_range(rt.alloc(), &mut host, GuestAddress(0x1000), 0x1000)?;
-    let mut bytes = [0; 2];
-    let last = MemoryRegionAddress(0xfff);
-    assert_eq!(rt; region.read_slice(&host, &mut bytes, last), Err(ONE_OF_TWO));
-    assert_eq!(rt;
-        region.write_slice(&mut host, &bytes, last),
-        Err(ONE_OF_TWO)
-    );
-    let past = MemoryRegionAddress(0x1000);
-    assert_eq!(rt;
-        region.read(&host, &mut bytes, past),
-        Err(InvalidBackendAddress)
-    );
-    Ok(())
-}
-
-#[test]
-fn a_host_holds_its_own_layouts(rt: HostRuntime) -> Result<(), Fail> {
-    let (host, mem) = made(rt.alloc(), &TWO)?;
+fn a_host_holds_its_own_layouts(rt: HostRuntime) {
+    let (host, mem) = made(&rt, rt.alloc(), &TWO);
     let other: Host = HostMemory::new(rt.alloc());
-    assert_eq!(rt; (host.holds(&mem), other.holds(&mem)), (true, false));
-    Ok(())
+    expect_same(&rt, (host.holds(&mem), other.holds(&mem)), (true, false));
 }

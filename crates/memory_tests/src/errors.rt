@@ -1,7 +1,6 @@
 //! The numbers and texts of errors.
 
-use std::alloc::Global;
-use std::test::Fail;
+use crate::given::expect_same;
 use vm_memory::{FromRangesError, GuestMemoryError, GuestRegionCollectionError, MmapRegionError};
 use vm_memory_core::{GuestAddress, VolatileMemoryError, VolatileSlice};
 
@@ -54,36 +53,17 @@ fn numbers_of_memory() -> [u8; 6] {
     ]
 }
 
-// An error as it is shown and an error and a window as they are printed.
-fn texts(alloc: Global) -> Result<(String, String), Fail> {
+#[test]
+fn errors_have_their_numbers_and_texts(rt: HostRuntime) {
+    expect_same(&rt, numbers_of_windows(), [1, 2, 3, 4, 5]);
+    expect_same(&rt, numbers_of_layouts(), [1, 2, 3, 4, 1, 2, 3, 4, 1, 2]);
+    expect_same(&rt, numbers_of_memory(), [1, 2, 3, 4, 6, 7]);
     let error = VolatileMemoryError::OutOfBounds { addr: 9 };
     let window = VolatileSlice::new(1, 2, 3);
-    let shown = format!(in alloc; "{error} {error:?}")?;
-    let printed = format!(in alloc; "{window:?}")?;
-    Ok((shown, printed))
-}
-
-#[test]
-fn errors_have_their_numbers_and_texts(rt: HostRuntime) -> Result<(), Fail> {
-    assert_eq!(rt;
-        (
-            numbers_of_windows(),
-            numbers_of_layouts(),
-            numbers_of_memory()
-        ),
-        (
-            [1, 2, 3, 4, 5],
-            [1, 2, 3, 4, 1, 2, 3, 4, 1, 2],
-            [1, 2, 3, 4, 6, 7]
-        )
+    let texts = format!(in rt.alloc(); "{error}, {error:?}, {window:?}").expect(&rt, "memory");
+    expect_same(
+        &rt,
+        texts.as_str(),
+        "address 0x9 is out of bounds, OutOfBounds { addr: 9 }, VolatileSlice { block: 1, offset: 2, len: 3 }",
     );
-    let (shown, printed) = texts(rt.alloc())?;
-    assert_eq!(rt;
-        (shown.as_str(), printed.as_str()),
-        (
-            "address 0x9 is out of bounds OutOfBounds { addr: 9 }",
-            "VolatileSlice { block: 1, offset: 2, len: 3 }"
-        )
-    );
-    Ok(())
 }

@@ -4,24 +4,21 @@ ghost use Rattle.std.specs.Prelude.{◌≡◌, ◌≤◌, length};
 ghost use Rattle.vm_memory_core.specs.Host.{host_of, lengths};
 ghost use Rattle.vm_memory_core.specs.Window.{places, AllLieIn};
 
-use crate::given::{Host, bytes_of, eight};
+use crate::given::{Host, eight, expect_eight, expect_same};
 use std::alloc::Global;
 use std::process::Abort;
-use std::test::Fail;
 use vm_memory_core::VolatileSlice;
 
 // The bytes of windows, fetched and read to a buffer.
-fn bytes_joined(
-    h: &Host,
-    alloc: Global,
-    windows: &[VolatileSlice],
-) -> Result<([u8; 4], Vec<u8>), Fail>
+fn expect_joined(rt: &impl Abort, alloc: Global, h: &Host, windows: &[VolatileSlice], want: [u8; 4])
     requires lie { AllLieIn (lengths (host_of h.now)) windows.now }
     requires fits { 4 ≡ length (places windows.now) }
 {
     let mut bytes = [0; 4];
     h.read_windows(windows, &mut bytes);
-    Ok((bytes, h.fetch_windows(alloc, windows, 4)?))
+    expect_same(rt, bytes, want);
+    let fetched = h.fetch_windows(alloc, windows, 4).expect(rt, "memory");
+    expect_same(rt, fetched.as_slice(), want.as_slice());
 }
 
 // Writes three bytes to windows.
@@ -32,31 +29,23 @@ fn write_three(h: &mut Host, windows: &[VolatileSlice])
     h.write_windows(windows, &[21, 22, 23]);
 }
 
+#[test]
 #[tactic(auto, unfolding(vm_memory_core::specs::Window::AllLieIn, vm_memory_core::specs::Window::span))]
-fn read_two(rt: &impl Abort, h: &Host, alloc: Global) -> Result<([u8; 4], Vec<u8>), Fail> {
+fn windows_are_read_in_order(rt: HostRuntime) {
+    let h = eight(&rt, rt.alloc());
     let first = VolatileSlice::new(0, 5, 3);
     let second = VolatileSlice::new(0, 1, 1);
     assert!(rt; h.has(&first) && h.has(&second));
-    bytes_joined(h, alloc, &[first, second])
-}
-
-#[tactic(auto, unfolding(vm_memory_core::specs::Window::AllLieIn, vm_memory_core::specs::Window::span))]
-fn write_two(rt: &impl Abort, h: &mut Host) {
-    let first = VolatileSlice::new(0, 5, 2);
-    let second = VolatileSlice::new(0, 1, 2);
-    assert!(rt; h.has(&first) && h.has(&second));
-    write_three(h, &[first, second]);
+    expect_joined(&rt, rt.alloc(), &h, &[first, second], [6, 7, 8, 2]);
 }
 
 #[test]
-fn windows_are_joined_in_order(rt: HostRuntime) -> Result<(), Fail> {
-    let mut h = eight(&rt, rt.alloc())?;
-    let (read, fetched) = read_two(&rt, &h, rt.alloc())?;
-    assert_eq!(rt;
-        (read, fetched.as_slice()),
-        ([6, 7, 8, 2], [6, 7, 8, 2].as_slice())
-    );
-    write_two(&rt, &mut h);
-    assert_eq!(rt; bytes_of(&rt, &h), [1, 23, 3, 4, 5, 21, 22, 8]);
-    Ok(())
+#[tactic(auto, unfolding(vm_memory_core::specs::Window::AllLieIn, vm_memory_core::specs::Window::span))]
+fn windows_are_written_in_order(rt: HostRuntime) {
+    let mut h = eight(&rt, rt.alloc());
+    let first = VolatileSlice::new(0, 5, 2);
+    let second = VolatileSlice::new(0, 1, 2);
+    assert!(rt; h.has(&first) && h.has(&second));
+    write_three(&mut h, &[first, second]);
+    expect_eight(&rt, &h, [1, 23, 3, 4, 5, 21, 22, 8]);
 }

@@ -1,6 +1,6 @@
 //! What an access may do.
 
-use std::test::Fail;
+use crate::given::expect_same;
 use vm_memory_core::Permissions::{self, No, Read, ReadWrite, Write};
 
 // Of each two: whether the first allows the second and whether it allows writing, what either allows, and what both allow.
@@ -22,10 +22,9 @@ const PAIRS: [(
 ];
 
 #[test]
-fn a_permission_allows_what_it_has(rt: HostRuntime) -> Result<(), Fail> {
+fn a_permission_allows_what_it_has(rt: HostRuntime) {
     for (one, other, allows, writes, either, both) in PAIRS {
-        assert_eq!(rt; (one.allow(other), one.has_write()), (allows, writes));
-        assert_eq!(rt; (one | other, one & other), (either, both));
+        let found = (one.allow(other), one.has_write(), one | other, one & other);
+        expect_same(&rt, found, (allows, writes, either, both));
     }
-    Ok(())
 }

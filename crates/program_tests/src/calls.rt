@@ -1,7 +1,7 @@
 //! What is printed of the file system's calls in one step, where they are many.
 
 use std::test::Fail;
-use virtio_fs_script::{Call, CallLog, print_calls};
+use virtio_fs_script::{Call, FirstCalls, print_calls};
 
 // The first 64 calls are printed, and the rest are counted.
 #[test]
@@ -10,7 +10,7 @@ fn counts_the_calls_after_many(rt: HostRuntime) -> Result<(), Fail> {
         (64, "call forget 63 1\n"),
         (66, "call forget 63 1\nmore 2\n"),
     ] {
-        let mut log = CallLog::default();
+        let mut log = FirstCalls::default();
         for node in 0..count {
             log.note(Call::Forget { node, count: 1 });
         }

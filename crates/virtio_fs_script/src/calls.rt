@@ -39,12 +39,12 @@ impl Call {
 
 /// The first 64 calls, and how many came after them. It takes no memory.
 #[derive(Default, Drop)]
-pub struct CallLog {
+pub struct FirstCalls {
     pub calls: ArrayVec<Call, MOST_CALLS>,
     pub more: u64,
 }
 
-impl CallLog {
+impl FirstCalls {
     /// Writes a call down.
     pub fn note(&mut self, call: Call) {
         if self.calls.is_full() {

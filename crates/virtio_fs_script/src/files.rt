@@ -2,7 +2,7 @@
 
 ghost use Rattle.std.specs.Prelude.{⊤};
 
-use crate::calls::{Call, CallLog};
+use crate::calls::{Call, FirstCalls};
 use arrayvec::ArrayVec;
 use bitflags::Flags;
 use fuse_fs::{Context, Entry, FileSystem, PositionedFile, Timeout, WritevFlags, ZeroCopyWriter};
@@ -30,19 +30,19 @@ const TIMEOUT_SECONDS: u64 = 1;
 
 // The bytes of the file, kept in place.
 #[derive(Drop)]
-struct Contents {
+struct SmallFile {
     bytes: ArrayVec<u8, MOST_FILE_BYTES>,
 }
 
-impl Contents {
-    fn new() -> Contents {
+impl SmallFile {
+    fn new() -> SmallFile {
         let mut bytes = ArrayVec::new();
         bytes.try_extend_from_slice(FILE_BYTES).unwrap();
-        Contents { bytes }
+        SmallFile { bytes }
     }
 }
 
-impl PositionedFile for Contents {
+impl PositionedFile for SmallFile {
     ghost read_gives = { λ f n off r g. ⊤ };
 
     ghost write_gives = { λ f bytes off flags r g. ⊤ };
@@ -72,16 +72,16 @@ impl PositionedFile for Contents {
 /// Root 1 with the file `a`, which is node 2. What it is asked stands in the log.
 #[derive(Drop)]
 pub struct LoggingFiles<'a> {
-    log: &'a Cell<CallLog>,
-    contents: Contents,
+    log: &'a Cell<FirstCalls>,
+    contents: SmallFile,
 }
 
 impl<'a> LoggingFiles<'a> {
     /// The file holds `hello`.
-    pub fn new(log: &'a Cell<CallLog>) -> LoggingFiles<'a> {
+    pub fn new(log: &'a Cell<FirstCalls>) -> LoggingFiles<'a> {
         LoggingFiles {
             log,
-            contents: Contents::new(),
+            contents: SmallFile::new(),
         }
     }
 

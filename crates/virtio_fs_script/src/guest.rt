@@ -2,7 +2,7 @@
 
 ghost use Rattle.std.specs.Prelude.{◌≡◌, ◌≤◌, length, IfOk};
 
-use crate::calls::CallLog;
+use crate::calls::FirstCalls;
 use crate::files::LoggingFiles;
 use fs_device::{Answer, Command, Device, HarvestedPage, Machine};
 use fs_queue::Queue;
@@ -20,9 +20,9 @@ const PAGE_BYTES: u32 = 4096;
 
 /// A guest and the device that serves it.
 #[derive(Drop)]
-pub struct Guest<'a> {
+pub struct GuestMachine<'a> {
     alloc: Global,
-    log: &'a Cell<CallLog>,
+    log: &'a Cell<FirstCalls>,
     machine: Machine<LoggingFiles<'a>>,
 }
 
@@ -35,9 +35,9 @@ fn alone(alloc: Global, command: Command) -> Result<Vec<Command>, AllocError>
     Ok(commands)
 }
 
-impl<'a> Guest<'a> {
+impl<'a> GuestMachine<'a> {
     /// A guest without memory, whose device has these queues. What the device's file system is asked is logged.
-    pub fn new(alloc: Global, log: &'a Cell<CallLog>, queues: Vec<Queue>) -> Guest<'a>
+    pub fn new(alloc: Global, log: &'a Cell<FirstCalls>, queues: Vec<Queue>) -> GuestMachine<'a>
         requires some { 1 ≤ length queues.items }
         requires few { length queues.items ≤ 64 }
     {
@@ -45,7 +45,7 @@ impl<'a> Guest<'a> {
         let device = Device::new(server, queues, LIMIT);
         let host = HostMemory::new(alloc);
         let mem = GuestMemoryMmap::new(alloc);
-        Guest {
+        GuestMachine {
             alloc,
             log,
             machine: Machine::new(host, mem, device),
@@ -64,7 +64,7 @@ impl<'a> Guest<'a> {
     }
 
     /// What the file system was asked since this was called last.
-    pub fn take_log(&self) -> CallLog {
+    pub fn take_log(&self) -> FirstCalls {
         self.log.take()
     }
 

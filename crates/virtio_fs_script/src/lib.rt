@@ -11,7 +11,7 @@ mod print;
 mod script;
 mod session;
 
-pub use calls::{Call, CallLog};
+pub use calls::{Call, FirstCalls};
 pub use halt::Halt;
 pub use number::parse_number;
 pub use print::print_calls;

@@ -1,6 +1,6 @@
 //! What is printed of a command's outcome.
 
-use crate::calls::{Call, CallLog};
+use crate::calls::{Call, FirstCalls};
 use fs_device::{Answer, Exchange, Fault, HarvestedPage, QueueRun};
 use fs_queue::{ChainFault, QueueLayoutError};
 use std::io;
@@ -11,6 +11,15 @@ const CHUNK: usize = 32;
 
 const PAGE_BYTES: usize = 4096;
 
+// A line of a word and the numbers behind it.
+fn print_line<W: Write>(writer: &mut W, word: &[u8], numbers: &[u64]) -> io::Result<()> {
+    writer.write_all(word)?;
+    for number in numbers {
+        write!(writer, " {number}")?;
+    }
+    writer.write_all(b"\n")
+}
+
 /// That a command was done which has nothing to tell.
 pub fn print_ok<W: Write>(writer: &mut W) -> io::Result<()> {
     writer.write_all(b"ok\n")
@@ -18,18 +27,12 @@ pub fn print_ok<W: Write>(writer: &mut W) -> io::Result<()> {
 
 /// Why a queue's layout isn't one.
 pub fn print_bad_layout<W: Write>(writer: &mut W, error: QueueLayoutError) -> io::Result<()> {
-    let number = error.number();
-    writeln!(writer, "badlayout {number}")
+    print_line(writer, b"badlayout", &[u64::from(error.number())])
 }
 
 /// Why a command was refused, by its number.
 pub fn print_refused<W: Write>(writer: &mut W, number: u8) -> io::Result<()> {
-    writeln!(writer, "refused {number}")
-}
-
-// The block of a region.
-fn print_block<W: Write>(writer: &mut W, block: usize) -> io::Result<()> {
-    writeln!(writer, "block {block}")
+    print_line(writer, b"refused", &[u64::from(number)])
 }
 
 // Bytes in hexadecimal digits.
@@ -65,19 +68,18 @@ fn print_call<W: Write>(writer: &mut W, call: &Call) -> io::Result<()> {
     match call {
         Call::Init => writer.write_all(b"call init\n"),
         Call::Lookup { parent, name } => print_lookup(writer, *parent, name.as_slice()),
-        Call::Forget { node, count } => writeln!(writer, "call forget {node} {count}"),
-        Call::Read { node } => writeln!(writer, "call read {node}"),
+        Call::Forget { node, count } => print_line(writer, b"call forget", &[*node, *count]),
+        Call::Read { node } => print_line(writer, b"call read", &[*node]),
     }
 }
 
 /// The calls of the file system in one step.
-pub fn print_calls<W: Write>(writer: &mut W, log: &CallLog) -> io::Result<()> {
+pub fn print_calls<W: Write>(writer: &mut W, log: &FirstCalls) -> io::Result<()> {
     for call in log.calls.as_slice() {
         print_call(writer, call)?;
     }
     if log.more > 0 {
-        let more = log.more;
-        writeln!(writer, "more {more}")?;
+        print_line(writer, b"more", &[log.more])?;
     }
     Ok(())
 }
@@ -151,7 +153,7 @@ pub fn print_answer<W: Write>(writer: &mut W, answer: &Answer) -> io::Result<()>
     match answer {
         Answer::Done => print_ok(writer),
         Answer::Bytes(bytes) => print_bytes(writer, bytes),
-        Answer::Block(block) => print_block(writer, *block),
+        Answer::Block(block) => print_line(writer, b"block", &[*block as u64]),
         Answer::Served(run) => print_run(writer, run),
         Answer::Refused(refusal) => print_refused(writer, refusal.number()),
     }
@@ -168,9 +170,8 @@ pub fn print_pages<W: Write>(writer: &mut W, pages: &[HarvestedPage]) -> io::Res
         return writer.write_all(b"none\n");
     }
     for page in pages {
-        let block = page.block;
         let number = page.offset / PAGE_BYTES;
-        writeln!(writer, "page {block} {number}")?;
+        print_line(writer, b"page", &[page.block as u64, number as u64])?;
     }
     Ok(())
 }

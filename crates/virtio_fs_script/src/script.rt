@@ -1,6 +1,6 @@
 //! A whole script: it is read, and run line by line.
 
-use crate::calls::CallLog;
+use crate::calls::FirstCalls;
 use crate::halt::Halt;
 use crate::line::parse;
 use crate::session::Session;
@@ -53,7 +53,7 @@ fn run_line<W: Write>(
 
 // Runs each line in turn, up to the first that can't be run.
 fn run_lines<W: Write>(alloc: Global, script: &[u8], writer: &mut W) -> Result<(), Halt> {
-    let log = Cell::new(CallLog::default());
+    let log = Cell::new(FirstCalls::default());
     let mut session = Session::new(alloc, &log);
     for (index, text) in script.split(|byte| *byte == b'\n').enumerate() {
         let number = index.saturating_add(1);

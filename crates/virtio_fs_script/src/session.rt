@@ -2,8 +2,8 @@
 
 ghost use Rattle.std.specs.Prelude.{◌≤◌, length};
 
-use crate::calls::CallLog;
-use crate::guest::Guest;
+use crate::calls::FirstCalls;
+use crate::guest::GuestMachine;
 use crate::halt::Halt;
 use crate::line::{AskedLayout, Line};
 use crate::print::{
@@ -23,15 +23,15 @@ const MOST_QUEUES: usize = 64;
 #[derive(Drop)]
 pub struct Session<'a> {
     alloc: Global,
-    log: &'a Cell<CallLog>,
+    log: &'a Cell<FirstCalls>,
     queues: Vec<Queue>,
-    guest: Option<Guest<'a>>,
+    guest: Option<GuestMachine<'a>>,
     ghost few: { length queues.items ≤ 64 },
 }
 
 impl<'a> Session<'a> {
     /// No queue yet. What the file system is asked goes through the log.
-    pub fn new(alloc: Global, log: &'a Cell<CallLog>) -> Session<'a> {
+    pub fn new(alloc: Global, log: &'a Cell<FirstCalls>) -> Session<'a> {
         Session {
             alloc,
             log,
@@ -76,14 +76,14 @@ impl<'a> Session<'a> {
     fn start(&mut self) {
         if !self.queues.is_empty() {
             let queues = mem::replace(&mut self.queues, Vec::new(self.alloc));
-            self.guest = Some(Guest::new(self.alloc, self.log, queues));
+            self.guest = Some(GuestMachine::new(self.alloc, self.log, queues));
         }
     }
 }
 
 // Runs a command that isn't a queue.
 fn run_on<W: Write>(
-    guest: &mut Guest<'_>,
+    guest: &mut GuestMachine<'_>,
     number: usize,
     line: Line,
     writer: &mut W,
@@ -111,7 +111,7 @@ fn run_on<W: Write>(
 
 // Makes a block and a region over all of it. Where the region is refused the block stays.
 fn region<W: Write>(
-    guest: &mut Guest<'_>,
+    guest: &mut GuestMachine<'_>,
     base: u64,
     size: u64,
     writer: &mut W,
@@ -122,7 +122,7 @@ fn region<W: Write>(
 }
 
 // Makes a block and a region over all of it, and answers the block, or why there is no such region.
-fn insert_block(guest: &mut Guest<'_>, base: u64, size: u64) -> Result<Answer, AllocError> {
+fn insert_block(guest: &mut GuestMachine<'_>, base: u64, size: u64) -> Result<Answer, AllocError> {
     let len = size as usize;
     let made = guest.perform(Command::NewBlock { len })?;
     let Answer::Block(block) = made else {
@@ -135,7 +135,11 @@ fn insert_block(guest: &mut Guest<'_>, base: u64, size: u64) -> Result<Answer, A
 }
 
 // Does one command of the machine, and prints its answer.
-fn perform<W: Write>(guest: &mut Guest<'_>, command: Command, writer: &mut W) -> Result<(), Halt> {
+fn perform<W: Write>(
+    guest: &mut GuestMachine<'_>,
+    command: Command,
+    writer: &mut W,
+) -> Result<(), Halt> {
     let answer = guest.perform(command)?;
     print_answer(writer, &answer)?;
     Ok(())
@@ -160,7 +164,7 @@ fn outcome_of(answer: &Answer) -> StepOutcome {
 
 // Serves the next request of a queue, and prints it behind the file system's calls.
 fn step<W: Write>(
-    guest: &mut Guest<'_>,
+    guest: &mut GuestMachine<'_>,
     queue: usize,
     writer: &mut W,
 ) -> Result<StepOutcome, Halt> {
@@ -172,7 +176,7 @@ fn step<W: Write>(
 
 // Serves requests of a queue until none is waiting, one step is refused, or `most` are done.
 fn kick<W: Write>(
-    guest: &mut Guest<'_>,
+    guest: &mut GuestMachine<'_>,
     queue: u64,
     most: u16,
     writer: &mut W,
@@ -197,7 +201,7 @@ fn kick<W: Write>(
 }
 
 fn reset<W: Write>(
-    guest: &mut Guest<'_>,
+    guest: &mut GuestMachine<'_>,
     queue: u64,
     asked: AskedLayout,
     writer: &mut W,
@@ -212,7 +216,7 @@ fn reset<W: Write>(
     }
 }
 
-fn harvest<W: Write>(guest: &mut Guest<'_>, writer: &mut W) -> io::Result<()> {
+fn harvest<W: Write>(guest: &mut GuestMachine<'_>, writer: &mut W) -> io::Result<()> {
     match guest.harvest() {
         Ok(pages) => print_pages(writer, &pages),
         Err(_) => print_refused(writer, Refusal::OutOfMemory.number()),
