@@ -1,4 +1,5 @@
 pub mod Errors
+pub mod Places
 pub mod Segments
 pub mod Transfers
 pub mod Views

@@ -1,5 +1,5 @@
--- Segments one after another.
-use Rattle.std.specs.Prelude.{ℕ, ◌+◌, ◌-◌, ◌==◌, min, List, [], ◌∷◌, ◌++◌, length, map, get_or, cond}
+-- Segments one after another, and how long they are.
+use Rattle.std.specs.Prelude.{ℕ, ◌-◌, ◌==◌, nat_le, min, List, [], ◌∷◌, ◌++◌, length, map, cond}
 use Rattle.std.specs.List.{flat_map}
 use Rattle.std.specs.Borrow.{Bor}
 
@@ -15,20 +15,22 @@ all_of segment later = segment ++ joined later
 abbrev pub lengths : List (Bor (List ℕ)) → List ℕ
 lengths segments = map (λ s. length s.now) segments
 
--- the first length that isn't 0; 0 where each is
-abbrev pub first_filled : List ℕ → ℕ
-first_filled [] = 0
-first_filled (n ∷ ns) = cond (n == 0) (first_filled ns) n
+-- the lengths that aren't 0
+abbrev pub filled : List ℕ → List ℕ
+filled [] = []
+filled (n ∷ ns) = cond (n == 0) (filled ns) (n ∷ filled ns)
 
--- how many lengths aren't 0
-abbrev pub filled : List ℕ → ℕ
-filled [] = 0
-filled (n ∷ ns) = cond (n == 0) (filled ns) (filled ns + 1)
+-- the first of these lengths; 0 where there is none
+abbrev pub first : List ℕ → ℕ
+first [] = 0
+first (n ∷ ns) = n
 
--- how many segments a room of so many bytes has, with so many bounds between them
-abbrev pub segments_of : (room bounds : ℕ) → ℕ
-segments_of room bounds = cond (room == 0) 0 (bounds + 1)
+-- the segments behind a place: what is left of the one where it lies, and those after it
+unfoldable pub past : (place : ℕ) → List ℕ → List ℕ
+past place [] = []
+past place (n ∷ ns) = cond (nat_le n place) (past (place - n) ns) ((n - place) ∷ ns)
 
--- how much room is left up to the bound at a place, or up to the end where there is none
-unfoldable pub up_to_bound : List ℕ → (place room written : ℕ) → ℕ
-up_to_bound bounds place room written = min (get_or bounds place room) room - written
+-- the segments before a place: those that end before it, and the part of the one where it lies
+unfoldable pub up_to : (place : ℕ) → List ℕ → List ℕ
+up_to place [] = []
+up_to place (n ∷ ns) = cond (place == 0) [] (min place n ∷ up_to (place - n) ns)
