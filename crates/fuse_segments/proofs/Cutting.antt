@@ -6,8 +6,9 @@ use Rattle.std.proofs.lemmas.Bool.{cases_lt}
 use Rattle.std.proofs.lemmas.Grind.{flat_map-append}
 use Rattle.std.proofs.Math.Seq.{take-append-add, drop-append-add, take-nil}
 use Rattle.std.specs.Borrow.{Bor}
-use Rattle.fuse_segments.specs.Segments.{joined, all_of, lengths, filled, past, up_to}
-use Rattle.fuse_segments.proofs.Lengths.{sum-cons, sum-filled, filled-append, up_to_zero, up_to_goes, past_goes, past_zero, past_first, past_behind, up_to_first, up_to_behind}
+use Rattle.fuse_fs.specs.Lengths.{filled, past, up_to}
+use Rattle.fuse_segments.specs.Segments.{joined, all_of, lengths}
+use Rattle.fuse_fs.proofs.Lengths.{sum-cons, sum-filled, filled-append, up_to_zero, up_to_goes, past_goes, past_zero, past_first, past_behind, up_to_first, up_to_behind}
 
 -- one segment more
 pub joined_more : (front : List (Bor (List ℕ))) (cut : Bor (List ℕ)) → joined (front ++ cut ∷ []) ≡ joined front ++ cut.now

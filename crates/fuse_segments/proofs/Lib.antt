@@ -1,5 +1,5 @@
 pub mod Cutting
 pub mod Filling
-pub mod Lengths
+pub mod Fillings
 pub mod Placing
 pub mod Spending

@@ -2,10 +2,10 @@
 use Rattle.std.proofs.Common.{◌≡◌, ℕ, ◌+◌, ◌-◌, ◌^◌, ◌<◌, ◌≤◌, min, sum, List, [], ◌∷◌, ◌++◌, length, take, drop, Option, Result, Ok, Err, refl, sym, ap, ◌∙◌, arith, inl, inr, ⊎_elim, ◌⊎◌}
 use Rattle.std.proofs.lemmas.List.{drop-take, take-take, drop-drop, take_min}
 use Rattle.std.proofs.lemmas.List.Sums.{sum_by_push}
-use Rattle.fuse_segments.specs.Segments.{filled, first, past, up_to}
-use Rattle.fuse_segments.specs.Transfers.{moved, WritesOnce, WritesOn, WritesEnd, Spends}
+use Rattle.fuse_fs.specs.Lengths.{filled, first, past, up_to}
+use Rattle.fuse_fs.specs.Transfers.{moved, WritesOnce, WritesOn, WritesEnd, Spends}
 use Rattle.fuse_segments.specs.Views.{ReaderView}
-use Rattle.fuse_segments.proofs.Lengths.{sum-cons, sum-past, past_zero_of, past-past, past-up_to, first-up_to, filled-past, filled-up_to, up_to_min, first_some}
+use Rattle.fuse_fs.proofs.Lengths.{sum-cons, sum-past, past_zero_of, past-past, past-up_to, first-up_to, filled-past, filled-up_to, up_to_min, first_some}
 
 -- a part of what is left is a part of the data
 same_front : (m done count : ℕ) (xs : List ℕ) → m ≤ count - done → done ≤ count → take m (drop done xs) ≡ take m (drop done (take count xs))

@@ -1,6 +1,6 @@
 -- What contracts see of a reader and of a writer.
 use Rattle.std.specs.Prelude.{ℕ, List, length}
-use Rattle.fuse_segments.specs.Segments.{past}
+use Rattle.fuse_fs.specs.Lengths.{past}
 
 -- the bytes that are left, the lengths of the segments in which they stand, and how many bytes were read
 pub record ReaderView : Type 0 where

@@ -5,8 +5,9 @@ ghost use Rattle.std.specs.Io.{ReadsAtMost};
 ghost use Rattle.std.specs.Io.KnownBytes.{Consumes, ReadConsumes};
 ghost use Rattle.std.specs.IoError.{error_kind};
 ghost use Rattle.vm_values.specs.Fields.{spelled, AllFit};
-ghost use Rattle.fuse_segments.specs.Segments.{joined, all_of, lengths, filled, first, past, up_to};
-ghost use Rattle.fuse_segments.specs.Transfers.{moved, WritesOnce};
+ghost use Rattle.fuse_fs.specs.Lengths.{filled, first, past, up_to};
+ghost use Rattle.fuse_segments.specs.Segments.{joined, all_of, lengths};
+ghost use Rattle.fuse_fs.specs.Transfers.{moved, WritesOnce};
 
 use crate::error::Error;
 use fuse_fs::{PositionedFile, WritevFlags};
@@ -30,7 +31,8 @@ pub struct Reader<'a> {
 impl<'a> Model for Reader<'a> {
     ghost use Rattle.std.specs.Prelude.{◌≡◌, ◌+◌, ◌<◌, ◌^◌, [], ◌∷◌, length};
     ghost use Rattle.fuse_segments.specs.Views.{ReaderView};
-    ghost use Rattle.fuse_segments.specs.Segments.{all_of, lengths, filled};
+    ghost use Rattle.fuse_fs.specs.Lengths.{filled};
+    ghost use Rattle.fuse_segments.specs.Segments.{all_of, lengths};
 
     ghost Value = { ReaderView };
 
@@ -160,7 +162,7 @@ impl<'a> Reader<'a> {
     }
 
     // The first segment that isn't empty; an empty one where no byte is left.
-    #[tactic(auto, using(crate::proofs::Lengths::first_of))]
+    #[tactic(auto, using(fuse_fs::proofs::Lengths::first_of))]
     fn segment(&self) -> &'a [u8]
         ensures bytes { result.now ≡ take (first self.now.segments) self.now.left }
         ensures len { length result.now ≡ first self.now.segments }
@@ -172,7 +174,7 @@ impl<'a> Reader<'a> {
     }
 
     // Reads over some bytes of the first segment.
-    #[tactic(auto, using(crate::proofs::Lengths::past_first, crate::proofs::Lengths::first_of))]
+    #[tactic(auto, using(fuse_fs::proofs::Lengths::past_first, fuse_fs::proofs::Lengths::first_of))]
     fn advance(&mut self, n: usize)
         requires { n ≤ first self.old.segments }
         ensures left { self.new.left ≡ drop n self.old.left }

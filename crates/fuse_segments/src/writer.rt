@@ -6,8 +6,8 @@ ghost use Rattle.std.specs.Io.KnownBytes.{Appends, WriteAppends, Keeps};
 ghost use Rattle.std.specs.IoError.{error_kind};
 ghost use Rattle.vm_values.specs.Fields.{spelled, AllFit};
 ghost use Rattle.fuse_segments.specs.Places.{reached, IsIn};
-ghost use Rattle.fuse_segments.specs.Segments.{filled, first, past, up_to};
-ghost use Rattle.fuse_segments.specs.Transfers.{moved, with_bytes, ReadsOnce};
+ghost use Rattle.fuse_fs.specs.Lengths.{filled, first, past, up_to};
+ghost use Rattle.fuse_fs.specs.Transfers.{moved, with_bytes, ReadsOnce};
 ghost use Rattle.fuse_segments.specs.Views.{rooms};
 
 use crate::error::Error;
@@ -42,7 +42,7 @@ pub struct Writer {
 impl Model for Writer {
     ghost use Rattle.std.specs.Prelude.{◌≡◌, ◌+◌, ◌-◌, ◌≤◌, sum, vec_len, vec_capacity};
     ghost use Rattle.fuse_segments.specs.Views.{WriterView};
-    ghost use Rattle.fuse_segments.specs.Segments.{filled};
+    ghost use Rattle.fuse_fs.specs.Lengths.{filled};
     ghost use Rattle.fuse_segments.specs.Places.{reached, IsIn};
 
     ghost Value = { WriterView };
@@ -360,7 +360,7 @@ impl Writer {
         off: u64,
     ) -> Result<usize, Errno>
         ensures once { (bytes : List ℕ) × (self.new.written ≡ self.old.written ++ bytes) × (self.old.free ≡ self.new.free + length bytes)
-            × ReadsOnce F.read_gives file.old (rooms self.old) count off bytes result file.new }
+            × ReadsOnce F.read_gives file.old (min count (first (rooms self.old))) off bytes result file.new }
         ensures segments { self.new.segments ≡ self.old.segments }
         ensures rejoin { self.new.rejoin ≡ self.old.rejoin }
         ensures spare { self.new.spare ≡ self.old.spare }

@@ -1,5 +1,6 @@
 use Rattle.std.proofs.Common.{deque_len, ◌≡◌, ◌∷◌, length}
-use Rattle.fuse_segments.specs.Segments.{all_of, lengths, filled}
+use Rattle.fuse_fs.specs.Lengths.{filled}
+use Rattle.fuse_segments.specs.Segments.{all_of, lengths}
 use Rattle.fuse_segments.proofs.reader.next_filled.Given as goal
 
 abbrev pub invariant-loop-later : goal.invariant-loop-later

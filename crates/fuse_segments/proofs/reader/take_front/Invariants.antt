@@ -1,5 +1,6 @@
 use Rattle.std.proofs.Common.{deque_len, deque_capacity, ◌≡◌, ◌+◌, ◌<◌, ◌≤◌, [], ◌∷◌, ◌++◌, length}
-use Rattle.fuse_segments.specs.Segments.{joined, all_of, lengths, filled, past, up_to}
+use Rattle.fuse_fs.specs.Lengths.{filled, past, up_to}
+use Rattle.fuse_segments.specs.Segments.{joined, all_of, lengths}
 use Rattle.fuse_segments.proofs.reader.take_front.Given as goal
 
 abbrev pub invariant-loop-part : goal.invariant-loop-part

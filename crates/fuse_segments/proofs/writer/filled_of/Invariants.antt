@@ -1,5 +1,5 @@
 use Rattle.std.proofs.Common.{◌≡◌, ◌+◌, ◌≤◌, length, take, vec_len, vec_capacity}
-use Rattle.fuse_segments.specs.Segments.{filled}
+use Rattle.fuse_fs.specs.Lengths.{filled}
 use Rattle.fuse_segments.proofs.writer.filled_of.Given as goal
 
 abbrev pub invariant-loop-size : goal.invariant-loop-size

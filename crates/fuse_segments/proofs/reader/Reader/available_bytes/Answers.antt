@@ -1,8 +1,9 @@
 use Rattle.std.proofs.Common.{◌∷◌, length, sum, sym, ap, ◌∙◌}
-use Rattle.fuse_segments.specs.Segments.{filled, lengths}
+use Rattle.fuse_fs.specs.Lengths.{filled}
+use Rattle.fuse_segments.specs.Segments.{lengths}
 use Rattle.fuse_segments.specs.Views.{ReaderView}
 use Rattle.fuse_segments.proofs.Cutting.{sum_all}
-use Rattle.fuse_segments.proofs.Lengths.{filled-filled}
+use Rattle.fuse_fs.proofs.Lengths.{filled-filled}
 use Rattle.fuse_segments.proofs.reader.Reader.available_bytes.Goals as goal
 
 pub returns-clause-segments : goal.returns-clause-segments

@@ -1,5 +1,5 @@
 use Rattle.std.proofs.Common.{◌≡◌, ◌+◌, ◌-◌, ◌≤◌, ◌++◌, length, take, drop}
-use Rattle.fuse_segments.specs.Segments.{past}
+use Rattle.fuse_fs.specs.Lengths.{past}
 use Rattle.fuse_segments.proofs.reader.Reader.fill.Given as goal
 
 abbrev pub invariant-loop-done : goal.invariant-loop-done

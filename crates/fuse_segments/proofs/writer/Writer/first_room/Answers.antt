@@ -1,6 +1,6 @@
 use Rattle.std.proofs.Common.{◌≡◌, ◌-◌, length, get_or, arith, ap, ◌∙◌}
 use Rattle.std.proofs.lemmas.Grind.{common_steps}
-use Rattle.fuse_segments.specs.Segments.{first}
+use Rattle.fuse_fs.specs.Lengths.{first}
 use Rattle.fuse_segments.specs.Views.{WriterView, rooms}
 use Rattle.fuse_segments.specs.Places.{reached}
 use Rattle.fuse_segments.proofs.Placing.{first_some, first_none}

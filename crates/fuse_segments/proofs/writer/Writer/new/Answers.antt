@@ -1,6 +1,6 @@
 use Rattle.std.proofs.Common.{sum, sym, ap, ◌∙◌}
-use Rattle.fuse_segments.specs.Segments.{filled}
-use Rattle.fuse_segments.proofs.Lengths.{sum-filled, filled-filled}
+use Rattle.fuse_fs.specs.Lengths.{filled}
+use Rattle.fuse_fs.proofs.Lengths.{sum-filled, filled-filled}
 use Rattle.fuse_segments.proofs.writer.Writer.new.Goals as goal
 
 pub over-requires-clause-sum : goal.over-requires-clause-sum

@@ -1,9 +1,9 @@
 use Rattle.std.proofs.Common.{◌≡◌, ◌+◌, ◌≤◌, ◌++◌, length, sum, vec_len, arith, sym, ap, ◌∙◌, rules}
 use Rattle.std.proofs.lemmas.Grind.{common_steps}
-use Rattle.fuse_segments.specs.Segments.{filled}
+use Rattle.fuse_fs.specs.Lengths.{filled}
 use Rattle.fuse_segments.specs.Places.{reached}
 use Rattle.fuse_segments.specs.Views.{WriterView}
-use Rattle.fuse_segments.proofs.Lengths.{filled-append}
+use Rattle.fuse_fs.proofs.Lengths.{filled-append}
 use Rattle.fuse_segments.proofs.Placing.{joined_reached, sum-append}
 use Rattle.fuse_segments.proofs.writer.Writer.rejoin.Goals as goal
 

@@ -1,9 +1,9 @@
 use Rattle.std.proofs.Common.{◌≡◌, ◌+◌, ◌≤◌, ◌++◌, [], ◌∷◌, length, take, sum, vec_len, vec_capacity, arith, sym, ap, ◌∙◌, rules}
 use Rattle.std.proofs.lemmas.Grind.{common_steps}
-use Rattle.fuse_segments.specs.Segments.{filled, past, up_to}
+use Rattle.fuse_fs.specs.Lengths.{filled, past, up_to}
 use Rattle.fuse_segments.specs.Places.{reached, IsIn}
 use Rattle.fuse_segments.specs.Views.{WriterView}
-use Rattle.fuse_segments.proofs.Lengths.{sum-past, sum-up_to, filled-past, filled-up_to}
+use Rattle.fuse_fs.proofs.Lengths.{sum-past, sum-up_to, filled-past, filled-up_to}
 use Rattle.fuse_segments.proofs.Placing.{behind_is, before_is, kept_reached}
 use Rattle.fuse_segments.proofs.writer.Writer.split_at.Goals as goal
 
