@@ -2,7 +2,7 @@
 use Rattle.std.proofs.Common.{◌≡◌, ℕ, zero, suc, Bool, true, false, List, [], ◌∷◌, ◌++◌, map, zip, length, append_assoc, append-nil, refl, sym, ap, ◌∙◌, arith, subst, Option, Some, None}
 use Rattle.std.specs.Prelude.{Result, Ok, Err, IfOk, if◌then◌else◌, slice_get, flat_map, not, nat_lt, nat_le, ◌==◌}
 use Rattle.std.specs.List.{list_any, list_all}
-use Rattle.vm_memory_core.specs.declared.permissions.Permissions.TheVariants.{Read, Write}
+use Rattle.vm_iotlb.specs.declared.permissions.Permissions.TheVariants.{Read, Write}
 use Rattle.vm_memory_core.specs.Host.{Block}
 use Rattle.vm_memory.specs.Layout.{Region, fits, overlap, is_region}
 use Rattle.vm_memory.specs.Memory.{reach, physical}
@@ -12,26 +12,26 @@ use Rattle.fs_queue.specs.Queue.{Queue}
 use Rattle.fs_queue.specs.Taking.{Offer, Asks, CannotAsk, Refuses, Offers}
 use Rattle.fs_queue.specs.Taking as taking
 use Rattle.fuse_fs.specs.Calls.{FileCall, FileAnswer, FileRun}
-use Rattle.vm_values.specs.Fields as fields
-use Rattle.virtiofsd_fuse.specs.Records.{reading_in_header}
-use Rattle.virtiofsd_fuse.specs.Grammar.{Meaning, IsFault, Replies, IsSilent, One, Starts, meaning, meant, error_bytes}
+use Rattle.virtiofsd_fuse.specs.Grammar.{Meaning, IsFault, Replies, IsSilent, One, Starts, meaning}
 use Rattle.virtiofsd_fuse.specs.Grammar as grammar
-use Rattle.virtiofsd_fuse.specs.Serving.{Served, Setting, served, setting, replied, no_reply}
+use Rattle.fuse_segments.specs.declared.error.Error.{Error}
+use Rattle.virtiofsd_fuse.specs.Serving.{May, Served, Setting, served, setting, replied, no_reply}
 use Rattle.fs_device.specs.declared.error.DeviceError.{DeviceError}
 use Rattle.fs_device.specs.declared.error.DeviceError.TheVariants as device
+use Rattle.fs_device.specs.declared.exchange.Fault.{Fault}
 use Rattle.fs_device.specs.declared.refusal.Refusal.TheVariants as why
-use Rattle.fs_device.specs.Step.{State, Exchange, Calls, May, Idle, Refused, Exchanged, Exchanges, StepOf, Step}
+use Rattle.fs_device.specs.Step.{State, Exchange, Calls, Idle, Refused, Exchanged, Exchanges, StepOf, Step, served_fault, served_exchange}
 use Rattle.fs_device.specs.Run as run
 use Rattle.fs_device.specs.Run.{Command, Answer, Effect, KickEnds, KickRun, Kicks, Kicked, Does, Performs, Run, effect, insert, insert_block, is_known, some_overlap, reset}
 use Rattle.call_log.specs.declared.log.LoggedCall.{LoggedCall}
-use Rattle.call_log.specs.Log.{entry_of, kept, written}
-use Rattle.call_log.specs.Runs.{calls_meant, entries_of, IsLoggedBy, AreLoggedBy, exchanges_in, Grows}
+use Rattle.call_log.specs.Log.{entry_of, kept, with_calls}
+use Rattle.call_log.specs.Runs.{calls_meant, entries_of, EachSuits, IsAnswered, WritesDown, IsLoggedBy, AreLoggedBy, exchanges_in, Grows}
 
 -- ---- logs
 
-written-append : (log front back : List LoggedCall) → written log (front ++ back) ≡ written (written log front) back
-written-append log [] back = refl
-written-append log (call ∷ front) back = written-append (kept log call) front back
+with_calls-append : (log front back : List LoggedCall) → with_calls log (front ++ back) ≡ with_calls (with_calls log front) back
+with_calls-append log [] back = refl
+with_calls-append log (call ∷ front) back = with_calls-append (kept log call) front back
 
 logged-append : (xs ys : List Exchange) (front back : List LoggedCall) → AreLoggedBy xs front → AreLoggedBy ys back → AreLoggedBy (xs ++ ys) (front ++ back)
 unfolding AreLoggedBy
@@ -61,26 +61,32 @@ served_calls s (grammar.Asks (Starts unique capable readahead)) (answer ∷ answ
 
 -- from one state to another the log grew by what these exchanges write down
 abbrev Grew : {F : Type 0} → (F → List LoggedCall) → F → List Exchange → F → Type 0
-Grew log before xs after = (entries : List LoggedCall) × AreLoggedBy xs entries × (log after ≡ written (log before) entries)
+Grew log before xs after = (entries : List LoggedCall) × AreLoggedBy xs entries × (log after ≡ with_calls (log before) entries)
 
 stayed : {F : Type 0} (log : F → List LoggedCall) (before after : F) → after ≡ before → Grew log before [] after
 unfolding AreLoggedBy
 stayed log before after same = ([], refl, ap log same)
 
 abbrev Keeps : {F : Type 0} → May F → (F → List LoggedCall) → Type 0
-Keeps {F} may log = (before : F) (call : FileCall) (answer : FileAnswer) (after : F) → may before call answer after → log after ≡ written (log before) (entry_of call)
+Keeps {F} may log = (before : F) (call : FileCall) (answer : FileAnswer) (after : F) → may before call answer after → log after ≡ with_calls (log before) (entry_of call)
 
 steps_logged : {F : Type 0} (may : May F) (log : F → List LoggedCall) → Keeps may log → (before : F) (steps : Calls) (after : F) → FileRun may before steps after →
-    log after ≡ written (log before) (entries_of (map (λ step. step.0) steps))
+    log after ≡ with_calls (log before) (entries_of (map (λ step. step.0) steps))
 steps_logged may log keeps before [] after same = ap log same
 steps_logged may log keeps before (step ∷ steps) after (between, suits, made, rest) =
     steps_logged may log keeps between steps after rest
-    ∙ ap (λ (l : List LoggedCall). written l (entries_of (map (λ step. step.0) steps))) (keeps before step.0 step.1 between made)
-    ∙ sym (written-append (log before) (entry_of step.0) (entries_of (map (λ step. step.0) steps)))
+    ∙ ap (λ (l : List LoggedCall). with_calls l (entries_of (map (λ step. step.0) steps))) (keeps before step.0 step.1 between made)
+    ∙ sym (with_calls-append (log before) (entry_of step.0) (entries_of (map (λ step. step.0) steps)))
 
-nothing_meant : [] ≡ entries_of (calls_meant (meaning 0 [] 0))
-unfolding meaning reading_in_header meant error_bytes fields.field_bytes
-nothing_meant = refl
+-- what an exchange without a fault of its chain writes down
+answered : (e : Option Error) (x : Exchange) (entries : List LoggedCall) → x.fault ≡ served_fault e → IsAnswered x entries → IsLoggedBy x entries
+answered None x entries same is = subst (λ (f : Option Fault). WritesDown f x entries) (sym same) is
+answered (Some e) x entries same is = subst (λ (f : Option Fault). WritesDown f x entries) (sym same) is
+
+-- the answers of a run of a file system suit
+all_suit : {F : Type 0} (may : May F) (before : F) (steps : Calls) (after : F) → FileRun may before steps after → EachSuits steps
+all_suit may before [] after same = tt
+all_suit may before (step ∷ steps) after (between, suits, made, rest) = (suits, all_suit may between steps after rest)
 
 -- ---- steps
 
@@ -88,17 +94,28 @@ taken_logged : {F : Type 0} (may : May F) (log : F → List LoggedCall) → Keep
     Exchanges may s i q o calls x notice after → Grew log s.files (x ∷ []) after.files
 unfolding AreLoggedBy
 taken_logged may log keeps s i q (Offers head (CannotAsk fault)) calls x notice after r =
-    let request : x.request ≡ [] = ap (λ (e : Exchange). e.request) r.returns.exchange in
-    let own : [] ≡ entries_of (calls_meant (meaning 0 x.request 0)) = rw request nothing_meant in
-    ([], ([], [], (0, 0, own), refl, refl), ap log r.files)
+    let own : IsLoggedBy x [] = subst (λ (f : Option Fault). WritesDown f x []) (sym (ap (λ (e : Exchange). e.fault) r.returns.exchange)) refl in
+    ([], ([], [], own, refl, refl), ap log r.files)
 taken_logged may log keeps s i q (Offers head (Asks request room)) calls x notice after r =
     let entries = entries_of (map (λ (step : FileCall × FileAnswer). step.0) calls) in
+    let answers = map (λ (step : FileCall × FileAnswer). step.1) calls in
+    let set = setting s.page_size s.options (length room) in
+    let same_head : x.head ≡ head = ap (λ (e : Exchange). e.head) r.returns.exchange in
     let same : x.request ≡ request = ap (λ (e : Exchange). e.request) r.returns.exchange in
     let asked : r.given.calls ≡ calls_meant (meaning s.options request (length room)) =
-    ap (λ (g : Served). g.calls) r.serves.gives ∙ served_calls (setting s.page_size s.options (length room)) (meaning s.options request (length room)) _ in
-    let own : entries ≡ entries_of (calls_meant (meaning s.options x.request (length room))) =
-    ap entries_of (sym r.serves.asks ∙ asked) ∙ ap (λ (bytes : List ℕ). entries_of (calls_meant (meaning s.options bytes (length room)))) (sym same) in
-    (entries, (entries, [], (s.options, length room, own), refl, sym (append-nil entries)), steps_logged may log keeps s.files calls after.files r.serves.run)
+    ap (λ (g : Served). g.calls) r.serves.gives ∙ served_calls set (meaning s.options request (length room)) _ in
+    let own : map (λ (step : FileCall × FileAnswer). step.0) calls ≡ calls_meant (meaning s.options x.request (length room)) =
+    sym r.serves.asks ∙ asked ∙ ap (λ (bytes : List ℕ). calls_meant (meaning s.options bytes (length room))) (sym same) in
+    let told : x ≡ served_exchange head request (served set (meaning s.options request (length room)) answers) =
+    r.returns.exchange ∙ ap (λ (g : Served). served_exchange head request g) r.serves.gives in
+    let is : x ≡ served_exchange x.head x.request (served set (meaning s.options x.request (length room)) answers) =
+    subst (λ (n : ℕ). x ≡ served_exchange n x.request (served set (meaning s.options x.request (length room)) answers)) (sym same_head)
+    (subst (λ (bytes : List ℕ). x ≡ served_exchange head bytes (served set (meaning s.options bytes (length room)) answers)) (sym same) told) in
+    let fault : x.fault ≡ served_fault r.given.fault = ap (λ (e : Exchange). e.fault) r.returns.exchange in (
+      entries,
+      (entries, [], answered r.given.fault x entries fault (set, calls, all_suit may s.files calls after.files r.serves.run, own, is, refl), refl, sym (append-nil entries)),
+      steps_logged may log keeps s.files calls after.files r.serves.run,
+    )
 taken_logged may log keeps s i q taking.Idle calls x notice after r = absurd r
 taken_logged may log keeps s i q (Refuses e) calls x notice after r = absurd r
 
@@ -135,7 +152,7 @@ end_stays may s i (suc most) (Some e) after t = refused_stays may s i (slice_get
 -- what grew in two turns
 joined_growth : {F : Type 0} (log : F → List LoggedCall) (a b c : F) (xs ys : List Exchange) → Grew log a xs b → Grew log b ys c → Grew log a (xs ++ ys) c
 joined_growth log a b c xs ys (front, are, is) (back, more, on) =
-    (front ++ back, logged-append xs ys front back are more, on ∙ ap (λ (l : List LoggedCall). written l back) is ∙ sym (written-append (log a) front back))
+    (front ++ back, logged-append xs ys front back are more, on ∙ ap (λ (l : List LoggedCall). with_calls l back) is ∙ sym (with_calls-append (log a) front back))
 
 kick_logged : {F : Type 0} (may : May F) (log : F → List LoggedCall) → Keeps may log → (s : State F) (i most : ℕ) (xs : List (Exchange × Bool)) (refused : Option DeviceError) (after : State F) →
     KickRun may s i most xs refused after → Grew log s.files (map (λ x. x.0) xs) after.files

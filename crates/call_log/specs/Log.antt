@@ -18,9 +18,9 @@ abbrev pub kept : List LoggedCall → LoggedCall → List LoggedCall
 kept calls call = if nat_lt (length calls) 64 then calls ++ call ∷ [] else calls
 
 -- a log after calls were written down one after another
-abbrev pub written : List LoggedCall → List LoggedCall → List LoggedCall
-written calls [] = calls
-written calls (call ∷ more) = written (kept calls call) more
+abbrev pub with_calls : List LoggedCall → List LoggedCall → List LoggedCall
+with_calls calls [] = calls
+with_calls calls (call ∷ more) = with_calls (kept calls call) more
 
 -- what a call may be answered: a look-up finds node 2, or nothing (ENOENT); nothing is wanted of `init`
 abbrev pub MayAnswer : FileCall → FileAnswer → Type 0
@@ -33,4 +33,4 @@ MayAnswer _ _ = Unit {0}
 
 -- each call grows the log by itself, and has one of the answers that it may have
 abbrev pub MayLog : CallLog → FileCall → FileAnswer → CallLog → Type 0
-MayLog before call answer after = (after.calls.items ≡ written before.calls.items (entry_of call)) × MayAnswer call answer
+MayLog before call answer after = (after.calls.items ≡ with_calls before.calls.items (entry_of call)) × MayAnswer call answer

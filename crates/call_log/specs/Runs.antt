@@ -1,11 +1,14 @@
 -- What a whole run writes down: the calls that the exchanged requests mean.
-use Rattle.std.specs.Prelude.{◌≡◌, ℕ, List, [], ◌∷◌, ◌++◌, map, flat_map}
-use Rattle.fuse_fs.specs.Calls.{FileCall, Init}
+use Rattle.std.specs.Prelude.{◌≡◌, IsTrue, List, [], ◌∷◌, ◌++◌, map, flat_map, Option, Some, None}
+use Rattle.fuse_fs.specs.Calls.{FileCall, Init, suits}
 use Rattle.virtiofsd_fuse.specs.Grammar.{Meaning, IsFault, Replies, IsSilent, Asks, One, Starts, meaning}
-use Rattle.fs_device.specs.Step.{Exchange}
+use Rattle.virtiofsd_fuse.specs.Serving.{Setting, served}
+use Rattle.fs_device.specs.declared.exchange.Fault.{Fault}
+use Rattle.fs_device.specs.declared.exchange.Fault.TheVariants as fault
+use Rattle.fs_device.specs.Step.{Calls, Exchange, served_exchange}
 use Rattle.fs_device.specs.Run.{Answer, Done, Bytes, NewBlockIs, Served, IsRefused}
 use Rattle.call_log.specs.declared.log.LoggedCall.{LoggedCall}
-use Rattle.call_log.specs.Log.{entry_of, written}
+use Rattle.call_log.specs.Log.{entry_of, with_calls}
 
 -- the calls of a meaning, whatever they are answered
 abbrev pub calls_meant : Meaning → List FileCall
@@ -15,12 +18,31 @@ calls_meant IsSilent = []
 calls_meant (Asks (One unique call)) = call ∷ []
 calls_meant (Asks (Starts unique capable readahead)) = Init capable ∷ []
 
+-- what calls write down, one after another
 abbrev pub entries_of : List FileCall → List LoggedCall
 entries_of calls = flat_map entry_of calls
 
--- what an exchange writes down: the calls that its request means, with some options agreed on and some room
+-- each answer is one that its call can have
+abbrev pub EachSuits : Calls → Type 0
+EachSuits [] = Unit {0}
+EachSuits (step ∷ steps) = IsTrue (suits step.0 step.1) × EachSuits steps
+
+-- what a request writes down that was answered so: the calls that it means in some setting, whose answers make this exchange
+abbrev pub IsAnswered : Exchange → List LoggedCall → Type 0
+IsAnswered x entries = (s : Setting) × (steps : Calls) × EachSuits steps
+    × (map (λ step. step.0) steps ≡ calls_meant (meaning s.options x.request s.room))
+    × (x ≡ served_exchange x.head x.request (served s (meaning s.options x.request s.room) (map (λ step. step.1) steps)))
+    × (entries ≡ entries_of (map (λ step. step.0) steps))
+
+-- what an exchange with this fault writes down: a faulty chain nothing
+abbrev pub WritesDown : Option Fault → Exchange → List LoggedCall → Type 0
+WritesDown (Some (fault.Chain why)) x entries = entries ≡ []
+WritesDown (Some (fault.Served e)) x entries = IsAnswered x entries
+WritesDown None x entries = IsAnswered x entries
+
+-- what an exchange writes down
 abbrev pub IsLoggedBy : Exchange → List LoggedCall → Type 0
-IsLoggedBy x entries = (options room : ℕ) × (entries ≡ entries_of (calls_meant (meaning options x.request room)))
+IsLoggedBy x entries = WritesDown x.fault x entries
 
 -- what exchanges write down, one after another
 unfoldable pub AreLoggedBy : List Exchange → List LoggedCall → Type 0
@@ -37,4 +59,4 @@ exchanges_in (IsRefused why) = []
 
 -- from one log to another, by commands that were answered so: it grew by the calls of the exchanges, in their order, and by nothing else
 abbrev pub Grows : List LoggedCall → List Answer → List LoggedCall → Type 0
-Grows before answers after = (entries : List LoggedCall) × AreLoggedBy (flat_map exchanges_in answers) entries × (after ≡ written before entries)
+Grows before answers after = (entries : List LoggedCall) × AreLoggedBy (flat_map exchanges_in answers) entries × (after ≡ with_calls before entries)

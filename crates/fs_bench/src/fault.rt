@@ -3,7 +3,7 @@
 use std::alloc::AllocError;
 use std::io;
 use thiserror::Error;
-use vm_memory::FromRangesError;
+use vm_memory::{FromRangesError, GuestMemoryError};
 
 /// Why a measurement ends early.
 #[derive(Clone, Copy, Debug, PartialEq, Eq, Error)]
@@ -32,6 +32,12 @@ impl From<io::Error> for BenchFault {
 
 impl From<FromRangesError> for BenchFault {
     fn from(_error: FromRangesError) -> BenchFault {
+        BenchFault::Guest
+    }
+}
+
+impl From<GuestMemoryError> for BenchFault {
+    fn from(_error: GuestMemoryError) -> BenchFault {
         BenchFault::Guest
     }
 }

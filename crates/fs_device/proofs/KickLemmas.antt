@@ -7,9 +7,10 @@ use Rattle.vm_memory.specs.Memory.{Memory}
 use Rattle.fs_queue.specs.declared.layout.QueueLayout.{QueueLayout}
 use Rattle.fs_queue.specs.declared.fault.QueueError.TheVariants as stop
 use Rattle.fs_queue.specs.Queue.{Queue}
+use Rattle.virtiofsd_fuse.specs.Serving.{May}
 use Rattle.fs_device.specs.declared.error.DeviceError.{DeviceError}
 use Rattle.fs_device.specs.declared.error.DeviceError.TheVariants as device
-use Rattle.fs_device.specs.Step.{State, Exchange, Calls, May, Idle, Refused, Exchanged, StepOf, Step}
+use Rattle.fs_device.specs.Step.{State, Exchange, Calls, Idle, Refused, Exchanged, StepOf, Step}
 use Rattle.fs_device.specs.Run.{KickRun, Done, fresh_queue, reset}
 use Rattle.fs_device.proofs.StepLemmas.{Fixed, state, changed_at-set}
 

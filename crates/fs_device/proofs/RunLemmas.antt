@@ -1,6 +1,7 @@
 -- a run goes on by one command
 use Rattle.std.proofs.Common.{◌≡◌, suc, List, [], ◌∷◌, ◌++◌, length, map, zip, append_assoc, append-nil, ◌∙◌, arith, sym, refl, ap, subst}
-use Rattle.fs_device.specs.Step.{State, May}
+use Rattle.virtiofsd_fuse.specs.Serving.{May}
+use Rattle.fs_device.specs.Step.{State}
 use Rattle.fs_device.specs.Run.{Command, Answer, Performs, Run}
 
 -- one more of each

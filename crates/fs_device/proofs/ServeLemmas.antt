@@ -14,11 +14,11 @@ use Rattle.fuse_fs.specs.Calls.{FileCall, FileAnswer}
 use Rattle.fuse_segments.specs.declared.error.Error.{Error}
 use Rattle.virtiofsd_fuse.specs.Grammar.{Meaning, IsFault, Replies, IsSilent, Asks as Commands, One, Starts, meaning}
 use Rattle.fuse_segments.specs.declared.error.Error.TheVariants.{EncodeMessage}
-use Rattle.virtiofsd_fuse.specs.Serving.{Served, no_reply, Setting, setting, served, served_of, replied, Handles, is_memory}
+use Rattle.virtiofsd_fuse.specs.Serving.{May, Served, no_reply, Setting, setting, served, served_of, replied, Handles, is_memory}
 use Rattle.virtiofsd_fuse.specs.Serving as server
 use Rattle.fs_device.specs.declared.exchange.Fault.{Fault}
 use Rattle.fs_device.specs.declared.exchange.Fault.TheVariants as fault
-use Rattle.fs_device.specs.Step.{Exchange, Calls, May, ServesRequest}
+use Rattle.fs_device.specs.Step.{Exchange, Calls, ServesRequest}
 use Rattle.fs_device.specs.DeviceView.{ServesChain, AnswersRequest}
 
 not_more : (room n : ℕ) → nat_lt room n ≡ false → n ≤ room

@@ -8,10 +8,11 @@ use Rattle.fs_queue.specs.declared.fault.QueueError.TheVariants as stop
 use Rattle.fs_queue.specs.Queue.{Queue}
 use Rattle.fs_queue.specs.Taking.{Asked, Asks, CannotAsk, Offer, Offers, offer, after_refusal, room_of}
 use Rattle.fs_queue.specs.Returning.{returned, wants_notice, advanced}
+use Rattle.virtiofsd_fuse.specs.Serving.{May}
 use Rattle.fs_device.specs.declared.error.DeviceError.{DeviceError}
 use Rattle.fs_device.specs.declared.error.DeviceError.TheVariants as device
 use Rattle.fs_device.specs.declared.exchange.Exchange as code
-use Rattle.fs_device.specs.Step.{State, Exchange, Calls, May, Returns, Exchanges, Acts, StepOf, Step}
+use Rattle.fs_device.specs.Step.{State, Exchange, Calls, Returns, Exchanges, Acts, StepOf, Step}
 use Rattle.fs_device.specs.DeviceView.{exchange_of, outcome_of, ServesChain, StepsOne}
 
 pub changed_at-set : (l : List Queue) (i : ℕ) (q : Queue) → changed_at l i (λ _. q) ≡ set l i q

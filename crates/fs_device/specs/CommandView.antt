@@ -1,13 +1,14 @@
 -- Commands, answers and kicks, as the plain machine has them.
 use Rattle.std.specs.Prelude.{◌≡◌, ◌<◌, ℕ, Bool, IsTrue, length, map, None, Result, Ok, Err, slice_get}
 use Rattle.fs_queue.specs.declared.fault.QueueError.TheVariants as stop
+use Rattle.virtiofsd_fuse.specs.Serving.{May}
 use Rattle.fs_device.specs.declared.error.DeviceError.{DeviceError}
 use Rattle.fs_device.specs.declared.error.DeviceError.TheVariants as device
 use Rattle.fs_device.specs.declared.exchange.Exchange as code
 use Rattle.fs_device.specs.declared.command.Command as asked
 use Rattle.fs_device.specs.declared.command.Answer as told
 use Rattle.fs_device.specs.declared.queues.QueueRun.{QueueRun}
-use Rattle.fs_device.specs.Step.{State, Exchange, May}
+use Rattle.fs_device.specs.Step.{State, Exchange}
 use Rattle.fs_device.specs.Run.{Command, GuestRead, GuestWrite, NewBlock, InsertRegion, RemoveRegion, SetLayout, Kick, ResetQueue, Kicked, Answer, Done, Bytes, NewBlockIs, Served, IsRefused, KickRun, kick_takes_memory}
 use Rattle.fs_device.specs.DeviceView.{exchange_of}
 

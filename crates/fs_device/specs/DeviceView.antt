@@ -10,12 +10,12 @@ use Rattle.fs_queue.specs.Taking.{Asked, Asks, CannotAsk, Refuses, Offers, offer
 use Rattle.fs_queue.specs.Taking as taking
 use Rattle.fs_queue.specs.Returning.{returned, wants_notice, advanced}
 use Rattle.virtiofsd_fuse.specs.declared.server.Server.{Server}
-use Rattle.virtiofsd_fuse.specs.Serving.{Served}
+use Rattle.virtiofsd_fuse.specs.Serving.{May, Served}
 use Rattle.fs_device.specs.declared.error.DeviceError.{DeviceError}
 use Rattle.fs_device.specs.declared.exchange.Exchange as code
 use Rattle.fs_device.specs.declared.exchange.Fault.{Fault}
 use Rattle.fs_device.specs.declared.harvested.HarvestedPage.{HarvestedPage}
-use Rattle.fs_device.specs.Step.{State, Exchange, Outcome, Idle, Refused, Exchanged, Calls, May, ServesRequest, faulty, served_exchange, served_fault}
+use Rattle.fs_device.specs.Step.{State, Exchange, Outcome, Idle, Refused, Exchanged, Calls, ServesRequest, faulty, served_exchange, served_fault}
 use Rattle.fs_device.specs.Harvested.{Page}
 use Rattle.fs_device.specs.DeviceParts.{DeviceParts}
 

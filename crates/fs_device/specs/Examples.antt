@@ -1,7 +1,6 @@
 -- Worked examples that compute: one region from 0 to 0x10000, and a queue of four descriptors, its table at 0, its rings at 0x100 and 0x200.
-use Rattle.std.specs.Prelude.{◌≡◌, ℕ, true, false, List, [], ◌∷◌, ◌++◌, replicate, length, refl, None}
+use Rattle.std.specs.Prelude.{◌≡◌, ℕ, true, false, List, [], ◌∷◌, ◌++◌, length, refl, None}
 use Rattle.std.specs.List.{zip}
-use Rattle.std.specs.Int.{w16, w32, w64, to_le_bytes}
 use Rattle.vm_memory_core.specs.Host.{host_of, new_block}
 use Rattle.vm_memory.specs.Layout.{place}
 use Rattle.vm_memory.specs.Memory.{Memory, memory_of, addresses, bytes, stored_all}
@@ -13,21 +12,11 @@ use Rattle.fs_queue.specs.Taking.{Offer, Idle, Refuses, Offers, Asks, CannotAsk,
 use Rattle.fuse_segments.specs.declared.error.Error.TheVariants as error
 use Rattle.vm_values.specs.Fields as fields
 use Rattle.virtiofsd_fuse.specs.Records.{reading_in_header}
+use Rattle.virtiofsd_fuse.specs.Examples.{zeros, le16, le32, le64, in_header_bytes}
 use Rattle.virtiofsd_fuse.specs.Grammar.{IsFault, Replies, meaning, meant, error_bytes}
+use Rattle.virtiofsd_fuse.specs.Serving.{May}
 use Rattle.fs_device.specs.declared.error.DeviceError.TheVariants as device_error
-use Rattle.fs_device.specs.Step.{State, Exchange, May, Refused, Exchanged, Step, after_return}
-
-abbrev pub le16 : ℕ → List ℕ
-le16 n = to_le_bytes w16 n
-
-abbrev pub le32 : ℕ → List ℕ
-le32 n = to_le_bytes w32 n
-
-abbrev pub le64 : ℕ → List ℕ
-le64 n = to_le_bytes w64 n
-
-abbrev pub zeros : ℕ → List ℕ
-zeros n = replicate n 0
+use Rattle.fs_device.specs.Step.{State, Exchange, Refused, Exchanged, Step, after_return}
 
 abbrev pub blank : Memory
 blank = memory_of (host_of (new_block 0x10000 ∷ [])) (record { start = 0; size = 0x10000; block = 0 } ∷ [])
@@ -39,21 +28,17 @@ queue = record { size = 4; desc = 0; avail = 0x100; used = 0x200; position = 0; 
 abbrev pub put : Memory → ℕ → List ℕ → Memory
 put m a bs = stored_all m (zip (addresses a (length bs)) bs)
 
-abbrev pub descriptor : ℕ → ℕ → ℕ → ℕ → List ℕ
-descriptor addr len flags next = le64 addr ++ le32 len ++ le16 flags ++ le16 next
-
--- a request of a header alone
-abbrev pub header : ℕ → ℕ → ℕ → List ℕ
-header len opcode unique = le32 len ++ le32 opcode ++ le64 unique ++ zeros 24
+abbrev pub descriptor_bytes : ℕ → ℕ → ℕ → ℕ → List ℕ
+descriptor_bytes addr len flags next = le64 addr ++ le32 len ++ le16 flags ++ le16 next
 
 abbrev pub request : List ℕ
-request = header 40 7 1
+request = in_header_bytes 40 7 1 0
 
 -- the request at 0x1000 in a chain with a room of 16 bytes at 0x2000
-abbrev pub waiting : Memory
-waiting =
+abbrev pub with_one_request : Memory
+with_one_request =
     let a = put blank 0x1000 request in
-    let b = put a 0 (descriptor 0x1000 40 1 1 ++ descriptor 0x2000 16 2 0) in
+    let b = put a 0 (descriptor_bytes 0x1000 40 1 1 ++ descriptor_bytes 0x2000 16 2 0) in
     put b 0x100 (le16 0 ++ le16 1 ++ le16 0)
 
 abbrev gives : Memory → Offer
@@ -65,40 +50,40 @@ unfolding offer place addresses stored_all path found
 nothing_waits = refl
 
 -- 40 bytes of request, 16 bytes of room
-one_request : gives waiting ≡ Offers 0 (Asks request (addresses 0x2000 16))
+one_request : gives with_one_request ≡ Offers 0 (Asks request (addresses 0x2000 16))
 unfolding offer place addresses stored_all path found
 one_request = refl
 
 -- a descriptor that leads to itself
-too_long : gives (put waiting 0 (descriptor 0x1000 40 1 0)) ≡ Offers 0 (CannotAsk chain_fault.TooLong)
+too_long : gives (put with_one_request 0 (descriptor_bytes 0x1000 40 1 0)) ≡ Offers 0 (CannotAsk chain_fault.TooLong)
 unfolding offer place addresses stored_all path found
 too_long = refl
 
-next_past_table : gives (put waiting 0 (descriptor 0x1000 40 1 4)) ≡ Offers 0 (CannotAsk chain_fault.NextOutOfTable)
+next_past_table : gives (put with_one_request 0 (descriptor_bytes 0x1000 40 1 4)) ≡ Offers 0 (CannotAsk chain_fault.NextOutOfTable)
 unfolding offer place addresses stored_all path found
 next_past_table = refl
 
-index_too_far : gives (put waiting 0x102 (le16 5)) ≡ Refuses queue_error.AvailTooFar
+index_too_far : gives (put with_one_request 0x102 (le16 5)) ≡ Refuses queue_error.AvailTooFar
 unfolding offer place addresses stored_all path found
 index_too_far = refl
 
-head_past_table : gives (put waiting 0x104 (le16 4)) ≡ Refuses queue_error.HeadOutOfTable
+head_past_table : gives (put with_one_request 0x104 (le16 4)) ≡ Refuses queue_error.HeadOutOfTable
 unfolding offer place addresses stored_all path found
 head_past_table = refl
 
-past_64_bits : gives (put waiting 0 (descriptor 0xfffffffffffffff8 8 1 1)) ≡ Offers 0 (CannotAsk chain_fault.AddressOverflow)
+past_64_bits : gives (put with_one_request 0 (descriptor_bytes 0xfffffffffffffff8 8 1 1)) ≡ Offers 0 (CannotAsk chain_fault.AddressOverflow)
 unfolding offer place addresses stored_all path found
 past_64_bits = refl
 
-over_limit : gives (put waiting 0 (descriptor 0x1000 0x101001 1 1)) ≡ Offers 0 (CannotAsk chain_fault.OverLimit)
+over_limit : gives (put with_one_request 0 (descriptor_bytes 0x1000 0x101001 1 1)) ≡ Offers 0 (CannotAsk chain_fault.OverLimit)
 unfolding offer place addresses stored_all path found
 over_limit = refl
 
-request_far_away : gives (put waiting 0 (descriptor 0xfff0 40 1 1)) ≡ Offers 0 (CannotAsk chain_fault.RequestUnreachable)
+request_far_away : gives (put with_one_request 0 (descriptor_bytes 0xfff0 40 1 1)) ≡ Offers 0 (CannotAsk chain_fault.RequestUnreachable)
 unfolding offer place addresses stored_all path found
 request_far_away = refl
 
-room_far_away : gives (put waiting 16 (descriptor 0x20000 16 2 0)) ≡ Offers 0 (CannotAsk chain_fault.RoomUnreachable)
+room_far_away : gives (put with_one_request 16 (descriptor_bytes 0x20000 16 2 0)) ≡ Offers 0 (CannotAsk chain_fault.RoomUnreachable)
 unfolding offer place addresses stored_all path found
 room_far_away = refl
 
@@ -108,7 +93,7 @@ unknown : meaning 0 request 16 ≡ Replies (0x10 ∷ 0 ∷ 0 ∷ 0 ∷ 0xda ∷ 
 unfolding meaning reading_in_header meant error_bytes fields.field_bytes
 unknown = refl
 
-too_great_a_length : meaning 0 (header 0x101001 7 1) 16 ≡ Replies (0x10 ∷ 0 ∷ 0 ∷ 0 ∷ 0xf4 ∷ 0xff ∷ 0xff ∷ 0xff ∷ 1 ∷ zeros 7)
+too_great_a_length : meaning 0 (in_header_bytes 0x101001 7 1 0) 16 ≡ Replies (0x10 ∷ 0 ∷ 0 ∷ 0 ∷ 0xf4 ∷ 0xff ∷ 0xff ∷ 0xff ∷ 1 ∷ zeros 7)
 unfolding meaning reading_in_header meant error_bytes fields.field_bytes
 too_great_a_length = refl
 
@@ -137,7 +122,7 @@ unknown_exchange = record { head = 0; request = request; reply = unknown_reply; 
 abbrev pub after_reply : Memory → Queue → State Nothing
 after_reply m q = after_return (device m q) 0 q 0 (addresses 0x2000 16) unknown_reply 0 tt
 
-pub one_step : Step may (device waiting queue) 0 [] (Exchanged unknown_exchange true) (after_reply waiting queue)
+pub one_step : Step may (device with_one_request queue) 0 [] (Exchanged unknown_exchange true) (after_reply with_one_request queue)
 unfolding offer place addresses stored_all path found meaning reading_in_header meant error_bytes fields.field_bytes
 one_step = record {
   given = record { calls = []; options = 0; reply = unknown_reply; fault = None };
@@ -146,16 +131,16 @@ one_step = record {
 }
 
 -- what then stands in memory
-reply_stands : bytes (after_reply waiting queue).memory 0x2000 16 ≡ unknown_reply
+reply_stands : bytes (after_reply with_one_request queue).memory 0x2000 16 ≡ unknown_reply
 unfolding offer place addresses stored_all path found
 reply_stands = refl
 
-element_stands : bytes (after_reply waiting queue).memory 0x202 10 ≡ 1 ∷ 0 ∷ 0 ∷ 0 ∷ 0 ∷ 0 ∷ 0x10 ∷ 0 ∷ 0 ∷ 0 ∷ []
+element_stands : bytes (after_reply with_one_request queue).memory 0x202 10 ≡ 1 ∷ 0 ∷ 0 ∷ 0 ∷ 0 ∷ 0 ∷ 0x10 ∷ 0 ∷ 0 ∷ 0 ∷ []
 unfolding offer place addresses stored_all path found
 element_stands = refl
 
 -- the driver asks not to be told
-not_told : Step may (device (put waiting 0x100 (le16 1)) queue) 0 [] (Exchanged unknown_exchange false) (after_reply (put waiting 0x100 (le16 1)) queue)
+not_told : Step may (device (put with_one_request 0x100 (le16 1)) queue) 0 [] (Exchanged unknown_exchange false) (after_reply (put with_one_request 0x100 (le16 1)) queue)
 unfolding offer place addresses stored_all path found meaning reading_in_header meant error_bytes fields.field_bytes
 not_told = record {
   given = record { calls = []; options = 0; reply = unknown_reply; fault = None };
@@ -164,10 +149,10 @@ not_told = record {
 }
 
 -- a queue that is told of too many chains stops
-far_stops : Step may (device (put waiting 0x102 (le16 5)) queue) 0 [] (Refused (device_error.Queue queue_error.AvailTooFar)) (device (put waiting 0x102 (le16 5)) (stopped queue))
+far_stops : Step may (device (put with_one_request 0x102 (le16 5)) queue) 0 [] (Refused (device_error.Queue queue_error.AvailTooFar)) (device (put with_one_request 0x102 (le16 5)) (stopped queue))
 unfolding offer place addresses stored_all path found
 far_stops = (refl, refl, refl)
 
-no_queue : Step may (device waiting queue) 1 [] (Refused device_error.NoSuchQueue) (device waiting queue)
+no_queue : Step may (device with_one_request queue) 1 [] (Refused device_error.NoSuchQueue) (device with_one_request queue)
 unfolding offer
 no_queue = (refl, record { same = refl; no_call = refl })

@@ -1,5 +1,5 @@
 -- Worked runs that compute: kicks, guest accesses, layouts that change, two regions, and harvests. Pages are compared by where they begin, or are small.
-use Rattle.std.specs.Prelude.{◌≡◌, ℕ, ◌-◌, ◌^◌, true, false, List, [], ◌∷◌, ◌++◌, length, map, refl, Some, None}
+use Rattle.std.specs.Prelude.{◌≡◌, ℕ, ◌+◌, ◌-◌, ◌^◌, true, false, List, [], ◌∷◌, ◌++◌, length, map, refl, Some, None}
 use Rattle.vm_memory_core.specs.Host.{Host, host_of, new_block, cleared}
 use Rattle.vm_memory.specs.Layout.{Region, place}
 use Rattle.vm_memory.specs.Memory.{Memory, memory_of, addresses, bytes, stored_all}
@@ -10,31 +10,34 @@ use Rattle.fs_queue.specs.Chain.{path, found}
 use Rattle.fs_queue.specs.Taking.{Asks, Offers, offer}
 use Rattle.fs_queue.specs.Returning.{advanced}
 use Rattle.vm_values.specs.Fields as fields
-use Rattle.virtiofsd_fuse.specs.Records.{reading_in_header}
-use Rattle.virtiofsd_fuse.specs.Grammar.{meaning, meant, error_bytes}
+use Rattle.fuse_fs.specs.Calls as files
+use Rattle.virtiofsd_fuse.specs.Records.{reading_in_header, reading_forget_in}
+use Rattle.virtiofsd_fuse.specs.Examples.{le16, le64, zeros, nobody, in_header_bytes}
+use Rattle.virtiofsd_fuse.specs.Grammar.{meaning, meant, row, error_bytes}
+use Rattle.virtiofsd_fuse.specs.Serving.{May}
 use Rattle.fs_device.specs.declared.error.DeviceError.TheVariants as device_error
 use Rattle.fs_device.specs.declared.refusal.Refusal.TheVariants as why
 use Rattle.fs_device.specs.Step.{State, Exchanged, Idle, Step, after_return}
 use Rattle.fs_device.specs.Harvested.{Page, block_pages, host_pages, harvested}
 use Rattle.fs_device.specs.Run as run
 use Rattle.fs_device.specs.Run.{Command, Answer, Run, KickRun, effect, fresh_queue}
-use Rattle.fs_device.specs.Examples.{le16, zeros, queue, put, descriptor, request, waiting, Nothing, may, device, unknown_reply, unknown_exchange, after_reply, one_step}
+use Rattle.fs_device.specs.Examples.{blank, queue, put, descriptor_bytes, request, with_one_request, Nothing, may, device, unknown_reply, unknown_exchange, after_reply, one_step}
 
 -- ---- kicks
 
 -- one exchange, and then nothing waits
-kick_serves_one : Run may (device waiting queue) ((run.Kick 0 9, run.Served (record { exchanges = (unknown_exchange, true) ∷ []; refused = None })) ∷ []) (after_reply waiting queue)
+kick_serves_one : Run may (device with_one_request queue) ((run.Kick 0 9, run.Served (record { exchanges = (unknown_exchange, true) ∷ []; refused = None })) ∷ []) (after_reply with_one_request queue)
 unfolding Run KickRun offer place addresses stored_all path found
-kick_serves_one = (after_reply waiting queue, ([], after_reply waiting queue, one_step, (refl, record { same = refl; no_call = refl })), refl)
+kick_serves_one = (after_reply with_one_request queue, ([], after_reply with_one_request queue, one_step, (refl, record { same = refl; no_call = refl })), refl)
 
 -- no more than was asked for
-kick_of_none : Run may (device waiting queue) ((run.Kick 0 0, run.Served (record { exchanges = []; refused = None })) ∷ []) (device waiting queue)
+kick_of_none : Run may (device with_one_request queue) ((run.Kick 0 0, run.Served (record { exchanges = []; refused = None })) ∷ []) (device with_one_request queue)
 unfolding Run KickRun
-kick_of_none = (device waiting queue, refl, refl)
+kick_of_none = (device with_one_request queue, refl, refl)
 
 -- a refusal is listed, and stops the queue; the next kick lists that it is stopped
 abbrev far : Memory
-far = put waiting 0x102 (le16 5)
+far = put with_one_request 0x102 (le16 5)
 
 kick_stops : Run may (device far queue)
     ((run.Kick 0 9, run.Served (record { exchanges = []; refused = Some (device_error.Queue queue_error.AvailTooFar) }))
@@ -44,16 +47,87 @@ unfolding Run KickRun offer place addresses stored_all path found
 kick_stops = (device far (stopped queue), (refl, refl, refl), (device far (stopped queue), (refl, refl, refl), refl))
 
 -- of a missing queue that is listed, whatever was asked for
-kick_of_missing : Run may (device waiting queue) ((run.Kick 1 0, run.Served (record { exchanges = []; refused = Some device_error.NoSuchQueue })) ∷ []) (device waiting queue)
+kick_of_missing : Run may (device with_one_request queue) ((run.Kick 1 0, run.Served (record { exchanges = []; refused = Some device_error.NoSuchQueue })) ∷ []) (device with_one_request queue)
 unfolding Run
-kick_of_missing = (device waiting queue, (refl, refl), refl)
+kick_of_missing = (device with_one_request queue, (refl, refl), refl)
 
 -- a kick may be refused for want of memory: its chain stays, and the next kick serves it
-kick_lacks_memory : Run may (device waiting queue)
+kick_lacks_memory : Run may (device with_one_request queue)
     ((run.Kick 0 9, run.IsRefused why.OutOfMemory) ∷ (run.Kick 0 1, run.Served (record { exchanges = (unknown_exchange, true) ∷ []; refused = None })) ∷ [])
-    (after_reply waiting queue)
+    (after_reply with_one_request queue)
 unfolding Run KickRun
-kick_lacks_memory = (device waiting queue, (refl, refl), (after_reply waiting queue, ([], after_reply waiting queue, one_step, refl), refl))
+kick_lacks_memory = (device with_one_request queue, (refl, refl), (after_reply with_one_request queue, ([], after_reply with_one_request queue, one_step, refl), refl))
+
+-- no more than was asked for, where two wait
+abbrev two_wait : Memory
+two_wait = put with_one_request 0x102 (le16 2 ++ le16 0 ++ le16 0)
+
+abbrev exchanges_unknown : (m : Memory) → Type 0
+exchanges_unknown m = Step may (device m queue) 0 [] (Exchanged unknown_exchange true) (after_reply m queue)
+
+first_of_two : exchanges_unknown two_wait
+unfolding offer place addresses stored_all path found meaning reading_in_header meant error_bytes fields.field_bytes
+first_of_two = record {
+  given = record { calls = []; options = 0; reply = unknown_reply; fault = None };
+  serves = record { gives = refl; asks = refl; run = refl };
+  returns = record { exchange = refl; state = refl; told = refl };
+}
+
+kick_of_one : Run may (device two_wait queue) ((run.Kick 0 1, run.Served (record { exchanges = (unknown_exchange, true) ∷ []; refused = None })) ∷ []) (after_reply two_wait queue)
+unfolding Run KickRun
+kick_of_one = (after_reply two_wait queue, ([], after_reply two_wait queue, first_of_two, refl), refl)
+
+-- an exchange, and then a refusal: the second head isn't in the table
+abbrev no_such_head : Memory
+no_such_head = put with_one_request 0x102 (le16 2 ++ le16 0 ++ le16 4)
+
+abbrev stopped_after_one : State Nothing
+stopped_after_one = record (after_reply no_such_head queue) { queues = stopped (advanced queue) ∷ [] }
+
+first_before_refusal : exchanges_unknown no_such_head
+unfolding offer place addresses stored_all path found meaning reading_in_header meant error_bytes fields.field_bytes
+first_before_refusal = record {
+  given = record { calls = []; options = 0; reply = unknown_reply; fault = None };
+  serves = record { gives = refl; asks = refl; run = refl };
+  returns = record { exchange = refl; state = refl; told = refl };
+}
+
+kick_stops_after_one : Run may (device no_such_head queue)
+    ((run.Kick 0 9, run.Served (record { exchanges = (unknown_exchange, true) ∷ []; refused = Some (device_error.Queue queue_error.HeadOutOfTable) })) ∷ []) stopped_after_one
+unfolding Run KickRun offer place addresses stored_all path found
+kick_stops_after_one = (stopped_after_one, ([], after_reply no_such_head queue, first_before_refusal, (refl, refl, refl)), refl)
+
+-- a file system that counts what a client forgets; the request is FORGET of node 5, held three times less, in a chain without room
+abbrev forget : List ℕ
+forget = in_header_bytes 48 2 9 5 ++ le64 3
+
+abbrev counts : May ℕ
+counts before (files.Forget who node count) files.Done after = after ≡ before + count
+counts before call answer after = ⊥
+
+abbrev with_forget : Memory
+with_forget =
+    let a = put blank 0x1000 forget in
+    let b = put a 0 (descriptor_bytes 0x1000 48 0 0) in
+    put b 0x100 (le16 0 ++ le16 1 ++ le16 0)
+
+abbrev counting : ℕ → State ℕ
+counting n = record { memory = with_forget; queues = queue ∷ []; options = 0; files = n; limit = 0x101000; page_size = 4096 }
+
+abbrev forgotten : State ℕ
+forgotten = after_return (counting 4) 0 queue 0 [] [] 0 7
+
+kick_calls_the_files : Run counts (counting 4)
+    ((run.Kick 0 1, run.Served (record { exchanges = (record { head = 0; request = forget; reply = []; fault = None }, true) ∷ []; refused = None })) ∷ []) forgotten
+unfolding Run KickRun offer place addresses stored_all path found meaning reading_in_header meant row reading_forget_in
+kick_calls_the_files =
+    let step : Step counts (counting 4) 0 ((files.Forget nobody 5 3, files.Done) ∷ []) (Exchanged (record { head = 0; request = forget; reply = []; fault = None }) true) forgotten =
+    record {
+      given = record { calls = files.Forget nobody 5 3 ∷ []; options = 0; reply = []; fault = None };
+      serves = record { gives = refl; asks = refl; run = (7, refl, refl, refl) };
+      returns = record { exchange = refl; state = refl; told = refl };
+    } in
+    (forgotten, ((files.Forget nobody 5 3, files.Done) ∷ [], forgotten, step, refl), refl)
 
 -- a queue that stopped begins anew
 resets : (l : QueueLayout) → effect (device far (stopped queue)) (run.ResetQueue 0 l) ≡ (run.Done, device far (fresh_queue l))
@@ -77,10 +151,10 @@ comes_to s (command ∷ commands) = comes_to (effect s command).1 commands
 abbrev answers : State Nothing → List Command → Command → Answer
 answers s commands last = (effect (comes_to s commands) last).0
 
-abbrev written : List Command
-written = run.GuestWrite 5 (7 ∷ 8 ∷ []) ∷ []
+abbrev guest_writes : List Command
+guest_writes = run.GuestWrite 5 (7 ∷ 8 ∷ []) ∷ []
 
-reads_what_was_written : answers small written (run.GuestRead 4 4) ≡ run.Bytes (0 ∷ 7 ∷ 8 ∷ 0 ∷ [])
+reads_what_was_written : answers small guest_writes (run.GuestRead 4 4) ≡ run.Bytes (0 ∷ 7 ∷ 8 ∷ 0 ∷ [])
 unfolding effect place addresses stored_all
 reads_what_was_written = refl
 
@@ -172,9 +246,11 @@ sets_the_same_block_twice = refl
 
 -- without any region nothing is reached, and a kick lists that the available index can't be read
 abbrev nowhere : State Nothing
-nowhere = comes_to (device waiting queue) (run.SetLayout [] ∷ [])
+nowhere = comes_to (device with_one_request queue) (run.SetLayout [] ∷ [])
 
-kick_without_memory : Run may nowhere ((run.Kick 0 1, run.Served (record { exchanges = []; refused = Some (device_error.Queue queue_error.AvailIndexUnreachable) })) ∷ []) (record nowhere { queues = stopped queue ∷ [] })
+kick_without_memory : Run may nowhere
+    ((run.Kick 0 1, run.Served (record { exchanges = []; refused = Some (device_error.Queue queue_error.AvailIndexUnreachable) })) ∷ [])
+    (record nowhere { queues = stopped queue ∷ [] })
 unfolding Run KickRun effect offer place addresses stored_all
 kick_without_memory = (record nowhere { queues = stopped queue ∷ [] }, (refl, refl, refl), refl)
 
@@ -187,7 +263,7 @@ two = memory_of (host_of (new_block 0x1000 ∷ new_block 0xf000 ∷ []))
 abbrev across : Memory
 across =
     let a = put two 0xfe8 request in
-    let b = put a 0 (descriptor 0xfe8 40 1 1 ++ descriptor 0x2000 16 2 0) in
+    let b = put a 0 (descriptor_bytes 0xfe8 40 1 1 ++ descriptor_bytes 0x2000 16 2 0) in
     let c = put b 0x100 (le16 0 ++ le16 1 ++ le16 0) in
     record c { host = cleared c.host }
 
@@ -215,11 +291,11 @@ unfolding block_pages host_pages
 harvests_nothing_yet = refl
 
 -- the last page of a block is as short as its block
-harvests_what_was_written : harvested (comes_to small written).memory.host ≡ record { block = 0; offset = 0; bytes = zeros 5 ++ 7 ∷ 8 ∷ zeros 25 } ∷ []
+harvests_what_was_written : harvested (comes_to small guest_writes).memory.host ≡ record { block = 0; offset = 0; bytes = zeros 5 ++ 7 ∷ 8 ∷ zeros 25 } ∷ []
 unfolding effect place addresses stored_all block_pages host_pages
 harvests_what_was_written = refl
 
-harvests_once : harvested (cleared (comes_to small written).memory.host) ≡ []
+harvests_once : harvested (cleared (comes_to small guest_writes).memory.host) ≡ []
 unfolding effect place addresses stored_all block_pages host_pages
 harvests_once = refl
 

@@ -3,8 +3,8 @@ use Rattle.std.specs.Prelude.{◌≡◌, ◌↔◌, ℕ, List, length, flat_map}
 use Rattle.vm_memory.specs.Memory.{Memory, bytes}
 use Rattle.fs_queue.specs.declared.descriptor.Descriptor.{Descriptor}
 use Rattle.fs_queue.specs.Taking.{readable, writable, total_len, Asks, asked_by}
-use Rattle.virtiofsd_fuse.specs.Serving.{Served}
-use Rattle.fs_device.specs.Step.{Calls, May, ServesRequest}
+use Rattle.virtiofsd_fuse.specs.Serving.{May, Served}
+use Rattle.fs_device.specs.Step.{Calls, ServesRequest}
 
 -- the flat bytes of a chain's request
 abbrev pub joined_request : Memory → List Descriptor → List ℕ

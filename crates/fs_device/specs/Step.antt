@@ -11,7 +11,7 @@ use Rattle.fs_queue.specs.Returning.{returned, wants_notice, advanced}
 use Rattle.fuse_fs.specs.Calls.{FileCall, FileAnswer, FileRun}
 use Rattle.fuse_segments.specs.declared.error.Error.{Error}
 use Rattle.virtiofsd_fuse.specs.Grammar.{meaning}
-use Rattle.virtiofsd_fuse.specs.Serving.{Served, served, setting}
+use Rattle.virtiofsd_fuse.specs.Serving.{May, Served, served, setting}
 use Rattle.fs_device.specs.declared.error.DeviceError.{DeviceError}
 use Rattle.fs_device.specs.declared.error.DeviceError.TheVariants as device
 use Rattle.fs_device.specs.declared.exchange.Fault.{Fault}
@@ -42,10 +42,6 @@ pub data Outcome : Type 0 where
 -- the calls of a file system, in order, with what each was answered
 abbrev pub Calls : Type 0
 Calls = List (FileCall × FileAnswer)
-
--- what an implementer of the file system lets it answer, and become
-abbrev pub May : Type 0 → Type 1
-May F = F → FileCall → FileAnswer → F → Type 0
 
 -- another queue in the place of queue i
 abbrev pub with_queue : {F : Type 0} → State F → ℕ → Queue → State F

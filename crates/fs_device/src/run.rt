@@ -2,7 +2,7 @@
 
 ghost use Rattle.std.specs.Prelude.{◌≡◌, IfOk, OnErr, true, length, map, zip};
 ghost use Rattle.vm_memory_core.specs.Host.{host_of};
-ghost use Rattle.vm_memory_core.specs.declared.permissions.Permissions.TheVariants.{Read, Write};
+ghost use Rattle.vm_iotlb.specs.declared.permissions.Permissions.TheVariants.{Read, Write};
 ghost use Rattle.vm_memory.specs.Memory.{memory_of, reach, bytes};
 ghost use Rattle.fs_device.specs.Run.{Run, Performs, GuestRead, GuestWrite, Kick, ResetQueue, guest_written};
 ghost use Rattle.fs_device.specs.CommandView.{answer_of, command_of};

@@ -3,7 +3,7 @@ use Rattle.std.proofs.Common.{◌≡◌, ℕ, true, false, ◌+◌, ◌*◌, ◌
 use Rattle.std.specs.Prelude.{IsTrue, is_some, if◌then◌else◌, Result, OnErr}
 use Rattle.std.proofs.lemmas.Nat.{mod_below}
 use Rattle.vm_memory_core.specs.Host.{Host, Place}
-use Rattle.vm_memory_core.specs.declared.permissions.Permissions.TheVariants.{Read, Write}
+use Rattle.vm_iotlb.specs.declared.permissions.Permissions.TheVariants.{Read, Write}
 use Rattle.vm_memory.specs.Layout.{Region, place}
 use Rattle.vm_memory.specs.Memory.{Memory, memory_of, addresses, located}
 use Rattle.fs_queue.specs.declared.layout.QueueLayout.{QueueLayout}

@@ -9,7 +9,7 @@ use Rattle.vm_values.specs.declared.address.GuestAddress.{GuestAddress}
 use Rattle.vm_values.specs.Fields.{AllFit, spelled}
 use Rattle.vm_values.specs.Fields as fields
 use Rattle.vm_memory_core.specs.Host.{Host}
-use Rattle.vm_memory_core.specs.declared.permissions.Permissions.TheVariants.{Read}
+use Rattle.vm_iotlb.specs.declared.permissions.Permissions.TheVariants.{Read}
 use Rattle.vm_memory.specs.Layout.{Region, place}
 use Rattle.vm_memory.specs.Memory.{Memory, memory_of, addresses, circular, reached, reach, byte, bytes, number, transferred}
 use Rattle.vm_memory.proofs.Places.{circular-is, length-circular, length-addresses, list_all-reached, addresses-append}

@@ -7,7 +7,7 @@ use Rattle.fs_queue.specs.declared.descriptor.Descriptor.{Descriptor}
 use Rattle.fs_queue.specs.declared.fault.ChainFault.{ChainFault}
 use Rattle.fs_queue.specs.declared.walk.Verdict.{Verdict}
 use Rattle.fs_queue.specs.declared.walk.Verdict.TheVariants.{Joins, Faulty, Stops}
-use Rattle.fs_queue.specs.Chain.{Visit, has_next, verdict, next_visit, onward, path, with_front, joined, Found, IsChain, HasFault, StopsQueue, found}
+use Rattle.fs_queue.specs.Chain.{Visit, has_next, verdict, next_visit, onward, path, with_front, after_verdict, Found, IsChain, HasFault, StopsQueue, found}
 use Rattle.fs_queue.specs.Walking.{in_table}
 
 -- descriptors that stand before those of a chain
@@ -32,16 +32,16 @@ prepend-stop [] = refl
 prepend-stop (d ∷ ds) = ap (with_front d) (prepend-stop ds)
 
 -- the first step of a path
-found_step : (m : Memory) (n : ℕ) (v : Visit) (w : Verdict) → w ≡ verdict m v → found m (path m (suc n) v) ≡ joined w (found m (onward (path m n) (next_visit v w)))
+found_step : (m : Memory) (n : ℕ) (v : Visit) (w : Verdict) → w ≡ verdict m v → found m (path m (suc n) v) ≡ after_verdict w (found m (onward (path m n) (next_visit v w)))
 unfolding found path
-found_step m n v w e = ap (λ (x : Verdict). joined x (found m (onward (path m n) (next_visit v x)))) (sym e)
+found_step m n v w e = ap (λ (x : Verdict). after_verdict x (found m (onward (path m n) (next_visit v x)))) (sym e)
 
 -- the walk from an entry on, where left more descriptors may join
 abbrev pub rest_of : Memory → QueueLayout → (index left : ℕ) → Found
 rest_of m l index left = found m (path m (left + 2) (in_table l index left))
 
 first : (m : Memory) (l : QueueLayout) (index left : ℕ) (w : Verdict) → w ≡ verdict m (in_table l index left) →
-    rest_of m l index left ≡ joined w (found m (onward (path m (left + 1)) (next_visit (in_table l index left) w)))
+    rest_of m l index left ≡ after_verdict w (found m (onward (path m (left + 1)) (next_visit (in_table l index left) w)))
 first m l index left w e =
     let count : left + 2 ≡ suc (left + 1) = omega arith in
     ap (λ n. found m (path m n (in_table l index left))) count ∙ found_step m (left + 1) (in_table l index left) w e

@@ -1,7 +1,7 @@
 -- The chain of descriptors that begins at a head (VIRTIO 1.2, 2.7.5 and 2.7.5.3).
 use Rattle.std.specs.Prelude.{ℕ, zero, suc, ◌+◌, ◌-◌, ◌*◌, ◌^◌, Bool, false, not, ◌&&◌, nat_le, nat_lt, ◌==◌, List, [], ◌∷◌, Option, Some, None, if◌then◌else◌}
 use Rattle.std.specs.Int.{w16, w32, w64}
-use Rattle.vm_memory_core.specs.declared.permissions.Permissions.TheVariants.{Read}
+use Rattle.vm_iotlb.specs.declared.permissions.Permissions.TheVariants.{Read}
 use Rattle.vm_memory.specs.Memory.{Memory, number, reach}
 use Rattle.fs_queue.specs.declared.fault.ChainFault.{ChainFault}
 use Rattle.fs_queue.specs.declared.fault.ChainFault.TheVariants.{TooLong, NextOutOfTable, AddressOverflow, TableUnreachable}
@@ -99,15 +99,15 @@ with_front d (HasFault fault) = HasFault fault
 with_front d StopsQueue = StopsQueue
 
 -- what a step's verdict and the rest come to
-abbrev pub joined : Verdict → Found → Found
-joined (Joins d) rest = with_front d rest
-joined (Faulty fault) rest = HasFault fault
-joined Stops rest = StopsQueue
+abbrev pub after_verdict : Verdict → Found → Found
+after_verdict (Joins d) rest = with_front d rest
+after_verdict (Faulty fault) rest = HasFault fault
+after_verdict Stops rest = StopsQueue
 
 -- the descriptors that joined, if each step passes; otherwise what the last step has
 unfoldable pub found : Memory → List Visit → Found
 found m [] = IsChain []
-found m (v ∷ vs) = joined (verdict m v) (found m vs)
+found m (v ∷ vs) = after_verdict (verdict m v) (found m vs)
 
 -- what the walk from a head finds
 abbrev pub chain : Memory → Queue → ℕ → Found

@@ -1,6 +1,6 @@
 -- What a queue that isn't stopped finds in its available ring (VIRTIO 1.2, 2.7.6 and 2.7.13 from the device's side).
 use Rattle.std.specs.Prelude.{◌+◌, ◌*◌, not, nat_le, nat_lt, ◌==◌, if◌then◌else◌}
-use Rattle.vm_memory_core.specs.declared.permissions.Permissions.TheVariants.{Read}
+use Rattle.vm_iotlb.specs.declared.permissions.Permissions.TheVariants.{Read}
 use Rattle.vm_memory.specs.Memory.{Memory, reach}
 use Rattle.fs_queue.specs.declared.look.Look.{Look}
 use Rattle.fs_queue.specs.declared.look.Look.TheVariants.{Idle, Head, Refused}

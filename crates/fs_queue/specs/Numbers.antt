@@ -8,17 +8,17 @@ use Rattle.fs_queue.specs.declared.fault.QueueLayoutError.{QueueLayoutError}
 use Rattle.fs_queue.specs.declared.fault.QueueLayoutError.TheVariants as layout
 
 -- a chain's faults, 1 to 10
-abbrev pub fault_number : ChainFault → ℕ
-fault_number fault.TooLong = 1
-fault_number fault.NextOutOfTable = 2
-fault_number fault.AddressOverflow = 3
-fault_number fault.IndirectWithNext = 4
-fault_number fault.IndirectNested = 5
-fault_number fault.IndirectLength = 6
-fault_number fault.TableUnreachable = 7
-fault_number fault.OverLimit = 8
-fault_number fault.RequestUnreachable = 9
-fault_number fault.RoomUnreachable = 10
+abbrev pub chain_fault_number : ChainFault → ℕ
+chain_fault_number fault.TooLong = 1
+chain_fault_number fault.NextOutOfTable = 2
+chain_fault_number fault.AddressOverflow = 3
+chain_fault_number fault.IndirectWithNext = 4
+chain_fault_number fault.IndirectNested = 5
+chain_fault_number fault.IndirectLength = 6
+chain_fault_number fault.TableUnreachable = 7
+chain_fault_number fault.OverLimit = 8
+chain_fault_number fault.RequestUnreachable = 9
+chain_fault_number fault.RoomUnreachable = 10
 
 -- a queue's refusals, 1 to 9
 abbrev pub queue_number : QueueError → ℕ

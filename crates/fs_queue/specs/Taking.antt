@@ -1,8 +1,8 @@
 -- What a queue offers: a chain's request and room, or why there is none.
 use Rattle.std.specs.Prelude.{ℕ, Bool, true, false, not, ◌&&◌, ◌||◌, nat_lt, List, [], if◌then◌else◌, sum_by, filter, flat_map}
 use Rattle.std.specs.List.{list_all}
-use Rattle.vm_memory_core.specs.declared.permissions.Permissions.{Permissions}
-use Rattle.vm_memory_core.specs.declared.permissions.Permissions.TheVariants.{Read, Write}
+use Rattle.vm_iotlb.specs.declared.permissions.Permissions.{Permissions}
+use Rattle.vm_iotlb.specs.declared.permissions.Permissions.TheVariants.{Read, Write}
 use Rattle.vm_memory.specs.Memory.{Memory, reach, bytes, addresses}
 use Rattle.fs_queue.specs.declared.fault.ChainFault.{ChainFault}
 use Rattle.fs_queue.specs.declared.fault.ChainFault.TheVariants.{OverLimit, RequestUnreachable, RoomUnreachable}

@@ -3,7 +3,7 @@
 ghost use Rattle.std.specs.Prelude.{◌≡◌, ◌+◌, ◌<◌, ◌^◌, Some, None, if◌then◌else◌, refl};
 ghost use Rattle.std.proofs.Common.{rules};
 ghost use Rattle.vm_memory_core.specs.Host.{host_of};
-ghost use Rattle.vm_memory_core.specs.declared.permissions.Permissions.TheVariants.{Read};
+ghost use Rattle.vm_iotlb.specs.declared.permissions.Permissions.TheVariants.{Read};
 ghost use Rattle.vm_memory.specs.Layout.{HostHolds};
 ghost use Rattle.vm_memory.specs.Memory.{memory_of, reach};
 ghost use Rattle.fs_queue.specs.Records.{descriptor};

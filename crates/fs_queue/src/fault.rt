@@ -30,11 +30,11 @@ pub enum ChainFault {
 }
 
 impl ChainFault {
-    ghost use Rattle.fs_queue.specs.Numbers.{fault_number};
+    ghost use Rattle.fs_queue.specs.Numbers.{chain_fault_number};
 
     /// The number that tells the fault apart.
     pub fn number(&self) -> u8
-        ensures { result ≡ fault_number self.now }
+        ensures { result ≡ chain_fault_number self.now }
     {
         *self as u8
     }

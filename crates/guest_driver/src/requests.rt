@@ -123,11 +123,11 @@ pub fn error_reply(unique: u64, error: Errno) -> [u8; OUT_HEADER_LEN] {
 }
 
 /// The good reply with these bytes.
-pub fn data_reply(alloc: Global, unique: u64, data: &[u8]) -> Result<Vec<u8>, AllocError>
-    requires { length data.now < 2 ^ 20 }
+pub fn data_reply(alloc: Global, unique: u64, bytes: &[u8]) -> Result<Vec<u8>, AllocError>
+    requires { length bytes.now < 2 ^ 20 }
 {
-    let len = (OUT_HEADER_LEN + data.len()) as u32;
-    joined(alloc, &out_header(len, 0, unique), data)
+    let len = (OUT_HEADER_LEN + bytes.len()) as u32;
+    joined(alloc, &out_header(len, 0, unique), bytes)
 }
 
 /// The good reply with this record.

@@ -13,9 +13,11 @@ pub data ReadFailure : Type 0 where
 abbrev pub Read : Type 0 → Type 0
 Read X = Result (X × List ℕ) ReadFailure
 
+-- a way to read a value from the front of some bytes
 abbrev pub Reading : Type 0 → Type 0
 Reading X = List ℕ → Read X
 
+-- goes on with what was read, or stays refused
 abbrev pub and_then : {A B : Type 0} → Result A ReadFailure → (A → Result B ReadFailure) → Result B ReadFailure
 and_then (Ok x) f = f x
 and_then (Err r) f = Err r
@@ -26,6 +28,7 @@ abbrev pub ◌>>=◌ : {A B : Type 0} → Reading A → (A → Reading B) → Re
 p >>= f = λ bytes. and_then (p bytes) (λ x. f x.0 x.1)
 
 infixl 10 ◌>>◌
+-- one reading, whose value does not matter, and then another
 abbrev pub ◌>>◌ : {A B : Type 0} → Reading A → Reading B → Reading B
 p >> q = λ bytes. and_then (p bytes) (λ x. q x.1)
 
@@ -33,6 +36,7 @@ p >> q = λ bytes. and_then (p bytes) (λ x. q x.1)
 abbrev pub give : {A : Type 0} → A → Reading A
 give x = λ bytes. Ok (x, bytes)
 
+-- a refusal, whatever the bytes are
 abbrev pub refuse : {A : Type 0} → ReadFailure → Reading A
 refuse r = λ bytes. Err r
 
@@ -52,6 +56,7 @@ exactly n = λ bytes. if nat_lt (length bytes) n then Err (Faults DecodeMessage)
 abbrev pub within : {A : Type 0} → List ℕ → Reading A → Reading A
 within bytes p = λ others. and_then (p bytes) (λ x. Ok (x.0, others))
 
+-- one more byte in front of those before the zero
 abbrev pub before_zero : ℕ → Option (List ℕ × List ℕ) → Option (List ℕ × List ℕ)
 before_zero b split = option_map (λ p. (b ∷ p.0, p.1)) split
 
@@ -60,6 +65,7 @@ abbrev pub at_zero : List ℕ → Option (List ℕ × List ℕ)
 at_zero [] = None
 at_zero (b ∷ bs) = if b == 0 then Some ([], bs) else before_zero b (at_zero bs)
 
+-- the bytes before the zero and those after it; e where there is none
 abbrev pub ended_or : Error → Option (List ℕ × List ℕ) → Read (List ℕ)
 ended_or e None = Err (Faults e)
 ended_or e (Some split) = Ok split

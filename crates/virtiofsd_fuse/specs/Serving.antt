@@ -70,6 +70,7 @@ abbrev pub start_options : (options capable : ℕ) → FileAnswer → ℕ
 start_options options capable (Wants wanted) = agreed capable wanted
 start_options options capable _ = options
 
+-- these calls and options, and no reply: a fault, or silence
 abbrev pub no_reply : List FileCall → ℕ → Option Error → Served
 no_reply calls options fault = record { calls = calls; options = options; reply = []; fault = fault }
 
@@ -85,9 +86,11 @@ pub record Setting : Type 0 where
   pub options : ℕ
   pub room : ℕ
 
+-- a page size, the options that were agreed on, and the room for the reply
 abbrev pub setting : (page_size options room : ℕ) → Setting
 setting page_size options room = record { page_size = page_size; options = options; room = room }
 
+-- a call without an answer so far has no reply; with one the reply is told of it
 abbrev pub commanded : Setting → FileCommand → List FileAnswer → Served
 commanded s (One unique call) [] = no_reply (call ∷ []) s.options None
 commanded s (One unique call) (answer ∷ answers) =
@@ -125,6 +128,7 @@ abbrev pub is_memory : Error → Bool
 is_memory OutOfMemory = true
 is_memory _ = false
 
+-- whether the server's answer says that memory is wanting
 abbrev pub lacks_memory : Result ℕ Error → Bool
 lacks_memory (Ok n) = false
 lacks_memory (Err e) = is_memory e
@@ -150,6 +154,7 @@ abbrev pub told : Result ℕ Error → List ℕ → Result (List ℕ) Error
 told (Ok n) written = Ok written
 told (Err e) written = Err e
 
+-- a reply whole, or the fault that it is longer than the room
 abbrev pub sent : (room : ℕ) → List ℕ → Result (List ℕ) Error
 sent room bytes = if nat_lt room (length bytes) then Err EncodeMessage else Ok bytes
 

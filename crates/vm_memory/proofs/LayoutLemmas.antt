@@ -8,7 +8,7 @@ use Rattle.std.proofs.lemmas.Bool.{cases_eq}
 use Rattle.std.proofs.lemmas.Bool.Decides.{nat_tests}
 use Rattle.std.proofs.lemmas.Option.{get_or_from_slice_get, slice_get_within}
 use Rattle.std.proofs.lemmas.List.{drop_more, drop_all, length-map, map-append, take-map, take_more}
-use Rattle.vm_memory_core.specs.Table.{is_within}
+use Rattle.vm_iotlb.specs.Table.{is_within}
 use Rattle.vm_memory.specs.Layout.{AreHeld, last_address, Region, region_at, start_at, regions_of, overlap, AllFrom, IsLawful, IsLayout}
 use Rattle.vm_memory.specs.Backend.{last_of}
 use Rattle.vm_memory.specs.Collecting.{fault_between, fault_after, fault_of}

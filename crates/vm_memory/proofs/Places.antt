@@ -6,8 +6,8 @@ use Rattle.std.specs.List.{zip, list_all}
 use Rattle.std.proofs.Math.Dec.{eqb-zero-suc, eqb-suc-suc}
 use Rattle.std.proofs.lemmas.Bool.Decides.{nat_tests}
 use Rattle.std.proofs.lemmas.List.{map-append, length-take-le, take_at, get_or_default, length-map, drop_at, drop-drop}
-use Rattle.vm_memory_core.specs.declared.permissions.Permissions.TheVariants.{Read}
-use Rattle.vm_memory_core.specs.Table.{is_within}
+use Rattle.vm_iotlb.specs.declared.permissions.Permissions.TheVariants.{Read}
+use Rattle.vm_iotlb.specs.Table.{is_within}
 use Rattle.vm_memory_core.specs.Host.{Host, Place, byte_at}
 use Rattle.vm_memory_core.specs.Window.{Window, LiesIn, places_of, span, byte_in, put_byte, put_all}
 use Rattle.vm_memory_core.proofs.WindowLemmas.{take-put, zip-append}

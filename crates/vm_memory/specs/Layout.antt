@@ -4,7 +4,7 @@ use Rattle.std.specs.List.{filter}
 use Rattle.std.specs.Option.{option_or}
 use Rattle.std.specs.Arc.{arc_value}
 use Rattle.std.specs.declared.sync.Arc.{Arc}
-use Rattle.vm_memory_core.specs.Table.{is_within}
+use Rattle.vm_iotlb.specs.Table.{is_within}
 use Rattle.vm_memory_core.specs.Host.{Block, Place, host_of, lengths}
 
 -- size addresses from start on, which are the offsets of a block from 0 on
@@ -35,7 +35,7 @@ unfoldable pub place : List Region → ℕ → Option Place
 place [] a = None
 place (r ∷ rs) a = option_or (place_in r a) (place rs a)
 
--- layouts that are the same have an address at the same place
+-- a proof that `unfoldable` makes stand here, of which nothing has to be believed: layouts that are the same have an address at the same place
 pub place-same : (l m : List Region) (a : ℕ) → ◌≡◌ {A = Option (List Region)} (Some l) (Some m) → place l a ≡ place m a
 place-same l m a e = let same : l ≡ m = cc in rw same refl
 
@@ -49,10 +49,11 @@ abbrev pub left_of : ℕ → Option Region → ℕ
 left_of a None = 0
 left_of a (Some r) = r.start + r.size - a
 
+-- how many addresses from one on the region that has it still has; none where no region has it
 abbrev pub left_at : List Region → ℕ → ℕ
 left_at layout a = left_of a (region_at layout a)
 
--- layouts that are the same have as many addresses left
+-- and a second one: layouts that are the same have as many addresses left
 pub left_at-same : (l m : List Region) (a : ℕ) → ◌≡◌ {A = Option (List Region)} (Some l) (Some m) → left_at l a ≡ left_at m a
 left_at-same l m a e = let same : l ≡ m = cc in rw same refl
 
@@ -85,6 +86,7 @@ abbrev pub with_region : Region → List Region → List Region
 with_region r [] = r ∷ []
 with_region r (s ∷ rest) = if nat_lt r.start s.start then r ∷ s ∷ rest else s ∷ with_region r rest
 
+-- whether a region has this base and size
 abbrev pub is_region : ℕ → ℕ → Region → Bool
 is_region base size r = r.start == base && r.size == size
 

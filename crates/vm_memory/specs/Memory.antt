@@ -2,9 +2,9 @@
 use Rattle.std.specs.Prelude.{ℕ, zero, suc, ◌+◌, ◌%◌, ◌^◌, ◌==◌, Bool, false, ◌&&◌, nat_lt, List, [], ◌∷◌, ◌++◌, map, take, drop, Option, Some, None, if◌then◌else◌, unwrap_or, option_and_then, slice_get, is_some, option_map, Result, Ok, Err}
 use Rattle.std.specs.List.{list_all, zip}
 use Rattle.std.specs.Int.{Width, byte_len, from_le_bytes}
-use Rattle.vm_memory_core.specs.declared.permissions.Permissions.{Permissions}
-use Rattle.vm_memory_core.specs.declared.permissions.Permissions.TheVariants.{Read, Write}
-use Rattle.vm_memory_core.specs.Table.{Mapping, Table, nothing_mapped, allows}
+use Rattle.vm_iotlb.specs.declared.permissions.Permissions.{Permissions}
+use Rattle.vm_iotlb.specs.declared.permissions.Permissions.TheVariants.{Read, Write}
+use Rattle.vm_iotlb.specs.Table.{Mapping, Table, nothing_mapped, allows}
 use Rattle.vm_memory_core.specs.Host.{Host, Place, byte_at, with_byte, with_block_mark, with_io_mark}
 use Rattle.vm_memory.specs.Layout.{Region, place}
 use Rattle.vm_values.specs.declared.address.GuestAddress.{GuestAddress}

@@ -1,7 +1,7 @@
 -- What is asked of one region.
 use Rattle.std.specs.Prelude.{ℕ, ◌+◌, ◌-◌, nat_le, nat_lt, Option, Some, None, if◌then◌else◌, Result, Ok, Err}
 use Rattle.vm_values.specs.declared.address.MemoryRegionAddress.{MemoryRegionAddress}
-use Rattle.vm_memory_core.specs.Table.{is_within}
+use Rattle.vm_iotlb.specs.Table.{is_within}
 use Rattle.vm_memory_core.specs.Window.{Window}
 use Rattle.vm_memory.specs.Layout.{Region}
 use Rattle.vm_memory.specs.declared.region.HostAddress.{HostAddress}

@@ -5,7 +5,7 @@ ghost use Rattle.std.specs.Iterator.{at_most, Drains};
 ghost use Rattle.std.specs.List.{list_all};
 ghost use Rattle.vm_memory_core.specs.Host.{Host, Place, host_of};
 ghost use Rattle.vm_memory_core.specs.Window.{Window};
-ghost use Rattle.vm_memory_core.specs.declared.permissions.Permissions.{Permissions};
+ghost use Rattle.vm_iotlb.specs.declared.permissions.Permissions.{Permissions};
 ghost use Rattle.vm_memory.specs.Layout.{Region, left_at, left_at-same, place, place-same};
 ghost use Rattle.vm_memory.specs.Memory.{circular};
 ghost use Rattle.vm_memory.specs.declared.error.GuestMemoryError.{GuestMemoryError};

@@ -1,6 +1,6 @@
 -- The memory of the host: numbered blocks of bytes with their marked pages, numbered tables, and numbered sets of marked I/O pages.
 use Rattle.std.specs.Prelude.{ℕ, zero, suc, ◌+◌, ◌/◌, Bool, true, false, List, [], ◌∷◌, ◌++◌, length, map, replicate, Option, slice_get, slice_set, option_and_then}
-use Rattle.vm_memory_core.specs.Table.{Table}
+use Rattle.vm_iotlb.specs.Table.{Table}
 
 -- where a byte is: a block, and an offset in it
 pub record Place : Type 0 where

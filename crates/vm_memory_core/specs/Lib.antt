@@ -1,4 +1,3 @@
-pub mod Table
 pub mod Host
 pub mod Window
 pub mod Parts

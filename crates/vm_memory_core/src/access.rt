@@ -6,15 +6,15 @@ ghost use Rattle.vm_memory_core.specs.Host.{Host, Place, host_of, lengths};
 ghost use Rattle.vm_memory_core.specs.Window.{LiesIn};
 ghost use Rattle.vm_memory_core.specs.Access.{ReadsAll, ReadsSome, ReadsValue, WritesAll, WritesSome, reached_places};
 ghost use Rattle.vm_memory_core.specs.Reached.{length-reached_places};
-ghost use Rattle.vm_memory_core.specs.declared.permissions.Permissions.{Permissions};
+ghost use Rattle.vm_iotlb.specs.declared.permissions.Permissions.{Permissions};
 ghost use Rattle.vm_memory_core.specs.declared.error.VolatileMemoryError.TheVariants.{PartialBuffer};
 
 use crate::copy::put_at;
 use crate::error::VolatileMemoryError;
 use crate::host::HostMemory;
-use crate::permissions::Permissions;
 use crate::window::VolatileSlice;
 use vm_bitmaps::NewBitmap;
+use vm_iotlb::Permissions;
 use vm_values::ByteValued;
 
 /// Memory whose bytes are read and written by their address (vm-memory's `Bytes`). The host is lent to each

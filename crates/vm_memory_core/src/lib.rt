@@ -9,7 +9,6 @@ pub mod error;
 pub mod held;
 pub mod host;
 pub mod memory;
-pub mod permissions;
 pub mod unmarked;
 pub mod window;
 pub mod windows;
@@ -21,8 +20,11 @@ pub use error::{VolatileMemoryError, compute_offset};
 pub use held::HeldIn;
 pub use host::HostMemory;
 pub use memory::VolatileMemory;
-pub use permissions::Permissions;
+pub use vm_atomic_bitmaps::{AtomicBitmap, BitmapPass};
 pub use vm_bitmaps::{BaseSlice, Bitmap, NewBitmap, PageBitmap, RefSlice};
+pub use vm_iotlb::{
+    IommuError, Iotlb, IotlbFails, IotlbIterator, IovaRange, LookupError, MappedRange, Permissions,
+};
 pub use vm_values::{
     Address, AddressValue, Be16, Be32, Be64, ByteValued, GuestAddress, GuestUsize, Le16, Le32,
     Le64, MemoryRegionAddress,

@@ -1,6 +1,6 @@
 use Rattle.std.proofs.Common.{◌≡◌, true, ap, sym, ◌∙◌, Some}
 use Rattle.vm_memory_core.specs.Host.{host_of}
-use Rattle.vm_memory_core.specs.declared.permissions.Permissions.TheVariants.{Read}
+use Rattle.vm_iotlb.specs.declared.permissions.Permissions.TheVariants.{Read}
 use Rattle.vm_memory.specs.Memory.{memory_of, reach}
 use Rattle.fs_queue.proofs.ReadLemmas.{decoded}
 use Rattle.fs_queue.proofs.descriptor.read_descriptor.Goals as goal
