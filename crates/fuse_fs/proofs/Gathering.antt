@@ -4,7 +4,7 @@ use Rattle.std.specs.List.{concat}
 use Rattle.std.proofs.lemmas.List.{append-nil, nil_from_length}
 use Rattle.std.proofs.lemmas.List.Folds.{concat-append}
 use Rattle.fuse_fs.specs.Lengths.{filled, first, past, up_to}
-use Rattle.fuse_fs.specs.Transfers.{MayRead, moved, with_bytes, ReadsOnce, ReadsOn, ReadsEnd, Gathers}
+use Rattle.fuse_fs.specs.Transfers.{MayRead, moved, ReadsOnce, ReadsOn, ReadsEnd, Gathers}
 use Rattle.fuse_fs.proofs.Lengths.{sum-past, past_zero_of, past-past, past-up_to, first-up_to, filled-past, filled-up_to, up_to_min, first_some}
 
 -- a writer, by what was put in, how many bytes more there is room for, and in which segments that is

@@ -1,5 +1,5 @@
 -- Segments that are cut at a place.
-use Rattle.std.proofs.Common.{◌≡◌, ℕ, ◌+◌, ◌-◌, ◌<◌, ◌≤◌, min, sum, map, sym, List, [], ◌∷◌, ◌++◌, length, take, drop, ◌∙◌, ap, arith, refl, append_assoc, append-nil, length-append, get_or, ⊎_elim}
+use Rattle.std.proofs.Common.{◌≡◌, ℕ, ◌+◌, ◌-◌, ◌<◌, ◌≤◌, min, sum, sym, List, [], ◌∷◌, ◌++◌, length, take, drop, ◌∙◌, ap, arith, refl, append_assoc, append-nil, length-append, get_or, ⊎_elim}
 use Rattle.std.proofs.lemmas.List.{map-append, length-take-le, take-append-drop, nil_from_length, length-drop, take_all}
 use Rattle.std.proofs.lemmas.List.Folds.{length-flat_map-take}
 use Rattle.std.proofs.lemmas.Bool.{cases_lt}

@@ -1,10 +1,10 @@
 -- Places in segments, by how many bytes are before them.
-use Rattle.std.proofs.Common.{◌≡◌, ℕ, ◌+◌, ◌-◌, ◌<◌, ◌≤◌, min, sum, List, [], ◌∷◌, ◌++◌, length, take, drop, get_or, refl, sym, ap, ◌∙◌, arith}
+use Rattle.std.proofs.Common.{◌≡◌, ℕ, ◌+◌, ◌-◌, ◌<◌, ◌≤◌, sum, List, [], ◌∷◌, ◌++◌, length, take, drop, get_or, sym, ap, ◌∙◌, arith}
 use Rattle.std.proofs.lemmas.List.{drop_more, drop_all, take_all, take_more, take-take, take-append-le, length-take-le}
 use Rattle.std.proofs.lemmas.List.Sums.{sum_by-append}
 use Rattle.fuse_segments.specs.Places.{reached, IsIn}
 use Rattle.fuse_fs.specs.Lengths.{filled, first, past, up_to}
-use Rattle.fuse_fs.proofs.Lengths.{past_at, past_part, past_none, up_to_at, filled-append, sum-past, sum-up_to, filled-past, filled-up_to}
+use Rattle.fuse_fs.proofs.Lengths.{past_at, past_part, past_none, up_to_at, filled-append}
 
 -- what stands behind a place
 pub behind_some : (ns : List ℕ) (i used : ℕ) → IsIn ns i used → i < length ns → past used (drop i ns) ≡ (get_or ns i 0 - used) ∷ drop (i + 1) ns

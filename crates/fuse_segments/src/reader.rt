@@ -1,6 +1,6 @@
 //! What a request is read from (virtiofsd's `Reader`).
 
-ghost use Rattle.std.specs.Prelude.{◌≡◌, ℕ, ◌+◌, ◌<◌, ◌≤◌, ◌^◌, min, sum, List, [], ◌∷◌, ◌++◌, length, take, drop, map, cond, nat_le, Some, IsOk, IfOk, OnOk, IfErr, OnErr, option_map};
+ghost use Rattle.std.specs.Prelude.{◌≡◌, ◌+◌, ◌<◌, ◌≤◌, ◌^◌, min, sum, [], ◌∷◌, ◌++◌, length, take, drop, cond, nat_le, Some, IsOk, IfOk, OnOk, IfErr, OnErr, option_map};
 ghost use Rattle.std.specs.Io.{ReadsAtMost};
 ghost use Rattle.std.specs.Io.KnownBytes.{Consumes, ReadConsumes};
 ghost use Rattle.std.specs.IoError.{error_kind};

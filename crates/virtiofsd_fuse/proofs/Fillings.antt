@@ -1,6 +1,6 @@
 -- A writer of one segment as what files fill.
-use Rattle.std.proofs.Common.{◌≡◌, ℕ, ◌+◌, ◌-◌, ◌≤◌, min, List, [], ◌∷◌, ◌++◌, length, Result, sum, ◌∙◌, ap, sym, refl, arith}
-use Rattle.fuse_fs.specs.Lengths.{filled, first, past}
+use Rattle.std.proofs.Common.{◌≡◌, ℕ, ◌+◌, ◌-◌, min, List, [], ◌∷◌, ◌++◌, length, Result, ◌∙◌, ap, sym, refl, arith}
+use Rattle.fuse_fs.specs.Lengths.{filled, first}
 use Rattle.fuse_fs.specs.Transfers.{MayRead, ReadsOnce}
 use Rattle.fuse_fs.proofs.Gathering.{Filling, Offered, Added}
 use Rattle.fuse_fs.proofs.Lengths.{sum-cons, sum-filled, filled-filled, first_of, past_first}

@@ -1,5 +1,4 @@
-use Rattle.std.proofs.Common.{arith, refl, rules}
-use Rattle.std.proofs.lemmas.Grind.{common_steps}
+use Rattle.std.proofs.Common.{arith, refl}
 use Rattle.fuse_segments.proofs.Placing.{filled_more}
 use Rattle.fuse_segments.proofs.writer.filled_of.Goals as goal
 

@@ -1,6 +1,6 @@
 use Rattle.std.proofs.Common.{◌≡◌, ◌+◌, ◌≤◌, ◌++◌, length, take, drop, sym, ◌∙◌, ap, arith, rules}
 use Rattle.std.proofs.lemmas.Grind.{common_steps}
-use Rattle.std.proofs.lemmas.List.{drop-drop, length-drop, take-take, length-take-le}
+use Rattle.std.proofs.lemmas.List.{drop-drop, take-take, length-take-le}
 use Rattle.fuse_fs.specs.Lengths.{first, past}
 use Rattle.fuse_segments.proofs.Filling.{filled_more}
 use Rattle.fuse_fs.proofs.Lengths.{past-past, past_zero_of}

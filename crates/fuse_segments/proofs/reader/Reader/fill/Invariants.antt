@@ -1,4 +1,4 @@
-use Rattle.std.proofs.Common.{◌≡◌, ◌+◌, ◌-◌, ◌≤◌, ◌++◌, length, take, drop}
+use Rattle.std.proofs.Common.{◌≡◌, ◌+◌, ◌-◌, ◌≤◌, ◌++◌, take, drop}
 use Rattle.fuse_fs.specs.Lengths.{past}
 use Rattle.fuse_segments.proofs.reader.Reader.fill.Given as goal
 
