@@ -1,6 +1,6 @@
 -- What the file system writes down, and what it may answer.
 use Rattle.std.specs.Prelude.{◌≡◌, ℕ, nat_lt, List, [], ◌∷◌, ◌++◌, length, if◌then◌else◌}
-use Rattle.fuse_fs.specs.Calls.{FileCall, FileAnswer, Init, Lookup, Forget, Read, Found, Failed, Wants}
+use Rattle.fuse_fs.specs.Calls.{FileCall, FileAnswer, Init, Lookup, Forget, Read, HasEntry, Failed, Wants}
 use Rattle.call_log.specs.declared.files.CallLog.{CallLog}
 use Rattle.call_log.specs.declared.log.LoggedCall.{LoggedCall}
 use Rattle.call_log.specs.declared.log.LoggedCall.TheVariants as log
@@ -26,7 +26,7 @@ with_calls calls (call ∷ more) = with_calls (kept calls call) more
 abbrev pub MayAnswer : FileCall → FileAnswer → Type 0
 MayAnswer (Init capable) (Wants options) = options ≡ 0
 MayAnswer (Init capable) _ = ⊥
-MayAnswer (Lookup who parent name) (Found entry) = entry.inode ≡ 2
+MayAnswer (Lookup who parent name) (HasEntry entry) = entry.inode ≡ 2
 MayAnswer (Lookup who parent name) (Failed errno) = errno ≡ 2
 MayAnswer (Lookup who parent name) _ = ⊥
 MayAnswer _ _ = Unit {0}

@@ -11,9 +11,9 @@ use Rattle.fs_queue.specs.Taking.{Asked, Asks, CannotAsk}
 use Rattle.fs_queue.specs.Windows.{HoldsChain}
 use Rattle.fs_queue.proofs.TakeLemmas.{length-located}
 use Rattle.fuse_fs.specs.Calls.{FileCall, FileAnswer}
-use Rattle.virtiofsd_fuse.specs.declared.error.Error.{Error}
+use Rattle.fuse_segments.specs.declared.error.Error.{Error}
 use Rattle.virtiofsd_fuse.specs.Grammar.{Meaning, IsFault, Replies, IsSilent, Asks as Commands, One, Starts, meaning}
-use Rattle.virtiofsd_fuse.specs.declared.error.Error.TheVariants.{EncodeMessage}
+use Rattle.fuse_segments.specs.declared.error.Error.TheVariants.{EncodeMessage}
 use Rattle.virtiofsd_fuse.specs.Serving.{May, Served, no_reply, Setting, setting, served, served_of, replied, Handles, is_memory}
 use Rattle.virtiofsd_fuse.specs.Serving as server
 use Rattle.fs_device.specs.declared.exchange.Fault.{Fault}

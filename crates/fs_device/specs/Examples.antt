@@ -9,7 +9,7 @@ use Rattle.fs_queue.specs.declared.fault.QueueError.TheVariants as queue_error
 use Rattle.fs_queue.specs.Queue.{Queue, stopped}
 use Rattle.fs_queue.specs.Chain.{path, found}
 use Rattle.fs_queue.specs.Taking.{Offer, Idle, Refuses, Offers, Asks, CannotAsk, offer}
-use Rattle.virtiofsd_fuse.specs.declared.error.Error.TheVariants as error
+use Rattle.fuse_segments.specs.declared.error.Error.TheVariants as error
 use Rattle.vm_values.specs.Fields as fields
 use Rattle.virtiofsd_fuse.specs.Records.{reading_in_header}
 use Rattle.virtiofsd_fuse.specs.Examples.{zeros, le16, le32, le64, in_header_bytes}

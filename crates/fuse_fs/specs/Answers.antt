@@ -6,7 +6,7 @@ use Rattle.fuse_in.specs.declared.session.InHeader.{InHeader}
 use Rattle.fuse_wire.specs.declared.replies.EntryOut.{EntryOut}
 use Rattle.fuse_fs.specs.declared.answers.Context.{Context}
 use Rattle.fuse_fs.specs.declared.answers.Entry.{Entry}
-use Rattle.fuse_fs.specs.Calls.{FileAnswer, Failed, Found, Bytes, Wants}
+use Rattle.fuse_fs.specs.Calls.{FileAnswer, Failed, HasEntry, Bytes, Wants}
 
 -- who asks, by a request's header
 abbrev pub context_of : InHeader → Context
@@ -36,7 +36,7 @@ options_answer (Err e) = Failed e
 
 -- of `lookup`
 abbrev pub entry_answer : {I : Type 0} → (I → ℕ) → Result (Entry I) ℕ → FileAnswer
-entry_answer number (Ok e) = Found (numbered number e)
+entry_answer number (Ok e) = HasEntry (numbered number e)
 entry_answer number (Err e) = Failed e
 
 -- of `read`, with the bytes that were put in

@@ -75,7 +75,7 @@ pub data FileCall : Type 0 where
 pub data FileAnswer : Type 0 where
   Failed : (errno : ℕ) → FileAnswer
   Done : FileAnswer
-  Found : Entry ℕ → FileAnswer
+  HasEntry : Entry ℕ → FileAnswer
   HasAttr : Attr → Duration → FileAnswer
   Opened : (handle : Option ℕ) → (options : ℕ) → FileAnswer
   Created : Entry ℕ → (handle : Option ℕ) → (options : ℕ) → FileAnswer
@@ -138,7 +138,7 @@ never_fails _ = false
 -- whether a good answer is of a kind; a node's number has 64 bits
 abbrev pub is_of : Kind → FileAnswer → Bool
 is_of IsDone Done = true
-is_of IsEntry (Found e) = nat_lt e.inode (2 ^ 64)
+is_of IsEntry (HasEntry e) = nat_lt e.inode (2 ^ 64)
 is_of IsAttr (HasAttr a t) = true
 is_of IsOpen (Opened h o) = true
 is_of IsCreate (Created e h o) = nat_lt e.inode (2 ^ 64)

@@ -1,4 +1,5 @@
 pub mod Answers
 pub mod Calls
+pub mod Lengths
 pub mod Times
 pub mod Transfers

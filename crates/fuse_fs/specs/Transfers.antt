@@ -1,34 +1,86 @@
--- What calls of a file at following places move.
-use Rattle.std.specs.Prelude.{◌≡◌, ℕ, ◌+◌, ◌-◌, ◌^◌, ◌<◌, ◌≤◌, ◌⊎◌, List, [], ◌∷◌, length, take, Result, Ok, Err}
+-- What calls of a file move: each is lent one segment, at the place where the call before ended.
+use Rattle.std.specs.Prelude.{◌≡◌, ℕ, ◌+◌, ◌^◌, ◌<◌, ◌≤◌, ◌⊎◌, min, sum, List, [], ◌∷◌, length, take, drop, Option, Result, Ok, Err}
 use Rattle.std.specs.List.{concat}
+use Rattle.fuse_fs.specs.Lengths.{first, past}
+
+-- how many bytes a call moved
+abbrev pub moved : {E : Type 0} → Result ℕ E → ℕ
+moved (Ok n) = n
+moved (Err e) = 0
 
 -- what a read answered, by what stands in the buffer after it
 abbrev pub bytes_answer : Result ℕ ℕ → List ℕ → Result (List ℕ) ℕ
 bytes_answer (Ok n) buf = Ok (take n buf)
 bytes_answer (Err e) buf = Err e
 
--- what one read may answer: before, the bytes that are asked for, the place, the answer, after
-abbrev pub Gives : Type 0 → Type 1
-Gives F = F → ℕ → ℕ → Result (List ℕ) ℕ → F → Type 0
+-- what it answered, with the bytes that came
+abbrev pub with_bytes : Result ℕ ℕ → List ℕ → Result (List ℕ) ℕ
+with_bytes (Ok n) bytes = Ok bytes
+with_bytes (Err e) bytes = Err e
 
--- reads one after another, none of them empty, give these parts: each is asked for all that is still wanted, at the place
--- where the one before ended
-abbrev pub ReadsOn : {F : Type 0} → Gives F → F → (most off : ℕ) → List (List ℕ) → F → Type 0
-ReadsOn gives f most off [] g = g ≡ f
-ReadsOn {F} gives f most off (part ∷ parts) g =
-    (mid : F) × (length part ≤ most) × (0 < length part) × gives f most off (Ok part) mid
-    × ReadsOn gives mid (most - length part) (off + length part) parts g
+-- what one read of a file may answer: before, how many bytes are asked for, the place, the answer, after
+abbrev pub MayRead : Type 0 → Type 1
+MayRead F = F → ℕ → ℕ → Result (List ℕ) ℕ → F → Type 0
 
--- how reads end: nothing is wanted any more, or the last answer, to all that is still wanted, is 0 or an error, or the place
--- is past the greatest
-abbrev pub ReadsEnd : {F : Type 0} → Gives F → F → (most off total : ℕ) → Result ℕ ℕ → F → Type 0
-ReadsEnd gives f most off total (Ok n) g = (n ≡ total) × (((most ≡ 0) × (g ≡ f)) ⊎ ((0 < most) × gives f most off (Ok []) g))
-ReadsEnd gives f most off total (Err e) g = ((e ≡ 5) × (2 ^ 64 ≤ off) × (g ≡ f)) ⊎ ((0 < most) × gives f most off (Err e) g)
+-- what one write to it may answer: before, the bytes, the place, the flags, the answer, after
+abbrev pub MayWrite : Type 0 → Type 1
+MayWrite F = F → List ℕ → ℕ → Option ℕ → Result ℕ ℕ → F → Type 0
 
--- from f, this many bytes are asked for from a place on, and these came
-pub record Gathers {F : Type 0} (gives : Gives F) (f : F) (most off : ℕ) (bytes : List ℕ) (answer : Result ℕ ℕ) (g : F) : Type 0 where
+-- one read of at most this many bytes; none where that is 0
+abbrev pub ReadsOnce : {F : Type 0} → MayRead F → F → (most off : ℕ) → List ℕ → Result ℕ ℕ → F → Type 0
+ReadsOnce may f most off bytes answer g =
+    (moved answer ≡ length bytes)
+    × (((most ≡ 0) × (answer ≡ Ok 0) × (g ≡ f)) ⊎ ((0 < most) × (length bytes ≤ most) × may f most off (with_bytes answer bytes) g))
+
+-- reads one after another, none of them empty, give these parts: each is asked for all of the first segment that still has room
+abbrev pub ReadsOn : {F : Type 0} → MayRead F → F → (rooms : List ℕ) → (off : ℕ) → List (List ℕ) → F → Type 0
+ReadsOn may f rooms off [] g = g ≡ f
+ReadsOn {F} may f rooms off (part ∷ parts) g =
+    (mid : F) × (0 < length part) × (length part ≤ first rooms) × may f (first rooms) off (Ok part) mid
+    × ReadsOn may mid (past (length part) rooms) (off + length part) parts g
+
+-- how reads end: there is no room any more, or the last answer is 0 or an error; or the place is past the greatest, and no
+-- call is made
+abbrev pub ReadsEnd : {F : Type 0} → MayRead F → F → (rooms : List ℕ) → (off total : ℕ) → Result ℕ ℕ → F → Type 0
+ReadsEnd may f rooms off total (Ok n) g =
+    (n ≡ total) × (((first rooms ≡ 0) × (g ≡ f)) ⊎ ((0 < first rooms) × (off < 2 ^ 64) × may f (first rooms) off (Ok []) g))
+ReadsEnd may f rooms off total (Err e) g =
+    (0 < first rooms) × (((e ≡ 5) × (2 ^ 64 ≤ off) × (g ≡ f)) ⊎ ((off < 2 ^ 64) × may f (first rooms) off (Err e) g))
+
+-- from f, the room in these segments is to be filled from a place on, and these bytes came
+pub record Gathers {F : Type 0} (may : MayRead F) (f : F) (rooms : List ℕ) (off : ℕ) (bytes : List ℕ) (answer : Result ℕ ℕ) (g : F) : Type 0 where
   pub parts : List (List ℕ)
   pub mid : F
   pub whole : concat parts ≡ bytes
-  pub reads : ReadsOn gives f most off parts mid
-  pub ends : ReadsEnd gives mid (most - length bytes) (off + length bytes) (length bytes) answer g
+  pub reads : ReadsOn may f rooms off parts mid
+  pub ends : ReadsEnd may mid (past (length bytes) rooms) (off + length bytes) (length bytes) answer g
+
+-- one write of the front of the first segment, cut to count; none where count is 0 or nothing is left
+abbrev pub WritesOnce : {F : Type 0} → MayWrite F → F → (left segments : List ℕ) → (count off : ℕ) → Option ℕ → Result ℕ ℕ → F → Type 0
+WritesOnce may f left segments count off flags answer g =
+    ((min count (first segments) ≡ 0) × (answer ≡ Ok 0) × (g ≡ f))
+    ⊎ ((0 < min count (first segments)) × (moved answer ≤ min count (first segments)) × may f (take (min count (first segments)) left) off flags answer g)
+
+-- writes one after another, none of them answering 0: each is lent the first segment of what those before left
+abbrev pub WritesOn : {F : Type 0} → MayWrite F → F → (bytes segments : List ℕ) → (off : ℕ) → Option ℕ → List ℕ → F → Type 0
+WritesOn may f bytes segments off flags [] g = g ≡ f
+WritesOn {F} may f bytes segments off flags (n ∷ ns) g =
+    (mid : F) × (0 < n) × (n ≤ first segments) × may f (take (first segments) bytes) off flags (Ok n) mid
+    × WritesOn may mid (drop n bytes) (past n segments) (off + n) flags ns g
+
+-- how writes end: nothing is left, or the last answer is 0 or an error; or the place is past the greatest, and no call is made
+abbrev pub WritesEnd : {F : Type 0} → MayWrite F → F → (bytes segments : List ℕ) → (off : ℕ) → Option ℕ → (total : ℕ) → Result ℕ ℕ → F → Type 0
+WritesEnd may f bytes segments off flags total (Ok n) g =
+    (n ≡ total) × (((first segments ≡ 0) × (g ≡ f))
+    ⊎ ((0 < first segments) × (off < 2 ^ 64) × may f (take (first segments) bytes) off flags (Ok 0) g))
+WritesEnd may f bytes segments off flags total (Err e) g =
+    (0 < first segments) × (((e ≡ 5) × (2 ^ 64 ≤ off) × (g ≡ f))
+    ⊎ ((off < 2 ^ 64) × may f (take (first segments) bytes) off flags (Err e) g))
+
+-- from f, these bytes in these segments are to be written from a place on, and so many of them were
+pub record Spends {F : Type 0} (may : MayWrite F) (f : F) (bytes segments : List ℕ) (off : ℕ) (flags : Option ℕ) (total : ℕ) (answer : Result ℕ ℕ) (g : F) : Type 0 where
+  pub parts : List ℕ
+  pub mid : F
+  pub whole : sum parts ≡ total
+  pub writes : WritesOn may f bytes segments off flags parts mid
+  pub ends : WritesEnd may mid (drop total bytes) (past total segments) (off + total) flags total answer g

@@ -7,4 +7,4 @@ pub mod zero_copy;
 
 pub use answers::{Context, Entry, Timeout};
 pub use file_system::{FileNumber, FileSystem};
-pub use zero_copy::{PositionedFile, WritevFlags, ZeroCopyWriter};
+pub use zero_copy::{PositionedFile, WritevFlags, ZeroCopyReader, ZeroCopyWriter};

@@ -1,7 +1,8 @@
 //! Files that are read and written at a place, and what they fill.
 
-ghost use Rattle.std.specs.Prelude.{◌≡◌, ℕ, ◌+◌, ◌≤◌, min, List, ◌++◌, length, Result, Ok, Err, IfOk, IfErr, Option, option_map, vec_len, vec_capacity};
-ghost use Rattle.fuse_fs.specs.Transfers.{bytes_answer, Gathers};
+ghost use Rattle.std.specs.Prelude.{◌≡◌, ℕ, ◌+◌, ◌≤◌, List, ◌++◌, length, take, drop, Result, Ok, Err, IfOk, IfErr, Option, option_map, vec_len, vec_capacity};
+ghost use Rattle.fuse_fs.specs.Lengths.{past, up_to};
+ghost use Rattle.fuse_fs.specs.Transfers.{bytes_answer, Gathers, Spends};
 
 use fuse_base::Errno;
 
@@ -59,8 +60,11 @@ pub trait ZeroCopyWriter {
     // How many bytes more there is room for.
     ghost room: { Self → ℕ };
 
-    /// Puts in what a file has at a place: it is read on until the count is done, the room is used up, or it answers 0 or
-    /// an error, and each time it is asked for all that is left of both. A place past 2^64 - 1 is EIO.
+    // The lengths of the segments in which that room is.
+    ghost rooms: { Self → List ℕ };
+
+    /// Puts in what a file has at a place: it is asked for one segment after another, until the count is done, the room is
+    /// used up, or it answers 0 or an error. Where there is room left for a place past 2^64 - 1, that is EIO.
     fn read_from_file_at<F: PositionedFile>(
         &mut self,
         file: &mut F,
@@ -68,13 +72,16 @@ pub trait ZeroCopyWriter {
         off: u64,
     ) -> Result<usize, Errno>
         ensures { (bytes : List ℕ) × (put self.new ≡ put self.old ++ bytes) × (room self.old ≡ room self.new + length bytes)
-            × Gathers F.read_gives file.old (min count (room self.old)) off bytes result file.new };
+            × (rooms self.new ≡ past (length bytes) (rooms self.old))
+            × Gathers F.read_gives file.old (up_to count (rooms self.old)) off bytes result file.new };
 }
 
 impl<Inner: ZeroCopyWriter> ZeroCopyWriter for &mut Inner {
     ghost put = { λ w. Inner.put w.now };
 
     ghost room = { λ w. Inner.room w.now };
+
+    ghost rooms = { λ w. Inner.rooms w.now };
 
     fn read_from_file_at<F: PositionedFile>(
         &mut self,
@@ -83,5 +90,49 @@ impl<Inner: ZeroCopyWriter> ZeroCopyWriter for &mut Inner {
         off: u64,
     ) -> Result<usize, Errno> {
         (**self).read_from_file_at(file, count, off)
+    }
+}
+
+/// Where a file system takes the bytes from that it writes.
+pub trait ZeroCopyReader {
+    // What is left.
+    ghost left: { Self → List ℕ };
+
+    // The lengths of the segments in which it stands.
+    ghost segments: { Self → List ℕ };
+
+    // How many bytes were read.
+    ghost read: { Self → ℕ };
+
+    /// Has a file write what is left at a place: it is lent one segment after another, until the count is done, nothing is
+    /// left, or it answers 0 or an error. Where a byte is left for a place past 2^64 - 1, that is EIO.
+    fn write_to_file_at<F: PositionedFile>(
+        &mut self,
+        file: &mut F,
+        count: usize,
+        off: u64,
+        flags: Option<WritevFlags>,
+    ) -> Result<usize, Errno>
+        ensures { (n : ℕ) × (n ≤ length (left self.old)) × (left self.new ≡ drop n (left self.old))
+            × (segments self.new ≡ past n (segments self.old)) × (read self.new ≡ read self.old + n)
+            × Spends F.write_gives file.old (take count (left self.old)) (up_to count (segments self.old)) off (option_map (λ f. f.0) flags)
+            n result file.new };
+}
+
+impl<Inner: ZeroCopyReader> ZeroCopyReader for &mut Inner {
+    ghost left = { λ r. Inner.left r.now };
+
+    ghost segments = { λ r. Inner.segments r.now };
+
+    ghost read = { λ r. Inner.read r.now };
+
+    fn write_to_file_at<F: PositionedFile>(
+        &mut self,
+        file: &mut F,
+        count: usize,
+        off: u64,
+        flags: Option<WritevFlags>,
+    ) -> Result<usize, Errno> {
+        (**self).write_to_file_at(file, count, off, flags)
     }
 }

@@ -1,4 +1,5 @@
-pub mod Bounds
 pub mod Cutting
 pub mod Filling
+pub mod Fillings
+pub mod Placing
 pub mod Spending

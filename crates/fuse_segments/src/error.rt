@@ -41,11 +41,11 @@ pub enum Error {
 }
 
 impl Error {
-    ghost use Rattle.fuse_segments.specs.Errors.{fault_number};
+    ghost use Rattle.fuse_segments.specs.Errors.{error_number};
 
     /// The number that tells the fault apart, from 1 to 13.
     pub fn number(&self) -> u8
-        ensures { result ≡ fault_number self.now }
+        ensures { result ≡ error_number self.now }
     {
         match self {
             Error::DecodeMessage => 1,

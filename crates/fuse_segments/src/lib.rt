@@ -9,7 +9,7 @@ pub mod zero_copy;
 pub use error::Error;
 pub use reader::Reader;
 pub use writer::Writer;
-pub use zero_copy::{ZcReader, ZeroCopyReader};
+pub use zero_copy::{ZcReader, ZcWriter};
 
 /// What a descriptor is for.
 #[derive(Clone, Copy, Debug, PartialEq, Eq)]

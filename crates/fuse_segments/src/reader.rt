@@ -1,12 +1,13 @@
 //! What a request is read from (virtiofsd's `Reader`).
 
-ghost use Rattle.std.specs.Prelude.{◌≡◌, ℕ, ◌+◌, ◌<◌, ◌≤◌, ◌^◌, min, List, [], ◌∷◌, ◌++◌, length, take, drop, map, cond, nat_le, Some, IsOk, IfOk, OnOk, IfErr, OnErr, option_map};
+ghost use Rattle.std.specs.Prelude.{◌≡◌, ◌+◌, ◌<◌, ◌≤◌, ◌^◌, min, sum, [], ◌∷◌, ◌++◌, length, take, drop, cond, nat_le, Some, IsOk, IfOk, OnOk, IfErr, OnErr, option_map};
 ghost use Rattle.std.specs.Io.{ReadsAtMost};
 ghost use Rattle.std.specs.Io.KnownBytes.{Consumes, ReadConsumes};
 ghost use Rattle.std.specs.IoError.{error_kind};
 ghost use Rattle.vm_values.specs.Fields.{spelled, AllFit};
-ghost use Rattle.fuse_segments.specs.Segments.{joined, all_of, lengths, first_filled};
-ghost use Rattle.fuse_segments.specs.Transfers.{moved, WritesOnce};
+ghost use Rattle.fuse_fs.specs.Lengths.{filled, first, past, up_to};
+ghost use Rattle.fuse_segments.specs.Segments.{joined, all_of, lengths};
+ghost use Rattle.fuse_fs.specs.Transfers.{moved, WritesOnce};
 
 use crate::error::Error;
 use fuse_fs::{PositionedFile, WritevFlags};
@@ -28,23 +29,28 @@ pub struct Reader<'a> {
 }
 
 impl<'a> Model for Reader<'a> {
-    ghost use Rattle.std.specs.Prelude.{◌≡◌, ◌+◌, ◌<◌, ◌^◌, [], length};
+    ghost use Rattle.std.specs.Prelude.{◌≡◌, ◌+◌, ◌<◌, ◌^◌, [], ◌∷◌, length};
     ghost use Rattle.fuse_segments.specs.Views.{ReaderView};
-    ghost use Rattle.fuse_segments.specs.Segments.{all_of};
+    ghost use Rattle.fuse_fs.specs.Lengths.{filled};
+    ghost use Rattle.fuse_segments.specs.Segments.{all_of, lengths};
 
     ghost Value = { ReaderView };
 
-    ghost view = { λ r. record { left = all_of r.first.now r.later.items; first = length r.first.now; read = r.read } };
+    ghost view = { λ r. record {
+      left = all_of r.first.now r.later.items;
+      segments = filled (length r.first.now ∷ lengths r.later.items);
+      read = r.read;
+    } };
 
     ghost invariant = { λ r. (r.left ≡ length (all_of r.first.now r.later.items)) × (r.left + r.read < 2 ^ 64)
-        × (length r.first.now ≡ 0 → all_of r.first.now r.later.items ≡ []) };
+        × (length r.first.now ≡ 0 → r.later.items ≡ []) };
 }
 
 // A segment that isn't empty, where one is left: this one, or the next one of those behind it.
 fn next_filled<'a>(segment: &'a [u8], later: &mut VecDeque<&'a [u8]>) -> &'a [u8]
     ensures all { all_of result.now later.new.items ≡ all_of segment.now later.old.items }
-    ensures filled { length result.now ≡ 0 → all_of result.now later.new.items ≡ [] }
-    ensures len { length result.now ≡ first_filled (length segment.now ∷ lengths later.old.items) }
+    ensures segments { filled (length result.now ∷ lengths later.new.items) ≡ filled (length segment.now ∷ lengths later.old.items) }
+    ensures end { length result.now ≡ 0 → later.new.items ≡ [] }
 {
     let mut current = segment;
     while current.is_empty() {
@@ -57,7 +63,7 @@ fn next_filled<'a>(segment: &'a [u8], later: &mut VecDeque<&'a [u8]>) -> &'a [u8
 }
 
 // Takes the first bytes off a queue of segments, as a queue of their own; with what is left of the segment where they end.
-#[tactic(auto, using(crate::proofs::Cutting::moved_front, crate::proofs::Cutting::moved_len, crate::proofs::Cutting::nothing_past))]
+#[tactic(auto, using(crate::proofs::Cutting::nothing_past))]
 fn take_front<'a>(
     alloc: Global,
     queue: &mut VecDeque<&'a [u8]>,
@@ -66,6 +72,8 @@ fn take_front<'a>(
     requires { offset ≤ length (joined queue.old.items) }
     ensures front { IfOk result (λ p. joined p.0.items ≡ take offset (joined queue.old.items)) }
     ensures rest { IfOk result (λ p. all_of p.1.now queue.new.items ≡ drop offset (joined queue.old.items)) }
+    ensures before { IfOk result (λ p. filled (lengths p.0.items) ≡ up_to offset (filled (lengths queue.old.items))) }
+    ensures behind { IfOk result (λ p. filled (length p.1.now ∷ lengths queue.new.items) ≡ past offset (filled (lengths queue.old.items))) }
     ensures err { IfErr result (λ e. (e ≡ Error.OutOfMemory) × (queue.new ≡ queue.old)) }
 {
     let Ok(mut front) = VecDeque::with_capacity(alloc, queue.len()) else {
@@ -107,7 +115,7 @@ fn write_at(buf: &mut [u8], at: usize, bytes: &[u8])
 impl<'a> Reader<'a> {
     /// A reader of these segments, one after another. DescriptorChainOverflow where their lengths' sum doesn't fit usize.
     pub fn new(segments: Vec<&'a [u8]>) -> Result<Reader<'a>, Error>
-        ensures ok { IfOk result (λ r. (r.left ≡ joined segments.entry.items) × (r.first ≡ first_filled (lengths segments.entry.items)) × (r.read ≡ 0)) }
+        ensures ok { IfOk result (λ r. (r.left ≡ joined segments.entry.items) × (r.segments ≡ filled (lengths segments.entry.items)) × (r.read ≡ 0)) }
         ensures fits { OnOk result (length (joined segments.entry.items) < 2 ^ 64) }
         ensures err { IfErr result (λ e. (e ≡ Error.DescriptorChainOverflow) × (2 ^ 64 ≤ length (joined segments.entry.items))) }
     {
@@ -125,7 +133,7 @@ impl<'a> Reader<'a> {
     fn over(segment: &'a [u8], later: VecDeque<&'a [u8]>, left: usize) -> Reader<'a>
         requires { left ≡ length (all_of segment.now later.items) }
         ensures left { result.left ≡ all_of segment.entry.now later.entry.items }
-        ensures first { result.first ≡ first_filled (length segment.entry.now ∷ lengths later.entry.items) }
+        ensures segments { result.segments ≡ filled (length segment.entry.now ∷ lengths later.entry.items) }
         ensures read { result.read ≡ 0 }
     {
         let mut later = later;
@@ -141,7 +149,7 @@ impl<'a> Reader<'a> {
     /// How many bytes are left.
     pub fn available_bytes(&self) -> usize
         ensures left { result ≡ length self.now.left }
-        ensures first { (self.now.first ≤ length self.now.left) × (0 < length self.now.left → 0 < self.now.first) }
+        ensures segments { (sum self.now.segments ≡ length self.now.left) × (filled self.now.segments ≡ self.now.segments) }
     {
         self.left
     }
@@ -154,22 +162,24 @@ impl<'a> Reader<'a> {
     }
 
     // The first segment that isn't empty; an empty one where no byte is left.
+    #[tactic(auto, using(fuse_fs::proofs::Lengths::first_of))]
     fn segment(&self) -> &'a [u8]
-        ensures bytes { result.now ≡ take self.now.first self.now.left }
-        ensures len { length result.now ≡ self.now.first }
-        ensures within { self.now.first ≤ length self.now.left }
-        ensures end { self.now.first ≡ 0 → self.now.left ≡ [] }
+        ensures bytes { result.now ≡ take (first self.now.segments) self.now.left }
+        ensures len { length result.now ≡ first self.now.segments }
+        ensures within { first self.now.segments ≤ length self.now.left }
+        ensures end { first self.now.segments ≡ 0 → self.now.left ≡ [] }
+        ensures all { past 0 self.now.segments ≡ self.now.segments }
     {
         self.first
     }
 
     // Reads over some bytes of the first segment.
+    #[tactic(auto, using(fuse_fs::proofs::Lengths::past_first, fuse_fs::proofs::Lengths::first_of))]
     fn advance(&mut self, n: usize)
-        requires { n ≤ self.old.first }
+        requires { n ≤ first self.old.segments }
         ensures left { self.new.left ≡ drop n self.old.left }
-        ensures first { n < self.old.first → self.new.first + n ≡ self.old.first }
+        ensures segments { self.new.segments ≡ past n self.old.segments }
         ensures read { self.new.read ≡ self.old.read + n }
-        ensures none { n ≡ 0 → self.new.first ≡ self.old.first }
     {
         let segment = self.first;
         self.first = next_filled(&segment[n..], &mut self.later);
@@ -182,30 +192,28 @@ impl<'a> Reader<'a> {
         ensures count { result ≡ min (length buf.old) (length self.old.left) }
         ensures bytes { buf.new ≡ take result self.old.left ++ drop result buf.old }
         ensures left { self.new.left ≡ drop result self.old.left }
-        ensures first { result < self.old.first → self.new.first + result ≡ self.old.first }
+        ensures segments { self.new.segments ≡ past result self.old.segments }
         ensures read { self.new.read ≡ self.old.read + result }
     {
+        let count = buf.len().min(self.available_bytes());
         let mut done = 0;
-        while done < buf.len() {
+        while done < count {
             let segment = self.segment();
-            if segment.is_empty() {
-                return done;
-            }
-            let n = segment.len().min(buf.len() - done);
+            let n = segment.len().min(count - done);
             write_at(buf, done, &segment[..n]);
             self.advance(n);
             done += n;
         }
-        done
+        count
     }
 
     /// The value that the next bytes spell. Where there are too few, they are used up, and the end is unexpected.
     pub fn read_obj<T: ByteValued>(&mut self) -> Result<T, Error>
         ensures ok { IfOk result (λ x. (self.old.left ≡ spelled (T.fields x) ++ self.new.left) × AllFit (T.fields x)
             × (self.new.read ≡ self.old.read + T.SIZE)) }
-        ensures first { OnOk result (T.SIZE < self.old.first → self.new.first + T.SIZE ≡ self.old.first) }
+        ensures segments { OnOk result (self.new.segments ≡ past T.SIZE self.old.segments) }
         ensures err { IfErr result (λ e. (e ≡ Error.IoError ErrorKind.UnexpectedEof) × (length self.old.left < T.SIZE) × (self.new.left ≡ [])
-            × (self.new.read ≡ self.old.read + length self.old.left)) }
+            × (self.new.segments ≡ past (length self.old.left) self.old.segments) × (self.new.read ≡ self.old.read + length self.old.left)) }
     {
         let segment = self.segment();
         if T::SIZE <= segment.len() {
@@ -229,9 +237,9 @@ impl<'a> Reader<'a> {
         off: u64,
         flags: Option<WritevFlags>,
     ) -> Result<usize, Errno>
-        ensures once { WritesOnce F.write_gives file.old self.old.left self.old.first count off (option_map (λ f. f.0) flags) result file.new }
+        ensures once { WritesOnce F.write_gives file.old self.old.left self.old.segments count off (option_map (λ f. f.0) flags) result file.new }
         ensures left { self.new.left ≡ drop (moved result) self.old.left }
-        ensures first { moved result < self.old.first → self.new.first + moved result ≡ self.old.first }
+        ensures segments { self.new.segments ≡ past (moved result) self.old.segments }
         ensures read { self.new.read ≡ self.old.read + moved result }
         ensures err { OnErr result (self.new ≡ self.old) }
     {
@@ -240,9 +248,13 @@ impl<'a> Reader<'a> {
         if most == 0 {
             return Ok(0);
         }
-        let n = file.write_at(&segment[..most], off, flags)?;
-        self.advance(n);
-        Ok(n)
+        match file.write_at(&segment[..most], off, flags) {
+            Ok(n) => {
+                self.advance(n);
+                Ok(n)
+            }
+            Err(error) => Err(error),
+        }
     }
 
     /// Splits what is left at a place: what stands behind it goes to a reader of its own, with no byte read.
@@ -250,10 +262,10 @@ impl<'a> Reader<'a> {
     #[tactic(auto, using(crate::proofs::Cutting::take_past, crate::proofs::Cutting::drop_past))]
     pub fn split_at(&mut self, alloc: Global, offset: usize) -> Result<Reader<'a>, Error>
         ensures left { OnOk result ((offset ≤ length self.old.left) × (self.new.left ≡ take offset self.old.left)) }
-        ensures first { OnOk result (self.new.first ≡ min offset self.old.first) }
+        ensures segments { OnOk result (self.new.segments ≡ up_to offset self.old.segments) }
         ensures read { self.new.read ≡ self.old.read }
-        ensures other { IfOk result (λ r. (r.left ≡ drop offset self.old.left) × (r.read ≡ 0)
-            × (offset < self.old.first → r.first + offset ≡ self.old.first)) }
+        ensures other { IfOk result (λ r. (r.left ≡ drop offset self.old.left) × (r.read ≡ 0)) }
+        ensures behind { IfOk result (λ r. r.segments ≡ past offset self.old.segments) }
         ensures err { IfErr result (λ e. (e ≡ cond (nat_le offset (length self.old.left)) Error.OutOfMemory (Error.SplitOutOfBounds offset))
             × (self.new ≡ self.old)) }
     {
@@ -284,7 +296,7 @@ impl<'a> Read for Reader<'a> {
         ensures ok { IsOk result }
         ensures count { IfOk result (λ n. n ≡ min (length buf.old) (length self.old.left)) }
         ensures behind { IfOk result (λ n. buf.new ≡ take n self.old.left ++ drop n buf.old) }
-        ensures first { IfOk result (λ n. n < self.old.first → self.new.first + n ≡ self.old.first) }
+        ensures segments { IfOk result (λ n. self.new.segments ≡ past n self.old.segments) }
         ensures read { IfOk result (λ n. self.new.read ≡ self.old.read + n) }
     {
         Ok(self.fill(buf))
@@ -292,10 +304,10 @@ impl<'a> Read for Reader<'a> {
 
     fn read_exact(&mut self, buf: &mut [u8]) -> io::Result<()>
         ensures bytes { OnOk result (Consumes (Some self.old.left) (Some self.new.left) buf.new) }
-        ensures first { OnOk result (length buf.old < self.old.first → self.new.first + length buf.old ≡ self.old.first) }
+        ensures segments { OnOk result (self.new.segments ≡ past (length buf.old) self.old.segments) }
         ensures read { OnOk result (self.new.read ≡ self.old.read + length buf.old) }
         ensures err { IfErr result (λ e. (error_kind e ≡ ErrorKind.UnexpectedEof) × (length self.old.left < length buf.old) × (self.new.left ≡ [])
-            × (self.new.read ≡ self.old.read + length self.old.left)) }
+            × (self.new.segments ≡ past (length self.old.left) self.old.segments) × (self.new.read ≡ self.old.read + length self.old.left)) }
     {
         if self.fill(buf) < buf.len() {
             return Err(io::Error::from(ErrorKind::UnexpectedEof));

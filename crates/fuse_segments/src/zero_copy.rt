@@ -1,45 +1,13 @@
-//! Readers that files empty (virtiofsd's `ZcReader`).
+//! Readers that files empty, and writers that they fill (virtiofsd's `ZcReader` and `ZcWriter`).
 
-ghost use Rattle.std.specs.Prelude.{◌≡◌, ℕ, ◌≤◌, List, length, take, drop, option_map};
-ghost use Rattle.fuse_segments.specs.Transfers.{Spends};
+ghost use Rattle.fuse_segments.specs.Views.{rooms};
 
 use crate::reader::Reader;
-use fuse_fs::{PositionedFile, WritevFlags};
+use crate::writer::Writer;
+use fuse_fs::{PositionedFile, WritevFlags, ZeroCopyReader, ZeroCopyWriter};
 use fuse_wire::Errno;
 
-/// Where a file system takes the bytes from that it writes.
-pub trait ZeroCopyReader {
-    // What is left.
-    ghost left: { Self → List ℕ };
-
-    /// Has a file write what is left at a place: it is written on until the count is done, nothing is left, or the file
-    /// answers 0 or an error. A place past 2^64 - 1 is EIO.
-    fn write_to_file_at<F: PositionedFile>(
-        &mut self,
-        file: &mut F,
-        count: usize,
-        off: u64,
-        flags: Option<WritevFlags>,
-    ) -> Result<usize, Errno>
-        ensures { (n : ℕ) × (n ≤ length (left self.old)) × (left self.new ≡ drop n (left self.old))
-            × Spends F.write_gives file.old (take count (left self.old)) off (option_map (λ f. f.0) flags) n result file.new };
-}
-
-impl<Inner: ZeroCopyReader> ZeroCopyReader for &mut Inner {
-    ghost left = { λ r. Inner.left r.now };
-
-    fn write_to_file_at<F: PositionedFile>(
-        &mut self,
-        file: &mut F,
-        count: usize,
-        off: u64,
-        flags: Option<WritevFlags>,
-    ) -> Result<usize, Errno> {
-        (**self).write_to_file_at(file, count, off, flags)
-    }
-}
-
-/// A reader of the data that a file system is to write. A file is written on until the count is done or an answer is 0.
+/// A reader of the data that a file system is to write. A file is lent one segment after another.
 #[derive(Drop)]
 pub struct ZcReader<'a> {
     pub reader: Reader<'a>,
@@ -48,6 +16,10 @@ pub struct ZcReader<'a> {
 impl<'a> ZeroCopyReader for ZcReader<'a> {
     ghost left = { λ z. z.reader.left };
 
+    ghost segments = { λ z. z.reader.segments };
+
+    ghost read = { λ z. z.reader.read };
+
     fn write_to_file_at<F: PositionedFile>(
         &mut self,
         file: &mut F,
@@ -55,14 +27,50 @@ impl<'a> ZeroCopyReader for ZcReader<'a> {
         off: u64,
         flags: Option<WritevFlags>,
     ) -> Result<usize, Errno> {
+        let most = count.min(self.reader.available_bytes());
         let mut done = 0;
-        while done < count {
+        while done < most {
             let Some(place) = off.checked_add(done as u64) else {
                 return Err(Errno::EIO);
             };
             let n = self
                 .reader
-                .write_to_file_at(file, count - done, place, flags)?;
+                .write_to_file_at(file, most - done, place, flags)?;
+            if n == 0 {
+                return Ok(done);
+            }
+            done += n;
+        }
+        Ok(done)
+    }
+}
+
+/// A writer of the data that a file system reads. A file is asked for one segment after another.
+#[derive(Drop)]
+pub struct ZcWriter {
+    pub writer: Writer,
+}
+
+impl ZeroCopyWriter for ZcWriter {
+    ghost put = { λ z. z.writer.written };
+
+    ghost room = { λ z. z.writer.free };
+
+    ghost rooms = { λ z. rooms z.writer };
+
+    fn read_from_file_at<F: PositionedFile>(
+        &mut self,
+        file: &mut F,
+        count: usize,
+        off: u64,
+    ) -> Result<usize, Errno> {
+        let most = count.min(self.writer.available_bytes());
+        let mut done = 0;
+        while done < most {
+            let Some(place) = off.checked_add(done as u64) else {
+                return Err(Errno::EIO);
+            };
+            let n = self.writer.read_from_file_at(file, most - done, place)?;
             if n == 0 {
                 return Ok(done);
             }

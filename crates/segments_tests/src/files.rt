@@ -2,8 +2,8 @@
 
 ghost use Rattle.std.specs.Prelude.{⊤};
 
-use fuse_fs::{PositionedFile, WritevFlags};
-use fuse_segments::{Reader, Writer, ZcReader, ZeroCopyReader};
+use fuse_fs::{PositionedFile, WritevFlags, ZeroCopyReader, ZeroCopyWriter};
+use fuse_segments::{Reader, Writer, ZcReader, ZcWriter};
 use fuse_wire::Errno;
 use std::test::Fail;
 
@@ -126,6 +126,20 @@ fn files_are_written_on(rt: HostRuntime) -> Result<(), Fail> {
     Ok(())
 }
 
+#[test]
+fn files_are_read_on(rt: HostRuntime) -> Result<(), Fail> {
+    let mut z = ZcWriter {
+        writer: Writer::new(rt.alloc(), &[16, 8])?,
+    };
+    let mut disk = Disk::new();
+    disk.bytes = [9; 64];
+    assert!(rt; (&mut z).read_from_file_at(&mut disk, 20, 50) == Ok(14));
+    assert!(rt; z.read_from_file_at(&mut disk, 20, 0) == Ok(10));
+    assert_eq!(rt; disk.last, 2);
+    assert!(rt; z.writer.into_written().as_slice() == [9; 24].as_slice());
+    Ok(())
+}
+
 // A file without an end, of which each byte is 1.
 #[derive(Drop)]
 struct Endless {}
@@ -162,5 +176,6 @@ fn places_past_the_greatest(rt: HostRuntime) -> Result<(), Fail> {
     let written = z.write_to_file_at(&mut Endless {}, 9, u64::MAX, None);
     assert!(rt; written == Err(Errno::EIO));
     assert_eq!(rt; z.reader.bytes_read(), 1);
+    assert!(rt; z.write_to_file_at(&mut Endless {}, 9, u64::MAX, None) == Ok(8));
     Ok(())
 }

@@ -1,4 +1,4 @@
-pub mod Gathering
+pub mod Fillings
 pub mod NameLemmas
 pub mod Options
 pub mod RecordLemmas

@@ -6,7 +6,7 @@ use Rattle.std.proofs.Math.Dec.{ltb}
 use Rattle.std.proofs.lemmas.Bool.{lt-ltb, le-ltb}
 use Rattle.std.proofs.lemmas.Bool.Decides.{nat_tests}
 use Rattle.std.proofs.lemmas.List.{take_at, drop_at, length-drop}
-use Rattle.virtiofsd_fuse.specs.declared.error.Error.TheVariants.{InvalidCString, DecodeMessage, InvalidHeaderLength}
+use Rattle.fuse_segments.specs.declared.error.Error.TheVariants.{InvalidCString, DecodeMessage, InvalidHeaderLength}
 use Rattle.virtiofsd_fuse.specs.Reading.{Read, Faults, and_then, at_zero, before_zero, last_name, value_of}
 use Rattle.virtiofsd_fuse.specs.Grammar.{one_name}
 

@@ -13,8 +13,8 @@ use Rattle.fuse_in.specs.declared.session.InitInCompat.{InitInCompat}
 use Rattle.fuse_in.specs.declared.session.InitInExt.{InitInExt}
 use Rattle.fuse_in.specs.declared.session.ForgetIn.{ForgetIn}
 use Rattle.fuse_in.specs.declared.files.ReadIn.{ReadIn}
-use Rattle.virtiofsd_fuse.specs.declared.error.Error.TheVariants.{DecodeMessage}
-use Rattle.virtiofsd_fuse.specs.declared.error.Error.{Error}
+use Rattle.fuse_segments.specs.declared.error.Error.TheVariants.{DecodeMessage}
+use Rattle.fuse_segments.specs.declared.error.Error.{Error}
 use Rattle.virtiofsd_fuse.specs.Reading.{Faults, Reading, read_result}
 use Rattle.virtiofsd_fuse.specs.Records.{Part, u16, u32, u64, u32s, Said, size_of, numbers, said, MakesOf, size, made, record_of, reading_in_header, reading_forget_in, reading_read_in, reading_init_in_compat, reading_init_in_ext}
 

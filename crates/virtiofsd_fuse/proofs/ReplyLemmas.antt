@@ -8,7 +8,7 @@ use Rattle.fuse_wire.specs.Records.{out_header}
 use Rattle.fuse_wire.specs.declared.replies.OutHeader.{OutHeader}
 use Rattle.virtiofsd_fuse.specs.Grammar.{reply_bytes, error_bytes}
 use Rattle.virtiofsd_fuse.specs.Serving.{sent}
-use Rattle.virtiofsd_fuse.specs.declared.error.Error.TheVariants.{EncodeMessage}
+use Rattle.fuse_segments.specs.declared.error.Error.TheVariants.{EncodeMessage}
 
 pub length_header : (h : OutHeader) → length (spelled (out_header h)) ≡ 16
 unfolding field_bytes

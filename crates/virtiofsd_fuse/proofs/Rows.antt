@@ -17,8 +17,8 @@ use Rattle.virtiofsd_fuse.specs.Reading.{Read, Faults, Sends, refuse, value_of}
 use Rattle.virtiofsd_fuse.specs.Records.{reading_in_header, reading_forget_in}
 use Rattle.virtiofsd_fuse.specs.Grammar.{Meaning, IsFault, Replies, Asks, One, Starts, Given, given, one_name, row, row_of, meant, meaning, lookup_row, forget_row, read_row, lookup_call, forget_call, ended, error_bytes, reply_bytes, versions_bytes, started, known_options, read_asked, read_call, init_row}
 use Rattle.virtiofsd_fuse.specs.Serving.{answer_bytes, told, sent, entry_reply, data_reply}
-use Rattle.virtiofsd_fuse.specs.declared.error.Error.{Error}
-use Rattle.virtiofsd_fuse.specs.declared.error.Error.TheVariants.{DecodeMessage}
+use Rattle.fuse_segments.specs.declared.error.Error.{Error}
+use Rattle.fuse_segments.specs.declared.error.Error.TheVariants.{DecodeMessage}
 use Rattle.std.proofs.lemmas.List.{drop_at}
 use Rattle.virtiofsd_fuse.proofs.ReplyLemmas.{sent_fits, length_reply, length_error}
 use Rattle.virtiofsd_fuse.proofs.Serve.{ask_of, ended_ask}

@@ -6,8 +6,8 @@ use Rattle.fuse_fs.specs.Calls.{FileCall, FileAnswer, suits, Init}
 use Rattle.virtiofsd_fuse.specs.Reading.{ReadFailure, Read, and_then, value_of}
 use Rattle.virtiofsd_fuse.specs.Grammar.{Meaning, IsFault, Replies, IsSilent, Asks, One, Starts, refused, ended}
 use Rattle.virtiofsd_fuse.specs.Serving.{Served, served, Setting, Serves, Handles, served_of, replied, no_reply, answer_bytes, options_after, start_options, start_answered, lacks_memory, is_memory, told, sent}
-use Rattle.virtiofsd_fuse.specs.declared.error.Error.{Error}
-use Rattle.virtiofsd_fuse.specs.declared.error.Error.TheVariants.{EncodeMessage, OutOfMemory}
+use Rattle.fuse_segments.specs.declared.error.Error.{Error}
+use Rattle.fuse_segments.specs.declared.error.Error.TheVariants.{EncodeMessage, OutOfMemory}
 
 told_by : (t : Bool) (calls : List FileCall) (options : ℕ) (bytes : List ℕ) (result : Result ℕ Error) (written : List ℕ) → told result written ≡ cond t (Err EncodeMessage) (Ok bytes)
     → cond t (no_reply calls options (Some EncodeMessage)) (record { calls = calls; options = options; reply = bytes; fault = None }) ≡ served_of calls options result written

@@ -4,7 +4,7 @@ use Rattle.std.specs.Int.{w16, w32, w64, to_le_bytes}
 use Rattle.vm_values.specs.Fields.{field_bytes}
 use Rattle.fuse_fs.specs.declared.answers.Context.{Context}
 use Rattle.fuse_fs.specs.Calls.{FileAnswer, Lookup, Forget, Wants}
-use Rattle.virtiofsd_fuse.specs.declared.error.Error.TheVariants.{EncodeMessage}
+use Rattle.fuse_segments.specs.declared.error.Error.TheVariants.{EncodeMessage}
 use Rattle.virtiofsd_fuse.specs.Reading.{last_name}
 use Rattle.virtiofsd_fuse.specs.Records.{reading_in_header, reading_forget_in, reading_init_in_compat}
 use Rattle.virtiofsd_fuse.specs.Grammar.{meaning, meant, row, one_name, Asks, One, error_bytes, reply_bytes, versions_bytes}

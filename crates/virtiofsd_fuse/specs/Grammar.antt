@@ -13,8 +13,8 @@ use Rattle.fuse_wire.specs.Records.{init_out, out_header}
 use Rattle.fuse_wire.specs.Opcodes.{opcode_of}
 use Rattle.fuse_fs.specs.Answers.{context_of}
 use Rattle.fuse_fs.specs.Calls.{FileCall, Lookup, Forget, Read}
-use Rattle.virtiofsd_fuse.specs.declared.error.Error.{Error}
-use Rattle.virtiofsd_fuse.specs.declared.error.Error.TheVariants.{DecodeMessage, EncodeMessage, InvalidHeaderLength}
+use Rattle.fuse_segments.specs.declared.error.Error.{Error}
+use Rattle.fuse_segments.specs.declared.error.Error.TheVariants.{DecodeMessage, EncodeMessage, InvalidHeaderLength}
 use Rattle.virtiofsd_fuse.specs.Reading.{ReadFailure, Faults, Sends, Reading, ◌>>=◌, ◌>>◌, give, refuse, needs, exactly, within, last_name}
 use Rattle.virtiofsd_fuse.specs.Records.{reading_in_header, reading_forget_in, reading_read_in, reading_init_in_compat, reading_init_in_ext}
 

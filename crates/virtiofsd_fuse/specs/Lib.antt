@@ -1,9 +1,7 @@
-pub mod Errors
 pub mod Examples
 pub mod Grammar
 pub mod Pages
 pub mod Reading
 pub mod Records
 pub mod Serving
-pub mod Transfer
 pub mod Views

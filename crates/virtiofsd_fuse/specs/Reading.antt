@@ -1,8 +1,8 @@
 -- Reading a request from its front, with the first refusal that is met.
 use Rattle.std.specs.Prelude.{ℕ, Bool, ◌==◌, nat_lt, List, [], ◌∷◌, length, take, drop, Option, Some, None, Result, Ok, Err, if◌then◌else◌, option_map}
 use Rattle.std.specs.Borrow.{Bor}
-use Rattle.virtiofsd_fuse.specs.declared.error.Error.{Error}
-use Rattle.virtiofsd_fuse.specs.declared.error.Error.TheVariants.{DecodeMessage, InvalidCString}
+use Rattle.fuse_segments.specs.declared.error.Error.{Error}
+use Rattle.fuse_segments.specs.declared.error.Error.TheVariants.{DecodeMessage, InvalidCString}
 
 -- why a request isn't read to its end: a fault, or an error number that is the reply
 pub data ReadFailure : Type 0 where

@@ -3,9 +3,9 @@ use Rattle.std.specs.Prelude.{◌≡◌, ℕ, ◌+◌, ◌-◌, ◌/◌, ◌^◌
 use Rattle.vm_values.specs.Fields.{spelled}
 use Rattle.fuse_wire.specs.Records.{entry_out, init_out}
 use Rattle.fuse_fs.specs.Answers.{entry_out_of}
-use Rattle.fuse_fs.specs.Calls.{FileCall, FileAnswer, FileRun, Init, Destroy, Forget, BatchForget, Getlk, Setlk, Setlkw, Bmap, Ioctl, Poll, NotifyReply, Failed, Found, Bytes, Wants}
-use Rattle.virtiofsd_fuse.specs.declared.error.Error.{Error}
-use Rattle.virtiofsd_fuse.specs.declared.error.Error.TheVariants.{EncodeMessage, OutOfMemory}
+use Rattle.fuse_fs.specs.Calls.{FileCall, FileAnswer, FileRun, Init, Destroy, Forget, BatchForget, Getlk, Setlk, Setlkw, Bmap, Ioctl, Poll, NotifyReply, Failed, HasEntry, Bytes, Wants}
+use Rattle.fuse_segments.specs.declared.error.Error.{Error}
+use Rattle.fuse_segments.specs.declared.error.Error.TheVariants.{EncodeMessage, OutOfMemory}
 use Rattle.fuse_in.specs.declared.session.InHeader.{InHeader}
 use Rattle.virtiofsd_fuse.specs.declared.server.Server.{Server}
 use Rattle.virtiofsd_fuse.specs.Reading.{Reading}
@@ -20,7 +20,7 @@ pub record Served : Type 0 where
 
 -- what follows the header, by the answer
 abbrev pub body_bytes : FileAnswer → List ℕ
-body_bytes (Found e) = spelled (entry_out (entry_out_of e))
+body_bytes (HasEntry e) = spelled (entry_out (entry_out_of e))
 body_bytes (Bytes bytes) = bytes
 body_bytes _ = []
 

@@ -8,7 +8,6 @@ ghost use Rattle.vm_values.specs.Bits.{has_bit};
 ghost use Rattle.virtiofsd_fuse.specs.Serving.{RowHandles, data_reply};
 
 use crate::answers::received;
-use crate::error::Error;
 use crate::reader::Reader;
 use crate::records::read_read_in;
 use crate::replies::{OUT_HEADER_LEN, error_reply, header_bytes};
@@ -17,6 +16,7 @@ use crate::writer::Writer;
 use crate::zero_copy::ZcWriter;
 use fuse_fs::{Context, FileNumber, FileSystem};
 use fuse_in::{InHeader, ReadIn};
+use fuse_segments::Error;
 use fuse_wire::Errno;
 use fuse_wire::constants::READ_LOCKOWNER;
 use std::alloc::Global;

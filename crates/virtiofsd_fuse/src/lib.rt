@@ -2,7 +2,6 @@
 #![tactic(auto)]
 
 mod answers;
-pub mod error;
 mod files;
 mod names;
 mod nodes;
@@ -14,10 +13,11 @@ mod session;
 pub mod writer;
 pub mod zero_copy;
 
-pub use error::Error;
 pub use fuse_fs::{
-    Context, Entry, FileNumber, FileSystem, PositionedFile, Timeout, WritevFlags, ZeroCopyWriter,
+    Context, Entry, FileNumber, FileSystem, PositionedFile, Timeout, WritevFlags, ZeroCopyReader,
+    ZeroCopyWriter,
 };
+pub use fuse_segments::{DescriptorType, Error};
 pub use reader::Reader;
 pub use server::Server;
 pub use writer::Writer;

@@ -5,8 +5,8 @@ ghost use Rattle.virtiofsd_fuse.specs.Reading.{bytes_result, value_of, last_name
 ghost use Rattle.virtiofsd_fuse.specs.Grammar.{one_name};
 ghost use Rattle.virtiofsd_fuse.specs.Serving.{is_memory};
 
-use crate::error::Error;
 use crate::reader::Reader;
+use fuse_segments::Error;
 
 // The place of the first zero byte.
 fn zero_at(bytes: &[u8]) -> Option<usize>

@@ -9,7 +9,6 @@ ghost use Rattle.virtiofsd_fuse.specs.Grammar.{lookup_row, forget_row, lookup_ca
 ghost use Rattle.virtiofsd_fuse.specs.Serving.{RowHandles, told, sent, entry_reply};
 
 use crate::answers::received;
-use crate::error::Error;
 use crate::names::read_name;
 use crate::reader::Reader;
 use crate::records::read_forget_in;
@@ -18,6 +17,7 @@ use crate::server::Server;
 use crate::writer::Writer;
 use fuse_fs::{Context, Entry, FileNumber, FileSystem};
 use fuse_in::{ForgetIn, InHeader};
+use fuse_segments::Error;
 use fuse_wire::{EntryOut, Errno};
 use vm_values::ByteValued;
 

@@ -4,7 +4,7 @@ ghost use Rattle.std.specs.Prelude.{◌≡◌, ◌<◌, List, [], ◌++◌, leng
 ghost use Rattle.vm_values.specs.Fields.{spelled, AllFit};
 ghost use Rattle.std.specs.declared.io.ErrorKind.TheVariants as kind;
 
-use crate::error::Error;
+use fuse_segments::Error;
 use std::io::ErrorKind;
 use std::marker::Model;
 use vm_values::ByteValued;

@@ -5,9 +5,9 @@ ghost use Rattle.vm_values.specs.Fields.{spelled, AllFit};
 ghost use Rattle.virtiofsd_fuse.specs.Reading.{read_result};
 ghost use Rattle.virtiofsd_fuse.specs.Records.{reading_in_header, reading_forget_in, reading_read_in, reading_init_in_compat, reading_init_in_ext};
 
-use crate::error::Error;
 use crate::reader::Reader;
 use fuse_in::{ForgetIn, InHeader, InitInCompat, InitInExt, ReadIn};
+use fuse_segments::Error;
 use vm_values::ByteValued;
 
 // A record; a short rest can't be decoded.

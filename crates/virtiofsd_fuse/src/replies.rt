@@ -6,8 +6,8 @@ ghost use Rattle.fuse_wire.specs.Records.{out_header};
 ghost use Rattle.virtiofsd_fuse.specs.Grammar.{reply_bytes, error_bytes};
 ghost use Rattle.virtiofsd_fuse.specs.Serving.{told, sent};
 
-use crate::error::Error;
 use crate::writer::Writer;
+use fuse_segments::Error;
 use fuse_wire::{Errno, OutHeader};
 use vm_values::ByteValued;
 

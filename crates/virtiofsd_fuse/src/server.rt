@@ -5,7 +5,6 @@ ghost use Rattle.fuse_wire.specs.Opcodes.{opcode_of};
 ghost use Rattle.virtiofsd_fuse.specs.Pages.{is_page_size};
 ghost use Rattle.virtiofsd_fuse.specs.Grammar.{given, meant, meaning};
 
-use crate::error::Error;
 use crate::reader::Reader;
 use crate::records::read_in_header;
 use crate::replies::reply_error;
@@ -13,6 +12,7 @@ use crate::writer::Writer;
 use bitflags::Flags;
 use fuse_fs::FileSystem;
 use fuse_in::InHeader;
+use fuse_segments::Error;
 use fuse_wire::{Errno, FsOptions, Opcode};
 use std::alloc::Global;
 

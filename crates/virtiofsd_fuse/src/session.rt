@@ -11,7 +11,6 @@ ghost use Rattle.virtiofsd_fuse.specs.Grammar.{init_row, flags2_of, started, ver
 ghost use Rattle.virtiofsd_fuse.specs.Serving.{RowHandles, agreed, started_bytes};
 
 use crate::answers::received;
-use crate::error::Error;
 use crate::reader::Reader;
 use crate::records::{read_init_in_compat, read_init_in_ext};
 use crate::replies::{reply, reply_error};
@@ -20,6 +19,7 @@ use crate::writer::Writer;
 use bitflags::Flags;
 use fuse_fs::FileSystem;
 use fuse_in::{InHeader, InitInCompat};
+use fuse_segments::Error;
 use fuse_wire::constants::{KERNEL_MINOR_VERSION, KERNEL_VERSION, MIN_KERNEL_MINOR_VERSION};
 use fuse_wire::{Errno, FsOptions, InitOut};
 use vm_values::ByteValued;

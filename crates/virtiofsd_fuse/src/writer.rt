@@ -1,10 +1,10 @@
 //! What a reply is written to (virtiofsd's `Writer`).
 
 ghost use Rattle.std.specs.Prelude.{◌≡◌, ℕ, ◌+◌, ◌<◌, ◌≤◌, min, List, [], ◌++◌, length, drop, IsOk, OnOk, IfErr};
-ghost use Rattle.virtiofsd_fuse.specs.Transfer.{ReadsOnce};
+ghost use Rattle.fuse_fs.specs.Transfers.{ReadsOnce};
 
-use crate::error::Error;
 use fuse_fs::PositionedFile;
+use fuse_segments::Error;
 use fuse_wire::Errno;
 use std::alloc::Global;
 use std::marker::Model;
@@ -131,6 +131,9 @@ impl Writer {
         if most == 0 {
             return Ok(0);
         }
-        file.append_at(&mut self.bytes, most, off)
+        match file.append_at(&mut self.bytes, most, off) {
+            Ok(n) => Ok(n),
+            Err(error) => Err(error),
+        }
     }
 }

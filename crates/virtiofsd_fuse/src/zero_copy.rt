@@ -1,6 +1,7 @@
 //! A writer that files fill (virtiofsd's `ZcWriter`).
 
-ghost use Rattle.std.specs.Prelude.{◌≤◌};
+ghost use Rattle.std.specs.Prelude.{◌≤◌, [], ◌∷◌};
+ghost use Rattle.fuse_fs.specs.Lengths.{filled};
 
 use crate::writer::Writer;
 use fuse_fs::{PositionedFile, ZeroCopyWriter};
@@ -18,18 +19,21 @@ impl ZeroCopyWriter for ZcWriter {
 
     ghost room = { λ z. z.writer.free };
 
+    ghost rooms = { λ z. filled (z.writer.free ∷ []) };
+
     fn read_from_file_at<F: PositionedFile>(
         &mut self,
         file: &mut F,
         count: usize,
         off: u64,
     ) -> Result<usize, Errno> {
+        let most = count.min(self.writer.available_bytes());
         let mut done = 0;
-        while done < count {
+        while done < most {
             let Some(place) = off.checked_add(done as u64) else {
                 return Err(Errno::EIO);
             };
-            let n = self.writer.read_from_file_at(file, count - done, place)?;
+            let n = self.writer.read_from_file_at(file, most - done, place)?;
             if n == 0 {
                 return Ok(done);
             }

@@ -1,31 +1,31 @@
-use Rattle.std.proofs.Common.{length, ◌≤◌, ◌^◌, sym, ◌∙◌, ◌≡◌, ◌+◌, ◌-◌, arith, ap, vec_len}
+use Rattle.std.proofs.Common.{◌≡◌, ◌+◌, ◌++◌, length, sum, vec_len, arith, sym, ap, ◌∙◌}
 use Rattle.std.proofs.lemmas.Grind.{common_steps}
+use Rattle.fuse_fs.specs.Lengths.{filled}
+use Rattle.fuse_segments.specs.Places.{reached}
 use Rattle.fuse_segments.specs.Views.{WriterView}
-use Rattle.fuse_segments.proofs.Bounds.{none_first, joined_first_of}
+use Rattle.fuse_fs.proofs.Lengths.{filled-append}
+use Rattle.fuse_segments.proofs.Placing.{joined_reached, sum-append}
 use Rattle.fuse_segments.proofs.writer.Writer.rejoin.Goals as goal
 
-pub returns-then-room-eq0-clause-first : goal.returns-then-room-eq0-clause-first
-returns-then-room-eq0-clause-first c =
-    λ _.
-    let o = c.other.inside in
+pub invariant_of-self : goal.invariant_of-self
+invariant_of-self c =
     let i = c.self.inside in
-    let none : i.room - vec_len i.bytes ≡ 0 = ap (λ (v : WriterView). v.free) c.self.view_is ∙ c.requires.full in
-    let none_there : o.room - vec_len o.bytes ≡ 0 = omega (arith, c.if-room-eq0.true) in
-    none_first i.bounds.items i.next i.room (vec_len i.bytes) none ∙ sym (none_first o.bounds.items o.next o.room (vec_len o.bytes) none_there) ∙ ap (λ (v : WriterView). v.first) c.other.view_is
-
-pub returns-clause-first : goal.returns-clause-first
-returns-clause-first c =
-    λ whole.
     let o = c.other.inside in
-    let i = c.self.inside in
-    let none = ap (λ (v : WriterView). v.free) c.self.view_is ∙ c.requires.full in
-    let full : vec_len i.bytes ≡ i.room = omega (arith, none, c.self.invariant.0) in
-    let long : length o.bytes.items ≡ length c.args.other.written = ap (λ (v : WriterView). length v.written) c.other.view_is in
-    let all : c.args.count ≡ vec_len o.bytes = omega (arith, whole, long, o.bytes.ok.0) in
+    let b = c.behind-self-inside in
+    let all : c.extend_from_slice-2.new.self.items ≡ i.segments.items ++ o.segments.items = grind (arith, common_steps) in
     let len : vec_len c.extend_from_slice.new.self ≡ vec_len i.bytes + c.args.count = grind (arith, common_steps) in
-    let total : vec_len c.extend_from_slice.new.self ≡ i.room + vec_len o.bytes = omega (arith, len, full, all) in
-    let fits : i.room + o.room ≤ 2 ^ 64 - 1 = grind (arith, common_steps, c.self.invariant.1, c.requires.bytes, ap (λ (v : WriterView). v.spare) c.self.view_is, ap (λ (v : WriterView). v.free) c.other.view_is, long, o.bytes.ok.0, c.other.invariant.0, i.bytes.small) in
-    let b = c.next_bound-self-inside.ensures in
-    let a = c.add_bounds-from in
-    joined_first_of a.new.bounds.items c.deref-3.result.now o.bounds.items c.deref-2.result.now (vec_len o.bounds) a.result c.reached-reached.result o.next c.next_bound-self-inside.result i.room (vec_len o.bytes) o.room (2 ^ 64 - 1) c.len-2.result (vec_len c.extend_from_slice.new.self) c.args.other.first
-    c.deref-3.ensures.value c.deref-2.ensures.value (omega (arith, o.bounds.ok.0)) (c.reached-reached.ensures.whole (omega (arith, all, c.len.ensures))) (omega (arith, c.len-2.ensures, total)) total a.ensures.items (omega (arith, a.ensures.len, c.deref-3.ensures.len)) c.other.invariant.3 c.other.invariant.4 c.other.invariant.0 fits b.same b.end (ap (λ (v : WriterView). v.first) c.other.view_is)
+    let long : length c.args.other.written ≡ vec_len o.bytes = omega (arith, ap (λ (v : WriterView). length v.written) c.other.view_is, o.bytes.ok.0) in
+    let spare : i.spare ≡ c.args.self.now.spare = ap (λ (v : WriterView). v.spare) c.self.view_is in
+    let full : i.room ≡ vec_len i.bytes = omega (arith, c.self.invariant.0, c.requires.full, ap (λ (v : WriterView). v.free) c.self.view_is) in
+    let free = ap (λ (v : WriterView). v.free) c.other.view_is in
+    let seen : c.deref-3.result.now ≡ c.extend_from_slice-2.new.self.items = c.deref-3.ensures.value in
+    let here = joined_reached i.segments.items o.segments.items i.place.segment i.place.used c.self.invariant.6.there in
+    let reached_is : reached c.extend_from_slice-2.new.self.items b.result.segment b.result.used ≡ reached (i.segments.items ++ o.segments.items) i.place.segment i.place.used + c.args.count = rw all (rw (seen, all) at b.ensures.reached) in (
+      omega (arith, len, full, long, c.requires.count, c.other.invariant.0),
+      grind (arith, common_steps, len, full, long, free, spare, c.requires.bytes, c.self.invariant.1, c.other.invariant.0),
+      grind (arith, common_steps, c.self.invariant.2, c.requires.segments, ap (λ (v : WriterView). v.rejoin) c.self.view_is, ap (λ (v : WriterView). length v.segments) c.other.view_is, o.segments.ok.0),
+      ap sum all ∙ sum-append i.segments.items o.segments.items ∙ (let e : sum i.segments.items + sum o.segments.items ≡ i.room + o.room = omega (arith, c.self.invariant.3, c.other.invariant.3) in e),
+      ap filled all ∙ filled-append i.segments.items o.segments.items ∙ ap (λ s. s ++ filled o.segments.items) c.self.invariant.4 ∙ ap (λ s. i.segments.items ++ s) c.other.invariant.4 ∙ sym all,
+      omega (arith, reached_is, here, c.self.invariant.5, len),
+      rw seen at b.ensures.inside,
+    )

@@ -1,29 +1,70 @@
-use Rattle.std.proofs.Common.{drop, map, ◌≡◌, ◌+◌, ◌-◌, ◌≤◌, take, ◌∙◌, ap, arith, vec_len, length}
-use Rattle.std.proofs.lemmas.List.{take_all, length-drop}
+use Rattle.std.proofs.Common.{◌≡◌, ◌+◌, ◌≤◌, ◌++◌, [], ◌∷◌, length, take, sum, vec_len, arith, sym, ap, ◌∙◌}
+use Rattle.std.proofs.lemmas.Grind.{common_steps}
+use Rattle.fuse_fs.specs.Lengths.{filled, past, up_to}
+use Rattle.fuse_segments.specs.Places.{reached, IsIn}
 use Rattle.fuse_segments.specs.Views.{WriterView}
-use Rattle.fuse_segments.proofs.Bounds.{split_first_of, behind_first_of}
+use Rattle.fuse_fs.proofs.Lengths.{sum-past, sum-up_to, filled-past, filled-up_to}
+use Rattle.fuse_segments.proofs.Placing.{behind_is, before_is, kept_reached}
 use Rattle.fuse_segments.proofs.writer.Writer.split_at.Goals as goal
 
-pub returns-clause-first : goal.returns-clause-first
-returns-clause-first c =
+pub over-requires-clause-sum : goal.over-requires-clause-sum
+over-requires-clause-sum c =
     let i = c.self.inside in
-    let b = c.next_bound-behind.ensures in
-    let k = c.bounds_before-kept.ensures in
-    let fits : c.len-2.result + c.args.offset ≤ i.room = omega (arith, c.if-free-offset.false, c.len.ensures, c.len-2.ensures, c.self.invariant.0) in
-    split_first_of i.bounds.items c.deref.result.now c.deref-3.result.now c.truncate.new.self.items (vec_len i.bounds) i.next c.next_bound-behind.result c.bounds_before-kept.result i.room (vec_len i.bytes) c.len-2.result c.args.offset c.args.self.now.first
-    c.deref.ensures.value (c.deref-3.ensures.value ∙ c.reserve.ensures.items) (c.truncate.ensures.items ∙ ap (take c.bounds_before-kept.result) c.reserve.ensures.items) c.len-2.ensures (omega (arith, i.bounds.ok.0)) c.self.invariant.3 b.within b.after b.ahead b.same k.within k.same k.last fits (ap (λ (v : WriterView). v.first) c.self.view_is)
+    let cut = c.behind-cut.result in
+    let at : reached i.segments.items cut.segment cut.used ≡ vec_len i.bytes + c.args.offset = omega (arith, rw c.deref.ensures.value at c.behind-cut.ensures.reached, c.self.invariant.5) in
+    let is : IsIn i.segments.items cut.segment cut.used = rw c.deref.ensures.value at c.behind-cut.ensures.inside in
+    let items = rw c.deref-2.ensures.value at c.in_ok-segments.ensures.ok ∙ sym (behind_is i.segments.items cut.segment cut.used (vec_len i.bytes + c.args.offset) is at) in
+    let all = ap sum items ∙ sum-past (vec_len i.bytes + c.args.offset) i.segments.items in
+    omega (arith, all, c.self.invariant.3, c.len.ensures)
+
+pub over-requires-clause-filled : goal.over-requires-clause-filled
+over-requires-clause-filled c =
+    let i = c.self.inside in
+    let cut = c.behind-cut.result in
+    let at : reached i.segments.items cut.segment cut.used ≡ vec_len i.bytes + c.args.offset = omega (arith, rw c.deref.ensures.value at c.behind-cut.ensures.reached, c.self.invariant.5) in
+    let is : IsIn i.segments.items cut.segment cut.used = rw c.deref.ensures.value at c.behind-cut.ensures.inside in
+    let items = rw c.deref-2.ensures.value at c.in_ok-segments.ensures.ok ∙ sym (behind_is i.segments.items cut.segment cut.used (vec_len i.bytes + c.args.offset) is at) in
+    ap filled items ∙ filled-past (vec_len i.bytes + c.args.offset) i.segments.items c.self.invariant.4 ∙ sym items
+
+pub invariant_of-self-2 : goal.invariant_of-self-2
+invariant_of-self-2 c =
+    let i = c.self.inside in
+    let cut = c.behind-cut.result in
+    let b = c.behind-self-inside in
+    let at : reached i.segments.items cut.segment cut.used ≡ vec_len i.bytes + c.args.offset = omega (arith, rw c.deref.ensures.value at c.behind-cut.ensures.reached, c.self.invariant.5) in
+    let is : IsIn i.segments.items cut.segment cut.used = rw c.deref.ensures.value at c.behind-cut.ensures.inside in
+    let fits : vec_len i.bytes + c.args.offset ≤ sum i.segments.items = omega (arith, c.if-free-offset.false, c.len.ensures, c.self.invariant.0, c.self.invariant.3) in
+    let kept : c.cut_off.new.segments.items ≡ take cut.segment i.segments.items ++ filled (cut.used ∷ []) = c.cut_off.ensures.items ∙ ap (λ s. take cut.segment s ++ filled (cut.used ∷ [])) c.reserve.ensures.items in
+    let whole = before_is i.segments.items c.cut_off.new.segments.items cut.segment cut.used (vec_len i.bytes + c.args.offset) is c.self.invariant.4 at fits kept in
+    let all = ap sum whole ∙ sum-up_to (vec_len i.bytes + c.args.offset) i.segments.items in
+    let before = kept_reached i.segments.items c.cut_off.new.segments.items cut.segment cut.used i.place.segment i.place.used is c.behind-cut.ensures.after kept in
+    let handed = c.in_ok-segments.ensures.len in (
+      omega (arith, c.len-2.ensures),
+      omega (arith, c.len.ensures, c.len-2.ensures, c.if-free-offset.false, c.self.invariant.0, c.self.invariant.1),
+      grind (arith, common_steps, handed, c.deref-2.ensures.len, c.len-handed.ensures, c.cut_off.ensures.len, c.cut_off.ensures.capacity, i.segments.ok.0),
+      omega (arith, all, fits, c.len-2.ensures),
+      ap filled whole ∙ filled-up_to (vec_len i.bytes + c.args.offset) i.segments.items c.self.invariant.4 ∙ sym whole,
+      omega (arith, rw c.deref-3.ensures.value at b.ensures.reached, before, c.self.invariant.5),
+      rw c.deref-3.ensures.value at b.ensures.inside,
+    )
+
+pub returns-clause-segments : goal.returns-clause-segments
+returns-clause-segments c =
+    let i = c.self.inside in
+    let cut = c.behind-cut.result in
+    let at : reached i.segments.items cut.segment cut.used ≡ length i.bytes.items + c.args.offset = omega (arith, rw c.deref.ensures.value at c.behind-cut.ensures.reached, c.self.invariant.5, i.bytes.ok.0) in
+    let is : IsIn i.segments.items cut.segment cut.used = rw c.deref.ensures.value at c.behind-cut.ensures.inside in
+    let fits : length i.bytes.items + c.args.offset ≤ sum i.segments.items = omega (arith, c.if-free-offset.false, c.len.ensures, c.self.invariant.0, c.self.invariant.3, i.bytes.ok.0) in
+    let kept : c.cut_off.new.segments.items ≡ take cut.segment i.segments.items ++ filled (cut.used ∷ []) = c.cut_off.ensures.items ∙ ap (λ s. take cut.segment s ++ filled (cut.used ∷ [])) c.reserve.ensures.items in
+    before_is i.segments.items c.cut_off.new.segments.items cut.segment cut.used (length i.bytes.items + c.args.offset) is c.self.invariant.4 at fits kept
+    ∙ ap (λ (v : WriterView). up_to (length v.written + c.args.offset) v.segments) c.self.view_is
 
 pub returns-clause-behind : goal.returns-clause-behind
 returns-clause-behind c =
-    λ few.
     let i = c.self.inside in
-    let b = c.next_bound-behind.ensures in
-    let behind = c.next_bound-behind.result in
-    let seen = c.deref-2.result.now in
-    let cut = c.len-2.result + c.args.offset in
-    let rest : take (length seen - behind) (drop behind seen) ≡ drop behind i.bounds.items =
-    take_all (length seen - behind) (drop behind seen) (omega (arith, length-drop behind seen)) ∙ ap (drop behind) c.deref-2.ensures.value
-    in
-    let items : c.in_ok-bounds.bounds.items ≡ map (λ n. n - cut) (drop behind i.bounds.items) = c.in_ok-bounds.ensures.ok ∙ ap (map (λ n. n - cut)) rest in
-    behind_first_of i.bounds.items c.deref.result.now c.in_ok-bounds.bounds.items (vec_len i.bounds) i.next behind i.room (vec_len i.bytes) c.len-2.result c.args.offset c.args.self.now.first c.in_ok-other.other.first (i.room - c.len.result - c.args.offset)
-    c.deref.ensures.value (omega (arith, i.bounds.ok.0)) c.len-2.ensures c.self.invariant.3 b.same b.end items (omega (arith, c.len.ensures, c.len-2.ensures)) c.in_ok-other.ensures.room.1 (ap (λ (v : WriterView). v.first) c.self.view_is) few
+    let cut = c.behind-cut.result in
+    let at : reached i.segments.items cut.segment cut.used ≡ length i.bytes.items + c.args.offset = omega (arith, rw c.deref.ensures.value at c.behind-cut.ensures.reached, c.self.invariant.5, i.bytes.ok.0) in
+    let is : IsIn i.segments.items cut.segment cut.used = rw c.deref.ensures.value at c.behind-cut.ensures.inside in
+    c.in_ok-other.ensures.room.1 ∙ rw c.deref-2.ensures.value at c.in_ok-segments.ensures.ok
+    ∙ sym (behind_is i.segments.items cut.segment cut.used (length i.bytes.items + c.args.offset) is at)
+    ∙ ap (λ (v : WriterView). past (length v.written + c.args.offset) v.segments) c.self.view_is

@@ -1,11 +1,13 @@
-use Rattle.std.proofs.Common.{◌-◌, ◌≤◌, min}
-use Rattle.virtiofsd_fuse.proofs.Gathering.{SoFar}
+use Rattle.std.proofs.Common.{◌-◌}
+use Rattle.fuse_fs.proofs.Gathering.{Offered, SoFar}
+use Rattle.virtiofsd_fuse.proofs.Fillings.{filling}
 use Rattle.virtiofsd_fuse.proofs.zero_copy.ZcWriterZeroCopyWriter.read_from_file_at.Given as goal
 
 abbrev pub invariant-loop-done : goal.invariant-loop-done
-invariant-loop-done g l =
-    (l.done ≤ l.count)
-    × SoFar g.F.PositionedFile.read_gives l.initial.file (min l.count l.fn.self.writer.free) l.off l.done l.fn.self.writer.written l.self.writer.written l.fn.self.writer.free l.self.writer.free l.file
+invariant-loop-done g l = record {
+  offered : Offered (filling l.fn.self.writer) l.count l.most;
+  so_far : SoFar g.F.PositionedFile.read_gives l.initial.file (filling l.fn.self.writer) l.most l.off l.done (filling l.self.writer) l.file;
+}
 
 abbrev pub decreases-loop-done : goal.decreases-loop-done
-decreases-loop-done g l = l.count - l.done
+decreases-loop-done g l = l.most - l.done

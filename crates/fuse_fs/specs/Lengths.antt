@@ -1,0 +1,22 @@
+-- Lengths of segments one after another.
+use Rattle.std.specs.Prelude.{ℕ, ◌-◌, ◌==◌, nat_le, min, List, [], ◌∷◌, cond}
+
+-- the lengths that aren't 0
+abbrev pub filled : List ℕ → List ℕ
+filled [] = []
+filled (n ∷ ns) = cond (n == 0) (filled ns) (n ∷ filled ns)
+
+-- the first of these lengths; 0 where there is none
+abbrev pub first : List ℕ → ℕ
+first [] = 0
+first (n ∷ ns) = n
+
+-- the segments behind a place: what is left of the one where it lies, and those after it
+unfoldable pub past : (place : ℕ) → List ℕ → List ℕ
+past place [] = []
+past place (n ∷ ns) = cond (nat_le n place) (past (place - n) ns) ((n - place) ∷ ns)
+
+-- the segments before a place: those that end before it, and the part of the one where it lies
+unfoldable pub up_to : (place : ℕ) → List ℕ → List ℕ
+up_to place [] = []
+up_to place (n ∷ ns) = cond (place == 0) [] (min place n ∷ up_to (place - n) ns)

@@ -1,0 +1,13 @@
+use Rattle.std.proofs.Common.{◌-◌}
+use Rattle.fuse_fs.proofs.Gathering.{Offered, SoFar}
+use Rattle.fuse_segments.proofs.Fillings.{filling}
+use Rattle.fuse_segments.proofs.zero_copy.ZcWriterZeroCopyWriter.read_from_file_at.Given as goal
+
+abbrev pub invariant-loop-done : goal.invariant-loop-done
+invariant-loop-done g l = record {
+  offered : Offered (filling l.fn.self.writer) l.count l.most;
+  so_far : SoFar g.F.PositionedFile.read_gives l.initial.file (filling l.fn.self.writer) l.most l.off l.done (filling l.self.writer) l.file;
+}
+
+abbrev pub decreases-loop-done : goal.decreases-loop-done
+decreases-loop-done g l = l.most - l.done
