@@ -1,6 +1,5 @@
 //! Bytes of a window by offset.
 
-ghost use Rattle.vm_memory_core.specs.Host.{host_of};
 
 use crate::given::{Host, bytes_of, eight};
 use std::process::Abort;
@@ -12,7 +11,7 @@ use vm_memory_core::{Bytes, HostMemory, NewBitmap, PageBitmap, VolatileSlice};
 fn byte_of<M: Bytes<usize>, B: NewBitmap>(memory: &M, h: &HostMemory<B>, addr: usize) -> Option<u8>
 where
     M::E: Drop,
-    requires { M.IsHeld memory.now (host_of h.now) }
+    requires { M.IsHeld memory.now h.now }
 {
     memory.read_obj::<u8, B>(h, addr).ok()
 }
