@@ -1,6 +1,6 @@
 -- from runs of the plain machine to the log of its file system
 use Rattle.std.proofs.Common.{◌≡◌, ℕ, zero, suc, Bool, true, false, List, [], ◌∷◌, ◌++◌, map, zip, length, append_assoc, append-nil, refl, sym, ap, ◌∙◌, arith, subst, Option, Some, None}
-use Rattle.std.specs.Prelude.{Result, Ok, Err, IfOk, if◌then◌else◌, slice_get, flat_map, not, nat_lt, nat_le, ◌==◌}
+use Rattle.std.specs.Prelude.{Result, Ok, Err, IfOk, if◌then◌else◌, slice_get, flat_map, not, nat_lt, ◌==◌}
 use Rattle.std.specs.List.{list_any, list_all}
 use Rattle.vm_iotlb.specs.declared.permissions.Permissions.TheVariants.{Read, Write}
 use Rattle.vm_memory_core.specs.Host.{Block}
@@ -15,12 +15,12 @@ use Rattle.fuse_fs.specs.Calls.{FileCall, FileAnswer, FileRun}
 use Rattle.virtiofsd_fuse.specs.Grammar.{Meaning, IsFault, Replies, IsSilent, One, Starts, meaning}
 use Rattle.virtiofsd_fuse.specs.Grammar as grammar
 use Rattle.fuse_segments.specs.declared.error.Error.{Error}
-use Rattle.virtiofsd_fuse.specs.Serving.{May, Served, Setting, served, setting, replied, no_reply}
+use Rattle.virtiofsd_fuse.specs.Serving.{May, Served, Setting, served, setting, replied}
 use Rattle.fs_device.specs.declared.error.DeviceError.{DeviceError}
 use Rattle.fs_device.specs.declared.error.DeviceError.TheVariants as device
 use Rattle.fs_device.specs.declared.exchange.Fault.{Fault}
 use Rattle.fs_device.specs.declared.refusal.Refusal.TheVariants as why
-use Rattle.fs_device.specs.Step.{State, Exchange, Calls, Idle, Refused, Exchanged, Exchanges, StepOf, Step, served_fault, served_exchange}
+use Rattle.fs_device.specs.Step.{State, Exchange, Calls, Idle, Refused, Exchanged, Exchanges, StepOf, served_fault, served_exchange}
 use Rattle.fs_device.specs.Run as run
 use Rattle.fs_device.specs.Run.{Command, Answer, Effect, KickEnds, KickRun, Kicks, Kicked, Does, Performs, Run, effect, insert, insert_block, is_known, some_overlap, reset}
 use Rattle.call_log.specs.declared.log.LoggedCall.{LoggedCall}

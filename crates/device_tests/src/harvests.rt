@@ -1,7 +1,7 @@
 //! The marked pages of a host, with their bytes.
 
 ghost use Rattle.std.specs.Prelude.{◌≡◌};
-ghost use Rattle.vm_memory_core.specs.Host.{host_of, lengths};
+ghost use Rattle.vm_memory_core.specs.Host.{shape};
 
 use crate::machines::{expect_kick, machine};
 use crate::stand::{RING, Stand, expect_same};
@@ -17,7 +17,7 @@ fn expect_pages(
     host: &mut HostMemory<PageBitmap>,
     pages: &[(usize, usize, usize)],
 )
-    ensures { lengths (host_of host.new) ≡ lengths (host_of host.old) }
+    ensures { shape host.new ≡ shape host.old }
 {
     let harvested = harvest(alloc, host).expect(rt, "memory");
     expect_same(rt, harvested.len(), pages.len());

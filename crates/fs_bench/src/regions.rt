@@ -1,6 +1,6 @@
 //! Guest memory of many regions: look-ups of addresses, and reads that lie across them.
 
-ghost use Rattle.vm_memory_core.specs.Host.{host_of, lengths};
+ghost use Rattle.vm_memory_core.specs.Host.{lengths};
 ghost use Rattle.vm_memory.specs.Layout.{AreHeld};
 ghost use Rattle.vm_memory.specs.OneProof.{AreHeld-prop};
 
@@ -36,7 +36,7 @@ fn label(case: &'static str, bytes: usize, runs: u16) -> Label {
 struct Regions {
     host: HostMemory<PageBitmap>,
     mem: GuestMemoryMmap,
-    ghost held: { AreHeld (lengths (host_of host)) mem } by { AreHeld-prop (lengths (host_of host)) mem },
+    ghost held: { AreHeld (lengths host) mem } by { AreHeld-prop (lengths host) mem },
 }
 
 impl Regions {

@@ -1,6 +1,6 @@
 //! Reads, writes and copies of windows, with their page marks.
 
-ghost use Rattle.vm_memory_core.specs.Host.{host_of, lengths};
+ghost use Rattle.vm_memory_core.specs.Host.{lengths};
 ghost use Rattle.vm_memory_core.specs.Window.{LiesIn};
 ghost use Rattle.vm_memory.specs.OneProof.{LiesIn-prop};
 
@@ -51,8 +51,8 @@ struct Windows {
     first: VolatileSlice,
     second: VolatileSlice,
     buffer: Vec<u8>,
-    ghost first_held: { LiesIn (lengths (host_of host)) first } by { LiesIn-prop (lengths (host_of host)) first },
-    ghost second_held: { LiesIn (lengths (host_of host)) second } by { LiesIn-prop (lengths (host_of host)) second },
+    ghost first_held: { LiesIn (lengths host) first } by { LiesIn-prop (lengths host) first },
+    ghost second_held: { LiesIn (lengths host) second } by { LiesIn-prop (lengths host) second },
 }
 
 impl Windows {

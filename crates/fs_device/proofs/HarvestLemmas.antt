@@ -4,7 +4,7 @@ use Rattle.std.specs.Prelude.{slice_get, slice_range, unwrap_or, if◌then◌els
 use Rattle.std.specs.Option.{option_map}
 use Rattle.std.proofs.lemmas.List.{drop_more, drop_all}
 use Rattle.std.proofs.lemmas.Option.{slice_get-get_or}
-use Rattle.vm_memory_core.specs.Host.{Block, changed_at, unmarked}
+use Rattle.vm_memory_core.specs.Host.{Block, Host, Shape, changed_at, cleared, shape, unmarked, with_blocks}
 use Rattle.fs_device.specs.Harvested.{Page, block_pages, host_pages}
 
 abbrev pub page_at : (block : ℕ) → List ℕ → (page : ℕ) → Page
@@ -73,9 +73,18 @@ cleared_at [] i h = absurd (omega arith)
 cleared_at (x ∷ l) zero h = refl
 cleared_at (x ∷ l) (suc i) h = ap (λ (r : List Block). unmarked x ∷ r) (cleared_at l i (omega arith))
 
-pub cleared_step : (l now new : List Block) (i : ℕ) → i < length l → now ≡ map unmarked (take i l) ++ drop i l → new ≡ changed_at now i unmarked → new ≡ map unmarked (take (i + 1) l) ++ drop (i + 1) l
-cleared_step l now new i h e is = is ∙ ap (λ (r : List Block). changed_at r i unmarked) e ∙ rw add-one (cleared_at l i h)
+-- the first blocks without their marks
+abbrev cleared_to : Host → ℕ → Host
+cleared_to h i = with_blocks h (map unmarked (take i h.blocks) ++ drop i h.blocks)
 
-pub lengths-unmarked : (l : List Block) → map (λ (b : Block). length b.bytes) (map unmarked l) ≡ map (λ (b : Block). length b.bytes) l
+pub cleared_step : (h now new : Host) (i : ℕ) → i < length h.blocks → now ≡ cleared_to h i → new ≡ with_blocks now (changed_at now.blocks i unmarked) → new ≡ cleared_to h (i + 1)
+cleared_step h now new i lt e is =
+    is ∙ ap (λ (k : Host). with_blocks k (changed_at k.blocks i unmarked)) e ∙ ap (with_blocks h) (rw add-one (cleared_at h.blocks i lt))
+
+lengths-unmarked : (l : List Block) → map (λ (b : Block). length b.bytes) (map unmarked l) ≡ map (λ (b : Block). length b.bytes) l
 lengths-unmarked [] = refl
 lengths-unmarked (b ∷ l) = ap (λ (r : List ℕ). length b.bytes ∷ r) (lengths-unmarked l)
+
+-- no mark belongs to the shape
+pub shape-cleared : (h : Host) → shape (cleared h) ≡ shape h
+shape-cleared h = ap (λ (n : List ℕ). let s : Shape = record (shape h) { block_lengths = n } in s) (lengths-unmarked h.blocks)

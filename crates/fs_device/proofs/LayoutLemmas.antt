@@ -7,7 +7,7 @@ use Rattle.std.specs.Prelude.{option_map, Result, Ok, Err, replicate, ◌==◌, 
 use Rattle.std.specs.List.{list_all, list_any}
 use Rattle.std.proofs.lemmas.Bool.{eqb-true}
 use Rattle.std.proofs.lemmas.Bool.Decides.{nat_tests}
-use Rattle.vm_memory_core.specs.Host.{Block, host_of, lengths}
+use Rattle.vm_memory_core.specs.Host.{Block, Host, lengths, with_block}
 use Rattle.vm_memory.specs.Layout.{Region, fits, overlap, with_region, is_region, without_region, AllFrom, IsLayout, AreHeld}
 use Rattle.vm_bitmaps.specs.Pages.{pages_of}
 use Rattle.vm_memory_core.specs.Host.{page_count}
@@ -35,14 +35,14 @@ held_grown xs ys (r ∷ l) held =
     (omega (arith, held.0, count), index_before xs ys r.block held.0 ∙ held.1, held_grown xs ys l held.2)
 
 -- the blocks hold the layout as before, whether or not there is one more
-pub kept : (count : ℕ → ℕ) (n : ℕ) (old new : List Block) (l : List Region) (made : Result ℕ AllocError) →
-    IfOk made (λ number. new ≡ old ++ record { bytes = replicate n 0; marks = replicate (count n) false } ∷ []) → OnErr made (new ≡ old) →
-    AreHeld (lengths (host_of old)) l → AreHeld (lengths (host_of new)) l
+pub kept : (count : ℕ → ℕ) (n : ℕ) (old new : Host) (l : List Region) (made : Result ℕ AllocError) →
+    IfOk made (λ number. new ≡ with_block old (record { bytes = replicate n 0; marks = replicate (count n) false })) → OnErr made (new ≡ old) →
+    AreHeld (lengths old) l → AreHeld (lengths new) l
 kept count n old new l (Ok number) ok err held =
     let block : Block = record { bytes = replicate n 0; marks = replicate (count n) false } in
-    let more : lengths (host_of new) ≡ lengths (host_of old) ++ length block.bytes ∷ [] = ap (map (λ (b : Block). length b.bytes)) ok ∙ map-append (λ (b : Block). length b.bytes) old (block ∷ []) in
-    subst (λ (xs : List ℕ). AreHeld xs l) (sym more) (held_grown (lengths (host_of old)) (length block.bytes ∷ []) l held)
-kept count n old new l (Err e) ok err held = subst (λ (bs : List Block). AreHeld (lengths (host_of bs)) l) (sym err) held
+    let more : lengths new ≡ lengths old ++ length block.bytes ∷ [] = ap lengths ok ∙ map-append (λ (b : Block). length b.bytes) old.blocks (block ∷ []) in
+    subst (λ (xs : List ℕ). AreHeld xs l) (sym more) (held_grown (lengths old) (length block.bytes ∷ []) l held)
+kept count n old new l (Err e) ok err held = subst (λ (h : Host). AreHeld (lengths h) l) (sym err) held
 
 pub page_count-is : (n : ℕ) → pages_of 4096 n ≡ page_count n
 page_count-is n = omega arith
@@ -86,7 +86,10 @@ found_none p (y ∷ l) e =
 
 -- ---- known blocks
 
-pub block_there : (blocks : List Block) (i : ℕ) (b : Block) → slice_get blocks i ≡ Some b → (i < length (lengths (host_of blocks))) × (slice_index_or (lengths (host_of blocks)) i 0 ≡ length b.bytes)
+abbrev lengths_in : List Block → List ℕ
+lengths_in blocks = map (λ (b : Block). length b.bytes) blocks
+
+pub block_there : (blocks : List Block) (i : ℕ) (b : Block) → slice_get blocks i ≡ Some b → (i < length (lengths_in blocks)) × (slice_index_or (lengths_in blocks) i 0 ≡ length b.bytes)
 block_there [] i b e = absurd (cc)
 block_there (x ∷ blocks) zero b e =
     let same : x ≡ b = cc in
@@ -95,37 +98,37 @@ block_there (x ∷ blocks) (suc i) b e =
     let more = block_there blocks i b e in
     (omega (arith, more.0), more.1)
 
-known_of : (blocks : List Block) (i n : ℕ) → i < length (lengths (host_of blocks)) → slice_index_or (lengths (host_of blocks)) i 0 ≡ n → has_len n (slice_get blocks i) ≡ true
+known_of : (blocks : List Block) (i n : ℕ) → i < length (lengths_in blocks) → slice_index_or (lengths_in blocks) i 0 ≡ n → has_len n (slice_get blocks i) ≡ true
 known_of [] i n h e = absurd (omega arith)
 known_of (x ∷ blocks) zero n h e = grind (arith, nat_tests)
 known_of (x ∷ blocks) (suc i) n h e = known_of blocks i n (omega arith) e
 
-has_of : (blocks : List Block) (i n : ℕ) → has_len n (slice_get blocks i) ≡ true → (i < length (lengths (host_of blocks))) × (slice_index_or (lengths (host_of blocks)) i 0 ≡ n)
+has_of : (blocks : List Block) (i n : ℕ) → has_len n (slice_get blocks i) ≡ true → (i < length (lengths_in blocks)) × (slice_index_or (lengths_in blocks) i 0 ≡ n)
 has_of [] i n e = absurd (cc)
 has_of (x ∷ blocks) zero n e = (omega arith, eqb-true _ _ e)
 has_of (x ∷ blocks) (suc i) n e =
     let more = has_of blocks i n e in
     (omega (arith, more.0), more.1)
 
-pub all_known : (blocks : List Block) (l : List Region) → AreHeld (lengths (host_of blocks)) l → list_all (is_known (host_of blocks)) l ≡ true
-all_known blocks [] held = refl
-all_known blocks (r ∷ l) held = rw (known_of blocks r.block r.size held.0 held.1, all_known blocks l held.2) refl
+pub all_known : (h : Host) (l : List Region) → AreHeld (lengths h) l → list_all (is_known h) l ≡ true
+all_known h [] held = refl
+all_known h (r ∷ l) held = rw (known_of h.blocks r.block r.size held.0 held.1, all_known h l held.2) refl
 
 both : (a b : Bool) → (a && b) ≡ true → (a ≡ true) × (b ≡ true)
 both true b e = (refl, e)
 both false b e = absurd (cc)
 
-all_held : (blocks : List Block) (l : List Region) → list_all (is_known (host_of blocks)) l ≡ true → AreHeld (lengths (host_of blocks)) l
-all_held blocks [] known = tt
-all_held blocks (r ∷ l) known =
+all_held : (h : Host) (l : List Region) → list_all (is_known h) l ≡ true → AreHeld (lengths h) l
+all_held h [] known = tt
+all_held h (r ∷ l) known =
     let parts = both _ _ known in
-    let here = has_of blocks r.block r.size parts.0 in
-    (here.0, here.1, all_held blocks l parts.1)
+    let here = has_of h.blocks r.block r.size parts.0 in
+    (here.0, here.1, all_held h l parts.1)
 
-pub not_known : (blocks : List Block) (l : List Region) → (AreHeld (lengths (host_of blocks)) l → ⊥) → list_all (is_known (host_of blocks)) l ≡ false
-not_known blocks l none =
-    elim (list_all (is_known (host_of blocks)) l) as (λ b. list_all (is_known (host_of blocks)) l ≡ b → b ≡ false) [
-      | true ↦ λ known. absurd (none (all_held blocks l known))
+pub not_known : (h : Host) (l : List Region) → (AreHeld (lengths h) l → ⊥) → list_all (is_known h) l ≡ false
+not_known h l none =
+    elim (list_all (is_known h) l) as (λ b. list_all (is_known h) l ≡ b → b ≡ false) [
+      | true ↦ λ known. absurd (none (all_held h l known))
       | false ↦ λ known. refl
     ] refl
 
@@ -142,7 +145,7 @@ unknown_in s base block None e = refl
 unknown_in s base block (Some b) e = absurd (cc)
 
 -- no block of this number
-pub unknown : {F : Type 0} (s : State F) (base block : ℕ) → None ≡ backing_at s.memory.host.blocks block → insert_block s base block (slice_get s.memory.host.blocks block) ≡ no why.UnknownBlock s
+pub unknown : {F : Type 0} (s : State F) (base block : ℕ) → None ≡ backing_at s.memory.host block → insert_block s base block (slice_get s.memory.host.blocks block) ≡ no why.UnknownBlock s
 unknown s base block e = unknown_in s base block (slice_get s.memory.host.blocks block) e
 
 known_in : {F : Type 0} (s : State F) (base block : ℕ) (m : Backing) (o : Option Block) → Some m ≡ option_map (with_number block) o → insert_block s base block o ≡ insert s (over base m)
@@ -152,7 +155,7 @@ known_in s base block m (Some b) e =
     ap (λ (k : Backing). insert s (over base k)) same
 
 -- the block of this number
-pub known : {F : Type 0} (s : State F) (base block : ℕ) (m : Backing) → Some m ≡ backing_at s.memory.host.blocks block → insert_block s base block (slice_get s.memory.host.blocks block) ≡ insert s (over base m)
+pub known : {F : Type 0} (s : State F) (base block : ℕ) (m : Backing) → Some m ≡ backing_at s.memory.host block → insert_block s base block (slice_get s.memory.host.blocks block) ≡ insert s (over base m)
 known s base block m e = known_in s base block m (slice_get s.memory.host.blocks block) e
 
 -- its last address doesn't fit
@@ -172,15 +175,15 @@ within base m r e =
     ] e
 
 has_in : (blocks : List Block) (block : ℕ) (m : Backing) (o : Option Block) → slice_get blocks block ≡ o → Some m ≡ option_map (with_number block) o →
-    (m.block < length (lengths (host_of blocks))) × (slice_index_or (lengths (host_of blocks)) m.block 0 ≡ m.size)
+    (m.block < length (lengths_in blocks)) × (slice_index_or (lengths_in blocks) m.block 0 ≡ m.size)
 has_in blocks block m None there e = absurd (cc)
 has_in blocks block m (Some b) there e =
     let same : with_number block b ≡ m = cc in
-    subst (λ (k : Backing). (k.block < length (lengths (host_of blocks))) × (slice_index_or (lengths (host_of blocks)) k.block 0 ≡ k.size)) same (block_there blocks block b there)
+    subst (λ (k : Backing). (k.block < length (lengths_in blocks)) × (slice_index_or (lengths_in blocks) k.block 0 ≡ k.size)) same (block_there blocks block b there)
 
-pub has_block : (blocks : List Block) (base block : ℕ) (m : Backing) (r : Region) → Some m ≡ backing_at blocks block → Some r ≡ region_over m base → HasBlock (lengths (host_of blocks)) r
-has_block blocks base block m r there e =
-    subst (HasBlock (lengths (host_of blocks))) (within base m r e).1 (has_in blocks block m (slice_get blocks block) refl there)
+pub has_block : (h : Host) (base block : ℕ) (m : Backing) (r : Region) → Some m ≡ backing_at h block → Some r ≡ region_over m base → HasBlock (lengths h) r
+has_block h base block m r there e =
+    subst (HasBlock (lengths h)) (within base m r e).1 (has_in h.blocks block m (slice_get h.blocks block) refl there)
 
 -- ---- a layout's regions fit, and are apart
 

@@ -1,7 +1,7 @@
 -- Worked examples that compute: one region from 0 to 0x10000, and a queue of four descriptors, its table at 0, its rings at 0x100 and 0x200.
 use Rattle.std.specs.Prelude.{◌≡◌, ℕ, true, false, List, [], ◌∷◌, ◌++◌, length, refl, None}
 use Rattle.std.specs.List.{zip}
-use Rattle.vm_memory_core.specs.Host.{host_of, new_block}
+use Rattle.vm_memory_core.specs.Host.{new_block}
 use Rattle.vm_memory.specs.Layout.{place}
 use Rattle.vm_memory.specs.Memory.{Memory, memory_of, addresses, bytes, stored_all}
 use Rattle.fs_queue.specs.declared.fault.ChainFault.TheVariants as chain_fault
@@ -19,7 +19,7 @@ use Rattle.fs_device.specs.declared.error.DeviceError.TheVariants as device_erro
 use Rattle.fs_device.specs.Step.{State, Exchange, Refused, Exchanged, Step, after_return}
 
 abbrev pub blank : Memory
-blank = memory_of (host_of (new_block 0x10000 ∷ [])) (record { start = 0; size = 0x10000; block = 0 } ∷ [])
+blank = memory_of (record { blocks = new_block 0x10000 ∷ []; tables = []; io_marks = [] }) (record { start = 0; size = 0x10000; block = 0 } ∷ [])
 
 abbrev pub queue : Queue
 queue = record { size = 4; desc = 0; avail = 0x100; used = 0x200; position = 0; stopped = false }

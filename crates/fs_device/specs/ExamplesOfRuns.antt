@@ -1,13 +1,13 @@
 -- Worked runs that compute: kicks, guest accesses, layouts that change, two regions, and harvests. Pages are compared by where they begin, or are small.
-use Rattle.std.specs.Prelude.{◌≡◌, ℕ, ◌+◌, ◌-◌, ◌^◌, true, false, List, [], ◌∷◌, ◌++◌, length, map, refl, Some, None}
-use Rattle.vm_memory_core.specs.Host.{Host, host_of, new_block, cleared}
+use Rattle.std.specs.Prelude.{◌≡◌, ℕ, ◌+◌, ◌-◌, ◌^◌, true, List, [], ◌∷◌, ◌++◌, map, refl, Some, None}
+use Rattle.vm_memory_core.specs.Host.{new_block, cleared}
 use Rattle.vm_memory.specs.Layout.{Region, place}
-use Rattle.vm_memory.specs.Memory.{Memory, memory_of, addresses, bytes, stored_all}
+use Rattle.vm_memory.specs.Memory.{Memory, memory_of, addresses, stored_all}
 use Rattle.fs_queue.specs.declared.fault.QueueError.TheVariants as queue_error
 use Rattle.fs_queue.specs.declared.layout.QueueLayout.{QueueLayout}
 use Rattle.fs_queue.specs.Queue.{stopped}
 use Rattle.fs_queue.specs.Chain.{path, found}
-use Rattle.fs_queue.specs.Taking.{Asks, Offers, offer}
+use Rattle.fs_queue.specs.Taking.{offer}
 use Rattle.fs_queue.specs.Returning.{advanced}
 use Rattle.vm_values.specs.Fields as fields
 use Rattle.fuse_fs.specs.Calls as files
@@ -17,8 +17,8 @@ use Rattle.virtiofsd_fuse.specs.Grammar.{meaning, meant, row, error_bytes}
 use Rattle.virtiofsd_fuse.specs.Serving.{May}
 use Rattle.fs_device.specs.declared.error.DeviceError.TheVariants as device_error
 use Rattle.fs_device.specs.declared.refusal.Refusal.TheVariants as why
-use Rattle.fs_device.specs.Step.{State, Exchanged, Idle, Step, after_return}
-use Rattle.fs_device.specs.Harvested.{Page, block_pages, host_pages, harvested}
+use Rattle.fs_device.specs.Step.{State, Exchanged, Step, after_return}
+use Rattle.fs_device.specs.Harvested.{block_pages, host_pages, harvested}
 use Rattle.fs_device.specs.Run as run
 use Rattle.fs_device.specs.Run.{Command, Answer, Run, KickRun, effect, fresh_queue}
 use Rattle.fs_device.specs.Examples.{blank, queue, put, descriptor_bytes, request, with_one_request, Nothing, may, device, unknown_reply, unknown_exchange, after_reply, one_step}
@@ -141,7 +141,7 @@ resets_no_missing l = refl
 -- ---- 32 bytes at 0, and what a guest does there
 
 abbrev small : State Nothing
-small = device (memory_of (host_of (new_block 32 ∷ [])) (record { start = 0; size = 32; block = 0 } ∷ [])) queue
+small = device (memory_of (record { blocks = new_block 32 ∷ []; tables = []; io_marks = [] }) (record { start = 0; size = 32; block = 0 } ∷ [])) queue
 
 -- what commands come to that each do one thing
 abbrev comes_to : State Nothing → List Command → State Nothing
@@ -257,7 +257,7 @@ kick_without_memory = (record nowhere { queues = stopped queue ∷ [] }, (refl, 
 -- ---- two regions, of 0x1000 and 0xf000 bytes, and a request that lies in both
 
 abbrev two : Memory
-two = memory_of (host_of (new_block 0x1000 ∷ new_block 0xf000 ∷ []))
+two = memory_of (record { blocks = new_block 0x1000 ∷ new_block 0xf000 ∷ []; tables = []; io_marks = [] })
     (record { start = 0; size = 0x1000; block = 0 } ∷ record { start = 0x1000; size = 0xf000; block = 1 } ∷ [])
 
 abbrev across : Memory

@@ -1,7 +1,7 @@
 //! The device: its queues are served one chain a step.
 
 ghost use Rattle.std.specs.Prelude.{◌≡◌, ◌≤◌, ◌<◌, ◌^◌, List, length, set, slice_get, [], IfErr, IfOk, IfSome, None, OnErr, OnOk, option_map};
-ghost use Rattle.vm_memory_core.specs.Host.{host_of, lengths};
+ghost use Rattle.vm_memory_core.specs.Host.{shape};
 ghost use Rattle.vm_memory.specs.Layout.{Region, HostHolds};
 ghost use Rattle.vm_memory.specs.Memory.{memory_of};
 ghost use Rattle.fs_queue.specs.Queue.{Queue};
@@ -52,8 +52,8 @@ fn step<F: FileSystem, B: NewBitmap>(
     queue: &mut Queue,
 ) -> Result<Option<(Exchange, bool)>, QueueError>
     requires { HostHolds host.old mem.now }
-    ensures step { StepsOne F.may server.old.page_size (memory_of (host_of host.old) mem.now) limit queue.old (server_state server.old) result queue.new (memory_of (host_of host.new) mem.now) (server_state server.new) }
-    ensures lengths { lengths (host_of host.new) ≡ lengths (host_of host.old) }
+    ensures step { StepsOne F.may server.old.page_size (memory_of host.old mem.now) limit queue.old (server_state server.old) result queue.new (memory_of host.new mem.now) (server_state server.new) }
+    ensures shape { shape host.new ≡ shape host.old }
     ensures page_size { server.new.page_size ≡ server.old.page_size }
 {
     let Some(taken) = queue.take(alloc, host, mem, limit)? else {
@@ -107,8 +107,8 @@ impl<F: FileSystem> Device<F> {
         queue: usize,
     ) -> Result<Option<(Exchange, bool)>, DeviceError>
         requires { HostHolds host.old mem.now }
-        ensures step { (calls : Calls) × Step F.may (state_of (host_of host.old) mem.now self.old) queue calls (outcome_of result) (state_of (host_of host.new) mem.now self.new) }
-        ensures lengths { lengths (host_of host.new) ≡ lengths (host_of host.old) }
+        ensures step { (calls : Calls) × Step F.may (state_of host.old mem.now self.old) queue calls (outcome_of result) (state_of host.new mem.now self.new) }
+        ensures shape { shape host.new ≡ shape host.old }
     {
         if queue >= self.queues.len() {
             return Err(DeviceError::NoSuchQueue);

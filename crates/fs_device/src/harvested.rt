@@ -2,7 +2,7 @@
 
 ghost use Rattle.std.specs.Prelude.{◌≡◌, ◌+◌, ◌*◌, ◌<◌, ◌++◌, map, length, OnOk, OnErr, IfOk, slice_range};
 ghost use Rattle.vm_bitmaps.specs.Pages.{pages_of as page_count};
-ghost use Rattle.vm_memory_core.specs.Host.{host_of, cleared, unmarked, lengths};
+ghost use Rattle.vm_memory_core.specs.Host.{cleared, shape};
 ghost use Rattle.fs_device.specs.Harvested.{block_pages, host_pages, harvested};
 ghost use Rattle.fs_device.specs.DeviceView.{page_of};
 
@@ -62,7 +62,7 @@ fn harvest_block(
 
 // The marked pages of all blocks.
 fn gather(alloc: Global, host: &HostMemory<PageBitmap>) -> Result<Vec<HarvestedPage>, AllocError>
-    ensures { IfOk result (λ pages. map page_of pages.items ≡ harvested (host_of host.now)) }
+    ensures { IfOk result (λ pages. map page_of pages.items ≡ harvested host.now) }
 {
     let mut pages = Vec::new(alloc);
     for block in 0..host.block_count() {
@@ -75,7 +75,7 @@ fn gather(alloc: Global, host: &HostMemory<PageBitmap>) -> Result<Vec<HarvestedP
 
 // Clears the marks of all blocks.
 fn clear(host: &mut HostMemory<PageBitmap>)
-    ensures { host.new ≡ map unmarked host.old }
+    ensures { host.new ≡ cleared host.old }
 {
     for block in 0..host.block_count() {
         host.reset_bitmap(block);
@@ -87,10 +87,10 @@ pub fn harvest(
     alloc: Global,
     host: &mut HostMemory<PageBitmap>,
 ) -> Result<Vec<HarvestedPage>, AllocError>
-    ensures pages { IfOk result (λ pages. map page_of pages.items ≡ harvested (host_of host.old)) }
-    ensures cleared { OnOk result (host_of host.new ≡ cleared (host_of host.old)) }
+    ensures pages { IfOk result (λ pages. map page_of pages.items ≡ harvested host.old) }
+    ensures cleared { OnOk result (host.new ≡ cleared host.old) }
     ensures err { OnErr result (host.new ≡ host.old) }
-    ensures lengths { lengths (host_of host.new) ≡ lengths (host_of host.old) }
+    ensures shape { shape host.new ≡ shape host.old }
 {
     let pages = gather(alloc, host)?;
     clear(host);

@@ -1,7 +1,7 @@
 //! A guest's memory and the device that serves it, as one machine.
 
 ghost use Rattle.std.specs.Prelude.{◌≡◌};
-ghost use Rattle.vm_memory_core.specs.Host.{host_of, lengths};
+ghost use Rattle.vm_memory_core.specs.Host.{lengths};
 ghost use Rattle.vm_memory.specs.Layout.{AreHeld, HostHolds};
 ghost use Rattle.vm_memory.specs.OneProof.{AreHeld-prop};
 
@@ -16,7 +16,7 @@ pub struct Machine<F> {
     pub host: HostMemory<PageBitmap>,
     pub mem: GuestMemoryMmap,
     pub device: Device<F>,
-    pub ghost held: { AreHeld (lengths (host_of host)) mem } by { AreHeld-prop (lengths (host_of host)) mem },
+    pub ghost held: { AreHeld (lengths host) mem } by { AreHeld-prop (lengths host) mem },
 }
 
 impl<F: FileSystem> Machine<F> {

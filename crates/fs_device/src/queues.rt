@@ -1,7 +1,7 @@
 //! Chains of a queue, served one after another.
 
 ghost use Rattle.std.specs.Prelude.{◌≡◌, ◌<◌, ◌≤◌, [], None, Some, IfOk, OnErr, vec_capacity};
-ghost use Rattle.vm_memory_core.specs.Host.{host_of, lengths};
+ghost use Rattle.vm_memory_core.specs.Host.{shape};
 ghost use Rattle.vm_memory.specs.Layout.{HostHolds};
 
 use crate::device::Device;
@@ -72,8 +72,8 @@ impl<F: FileSystem> Device<F> {
         most: u16,
     ) -> Result<QueueRun, DeviceError>
         requires { HostHolds host.old mem.now }
-        ensures run { ServesQueue F.may (state_of (host_of host.old) mem.now self.old) queue most result (state_of (host_of host.new) mem.now self.new) }
-        ensures lengths { lengths (host_of host.new) ≡ lengths (host_of host.old) }
+        ensures run { ServesQueue F.may (state_of host.old mem.now self.old) queue most result (state_of host.new mem.now self.new) }
+        ensures shape { shape host.new ≡ shape host.old }
     {
         if queue >= self.queues.len() {
             return Err(DeviceError::NoSuchQueue);

@@ -1,7 +1,6 @@
 //! A machine does commands one after another.
 
 ghost use Rattle.std.specs.Prelude.{◌≡◌, IfOk, OnErr, true, length, map, zip};
-ghost use Rattle.vm_memory_core.specs.Host.{host_of};
 ghost use Rattle.vm_iotlb.specs.declared.permissions.Permissions.TheVariants.{Read, Write};
 ghost use Rattle.vm_memory.specs.Memory.{memory_of, reach, bytes};
 ghost use Rattle.fs_device.specs.Run.{Run, Performs, GuestRead, GuestWrite, Kick, ResetQueue, guest_written};
@@ -21,7 +20,7 @@ use vm_memory_core::{GuestAddress, Permissions};
 impl<F: FileSystem> Machine<F> {
     // Whether the guest reaches that many bytes from an address on.
     fn reaches(&self, addr: u64, len: usize, access: Permissions) -> bool
-        ensures { result ≡ reach (memory_of (host_of self.now.host) self.now.mem) access addr len }
+        ensures { result ≡ reach (memory_of self.now.host self.now.mem) access addr len }
     {
         match addr.checked_add(len as u64) {
             Some(_) => self.mem.check_range(GuestAddress(addr), len, access),
@@ -31,15 +30,15 @@ impl<F: FileSystem> Machine<F> {
 
     // Reads bytes that the guest reaches.
     fn fill(&self, addr: u64, buffer: &mut [u8])
-        requires { reach (memory_of (host_of self.now.host) self.now.mem) Read addr (length buffer.old) ≡ true }
-        ensures { buffer.new ≡ bytes (memory_of (host_of self.now.host) self.now.mem) addr (length buffer.old) }
+        requires { reach (memory_of self.now.host self.now.mem) Read addr (length buffer.old) ≡ true }
+        ensures { buffer.new ≡ bytes (memory_of self.now.host self.now.mem) addr (length buffer.old) }
     {
         let _ = self.mem.read_slice(&self.host, buffer, GuestAddress(addr));
     }
 
     // Writes bytes that the guest reaches.
     fn store(&mut self, addr: u64, bytes: &[u8])
-        requires { reach (memory_of (host_of self.old.host) self.old.mem) Write addr (length bytes.now) ≡ true }
+        requires { reach (memory_of self.old.host self.old.mem) Write addr (length bytes.now) ≡ true }
         ensures { machine_of self.new ≡ record (machine_of self.old) { memory = guest_written (machine_of self.old).memory addr bytes.now } }
     {
         let _ = self

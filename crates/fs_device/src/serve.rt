@@ -1,7 +1,7 @@
 //! What is exchanged for a chain that was taken.
 
 ghost use Rattle.std.specs.Prelude.{◌≡◌, ◌≤◌, ◌<◌, ◌^◌, List, length, IfOk, IfSome, OnErr, IfNone};
-ghost use Rattle.vm_memory_core.specs.Host.{host_of, lengths};
+ghost use Rattle.vm_memory_core.specs.Host.{lengths};
 ghost use Rattle.vm_memory.specs.Layout.{Region};
 ghost use Rattle.vm_memory.specs.Memory.{memory_of};
 ghost use Rattle.fs_queue.specs.Queue.{Queue};
@@ -71,9 +71,9 @@ pub fn serve<F: FileSystem, B: NewBitmap>(
     host: &HostMemory<B>,
     taken: &Taken,
 ) -> Result<Exchange, AllocError>
-    requires lies { TakenLiesIn (lengths (host_of host.now)) taken.now }
+    requires lies { TakenLiesIn (lengths host.now) taken.now }
     requires short { room_places taken.now.chain < 2 ^ 32 }
-    ensures exchange { (l : List Region) (q : Queue) (asked : Asked) → IsTaken (memory_of (host_of host.now) l) q asked taken.now →
+    ensures exchange { (l : List Region) (q : Queue) (asked : Asked) → IsTaken (memory_of host.now l) q asked taken.now →
         IfOk result (λ e. (calls : Calls) × ServesChain F.may server.old.page_size (server_state server.old) taken.now.head asked calls (exchange_of e) (server_state server.new)) }
     ensures fits { IfOk result (λ e. length e.reply.items ≤ room_places taken.now.chain) }
     ensures head { IfOk result (λ e. e.head ≡ taken.now.head) }

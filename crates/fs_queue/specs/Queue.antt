@@ -1,5 +1,5 @@
 -- A split virtqueue: where its parts are, and its available ring (VIRTIO 1.2, 2.7 and 2.7.6).
-use Rattle.std.specs.Prelude.{ℕ, ◌+◌, ◌-◌, ◌*◌, ◌%◌, ◌^◌, Bool, true, false, not}
+use Rattle.std.specs.Prelude.{ℕ, ◌+◌, ◌-◌, ◌*◌, ◌%◌, ◌^◌, Bool, true, false}
 use Rattle.std.specs.Int.{w16}
 pub use Rattle.vm_values.specs.Bits.{has_bit}
 use Rattle.vm_memory.specs.Memory.{Memory, number}

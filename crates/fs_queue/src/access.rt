@@ -3,7 +3,6 @@
 ghost use Rattle.std.specs.Prelude.{◌≡◌, ◌+◌, ◌<◌, ◌^◌, ℕ, List, IsTrue, IfOk, IfSome, length, Some, None, if◌then◌else◌};
 ghost use Rattle.std.specs.Option.{option_map};
 ghost use Rattle.std.specs.Int.{w16, from_le_bytes, to_le_bytes};
-ghost use Rattle.vm_memory_core.specs.Host.{host_of, lengths};
 ghost use Rattle.vm_iotlb.specs.declared.permissions.Permissions.TheVariants.{Read};
 ghost use Rattle.vm_memory_core.specs.Window.{places, AllLieIn};
 ghost use Rattle.vm_memory.specs.Layout.{place, AreHeld, HostHolds};
@@ -23,8 +22,8 @@ pub(crate) fn read<B: NewBitmap>(
 ) -> bool
     requires fits { addr + length buffer.old < 2 ^ 64 }
     requires held { HostHolds host.now mem.now }
-    ensures found { result ≡ reach (memory_of (host_of host.now) mem.now) Read addr (length buffer.old) }
-    ensures bytes { IsTrue result → buffer.new ≡ bytes (memory_of (host_of host.now) mem.now) addr (length buffer.old) }
+    ensures found { result ≡ reach (memory_of host.now mem.now) Read addr (length buffer.old) }
+    ensures bytes { IsTrue result → buffer.new ≡ bytes (memory_of host.now mem.now) addr (length buffer.old) }
 {
     mem.read_slice(host, buffer, GuestAddress(addr)).is_ok()
 }
@@ -55,7 +54,7 @@ pub(crate) fn read_u16<B: NewBitmap>(
 ) -> Option<u16>
     requires fits { addr + 2 < 2 ^ 64 }
     requires held { HostHolds host.now mem.now }
-    ensures { let m = memory_of (host_of host.now) mem.now in result ≡ (if reach m Read addr 2 then Some (number m w16 addr) else None) }
+    ensures { let m = memory_of host.now mem.now in result ≡ (if reach m Read addr 2 then Some (number m w16 addr) else None) }
 {
     let mut bytes = [0u8; 2];
     if read(host, mem, addr, &mut bytes) {

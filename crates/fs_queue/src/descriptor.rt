@@ -2,7 +2,6 @@
 
 ghost use Rattle.std.specs.Prelude.{◌≡◌, ◌+◌, ◌<◌, ◌^◌, Some, None, if◌then◌else◌, refl};
 ghost use Rattle.std.proofs.Common.{rules};
-ghost use Rattle.vm_memory_core.specs.Host.{host_of};
 ghost use Rattle.vm_iotlb.specs.declared.permissions.Permissions.TheVariants.{Read};
 ghost use Rattle.vm_memory.specs.Layout.{HostHolds};
 ghost use Rattle.vm_memory.specs.Memory.{memory_of, reach};
@@ -84,7 +83,7 @@ pub(crate) fn read_descriptor<B: NewBitmap>(
 ) -> Option<Descriptor>
     requires fits { addr + 16 < 2 ^ 64 }
     requires held { HostHolds host.now mem.now }
-    ensures { let m = memory_of (host_of host.now) mem.now in result ≡ (if reach m Read addr 16 then Some (descriptor_at m addr) else None) }
+    ensures { let m = memory_of host.now mem.now in result ≡ (if reach m Read addr 16 then Some (descriptor_at m addr) else None) }
 {
     let mut bytes = [0u8; 16];
     if read(host, mem, addr, &mut bytes) {

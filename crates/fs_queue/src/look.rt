@@ -1,7 +1,6 @@
 //! What waits in the available ring (VIRTIO 1.2, 2.7.6).
 
 ghost use Rattle.std.specs.Prelude.{◌≡◌, IsTrue};
-ghost use Rattle.vm_memory_core.specs.Host.{host_of};
 ghost use Rattle.vm_memory.specs.Layout.{HostHolds};
 ghost use Rattle.vm_memory.specs.Memory.{memory_of};
 ghost use Rattle.fs_queue.specs.Queue.{at_position};
@@ -30,7 +29,7 @@ pub(crate) fn next_head<B: NewBitmap>(
     mem: &GuestMemoryMmap,
 ) -> Look
     requires { HostHolds host.now mem.now }
-    ensures look { result ≡ looked (memory_of (host_of host.now) mem.now) (at_position layout position) }
+    ensures look { result ≡ looked (memory_of host.now mem.now) (at_position layout position) }
     ensures stops { IfRefused result (λ e. IsTrue (stops_queue e)) }
 {
     let Some(index) = read_u16(host, mem, layout.avail() + 2) else {

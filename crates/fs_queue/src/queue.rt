@@ -2,7 +2,7 @@
 
 ghost use Rattle.std.specs.Prelude.{◌≡◌, ◌+◌, ◌<◌, ◌≤◌, ◌^◌, List, length, IfOk, IfSome};
 ghost use Rattle.std.specs.List.{zip};
-ghost use Rattle.vm_memory_core.specs.Host.{host_of, lengths};
+ghost use Rattle.vm_memory_core.specs.Host.{lengths, shape};
 ghost use Rattle.vm_memory_core.specs.Window.{put_all};
 ghost use Rattle.vm_memory.specs.Layout.{Region, HostHolds};
 ghost use Rattle.vm_memory.specs.Memory.{memory_of};
@@ -49,10 +49,10 @@ fn write_reply<B: NewBitmap>(
     chain: &Result<Chain, ChainFault>,
     reply: &[u8],
 )
-    requires lies { ChainLiesIn (lengths (host_of host.old)) chain.now }
+    requires lies { ChainLiesIn (lengths host.old) chain.now }
     requires fits { length reply.now ≤ room_places chain.now }
-    ensures stored { host_of host.new ≡ put_all (host_of host.old) (zip (chain_places chain.now) reply.now) }
-    ensures lengths { lengths (host_of host.new) ≡ lengths (host_of host.old) }
+    ensures stored { host.new ≡ put_all host.old (zip (chain_places chain.now) reply.now) }
+    ensures shape { shape host.new ≡ shape host.old }
 {
     match chain {
         Ok(chain) => host.write_windows(&chain.writable, reply),
@@ -96,10 +96,10 @@ impl Queue {
         limit: u32,
     ) -> Result<Option<Taken>, QueueError>
         requires { HostHolds host.now mem.now }
-        ensures takes { Takes (memory_of (host_of host.now) mem.now) limit self.old result }
-        ensures windows { IfOk result (λ o. IfSome o (HasItsWindows (memory_of (host_of host.now) mem.now) self.old)) }
+        ensures takes { Takes (memory_of host.now mem.now) limit self.old result }
+        ensures windows { IfOk result (λ o. IfSome o (HasItsWindows (memory_of host.now mem.now) self.old)) }
         ensures queue { self.new ≡ after_taking self.old result }
-        ensures lie { IfOk result (λ o. IfSome o (TakenLiesIn (lengths (host_of host.now)))) }
+        ensures lie { IfOk result (λ o. IfSome o (TakenLiesIn (lengths host.now))) }
         ensures short { IfOk result (λ o. IfSome o (λ t. room_places t.chain ≤ limit)) }
     {
         if self.stopped {
@@ -124,15 +124,15 @@ impl Queue {
         taken: Taken,
         reply: &[u8],
     ) -> bool
-        requires lies { TakenLiesIn (lengths (host_of host.old)) taken }
+        requires lies { TakenLiesIn (lengths host.old) taken }
         requires fits { length reply.now ≤ room_places taken.chain }
         requires small { length reply.now < 2 ^ 32 }
-        ensures stored { (l : List Region) (asked : Asked) → IsTaken (memory_of (host_of host.old) l) self.old asked taken →
-            memory_of (host_of host.new) l ≡ returned (memory_of (host_of host.old) l) self.old taken.head (room_of asked) reply.now }
-        ensures told { (l : List Region) (asked : Asked) → IsTaken (memory_of (host_of host.old) l) self.old asked taken →
-            result ≡ wants_notice (memory_of (host_of host.new) l) self.old }
+        ensures stored { (l : List Region) (asked : Asked) → IsTaken (memory_of host.old l) self.old asked taken →
+            memory_of host.new l ≡ returned (memory_of host.old l) self.old taken.head (room_of asked) reply.now }
+        ensures told { (l : List Region) (asked : Asked) → IsTaken (memory_of host.old l) self.old asked taken →
+            result ≡ wants_notice (memory_of host.new l) self.old }
         ensures queue { self.new ≡ advanced self.old }
-        ensures lengths { lengths (host_of host.new) ≡ lengths (host_of host.old) }
+        ensures shape { shape host.new ≡ shape host.old }
     {
         write_reply(host, &taken.chain, reply);
         let element = UsedElement {

@@ -2,7 +2,7 @@
 
 ghost use Rattle.std.specs.Prelude.{◌≡◌, ◌+◌, ◌-◌, ◌<◌, ◌≤◌, ◌^◌, MatchResult, List, ℕ, min, length, IfOk, IfErr, IfSome, OnErr, IsTrue};
 ghost use Rattle.std.specs.Option.{option_map};
-ghost use Rattle.vm_memory_core.specs.Host.{Host, host_of, lengths};
+ghost use Rattle.vm_memory_core.specs.Host.{Host, lengths};
 ghost use Rattle.vm_memory_core.specs.Window.{places, AllLieIn};
 ghost use Rattle.vm_memory.specs.Layout.{place, AreHeld, HostHolds};
 ghost use Rattle.vm_memory.specs.Memory.{memory_of, located};
@@ -157,11 +157,11 @@ pub(crate) fn ask<B: NewBitmap>(
     limit: u32,
 ) -> Result<Asking, AllocError>
     requires { HostHolds host.now mem.now }
-    ensures asking { IfOk result (AskingAs (memory_of (host_of host.now) mem.now) limit (at_position layout position)) }
-    ensures lie { IfOk result (AskingLiesIn (lengths (host_of host.now))) }
-    ensures windows { IfOk result (λ a. IfTook a (HasItsWindows (memory_of (host_of host.now) mem.now) (at_position layout position))) }
+    ensures asking { IfOk result (AskingAs (memory_of host.now mem.now) limit (at_position layout position)) }
+    ensures lie { IfOk result (AskingLiesIn (lengths host.now)) }
+    ensures windows { IfOk result (λ a. IfTook a (HasItsWindows (memory_of host.now mem.now) (at_position layout position))) }
     ensures short { IfOk result (λ a. IfTook a (λ t. room_places t.chain ≤ limit)) }
-    ensures memory { OnErr result (let m = memory_of (host_of host.now) mem.now in IsTrue (may_lack_memory m (offer m limit (at_position layout position)))) }
+    ensures memory { OnErr result (let m = memory_of host.now mem.now in IsTrue (may_lack_memory m (offer m limit (at_position layout position)))) }
 {
     let head = match next_head(layout, position, host, mem) {
         Look::Idle => return Ok(Asking::Nobody),

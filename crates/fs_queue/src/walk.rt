@@ -1,7 +1,6 @@
 //! The walk through a chain of descriptors (VIRTIO 1.2, 2.7.5).
 
 ghost use Rattle.std.specs.Prelude.{◌≡◌, ◌+◌, ◌*◌, ◌<◌, ◌^◌, IfOk, false};
-ghost use Rattle.vm_memory_core.specs.Host.{host_of};
 ghost use Rattle.vm_memory.specs.Layout.{HostHolds};
 ghost use Rattle.vm_memory.specs.Memory.{memory_of};
 ghost use Rattle.fs_queue.specs.Queue.{at_position};
@@ -56,7 +55,7 @@ fn step<B: NewBitmap>(
     left: u16,
 ) -> Verdict
     requires { HostHolds host.now mem.now }
-    ensures verdict { result ≡ verdict (memory_of (host_of host.now) mem.now) (in_table layout index left) }
+    ensures verdict { result ≡ verdict (memory_of host.now mem.now) (in_table layout index left) }
     ensures fits { IfJoins result (λ d. d.addr + d.len < 2 ^ 64) }
     ensures more { IfJoins result (λ _. 0 < left) }
 {
@@ -82,7 +81,7 @@ pub(crate) fn walk<B: NewBitmap>(
     head: u16,
 ) -> Result<Walked, AllocError>
     requires { HostHolds host.now mem.now }
-    ensures chain { IfOk result (λ w. found_of w ≡ chain (memory_of (host_of host.now) mem.now) (at_position layout 0) head) }
+    ensures chain { IfOk result (λ w. found_of w ≡ chain (memory_of host.now mem.now) (at_position layout 0) head) }
     ensures fit { IfOk result DescriptorsFit }
 {
     let mut descriptors = Descriptors::new(alloc);

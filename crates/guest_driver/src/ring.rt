@@ -1,7 +1,7 @@
 //! A guest's memory with a split virtqueue in it, drawn entry by entry (VIRTIO 1.2, section 2.7).
 
 ghost use Rattle.std.specs.Prelude.{◌≡◌};
-ghost use Rattle.vm_memory_core.specs.Host.{host_of, lengths};
+ghost use Rattle.vm_memory_core.specs.Host.{lengths, shape};
 ghost use Rattle.vm_memory.specs.Layout.{HostHolds};
 ghost use Rattle.vm_memory.specs.OneProof.{AreHeld-prop};
 
@@ -50,12 +50,12 @@ pub struct Guest {
     pub mem: GuestMemoryMmap,
     pub ring: Ring,
     offered: u16,
-    pub ghost held: { HostHolds host mem } by { AreHeld-prop (lengths (host_of host)) mem },
+    pub ghost held: { HostHolds host mem } by { AreHeld-prop (lengths host) mem },
 }
 
 // Clears the marks of a host's pages.
 fn clear(host: &mut HostMemory<PageBitmap>)
-    ensures { lengths (host_of host.new) ≡ lengths (host_of host.old) }
+    ensures { shape host.new ≡ shape host.old }
 {
     for block in 0..host.block_count() {
         host.reset_bitmap(block);

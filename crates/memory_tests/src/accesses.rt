@@ -1,6 +1,5 @@
 //! Bytes of a window by offset.
 
-ghost use Rattle.vm_memory_core.specs.Host.{host_of};
 
 use crate::given::{Host, eight, expect_eight, expect_same};
 use std::process::Abort;
@@ -61,7 +60,7 @@ fn reads_stop_at_the_end(rt: HostRuntime) {
 fn byte_of<M: Bytes<usize>, B: NewBitmap>(memory: &M, h: &HostMemory<B>, addr: usize) -> Option<u8>
 where
     M::E: Drop,
-    requires { M.IsHeld memory.now (host_of h.now) }
+    requires { M.IsHeld memory.now h.now }
 {
     memory.read_obj::<u8, B>(h, addr).ok()
 }

@@ -1,7 +1,7 @@
 //! Windows that are read and written one after another.
 
 ghost use Rattle.std.specs.Prelude.{◌≡◌, ◌≤◌, length};
-ghost use Rattle.vm_memory_core.specs.Host.{host_of, lengths};
+ghost use Rattle.vm_memory_core.specs.Host.{lengths};
 ghost use Rattle.vm_memory_core.specs.Window.{places, AllLieIn};
 
 use crate::given::{Host, eight, expect_eight, expect_same};
@@ -11,7 +11,7 @@ use vm_memory_core::VolatileSlice;
 
 // The bytes of windows, fetched and read to a buffer.
 fn expect_joined(rt: &impl Abort, alloc: Global, h: &Host, windows: &[VolatileSlice], want: [u8; 4])
-    requires lie { AllLieIn (lengths (host_of h.now)) windows.now }
+    requires lie { AllLieIn (lengths h.now) windows.now }
     requires fits { 4 ≡ length (places windows.now) }
 {
     let mut bytes = [0; 4];
@@ -23,7 +23,7 @@ fn expect_joined(rt: &impl Abort, alloc: Global, h: &Host, windows: &[VolatileSl
 
 // Writes three bytes to windows.
 fn write_three(h: &mut Host, windows: &[VolatileSlice])
-    requires lie { AllLieIn (lengths (host_of h.old)) windows.now }
+    requires lie { AllLieIn (lengths h.old) windows.now }
     requires fits { 3 ≤ length (places windows.now) }
 {
     h.write_windows(windows, &[21, 22, 23]);

@@ -6,7 +6,7 @@ use Rattle.std.specs.List.{list_all}
 use Rattle.std.proofs.lemmas.Bool.Decides.{nat_tests}
 use Rattle.std.proofs.lemmas.List.{map-append, length-map, take_more, length-take-le, get_or_at, length_push, length-replicate}
 use Rattle.vm_values.specs.declared.address.GuestAddress.{GuestAddress}
-use Rattle.vm_memory_core.specs.Host.{Block, host_of, lengths}
+use Rattle.vm_memory_core.specs.Host.{Block, Host, lengths, with_blocks}
 use Rattle.std.specs.Arc.{arc_value}
 use Rattle.std.specs.declared.sync.Arc.{Arc}
 use Rattle.vm_memory.specs.Layout.{Region, regions_of, AreHeld}
@@ -43,20 +43,20 @@ all_more xs i d x h e all some fits =
     let here : is_good x ≡ true = grind (arith, nat_tests) in
     ap (list_all is_good) (taken xs i d x h e) ∙ all-push (take i xs) x all here
 
-grown_by-push : (count : ℕ → ℕ) (blocks : List Block) (xs : List Range) (x : Range) → grown_by count blocks (xs ++ x ∷ []) ≡ grown count (grown_by count blocks xs) x.1
-grown_by-push count blocks xs x =
+grown_by-push : (count : ℕ → ℕ) (h : Host) (xs : List Range) (x : Range) → grown_by count h (xs ++ x ∷ []) ≡ grown count (grown_by count h xs) x.1
+grown_by-push count h xs x =
     let f : Range → Block = λ (r : Range). zero_block count r.1 in
-    ap (λ l. blocks ++ l) (map-append f xs (x ∷ [])) ∙ sym (append_assoc blocks (map f xs) (f x ∷ []))
+    ap (with_blocks h) (ap (λ l. h.blocks ++ l) (map-append f xs (x ∷ [])) ∙ sym (append_assoc h.blocks (map f xs) (f x ∷ [])))
 
-pub grown_more : (count : ℕ → ℕ) (blocks now new : List Block) (xs : List Range) (i : ℕ) (d x : Range) → i < length xs → get_or xs i d ≡ x → now ≡ grown_by count blocks (take i xs) → new ≡ grown count now x.1 →
-    new ≡ grown_by count blocks (take (i + 1) xs)
-grown_more count blocks now new xs i d x h e before is =
-    is ∙ ap (λ l. grown count l x.1) before ∙ sym (ap (grown_by count blocks) (taken xs i d x h e) ∙ grown_by-push count blocks (take i xs) x)
+pub grown_more : (count : ℕ → ℕ) (old now new : Host) (xs : List Range) (i : ℕ) (d x : Range) → i < length xs → get_or xs i d ≡ x → now ≡ grown_by count old (take i xs) → new ≡ grown count now x.1 →
+    new ≡ grown_by count old (take (i + 1) xs)
+grown_more count old now new xs i d x h e before is =
+    is ∙ ap (λ (l : Host). grown count l x.1) before ∙ sym (ap (grown_by count old) (taken xs i d x h e) ∙ grown_by-push count old (take i xs) x)
 
-pub length-grown_by : (count : ℕ → ℕ) (blocks : List Block) (xs : List Range) (i : ℕ) → i ≤ length xs → length (grown_by count blocks (take i xs)) ≡ length blocks + i
-length-grown_by count blocks xs i h =
+pub length-grown_by : (count : ℕ → ℕ) (before : Host) (xs : List Range) (i : ℕ) → i ≤ length xs → length (grown_by count before (take i xs)).blocks ≡ length before.blocks + i
+length-grown_by count before xs i h =
     let f : Range → Block = λ (r : Range). zero_block count r.1 in
-    length-append blocks (map f (take i xs)) ∙ ap (λ n. length blocks + n) (length-map (take i xs) f ∙ length-take-le i xs h)
+    length-append before.blocks (map f (take i xs)) ∙ ap (λ n. length before.blocks + n) (length-map (take i xs) f ∙ length-take-le i xs h)
 
 regions_from-push : (xs : List Range) (n : ℕ) (x : Range) → regions_from n (xs ++ x ∷ []) ≡ regions_from n xs ++ record { start = x.0.0; size = x.1; block = n + length xs } ∷ []
 regions_from-push [] n x =
@@ -98,23 +98,24 @@ held_from count (x ∷ xs) front =
       subst (λ n. AreHeld (front ++ y ∷ rest) (regions_from n xs)) (length_push front y) there,
     )
 
-pub held_made : (count : ℕ → ℕ) (before after : List Block) (xs : List Range) → after ≡ grown_by count before xs → AreHeld (lengths (host_of after)) (regions_from (length before) xs)
+pub held_made : (count : ℕ → ℕ) (before after : Host) (xs : List Range) → after ≡ grown_by count before xs → AreHeld (lengths after) (regions_from (length before.blocks) xs)
 held_made count before after xs e =
-    let from = held_from count xs (map length_of before) in
-    let there : AreHeld (map length_of before ++ new_lengths count xs) (regions_from (length before) xs) = subst (λ n. AreHeld (map length_of before ++ new_lengths count xs) (regions_from n xs)) (length-map before length_of) from in
-    subst (λ (ls : List ℕ). AreHeld ls (regions_from (length before) xs)) (sym (ap (map length_of) e ∙ map-append length_of before (map (λ (r : Range). zero_block count r.1) xs))) there
+    let old = before.blocks in
+    let from = held_from count xs (lengths before) in
+    let there : AreHeld (lengths before ++ new_lengths count xs) (regions_from (length old) xs) = subst (λ n. AreHeld (lengths before ++ new_lengths count xs) (regions_from n xs)) (length-map old length_of) from in
+    subst (λ (ls : List ℕ). AreHeld ls (regions_from (length old) xs)) (sym (ap lengths e ∙ map-append length_of old (map (λ (r : Range). zero_block count r.1) xs))) there
 
 pub unless_ok : (fault : Option GuestRegionCollectionError) (regions layout : List Region) → ◌≡◌ {A = Result (List Region) GuestRegionCollectionError} (Ok layout) (unless fault regions) → layout ≡ regions
 unless_ok None regions layout e = cc
 unless_ok (Some f) regions layout e = absurd (cc)
 
 -- a refused range
-pub refused_at : (count : ℕ → ℕ) (blocks now new : List Block) (xs : List Range) (i : ℕ) (d x : Range) (e : FromRangesError) → i < length xs → get_or xs i d ≡ x → list_all is_good (take i xs) ≡ true → now ≡ grown_by count blocks (take i xs) →
-    IsRegionMade count now new x.0.0 x.1 (Err e) → AreRegionsMade count blocks new xs (Err e)
-refused_at count blocks now new xs i d x (Collection f) h at good before made = absurd made
-refused_at count blocks now new xs i d x (MmapRegion mmap.Mmap) h at good before made =
+pub refused_at : (count : ℕ → ℕ) (old now new : Host) (xs : List Range) (i : ℕ) (d x : Range) (e : FromRangesError) → i < length xs → get_or xs i d ≡ x → list_all is_good (take i xs) ≡ true → now ≡ grown_by count old (take i xs) →
+    IsRegionMade count now new x.0.0 x.1 (Err e) → AreRegionsMade count old new xs (Err e)
+refused_at count old now new xs i d x (Collection f) h at good before made = absurd made
+refused_at count old now new xs i d x (MmapRegion mmap.Mmap) h at good before made =
     (i, x, (good, slice_get-get_or xs i d h ∙ ap Some at), made.0, made.1 ∙ before)
-refused_at count blocks now new xs i d x (MmapRegion mmap.OutOfMemory) h at good before made = absurd made
-refused_at count blocks now new xs i d x InvalidGuestRegion h at good before made =
-    (i, x, (good, slice_get-get_or xs i d h ∙ ap Some at), made.1, made.0, grown_more count blocks now new xs i d x h at before made.2)
-refused_at count blocks now new xs i d x OutOfMemory h at good before made = (i, good, made.1 ∙ before)
+refused_at count old now new xs i d x (MmapRegion mmap.OutOfMemory) h at good before made = absurd made
+refused_at count old now new xs i d x InvalidGuestRegion h at good before made =
+    (i, x, (good, slice_get-get_or xs i d h ∙ ap Some at), made.1, made.0, grown_more count old now new xs i d x h at before made.2)
+refused_at count old now new xs i d x OutOfMemory h at good before made = (i, good, made.1 ∙ before)

@@ -5,7 +5,7 @@ use Rattle.std.specs.Option.{option_or}
 use Rattle.std.specs.Arc.{arc_value}
 use Rattle.std.specs.declared.sync.Arc.{Arc}
 use Rattle.vm_iotlb.specs.Table.{is_within}
-use Rattle.vm_memory_core.specs.Host.{Block, Place, host_of, lengths}
+use Rattle.vm_memory_core.specs.Host.{Host, Place, lengths}
 
 -- size addresses from start on, which are the offsets of a block from 0 on
 pub record Region : Type 0 where
@@ -110,5 +110,5 @@ AreHeld lengths [] = Unit {0}
 AreHeld lengths (r ∷ rs) = (r.block < length lengths) × (slice_index_or lengths r.block 0 ≡ r.size) × AreHeld lengths rs
 
 -- the blocks of a host have the regions, each as long as its block
-abbrev pub HostHolds : List Block → List Region → Type 0
-HostHolds blocks layout = AreHeld (lengths (host_of blocks)) layout
+abbrev pub HostHolds : Host → List Region → Type 0
+HostHolds h layout = AreHeld (lengths h) layout

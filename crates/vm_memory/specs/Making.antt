@@ -2,7 +2,7 @@
 use Rattle.std.specs.Prelude.{◌≡◌, ℕ, ◌+◌, ◌<◌, ◌≤◌, ◌^◌, nat_le, nat_lt, Bool, true, false, ◌&&◌, List, [], ◌∷◌, ◌++◌, length, map, take, replicate, Option, Some, None, if◌then◌else◌, option_map, slice_get, Result, Ok, Err}
 use Rattle.std.specs.List.{list_all}
 use Rattle.vm_values.specs.declared.address.GuestAddress.{GuestAddress}
-use Rattle.vm_memory_core.specs.Host.{Block}
+use Rattle.vm_memory_core.specs.Host.{Block, Host, with_block, with_blocks}
 use Rattle.std.specs.declared.sync.Arc.{Arc}
 use Rattle.std.specs.declared.vec.Vec.{Vec}
 use Rattle.vm_memory.specs.Layout.{Backing, Region, regions_of}
@@ -16,29 +16,29 @@ use Rattle.vm_memory.specs.declared.error.MmapRegionError.TheVariants as mmap
 abbrev pub zero_block : (ℕ → ℕ) → ℕ → Block
 zero_block count size = record { bytes = replicate size 0; marks = replicate (count size) false }
 
--- the host's blocks with a new one
-abbrev pub grown : (ℕ → ℕ) → List Block → ℕ → List Block
-grown count blocks size = blocks ++ zero_block count size ∷ []
+-- the host with a new block
+abbrev pub grown : (ℕ → ℕ) → Host → ℕ → Host
+grown count h size = with_block h (zero_block count size)
 
 -- a new block of some size, which is not 0
-abbrev pub IsMapped : (count : ℕ → ℕ) → (before after : List Block) → (size : ℕ) → Result Backing MmapRegionError → Type 0
-IsMapped count before after size (Ok m) = (0 < size) × (m ≡ record { size = size; block = length before }) × (after ≡ grown count before size)
+abbrev pub IsMapped : (count : ℕ → ℕ) → (before after : Host) → (size : ℕ) → Result Backing MmapRegionError → Type 0
+IsMapped count before after size (Ok m) = (0 < size) × (m ≡ record { size = size; block = length before.blocks }) × (after ≡ grown count before size)
 IsMapped count before after size (Err mmap.Mmap) = (size ≡ 0) × (after ≡ before)
 IsMapped count before after size (Err mmap.OutOfMemory) = (0 < size) × (after ≡ before)
 
 -- a block of the host with its length, if it has one
-abbrev pub backing_at : List Block → ℕ → Option Backing
-backing_at blocks b =
-    option_map (λ block. record { size = length block.bytes; block = b }) (slice_get blocks b)
+abbrev pub backing_at : Host → ℕ → Option Backing
+backing_at h b =
+    option_map (λ block. record { size = length block.bytes; block = b }) (slice_get h.blocks b)
 
 -- the region over a block from an address on, if its last address fits 64 bits
 abbrev pub region_over : Backing → (base : ℕ) → Option Region
 region_over m base = if nat_le (base + m.size) (2 ^ 64) then Some (record { start = base; size = m.size; block = m.block }) else None
 
 -- one region over a new block; a size of 0 makes no block, and a last address past the greatest leaves the block in the host
-abbrev pub IsRegionMade : (count : ℕ → ℕ) → (before after : List Block) → (base size : ℕ) → Result Region FromRangesError → Type 0
+abbrev pub IsRegionMade : (count : ℕ → ℕ) → (before after : Host) → (base size : ℕ) → Result Region FromRangesError → Type 0
 IsRegionMade count before after base size (Ok r) =
-    (0 < size) × (base + size ≤ 2 ^ 64) × (r ≡ record { start = base; size = size; block = length before }) × (after ≡ grown count before size)
+    (0 < size) × (base + size ≤ 2 ^ 64) × (r ≡ record { start = base; size = size; block = length before.blocks }) × (after ≡ grown count before size)
 IsRegionMade count before after base size (Err (Collection e)) = ⊥
 IsRegionMade count before after base size (Err (MmapRegion mmap.Mmap)) = (size ≡ 0) × (after ≡ before)
 IsRegionMade count before after base size (Err (MmapRegion mmap.OutOfMemory)) = ⊥
@@ -54,19 +54,19 @@ abbrev pub regions_from : ℕ → List (GuestAddress × ℕ) → List Region
 regions_from n [] = []
 regions_from n (range ∷ rest) = record { start = range.0.0; size = range.1; block = n } ∷ regions_from (n + 1) rest
 
--- the host's blocks with a new one for each of some ranges
-abbrev pub grown_by : (ℕ → ℕ) → List Block → List (GuestAddress × ℕ) → List Block
-grown_by count blocks ranges = blocks ++ map (λ range. zero_block count range.1) ranges
+-- the host with a new block for each of some ranges
+abbrev pub grown_by : (ℕ → ℕ) → Host → List (GuestAddress × ℕ) → Host
+grown_by count h ranges = with_blocks h (h.blocks ++ map (λ range. zero_block count range.1) ranges)
 
 -- the k-th range is the first bad one
 abbrev pub IsFirstBad : List (GuestAddress × ℕ) → (k : ℕ) → GuestAddress × ℕ → Type 0
 IsFirstBad ranges k bad = (list_all is_good (take k ranges) ≡ true) × (slice_get ranges k ≡ Some bad)
 
 -- regions over new blocks, one for each range up to the first that is refused; their blocks stay in the host
-abbrev pub AreRegionsMade : (count : ℕ → ℕ) → (before after : List Block) → List (GuestAddress × ℕ)
+abbrev pub AreRegionsMade : (count : ℕ → ℕ) → (before after : Host) → List (GuestAddress × ℕ)
     → Result (List Region) FromRangesError → Type 0
 AreRegionsMade count before after ranges (Ok regions) =
-    (list_all is_good ranges ≡ true) × (regions ≡ regions_from (length before) ranges) × (after ≡ grown_by count before ranges)
+    (list_all is_good ranges ≡ true) × (regions ≡ regions_from (length before.blocks) ranges) × (after ≡ grown_by count before ranges)
 AreRegionsMade count before after ranges (Err (Collection e)) = ⊥
 AreRegionsMade count before after ranges (Err (MmapRegion mmap.Mmap)) =
     (k : ℕ) × (bad : GuestAddress × ℕ) × IsFirstBad ranges k bad × (bad.1 ≡ 0) × (after ≡ grown_by count before (take k ranges))
@@ -78,11 +78,11 @@ AreRegionsMade count before after ranges (Err OutOfMemory) =
     (k : ℕ) × (list_all is_good (take k ranges) ≡ true) × (after ≡ grown_by count before (take k ranges))
 
 -- a layout of such regions, if there is no fault among them
-abbrev pub IsMadeOf : (count : ℕ → ℕ) → (before after : List Block) → List (GuestAddress × ℕ) → Result (List Region) FromRangesError → Type 0
+abbrev pub IsMadeOf : (count : ℕ → ℕ) → (before after : Host) → List (GuestAddress × ℕ) → Result (List Region) FromRangesError → Type 0
 IsMadeOf count before after ranges (Ok layout) =
     AreRegionsMade count before after ranges (Ok layout) × (fault_of layout ≡ None)
 IsMadeOf count before after ranges (Err (Collection e)) =
-    AreRegionsMade count before after ranges (Ok (regions_from (length before) ranges)) × (fault_of (regions_from (length before) ranges) ≡ Some e)
+    AreRegionsMade count before after ranges (Ok (regions_from (length before.blocks) ranges)) × (fault_of (regions_from (length before.blocks) ranges) ≡ Some e)
 IsMadeOf count before after ranges (Err e) = AreRegionsMade count before after ranges (Err e)
 
 -- shared regions, or why there are none

@@ -4,7 +4,8 @@ use Rattle.std.specs.List.{list_all, zip}
 use Rattle.std.specs.Int.{Width, byte_len, from_le_bytes}
 use Rattle.vm_iotlb.specs.declared.permissions.Permissions.{Permissions}
 use Rattle.vm_iotlb.specs.declared.permissions.Permissions.TheVariants.{Read, Write}
-use Rattle.vm_iotlb.specs.Table.{Mapping, Table, nothing_mapped, allows}
+use Rattle.vm_iotlb.specs.Table.{Mapping, Table, allows}
+use Rattle.vm_iotlb.specs.Ranges.{table_kept}
 use Rattle.vm_memory_core.specs.Host.{Host, Place, byte_at, with_byte, with_block_mark, with_io_mark}
 use Rattle.vm_memory.specs.Layout.{Region, place}
 use Rattle.vm_values.specs.declared.address.GuestAddress.{GuestAddress}
@@ -20,7 +21,7 @@ pub record Memory : Type 0 where
   pub translates : Bool
 
 abbrev pub table_of : Memory → Table
-table_of m = unwrap_or (slice_get m.host.tables m.table) nothing_mapped
+table_of m = table_kept (unwrap_or (slice_get m.host.tables m.table) [])
 
 -- the place of what an address is mapped to, where the access is allowed
 abbrev pub place_behind : List Region → Permissions → Option Mapping → Option Place

@@ -3,7 +3,7 @@
 ghost use Rattle.std.specs.Prelude.{◌≡◌, ◌+◌, ◌^◌, ◌<◌, ◌≤◌, ℕ, List, None, Some, Ok, IfSome, IfOk, length, min, if◌then◌else◌};
 ghost use Rattle.std.specs.List.{list_all};
 ghost use Rattle.std.specs.Option.{is_some};
-ghost use Rattle.vm_memory_core.specs.Host.{host_of, lengths};
+ghost use Rattle.vm_memory_core.specs.Host.{shape};
 ghost use Rattle.vm_memory_core.specs.Window.{places, places_of, LiesIn, AllLieIn};
 ghost use Rattle.vm_memory.specs.Layout.{left_at, place, AreHeld, HostHolds};
 ghost use Rattle.vm_memory.specs.Making.{shared_regions, AreRegionsMade, IsMadeOf};
@@ -142,7 +142,7 @@ impl<R: GuestMemoryRegion> GuestRegionCollection<R> {
     ) -> usize
         requires { HostHolds host.now self.now }
         ensures count { result ≡ reached (place self.now) (circular addr (length buffer.old)) }
-        ensures bytes { buffer.new ≡ read_first (memory_of (host_of host.now) self.now) (circular addr (length buffer.old)) result buffer.old }
+        ensures bytes { buffer.new ≡ read_first (memory_of host.now self.now) (circular addr (length buffer.old)) result buffer.old }
     {
         let mut done = 0;
         while done < buffer.len() {
@@ -165,9 +165,9 @@ impl<R: GuestMemoryRegion> GuestRegionCollection<R> {
     ) -> usize
         requires { HostHolds host.old self.now }
         ensures count { result ≡ reached (place self.now) (circular addr (length bytes.now)) }
-        ensures stored { memory_of (host_of host.new) self.now
-            ≡ stored_first (memory_of (host_of host.old) self.now) (circular addr (length bytes.now)) result bytes.now }
-        ensures lengths { lengths (host_of host.new) ≡ lengths (host_of host.old) }
+        ensures stored { memory_of host.new self.now
+            ≡ stored_first (memory_of host.old self.now) (circular addr (length bytes.now)) result bytes.now }
+        ensures shape { shape host.new ≡ shape host.old }
     {
         let mut done = 0;
         while done < bytes.len() {
@@ -192,7 +192,7 @@ impl<R: GuestMemoryRegion> GuestRegionCollection<R> {
         requires { HostHolds host.now self.now }
         ensures result { result ≡ transferred addr (length buffer.old) (reached (place self.now) (circular addr.0 (length buffer.old))) }
         ensures bytes { let all = circular addr.0 (length buffer.old) in
-            buffer.new ≡ read_first (memory_of (host_of host.now) self.now) all (reached (place self.now) all) buffer.old }
+            buffer.new ≡ read_first (memory_of host.now self.now) all (reached (place self.now) all) buffer.old }
     {
         let completed = self.read_some(host, buffer, addr.0);
         outcome(addr, buffer.len(), completed)
@@ -209,9 +209,9 @@ impl<R: GuestMemoryRegion> GuestRegionCollection<R> {
         requires { HostHolds host.old self.now }
         ensures result { result ≡ transferred addr (length bytes.now) (reached (place self.now) (circular addr.0 (length bytes.now))) }
         ensures stored { let all = circular addr.0 (length bytes.now) in
-            memory_of (host_of host.new) self.now
-            ≡ stored_first (memory_of (host_of host.old) self.now) all (reached (place self.now) all) bytes.now }
-        ensures lengths { lengths (host_of host.new) ≡ lengths (host_of host.old) }
+            memory_of host.new self.now
+            ≡ stored_first (memory_of host.old self.now) all (reached (place self.now) all) bytes.now }
+        ensures shape { shape host.new ≡ shape host.old }
     {
         let completed = self.write_some(host, bytes, addr.0);
         outcome(addr, bytes.len(), completed)

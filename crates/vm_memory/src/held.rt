@@ -1,7 +1,7 @@
 //! Whether a host has the blocks of a layout.
 
 ghost use Rattle.std.specs.Prelude.{◌≡◌, ◌<◌, IsTrue, ◌↔◌, length, slice_index_or};
-ghost use Rattle.vm_memory_core.specs.Host.{host_of, lengths};
+ghost use Rattle.vm_memory_core.specs.Host.{lengths};
 ghost use Rattle.vm_memory.specs.Layout.{AreHeld, IsLayout};
 
 use crate::collection::GuestRegionCollection;
@@ -25,8 +25,8 @@ impl<R: GuestMemoryRegion> HeldIn for GuestRegionCollection<R> {
 
 // Whether a host has the block of a region, with its length.
 fn has_block<B: NewBitmap, R: GuestMemoryRegion>(h: &HostMemory<B>, region: &R) -> bool
-    ensures { IsTrue result ↔ (((R.region region.now).block < length (lengths (host_of h.now)))
-        × (slice_index_or (lengths (host_of h.now)) (R.region region.now).block 0 ≡ (R.region region.now).size)) }
+    ensures { IsTrue result ↔ (((R.region region.now).block < length (lengths h.now))
+        × (slice_index_or (lengths h.now) (R.region region.now).block 0 ≡ (R.region region.now).size)) }
 {
     let size = region.len();
     match region.get_host_address(MemoryRegionAddress(0)) {

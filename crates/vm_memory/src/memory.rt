@@ -3,7 +3,7 @@
 ghost use Rattle.std.specs.Prelude.{◌≡◌, ℕ, List, length, Option, Some, option_map, is_some, IsSome, IsOk, IfOk, Result};
 ghost use Rattle.std.specs.Iterator.{at_most, Drains};
 ghost use Rattle.std.specs.List.{list_all};
-ghost use Rattle.vm_memory_core.specs.Host.{Host, Place, host_of};
+ghost use Rattle.vm_memory_core.specs.Host.{Host, Place};
 ghost use Rattle.vm_memory_core.specs.Window.{Window};
 ghost use Rattle.vm_iotlb.specs.declared.permissions.Permissions.{Permissions};
 ghost use Rattle.vm_memory.specs.Layout.{Region, left_at, left_at-same, place, place-same};
@@ -83,7 +83,7 @@ pub trait GuestMemory {
         count: usize,
         access: Permissions,
     ) -> bool
-        ensures { result ≡ list_all (λ a. is_some (where_is self.now (host_of h.now) access a)) (circular addr.0 count) };
+        ensures { result ≡ list_all (λ a. is_some (where_is self.now h.now access a)) (circular addr.0 count) };
 
     /// The windows of `count` addresses from one on, for an access.
     fn get_slices<'a, B: NewBitmap>(
@@ -94,9 +94,9 @@ pub trait GuestMemory {
         access: Permissions,
     ) -> Result<GuestMemorySlices<'a, Self::PhysicalMemory>, GuestMemoryError>
         ensures slices { IfOk result (λ s. slices_of s
-            ≡ slices_from (where_is self.now (host_of h.now) access) (longest self.now (host_of h.now) access) addr.0 count) }
+            ≡ slices_from (where_is self.now h.now access) (longest self.now h.now access) addr.0 count) }
         ensures joined { IfOk result (λ s. (items : List (Result Window GuestMemoryError)) → Drains (λ s r t. Gives (slices_of s) r (slices_of t)) s items
-            → AreAllOf (slices_from (where_is self.now (host_of h.now) access) (longest self.now (host_of h.now) access) addr.0 count) items) }
+            → AreAllOf (slices_from (where_is self.now h.now access) (longest self.now h.now access) addr.0 count) items) }
         ensures never_refused { IsSome (physical self.now) → IsOk result };
 
     /// The memory by physical addresses, if these are the addresses that a device uses.

@@ -1,7 +1,7 @@
 //! A region of guest addresses over a block of host memory (vm-memory's `GuestMemoryRegion` and `GuestRegionMmap`).
 
 ghost use Rattle.std.specs.Prelude.{◌≡◌, ◌+◌, ◌-◌, ◌<◌, nat_lt, IfOk};
-ghost use Rattle.vm_memory_core.specs.Host.{host_of, lengths};
+ghost use Rattle.vm_memory_core.specs.Host.{lengths};
 ghost use Rattle.vm_memory_core.specs.Window.{LiesIn};
 ghost use Rattle.vm_memory.specs.Layout.{IsLawful, Region, last_address};
 ghost use Rattle.vm_memory.specs.Making.{IsRegionMade, region_over};
@@ -177,7 +177,7 @@ impl GuestRegionMmap {
         size: usize,
     ) -> Result<GuestRegionMmap, FromRangesError>
         ensures made { IsRegionMade B.count h.old h.new base.0 size result }
-        ensures held { IfOk result (λ r. LiesIn (lengths (host_of h.new)) (whole_of r)) }
+        ensures held { IfOk result (λ r. LiesIn (lengths h.new) (whole_of r)) }
     {
         let region = match MmapRegion::new(alloc, h, size) {
             Ok(region) => region,

@@ -8,7 +8,7 @@ use Rattle.std.proofs.lemmas.Option.{slice_get-get_or}
 use Rattle.std.proofs.lemmas.Bool.{lt-ltb, cond-true}
 use Rattle.std.proofs.lemmas.List.Edits.{sets, sets-eq}
 use Rattle.vm_bitmaps.specs.Pages.{marked_at, marked_range}
-use Rattle.vm_memory_core.specs.Host.{Host, Block, Place, changed_at, marked, unmarked, host_of, lengths, with_byte}
+use Rattle.vm_memory_core.specs.Host.{Host, Block, Place, Shape, changed_at, marked, unmarked, lengths, shape, with_blocks, with_byte}
 use Rattle.vm_memory_core.specs.Window.{Window, span, places_of, LiesIn, byte_in, put_byte, put_all, set_all}
 
 length_if : (b : Bool) (x y : List Bool) (n : ℕ) → length x ≡ n → length y ≡ n → length (if b then x else y) ≡ n
@@ -65,9 +65,6 @@ changed_at-set [] i f d = refl
 changed_at-set (x ∷ l) zero f d = refl
 changed_at-set {X} (x ∷ l) (suc i) f d = ap (λ (r : List X). x ∷ r) (changed_at-set l i f d)
 
-abbrev with_blocks : Host → List Block → Host
-with_blocks h blocks = record h { blocks = blocks }
-
 -- a store to a span of one block changes that block alone
 pub put_all-span : (xs : List ℕ) (h : Host) (b offset n : ℕ) → length xs ≤ n →
     put_all h (zip (span b offset n) xs) ≡ with_blocks h (changed_at h.blocks b (stored_in offset xs))
@@ -103,22 +100,32 @@ lengths-changed_at [] i f e = refl
 lengths-changed_at (x ∷ l) zero f e = ap (λ n. n ∷ map (λ (k : Block). length k.bytes) l) (e x)
 lengths-changed_at (x ∷ l) (suc i) f e = ap (λ (r : List ℕ). length x.bytes ∷ r) (lengths-changed_at l i f e)
 
--- no store changes a length
-pub lengths-put_all : (ws : List (Place × ℕ)) (h : Host) → lengths (put_all h ws) ≡ lengths h
+-- one shape has one list of lengths
+pub lengths-shape : (new old : Host) → shape new ≡ shape old → lengths new ≡ lengths old
+lengths-shape new old e = ap (λ (s : Shape). s.block_lengths) e
+
+-- blocks of the same lengths leave the shape as it was
+shape-blocks : (h : Host) (l : List Block) → map (λ (k : Block). length k.bytes) l ≡ lengths h → shape (with_blocks h l) ≡ shape h
+shape-blocks h l e = ap (λ (n : List ℕ). let s : Shape = record (shape h) { block_lengths = n } in s) e
+
+-- no store changes the shape
+pub shape-put_all : (ws : List (Place × ℕ)) (h : Host) → shape (put_all h ws) ≡ shape h
 unfolding put_all
-lengths-put_all [] h = refl
-lengths-put_all (w ∷ ws) h =
-    lengths-put_all ws (put_byte h w.0 w.1)
-    ∙ lengths-changed_at _ w.0.block (λ (k : Block). block_with k.bytes (marked k.marks w.0.offset)) (λ k. refl)
-    ∙ lengths-changed_at h.blocks w.0.block (λ (k : Block). block_with (set k.bytes w.0.offset w.1) k.marks) (λ k. length-set k.bytes w.0.offset w.1)
+shape-put_all [] h = refl
+shape-put_all (w ∷ ws) h =
+    shape-put_all ws (put_byte h w.0 w.1)
+    ∙ shape-blocks h (put_byte h w.0 w.1).blocks
+    (lengths-changed_at _ w.0.block (λ (k : Block). block_with k.bytes (marked k.marks w.0.offset)) (λ k. refl)
+    ∙ lengths-changed_at h.blocks w.0.block (λ (k : Block). block_with (set k.bytes w.0.offset w.1) k.marks) (λ k. length-set k.bytes w.0.offset w.1))
 
 abbrev no_block : Block
 no_block = block_with [] []
 
 -- a window that blocks of these lengths have lies in its block
-pub within_block : (blocks : List Block) (w : Window) (k : Block) → LiesIn (lengths (host_of blocks)) w → k ≡ get_or blocks w.block k →
-    (w.block < length blocks) × (w.offset + w.len ≤ length k.bytes)
-within_block blocks w k has at =
+pub within_block : (h : Host) (w : Window) (k : Block) → LiesIn (lengths h) w → k ≡ get_or h.blocks w.block k →
+    (w.block < length h.blocks) × (w.offset + w.len ≤ length k.bytes)
+within_block h w k has at =
+    let blocks = h.blocks in
     let len : (Block → ℕ) = λ (c : Block). length c.bytes in
     let count = length-map blocks len in
     let inside : w.block < length blocks = omega (arith, has.0) in
@@ -127,45 +134,44 @@ within_block blocks w k has at =
     (inside, omega (arith, has.1))
 
 -- what a store to one block leaves, as the code leaves it
-pub stored : (blocks inside : List Block) (w : Window) (xs : List ℕ) (old new : Block) →
-    inside ≡ blocks → LiesIn (lengths (host_of blocks)) w → length xs ≤ w.len → w.offset + length xs < 2 ^ 64 → old ≡ get_or inside w.block old →
+pub stored : (h inside : Host) (w : Window) (xs : List ℕ) (old new : Block) →
+    inside ≡ h → LiesIn (lengths h) w → length xs ≤ w.len → w.offset + length xs < 2 ^ 64 → old ≡ get_or inside.blocks w.block old →
     new.bytes ≡ take w.offset old.bytes ++ xs ++ drop (w.offset + length xs) old.bytes → new.marks ≡ marked_range 4096 old.marks w.offset (length xs) →
-    host_of (set inside w.block new) ≡ put_all (host_of blocks) (zip (places_of w) xs)
-stored blocks inside w xs old new same has le fits at e m =
-    let here : old ≡ get_or blocks w.block old = at ∙ ap (λ (l : List Block). get_or l w.block old) same in
-    let room = within_block blocks w old has here in
+    with_blocks inside (set inside.blocks w.block new) ≡ put_all h (zip (places_of w) xs)
+stored h inside w xs old new same has le fits at e m =
+    let here : old ≡ get_or h.blocks w.block old = at ∙ ap (λ (k : Host). get_or k.blocks w.block old) same in
+    let room = within_block h w old has here in
     let bytes-is : new.bytes ≡ sets old.bytes w.offset xs = e ∙ sym (sets-eq xs old.bytes w.offset (omega (arith, room.1))) in
     let marks-is : new.marks ≡ marks_each old.marks w.offset (length xs) = m ∙ marked_range-is (length xs) old.marks w.offset (omega arith) in
     let new-is : new ≡ stored_in w.offset xs old =
     ap (λ (l : List ℕ). block_with l new.marks) bytes-is ∙ ap (λ (l : List Bool). block_with (sets old.bytes w.offset xs) l) marks-is in
-    ap host_of
-    (ap (λ (l : List Block). set l w.block new) same
-    ∙ ap (λ (c : Block). set blocks w.block c) (new-is ∙ ap (stored_in w.offset xs) here)
-    ∙ sym (changed_at-set blocks w.block (stored_in w.offset xs) old))
-    ∙ sym (put_all-span xs (host_of blocks) w.block w.offset w.len le)
+    ap (λ (k : Host). with_blocks k (set k.blocks w.block new)) same
+    ∙ ap (with_blocks h)
+    (ap (λ (c : Block). set h.blocks w.block c) (new-is ∙ ap (stored_in w.offset xs) here)
+    ∙ sym (changed_at-set h.blocks w.block (stored_in w.offset xs) old))
+    ∙ sym (put_all-span xs h w.block w.offset w.len le)
 
 -- what a read of one block gives
-pub loaded : (blocks inside : List Block) (w : Window) (k : Block) (bytes : List ℕ) → inside ≡ blocks → LiesIn (lengths (host_of blocks)) w →
-    k ≡ get_or inside w.block k → bytes ≡ take w.len (drop w.offset k.bytes) → bytes ≡ map (byte_in (host_of blocks)) (places_of w)
-loaded blocks inside w k bytes same has at e =
-    let here : k ≡ get_or blocks w.block k = at ∙ ap (λ (l : List Block). get_or l w.block k) same in
-    let room = within_block blocks w k has here in
-    let found : slice_get blocks w.block ≡ Some k = slice_get-get_or blocks w.block k room.0 ∙ ap Some (sym here) in
-    e ∙ sym (bytes_in-span (host_of blocks) w.block w.len w.offset k found room.1)
+pub loaded : (h inside : Host) (w : Window) (k : Block) (bytes : List ℕ) → inside ≡ h → LiesIn (lengths h) w →
+    k ≡ get_or inside.blocks w.block k → bytes ≡ take w.len (drop w.offset k.bytes) → bytes ≡ map (byte_in h) (places_of w)
+loaded h inside w k bytes same has at e =
+    let here : k ≡ get_or h.blocks w.block k = at ∙ ap (λ (i : Host). get_or i.blocks w.block k) same in
+    let room = within_block h w k has here in
+    let found : slice_get h.blocks w.block ≡ Some k = slice_get-get_or h.blocks w.block k room.0 ∙ ap Some (sym here) in
+    e ∙ sym (bytes_in-span h w.block w.len w.offset k found room.1)
 
 -- the same, where block and offset were asked of the window
-pub stored_at : (blocks inside : List Block) (w : Window) (xs : List ℕ) (old new : Block) (b o : ℕ) → b ≡ w.block → o ≡ w.offset →
-    inside ≡ blocks → LiesIn (lengths (host_of blocks)) w → length xs ≤ w.len → o + length xs < 2 ^ 64 → old ≡ get_or inside b old →
+pub stored_at : (h inside : Host) (w : Window) (xs : List ℕ) (old new : Block) (b o : ℕ) → b ≡ w.block → o ≡ w.offset →
+    inside ≡ h → LiesIn (lengths h) w → length xs ≤ w.len → o + length xs < 2 ^ 64 → old ≡ get_or inside.blocks b old →
     new.bytes ≡ take o old.bytes ++ xs ++ drop (o + length xs) old.bytes → new.marks ≡ marked_range 4096 old.marks o (length xs) →
-    host_of (set inside b new) ≡ put_all (host_of blocks) (zip (places_of w) xs)
-stored_at blocks inside w xs old new b o be oe same has le fits here e m =
-    rw be (stored blocks inside w xs old new same has le (omega arith) (rw be at here) (rw oe at e) (rw oe at m))
+    with_blocks inside (set inside.blocks b new) ≡ put_all h (zip (places_of w) xs)
+stored_at h inside w xs old new b o be oe same has le fits here e m =
+    rw be (stored h inside w xs old new same has le (omega arith) (rw be at here) (rw oe at e) (rw oe at m))
 
-pub loaded_at : (blocks inside : List Block) (w : Window) (k : Block) (bytes : List ℕ) (b o n : ℕ) → b ≡ w.block → o ≡ w.offset → n ≡ w.len →
-    inside ≡ blocks → LiesIn (lengths (host_of blocks)) w →
-    k ≡ get_or inside b k → bytes ≡ take n (drop o k.bytes) → bytes ≡ map (byte_in (host_of blocks)) (places_of w)
-loaded_at blocks inside w k bytes b o n be oe ne same has here e =
-    loaded blocks inside w k bytes same has (rw be at here) (rw (oe, ne) at e)
+pub loaded_at : (h inside : Host) (w : Window) (k : Block) (bytes : List ℕ) (b o n : ℕ) → b ≡ w.block → o ≡ w.offset → n ≡ w.len →
+    inside ≡ h → LiesIn (lengths h) w → k ≡ get_or inside.blocks b k → bytes ≡ take n (drop o k.bytes) → bytes ≡ map (byte_in h) (places_of w)
+loaded_at h inside w k bytes b o n be oe ne same has here e =
+    loaded h inside w k bytes same has (rw be at here) (rw (oe, ne) at e)
 
 pub changed_at-past : {X : Type 0} (l : List X) (i : ℕ) (f : X → X) → length l ≤ i → changed_at l i f ≡ l
 changed_at-past [] i f h = refl
@@ -180,11 +186,16 @@ clear-is (b ∷ m) zero e = absurd (omega arith)
 clear-is (b ∷ m) (suc n) e = ap (λ (r : List Bool). false ∷ r) (clear-is m n (omega arith))
 
 -- one block without its marks
-pub reset_in : (blocks inside : List Block) (i : ℕ) (old new : Block) → inside ≡ blocks → old ≡ get_or inside i old → new ≡ unmarked old →
-    set inside i new ≡ changed_at blocks i unmarked
-reset_in blocks inside i old new same here e =
-    let there : old ≡ get_or blocks i old = here ∙ ap (λ (l : List Block). get_or l i old) same in
-    ap (λ (l : List Block). set l i new) same ∙ ap (λ (c : Block). set blocks i c) (e ∙ ap unmarked there) ∙ sym (changed_at-set blocks i unmarked old)
+pub reset_in : (h inside : Host) (i : ℕ) (old new : Block) → inside ≡ h → old ≡ get_or inside.blocks i old → new ≡ unmarked old →
+    with_blocks inside (set inside.blocks i new) ≡ with_blocks h (changed_at h.blocks i unmarked)
+reset_in h inside i old new same here e =
+    let there : old ≡ get_or h.blocks i old = here ∙ ap (λ (k : Host). get_or k.blocks i old) same in
+    ap (λ (k : Host). with_blocks k (set k.blocks i new)) same
+    ∙ ap (with_blocks h) (ap (λ (c : Block). set h.blocks i c) (e ∙ ap unmarked there) ∙ sym (changed_at-set h.blocks i unmarked old))
+
+-- no mark belongs to the shape
+pub shape-unmarked : (h : Host) (i : ℕ) → shape (with_blocks h (changed_at h.blocks i unmarked)) ≡ shape h
+shape-unmarked h i = shape-blocks h (changed_at h.blocks i unmarked) (lengths-changed_at h.blocks i unmarked (λ k. refl))
 
 -- what one block holds once bytes are set in it from offset on
 abbrev pub set_in : ℕ → List ℕ → Block → Block
@@ -205,29 +216,30 @@ set_all-span (x ∷ xs) h b offset (suc n) le =
     (changed_at-changed_at h.blocks b f (set_in (offset + 1) xs)
     ∙ ap (λ j. changed_at h.blocks b (λ (k : Block). block_with (sets (set k.bytes offset x) j xs) k.marks)) (add-one offset))
 
--- setting bytes changes no length
-pub lengths-set_all : (ws : List (Place × ℕ)) (h : Host) → lengths (set_all h ws) ≡ lengths h
+-- setting bytes leaves the shape as it was
+pub shape-set_all : (ws : List (Place × ℕ)) (h : Host) → shape (set_all h ws) ≡ shape h
 unfolding set_all
-lengths-set_all [] h = refl
-lengths-set_all (w ∷ ws) h =
-    lengths-set_all ws (with_byte h w.0 w.1)
-    ∙ lengths-changed_at h.blocks w.0.block (λ (k : Block). block_with (set k.bytes w.0.offset w.1) k.marks) (λ k. length-set k.bytes w.0.offset w.1)
+shape-set_all [] h = refl
+shape-set_all (w ∷ ws) h =
+    shape-set_all ws (with_byte h w.0 w.1)
+    ∙ shape-blocks h (with_byte h w.0 w.1).blocks
+    (lengths-changed_at h.blocks w.0.block (λ (k : Block). block_with (set k.bytes w.0.offset w.1) k.marks) (λ k. length-set k.bytes w.0.offset w.1))
 
 -- what setting bytes of one block leaves, as the code leaves it
-pub set_stored : (blocks inside : List Block) (w : Window) (xs : List ℕ) (old new : Block) →
-    inside ≡ blocks → LiesIn (lengths (host_of blocks)) w → length xs ≡ w.len → old ≡ get_or inside w.block old →
+pub set_stored : (h inside : Host) (w : Window) (xs : List ℕ) (old new : Block) →
+    inside ≡ h → LiesIn (lengths h) w → length xs ≡ w.len → old ≡ get_or inside.blocks w.block old →
     new ≡ block_with (take w.offset old.bytes ++ xs ++ drop (w.offset + length xs) old.bytes) old.marks →
-    host_of (set inside w.block new) ≡ set_all (host_of blocks) (zip (span w.block w.offset (length xs)) xs)
-set_stored blocks inside w xs old new same has le at e =
-    let here : old ≡ get_or blocks w.block old = at ∙ ap (λ (l : List Block). get_or l w.block old) same in
-    let room = within_block blocks w old has here in
+    with_blocks inside (set inside.blocks w.block new) ≡ set_all h (zip (span w.block w.offset (length xs)) xs)
+set_stored h inside w xs old new same has le at e =
+    let here : old ≡ get_or h.blocks w.block old = at ∙ ap (λ (k : Host). get_or k.blocks w.block old) same in
+    let room = within_block h w old has here in
     let new-is : new ≡ set_in w.offset xs old =
     e ∙ ap (λ (l : List ℕ). block_with l old.marks) (sym (sets-eq xs old.bytes w.offset (omega (arith, room.1)))) in
-    ap host_of
-    (ap (λ (l : List Block). set l w.block new) same
-    ∙ ap (λ (c : Block). set blocks w.block c) (new-is ∙ ap (set_in w.offset xs) here)
-    ∙ sym (changed_at-set blocks w.block (set_in w.offset xs) old))
-    ∙ sym (set_all-span xs (host_of blocks) w.block w.offset (length xs) (omega arith))
+    ap (λ (k : Host). with_blocks k (set k.blocks w.block new)) same
+    ∙ ap (with_blocks h)
+    (ap (λ (c : Block). set h.blocks w.block c) (new-is ∙ ap (set_in w.offset xs) here)
+    ∙ sym (changed_at-set h.blocks w.block (set_in w.offset xs) old))
+    ∙ sym (set_all-span xs h w.block w.offset (length xs) (omega arith))
 
 -- the blocks on both sides of a seam
 pub set-back : (l low high : List Block) (d : ℕ) (x : Block) → l ≡ low ++ high → length low ≡ d → low ++ set high 0 x ≡ set l d x

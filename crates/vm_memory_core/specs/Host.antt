@@ -1,6 +1,6 @@
 -- The memory of the host: numbered blocks of bytes with their marked pages, numbered tables, and numbered sets of marked I/O pages.
 use Rattle.std.specs.Prelude.{ℕ, zero, suc, ◌+◌, ◌/◌, Bool, true, false, List, [], ◌∷◌, ◌++◌, length, map, replicate, Option, slice_get, slice_set, option_and_then}
-use Rattle.vm_iotlb.specs.Table.{Table}
+use Rattle.vm_iotlb.specs.declared.range.IotlbRange.{IotlbRange}
 
 -- where a byte is: a block, and an offset in it
 pub record Place : Type 0 where
@@ -12,10 +12,15 @@ pub record Block : Type 0 where
   pub bytes : List ℕ
   pub marks : List Bool
 
+-- what a host has; a table is told by the ranges that keep it (`table_kept`), since a value that clauses see holds no function
 pub record Host : Type 0 where
   pub blocks : List Block
-  pub tables : List Table
+  pub tables : List (List IotlbRange)
   pub io_marks : List (List Bool)
+
+-- the host with other blocks
+abbrev pub with_blocks : Host → List Block → Host
+with_blocks h blocks = record h { blocks = blocks }
 
 -- the list with its element at i changed; nothing changes past the end
 abbrev pub changed_at : {X : Type 0} → List X → ℕ → (X → X) → List X
@@ -29,7 +34,7 @@ byte_at h p = option_and_then (λ b. slice_get b.bytes p.offset) (slice_get h.bl
 
 -- the host with this byte at a place
 abbrev pub with_byte : Host → Place → ℕ → Host
-with_byte h p byte = record h { blocks = changed_at h.blocks p.block (λ b. record b { bytes = slice_set b.bytes p.offset byte }) }
+with_byte h p byte = with_blocks h (changed_at h.blocks p.block (λ b. record b { bytes = slice_set b.bytes p.offset byte }))
 
 -- a page has 4096 bytes; the pages that n bytes take
 abbrev pub page_count : ℕ → ℕ
@@ -41,7 +46,7 @@ marked marks offset = slice_set marks (offset / 4096) true
 
 -- the host with the page of a place marked
 abbrev pub with_block_mark : Host → Place → Host
-with_block_mark h p = record h { blocks = changed_at h.blocks p.block (λ b. record b { marks = marked b.marks p.offset }) }
+with_block_mark h p = with_blocks h (changed_at h.blocks p.block (λ b. record b { marks = marked b.marks p.offset }))
 
 -- the host with the page of an I/O address marked in a set
 abbrev pub with_io_mark : Host → ℕ → ℕ → Host
@@ -57,16 +62,22 @@ unmarked b = record b { marks = map (λ _. false) b.marks }
 
 -- the host with no page of a block marked; the I/O pages stay
 abbrev pub cleared : Host → Host
-cleared h = record h { blocks = map unmarked h.blocks }
+cleared h = with_blocks h (map unmarked h.blocks)
 
 -- the host with one more block
 abbrev pub with_block : Host → Block → Host
-with_block h b = record h { blocks = h.blocks ++ b ∷ [] }
+with_block h b = with_blocks h (h.blocks ++ b ∷ [])
 
--- the lengths of the blocks, which no write changes
+-- the lengths of the blocks
 abbrev pub lengths : Host → List ℕ
 lengths h = map (λ b. length b.bytes) h.blocks
 
--- what a host's memory is: so far no table and no set of I/O pages
-abbrev pub host_of : List Block → Host
-host_of blocks = record { blocks = blocks; tables = []; io_marks = [] }
+-- what no write changes of a host: the lengths of its blocks, how many tables it has, and how many pages each set of I/O pages
+pub record Shape : Type 0 where
+  pub block_lengths : List ℕ
+  pub table_count : ℕ
+  pub io_sizes : List ℕ
+
+-- a host's shape
+abbrev pub shape : Host → Shape
+shape h = record { block_lengths = lengths h; table_count = length h.tables; io_sizes = map length h.io_marks }

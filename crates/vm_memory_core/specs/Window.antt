@@ -1,7 +1,7 @@
 -- A window is a list of places: what is read there, and what a write leaves.
 use Rattle.std.specs.Prelude.{◌≡◌, ℕ, zero, suc, ◌+◌, ◌<◌, ◌≤◌, List, [], ◌∷◌, length, All, slice_index_or, unwrap_or}
 use Rattle.std.specs.List.{flat_map, zip}
-use Rattle.vm_memory_core.specs.Host.{Block, Host, Place, byte_at, host_of, with_byte, with_block_mark}
+use Rattle.vm_memory_core.specs.Host.{Host, Place, byte_at, with_byte, with_block_mark}
 
 -- len bytes of a block, from an offset on
 pub record Window : Type 0 where
@@ -49,5 +49,5 @@ set_all h [] = h
 set_all h (write ∷ writes) = set_all (with_byte h write.0 write.1) writes
 
 -- bytes were stored at places, one after another, their pages are marked, and nothing else changed
-abbrev pub Stores : (old new : List Block) → List Place → (bytes : List ℕ) → Type 0
-Stores old new at bytes = host_of new ≡ put_all (host_of old) (zip at bytes)
+abbrev pub Stores : (old new : Host) → List Place → (bytes : List ℕ) → Type 0
+Stores old new at bytes = new ≡ put_all old (zip at bytes)

@@ -2,7 +2,7 @@
 
 ghost use Rattle.std.specs.Prelude.{◌≡◌, ◌==◌, ◌≤◌, ℕ, List, Result, Ok, length, if◌then◌else◌};
 ghost use Rattle.vm_values.specs.Fields.{spelled};
-ghost use Rattle.vm_memory_core.specs.Host.{Host, Place, host_of, lengths};
+ghost use Rattle.vm_memory_core.specs.Host.{Host, Place, lengths, shape};
 ghost use Rattle.vm_memory_core.specs.Window.{LiesIn};
 ghost use Rattle.vm_memory_core.specs.Access.{ReadsAll, ReadsSome, ReadsValue, WritesAll, WritesSome, reached_places};
 ghost use Rattle.vm_memory_core.specs.Reached.{length-reached_places};
@@ -39,8 +39,8 @@ pub trait Bytes<A> {
         buf: &mut [u8],
         addr: A,
     ) -> Result<usize, Self::E>
-        requires { IsHeld self.now (host_of h.now) }
-        ensures { ReadsSome (Reaches self.now (host_of h.now) addr (length buf.old) Permissions.Read) (host_of h.now) buf.old buf.new result };
+        requires { IsHeld self.now h.now }
+        ensures { ReadsSome (Reaches self.now h.now addr (length buf.old) Permissions.Read) h.now buf.old buf.new result };
 
     /// Writes as many bytes as are there, and marks their pages: how many.
     fn write<B: NewBitmap>(
@@ -49,10 +49,10 @@ pub trait Bytes<A> {
         buf: &[u8],
         addr: A,
     ) -> Result<usize, Self::E>
-        requires { IsHeld self.now (host_of h.old) }
-        ensures written { WritesSome (Reaches self.now (host_of h.old) addr (length buf.now) Permissions.Write) buf.now (host_of h.old) (host_of h.new) result }
-        ensures held { IsHeld self.now (host_of h.new) }
-        ensures lengths { lengths (host_of h.new) ≡ lengths (host_of h.old) };
+        requires { IsHeld self.now h.old }
+        ensures written { WritesSome (Reaches self.now h.old addr (length buf.now) Permissions.Write) buf.now h.old h.new result }
+        ensures held { IsHeld self.now h.new }
+        ensures shape { shape h.new ≡ shape h.old };
 
     /// Fills a buffer. Where only some bytes are there, these are read.
     fn read_slice<B: NewBitmap>(
@@ -61,8 +61,8 @@ pub trait Bytes<A> {
         buf: &mut [u8],
         addr: A,
     ) -> Result<(), Self::E>
-        requires { IsHeld self.now (host_of h.now) }
-        ensures { ReadsAll (Reaches self.now (host_of h.now) addr (length buf.old) Permissions.Read) partial (host_of h.now) buf.old buf.new result };
+        requires { IsHeld self.now h.now }
+        ensures { ReadsAll (Reaches self.now h.now addr (length buf.old) Permissions.Read) partial h.now buf.old buf.new result };
 
     /// Writes all of a buffer, and marks the pages. Where only some bytes are there, these are written.
     fn write_slice<B: NewBitmap>(
@@ -71,11 +71,11 @@ pub trait Bytes<A> {
         buf: &[u8],
         addr: A,
     ) -> Result<(), Self::E>
-        requires { IsHeld self.now (host_of h.old) }
-        ensures written { WritesAll (Reaches self.now (host_of h.old) addr (length buf.now) Permissions.Write) partial
-            buf.now (host_of h.old) (host_of h.new) result }
-        ensures held { IsHeld self.now (host_of h.new) }
-        ensures lengths { lengths (host_of h.new) ≡ lengths (host_of h.old) };
+        requires { IsHeld self.now h.old }
+        ensures written { WritesAll (Reaches self.now h.old addr (length buf.now) Permissions.Write) partial
+            buf.now h.old h.new result }
+        ensures held { IsHeld self.now h.new }
+        ensures shape { shape h.new ≡ shape h.old };
 
     /// The value that the bytes from an address on spell.
     final fn read_obj<T: ByteValued, B: NewBitmap>(
@@ -83,8 +83,8 @@ pub trait Bytes<A> {
         h: &HostMemory<B>,
         addr: A,
     ) -> Result<T, Self::E>
-        requires { IsHeld self.now (host_of h.now) }
-        ensures { ReadsValue (Reaches self.now (host_of h.now) addr T.SIZE Permissions.Read) partial T.fields T.SIZE (host_of h.now) result }
+        requires { IsHeld self.now h.now }
+        ensures { ReadsValue (Reaches self.now h.now addr T.SIZE Permissions.Read) partial T.fields T.SIZE h.now result }
     {
         let mut buffer = [0; 256];
         let bytes = &mut buffer[..T::SIZE];
@@ -102,11 +102,11 @@ pub trait Bytes<A> {
         value: T,
         addr: A,
     ) -> Result<(), Self::E>
-        requires { IsHeld self.now (host_of h.old) }
-        ensures written { WritesAll (Reaches self.now (host_of h.old) addr T.SIZE Permissions.Write) partial
-            (spelled (T.fields value)) (host_of h.old) (host_of h.new) result }
-        ensures held { IsHeld self.now (host_of h.new) }
-        ensures lengths { lengths (host_of h.new) ≡ lengths (host_of h.old) }
+        requires { IsHeld self.now h.old }
+        ensures written { WritesAll (Reaches self.now h.old addr T.SIZE Permissions.Write) partial
+            (spelled (T.fields value)) h.old h.new result }
+        ensures held { IsHeld self.now h.new }
+        ensures shape { shape h.new ≡ shape h.old }
     {
         let mut buffer = [0; 256];
         value.put_bytes(&mut buffer[..T::SIZE]);

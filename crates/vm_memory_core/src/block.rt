@@ -2,7 +2,7 @@
 
 ghost use Rattle.std.specs.Prelude.{◌≡◌, ◌≢◌, ◌+◌, ◌<◌, ◌≤◌, ◌^◌, ◌*◌, ◌++◌, length, map, take, drop};
 ghost use Rattle.vm_bitmaps.specs.Pages.{marked_range};
-ghost use Rattle.vm_memory_core.specs.Host.{Block, host_of, lengths};
+ghost use Rattle.vm_memory_core.specs.Host.{Block, Host, with_blocks};
 ghost use Rattle.vm_memory_core.specs.Parts.{spelled_all};
 ghost use Rattle.vm_memory_core.specs.Window.{places_of, LiesIn, Stores, byte_in};
 
@@ -93,12 +93,11 @@ pub(crate) fn copy_across<B: NewBitmap>(
     source: VolatileSlice,
     dest: VolatileSlice,
 )
-    requires source { LiesIn (lengths (host_of blocks.old)) source }
-    requires dest { LiesIn (lengths (host_of blocks.old)) dest }
+    requires source { LiesIn (map (λ b. length b.bytes) blocks.old) source }
+    requires dest { LiesIn (map (λ b. length b.bytes) blocks.old) dest }
     requires len { source.len ≡ dest.len }
     requires other { source.block ≢ dest.block }
-    ensures stored { Stores blocks.old blocks.new (places_of dest) (map (byte_in (host_of blocks.old)) (places_of source)) }
-    ensures lengths { lengths (host_of blocks.new) ≡ lengths (host_of blocks.old) }
+    ensures { (h : Host) → Stores (with_blocks h blocks.old) (with_blocks h blocks.new) (places_of dest) (map (byte_in (with_blocks h blocks.old)) (places_of source)) }
 {
     if source.block() < dest.block() {
         let (low, high) = blocks.split_at_mut(dest.block());

@@ -1,7 +1,7 @@
 //! Copies between windows and lists of values, and from one window to another.
 
 ghost use Rattle.std.specs.Prelude.{◌≡◌, ◌+◌, ◌*◌, ◌<◌, ◌≤◌, ◌++◌, length, map, take, drop, min};
-ghost use Rattle.vm_memory_core.specs.Host.{host_of, lengths};
+ghost use Rattle.vm_memory_core.specs.Host.{lengths, shape};
 ghost use Rattle.vm_memory_core.specs.Window.{LiesIn, Stores, byte_in, places_of};
 ghost use Rattle.vm_memory_core.specs.Parts.{EachFits, part_of, spelled_all, whole_elements};
 
@@ -63,9 +63,9 @@ impl VolatileSlice {
     /// Reads as many whole values as both it and the list hold, none of no byte: how many (vm-memory's
     /// `VolatileSlice::copy_to`).
     pub fn copy_to<T: ByteValued, B: NewBitmap>(&self, h: &HostMemory<B>, values: &mut [T]) -> usize
-        requires { LiesIn (lengths (host_of h.now)) self.now }
+        requires { LiesIn (lengths h.now) self.now }
         ensures count { result ≡ whole_elements T.SIZE self.now.len (length values.old) }
-        ensures bytes { spelled_all T.fields (take result values.new) ≡ map (byte_in (host_of h.now)) (places_of (part_of self.now 0 (result * T.SIZE))) }
+        ensures bytes { spelled_all T.fields (take result values.new) ≡ map (byte_in h.now) (places_of (part_of self.now 0 (result * T.SIZE))) }
         ensures fits { EachFits T.fields (take result values.new) }
         ensures rest { drop result values.new ≡ drop result values.old }
     {
@@ -78,10 +78,10 @@ impl VolatileSlice {
     /// Writes as many whole values as both it and the list hold, none of no byte, and marks their pages
     /// (vm-memory's `VolatileSlice::copy_from`).
     pub fn copy_from<T: ByteValued, B: NewBitmap>(&self, h: &mut HostMemory<B>, values: &[T])
-        requires { LiesIn (lengths (host_of h.old)) self.now }
+        requires { LiesIn (lengths h.old) self.now }
         ensures stored { Stores h.old h.new (places_of self.now)
             (spelled_all T.fields (take (whole_elements T.SIZE self.now.len (length values.now)) values.now)) }
-        ensures lengths { lengths (host_of h.new) ≡ lengths (host_of h.old) }
+        ensures shape { shape h.new ≡ shape h.old }
     {
         let count = whole_values::<T>(self.len(), values.len());
         h.write_values(*self, &values[..count]);
@@ -91,10 +91,10 @@ impl VolatileSlice {
     /// bytes that it had before, also where the two overlap (vm-memory's
     /// `VolatileSlice::copy_to_volatile_slice`).
     pub fn copy_to_volatile_slice<B: NewBitmap>(&self, h: &mut HostMemory<B>, dest: VolatileSlice)
-        requires source { LiesIn (lengths (host_of h.old)) self.now }
-        requires dest { LiesIn (lengths (host_of h.old)) dest }
-        ensures stored { Stores h.old h.new (places_of dest) (map (byte_in (host_of h.old)) (places_of self.now)) }
-        ensures lengths { lengths (host_of h.new) ≡ lengths (host_of h.old) }
+        requires source { LiesIn (lengths h.old) self.now }
+        requires dest { LiesIn (lengths h.old) dest }
+        ensures stored { Stores h.old h.new (places_of dest) (map (byte_in h.old) (places_of self.now)) }
+        ensures shape { shape h.new ≡ shape h.old }
     {
         let count = self.len().min(dest.len());
         h.copy_window(self.part(0, count), dest.part(0, count));

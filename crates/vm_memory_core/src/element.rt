@@ -2,7 +2,7 @@
 
 ghost use Rattle.std.specs.Prelude.{◌≡◌, ◌==◌, ◌+◌, ◌*◌, ◌<◌, ◌≤◌, length, map, take, drop};
 ghost use Rattle.vm_values.specs.Fields.{AllFit, spelled};
-ghost use Rattle.vm_memory_core.specs.Host.{host_of, lengths};
+ghost use Rattle.vm_memory_core.specs.Host.{lengths, shape};
 ghost use Rattle.vm_memory_core.specs.Window.{LiesIn, Stores, byte_in, places_of};
 ghost use Rattle.vm_memory_core.specs.Parts.{EachFits, elements_copied, part_of, spelled_all, sub_elements, sub_window};
 
@@ -39,8 +39,8 @@ impl<T: ByteValued> Model for VolatileRef<T> {
 impl<T: ByteValued> VolatileRef<T> {
     /// The value that its bytes spell.
     pub fn load<B: NewBitmap>(&self, h: &HostMemory<B>) -> T
-        requires { LiesIn (lengths (host_of h.now)) self.now }
-        ensures bytes { spelled (T.fields result) ≡ map (byte_in (host_of h.now)) (places_of self.now) }
+        requires { LiesIn (lengths h.now) self.now }
+        ensures bytes { spelled (T.fields result) ≡ map (byte_in h.now) (places_of self.now) }
         ensures fits { AllFit (T.fields result) }
     {
         T::get_bytes(h.bytes(self.place))
@@ -48,9 +48,9 @@ impl<T: ByteValued> VolatileRef<T> {
 
     /// Writes a value's bytes, and marks their pages.
     pub fn store<B: NewBitmap>(&self, h: &mut HostMemory<B>, value: T)
-        requires { LiesIn (lengths (host_of h.old)) self.now }
+        requires { LiesIn (lengths h.old) self.now }
         ensures stored { Stores h.old h.new (places_of self.now) (spelled (T.fields value)) }
-        ensures lengths { lengths (host_of h.new) ≡ lengths (host_of h.old) }
+        ensures shape { shape h.new ≡ shape h.old }
     {
         let mut buffer = [0; 256];
         value.put_bytes(&mut buffer[..T::SIZE]);
@@ -133,9 +133,9 @@ impl<T: ByteValued> VolatileArrayRef<T> {
 
     /// The value at an index.
     pub fn load<B: NewBitmap>(&self, h: &HostMemory<B>, index: usize) -> T
-        requires lies { LiesIn (lengths (host_of h.now)) self.now.window }
+        requires lies { LiesIn (lengths h.now) self.now.window }
         requires some { index < self.now.count }
-        ensures bytes { spelled (T.fields result) ≡ map (byte_in (host_of h.now)) (places_of (part_of self.now.window (index * T.SIZE) T.SIZE)) }
+        ensures bytes { spelled (T.fields result) ≡ map (byte_in h.now) (places_of (part_of self.now.window (index * T.SIZE) T.SIZE)) }
         ensures fits { AllFit (T.fields result) }
     {
         self.ref_at(index).load(h)
@@ -143,10 +143,10 @@ impl<T: ByteValued> VolatileArrayRef<T> {
 
     /// Writes the bytes of a value at an index, and marks their pages.
     pub fn store<B: NewBitmap>(&self, h: &mut HostMemory<B>, index: usize, value: T)
-        requires lies { LiesIn (lengths (host_of h.old)) self.now.window }
+        requires lies { LiesIn (lengths h.old) self.now.window }
         requires some { index < self.now.count }
         ensures stored { Stores h.old h.new (places_of (part_of self.now.window (index * T.SIZE) T.SIZE)) (spelled (T.fields value)) }
-        ensures lengths { lengths (host_of h.new) ≡ lengths (host_of h.old) }
+        ensures shape { shape h.new ≡ shape h.old }
     {
         self.ref_at(index).store(h, value);
     }
@@ -154,10 +154,10 @@ impl<T: ByteValued> VolatileArrayRef<T> {
     /// Reads its first values, as many as both it and the list have, none of no byte: how many.
     #[tactic(auto, using(crate::proofs::ValueLemmas::whole_elements_is))]
     pub fn copy_to<B: NewBitmap>(&self, h: &HostMemory<B>, values: &mut [T]) -> usize
-        requires { LiesIn (lengths (host_of h.now)) self.now.window }
+        requires { LiesIn (lengths h.now) self.now.window }
         ensures count { result ≡ elements_copied T.SIZE self.now.count (length values.old) }
         ensures bytes { spelled_all T.fields (take result values.new)
-            ≡ map (byte_in (host_of h.now)) (places_of (part_of self.now.window 0 (result * T.SIZE))) }
+            ≡ map (byte_in h.now) (places_of (part_of self.now.window 0 (result * T.SIZE))) }
         ensures fits { EachFits T.fields (take result values.new) }
         ensures rest { drop result values.new ≡ drop result values.old }
     {
@@ -167,10 +167,10 @@ impl<T: ByteValued> VolatileArrayRef<T> {
     /// Writes the first values of a list, as many as both have, none of no byte, and marks their pages.
     #[tactic(auto, using(crate::proofs::ValueLemmas::whole_elements_is))]
     pub fn copy_from<B: NewBitmap>(&self, h: &mut HostMemory<B>, values: &[T])
-        requires { LiesIn (lengths (host_of h.old)) self.now.window }
+        requires { LiesIn (lengths h.old) self.now.window }
         ensures stored { Stores h.old h.new (places_of self.now.window)
             (spelled_all T.fields (take (elements_copied T.SIZE self.now.count (length values.now)) values.now)) }
-        ensures lengths { lengths (host_of h.new) ≡ lengths (host_of h.old) }
+        ensures shape { shape h.new ≡ shape h.old }
     {
         self.window.copy_from(h, values);
     }
@@ -178,10 +178,10 @@ impl<T: ByteValued> VolatileArrayRef<T> {
     /// Copies its first bytes, as many as both have, to a window and marks their pages: the bytes that it had
     /// before, also where the two overlap.
     pub fn copy_to_volatile_slice<B: NewBitmap>(&self, h: &mut HostMemory<B>, dest: VolatileSlice)
-        requires source { LiesIn (lengths (host_of h.old)) self.now.window }
-        requires dest { LiesIn (lengths (host_of h.old)) dest }
-        ensures stored { Stores h.old h.new (places_of dest) (map (byte_in (host_of h.old)) (places_of self.now.window)) }
-        ensures lengths { lengths (host_of h.new) ≡ lengths (host_of h.old) }
+        requires source { LiesIn (lengths h.old) self.now.window }
+        requires dest { LiesIn (lengths h.old) dest }
+        ensures stored { Stores h.old h.new (places_of dest) (map (byte_in h.old) (places_of self.now.window)) }
+        ensures shape { shape h.new ≡ shape h.old }
     {
         self.window.copy_to_volatile_slice(h, dest);
     }

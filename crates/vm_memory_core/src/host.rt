@@ -1,7 +1,7 @@
 //! Memory as numbered blocks, each with its dirty pages.
 
-ghost use Rattle.std.specs.Prelude.{[], ◌∷◌, ◌++◌, IfOk, IfSome, IsSome, IsTrue, OnErr, false, ◌≡◌, ◌↔◌, ◌<◌, ◌≤◌, ◌*◌, length, map, replicate, slice_get, option_map};
-ghost use Rattle.vm_memory_core.specs.Host.{Block, host_of, lengths, byte_at};
+ghost use Rattle.std.specs.Prelude.{[], IfOk, IfSome, IsSome, IsTrue, OnErr, false, ◌≡◌, ◌↔◌, ◌<◌, ◌≤◌, ◌*◌, length, map, replicate, slice_get, option_map};
+ghost use Rattle.vm_memory_core.specs.Host.{byte_at, lengths, shape, with_block};
 ghost use Rattle.vm_memory_core.specs.Parts.{spelled_all};
 ghost use Rattle.vm_memory_core.specs.Window.{places_of, LiesIn, Stores, byte_in};
 
@@ -20,18 +20,18 @@ pub struct HostMemory<B: NewBitmap> {
 }
 
 impl<B: NewBitmap> Model for HostMemory<B> {
-    ghost use Rattle.std.specs.Prelude.{List};
-    ghost use Rattle.vm_memory_core.specs.Host.{Block};
+    ghost use Rattle.std.specs.Prelude.{[]};
+    ghost use Rattle.vm_memory_core.specs.Host.{Host};
 
-    ghost Value = { List Block };
+    ghost Value = { Host };
 
-    ghost view = { λ h. h.blocks.items };
+    ghost view = { λ h. record { blocks = h.blocks.items; tables = []; io_marks = [] } };
 }
 
 impl<B: NewBitmap> HostMemory<B> {
     /// An empty memory.
     pub fn new(alloc: Global) -> HostMemory<B>
-        ensures { result ≡ [] }
+        ensures { result ≡ record { blocks = []; tables = []; io_marks = [] } }
     {
         HostMemory {
             alloc,
@@ -42,8 +42,8 @@ impl<B: NewBitmap> HostMemory<B> {
     /// A new block of `len` zeros, none of whose pages is marked: its number.
     pub fn new_block(&mut self, len: usize) -> Result<usize, AllocError>
         requires { 0 < len }
-        ensures number { IfOk result (λ b. b ≡ length self.old) }
-        ensures ok { IfOk result (λ _. self.new ≡ self.old ++ record { bytes = replicate len 0; marks = replicate (B.count len) false } ∷ []) }
+        ensures number { IfOk result (λ b. b ≡ length self.old.blocks) }
+        ensures ok { IfOk result (λ _. self.new ≡ with_block self.old (record { bytes = replicate len 0; marks = replicate (B.count len) false })) }
         ensures err { OnErr result (self.new ≡ self.old) }
     {
         let number = self.blocks.len();
@@ -55,14 +55,14 @@ impl<B: NewBitmap> HostMemory<B> {
 
     /// How many blocks there are.
     pub fn block_count(&self) -> usize
-        ensures { result ≡ length self.now }
+        ensures { result ≡ length self.now.blocks }
     {
         self.blocks.len()
     }
 
     /// How many bytes a block has, which are never none.
     pub fn block_len(&self, block: usize) -> Option<usize>
-        ensures len { result ≡ option_map (λ b. length b.bytes) (slice_get self.now block) }
+        ensures len { result ≡ option_map (λ b. length b.bytes) (slice_get self.now.blocks block) }
         ensures some { IfSome result (λ len. 0 < len) }
     {
         match self.blocks.get(block) {
@@ -73,15 +73,15 @@ impl<B: NewBitmap> HostMemory<B> {
 
     /// The byte at an offset of a block.
     pub fn byte_at(&self, block: usize, offset: usize) -> Option<u8>
-        ensures { result ≡ byte_at (host_of self.now) (record { block = block; offset = offset }) }
+        ensures { result ≡ byte_at self.now (record { block = block; offset = offset }) }
     {
         self.blocks.get(block)?.bytes.get(offset).copied()
     }
 
     /// The bytes of a window.
     pub fn bytes(&self, window: VolatileSlice) -> &[u8]
-        requires { LiesIn (lengths (host_of self.now)) window }
-        ensures bytes { result.now ≡ map (byte_in (host_of self.now)) (places_of window) }
+        requires { LiesIn (lengths self.now) window }
+        ensures bytes { result.now ≡ map (byte_in self.now) (places_of window) }
         ensures len { length result.now ≡ window.len }
     {
         self.blocks[window.block()].bytes(window.block_offset(), window.len())
@@ -89,10 +89,10 @@ impl<B: NewBitmap> HostMemory<B> {
 
     /// Writes bytes at the first places of a window, and marks their pages.
     pub fn write(&mut self, window: VolatileSlice, bytes: &[u8])
-        requires lies { LiesIn (lengths (host_of self.old)) window }
+        requires lies { LiesIn (lengths self.old) window }
         requires fits { length bytes.now ≤ window.len }
         ensures stored { Stores self.old self.new (places_of window) bytes.now }
-        ensures lengths { lengths (host_of self.new) ≡ lengths (host_of self.old) }
+        ensures shape { shape self.new ≡ shape self.old }
     {
         let block = &mut self.blocks[window.block()];
         block.write(window.block_offset(), bytes);
@@ -100,10 +100,10 @@ impl<B: NewBitmap> HostMemory<B> {
 
     // Writes values at the first places of a window, and marks their pages.
     pub(crate) fn write_values<T: ByteValued>(&mut self, window: VolatileSlice, values: &[T])
-        requires lies { LiesIn (lengths (host_of self.old)) window }
+        requires lies { LiesIn (lengths self.old) window }
         requires fits { length values.now * T.SIZE ≤ window.len }
         ensures stored { Stores self.old self.new (places_of window) (spelled_all T.fields values.now) }
-        ensures lengths { lengths (host_of self.new) ≡ lengths (host_of self.old) }
+        ensures shape { shape self.new ≡ shape self.old }
     {
         let block = &mut self.blocks[window.block()];
         block.write_values(window.block_offset(), values);
@@ -111,11 +111,11 @@ impl<B: NewBitmap> HostMemory<B> {
 
     // Copies a window to one of the same length: the bytes that stood there before.
     pub(crate) fn copy_window(&mut self, source: VolatileSlice, dest: VolatileSlice)
-        requires source { LiesIn (lengths (host_of self.old)) source }
-        requires dest { LiesIn (lengths (host_of self.old)) dest }
+        requires source { LiesIn (lengths self.old) source }
+        requires dest { LiesIn (lengths self.old) dest }
         requires len { source.len ≡ dest.len }
-        ensures stored { Stores self.old self.new (places_of dest) (map (byte_in (host_of self.old)) (places_of source)) }
-        ensures lengths { lengths (host_of self.new) ≡ lengths (host_of self.old) }
+        ensures stored { Stores self.old self.new (places_of dest) (map (byte_in self.old) (places_of source)) }
+        ensures shape { shape self.new ≡ shape self.old }
     {
         if source.block() == dest.block() {
             let block = &mut self.blocks[dest.block()];
@@ -129,7 +129,7 @@ impl<B: NewBitmap> HostMemory<B> {
     pub fn bitmap(&self, block: usize) -> Option<&B>
         ensures size { IfSome result (λ b. B.page_size b.now ≡ 4096) }
         ensures base { IfSome result (λ b. B.base b.now ≡ 0) }
-        ensures marks { option_map (λ b. B.marks b.now) result ≡ option_map (λ b. b.marks) (slice_get self.now block) }
+        ensures marks { option_map (λ b. B.marks b.now) result ≡ option_map (λ b. b.marks) (slice_get self.now.blocks block) }
     {
         match self.blocks.get(block) {
             Some(block) => Some(&block.bitmap),
@@ -139,8 +139,8 @@ impl<B: NewBitmap> HostMemory<B> {
 
     /// The bytes of a block, and its dirty pages.
     pub fn bytes_and_bitmap(&self, block: usize) -> Option<(&[u8], &B)>
-        ensures bytes { option_map (λ p. p.0.now) result ≡ option_map (λ b. b.bytes) (slice_get self.now block) }
-        ensures marks { option_map (λ p. B.marks p.1.now) result ≡ option_map (λ b. b.marks) (slice_get self.now block) }
+        ensures bytes { option_map (λ p. p.0.now) result ≡ option_map (λ b. b.bytes) (slice_get self.now.blocks block) }
+        ensures marks { option_map (λ p. B.marks p.1.now) result ≡ option_map (λ b. b.marks) (slice_get self.now.blocks block) }
         ensures count { IfSome result (λ p. length (B.marks p.1.now) ≡ B.count (length p.0.now)) }
     {
         match self.blocks.get(block) {
@@ -151,7 +151,7 @@ impl<B: NewBitmap> HostMemory<B> {
 
     /// Whether this memory has all of a window.
     pub fn has(&self, window: &VolatileSlice) -> bool
-        ensures { IsTrue result ↔ LiesIn (lengths (host_of self.now)) window.now }
+        ensures { IsTrue result ↔ LiesIn (lengths self.now) window.now }
     {
         self.window(window.block(), window.block_offset(), window.len())
             .is_some()
@@ -160,7 +160,7 @@ impl<B: NewBitmap> HostMemory<B> {
     /// A window of a block, where the block has all of it.
     pub fn window(&self, block: usize, offset: usize, len: usize) -> Option<VolatileSlice>
         ensures value { IfSome result (λ w. w ≡ record { block = block; offset = offset; len = len }) }
-        ensures found { IsSome result ↔ LiesIn (lengths (host_of self.now)) (record { block = block; offset = offset; len = len }) }
+        ensures found { IsSome result ↔ LiesIn (lengths self.now) (record { block = block; offset = offset; len = len }) }
     {
         let size = self.block_len(block)?;
         if offset <= size && len <= size - offset {
@@ -172,12 +172,13 @@ impl<B: NewBitmap> HostMemory<B> {
 }
 
 impl HostMemory<PageBitmap> {
-    ghost use Rattle.vm_memory_core.specs.Host.{unmarked, changed_at};
+    ghost use Rattle.vm_memory_core.specs.Host.{changed_at, unmarked, with_blocks};
 
     /// Clears the marks of a block, or changes nothing where there is no such block.
     pub fn reset_bitmap(&mut self, block: usize) -> bool
-        ensures found { IsTrue result ↔ (block < length self.old) }
-        ensures cleared { self.new ≡ changed_at self.old block unmarked }
+        ensures found { IsTrue result ↔ (block < length self.old.blocks) }
+        ensures cleared { self.new ≡ with_blocks self.old (changed_at self.old.blocks block unmarked) }
+        ensures shape { shape self.new ≡ shape self.old }
     {
         if block >= self.blocks.len() {
             return false;

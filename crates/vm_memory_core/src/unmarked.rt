@@ -3,7 +3,7 @@
 ghost use Rattle.std.specs.Prelude.{IsTrue, ◌≡◌, ◌↔◌, length, map};
 ghost use Rattle.std.specs.Bool.{OnFalse, OnTrue};
 ghost use Rattle.std.specs.List.{zip};
-ghost use Rattle.vm_memory_core.specs.Host.{host_of, lengths};
+ghost use Rattle.vm_memory_core.specs.Host.{lengths, shape};
 ghost use Rattle.vm_memory_core.specs.Window.{LiesIn, byte_in, set_all, span};
 
 use crate::host::HostMemory;
@@ -12,8 +12,8 @@ use vm_bitmaps::NewBitmap;
 impl<B: NewBitmap> HostMemory<B> {
     /// Reads bytes of a block, where it has all of them; else the buffer stays as it was.
     pub fn read_block(&self, block: usize, offset: usize, buffer: &mut [u8]) -> bool
-        ensures found { IsTrue result ↔ LiesIn (lengths (host_of self.now)) (record { block = block; offset = offset; len = length buffer.old }) }
-        ensures read { OnTrue result (buffer.new ≡ map (byte_in (host_of self.now)) (span block offset (length buffer.old))) }
+        ensures found { IsTrue result ↔ LiesIn (lengths self.now) (record { block = block; offset = offset; len = length buffer.old }) }
+        ensures read { OnTrue result (buffer.new ≡ map (byte_in self.now) (span block offset (length buffer.old))) }
         ensures refused { OnFalse result (buffer.new ≡ buffer.old) }
     {
         match self.window(block, offset, buffer.len()) {
@@ -27,10 +27,10 @@ impl<B: NewBitmap> HostMemory<B> {
 
     /// Sets bytes of a block, where it has all of their places, and marks no page; else nothing changes.
     pub fn write_block(&mut self, block: usize, offset: usize, bytes: &[u8]) -> bool
-        ensures found { IsTrue result ↔ LiesIn (lengths (host_of self.old)) (record { block = block; offset = offset; len = length bytes.now }) }
-        ensures set { OnTrue result (host_of self.new ≡ set_all (host_of self.old) (zip (span block offset (length bytes.now)) bytes.now)) }
+        ensures found { IsTrue result ↔ LiesIn (lengths self.old) (record { block = block; offset = offset; len = length bytes.now }) }
+        ensures set { OnTrue result (self.new ≡ set_all self.old (zip (span block offset (length bytes.now)) bytes.now)) }
         ensures refused { OnFalse result (self.new ≡ self.old) }
-        ensures lengths { lengths (host_of self.new) ≡ lengths (host_of self.old) }
+        ensures shape { shape self.new ≡ shape self.old }
     {
         match self.window(block, offset, bytes.len()) {
             Some(_) => {

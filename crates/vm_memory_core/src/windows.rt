@@ -1,7 +1,7 @@
 //! Reads and writes of several windows, one after another.
 
 ghost use Rattle.std.specs.Prelude.{◌≡◌, ◌≤◌, IfOk, length, map};
-ghost use Rattle.vm_memory_core.specs.Host.{host_of, lengths};
+ghost use Rattle.vm_memory_core.specs.Host.{lengths, shape};
 ghost use Rattle.vm_memory_core.specs.Window.{places, AllLieIn, Stores, byte_in};
 
 use crate::copy::put_at;
@@ -14,10 +14,10 @@ impl<B: NewBitmap> HostMemory<B> {
     /// Writes bytes at the first places of the windows, joined, and marks their pages.
     #[tactic(auto, unfolding(crate::specs::Window::AllLieIn))]
     pub fn write_windows(&mut self, windows: &[VolatileSlice], bytes: &[u8])
-        requires lie { AllLieIn (lengths (host_of self.old)) windows.now }
+        requires lie { AllLieIn (lengths self.old) windows.now }
         requires fits { length bytes.now ≤ length (places windows.now) }
         ensures stored { Stores self.old self.new (places windows.now) bytes.now }
-        ensures lengths { lengths (host_of self.new) ≡ lengths (host_of self.old) }
+        ensures shape { shape self.new ≡ shape self.old }
     {
         let mut done = 0;
         for window in windows {
@@ -30,9 +30,9 @@ impl<B: NewBitmap> HostMemory<B> {
     /// Reads the windows, joined, into a buffer that they fill.
     #[tactic(auto, unfolding(crate::specs::Window::AllLieIn))]
     pub fn read_windows(&self, windows: &[VolatileSlice], buffer: &mut [u8])
-        requires lie { AllLieIn (lengths (host_of self.now)) windows.now }
+        requires lie { AllLieIn (lengths self.now) windows.now }
         requires fits { length buffer.old ≡ length (places windows.now) }
-        ensures { buffer.new ≡ map (byte_in (host_of self.now)) (places windows.now) }
+        ensures { buffer.new ≡ map (byte_in self.now) (places windows.now) }
     {
         let mut done = 0;
         for window in windows {
@@ -49,8 +49,8 @@ impl<B: NewBitmap> HostMemory<B> {
         windows: &[VolatileSlice],
         capacity: usize,
     ) -> Result<Vec<u8>, AllocError>
-        requires { AllLieIn (lengths (host_of self.now)) windows.now }
-        ensures { IfOk result (λ v. v.items ≡ map (byte_in (host_of self.now)) (places windows.now)) }
+        requires { AllLieIn (lengths self.now) windows.now }
+        ensures { IfOk result (λ v. v.items ≡ map (byte_in self.now) (places windows.now)) }
     {
         let mut bytes = Vec::with_capacity(alloc, capacity)?;
         for window in windows {

@@ -1,4 +1,4 @@
-use Rattle.std.proofs.Common.{◌≡◌, List, map, length, ◌∙◌, sym}
+use Rattle.std.proofs.Common.{map, ◌∙◌, sym}
 use Rattle.std.proofs.lemmas.List.{length-map}
 use Rattle.fs_device.specs.CommandView.{answer_of, command_of}
 use Rattle.fs_device.specs.MachineView.{machine_of}

@@ -1,7 +1,7 @@
 use Rattle.std.proofs.Common.{◌∙◌, ap}
-use Rattle.vm_memory_core.specs.Host.{host_of, lengths}
-use Rattle.fs_device.proofs.HarvestLemmas.{lengths-unmarked}
+use Rattle.vm_memory_core.specs.Host.{shape}
+use Rattle.fs_device.proofs.HarvestLemmas.{shape-cleared}
 use Rattle.fs_device.proofs.harvested.harvest.Goals as goal
 
-pub returns-clause-lengths : goal.returns-clause-lengths
-returns-clause-lengths c = ap (λ h. lengths (host_of h)) c.clear.ensures ∙ lengths-unmarked c.args.host.now
+pub returns-clause-shape : goal.returns-clause-shape
+returns-clause-shape c = ap shape c.clear.ensures ∙ shape-cleared c.args.host.now

@@ -1,5 +1,5 @@
-use Rattle.std.proofs.Common.{◌∙◌, sym, rules}
-use Rattle.fs_device.proofs.ServeLemmas.{replied_ok, replied_err, lacked, reply_fits}
+use Rattle.std.proofs.Common.{◌∙◌, sym}
+use Rattle.fs_device.proofs.ServeLemmas.{replied_ok, replied_err}
 use Rattle.fs_device.proofs.serve.answer.Goals as goal
 
 pub returns-in-Ok-clause-some : goal.returns-in-Ok-clause-some

@@ -1,6 +1,6 @@
 use Rattle.std.proofs.Common.{◌≡◌}
-use Rattle.vm_memory_core.specs.Host.{host_of, lengths}
+use Rattle.vm_memory_core.specs.Host.{shape}
 use Rattle.guest_driver.proofs.ring.clear.Given as goal
 
 abbrev pub invariant-loop-block : goal.invariant-loop-block
-invariant-loop-block l = lengths (host_of l.host) ≡ lengths (host_of l.initial.host)
+invariant-loop-block l = shape l.host ≡ shape l.initial.host

@@ -1,4 +1,5 @@
 use Rattle.std.proofs.Common.{◌+◌, refl, ◌∙◌, arith, ap, length}
+use Rattle.vm_memory_core.specs.Host.{Host}
 use Rattle.vm_memory.proofs.MakingLemmas.{no_range, all_more, grown_more, length-grown_by, regions_more, shared-push, refused_at}
 use Rattle.vm_memory.proofs.guest_memory.regions_over.Goals as goal
 
@@ -25,8 +26,8 @@ loop-range-preserved g c =
     record {
       good = all_more c.args.ranges.now c.loop-range.range-index no_range _ c.loop-range-test.true refl c.loop-range.invariant.good made.0 made.1;
       host = grown_more g.B.NewBitmap.count c.args.host.now c.loop-range.host c.from_range.new.h c.args.ranges.now c.loop-range.range-index no_range _ c.loop-range-test.true refl c.loop-range.invariant.host made.3;
-      made = regions_more _ _ c.args.ranges.now c.loop-range.range-index (length c.args.host.now) _ no_range _ c.in-Ok-from_range.region c.loop-range-test.true refl c.loop-range.invariant.made made.2
-          (ap length c.loop-range.invariant.host ∙ count) (shared-push c.loop-range.regions.items c.push.new.self.items c.in-Ok-new.region c.in-Ok-from_range.region c.in-Ok-push.ensures.items c.in-Ok-new.ensures.ok);
+      made = regions_more _ _ c.args.ranges.now c.loop-range.range-index (length c.args.host.now.blocks) _ no_range _ c.in-Ok-from_range.region c.loop-range-test.true refl c.loop-range.invariant.made made.2
+          (ap (λ (h : Host). length h.blocks) c.loop-range.invariant.host ∙ count) (shared-push c.loop-range.regions.items c.push.new.self.items c.in-Ok-new.region c.in-Ok-from_range.region c.in-Ok-push.ensures.items c.in-Ok-new.ensures.ok);
     }
 
 pub returns-in-Err : goal.returns-in-Err

@@ -8,5 +8,5 @@ abbrev pub invariant-loop-range : goal.invariant-loop-range
 invariant-loop-range g l = record {
   good : list_all is_good (take l.range-index l.ranges) ≡ true;
   host : l.host ≡ grown_by g.B.NewBitmap.count l.initial.host (take l.range-index l.ranges);
-  made : regions_of (λ r. r) l.regions.items ≡ regions_from (length l.initial.host) (take l.range-index l.ranges);
+  made : regions_of (λ r. r) l.regions.items ≡ regions_from (length l.initial.host.blocks) (take l.range-index l.ranges);
 }

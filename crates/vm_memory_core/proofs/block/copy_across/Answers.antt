@@ -1,15 +1,16 @@
 use Rattle.std.proofs.Common.{◌≡◌, ◌++◌, ℕ, List, length, take, drop, arith, refl, ap, sym, ◌∙◌}
 use Rattle.std.specs.List.{zip}
 use Rattle.std.proofs.lemmas.List.{length-map, take-append-drop}
-use Rattle.vm_memory_core.specs.Host.{Block, host_of, lengths}
+use Rattle.vm_memory_core.specs.Host.{Block, with_blocks}
 use Rattle.vm_memory_core.specs.Window.{byte_in, places_of, put_all}
-use Rattle.vm_memory_core.proofs.Stores.{stored_at, loaded_at, lengths-put_all, set-back, set-front, read-back, read-front}
+use Rattle.vm_memory_core.proofs.Stores.{stored_at, loaded_at, set-back, set-front, read-back, read-front}
 use Rattle.vm_memory_core.proofs.WindowLemmas.{length-span}
 use Rattle.vm_memory_core.proofs.block.copy_across.Goals as goal
 
-pub returns-then-block-clause-stored : goal.returns-then-block-clause-stored
-returns-then-block-clause-stored g c =
+pub returns-then-block : goal.returns-then-block
+returns-then-block g c h =
     let l = c.args.blocks.now in
+    let before = with_blocks h l in
     let source = c.args.source in
     let dest = c.args.dest in
     let low = c.split_at_mut-low.result.0.now in
@@ -18,16 +19,17 @@ returns-then-block-clause-stored g c =
     let halves = c.split_at_mut-low.ensures in
     let seam : l ≡ low ++ high = sym (take-append-drop d l) ∙ ap (λ (m : List Block). m ++ drop d l) (sym halves.front) ∙ ap (λ (m : List Block). low ++ m) (sym halves.back) in
     let at = c.index-low-block.is ∙ read-front l low high _ _ seam (omega arith) in
-    let read = loaded_at l l source c.index-low-block.result c.bytes-bytes.result.now _ _ _ c.block-then-block-2.ensures c.block_offset.ensures c.len.ensures.len refl c.requires.source at (c.bytes-bytes.ensures ∙ ap (λ (b : Block). take c.len.result (drop c.block_offset.result b.bytes)) (sym c.index-low-block.is)) in
-    let count = ap length read ∙ length-map (places_of source) (byte_in (host_of l)) ∙ length-span source.len source.block source.offset in
+    let read = loaded_at before before source c.index-low-block.result c.bytes-bytes.result.now _ _ _ c.block-then-block-2.ensures c.block_offset.ensures c.len.ensures.len refl c.requires.source at (c.bytes-bytes.ensures ∙ ap (λ (b : Block). take c.len.result (drop c.block_offset.result b.bytes)) (sym c.index-low-block.is)) in
+    let count = ap length read ∙ length-map (places_of source) (byte_in before) ∙ length-span source.len source.block source.offset in
     let old = c.index-high-0.is ∙ read-back l low high d _ seam halves.front_len in
-    ap host_of (set-back l low high d c.write.new.self seam halves.front_len)
-    ∙ stored_at l l dest c.bytes-bytes.result.now c.index-high-0.result c.write.new.self d _ c.block-then-block.ensures c.block_offset-then-block.ensures refl c.requires.dest (omega arith) c.write.ensures.fits old (rw (sym c.index-high-0.is) at c.write.ensures.stored) (rw (sym c.index-high-0.is) at c.write.ensures.marked)
-    ∙ ap (λ (xs : List ℕ). put_all (host_of l) (zip (places_of dest) xs)) read
+    ap (with_blocks h) (set-back l low high d c.write.new.self seam halves.front_len)
+    ∙ stored_at before before dest c.bytes-bytes.result.now c.index-high-0.result c.write.new.self d _ c.block-then-block.ensures c.block_offset-then-block.ensures refl c.requires.dest (omega arith) c.write.ensures.fits old (rw (sym c.index-high-0.is) at c.write.ensures.stored) (rw (sym c.index-high-0.is) at c.write.ensures.marked)
+    ∙ ap (λ (xs : List ℕ). put_all before (zip (places_of dest) xs)) read
 
-pub returns-else-block-clause-stored : goal.returns-else-block-clause-stored
-returns-else-block-clause-stored g c =
+pub returns-else-block : goal.returns-else-block
+returns-else-block g c h =
     let l = c.args.blocks.now in
+    let before = with_blocks h l in
     let source = c.args.source in
     let dest = c.args.dest in
     let low = c.split_at_mut-low-else-block.result.0.now in
@@ -37,15 +39,9 @@ returns-else-block-clause-stored g c =
     let halves = c.split_at_mut-low-else-block.ensures in
     let seam : l ≡ low ++ high = sym (take-append-drop d l) ∙ ap (λ (m : List Block). m ++ drop d l) (sym halves.front) ∙ ap (λ (m : List Block). low ++ m) (sym halves.back) in
     let at = c.index-high-0-else-block.is ∙ read-back l low high d _ seam halves.front_len in
-    let read = loaded_at l l source c.index-high-0-else-block.result c.bytes-bytes-else-block.result.now _ _ _ c.block-else-block.ensures c.block_offset-else-block.ensures c.len-else-block.ensures.len refl c.requires.source at (c.bytes-bytes-else-block.ensures ∙ ap (λ (b : Block). take c.len-else-block.result (drop c.block_offset-else-block.result b.bytes)) (sym c.index-high-0-else-block.is)) in
-    let count = ap length read ∙ length-map (places_of source) (byte_in (host_of l)) ∙ length-span source.len source.block source.offset in
+    let read = loaded_at before before source c.index-high-0-else-block.result c.bytes-bytes-else-block.result.now _ _ _ c.block-else-block.ensures c.block_offset-else-block.ensures c.len-else-block.ensures.len refl c.requires.source at (c.bytes-bytes-else-block.ensures ∙ ap (λ (b : Block). take c.len-else-block.result (drop c.block_offset-else-block.result b.bytes)) (sym c.index-high-0-else-block.is)) in
+    let count = ap length read ∙ length-map (places_of source) (byte_in before) ∙ length-span source.len source.block source.offset in
     let old = c.index-low-block-else-block.is ∙ read-front l low high i _ seam (omega arith) in
-    ap host_of (set-front l low high i c.write-else-block.new.self seam (omega arith))
-    ∙ stored_at l l dest c.bytes-bytes-else-block.result.now c.index-low-block-else-block.result c.write-else-block.new.self i _ c.block-else-block-2.ensures c.block_offset-else-block-2.ensures refl c.requires.dest (omega arith) c.write-else-block.ensures.fits old (rw (sym c.index-low-block-else-block.is) at c.write-else-block.ensures.stored) (rw (sym c.index-low-block-else-block.is) at c.write-else-block.ensures.marked)
-    ∙ ap (λ (xs : List ℕ). put_all (host_of l) (zip (places_of dest) xs)) read
-
-pub returns-then-block-clause-lengths : goal.returns-then-block-clause-lengths
-returns-then-block-clause-lengths g c = ap lengths (returns-then-block-clause-stored g c) ∙ lengths-put_all _ _
-
-pub returns-else-block-clause-lengths : goal.returns-else-block-clause-lengths
-returns-else-block-clause-lengths g c = ap lengths (returns-else-block-clause-stored g c) ∙ lengths-put_all _ _
+    ap (with_blocks h) (set-front l low high i c.write-else-block.new.self seam (omega arith))
+    ∙ stored_at before before dest c.bytes-bytes-else-block.result.now c.index-low-block-else-block.result c.write-else-block.new.self i _ c.block-else-block-2.ensures c.block_offset-else-block-2.ensures refl c.requires.dest (omega arith) c.write-else-block.ensures.fits old (rw (sym c.index-low-block-else-block.is) at c.write-else-block.ensures.stored) (rw (sym c.index-low-block-else-block.is) at c.write-else-block.ensures.marked)
+    ∙ ap (λ (xs : List ℕ). put_all before (zip (places_of dest) xs)) read

@@ -1,9 +1,5 @@
-use Rattle.std.proofs.Common.{◌≡◌, ◌<◌, ◌-◌, ◌++◌, ◌∷◌, ◌∙◌, [], length, map, arith, ap, sym, refl, subst, rules}
+use Rattle.std.proofs.Common.{◌≡◌, ◌++◌, ◌∷◌, ◌∙◌, [], map, arith, ap, rules}
 use Rattle.std.proofs.lemmas.List.{map-append}
-use Rattle.vm_memory_core.specs.Host.{host_of}
-use Rattle.fs_device.specs.Step.{Exchange}
-use Rattle.fs_device.specs.DeviceView.{state_of}
-use Rattle.fs_device.specs.Run.{KickRun}
 use Rattle.fs_device.specs.CommandView.{turn_of}
 use Rattle.fs_device.proofs.KickLemmas.{ends_idle, ends_refused, ends_full, goes_on}
 use Rattle.fs_device.proofs.device.Device.process_queue.Goals as goal

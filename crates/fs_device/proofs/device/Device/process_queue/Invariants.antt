@@ -1,5 +1,5 @@
-use Rattle.std.proofs.Common.{◌≡◌, ◌≤◌, ◌-◌, ◌++◌, ℕ, Bool, List, length, map, Option, vec_capacity}
-use Rattle.vm_memory_core.specs.Host.{host_of, lengths}
+use Rattle.std.proofs.Common.{◌≡◌, ◌≤◌, ◌-◌, ◌++◌, Bool, List, length, map, Option, vec_capacity}
+use Rattle.vm_memory_core.specs.Host.{shape}
 use Rattle.fs_device.specs.declared.error.DeviceError.{DeviceError}
 use Rattle.fs_device.specs.Step.{State, Exchange}
 use Rattle.fs_device.specs.DeviceView.{state_of}
@@ -12,8 +12,8 @@ invariant-loop g l = record {
   count : length l.done.items ≡ l.counter;
   most : l.counter ≤ l.most;
   room : l.most ≤ vec_capacity l.done;
-  kept : lengths (host_of l.host) ≡ lengths (host_of l.initial.host);
+  kept : shape l.host ≡ shape l.initial.host;
   run : (rest : List (Exchange × Bool)) (refused : Option DeviceError) (after : State _) →
-      KickRun g.F.FileSystem.may (state_of (host_of l.host) l.mem l.self) l.queue (l.most - l.counter) rest refused after →
-      KickRun g.F.FileSystem.may (state_of (host_of l.initial.host) l.mem l.initial.self) l.queue l.most (map turn_of l.done.items ++ rest) refused after;
+      KickRun g.F.FileSystem.may (state_of l.host l.mem l.self) l.queue (l.most - l.counter) rest refused after →
+      KickRun g.F.FileSystem.may (state_of l.initial.host l.mem l.initial.self) l.queue l.most (map turn_of l.done.items ++ rest) refused after;
 }

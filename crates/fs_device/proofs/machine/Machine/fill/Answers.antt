@@ -1,8 +1,7 @@
 use Rattle.std.proofs.Common.{refl, length}
-use Rattle.vm_memory_core.specs.Host.{host_of}
 use Rattle.fs_device.proofs.GuestLemmas.{filled}
 use Rattle.fs_device.proofs.machine.Machine.fill.Goals as goal
 
 pub returns : goal.returns
 returns g c =
-    filled (host_of c.args.self.now.host) c.args.self.now.mem c.args.addr (length c.args.buffer.now) c.args.buffer.now c.read_slice.new.buffer refl c.requires c.read_slice.ensures.bytes
+    filled c.args.self.now.host c.args.self.now.mem c.args.addr (length c.args.buffer.now) c.args.buffer.now c.read_slice.new.buffer refl c.requires c.read_slice.ensures.bytes

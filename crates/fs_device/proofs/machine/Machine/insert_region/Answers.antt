@@ -1,5 +1,5 @@
-use Rattle.std.proofs.Common.{◌≡◌, ◌∙◌, ap, sym, refl, subst}
-use Rattle.vm_memory_core.specs.Host.{host_of, lengths}
+use Rattle.std.proofs.Common.{◌≡◌, sym, refl, subst}
+use Rattle.vm_memory_core.specs.Host.{lengths}
 use Rattle.vm_memory.specs.Layout.{AreHeld}
 use Rattle.fs_device.specs.Run.{effect}
 use Rattle.fs_device.specs.MachineView.{machine_of}
@@ -20,7 +20,7 @@ pub invariant_of-self : goal.invariant_of-self
 invariant_of-self g c =
     let r = c.in-Ok.region.value in
     let new : r ≡ c.in-Some-new.region = c.in-Ok.ensures.ok in
-    let there = lengths (host_of c.args.self.now.host) in
+    let there = lengths c.args.self.now.host in
     let here = subst (HasBlock there) (sym new) (has_block c.args.self.now.host c.args.base c.args.block c.in-Some.region c.in-Some-new.region c.in-Some.ensures c.in-Some-new.ensures) in
     record { held = subst (AreHeld there) (sym c.in-Ok-insert_region.ensures.1) (held_with there r c.args.self.now.mem here c.args.self.now.held) }
 

@@ -1,6 +1,4 @@
-use Rattle.std.proofs.Common.{◌≡◌, ◌∙◌, ap, sym, refl, subst, length, map, ◌∷◌, []}
-use Rattle.std.proofs.lemmas.List.{map-append}
-use Rattle.vm_memory_core.specs.Host.{Block, host_of, lengths}
+use Rattle.std.proofs.Common.{refl}
 use Rattle.vm_bitmaps.specs.Pages.{pages_of}
 use Rattle.fs_device.specs.Run.{effect}
 use Rattle.fs_device.proofs.LayoutLemmas.{kept, no_bytes, page_count-is}

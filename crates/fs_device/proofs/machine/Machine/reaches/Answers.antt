@@ -1,8 +1,7 @@
-use Rattle.std.proofs.Common.{◌≡◌, ◌+◌, ◌^◌, ◌<◌, ◌∙◌, arith}
-use Rattle.vm_memory_core.specs.Host.{host_of}
+use Rattle.std.proofs.Common.{◌∙◌, arith}
 use Rattle.fs_device.proofs.GuestLemmas.{reach_fits}
 use Rattle.fs_device.proofs.machine.Machine.reaches.Goals as goal
 
 pub returns-in-Some : goal.returns-in-Some
 returns-in-Some g c =
-    c.check_range.ensures ∙ reach_fits (host_of c.args.self.now.host) c.args.self.now.mem c.args.access c.args.addr c.args.len (omega arith)
+    c.check_range.ensures ∙ reach_fits c.args.self.now.host c.args.self.now.mem c.args.access c.args.addr c.args.len (omega arith)

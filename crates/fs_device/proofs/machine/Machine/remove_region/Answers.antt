@@ -1,5 +1,5 @@
-use Rattle.std.proofs.Common.{◌≡◌, ◌∙◌, ap, sym, refl, subst}
-use Rattle.vm_memory_core.specs.Host.{host_of, lengths}
+use Rattle.std.proofs.Common.{sym, refl, subst}
+use Rattle.vm_memory_core.specs.Host.{lengths}
 use Rattle.vm_memory.specs.Layout.{AreHeld, is_region}
 use Rattle.fs_device.specs.Run.{effect}
 use Rattle.fs_device.proofs.LayoutLemmas.{held_without, found_any, found_none}
@@ -7,7 +7,7 @@ use Rattle.fs_device.proofs.machine.Machine.remove_region.Goals as goal
 
 pub invariant_of-self : goal.invariant_of-self
 invariant_of-self g c =
-    let there = lengths (host_of c.args.self.now.host) in
+    let there = lengths c.args.self.now.host in
     record { held = subst (AreHeld there) (sym c.in-Ok.ensures.1) (held_without there c.args.base c.args.size c.args.self.now.mem c.args.self.now.held) }
 
 pub returns-in-Ok : goal.returns-in-Ok

@@ -1,8 +1,6 @@
-use Rattle.std.proofs.Common.{◌≡◌, ◌∷◌, [], ◌++◌, ◌∙◌, length, append_assoc, append-nil, sym, ap, subst, arith, rules, vec_capacity}
+use Rattle.std.proofs.Common.{◌≡◌, ◌∷◌, [], ◌++◌, ◌∙◌, length, append_assoc, append-nil, sym, ap, arith, rules}
 use Rattle.std.specs.Vec.Iter.{into_iter_items}
-use Rattle.fs_device.specs.Run.{Run}
 use Rattle.fs_device.specs.CommandView.{answer_of, command_of}
-use Rattle.fs_device.specs.MachineView.{machine_of}
 use Rattle.fs_device.proofs.RunLemmas.{count_more, run_more, run_ends, nothing_left}
 use Rattle.fs_device.proofs.machine.Machine.run.Goals as goal
 

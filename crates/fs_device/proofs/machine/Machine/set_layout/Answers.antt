@@ -1,4 +1,4 @@
-use Rattle.std.proofs.Common.{◌≡◌, ◌∙◌, ap, sym, refl, subst}
+use Rattle.std.proofs.Common.{refl}
 use Rattle.fs_device.specs.Run.{effect}
 use Rattle.fs_device.proofs.LayoutLemmas.{all_known, not_known, all_fit, all_apart}
 use Rattle.fs_device.proofs.machine.Machine.set_layout.Goals as goal

@@ -1,5 +1,4 @@
 use Rattle.std.proofs.Common.{ap}
-use Rattle.vm_memory_core.specs.Host.{host_of}
 use Rattle.vm_memory.specs.Memory.{Memory}
 use Rattle.fs_device.proofs.GuestLemmas.{written}
 use Rattle.fs_device.proofs.StepLemmas.{state}
@@ -9,4 +8,4 @@ pub returns : goal.returns
 returns g c =
     let d = c.args.self.now.device in
     ap (λ (m : Memory). state (record { limit = d.limit; page_size = d.page_size }) m d.queues (d.options, d.files))
-    (written (host_of c.args.self.now.host) (host_of c.write_slice.new.host) c.args.self.now.mem c.args.addr c.args.bytes.now c.requires c.write_slice.ensures.stored)
+    (written c.args.self.now.host c.write_slice.new.host c.args.self.now.mem c.args.addr c.args.bytes.now c.requires c.write_slice.ensures.stored)

@@ -1,4 +1,3 @@
-use Rattle.vm_memory_core.specs.Host.{host_of}
 use Rattle.fs_queue.proofs.ReturnLemmas.{returned_is, told_is}
 use Rattle.fs_queue.proofs.queue.Queue.give_back.Goals as goal
 
@@ -10,4 +9,4 @@ returns-clause-stored g c l asked taken =
 
 pub returns-clause-told : goal.returns-clause-told
 returns-clause-told g c l asked taken =
-    told_is (host_of c.args.host.now) (host_of c.write_windows-2.new.self) l c.args.self.now asked c.args.taken _ _ _ taken c.deref-3.ensures c.read_windows.ensures c.le16_number.ensures
+    told_is c.args.host.now c.write_windows-2.new.self l c.args.self.now asked c.args.taken _ _ _ taken c.deref-3.ensures c.read_windows.ensures c.le16_number.ensures

@@ -1,5 +1,4 @@
 use Rattle.std.proofs.Common.{◌+◌, ◌≤◌, length, arith, ◌∙◌, sym, refl}
-use Rattle.vm_memory_core.specs.Host.{host_of}
 use Rattle.vm_memory.specs.Layout.{place}
 use Rattle.vm_memory.specs.Memory.{memory_of}
 use Rattle.vm_memory.proofs.Places.{count_step, count_none, count_end, front_step, back_step}
@@ -17,7 +16,7 @@ loop-done-preserved g c =
     rw c.len-done.ensures.len (record {
       within = le;
       count = step ∙ c.loop-done.invariant.count;
-      front = front_step (memory_of (host_of c.args.host.now) c.args.self.now) c.args.addr c.loop-done.done (length c.args.buffer.now) c.in-Some.window.len _ _ c.loop-done.buffer c.bytes.result.now c.put_at.new.buffer refl c.in-Some.ensures.some.2 le (omega arith) c.in-Some.ensures.some.3 (sym c.bytes.ensures.len) c.bytes.ensures.bytes c.put_at.ensures.stored c.loop-done.invariant.front;
+      front = front_step (memory_of c.args.host.now c.args.self.now) c.args.addr c.loop-done.done (length c.args.buffer.now) c.in-Some.window.len _ _ c.loop-done.buffer c.bytes.result.now c.put_at.new.buffer refl c.in-Some.ensures.some.2 le (omega arith) c.in-Some.ensures.some.3 (sym c.bytes.ensures.len) c.bytes.ensures.bytes c.put_at.ensures.stored c.loop-done.invariant.front;
       back = back_step c.loop-done.done c.in-Some.window.len c.loop-done.buffer c.bytes.result.now c.put_at.new.buffer c.args.buffer.now (sym c.bytes.ensures.len) (omega arith) c.put_at.ensures.stored c.loop-done.invariant.back;
     })
 

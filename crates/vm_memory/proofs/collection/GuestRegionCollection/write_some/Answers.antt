@@ -1,6 +1,5 @@
 use Rattle.std.proofs.Common.{◌≡◌, ℕ, List, ◌-◌, ◌+◌, ◌≤◌, take, drop, length, arith, ◌∙◌, ap, refl}
 use Rattle.std.proofs.lemmas.List.{take_rest}
-use Rattle.vm_memory_core.specs.Host.{host_of}
 use Rattle.vm_memory.specs.Layout.{place}
 use Rattle.vm_memory.specs.Memory.{memory_of, reached, stored_all}
 use Rattle.vm_memory.proofs.Places.{circular_all, count_step, count_none, count_end, store_step}
@@ -10,7 +9,7 @@ pub loop-done-init : goal.loop-done-init
 unfolding stored_all
 loop-done-init g c =
     let all = ap (reached (place c.args.self.now)) (circular_all c.args.addr (length c.args.bytes.now)) in
-    record { within = omega arith; same_lengths = refl; count = omega (arith, all); stored = refl }
+    record { within = omega arith; same_shape = refl; count = omega (arith, all); stored = refl }
 
 pub returns-in_default-clause-count : goal.returns-in_default-clause-count
 returns-in_default-clause-count g c =
@@ -26,9 +25,9 @@ loop-done-preserved g c =
     ap (λ k. take k rest) c.len.ensures.len ∙ ap (take c.in-Some.window.len) (take_rest c.args.bytes.now c.loop-done.done) in
     rw c.len-done.ensures.len (record {
       within = le;
-      same_lengths = c.write.ensures.lengths ∙ c.loop-done.invariant.same_lengths;
+      same_shape = c.write.ensures.shape ∙ c.loop-done.invariant.same_shape;
       count = step ∙ c.loop-done.invariant.count;
-      stored = store_step c.args.self.now (memory_of (host_of c.args.host.now) c.args.self.now) (host_of c.loop-done.host) (host_of c.write.new.self) c.args.bytes.now _ c.args.addr c.loop-done.done (length c.args.bytes.now) c.in-Some.window.len _ _ refl c.in-Some.ensures.some.2 le refl c.in-Some.ensures.some.3 c.loop-done.invariant.stored cut c.write.ensures.stored;
+      stored = store_step c.args.self.now (memory_of c.args.host.now c.args.self.now) c.loop-done.host c.write.new.self c.args.bytes.now _ c.args.addr c.loop-done.done (length c.args.bytes.now) c.in-Some.window.len _ _ refl c.in-Some.ensures.some.2 le refl c.in-Some.ensures.some.3 c.loop-done.invariant.stored cut c.write.ensures.stored;
     })
 
 pub returns-clause-count : goal.returns-clause-count

@@ -1,5 +1,5 @@
 use Rattle.std.proofs.Common.{ℕ, List, Ok, ap, sym, ◌∙◌}
-use Rattle.vm_memory_core.specs.Host.{Place, host_of}
+use Rattle.vm_memory_core.specs.Host.{Place}
 use Rattle.vm_memory_core.specs.Window.{places_of, put_all}
 use Rattle.vm_memory_core.specs.Access.{places_in}
 use Rattle.vm_memory_core.proofs.WindowLemmas.{length-span, zip-take_right}
@@ -13,5 +13,5 @@ returns-in-Ok-clause-written g c =
       places = Ok (places_of w);
       may = ap places_in c.in-Ok.ensures.window;
       count = ap Ok (c.len-in-Ok.ensures.len ∙ sym n);
-      stored = c.write.ensures.stored ∙ ap (λ (ws : List (Place × ℕ)). put_all (host_of c.args.h.now) ws) (zip-take_right (places_of w) c.args.buf.now c.len.result (c.len.ensures.len ∙ sym n));
+      stored = c.write.ensures.stored ∙ ap (λ (ws : List (Place × ℕ)). put_all c.args.h.now ws) (zip-take_right (places_of w) c.args.buf.now c.len.result (c.len.ensures.len ∙ sym n));
     }

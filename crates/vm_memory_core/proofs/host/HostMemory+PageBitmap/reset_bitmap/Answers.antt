@@ -1,7 +1,7 @@
 use Rattle.std.proofs.Common.{Bool, List, ap, sym, ◌∙◌, arith}
 use Rattle.vm_bitmaps.specs.Pages.{PageSet}
-use Rattle.vm_memory_core.specs.Host.{Block, unmarked}
-use Rattle.vm_memory_core.proofs.Stores.{reset_in, changed_at-past, clear-is}
+use Rattle.vm_memory_core.specs.Host.{Block, shape, unmarked, with_blocks}
+use Rattle.vm_memory_core.proofs.Stores.{reset_in, changed_at-past, clear-is, shape-unmarked}
 use Rattle.vm_memory_core.proofs.host.HostMemory+PageBitmap.reset_bitmap.Goals as goal
 
 pub returns-clause-cleared : goal.returns-clause-cleared
@@ -12,4 +12,8 @@ returns-clause-cleared c =
     (ap f c.reset.ensures ∙ ap g (clear-is c.bitmap.inside.bitmap.marks _ (sym c.len-pages.ensures.pages ∙ c.len-pages.ensures.marks)) ∙ ap unmarked c.bitmap.view_is)
 
 pub returns-then-block-len-clause-cleared : goal.returns-then-block-len-clause-cleared
-returns-then-block-len-clause-cleared c = sym (changed_at-past c.args.self.now c.args.block unmarked (rw (← c.self.view_is) (omega arith)))
+returns-then-block-len-clause-cleared c = 
+    sym (ap (with_blocks c.args.self.now) (changed_at-past c.args.self.now.blocks c.args.block unmarked (rw (← c.self.view_is) (omega arith))))
+
+pub returns-clause-shape : goal.returns-clause-shape
+returns-clause-shape c = ap shape (returns-clause-cleared c) ∙ shape-unmarked c.args.self.now c.args.block

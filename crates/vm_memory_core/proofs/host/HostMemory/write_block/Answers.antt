@@ -1,7 +1,7 @@
 use Rattle.std.proofs.Common.{ap, refl, ◌∙◌}
-use Rattle.vm_memory_core.specs.Host.{lengths}
+use Rattle.vm_memory_core.specs.Host.{shape}
 use Rattle.vm_memory_core.specs.Window.{Window}
-use Rattle.vm_memory_core.proofs.Stores.{set_stored, lengths-set_all}
+use Rattle.vm_memory_core.proofs.Stores.{set_stored, shape-set_all}
 use Rattle.vm_memory_core.proofs.host.HostMemory.write_block.Goals as goal
 
 pub returns-in-Some-clause-set : goal.returns-in-Some-clause-set
@@ -9,5 +9,5 @@ returns-in-Some-clause-set g c =
     let w : Window = record { block = c.args.block; offset = c.args.offset; len = _ } in
     set_stored _ _ w c.args.bytes.now _ _ c.self.view_is (c.in-Some.ensures.found.0 refl) refl c.index_mut.ensures.value c.set.ensures
 
-pub returns-in-Some-clause-lengths : goal.returns-in-Some-clause-lengths
-returns-in-Some-clause-lengths g c = ap lengths (returns-in-Some-clause-set g c) ∙ lengths-set_all _ _
+pub returns-in-Some-clause-shape : goal.returns-in-Some-clause-shape
+returns-in-Some-clause-shape g c = ap shape (returns-in-Some-clause-set g c) ∙ shape-set_all _ _

@@ -1,6 +1,5 @@
 use Rattle.std.proofs.Common.{arith, ◌∙◌}
 use Rattle.std.proofs.lemmas.List.{drop_all}
-use Rattle.vm_memory_core.specs.Host.{host_of}
 use Rattle.vm_memory_core.specs.Window.{put_all}
 use Rattle.vm_memory_core.proofs.WindowLemmas.{drop_item, places_step, length-places_step}
 use Rattle.vm_memory_core.proofs.host.HostMemory.write_windows.Goals as goal
@@ -12,8 +11,8 @@ loop-window-preserved g c =
     record {
       within = omega arith;
       fits = omega arith;
-      same_lengths = c.write.ensures.lengths ∙ c.loop-window.invariant.same_lengths;
-      stored = places_step c.args.windows.now c.loop-window.window-index c.min-count.result c.loop-window.done c.window-item.result c.args.bytes.now (host_of c.loop-window.self) (host_of c.write.new.self) next (omega arith) c.write.ensures.stored ∙ c.loop-window.invariant.stored;
+      same_shape = c.write.ensures.shape ∙ c.loop-window.invariant.same_shape;
+      stored = places_step c.args.windows.now c.loop-window.window-index c.min-count.result c.loop-window.done c.window-item.result c.args.bytes.now c.loop-window.self c.write.new.self next (omega arith) c.write.ensures.stored ∙ c.loop-window.invariant.stored;
     }
 
 pub returns-clause-stored : goal.returns-clause-stored

@@ -1,7 +1,7 @@
 use Rattle.std.proofs.Common.{◌≡◌, ◌+◌, ◌≤◌, length, drop}
 use Rattle.std.specs.List.{zip}
 use Rattle.vm_memory_core.specs.Window.{put_all}
-use Rattle.vm_memory_core.specs.Host.{host_of, lengths}
+use Rattle.vm_memory_core.specs.Host.{shape}
 use Rattle.vm_memory_core.specs.Window.{places}
 use Rattle.vm_memory_core.proofs.host.HostMemory.write_windows.Given as goal
 
@@ -9,6 +9,6 @@ abbrev pub invariant-loop-window : goal.invariant-loop-window
 invariant-loop-window g l = record {
   within : l.done ≤ length l.bytes;
   fits : length l.bytes ≤ l.done + length (places (drop l.window-index l.windows));
-  same_lengths : lengths (host_of l.self) ≡ lengths (host_of l.initial.self);
-  stored : put_all (host_of l.self) (zip (places (drop l.window-index l.windows)) (drop l.done l.bytes)) ≡ put_all (host_of l.initial.self) (zip (places l.windows) l.bytes);
+  same_shape : shape l.self ≡ shape l.initial.self;
+  stored : put_all l.self (zip (places (drop l.window-index l.windows)) (drop l.done l.bytes)) ≡ put_all l.initial.self (zip (places l.windows) l.bytes);
 }
