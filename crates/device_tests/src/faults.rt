@@ -106,7 +106,7 @@ fn faulty_chain_goes_back_with_nothing_and_asks_nothing(rt: HostRuntime) {
 fn offer_two(rt: &impl Abort, stand: &mut Stand, first: Descriptor, second: Descriptor) {
     stand.guest.descriptor(0, first).expect(rt, "a place");
     stand.guest.descriptor(1, second).expect(rt, "a place");
-    stand.guest.offer(0).expect(rt, "a place");
+    stand.guest.make_available(0).expect(rt, "a place");
     stand.guest.clear_marks();
 }
 
@@ -123,7 +123,7 @@ fn descriptor_of_no_bytes_adds_nothing_wherever_it_points(rt: HostRuntime) {
     let mut stand = Stand::new(&rt, rt.alloc());
     stand.guest.descriptor(3, EMPTY).expect(&rt, "a place");
     stand.ask_unknown(&rt);
-    stand.guest.offer(3).expect(&rt, "a place");
+    stand.guest.make_available(3).expect(&rt, "a place");
     let (_, _) = stand.exchange(&rt);
     let (exchange, _) = stand.exchange(&rt);
     expect_same(&rt, (exchange.head, exchange.reply.len()), (3, 16));

@@ -65,7 +65,7 @@ fn expect_served(rt: &impl Abort, stand: &mut Stand, most: u16, count: usize) {
 #[test]
 fn queue_serves_at_most_so_many(rt: HostRuntime) {
     let mut stand = stand(&rt, rt.alloc());
-    stand.guest.offer(0).expect(&rt, "a place");
+    stand.guest.make_available(0).expect(&rt, "a place");
     for (most, count) in [(0, 0), (1, 1), (9, 1), (9, 0)] {
         expect_served(&rt, &mut stand, most, count);
     }

@@ -34,8 +34,8 @@ abbrev pub state_of : {F : Type 0} → Host → List Region → DeviceParts F �
 state_of h layout d = record { memory = memory_of h layout; queues = d.queues; options = d.options; files = d.files; limit = d.limit; page_size = d.page_size }
 
 -- a harvested page
-abbrev pub page_of : HarvestedPage → Page
-page_of p = record { block = p.block; offset = p.offset; bytes = p.bytes.items }
+abbrev pub page_view : HarvestedPage → Page
+page_view p = record { block = p.block; offset = p.offset; bytes = p.bytes.items }
 
 -- what a step may change of a server: the options that were agreed, and the file system
 abbrev pub server_state : {F : Type 0} → Server F → ℕ × F

@@ -18,9 +18,11 @@ use Rattle.virtiofsd_fuse.specs.Serving.{May}
 use Rattle.fs_device.specs.declared.error.DeviceError.TheVariants as device_error
 use Rattle.fs_device.specs.Step.{State, Exchange, Refused, Exchanged, Step, after_return}
 
+-- 64 KiB of zeros from address 0 on
 abbrev pub blank : Memory
 blank = memory_of (record { blocks = new_block 0x10000 ∷ []; tables = []; io_marks = [] }) (record { start = 0; size = 0x10000; block = 0 } ∷ [])
 
+-- four descriptors, none of them taken so far
 abbrev pub queue : Queue
 queue = record { size = 4; desc = 0; avail = 0x100; used = 0x200; position = 0; stopped = false }
 
@@ -28,9 +30,11 @@ queue = record { size = 4; desc = 0; avail = 0x100; used = 0x200; position = 0; 
 abbrev pub put : Memory → ℕ → List ℕ → Memory
 put m a bs = stored_all m (zip (addresses a (length bs)) bs)
 
+-- a descriptor of this address, length, flags and next (VIRTIO 1.2, 2.7.5)
 abbrev pub descriptor_bytes : ℕ → ℕ → ℕ → ℕ → List ℕ
 descriptor_bytes addr len flags next = le64 addr ++ le32 len ++ le16 flags ++ le16 next
 
+-- a request of a header alone, of an opcode that no request has
 abbrev pub request : List ℕ
 request = in_header_bytes 40 7 1 0
 
@@ -41,6 +45,7 @@ with_one_request =
     let b = put a 0 (descriptor_bytes 0x1000 40 1 1 ++ descriptor_bytes 0x2000 16 2 0) in
     put b 0x100 (le16 0 ++ le16 1 ++ le16 0)
 
+-- what the queue offers over a memory
 abbrev gives : Memory → Offer
 gives m = offer m 0x101000 queue
 
@@ -103,18 +108,23 @@ too_short = refl
 
 -- ---- whole steps, of a device whose file system is asked nothing
 
+-- a file system without a state
 abbrev pub Nothing : Type 0
 Nothing = Unit {0}
 
+-- it answers no call
 abbrev pub may : May Nothing
 may before call answer after = ⊥
 
+-- a device of one queue over a memory
 abbrev pub device : Memory → Queue → State Nothing
 device m q = record { memory = m; queues = q ∷ []; options = 0; files = tt; limit = 0x101000; page_size = 4096 }
 
+-- struct fuse_out_header with ENOSYS
 abbrev pub unknown_reply : List ℕ
 unknown_reply = 0x10 ∷ 0 ∷ 0 ∷ 0 ∷ 0xda ∷ 0xff ∷ 0xff ∷ 0xff ∷ 1 ∷ zeros 7
 
+-- the request goes back with that reply
 abbrev pub unknown_exchange : Exchange
 unknown_exchange = record { head = 0; request = request; reply = unknown_reply; fault = None }
 
@@ -122,6 +132,7 @@ unknown_exchange = record { head = 0; request = request; reply = unknown_reply; 
 abbrev pub after_reply : Memory → Queue → State Nothing
 after_reply m q = after_return (device m q) 0 q 0 (addresses 0x2000 16) unknown_reply 0 tt
 
+-- the chain is taken, answered and given back, and the driver is told
 pub one_step : Step may (device with_one_request queue) 0 [] (Exchanged unknown_exchange true) (after_reply with_one_request queue)
 unfolding offer place addresses stored_all path found meaning reading_in_header meant error_bytes fields.field_bytes
 one_step = record {

@@ -62,6 +62,7 @@ kick_lacks_memory = (device with_one_request queue, (refl, refl), (after_reply w
 abbrev two_wait : Memory
 two_wait = put with_one_request 0x102 (le16 2 ++ le16 0 ++ le16 0)
 
+-- a step over a memory exchanges the unknown request
 abbrev exchanges_unknown : (m : Memory) → Type 0
 exchanges_unknown m = Step may (device m queue) 0 [] (Exchanged unknown_exchange true) (after_reply m queue)
 
@@ -81,6 +82,7 @@ kick_of_one = (after_reply two_wait queue, ([], after_reply two_wait queue, firs
 abbrev no_such_head : Memory
 no_such_head = put with_one_request 0x102 (le16 2 ++ le16 0 ++ le16 4)
 
+-- the reply was stored, and then the queue stopped
 abbrev stopped_after_one : State Nothing
 stopped_after_one = record (after_reply no_such_head queue) { queues = stopped (advanced queue) ∷ [] }
 
@@ -101,27 +103,31 @@ kick_stops_after_one = (stopped_after_one, ([], after_reply no_such_head queue, 
 abbrev forget : List ℕ
 forget = in_header_bytes 48 2 9 5 ++ le64 3
 
+-- each FORGET adds its count
 abbrev counts : May ℕ
 counts before (files.Forget who node count) files.Done after = after ≡ before + count
 counts before call answer after = ⊥
 
+-- that request in a chain of one descriptor
 abbrev with_forget : Memory
 with_forget =
     let a = put blank 0x1000 forget in
     let b = put a 0 (descriptor_bytes 0x1000 48 0 0) in
     put b 0x100 (le16 0 ++ le16 1 ++ le16 0)
 
-abbrev counting : ℕ → State ℕ
-counting n = record { memory = with_forget; queues = queue ∷ []; options = 0; files = n; limit = 0x101000; page_size = 4096 }
+-- a device of that queue whose file system has counted so many
+abbrev with_count : ℕ → State ℕ
+with_count n = record { memory = with_forget; queues = queue ∷ []; options = 0; files = n; limit = 0x101000; page_size = 4096 }
 
+-- three more were counted, and the chain went back with nothing
 abbrev forgotten : State ℕ
-forgotten = after_return (counting 4) 0 queue 0 [] [] 0 7
+forgotten = after_return (with_count 4) 0 queue 0 [] [] 0 7
 
-kick_calls_the_files : Run counts (counting 4)
+kick_calls_the_files : Run counts (with_count 4)
     ((run.Kick 0 1, run.Served (record { exchanges = (record { head = 0; request = forget; reply = []; fault = None }, true) ∷ []; refused = None })) ∷ []) forgotten
 unfolding Run KickRun offer place addresses stored_all path found meaning reading_in_header meant row reading_forget_in
 kick_calls_the_files =
-    let step : Step counts (counting 4) 0 ((files.Forget nobody 5 3, files.Done) ∷ []) (Exchanged (record { head = 0; request = forget; reply = []; fault = None }) true) forgotten =
+    let step : Step counts (with_count 4) 0 ((files.Forget nobody 5 3, files.Done) ∷ []) (Exchanged (record { head = 0; request = forget; reply = []; fault = None }) true) forgotten =
     record {
       given = record { calls = files.Forget nobody 5 3 ∷ []; options = 0; reply = []; fault = None };
       serves = record { gives = refl; asks = refl; run = (7, refl, refl, refl) };
@@ -140,6 +146,7 @@ resets_no_missing l = refl
 
 -- ---- 32 bytes at 0, and what a guest does there
 
+-- a machine of 32 bytes at 0
 abbrev small : State Nothing
 small = device (memory_of (record { blocks = new_block 32 ∷ []; tables = []; io_marks = [] }) (record { start = 0; size = 32; block = 0 } ∷ [])) queue
 
@@ -148,9 +155,11 @@ abbrev comes_to : State Nothing → List Command → State Nothing
 comes_to s [] = s
 comes_to s (command ∷ commands) = comes_to (effect s command).1 commands
 
+-- what the last command is answered, after others
 abbrev answers : State Nothing → List Command → Command → Answer
 answers s commands last = (effect (comes_to s commands) last).0
 
+-- two bytes are written at 5
 abbrev guest_writes : List Command
 guest_writes = run.GuestWrite 5 (7 ∷ 8 ∷ []) ∷ []
 
@@ -221,6 +230,7 @@ has_no_place_then : answers small (run.RemoveRegion 0 32 ∷ []) (run.GuestRead 
 unfolding effect place addresses
 has_no_place_then = refl
 
+-- addresses over block 0
 abbrev region : ℕ → ℕ → Region
 region start size = record { start = start; size = size; block = 0 }
 
@@ -256,10 +266,12 @@ kick_without_memory = (record nowhere { queues = stopped queue ∷ [] }, (refl, 
 
 -- ---- two regions, of 0x1000 and 0xf000 bytes, and a request that lies in both
 
+-- two blocks that stand one behind the other
 abbrev two : Memory
 two = memory_of (record { blocks = new_block 0x1000 ∷ new_block 0xf000 ∷ []; tables = []; io_marks = [] })
     (record { start = 0; size = 0x1000; block = 0 } ∷ record { start = 0x1000; size = 0xf000; block = 1 } ∷ [])
 
+-- a request on both sides of the seam
 abbrev across : Memory
 across =
     let a = put two 0xfe8 request in

@@ -4,7 +4,7 @@ ghost use Rattle.std.specs.Prelude.{◌≡◌, ◌+◌, ◌*◌, ◌<◌, ◌++�
 ghost use Rattle.vm_bitmaps.specs.Pages.{pages_of as page_count};
 ghost use Rattle.vm_memory_core.specs.Host.{cleared, shape};
 ghost use Rattle.fs_device.specs.Harvested.{block_pages, host_pages, harvested};
-ghost use Rattle.fs_device.specs.DeviceView.{page_of};
+ghost use Rattle.fs_device.specs.DeviceView.{page_view};
 
 use std::alloc::{AllocError, Global};
 use vm_memory_core::{HostMemory, PageBitmap};
@@ -28,7 +28,7 @@ fn copy_page(
     page: usize,
 ) -> Result<HarvestedPage, AllocError>
     requires { page * 4096 < length bytes.now }
-    ensures { IfOk result (λ p. page_of p ≡ record { block = block; offset = page * 4096; bytes = slice_range bytes.now (page * 4096) (page * 4096 + 4096) }) }
+    ensures { IfOk result (λ p. page_view p ≡ record { block = block; offset = page * 4096; bytes = slice_range bytes.now (page * 4096) (page * 4096 + 4096) }) }
 {
     let offset = page * PAGE_SIZE;
     let rest = &bytes[offset..];
@@ -50,7 +50,7 @@ fn harvest_block(
     pages: &mut Vec<HarvestedPage>,
 ) -> Result<(), AllocError>
     requires { length bitmap.now.marks ≡ page_count 4096 (length bytes.now) }
-    ensures { OnOk result (map page_of pages.new.items ≡ map page_of pages.old.items ++ block_pages block bytes.now 0 bitmap.now.marks) }
+    ensures { OnOk result (map page_view pages.new.items ≡ map page_view pages.old.items ++ block_pages block bytes.now 0 bitmap.now.marks) }
 {
     for page in 0..bitmap.len() {
         if bitmap.is_bit_set(page) {
@@ -62,7 +62,7 @@ fn harvest_block(
 
 // The marked pages of all blocks.
 fn gather(alloc: Global, host: &HostMemory<PageBitmap>) -> Result<Vec<HarvestedPage>, AllocError>
-    ensures { IfOk result (λ pages. map page_of pages.items ≡ harvested host.now) }
+    ensures { IfOk result (λ pages. map page_view pages.items ≡ harvested host.now) }
 {
     let mut pages = Vec::new(alloc);
     for block in 0..host.block_count() {
@@ -87,7 +87,7 @@ pub fn harvest(
     alloc: Global,
     host: &mut HostMemory<PageBitmap>,
 ) -> Result<Vec<HarvestedPage>, AllocError>
-    ensures pages { IfOk result (λ pages. map page_of pages.items ≡ harvested host.old) }
+    ensures pages { IfOk result (λ pages. map page_view pages.items ≡ harvested host.old) }
     ensures cleared { OnOk result (host.new ≡ cleared host.old) }
     ensures err { OnErr result (host.new ≡ host.old) }
     ensures shape { shape host.new ≡ shape host.old }

@@ -27,7 +27,7 @@ ghost use Rattle.fs_device.specs.Step.{Calls};
 ghost use Rattle.fs_device.specs.DeviceView.{exchange_of, ServesChain, AnswersRequest, server_state};
 
 // Whether memory was wanting.
-fn lacks_memory(error: Error) -> bool
+fn is_memory(error: Error) -> bool
     ensures { result ≡ is_memory error }
 {
     matches!(error, Error::OutOfMemory)
@@ -53,7 +53,7 @@ fn answer<F: FileSystem>(
             fault: None,
         }),
         Err(error) => {
-            if lacks_memory(error) {
+            if is_memory(error) {
                 return None;
             }
             Some(Reply {

@@ -18,6 +18,7 @@ pattern z = cast_unsigned w64 z
 abbrev pub host_uid : Stat → HostUid
 host_uid st = record { 0 = st.st_uid }
 
+-- the group of a file, as the host numbers it
 abbrev pub host_gid : Stat → HostGid
 host_gid st = record { 0 = st.st_gid }
 

@@ -138,7 +138,7 @@ impl Guest {
     }
 
     /// Makes a chain available, by its head: the next entry of the available ring, then its index.
-    pub fn offer(&mut self, head: u16) -> Result<(), GuestMemoryError> {
+    pub fn make_available(&mut self, head: u16) -> Result<(), GuestMemoryError> {
         let slot = u64::from(self.offered % self.ring.size.max(1));
         let at = self.ring.avail.wrapping_add(4 + 2 * slot);
         self.put(at, &head.to_le_bytes())?;
@@ -170,7 +170,7 @@ impl Guest {
             self.link(index, *addr, *len, WRITE, left)?;
             index = index.wrapping_add(1);
         }
-        self.offer(head)
+        self.make_available(head)
     }
 
     // An entry of a chain, after which `left` more come, each at the next index.

@@ -14,15 +14,19 @@ use Rattle.virtiofsd_fuse.specs.Serving.{Served, served, setting, started_bytes}
 abbrev pub nobody : Context
 nobody = record { uid = record { 0 = 0 }; gid = record { 0 = 0 }; pid = pos 0 }
 
+-- n zeros
 abbrev pub zeros : ℕ → List ℕ
 zeros n = replicate n 0
 
+-- two bytes, little-endian
 abbrev pub le16 : ℕ → List ℕ
 le16 n = to_le_bytes w16 n
 
+-- four bytes, little-endian
 abbrev pub le32 : ℕ → List ℕ
 le32 n = to_le_bytes w32 n
 
+-- eight bytes, little-endian
 abbrev pub le64 : ℕ → List ℕ
 le64 n = to_le_bytes w64 n
 

@@ -29,6 +29,7 @@ size_of u32 = 4
 size_of u64 = 8
 size_of (u32s n) = n * 4
 
+-- n numbers of four bytes each, from the front of some bytes
 unfoldable pub numbers : ℕ → List ℕ → List ℕ
 numbers zero bytes = []
 numbers (suc n) bytes = from_le_bytes w32 (take 4 bytes) ∷ numbers n (drop 4 bytes)

@@ -125,37 +125,6 @@ run_as C D old new first end h r = record {
   above = r.above;
 }
 
--- a run over all pages goes no further than the last
-pub run_to_end : (C : ℕ → Tally → Tally → Type 0) (old new : List Tally) (first end len : ℕ) → length old ≡ len → len ≤ end → ChangesRun C old new first end → ChangesRun C old new first len
-run_to_end C old new first end len long far r = record {
-  count = r.count;
-  inside = λ p a b c. r.inside p a (omega arith) c;
-  below = r.below;
-  above = λ p a. let k = r.count in at_past new p (omega arith) ∙ sym (at_past old p (omega arith));
-}
-
--- a run that ends at the last page goes on
-pub run_from_end : (C : ℕ → Tally → Tally → Type 0) (old new : List Tally) (first last end : ℕ)
-    → (last + 1 ≡ end) ⊎ ((length old ≤ last + 1) × (last < end))
-    → ChangesRun C old new first (last + 1) → ChangesRun C old new first end
-run_from_end C old new first last end h r = ⊎_elim
-    (λ (e : last + 1 ≡ end). subst (ChangesRun C old new first) e r)
-    (λ (e : (length old ≤ last + 1) × (last < end)). let e0 = e.0 in let e1 = e.1 in record {
-      count = r.count;
-      inside = λ p a b c. r.inside p a (omega arith) c;
-      below = r.below;
-      above = λ p a. r.above p (omega arith);
-    })
-    h
-
-pub run_past : (C : ℕ → Tally → Tally → Type 0) (l : List Tally) (first end : ℕ) → length l ≤ first → ChangesRun C l l first end
-run_past C l first end h = record {
-  count = refl;
-  inside = λ p a b c. absurd (omega arith);
-  below = λ p a. refl;
-  above = λ p a. refl;
-}
-
 -- the bits that a mask has are those that its complement has not
 picks_not : (w m p : ℕ) → m < 2 ^ 64 → picks w (bit_not w64 m) 0 p ≡ picks w m 1 p
 picks_not w m p h =

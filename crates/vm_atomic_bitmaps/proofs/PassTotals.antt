@@ -76,10 +76,6 @@ same_pages (t ∷ ts) (u ∷ us) e h =
     let more : ts ≡ us = same_pages ts us (omega arith) (λ p l. h (suc p) (omega arith)) in
     λ i. one i ∷ more i
 
-pub each_none : (f : ℕ → Tally → Tally) (l : List Tally) → length l ≡ 0 → each_tally f 0 l ≡ l
-each_none f [] e = refl
-each_none f (t ∷ ts) e = absurd (omega arith)
-
 pub each_same : (f g : ℕ → Tally → Tally) → ((p : ℕ) (t : Tally) → f p t ≡ g p t) → (k : ℕ) (l : List Tally) → each_tally f k l ≡ each_tally g k l
 each_same f g h k [] = refl
 each_same f g h k (t ∷ ts) = λ i. h k t i ∷ each_same f g h (suc k) ts i

@@ -241,33 +241,6 @@ same_tests r part from to a s e =
       ]
     ]
 
--- the part of a range between two addresses, from the greater start on
-pub part_at : (r part : IotlbRange) (from to a : ℕ) (rest : Option Mapping) → part.start ≡ max r.start from → part.end ≡ min r.end to → part.target ≡ r.target + (part.start - r.start) → part.perm ≡ r.perm →
-    (if has part a then Some (mapping_in part a) else rest) ≡ (if has r a && (nat_le from a && nat_lt a to) then Some (mapping_in r a) else rest)
-part_at r part from to a rest s e t p =
-    let tests : has part a ≡ (has r a && (nat_le from a && nat_lt a to)) = same_tests r part from to a s e in
-    elim (has part a) as (λ b. has part a ≡ b → (if b then Some (mapping_in part a) else rest) ≡ (if has r a && (nat_le from a && nat_lt a to) then Some (mapping_in r a) else rest)) [
-      | true ↦ λ test.
-          let both : (has r a && (nat_le from a && nat_lt a to)) ≡ true = sym tests ∙ test in
-          let low = has_from part a test in
-          rw both (some_same (mapping_in part a) (mapping_in r a) (omega (arith, low.0)) p)
-      | false ↦ λ test. let none : (has r a && (nat_le from a && nat_lt a to)) ≡ false = sym tests ∙ test in rw none refl
-    ] refl
-
--- a range without an address between two others
-pub part_none : (r : IotlbRange) (from to a : ℕ) → min r.end to ≤ max r.start from → (has r a && (nat_le from a && nat_lt a to)) ≡ false
-part_none r from to a h =
-    elim (cases_lt a r.start) [
-      | inl low ↦ off_before r from to a low
-      | inr high ↦ elim (cases_lt a from) [
-        | inl under ↦ off_from r from to a under
-        | inr over ↦ elim (cases_lt a r.end) [
-          | inl below ↦ off_to r from to a (omega arith)
-          | inr above ↦ off_after r from to a above
-        ]
-      ]
-    ]
-
 and_one : (b : Bool) → (b && true) ≡ b
 and_one true = refl
 and_one false = refl

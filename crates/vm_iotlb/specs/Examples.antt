@@ -5,9 +5,11 @@ use Rattle.vm_iotlb.specs.declared.iova.MappedRange.{MappedRange}
 use Rattle.vm_iotlb.specs.Table.{Table, nothing_mapped, mapped, unmapped}
 use Rattle.vm_iotlb.specs.Runs.{run_of, runs, pieces, missing, lacking, may_all}
 
+-- the table of these examples
 abbrev table : Table
 table = mapped 0x14 0x40 2 Read (mapped 0x10 0x80 8 ReadWrite nothing_mapped)
 
+-- n addresses from a target on
 abbrev piece : ℕ → ℕ → MappedRange
 piece a n = record { base = record { 0 = a }; length = n }
 

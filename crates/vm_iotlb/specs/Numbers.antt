@@ -5,6 +5,7 @@ use Rattle.vm_iotlb.specs.declared.iova.IovaRange.{IovaRange}
 use Rattle.vm_iotlb.specs.declared.error.IommuError.{IommuError}
 use Rattle.vm_iotlb.specs.declared.error.IommuError.TheVariants.{CannotResolve, Fragmented, IommuMisconfigured, OutOfMemory}
 
+-- the number of an error, for whoever stores it
 abbrev pub iommu_error_number : IommuError → ℕ
 iommu_error_number (CannotResolve range) = 1
 iommu_error_number Fragmented = 2

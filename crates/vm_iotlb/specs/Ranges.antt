@@ -28,6 +28,7 @@ GoesOnIn r s = (r.end ≡ s.start) × (r.target + (r.end - r.start) ≡ s.target
 abbrev pub Precedes : IotlbRange → IotlbRange → Type 0
 Precedes r s = (r.end ≤ s.start) × (GoesOnIn r s → ⊥)
 
+-- a range precedes the first of others, if there are any
 abbrev pub PrecedesAll : IotlbRange → List IotlbRange → Type 0
 PrecedesAll r [] = Unit {0}
 PrecedesAll r (s ∷ rest) = Precedes r s

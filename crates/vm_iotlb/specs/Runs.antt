@@ -18,10 +18,12 @@ abbrev pub lacks : Permissions → Option Mapping → Bool
 lacks access None = false
 lacks access (Some to) = not (allows to.perm access)
 
+-- whether an address has no mapping
 abbrev pub misses : Option Mapping → Bool
 misses None = true
 misses (Some to) = false
 
+-- what an address is mapped to; 0 where it has no mapping
 abbrev pub target_of : Option Mapping → ℕ
 target_of None = 0
 target_of (Some to) = to.target

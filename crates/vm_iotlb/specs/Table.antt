@@ -3,12 +3,14 @@ use Rattle.std.specs.Prelude.{◌≡◌, ℕ, ◌+◌, ◌-◌, Bool, true, fals
 use Rattle.vm_iotlb.specs.declared.permissions.Permissions.{Permissions}
 use Rattle.vm_iotlb.specs.declared.permissions.Permissions.TheVariants.{No, Read, Write, ReadWrite}
 
+-- whether a permission has reading
 abbrev pub can_read : Permissions → Bool
 can_read No = false
 can_read Read = true
 can_read Write = false
 can_read ReadWrite = true
 
+-- whether a permission has writing
 abbrev pub can_write : Permissions → Bool
 can_write No = false
 can_write Read = false
@@ -40,6 +42,7 @@ pub record Mapping : Type 0 where
 abbrev pub Table : Type 0
 Table = ℕ → Option Mapping
 
+-- the table without a mapping
 abbrev pub nothing_mapped : Table
 nothing_mapped = λ a. None
 

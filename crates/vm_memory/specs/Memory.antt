@@ -20,6 +20,7 @@ pub record Memory : Type 0 where
   pub io_pages : ℕ
   pub translates : Bool
 
+-- the table that a memory translates by
 abbrev pub table_of : Memory → Table
 table_of m = table_kept (unwrap_or (slice_get m.host.tables m.table) [])
 
@@ -61,6 +62,7 @@ number m w a = from_le_bytes w (bytes m a (byte_len w))
 abbrev pub marked_for : Memory → ℕ → Place → Host → Host
 marked_for m a p h = if m.translates then with_io_mark h m.io_pages a else with_block_mark h p
 
+-- one byte is stored at an address that has this place, if any, and marks the page of it
 abbrev pub stored_at : Memory → ℕ → ℕ → Option Place → Memory
 stored_at m a b None = m
 stored_at m a b (Some p) = record m { host = marked_for m a p (with_byte m.host p b) }

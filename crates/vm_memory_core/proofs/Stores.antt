@@ -100,10 +100,6 @@ lengths-changed_at [] i f e = refl
 lengths-changed_at (x ∷ l) zero f e = ap (λ n. n ∷ map (λ (k : Block). length k.bytes) l) (e x)
 lengths-changed_at (x ∷ l) (suc i) f e = ap (λ (r : List ℕ). length x.bytes ∷ r) (lengths-changed_at l i f e)
 
--- one shape has one list of lengths
-pub lengths-shape : (new old : Host) → shape new ≡ shape old → lengths new ≡ lengths old
-lengths-shape new old e = ap (λ (s : Shape). s.block_lengths) e
-
 -- blocks of the same lengths leave the shape as it was
 shape-blocks : (h : Host) (l : List Block) → map (λ (k : Block). length k.bytes) l ≡ lengths h → shape (with_blocks h l) ≡ shape h
 shape-blocks h l e = ap (λ (n : List ℕ). let s : Shape = record (shape h) { block_lengths = n } in s) e

@@ -80,7 +80,9 @@ pub then_is : (before : List ℕ) (fs : List Field) → then_fields before fs �
 then_is before [] = sym (append-nil before)
 then_is before (f ∷ fs) = then_is (before ++ field_bytes f) fs ∙ append_assoc before (field_bytes f) (spelled fs) ∙ ap (λ s. before ++ s) (sym (then_is (field_bytes f) fs))
 
-numbers_once : (v : Width) (xs ys : List ℕ) → length xs ≡ length ys → ((k : ℕ) → k < length xs → slice_index xs k < 2 ^ bits v) → ((k : ℕ) → k < length ys → slice_index ys k < 2 ^ bits v) → flat_map (to_le_bytes v) xs ≡ flat_map (to_le_bytes v) ys → xs ≡ ys
+numbers_once : (v : Width) (xs ys : List ℕ) → length xs ≡ length ys →
+    ((k : ℕ) → k < length xs → slice_index xs k < 2 ^ bits v) → ((k : ℕ) → k < length ys → slice_index ys k < 2 ^ bits v) →
+    flat_map (to_le_bytes v) xs ≡ flat_map (to_le_bytes v) ys → xs ≡ ys
 numbers_once v [] [] l f g e = refl
 numbers_once v [] (y ∷ ys) l f g e = absurd (omega (arith, l))
 numbers_once v (x ∷ xs) [] l f g e = absurd (omega (arith, l))

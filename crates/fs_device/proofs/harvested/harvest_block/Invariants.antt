@@ -1,9 +1,9 @@
 use Rattle.std.proofs.Common.{◌≡◌, ◌++◌, map, drop}
 use Rattle.fs_device.specs.Harvested.{block_pages}
-use Rattle.fs_device.specs.DeviceView.{page_of}
+use Rattle.fs_device.specs.DeviceView.{page_view}
 use Rattle.fs_device.proofs.harvested.harvest_block.Given as goal
 
 abbrev pub invariant-loop-page : goal.invariant-loop-page
 invariant-loop-page l =
-    map page_of l.pages.items ++ block_pages l.block l.bytes l.page (drop l.page l.bitmap.marks)
-    ≡ map page_of l.initial.pages.items ++ block_pages l.block l.bytes 0 l.bitmap.marks
+    map page_view l.pages.items ++ block_pages l.block l.bytes l.page (drop l.page l.bitmap.marks)
+    ≡ map page_view l.initial.pages.items ++ block_pages l.block l.bytes 0 l.bitmap.marks
