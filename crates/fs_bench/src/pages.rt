@@ -223,7 +223,9 @@ fn lists_of(alloc: Global, threads: usize) -> Result<Vec<Vec<ByteRange>>, AllocE
             ranges = Vec::new(alloc);
         }
     }
-    lists.push(ranges)?;
+    if threads != 4 {
+        lists.push(ranges)?;
+    }
     Ok(lists)
 }
 

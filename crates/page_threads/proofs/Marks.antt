@@ -23,6 +23,14 @@ or_true : (a : Bool) → a || true ≡ true
 or_true true = refl
 or_true false = refl
 
+-- one range
+pub marking_of : (v : PageCounts) (hit : ℕ → Bool) (old new : List Tally) → Changes (ByMark v) hit old new → Marking hit old new
+marking_of v hit old new c = record { count = c.count; off = off; marked = λ p within. by_hit p within (hit p) refl }
+  where
+    by_hit : (p : ℕ) → p < length old → (b : Bool) → hit p ≡ b → (tally_of new p).marked ≡ (tally_of old p).marked || hit p
+    by_hit p within true e = ap (λ (t : Tally). t.marked) (c.changed p within e).3 ∙ sym (ap (λ (b : Bool). (tally_of old p).marked || b) e ∙ or_true (tally_of old p).marked)
+    by_hit p within false e = ap (λ (t : Tally). t.marked) (c.same p e) ∙ sym (ap (λ (b : Bool). (tally_of old p).marked || b) e ∙ or_false (tally_of old p).marked)
+
     off_by : (p : ℕ) → p < length old → (b : Bool) → hit p ≡ b → (tally_of new p).off ≡ (tally_of old p).off
     off_by p within true e = ap (λ (t : Tally). t.off) (c.changed p within e).3
     off_by p within false e = ap (λ (t : Tally). t.off) (c.same p e)
@@ -38,6 +46,25 @@ pub record Left (rest whole : ℕ → Bool) (old cur : List Tally) : Type 0 wher
   pub count : length cur ≡ length old
   pub off : (p : ℕ) → (tally_of cur p).off ≡ (tally_of old p).off
   pub marked : (p : ℕ) → p < length old → (tally_of cur p).marked || rest p ≡ (tally_of old p).marked || whole p
+
+pub left_at_first : (whole : ℕ → Bool) (l : List Tally) → Left whole whole l l
+left_at_first whole l = record { count = refl; off = λ p. refl; marked = λ p h. refl }
+
+pub left_more : (rest hit rest' whole : ℕ → Bool) (old cur new : List Tally) → Left rest whole old cur → ((p : ℕ) → rest p ≡ hit p || rest' p) → Marking hit cur new → Left rest' whole old new
+left_more rest hit rest' whole old cur new l split m = record {
+  count = m.count ∙ l.count;
+  off = λ p. m.off p ∙ l.off p;
+  marked = λ p within. let k = l.count in
+      ap (λ (b : Bool). b || rest' p) (m.marked p (omega arith)) ∙ or_assoc (tally_of cur p).marked (hit p) (rest' p)
+      ∙ sym (ap (λ (b : Bool). (tally_of cur p).marked || b) (split p)) ∙ l.marked p within;
+}
+
+pub left_at_last : (rest whole : ℕ → Bool) (old cur : List Tally) → ((p : ℕ) → rest p ≡ false) → Left rest whole old cur → Marking whole old cur
+left_at_last rest whole old cur none l = record {
+  count = l.count;
+  off = l.off;
+  marked = λ p within. sym (ap (λ (b : Bool). (tally_of cur p).marked || b) (none p) ∙ or_false (tally_of cur p).marked) ∙ l.marked p within;
+}
 
 pub in_lists-append : {A : Type 0} → (size len : ℕ) (xs ys : List (Vec ByteRange A)) (p : ℕ) → is_in_lists size len (xs ++ ys) p ≡ is_in_lists size len xs p || is_in_lists size len ys p
 in_lists-append size len [] ys p = refl

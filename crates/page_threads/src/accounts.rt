@@ -66,6 +66,7 @@ fn mark_beside<R: Threads + Sync>(
     ensures room { length result.1.1.items ≡ div_ceil bitmap.now.len 64 }
     ensures taken { HaveTaken result.1.0.counts.pages result.1.1.items }
     ensures rounds { 0 < rounds → IsTakenTo result.1.0.counts.pages bitmap.now.len }
+    ensures none { rounds ≡ 0 → result.1.1.items ≡ words.items }
 {
     join(
         rt,
@@ -78,6 +79,7 @@ fn mark_beside<R: Threads + Sync>(
 
 // Takes both halves together and closes the bitmap.
 fn settle(
+    alloc: Global,
     bitmap: AtomicBitmap,
     mut first: BitmapPass,
     second: BitmapPass,
@@ -89,14 +91,14 @@ fn settle(
     ensures pages { IfOk result (λ left. (p : ℕ) → p < bitmap.len → Settles (both_of (tally_of first.counts.pages p) (tally_of second.counts.pages p)) (page_bit left.items p)) }
 {
     bitmap.join_pass(&mut first, second);
-    match bitmap.close(first) {
+    match bitmap.close(alloc, first) {
         Ok(left) => Ok(left),
         Err(_) => Err(AllocError),
     }
 }
 
 /// Each list's ranges are marked by a thread of its own, while one more gathers each word as often as there are rounds. The
-/// pages that were gathered and those that are left are then just those that the lists have.
+/// pages that were gathered and those that are left are then just those that the lists have; without a round none was gathered.
 pub fn mark_and_gather<R: Threads + Sync>(
     rt: &R,
     alloc: Global,
@@ -106,6 +108,7 @@ pub fn mark_and_gather<R: Threads + Sync>(
     rounds: usize,
 ) -> Result<Account, AllocError>
     ensures gathered { IfOk result (λ r. AreWordsOf (pages_of (non_zero_usize_get page_size) byte_size) r.gathered.items) }
+    ensures none { rounds ≡ 0 → IfOk result (λ r. (p : ℕ) → page_bit r.gathered.items p ≡ 0) }
     ensures left { IfOk result (λ r. AreWordsOf (pages_of (non_zero_usize_get page_size) byte_size) r.left.items) }
     ensures pages { IfOk result (λ r. NeitherLostNorInvented (non_zero_usize_get page_size) (pages_of (non_zero_usize_get page_size) byte_size) lists.now r.gathered.items r.left.items) }
 {
@@ -114,6 +117,6 @@ pub fn mark_and_gather<R: Threads + Sync>(
     let (marker, (gatherer, gathered)) = mark_beside(
         rt, &bitmap, marker, lists, gatherer, words, rounds,
     );
-    let left = settle(bitmap, marker, gatherer)?;
+    let left = settle(alloc, bitmap, marker, gatherer)?;
     Ok(Account { gathered, left })
 }

@@ -54,6 +54,7 @@ fn gather_rounds(bitmap: &AtomicBitmap, pass: &mut BitmapPass, words: &mut [u64]
     ensures room { length words.new ≡ length words.old }
     ensures taken { HaveTaken pass.new.counts.pages words.new }
     ensures rounds { 0 < rounds → IsTakenTo pass.new.counts.pages bitmap.now.len }
+    ensures none { rounds ≡ 0 → words.new ≡ words.old }
 {
     let mut round = 0;
     while round < rounds {
@@ -78,6 +79,7 @@ pub fn gather_into(
     ensures room { length result.1.items ≡ div_ceil bitmap.now.len 64 }
     ensures taken { HaveTaken result.0.counts.pages result.1.items }
     ensures rounds { 0 < rounds → IsTakenTo result.0.counts.pages bitmap.now.len }
+    ensures none { rounds ≡ 0 → result.1.items ≡ words.items }
 {
     gather_rounds(bitmap, &mut pass, &mut words, rounds);
     (pass, words)

@@ -84,7 +84,7 @@ fn words_after(
     let (bitmap, mut pass) = shared(rt, 8960)?;
     apply(&bitmap, &mut pass, first);
     apply(&bitmap, &mut pass, second);
-    match left(bitmap, pass)?.as_slice() {
+    match left(rt.alloc(), bitmap, pass)?.as_slice() {
         [low, high] => Ok(Some((*low, *high))),
         _ => Ok(None),
     }
@@ -123,7 +123,7 @@ fn a_bitmap_of_no_pages_has_passes(rt: HostRuntime) -> Result<(), Fail> {
     bitmap.set_bit(&mut second, 0);
     assert!(rt; bitmap.meet_pass(&mut first, &mut second));
     bitmap.join_pass(&mut first, second);
-    assert_eq!(rt; left(bitmap, first)?.len(), 0);
+    assert_eq!(rt; left(rt.alloc(), bitmap, first)?.len(), 0);
     Ok(())
 }
 
@@ -151,6 +151,6 @@ fn pages_of_4096_bytes_are_found_without_a_division(rt: HostRuntime) -> Result<(
         return Err("no memory".into());
     };
     bitmap.set_addr_range(&mut pass, 0x1fff, 2);
-    assert_eq!(rt; left(bitmap, pass)?.as_slice(), [6].as_slice());
+    assert_eq!(rt; left(rt.alloc(), bitmap, pass)?.as_slice(), [6].as_slice());
     Ok(())
 }

@@ -4,6 +4,7 @@ ghost use Rattle.std.specs.Prelude.{◌≡◌, ◌<◌, IfOk};
 ghost use Rattle.std.specs.Int.{div_ceil};
 ghost use Rattle.vm_atomic_bitmaps.specs.Passes.{IsPassOf};
 
+use std::alloc::Global;
 use std::num::NonZeroUsize;
 use std::test::Fail;
 use vm_atomic_bitmaps::{AtomicBitmap, BitmapPass};
@@ -45,10 +46,10 @@ pub fn read(bitmap: &AtomicBitmap, pass: &mut BitmapPass, word: usize) -> Option
 }
 
 // The words that are left at the end.
-pub fn left(bitmap: AtomicBitmap, pass: BitmapPass) -> Result<Vec<u64>, Fail>
+pub fn left(alloc: Global, bitmap: AtomicBitmap, pass: BitmapPass) -> Result<Vec<u64>, Fail>
     requires { IsPassOf bitmap pass }
 {
-    match bitmap.close(pass) {
+    match bitmap.close(alloc, pass) {
         Ok(words) => Ok(words),
         Err(_) => Err("no memory".into()),
     }

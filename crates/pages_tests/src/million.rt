@@ -79,3 +79,11 @@ fn many_markers_mark_pages_of_their_own(rt: HostRuntime) -> Result<(), Fail> {
     assert_eq!(rt; run(&rt, alloc, 1000, &lists, 100)?.0, 630);
     Ok(())
 }
+
+#[test]
+fn without_a_round_nothing_is_gathered(rt: HostRuntime) -> Result<(), Fail> {
+    let alloc = rt.alloc();
+    let lists = vec![in alloc; vec![in alloc; ByteRange { start: 3, len: 70 }]?]?;
+    assert_eq!(rt; run(&rt, alloc, 1000, &lists, 0)?, (70, 0));
+    Ok(())
+}

@@ -41,8 +41,8 @@ fn shared_alike(rt: &HostRuntime) -> Result<Marked, Fail> {
         bitmap.is_addr_set(&mut pass, 256),
         bitmap.is_addr_set(&mut pass, 384),
     ];
-    let first = only(bitmap.get_and_reset(&mut pass)?);
-    let second = only(bitmap.get_and_reset(&mut pass)?);
+    let first = only(bitmap.get_and_reset(rt.alloc(), &mut pass)?);
+    let second = only(bitmap.get_and_reset(rt.alloc(), &mut pass)?);
     Ok((marked, first, second))
 }
 
@@ -63,7 +63,13 @@ fn passes(rt: &HostRuntime) -> Result<Passes, Fail> {
     bitmap.set_bit(&mut second, 1);
     let again = gathered(&bitmap, &mut first, 0);
     bitmap.join_pass(&mut first, second);
-    Ok((range, once, told, again, only(left(bitmap, first)?)))
+    Ok((
+        range,
+        once,
+        told,
+        again,
+        only(left(rt.alloc(), bitmap, first)?),
+    ))
 }
 
 // How many pages 8193 bytes take, and whether a slice counts from its offset.

@@ -28,7 +28,6 @@ pub struct AtomicBitmap {
     pub(crate) page_size: usize,
     byte_size: usize,
     pub(crate) len: usize,
-    pub(crate) alloc: Global,
     table: Table<(), PageCounts, usize, PageRule, Global>,
 }
 
@@ -87,7 +86,6 @@ impl AtomicBitmap {
             page_size,
             byte_size,
             len,
-            alloc,
             table,
         };
         Ok((bitmap, BitmapPass { seat }))
@@ -209,7 +207,11 @@ impl AtomicBitmap {
     }
 
     /// Ends the sharing, and answers the words. Where there is no memory the bitmap and the pass come back.
-    pub fn close(self, pass: BitmapPass) -> Result<Vec<u64>, (AtomicBitmap, BitmapPass)>
+    pub fn close(
+        self,
+        alloc: Global,
+        pass: BitmapPass,
+    ) -> Result<Vec<u64>, (AtomicBitmap, BitmapPass)>
         requires { IsPassOf self pass }
         ensures err { IfErr result (λ r. (r.0 ≡ self) × (r.1 ≡ pass)) }
         ensures count { IfOk result (λ words. vec_len words ≡ div_ceil self.len 64) }
@@ -218,7 +220,7 @@ impl AtomicBitmap {
         ensures whole { IfOk result (λ words. SettlesAll pass.counts words.items) }
     {
         let count = self.words();
-        let Ok(mut words) = zeros(self.alloc, count) else {
+        let Ok(mut words) = zeros(alloc, count) else {
             return Err((self, pass));
         };
         let AtomicBitmap { table, .. } = self;

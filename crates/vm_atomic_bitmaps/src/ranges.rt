@@ -8,7 +8,7 @@ ghost use Rattle.vm_atomic_bitmaps.specs.Passes.{IsPassOf, counting, ByMark, ByC
 
 use crate::atomic_bitmap::AtomicBitmap;
 use crate::bitmap_pass::BitmapPass;
-use std::alloc::AllocError;
+use std::alloc::{AllocError, Global};
 use vm_bitmaps::page_bitmap::{last_page, page_of};
 use vm_bitmaps::page_words::mask;
 
@@ -220,7 +220,11 @@ impl AtomicBitmap {
     }
 
     /// Takes all marks, in one step for each word. Where there is no memory nothing is taken.
-    pub fn get_and_reset(&self, pass: &mut BitmapPass) -> Result<Vec<u64>, AllocError>
+    pub fn get_and_reset(
+        &self,
+        alloc: Global,
+        pass: &mut BitmapPass,
+    ) -> Result<Vec<u64>, AllocError>
         requires { IsPassOf self.now pass.old }
         ensures err { OnErr result (pass.new ≡ pass.old) }
         ensures pass { pass.new ≡ counting pass.old pass.new.counts.pages }
@@ -230,7 +234,7 @@ impl AtomicBitmap {
         ensures whole { IfOk result (λ words. SettlesAll pass.old.counts words.items) }
         ensures own { IsPassOf self.now pass.new }
     {
-        let mut words = vec![in self.alloc; 0; self.words()]?;
+        let mut words = vec![in alloc; 0; self.words()]?;
         self.take_all(pass, &mut words);
         Ok(words)
     }

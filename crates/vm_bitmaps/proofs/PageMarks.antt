@@ -76,7 +76,7 @@ get_or-zeros k i = elim (cases_lt i k) [
   | inr g ↦ get_or_past (replicate k 0) i 0 (omega (arith, length-replicate {A = ℕ} k 0))
 ]
 
-page_bit-zeros : (k p : ℕ) → page_bit (replicate k 0) p ≡ 0
+pub page_bit-zeros : (k p : ℕ) → page_bit (replicate k 0) p ≡ 0
 unfolding page_bit
 page_bit-zeros k p = ap (λ w. bit_at w (p % 64)) (get_or-zeros k (p / 64)) ∙ bit_at-zero (p % 64)
 

@@ -6,6 +6,6 @@ pub returns-in-Ok-clause-some : goal.returns-in-Ok-clause-some
 returns-in-Ok-clause-some g c =
     rw c.into_written.ensures (replied_ok g.F.FileSystem.may _ _ _ _ _ _ _ _ _ (rw (c.new.ensures, c.new-writer.ensures.free) at c.in-Ok.ensures.handles))
 
-pub returns-else-lacks_memory-clause-some : goal.returns-else-lacks_memory-clause-some
-returns-else-lacks_memory-clause-some g c =
-    rw c.new-in-Err.ensures.items (replied_err g.F.FileSystem.may _ _ _ _ _ _ _ _ _ (sym c.lacks_memory.ensures ∙ c.if-lacks_memory.false) (rw (c.new.ensures, c.new-writer.ensures.free) at c.in-Err.ensures.handles))
+pub returns-else-is_memory-clause-some : goal.returns-else-is_memory-clause-some
+returns-else-is_memory-clause-some g c =
+    rw c.new-in-Err.ensures.items (replied_err g.F.FileSystem.may _ _ _ _ _ _ _ _ _ (sym c.is_memory.ensures ∙ c.if-is_memory.false) (rw (c.new.ensures, c.new-writer.ensures.free) at c.in-Err.ensures.handles))

@@ -1,7 +1,8 @@
-use Rattle.std.proofs.Common.{ℕ, ◌<◌, ap, ◌∙◌, arith}
+use Rattle.std.proofs.Common.{ℕ, List, ◌<◌, ap, ◌∙◌, arith}
 use Rattle.std.specs.Int.{div_ceil}
 use Rattle.std.specs.NonZero.{non_zero_usize_get}
-use Rattle.vm_bitmaps.specs.Words.{bit_of}
+use Rattle.vm_bitmaps.specs.Words.{bit_of, page_bit}
+use Rattle.vm_bitmaps.proofs.PageMarks.{page_bit-zeros}
 use Rattle.page_threads.specs.Threads.{is_in_lists}
 use Rattle.page_threads.proofs.Taken.{accounted, none_gathered, none_taken_past}
 use Rattle.page_threads.proofs.accounts.mark_and_gather.Goals as goal
@@ -23,6 +24,10 @@ returns-clause-pages g c p l =
     accounted (is_in_lists b.page_size b.len lists) c.in_ok-bitmap.marker.counts.pages _ c.in_ok-bitmap.gatherer.counts.pages _ c.mark_beside-marker.result.1.1.items c.in_ok-left.left.items p
     (omega arith) (omega arith) made.second.2 made.first.2 done.marked done.gathered done.taken (c.in_ok-left.ensures.pages p within)
     ∙ ap (λ (k : ℕ). bit_of (is_in_lists k b.len lists p)) made.size ∙ ap (λ (k : ℕ). bit_of (is_in_lists (non_zero_usize_get c.args.page_size) k lists p)) len
+
+pub returns-clause-none : goal.returns-clause-none
+returns-clause-none g c still p =
+    ap (λ (words : List ℕ). page_bit words p) (c.mark_beside-marker.ensures.none still ∙ c.in_ok-words.ensures) ∙ page_bit-zeros c.words.result p
 
 pub returns-clause-gathered : goal.returns-clause-gathered
 returns-clause-gathered g c =
