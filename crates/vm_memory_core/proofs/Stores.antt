@@ -3,7 +3,7 @@ use Rattle.std.proofs.Common.{◌≡◌, ℕ, ◌+◌, ◌-◌, ◌/◌, ◌^◌
 use Rattle.std.specs.Prelude.{slice_get, unwrap_or}
 use Rattle.std.specs.Option.{option_and_then}
 use Rattle.std.specs.List.{zip}
-use Rattle.std.proofs.lemmas.List.{drop_more, get_or-map, get_or-append_right, get_or_append_left, length-map, length-take-le, set-append_left, set-append_right}
+use Rattle.std.proofs.lemmas.List.{drop_more, get_or-map, get_or-append_right, get_or_append_left, length-map, length-take-le, set-append_left, set-append_right, take-append-drop}
 use Rattle.std.proofs.lemmas.Option.{slice_get-get_or}
 use Rattle.std.proofs.lemmas.Bool.{lt-ltb, cond-true}
 use Rattle.std.proofs.lemmas.List.Edits.{sets, sets-eq}
@@ -129,6 +129,13 @@ within_block h w k has at =
     let bytes : length k.bytes ≡ length (get_or blocks w.block k).bytes = ap len at in
     (inside, omega (arith, has.1))
 
+-- the same, where block, offset and length were asked of the window
+pub room_at : (h : Host) (w : Window) (k : Block) (b o n : ℕ) → b ≡ w.block → o ≡ w.offset → n ≡ w.len → LiesIn (lengths h) w → k ≡ get_or h.blocks b k →
+    o + n ≤ length k.bytes
+room_at h w k b o n be oe ne has here =
+    let room = within_block h w k has (here ∙ ap (λ i. get_or h.blocks i k) be) in
+    omega (arith, room.1)
+
 -- what a store to one block leaves, as the code leaves it
 pub stored : (h inside : Host) (w : Window) (xs : List ℕ) (old new : Block) →
     inside ≡ h → LiesIn (lengths h) w → length xs ≤ w.len → w.offset + length xs < 2 ^ 64 → old ≡ get_or inside.blocks w.block old →
@@ -236,6 +243,10 @@ set_stored h inside w xs old new same has le at e =
     (ap (λ (c : Block). set h.blocks w.block c) (new-is ∙ ap (set_in w.offset xs) here)
     ∙ sym (changed_at-set h.blocks w.block (set_in w.offset xs) old))
     ∙ sym (set_all-span xs h w.block w.offset (length xs) (omega arith))
+
+-- blocks cut in two
+pub seam_of : (l low high : List Block) (d : ℕ) → low ≡ take d l → high ≡ drop d l → l ≡ low ++ high
+seam_of l low high d front back = sym (take-append-drop d l) ∙ ap (λ (m : List Block). m ++ drop d l) (sym front) ∙ ap (λ (m : List Block). low ++ m) (sym back)
 
 -- the blocks on both sides of a seam
 pub set-back : (l low high : List Block) (d : ℕ) (x : Block) → l ≡ low ++ high → length low ≡ d → low ++ set high 0 x ≡ set l d x
