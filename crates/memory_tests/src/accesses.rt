@@ -1,6 +1,5 @@
 //! Bytes of a window by offset.
 
-
 use crate::given::{Host, eight, expect_eight, expect_same};
 use std::process::Abort;
 use vm_memory_core::VolatileMemoryError::{self, OutOfBounds, PartialBuffer};

@@ -12,7 +12,7 @@ returns-clause-cleared c =
     (ap f c.reset.ensures ∙ ap g (clear-is c.bitmap.inside.bitmap.marks _ (sym c.len-pages.ensures.pages ∙ c.len-pages.ensures.marks)) ∙ ap unmarked c.bitmap.view_is)
 
 pub returns-then-block-len-clause-cleared : goal.returns-then-block-len-clause-cleared
-returns-then-block-len-clause-cleared c = 
+returns-then-block-len-clause-cleared c =
     sym (ap (with_blocks c.args.self.now) (changed_at-past c.args.self.now.blocks c.args.block unmarked (rw (← c.self.view_is) (omega arith))))
 
 pub returns-clause-shape : goal.returns-clause-shape
