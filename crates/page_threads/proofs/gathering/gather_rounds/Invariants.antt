@@ -10,7 +10,7 @@ invariant-loop-round l = record {
   pass : l.pass ≡ counting l.initial.pass l.pass.counts.pages;
   pages : Gathering l.initial.pass.counts.pages l.pass.counts.pages;
   taken : HaveTaken l.pass.counts.pages l.words;
-  none : l.round ≡ 0 → l.words ≡ l.initial.words;
+  none : l.rounds ≡ 0 → l.words ≡ l.initial.words;
   rounds : 0 < l.round → IsTakenTo l.pass.counts.pages l.bitmap.len;
 }
 
