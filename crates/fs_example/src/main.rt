@@ -16,7 +16,7 @@ const WORKERS: usize = 4;
 
 const STRIDE: usize = 0x100000;
 
-const WRITE: usize = 0x800;
+const RANGE_LEN: usize = 0x800;
 
 // How often the gatherer goes over all words.
 const ROUNDS: usize = 200;
@@ -24,11 +24,14 @@ const ROUNDS: usize = 200;
 // What a worker writes, 2 KiB at a time.
 fn writes(alloc: Global, worker: usize) -> Result<Vec<ByteRange>, AllocError> {
     let mut ranges = Vec::new(alloc);
-    for k in 0..2 * STRIDE / WRITE {
+    for k in 0..2 * STRIDE / RANGE_LEN {
         let start = worker
             .wrapping_mul(STRIDE)
-            .wrapping_add(k.wrapping_mul(WRITE));
-        ranges.push(ByteRange { start, len: WRITE })?;
+            .wrapping_add(k.wrapping_mul(RANGE_LEN));
+        ranges.push(ByteRange {
+            start,
+            len: RANGE_LEN,
+        })?;
     }
     Ok(ranges)
 }

@@ -7,7 +7,7 @@ use Rattle.std.proofs.lemmas.Grind.{flat_map-append}
 use Rattle.std.proofs.Math.Seq.{take-append-add, drop-append-add, take-nil}
 use Rattle.std.specs.Borrow.{Bor}
 use Rattle.fuse_fs.specs.Lengths.{filled, past, up_to}
-use Rattle.fuse_segments.specs.Segments.{joined, all_of, lengths}
+use Rattle.fuse_segments.specs.Segments.{joined, all_of, segment_lengths}
 use Rattle.fuse_fs.proofs.Lengths.{sum-cons, sum-filled, filled-append, up_to_zero, up_to_goes, past_goes, past_zero, past_first, past_behind, up_to_first, up_to_behind}
 
 -- one segment more
@@ -66,32 +66,32 @@ too_much xs ys i total top d e l t big =
     ⊎_elim (λ (k : total + length (get_or xs i d).now < top). absurd (big k)) (λ (k : top ≤ total + length (get_or xs i d).now). omega (arith, k, t, some, all)) (cases_lt (total + length (get_or xs i d).now) top)
 
 -- the lengths of segments are as many bytes as they have
-sum-lengths : (segments : List (Bor (List ℕ))) → sum (lengths segments) ≡ length (joined segments)
+sum-lengths : (segments : List (Bor (List ℕ))) → sum (segment_lengths segments) ≡ length (joined segments)
 sum-lengths [] = refl
-sum-lengths (s ∷ ss) = omega (arith, sum-cons (length s.now) (lengths ss), sum-lengths ss, length-append s.now (joined ss))
+sum-lengths (s ∷ ss) = omega (arith, sum-cons (length s.now) (segment_lengths ss), sum-lengths ss, length-append s.now (joined ss))
 
-pub sum_all : (segment : List ℕ) (later : List (Bor (List ℕ))) → sum (filled (length segment ∷ lengths later)) ≡ length (all_of segment later)
+pub sum_all : (segment : List ℕ) (later : List (Bor (List ℕ))) → sum (filled (length segment ∷ segment_lengths later)) ≡ length (all_of segment later)
 sum_all segment later =
-    omega (arith, sum-filled (length segment ∷ lengths later), sum-cons (length segment) (lengths later), sum-lengths later, length-append segment (joined later))
+    omega (arith, sum-filled (length segment ∷ segment_lengths later), sum-cons (length segment) (segment_lengths later), sum-lengths later, length-append segment (joined later))
 
 -- the lengths that were taken off the queue, and those that are left on it
-pub before_more : (front after queue popped : List (Bor (List ℕ))) (cut segment : Bor (List ℕ)) (part n : ℕ) (whole : List ℕ) → after ≡ front ++ cut ∷ [] → length cut.now ≡ n → n ≡ min part (length segment.now) → 0 < part → queue ≡ segment ∷ popped → filled (lengths front) ++ up_to part (filled (lengths queue)) ≡ whole → filled (lengths after) ++ up_to (part - n) (filled (lengths popped)) ≡ whole
+pub before_more : (front after queue popped : List (Bor (List ℕ))) (cut segment : Bor (List ℕ)) (part n : ℕ) (whole : List ℕ) → after ≡ front ++ cut ∷ [] → length cut.now ≡ n → n ≡ min part (length segment.now) → 0 < part → queue ≡ segment ∷ popped → filled (segment_lengths front) ++ up_to part (filled (segment_lengths queue)) ≡ whole → filled (lengths after) ++ up_to (part - n) (filled (segment_lengths popped)) ≡ whole
 before_more front after queue popped cut segment part n whole a l m some q w =
-    let behind = up_to (part - n) (filled (lengths popped)) in
-    ap (λ s. filled (lengths s) ++ behind) a
+    let behind = up_to (part - n) (filled (segment_lengths popped)) in
+    ap (λ s. filled (segment_lengths s) ++ behind) a
     ∙ ap (λ s. filled s ++ behind) (map-append (λ (s : Bor (List ℕ)). length s.now) front (cut ∷ []))
-    ∙ ap (λ s. s ++ behind) (filled-append (lengths front) (length cut.now ∷ []))
-    ∙ append_assoc (filled (lengths front)) (filled (length cut.now ∷ [])) behind
-    ∙ ap (λ k. filled (lengths front) ++ (filled (k ∷ []) ++ behind)) l
-    ∙ ap (λ s. filled (lengths front) ++ s) (sym (up_to_goes part (length segment.now) n (lengths popped) some m))
-    ∙ ap (λ (s : List (Bor (List ℕ))). filled (lengths front) ++ up_to part (filled (lengths s))) (sym q)
+    ∙ ap (λ s. s ++ behind) (filled-append (segment_lengths front) (length cut.now ∷ []))
+    ∙ append_assoc (filled (segment_lengths front)) (filled (length cut.now ∷ [])) behind
+    ∙ ap (λ k. filled (segment_lengths front) ++ (filled (k ∷ []) ++ behind)) l
+    ∙ ap (λ s. filled (segment_lengths front) ++ s) (sym (up_to_goes part (length segment.now) n (segment_lengths popped) some m))
+    ∙ ap (λ (s : List (Bor (List ℕ))). filled (segment_lengths front) ++ up_to part (filled (segment_lengths s))) (sym q)
     ∙ w
 
-pub behind_more : (queue popped : List (Bor (List ℕ))) (segment : Bor (List ℕ)) (rest tail : List ℕ) (part n : ℕ) (whole : List ℕ) → length tail ≡ length segment.now - n → n ≡ min part (length segment.now) → queue ≡ segment ∷ popped → rest ≡ [] → past part (filled (length rest ∷ lengths queue)) ≡ whole → past (part - n) (filled (length tail ∷ lengths popped)) ≡ whole
+pub behind_more : (queue popped : List (Bor (List ℕ))) (segment : Bor (List ℕ)) (rest tail : List ℕ) (part n : ℕ) (whole : List ℕ) → length tail ≡ length segment.now - n → n ≡ min part (length segment.now) → queue ≡ segment ∷ popped → rest ≡ [] → past part (filled (length rest ∷ segment_lengths queue)) ≡ whole → past (part - n) (filled (length tail ∷ segment_lengths popped)) ≡ whole
 behind_more queue popped segment rest tail part n whole l m q r w =
-    ap (λ k. past (part - n) (filled (k ∷ lengths popped))) l ∙ past_goes part (length segment.now) n (lengths popped) m
-    ∙ ap (λ (s : List (Bor (List ℕ))). past part (filled (lengths s))) (sym q)
-    ∙ ap (λ (s : List ℕ). past part (filled (length s ∷ lengths queue))) (sym r) ∙ w
+    ap (λ k. past (part - n) (filled (k ∷ segment_lengths popped))) l ∙ past_goes part (length segment.now) n (segment_lengths popped) m
+    ∙ ap (λ (s : List (Bor (List ℕ))). past part (filled (segment_lengths s))) (sym q)
+    ∙ ap (λ (s : List ℕ). past part (filled (length s ∷ segment_lengths queue))) (sym r) ∙ w
 
 pub before_ends : (front behind whole : List ℕ) (part : ℕ) → part ≡ 0 → front ++ up_to part behind ≡ whole → front ≡ whole
 before_ends front behind whole part z w =
@@ -101,24 +101,24 @@ pub behind_ends : (ns whole : List ℕ) (part : ℕ) → part ≡ 0 → past par
 behind_ends ns whole part z w = sym (ap (λ i. past i (filled ns)) z ∙ past_zero ns) ∙ w
 
 -- a reader that is cut in its first segment
-pub cut_before : (segment : List ℕ) (later kept : List (Bor (List ℕ))) (offset : ℕ) (segments : List ℕ) → filled (length segment ∷ lengths later) ≡ segments → offset ≤ length segment → kept ≡ [] → filled (length (take offset segment) ∷ lengths kept) ≡ up_to offset segments
+pub cut_before : (segment : List ℕ) (later kept : List (Bor (List ℕ))) (offset : ℕ) (segments : List ℕ) → filled (length segment ∷ segment_lengths later) ≡ segments → offset ≤ length segment → kept ≡ [] → filled (length (take offset segment) ∷ segment_lengths kept) ≡ up_to offset segments
 cut_before segment later kept offset segments v le k =
-    ap (λ (s : List (Bor (List ℕ))). filled (length (take offset segment) ∷ lengths s)) k
+    ap (λ (s : List (Bor (List ℕ))). filled (length (take offset segment) ∷ segment_lengths s)) k
     ∙ ap (λ (i : ℕ). filled (i ∷ [])) (length-take-le offset segment le)
-    ∙ sym (up_to_first offset (length segment) (lengths later) le) ∙ ap (up_to offset) v
+    ∙ sym (up_to_first offset (length segment) (segment_lengths later) le) ∙ ap (up_to offset) v
 
-pub cut_behind : (segment tail : List ℕ) (later kept : List (Bor (List ℕ))) (offset : ℕ) (segments result : List ℕ) → filled (length segment ∷ lengths later) ≡ segments → offset ≤ length segment → kept ≡ later → length tail ≡ length segment - offset → result ≡ filled (length tail ∷ lengths kept) → result ≡ past offset segments
+pub cut_behind : (segment tail : List ℕ) (later kept : List (Bor (List ℕ))) (offset : ℕ) (segments result : List ℕ) → filled (length segment ∷ segment_lengths later) ≡ segments → offset ≤ length segment → kept ≡ later → length tail ≡ length segment - offset → result ≡ filled (length tail ∷ segment_lengths kept) → result ≡ past offset segments
 cut_behind segment tail later kept offset segments result v le k l r =
-    r ∙ ap (λ (s : List (Bor (List ℕ))). filled (length tail ∷ lengths s)) k
-    ∙ ap (λ (i : ℕ). filled (i ∷ lengths later)) l
-    ∙ sym (past_first offset (length segment) (lengths later) le) ∙ ap (past offset) v
+    r ∙ ap (λ (s : List (Bor (List ℕ))). filled (length tail ∷ segment_lengths s)) k
+    ∙ ap (λ (i : ℕ). filled (i ∷ segment_lengths later)) l
+    ∙ sym (past_first offset (length segment) (segment_lengths later) le) ∙ ap (past offset) v
 
 -- and behind it
-pub long_before : (segment : List ℕ) (later front : List (Bor (List ℕ))) (offset : ℕ) (segments : List ℕ) → filled (length segment ∷ lengths later) ≡ segments → length segment ≤ offset → filled (lengths front) ≡ up_to (offset - length segment) (filled (lengths later)) → filled (length segment ∷ lengths front) ≡ up_to offset segments
+pub long_before : (segment : List ℕ) (later front : List (Bor (List ℕ))) (offset : ℕ) (segments : List ℕ) → filled (length segment ∷ segment_lengths later) ≡ segments → length segment ≤ offset → filled (segment_lengths front) ≡ up_to (offset - length segment) (filled (segment_lengths later)) → filled (length segment ∷ segment_lengths front) ≡ up_to offset segments
 long_before segment later front offset segments v le e =
-    filled-append (length segment ∷ []) (lengths front) ∙ ap (λ s. filled (length segment ∷ []) ++ s) e
-    ∙ sym (up_to_behind offset (length segment) (lengths later) le) ∙ ap (up_to offset) v
+    filled-append (length segment ∷ []) (segment_lengths front) ∙ ap (λ s. filled (length segment ∷ []) ++ s) e
+    ∙ sym (up_to_behind offset (length segment) (segment_lengths later) le) ∙ ap (up_to offset) v
 
-pub long_behind : (segment : List ℕ) (later : List (Bor (List ℕ))) (offset : ℕ) (segments tail result : List ℕ) → filled (length segment ∷ lengths later) ≡ segments → length segment ≤ offset → tail ≡ past (offset - length segment) (filled (lengths later)) → result ≡ tail → result ≡ past offset segments
+pub long_behind : (segment : List ℕ) (later : List (Bor (List ℕ))) (offset : ℕ) (segments tail result : List ℕ) → filled (length segment ∷ segment_lengths later) ≡ segments → length segment ≤ offset → tail ≡ past (offset - length segment) (filled (segment_lengths later)) → result ≡ tail → result ≡ past offset segments
 long_behind segment later offset segments tail result v le e r =
-    r ∙ e ∙ sym (past_behind offset (length segment) (lengths later) le) ∙ ap (past offset) v
+    r ∙ e ∙ sym (past_behind offset (length segment) (segment_lengths later) le) ∙ ap (past offset) v

@@ -2,8 +2,8 @@
 use Rattle.std.specs.Prelude.{ℕ, ◌+◌, ◌<◌, ◌≤◌, sum, List, length, take, slice_index}
 
 -- how many bytes are before a place
-abbrev pub reached : List ℕ → (segment used : ℕ) → ℕ
-reached segments segment used = sum (take segment segments) + used
+abbrev pub bytes_before : List ℕ → (segment used : ℕ) → ℕ
+bytes_before segments segment used = sum (take segment segments) + used
 
 -- a place is in a segment, before its end, or behind all of them
 pub record IsIn (segments : List ℕ) (segment used : ℕ) : Type 0 where

@@ -12,5 +12,5 @@ abbrev pub all_of : List ℕ → List (Bor (List ℕ)) → List ℕ
 all_of segment later = segment ++ joined later
 
 -- how long each segment is
-abbrev pub lengths : List (Bor (List ℕ)) → List ℕ
-lengths segments = map (λ s. length s.now) segments
+abbrev pub segment_lengths : List (Bor (List ℕ)) → List ℕ
+segment_lengths segments = map (λ s. length s.now) segments

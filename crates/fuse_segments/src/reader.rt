@@ -6,7 +6,7 @@ ghost use Rattle.std.specs.Io.KnownBytes.{Consumes, ReadConsumes};
 ghost use Rattle.std.specs.IoError.{error_kind};
 ghost use Rattle.vm_values.specs.Fields.{spelled, AllFit};
 ghost use Rattle.fuse_fs.specs.Lengths.{filled, first, past, up_to};
-ghost use Rattle.fuse_segments.specs.Segments.{joined, all_of, lengths};
+ghost use Rattle.fuse_segments.specs.Segments.{joined, all_of, segment_lengths};
 ghost use Rattle.fuse_fs.specs.Transfers.{moved, WritesOnce};
 
 use crate::error::Error;
@@ -32,13 +32,13 @@ impl<'a> Model for Reader<'a> {
     ghost use Rattle.std.specs.Prelude.{◌≡◌, ◌+◌, ◌<◌, ◌^◌, [], ◌∷◌, length};
     ghost use Rattle.fuse_segments.specs.Views.{ReaderView};
     ghost use Rattle.fuse_fs.specs.Lengths.{filled};
-    ghost use Rattle.fuse_segments.specs.Segments.{all_of, lengths};
+    ghost use Rattle.fuse_segments.specs.Segments.{all_of, segment_lengths};
 
     ghost Value = { ReaderView };
 
     ghost view = { λ r. record {
       left = all_of r.first.now r.later.items;
-      segments = filled (length r.first.now ∷ lengths r.later.items);
+      segments = filled (length r.first.now ∷ segment_lengths r.later.items);
       read = r.read;
     } };
 
@@ -49,7 +49,7 @@ impl<'a> Model for Reader<'a> {
 // A segment that isn't empty, where one is left: this one, or the next one of those behind it.
 fn next_filled<'a>(segment: &'a [u8], later: &mut VecDeque<&'a [u8]>) -> &'a [u8]
     ensures all { all_of result.now later.new.items ≡ all_of segment.now later.old.items }
-    ensures segments { filled (length result.now ∷ lengths later.new.items) ≡ filled (length segment.now ∷ lengths later.old.items) }
+    ensures segments { filled (length result.now ∷ segment_lengths later.new.items) ≡ filled (length segment.now ∷ segment_lengths later.old.items) }
     ensures end { length result.now ≡ 0 → later.new.items ≡ [] }
 {
     let mut current = segment;
@@ -72,8 +72,8 @@ fn take_front<'a>(
     requires { offset ≤ length (joined queue.old.items) }
     ensures front { IfOk result (λ p. joined p.0.items ≡ take offset (joined queue.old.items)) }
     ensures rest { IfOk result (λ p. all_of p.1.now queue.new.items ≡ drop offset (joined queue.old.items)) }
-    ensures before { IfOk result (λ p. filled (lengths p.0.items) ≡ up_to offset (filled (lengths queue.old.items))) }
-    ensures behind { IfOk result (λ p. filled (length p.1.now ∷ lengths queue.new.items) ≡ past offset (filled (lengths queue.old.items))) }
+    ensures before { IfOk result (λ p. filled (segment_lengths p.0.items) ≡ up_to offset (filled (segment_lengths queue.old.items))) }
+    ensures behind { IfOk result (λ p. filled (length p.1.now ∷ segment_lengths queue.new.items) ≡ past offset (filled (segment_lengths queue.old.items))) }
     ensures err { IfErr result (λ e. (e ≡ Error.OutOfMemory) × (queue.new ≡ queue.old)) }
 {
     let Ok(mut front) = VecDeque::with_capacity(alloc, queue.len()) else {
@@ -115,7 +115,7 @@ fn write_at(buf: &mut [u8], at: usize, bytes: &[u8])
 impl<'a> Reader<'a> {
     /// A reader of these segments, one after another. DescriptorChainOverflow where their lengths' sum doesn't fit usize.
     pub fn new(segments: Vec<&'a [u8]>) -> Result<Reader<'a>, Error>
-        ensures ok { IfOk result (λ r. (r.left ≡ joined segments.entry.items) × (r.segments ≡ filled (lengths segments.entry.items)) × (r.read ≡ 0)) }
+        ensures ok { IfOk result (λ r. (r.left ≡ joined segments.entry.items) × (r.segments ≡ filled (segment_lengths segments.entry.items)) × (r.read ≡ 0)) }
         ensures fits { OnOk result (length (joined segments.entry.items) < 2 ^ 64) }
         ensures err { IfErr result (λ e. (e ≡ Error.DescriptorChainOverflow) × (2 ^ 64 ≤ length (joined segments.entry.items))) }
     {
@@ -133,7 +133,7 @@ impl<'a> Reader<'a> {
     fn over(segment: &'a [u8], later: VecDeque<&'a [u8]>, left: usize) -> Reader<'a>
         requires { left ≡ length (all_of segment.now later.items) }
         ensures left { result.left ≡ all_of segment.entry.now later.entry.items }
-        ensures segments { result.segments ≡ filled (length segment.entry.now ∷ lengths later.entry.items) }
+        ensures segments { result.segments ≡ filled (length segment.entry.now ∷ segment_lengths later.entry.items) }
         ensures read { result.read ≡ 0 }
     {
         let mut later = later;

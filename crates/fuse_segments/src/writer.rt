@@ -5,7 +5,7 @@ ghost use Rattle.std.specs.Io.{WritesAtMost};
 ghost use Rattle.std.specs.Io.KnownBytes.{Appends, WriteAppends, Keeps};
 ghost use Rattle.std.specs.IoError.{error_kind};
 ghost use Rattle.vm_values.specs.Fields.{spelled, AllFit};
-ghost use Rattle.fuse_segments.specs.Places.{reached, IsIn};
+ghost use Rattle.fuse_segments.specs.Places.{bytes_before, IsIn};
 ghost use Rattle.fuse_fs.specs.Lengths.{filled, first, past, up_to};
 ghost use Rattle.fuse_fs.specs.Transfers.{moved, with_bytes, ReadsOnce};
 ghost use Rattle.fuse_segments.specs.Views.{rooms};
@@ -43,7 +43,7 @@ impl Model for Writer {
     ghost use Rattle.std.specs.Prelude.{◌≡◌, ◌+◌, ◌-◌, ◌≤◌, sum, vec_len, vec_capacity};
     ghost use Rattle.fuse_segments.specs.Views.{WriterView};
     ghost use Rattle.fuse_fs.specs.Lengths.{filled};
-    ghost use Rattle.fuse_segments.specs.Places.{reached, IsIn};
+    ghost use Rattle.fuse_segments.specs.Places.{bytes_before, IsIn};
 
     ghost Value = { WriterView };
 
@@ -60,7 +60,7 @@ impl Model for Writer {
         × (vec_len w.segments + w.rejoin ≤ vec_capacity w.segments)
         × (sum w.segments.items ≡ w.room)
         × (filled w.segments.items ≡ w.segments.items)
-        × (reached w.segments.items w.place.segment w.place.used ≡ vec_len w.bytes)
+        × (bytes_before w.segments.items w.place.segment w.place.used ≡ vec_len w.bytes)
         × IsIn w.segments.items w.place.segment w.place.used };
 }
 
@@ -69,7 +69,7 @@ fn behind(segments: &[usize], from: Place, n: usize) -> Place
     requires segment { from.segment ≤ length segments.now }
     requires fits { from.used + n < 2 ^ 64 }
     ensures after { from.segment ≤ result.segment }
-    ensures reached { reached segments.now result.segment result.used ≡ reached segments.now from.segment from.used + n }
+    ensures before { bytes_before segments.now result.segment result.used ≡ bytes_before segments.now from.segment from.used + n }
     ensures inside { IsIn segments.now result.segment result.used }
 {
     let mut segment = from.segment;

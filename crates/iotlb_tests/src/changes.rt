@@ -1,13 +1,13 @@
 //! Mappings that come, go, meet and overlap.
 
-use crate::given::{Entry, expect_found, table};
+use crate::given::{MappingRow, expect_found, table};
 use std::alloc::Global;
 use std::process::Abort;
 use vm_iotlb::Permissions::{Read, ReadWrite, Write};
 use vm_values::GuestAddress;
 
 // A look-up for reading from 0 up to 0x30 answers this after some mappings.
-fn expect_after(rt: &impl Abort, alloc: Global, mappings: &[Entry], want: &str) {
+fn expect_after(rt: &impl Abort, alloc: Global, mappings: &[MappingRow], want: &str) {
     expect_found(rt, alloc, &table(rt, alloc, mappings), 0, 0x30, Read, want);
 }
 

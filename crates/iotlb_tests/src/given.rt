@@ -7,7 +7,7 @@ use vm_iotlb::{Iotlb, IotlbIterator, IovaRange, LookupError, Permissions};
 use vm_values::GuestAddress;
 
 /// A mapping: the first I/O address, the first target, how many, and what may be done there.
-pub type Entry = (u64, u64, usize, Permissions);
+pub type MappingRow = (u64, u64, usize, Permissions);
 
 /// What was found is what is wanted. One generic assertion for all tests: each assertion of its own costs a proof.
 pub fn expect_same<T: PartialEq + Debug + Drop>(rt: &impl Abort, found: T, want: T) {
@@ -15,7 +15,7 @@ pub fn expect_same<T: PartialEq + Debug + Drop>(rt: &impl Abort, found: T, want:
 }
 
 /// The table after some mappings, one after another.
-pub fn table(rt: &impl Abort, alloc: Global, mappings: &[Entry]) -> Iotlb {
+pub fn table(rt: &impl Abort, alloc: Global, mappings: &[MappingRow]) -> Iotlb {
     let mut table = Iotlb::new(alloc);
     for (iova, target, length, perm) in mappings {
         table

@@ -11,7 +11,7 @@ use vm_memory_core::{
     Bitmap, Bytes, GuestAddress, HostMemory, MemoryRegionAddress, PageBitmap, Permissions, Windows,
 };
 
-type Answer<T> = Result<T, GuestMemoryError>;
+type MemoryResult<T> = Result<T, GuestMemoryError>;
 
 const TWO_OF_FIVE: GuestMemoryError = PartialBuffer {
     expected: 5,
@@ -33,7 +33,7 @@ fn expect_all_of_five(
     alloc: Global,
     ranges: &[(GuestAddress, usize)],
     addr: u64,
-    want: (Answer<()>, [u8; 5], [Option<u8>; 5]),
+    want: (MemoryResult<()>, [u8; 5], [Option<u8>; 5]),
 ) {
     let (mut host, mem) = made(rt, alloc, ranges);
     let written = mem.write_slice(&mut host, &[1, 2, 3, 4, 5], GuestAddress(addr));
@@ -71,7 +71,7 @@ fn expect_some_of_five(
     alloc: Global,
     ranges: &[(GuestAddress, usize)],
     addr: u64,
-    answer: Answer<usize>,
+    answer: MemoryResult<usize>,
     bytes: [u8; 5],
 ) {
     let (mut host, mem) = made(rt, alloc, ranges);
@@ -88,7 +88,7 @@ fn expect_whole_five(
     alloc: Global,
     ranges: &[(GuestAddress, usize)],
     addr: u64,
-    answer: Answer<()>,
+    answer: MemoryResult<()>,
 ) {
     let (mut host, mem) = made(rt, alloc, ranges);
     let addr = GuestAddress(addr);

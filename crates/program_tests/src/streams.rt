@@ -9,7 +9,7 @@ use std::test::Fail;
 use virtio_fs_script::{Halt, print_usage, run_script};
 
 // The most bytes of a script: 1 MiB.
-const MOST_BYTES: usize = 0x10_0000;
+const MOST_SCRIPT_BYTES: usize = 0x10_0000;
 
 // A reader that gives one byte at a time, and then fails or ends.
 #[derive(Drop)]
@@ -61,7 +61,7 @@ impl Write for FullWriter {
 fn reads_no_script_that_is_too_long(rt: HostRuntime) -> Result<(), Fail> {
     let mut script = Vec::new(rt.alloc());
     script.extend_from_slice(b"queue 4 0 0x100 0x200\n#")?;
-    script.resize(MOST_BYTES, b'x')?;
+    script.resize(MOST_SCRIPT_BYTES, b'x')?;
     for printed in ["ok\nstatus 0\n", "script too long\nstatus 1\n"] {
         assert_eq!(rt; played(rt.alloc(), &script)?.as_str(), printed);
         script.push(b'\n')?;

@@ -9,7 +9,7 @@ use std::cell::Cell;
 use std::io::{BufWriter, Read, Write};
 
 // The most bytes of a script.
-const MOST_BYTES: usize = 1_048_576;
+const MOST_SCRIPT_BYTES: usize = 1_048_576;
 
 const BUFFER: usize = 4096;
 
@@ -20,15 +20,15 @@ const USAGE_STATUS: u8 = 1;
 fn read_script<R: Read>(alloc: Global, reader: &mut R) -> Result<Vec<u8>, Halt> {
     let mut script = Vec::new(alloc);
     let mut buffer = [0u8; BUFFER];
-    for _ in 0..=MOST_BYTES {
-        let room = BUFFER.min((MOST_BYTES + 1).saturating_sub(script.len()));
+    for _ in 0..=MOST_SCRIPT_BYTES {
+        let room = BUFFER.min((MOST_SCRIPT_BYTES + 1).saturating_sub(script.len()));
         let count = reader.read(&mut buffer[..room])?;
         if count == 0 {
             break;
         }
         script.extend_from_slice(&buffer[..count])?;
     }
-    if script.len() > MOST_BYTES {
+    if script.len() > MOST_SCRIPT_BYTES {
         return Err(Halt::TooLong);
     }
     Ok(script)

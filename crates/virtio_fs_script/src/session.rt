@@ -153,7 +153,7 @@ enum StepOutcome {
 }
 
 // What the answer to a kick of one request says of the step.
-fn outcome_of(answer: &Answer) -> StepOutcome {
+fn printed_outcome(answer: &Answer) -> StepOutcome {
     match answer {
         Answer::Served(run) if run.refused.is_some() => StepOutcome::Refused,
         Answer::Served(run) if run.done.is_empty() => StepOutcome::Idle,
@@ -171,7 +171,7 @@ fn step<W: Write>(
     let answer = guest.perform(Command::Kick { queue, most: 1 })?;
     print_calls(writer, &guest.take_log())?;
     print_answer(writer, &answer)?;
-    Ok(outcome_of(&answer))
+    Ok(printed_outcome(&answer))
 }
 
 // Serves requests of a queue until none is waiting, one step is refused, or `most` are done.

@@ -26,7 +26,7 @@ pub record Moves (t u : Tally) (b b' : ℕ) : Type 0 where
   pub keep : bit_of t.marked ≤ bit_of u.marked
   pub marks : (bit_of u.marked ≤ bit_of t.marked) ⊎ (b' ≡ 1)
   pub sets : (u.on ≡ t.on) ⊎ (bit_of u.marked ≡ 1)
-  pub reached : (a o : ℕ) → a ≡ o + b → t.held ≤ a → t.seen ≤ o → (u.held + t.on ≤ a + u.on) × (u.seen + t.off ≤ o + u.off)
+  pub bounded : (a o : ℕ) → a ≡ o + b → t.held ≤ a → t.seen ≤ o → (u.held + t.on ≤ a + u.on) × (u.seen + t.off ≤ o + u.off)
 
 still : (t : Tally) (b b' : ℕ) → b' ≡ b → Moves t t b b'
 still t b b' e = record {
@@ -36,7 +36,7 @@ still t b b' e = record {
   keep = omega arith;
   marks = inl (omega arith);
   sets = inl refl;
-  reached = λ a o s h k. (omega arith, omega arith);
+  bounded = λ a o s h k. (omega arith, omega arith);
 }
 
 bit_of-le : (b : Bool) → bit_of b ≤ 1
@@ -51,7 +51,7 @@ mark_moves t b b' l e = record {
   keep = bit_of-le t.marked;
   marks = inr e;
   sets = inr refl;
-  reached = λ a o s h k. (omega arith, omega arith);
+  bounded = λ a o s h k. (omega arith, omega arith);
 }
 
 clear_moves : (t : Tally) (b b' : ℕ) → b' ≡ 0 → Moves t (after_clearing b t) b b'
@@ -62,7 +62,7 @@ clear_moves t b b' e = record {
   keep = omega arith;
   marks = inl (omega arith);
   sets = inl refl;
-  reached = λ a o s h k. (omega arith, omega arith);
+  bounded = λ a o s h k. (omega arith, omega arith);
 }
 
 read_moves : (t : Tally) (b b' : ℕ) → b < 2 → b' ≡ b → Moves t (after_read b t) b b'
@@ -73,7 +73,7 @@ read_moves t b b' l e = record {
   keep = omega arith;
   marks = inl (omega arith);
   sets = inl refl;
-  reached = λ a o s h k. (omega arith, omega arith);
+  bounded = λ a o s h k. (omega arith, omega arith);
 }
 
 pub counted_step : (len : ℕ) (words words' : List ℕ) (views : List PageCounts) (id : ℕ) (v w : PageCounts) → get_elem? views id ≡ some v
@@ -83,7 +83,7 @@ counted_step len words words' views id v w at_id c rest moves = record {
   rest = rest;
   bits = λ p l. let m = moves p l in let x = m.sums in let s = total_set (on_at p) views id v w at_id in let t = total_set (off_at p) views id v w at_id in let b = c.bits p l in omega arith;
   marks = λ p l. (forth p l, back p l);
-  reached = λ p l j u e. ⊎_elim (λ (x : (j ≡ id) × (w ≡ u)). mine p l u x.1) (λ (x : (j ≢ id) × (get_elem? views j ≡ some u)). theirs p l j u x.1) (at_set views id j w u e);
+  bounded = λ p l j u e. ⊎_elim (λ (x : (j ≡ id) × (w ≡ u)). mine p l u x.1) (λ (x : (j ≢ id) × (get_elem? views j ≡ some u)). theirs p l j u x.1) (at_set views id j w u e);
 }
   where
     forth : (p : ℕ) → p < len → 0 < total_by (marks_at p) (set views id w) → 0 < total_by (on_at p) (set views id w)
@@ -117,10 +117,10 @@ counted_step len words words' views id v w at_id c rest moves = record {
         let m = moves p l in
         let s = total_set (on_at p) views id v w at_id in
         let t = total_set (off_at p) views id v w at_id in
-        let r = c.reached p l id v at_id in
+        let r = c.bounded p l id v at_id in
         let r0 = r.0 in
         let r1 = r.1 in
-        let n = m.reached (total_by (on_at p) views) (total_by (off_at p) views) (c.bits p l) r0 r1 in
+        let n = m.bounded (total_by (on_at p) views) (total_by (off_at p) views) (c.bits p l) r0 r1 in
         let n0 = n.0 in
         let n1 = n.1 in
         subst (λ (x : PageCounts). ((tally_of x.pages p).held ≤ total_by (on_at p) (set views id w)) × ((tally_of x.pages p).seen ≤ total_by (off_at p) (set views id w))) e (omega arith, omega arith)
@@ -133,7 +133,7 @@ counted_step len words words' views id v w at_id c rest moves = record {
         let up' = m.off in
         let s = total_set (on_at p) views id v w at_id in
         let t = total_set (off_at p) views id v w at_id in
-        let r = c.reached p l j u e in
+        let r = c.bounded p l j u e in
         let r0 = r.0 in
         let r1 = r.1 in
         (omega arith, omega arith)
@@ -278,9 +278,9 @@ settles_all len words views id v at_id r all p l =
     let c : total_by (marks_at p) views ≡ marks_at p v = alone (marks_at p) (λ w idle. (idle p).0) in
     let d = r.counted.bits p l in
     let m = r.counted.marks p l in
-    let reached = r.counted.reached p l id v at_id in
-    let held = reached.0 in
-    let seen = reached.1 in
+    let bounded = r.counted.bounded p l id v at_id in
+    let held = bounded.0 in
+    let seen = bounded.1 in
     let forth : (tally_of v.pages p).marked ≡ true → 0 < on_at p v = λ h. let n : marks_at p v ≡ 1 = ap bit_of h in let z = m.0 (omega arith) in omega arith in
     let back : 0 < on_at p v → (tally_of v.pages p).marked ≡ true = λ h. let z = m.1 (omega arith) in is_true (tally_of v.pages p).marked (omega arith) in
     (omega arith, (forth, back), omega arith, omega arith)
@@ -390,7 +390,7 @@ begins len words count clear = (
           let a : on_at p (first_pass len) ≡ 0 = ap (λ (t : Tally). t.on) t in
           let b : marks_at p (first_pass len) ≡ 0 = ap (λ (t : Tally). bit_of t.marked) t in
           ((λ h. absurd (omega arith)), (λ h. absurd (omega arith)));
-      reached = λ p l j v e. ⊎_elim
+      bounded = λ p l j v e. ⊎_elim
           (λ (z : get_elem? [] j ≡ some v). absurd (some-ne-none v (sym z)))
           (λ (z : first_pass len ≡ v). subst (λ (q : PageCounts). ((tally_of q.pages p).held ≤ total_by (on_at p) (first_pass len ∷ [])) × ((tally_of q.pages p).seen ≤ total_by (off_at p) (first_pass len ∷ []))) z
           (let t = first_at p in
@@ -427,7 +427,7 @@ rule_same len words words' views same r = record {
     rest = λ p l. same p ∙ r.counted.rest p l;
     bits = λ p l. let a = same p in let b = r.counted.bits p l in omega arith;
     marks = r.counted.marks;
-    reached = r.counted.reached;
+    bounded = r.counted.bounded;
   };
   shared = r.shared;
 }

@@ -23,14 +23,14 @@ counted_fork len words views id v v' u at_id same idle less c = record {
     (λ h. let r = m.0 (omega arith) in omega arith),
     (λ h. let r = m.1 (omega arith) in omega arith),
   );
-  reached = λ p l j w e. let x = ons p in let y = offs p in ⊎_elim
+  bounded = λ p l j w e. let x = ons p in let y = offs p in ⊎_elim
       (λ (old : get_elem? (set views id v') j ≡ some w). ⊎_elim
-      (λ (z : (j ≡ id) × (v' ≡ w)). let r = c.reached p l id v at_id in let r0 = r.0 in let r1 = r.1 in
+      (λ (z : (j ≡ id) × (v' ≡ w)). let r = c.bounded p l id v at_id in let r0 = r.0 in let r1 = r.1 in
       let it : tally_of w.pages p ≡ tally_of v.pages p = ap (λ (q : PageCounts). tally_of q.pages p) (sym z.1) ∙ same p in
       subst (λ (t : Tally). (t.held ≤ total_by (on_at p) (set views id v' ++ u ∷ [])) × (t.seen ≤ total_by (off_at p) (set views id v' ++ u ∷ []))) (sym it) (omega arith, omega arith))
-      (λ (z : (j ≢ id) × (get_elem? views j ≡ some w)). let r = c.reached p l j w z.1 in let r0 = r.0 in let r1 = r.1 in (omega arith, omega arith))
+      (λ (z : (j ≢ id) × (get_elem? views j ≡ some w)). let r = c.bounded p l j w z.1 in let r0 = r.0 in let r1 = r.1 in (omega arith, omega arith))
       (at_set views id j v' w old))
-      (λ (new : u ≡ w). let r = c.reached p l id v at_id in let r0 = r.0 in let r1 = r.1 in let k = less p in let k0 = k.0 in let k1 = k.1 in
+      (λ (new : u ≡ w). let r = c.bounded p l id v at_id in let r0 = r.0 in let r1 = r.1 in let k = less p in let k0 = k.0 in let k1 = k.1 in
       subst (λ (q : PageCounts). ((tally_of q.pages p).held ≤ total_by (on_at p) (set views id v' ++ u ∷ [])) × ((tally_of q.pages p).seen ≤ total_by (off_at p) (set views id v' ++ u ∷ [])))
       new (omega arith, omega arith))
       (at_snoc (set views id v') u w j e);
@@ -213,18 +213,18 @@ module _ (len : ℕ) (words : List ℕ) (views : List PageCounts) (id : ℕ) (v 
           (λ h. let r = m.0 (omega arith) in omega arith),
           (λ h. let r = m.1 (omega arith) in omega arith),
         );
-    reached = λ p l.
+    bounded = λ p l.
         let x = ons p l in
         let y = offs p l in
-        let a = c.reached p l id v at_id in
+        let a = c.bounded p l id v at_id in
         let a0 = a.0 in
         let a1 = a.1 in
-        let b = c.reached p l other u was_other in
+        let b = c.bounded p l other u was_other in
         let b0 = b.0 in
         let b1 = b.1 in
         fits_joint (λ w. ((tally_of w.pages p).held ≤ total_by (on_at p) joint) × ((tally_of w.pages p).seen ≤ total_by (off_at p) joint)) (omega arith, omega arith)
         (subst (λ (t : Tally). (t.held ≤ total_by (on_at p) joint) × (t.seen ≤ total_by (off_at p) joint)) (sym (at_joint p l)) (omega arith, omega arith))
-        (λ j w e. let r = c.reached p l j w e in let r0 = r.0 in let r1 = r.1 in (omega arith, omega arith));
+        (λ j w e. let r = c.bounded p l j w e in let r0 = r.0 in let r1 = r.1 in (omega arith, omega arith));
   }
 
   shared_joint : 0 < v.parts → AddUp views → AddUp joint

@@ -34,7 +34,7 @@ pub record Counted (len : ℕ) (words : List ℕ) (views : List PageCounts) : Ty
   -- some pass marked it exactly where some pass set it
   pub marks : (p : ℕ) → p < len → (0 < total_by (marks_at p) views) ↔ (0 < total_by (on_at p) views)
   -- no pass has seen it set or cleared more often than all passes did that
-  pub reached : (p : ℕ) → p < len → (id : ℕ) (v : PageCounts) → get_elem? views id ≡ some v
+  pub bounded : (p : ℕ) → p < len → (id : ℕ) (v : PageCounts) → get_elem? views id ≡ some v
       → ((tally_of v.pages p).held ≤ total_by (on_at p) views) × ((tally_of v.pages p).seen ≤ total_by (off_at p) views)
 
 -- a pass's part, parts / 2 ^ depth of the whole, in units of which the whole has 2 ^ k

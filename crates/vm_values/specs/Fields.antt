@@ -50,11 +50,11 @@ Fits (big_endian w n) = n < 2 ^ bits w
 Fits (array w n xs) = (length xs ≡ n) × ((k : ℕ) → k < n → slice_index xs k < 2 ^ bits w)
 
 -- the same field of zeros
-abbrev pub shape : Field → Field
-shape (unsigned w n) = unsigned w 0
-shape (signed w z) = signed w (pos 0)
-shape (big_endian w n) = big_endian w 0
-shape (array w n xs) = array w n []
+abbrev pub zero_field : Field → Field
+zero_field (unsigned w n) = unsigned w 0
+zero_field (signed w z) = signed w (pos 0)
+zero_field (big_endian w n) = big_endian w 0
+zero_field (array w n xs) = array w n []
 
 -- bytes, and then those of the fields
 abbrev pub then_fields : List ℕ → List Field → List ℕ

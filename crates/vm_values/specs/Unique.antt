@@ -10,7 +10,7 @@ use Rattle.std.proofs.lemmas.List.{take_at, drop_at, reverse-reverse}
 use Rattle.std.proofs.Math.Facts.{Fits-of_z}
 use Rattle.std.proofs.Math.Nat.{div-div-eq-div-mul}
 use mir.Val.{bits}
-use Rattle.vm_values.specs.Fields.{Field, unsigned, signed, big_endian, array, field_bytes, Fits, AllFit, shape, then_fields, spelled}
+use Rattle.vm_values.specs.Fields.{Field, unsigned, signed, big_endian, array, field_bytes, Fits, AllFit, zero_field, then_fields, spelled}
 
 length_low : (i k n : ℕ) → length (bytes_low_first i k n) ≡ k
 length_low i zero n = refl
@@ -102,7 +102,7 @@ length-numbers v (x ∷ xs) (y ∷ ys) l = length-append (to_le_bytes v x) (flat
     ∙ sym (length-append (to_le_bytes v y) (flat_map (to_le_bytes v) ys))
 
 -- two fields of one shape have spellings of one length, and of two that fit the spellings tell
-same_length : (f g : Field) → shape f ≡ shape g → Fits f → Fits g → length (field_bytes f) ≡ length (field_bytes g)
+same_length : (f g : Field) → zero_field f ≡ zero_field g → Fits f → Fits g → length (field_bytes f) ≡ length (field_bytes g)
 unfolding field_bytes Fits
 same_length (unsigned v m) (unsigned v' n) e p r = let a : v ≡ v' = cc in length-number v m ∙ ap byte_len a ∙ sym (length-number v' n)
 same_length (big_endian v m) (big_endian v' n) e p r = let a : v ≡ v' = cc in length_be v m ∙ ap byte_len a ∙ sym (length_be v' n)
@@ -124,7 +124,7 @@ same_length (array v m xs) (unsigned v' n) e p r = absurd (cc)
 same_length (array v m xs) (signed v' n) e p r = absurd (cc)
 same_length (array v m xs) (big_endian v' n) e p r = absurd (cc)
 
-field_once : (f g : Field) → shape f ≡ shape g → Fits f → Fits g → field_bytes f ≡ field_bytes g → f ≡ g
+field_once : (f g : Field) → zero_field f ≡ zero_field g → Fits f → Fits g → field_bytes f ≡ field_bytes g → f ≡ g
 unfolding field_bytes Fits
 field_once (unsigned v m) (unsigned v' n) e p r b =
     let a : v ≡ v' = cc in
@@ -165,13 +165,13 @@ spelled-cons : (f : Field) (fs : List Field) → spelled (f ∷ fs) ≡ field_by
 spelled-cons f fs = then_is (field_bytes f) fs
 
 -- fields of one shape that fit and are spelled alike are equal
-pub fields_once : (fs gs : List Field) → map shape fs ≡ map shape gs → AllFit fs → AllFit gs → spelled fs ≡ spelled gs → fs ≡ gs
+pub fields_once : (fs gs : List Field) → map zero_field fs ≡ map zero_field gs → AllFit fs → AllFit gs → spelled fs ≡ spelled gs → fs ≡ gs
 fields_once [] [] e p r b = refl
 fields_once [] (g ∷ gs) e p r b = absurd (cc)
 fields_once (f ∷ fs) [] e p r b = absurd (cc)
 fields_once (f ∷ fs) (g ∷ gs) e p r b =
-    let s : shape f ≡ shape g = cc in
-    let t : map shape fs ≡ map shape gs = cc in
+    let s : zero_field f ≡ zero_field g = cc in
+    let t : map zero_field fs ≡ map zero_field gs = cc in
     let q = halves (field_bytes f) (field_bytes g) (spelled fs) (spelled gs) (same_length f g s p.0 r.0) (sym (spelled-cons f fs) ∙ b ∙ spelled-cons g gs) in
     let x : f ≡ g = field_once f g s p.0 r.0 q.0 in
     let y : fs ≡ gs = fields_once fs gs t p.1 r.1 q.1 in

@@ -4,7 +4,7 @@ ghost use Rattle.std.specs.Prelude.{◌≡◌, ℕ, ◌+◌, ◌*◌, ◌≤◌,
 ghost use Rattle.std.specs.Int.{w8, w16, w32, w64, w128};
 ghost use Rattle.std.specs.Io.KnownBytes.{Appends, Consumes};
 ghost use Rattle.std.proofs.Common.{rules};
-ghost use Rattle.vm_values.specs.Fields.{Field, unsigned, signed, spelled, AllFit, shape};
+ghost use Rattle.vm_values.specs.Fields.{Field, unsigned, signed, spelled, AllFit, zero_field};
 ghost use Rattle.vm_values.specs.Unique.{fields_once};
 
 use std::io::{self, Read, Write};
@@ -69,8 +69,8 @@ pub trait ByteValued: Copy {
         Ok(Self::get_bytes(&buffer[..Self::SIZE]))
     }
 
-    // Values have fields of one shape, fields tell values apart, and a value has at most 256 bytes.
-    ghost lawful: { ((x y : Self) → map shape (fields x) ≡ map shape (fields y)) × ((x y : Self) → fields x ≡ fields y → x ≡ y) × (SIZE ≤ 256) };
+    // Values have fields of one zero_field, fields tell values apart, and a value has at most 256 bytes.
+    ghost lawful: { ((x y : Self) → map zero_field (fields x) ≡ map zero_field (fields y)) × ((x y : Self) → fields x ≡ fields y → x ≡ y) × (SIZE ≤ 256) };
 
     ghost one_reading: { (x y : Self) → AllFit (fields x) → AllFit (fields y) → spelled (fields x) ≡ spelled (fields y) → x ≡ y } = { λ x y p r e. lawful.1 x y (fields_once (fields x) (fields y) (lawful.0 x y) p r e) };
 }

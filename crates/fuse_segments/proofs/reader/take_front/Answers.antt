@@ -2,7 +2,7 @@ use Rattle.std.proofs.Common.{◌∷◌, length, arith, refl, rules}
 use Rattle.std.proofs.lemmas.List.{length-take-le, places}
 use Rattle.std.proofs.lemmas.Grind.{common_steps}
 use Rattle.fuse_segments.proofs.Cutting.{front_more, front_len, tail_none, tail_whole, before_more, behind_more, before_ends, behind_ends}
-use Rattle.fuse_segments.specs.Segments.{lengths}
+use Rattle.fuse_segments.specs.Segments.{segment_lengths}
 use Rattle.fuse_segments.proofs.reader.take_front.Goals as goal
 
 pub loop-part-preserved : goal.loop-part-preserved
@@ -22,4 +22,4 @@ pub returns-clause-before : goal.returns-clause-before
 returns-clause-before c = before_ends _ _ _ c.loop-part.part (omega arith) c.loop-part.invariant.before
 
 pub returns-clause-behind : goal.returns-clause-behind
-returns-clause-behind c = behind_ends (length c.loop-part.rest.now ∷ lengths c.loop-part.queue.items) _ c.loop-part.part (omega arith) c.loop-part.invariant.behind
+returns-clause-behind c = behind_ends (length c.loop-part.rest.now ∷ segment_lengths c.loop-part.queue.items) _ c.loop-part.part (omega arith) c.loop-part.invariant.behind

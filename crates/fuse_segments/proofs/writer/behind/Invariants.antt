@@ -1,12 +1,12 @@
 use Rattle.std.proofs.Common.{◌≡◌, ◌-◌, ◌≤◌, length}
-use Rattle.fuse_segments.specs.Places.{reached}
+use Rattle.fuse_segments.specs.Places.{bytes_before}
 use Rattle.fuse_segments.proofs.writer.behind.Given as goal
 
 abbrev pub invariant-loop-segment : goal.invariant-loop-segment
 invariant-loop-segment l = record {
   there : l.segment ≤ length l.segments;
   after : l.initial.segment ≤ l.segment;
-  reached : reached l.segments l.segment l.used ≡ reached l.segments l.initial.segment l.initial.used;
+  reached : bytes_before l.segments l.segment l.used ≡ bytes_before l.segments l.initial.segment l.initial.used;
 }
 
 abbrev pub decreases-loop-segment : goal.decreases-loop-segment

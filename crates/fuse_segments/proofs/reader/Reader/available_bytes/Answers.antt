@@ -1,6 +1,6 @@
 use Rattle.std.proofs.Common.{◌∷◌, length, sum, sym, ap, ◌∙◌}
 use Rattle.fuse_fs.specs.Lengths.{filled}
-use Rattle.fuse_segments.specs.Segments.{lengths}
+use Rattle.fuse_segments.specs.Segments.{segment_lengths}
 use Rattle.fuse_segments.specs.Views.{ReaderView}
 use Rattle.fuse_segments.proofs.Cutting.{sum_all}
 use Rattle.fuse_fs.proofs.Lengths.{filled-filled}
@@ -11,5 +11,5 @@ returns-clause-segments c =
     let i = c.self.inside in
     let v = ap (λ (r : ReaderView). r.segments) c.self.view_is in (
       ap sum (sym v) ∙ sum_all i.first.now i.later.items ∙ ap (λ (r : ReaderView). length r.left) c.self.view_is,
-      ap filled (sym v) ∙ filled-filled (length i.first.now ∷ lengths i.later.items) ∙ v,
+      ap filled (sym v) ∙ filled-filled (length i.first.now ∷ segment_lengths i.later.items) ∙ v,
     )

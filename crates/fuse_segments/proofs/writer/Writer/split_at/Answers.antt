@@ -1,17 +1,17 @@
 use Rattle.std.proofs.Common.{◌≡◌, ◌+◌, ◌≤◌, ◌++◌, [], ◌∷◌, length, take, sum, vec_len, arith, sym, ap, ◌∙◌}
 use Rattle.std.proofs.lemmas.Grind.{common_steps}
 use Rattle.fuse_fs.specs.Lengths.{filled, past, up_to}
-use Rattle.fuse_segments.specs.Places.{reached, IsIn}
+use Rattle.fuse_segments.specs.Places.{bytes_before, IsIn}
 use Rattle.fuse_segments.specs.Views.{WriterView}
 use Rattle.fuse_fs.proofs.Lengths.{sum-past, sum-up_to, filled-past, filled-up_to}
-use Rattle.fuse_segments.proofs.Placing.{behind_is, before_is, kept_reached}
+use Rattle.fuse_segments.proofs.Placing.{behind_is, before_is, kept_before}
 use Rattle.fuse_segments.proofs.writer.Writer.split_at.Goals as goal
 
 pub over-requires-clause-sum : goal.over-requires-clause-sum
 over-requires-clause-sum c =
     let i = c.self.inside in
     let cut = c.behind-cut.result in
-    let at : reached i.segments.items cut.segment cut.used ≡ vec_len i.bytes + c.args.offset = omega (arith, rw c.deref.ensures.value at c.behind-cut.ensures.reached, c.self.invariant.5) in
+    let at : bytes_before i.segments.items cut.segment cut.used ≡ vec_len i.bytes + c.args.offset = omega (arith, rw c.deref.ensures.value at c.behind-cut.ensures.before, c.self.invariant.5) in
     let is : IsIn i.segments.items cut.segment cut.used = rw c.deref.ensures.value at c.behind-cut.ensures.inside in
     let items = rw c.deref-2.ensures.value at c.in_ok-segments.ensures.ok ∙ sym (behind_is i.segments.items cut.segment cut.used (vec_len i.bytes + c.args.offset) is at) in
     let all = ap sum items ∙ sum-past (vec_len i.bytes + c.args.offset) i.segments.items in
@@ -21,7 +21,7 @@ pub over-requires-clause-filled : goal.over-requires-clause-filled
 over-requires-clause-filled c =
     let i = c.self.inside in
     let cut = c.behind-cut.result in
-    let at : reached i.segments.items cut.segment cut.used ≡ vec_len i.bytes + c.args.offset = omega (arith, rw c.deref.ensures.value at c.behind-cut.ensures.reached, c.self.invariant.5) in
+    let at : bytes_before i.segments.items cut.segment cut.used ≡ vec_len i.bytes + c.args.offset = omega (arith, rw c.deref.ensures.value at c.behind-cut.ensures.before, c.self.invariant.5) in
     let is : IsIn i.segments.items cut.segment cut.used = rw c.deref.ensures.value at c.behind-cut.ensures.inside in
     let items = rw c.deref-2.ensures.value at c.in_ok-segments.ensures.ok ∙ sym (behind_is i.segments.items cut.segment cut.used (vec_len i.bytes + c.args.offset) is at) in
     ap filled items ∙ filled-past (vec_len i.bytes + c.args.offset) i.segments.items c.self.invariant.4 ∙ sym items
@@ -31,20 +31,20 @@ invariant_of-self-2 c =
     let i = c.self.inside in
     let cut = c.behind-cut.result in
     let b = c.behind-self-inside in
-    let at : reached i.segments.items cut.segment cut.used ≡ vec_len i.bytes + c.args.offset = omega (arith, rw c.deref.ensures.value at c.behind-cut.ensures.reached, c.self.invariant.5) in
+    let at : bytes_before i.segments.items cut.segment cut.used ≡ vec_len i.bytes + c.args.offset = omega (arith, rw c.deref.ensures.value at c.behind-cut.ensures.before, c.self.invariant.5) in
     let is : IsIn i.segments.items cut.segment cut.used = rw c.deref.ensures.value at c.behind-cut.ensures.inside in
     let fits : vec_len i.bytes + c.args.offset ≤ sum i.segments.items = omega (arith, c.if-free-offset.false, c.len.ensures, c.self.invariant.0, c.self.invariant.3) in
     let kept : c.cut_off.new.segments.items ≡ take cut.segment i.segments.items ++ filled (cut.used ∷ []) = c.cut_off.ensures.items ∙ ap (λ s. take cut.segment s ++ filled (cut.used ∷ [])) c.reserve.ensures.items in
     let whole = before_is i.segments.items c.cut_off.new.segments.items cut.segment cut.used (vec_len i.bytes + c.args.offset) is c.self.invariant.4 at fits kept in
     let all = ap sum whole ∙ sum-up_to (vec_len i.bytes + c.args.offset) i.segments.items in
-    let before = kept_reached i.segments.items c.cut_off.new.segments.items cut.segment cut.used i.place.segment i.place.used is c.behind-cut.ensures.after kept in
+    let before = kept_before i.segments.items c.cut_off.new.segments.items cut.segment cut.used i.place.segment i.place.used is c.behind-cut.ensures.after kept in
     let handed = c.in_ok-segments.ensures.len in (
       omega (arith, c.len-2.ensures),
       omega (arith, c.len.ensures, c.len-2.ensures, c.if-free-offset.false, c.self.invariant.0, c.self.invariant.1),
       grind (arith, common_steps, handed, c.deref-2.ensures.len, c.len-handed.ensures, c.cut_off.ensures.len, c.cut_off.ensures.capacity, i.segments.ok.0),
       omega (arith, all, fits, c.len-2.ensures),
       ap filled whole ∙ filled-up_to (vec_len i.bytes + c.args.offset) i.segments.items c.self.invariant.4 ∙ sym whole,
-      omega (arith, rw c.deref-3.ensures.value at b.ensures.reached, before, c.self.invariant.5),
+      omega (arith, rw c.deref-3.ensures.value at b.ensures.before, before, c.self.invariant.5),
       rw c.deref-3.ensures.value at b.ensures.inside,
     )
 
@@ -52,7 +52,7 @@ pub returns-clause-segments : goal.returns-clause-segments
 returns-clause-segments c =
     let i = c.self.inside in
     let cut = c.behind-cut.result in
-    let at : reached i.segments.items cut.segment cut.used ≡ length i.bytes.items + c.args.offset = omega (arith, rw c.deref.ensures.value at c.behind-cut.ensures.reached, c.self.invariant.5, i.bytes.ok.0) in
+    let at : bytes_before i.segments.items cut.segment cut.used ≡ length i.bytes.items + c.args.offset = omega (arith, rw c.deref.ensures.value at c.behind-cut.ensures.before, c.self.invariant.5, i.bytes.ok.0) in
     let is : IsIn i.segments.items cut.segment cut.used = rw c.deref.ensures.value at c.behind-cut.ensures.inside in
     let fits : length i.bytes.items + c.args.offset ≤ sum i.segments.items = omega (arith, c.if-free-offset.false, c.len.ensures, c.self.invariant.0, c.self.invariant.3, i.bytes.ok.0) in
     let kept : c.cut_off.new.segments.items ≡ take cut.segment i.segments.items ++ filled (cut.used ∷ []) = c.cut_off.ensures.items ∙ ap (λ s. take cut.segment s ++ filled (cut.used ∷ [])) c.reserve.ensures.items in
@@ -63,7 +63,7 @@ pub returns-clause-behind : goal.returns-clause-behind
 returns-clause-behind c =
     let i = c.self.inside in
     let cut = c.behind-cut.result in
-    let at : reached i.segments.items cut.segment cut.used ≡ length i.bytes.items + c.args.offset = omega (arith, rw c.deref.ensures.value at c.behind-cut.ensures.reached, c.self.invariant.5, i.bytes.ok.0) in
+    let at : bytes_before i.segments.items cut.segment cut.used ≡ length i.bytes.items + c.args.offset = omega (arith, rw c.deref.ensures.value at c.behind-cut.ensures.before, c.self.invariant.5, i.bytes.ok.0) in
     let is : IsIn i.segments.items cut.segment cut.used = rw c.deref.ensures.value at c.behind-cut.ensures.inside in
     c.in_ok-other.ensures.room.1 ∙ rw c.deref-2.ensures.value at c.in_ok-segments.ensures.ok
     ∙ sym (behind_is i.segments.items cut.segment cut.used (length i.bytes.items + c.args.offset) is at)
