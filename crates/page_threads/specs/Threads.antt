@@ -1,5 +1,5 @@
 -- What threads mark while another gathers, and what comes of all of it.
-use Rattle.std.specs.Prelude.{◌≡◌, ◌↔◌, ℕ, ◌*◌, ◌^◌, ◌<◌, ◌≤◌, max, Bool, false, ◌||◌, List, [], ◌∷◌, length}
+use Rattle.std.specs.Prelude.{◌≡◌, ◌↔◌, ℕ, ◌*◌, ◌^◌, ◌<◌, ◌≤◌, max, Bool, true, false, ◌||◌, List, [], ◌∷◌, length}
 use Rattle.std.specs.declared.vec.Vec.{Vec}
 use Rattle.std.specs.Int.{div_ceil}
 use Rattle.vm_bitmaps.specs.Words.{page_bit, bit_of}
@@ -19,11 +19,14 @@ abbrev pub is_in_lists : {A : Type 0} → (size len : ℕ) → List (Vec ByteRan
 is_in_lists size len [] p = false
 is_in_lists size len (v ∷ vs) p = is_in_ranges size len v.items p || is_in_lists size len vs p
 
--- just the pages that are hit were marked besides, and none was taken
+-- just the pages that are hit were marked besides, and none was taken: of each that is hit more marks than clears are known of
 pub record Marking (hit : ℕ → Bool) (old new : List Tally) : Type 0 where
   pub count : length new ≡ length old
   pub off : (p : ℕ) → (tally_of new p).off ≡ (tally_of old p).off
   pub marked : (p : ℕ) → p < length old → (tally_of new p).marked ≡ (tally_of old p).marked || hit p
+  pub seen : (p : ℕ) → (tally_of new p).seen ≡ (tally_of old p).seen
+  pub held : (p : ℕ) → (tally_of old p).held ≤ (tally_of new p).held
+  pub ahead : (p : ℕ) → p < length old → hit p ≡ true → (tally_of new p).seen < (tally_of new p).held
 
 -- no page was marked besides
 pub record Gathering (old new : List Tally) : Type 0 where

@@ -56,7 +56,8 @@ pub fn mark_lists<R: Threads + Sync>(
         return mark_in_turn(bitmap, pass, lists);
     }
     let (left, right) = lists.split_at(lists.len() / 2);
-    let second = bitmap.split_pass(&mut pass).unwrap();
+    let mut second = bitmap.split_pass(&mut pass).unwrap();
+    bitmap.meet_pass(&mut second, &mut pass);
     let (mut first, second) = join(
         rt,
         move || -> BitmapPass

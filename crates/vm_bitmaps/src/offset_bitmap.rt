@@ -1,6 +1,7 @@
 //! A part of a bitmap's bytes (vm-memory's `BaseSlice`, `RefSlice`).
 
 ghost use Rattle.std.specs.Prelude.{◌≡◌, ◌+◌, refl};
+ghost use Rattle.vm_bitmaps.specs.Slices.{sliced_of, begin_of};
 
 use crate::bitmap::Bitmap;
 
@@ -17,8 +18,8 @@ pub type RefSlice<'a, B> = BaseSlice<&'a mut B>;
 impl<B> BaseSlice<B> {
     /// The bytes of `inner` from `offset` on.
     pub fn new(inner: B, offset: usize) -> BaseSlice<B>
-        ensures inner { result.inner ≡ inner }
-        ensures offset { result.offset ≡ offset }
+        ensures inner { sliced_of result ≡ inner }
+        ensures offset { begin_of result ≡ offset }
     {
         BaseSlice { inner, offset }
     }
@@ -27,15 +28,15 @@ impl<B> BaseSlice<B> {
 /// Each offset is counted from the slice's own. Where the sum does not fit 64 bits there is no byte, so
 /// nothing is marked and nothing is dirty.
 impl<B: Bitmap> Bitmap for BaseSlice<B> {
-    ghost page_size = { λ s. B.page_size s.inner };
+    ghost page_size = { λ s. B.page_size (sliced_of s) };
 
-    ghost base = { λ s. B.base s.inner + s.offset };
+    ghost base = { λ s. B.base (sliced_of s) + begin_of s };
 
-    ghost marks = { λ s. B.marks s.inner };
+    ghost marks = { λ s. B.marks (sliced_of s) };
 
-    ghost Keeps = { λ old new. (new.offset ≡ old.offset) × B.Keeps old.inner new.inner };
+    ghost Keeps = { λ old new. (begin_of new ≡ begin_of old) × B.Keeps (sliced_of old) (sliced_of new) };
 
-    ghost keeps_same = { λ s. (refl, B.keeps_same s.inner) };
+    ghost keeps_same = { λ s. (refl, B.keeps_same (sliced_of s)) };
 
     fn mark_dirty(&mut self, offset: usize, len: usize) {
         if let Some(offset) = self.offset.checked_add(offset) {
