@@ -1,21 +1,28 @@
 //! Why nothing is measured.
 
 use std::alloc::AllocError;
+use std::fmt::{self, Display, Formatter, Write};
 use std::io;
-use thiserror::Error;
 use vm_memory::{FromRangesError, GuestMemoryError};
 
 /// Why a measurement ends early.
-#[derive(Clone, Copy, Debug, PartialEq, Eq, Error)]
+#[derive(Clone, Copy, Drop)]
 pub enum BenchFault {
-    #[error("out of memory")]
     OutOfMemory,
     /// The clock can't be read, or a line can't be written.
-    #[error("a stream failed")]
     Stream,
     /// A case isn't set up as it is meant to be.
-    #[error("no such guest")]
     Guest,
+}
+
+impl Display for BenchFault {
+    fn fmt<W: Write>(&self, f: &mut Formatter<W>) -> fmt::Result {
+        f.write_str(match self {
+            BenchFault::OutOfMemory => "out of memory",
+            BenchFault::Stream => "a stream failed",
+            BenchFault::Guest => "no such guest",
+        })
+    }
 }
 
 impl From<AllocError> for BenchFault {

@@ -139,8 +139,7 @@ impl Case for Kicking {
             .process_one(self.alloc, &mut guest.host, &guest.mem, 0)
         {
             Ok(Some((exchange, _))) => exchange.reply.len() as u64,
-            Ok(None) => 0,
-            Err(_) => 0,
+            _ => 0,
         }
     }
 }

@@ -27,6 +27,12 @@ pub struct Label {
     pub runs: u16,
 }
 
+/// Adds the nanoseconds of a sample.
+pub fn push_sample(samples: &mut Vec<u64>, nanos: u64) -> Result<(), AllocError> {
+    samples.push(nanos)?;
+    Ok(())
+}
+
 /// Takes samples, and prints what comes of them where times are asked for.
 #[derive(Drop)]
 pub struct Meter<'a, R> {
@@ -96,7 +102,7 @@ impl<'a, R: Clock + Eprint> Meter<'a, R> {
         let mut samples = Vec::with_capacity(self.alloc, count)?;
         for _ in 0..count {
             let nanos = self.sample(case, label.runs)?;
-            samples.push(nanos).map_err(AllocError::from)?;
+            push_sample(&mut samples, nanos)?;
         }
         self.report(label, samples)
     }

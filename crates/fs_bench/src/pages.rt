@@ -1,15 +1,14 @@
 //! Page marks that threads share, beside bare steps on atomic words.
 
-ghost use Rattle.std.specs.Prelude.{◌≡◌};
+ghost use Rattle.std.specs.Prelude.{◌≡◌, IfOk};
 ghost use Rattle.vm_atomic_bitmaps.specs.Passes.{IsPassOf};
 
 use crate::fault::BenchFault;
-use crate::measure::{Case, Label, Meter};
-use page_threads::{ByteRange, mark_lists};
+use crate::measure::{Case, Label, Meter, push_sample};
 use std::alloc::{AllocError, Global};
 use std::num::NonZeroUsize;
 use std::sync::atomic::{AtomicU64, Ordering};
-use std::thread::Threads;
+use std::thread::{Threads, for_each_mut};
 use std::time::{Clock, Instant};
 use vm_atomic_bitmaps::{AtomicBitmap, BitmapPass};
 
@@ -23,10 +22,13 @@ const PAGES: usize = 0x40000;
 // The words of those pages.
 const WORDS: usize = PAGES / 64;
 
-// How many pages each of four threads marks, one after another and again and again, and among how many.
-const MARKS: usize = 0x40000;
-
+// How many pages each thread marks, one after another, and how often over.
 const OWN_PAGES: usize = 0x1000;
+
+const ROUNDS: usize = 0x400;
+
+// How far apart the first pages of two threads are: their words are 512 bytes from each other.
+const APART: usize = 2 * OWN_PAGES;
 
 fn label(case: &'static str, pages: usize, runs: u16) -> Label {
     Label {
@@ -38,100 +40,134 @@ fn label(case: &'static str, pages: usize, runs: u16) -> Label {
     }
 }
 
+// What is done at a time.
+#[derive(Clone, Copy, Drop)]
+enum Steps {
+    // A page is marked.
+    One,
+    // 1 MiB is marked.
+    Many,
+    // Each page is gathered.
+    All,
+}
+
+// What is done, on how many pages, how often in one sample, and under which names: by bare steps, and on a bitmap.
+const CASES: [(Steps, usize, u16, &str, &str); 3] = [
+    (Steps::One, 1, 1 << 15, "or-1", "mark-1"),
+    (Steps::Many, 256, 1 << 14, "or-4-words", "mark-256"),
+    (
+        Steps::All,
+        PAGES,
+        1 << 4,
+        "swap-4096-words",
+        "gather-262144",
+    ),
+];
+
 // Words on which bare steps are made.
 #[derive(Drop)]
 struct Words {
+    steps: Steps,
     words: Vec<AtomicU64>,
     next: usize,
 }
 
 impl Words {
-    fn new(alloc: Global, count: usize) -> Result<Words, AllocError> {
+    fn new(alloc: Global, steps: Steps, count: usize) -> Result<Words, AllocError> {
         let mut words = Vec::with_capacity(alloc, count)?;
         for _ in 0..count {
             words.push(AtomicU64::new(0))?;
         }
-        Ok(Words { words, next: 0 })
+        Ok(Words {
+            steps,
+            words,
+            next: 0,
+        })
     }
 
-    // The next page of the first word.
-    fn next_page(&mut self) -> usize {
+    // A fetch_or of the next bit of the first word.
+    fn set_one(&mut self) -> u64 {
         self.next = self.next.wrapping_add(1) % 64;
-        self.next
-    }
-}
-
-// One fetch_or of one bit.
-#[derive(Drop)]
-struct OrOne(Words);
-
-impl Case for OrOne {
-    fn prepare(&mut self, _runs: u16) {}
-
-    fn run(&mut self) -> u64 {
-        let page = self.0.next_page();
-        if let Some(word) = self.0.words.get(page / 64) {
-            word.fetch_or(1 << (page % 64), Ordering::SeqCst);
+        if let Some(word) = self.words.get(self.next / 64) {
+            word.fetch_or(1 << (self.next % 64), Ordering::SeqCst);
         }
-        page as u64
+        self.next as u64
     }
-}
 
-// As many fetch_ors as 1 MiB has words of pages.
-#[derive(Drop)]
-struct OrMany(Words);
-
-impl Case for OrMany {
-    fn prepare(&mut self, _runs: u16) {}
-
-    fn run(&mut self) -> u64 {
-        for word in self.0.words.iter() {
+    // A fetch_or of each word.
+    fn set_all(&self) -> u64 {
+        for word in self.words.iter() {
             word.fetch_or(u64::MAX, Ordering::SeqCst);
         }
         1
     }
-}
 
-// A swap with 0 of each word.
-#[derive(Drop)]
-struct SwapAll(Words);
-
-impl Case for SwapAll {
-    fn prepare(&mut self, _runs: u16) {
-        for word in self.0.words.iter() {
-            word.swap(1, Ordering::SeqCst);
-        }
-    }
-
-    fn run(&mut self) -> u64 {
+    // A swap with 0 of each word.
+    fn take_all(&self) -> u64 {
         let mut found = 0u64;
-        for word in self.0.words.iter() {
+        for word in self.words.iter() {
             found = found.wrapping_add(word.swap(0, Ordering::SeqCst));
         }
         found
     }
 }
 
+impl Case for Words {
+    fn prepare(&mut self, _runs: u16) {
+        self.set_all();
+    }
+
+    fn run(&mut self) -> u64 {
+        match self.steps {
+            Steps::One => self.set_one(),
+            Steps::Many => self.set_all(),
+            Steps::All => self.take_all(),
+        }
+    }
+}
+
 // A bitmap with a pass of it.
 #[derive(Drop)]
 struct Shared {
+    steps: Steps,
     bitmap: AtomicBitmap,
     pass: BitmapPass,
     next: usize,
     ghost own: { IsPassOf bitmap pass },
 }
 
+// A bitmap of so many pages, with its first pass.
+fn shared_pages(alloc: Global, pages: usize) -> Result<(AtomicBitmap, BitmapPass), BenchFault>
+    ensures { IfOk result (λ r. IsPassOf r.0 r.1) }
+{
+    let Some(page_size) = NonZeroUsize::new(PAGE) else {
+        return Err(BenchFault::Guest);
+    };
+    Ok(AtomicBitmap::new(alloc, pages.saturating_mul(PAGE), page_size)?)
+}
+
 impl Shared {
-    fn new(alloc: Global, pages: usize) -> Result<Shared, BenchFault> {
-        let Some(page_size) = NonZeroUsize::new(PAGE) else {
-            return Err(BenchFault::Guest);
-        };
-        let (bitmap, pass) = AtomicBitmap::new(alloc, pages.saturating_mul(PAGE), page_size)?;
+    fn new(alloc: Global, steps: Steps, pages: usize) -> Result<Shared, BenchFault> {
+        let (bitmap, pass) = shared_pages(alloc, pages)?;
         Ok(Shared {
+            steps,
             bitmap,
             pass,
             next: 0,
         })
+    }
+
+    // A mark of the next page of the first word.
+    fn mark_one(&mut self) -> u64 {
+        self.next = self.next.wrapping_add(1) % 64;
+        self.bitmap.set_bit(&mut self.pass, self.next);
+        self.next as u64
+    }
+
+    // A mark of 1 MiB.
+    fn mark_many(&mut self) -> u64 {
+        self.bitmap.set_addr_range(&mut self.pass, 0, MIB);
+        1
     }
 
     // What is gathered of a word, if there is one.
@@ -143,120 +179,127 @@ impl Shared {
         }
     }
 
-    // Marks each list by a thread of its own.
-    fn mark_lists<R: Threads + Sync>(&mut self, rt: &R, lists: &[Vec<ByteRange>]) {
-        if let Some(pass) = self.bitmap.split_pass(&mut self.pass) {
-            let pass = mark_lists(rt, &self.bitmap, pass, lists);
-            self.bitmap.join_pass(&mut self.pass, pass);
-        }
-    }
-}
-
-// A mark of one page.
-#[derive(Drop)]
-struct MarkOne(Shared);
-
-impl Case for MarkOne {
-    fn prepare(&mut self, _runs: u16) {}
-
-    fn run(&mut self) -> u64 {
-        let shared = &mut self.0;
-        shared.next = shared.next.wrapping_add(1) % 64;
-        shared.bitmap.set_bit(&mut shared.pass, shared.next);
-        shared.next as u64
-    }
-}
-
-// A mark of 1 MiB.
-#[derive(Drop)]
-struct MarkMany(Shared);
-
-impl Case for MarkMany {
-    fn prepare(&mut self, _runs: u16) {}
-
-    fn run(&mut self) -> u64 {
-        let shared = &mut self.0;
-        shared.bitmap.set_addr_range(&mut shared.pass, 0, MIB);
-        1
-    }
-}
-
-// A gather of each word.
-#[derive(Drop)]
-struct GatherAll(Shared);
-
-impl Case for GatherAll {
-    fn prepare(&mut self, _runs: u16) {
-        let shared = &mut self.0;
-        shared
-            .bitmap
-            .set_addr_range(&mut shared.pass, 0, PAGES * PAGE);
-    }
-
-    fn run(&mut self) -> u64 {
+    // A gather of each word.
+    fn gather_all(&mut self) -> u64 {
         let mut found = 0u64;
         for word in 0..WORDS {
-            found = found.wrapping_add(self.0.gather(word));
+            found = found.wrapping_add(self.gather(word));
         }
         found
     }
 }
 
-// Adds the marks of one thread, on words of its own.
-fn push_marks(ranges: &mut Vec<ByteRange>, thread: usize) -> Result<(), AllocError> {
-    let base = thread.wrapping_mul(OWN_PAGES);
-    for k in 0..MARKS {
-        let start = base.wrapping_add(k % OWN_PAGES).wrapping_mul(PAGE);
-        ranges.push(ByteRange { start, len: PAGE })?;
+impl Case for Shared {
+    fn prepare(&mut self, _runs: u16) {
+        self.bitmap.set_addr_range(&mut self.pass, 0, PAGES * PAGE);
     }
-    Ok(())
-}
 
-// The marks of four threads, by as many threads or by one.
-fn lists_of(alloc: Global, threads: usize) -> Result<Vec<Vec<ByteRange>>, AllocError> {
-    let mut lists = Vec::new(alloc);
-    let mut ranges = Vec::new(alloc);
-    for thread in 0..4 {
-        push_marks(&mut ranges, thread)?;
-        if threads == 4 {
-            lists.push(ranges)?;
-            ranges = Vec::new(alloc);
+    fn run(&mut self) -> u64 {
+        match self.steps {
+            Steps::One => self.mark_one(),
+            Steps::Many => self.mark_many(),
+            Steps::All => self.gather_all(),
         }
     }
-    if threads != 4 {
-        lists.push(ranges)?;
-    }
-    Ok(lists)
 }
 
-// The nanoseconds that the marks of all lists take.
-fn time_lists<R: Clock + Threads + Sync>(
+// What a thread marks: pages of its own, with a pass of its own.
+#[derive(Drop)]
+struct Marker<'a> {
+    bitmap: &'a AtomicBitmap,
+    pass: BitmapPass,
+    first: usize,
+    ghost own: { IsPassOf bitmap.now pass },
+}
+
+impl<'a> Marker<'a> {
+    // A marker of the pages from `first` on.
+    fn new(bitmap: &'a AtomicBitmap, pass: &mut BitmapPass, first: usize) -> Marker<'a>
+        requires { IsPassOf bitmap.now pass.old }
+        ensures { IsPassOf bitmap.now pass.new }
+    {
+        let pass = bitmap.split_pass(pass).unwrap();
+        Marker {
+            bitmap,
+            pass,
+            first,
+        }
+    }
+
+    // Marks each of the pages.
+    fn mark_each(&mut self) {
+        for k in 0..OWN_PAGES {
+            self.bitmap
+                .set_bit(&mut self.pass, self.first.wrapping_add(k));
+        }
+    }
+
+    // Marks each of the pages, over and over.
+    fn mark(&mut self) {
+        for _ in 0..ROUNDS {
+            self.mark_each();
+        }
+    }
+}
+
+// The nanoseconds that all marks take, where each marker has a thread of its own.
+fn time_marks<R: Clock + Threads + Sync>(
     rt: &R,
-    shared: &mut Shared,
-    lists: &[Vec<ByteRange>],
+    markers: &mut [Marker<'_>],
 ) -> Result<u64, BenchFault> {
     let start = Instant::now(rt)?;
-    shared.mark_lists(rt, lists);
+    for_each_mut(rt, markers, 4, &|_, marker| marker.mark());
     let elapsed = start.elapsed(rt)?;
     Ok(u64::try_from(elapsed.as_nanos()).unwrap_or(u64::MAX))
 }
 
-// Measures the same marks by one thread or by four, or makes them once where no times are asked for.
-fn measure_threads<R: Clock + Eprint + Threads + Sync>(
-    meter: &mut Meter<'_, R>,
+// Measures the marks of markers side by side, or makes them once where no times are asked for.
+fn measure_marks<R: Clock + Eprint + Threads + Sync>(
+    meter: &Meter<'_, R>,
     rt: &R,
     alloc: Global,
     name: &'static str,
-    threads: usize,
+    markers: &mut [Marker<'_>],
 ) -> Result<(), BenchFault> {
-    let mut shared = Shared::new(alloc, 4 * OWN_PAGES)?;
-    let lists = lists_of(alloc, threads)?;
     let mut samples = Vec::new(alloc);
     for _ in 0..meter.asked().unwrap_or(1) {
-        let nanos = time_lists(rt, &mut shared, &lists)?;
-        samples.push(nanos).map_err(AllocError::from)?;
+        let nanos = time_marks(rt, markers)?;
+        push_sample(&mut samples, nanos)?;
     }
-    meter.report(label(name, 4 * MARKS, 1), samples)
+    let pages = markers.len().saturating_mul(ROUNDS * OWN_PAGES);
+    meter.report(label(name, pages, 1), samples)
+}
+
+// Measures marks of one thread, and as many of each of four.
+fn measure_threads<R: Clock + Eprint + Threads + Sync>(
+    meter: &Meter<'_, R>,
+    rt: &R,
+    alloc: Global,
+) -> Result<(), BenchFault> {
+    let (bitmap, mut pass) = shared_pages(alloc, 4 * APART)?;
+    let mut markers = [
+        Marker::new(&bitmap, &mut pass, 0),
+        Marker::new(&bitmap, &mut pass, APART),
+        Marker::new(&bitmap, &mut pass, 2 * APART),
+        Marker::new(&bitmap, &mut pass, 3 * APART),
+    ];
+    measure_marks(meter, rt, alloc, "threads-1", &mut markers[..1])?;
+    measure_marks(meter, rt, alloc, "threads-4", &mut markers)
+}
+
+// Measures marks and gathers beside bare steps.
+fn measure_steps<R: Clock + Eprint>(
+    meter: &mut Meter<'_, R>,
+    alloc: Global,
+) -> Result<(), BenchFault> {
+    for (steps, pages, runs, bare, marks) in CASES {
+        let words = pages.div_ceil(64);
+        let mut bits = Words::new(alloc, steps, words)?;
+        meter.measure(label(bare, pages, runs), &mut bits)?;
+        let mut shared = Shared::new(alloc, steps, words * 64)?;
+        meter.measure(label(marks, pages, runs), &mut shared)?;
+    }
+    Ok(())
 }
 
 /// Measures marks and gathers beside bare steps, and marks of four threads beside those of one.
@@ -265,27 +308,6 @@ pub fn measure_pages<R: Clock + Eprint + Threads + Sync>(
     rt: &R,
     alloc: Global,
 ) -> Result<(), BenchFault> {
-    meter.measure(label("or-1", 1, 1 << 15), &mut OrOne(Words::new(alloc, 1)?))?;
-    meter.measure(
-        label("mark-1", 1, 1 << 15),
-        &mut MarkOne(Shared::new(alloc, 64)?),
-    )?;
-    meter.measure(
-        label("or-4-words", 256, 1 << 14),
-        &mut OrMany(Words::new(alloc, 4)?),
-    )?;
-    meter.measure(
-        label("mark-256", 256, 1 << 14),
-        &mut MarkMany(Shared::new(alloc, 256)?),
-    )?;
-    meter.measure(
-        label("swap-4096-words", PAGES, 1 << 4),
-        &mut SwapAll(Words::new(alloc, WORDS)?),
-    )?;
-    meter.measure(
-        label("gather-262144", PAGES, 1 << 4),
-        &mut GatherAll(Shared::new(alloc, PAGES)?),
-    )?;
-    measure_threads(meter, rt, alloc, "threads-1", 1)?;
-    measure_threads(meter, rt, alloc, "threads-4", 4)
+    measure_steps(meter, alloc)?;
+    measure_threads(meter, rt, alloc)
 }

@@ -7,19 +7,15 @@ use crate::measure::{Case, Label, Meter};
 use std::alloc::Global;
 use std::time::Clock;
 
-// How many bytes are copied, under which name, and how often in one sample.
-const COPIES: [(&str, usize, u16); 4] = [
-    ("copy-16", 16, 1 << 15),
-    ("copy-4k", 0x1000, 1 << 12),
-    ("copy-64k", 0x10000, 1 << 8),
-    ("copy-1m", 0x100000, 1 << 4),
-];
-
-// How many bytes are copied twice.
-const TWICE: [(&str, usize, u16); 3] = [
-    ("twice-4k", 0x1000, 1 << 12),
-    ("twice-64k", 0x10000, 1 << 8),
-    ("twice-1m", 0x100000, 1 << 4),
+// Whether bytes are copied twice, under which name, how many, and how often in one sample.
+const COPIES: [(bool, &str, usize, u16); 7] = [
+    (false, "copy-16", 16, 1 << 15),
+    (false, "copy-4k", 0x1000, 1 << 12),
+    (false, "copy-64k", 0x10000, 1 << 8),
+    (false, "copy-1m", 0x100000, 1 << 4),
+    (true, "twice-4k", 0x1000, 1 << 12),
+    (true, "twice-64k", 0x10000, 1 << 8),
+    (true, "twice-1m", 0x100000, 1 << 4),
 ];
 
 fn label(case: &'static str, bytes: usize, runs: u16) -> Label {
@@ -32,27 +28,11 @@ fn label(case: &'static str, bytes: usize, runs: u16) -> Label {
     }
 }
 
-// A slice that is copied over another of its length.
+// A slice that is copied over another, or over a middle one, which is then copied over the other: the least that READ does,
+// by way of its reply.
 #[derive(Drop)]
 struct SliceCopy {
-    source: Vec<u8>,
-    dest: Vec<u8>,
-    ghost same: { length source.items ≡ length dest.items },
-}
-
-impl Case for SliceCopy {
-    fn prepare(&mut self, _runs: u16) {}
-
-    fn run(&mut self) -> u64 {
-        self.dest.copy_from_slice(&self.source);
-        u64::from(self.dest.last().copied().unwrap_or(0))
-    }
-}
-
-// A slice that is copied over a second one, which is then copied over a third: the least that READ does, by way of its
-// reply.
-#[derive(Drop)]
-struct TwiceCopy {
+    twice: bool,
     source: Vec<u8>,
     middle: Vec<u8>,
     dest: Vec<u8>,
@@ -60,12 +40,16 @@ struct TwiceCopy {
     ghost second: { length middle.items ≡ length dest.items },
 }
 
-impl Case for TwiceCopy {
+impl Case for SliceCopy {
     fn prepare(&mut self, _runs: u16) {}
 
     fn run(&mut self) -> u64 {
-        self.middle.copy_from_slice(&self.source);
-        self.dest.copy_from_slice(&self.middle);
+        if self.twice {
+            self.middle.copy_from_slice(&self.source);
+            self.dest.copy_from_slice(&self.middle);
+        } else {
+            self.dest.copy_from_slice(&self.source);
+        }
         u64::from(self.dest.last().copied().unwrap_or(0))
     }
 }
@@ -75,15 +59,9 @@ pub fn measure_copies<R: Clock + Eprint>(
     meter: &mut Meter<'_, R>,
     alloc: Global,
 ) -> Result<(), BenchFault> {
-    for (name, bytes, runs) in COPIES {
+    for (twice, name, bytes, runs) in COPIES {
         let mut case = SliceCopy {
-            source: vec![in alloc; 7; bytes]?,
-            dest: vec![in alloc; 0; bytes]?,
-        };
-        meter.measure(label(name, bytes, runs), &mut case)?;
-    }
-    for (name, bytes, runs) in TWICE {
-        let mut case = TwiceCopy {
+            twice,
             source: vec![in alloc; 7; bytes]?,
             middle: vec![in alloc; 0; bytes]?,
             dest: vec![in alloc; 0; bytes]?,

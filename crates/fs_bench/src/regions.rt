@@ -39,13 +39,22 @@ struct Regions {
     ghost held: { AreHeld (lengths host) mem } by { AreHeld-prop (lengths host) mem },
 }
 
+// Ranges of one size, one right behind another from address 0 on.
+fn ranges(
+    alloc: Global,
+    count: usize,
+    size: usize,
+) -> Result<Vec<(GuestAddress, usize)>, AllocError> {
+    let mut ranges = Vec::with_capacity(alloc, count)?;
+    for k in 0..count {
+        ranges.push((GuestAddress(k.wrapping_mul(size) as u64), size))?;
+    }
+    Ok(ranges)
+}
+
 impl Regions {
     fn new(alloc: Global, count: usize, size: usize) -> Result<Regions, BenchFault> {
-        let mut ranges = Vec::with_capacity(alloc, count)?;
-        for k in 0..count {
-            let start = GuestAddress(k.wrapping_mul(size) as u64);
-            ranges.push((start, size)).map_err(AllocError::from)?;
-        }
+        let ranges = ranges(alloc, count, size)?;
         let mut host = HostMemory::new(alloc);
         let mem = GuestMemoryMmap::from_ranges(alloc, &mut host, &ranges)?;
         Ok(Regions { host, mem })
@@ -99,6 +108,15 @@ struct Reading {
     buffer: Vec<u8>,
 }
 
+impl Reading {
+    fn new(alloc: Global, count: usize, size: usize) -> Result<Reading, BenchFault> {
+        Ok(Reading {
+            regions: Regions::new(alloc, count, size)?,
+            buffer: vec![in alloc; 0; MIB]?,
+        })
+    }
+}
+
 impl Case for Reading {
     fn prepare(&mut self, _runs: u16) {}
 
@@ -111,8 +129,8 @@ impl Case for Reading {
     }
 }
 
-/// Measures look-ups among ever more regions, and reads of 1 MiB from one region and across many.
-pub fn measure_regions<R: Clock + Eprint>(
+// Measures look-ups among ever more regions.
+fn measure_finds<R: Clock + Eprint>(
     meter: &mut Meter<'_, R>,
     alloc: Global,
 ) -> Result<(), BenchFault> {
@@ -120,12 +138,26 @@ pub fn measure_regions<R: Clock + Eprint>(
         let mut case = Finding::new(alloc, count)?;
         meter.measure(label(name, 0, 1 << 15), &mut case)?;
     }
+    Ok(())
+}
+
+// Measures reads of 1 MiB from one region and across many.
+fn measure_reads<R: Clock + Eprint>(
+    meter: &mut Meter<'_, R>,
+    alloc: Global,
+) -> Result<(), BenchFault> {
     for (name, count, size) in READS {
-        let mut case = Reading {
-            regions: Regions::new(alloc, count, size)?,
-            buffer: vec![in alloc; 0; MIB]?,
-        };
+        let mut case = Reading::new(alloc, count, size)?;
         meter.measure(label(name, MIB, 1 << 4), &mut case)?;
     }
     Ok(())
+}
+
+/// Measures look-ups among ever more regions, and reads of 1 MiB from one region and across many.
+pub fn measure_regions<R: Clock + Eprint>(
+    meter: &mut Meter<'_, R>,
+    alloc: Global,
+) -> Result<(), BenchFault> {
+    measure_finds(meter, alloc)?;
+    measure_reads(meter, alloc)
 }

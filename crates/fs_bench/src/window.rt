@@ -10,28 +10,28 @@ use std::alloc::Global;
 use std::time::Clock;
 use vm_memory_core::{Bytes, HostMemory, PageBitmap, VolatileSlice};
 
-// How many bytes a case moves, under which name, and how often in one sample.
-type Sizes = [(&'static str, usize, u16); 4];
+// What is done with windows.
+#[derive(Clone, Copy, Drop)]
+enum Way {
+    Read,
+    Write,
+    Copy,
+}
 
-const READS: Sizes = [
-    ("read-16", 16, 1 << 15),
-    ("read-4k", 0x1000, 1 << 12),
-    ("read-64k", 0x10000, 1 << 8),
-    ("read-1m", 0x100000, 1 << 4),
-];
-
-const WRITES: Sizes = [
-    ("write-16", 16, 1 << 15),
-    ("write-4k", 0x1000, 1 << 12),
-    ("write-64k", 0x10000, 1 << 8),
-    ("write-1m", 0x100000, 1 << 4),
-];
-
-const COPIES: Sizes = [
-    ("copy-16", 16, 1 << 15),
-    ("copy-4k", 0x1000, 1 << 12),
-    ("copy-64k", 0x10000, 1 << 8),
-    ("copy-1m", 0x100000, 1 << 4),
+// What a case does, under which name, with how many bytes, and how often in one sample.
+const CASES: [(Way, &str, usize, u16); 12] = [
+    (Way::Read, "read-16", 16, 1 << 15),
+    (Way::Read, "read-4k", 0x1000, 1 << 12),
+    (Way::Read, "read-64k", 0x10000, 1 << 8),
+    (Way::Read, "read-1m", 0x100000, 1 << 4),
+    (Way::Write, "write-16", 16, 1 << 15),
+    (Way::Write, "write-4k", 0x1000, 1 << 12),
+    (Way::Write, "write-64k", 0x10000, 1 << 8),
+    (Way::Write, "write-1m", 0x100000, 1 << 4),
+    (Way::Copy, "copy-16", 16, 1 << 15),
+    (Way::Copy, "copy-4k", 0x1000, 1 << 12),
+    (Way::Copy, "copy-64k", 0x10000, 1 << 8),
+    (Way::Copy, "copy-1m", 0x100000, 1 << 4),
 ];
 
 fn label(case: &'static str, bytes: usize, runs: u16) -> Label {
@@ -96,36 +96,22 @@ impl Windows {
     }
 }
 
+// Windows, and what is done with them.
 #[derive(Drop)]
-struct Reading(Windows);
-
-impl Case for Reading {
-    fn prepare(&mut self, _runs: u16) {}
-
-    fn run(&mut self) -> u64 {
-        self.0.read()
-    }
+struct Moving {
+    way: Way,
+    windows: Windows,
 }
 
-#[derive(Drop)]
-struct Writing(Windows);
-
-impl Case for Writing {
+impl Case for Moving {
     fn prepare(&mut self, _runs: u16) {}
 
     fn run(&mut self) -> u64 {
-        self.0.write()
-    }
-}
-
-#[derive(Drop)]
-struct Copying(Windows);
-
-impl Case for Copying {
-    fn prepare(&mut self, _runs: u16) {}
-
-    fn run(&mut self) -> u64 {
-        self.0.copy()
+        match self.way {
+            Way::Read => self.windows.read(),
+            Way::Write => self.windows.write(),
+            Way::Copy => self.windows.copy(),
+        }
     }
 }
 
@@ -134,17 +120,9 @@ pub fn measure_windows<R: Clock + Eprint>(
     meter: &mut Meter<'_, R>,
     alloc: Global,
 ) -> Result<(), BenchFault> {
-    for (name, bytes, runs) in READS {
-        let mut case = Reading(Windows::new(alloc, bytes)?);
-        meter.measure(label(name, bytes, runs), &mut case)?;
-    }
-    for (name, bytes, runs) in WRITES {
-        let mut case = Writing(Windows::new(alloc, bytes)?);
-        meter.measure(label(name, bytes, runs), &mut case)?;
-    }
-    for (name, bytes, runs) in COPIES {
-        let mut case = Copying(Windows::new(alloc, bytes)?);
-        meter.measure(label(name, bytes, runs), &mut case)?;
+    for (way, name, bytes, runs) in CASES {
+        let windows = Windows::new(alloc, bytes)?;
+        meter.measure(label(name, bytes, runs), &mut Moving { way, windows })?;
     }
     Ok(())
 }
