@@ -233,45 +233,109 @@ impl<'a> Marker<'a> {
                 .set_bit(&mut self.pass, self.first.wrapping_add(k));
         }
     }
+}
 
-    // Marks each of the pages, over and over.
-    fn mark(&mut self) {
+impl Case for Marker<'_> {
+    fn prepare(&mut self, _runs: u16) {}
+
+    fn run(&mut self) -> u64 {
         for _ in 0..ROUNDS {
             self.mark_each();
+        }
+        1
+    }
+}
+
+// What a thread sets by bare steps: bits of its own.
+#[derive(Drop)]
+struct Setter<'a> {
+    words: &'a [AtomicU64],
+    first: usize,
+}
+
+impl<'a> Setter<'a> {
+    // A setter of the bits from `first` on.
+    fn new(words: &'a [AtomicU64], first: usize) -> Setter<'a> {
+        Setter { words, first }
+    }
+
+    // Sets each of the bits.
+    fn set_each(&mut self) {
+        for k in 0..OWN_PAGES {
+            let bit = self.first.wrapping_add(k);
+            if let Some(word) = self.words.get(bit / 64) {
+                word.fetch_or(1 << (bit % 64), Ordering::SeqCst);
+            }
         }
     }
 }
 
-// The nanoseconds that all marks take, where each marker has a thread of its own.
-fn time_marks<R: Clock + Threads + Sync>(
+impl Case for Setter<'_> {
+    fn prepare(&mut self, _runs: u16) {}
+
+    fn run(&mut self) -> u64 {
+        for _ in 0..ROUNDS {
+            self.set_each();
+        }
+        1
+    }
+}
+
+// The nanoseconds of a run of all cases, where each has a thread of its own.
+fn time_threads<R: Clock + Threads + Sync, C: Case + Send>(
     rt: &R,
-    markers: &mut [Marker<'_>],
+    cases: &mut [C],
 ) -> Result<u64, BenchFault> {
     let start = Instant::now(rt)?;
-    for_each_mut(rt, markers, 4, &|_, marker| marker.mark());
+    for_each_mut(
+        rt,
+        cases,
+        4,
+        &|_, case| {
+            case.run();
+        },
+    );
     let elapsed = start.elapsed(rt)?;
     Ok(u64::try_from(elapsed.as_nanos()).unwrap_or(u64::MAX))
 }
 
-// Measures the marks of markers side by side, or makes them once where no times are asked for.
-fn measure_marks<R: Clock + Eprint + Threads + Sync>(
+// Measures cases side by side, or runs them once where no times are asked for.
+fn measure_side_by_side<R: Clock + Eprint + Threads + Sync, C: Case + Send>(
     meter: &Meter<'_, R>,
     rt: &R,
     alloc: Global,
     name: &'static str,
-    markers: &mut [Marker<'_>],
+    cases: &mut [C],
 ) -> Result<(), BenchFault> {
     let mut samples = Vec::new(alloc);
     for _ in 0..meter.asked().unwrap_or(1) {
-        let nanos = time_marks(rt, markers)?;
+        let nanos = time_threads(rt, cases)?;
         push_sample(&mut samples, nanos)?;
     }
-    let pages = markers.len().saturating_mul(ROUNDS * OWN_PAGES);
+    let pages = cases.len().saturating_mul(ROUNDS * OWN_PAGES);
     meter.report(label(name, pages, 1), samples)
 }
 
+// Measures bare steps of one thread, and as many of each of four.
+fn measure_setters<R: Clock + Eprint + Threads + Sync>(
+    meter: &Meter<'_, R>,
+    rt: &R,
+    alloc: Global,
+) -> Result<(), BenchFault> {
+    let bits = Words::new(alloc, Steps::One, 4 * APART / 64)?;
+    let words = bits.words.as_slice();
+    let mut setters = [
+        Setter::new(words, 0),
+        Setter::new(words, APART),
+        Setter::new(words, 2 * APART),
+        Setter::new(words, 3 * APART),
+    ];
+    measure_side_by_side(meter, rt, alloc, "or-threads-1", &mut setters[..1])?;
+    measure_side_by_side(meter, rt, alloc, "or-threads-4", &mut setters)
+}
+
 // Measures marks of one thread, and as many of each of four.
-fn measure_threads<R: Clock + Eprint + Threads + Sync>(
+fn measure_markers<R: Clock + Eprint + Threads + Sync>(
     meter: &Meter<'_, R>,
     rt: &R,
     alloc: Global,
@@ -283,8 +347,8 @@ fn measure_threads<R: Clock + Eprint + Threads + Sync>(
         Marker::new(&bitmap, &mut pass, 2 * APART),
         Marker::new(&bitmap, &mut pass, 3 * APART),
     ];
-    measure_marks(meter, rt, alloc, "threads-1", &mut markers[..1])?;
-    measure_marks(meter, rt, alloc, "threads-4", &mut markers)
+    measure_side_by_side(meter, rt, alloc, "threads-1", &mut markers[..1])?;
+    measure_side_by_side(meter, rt, alloc, "threads-4", &mut markers)
 }
 
 // Measures marks and gathers beside bare steps.
@@ -302,12 +366,13 @@ fn measure_steps<R: Clock + Eprint>(
     Ok(())
 }
 
-/// Measures marks and gathers beside bare steps, and marks of four threads beside those of one.
+/// Measures marks and gathers beside bare steps, and those of four threads beside those of one.
 pub fn measure_pages<R: Clock + Eprint + Threads + Sync>(
     meter: &mut Meter<'_, R>,
     rt: &R,
     alloc: Global,
 ) -> Result<(), BenchFault> {
     measure_steps(meter, alloc)?;
-    measure_threads(meter, rt, alloc)
+    measure_setters(meter, rt, alloc)?;
+    measure_markers(meter, rt, alloc)
 }
