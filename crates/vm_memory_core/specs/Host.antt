@@ -68,6 +68,14 @@ cleared h = with_blocks h (map unmarked h.blocks)
 abbrev pub with_block : Host → Block → Host
 with_block h b = with_blocks h (h.blocks ++ b ∷ [])
 
+-- the host with one more table
+abbrev pub with_table : Host → List IotlbRange → Host
+with_table h t = record h { tables = h.tables ++ t ∷ [] }
+
+-- the host with one more set of I/O pages
+abbrev pub with_io_pages : Host → List Bool → Host
+with_io_pages h marks = record h { io_marks = h.io_marks ++ marks ∷ [] }
+
 -- the lengths of the blocks
 abbrev pub lengths : Host → List ℕ
 lengths h = map (λ b. length b.bytes) h.blocks

@@ -1,4 +1,5 @@
 pub mod Host
+pub mod Lending
 pub mod Window
 pub mod Parts
 pub mod Access

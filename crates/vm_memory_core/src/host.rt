@@ -1,22 +1,28 @@
-//! Memory as numbered blocks, each with its dirty pages.
+//! Memory as numbered blocks, each with its dirty pages, with the tables of IOMMUs and their dirty pages beside them.
 
 ghost use Rattle.std.specs.Prelude.{[], IfOk, IfSome, IsSome, IsTrue, OnErr, false, ◌≡◌, ◌↔◌, ◌<◌, ◌≤◌, ◌*◌, length, map, replicate, slice_get, option_map};
-ghost use Rattle.vm_memory_core.specs.Host.{byte_at, lengths, shape, with_block};
+ghost use Rattle.std.specs.Borrow.{sem};
+ghost use Rattle.vm_memory_core.specs.Host.{byte_at, lengths, shape, with_block, with_io_pages, with_table};
 ghost use Rattle.vm_memory_core.specs.Parts.{spelled_all};
 ghost use Rattle.vm_memory_core.specs.Window.{places_of, LiesIn, Stores, byte_in};
 
 use crate::block::{Block, copy_across};
+use crate::io_pages::IoPages;
 use crate::window::VolatileSlice;
 use std::alloc::{AllocError, Global};
 use std::marker::Model;
 use vm_bitmaps::{NewBitmap, PageBitmap};
+use vm_iotlb::Iotlb;
 use vm_values::ByteValued;
 
-/// The memory that guests and devices share: blocks, numbered from 0, each with a bitmap of its dirty pages.
+/// The memory that guests and devices share: blocks, each with a bitmap of its dirty pages; and what devices behind an
+/// IOMMU go by: tables, and sets of dirty I/O pages. Each of the three is numbered from 0.
 #[derive(Drop)]
 pub struct HostMemory<B: NewBitmap> {
     alloc: Global,
     pub(crate) blocks: Vec<Block<B>>,
+    tables: Vec<Iotlb>,
+    io_pages: Vec<IoPages<B>>,
 }
 
 impl<B: NewBitmap> Model for HostMemory<B> {
@@ -25,10 +31,12 @@ impl<B: NewBitmap> Model for HostMemory<B> {
 
     ghost Value = { Host };
 
-    ghost view = { λ h. record { blocks = h.blocks.items; tables = []; io_marks = [] } };
+    ghost view = { λ h. record { blocks = h.blocks.items; tables = h.tables.items; io_marks = h.io_pages.items } };
 }
 
 impl<B: NewBitmap> HostMemory<B> {
+    ghost use Rattle.vm_memory_core.specs.Lending.{LendsIoPages, LendsTable};
+
     /// An empty memory.
     pub fn new(alloc: Global) -> HostMemory<B>
         ensures { result ≡ record { blocks = []; tables = []; io_marks = [] } }
@@ -36,6 +44,8 @@ impl<B: NewBitmap> HostMemory<B> {
         HostMemory {
             alloc,
             blocks: Vec::new(alloc),
+            tables: Vec::new(alloc),
+            io_pages: Vec::new(alloc),
         }
     }
 
@@ -51,6 +61,59 @@ impl<B: NewBitmap> HostMemory<B> {
         let bitmap = B::with_len(self.alloc, len)?;
         self.blocks.push(Block { bytes, bitmap })?;
         Ok(number)
+    }
+
+    /// A new table, in which no I/O address is mapped: its number.
+    pub fn new_table(&mut self) -> Result<usize, AllocError>
+        ensures number { IfOk result (λ t. t ≡ length self.old.tables) }
+        ensures ok { IfOk result (λ _. self.new ≡ with_table self.old []) }
+        ensures err { OnErr result (self.new ≡ self.old) }
+    {
+        let number = self.tables.len();
+        self.tables.push(Iotlb::new(self.alloc))?;
+        Ok(number)
+    }
+
+    /// A new set of dirty I/O pages for the addresses below `byte_size`, none of which is marked: its number.
+    pub fn new_io_bitmap(&mut self, byte_size: usize) -> Result<usize, AllocError>
+        ensures number { IfOk result (λ i. i ≡ length self.old.io_marks) }
+        ensures ok { IfOk result (λ _. self.new ≡ with_io_pages self.old (replicate (B.count byte_size) false)) }
+        ensures err { OnErr result (self.new ≡ self.old) }
+    {
+        let number = self.io_pages.len();
+        let pages = IoPages::with_len(self.alloc, byte_size)?;
+        self.io_pages.push(pages)?;
+        Ok(number)
+    }
+
+    /// A table.
+    pub fn table(&self, table: usize) -> Option<&Iotlb>
+        ensures { option_map (λ t. t.now) result ≡ slice_get self.now.tables table }
+    {
+        self.tables.get(table)
+    }
+
+    /// A table, to be changed.
+    pub fn table_mut(&mut self, table: usize) -> Option<&mut Iotlb>
+        ensures* writes_back { sem 𝓛 (LendsTable B.row B.NewBitmap self.entry table result) }
+        ensures value { option_map (λ t. t.now) result ≡ slice_get self.old.tables table }
+    {
+        self.tables.get_mut(table)
+    }
+
+    /// A set of dirty I/O pages.
+    pub fn io_bitmap(&self, set: usize) -> Option<&IoPages<B>>
+        ensures { option_map (λ p. p.now) result ≡ slice_get self.now.io_marks set }
+    {
+        self.io_pages.get(set)
+    }
+
+    /// A set of dirty I/O pages, to be changed.
+    pub fn io_bitmap_mut(&mut self, set: usize) -> Option<&mut IoPages<B>>
+        ensures* writes_back { sem 𝓛 (LendsIoPages B.row B.NewBitmap self.entry set result) }
+        ensures value { option_map (λ p. p.now) result ≡ slice_get self.old.io_marks set }
+    {
+        self.io_pages.get_mut(set)
     }
 
     /// How many blocks there are.

@@ -8,7 +8,7 @@ use Rattle.vm_memory_core.proofs.host.HostMemory.copy_window.Goals as goal
 
 pub returns-then-block-clause-stored : goal.returns-then-block-clause-stored
 returns-then-block-clause-stored g c =
-    let inside : Host = record { blocks = c.self.inside.blocks.items; tables = []; io_marks = [] } in
+    let inside : Host = record { blocks = c.self.inside.blocks.items; tables = c.self.inside.tables.items; io_marks = c.self.inside.io_pages.items } in
     let dest = c.args.dest in
     let source = c.args.source in
     let old = c.index_mut-block.result.now in
@@ -25,7 +25,7 @@ returns-then-block-clause-shape g c = ap shape (returns-then-block-clause-stored
 
 pub returns-else-block-clause-stored : goal.returns-else-block-clause-stored
 returns-else-block-clause-stored g c =
-    let none : Host = record { blocks = []; tables = []; io_marks = [] } in
+    let none : Host = record { blocks = []; tables = c.self.inside.tables.items; io_marks = c.self.inside.io_pages.items } in
     let new = with_blocks none c.copy_across.new.blocks in
     let copied : Host → Type 0 = λ k. Stores k new (places_of c.args.dest) (map (byte_in k) (places_of c.args.source)) in
     ap (with_blocks none) (with_items_is c.self.inside.blocks c.copy_across.new.blocks (omega arith))
