@@ -75,7 +75,7 @@ sum_all segment later =
     omega (arith, sum-filled (length segment ∷ segment_lengths later), sum-cons (length segment) (segment_lengths later), sum-lengths later, length-append segment (joined later))
 
 -- the lengths that were taken off the queue, and those that are left on it
-pub before_more : (front after queue popped : List (Bor (List ℕ))) (cut segment : Bor (List ℕ)) (part n : ℕ) (whole : List ℕ) → after ≡ front ++ cut ∷ [] → length cut.now ≡ n → n ≡ min part (length segment.now) → 0 < part → queue ≡ segment ∷ popped → filled (segment_lengths front) ++ up_to part (filled (segment_lengths queue)) ≡ whole → filled (lengths after) ++ up_to (part - n) (filled (segment_lengths popped)) ≡ whole
+pub before_more : (front after queue popped : List (Bor (List ℕ))) (cut segment : Bor (List ℕ)) (part n : ℕ) (whole : List ℕ) → after ≡ front ++ cut ∷ [] → length cut.now ≡ n → n ≡ min part (length segment.now) → 0 < part → queue ≡ segment ∷ popped → filled (segment_lengths front) ++ up_to part (filled (segment_lengths queue)) ≡ whole → filled (segment_lengths after) ++ up_to (part - n) (filled (segment_lengths popped)) ≡ whole
 before_more front after queue popped cut segment part n whole a l m some q w =
     let behind = up_to (part - n) (filled (segment_lengths popped)) in
     ap (λ s. filled (segment_lengths s) ++ behind) a
