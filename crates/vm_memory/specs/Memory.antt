@@ -21,9 +21,13 @@ pub record Memory : Type 0 where
   pub io_pages : ℕ
   pub translates : Bool
 
+-- a table of a host, by its number: one that isn't there maps nothing
+abbrev pub table_in : Host → ℕ → Table
+table_in h number = table_kept (unwrap_or (slice_get h.tables number) [])
+
 -- the table that a memory translates by
 abbrev pub table_of : Memory → Table
-table_of m = table_kept (unwrap_or (slice_get m.host.tables m.table) [])
+table_of m = table_in m.host m.table
 
 -- the place of what an address is mapped to, where the access is allowed
 abbrev pub place_behind : List Region → Permissions → Option Mapping → Option Place
