@@ -22,6 +22,8 @@ mod errors;
 #[cfg(test)]
 mod given;
 #[cfg(test)]
+mod io_pages;
+#[cfg(test)]
 mod joined;
 #[cfg(test)]
 mod permissions;

@@ -68,6 +68,19 @@ impl<'a> IotlbIterator<'a> {
     }
 }
 
+impl<'a> Default for IotlbIterator<'a> {
+    /// No pieces: what no addresses are mapped to.
+    fn default() -> IotlbIterator<'a>
+        ensures { result ≡ [] }
+    {
+        IotlbIterator {
+            ranges: &[],
+            next: 0,
+            end: 0,
+        }
+    }
+}
+
 impl<'a> Iterator for IotlbIterator<'a> {
     type Item = MappedRange;
 

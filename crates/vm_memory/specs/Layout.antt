@@ -28,7 +28,7 @@ last_address r = r.start + r.size - 1
 
 -- the place of an address in one region
 abbrev pub place_in : Region → ℕ → Option Place
-place_in r a = if is_within r.start r.size a then Some (record { block = r.block; offset = a - r.start }) else None
+place_in r a = if is_within r.start r.size a then Some (record { block = r.block; offset = a - r.start; io = None }) else None
 
 -- the place of an address
 unfoldable pub place : List Region → ℕ → Option Place

@@ -2,6 +2,7 @@ pub mod Layout
 pub mod Regions
 pub mod Collecting
 pub mod Memory
+pub mod Translating
 pub mod Backend
 pub mod Bytes
 pub mod ReachedBytes

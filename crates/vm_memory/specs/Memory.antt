@@ -6,7 +6,8 @@ use Rattle.vm_iotlb.specs.declared.permissions.Permissions.{Permissions}
 use Rattle.vm_iotlb.specs.declared.permissions.Permissions.TheVariants.{Read, Write}
 use Rattle.vm_iotlb.specs.Table.{Mapping, Table, allows}
 use Rattle.vm_iotlb.specs.Ranges.{table_kept}
-use Rattle.vm_memory_core.specs.Host.{Host, Place, byte_at, with_byte, with_block_mark, with_io_mark}
+use Rattle.vm_memory_core.specs.Host.{Host, Place, byte_at}
+use Rattle.vm_memory_core.specs.Window.{put_byte}
 use Rattle.vm_memory.specs.Layout.{Region, place}
 use Rattle.vm_values.specs.declared.address.GuestAddress.{GuestAddress}
 use Rattle.vm_memory.specs.declared.error.GuestMemoryError.{GuestMemoryError}
@@ -20,18 +21,27 @@ pub record Memory : Type 0 where
   pub io_pages : ℕ
   pub translates : Bool
 
+-- a table of a host, by its number: one that isn't there maps nothing
+abbrev pub table_in : Host → ℕ → Table
+table_in h number = table_kept (unwrap_or (slice_get h.tables number) [])
+
 -- the table that a memory translates by
 abbrev pub table_of : Memory → Table
-table_of m = table_kept (unwrap_or (slice_get m.host.tables m.table) [])
+table_of m = table_in m.host m.table
 
 -- the place of what an address is mapped to, where the access is allowed
 abbrev pub place_behind : List Region → Permissions → Option Mapping → Option Place
 place_behind layout access None = None
 place_behind layout access (Some to) = if allows to.perm access then place layout to.target else None
 
+-- a place where a write marks the page of an I/O address in place of its own
+abbrev pub for_io : (set address : ℕ) → Option Place → Option Place
+for_io set address None = None
+for_io set address (Some p) = Some (record p { io = Some (record { set = set; address = address }) })
+
 -- where an address is, for an access
 abbrev pub location : Memory → Permissions → ℕ → Option Place
-location m access a = if m.translates then place_behind m.layout access (table_of m a) else place m.layout a
+location m access a = if m.translates then for_io m.io_pages a (place_behind m.layout access (table_of m a)) else place m.layout a
 
 -- n addresses from a on
 unfoldable pub addresses : ℕ → ℕ → List ℕ
@@ -58,18 +68,14 @@ bytes m a n = map (byte m) (addresses a n)
 abbrev pub number : Memory → Width → ℕ → ℕ
 number m w a = from_le_bytes w (bytes m a (byte_len w))
 
--- the host after a byte was written at a place which has this address: it stands there and its page is marked, in the block, or by its address in the I/O pages
-abbrev pub marked_for : Memory → ℕ → Place → Host → Host
-marked_for m a p h = if m.translates then with_io_mark h m.io_pages a else with_block_mark h p
-
--- one byte is stored at an address that has this place, if any, and marks the page of it
-abbrev pub stored_at : Memory → ℕ → ℕ → Option Place → Memory
-stored_at m a b None = m
-stored_at m a b (Some p) = record m { host = marked_for m a p (with_byte m.host p b) }
+-- one byte is stored at a place, if any, and marks the page that belongs to it
+abbrev pub stored_at : Memory → ℕ → Option Place → Memory
+stored_at m b None = m
+stored_at m b (Some p) = record m { host = put_byte m.host p b }
 
 -- the memory after a byte was written at an address
 abbrev pub stored : Memory → ℕ × ℕ → Memory
-stored m write = stored_at m write.0 write.1 (location m Write write.0)
+stored m write = stored_at m write.1 (location m Write write.0)
 
 -- the memory after writes in order; the last at a place stands
 unfoldable pub stored_all : Memory → List (ℕ × ℕ) → Memory

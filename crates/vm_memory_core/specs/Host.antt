@@ -1,11 +1,18 @@
 -- The memory of the host: numbered blocks of bytes with their marked pages, numbered tables, and numbered sets of marked I/O pages.
-use Rattle.std.specs.Prelude.{ℕ, zero, suc, ◌+◌, ◌/◌, Bool, true, false, List, [], ◌∷◌, ◌++◌, length, map, replicate, Option, slice_get, slice_set, option_and_then}
+use Rattle.std.specs.Prelude.{ℕ, zero, suc, ◌+◌, ◌/◌, Bool, true, false, List, [], ◌∷◌, ◌++◌, length, map, replicate, Option, Some, None, slice_get, slice_set, option_and_then}
+use Rattle.vm_bitmaps.specs.Pages.{marked_at}
 use Rattle.vm_iotlb.specs.declared.range.IotlbRange.{IotlbRange}
 
--- where a byte is: a block, and an offset in it
+-- an address in a set of I/O pages
+pub record IoAddress : Type 0 where
+  pub set : ℕ
+  pub address : ℕ
+
+-- where a byte is, a block and an offset in it; and which page a write of it marks: its own in the block, or that of an I/O address
 pub record Place : Type 0 where
   pub block : ℕ
   pub offset : ℕ
+  pub io : Option IoAddress
 
 -- a block: its bytes, and whether each of its pages is marked
 pub record Block : Type 0 where
@@ -48,9 +55,14 @@ marked marks offset = slice_set marks (offset / 4096) true
 abbrev pub with_block_mark : Host → Place → Host
 with_block_mark h p = with_blocks h (changed_at h.blocks p.block (λ b. record b { marks = marked b.marks p.offset }))
 
--- the host with the page of an I/O address marked in a set
-abbrev pub with_io_mark : Host → ℕ → ℕ → Host
-with_io_mark h io a = record h { io_marks = changed_at h.io_marks io (λ marks. marked marks a) }
+-- the host with the page of an I/O address marked in its set: no address lies at or past 2^64
+abbrev pub with_io_mark : Host → IoAddress → Host
+with_io_mark h a = record h { io_marks = changed_at h.io_marks a.set (λ marks. marked_at 4096 marks a.address) }
+
+-- the host with that page marked which belongs to a place
+abbrev pub with_mark_by : Option IoAddress → Place → Host → Host
+with_mark_by None p h = with_block_mark h p
+with_mark_by (Some a) p h = with_io_mark h a
 
 -- a new block: zeros, no page marked
 abbrev pub new_block : ℕ → Block
@@ -67,6 +79,14 @@ cleared h = with_blocks h (map unmarked h.blocks)
 -- the host with one more block
 abbrev pub with_block : Host → Block → Host
 with_block h b = with_blocks h (h.blocks ++ b ∷ [])
+
+-- the host with one more table
+abbrev pub with_table : Host → List IotlbRange → Host
+with_table h t = record h { tables = h.tables ++ t ∷ [] }
+
+-- the host with one more set of I/O pages
+abbrev pub with_io_pages : Host → List Bool → Host
+with_io_pages h marks = record h { io_marks = h.io_marks ++ marks ∷ [] }
 
 -- the lengths of the blocks
 abbrev pub lengths : Host → List ℕ

@@ -1,22 +1,29 @@
-//! Memory as numbered blocks, each with its dirty pages.
+//! Memory as numbered blocks, each with its dirty pages, with the tables of IOMMUs and their dirty pages beside them.
 
-ghost use Rattle.std.specs.Prelude.{[], IfOk, IfSome, IsSome, IsTrue, OnErr, false, ◌≡◌, ◌↔◌, ◌<◌, ◌≤◌, ◌*◌, length, map, replicate, slice_get, option_map};
-ghost use Rattle.vm_memory_core.specs.Host.{byte_at, lengths, shape, with_block};
+ghost use Rattle.std.specs.Prelude.{[], IfOk, IfSome, IsSome, IsTrue, None, OnErr, false, ◌≡◌, ◌↔◌, ◌<◌, ◌≤◌, ◌*◌, length, map, replicate, slice_get, option_map};
+ghost use Rattle.std.specs.Borrow.{sem};
+ghost use Rattle.vm_memory_core.specs.Host.{byte_at, lengths, shape, with_block, with_io_pages, with_table};
 ghost use Rattle.vm_memory_core.specs.Parts.{spelled_all};
+ghost use Rattle.vm_memory_core.specs.Putting.{io_marked, put_in_block};
 ghost use Rattle.vm_memory_core.specs.Window.{places_of, LiesIn, Stores, byte_in};
 
 use crate::block::{Block, copy_across};
+use crate::io_pages::{IoPages, mark_pages};
 use crate::window::VolatileSlice;
 use std::alloc::{AllocError, Global};
 use std::marker::Model;
 use vm_bitmaps::{NewBitmap, PageBitmap};
+use vm_iotlb::Iotlb;
 use vm_values::ByteValued;
 
-/// The memory that guests and devices share: blocks, numbered from 0, each with a bitmap of its dirty pages.
+/// The memory that guests and devices share: blocks, each with a bitmap of its dirty pages; and what devices behind an
+/// IOMMU go by: tables, and sets of dirty I/O pages. Each of the three is numbered from 0.
 #[derive(Drop)]
 pub struct HostMemory<B: NewBitmap> {
     alloc: Global,
     pub(crate) blocks: Vec<Block<B>>,
+    tables: Vec<Iotlb>,
+    io_pages: Vec<IoPages<B>>,
 }
 
 impl<B: NewBitmap> Model for HostMemory<B> {
@@ -25,10 +32,12 @@ impl<B: NewBitmap> Model for HostMemory<B> {
 
     ghost Value = { Host };
 
-    ghost view = { λ h. record { blocks = h.blocks.items; tables = []; io_marks = [] } };
+    ghost view = { λ h. record { blocks = h.blocks.items; tables = h.tables.items; io_marks = h.io_pages.items } };
 }
 
 impl<B: NewBitmap> HostMemory<B> {
+    ghost use Rattle.vm_memory_core.specs.Lending.{LendsIoPages, LendsTable};
+
     /// An empty memory.
     pub fn new(alloc: Global) -> HostMemory<B>
         ensures { result ≡ record { blocks = []; tables = []; io_marks = [] } }
@@ -36,6 +45,8 @@ impl<B: NewBitmap> HostMemory<B> {
         HostMemory {
             alloc,
             blocks: Vec::new(alloc),
+            tables: Vec::new(alloc),
+            io_pages: Vec::new(alloc),
         }
     }
 
@@ -51,6 +62,59 @@ impl<B: NewBitmap> HostMemory<B> {
         let bitmap = B::with_len(self.alloc, len)?;
         self.blocks.push(Block { bytes, bitmap })?;
         Ok(number)
+    }
+
+    /// A new table, in which no I/O address is mapped: its number.
+    pub fn new_table(&mut self) -> Result<usize, AllocError>
+        ensures number { IfOk result (λ t. t ≡ length self.old.tables) }
+        ensures ok { IfOk result (λ _. self.new ≡ with_table self.old []) }
+        ensures err { OnErr result (self.new ≡ self.old) }
+    {
+        let number = self.tables.len();
+        self.tables.push(Iotlb::new(self.alloc))?;
+        Ok(number)
+    }
+
+    /// A new set of dirty I/O pages for the addresses below `byte_size`, none of which is marked: its number.
+    pub fn new_io_bitmap(&mut self, byte_size: usize) -> Result<usize, AllocError>
+        ensures number { IfOk result (λ i. i ≡ length self.old.io_marks) }
+        ensures ok { IfOk result (λ _. self.new ≡ with_io_pages self.old (replicate (B.count byte_size) false)) }
+        ensures err { OnErr result (self.new ≡ self.old) }
+    {
+        let number = self.io_pages.len();
+        let pages = IoPages::with_len(self.alloc, byte_size)?;
+        self.io_pages.push(pages)?;
+        Ok(number)
+    }
+
+    /// A table.
+    pub fn table(&self, table: usize) -> Option<&Iotlb>
+        ensures { option_map (λ t. t.now) result ≡ slice_get self.now.tables table }
+    {
+        self.tables.get(table)
+    }
+
+    /// A table, to be changed.
+    pub fn table_mut(&mut self, table: usize) -> Option<&mut Iotlb>
+        ensures* writes_back { sem 𝓛 (LendsTable B.row B.NewBitmap self.entry table result) }
+        ensures value { option_map (λ t. t.now) result ≡ slice_get self.old.tables table }
+    {
+        self.tables.get_mut(table)
+    }
+
+    /// A set of dirty I/O pages.
+    pub fn io_bitmap(&self, set: usize) -> Option<&IoPages<B>>
+        ensures { option_map (λ p. p.now) result ≡ slice_get self.now.io_marks set }
+    {
+        self.io_pages.get(set)
+    }
+
+    /// A set of dirty I/O pages, to be changed.
+    pub fn io_bitmap_mut(&mut self, set: usize) -> Option<&mut IoPages<B>>
+        ensures* writes_back { sem 𝓛 (LendsIoPages B.row B.NewBitmap self.entry set result) }
+        ensures value { option_map (λ p. p.now) result ≡ slice_get self.old.io_marks set }
+    {
+        self.io_pages.get_mut(set)
     }
 
     /// How many blocks there are.
@@ -73,7 +137,7 @@ impl<B: NewBitmap> HostMemory<B> {
 
     /// The byte at an offset of a block.
     pub fn byte_at(&self, block: usize, offset: usize) -> Option<u8>
-        ensures { result ≡ byte_at self.now (record { block = block; offset = offset }) }
+        ensures { result ≡ byte_at self.now (record { block = block; offset = offset; io = None }) }
     {
         self.blocks.get(block)?.bytes.get(offset).copied()
     }
@@ -95,7 +159,20 @@ impl<B: NewBitmap> HostMemory<B> {
         ensures shape { shape self.new ≡ shape self.old }
     {
         let block = &mut self.blocks[window.block()];
-        block.write(window.block_offset(), bytes);
+        block.write(window.block_offset(), bytes, window.marks_its_block());
+        self.mark_io(window, bytes.len());
+    }
+
+    // Marks the I/O pages of the first bytes of a window that marks such pages.
+    #[inline]
+    fn mark_io(&mut self, window: VolatileSlice, count: usize)
+        ensures marked { self.new ≡ io_marked self.old window count }
+        ensures from { IfSome window.io (λ m. m.from ≤ window.offset) }
+    {
+        let Some(marks) = window.io() else {
+            return;
+        };
+        mark_pages(&mut self.io_pages, marks, window.block_offset(), count);
     }
 
     // Writes values at the first places of a window, and marks their pages.
@@ -106,7 +183,28 @@ impl<B: NewBitmap> HostMemory<B> {
         ensures shape { shape self.new ≡ shape self.old }
     {
         let block = &mut self.blocks[window.block()];
-        block.write_values(window.block_offset(), values);
+        block.write_values(window.block_offset(), values, window.marks_its_block());
+        self.mark_io(window, values.len() * T::SIZE);
+    }
+
+    // The same without a mark of I/O pages.
+    fn copy_in_blocks(&mut self, source: VolatileSlice, dest: VolatileSlice)
+        requires source { LiesIn (lengths self.old) source }
+        requires dest { LiesIn (lengths self.old) dest }
+        requires len { source.len ≡ dest.len }
+        ensures { self.new ≡ put_in_block self.old dest (map (byte_in self.old) (places_of source)) }
+    {
+        if source.block() == dest.block() {
+            let block = &mut self.blocks[dest.block()];
+            block.copy_within(
+                source.block_offset(),
+                dest.block_offset(),
+                dest.len(),
+                dest.marks_its_block(),
+            );
+        } else {
+            copy_across(&mut self.blocks, source, dest);
+        }
     }
 
     // Copies a window to one of the same length: the bytes that stood there before.
@@ -117,12 +215,8 @@ impl<B: NewBitmap> HostMemory<B> {
         ensures stored { Stores self.old self.new (places_of dest) (map (byte_in self.old) (places_of source)) }
         ensures shape { shape self.new ≡ shape self.old }
     {
-        if source.block() == dest.block() {
-            let block = &mut self.blocks[dest.block()];
-            block.copy_within(source.block_offset(), dest.block_offset(), dest.len());
-        } else {
-            copy_across(&mut self.blocks, source, dest);
-        }
+        self.copy_in_blocks(source, dest);
+        self.mark_io(dest, dest.len());
     }
 
     /// The dirty pages of a block, of 4096 bytes each.
@@ -159,8 +253,8 @@ impl<B: NewBitmap> HostMemory<B> {
 
     /// A window of a block, where the block has all of it.
     pub fn window(&self, block: usize, offset: usize, len: usize) -> Option<VolatileSlice>
-        ensures value { IfSome result (λ w. w ≡ record { block = block; offset = offset; len = len }) }
-        ensures found { IsSome result ↔ LiesIn (lengths self.now) (record { block = block; offset = offset; len = len }) }
+        ensures value { IfSome result (λ w. w ≡ record { block = block; offset = offset; len = len; io = None }) }
+        ensures found { IsSome result ↔ LiesIn (lengths self.now) (record { block = block; offset = offset; len = len; io = None }) }
     {
         let size = self.block_len(block)?;
         if offset <= size && len <= size - offset {

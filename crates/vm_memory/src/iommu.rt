@@ -1,0 +1,75 @@
+//! What translates the addresses of a device (vm-memory's `Iommu`).
+
+ghost use Rattle.std.specs.Prelude.{◌≡◌, ℕ};
+ghost use Rattle.vm_memory.specs.Memory.{table_in};
+ghost use Rattle.vm_memory.specs.Translating.{Translates};
+
+use vm_memory_core::{
+    GuestAddress, HostMemory, IommuError, IotlbIterator, IovaRange, LookupError, NewBitmap,
+    Permissions,
+};
+
+/// What translates I/O addresses: a table of the host, by its number (vm-memory's `Iommu`).
+pub trait Iommu {
+    // the number of its table
+    ghost number: { Self → ℕ };
+
+    /// The number of its table in the host.
+    fn table(&self) -> usize
+        ensures { result ≡ number self.now };
+
+    /// What `length` I/O addresses are mapped to, as long pieces as can be; CannotResolve with the asked range where not each
+    /// is mapped with the permission, or where its end doesn't fit. Only one that fails takes memory.
+    fn translate<'a, B: NewBitmap>(
+        &self,
+        h: &'a HostMemory<B>,
+        iova: GuestAddress,
+        length: usize,
+        access: Permissions,
+    ) -> Result<IotlbIterator<'a>, IommuError>
+        ensures { Translates (table_in h.now (number self.now)) iova.0 length access result };
+}
+
+/// The plain `Iommu`: all that it knows is the number of its table. A table that isn't there maps nothing.
+#[derive(Clone, Copy, Debug, PartialEq, Eq)]
+pub struct TableIommu {
+    table: usize,
+}
+
+impl TableIommu {
+    /// Translates by this table of the host.
+    pub fn new(table: usize) -> TableIommu
+        ensures { result.table ≡ table }
+    {
+        TableIommu { table }
+    }
+}
+
+impl Iommu for TableIommu {
+    ghost number = { λ i. i.table };
+
+    fn table(&self) -> usize {
+        self.table
+    }
+
+    fn translate<'a, B: NewBitmap>(
+        &self,
+        h: &'a HostMemory<B>,
+        iova: GuestAddress,
+        length: usize,
+        access: Permissions,
+    ) -> Result<IotlbIterator<'a>, IommuError> {
+        let asked = IovaRange { base: iova, length };
+        let Some(table) = h.table(self.table) else {
+            if length == 0 {
+                return Ok(IotlbIterator::default());
+            }
+            return Err(IommuError::CannotResolve(asked));
+        };
+        match table.lookup(iova, length, access) {
+            Ok(pieces) => Ok(pieces),
+            Err(LookupError::Fails(_)) => Err(IommuError::CannotResolve(asked)),
+            Err(LookupError::OutOfMemory) => Err(IommuError::OutOfMemory),
+        }
+    }
+}

@@ -1,0 +1,90 @@
+//! The dirty pages of a device's I/O addresses.
+
+ghost use Rattle.std.specs.Prelude.{◌≡◌, ◌+◌, ◌-◌, ◌≤◌, IfOk, false, length, map, replicate};
+ghost use Rattle.vm_bitmaps.specs.Pages.{marked_range};
+ghost use Rattle.vm_memory_core.specs.Host.{changed_at};
+
+use crate::window::IoMarks;
+use std::alloc::{AllocError, Global};
+use std::marker::Model;
+use vm_bitmaps::{Bitmap, NewBitmap, PageBitmap};
+
+/// The dirty pages of the I/O addresses from 0 on, of 4096 bytes each. Clauses see its marks.
+#[derive(Drop)]
+pub struct IoPages<B: NewBitmap> {
+    bitmap: B,
+}
+
+impl<B: NewBitmap> Model for IoPages<B> {
+    ghost use Rattle.std.specs.Prelude.{◌≡◌, Bool, List};
+
+    ghost Value = { List Bool };
+
+    ghost view = { λ p. B.marks p.bitmap };
+
+    ghost invariant = { λ p. (B.page_size p.bitmap ≡ 4096) × (B.base p.bitmap ≡ 0) };
+}
+
+impl<B: NewBitmap> IoPages<B> {
+    // No page of the addresses below a number is marked.
+    pub(crate) fn with_len(alloc: Global, byte_size: usize) -> Result<IoPages<B>, AllocError>
+        ensures { IfOk result (λ p. p ≡ replicate (B.count byte_size) false) }
+    {
+        let bitmap = B::with_len(alloc, byte_size)?;
+        Ok(IoPages { bitmap })
+    }
+}
+
+// Marks the I/O pages of `count` bytes from an offset of a block on. A set that isn't there has none, and no address lies
+// at or past 2^64.
+pub(crate) fn mark_pages<B: NewBitmap>(
+    sets: &mut [IoPages<B>],
+    marks: IoMarks,
+    offset: usize,
+    count: usize,
+)
+    requires { marks.from ≤ offset }
+    ensures { sets.new ≡ changed_at sets.old marks.set (λ m. marked_range 4096 m (marks.base + (offset - marks.from)) count) }
+{
+    if marks.set < sets.len() {
+        if let Some(address) = marks.base.checked_add((offset - marks.from) as u64) {
+            sets[marks.set].mark_dirty(address as usize, count);
+        }
+    }
+}
+
+impl<B: NewBitmap> Bitmap for IoPages<B> {
+    ghost page_size = { λ p. 4096 };
+
+    ghost base = { λ p. 0 };
+
+    ghost marks = { λ p. p };
+
+    ghost keeps_same = { λ p. tt };
+
+    fn mark_dirty(&mut self, offset: usize, len: usize) {
+        self.bitmap.mark_dirty(offset, len);
+    }
+
+    fn dirty_at(&self, offset: usize) -> bool {
+        self.bitmap.dirty_at(offset)
+    }
+}
+
+impl IoPages<PageBitmap> {
+    /// How many pages there are.
+    pub fn len(&self) -> usize
+        ensures { result ≡ length self.now }
+    {
+        self.bitmap.len()
+    }
+
+    /// Clears all marks.
+    pub fn reset(&mut self)
+        ensures { self.new ≡ map (λ _. false) self.old }
+    {
+        let pages = self.bitmap.len();
+        self.bitmap.reset();
+        prove_eq!(self.bitmap.len(), pages);
+    }
+}
