@@ -10,6 +10,8 @@ mod numbers;
 #[cfg(test)]
 mod records;
 #[cfg(test)]
+mod segments;
+#[cfg(test)]
 mod server;
 #[cfg(test)]
 mod stats;

@@ -1,6 +1,6 @@
-//! Requests served over the toy file system, and the server's reader and writer.
+//! Requests served over the toy file system.
 
-use crate::toy::{Hello, Recorder};
+use crate::toy::Recorder;
 use bitflags::Flags;
 use fuse_wire::{Errno, InitInCompat};
 use guest_driver::requests::{
@@ -22,8 +22,8 @@ fn answer(
     request: &[u8],
     room: u16,
 ) -> Result<Vec<u8>, Error> {
-    let mut w = Writer::new(alloc, room as usize);
-    let len = server.handle_message(alloc, Reader::new(request), &mut w)?;
+    let mut w = Writer::of_length(alloc, room as usize)?;
+    let len = server.handle_message(alloc, Reader::of_slice(alloc, request), &mut w)?;
     if w.bytes_written() != len {
         return Err(Error::FlushMessage);
     }
@@ -236,38 +236,4 @@ fn faults_have_their_numbers(rt: HostRuntime) {
     for (fault, want) in &table {
         assert_eq!(rt; fault.number(), *want);
     }
-}
-
-#[test]
-fn readers_read_on(rt: HostRuntime) {
-    let mut r = Reader::new(&[1, 2, 3, 4, 5]);
-    assert!(rt; matches!(r.read_obj::<u32>(), Ok(0x0403_0201)));
-    assert_eq!(rt; r.available_bytes(), 1);
-    assert!(rt; r.read_bytes(2).is_none());
-    let end = r.read_obj::<u16>();
-    assert!(rt; matches!(end, Err(Error::IoError(ErrorKind::UnexpectedEof))));
-    assert_eq!(rt; r.available_bytes(), 0);
-}
-
-#[test]
-fn writers_write_on(rt: HostRuntime) -> Result<(), Fail> {
-    let mut w = Writer::new(rt.alloc(), 6);
-    w.reserve(100)?;
-    w.put(&[1, 2]);
-    w.put_front(&[9]);
-    let file = &mut Hello {};
-    assert!(rt; matches!(w.read_from_file_at(file, 9, 3), Ok(2)));
-    assert_eq!(rt; (w.available_bytes(), w.bytes_written()), (2, 4));
-    assert_eq!(rt; w.into_written().as_slice(), [9, 2, 108, 111].as_slice());
-    Ok(())
-}
-
-#[test]
-fn writers_take_back(rt: HostRuntime) -> Result<(), Fail> {
-    let mut w = Writer::new(rt.alloc(), 2);
-    w.reserve(2)?;
-    w.put(&[1]);
-    w.clear();
-    assert_eq!(rt; w.available_bytes(), 2);
-    Ok(())
 }

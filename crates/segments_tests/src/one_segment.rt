@@ -1,0 +1,62 @@
+//! Readers and writers of one segment, and what is read where it stands or written over.
+
+use fuse_segments::{Error, Reader, Writer};
+use std::fmt::Debug;
+use std::io::{ErrorKind, Write};
+use std::process::Abort;
+
+// What was found is what is wanted.
+fn expect_same<T: PartialEq + Debug + Drop>(rt: &impl Abort, found: T, want: T) {
+    assert_eq!(rt; found, want);
+}
+
+// The next bytes stand in one segment, and are these; or they don't, and nothing is read.
+fn expect_in_place(rt: &impl Abort, r: &mut Reader<'_>, n: usize, want: Option<&[u8]>) {
+    let found = r.read_in_place(n);
+    expect_same(rt, found, want);
+}
+
+// Two bytes are written over these segments, the first of them again, then taken back, and all room is filled.
+fn expect_taken_back(rt: &impl Abort, mut w: Writer) {
+    w.write_all(&[1, 2]).expect(rt, "room");
+    w.put_front(&[9]);
+    w.write_all(&[3]).expect(rt, "room");
+    expect_same(rt, (w.available_bytes(), w.bytes_written()), (1, 3));
+    let mut written = [0; 3];
+    w.copy_written(&mut written);
+    expect_same(rt, written, [9, 2, 3]);
+    w.clear();
+    expect_same(rt, (w.available_bytes(), w.bytes_written()), (4, 0));
+    w.write_all(&[5, 6, 7, 8]).expect(rt, "room");
+    expect_same(rt, w.into_written().as_slice(), &[5, 6, 7, 8]);
+}
+
+#[test]
+fn one_segment_is_read(rt: HostRuntime) {
+    let r = &mut Reader::of_slice(rt.alloc(), &[1, 2, 3, 4, 5]);
+    expect_in_place(&rt, r, 4, Some(&[1, 2, 3, 4]));
+    expect_in_place(&rt, r, 2, None);
+    expect_same(&rt, (r.available_bytes(), r.bytes_read()), (1, 4));
+    let end = Error::IoError(ErrorKind::UnexpectedEof);
+    expect_same(&rt, r.read_obj::<u16>(), Err(end));
+    expect_same(&rt, (r.available_bytes(), r.bytes_read()), (0, 5));
+    expect_in_place(&rt, r, 0, Some(&[]));
+}
+
+#[test]
+fn bytes_of_two_segments_stand_apart(rt: HostRuntime) {
+    let segments = [[1, 2].as_slice(), &[], &[3]];
+    let segments = Vec::from_slice(rt.alloc(), &segments).expect(&rt, "memory");
+    let r = &mut Reader::new(segments).expect(&rt, "a sum");
+    expect_in_place(&rt, r, 3, None);
+    expect_in_place(&rt, r, 2, Some(&[1, 2]));
+    expect_in_place(&rt, r, 1, Some(&[3]));
+}
+
+#[test]
+fn one_segment_is_written(rt: HostRuntime) {
+    let w = Writer::of_length(rt.alloc(), 4).expect(&rt, "memory");
+    expect_taken_back(&rt, w);
+    let w = Writer::new(rt.alloc(), &[1, 2, 0, 1]).expect(&rt, "memory");
+    expect_taken_back(&rt, w);
+}
