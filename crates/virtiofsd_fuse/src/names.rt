@@ -1,7 +1,8 @@
 //! Names in requests.
 
-ghost use Rattle.std.specs.Prelude.{◌≡◌, ◌≤◌, position, ◌==◌, length, take, ◌++◌, Ok, Err, IfOk, IfErr, false};
+ghost use Rattle.std.specs.Prelude.{◌≡◌, ◌+◌, ◌<◌, ◌≤◌, position, ◌==◌, length, take, ◌++◌, Ok, Err, IfOk, IfErr, false};
 ghost use Rattle.std.specs.Cow.{cow_slice_items};
+ghost use Rattle.fuse_fs.specs.Lengths.{first};
 ghost use Rattle.virtiofsd_fuse.specs.Reading.{Faults, value_of, last_name};
 ghost use Rattle.virtiofsd_fuse.specs.Grammar.{one_name};
 ghost use Rattle.virtiofsd_fuse.specs.Serving.{is_memory};
@@ -56,7 +57,7 @@ fn read_owned(alloc: Global, r: &mut Reader<'_>, n: usize) -> Result<Vec<u8>, Er
 fn read_bytes<'a>(alloc: Global, r: &mut Reader<'a>, n: usize) -> Result<RequestBytes<'a>, Error>
     requires { n ≤ length r.old.left }
     ensures ok { IfOk result (λ b. (r.old.left ≡ cow_slice_items b ++ r.new.left) × (length (cow_slice_items b) ≡ n)) }
-    ensures err { IfErr result (λ e. e ≡ Error.OutOfMemory) }
+    ensures err { IfErr result (λ e. (e ≡ Error.OutOfMemory) × (first r.old.segments < n)) }
 {
     if let Some(bytes) = r.read_in_place(n) {
         return Ok(CowSlice::Borrowed(bytes));
@@ -88,6 +89,7 @@ pub fn read_name<'a>(
     requires { fixed ≤ 256 }
     ensures name { IfOk result (λ name. Ok (cow_slice_items name) ≡ value_of (one_name len fixed r.old.left)) }
     ensures fault { IfErr result (λ e. is_memory e ≡ false → Err (Faults e) ≡ value_of (one_name len fixed r.old.left)) }
+    ensures in_place { len ≤ 40 + fixed + first r.old.segments → IfErr result (λ e. is_memory e ≡ false) }
 {
     let Some(count) = len.checked_sub(40 + fixed) else {
         return Err(Error::InvalidHeaderLength);
