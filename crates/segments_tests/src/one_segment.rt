@@ -16,15 +16,18 @@ fn expect_in_place(rt: &impl Abort, r: &mut Reader<'_>, n: usize, want: Option<&
     expect_same(rt, found, want);
 }
 
-// Two bytes are written over these segments, the first of them again, then taken back, and all room is filled.
-fn expect_taken_back(rt: &impl Abort, mut w: Writer) {
+// Two bytes are written, the first of them twice, and a third behind them.
+fn expect_written_over(rt: &impl Abort, mut w: Writer) {
     w.write_all(&[1, 2]).expect(rt, "room");
     w.put_front(&[9]);
     w.write_all(&[3]).expect(rt, "room");
     expect_same(rt, (w.available_bytes(), w.bytes_written()), (1, 3));
-    let mut written = [0; 3];
-    w.copy_written(&mut written);
-    expect_same(rt, written, [9, 2, 3]);
+    expect_same(rt, w.into_written().as_slice(), &[9, 2, 3]);
+}
+
+// Two bytes are written and taken back, and all room is filled.
+fn expect_taken_back(rt: &impl Abort, mut w: Writer) {
+    w.write_all(&[1, 2]).expect(rt, "room");
     w.clear();
     expect_same(rt, (w.available_bytes(), w.bytes_written()), (4, 0));
     w.write_all(&[5, 6, 7, 8]).expect(rt, "room");
@@ -56,7 +59,15 @@ fn bytes_of_two_segments_stand_apart(rt: HostRuntime) {
 #[test]
 fn one_segment_is_written(rt: HostRuntime) {
     let w = Writer::of_length(rt.alloc(), 4).expect(&rt, "memory");
+    expect_written_over(&rt, w);
+    let w = Writer::of_length(rt.alloc(), 4).expect(&rt, "memory");
     expect_taken_back(&rt, w);
+}
+
+#[test]
+fn segments_are_written(rt: HostRuntime) {
+    let w = Writer::new(rt.alloc(), &[1, 2, 0, 1]).expect(&rt, "memory");
+    expect_written_over(&rt, w);
     let w = Writer::new(rt.alloc(), &[1, 2, 0, 1]).expect(&rt, "memory");
     expect_taken_back(&rt, w);
 }
