@@ -6,6 +6,8 @@ mod errors;
 #[cfg(test)]
 mod files;
 #[cfg(test)]
+mod given;
+#[cfg(test)]
 mod readers;
 #[cfg(test)]
 mod writers;
