@@ -7,7 +7,7 @@ use std::io::ErrorKind;
 use std::process::Abort;
 
 // Each fault with its number and its text.
-const FAULTS: [(Error, u8, &str); 13] = [
+const FAULTS: &[(Error, u8, &str)] = &[
     (Error::DecodeMessage, 1, "the request can't be decoded"),
     (Error::EncodeMessage, 2, "the reply doesn't fit its room"),
     (Error::FlushMessage, 3, "the reply can't be flushed"),
@@ -55,7 +55,7 @@ fn expect_fault(rt: &impl Abort, alloc: Global, fault: Error, number: u8, want: 
 
 #[test]
 fn faults_have_numbers_and_texts(rt: HostRuntime) {
-    for (fault, number, text) in &FAULTS {
+    for (fault, number, text) in FAULTS {
         expect_fault(&rt, rt.alloc(), *fault, *number, text);
     }
 }

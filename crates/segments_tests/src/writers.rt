@@ -47,7 +47,7 @@ fn expect_values(rt: &impl Abort, alloc: Global, lengths: &[usize]) {
 }
 
 // Lengths of segments at odd places, with empty ones among them.
-const CUTS: [&[usize]; 5] = [
+const CUTS: &[&[usize]] = &[
     &[7],
     &[1, 1, 1, 1, 1, 1, 1],
     &[3, 4],
@@ -57,7 +57,7 @@ const CUTS: [&[usize]; 5] = [
 
 #[test]
 fn values_however_cut(rt: HostRuntime) {
-    for lengths in &CUTS {
+    for lengths in CUTS {
         expect_values(&rt, rt.alloc(), lengths);
     }
 }
