@@ -6,6 +6,8 @@ mod files;
 #[cfg(test)]
 mod flags;
 #[cfg(test)]
+mod given;
+#[cfg(test)]
 mod numbers;
 #[cfg(test)]
 mod records;

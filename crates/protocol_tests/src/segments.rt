@@ -2,17 +2,12 @@
 
 ghost use Rattle.std.specs.Prelude.{◌<◌, ◌^◌, sum};
 
+use crate::given::expect_same;
 use crate::toy::Recorder;
 use guest_driver::requests::{data_reply, lookup, read};
 use std::alloc::Global;
-use std::fmt::Debug;
 use std::process::Abort;
 use virtiofsd_fuse::{Reader, Server, Writer};
-
-// What was found is what is wanted.
-fn expect_same<T: PartialEq + Debug + Drop>(rt: &impl Abort, found: T, want: T) {
-    assert_eq!(rt; found, want);
-}
 
 // A request in segments of so many bytes is answered this, in a room of these segments.
 fn expect_reply(

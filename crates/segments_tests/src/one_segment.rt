@@ -1,14 +1,9 @@
 //! Readers and writers of one segment, and what is read where it stands or written over.
 
+use crate::given::{expect_left, expect_room, expect_same, expect_value, expect_written, writer};
 use fuse_segments::{Error, Reader, Writer};
-use std::fmt::Debug;
 use std::io::{ErrorKind, Write};
 use std::process::Abort;
-
-// What was found is what is wanted.
-fn expect_same<T: PartialEq + Debug + Drop>(rt: &impl Abort, found: T, want: T) {
-    assert_eq!(rt; found, want);
-}
 
 // The next bytes stand in one segment, and are these; or they don't, and nothing is read.
 fn expect_in_place(rt: &impl Abort, r: &mut Reader<'_>, n: usize, want: Option<&[u8]>) {
@@ -21,17 +16,17 @@ fn expect_written_over(rt: &impl Abort, mut w: Writer) {
     w.write_all(&[1, 2]).expect(rt, "room");
     w.put_front(&[9]);
     w.write_all(&[3]).expect(rt, "room");
-    expect_same(rt, (w.available_bytes(), w.bytes_written()), (1, 3));
-    expect_same(rt, w.into_written().as_slice(), &[9, 2, 3]);
+    expect_room(rt, &w, 1, 3);
+    expect_written(rt, w, &[9, 2, 3]);
 }
 
 // Two bytes are written and taken back, and all room is filled.
 fn expect_taken_back(rt: &impl Abort, mut w: Writer) {
     w.write_all(&[1, 2]).expect(rt, "room");
     w.clear();
-    expect_same(rt, (w.available_bytes(), w.bytes_written()), (4, 0));
+    expect_room(rt, &w, 4, 0);
     w.write_all(&[5, 6, 7, 8]).expect(rt, "room");
-    expect_same(rt, w.into_written().as_slice(), &[5, 6, 7, 8]);
+    expect_written(rt, w, &[5, 6, 7, 8]);
 }
 
 #[test]
@@ -39,10 +34,10 @@ fn one_segment_is_read(rt: HostRuntime) {
     let r = &mut Reader::of_slice(rt.alloc(), &[1, 2, 3, 4, 5]);
     expect_in_place(&rt, r, 4, Some(&[1, 2, 3, 4]));
     expect_in_place(&rt, r, 2, None);
-    expect_same(&rt, (r.available_bytes(), r.bytes_read()), (1, 4));
+    expect_left(&rt, r, 1, 4);
     let end = Error::IoError(ErrorKind::UnexpectedEof);
-    expect_same(&rt, r.read_obj::<u16>(), Err(end));
-    expect_same(&rt, (r.available_bytes(), r.bytes_read()), (0, 5));
+    expect_value::<u16>(&rt, r, Err(end));
+    expect_left(&rt, r, 0, 5);
     expect_in_place(&rt, r, 0, Some(&[]));
 }
 
@@ -66,8 +61,8 @@ fn one_segment_is_written(rt: HostRuntime) {
 
 #[test]
 fn segments_are_written(rt: HostRuntime) {
-    let w = Writer::new(rt.alloc(), &[1, 2, 0, 1]).expect(&rt, "memory");
+    let w = writer(&rt, rt.alloc(), &[1, 2, 0, 1]);
     expect_written_over(&rt, w);
-    let w = Writer::new(rt.alloc(), &[1, 2, 0, 1]).expect(&rt, "memory");
+    let w = writer(&rt, rt.alloc(), &[1, 2, 0, 1]);
     expect_taken_back(&rt, w);
 }
