@@ -1,10 +1,11 @@
 //! Chains that go back with nothing.
 
-use crate::stand::{LIMIT, REQUEST_AT, ROOM_AT, Stand, expect_same};
+use crate::stand::{Act, LIMIT, REQUEST_AT, ROOM_AT, Stand, UNKNOWN, play};
 use fs_device::Fault;
 use fs_queue::ChainFault;
 use guest_driver::Descriptor;
 use guest_driver::ring::{INDIRECT, NEXT, WRITE};
+use std::alloc::Global;
 use std::process::Abort;
 
 // The two descriptors of a chain that is served.
@@ -31,7 +32,7 @@ const TABLE: Descriptor = Descriptor {
 };
 
 // What stands in the first two entries of the table, and the fault of the chain.
-const FAULTY: [(Descriptor, Descriptor, ChainFault); 9] = [
+const FAULTY: &[(Descriptor, Descriptor, ChainFault)] = &[
     (Descriptor { next: 0, ..REQUEST }, ROOM, ChainFault::TooLong),
     (
         REQUEST,
@@ -90,24 +91,33 @@ const FAULTY: [(Descriptor, Descriptor, ChainFault); 9] = [
     ),
 ];
 
+// A chain of these first two entries goes back with nothing, for this reason, and asks nothing.
+fn expect_faulty(
+    rt: &impl Abort,
+    alloc: Global,
+    first: Descriptor,
+    second: Descriptor,
+    fault: ChainFault,
+) {
+    const UNSERVED: &[Act<'static>] = &[
+        Act::Used(0, (0, 0), 1),
+        Act::Marked(&[(0, 0)]),
+        Act::Calls(&[]),
+    ];
+    let mut stand = Stand::new(rt, alloc);
+    stand.enter(rt, 0, first);
+    stand.enter(rt, 1, second);
+    stand.offer(rt, 0);
+    stand.guest.clear_marks();
+    stand.expect_fault(rt, Fault::Chain(fault));
+    stand.play(rt, UNSERVED);
+}
+
 #[test]
 fn faulty_chain_goes_back_with_nothing_and_asks_nothing(rt: HostRuntime) {
     for (first, second, fault) in FAULTY {
-        let mut stand = Stand::new(&rt, rt.alloc());
-        offer_two(&rt, &mut stand, first, second);
-        stand.expect_fault(&rt, Fault::Chain(fault));
-        stand.expect_used(&rt, 0, (0, 0), 1);
-        stand.expect_marked(&rt, &[(0, 0)]);
-        stand.expect_calls(&rt, &[]);
+        expect_faulty(&rt, rt.alloc(), *first, *second, *fault);
     }
-}
-
-// Makes a chain of the first two entries available; no page is marked.
-fn offer_two(rt: &impl Abort, stand: &mut Stand, first: Descriptor, second: Descriptor) {
-    stand.guest.descriptor(0, first).expect(rt, "a place");
-    stand.guest.descriptor(1, second).expect(rt, "a place");
-    stand.guest.make_available(0).expect(rt, "a place");
-    stand.guest.clear_marks();
 }
 
 // No bytes, at an address that is in no region.
@@ -120,12 +130,13 @@ const EMPTY: Descriptor = Descriptor {
 
 #[test]
 fn descriptor_of_no_bytes_adds_nothing_wherever_it_points(rt: HostRuntime) {
-    let mut stand = Stand::new(&rt, rt.alloc());
-    stand.guest.descriptor(3, EMPTY).expect(&rt, "a place");
-    stand.ask_unknown(&rt);
-    stand.guest.make_available(3).expect(&rt, "a place");
-    let (_, _) = stand.exchange(&rt);
-    let (exchange, _) = stand.exchange(&rt);
-    expect_same(&rt, (exchange.head, exchange.reply.len()), (3, 16));
-    stand.expect_used(&rt, 1, (3, 16), 2);
+    const ACTS: &[Act<'static>] = &[
+        Act::Enters(3, EMPTY),
+        Act::Asks(UNKNOWN, 16),
+        Act::Offers(3),
+        Act::Exchanges(0, 16),
+        Act::Exchanges(3, 16),
+        Act::Used(1, (3, 16), 2),
+    ];
+    play(&rt, rt.alloc(), ACTS);
 }

@@ -3,7 +3,7 @@
 ghost use Rattle.std.specs.Prelude.{◌≡◌};
 ghost use Rattle.vm_memory_core.specs.Host.{shape};
 
-use crate::machines::{expect_kick, machine};
+use crate::machines::{Row, expect_rows, machine};
 use crate::stand::{RING, Stand, expect_same};
 use fs_device::{HarvestedPage, harvest};
 use std::alloc::Global;
@@ -47,8 +47,9 @@ fn expect_bytes(
 
 #[test]
 fn pages_of_an_exchange_are_harvested_once(rt: HostRuntime) {
+    const ROWS: &[Row<'static>] = &[Row::Kick((0, 9), (1, None))];
     let mut machine = machine(&rt, rt.alloc(), 1);
-    expect_kick(&rt, rt.alloc(), &mut machine, (0, 9), (1, None));
+    expect_rows(&rt, rt.alloc(), &mut machine, ROWS);
     let pages = [(0, 0, 4096), (0, 0x2000, 4096)];
     expect_pages(&rt, rt.alloc(), &mut machine.host, &pages);
 }

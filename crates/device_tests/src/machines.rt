@@ -1,16 +1,16 @@
 //! Runs of a machine: guest accesses, kicks and resets.
 
-use crate::stand::{RING, Stand, expect_same, layout};
+use crate::stand::{RING, Request, Stand, UNKNOWN, expect_same, layout};
 use call_log::{CallLog, LoggedCall, run_logged};
 use fs_device::{Answer, Command, DeviceError, Machine};
-use guest_driver::requests::forget;
 use std::alloc::Global;
 use std::process::Abort;
+use vm_memory::GuestMemoryBackend;
 
 /// A machine whose guest has made the chain of an unknown request available so often; no page is marked.
 pub fn machine(rt: &impl Abort, alloc: Global, times: u16) -> Machine<CallLog> {
     let mut stand = Stand::new(rt, alloc);
-    stand.ask_unknown(rt);
+    stand.ask(rt, UNKNOWN, 16);
     stand.guest.set_available(times).expect(rt, "a place");
     stand.guest.clear_marks();
     stand.into_machine()
@@ -36,91 +36,150 @@ pub fn expect_refusal(
     command: Command,
     number: u8,
 ) {
-    let refused = match done(rt, alloc, machine, command) {
+    let answer = done(rt, alloc, machine, command);
+    expect_same(rt, refusal_of(&answer), Some(number));
+}
+
+// The number of the refusal that an answer is; 0 is none.
+fn refusal_of(answer: &Answer) -> Option<u8> {
+    match answer {
         Answer::Done => Some(0),
         Answer::Refused(refusal) => Some(refusal.number()),
         _ => None,
-    };
-    expect_same(rt, refused, Some(number));
+    }
 }
 
-/// A kick lists so many exchanges, and this refusal.
-pub fn expect_kick(
-    rt: &impl Abort,
-    alloc: Global,
-    machine: &mut Machine<CallLog>,
-    kick: (usize, u16),
-    served: (usize, Option<DeviceError>),
-) {
-    let (queue, most) = kick;
-    let answer = match done(rt, alloc, machine, Command::Kick { queue, most }) {
+// The block that an answer names.
+fn block_of(answer: &Answer) -> Option<usize> {
+    match answer {
+        Answer::Block(block) => Some(*block),
+        _ => None,
+    }
+}
+
+// The bytes that an answer holds.
+fn bytes_of(answer: &Answer) -> Option<&[u8]> {
+    match answer {
+        Answer::Bytes(bytes) => Some(bytes.as_slice()),
+        _ => None,
+    }
+}
+
+// How many exchanges an answer lists, and why they ended.
+fn served_of(answer: &Answer) -> Option<(usize, Option<DeviceError>)> {
+    match answer {
         Answer::Served(run) => Some((run.done.len(), run.refused)),
         _ => None,
-    };
-    expect_same(rt, answer, Some(served));
+    }
 }
 
-/// The guest writes bytes at an address; the number of the refusal.
-pub fn expect_write(
+/// A command and what it comes to. A refusal is given by its number, and 0 is none.
+#[derive(Clone, Copy)]
+pub enum Row<'a> {
+    /// A new block of so many bytes has this number.
+    NewBlock(usize, usize),
+    /// A new block of so many bytes is refused.
+    NoBlock(usize, u8),
+    /// A region at an address, of a block, and the refusal.
+    Insert(u64, usize, u8),
+    /// A region at an address, so long, and the refusal.
+    Remove(u64, u64, u8),
+    /// A queue and at most how many chains; how many exchanges are listed, and why they ended.
+    Kick((usize, u16), (usize, Option<DeviceError>)),
+    /// The guest writes bytes at an address, and the refusal.
+    Write(u64, &'a [u8], u8),
+    /// The guest reads these bytes at an address.
+    Read(u64, &'a [u8]),
+    /// The guest doesn't read so many bytes at an address, and the refusal.
+    NoRead(u64, usize, u8),
+    /// A queue is reset to the layout of `RING`, and the refusal.
+    Reset(usize, u8),
+}
+
+impl Row<'_> {
+    // The command of the row.
+    fn command(&self, rt: &impl Abort, alloc: Global) -> Command {
+        match *self {
+            Row::NewBlock(len, _) | Row::NoBlock(len, _) => Command::NewBlock { len },
+            Row::Insert(base, block, _) => Command::InsertRegion { base, block },
+            Row::Remove(base, size, _) => Command::RemoveRegion { base, size },
+            Row::Kick((queue, most), _) => Command::Kick { queue, most },
+            Row::Write(addr, bytes, _) => {
+                let bytes = bytes.to_vec(alloc).expect(rt, "memory");
+                Command::GuestWrite { addr, bytes }
+            }
+            Row::Read(addr, bytes) => {
+                let len = bytes.len();
+                Command::GuestRead { addr, len }
+            }
+            Row::NoRead(addr, len, _) => Command::GuestRead { addr, len },
+            Row::Reset(queue, _) => {
+                let layout = layout(rt, RING);
+                Command::ResetQueue { queue, layout }
+            }
+        }
+    }
+
+    // The answer is the row's.
+    fn expect(&self, rt: &impl Abort, answer: &Answer) {
+        match *self {
+            Row::NewBlock(_, number) => expect_same(rt, block_of(answer), Some(number)),
+            Row::Kick(_, served) => expect_same(rt, served_of(answer), Some(served)),
+            Row::Read(_, bytes) => expect_same(rt, bytes_of(answer), Some(bytes)),
+            Row::NoBlock(_, refusal)
+            | Row::Insert(_, _, refusal)
+            | Row::Remove(_, _, refusal)
+            | Row::Write(_, _, refusal)
+            | Row::NoRead(_, _, refusal)
+            | Row::Reset(_, refusal) => expect_same(rt, refusal_of(answer), Some(refusal)),
+        }
+    }
+}
+
+/// The command of each row in turn comes to what the row says.
+pub fn expect_rows(
     rt: &impl Abort,
     alloc: Global,
     machine: &mut Machine<CallLog>,
-    addr: u64,
-    bytes: &[u8],
-    number: u8,
+    rows: &[Row<'_>],
 ) {
-    let bytes = bytes.to_vec(alloc).expect(rt, "memory");
-    expect_refusal(
-        rt,
-        alloc,
-        machine,
-        Command::GuestWrite { addr, bytes },
-        number,
-    );
+    for row in rows {
+        let command = row.command(rt, alloc);
+        let answer = done(rt, alloc, machine, command);
+        row.expect(rt, &answer);
+    }
 }
 
-// An answer is these bytes.
-fn expect_read_bytes(rt: &impl Abort, answer: Option<&Answer>, bytes: &[u8]) {
-    let there = match answer {
-        Some(Answer::Bytes(there)) => Some(there.as_slice()),
-        _ => None,
-    };
-    expect_same(rt, there, Some(bytes));
-}
-
-/// The guest reads these bytes.
-pub fn expect_read(
+/// The same of a machine whose guest has asked so often; the host has so many blocks then, and the layout so many regions.
+pub fn expect_run(
     rt: &impl Abort,
     alloc: Global,
-    machine: &mut Machine<CallLog>,
-    addr: u64,
-    bytes: &[u8],
+    times: u16,
+    rows: &[Row<'_>],
+    shape: (usize, usize),
 ) {
-    let len = bytes.len();
-    let answer = done(rt, alloc, machine, Command::GuestRead { addr, len });
-    expect_read_bytes(rt, Some(&answer), bytes);
+    let mut machine = machine(rt, alloc, times);
+    expect_rows(rt, alloc, &mut machine, rows);
+    let found = (machine.host.block_count(), machine.mem.num_regions());
+    expect_same(rt, found, shape);
 }
 
 #[test]
 fn kick_serves_at_most_so_many(rt: HostRuntime) {
-    let mut machine = machine(&rt, rt.alloc(), 2);
-    let missing = Some(DeviceError::NoSuchQueue);
-    let kicks = [
-        ((0, 0), (0, None)),
-        ((0, 1), (1, None)),
-        ((0, 9), (1, None)),
-        ((0, 9), (0, None)),
-        ((1, 0), (0, missing)),
-        ((1, 9), (0, missing)),
+    const ROWS: &[Row<'static>] = &[
+        Row::Kick((0, 0), (0, None)),
+        Row::Kick((0, 1), (1, None)),
+        Row::Kick((0, 9), (1, None)),
+        Row::Kick((0, 9), (0, None)),
+        Row::Kick((1, 0), (0, Some(DeviceError::NoSuchQueue))),
+        Row::Kick((1, 9), (0, Some(DeviceError::NoSuchQueue))),
     ];
-    for (kick, served) in kicks {
-        expect_kick(&rt, rt.alloc(), &mut machine, kick, served);
-    }
+    expect_run(&rt, rt.alloc(), 2, ROWS, (1, 1));
 }
 
 // The commands of a whole exchange: the guest writes a FORGET over the request and asks again, kicks twice and reads.
 fn exchange_commands(rt: &impl Abort, alloc: Global) -> Vec<Command> {
-    let request = forget(alloc, 2, 5, 3).expect(rt, "memory");
+    let request = Request::Forget { node: 5, count: 3 }.bytes(rt, alloc);
     let again = [2, 0].to_vec(alloc).expect(rt, "memory");
     let commands = [
         Command::Kick { queue: 0, most: 9 },
@@ -153,38 +212,41 @@ fn commands_are_done_one_after_another(rt: HostRuntime) {
     let commands = exchange_commands(&rt, rt.alloc());
     let answers = run_logged(rt.alloc(), &mut machine, commands).expect(&rt, "memory");
     expect_same(&rt, answers.len(), 6);
-    expect_read_bytes(&rt, answers.last(), &[2, 0]);
+    let last = answers.last().expect(&rt, "an answer");
+    expect_same(&rt, bytes_of(last), Some([2, 0].as_slice()));
     let calls = [LoggedCall::Forget { node: 5, count: 3 }];
     expect_same(&rt, machine.device.server().fs().calls(), &calls);
 }
 
 #[test]
 fn guest_reads_whole_or_not_at_all(rt: HostRuntime) {
-    let mut machine = machine(&rt, rt.alloc(), 0);
-    for (addr, len) in [(0x10000, 1), (0xffff, 2), (0xffff_ffff_ffff_ffff, 1)] {
-        let read = Command::GuestRead { addr, len };
-        expect_refusal(&rt, rt.alloc(), &mut machine, read, 1);
-    }
-    expect_read(&rt, rt.alloc(), &mut machine, 0x10000, &[]);
+    const ROWS: &[Row<'static>] = &[
+        Row::NoRead(0x10000, 1, 1),
+        Row::NoRead(0xffff, 2, 1),
+        Row::NoRead(0xffff_ffff_ffff_ffff, 1, 1),
+        Row::Read(0x10000, &[]),
+    ];
+    expect_run(&rt, rt.alloc(), 0, ROWS, (1, 1));
 }
 
 #[test]
 fn guest_writes_whole_or_not_at_all(rt: HostRuntime) {
-    let mut machine = machine(&rt, rt.alloc(), 0);
-    expect_write(&rt, rt.alloc(), &mut machine, 0xffff, &[7, 7], 1);
-    expect_read(&rt, rt.alloc(), &mut machine, 0xffff, &[0]);
-    expect_write(&rt, rt.alloc(), &mut machine, 0x5fff, &[7, 8], 0);
-    expect_read(&rt, rt.alloc(), &mut machine, 0x5ffe, &[0, 7, 8, 0]);
+    const ROWS: &[Row<'static>] = &[
+        Row::Write(0xffff, &[7, 7], 1),
+        Row::Read(0xffff, &[0]),
+        Row::Write(0x5fff, &[7, 8], 0),
+        Row::Read(0x5ffe, &[0, 7, 8, 0]),
+    ];
+    expect_run(&rt, rt.alloc(), 0, ROWS, (1, 1));
 }
 
 #[test]
 fn queue_that_is_reset_begins_anew(rt: HostRuntime) {
-    let mut machine = machine(&rt, rt.alloc(), 1);
-    let layout = layout(&rt, RING);
-    expect_kick(&rt, rt.alloc(), &mut machine, (0, 9), (1, None));
-    let missing = Command::ResetQueue { queue: 1, layout };
-    expect_refusal(&rt, rt.alloc(), &mut machine, missing, 8);
-    let reset = Command::ResetQueue { queue: 0, layout };
-    expect_refusal(&rt, rt.alloc(), &mut machine, reset, 0);
-    expect_kick(&rt, rt.alloc(), &mut machine, (0, 9), (1, None));
+    const ROWS: &[Row<'static>] = &[
+        Row::Kick((0, 9), (1, None)),
+        Row::Reset(1, 8),
+        Row::Reset(0, 0),
+        Row::Kick((0, 9), (1, None)),
+    ];
+    expect_run(&rt, rt.alloc(), 1, ROWS, (1, 1));
 }

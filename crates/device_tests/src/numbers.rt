@@ -4,49 +4,66 @@ use crate::stand::expect_same;
 use fs_device::{DeviceError, Refusal};
 use fs_queue::{ChainFault, QueueError, QueueLayout, QueueLayoutError};
 
-// The number of a queue's error, and of the device's error that it becomes.
-fn numbers(error: QueueError) -> (u8, u8) {
-    (error.number(), DeviceError::Queue(error).number())
-}
+// Each error of a queue, with its number.
+const QUEUE_ERRORS: &[(QueueError, u8)] = &[
+    (QueueError::Stopped, 1),
+    (QueueError::AvailIndexUnreachable, 2),
+    (QueueError::AvailTooFar, 3),
+    (QueueError::RingEntryUnreachable, 4),
+    (QueueError::HeadOutOfTable, 5),
+    (QueueError::UsedUnreachable, 6),
+    (QueueError::AvailFlagsUnreachable, 7),
+    (QueueError::DescriptorUnreachable, 8),
+    (QueueError::OutOfMemory, 9),
+];
 
 #[test]
 fn refusals_of_a_step_are_numbered(rt: HostRuntime) {
-    expect_same(&rt, numbers(QueueError::Stopped), (1, 1));
-    expect_same(&rt, numbers(QueueError::AvailIndexUnreachable), (2, 2));
-    expect_same(&rt, numbers(QueueError::AvailTooFar), (3, 3));
-    expect_same(&rt, numbers(QueueError::RingEntryUnreachable), (4, 4));
-    expect_same(&rt, numbers(QueueError::HeadOutOfTable), (5, 5));
-    expect_same(&rt, numbers(QueueError::UsedUnreachable), (6, 6));
-    expect_same(&rt, numbers(QueueError::AvailFlagsUnreachable), (7, 7));
-    expect_same(&rt, numbers(QueueError::DescriptorUnreachable), (8, 8));
-    expect_same(&rt, numbers(QueueError::OutOfMemory), (9, 9));
+    for (error, number) in QUEUE_ERRORS {
+        let numbers = (error.number(), DeviceError::Queue(*error).number());
+        expect_same(&rt, numbers, (*number, *number));
+    }
     expect_same(&rt, DeviceError::NoSuchQueue.number(), 10);
 }
 
+// Each refusal of a command, with its number.
+const REFUSALS: &[(Refusal, u8)] = &[
+    (Refusal::NoPlace, 1),
+    (Refusal::EmptyBlock, 2),
+    (Refusal::UnknownBlock, 3),
+    (Refusal::BadRegion, 4),
+    (Refusal::Overlap, 5),
+    (Refusal::NoRegion, 6),
+    (Refusal::NoSuchQueue, 8),
+    (Refusal::OutOfMemory, 9),
+];
+
 #[test]
 fn refusals_of_a_command_are_numbered(rt: HostRuntime) {
-    expect_same(&rt, Refusal::NoPlace.number(), 1);
-    expect_same(&rt, Refusal::EmptyBlock.number(), 2);
-    expect_same(&rt, Refusal::UnknownBlock.number(), 3);
-    expect_same(&rt, Refusal::BadRegion.number(), 4);
-    expect_same(&rt, Refusal::Overlap.number(), 5);
-    expect_same(&rt, Refusal::NoRegion.number(), 6);
-    expect_same(&rt, Refusal::NoSuchQueue.number(), 8);
-    expect_same(&rt, Refusal::OutOfMemory.number(), 9);
+    for (refusal, number) in REFUSALS {
+        expect_same(&rt, refusal.number(), *number);
+    }
 }
+
+// Each fault of a chain, with its number.
+const FAULTS: &[(ChainFault, u8)] = &[
+    (ChainFault::TooLong, 1),
+    (ChainFault::NextOutOfTable, 2),
+    (ChainFault::AddressOverflow, 3),
+    (ChainFault::IndirectWithNext, 4),
+    (ChainFault::IndirectNested, 5),
+    (ChainFault::IndirectLength, 6),
+    (ChainFault::TableUnreachable, 7),
+    (ChainFault::OverLimit, 8),
+    (ChainFault::RequestUnreachable, 9),
+    (ChainFault::RoomUnreachable, 10),
+];
 
 #[test]
 fn faults_of_a_chain_are_numbered(rt: HostRuntime) {
-    expect_same(&rt, ChainFault::TooLong.number(), 1);
-    expect_same(&rt, ChainFault::NextOutOfTable.number(), 2);
-    expect_same(&rt, ChainFault::AddressOverflow.number(), 3);
-    expect_same(&rt, ChainFault::IndirectWithNext.number(), 4);
-    expect_same(&rt, ChainFault::IndirectNested.number(), 5);
-    expect_same(&rt, ChainFault::IndirectLength.number(), 6);
-    expect_same(&rt, ChainFault::TableUnreachable.number(), 7);
-    expect_same(&rt, ChainFault::OverLimit.number(), 8);
-    expect_same(&rt, ChainFault::RequestUnreachable.number(), 9);
-    expect_same(&rt, ChainFault::RoomUnreachable.number(), 10);
+    for (fault, number) in FAULTS {
+        expect_same(&rt, fault.number(), *number);
+    }
 }
 
 #[test]
@@ -57,7 +74,7 @@ fn errors_of_a_layout_are_numbered(rt: HostRuntime) {
 }
 
 // A size and three addresses, and the first of the errors that they have.
-const LAYOUTS: [(u16, u64, u64, u64, Option<QueueLayoutError>); 12] = [
+const LAYOUTS: &[(u16, u64, u64, u64, Option<QueueLayoutError>)] = &[
     (3, 8, 0x101, 0x202, Some(QueueLayoutError::BadSize)),
     (0, 0, 0x100, 0x200, Some(QueueLayoutError::BadSize)),
     (4, 8, 0x100, 0x200, Some(QueueLayoutError::Misaligned)),
@@ -99,8 +116,8 @@ const LAYOUTS: [(u16, u64, u64, u64, Option<QueueLayoutError>); 12] = [
 #[test]
 fn layouts_are_refused_in_order(rt: HostRuntime) {
     for (size, desc, avail, used, error) in LAYOUTS {
-        let refused = QueueLayout::new(size, desc, avail, used).err();
-        expect_same(&rt, refused, error);
+        let refused = QueueLayout::new(*size, *desc, *avail, *used).err();
+        expect_same(&rt, refused, *error);
     }
 }
 

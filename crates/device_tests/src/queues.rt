@@ -1,17 +1,20 @@
 //! Queues alone, and chains of a queue one after another.
 
-use crate::stand::{LIMIT, RING, Stand, expect_same, layout};
+use crate::stand::{Act, LIMIT, RING, Stand, UNKNOWN, expect_same, layout};
 use fs_device::DeviceError;
 use fs_queue::{Queue, Taken};
-use guest_driver::requests::header;
+use std::alloc::Global;
 use std::process::Abort;
 
 // A chain of 40 bytes of request and 16 of room, in two parts each.
-fn stand(rt: &impl Abort, alloc: std::alloc::Global) -> Stand {
+fn stand(rt: &impl Abort, alloc: Global) -> Stand {
+    const CHAIN: &[Act<'static>] = &[Act::Chains(
+        UNKNOWN,
+        &[(0x1000, 33), (0x3000, 7)],
+        &[(0x2000, 3), (0x2803, 13)],
+    )];
     let mut stand = Stand::new(rt, alloc);
-    let request = [(0x1000, 33), (0x3000, 7)];
-    let room = [(0x2000, 3), (0x2803, 13)];
-    stand.chain(rt, 0, &header(40, 7, 1, 0), &request, &room);
+    stand.play(rt, CHAIN);
     stand
 }
 
@@ -32,11 +35,8 @@ fn chain_is_taken_and_given_back(rt: HostRuntime) {
     expect_same(&rt, (taken.head(), queue.position()), (0, 0));
     expect_lengths(&rt, &taken, (40, 16));
     let told = queue.give_back(&mut host, taken, &[]);
-    expect_same(
-        &rt,
-        (told, queue.position(), queue.is_stopped()),
-        (true, 1, false),
-    );
+    let after = (told, queue.position(), queue.is_stopped());
+    expect_same(&rt, after, (true, 1, false));
     let mut used = [9; 10];
     let there = host.read_block(0, 0x202, &mut used);
     expect_same(&rt, (there, used), (true, [1, 0, 0, 0, 0, 0, 0, 0, 0, 0]));
@@ -44,7 +44,7 @@ fn chain_is_taken_and_given_back(rt: HostRuntime) {
 
 #[test]
 fn nothing_is_taken_where_nothing_waits(rt: HostRuntime) {
-    let guest = Stand::new(&rt, rt.alloc()).guest;
+    let guest = &Stand::new(&rt, rt.alloc()).guest;
     let mut queue = Queue::new(layout(&rt, RING));
     let taken = queue
         .take(rt.alloc(), &guest.host, &guest.mem, LIMIT)

@@ -1,6 +1,6 @@
 //! Queues that are refused, and stop until they are reset.
 
-use crate::stand::{Stand, expect_same, layout};
+use crate::stand::{Stand, UNKNOWN, expect_same, layout};
 use fs_device::DeviceError;
 use fs_queue::QueueError;
 use guest_driver::Ring;
@@ -19,19 +19,19 @@ const GOOD: Ring = Ring {
 };
 
 // A queue, two numbers of 16 bits that the guest puts there, and the refusal.
-const REFUSED: [(Ring, [(u64, u16); 2], QueueError); 9] = [
+const REFUSED: &[(Ring, &[(u64, u16)], QueueError)] = &[
     (
         Ring {
             avail: 0x20000,
             ..GOOD
         },
-        [(0x4102, 0); 2],
+        &[(0x4102, 0)],
         QueueError::AvailIndexUnreachable,
     ),
-    (GOOD, [(0x4102, 5), (0x4104, 0)], QueueError::AvailTooFar),
+    (GOOD, &[(0x4102, 5), (0x4104, 0)], QueueError::AvailTooFar),
     (
         GOOD,
-        [(0x4102, 0xffff), (0x4104, 0)],
+        &[(0x4102, 0xffff), (0x4104, 0)],
         QueueError::AvailTooFar,
     ),
     (
@@ -39,16 +39,20 @@ const REFUSED: [(Ring, [(u64, u16); 2], QueueError); 9] = [
             avail: 0xfffc,
             ..GOOD
         },
-        [(0xfffe, 1); 2],
+        &[(0xfffe, 1)],
         QueueError::RingEntryUnreachable,
     ),
-    (GOOD, [(0x4102, 1), (0x4104, 4)], QueueError::HeadOutOfTable),
+    (
+        GOOD,
+        &[(0x4102, 1), (0x4104, 4)],
+        QueueError::HeadOutOfTable,
+    ),
     (
         Ring {
             used: 0xfff8,
             ..GOOD
         },
-        [(0x4102, 1); 2],
+        &[(0x4102, 1)],
         QueueError::UsedUnreachable,
     ),
     (
@@ -56,7 +60,7 @@ const REFUSED: [(Ring, [(u64, u16); 2], QueueError); 9] = [
             used: 0x20000,
             ..GOOD
         },
-        [(0x4102, 1); 2],
+        &[(0x4102, 1)],
         QueueError::UsedUnreachable,
     ),
     (
@@ -64,7 +68,7 @@ const REFUSED: [(Ring, [(u64, u16); 2], QueueError); 9] = [
             avail: 0x100,
             ..GOOD
         },
-        [(0x102, 1); 2],
+        &[(0x102, 1)],
         QueueError::AvailFlagsUnreachable,
     ),
     (
@@ -72,7 +76,7 @@ const REFUSED: [(Ring, [(u64, u16); 2], QueueError); 9] = [
             desc: 0x20000,
             ..GOOD
         },
-        [(0x4102, 1); 2],
+        &[(0x4102, 1)],
         QueueError::DescriptorUnreachable,
     ),
 ];
@@ -80,14 +84,19 @@ const REFUSED: [(Ring, [(u64, u16); 2], QueueError); 9] = [
 #[test]
 fn refused_queue_stops_until_it_is_reset(rt: HostRuntime) {
     for (ring, puts, error) in REFUSED {
-        let mut stand = Stand::over(&rt, rt.alloc(), &HOLED, ring);
-        for (addr, number) in puts {
-            stand.put(&rt, addr, &number.to_le_bytes());
-        }
-        stand.guest.clear_marks();
-        expect_stop(&rt, &mut stand, error);
+        let mut stand = Stand::over(&rt, rt.alloc(), &HOLED, *ring);
+        put_numbers(&rt, &mut stand, puts);
+        expect_stop(&rt, &mut stand, *error);
         expect_go_on(&rt, &mut stand);
     }
+}
+
+// The guest puts numbers of 16 bits at addresses; no page is marked.
+fn put_numbers(rt: &impl Abort, stand: &mut Stand, puts: &[(u64, u16)]) {
+    for (addr, number) in puts {
+        stand.put(rt, *addr, &number.to_le_bytes());
+    }
+    stand.guest.clear_marks();
 }
 
 // The refusal comes, and that of a stopped queue after it; no byte changes.
@@ -107,7 +116,7 @@ fn expect_go_on(rt: &impl Abort, stand: &mut Stand) {
     expect_same(rt, reset, Ok(()));
     stand.guest.ring = GOOD;
     stand.guest.set_available(0).expect(rt, "a place");
-    stand.ask_unknown(rt);
+    stand.ask(rt, UNKNOWN, 16);
     let (exchange, _) = stand.exchange(rt);
     expect_same(rt, exchange.reply.len(), 16);
     stand.expect_used(rt, 0, (0, 16), 1);
@@ -116,7 +125,7 @@ fn expect_go_on(rt: &impl Abort, stand: &mut Stand) {
 #[test]
 fn missing_queue_is_refused_first(rt: HostRuntime) {
     let mut stand = Stand::new(&rt, rt.alloc());
-    stand.ask_unknown(&rt);
+    stand.ask(&rt, UNKNOWN, 16);
     let host = &mut stand.guest.host;
     let refused = stand
         .device

@@ -46,8 +46,11 @@ fn answer<F: FileSystem>(
     ensures none { IfNone result ((server.new.options.0 ≡ server.old.options.0) × (server.new.fs ≡ server.old.fs)) }
     ensures page_size { server.new.page_size ≡ server.old.page_size }
 {
-    let mut writer = Writer::new(alloc, room);
-    match server.handle_message(alloc, Reader::new(request), &mut writer) {
+    let Ok(mut writer) = Writer::of_length(alloc, room) else {
+        return None;
+    };
+    let reader = Reader::of_slice(alloc, request);
+    match server.handle_message(alloc, reader, &mut writer) {
         Ok(_) => Some(Reply {
             bytes: writer.into_written(),
             fault: None,

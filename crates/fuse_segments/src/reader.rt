@@ -1,6 +1,6 @@
 //! What a request is read from (virtiofsd's `Reader`).
 
-ghost use Rattle.std.specs.Prelude.{◌≡◌, ◌+◌, ◌<◌, ◌≤◌, ◌^◌, min, sum, [], ◌∷◌, ◌++◌, length, take, drop, cond, nat_le, Some, IsOk, IfOk, OnOk, IfErr, OnErr, option_map};
+ghost use Rattle.std.specs.Prelude.{◌≡◌, ◌+◌, ◌<◌, ◌≤◌, ◌^◌, min, sum, [], ◌∷◌, ◌++◌, length, take, drop, cond, nat_le, Some, IsOk, IfOk, OnOk, IfErr, OnErr, IfSome, OnSome, IfNone, option_map};
 ghost use Rattle.std.specs.Io.{ReadsAtMost};
 ghost use Rattle.std.specs.Io.KnownBytes.{Consumes, ReadConsumes};
 ghost use Rattle.std.specs.IoError.{error_kind};
@@ -96,7 +96,7 @@ fn take_front<'a>(
 }
 
 // Writes over the first bytes.
-fn write_front(buf: &mut [u8], front: &[u8])
+pub(crate) fn write_front(buf: &mut [u8], front: &[u8])
     requires { length front.now ≤ length buf.old }
     ensures { buf.new ≡ front.now ++ drop (length front.now) buf.old }
 {
@@ -127,6 +127,20 @@ impl<'a> Reader<'a> {
             total = more;
         }
         Ok(Reader::over(&[], VecDeque::from(segments), total))
+    }
+
+    /// A reader of one segment.
+    pub fn of_slice(alloc: Global, bytes: &'a [u8]) -> Reader<'a>
+        ensures left { result.left ≡ bytes.now }
+        ensures segments { result.segments ≡ filled (length bytes.now ∷ []) }
+        ensures read { result.read ≡ 0 }
+    {
+        Reader {
+            first: bytes,
+            later: VecDeque::new(alloc),
+            left: bytes.len(),
+            read: 0,
+        }
     }
 
     // A reader of so many bytes, of which none was read.
@@ -185,6 +199,21 @@ impl<'a> Reader<'a> {
         self.first = next_filled(&segment[n..], &mut self.later);
         self.left -= n;
         self.read += n;
+    }
+
+    /// The next bytes where they stand, if the first segment has as many; else nothing is read.
+    pub fn read_in_place(&mut self, n: usize) -> Option<&'a [u8]>
+        ensures some { IfSome result (λ b. (self.old.left ≡ b.now ++ self.new.left) × (length b.now ≡ n) × (n ≤ first self.old.segments)) }
+        ensures segments { OnSome result (self.new.segments ≡ past n self.old.segments) }
+        ensures read { OnSome result (self.new.read ≡ self.old.read + n) }
+        ensures none { IfNone result ((first self.old.segments < n) × (self.new ≡ self.old)) }
+    {
+        let segment = self.segment();
+        if segment.len() < n {
+            return None;
+        }
+        self.advance(n);
+        Some(&segment[..n])
     }
 
     // Reads as many bytes as there are, and as there is room for; answers how many.

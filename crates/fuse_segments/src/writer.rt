@@ -1,6 +1,7 @@
 //! What a reply is written to (virtiofsd's `Writer`).
 
 ghost use Rattle.std.specs.Prelude.{◌≡◌, ℕ, ◌+◌, ◌<◌, ◌≤◌, ◌^◌, min, sum, List, [], ◌∷◌, ◌++◌, length, take, drop, cond, nat_lt, nat_le, Some, IsOk, IfOk, OnOk, IfErr, IfSome, IfNone, vec_len, vec_capacity};
+ghost use Rattle.smallvec.specs.SmallVec.{small_vec_len, HasRoomFor};
 ghost use Rattle.std.specs.Io.{WritesAtMost};
 ghost use Rattle.std.specs.Io.KnownBytes.{Appends, WriteAppends, Keeps};
 ghost use Rattle.std.specs.IoError.{error_kind};
@@ -11,8 +12,10 @@ ghost use Rattle.fuse_fs.specs.Transfers.{moved, with_bytes, ReadsOnce};
 ghost use Rattle.fuse_segments.specs.Views.{rooms};
 
 use crate::error::Error;
+use crate::reader::write_front;
 use fuse_fs::PositionedFile;
 use fuse_wire::Errno;
+use smallvec::SmallVec;
 use std::alloc::Global;
 use std::io;
 use std::io::{ErrorKind, Write};
@@ -26,13 +29,22 @@ struct Place {
     used: usize,
 }
 
+// The place before all segments.
+const START: Place = Place {
+    segment: 0,
+    used: 0,
+};
+
+// The lengths of segments. One of them needs no memory.
+type Lengths = SmallVec<usize, 1>;
+
 /// A reply with the room for it, in segments. The writer owns its room, so writing takes no memory.
 #[derive(Drop)]
 pub struct Writer {
     bytes: Vec<u8>,
     room: usize,
     // How long each segment is; none is empty.
-    segments: Vec<usize>,
+    segments: Lengths,
     // Where writing goes on.
     place: Place,
     rejoin: usize,
@@ -41,6 +53,7 @@ pub struct Writer {
 
 impl Model for Writer {
     ghost use Rattle.std.specs.Prelude.{◌≡◌, ◌+◌, ◌-◌, ◌≤◌, sum, vec_len, vec_capacity};
+    ghost use Rattle.smallvec.specs.SmallVec.{small_vec_len};
     ghost use Rattle.fuse_segments.specs.Views.{WriterView};
     ghost use Rattle.fuse_fs.specs.Lengths.{filled};
     ghost use Rattle.fuse_segments.specs.Places.{bytes_before, IsIn};
@@ -57,7 +70,7 @@ impl Model for Writer {
 
     ghost invariant = { λ w. (vec_len w.bytes ≤ w.room)
         × (w.room + w.spare ≤ vec_capacity w.bytes)
-        × (vec_len w.segments + w.rejoin ≤ vec_capacity w.segments)
+        × (small_vec_len w.segments + w.rejoin ≤ w.segments.capacity)
         × (sum w.segments.items ≡ w.room)
         × (filled w.segments.items ≡ w.segments.items)
         × (bytes_before w.segments.items w.place.segment w.place.used ≡ vec_len w.bytes)
@@ -97,23 +110,23 @@ fn total(lengths: &[usize]) -> Option<usize>
 }
 
 // Appends a length that isn't 0.
-fn push_filled(segments: &mut Vec<usize>, size: usize)
-    requires { vec_len segments.old < vec_capacity segments.old }
+fn push_filled(segments: &mut Lengths, size: usize)
+    requires { HasRoomFor segments.old 1 }
     ensures items { segments.new.items ≡ segments.old.items ++ filled (size ∷ []) }
-    ensures len { vec_len segments.new ≤ vec_len segments.old + 1 }
-    ensures capacity { vec_capacity segments.old ≤ vec_capacity segments.new }
+    ensures len { small_vec_len segments.new ≤ small_vec_len segments.old + 1 }
+    ensures capacity { segments.old.capacity ≤ segments.new.capacity }
 {
     if 0 < size {
-        segments.push(size).unwrap();
+        segments.push_reserved(size);
     }
 }
 
 // The lengths that aren't 0.
-fn filled_of(alloc: Global, lengths: &[usize]) -> Result<Vec<usize>, Error>
+fn filled_of(alloc: Global, lengths: &[usize]) -> Result<Lengths, Error>
     ensures ok { IfOk result (λ s. s.items ≡ filled lengths.now) }
     ensures err { IfErr result (λ e. e ≡ Error.OutOfMemory) }
 {
-    let Ok(mut segments) = Vec::with_capacity(alloc, lengths.len()) else {
+    let Ok(mut segments) = SmallVec::with_capacity(alloc, lengths.len()) else {
         return Err(Error::OutOfMemory);
     };
     for size in lengths {
@@ -123,31 +136,31 @@ fn filled_of(alloc: Global, lengths: &[usize]) -> Result<Vec<usize>, Error>
 }
 
 // The segments behind a place.
-fn segments_behind(alloc: Global, segments: &[usize], place: Place) -> Result<Vec<usize>, Error>
+fn segments_behind(alloc: Global, segments: &[usize], place: Place) -> Result<Lengths, Error>
     requires { IsIn segments.now place.segment place.used }
     ensures ok { IfOk result (λ s. s.items ≡ past place.used (drop place.segment segments.now)) }
-    ensures len { IfOk result (λ s. vec_len s + place.segment ≡ length segments.now) }
+    ensures len { IfOk result (λ s. small_vec_len s + place.segment ≡ length segments.now) }
     ensures err { IfErr result (λ e. e ≡ Error.OutOfMemory) }
 {
     let Place { segment, used } = place;
-    let Ok(mut behind) = Vec::with_capacity(alloc, segments.len() - segment) else {
+    let Ok(mut behind) = SmallVec::with_capacity(alloc, segments.len() - segment) else {
         return Err(Error::OutOfMemory);
     };
     if segment == segments.len() {
         return Ok(behind);
     }
-    behind.push(segments[segment] - used).unwrap();
+    behind.push_reserved(segments[segment] - used);
     behind.extend_from_slice(&segments[segment + 1..]).unwrap();
     Ok(behind)
 }
 
 // Cuts segments off at a place.
-fn cut_off(segments: &mut Vec<usize>, place: Place)
+fn cut_off(segments: &mut Lengths, place: Place)
     requires inside { IsIn segments.old.items place.segment place.used }
-    requires room { place.segment < vec_capacity segments.old }
+    requires room { place.segment < segments.old.capacity }
     ensures items { segments.new.items ≡ take place.segment segments.old.items ++ filled (place.used ∷ []) }
-    ensures len { vec_len segments.new ≤ place.segment + 1 }
-    ensures capacity { vec_capacity segments.old ≤ vec_capacity segments.new }
+    ensures len { small_vec_len segments.new ≤ place.segment + 1 }
+    ensures capacity { segments.old.capacity ≤ segments.new.capacity }
 {
     segments.truncate(place.segment);
     push_filled(segments, place.used);
@@ -189,8 +202,20 @@ impl Writer {
         Writer::over(alloc, room, segments)
     }
 
+    /// A writer with one segment of this length; with none where that is 0.
+    pub fn of_length(alloc: Global, size: usize) -> Result<Writer, Error>
+        ensures written { IfOk result (λ w. w.written ≡ []) }
+        ensures room { IfOk result (λ w. (w.free ≡ size) × (w.segments ≡ filled (size ∷ []))) }
+        ensures rejoin { IfOk result (λ w. (w.rejoin ≡ 0) × (w.spare ≡ 0)) }
+        ensures err { IfErr result (λ e. e ≡ Error.OutOfMemory) }
+    {
+        let mut segments = SmallVec::new(alloc);
+        push_filled(&mut segments, size);
+        Writer::over(alloc, size, segments)
+    }
+
     // A writer of so much room, in these segments.
-    fn over(alloc: Global, room: usize, segments: Vec<usize>) -> Result<Writer, Error>
+    fn over(alloc: Global, room: usize, segments: Lengths) -> Result<Writer, Error>
         requires sum { sum segments.items ≡ room }
         requires filled { filled segments.items ≡ segments.items }
         ensures written { IfOk result (λ w. w.written ≡ []) }
@@ -201,11 +226,7 @@ impl Writer {
         let Ok(bytes) = Vec::with_capacity(alloc, room) else {
             return Err(Error::OutOfMemory);
         };
-        let start = Place {
-            segment: 0,
-            used: 0,
-        };
-        let place = behind(&segments, start, 0);
+        let place = behind(&segments, START, 0);
         Ok(Writer {
             bytes,
             room,
@@ -245,6 +266,30 @@ impl Writer {
     {
         let Writer { bytes, .. } = self;
         bytes
+    }
+
+    /// Writes over the first bytes that were written.
+    pub fn put_front(&mut self, front: &[u8])
+        requires { length front.now ≤ length self.old.written }
+        ensures written { self.new.written ≡ front.now ++ drop (length front.now) self.old.written }
+        ensures free { self.new.free ≡ self.old.free }
+        ensures segments { self.new.segments ≡ self.old.segments }
+        ensures rejoin { self.new.rejoin ≡ self.old.rejoin }
+        ensures spare { self.new.spare ≡ self.old.spare }
+    {
+        write_front(&mut self.bytes, front);
+    }
+
+    /// Takes back what was written.
+    pub fn clear(&mut self)
+        ensures written { self.new.written ≡ [] }
+        ensures free { self.new.free ≡ self.old.free + length self.old.written }
+        ensures segments { self.new.segments ≡ self.old.segments }
+        ensures rejoin { self.new.rejoin ≡ self.old.rejoin }
+        ensures spare { self.new.spare ≡ self.old.spare }
+    {
+        self.bytes.clear();
+        self.place = behind(&self.segments, START, 0);
     }
 
     // The room of the first segment that has some.

@@ -1,7 +1,6 @@
 //! Regions that come and go, guest accesses, and the pages that they mark.
 
 use crate::transcript::check;
-use std::test::Fail;
 
 // Two regions over blocks of their own, and more over the same blocks: what lies across them is read and written.
 const LAYS_OUT_BLOCKS_IN_MANY_REGIONS: &[u8] = b"\
@@ -36,8 +35,8 @@ status 0
 ";
 
 #[test]
-fn lays_out_blocks_in_many_regions(rt: HostRuntime) -> Result<(), Fail> {
-    check(&rt, rt.alloc(), LAYS_OUT_BLOCKS_IN_MANY_REGIONS)
+fn lays_out_blocks_in_many_regions(rt: HostRuntime) {
+    check(&rt, rt.alloc(), LAYS_OUT_BLOCKS_IN_MANY_REGIONS);
 }
 
 // Each refusal of a region, a second region or its end; a block whose region is refused stays.
@@ -74,8 +73,8 @@ status 0
 ";
 
 #[test]
-fn refuses_layouts(rt: HostRuntime) -> Result<(), Fail> {
-    check(&rt, rt.alloc(), REFUSES_LAYOUTS)
+fn refuses_layouts(rt: HostRuntime) {
+    check(&rt, rt.alloc(), REFUSES_LAYOUTS);
 }
 
 // The last page of all: accesses up to 2^64 - 1, hexadecimal digits of both cases, and none.
@@ -106,8 +105,8 @@ status 0
 ";
 
 #[test]
-fn reaches_addresses_below_the_last(rt: HostRuntime) -> Result<(), Fail> {
-    check(&rt, rt.alloc(), REACHES_ADDRESSES_BELOW_THE_LAST)
+fn reaches_addresses_below_the_last(rt: HostRuntime) {
+    check(&rt, rt.alloc(), REACHES_ADDRESSES_BELOW_THE_LAST);
 }
 
 // What isn't a layout of a queue, by its number; the next `queue` line may be one.
@@ -130,6 +129,6 @@ status 0
 ";
 
 #[test]
-fn refuses_layouts_of_queues(rt: HostRuntime) -> Result<(), Fail> {
-    check(&rt, rt.alloc(), REFUSES_LAYOUTS_OF_QUEUES)
+fn refuses_layouts_of_queues(rt: HostRuntime) {
+    check(&rt, rt.alloc(), REFUSES_LAYOUTS_OF_QUEUES);
 }

@@ -1,9 +1,8 @@
 //! Which lines are commands, and where they may stand.
 
-use crate::transcript::{check, played};
-use std::alloc::{AllocError, Global};
+use crate::transcript::{check, expect_played, expect_same, push};
+use std::alloc::Global;
 use std::process::Abort;
-use std::test::Fail;
 
 // Each line counts, also one that is skipped; a `queue` comes before all else, a refused line too.
 const RUNS_LINES_IN_ORDER: &[u8] = b"\
@@ -63,52 +62,46 @@ status 0
 ";
 
 #[test]
-fn runs_lines_in_order(rt: HostRuntime) -> Result<(), Fail> {
-    check(&rt, rt.alloc(), RUNS_LINES_IN_ORDER)
+fn runs_lines_in_order(rt: HostRuntime) {
+    check(&rt, rt.alloc(), RUNS_LINES_IN_ORDER);
 }
 
 // A last line without its end, and no line at all.
 #[test]
-fn runs_a_last_line_without_its_end(rt: HostRuntime) -> Result<(), Fail> {
-    let cases: [(&[u8], &str); 4] = [
-        (b"", "status 0\n"),
-        (b"queue 4 0 0x100 0x200", "ok\nstatus 0\n"),
-        (b"#\n\nharvest", "line 3: not a command\nstatus 1\n"),
+fn runs_a_last_line_without_its_end(rt: HostRuntime) {
+    const CASES: &[(&[u8], &[u8])] = &[
+        (b"", b"status 0\n"),
+        (b"queue 4 0 0x100 0x200", b"ok\nstatus 0\n"),
+        (b"#\n\nharvest", b"line 3: not a command\nstatus 1\n"),
         (
             b"queue 4 0 0x100 0x200\nkick 0 1\nkick 0 1\nkick 0 0\nharvest",
-            "ok\nrefused 2\nrefused 1\nidle\nnone\nstatus 0\n",
+            b"ok\nrefused 2\nrefused 1\nidle\nnone\nstatus 0\n",
         ),
     ];
-    for (script, printed) in cases {
-        assert_eq!(rt; played(rt.alloc(), script)?.as_str(), printed);
+    for (script, printed) in CASES {
+        expect_played(&rt, rt.alloc(), script, printed);
     }
-    Ok(())
 }
 
-// A script of a line behind one that makes the queue.
-fn behind_a_queue(alloc: Global, line: &[u8]) -> Result<Vec<u8>, AllocError> {
+// A line by itself behind a queue is no command.
+fn expect_refused(rt: &impl Abort, alloc: Global, line: &[u8]) {
     let mut script = Vec::new(alloc);
-    script.extend_from_slice(b"queue 4 0 0x100 0x200\n")?;
-    script.extend_from_slice(line)?;
-    Ok(script)
+    push(rt, &mut script, b"queue 4 0 0x100 0x200\n");
+    push(rt, &mut script, line);
+    let printed = b"ok\nline 2: not a command\nstatus 1\n";
+    expect_played(rt, alloc, &script, printed);
 }
 
-// Runs each of these lines by itself behind a queue: it is no command.
-fn check_refused(rt: &impl Abort, alloc: Global, lines: &[u8]) -> Result<(), Fail> {
+// Each of these lines by itself behind a queue is no command.
+fn check_refused(rt: &impl Abort, alloc: Global, lines: &[u8]) {
     for line in lines.split(|byte| *byte == b'\n') {
-        let script = behind_a_queue(alloc, line)?;
-        assert_eq!(rt;
-            played(alloc, &script)?.as_str(),
-            "ok\nline 2: not a command\nstatus 1\n",
-            "{line:?}"
-        );
+        expect_refused(rt, alloc, line);
     }
-    Ok(())
 }
 
 // Words that are no command, one too many or too few, and other blanks than one space.
 #[test]
-fn refuses_what_is_no_command(rt: HostRuntime) -> Result<(), Fail> {
+fn refuses_what_is_no_command(rt: HostRuntime) {
     let lines = b"\x20harvest\n\
 harvest \n\
 harvest\r\n\
@@ -136,11 +129,11 @@ unregion 0\n\
 move\n\
 map 0 0 1 r\n\
 iommu on";
-    check_refused(&rt, rt.alloc(), lines)
+    check_refused(&rt, rt.alloc(), lines);
 }
 
 #[test]
-fn refuses_what_is_no_number(rt: HostRuntime) -> Result<(), Fail> {
+fn refuses_what_is_no_number(rt: HostRuntime) {
     let lines = b"kick 0 65536\n\
 kick 0x 1\n\
 kick 0X0 1\n\
@@ -153,7 +146,7 @@ kick x0 1\n\
 read 18446744073709551616 0\n\
 read 0x10000000000000000 0\n\
 reset 0 65536 0 0 0";
-    check_refused(&rt, rt.alloc(), lines)
+    check_refused(&rt, rt.alloc(), lines);
 }
 
 // Each number up to its limit, in decimal and in hexadecimal digits, with zeros in front.
@@ -202,14 +195,14 @@ status 0
 ";
 
 #[test]
-fn reads_numbers_up_to_their_limits(rt: HostRuntime) -> Result<(), Fail> {
-    check(&rt, rt.alloc(), READS_NUMBERS_UP_TO_THEIR_LIMITS)
+fn reads_numbers_up_to_their_limits(rt: HostRuntime) {
+    check(&rt, rt.alloc(), READS_NUMBERS_UP_TO_THEIR_LIMITS);
 }
 
 // The value of a word, in decimal and in hexadecimal digits of both cases.
 #[test]
 fn reads_the_value_of_a_number(rt: HostRuntime) {
-    let cases: [(&[u8], Option<u64>); 8] = [
+    const CASES: &[(&[u8], Option<u64>)] = &[
         (b"0", Some(0)),
         (b"4096", Some(4096)),
         (b"0x1000", Some(4096)),
@@ -219,7 +212,8 @@ fn reads_the_value_of_a_number(rt: HostRuntime) {
         (b"0x", None),
         (b"0b1", None),
     ];
-    for (word, value) in cases {
-        assert_eq!(rt; virtio_fs_script::parse_number(word), value, "{word:?}");
+    for (word, value) in CASES {
+        let read = virtio_fs_script::parse_number(word);
+        expect_same(&rt, (*word, read), (*word, *value));
     }
 }

@@ -1,8 +1,8 @@
 //! Kicks of one queue and of several, queues that stop, and resets.
 
-use crate::transcript::{check, played};
-use std::alloc::{AllocError, Global};
-use std::test::Fail;
+use crate::transcript::{check, expect_played, push};
+use std::alloc::Global;
+use std::process::Abort;
 
 // A request of no known kind: the reply is ENOSYS, and the pages of request, ring and reply are marked.
 const SERVES_A_REQUEST_OF_AN_UNKNOWN_KIND: &[u8] = b"\
@@ -39,8 +39,8 @@ status 0
 ";
 
 #[test]
-fn serves_a_request_of_an_unknown_kind(rt: HostRuntime) -> Result<(), Fail> {
-    check(&rt, rt.alloc(), SERVES_A_REQUEST_OF_AN_UNKNOWN_KIND)
+fn serves_a_request_of_an_unknown_kind(rt: HostRuntime) {
+    check(&rt, rt.alloc(), SERVES_A_REQUEST_OF_AN_UNKNOWN_KIND);
 }
 
 // The driver's flag 1: it isn't told.
@@ -63,8 +63,8 @@ status 0
 ";
 
 #[test]
-fn does_not_tell_a_driver_that_looks_by_itself(rt: HostRuntime) -> Result<(), Fail> {
-    check(&rt, rt.alloc(), DOES_NOT_TELL_A_DRIVER_THAT_LOOKS_BY_ITSELF)
+fn does_not_tell_a_driver_that_looks_by_itself(rt: HostRuntime) {
+    check(&rt, rt.alloc(), DOES_NOT_TELL_A_DRIVER_THAT_LOOKS_BY_ITSELF);
 }
 
 // A chain that comes back to itself is returned for its fault; an index that is too far stops the queue.
@@ -96,8 +96,8 @@ status 0
 ";
 
 #[test]
-fn prints_faults_and_refusals_of_steps(rt: HostRuntime) -> Result<(), Fail> {
-    check(&rt, rt.alloc(), PRINTS_FAULTS_AND_REFUSALS_OF_STEPS)
+fn prints_faults_and_refusals_of_steps(rt: HostRuntime) {
+    check(&rt, rt.alloc(), PRINTS_FAULTS_AND_REFUSALS_OF_STEPS);
 }
 
 // Each number of a kick's refusal: what the queue needs in memory isn't there, an index is too far, a head too great. The
@@ -203,8 +203,8 @@ status 0
 ";
 
 #[test]
-fn prints_each_refusal_of_a_step(rt: HostRuntime) -> Result<(), Fail> {
-    check(&rt, rt.alloc(), PRINTS_EACH_REFUSAL_OF_A_STEP)
+fn prints_each_refusal_of_a_step(rt: HostRuntime) {
+    check(&rt, rt.alloc(), PRINTS_EACH_REFUSAL_OF_A_STEP);
 }
 
 // The calls of each request stand before its end, and a kick ends where none is waiting.
@@ -246,8 +246,8 @@ status 0
 ";
 
 #[test]
-fn prints_the_calls_of_each_step(rt: HostRuntime) -> Result<(), Fail> {
-    check(&rt, rt.alloc(), PRINTS_THE_CALLS_OF_EACH_STEP)
+fn prints_the_calls_of_each_step(rt: HostRuntime) {
+    check(&rt, rt.alloc(), PRINTS_THE_CALLS_OF_EACH_STEP);
 }
 
 // The second queue has a request, and the first none.
@@ -290,8 +290,8 @@ status 0
 ";
 
 #[test]
-fn serves_two_queues(rt: HostRuntime) -> Result<(), Fail> {
-    check(&rt, rt.alloc(), SERVES_TWO_QUEUES)
+fn serves_two_queues(rt: HostRuntime) {
+    check(&rt, rt.alloc(), SERVES_TWO_QUEUES);
 }
 
 // A stopped queue is reset elsewhere, and then serves what is there; reset once more it serves it again.
@@ -334,8 +334,8 @@ status 0
 ";
 
 #[test]
-fn begins_a_queue_anew(rt: HostRuntime) -> Result<(), Fail> {
-    check(&rt, rt.alloc(), BEGINS_A_QUEUE_ANEW)
+fn begins_a_queue_anew(rt: HostRuntime) {
+    check(&rt, rt.alloc(), BEGINS_A_QUEUE_ANEW);
 }
 
 // A reset of a missing queue is refused only with a good layout, and one with a bad layout changes nothing.
@@ -361,35 +361,32 @@ status 0
 ";
 
 #[test]
-fn refuses_resets(rt: HostRuntime) -> Result<(), Fail> {
-    check(&rt, rt.alloc(), REFUSES_RESETS)
+fn refuses_resets(rt: HostRuntime) {
+    check(&rt, rt.alloc(), REFUSES_RESETS);
 }
 
 // 64 queues, and one more line that would add a queue.
 #[test]
-fn takes_as_many_queues_as_a_device_has(rt: HostRuntime) -> Result<(), Fail> {
-    let cases: [(&[u8], &[u8]); 3] = [
-        (b"kick 63 0", b"idle\nstatus 0\n"),
-        (b"kick 64 0", b"refused 10\nstatus 0\n"),
-        (
-            b"queue 1 0 0x10 0x20",
-            b"line 65: not a command\nstatus 1\n",
-        ),
-    ];
-    for (last, end) in cases {
-        let script = behind_64(rt.alloc(), b"queue 1 0 0x10 0x20\n", last)?;
-        let wanted = behind_64(rt.alloc(), b"ok\n", end)?;
-        assert_eq!(rt; played(rt.alloc(), &script)?.as_bytes(), wanted.as_slice());
-    }
-    Ok(())
+fn takes_as_many_queues_as_a_device_has(rt: HostRuntime) {
+    expect_behind_64(&rt, rt.alloc(), b"kick 63 0", b"idle\nstatus 0\n");
+    expect_behind_64(&rt, rt.alloc(), b"kick 64 0", b"refused 10\nstatus 0\n");
+    let end = b"line 65: not a command\nstatus 1\n";
+    expect_behind_64(&rt, rt.alloc(), b"queue 1 0 0x10 0x20", end);
+}
+
+// A line behind 64 queues prints this.
+fn expect_behind_64(rt: &impl Abort, alloc: Global, last: &[u8], end: &[u8]) {
+    let script = behind_64(rt, alloc, b"queue 1 0 0x10 0x20\n", last);
+    let printed = behind_64(rt, alloc, b"ok\n", end);
+    expect_played(rt, alloc, &script, &printed);
 }
 
 // A text behind 64 times another.
-fn behind_64(alloc: Global, front: &[u8], end: &[u8]) -> Result<Vec<u8>, AllocError> {
+fn behind_64(rt: &impl Abort, alloc: Global, front: &[u8], end: &[u8]) -> Vec<u8> {
     let mut text = Vec::new(alloc);
     for _ in 0..64 {
-        text.extend_from_slice(front)?;
+        push(rt, &mut text, front);
     }
-    text.extend_from_slice(end)?;
-    Ok(text)
+    push(rt, &mut text, end);
+    text
 }

@@ -1,7 +1,6 @@
 //! Requests that reach the file system: its calls, the reply and the used element of each.
 
 use crate::transcript::check;
-use std::test::Fail;
 
 // Version 7.38, where flag 1 is agreed on; and 8.0, which is answered with what the server speaks, and without a call.
 const AGREES_ON_A_START: &[u8] = b"\
@@ -73,8 +72,8 @@ status 0
 ";
 
 #[test]
-fn agrees_on_a_start(rt: HostRuntime) -> Result<(), Fail> {
-    check(&rt, rt.alloc(), AGREES_ON_A_START)
+fn agrees_on_a_start(rt: HostRuntime) {
+    check(&rt, rt.alloc(), AGREES_ON_A_START);
 }
 
 // The entry of the file `a`: node 2, generation 0, both timeouts 1 second, ino 2, size 5, mode 0o100644, one link, pages of
@@ -176,8 +175,8 @@ status 0
 ";
 
 #[test]
-fn looks_up_the_file(rt: HostRuntime) -> Result<(), Fail> {
-    check(&rt, rt.alloc(), LOOKS_UP_THE_FILE)
+fn looks_up_the_file(rt: HostRuntime) {
+    check(&rt, rt.alloc(), LOOKS_UP_THE_FILE);
 }
 
 // The first 16 bytes of a name of 16 and of 18; the line of an empty name ends in a space.
@@ -250,8 +249,8 @@ status 0
 ";
 
 #[test]
-fn prints_the_front_of_a_name(rt: HostRuntime) -> Result<(), Fail> {
-    check(&rt, rt.alloc(), PRINTS_THE_FRONT_OF_A_NAME)
+fn prints_the_front_of_a_name(rt: HostRuntime) {
+    check(&rt, rt.alloc(), PRINTS_THE_FRONT_OF_A_NAME);
 }
 
 // READ of the whole file, of a part, and from its end on; without room for the reply's header there is no call.
@@ -345,8 +344,8 @@ status 0
 ";
 
 #[test]
-fn reads_the_file(rt: HostRuntime) -> Result<(), Fail> {
-    check(&rt, rt.alloc(), READS_THE_FILE)
+fn reads_the_file(rt: HostRuntime) {
+    check(&rt, rt.alloc(), READS_THE_FILE);
 }
 
 // READ of the root, and of a node that there isn't.
@@ -397,8 +396,8 @@ status 0
 ";
 
 #[test]
-fn reads_no_other_node(rt: HostRuntime) -> Result<(), Fail> {
-    check(&rt, rt.alloc(), READS_NO_OTHER_NODE)
+fn reads_no_other_node(rt: HostRuntime) {
+    check(&rt, rt.alloc(), READS_NO_OTHER_NODE);
 }
 
 // FORGET has no reply, with room and without.
@@ -449,8 +448,8 @@ status 0
 ";
 
 #[test]
-fn forgets_without_a_reply(rt: HostRuntime) -> Result<(), Fail> {
-    check(&rt, rt.alloc(), FORGETS_WITHOUT_A_REPLY)
+fn forgets_without_a_reply(rt: HostRuntime) {
+    check(&rt, rt.alloc(), FORGETS_WITHOUT_A_REPLY);
 }
 
 // LOOKUP of `a`, cut over four readable descriptors and three writable ones at odd places.
@@ -495,8 +494,8 @@ status 0
 ";
 
 #[test]
-fn looks_up_the_file_in_pieces(rt: HostRuntime) -> Result<(), Fail> {
-    check(&rt, rt.alloc(), LOOKS_UP_THE_FILE_IN_PIECES)
+fn looks_up_the_file_in_pieces(rt: HostRuntime) {
+    check(&rt, rt.alloc(), LOOKS_UP_THE_FILE_IN_PIECES);
 }
 
 // READ of the file, cut over three readable descriptors and three writable ones.
@@ -537,6 +536,6 @@ status 0
 ";
 
 #[test]
-fn reads_the_file_in_pieces(rt: HostRuntime) -> Result<(), Fail> {
-    check(&rt, rt.alloc(), READS_THE_FILE_IN_PIECES)
+fn reads_the_file_in_pieces(rt: HostRuntime) {
+    check(&rt, rt.alloc(), READS_THE_FILE_IN_PIECES);
 }

@@ -1,11 +1,10 @@
 //! Scripts that are too long, and readers and writers that fail.
 
-use crate::transcript::played;
+use crate::transcript::{expect_played, expect_same, push};
 use std::alloc::Global;
 use std::io;
 use std::io::{ErrorKind, Read, Write};
 use std::process::Abort;
-use std::test::Fail;
 use virtio_fs_script::{Halt, print_usage, run_script};
 
 // The most bytes of a script: 1 MiB.
@@ -58,15 +57,13 @@ impl Write for FullWriter {
 }
 
 #[test]
-fn reads_no_script_that_is_too_long(rt: HostRuntime) -> Result<(), Fail> {
+fn reads_no_script_that_is_too_long(rt: HostRuntime) {
     let mut script = Vec::new(rt.alloc());
-    script.extend_from_slice(b"queue 4 0 0x100 0x200\n#")?;
-    script.resize(MOST_SCRIPT_BYTES, b'x')?;
-    for printed in ["ok\nstatus 0\n", "script too long\nstatus 1\n"] {
-        assert_eq!(rt; played(rt.alloc(), &script)?.as_str(), printed);
-        script.push(b'\n')?;
-    }
-    Ok(())
+    push(&rt, &mut script, b"queue 4 0 0x100 0x200\n#");
+    script.resize(MOST_SCRIPT_BYTES, b'x').expect(&rt, "memory");
+    expect_played(&rt, rt.alloc(), &script, b"ok\nstatus 0\n");
+    push(&rt, &mut script, b"\n");
+    expect_played(&rt, rt.alloc(), &script, b"script too long\nstatus 1\n");
 }
 
 // Runs a script whose reader ends, or fails so, behind the last byte.
@@ -77,8 +74,7 @@ fn check_reader(rt: &impl Abort, alloc: Global, fails: Option<ErrorKind>, want: 
     };
     let mut printed = Vec::new(alloc);
     let ended = run_script(alloc, &mut reader, &mut printed);
-    assert_eq!(rt; ended, status);
-    assert_eq!(rt; printed.as_slice(), want);
+    expect_same(rt, (ended, printed.as_slice()), (status, want));
 }
 
 // A reader that ends, fails or is interrupted behind the script's last byte.
@@ -101,30 +97,30 @@ fn check_writer(
     let mut reader = script;
     let mut writer = FullWriter { room, flushes };
     let ended = run_script(alloc, &mut reader, &mut writer);
-    assert_eq!(rt; ended, status, "room for {room}");
+    expect_same(rt, (room, ended), (room, status));
 }
 
-// A writer with room for all, for less, and one that fails where it is flushed.
+// A writer with room for all that a script prints, for less, and one that fails where it is flushed.
+fn check_writers(rt: &impl Abort, alloc: Global, script: &[u8], len: usize, status: u8) {
+    check_writer(rt, alloc, script, len, true, status);
+    check_writer(rt, alloc, script, len.saturating_sub(1), true, 3);
+    check_writer(rt, alloc, script, 0, true, 3);
+    check_writer(rt, alloc, script, len, false, 3);
+}
+
 #[test]
 fn ends_where_a_writer_fails(rt: HostRuntime) {
-    let scripts: [(&[u8], usize, u8); 2] = [
-        (b"queue 4 0 0x100 0x200\nharvest\n", 8, 0),
-        (b"move", 22, 1),
-    ];
-    for (script, len, status) in scripts {
-        check_writer(&rt, rt.alloc(), script, len, true, status);
-        check_writer(&rt, rt.alloc(), script, len - 1, true, 3);
-        check_writer(&rt, rt.alloc(), script, 0, true, 3);
-        check_writer(&rt, rt.alloc(), script, len, false, 3);
-    }
+    let script = b"queue 4 0 0x100 0x200\nharvest\n";
+    check_writers(&rt, rt.alloc(), script, 8, 0);
+    check_writers(&rt, rt.alloc(), b"move", 22, 1);
 }
 
 #[test]
 fn prints_how_it_is_called(rt: HostRuntime) {
     let mut printed = Vec::new(rt.alloc());
-    assert_eq!(rt; print_usage(&mut printed), 1);
+    let status = print_usage(&mut printed);
     let usage = b"usage: virtio_fs_run < script\n".as_slice();
-    assert_eq!(rt; printed.as_slice(), usage);
+    expect_same(&rt, (status, printed.as_slice()), (1, usage));
 }
 
 #[test]
@@ -133,34 +129,21 @@ fn ends_where_its_usage_has_no_room(rt: HostRuntime) {
         room: 29,
         flushes: true,
     };
-    assert_eq!(rt; print_usage(&mut full), 3);
+    expect_same(&rt, print_usage(&mut full), 3);
 }
 
 // Prints why a script ends early, and compares the status too.
-fn check_halt(
-    rt: &impl Abort,
-    alloc: Global,
-    halt: Halt,
-    text: &str,
-    status: u8,
-) -> Result<(), Fail> {
-    let said = format!(in alloc; "{halt}")?;
-    assert_eq!(rt; said.as_str(), text);
-    assert_eq!(rt; halt.status(), status);
-    Ok(())
+fn check_halt(rt: &impl Abort, alloc: Global, halt: Halt, text: &str, status: u8) {
+    let said = format!(in alloc; "{halt}").expect(rt, "memory");
+    expect_same(rt, (said.as_str(), halt.status()), (text, status));
 }
 
 // What is printed of each end that comes early, and the status.
 #[test]
-fn says_why_a_script_ends(rt: HostRuntime) -> Result<(), Fail> {
-    check_halt(&rt, rt.alloc(), Halt::TooLong, "script too long", 1)?;
-    check_halt(
-        &rt,
-        rt.alloc(),
-        Halt::NotACommand(7),
-        "line 7: not a command",
-        1,
-    )?;
-    check_halt(&rt, rt.alloc(), Halt::OutOfMemory, "out of memory", 2)?;
-    check_halt(&rt, rt.alloc(), Halt::Stream, "a stream failed", 3)
+fn says_why_a_script_ends(rt: HostRuntime) {
+    check_halt(&rt, rt.alloc(), Halt::TooLong, "script too long", 1);
+    let seventh = Halt::NotACommand(7);
+    check_halt(&rt, rt.alloc(), seventh, "line 7: not a command", 1);
+    check_halt(&rt, rt.alloc(), Halt::OutOfMemory, "out of memory", 2);
+    check_halt(&rt, rt.alloc(), Halt::Stream, "a stream failed", 3);
 }

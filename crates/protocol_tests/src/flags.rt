@@ -1,5 +1,6 @@
 //! Sets of flags.
 
+use crate::given::expect_same;
 use bitflags::Flags;
 use fuse_wire::{
     FsOptions, IoctlFlags, NotifyInvalEntryOutFlags, OpenOptions, SetattrValid, SetupmappingFlags,
@@ -13,63 +14,61 @@ fn known<F: Flags>() -> F::Bits {
 
 #[test]
 fn sets_know_their_bits(rt: HostRuntime) {
-    assert_eq!(rt; known::<FsOptions>(), 0x117f_bfff_fff);
-    assert_eq!(rt; FsOptions::DEFAULT.bits(), 0x1044_8449_829);
-    let table = [
-        (known::<SetattrValid>(), 0xdbf),
-        (known::<OpenOptions>(), 0x7f),
-        (known::<IoctlFlags>(), 0x13f),
-        (known::<SetxattrFlags>(), 1),
-        (known::<NotifyInvalEntryOutFlags>(), 1),
+    let options = [known::<FsOptions>(), FsOptions::DEFAULT.bits()];
+    expect_same(&rt, options, [0x117f_bfff_fff, 0x1044_8449_829]);
+    let sets = [
+        known::<SetattrValid>(),
+        known::<OpenOptions>(),
+        known::<IoctlFlags>(),
+        known::<SetxattrFlags>(),
+        known::<NotifyInvalEntryOutFlags>(),
     ];
-    for (i, (bits, want)) in table.iter().enumerate() {
-        assert_eq!(rt; bits, want, "set {i}");
-    }
-    assert_eq!(rt; known::<SetupmappingFlags>(), 3);
+    expect_same(&rt, sets, [0xdbf, 0x7f, 0x13f, 1, 1]);
+    expect_same(&rt, known::<SetupmappingFlags>(), 3);
 }
 
 #[test]
 fn sets_are_made_of_bits(rt: HostRuntime) {
-    assert_eq!(rt; OpenOptions::STREAM.bits(), 16);
-    assert_eq!(rt; OpenOptions::from_bits(0x80), None);
-    assert_eq!(rt; OpenOptions::from_bits(0x7f), Some(OpenOptions::all()));
-    assert_eq!(rt; OpenOptions::from_bits_truncate(0x90), OpenOptions::STREAM);
-    assert!(rt; OpenOptions::empty().is_empty() && !OpenOptions::STREAM.is_empty());
+    let stream = OpenOptions::STREAM;
+    let made = [OpenOptions::from_bits(0x80), OpenOptions::from_bits(0x7f)];
+    expect_same(&rt, made, [None, Some(OpenOptions::all())]);
+    let cut = OpenOptions::from_bits_truncate(0x90);
+    expect_same(&rt, (cut, stream.bits()), (stream, 16));
+    let is_empty = [OpenOptions::empty().is_empty(), stream.is_empty()];
+    expect_same(&rt, is_empty, [true, false]);
 }
 
 #[test]
 fn sets_are_joined_and_cut(rt: HostRuntime) {
-    let both = OpenOptions::STREAM | OpenOptions::DIRECT_IO;
-    assert_eq!(rt; both.bits(), 17);
-    assert_eq!(rt; both & OpenOptions::STREAM, OpenOptions::STREAM);
-    assert!(rt; both.contains(OpenOptions::STREAM) && !OpenOptions::STREAM.contains(both));
+    let stream = OpenOptions::STREAM;
+    let both = stream | OpenOptions::DIRECT_IO;
+    expect_same(&rt, (both.bits(), both & stream), (17, stream));
+    let contains = [both.contains(stream), stream.contains(both)];
+    expect_same(&rt, contains, [true, false]);
 }
 
 #[test]
 fn each_set_is_joined_and_cut(rt: HostRuntime) {
     let valid = SetattrValid::MODE | SetattrValid::CTIME;
-    assert_eq!(rt;
-        (valid.bits(), (valid & SetattrValid::MODE).bits()),
-        (0x401, 1)
-    );
+    let valid = (valid.bits(), (valid & SetattrValid::MODE).bits());
+    expect_same(&rt, valid, (0x401, 1));
     let ioctl = IoctlFlags::IOCTL_MAX_IOV | IoctlFlags::IOCTL_DIR;
-    assert_eq!(rt;
-        (ioctl.bits(), (ioctl & IoctlFlags::IOCTL_DIR).bits()),
-        (0x110, 16)
-    );
+    let ioctl = (ioctl.bits(), (ioctl & IoctlFlags::IOCTL_DIR).bits());
+    expect_same(&rt, ioctl, (0x110, 16));
     let maps = SetupmappingFlags::READ | SetupmappingFlags::WRITE;
-    assert_eq!(rt;
-        (maps.bits(), (maps & SetupmappingFlags::READ).bits()),
-        (3, 2)
-    );
+    let maps = (maps.bits(), (maps & SetupmappingFlags::READ).bits());
+    expect_same(&rt, maps, (3, 2));
     let wanted = FsOptions::DEFAULT | FsOptions::ALLOW_IDMAP;
-    assert_eq!(rt; wanted & FsOptions::DEFAULT, FsOptions::DEFAULT);
+    expect_same(&rt, wanted & FsOptions::DEFAULT, FsOptions::DEFAULT);
 }
 
 #[test]
 fn sets_of_one_flag(rt: HostRuntime) {
     let acl = SetxattrFlags::SETXATTR_ACL_KILL_SGID | SetxattrFlags::empty();
-    assert_eq!(rt; (acl & SetxattrFlags::all()).bits(), 1);
     let expire = NotifyInvalEntryOutFlags::EXPIRE_ONLY | NotifyInvalEntryOutFlags::empty();
-    assert_eq!(rt; (expire & NotifyInvalEntryOutFlags::all()).bits(), 1);
+    let bits = [
+        (acl & SetxattrFlags::all()).bits(),
+        (expire & NotifyInvalEntryOutFlags::all()).bits(),
+    ];
+    expect_same(&rt, bits, [1, 1]);
 }

@@ -6,9 +6,13 @@ mod files;
 #[cfg(test)]
 mod flags;
 #[cfg(test)]
+mod given;
+#[cfg(test)]
 mod numbers;
 #[cfg(test)]
 mod records;
+#[cfg(test)]
+mod segments;
 #[cfg(test)]
 mod server;
 #[cfg(test)]

@@ -1,91 +1,82 @@
 //! The records of the protocol: their sizes, and the bytes of some.
 
+use crate::given::{expect_rows, expect_same, expect_spelled};
 use fuse_wire::*;
 use vm_values::ByteValued;
 
+// Each record's size, with the size of linux/fuse.h.
+const SIZES: &[(usize, usize)] = &[
+    (InHeader::SIZE, 40),
+    (OutHeader::SIZE, 16),
+    (Attr::SIZE, 88),
+    (Kstatfs::SIZE, 80),
+    (StatfsOut::SIZE, 80),
+    (FileLock::SIZE, 24),
+    (EntryOut::SIZE, 128),
+    (AttrOut::SIZE, 104),
+    (ForgetIn::SIZE, 8),
+    (ForgetOne::SIZE, 16),
+    (BatchForgetIn::SIZE, 8),
+    (GetattrIn::SIZE, 16),
+    (SetattrIn::SIZE, 88),
+    (MknodIn::SIZE, 16),
+    (MkdirIn::SIZE, 8),
+    (RenameIn::SIZE, 8),
+    (Rename2In::SIZE, 16),
+    (LinkIn::SIZE, 8),
+    (OpenIn::SIZE, 8),
+    (CreateIn::SIZE, 16),
+    (OpenOut::SIZE, 16),
+    (ReleaseIn::SIZE, 24),
+    (FlushIn::SIZE, 24),
+    (ReadIn::SIZE, 40),
+    (WriteIn::SIZE, 40),
+    (WriteOut::SIZE, 8),
+    (FsyncIn::SIZE, 16),
+    (SetxattrIn::SIZE, 16),
+    (SetxattrInCompat::SIZE, 8),
+    (GetxattrIn::SIZE, 8),
+    (GetxattrOut::SIZE, 8),
+    (LkIn::SIZE, 48),
+    (LkOut::SIZE, 24),
+    (AccessIn::SIZE, 8),
+    (InitInCompat::SIZE, 16),
+    (InitInExt::SIZE, 48),
+    (InitOut::SIZE, 64),
+    (InterruptIn::SIZE, 8),
+    (BmapIn::SIZE, 16),
+    (BmapOut::SIZE, 8),
+    (IoctlIn::SIZE, 32),
+    (IoctlIovec::SIZE, 16),
+    (IoctlOut::SIZE, 16),
+    (PollIn::SIZE, 24),
+    (PollOut::SIZE, 8),
+    (NotifyPollWakeupOut::SIZE, 8),
+    (FallocateIn::SIZE, 32),
+    (Dirent::SIZE, 24),
+    (Direntplus::SIZE, 152),
+    (NotifyInvalInodeOut::SIZE, 24),
+    (NotifyInvalEntryOut::SIZE, 16),
+    (NotifyDeleteOut::SIZE, 24),
+    (NotifyStoreOut::SIZE, 24),
+    (Notify_Retrieve_Out::SIZE, 32),
+    (NotifyRetrieveIn::SIZE, 40),
+    (LseekIn::SIZE, 24),
+    (LseekOut::SIZE, 8),
+    (CopyfilerangeIn::SIZE, 56),
+    (SetupmappingIn::SIZE, 40),
+    (RemovemappingIn::SIZE, 4),
+    (RemovemappingOne::SIZE, 16),
+    (SyncfsIn::SIZE, 8),
+    (ExtHeader::SIZE, 8),
+    (Secctx::SIZE, 8),
+    (SecctxHeader::SIZE, 8),
+    (SuppGroups::SIZE, 4),
+];
+
 #[test]
 fn records_have_their_sizes(rt: HostRuntime) {
-    let table = [
-        (InHeader::SIZE, 40),
-        (OutHeader::SIZE, 16),
-        (Attr::SIZE, 88),
-        (Kstatfs::SIZE, 80),
-        (StatfsOut::SIZE, 80),
-        (FileLock::SIZE, 24),
-        (EntryOut::SIZE, 128),
-        (AttrOut::SIZE, 104),
-        (ForgetIn::SIZE, 8),
-        (ForgetOne::SIZE, 16),
-        (BatchForgetIn::SIZE, 8),
-        (GetattrIn::SIZE, 16),
-        (SetattrIn::SIZE, 88),
-        (MknodIn::SIZE, 16),
-        (MkdirIn::SIZE, 8),
-        (RenameIn::SIZE, 8),
-        (Rename2In::SIZE, 16),
-        (LinkIn::SIZE, 8),
-        (OpenIn::SIZE, 8),
-        (CreateIn::SIZE, 16),
-        (OpenOut::SIZE, 16),
-        (ReleaseIn::SIZE, 24),
-        (FlushIn::SIZE, 24),
-        (ReadIn::SIZE, 40),
-        (WriteIn::SIZE, 40),
-        (WriteOut::SIZE, 8),
-        (FsyncIn::SIZE, 16),
-        (SetxattrIn::SIZE, 16),
-        (SetxattrInCompat::SIZE, 8),
-        (GetxattrIn::SIZE, 8),
-        (GetxattrOut::SIZE, 8),
-        (LkIn::SIZE, 48),
-        (LkOut::SIZE, 24),
-        (AccessIn::SIZE, 8),
-        (InitInCompat::SIZE, 16),
-        (InitInExt::SIZE, 48),
-        (InitOut::SIZE, 64),
-        (InterruptIn::SIZE, 8),
-        (BmapIn::SIZE, 16),
-        (BmapOut::SIZE, 8),
-        (IoctlIn::SIZE, 32),
-        (IoctlIovec::SIZE, 16),
-        (IoctlOut::SIZE, 16),
-        (PollIn::SIZE, 24),
-        (PollOut::SIZE, 8),
-        (NotifyPollWakeupOut::SIZE, 8),
-        (FallocateIn::SIZE, 32),
-        (Dirent::SIZE, 24),
-        (Direntplus::SIZE, 152),
-        (NotifyInvalInodeOut::SIZE, 24),
-        (NotifyInvalEntryOut::SIZE, 16),
-        (NotifyDeleteOut::SIZE, 24),
-        (NotifyStoreOut::SIZE, 24),
-        (Notify_Retrieve_Out::SIZE, 32),
-        (NotifyRetrieveIn::SIZE, 40),
-        (LseekIn::SIZE, 24),
-        (LseekOut::SIZE, 8),
-        (CopyfilerangeIn::SIZE, 56),
-        (SetupmappingIn::SIZE, 40),
-        (RemovemappingIn::SIZE, 4),
-        (RemovemappingOne::SIZE, 16),
-        (SyncfsIn::SIZE, 8),
-        (ExtHeader::SIZE, 8),
-        (Secctx::SIZE, 8),
-        (SecctxHeader::SIZE, 8),
-        (SuppGroups::SIZE, 4),
-    ];
-    for (i, (size, want)) in table.iter().enumerate() {
-        assert_eq!(rt; size, want, "record {i}");
-    }
-}
-
-// Whether a record is spelled by these bytes, both ways.
-fn is_spelled<T: ByteValued + PartialEq>(record: T, bytes: &[u8]) -> bool {
-    if bytes.len() != T::SIZE || T::SIZE > 256 {
-        return false;
-    }
-    let mut out = [0xff; 256];
-    record.put_bytes(&mut out[..T::SIZE]);
-    &out[..T::SIZE] == bytes && T::get_bytes(bytes) == record
+    expect_rows(&rt, SIZES);
 }
 
 #[test]
@@ -105,7 +96,7 @@ fn request_header_is_spelled(rt: HostRuntime) {
         total_extlen: 3,
         padding: 0,
     };
-    assert!(rt; is_spelled(header, &bytes));
+    expect_spelled(&rt, header, &bytes);
 }
 
 #[test]
@@ -130,7 +121,7 @@ fn entry_is_spelled(rt: HostRuntime) {
     bytes[40..42].copy_from_slice(&[2, 1]);
     bytes[100..102].copy_from_slice(&[0xa4, 0x81]);
     bytes[124..].copy_from_slice(&[5, 6, 7, 8]);
-    assert!(rt; is_spelled(entry, &bytes));
+    expect_spelled(&rt, entry, &bytes);
 }
 
 #[test]
@@ -154,7 +145,7 @@ fn init_reply_is_spelled(rt: HostRuntime) {
     ];
     let mut bytes = [0; 64];
     bytes[..36].copy_from_slice(&front);
-    assert!(rt; is_spelled(init, &bytes));
+    expect_spelled(&rt, init, &bytes);
 }
 
 #[test]
@@ -165,7 +156,7 @@ fn reply_header_is_spelled(rt: HostRuntime) {
         unique: 5,
     };
     let bytes = [16, 0, 0, 0, 0xfe, 0xff, 0xff, 0xff, 5, 0, 0, 0, 0, 0, 0, 0];
-    assert!(rt; is_spelled(header, &bytes));
-    assert!(rt; ForgetOne::from_slice(&bytes[1..]).is_none());
-    assert_eq!(rt; FileLock::default().pid, 0);
+    expect_spelled(&rt, header, &bytes);
+    expect_same(&rt, ForgetOne::from_slice(&bytes[1..]), None);
+    expect_same(&rt, FileLock::default().pid, 0);
 }

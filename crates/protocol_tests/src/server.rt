@@ -1,6 +1,7 @@
-//! Requests served over the toy file system, and the server's reader and writer.
+//! Requests served over the toy file system.
 
-use crate::toy::{Hello, Recorder};
+use crate::given::expect_same;
+use crate::toy::Recorder;
 use bitflags::Flags;
 use fuse_wire::{Errno, InitInCompat};
 use guest_driver::requests::{
@@ -8,12 +9,8 @@ use guest_driver::requests::{
 };
 use std::alloc::Global;
 use std::io::ErrorKind;
-use std::test::Fail;
+use std::process::Abort;
 use virtiofsd_fuse::{Error, Reader, Server, Writer};
-
-fn server() -> Server<Recorder> {
-    Server::new(Recorder::new(None), 4096)
-}
 
 // What a request is answered in a room.
 fn answer(
@@ -22,252 +19,349 @@ fn answer(
     request: &[u8],
     room: u16,
 ) -> Result<Vec<u8>, Error> {
-    let mut w = Writer::new(alloc, room as usize);
-    let len = server.handle_message(alloc, Reader::new(request), &mut w)?;
+    let mut w = Writer::of_length(alloc, room as usize)?;
+    let len = server.handle_message(alloc, Reader::of_slice(alloc, request), &mut w)?;
     if w.bytes_written() != len {
         return Err(Error::FlushMessage);
     }
     Ok(w.into_written())
 }
 
-// Whether a request is answered this reply.
-fn replies(
-    alloc: Global,
-    server: &mut Server<Recorder>,
-    request: &[u8],
-    room: u16,
-    want: &[u8],
-) -> bool {
-    match answer(alloc, server, request, room) {
-        Ok(bytes) => bytes.as_slice() == want,
-        Err(_) => false,
+// A request of unique number 2.
+#[derive(Clone, Copy)]
+enum Request<'a> {
+    // These bytes alone, which are no request.
+    Bytes(&'a [u8]),
+    // A header that says this length, with this opcode, for node 1, and what stands behind it.
+    Whole(u32, u32, &'a [u8]),
+    // INIT, and the second word of flags where it is there.
+    Init(InitInCompat, Option<u32>),
+    // Of a name in node 1.
+    Lookup(&'a [u8]),
+    // Of node 2, from an offset on, so many bytes.
+    Read(u64, u32),
+    // Of a node, so many lookups.
+    Forget(u64, u64),
+}
+
+impl Request<'_> {
+    // The bytes of the request.
+    fn bytes(&self, rt: &impl Abort, alloc: Global) -> Vec<u8> {
+        let bytes = match *self {
+            Request::Bytes(bytes) => bytes.to_vec(alloc),
+            Request::Whole(len, opcode, rest) => joined(alloc, &header(len, opcode, 2, 1), rest),
+            Request::Init(record, None) => init(alloc, 2, &record),
+            Request::Init(record, Some(flags)) => init_ext(alloc, 2, &record, flags),
+            Request::Lookup(name) => lookup(alloc, 2, 1, &name[..name.len().min(8)]),
+            Request::Read(offset, size) => read(alloc, 2, 2, 0, offset, size),
+            Request::Forget(node, count) => forget(alloc, 2, node, count),
+        };
+        bytes.expect(rt, "memory")
     }
 }
 
-// The number of a request's fault, or 0.
-fn fault(alloc: Global, server: &mut Server<Recorder>, request: &[u8], room: u16) -> u8 {
-    match answer(alloc, server, request, room) {
+// A request in a room of so many bytes and what it comes to, or what was written down so far.
+#[derive(Clone, Copy)]
+enum Row<'a> {
+    // The reply is this.
+    Replies(Request<'a>, u16, &'a [u8]),
+    // The reply is a header and these bytes.
+    Gives(Request<'a>, u16, &'a [u8]),
+    // The fault has this number; 0 is none.
+    Faults(Request<'a>, u16, u8),
+    // How often the file system was asked.
+    Asked(u64),
+    // The node that was asked about last, and how many lookups of it were forgotten.
+    Node(u64, u64),
+    // The name that was looked up last.
+    Name([u8; 4]),
+    // What the client can do, and the options that were agreed on.
+    Options(u64, u64),
+}
+
+impl Row<'_> {
+    // The row holds for this server.
+    fn expect(&self, rt: &impl Abort, alloc: Global, server: &mut Server<Recorder>) {
+        match *self {
+            Row::Replies(request, room, want) => {
+                expect_reply(rt, alloc, server, (request, room), want);
+            }
+            Row::Gives(request, room, data) => {
+                expect_data(rt, alloc, server, (request, room), data);
+            }
+            Row::Faults(request, room, want) => {
+                expect_fault(rt, alloc, server, (request, room), want);
+            }
+            _ => self.expect_written_down(rt, server),
+        }
+    }
+
+    // What the row says was written down so far.
+    fn expect_written_down(&self, rt: &impl Abort, server: &Server<Recorder>) {
+        let fs = server.fs();
+        match *self {
+            Row::Asked(want) => expect_same(rt, fs.asked, want),
+            Row::Node(node, count) => expect_same(rt, (fs.node, fs.count), (node, count)),
+            Row::Name(want) => expect_same(rt, fs.name, want),
+            Row::Options(capable, agreed) => {
+                let options = (fs.capable, server.options().bits());
+                expect_same(rt, options, (capable, agreed));
+            }
+            _ => panic!(rt; "a row of a request"),
+        }
+    }
+}
+
+// Each row in turn holds for this server.
+fn expect_each(rt: &impl Abort, alloc: Global, server: &mut Server<Recorder>, rows: &[Row<'_>]) {
+    for row in rows {
+        row.expect(rt, alloc, server);
+    }
+}
+
+// Each row in turn holds for a server with pages of 4096 bytes.
+fn expect_rows(rt: &impl Abort, alloc: Global, rows: &[Row<'_>]) {
+    let mut server = Server::new(Recorder::new(None), 4096);
+    expect_each(rt, alloc, &mut server, rows);
+}
+
+// A request is answered this reply.
+fn expect_reply(
+    rt: &impl Abort,
+    alloc: Global,
+    server: &mut Server<Recorder>,
+    (request, room): (Request<'_>, u16),
+    want: &[u8],
+) {
+    let bytes = request.bytes(rt, alloc);
+    let reply = answer(alloc, server, &bytes, room).expect(rt, "a reply");
+    expect_same(rt, reply.as_slice(), want);
+}
+
+// A request is answered by a header and these bytes.
+fn expect_data(
+    rt: &impl Abort,
+    alloc: Global,
+    server: &mut Server<Recorder>,
+    asked: (Request<'_>, u16),
+    data: &[u8],
+) {
+    let want = data_reply(alloc, 2, &data[..data.len().min(16)]).expect(rt, "memory");
+    expect_reply(rt, alloc, server, asked, &want);
+}
+
+// A request has a fault of this number; 0 is none.
+fn expect_fault(
+    rt: &impl Abort,
+    alloc: Global,
+    server: &mut Server<Recorder>,
+    (request, room): (Request<'_>, u16),
+    want: u8,
+) {
+    let bytes = request.bytes(rt, alloc);
+    let number = match answer(alloc, server, &bytes, room) {
         Ok(_) => 0,
         Err(fault) => fault.number(),
-    }
+    };
+    expect_same(rt, number, want);
 }
 
 // INIT 8.0: the version that is spoken, and no call.
 #[test]
-fn later_version_is_told_ours(rt: HostRuntime) -> Result<(), Fail> {
-    let alloc = rt.alloc();
-    let mut server = server();
-    let later = InitInCompat {
+fn later_version_is_told_ours(rt: HostRuntime) {
+    const VERSION: InitInCompat = InitInCompat {
         major: 8,
-        ..InitInCompat::default()
+        minor: 0,
+        max_readahead: 0,
+        flags: 0,
     };
-    let request = init(alloc, 2, &later)?;
-    let mut want = [0u8; 80];
-    (want[0], want[8], want[16], want[20]) = (0x50, 2, 7, 0x26);
-    assert!(rt; replies(alloc, &mut server, &request, 80, &want));
-    assert_eq!(rt; fault(alloc, &mut server, &request, 79), 2);
-    assert_eq!(rt; (server.fs().asked, server.options().bits()), (0, 0));
-    Ok(())
+    const LATER: Request<'static> = Request::Init(VERSION, None);
+    const ROWS: &[Row<'static>] = &[
+        Row::Replies(
+            LATER,
+            80,
+            &[
+                0x50, 0, 0, 0, 0, 0, 0, 0, 2, 0, 0, 0, 0, 0, 0, 0, 7, 0, 0, 0, 0x26, 0, 0, 0, 0, 0,
+                0, 0, 0, 0, 0, 0, 0, 0, 0, 0, 0, 0, 0, 0, 0, 0, 0, 0, 0, 0, 0, 0, 0, 0, 0, 0, 0, 0,
+                0, 0, 0, 0, 0, 0, 0, 0, 0, 0, 0, 0, 0, 0, 0, 0, 0, 0, 0, 0, 0, 0, 0, 0, 0, 0,
+            ],
+        ),
+        Row::Faults(LATER, 79, 2),
+        Row::Asked(0),
+        Row::Options(0, 0),
+    ];
+    expect_rows(&rt, rt.alloc(), ROWS);
 }
 
 // INIT 7.38 with readahead 0x20000 and flags 1.
 #[test]
-fn options_are_agreed(rt: HostRuntime) -> Result<(), Fail> {
-    let alloc = rt.alloc();
-    let mut server = server();
-    let ours = InitInCompat {
+fn options_are_agreed(rt: HostRuntime) {
+    const OURS: InitInCompat = InitInCompat {
         major: 7,
         minor: 38,
         max_readahead: 0x20000,
         flags: 1,
     };
-    let body = [
-        7, 0, 0, 0, 0x26, 0, 0, 0, 0, 0, 2, 0, 1, 0, 0, 0, 0xff, 0xff, 0xfd, 0xbf, 0, 0, 0x10, 0,
-        1, 0, 0, 0, 0, 1, 0, 0,
+    const ROWS: &[Row<'static>] = &[
+        Row::Replies(
+            Request::Init(OURS, None),
+            80,
+            &[
+                0x50, 0, 0, 0, 0, 0, 0, 0, 2, 0, 0, 0, 0, 0, 0, 0, 7, 0, 0, 0, 0x26, 0, 0, 0, 0, 0,
+                2, 0, 1, 0, 0, 0, 0xff, 0xff, 0xfd, 0xbf, 0, 0, 0x10, 0, 1, 0, 0, 0, 0, 1, 0, 0, 0,
+                0, 0, 0, 0, 0, 0, 0, 0, 0, 0, 0, 0, 0, 0, 0, 0, 0, 0, 0, 0, 0, 0, 0, 0, 0, 0, 0, 0,
+                0, 0, 0,
+            ],
+        ),
+        Row::Asked(1),
+        Row::Options(1, 1),
     ];
-    let mut want = [0u8; 80];
-    (want[0], want[8]) = (0x50, 2);
-    want[16..48].copy_from_slice(&body);
-    let request = init(alloc, 2, &ours)?;
-    assert!(rt; replies(alloc, &mut server, &request, 80, &want));
-    assert_eq!(rt; (server.fs().asked, server.fs().capable), (1, 1));
-    assert_eq!(rt; server.options().bits(), 1);
-    Ok(())
+    expect_rows(&rt, rt.alloc(), ROWS);
 }
 
 // With bit 30 the second word of flags is read too; CREATE_SUPP_GROUP is its bit 2 and agreed on unasked.
 #[test]
-fn second_word_of_options_is_read(rt: HostRuntime) -> Result<(), Fail> {
-    let alloc = rt.alloc();
-    let mut server = server();
-    let ours = InitInCompat {
+fn second_word_of_options_is_read(rt: HostRuntime) {
+    const OURS: InitInCompat = InitInCompat {
         major: 7,
         minor: 27,
         max_readahead: 0,
         flags: 1 << 30,
     };
-    let request = init_ext(alloc, 2, &ours, 4)?;
-    assert_eq!(rt; fault(alloc, &mut server, &request, 80), 0);
-    assert_eq!(rt; server.fs().capable, 0x4_4000_0000);
-    assert_eq!(rt; server.options().bits(), 0x4_4000_0000);
-    let without = init(alloc, 2, &ours)?;
-    assert_eq!(rt; fault(alloc, &mut server, &without, 80), 1);
-    Ok(())
+    const ROWS: &[Row<'static>] = &[
+        Row::Faults(Request::Init(OURS, Some(4)), 80, 0),
+        Row::Options(0x4_4000_0000, 0x4_4000_0000),
+        Row::Faults(Request::Init(OURS, None), 80, 1),
+    ];
+    expect_rows(&rt, rt.alloc(), ROWS);
 }
 
 // LOOKUP of `a`, whose entry is node 2 for a second.
 #[test]
-fn names_are_looked_up(rt: HostRuntime) -> Result<(), Fail> {
-    let alloc = rt.alloc();
-    let mut server = server();
-    let request = lookup(alloc, 2, 1, b"a")?;
-    let mut want = [0u8; 144];
-    (want[0], want[8], want[16], want[32], want[40]) = (144, 2, 2, 1, 1);
-    (want[56], want[64]) = (2, 5);
-    assert!(rt; replies(alloc, &mut server, &request, 144, &want));
-    assert_eq!(rt; fault(alloc, &mut server, &request, 143), 2);
-    assert_eq!(rt; (server.fs().asked, server.fs().node), (2, 1));
-    assert_eq!(rt; server.fs().name, *b"a\0\0\0");
-    Ok(())
+fn names_are_looked_up(rt: HostRuntime) {
+    const ROWS: &[Row<'static>] = &[
+        Row::Replies(
+            Request::Lookup(b"a"),
+            144,
+            &[
+                144, 0, 0, 0, 0, 0, 0, 0, 2, 0, 0, 0, 0, 0, 0, 0, 2, 0, 0, 0, 0, 0, 0, 0, 0, 0, 0,
+                0, 0, 0, 0, 0, 1, 0, 0, 0, 0, 0, 0, 0, 1, 0, 0, 0, 0, 0, 0, 0, 0, 0, 0, 0, 0, 0, 0,
+                0, 2, 0, 0, 0, 0, 0, 0, 0, 5, 0, 0, 0, 0, 0, 0, 0, 0, 0, 0, 0, 0, 0, 0, 0, 0, 0, 0,
+                0, 0, 0, 0, 0, 0, 0, 0, 0, 0, 0, 0, 0, 0, 0, 0, 0, 0, 0, 0, 0, 0, 0, 0, 0, 0, 0, 0,
+                0, 0, 0, 0, 0, 0, 0, 0, 0, 0, 0, 0, 0, 0, 0, 0, 0, 0, 0, 0, 0, 0, 0, 0, 0, 0, 0, 0,
+                0, 0, 0, 0, 0,
+            ],
+        ),
+        Row::Faults(Request::Lookup(b"a"), 143, 2),
+        Row::Asked(2),
+        Row::Node(1, 0),
+        Row::Name(*b"a\0\0\0"),
+    ];
+    expect_rows(&rt, rt.alloc(), ROWS);
 }
 
 #[test]
-fn missing_names_are_errors(rt: HostRuntime) -> Result<(), Fail> {
-    let alloc = rt.alloc();
-    let mut server = server();
-    let request = lookup(alloc, 2, 1, b"b")?;
-    let enoent = [16, 0, 0, 0, 0xfe, 0xff, 0xff, 0xff, 2, 0, 0, 0, 0, 0, 0, 0];
-    assert!(rt; replies(alloc, &mut server, &request, 16, &enoent));
-    Ok(())
+fn missing_names_are_errors(rt: HostRuntime) {
+    const ROWS: &[Row<'static>] = &[Row::Replies(
+        Request::Lookup(b"b"),
+        16,
+        &[16, 0, 0, 0, 0xfe, 0xff, 0xff, 0xff, 2, 0, 0, 0, 0, 0, 0, 0],
+    )];
+    expect_rows(&rt, rt.alloc(), ROWS);
 }
 
 // READ of 3 bytes of `hello` from 1 on, behind the reply's header.
 #[test]
-fn bytes_are_read_behind_the_header(rt: HostRuntime) -> Result<(), Fail> {
-    let alloc = rt.alloc();
-    let mut server = server();
-    let request = read(alloc, 2, 2, 0, 1, 3)?;
-    let want = [
-        19, 0, 0, 0, 0, 0, 0, 0, 2, 0, 0, 0, 0, 0, 0, 0, 101, 108, 108,
+fn bytes_are_read_behind_the_header(rt: HostRuntime) {
+    const READ: Request<'static> = Request::Read(1, 3);
+    const ROWS: &[Row<'static>] = &[
+        Row::Replies(
+            READ,
+            100,
+            &[
+                19, 0, 0, 0, 0, 0, 0, 0, 2, 0, 0, 0, 0, 0, 0, 0, 101, 108, 108,
+            ],
+        ),
+        Row::Gives(READ, 18, b"el"),
+        Row::Asked(2),
+        Row::Node(2, 0),
+        Row::Faults(READ, 15, 2),
+        Row::Asked(2),
     ];
-    assert!(rt; replies(alloc, &mut server, &request, 100, &want));
-    let cut = data_reply(alloc, 2, b"el")?;
-    assert!(rt; replies(alloc, &mut server, &request, 18, &cut));
-    assert_eq!(rt; (server.fs().asked, server.fs().node), (2, 2));
-    assert_eq!(rt; fault(alloc, &mut server, &request, 15), 2);
-    assert_eq!(rt; server.fs().asked, 2);
-    Ok(())
+    expect_rows(&rt, rt.alloc(), ROWS);
 }
 
 #[test]
-fn nodes_are_forgotten_silently(rt: HostRuntime) -> Result<(), Fail> {
-    let alloc = rt.alloc();
-    let mut server = server();
-    let request = forget(alloc, 2, 5, 3)?;
-    assert!(rt; replies(alloc, &mut server, &request, 0, &[]));
-    assert_eq!(rt; (server.fs().node, server.fs().count), (5, 3));
-    Ok(())
+fn nodes_are_forgotten_silently(rt: HostRuntime) {
+    const ROWS: &[Row<'static>] = &[Row::Replies(Request::Forget(5, 3), 0, &[]), Row::Node(5, 3)];
+    expect_rows(&rt, rt.alloc(), ROWS);
 }
 
 // Faults: no whole header; a name without a zero byte; a length that leaves no room for a name, and one past the end.
 #[test]
-fn broken_requests_are_faults(rt: HostRuntime) -> Result<(), Fail> {
-    let alloc = rt.alloc();
-    let mut server = server();
-    assert_eq!(rt; fault(alloc, &mut server, &[0; 39], 144), 1);
-    let endless = joined(alloc, &header(41, 1, 2, 1), b"a")?;
-    assert_eq!(rt; fault(alloc, &mut server, &endless, 144), 7);
-    let below = joined(alloc, &header(39, 1, 2, 1), b"a\0")?;
-    assert_eq!(rt; fault(alloc, &mut server, &below, 144), 6);
-    let past = joined(alloc, &header(43, 1, 2, 1), b"a\0")?;
-    assert_eq!(rt; fault(alloc, &mut server, &past, 144), 1);
-    assert_eq!(rt; server.fs().asked, 0);
-    Ok(())
+fn broken_requests_are_faults(rt: HostRuntime) {
+    const ROWS: &[Row<'static>] = &[
+        Row::Faults(Request::Bytes(&[0; 39]), 144, 1),
+        Row::Faults(Request::Whole(41, 1, b"a"), 144, 7),
+        Row::Faults(Request::Whole(39, 1, b"a\0"), 144, 6),
+        Row::Faults(Request::Whole(43, 1, b"a\0"), 144, 1),
+        Row::Asked(0),
+    ];
+    expect_rows(&rt, rt.alloc(), ROWS);
 }
+
+const ENOMEM_REPLY: &[u8] = &[16, 0, 0, 0, 0xf4, 0xff, 0xff, 0xff, 2, 0, 0, 0, 0, 0, 0, 0];
+
+const ENOSYS_REPLY: &[u8] = &[16, 0, 0, 0, 0xda, 0xff, 0xff, 0xff, 2, 0, 0, 0, 0, 0, 0, 0];
 
 // Errors that ask no file system: too long a request, an opcode of no request, and one that isn't served yet.
 #[test]
-fn refusals_ask_nothing(rt: HostRuntime) -> Result<(), Fail> {
-    let alloc = rt.alloc();
-    let mut server = Server::new(Recorder::new(None), 65536);
-    let enosys = [16, 0, 0, 0, 0xda, 0xff, 0xff, 0xff, 2, 0, 0, 0, 0, 0, 0, 0];
-    let enomem = [16, 0, 0, 0, 0xf4, 0xff, 0xff, 0xff, 2, 0, 0, 0, 0, 0, 0, 0];
-    let table = [
-        (header(0x10_1001, 1, 2, 1), enomem),
-        (header(40, 7, 2, 1), enosys),
-        (header(40, 3, 2, 1), enosys),
+fn refusals_ask_nothing(rt: HostRuntime) {
+    const ROWS: &[Row<'static>] = &[
+        Row::Replies(Request::Whole(0x10_1001, 1, &[]), 16, ENOMEM_REPLY),
+        Row::Replies(Request::Whole(40, 7, &[]), 16, ENOSYS_REPLY),
+        Row::Replies(Request::Whole(40, 3, &[]), 16, ENOSYS_REPLY),
+        Row::Asked(0),
     ];
-    for (request, want) in &table {
-        assert!(rt; replies(alloc, &mut server, request, 16, want));
-    }
-    assert_eq!(rt; server.fs().asked, 0);
-    Ok(())
+    let mut server = Server::new(Recorder::new(None), 65536);
+    expect_each(&rt, rt.alloc(), &mut server, ROWS);
+}
+
+// An error of the file system is the reply's.
+fn expect_passed_on(rt: &impl Abort, alloc: Global, error: Errno) {
+    let mut server = Server::new(Recorder::new(Some(error)), 4096);
+    let want = error_reply(2, error);
+    let lookup = (Request::Lookup(b"a"), 16);
+    expect_reply(rt, alloc, &mut server, lookup, &want);
 }
 
 #[test]
-fn any_error_is_passed_on(rt: HostRuntime) -> Result<(), Fail> {
-    let alloc = rt.alloc();
-    let request = lookup(alloc, 2, 1, b"a")?;
-    for error in [Errno::EIO, Errno::ENOENT, Errno::EOVERFLOW] {
-        let mut server = Server::new(Recorder::new(Some(error)), 4096);
-        let want = error_reply(2, error);
-        assert!(rt; replies(alloc, &mut server, &request, 16, &want));
-    }
-    Ok(())
+fn any_error_is_passed_on(rt: HostRuntime) {
+    expect_passed_on(&rt, rt.alloc(), Errno::EIO);
+    expect_passed_on(&rt, rt.alloc(), Errno::ENOENT);
+    expect_passed_on(&rt, rt.alloc(), Errno::EOVERFLOW);
 }
+
+// Each fault with its number.
+const FAULTS: &[(Error, u8)] = &[
+    (Error::DecodeMessage, 1),
+    (Error::EncodeMessage, 2),
+    (Error::FlushMessage, 3),
+    (Error::MissingParameter, 4),
+    (Error::MissingExtension, 5),
+    (Error::InvalidHeaderLength, 6),
+    (Error::InvalidCString, 7),
+    (Error::InvalidCString2, 8),
+    (Error::InvalidXattrSize((1, 2)), 9),
+    (Error::DescriptorChainOverflow, 10),
+    (Error::SplitOutOfBounds(3), 11),
+    (Error::IoError(ErrorKind::WriteZero), 12),
+    (Error::OutOfMemory, 13),
+];
 
 #[test]
 fn faults_have_their_numbers(rt: HostRuntime) {
-    let table = [
-        (Error::DecodeMessage, 1),
-        (Error::EncodeMessage, 2),
-        (Error::FlushMessage, 3),
-        (Error::MissingParameter, 4),
-        (Error::MissingExtension, 5),
-        (Error::InvalidHeaderLength, 6),
-        (Error::InvalidCString, 7),
-        (Error::InvalidCString2, 8),
-        (Error::InvalidXattrSize((1, 2)), 9),
-        (Error::DescriptorChainOverflow, 10),
-        (Error::SplitOutOfBounds(3), 11),
-        (Error::IoError(ErrorKind::WriteZero), 12),
-        (Error::OutOfMemory, 13),
-    ];
-    for (fault, want) in &table {
-        assert_eq!(rt; fault.number(), *want);
+    for (fault, want) in FAULTS {
+        expect_same(&rt, fault.number(), *want);
     }
-}
-
-#[test]
-fn readers_read_on(rt: HostRuntime) {
-    let mut r = Reader::new(&[1, 2, 3, 4, 5]);
-    assert!(rt; matches!(r.read_obj::<u32>(), Ok(0x0403_0201)));
-    assert_eq!(rt; r.available_bytes(), 1);
-    assert!(rt; r.read_bytes(2).is_none());
-    let end = r.read_obj::<u16>();
-    assert!(rt; matches!(end, Err(Error::IoError(ErrorKind::UnexpectedEof))));
-    assert_eq!(rt; r.available_bytes(), 0);
-}
-
-#[test]
-fn writers_write_on(rt: HostRuntime) -> Result<(), Fail> {
-    let mut w = Writer::new(rt.alloc(), 6);
-    w.reserve(100)?;
-    w.put(&[1, 2]);
-    w.put_front(&[9]);
-    let file = &mut Hello {};
-    assert!(rt; matches!(w.read_from_file_at(file, 9, 3), Ok(2)));
-    assert_eq!(rt; (w.available_bytes(), w.bytes_written()), (2, 4));
-    assert_eq!(rt; w.into_written().as_slice(), [9, 2, 108, 111].as_slice());
-    Ok(())
-}
-
-#[test]
-fn writers_take_back(rt: HostRuntime) -> Result<(), Fail> {
-    let mut w = Writer::new(rt.alloc(), 2);
-    w.reserve(2)?;
-    w.put(&[1]);
-    w.clear();
-    assert_eq!(rt; w.available_bytes(), 2);
-    Ok(())
 }

@@ -1,16 +1,17 @@
 //! The attributes of a file and of a file system, from the host's.
 
+use crate::given::expect_same;
 use fuse_wire::{Attr, Errno, GuestGid, GuestUid, HostGid, HostUid, Kstatfs, Stat, StatVfs};
 
 #[test]
 fn error_of_a_map_ends_the_call(rt: HostRuntime) {
-    let denied = Errno::new(1).unwrap_or(Errno::EIO);
+    let denied = Errno::new(1).expect(&rt, "an error");
     let refused = Attr::try_from_stat(
         Stat::default(),
         |_| Err(denied),
         |g: HostGid| Ok(GuestGid(g.0)),
     );
-    assert!(rt; matches!(refused, Err(e) if e.raw() == 1));
+    expect_same(&rt, refused, Err(denied));
 }
 
 #[test]
@@ -36,7 +37,7 @@ fn attributes_keep_their_low_bits(rt: HostRuntime) {
         flags: 2,
         ..Attr::default()
     };
-    assert!(rt; attr == Ok(want));
+    expect_same(&rt, attr, Ok(want));
 }
 
 #[test]
@@ -51,5 +52,5 @@ fn file_system_keeps_the_low_bits_of_three(rt: HostRuntime) {
         namelen: 255,
         ..Kstatfs::default()
     };
-    assert_eq!(rt; told, want);
+    expect_same(&rt, told, want);
 }

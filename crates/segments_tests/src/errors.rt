@@ -1,11 +1,13 @@
 //! The faults by their numbers and texts.
 
+use crate::given::expect_same;
 use fuse_segments::{DescriptorType, Error};
+use std::alloc::Global;
 use std::io::ErrorKind;
-use std::test::Fail;
+use std::process::Abort;
 
 // Each fault with its number and its text.
-const FAULTS: [(Error, u8, &str); 13] = [
+const FAULTS: &[(Error, u8, &str)] = &[
     (Error::DecodeMessage, 1, "the request can't be decoded"),
     (Error::EncodeMessage, 2, "the reply doesn't fit its room"),
     (Error::FlushMessage, 3, "the reply can't be flushed"),
@@ -45,17 +47,21 @@ const FAULTS: [(Error, u8, &str); 13] = [
     (Error::OutOfMemory, 13, "out of memory"),
 ];
 
+// A fault has this number and this text.
+fn expect_fault(rt: &impl Abort, alloc: Global, fault: Error, number: u8, want: &str) {
+    let text = format!(in alloc; "{fault}").expect(rt, "memory");
+    expect_same(rt, (fault.number(), text.as_str()), (number, want));
+}
+
 #[test]
-fn faults_have_numbers_and_texts(rt: HostRuntime) -> Result<(), Fail> {
-    for (fault, number, text) in &FAULTS {
-        let said = format!(in rt.alloc(); "{fault}")?;
-        assert_eq!(rt; fault.number(), *number);
-        assert!(rt; said.as_str() == *text);
+fn faults_have_numbers_and_texts(rt: HostRuntime) {
+    for (fault, number, text) in FAULTS {
+        expect_fault(&rt, rt.alloc(), *fault, *number, text);
     }
-    Ok(())
 }
 
 #[test]
 fn descriptors_are_told_apart(rt: HostRuntime) {
-    assert!(rt; DescriptorType::Readable != DescriptorType::Writable);
+    let is_same = DescriptorType::Readable == DescriptorType::Writable;
+    expect_same(&rt, is_same, false);
 }

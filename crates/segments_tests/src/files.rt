@@ -2,10 +2,11 @@
 
 ghost use Rattle.std.specs.Prelude.{⊤};
 
+use crate::given::{expect_left, expect_room, expect_same, expect_written, reader, writer};
 use fuse_fs::{PositionedFile, WritevFlags, ZeroCopyReader, ZeroCopyWriter};
 use fuse_segments::{Reader, Writer, ZcReader, ZcWriter};
 use fuse_wire::Errno;
-use std::test::Fail;
+use std::process::Abort;
 
 // A file of 64 bytes that writes down how much it was lent last, how often and where.
 #[derive(Drop)]
@@ -67,77 +68,85 @@ impl PositionedFile for Disk {
     }
 }
 
-#[test]
-fn lends_the_front_of_the_first_segment(rt: HostRuntime) -> Result<(), Fail> {
-    let data = [7; 24];
-    let mut segments = Vec::new(rt.alloc());
-    segments.push(&data[..0])?;
-    segments.push(&data[..16])?;
-    segments.push(&data[16..])?;
-    let mut r = Reader::new(segments)?;
-    let mut disk = Disk::new();
-    assert!(rt; r.write_to_file_at(&mut disk, 10, 0, None) == Ok(10));
-    assert_eq!(rt; disk.lent, 10);
-    assert!(rt; r.write_to_file_at(&mut disk, 10, 10, None) == Ok(6));
-    assert!(rt; r.write_to_file_at(&mut disk, 0, 16, None) == Ok(0));
-    assert_eq!(rt; disk.calls, 2);
-    disk.fails = true;
-    assert!(rt; r.write_to_file_at(&mut disk, 10, 16, None) == Err(Errno::EINVAL));
-    assert_eq!(rt; r.available_bytes(), 8);
-    assert_eq!(rt; r.bytes_read(), 16);
-    Ok(())
+// What a reader answers where so many of its bytes are to be written at a place.
+fn expect_lent(
+    rt: &impl Abort,
+    r: &mut Reader<'_>,
+    disk: &mut Disk,
+    (count, off): (usize, u64),
+    want: Result<usize, Errno>,
+) {
+    expect_same(rt, r.write_to_file_at(disk, count, off, None), want);
 }
 
 #[test]
-fn fills_the_first_segment(rt: HostRuntime) -> Result<(), Fail> {
-    let mut w = Writer::new(rt.alloc(), &[16, 8])?;
+fn lends_the_front_of_the_first_segment(rt: HostRuntime) {
+    let mut r = reader(&rt, rt.alloc(), &[7; 24], &[0, 16, 8]);
+    let mut disk = Disk::new();
+    expect_lent(&rt, &mut r, &mut disk, (10, 0), Ok(10));
+    expect_same(&rt, disk.lent, 10);
+    expect_lent(&rt, &mut r, &mut disk, (10, 10), Ok(6));
+    expect_lent(&rt, &mut r, &mut disk, (0, 16), Ok(0));
+    expect_same(&rt, disk.calls, 2);
+    disk.fails = true;
+    expect_lent(&rt, &mut r, &mut disk, (10, 16), Err(Errno::EINVAL));
+    expect_left(&rt, &r, 8, 16);
+}
+
+// What a writer answers where so many bytes are to be read from a place.
+fn expect_filled(
+    rt: &impl Abort,
+    w: &mut Writer,
+    disk: &mut Disk,
+    (count, off): (usize, u64),
+    want: Result<usize, Errno>,
+) {
+    expect_same(rt, w.read_from_file_at(disk, count, off), want);
+}
+
+#[test]
+fn fills_the_first_segment(rt: HostRuntime) {
+    let mut w = writer(&rt, rt.alloc(), &[16, 8]);
     let mut disk = Disk::new();
     disk.bytes = [9; 64];
-    assert!(rt; w.read_from_file_at(&mut disk, 10, 0) == Ok(10));
-    assert!(rt; w.read_from_file_at(&mut disk, 10, 10) == Ok(6));
-    assert!(rt; w.read_from_file_at(&mut disk, 0, 16) == Ok(0));
-    assert_eq!(rt; disk.calls, 2);
+    expect_filled(&rt, &mut w, &mut disk, (10, 0), Ok(10));
+    expect_filled(&rt, &mut w, &mut disk, (10, 10), Ok(6));
+    expect_filled(&rt, &mut w, &mut disk, (0, 16), Ok(0));
+    expect_same(&rt, disk.calls, 2);
     disk.fails = true;
-    assert!(rt; w.read_from_file_at(&mut disk, 10, 16) == Err(Errno::EINVAL));
-    assert_eq!(rt; w.available_bytes(), 8);
+    expect_filled(&rt, &mut w, &mut disk, (10, 16), Err(Errno::EINVAL));
+    expect_room(&rt, &w, 8, 16);
     disk.fails = false;
-    assert!(rt; w.read_from_file_at(&mut disk, 10, 16) == Ok(8));
-    assert!(rt; w.read_from_file_at(&mut disk, 10, 24) == Ok(0));
-    assert_eq!(rt; disk.calls, 4);
-    assert!(rt; w.into_written().as_slice() == [9; 24].as_slice());
-    Ok(())
+    expect_filled(&rt, &mut w, &mut disk, (10, 16), Ok(8));
+    expect_filled(&rt, &mut w, &mut disk, (10, 24), Ok(0));
+    expect_same(&rt, disk.calls, 4);
+    expect_written(&rt, w, &[9; 24]);
 }
 
 #[test]
-fn files_are_written_on(rt: HostRuntime) -> Result<(), Fail> {
-    let data = [7; 24];
-    let mut segments = Vec::new(rt.alloc());
-    segments.push(&data[..16])?;
-    segments.push(&data[16..])?;
+fn files_are_written_on(rt: HostRuntime) {
     let mut z = ZcReader {
-        reader: Reader::new(segments)?,
+        reader: reader(&rt, rt.alloc(), &[7; 24], &[16, 8]),
     };
     let mut disk = Disk::new();
-    assert!(rt; (&mut z).write_to_file_at(&mut disk, 20, 50, None) == Ok(14));
-    assert_eq!(rt; z.reader.available_bytes(), 10);
-    assert!(rt; z.write_to_file_at(&mut disk, 20, 0, None) == Ok(10));
-    assert_eq!(rt; z.reader.available_bytes(), 0);
-    assert_eq!(rt; disk.last, 2);
-    Ok(())
+    let first = (&mut z).write_to_file_at(&mut disk, 20, 50, None);
+    expect_left(&rt, &z.reader, 10, 14);
+    let second = z.write_to_file_at(&mut disk, 20, 0, None);
+    expect_left(&rt, &z.reader, 0, 24);
+    expect_same(&rt, (first, second, disk.last), (Ok(14), Ok(10), 2));
 }
 
 #[test]
-fn files_are_read_on(rt: HostRuntime) -> Result<(), Fail> {
+fn files_are_read_on(rt: HostRuntime) {
     let mut z = ZcWriter {
-        writer: Writer::new(rt.alloc(), &[16, 8])?,
+        writer: writer(&rt, rt.alloc(), &[16, 8]),
     };
     let mut disk = Disk::new();
     disk.bytes = [9; 64];
-    assert!(rt; (&mut z).read_from_file_at(&mut disk, 20, 50) == Ok(14));
-    assert!(rt; z.read_from_file_at(&mut disk, 20, 0) == Ok(10));
-    assert_eq!(rt; disk.last, 2);
-    assert!(rt; z.writer.into_written().as_slice() == [9; 24].as_slice());
-    Ok(())
+    let first = (&mut z).read_from_file_at(&mut disk, 20, 50);
+    let second = z.read_from_file_at(&mut disk, 20, 0);
+    expect_same(&rt, (first, second, disk.last), (Ok(14), Ok(10), 2));
+    expect_written(&rt, z.writer, &[9; 24]);
 }
 
 // A file without an end, of which each byte is 1.
@@ -165,17 +174,13 @@ impl PositionedFile for Endless {
 }
 
 #[test]
-fn places_past_the_greatest(rt: HostRuntime) -> Result<(), Fail> {
-    let data = [7; 9];
-    let mut segments = Vec::new(rt.alloc());
-    segments.push(&data[..1])?;
-    segments.push(&data[1..])?;
+fn places_past_the_greatest(rt: HostRuntime) {
     let mut z = ZcReader {
-        reader: Reader::new(segments)?,
+        reader: reader(&rt, rt.alloc(), &[7; 9], &[1, 8]),
     };
-    let written = z.write_to_file_at(&mut Endless {}, 9, u64::MAX, None);
-    assert!(rt; written == Err(Errno::EIO));
-    assert_eq!(rt; z.reader.bytes_read(), 1);
-    assert!(rt; z.write_to_file_at(&mut Endless {}, 9, u64::MAX, None) == Ok(8));
-    Ok(())
+    let mut file = Endless {};
+    let first = z.write_to_file_at(&mut file, 9, u64::MAX, None);
+    expect_left(&rt, &z.reader, 8, 1);
+    let second = z.write_to_file_at(&mut file, 9, u64::MAX, None);
+    expect_same(&rt, (first, second), (Err(Errno::EIO), Ok(8)));
 }

@@ -1,4 +1,3 @@
-pub mod Fillings
 pub mod NameLemmas
 pub mod Options
 pub mod RecordLemmas

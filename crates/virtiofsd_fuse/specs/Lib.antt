@@ -4,4 +4,3 @@ pub mod Pages
 pub mod Reading
 pub mod Records
 pub mod Serving
-pub mod Views

@@ -1,6 +1,5 @@
 -- Reading a request from its front, with the first refusal that is met.
 use Rattle.std.specs.Prelude.{ℕ, Bool, ◌==◌, nat_lt, List, [], ◌∷◌, length, take, drop, Option, Some, None, Result, Ok, Err, if◌then◌else◌, option_map}
-use Rattle.std.specs.Borrow.{Bor}
 use Rattle.fuse_segments.specs.declared.error.Error.{Error}
 use Rattle.fuse_segments.specs.declared.error.Error.TheVariants.{DecodeMessage, InvalidCString}
 
@@ -87,8 +86,3 @@ value_of (Err r) = Err r
 abbrev pub read_result : {A : Type 0} → Result A Error → List ℕ → Read A
 read_result (Ok x) more = Ok (x, more)
 read_result (Err e) more = Err (Faults e)
-
--- what a function that reads bytes in place says, whatever it leaves
-abbrev pub bytes_result : Result (Bor (List ℕ)) Error → Result (List ℕ) ReadFailure
-bytes_result (Ok bytes) = Ok bytes.now
-bytes_result (Err e) = Err (Faults e)

@@ -8,15 +8,12 @@ ghost use Rattle.vm_values.specs.Bits.{has_bit};
 ghost use Rattle.virtiofsd_fuse.specs.Serving.{RowHandles, data_reply};
 
 use crate::answers::received;
-use crate::reader::Reader;
 use crate::records::read_read_in;
-use crate::replies::{OUT_HEADER_LEN, error_reply, header_bytes};
+use crate::replies::{OUT_HEADER_LEN, append, error_reply, header_bytes};
 use crate::server::Server;
-use crate::writer::Writer;
-use crate::zero_copy::ZcWriter;
 use fuse_fs::{Context, FileNumber, FileSystem};
 use fuse_in::{InHeader, ReadIn};
-use fuse_segments::Error;
+use fuse_segments::{Error, Reader, Writer, ZcWriter};
 use fuse_wire::Errno;
 use fuse_wire::constants::READ_LOCKOWNER;
 use std::alloc::Global;
@@ -49,7 +46,7 @@ fn reply_data(w: &mut Writer, unique: u64, answer: Result<usize, Errno>) -> usiz
         }
         Err(error) => {
             w.clear();
-            w.put(&error_reply(unique, error));
+            append(w, &error_reply(unique, error));
             OUT_HEADER_LEN
         }
     }
@@ -102,9 +99,9 @@ impl<F: FileSystem> Server<F> {
         if room < OUT_HEADER_LEN {
             return Err(Error::EncodeMessage);
         }
-        w.reserve(room)?;
-        w.put(&[0; OUT_HEADER_LEN]);
-        let writer = mem::replace(w, Writer::new(alloc, 0));
+        let none = Writer::of_length(alloc, 0)?;
+        append(w, &[0; OUT_HEADER_LEN]);
+        let writer = mem::replace(w, none);
         let mut data = ZcWriter { writer };
         let answer = self.ask_read(head, request, &mut data);
         let ZcWriter { writer } = data;
@@ -122,7 +119,7 @@ impl<F: FileSystem> Server<F> {
     ) -> Result<usize, Error>
         requires fresh { w.old.written ≡ [] }
         requires room { w.old.free < 2 ^ 32 }
-        ensures handles { RowHandles F.may self.old w.old.free head.now read_row r.old result w.new.written self.new }
+        ensures handles { RowHandles F.may self.old w.old.free head.now read_row r.old.left result w.new.written self.new }
         ensures length { IfOk result (λ n. n ≡ length w.new.written) }
         ensures page_size { self.new.page_size ≡ self.old.page_size }
     {

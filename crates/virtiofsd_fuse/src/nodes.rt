@@ -1,6 +1,6 @@
 //! Requests about names and nodes.
 
-ghost use Rattle.std.specs.Prelude.{◌≡◌, ◌≤◌, min, [], length, IfOk, IsTrue, Ok};
+ghost use Rattle.std.specs.Prelude.{◌≡◌, [], length, IfOk, IsTrue, Ok};
 ghost use Rattle.vm_values.specs.Fields.{spelled};
 ghost use Rattle.fuse_wire.specs.Records.{entry_out};
 ghost use Rattle.fuse_fs.specs.Answers.{entry_answer, entry_out_of, numbered};
@@ -10,15 +10,14 @@ ghost use Rattle.virtiofsd_fuse.specs.Serving.{RowHandles, told, sent, entry_rep
 
 use crate::answers::received;
 use crate::names::read_name;
-use crate::reader::Reader;
 use crate::records::read_forget_in;
 use crate::replies::{reply, reply_error};
 use crate::server::Server;
-use crate::writer::Writer;
 use fuse_fs::{Context, Entry, FileNumber, FileSystem};
 use fuse_in::{ForgetIn, InHeader};
-use fuse_segments::Error;
+use fuse_segments::{Error, Reader, Writer};
 use fuse_wire::{EntryOut, Errno};
+use std::alloc::Global;
 use vm_values::ByteValued;
 
 // An entry's record.
@@ -37,7 +36,6 @@ fn reply_entry<I: FileNumber>(
     answer: Result<Entry<I>, Errno>,
 ) -> Result<usize, Error>
     requires fresh { w.old.written ≡ [] }
-    requires memory { min 144 w.old.free ≤ w.old.reserved }
     ensures sent { told result w.new.written ≡ sent w.old.free (entry_reply unique (entry_answer I.number answer)) }
     ensures length { IfOk result (λ n. n ≡ length w.new.written) }
 {
@@ -79,19 +77,19 @@ impl<F: FileSystem> Server<F> {
     /// LOOKUP: `struct fuse_entry_out` of a name.
     pub(crate) fn lookup(
         &mut self,
+        alloc: Global,
         head: &InHeader,
         r: &mut Reader<'_>,
         w: &mut Writer,
     ) -> Result<usize, Error>
         requires fresh { w.old.written ≡ [] }
-        requires memory { min 144 w.old.free ≤ w.old.reserved }
-        ensures handles { RowHandles F.may self.old w.old.free head.now lookup_row r.old result w.new.written self.new }
+        ensures handles { RowHandles F.may self.old w.old.free head.now lookup_row r.old.left result w.new.written self.new }
         ensures length { IfOk result (λ n. n ≡ length w.new.written) }
         ensures page_size { self.new.page_size ≡ self.old.page_size }
     {
-        match read_name(head.len, 0, r) {
+        match read_name(alloc, head.len, 0, r) {
             Ok(name) => {
-                let answer = self.ask_lookup(head, name);
+                let answer = self.ask_lookup(head, &name);
                 reply_entry(w, head.unique, answer)
             }
             Err(error) => Err(error),
@@ -106,7 +104,7 @@ impl<F: FileSystem> Server<F> {
         w: &Writer,
     ) -> Result<usize, Error>
         requires fresh { w.now.written ≡ [] }
-        ensures handles { RowHandles F.may self.old w.now.free head.now forget_row r.old result w.now.written self.new }
+        ensures handles { RowHandles F.may self.old w.now.free head.now forget_row r.old.left result w.now.written self.new }
         ensures length { IfOk result (λ n. n ≡ length w.now.written) }
         ensures page_size { self.new.page_size ≡ self.old.page_size }
     {

@@ -1,14 +1,14 @@
 //! Replies, whole or not at all.
 
-ghost use Rattle.std.specs.Prelude.{◌≡◌, ◌+◌, ◌<◌, ◌≤◌, min, [], length, IfOk};
+ghost use Rattle.std.specs.Prelude.{◌≡◌, ◌+◌, ◌<◌, ◌≤◌, [], ◌++◌, length, IfOk};
 ghost use Rattle.vm_values.specs.Fields.{spelled};
 ghost use Rattle.fuse_wire.specs.Records.{out_header};
 ghost use Rattle.virtiofsd_fuse.specs.Grammar.{reply_bytes, error_bytes};
 ghost use Rattle.virtiofsd_fuse.specs.Serving.{told, sent};
 
-use crate::writer::Writer;
-use fuse_segments::Error;
+use fuse_segments::{Error, Writer};
 use fuse_wire::{Errno, OutHeader};
+use std::io::Write;
 use vm_values::ByteValued;
 
 /// The length of a reply's header, `struct fuse_out_header`.
@@ -32,12 +32,20 @@ pub fn error_reply(unique: u64, error: Errno) -> [u8; OUT_HEADER_LEN]
     header_bytes(16, -(error.raw() as i32), unique)
 }
 
+/// Writes these bytes, which have room.
+pub fn append(w: &mut Writer, bytes: &[u8])
+    requires { length bytes.now ≤ w.old.free }
+    ensures written { w.new.written ≡ w.old.written ++ bytes.now }
+    ensures free { w.new.free + length bytes.now ≡ w.old.free }
+{
+    w.write_all(bytes).unwrap();
+}
+
 /// Writes a good reply of at most 144 bytes.
 #[tactic(auto, using(crate::proofs::ReplyLemmas::reply_long, crate::proofs::ReplyLemmas::reply_fits))]
 pub fn reply(w: &mut Writer, unique: u64, body: &[u8]) -> Result<usize, Error>
     requires fresh { w.old.written ≡ [] }
     requires short { length body.now ≤ 128 }
-    requires memory { min 144 w.old.free ≤ w.old.reserved }
     ensures sent { told result w.new.written ≡ sent w.old.free (reply_bytes unique body.now) }
     ensures length { IfOk result (λ n. n ≡ length w.new.written) }
 {
@@ -45,8 +53,8 @@ pub fn reply(w: &mut Writer, unique: u64, body: &[u8]) -> Result<usize, Error>
     if w.available_bytes() < len {
         return Err(Error::EncodeMessage);
     }
-    w.put(&header_bytes(len as u32, 0, unique));
-    w.put(body);
+    append(w, &header_bytes(len as u32, 0, unique));
+    append(w, body);
     Ok(len)
 }
 
@@ -54,13 +62,12 @@ pub fn reply(w: &mut Writer, unique: u64, body: &[u8]) -> Result<usize, Error>
 #[tactic(auto, using(crate::proofs::ReplyLemmas::error_long, crate::proofs::ReplyLemmas::error_fits))]
 pub fn reply_error(w: &mut Writer, unique: u64, error: Errno) -> Result<usize, Error>
     requires fresh { w.old.written ≡ [] }
-    requires memory { min 144 w.old.free ≤ w.old.reserved }
     ensures sent { told result w.new.written ≡ sent w.old.free (error_bytes unique error) }
     ensures length { IfOk result (λ n. n ≡ length w.new.written) }
 {
     if w.available_bytes() < OUT_HEADER_LEN {
         return Err(Error::EncodeMessage);
     }
-    w.put(&error_reply(unique, error));
+    append(w, &error_reply(unique, error));
     Ok(OUT_HEADER_LEN)
 }

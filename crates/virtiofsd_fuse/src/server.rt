@@ -1,26 +1,21 @@
 //! The server: it reads a request, asks its file system, and writes the reply (virtiofsd's `Server`).
 
-ghost use Rattle.std.specs.Prelude.{◌≡◌, ◌<◌, ◌≤◌, ◌^◌, min, [], length, IfOk, OnOk, IsTrue};
+ghost use Rattle.std.specs.Prelude.{◌≡◌, ◌<◌, ◌≤◌, ◌^◌, [], length, IfOk, OnOk, IsTrue};
 ghost use Rattle.fuse_wire.specs.Opcodes.{opcode_of};
 ghost use Rattle.virtiofsd_fuse.specs.Pages.{is_page_size};
 ghost use Rattle.virtiofsd_fuse.specs.Grammar.{given, meant, meaning};
 
-use crate::reader::Reader;
 use crate::records::read_in_header;
 use crate::replies::reply_error;
-use crate::writer::Writer;
 use bitflags::Flags;
 use fuse_fs::FileSystem;
 use fuse_in::InHeader;
-use fuse_segments::Error;
+use fuse_segments::{Error, Reader, Writer};
 use fuse_wire::{Errno, FsOptions, Opcode};
 use std::alloc::Global;
 
 /// The longest request: 2^20 bytes of data, and one page.
 const MAX_REQUEST_LEN: u32 = 0x101000;
-
-/// The longest reply that holds no data: a header and `struct fuse_entry_out`.
-const SHORT_REPLY_LEN: usize = 144;
 
 /// A server of one file system.
 #[derive(Drop)]
@@ -82,8 +77,7 @@ impl<F: FileSystem> Server<F> {
     ) -> Result<usize, Error>
         requires fresh { w.old.written ≡ [] }
         requires room { w.old.free < 2 ^ 32 }
-        requires memory { min 144 w.old.free ≤ w.old.reserved }
-        ensures handles { ServerHandles F.may self.old w.old.free (meant (given head.now self.old.options.0 w.old.free) r.old) result w.new.written self.new }
+        ensures handles { ServerHandles F.may self.old w.old.free (meant (given head.now self.old.options.0 w.old.free) r.old.left) result w.new.written self.new }
         ensures length { IfOk result (λ n. n ≡ length w.new.written) }
         ensures page_size { self.new.page_size ≡ self.old.page_size }
     {
@@ -94,7 +88,7 @@ impl<F: FileSystem> Server<F> {
             return reply_error(w, head.unique, Errno::ENOSYS);
         };
         match opcode {
-            Opcode::Lookup => self.lookup(head, r, w),
+            Opcode::Lookup => self.lookup(alloc, head, r, w),
             Opcode::Forget => self.forget(head, r, w),
             Opcode::Read => self.read(alloc, head, r, w),
             Opcode::Init => self.init(head, r, w),
@@ -102,8 +96,9 @@ impl<F: FileSystem> Server<F> {
         }
     }
 
-    /// Serves one request: what its bytes mean, by calls of the file system that may be answered so. Answers the reply's
-    /// length; the reply stands in the writer, which holds anything after an error. `OutOfMemory` comes before any call.
+    /// Serves one request, which is what the reader has left: what its bytes mean, by calls of the file system that may be
+    /// answered so. Answers the reply's length; the reply stands in the writer, whose free bytes are its room, and which holds
+    /// anything after an error. `OutOfMemory` comes before any call.
     pub fn handle_message(
         &mut self,
         alloc: Global,
@@ -112,16 +107,13 @@ impl<F: FileSystem> Server<F> {
     ) -> Result<usize, Error>
         requires fresh { w.old.written ≡ [] }
         requires room { w.old.free < 2 ^ 32 }
-        ensures handles { ServerHandles F.may self.old w.old.free (meaning self.old.options.0 r.entry w.old.free) result w.new.written self.new }
+        ensures handles { ServerHandles F.may self.old w.old.free (meaning self.old.options.0 r.entry.left w.old.free) result w.new.written self.new }
         ensures length { IfOk result (λ n. n ≡ length w.new.written) }
         ensures fits { OnOk result (length w.new.written ≤ w.old.free) }
         ensures page_size { self.new.page_size ≡ self.old.page_size }
     {
         match read_in_header(&mut r) {
-            Ok(head) => {
-                w.reserve(SHORT_REPLY_LEN)?;
-                self.serve(alloc, &head, &mut r, w)
-            }
+            Ok(head) => self.serve(alloc, &head, &mut r, w),
             Err(error) => Err(error),
         }
     }

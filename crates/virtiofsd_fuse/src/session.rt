@@ -1,6 +1,6 @@
 //! The start of a conversation.
 
-ghost use Rattle.std.specs.Prelude.{◌≡◌, ℕ, ◌+◌, ◌-◌, ◌/◌, ◌<◌, ◌≤◌, ◌^◌, min, List, [], length, IfOk, IfErr, IsTrue, bit_and};
+ghost use Rattle.std.specs.Prelude.{◌≡◌, ℕ, ◌+◌, ◌-◌, ◌/◌, ◌<◌, ◌≤◌, ◌^◌, List, [], length, IfOk, IfErr, IsTrue, bit_and};
 ghost use Rattle.vm_values.specs.Fields.{spelled};
 ghost use Rattle.fuse_wire.specs.Records.{init_out};
 ghost use Rattle.fuse_fs.specs.Answers.{options_answer};
@@ -11,15 +11,13 @@ ghost use Rattle.virtiofsd_fuse.specs.Grammar.{init_row, flags2_of, started, ver
 ghost use Rattle.virtiofsd_fuse.specs.Serving.{RowHandles, agreed, started_bytes};
 
 use crate::answers::received;
-use crate::reader::Reader;
 use crate::records::{read_init_in_compat, read_init_in_ext};
 use crate::replies::{reply, reply_error};
 use crate::server::Server;
-use crate::writer::Writer;
 use bitflags::Flags;
 use fuse_fs::FileSystem;
 use fuse_in::{InHeader, InitInCompat};
-use fuse_segments::Error;
+use fuse_segments::{Error, Reader, Writer};
 use fuse_wire::constants::{KERNEL_MINOR_VERSION, KERNEL_VERSION, MIN_KERNEL_MINOR_VERSION};
 use fuse_wire::{Errno, FsOptions, InitOut};
 use vm_values::ByteValued;
@@ -109,7 +107,7 @@ fn start_bytes(page_size: u32, readahead: u32, options: FsOptions) -> [u8; 64]
 
 // The high half of the options that the client can.
 fn read_flags2(request: &InitInCompat, r: &mut Reader<'_>) -> Result<u32, Error>
-    ensures reads { read_result result r.new ≡ flags2_of request.now r.old }
+    ensures reads { read_result result r.new.left ≡ flags2_of request.now r.old.left }
     ensures fault { IfErr result (λ e. e ≡ Error.DecodeMessage) }
 {
     if request.flags & INIT_EXT == 0 {
@@ -141,7 +139,6 @@ impl<F: FileSystem> Server<F> {
         w: &mut Writer,
     ) -> Result<usize, Error>
         requires fresh { w.old.written ≡ [] }
-        requires memory { min 144 w.old.free ≤ w.old.reserved }
         ensures handles { (more : List ℕ)
             → RowHandles F.may self.old w.old.free head.now (λ g. started g request.now flags2) more result w.new.written self.new }
         ensures length { IfOk result (λ n. n ≡ length w.new.written) }
@@ -176,8 +173,7 @@ impl<F: FileSystem> Server<F> {
         w: &mut Writer,
     ) -> Result<usize, Error>
         requires fresh { w.old.written ≡ [] }
-        requires memory { min 144 w.old.free ≤ w.old.reserved }
-        ensures handles { RowHandles F.may self.old w.old.free head.now init_row r.old result w.new.written self.new }
+        ensures handles { RowHandles F.may self.old w.old.free head.now init_row r.old.left result w.new.written self.new }
         ensures length { IfOk result (λ n. n ≡ length w.new.written) }
         ensures page_size { self.new.page_size ≡ self.old.page_size }
     {

@@ -4,14 +4,13 @@ use Rattle.virtiofsd_fuse.proofs.Serve.{handles_fault, handles_fits}
 use Rattle.virtiofsd_fuse.proofs.Rows.{meaning_head, meaning_fault}
 use Rattle.virtiofsd_fuse.proofs.server.Server.handle_message.Goals as goal
 
-pub returns-in-Err-clause-handles : goal.returns-in-Err-clause-handles
-returns-in-Err-clause-handles g c =
+pub returns-in-Ok-clause-handles : goal.returns-in-Ok-clause-handles
+returns-in-Ok-clause-handles g c =
+    rw (meaning_head c.args.self.now.options.0 c.args.w.now.free c.args.r.left _ _ c.in-Ok.ensures.reads) c.serve.ensures.handles
+
+pub returns-in-Ok-clause-fits : goal.returns-in-Ok-clause-fits
+returns-in-Ok-clause-fits g c = handles_fits g.F.FileSystem.may _ _ _ _ _ _ _ c.serve.ensures.handles
+
+pub returns-clause-handles : goal.returns-clause-handles
+returns-clause-handles g c =
     rw c.in-Err.ensures.fault (handles_fault g.F.FileSystem.may (setting c.args.self.now.page_size c.args.self.now.options.0 c.args.w.now.free) _ _ _ _ (meaning_fault _ _ _ _ c.in-Err.ensures.reads) refl)
-
-pub returns-in_ok-reserve-in-Ok-clause-handles : goal.returns-in_ok-reserve-in-Ok-clause-handles
-returns-in_ok-reserve-in-Ok-clause-handles g c =
-    rw (meaning_head c.args.self.now.options.0 c.args.w.now.free c.args.r _ _ c.in-Ok.ensures.reads) (rw c.reserve.ensures.free at c.serve.ensures.handles)
-
-pub returns-in_ok-reserve-in-Ok-clause-fits : goal.returns-in_ok-reserve-in-Ok-clause-fits
-returns-in_ok-reserve-in-Ok-clause-fits g c =
-    rw c.reserve.ensures.free at (handles_fits g.F.FileSystem.may _ _ _ _ _ _ _ c.serve.ensures.handles)

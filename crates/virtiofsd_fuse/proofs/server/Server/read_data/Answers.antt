@@ -11,10 +11,9 @@ pub returns-clause-handles : goal.returns-clause-handles
 returns-clause-handles g c = λ more.
     let h = c.ask_read-answer.ensures.read in
     let enough : 16 ≤ c.args.w.now.free = omega (arith, c.available_bytes-room.ensures, c.if-room-lt-OUT_HEADER_LEN.false) in
-    let front : length c.replace-writer.result.written ≡ 16 = rw (c.replace-writer.ensures.value, c.put.ensures.written, c.reserve.ensures.written, c.requires.fresh) refl in
-    let place = c.put.ensures.free in
-    let same = c.reserve.ensures.free in
-    let left : c.replace-writer.result.free ≡ c.args.w.now.free - 16 = rw c.replace-writer.ensures.value (omega (arith, place, same)) in
+    let front : length c.replace-writer.result.written ≡ 16 = rw (c.replace-writer.ensures.value, c.append.ensures.written, c.requires.fresh) refl in
+    let place = c.append.ensures.free in
+    let left : c.replace-writer.result.free ≡ c.args.w.now.free - 16 = rw c.replace-writer.ensures.value (omega (arith, place)) in
     let behind = h.2 in
     let fits : 16 + length h.0 ≤ c.args.w.now.free = omega (arith, behind, left, enough) in
     handles_one g.F.FileSystem.may (setting c.args.self.now.page_size c.args.self.now.options.0 c.args.w.now.free) _ c.args.head.now.unique (read_call c.args.head.now (c.args.w.now.free - 16) c.args.request.now) (data_answer c.ask_read-answer.result h.0) _ _ (Ok c.reply_data.result) _ _
