@@ -22,10 +22,11 @@ const PAGES: usize = 0x40000;
 // The words of those pages.
 const WORDS: usize = PAGES / 64;
 
-// How many pages each thread marks, one after another, and how often over.
+// How many pages each thread marks, one after another, and how often over: so often that the time until each thread has a
+// processor of its own doesn't count.
 const OWN_PAGES: usize = 0x1000;
 
-const ROUNDS: usize = 0x400;
+const ROUNDS: usize = 0x1000;
 
 // How far apart the first pages of two threads are: their words are 512 bytes from each other.
 const APART: usize = 2 * OWN_PAGES;
