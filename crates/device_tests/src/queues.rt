@@ -1,20 +1,21 @@
 //! Queues alone, and chains of a queue one after another.
 
-use crate::stand::{Act, LIMIT, RING, Stand, UNKNOWN, expect_same, layout};
-use fs_device::DeviceError;
+use crate::stand::{Act, LIMIT, RING, Stand, UNKNOWN, expect_same, layout, play};
 use fs_queue::{Queue, Taken};
 use std::alloc::Global;
 use std::process::Abort;
 
 // A chain of 40 bytes of request and 16 of room, in two parts each.
+const CHAIN: Act<'static> = Act::Chains(
+    UNKNOWN,
+    &[(0x1000, 33), (0x3000, 7)],
+    &[(0x2000, 3), (0x2803, 13)],
+);
+
+// A guest that has made such a chain available.
 fn stand(rt: &impl Abort, alloc: Global) -> Stand {
-    const CHAIN: &[Act<'static>] = &[Act::Chains(
-        UNKNOWN,
-        &[(0x1000, 33), (0x3000, 7)],
-        &[(0x2000, 3), (0x2803, 13)],
-    )];
     let mut stand = Stand::new(rt, alloc);
-    stand.play(rt, CHAIN);
+    stand.play(rt, &[CHAIN]);
     stand
 }
 
@@ -52,33 +53,21 @@ fn nothing_is_taken_where_nothing_waits(rt: HostRuntime) {
     expect_same(&rt, taken.is_none(), true);
 }
 
-// A queue comes to so many exchanges, without a refusal.
-fn expect_served(rt: &impl Abort, stand: &mut Stand, most: u16, count: usize) {
-    let host = &mut stand.guest.host;
-    let run = stand
-        .device
-        .process_queue(stand.alloc, host, &stand.guest.mem, 0, most)
-        .expect(rt, "a queue");
-    expect_same(rt, (run.done.len(), run.refused), (count, None));
-}
-
 #[test]
 fn queue_serves_at_most_so_many(rt: HostRuntime) {
-    let mut stand = stand(&rt, rt.alloc());
-    stand.guest.make_available(0).expect(&rt, "a place");
-    for (most, count) in [(0, 0), (1, 1), (9, 1), (9, 0)] {
-        expect_served(&rt, &mut stand, most, count);
-    }
-    stand.expect_used(&rt, 1, (0, 16), 2);
+    const ACTS: &[Act<'static>] = &[
+        CHAIN,
+        Act::Offers(0),
+        Act::Serves(0, 0),
+        Act::Serves(1, 1),
+        Act::Serves(9, 1),
+        Act::Serves(9, 0),
+        Act::Used(1, (0, 16), 2),
+    ];
+    play(&rt, rt.alloc(), ACTS);
 }
 
 #[test]
 fn queue_that_is_missing_serves_none(rt: HostRuntime) {
-    let mut stand = Stand::new(&rt, rt.alloc());
-    let host = &mut stand.guest.host;
-    let refused = stand
-        .device
-        .process_queue(stand.alloc, host, &stand.guest.mem, 1, 0)
-        .err();
-    expect_same(&rt, refused, Some(DeviceError::NoSuchQueue));
+    play(&rt, rt.alloc(), &[Act::Lacks]);
 }

@@ -1,6 +1,6 @@
 //! Queues that are refused, and stop until they are reset.
 
-use crate::stand::{Stand, UNKNOWN, expect_same, layout};
+use crate::stand::{Act, Stand, UNKNOWN, expect_same, layout, play};
 use fs_device::DeviceError;
 use fs_queue::QueueError;
 use guest_driver::Ring;
@@ -124,16 +124,6 @@ fn expect_go_on(rt: &impl Abort, stand: &mut Stand) {
 
 #[test]
 fn missing_queue_is_refused_first(rt: HostRuntime) {
-    let mut stand = Stand::new(&rt, rt.alloc());
-    stand.ask(&rt, UNKNOWN, 16);
-    let host = &mut stand.guest.host;
-    let refused = stand
-        .device
-        .process_one(stand.alloc, host, &stand.guest.mem, 1)
-        .err();
-    expect_same(&rt, refused, Some(DeviceError::NoSuchQueue));
-    let reset = stand.device.reset_queue(1, layout(&rt, GOOD));
-    expect_same(&rt, reset, Err(DeviceError::NoSuchQueue));
-    expect_same(&rt, stand.device.queue(1).is_none(), true);
-    stand.expect_marked(&rt, &[]);
+    const ACTS: &[Act<'static>] = &[Act::Asks(UNKNOWN, 16), Act::Lacks, Act::Marked(&[])];
+    play(&rt, rt.alloc(), ACTS);
 }

@@ -117,6 +117,10 @@ pub enum Act<'a> {
     ReadsPattern(u16, u32, &'a [(u64, u32)], &'a [(u64, u32)]),
     /// A step finds no chain.
     Idles,
+    /// The queue comes to at most so many exchanges, to so many, without a refusal.
+    Serves(u16, usize),
+    /// A second queue is missing: a step, an exchange of none and a reset of it are refused.
+    Lacks,
     /// A step exchanges a chain of this request without a fault, and the driver is told of it or not.
     Tells(Request<'a>, bool),
     /// A step exchanges the chain from this head for a reply so long.
@@ -283,6 +287,31 @@ impl Stand {
         expect_same(rt, rest.len(), 0);
     }
 
+    /// The queue comes to at most so many exchanges, to so many, without a refusal.
+    pub fn expect_served(&mut self, rt: &impl Abort, most: u16, count: usize) {
+        let run = self
+            .device
+            .process_queue(self.alloc, &mut self.guest.host, &self.guest.mem, 0, most)
+            .expect(rt, "a queue");
+        expect_same(rt, (run.done.len(), run.refused), (count, None));
+    }
+
+    /// A second queue is missing: a step, an exchange of none and a reset of it are refused.
+    pub fn expect_missing(&mut self, rt: &impl Abort) {
+        let missing = Some(DeviceError::NoSuchQueue);
+        let step = self
+            .device
+            .process_one(self.alloc, &mut self.guest.host, &self.guest.mem, 1)
+            .err();
+        let run = self
+            .device
+            .process_queue(self.alloc, &mut self.guest.host, &self.guest.mem, 1, 0)
+            .err();
+        let reset = self.device.reset_queue(1, layout(rt, RING)).err();
+        expect_same(rt, [step, run, reset], [missing; 3]);
+        expect_same(rt, self.device.queue(1).is_none(), true);
+    }
+
     /// A step finds no chain.
     pub fn expect_idle(&mut self, rt: &impl Abort) {
         let chain = self.step().expect(rt, "no refusal");
@@ -379,6 +408,8 @@ impl Stand {
                 self.expect_pattern(rt, (head, size), readable, writable);
             }
             Act::Idles => self.expect_idle(rt),
+            Act::Serves(most, count) => self.expect_served(rt, most, count),
+            Act::Lacks => self.expect_missing(rt),
             Act::Tells(request, is_told) => self.expect_told(rt, request, is_told),
             Act::Exchanges(head, len) => self.expect_length(rt, head, len),
             Act::Replies(reply) => self.expect_reply(rt, reply),

@@ -3,7 +3,7 @@
 use crate::given::{MappingRow, expect_found, table};
 use std::alloc::Global;
 use std::process::Abort;
-use vm_iotlb::Permissions::{Read, ReadWrite, Write};
+use vm_iotlb::Permissions::{self, Read, ReadWrite, Write};
 use vm_values::GuestAddress;
 
 // A look-up for reading from 0 up to 0x30 answers this after some mappings.
@@ -13,31 +13,33 @@ fn expect_after(rt: &impl Abort, alloc: Global, mappings: &[MappingRow], want: &
 
 #[test]
 fn neighbours_are_one_where_they_go_on(rt: HostRuntime) {
-    let first = (0x0, 0x100, 0x10, Read);
-    let last = (0x20, 0x120, 0x10, Read);
-    for (perm, target, want) in [
+    const CASES: &[(Permissions, u64, &str)] = &[
         (Read, 0x110, "at 100+30"),
         (Read, 0x111, "at 100+10 111+10 120+10"),
         (ReadWrite, 0x110, "at 100+10 110+10 120+10"),
         (Write, 0x110, "misses, lacks 10+10"),
-    ] {
-        let mappings = [first, last, (0x10, target, 0x10, perm)];
+    ];
+    let first = (0x0, 0x100, 0x10, Read);
+    let last = (0x20, 0x120, 0x10, Read);
+    for (perm, target, want) in CASES {
+        let mappings = [first, last, (0x10, *target, 0x10, *perm)];
         expect_after(&rt, rt.alloc(), &mappings, want);
     }
 }
 
 #[test]
 fn the_last_mapping_of_an_address_holds(rt: HostRuntime) {
-    let whole = (0x0, 0x100, 0x30, Read);
-    for (mapping, want) in [
+    const CASES: &[(MappingRow, &str)] = &[
         ((0x10, 0x900, 0x10, Read), "at 100+10 900+10 120+10"),
         ((0x0, 0x900, 0x10, Read), "at 900+10 110+20"),
         ((0x20, 0x900, 0x10, Read), "at 100+20 900+10"),
         ((0x0, 0x900, 0x40, Read), "at 900+30"),
         ((0x10, 0x110, 0x10, Read), "at 100+30"),
         ((0x10, 0x900, 0, Read), "at 100+30"),
-    ] {
-        expect_after(&rt, rt.alloc(), &[whole, mapping], want);
+    ];
+    let whole = (0x0, 0x100, 0x30, Read);
+    for (mapping, want) in CASES {
+        expect_after(&rt, rt.alloc(), &[whole, *mapping], want);
     }
 }
 
@@ -52,15 +54,16 @@ fn expect_without(rt: &impl Abort, alloc: Global, iova: u64, length: usize, want
 
 #[test]
 fn a_range_is_cut_where_addresses_are_taken_out(rt: HostRuntime) {
-    for (iova, length, want) in [
+    const CASES: &[(u64, usize, &str)] = &[
         (0x10, 0x10, "misses 10+10, lacks"),
         (0x0, 0x10, "misses 0+10, lacks"),
         (0x20, 0x100, "misses 20+10, lacks"),
         (0x0, 0x30, "misses 0+30, lacks"),
         (0x30, 0x30, "at 100+30"),
         (0x10, 0, "at 100+30"),
-    ] {
-        expect_without(&rt, rt.alloc(), iova, length, want);
+    ];
+    for (iova, length, want) in CASES {
+        expect_without(&rt, rt.alloc(), *iova, *length, want);
     }
 }
 

@@ -11,19 +11,22 @@ const LAST: u64 = u64::MAX;
 
 #[test]
 fn an_end_past_the_greatest_number_is_refused(rt: HostRuntime) {
-    let mut table = table(&rt, rt.alloc(), &[(0x0, 0x100, 0x10, Read)]);
-    for (iova, target, length) in [
+    const MAPPINGS: &[(u64, u64, usize)] = &[
         (LAST, 0, 1),
         (0, LAST, 1),
         (1, 0, usize::MAX),
         (0, 1, usize::MAX),
         (LAST, LAST, usize::MAX),
-    ] {
-        let result = table.set_mapping(GuestAddress(iova), GuestAddress(target), length, Read);
+    ];
+    const RANGES: &[(u64, usize)] = &[(LAST, 1), (1, usize::MAX), (LAST, usize::MAX)];
+    let mut table = table(&rt, rt.alloc(), &[(0x0, 0x100, 0x10, Read)]);
+    for (iova, target, length) in MAPPINGS {
+        let (iova, target) = (GuestAddress(*iova), GuestAddress(*target));
+        let result = table.set_mapping(iova, target, *length, Read);
         expect_same(&rt, result, Err(IommuMisconfigured));
     }
-    for (iova, length) in [(LAST, 1), (1, usize::MAX), (LAST, usize::MAX)] {
-        let result = table.invalidate_mapping(GuestAddress(iova), length);
+    for (iova, length) in RANGES {
+        let result = table.invalidate_mapping(GuestAddress(*iova), *length);
         expect_same(&rt, result, Err(IommuMisconfigured));
     }
     expect_found(&rt, rt.alloc(), &table, 0, 0x11, Read, "misses 10+1, lacks");

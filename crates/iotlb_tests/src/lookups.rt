@@ -1,6 +1,6 @@
 //! Look-ups in small tables.
 
-use crate::given::{expect_found, table};
+use crate::given::{MappingRow, expect_found, table};
 use std::alloc::Global;
 use std::process::Abort;
 use vm_iotlb::Permissions::{No, Read, ReadWrite, Write};
@@ -15,8 +15,7 @@ fn with_a_hole(rt: &impl Abort, alloc: Global) -> Iotlb {
 
 #[test]
 fn a_look_up_goes_range_by_range(rt: HostRuntime) {
-    let table = with_a_hole(&rt, rt.alloc());
-    let cases: [(u64, usize, Permissions, &str); 9] = [
+    const CASES: &[(u64, usize, Permissions, &str)] = &[
         (0x1700, 0x300, Read, "at 8700+100 4000+100 8900+100"),
         (0x1700, 0x300, Write, "misses, lacks 1800+100"),
         (0x1700, 0x300, No, "at 8700+100 4000+100 8900+100"),
@@ -32,8 +31,9 @@ fn a_look_up_goes_range_by_range(rt: HostRuntime) {
         (0x1fff, 2, ReadWrite, "misses 2000+1, lacks"),
         (0x5000, 0, ReadWrite, "at"),
     ];
-    for (iova, length, access, want) in cases {
-        expect_found(&rt, rt.alloc(), &table, iova, length, access, want);
+    let table = with_a_hole(&rt, rt.alloc());
+    for (iova, length, access, want) in CASES {
+        expect_found(&rt, rt.alloc(), &table, *iova, *length, *access, want);
     }
 }
 
@@ -59,13 +59,13 @@ fn what_was_taken_out_misses(rt: HostRuntime) {
 
 #[test]
 fn a_range_in_two_parts_has_two_pieces(rt: HostRuntime) {
-    let mappings = [
+    const MAPPINGS: &[MappingRow] = &[
         (0x0, 0x0, 0x1000, ReadWrite),
         (0x1000, 0x1000, 0x14, Read),
         (0x1014, 0x6014, 0xfec, Read),
         (0x2000, 0x3000, 0x1000, Write),
     ];
-    let table = table(&rt, rt.alloc(), &mappings);
+    let table = table(&rt, rt.alloc(), MAPPINGS);
     expect_found(&rt, rt.alloc(), &table, 0x1010, 8, Read, "at 1010+4 6014+4");
     expect_found(
         &rt,

@@ -41,22 +41,34 @@ fn place_of(mem: &GuestMemoryMmap, addr: u64) -> Result<(usize, usize), GuestMem
     Ok((there.block, there.offset))
 }
 
+// An address, its offset from its region's first address, and its place, or why there is none.
+type Row = (u64, Option<u64>, Result<(usize, usize), GuestMemoryError>);
+
 #[test]
 fn addresses_have_their_regions(rt: HostRuntime) {
-    let (_, mem) = made(&rt, rt.alloc(), &TWO);
-    for (addr, offset, place) in [
+    const ROWS: &[Row] = &[
         (0xfff, Some(0xfff), Ok((0, 0xfff))),
         (0x1004, Some(4), Ok((1, 4))),
         (0x1fff, Some(0xfff), Ok((1, 0xfff))),
         (0x2000, None, Err(PAST)),
-    ] {
-        let found = (
-            offset_of(&mem, addr),
-            is_there(&mem, addr),
-            place_of(&mem, addr),
-        );
-        expect_same(&rt, found, (offset, [offset.is_some(); 3], place));
+    ];
+    let (_, mem) = made(&rt, rt.alloc(), TWO);
+    for (addr, offset, place) in ROWS {
+        expect_address(&rt, &mem, *addr, *offset, *place);
     }
+}
+
+// An address has this offset and this place, and is there where it has an offset.
+fn expect_address(
+    rt: &impl Abort,
+    mem: &GuestMemoryMmap,
+    addr: u64,
+    offset: Option<u64>,
+    place: Result<(usize, usize), GuestMemoryError>,
+) {
+    let there = (is_there(mem, addr), place_of(mem, addr));
+    expect_same(rt, there, ([offset.is_some(); 3], place));
+    expect_same(rt, offset_of(mem, addr), offset);
 }
 
 // The window of a range.
@@ -67,7 +79,7 @@ fn slice_at(mem: &GuestMemoryMmap, addr: u64, count: usize) -> Result<Parts, Gue
 
 #[test]
 fn offsets_and_slices_end_with_their_region(rt: HostRuntime) {
-    let (_, mem) = made(&rt, rt.alloc(), &TWO);
+    let (_, mem) = made(&rt, rt.alloc(), TWO);
     let second = GuestAddress(0x1000);
     let last = mem.checked_offset(second, 0xfff);
     expect_same(&rt, last, Some(GuestAddress(0x1fff)));
@@ -88,6 +100,6 @@ fn expect_last(rt: &impl Abort, alloc: Global, ranges: &[(GuestAddress, usize)],
 
 #[test]
 fn regions_are_counted(rt: HostRuntime) {
-    expect_last(&rt, rt.alloc(), &TWO, 0x1fff);
-    expect_last(&rt, rt.alloc(), &ENDS, u64::MAX);
+    expect_last(&rt, rt.alloc(), TWO, 0x1fff);
+    expect_last(&rt, rt.alloc(), ENDS, u64::MAX);
 }

@@ -55,14 +55,14 @@ fn bytes_go_over_an_edge_and_end_at_a_hole(rt: HostRuntime) {
     let alloc = rt.alloc();
     let (five, two) = ([1, 2, 3, 4, 5], [1, 2, 9, 9, 9]);
     let edge = [Some(0), Some(4), Some(5), Some(0), None];
-    expect_all_of_five(&rt, alloc, &TWO, 0xffc, (Ok(()), five, edge));
+    expect_all_of_five(&rt, alloc, TWO, 0xffc, (Ok(()), five, edge));
     let ends = [Some(2), Some(0), Some(0), Some(1), None];
-    expect_all_of_five(&rt, alloc, &ENDS, u64::MAX, (Ok(()), five, ends));
+    expect_all_of_five(&rt, alloc, ENDS, u64::MAX, (Ok(()), five, ends));
     let partial = Err(TWO_OF_FIVE);
     let end = [Some(0), Some(0), Some(0), Some(2), None];
-    expect_all_of_five(&rt, alloc, &TWO, 0x1ffe, (partial, two, end));
+    expect_all_of_five(&rt, alloc, TWO, 0x1ffe, (partial, two, end));
     let hole = [Some(0), Some(0), Some(0), Some(2), Some(0)];
-    expect_all_of_five(&rt, alloc, &HOLE, 0x1ffe, (partial, two, hole));
+    expect_all_of_five(&rt, alloc, HOLE, 0x1ffe, (partial, two, hole));
 }
 
 // Through the trait: as many of 1 to 5 as there are places from an address on are written, and read over nines.
@@ -101,11 +101,11 @@ fn expect_whole_five(
 #[test]
 fn some_bytes_are_there(rt: HostRuntime) {
     let alloc = rt.alloc();
-    expect_some_of_five(&rt, alloc, &TWO, 0x1ffe, Ok(2), [1, 2, 9, 9, 9]);
-    expect_whole_five(&rt, alloc, &TWO, 0x1ffe, Err(TWO_OF_FIVE));
-    expect_some_of_five(&rt, alloc, &TWO, 0x2000, Err(PAST), [9; 5]);
-    expect_some_of_five(&rt, alloc, &ENDS, u64::MAX, Ok(5), [1, 2, 3, 4, 5]);
-    expect_whole_five(&rt, alloc, &ENDS, u64::MAX, Ok(()));
+    expect_some_of_five(&rt, alloc, TWO, 0x1ffe, Ok(2), [1, 2, 9, 9, 9]);
+    expect_whole_five(&rt, alloc, TWO, 0x1ffe, Err(TWO_OF_FIVE));
+    expect_some_of_five(&rt, alloc, TWO, 0x2000, Err(PAST), [9; 5]);
+    expect_some_of_five(&rt, alloc, ENDS, u64::MAX, Ok(5), [1, 2, 3, 4, 5]);
+    expect_whole_five(&rt, alloc, ENDS, u64::MAX, Ok(()));
 }
 
 // A byte, and whether its page is dirty.
@@ -117,22 +117,27 @@ fn expect_byte(rt: &impl Abort, host: &Host, block: usize, offset: usize, byte: 
 
 #[test]
 fn a_range_over_three_regions_is_marked_in_each(rt: HostRuntime) {
-    let ranges = [
+    const RANGES: &[(GuestAddress, usize)] = &[
         (GuestAddress(0), 0x2000),
         (GuestAddress(0x2000), 0x1000),
         (GuestAddress(0x3000), 0x2000),
     ];
-    let (mut host, mem) = made(&rt, rt.alloc(), &ranges);
+    const BYTES: &[(usize, usize, u8, bool)] = &[
+        (0, 0xfff, 0, false),
+        (0, 0x1fff, 7, true),
+        (1, 0, 7, true),
+        (1, 0xfff, 7, true),
+        (2, 0, 7, true),
+        (2, 1, 0, true),
+        (2, 0x1000, 0, false),
+    ];
+    let (mut host, mem) = made(&rt, rt.alloc(), RANGES);
     let bytes = vec![in rt.alloc(); 7u8; 0x1002].expect(&rt, "memory");
     let written = mem.write_slice(&mut host, &bytes, GuestAddress(0x1fff));
     expect_same(&rt, written, Ok(()));
-    expect_byte(&rt, &host, 0, 0xfff, 0, false);
-    expect_byte(&rt, &host, 0, 0x1fff, 7, true);
-    expect_byte(&rt, &host, 1, 0, 7, true);
-    expect_byte(&rt, &host, 1, 0xfff, 7, true);
-    expect_byte(&rt, &host, 2, 0, 7, true);
-    expect_byte(&rt, &host, 2, 1, 0, true);
-    expect_byte(&rt, &host, 2, 0x1000, 0, false);
+    for (block, offset, byte, dirty) in BYTES {
+        expect_byte(&rt, &host, *block, *offset, *byte, *dirty);
+    }
 }
 
 // Whether a range is there.
@@ -142,12 +147,17 @@ fn is_there(mem: &GuestMemoryMmap, addr: u64, len: usize) -> bool {
 
 #[test]
 fn ranges_are_checked(rt: HostRuntime) {
-    let (_, mem) = made(&rt, rt.alloc(), &HOLE);
-    expect_same(&rt, is_there(&mem, 0xffc, 5), true);
-    expect_same(&rt, is_there(&mem, 0, 0x2000), true);
-    expect_same(&rt, is_there(&mem, 0x1ffe, 5), false);
-    expect_same(&rt, is_there(&mem, 0x2000, 0), true);
-    expect_same(&rt, is_there(&mem, 0x2000, 0x1001), false);
+    const RANGES: &[(u64, usize, bool)] = &[
+        (0xffc, 5, true),
+        (0, 0x2000, true),
+        (0x1ffe, 5, false),
+        (0x2000, 0, true),
+        (0x2000, 0x1001, false),
+    ];
+    let (_, mem) = made(&rt, rt.alloc(), HOLE);
+    for (addr, len, want) in RANGES {
+        expect_same(&rt, is_there(&mem, *addr, *len), *want);
+    }
 }
 
 // Whether the windows of a range are added whole, and how many are added.
@@ -165,7 +175,7 @@ fn expect_windows(
 
 #[test]
 fn windows_are_added(rt: HostRuntime) {
-    let (_, mem) = made(&rt, rt.alloc(), &HOLE);
+    let (_, mem) = made(&rt, rt.alloc(), HOLE);
     expect_windows(&rt, rt.alloc(), &mem, (0xffc, 5), (true, 2));
     expect_windows(&rt, rt.alloc(), &mem, (0, 0x2000), (true, 2));
     expect_windows(&rt, rt.alloc(), &mem, (0x1ffe, 5), (false, 1));
@@ -196,7 +206,7 @@ fn a_region_is_read_and_written_by_offset(rt: HostRuntime) {
 
 #[test]
 fn a_host_holds_its_own_layouts(rt: HostRuntime) {
-    let (host, mem) = made(&rt, rt.alloc(), &TWO);
+    let (host, mem) = made(&rt, rt.alloc(), TWO);
     let other: Host = HostMemory::new(rt.alloc());
     expect_same(&rt, (host.holds(&mem), other.holds(&mem)), (true, false));
 }

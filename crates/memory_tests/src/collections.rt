@@ -87,7 +87,7 @@ fn refusal(mem: &GuestMemoryMmap, base: u64, size: u64) -> Option<GuestRegionCol
 
 #[test]
 fn regions_are_removed_up_to_the_last(rt: HostRuntime) {
-    let (_, mem) = made(&rt, rt.alloc(), &TWO);
+    let (_, mem) = made(&rt, rt.alloc(), TWO);
     let (first, removed) = mem
         .remove_region(GuestAddress(0x1000), 0x1000)
         .expect(&rt, "a region");
@@ -112,7 +112,7 @@ fn alias(rt: &impl Abort, alloc: Global, host: &Host, base: u64) -> Arc<GuestReg
 
 #[test]
 fn a_region_is_inserted_where_none_is(rt: HostRuntime) {
-    let (host, mem) = made(&rt, rt.alloc(), &TWO);
+    let (host, mem) = made(&rt, rt.alloc(), TWO);
     let inside = mem.insert_region(alias(&rt, rt.alloc(), &host, 0x1800));
     expect_same(&rt, inside.err(), Some(MemoryRegionOverlap));
     let last = mem.insert_region(alias(&rt, rt.alloc(), &host, 0x1fff));
@@ -151,7 +151,7 @@ fn joined_again(rt: &impl Abort, alloc: Global, mem: &GuestMemoryMmap) -> GuestM
 
 #[test]
 fn shared_regions_are_the_same_layout(rt: HostRuntime) {
-    let (_, mem) = made(&rt, rt.alloc(), &TWO);
+    let (_, mem) = made(&rt, rt.alloc(), TWO);
     let again = joined_again(&rt, rt.alloc(), &mem);
     let clone = mem.try_clone().expect(&rt, "memory");
     expect_same_place(&rt, &again, &clone, 0);

@@ -14,20 +14,20 @@ pub type Host = HostMemory<PageBitmap>;
 pub type Parts = (usize, usize, usize);
 
 /// Two regions of 0x1000 bytes, from 0 and from 0x1000.
-pub const TWO: [(GuestAddress, usize); 2] = [
+pub const TWO: &[(GuestAddress, usize)] = &[
     (GuestAddress(0), 0x1000),
     (GuestAddress(0x1000), 0x1000),
 ];
 
 /// Three such regions, and a hole before the third.
-pub const HOLE: [(GuestAddress, usize); 3] = [
+pub const HOLE: &[(GuestAddress, usize)] = &[
     (GuestAddress(0), 0x1000),
     (GuestAddress(0x1000), 0x1000),
     (GuestAddress(0x3000), 0x1000),
 ];
 
 /// The first addresses, and the greatest ones.
-pub const ENDS: [(GuestAddress, usize); 2] = [
+pub const ENDS: &[(GuestAddress, usize)] = &[
     (GuestAddress(0), 0x1000),
     (GuestAddress(0xffff_ffff_ffff_f000), 0x1000),
 ];

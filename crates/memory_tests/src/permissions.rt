@@ -4,14 +4,14 @@ use crate::given::expect_same;
 use vm_memory_core::Permissions::{self, No, Read, ReadWrite, Write};
 
 // Of each two: whether the first allows the second and whether it allows writing, what either allows, and what both allow.
-const PAIRS: [(
+const PAIRS: &[(
     Permissions,
     Permissions,
     bool,
     bool,
     Permissions,
     Permissions,
-); 7] = [
+)] = &[
     (Read, No, true, false, Read, No),
     (Read, Read, true, false, Read, Read),
     (Read, Write, false, false, ReadWrite, No),
@@ -24,7 +24,12 @@ const PAIRS: [(
 #[test]
 fn a_permission_allows_what_it_has(rt: HostRuntime) {
     for (one, other, allows, writes, either, both) in PAIRS {
-        let found = (one.allow(other), one.has_write(), one | other, one & other);
-        expect_same(&rt, found, (allows, writes, either, both));
+        let found = (
+            one.allow(*other),
+            one.has_write(),
+            *one | *other,
+            *one & *other,
+        );
+        expect_same(&rt, found, (*allows, *writes, *either, *both));
     }
 }

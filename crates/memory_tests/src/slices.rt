@@ -58,7 +58,7 @@ fn expect_two(
 fn windows_come_in_order_and_are_as_long_as_their_regions(rt: HostRuntime) {
     let long = [(GuestAddress(0), 0x3000), (GuestAddress(0x3000), 0x2000)];
     let alloc = rt.alloc();
-    expect_two(&rt, alloc, &TWO, (0xffc, 5), (0, 0xffc, 4), (1, 0, 1));
+    expect_two(&rt, alloc, TWO, (0xffc, 5), (0, 0xffc, 4), (1, 0, 1));
     expect_two(
         &rt,
         alloc,
@@ -67,7 +67,7 @@ fn windows_come_in_order_and_are_as_long_as_their_regions(rt: HostRuntime) {
         (0, 0x800, 0x2800),
         (1, 0, 0x2000),
     );
-    expect_two(&rt, alloc, &ENDS, (u64::MAX, 2), (1, 0xfff, 1), (0, 0, 1));
+    expect_two(&rt, alloc, ENDS, (u64::MAX, 2), (1, 0xfff, 1), (0, 0, 1));
 }
 
 // The first window up to an error, if there is one, and whether none follows, by the bound alone.
@@ -88,7 +88,7 @@ fn until_error<M: GuestMemory>(
 
 #[test]
 fn a_hole_is_an_error(rt: HostRuntime) {
-    let (host, mem) = made(&rt, rt.alloc(), &HOLE);
+    let (host, mem) = made(&rt, rt.alloc(), HOLE);
     let want = [
         (None, Some(Ok((1, 0xffe, 2)))),
         (Some(MISSING), Some(Err(MISSING))),
@@ -99,7 +99,7 @@ fn a_hole_is_an_error(rt: HostRuntime) {
 
 #[test]
 fn windows_may_stop_at_the_first_error(rt: HostRuntime) {
-    let (host, mem) = made(&rt, rt.alloc(), &HOLE);
+    let (host, mem) = made(&rt, rt.alloc(), HOLE);
     let before = until_error(&mem, &host, 0x1ffe, 5);
     expect_same(&rt, before, Ok((Some((1, 0xffe, 2)), true)));
     let before = until_error(&mem, &host, 0x1fff, 9);
@@ -115,13 +115,13 @@ fn are_there<M: GuestMemory>(mem: &M, host: &Host, addr: u64, count: usize) -> b
 
 #[test]
 fn ranges_are_checked_through_the_trait(rt: HostRuntime) {
-    let (host, hole) = made(&rt, rt.alloc(), &HOLE);
+    let (host, hole) = made(&rt, rt.alloc(), HOLE);
     expect_same(&rt, are_there(&hole, &host, 0xffc, 5), true);
     expect_same(&rt, are_there(&hole, &host, 0x1ffe, 5), false);
     expect_same(&rt, are_there(&hole, &host, 0x2000, 0), true);
     let below = hole.physical_memory().expect(&rt, "a layout");
     expect_same(&rt, below.num_regions(), 3);
-    let (host, ends) = made(&rt, rt.alloc(), &ENDS);
+    let (host, ends) = made(&rt, rt.alloc(), ENDS);
     expect_same(&rt, are_there(&ends, &host, u64::MAX, 2), true);
     expect_same(&rt, are_there(&ends, &host, u64::MAX, 0x1002), false);
 }

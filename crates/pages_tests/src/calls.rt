@@ -3,8 +3,9 @@
 ghost use Rattle.std.specs.Prelude.{◌≡◌};
 ghost use Rattle.vm_atomic_bitmaps.specs.Passes.{IsPassOf};
 
-use crate::given::{left, page_size, read, shared};
-use std::test::Fail;
+use crate::given::{expect_left, expect_same, read, shared};
+use std::alloc::Global;
+use std::process::Abort;
 use vm_atomic_bitmaps::{AtomicBitmap, BitmapPass};
 
 // A change of a bitmap's pages.
@@ -31,126 +32,105 @@ fn apply(bitmap: &AtomicBitmap, pass: &mut BitmapPass, change: Change)
 }
 
 // Two changes of a bitmap of 70 pages of 128 bytes, and its two words afterwards.
-const CHANGES: [(Change, Change, u64, u64); 11] = [
-    (Change::SetBit(0), Change::SetBit(69), 1, 32),
-    (Change::SetBit(63), Change::SetBit(70), 1 << 63, 0),
-    (Change::SetBit(5), Change::SetBit(usize::MAX), 32, 0),
+const CHANGES: &[(Change, Change, &[u64])] = &[
+    (Change::SetBit(0), Change::SetBit(69), &[1, 32]),
+    (Change::SetBit(63), Change::SetBit(70), &[1 << 63, 0]),
+    (Change::SetBit(5), Change::SetBit(usize::MAX), &[32, 0]),
     (
         Change::SetRange(0, 8960),
         Change::ResetBit(1),
-        u64::MAX - 2,
-        63,
+        &[u64::MAX - 2, 63],
     ),
     (
         Change::SetRange(0, 8960),
         Change::ResetBit(70),
-        u64::MAX,
-        63,
+        &[u64::MAX, 63],
     ),
     (
         Change::SetRange(0, usize::MAX),
         Change::ResetRange(128, 8064),
-        1,
-        63,
+        &[1, 63],
     ),
     (
         Change::SetRange(8064, 256),
         Change::ResetRange(0, 0),
-        1 << 63,
-        1,
+        &[1 << 63, 1],
     ),
-    (Change::SetRange(8960, 1), Change::SetRange(127, 2), 3, 0),
+    (Change::SetRange(8960, 1), Change::SetRange(127, 2), &[3, 0]),
     (
         Change::SetRange(8959, usize::MAX),
         Change::SetRange(0, 0),
-        0,
-        32,
+        &[0, 32],
     ),
     (
         Change::SetRange(0, 8960),
         Change::ResetRange(8959, usize::MAX),
-        u64::MAX,
-        31,
+        &[u64::MAX, 31],
     ),
-    (Change::SetRange(0, 8960), Change::Reset, 0, 0),
+    (Change::SetRange(0, 8960), Change::Reset, &[0, 0]),
 ];
 
-// The two words after both changes.
-fn words_after(
-    rt: &HostRuntime,
-    first: Change,
-    second: Change,
-) -> Result<Option<(u64, u64)>, Fail> {
-    let (bitmap, mut pass) = shared(rt, 8960)?;
+// The words after both changes.
+fn expect_words(rt: &impl Abort, alloc: Global, first: Change, second: Change, words: &[u64]) {
+    let (bitmap, mut pass) = shared(rt, alloc, 8960, 128);
     apply(&bitmap, &mut pass, first);
     apply(&bitmap, &mut pass, second);
-    match left(rt.alloc(), bitmap, pass)?.as_slice() {
-        [low, high] => Ok(Some((*low, *high))),
-        _ => Ok(None),
-    }
+    expect_left(rt, alloc, bitmap, pass, words);
 }
 
 #[test]
-fn changes_leave_these_words(rt: HostRuntime) -> Result<(), Fail> {
-    for (first, second, low, high) in CHANGES {
-        assert_eq!(rt; words_after(&rt, first, second)?, Some((low, high)));
+fn changes_leave_these_words(rt: HostRuntime) {
+    for (first, second, words) in CHANGES {
+        expect_words(&rt, rt.alloc(), *first, *second, words);
     }
-    Ok(())
 }
 
-fn sizes(rt: &HostRuntime, byte_size: usize) -> Result<(usize, usize, usize), Fail> {
-    let (bitmap, _) = shared(rt, byte_size)?;
-    Ok((bitmap.len(), bitmap.byte_size(), bitmap.words()))
+// How many pages, bytes and words a bitmap of so many bytes has.
+fn expect_sizes(rt: &impl Abort, alloc: Global, byte_size: usize, want: (usize, usize, usize)) {
+    let (bitmap, _) = shared(rt, alloc, byte_size, 128);
+    let sizes = (bitmap.len(), bitmap.byte_size(), bitmap.words());
+    expect_same(rt, sizes, want);
 }
 
 #[test]
-fn pages_are_counted_whole(rt: HostRuntime) -> Result<(), Fail> {
-    for (byte_size, want) in [
-        (0, (0, 0, 0)),
-        (1, (1, 1, 1)),
-        (8192, (64, 8192, 1)),
-        (8193, (65, 8193, 2)),
-    ] {
-        assert_eq!(rt; sizes(&rt, byte_size)?, want);
-    }
-    Ok(())
+fn pages_are_counted_whole(rt: HostRuntime) {
+    expect_sizes(&rt, rt.alloc(), 0, (0, 0, 0));
+    expect_sizes(&rt, rt.alloc(), 1, (1, 1, 1));
+    expect_sizes(&rt, rt.alloc(), 8192, (64, 8192, 1));
+    expect_sizes(&rt, rt.alloc(), 8193, (65, 8193, 2));
 }
 
 #[test]
-fn a_bitmap_of_no_pages_has_passes(rt: HostRuntime) -> Result<(), Fail> {
-    let (bitmap, mut first) = shared(&rt, 0)?;
-    let mut second = bitmap.split_pass(&mut first).ok_or("a second pass")?;
+fn a_bitmap_of_no_pages_has_passes(rt: HostRuntime) {
+    let (bitmap, mut first) = shared(&rt, rt.alloc(), 0, 128);
+    let mut second = bitmap.split_pass(&mut first).expect(&rt, "a second pass");
     bitmap.set_bit(&mut second, 0);
-    assert!(rt; bitmap.meet_pass(&mut first, &mut second));
+    let is_met = bitmap.meet_pass(&mut first, &mut second);
+    expect_same(&rt, is_met, true);
     bitmap.join_pass(&mut first, second);
-    assert_eq!(rt; left(rt.alloc(), bitmap, first)?.len(), 0);
-    Ok(())
+    expect_left(&rt, rt.alloc(), bitmap, first, &[]);
 }
 
 // Whether a page is marked, where page 7, the last, is, and the word that tells it.
-fn read_back(rt: &HostRuntime, page: usize) -> Result<(bool, Option<u64>), Fail> {
-    let (bitmap, mut pass) = shared(rt, 1024)?;
+fn expect_read_back(rt: &impl Abort, alloc: Global, page: usize, is_set: bool) {
+    let (bitmap, mut pass) = shared(rt, alloc, 1024, 128);
     bitmap.set_bit(&mut pass, 7);
-    Ok((
-        bitmap.is_bit_set(&mut pass, page),
-        read(&bitmap, &mut pass, 0),
-    ))
+    let there = bitmap.is_bit_set(&mut pass, page);
+    let word = read(&bitmap, &mut pass, 0);
+    expect_same(rt, (page, there, word), (page, is_set, Some(128)));
 }
 
 #[test]
-fn a_page_past_the_end_is_never_marked(rt: HostRuntime) -> Result<(), Fail> {
-    for (page, want) in [(6, false), (7, true), (8, false), (usize::MAX, false)] {
-        assert_eq!(rt; read_back(&rt, page)?, (want, Some(128)), "page {page}");
-    }
-    Ok(())
+fn a_page_past_the_end_is_never_marked(rt: HostRuntime) {
+    expect_read_back(&rt, rt.alloc(), 6, false);
+    expect_read_back(&rt, rt.alloc(), 7, true);
+    expect_read_back(&rt, rt.alloc(), 8, false);
+    expect_read_back(&rt, rt.alloc(), usize::MAX, false);
 }
 
 #[test]
-fn pages_of_4096_bytes_are_found_without_a_division(rt: HostRuntime) -> Result<(), Fail> {
-    let Ok((bitmap, mut pass)) = AtomicBitmap::new(rt.alloc(), 0x10000, page_size(4096)?) else {
-        return Err("no memory".into());
-    };
+fn pages_of_4096_bytes_are_found_without_a_division(rt: HostRuntime) {
+    let (bitmap, mut pass) = shared(&rt, rt.alloc(), 0x10000, 4096);
     bitmap.set_addr_range(&mut pass, 0x1fff, 2);
-    assert_eq!(rt; left(rt.alloc(), bitmap, pass)?.as_slice(), [6].as_slice());
-    Ok(())
+    expect_left(&rt, rt.alloc(), bitmap, pass, &[6]);
 }

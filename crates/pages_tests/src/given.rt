@@ -1,26 +1,33 @@
-//! A bitmap of 8 pages, and steps on it of which the pass stays its own.
+//! A bitmap of pages of 128 bytes, and steps on it of which the pass stays its own.
 
-ghost use Rattle.std.specs.Prelude.{◌≡◌, ◌<◌, IfOk};
-ghost use Rattle.std.specs.Int.{div_ceil};
+ghost use Rattle.std.specs.Prelude.{◌≡◌, ◌<◌};
 ghost use Rattle.vm_atomic_bitmaps.specs.Passes.{IsPassOf};
 
 use std::alloc::Global;
+use std::fmt::Debug;
 use std::num::NonZeroUsize;
-use std::test::Fail;
+use std::process::Abort;
 use vm_atomic_bitmaps::{AtomicBitmap, BitmapPass};
 
-pub fn page_size(bytes: usize) -> Result<NonZeroUsize, Fail> {
-    Ok(NonZeroUsize::new(bytes).ok_or("a page has a byte")?)
+/// What was found is what is wanted. One generic assertion for all tests: each assertion of its own costs a proof.
+pub fn expect_same<T: PartialEq + Debug + Drop>(rt: &impl Abort, found: T, want: T) {
+    assert_eq!(rt; found, want);
 }
 
-// A bitmap of pages of 128 bytes.
-pub fn shared(rt: &HostRuntime, byte_size: usize) -> Result<(AtomicBitmap, BitmapPass), Fail>
-    ensures { IfOk result (λ r. IsPassOf r.0 r.1) }
+pub fn page_size(rt: &impl Abort, bytes: usize) -> NonZeroUsize {
+    NonZeroUsize::new(bytes).expect(rt, "a page has a byte")
+}
+
+// A bitmap of so many bytes, in pages so long.
+pub fn shared(
+    rt: &impl Abort,
+    alloc: Global,
+    byte_size: usize,
+    page: usize,
+) -> (AtomicBitmap, BitmapPass)
+    ensures { IsPassOf result.0 result.1 }
 {
-    match AtomicBitmap::new(rt.alloc(), byte_size, page_size(128)?) {
-        Ok(made) => Ok(made),
-        Err(_) => Err("no memory".into()),
-    }
+    AtomicBitmap::new(alloc, byte_size, page_size(rt, page)).expect(rt, "memory")
 }
 
 // The marks of a word, if there is one.
@@ -45,12 +52,16 @@ pub fn read(bitmap: &AtomicBitmap, pass: &mut BitmapPass, word: usize) -> Option
     Some(bitmap.word(pass, word))
 }
 
-// The words that are left at the end.
-pub fn left(alloc: Global, bitmap: AtomicBitmap, pass: BitmapPass) -> Result<Vec<u64>, Fail>
+// The words that are left at the end are these.
+pub fn expect_left(
+    rt: &impl Abort,
+    alloc: Global,
+    bitmap: AtomicBitmap,
+    pass: BitmapPass,
+    want: &[u64],
+)
     requires { IsPassOf bitmap pass }
 {
-    match bitmap.close(alloc, pass) {
-        Ok(words) => Ok(words),
-        Err(_) => Err("no memory".into()),
-    }
+    let words = bitmap.close(alloc, pass).ok().expect(rt, "memory");
+    expect_same(rt, words.as_slice(), want);
 }

@@ -1,9 +1,9 @@
 //! A million marks of two threads, which a third gathers: each page is accounted for.
 
-use crate::given::page_size;
+use crate::given::{expect_same, page_size};
 use page_threads::{ByteRange, mark_and_gather};
 use std::alloc::Global;
-use std::test::Fail;
+use std::process::Abort;
 use std::thread::Threads;
 
 // The bytes, of pages of one byte, that are marked; one more page is marked by nobody.
@@ -19,15 +19,16 @@ const ROUNDS: usize = 20_000;
 const TRIES: usize = 100;
 
 // Each page by itself, again and again: from the first on where `up`, and from the last on otherwise.
-fn marks(alloc: Global, up: bool) -> Result<Vec<ByteRange>, Fail> {
-    let mut ranges = Vec::with_capacity(alloc, PAGES * TIMES)?;
+fn marks(rt: &impl Abort, alloc: Global, up: bool) -> Vec<ByteRange> {
+    let mut ranges = Vec::with_capacity(alloc, PAGES * TIMES).expect(rt, "memory");
     for _ in 0..TIMES {
         for page in 0..PAGES {
             let start = if up { page } else { PAGES - 1 - page };
-            ranges.push(ByteRange { start, len: 1 })?;
+            let range = ByteRange { start, len: 1 };
+            ranges.push(range).expect(rt, "memory");
         }
     }
-    Ok(ranges)
+    ranges
 }
 
 // How many pages were gathered or left, and how many were gathered.
@@ -41,49 +42,53 @@ fn accounted(gathered: &[u64], left: &[u64]) -> (u32, u32) {
 }
 
 // What comes of the lists in pages of one byte.
-fn run<R: Threads + Sync>(
+fn run<R: Abort + Threads + Sync>(
     rt: &R,
     alloc: Global,
     pages: usize,
     lists: &[Vec<ByteRange>],
     rounds: usize,
-) -> Result<(u32, u32), Fail> {
-    let account = mark_and_gather(rt, alloc, pages, page_size(1)?, lists, rounds)?;
-    Ok(accounted(&account.gathered, &account.left))
+) -> (u32, u32) {
+    let page = page_size(rt, 1);
+    let account = mark_and_gather(rt, alloc, pages, page, lists, rounds).expect(rt, "memory");
+    accounted(&account.gathered, &account.left)
 }
 
 #[test]
-fn a_million_marks_account_for_every_page_and_some_are_gathered(
-    rt: HostRuntime,
-) -> Result<(), Fail> {
-    let alloc = rt.alloc();
-    let lists = vec![in alloc; marks(alloc, true)?, marks(alloc, false)?]?;
+fn a_million_marks_account_for_every_page_and_some_are_gathered(rt: HostRuntime) {
+    let up = marks(&rt, rt.alloc(), true);
+    let down = marks(&rt, rt.alloc(), false);
+    let lists = [up, down];
+    let mut gathered = 0;
     for _ in 0..TRIES {
-        let (all, gathered) = run(&rt, alloc, PAGES + 1, &lists, ROUNDS)?;
-        assert_eq!(rt; all, 1000);
-        if gathered > 0 {
-            return Ok(());
+        if gathered == 0 {
+            let pages = run(&rt, rt.alloc(), PAGES + 1, &lists, ROUNDS);
+            expect_same(&rt, pages.0, 1000);
+            gathered = pages.1;
         }
     }
-    Err("nothing was gathered".into())
+    expect_same(&rt, gathered > 0, true);
 }
 
 #[test]
-fn many_markers_mark_pages_of_their_own(rt: HostRuntime) -> Result<(), Fail> {
-    let alloc = rt.alloc();
-    let mut lists = Vec::new(alloc);
+fn many_markers_mark_pages_of_their_own(rt: HostRuntime) {
+    let mut lists = Vec::new(rt.alloc());
     for marker in 0..9 {
-        let start = 100 * marker;
-        lists.push(vec![in alloc; ByteRange { start, len: 70 }]?)?;
+        let range = ByteRange {
+            start: 100 * marker,
+            len: 70,
+        };
+        let list = Vec::from_array(rt.alloc(), [range]).expect(&rt, "memory");
+        lists.push(list).expect(&rt, "memory");
     }
-    assert_eq!(rt; run(&rt, alloc, 1000, &lists, 100)?.0, 630);
-    Ok(())
+    let (all, _) = run(&rt, rt.alloc(), 1000, &lists, 100);
+    expect_same(&rt, all, 630);
 }
 
 #[test]
-fn without_a_round_nothing_is_gathered(rt: HostRuntime) -> Result<(), Fail> {
-    let alloc = rt.alloc();
-    let lists = vec![in alloc; vec![in alloc; ByteRange { start: 3, len: 70 }]?]?;
-    assert_eq!(rt; run(&rt, alloc, 1000, &lists, 0)?, (70, 0));
-    Ok(())
+fn without_a_round_nothing_is_gathered(rt: HostRuntime) {
+    let range = ByteRange { start: 3, len: 70 };
+    let list = Vec::from_array(rt.alloc(), [range]).expect(&rt, "memory");
+    let pages = run(&rt, rt.alloc(), 1000, &[list], 0);
+    expect_same(&rt, pages, (70, 0));
 }

@@ -1,25 +1,15 @@
 //! The worked example of both bitmaps: 8 pages of 128 bytes, of which bytes 128 to 256 are marked.
 
-use crate::given::{gathered, left, page_size, shared};
+use crate::given::{expect_left, expect_same, gathered, page_size, shared};
 use std::alloc::Global;
-use std::test::Fail;
+use std::process::Abort;
 use vm_bitmaps::{Bitmap, NewBitmap, PageBitmap, RefSlice};
 
-// The word, where there is just one.
-fn only(words: Vec<u64>) -> Option<u64> {
-    match words.as_slice() {
-        [word] => Some(*word),
-        _ => None,
-    }
-}
+// Whether addresses 0, 128, 256 and 384 are marked.
+const MARKED: [bool; 4] = [false, true, true, false];
 
-// Whether addresses 0, 128, 256 and 384 are marked, and what two calls of `get_and_reset` give.
-type Marked = ([bool; 4], Option<u64>, Option<u64>);
-
-const MARKED: Marked = ([false, true, true, false], Some(6), Some(0));
-
-fn exact(alloc: Global) -> Result<Marked, Fail> {
-    let mut bitmap = PageBitmap::new(alloc, 1024, page_size(128)?)?;
+fn expect_exact(rt: &impl Abort, alloc: Global) {
+    let mut bitmap = PageBitmap::new(alloc, 1024, page_size(rt, 128)).expect(rt, "memory");
     bitmap.set_addr_range(128, 129);
     let marked = [
         bitmap.is_addr_set(0),
@@ -27,13 +17,15 @@ fn exact(alloc: Global) -> Result<Marked, Fail> {
         bitmap.is_addr_set(256),
         bitmap.is_addr_set(384),
     ];
-    let first = only(bitmap.get_and_reset()?);
-    let second = only(bitmap.get_and_reset()?);
-    Ok((marked, first, second))
+    expect_same(rt, marked, MARKED);
+    let first = bitmap.get_and_reset().expect(rt, "memory");
+    let second = bitmap.get_and_reset().expect(rt, "memory");
+    expect_same(rt, first.as_slice(), &[6]);
+    expect_same(rt, second.as_slice(), &[0]);
 }
 
-fn shared_alike(rt: &HostRuntime) -> Result<Marked, Fail> {
-    let (bitmap, mut pass) = shared(rt, 1024)?;
+fn expect_shared_alike(rt: &impl Abort, alloc: Global) {
+    let (bitmap, mut pass) = shared(rt, alloc, 1024, 128);
     bitmap.set_addr_range(&mut pass, 128, 129);
     let marked = [
         bitmap.is_addr_set(&mut pass, 0),
@@ -41,56 +33,44 @@ fn shared_alike(rt: &HostRuntime) -> Result<Marked, Fail> {
         bitmap.is_addr_set(&mut pass, 256),
         bitmap.is_addr_set(&mut pass, 384),
     ];
-    let first = only(bitmap.get_and_reset(rt.alloc(), &mut pass)?);
-    let second = only(bitmap.get_and_reset(rt.alloc(), &mut pass)?);
-    Ok((marked, first, second))
+    expect_same(rt, marked, MARKED);
+    let first = bitmap.get_and_reset(alloc, &mut pass).expect(rt, "memory");
+    let second = bitmap.get_and_reset(alloc, &mut pass).expect(rt, "memory");
+    expect_same(rt, first.as_slice(), &[6]);
+    expect_same(rt, second.as_slice(), &[0]);
 }
 
 // What two passes do: a gather of the range, then page 1 marked by the second pass and gathered by the first, whether the
 // second is told of that gather, the same again, and what is left at the end.
-type Passes = (Option<u64>, Option<u64>, bool, Option<u64>, Option<u64>);
-
-const PASSES: Passes = (Some(6), Some(2), true, Some(2), Some(0));
-
-fn passes(rt: &HostRuntime) -> Result<Passes, Fail> {
-    let (bitmap, mut first) = shared(rt, 1024)?;
+fn expect_passes(rt: &impl Abort, alloc: Global) {
+    let (bitmap, mut first) = shared(rt, alloc, 1024, 128);
     bitmap.set_addr_range(&mut first, 128, 129);
     let range = gathered(&bitmap, &mut first, 0);
-    let mut second = bitmap.split_pass(&mut first).ok_or("a second pass")?;
+    let mut second = bitmap.split_pass(&mut first).expect(rt, "a second pass");
     bitmap.set_bit(&mut second, 1);
     let once = gathered(&bitmap, &mut first, 0);
     let told = bitmap.meet_pass(&mut second, &mut first);
     bitmap.set_bit(&mut second, 1);
     let again = gathered(&bitmap, &mut first, 0);
     bitmap.join_pass(&mut first, second);
-    Ok((
-        range,
-        once,
-        told,
-        again,
-        only(left(rt.alloc(), bitmap, first)?),
-    ))
+    expect_same(rt, [range, once, again], [Some(6), Some(2), Some(2)]);
+    expect_same(rt, told, true);
+    expect_left(rt, alloc, bitmap, first, &[0]);
 }
 
 // How many pages 8193 bytes take, and whether a slice counts from its offset.
-fn sizes(alloc: Global) -> Result<(usize, bool), Fail> {
-    let len = PageBitmap::with_len(alloc, 8193)?.len();
-    let mut bitmap = PageBitmap::new(alloc, 0x800, page_size(1)?)?;
+fn expect_whole_pages(rt: &impl Abort, alloc: Global) {
+    let len = PageBitmap::with_len(alloc, 8193).expect(rt, "memory").len();
+    let mut bitmap = PageBitmap::new(alloc, 0x800, page_size(rt, 1)).expect(rt, "memory");
     bitmap.mark_dirty(0x400, 0x100);
-    Ok((len, RefSlice::new(&mut bitmap, 0x400).dirty_at(0)))
+    let is_dirty = RefSlice::new(&mut bitmap, 0x400).dirty_at(0);
+    expect_same(rt, (len, is_dirty), (3, true));
 }
 
 #[test]
-fn the_worked_example_of_bitmaps_whole_and_in_its_order(rt: HostRuntime) -> Result<(), Fail> {
-    let alloc = rt.alloc();
-    assert_eq!(rt;
-        (
-            exact(alloc)?,
-            shared_alike(&rt)?,
-            passes(&rt)?,
-            sizes(alloc)?
-        ),
-        (MARKED, MARKED, PASSES, (3, true))
-    );
-    Ok(())
+fn the_worked_example_of_bitmaps_whole_and_in_its_order(rt: HostRuntime) {
+    expect_exact(&rt, rt.alloc());
+    expect_shared_alike(&rt, rt.alloc());
+    expect_passes(&rt, rt.alloc());
+    expect_whole_pages(&rt, rt.alloc());
 }
