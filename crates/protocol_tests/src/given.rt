@@ -9,9 +9,9 @@ pub fn expect_same<T: PartialEq + Debug + Drop>(rt: &impl Abort, found: T, want:
     assert_eq!(rt; found, want);
 }
 
-/// In each row what was found is what is wanted; where it isn't, the number of the row stands first.
-pub fn expect_rows<T: PartialEq + Debug + Copy + Drop>(rt: &impl Abort, rows: &[(T, T)]) {
-    for (i, (found, want)) in rows.iter().enumerate() {
+/// In each pair what was found is what is wanted; where it isn't, the number of the pair stands first.
+pub fn expect_pairs<T: PartialEq + Debug + Copy + Drop>(rt: &impl Abort, pairs: &[(T, T)]) {
+    for (i, (found, want)) in pairs.iter().enumerate() {
         expect_same(rt, (i, *found), (i, *want));
     }
 }

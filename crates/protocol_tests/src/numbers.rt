@@ -1,6 +1,6 @@
 //! Constants and numbers of the protocol (linux/fuse.h, errno.h).
 
-use crate::given::{expect_rows, expect_same};
+use crate::given::{expect_pairs, expect_same};
 use fuse_wire::constants::*;
 use fuse_wire::{Errno, ExtType, GuestGid, GuestUid, HostGid, HostUid, NotifyOpcode, Opcode};
 
@@ -37,7 +37,7 @@ const CONSTANTS: &[(u32, u32)] = &[
 
 #[test]
 fn constants_have_their_values(rt: HostRuntime) {
-    expect_rows(&rt, CONSTANTS);
+    expect_pairs(&rt, CONSTANTS);
     expect_same(&rt, ROOT_ID, 1);
 }
 

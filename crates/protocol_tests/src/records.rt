@@ -1,6 +1,6 @@
 //! The records of the protocol: their sizes, and the bytes of some.
 
-use crate::given::{expect_rows, expect_same, expect_spelled};
+use crate::given::{expect_pairs, expect_same, expect_spelled};
 use fuse_wire::*;
 use vm_values::ByteValued;
 
@@ -76,7 +76,7 @@ const SIZES: &[(usize, usize)] = &[
 
 #[test]
 fn records_have_their_sizes(rt: HostRuntime) {
-    expect_rows(&rt, SIZES);
+    expect_pairs(&rt, SIZES);
 }
 
 #[test]

@@ -11,7 +11,7 @@ fn error_of_a_map_ends_the_call(rt: HostRuntime) {
         |_| Err(denied),
         |g: HostGid| Ok(GuestGid(g.0)),
     );
-    expect_same(&rt, refused, Err(denied));
+    expect_same(&rt, (refused, denied.raw()), (Err(denied), 1));
 }
 
 #[test]
