@@ -1,7 +1,7 @@
 //! Copies of the marked pages of a host.
 
 ghost use Rattle.std.specs.Prelude.{◌≡◌, ◌+◌, ◌*◌, ◌<◌, ◌++◌, map, length, OnOk, OnErr, IfOk, slice_range};
-ghost use Rattle.vm_bitmaps.specs.Pages.{pages_of as page_count};
+ghost use Rattle.vm_bitmaps.specs.Pages.{pages_of};
 ghost use Rattle.vm_memory_core.specs.Host.{cleared, shape};
 ghost use Rattle.fs_device.specs.Harvested.{block_pages, host_pages, harvested};
 ghost use Rattle.fs_device.specs.DeviceView.{page_view};
@@ -49,7 +49,7 @@ fn harvest_block(
     bitmap: &PageBitmap,
     pages: &mut Vec<HarvestedPage>,
 ) -> Result<(), AllocError>
-    requires { length bitmap.now.marks ≡ page_count 4096 (length bytes.now) }
+    requires { length bitmap.now.marks ≡ pages_of 4096 (length bytes.now) }
     ensures { OnOk result (map page_view pages.new.items ≡ map page_view pages.old.items ++ block_pages block bytes.now 0 bitmap.now.marks) }
 {
     for page in 0..bitmap.len() {

@@ -17,7 +17,7 @@ use vm_memory_core::{HostMemory, NewBitmap};
 
 /// A reply, or why there is none.
 #[derive(Drop)]
-pub struct Reply {
+pub(crate) struct Reply {
     pub bytes: Vec<u8>,
     pub fault: Option<Fault>,
 }
@@ -68,7 +68,7 @@ fn answer<F: FileSystem>(
 }
 
 /// Serves a chain that was taken. Nothing is written, and nothing is refused once the file system was asked.
-pub fn serve<F: FileSystem, B: NewBitmap>(
+pub(crate) fn serve<F: FileSystem, B: NewBitmap>(
     alloc: Global,
     server: &mut Server<F>,
     host: &HostMemory<B>,

@@ -64,7 +64,7 @@ fn gather_rounds(bitmap: &AtomicBitmap, pass: &mut BitmapPass, words: &mut [u64]
 }
 
 // The same, with a pass and words of its own.
-pub fn gather_into(
+pub(crate) fn gather_into(
     bitmap: &AtomicBitmap,
     mut pass: BitmapPass,
     mut words: Vec<u64>,

@@ -16,7 +16,7 @@ use vm_memory_core::HostMemory;
 const LIMIT: u32 = 0x101000;
 
 // How many bytes a page of the guest has.
-const PAGE_BYTES: u32 = 4096;
+pub(crate) const PAGE_BYTES: u32 = 4096;
 
 /// A guest and the device that serves it.
 #[derive(Drop)]

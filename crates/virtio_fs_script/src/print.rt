@@ -1,6 +1,7 @@
 //! What is printed of a command's outcome.
 
 use crate::calls::{Call, FirstCalls};
+use crate::guest::PAGE_BYTES;
 use fs_device::{Answer, Exchange, Fault, HarvestedPage, QueueRun};
 use fs_queue::{ChainFault, QueueLayoutError};
 use std::io;
@@ -8,8 +9,6 @@ use std::io::Write;
 use virtiofsd_fuse::Error;
 
 const CHUNK: usize = 32;
-
-const PAGE_BYTES: usize = 4096;
 
 // A line of a word and the numbers behind it.
 fn print_line<W: Write>(writer: &mut W, word: &[u8], numbers: &[u64]) -> io::Result<()> {
@@ -170,7 +169,7 @@ pub fn print_pages<W: Write>(writer: &mut W, pages: &[HarvestedPage]) -> io::Res
         return writer.write_all(b"none\n");
     }
     for page in pages {
-        let number = page.offset / PAGE_BYTES;
+        let number = page.offset / PAGE_BYTES as usize;
         print_line(writer, b"page", &[page.block as u64, number as u64])?;
     }
     Ok(())

@@ -13,7 +13,7 @@ use std::borrow::CowSlice;
 use std::io::Read;
 
 /// Bytes of a request: where they stand, or in memory of their own where they stood in several segments.
-pub type RequestBytes<'a> = CowSlice<'a, u8, Global>;
+pub(crate) type RequestBytes<'a> = CowSlice<'a, u8, Global>;
 
 // The place of the first zero byte.
 fn zero_at(bytes: &[u8]) -> Option<usize>
@@ -80,7 +80,7 @@ fn first_bytes<'a>(bytes: RequestBytes<'a>, n: usize) -> RequestBytes<'a>
 }
 
 /// The name that stands in as many bytes as the header's length leaves after `fixed` bytes of record.
-pub fn read_name<'a>(
+pub(crate) fn read_name<'a>(
     alloc: Global,
     len: u32,
     fixed: u32,

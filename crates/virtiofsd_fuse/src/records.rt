@@ -20,35 +20,35 @@ fn decode<T: ByteValued>(r: &mut Reader<'_>) -> Result<T, Error>
     }
 }
 
-pub fn read_in_header(r: &mut Reader<'_>) -> Result<InHeader, Error>
+pub(crate) fn read_in_header(r: &mut Reader<'_>) -> Result<InHeader, Error>
     ensures reads { read_result result r.new.left ≡ reading_in_header r.old.left }
     ensures fault { IfErr result (λ e. e ≡ Error.DecodeMessage) }
 {
     decode(r)
 }
 
-pub fn read_forget_in(r: &mut Reader<'_>) -> Result<ForgetIn, Error>
+pub(crate) fn read_forget_in(r: &mut Reader<'_>) -> Result<ForgetIn, Error>
     ensures reads { read_result result r.new.left ≡ reading_forget_in r.old.left }
     ensures fault { IfErr result (λ e. e ≡ Error.DecodeMessage) }
 {
     decode(r)
 }
 
-pub fn read_read_in(r: &mut Reader<'_>) -> Result<ReadIn, Error>
+pub(crate) fn read_read_in(r: &mut Reader<'_>) -> Result<ReadIn, Error>
     ensures reads { read_result result r.new.left ≡ reading_read_in r.old.left }
     ensures fault { IfErr result (λ e. e ≡ Error.DecodeMessage) }
 {
     decode(r)
 }
 
-pub fn read_init_in_compat(r: &mut Reader<'_>) -> Result<InitInCompat, Error>
+pub(crate) fn read_init_in_compat(r: &mut Reader<'_>) -> Result<InitInCompat, Error>
     ensures reads { read_result result r.new.left ≡ reading_init_in_compat r.old.left }
     ensures fault { IfErr result (λ e. e ≡ Error.DecodeMessage) }
 {
     decode(r)
 }
 
-pub fn read_init_in_ext(r: &mut Reader<'_>) -> Result<InitInExt, Error>
+pub(crate) fn read_init_in_ext(r: &mut Reader<'_>) -> Result<InitInExt, Error>
     ensures reads { read_result result r.new.left ≡ reading_init_in_ext r.old.left }
     ensures fault { IfErr result (λ e. e ≡ Error.DecodeMessage) }
 {

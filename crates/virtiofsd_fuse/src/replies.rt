@@ -12,10 +12,10 @@ use std::io::Write;
 use vm_values::ByteValued;
 
 /// The length of a reply's header, `struct fuse_out_header`.
-pub const OUT_HEADER_LEN: usize = 16;
+pub(crate) const OUT_HEADER_LEN: usize = 16;
 
 /// The bytes of a reply's header.
-pub fn header_bytes(len: u32, error: i32, unique: u64) -> [u8; OUT_HEADER_LEN]
+pub(crate) fn header_bytes(len: u32, error: i32, unique: u64) -> [u8; OUT_HEADER_LEN]
     ensures { result ≡ spelled (out_header (record { len = len; error = error; unique = unique })) }
 {
     let mut bytes = [0u8; OUT_HEADER_LEN];
@@ -26,14 +26,14 @@ pub fn header_bytes(len: u32, error: i32, unique: u64) -> [u8; OUT_HEADER_LEN]
 
 /// The bytes of an error's reply.
 #[tactic(auto, unfolding(crate::specs::Grammar::error_bytes))]
-pub fn error_reply(unique: u64, error: Errno) -> [u8; OUT_HEADER_LEN]
+pub(crate) fn error_reply(unique: u64, error: Errno) -> [u8; OUT_HEADER_LEN]
     ensures { result ≡ error_bytes unique error }
 {
     header_bytes(16, -(error.raw() as i32), unique)
 }
 
 /// Writes these bytes, which have room.
-pub fn append(w: &mut Writer, bytes: &[u8])
+pub(crate) fn append(w: &mut Writer, bytes: &[u8])
     requires { length bytes.now ≤ w.old.free }
     ensures written { w.new.written ≡ w.old.written ++ bytes.now }
     ensures free { w.new.free + length bytes.now ≡ w.old.free }
@@ -43,7 +43,7 @@ pub fn append(w: &mut Writer, bytes: &[u8])
 
 /// Writes a good reply of at most 144 bytes.
 #[tactic(auto, using(crate::proofs::ReplyLemmas::reply_long, crate::proofs::ReplyLemmas::reply_fits))]
-pub fn reply(w: &mut Writer, unique: u64, body: &[u8]) -> Result<usize, Error>
+pub(crate) fn reply(w: &mut Writer, unique: u64, body: &[u8]) -> Result<usize, Error>
     requires fresh { w.old.written ≡ [] }
     requires short { length body.now ≤ 128 }
     ensures sent { told result w.new.written ≡ sent w.old.free (reply_bytes unique body.now) }
@@ -60,7 +60,7 @@ pub fn reply(w: &mut Writer, unique: u64, body: &[u8]) -> Result<usize, Error>
 
 /// Writes an error.
 #[tactic(auto, using(crate::proofs::ReplyLemmas::error_long, crate::proofs::ReplyLemmas::error_fits))]
-pub fn reply_error(w: &mut Writer, unique: u64, error: Errno) -> Result<usize, Error>
+pub(crate) fn reply_error(w: &mut Writer, unique: u64, error: Errno) -> Result<usize, Error>
     requires fresh { w.old.written ≡ [] }
     ensures sent { told result w.new.written ≡ sent w.old.free (error_bytes unique error) }
     ensures length { IfOk result (λ n. n ≡ length w.new.written) }

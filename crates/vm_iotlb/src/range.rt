@@ -104,7 +104,7 @@ fn push_parts(
 }
 
 // The ranges after a range was mapped: its addresses have no other mapping.
-pub fn with_range(
+pub(crate) fn with_range(
     alloc: Global,
     ranges: &[IotlbRange],
     range: IotlbRange,

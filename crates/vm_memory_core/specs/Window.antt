@@ -1,28 +1,22 @@
 -- A window is a list of places: what is read there, and what a write leaves.
-use Rattle.std.specs.Prelude.{◌≡◌, ℕ, zero, suc, ◌+◌, ◌-◌, ◌<◌, ◌≤◌, List, [], ◌∷◌, length, All, Option, option_map, slice_index_or, unwrap_or}
+use Rattle.std.specs.Prelude.{◌≡◌, ℕ, zero, suc, ◌+◌, ◌<◌, ◌≤◌, List, [], ◌∷◌, length, All, None, slice_index_or, unwrap_or}
 use Rattle.std.specs.List.{flat_map, zip}
-use Rattle.vm_memory_core.specs.Host.{Host, IoAddress, Place, byte_at, with_byte, with_mark_by}
-use Rattle.vm_memory_core.specs.declared.window.IoMarks.{IoMarks}
+use Rattle.vm_memory_core.specs.Host.{Host, Place, byte_at, with_byte, with_mark_by}
 
--- len bytes of a block, from an offset on, and the I/O pages that writes of them mark, if not their own in the block
+-- len bytes of a block, from an offset on
 pub record Window : Type 0 where
   pub block : ℕ
   pub offset : ℕ
   pub len : ℕ
-  pub io : Option IoMarks
-
--- the I/O address of the byte at an offset
-abbrev pub io_address : (offset : ℕ) → Option IoMarks → Option IoAddress
-io_address offset io = option_map (λ m. record { set = m.set; address = m.base + (offset - m.from) }) io
 
 -- n places of a block, from an offset on
-unfoldable pub span : (block offset : ℕ) → Option IoMarks → (n : ℕ) → List Place
-span block offset io zero = []
-span block offset io (suc n) = record { block = block; offset = offset; io = io_address offset io } ∷ span block (offset + 1) io n
+unfoldable pub span : (block offset n : ℕ) → List Place
+span block offset zero = []
+span block offset (suc n) = record { block = block; offset = offset; io = None } ∷ span block (offset + 1) n
 
 -- the places of a window
 abbrev pub places_of : Window → List Place
-places_of w = span w.block w.offset w.io w.len
+places_of w = span w.block w.offset w.len
 
 -- the places of some windows, one after another
 abbrev pub places : List Window → List Place

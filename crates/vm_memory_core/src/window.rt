@@ -1,7 +1,6 @@
 //! A window over host memory (vm-memory's `VolatileSlice`).
 
-ghost use Rattle.std.specs.Prelude.{IfOk, IfSome, None, Some, ◌≡◌, ◌==◌, ◌+◌, ◌<◌, ◌≤◌, ◌^◌};
-ghost use Rattle.std.specs.Option.{is_none};
+ghost use Rattle.std.specs.Prelude.{IfOk, ◌≡◌, ◌==◌, ◌+◌, ◌<◌, ◌≤◌, ◌^◌};
 ghost use Rattle.vm_memory_core.specs.Parts.{halves_of, part_of, reached_part, rest_of, sub_window};
 
 use crate::error::{VolatileMemoryError, compute_offset};
@@ -14,79 +13,31 @@ pub struct VolatileSlice {
     block: usize,
     offset: usize,
     len: usize,
-    io: Option<IoMarks>,
-}
-
-/// The I/O pages that writes mark in place of a block's own: those of a set of the host's, in which the byte at offset
-/// `from` of the block has the I/O address `base`.
-#[derive(Clone, Copy, Debug)]
-pub struct IoMarks {
-    pub set: usize,
-    pub base: u64,
-    pub from: usize,
 }
 
 /// Windows in order, of which the first two take no memory.
 pub type Windows = SmallVec<VolatileSlice, 2>;
 
 impl Model for VolatileSlice {
-    ghost use Rattle.std.specs.Prelude.{IfSome, ◌+◌, ◌<◌, ◌≤◌, ◌^◌};
+    ghost use Rattle.std.specs.Prelude.{◌+◌, ◌<◌, ◌^◌};
     ghost use Rattle.vm_memory_core.specs.Window.{Window};
 
     ghost Value = { Window };
 
-    ghost view = { λ w. record { block = w.block; offset = w.offset; len = w.len; io = w.io } };
+    ghost view = { λ w. record { block = w.block; offset = w.offset; len = w.len } };
 
-    ghost invariant = { λ w. (w.offset + w.len < 2 ^ 64) × IfSome w.io (λ m. m.from ≤ w.offset) };
+    ghost invariant = { λ w. w.offset + w.len < 2 ^ 64 };
 
-    ghost inverse = { λ w. record { block = w.block; offset = w.offset; len = w.len; io = w.io } };
+    ghost inverse = { λ w. record { block = w.block; offset = w.offset; len = w.len } };
 }
 
 impl VolatileSlice {
     /// The window of `len` bytes of a block, from `offset` on. Whether a host has it, `HostMemory::has` tells.
     pub fn new(block: usize, offset: usize, len: usize) -> VolatileSlice
         requires { offset + len < 2 ^ 64 }
-        ensures { result ≡ record { block = block; offset = offset; len = len; io = None } }
+        ensures { result ≡ record { block = block; offset = offset; len = len } }
     {
-        VolatileSlice {
-            block,
-            offset,
-            len,
-            io: None,
-        }
-    }
-
-    /// The same bytes, of which writes mark I/O pages: those of a set of the host's, where its first byte has the I/O
-    /// address `base` (vm-memory's `VolatileSlice::replace_bitmap`).
-    pub fn replace_bitmap(&self, io: usize, base: u64) -> VolatileSlice
-        ensures { result ≡ record self.now { io = Some (record { set = io; base = base; from = self.now.offset }) } }
-    {
-        VolatileSlice {
-            io: Some(IoMarks {
-                set: io,
-                base,
-                from: self.offset,
-            }),
-            ..*self
-        }
-    }
-
-    // Whether writes of it mark the pages of its block.
-    pub(crate) fn marks_its_block(&self) -> bool
-        ensures { result ≡ is_none self.now.io }
-    {
-        match self.io {
-            Some(_) => false,
-            None => true,
-        }
-    }
-
-    // The I/O pages that writes of it mark.
-    pub(crate) fn io(&self) -> Option<IoMarks>
-        ensures value { result ≡ self.now.io }
-        ensures from { IfSome result (λ m. m.from ≤ self.now.offset) }
-    {
-        self.io
+        VolatileSlice { block, offset, len }
     }
 
     /// The number of its block.
@@ -125,7 +76,7 @@ impl VolatileSlice {
         if count > self.len {
             return Err(VolatileMemoryError::OutOfBounds { addr: count });
         }
-        Ok(self.part(count, self.len - count))
+        Ok(VolatileSlice::new(self.block, self.offset + count, self.len - count))
     }
 
     /// Its `count` bytes from an offset on (vm-memory's `VolatileSlice::subslice`).
@@ -137,7 +88,11 @@ impl VolatileSlice {
         ensures { result ≡ sub_window self.now offset count }
     {
         match compute_offset(offset, count) {
-            Ok(end) if end <= self.len => Ok(self.part(offset, count)),
+            Ok(end) if end <= self.len => Ok(VolatileSlice::new(
+                self.block,
+                self.offset + offset,
+                count,
+            )),
             Ok(addr) => Err(VolatileMemoryError::OutOfBounds { addr }),
             Err(error) => Err(error),
         }
@@ -153,8 +108,8 @@ impl VolatileSlice {
         if mid > self.len {
             return Err(VolatileMemoryError::OutOfBounds { addr: mid });
         }
-        let front = VolatileSlice { len: mid, ..*self };
-        let back = self.part(mid, self.len - mid);
+        let front = VolatileSlice::new(self.block, self.offset, mid);
+        let back = VolatileSlice::new(self.block, self.offset + mid, self.len - mid);
         Ok((front, back))
     }
 
@@ -163,11 +118,7 @@ impl VolatileSlice {
         requires { offset + count ≤ self.now.len }
         ensures { result ≡ part_of self.now offset count }
     {
-        VolatileSlice {
-            offset: self.offset + offset,
-            len: count,
-            ..*self
-        }
+        VolatileSlice::new(self.block, self.offset + offset, count)
     }
 
     // The bytes that an access of `count` bytes from `addr` on reaches.
@@ -182,12 +133,12 @@ impl VolatileSlice {
         ensures most { IfOk result (λ w. w.len ≤ count) }
     {
         if count == 0 {
-            return Ok(self.part(0, 0));
+            return Ok(VolatileSlice::new(self.block, self.offset, 0));
         }
         if addr >= self.len {
             return Err(VolatileMemoryError::OutOfBounds { addr });
         }
         let count = count.min(self.len - addr);
-        Ok(self.part(addr, count))
+        Ok(VolatileSlice::new(self.block, self.offset + addr, count))
     }
 }
