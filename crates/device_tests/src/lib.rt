@@ -6,6 +6,8 @@ mod faults;
 #[cfg(test)]
 mod harvests;
 #[cfg(test)]
+mod indirect;
+#[cfg(test)]
 mod layouts;
 #[cfg(test)]
 mod machines;
@@ -17,6 +19,8 @@ mod queues;
 mod refusals;
 #[cfg(test)]
 mod requests;
+#[cfg(test)]
+mod resumed;
 #[cfg(test)]
 mod stand;
 #[cfg(test)]

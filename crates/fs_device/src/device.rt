@@ -126,7 +126,7 @@ impl<F: FileSystem> Device<F> {
         ensures there { OnOk result ((queue < length self.old.queues) × (self.new ≡ record self.old { queues = set self.old.queues queue (fresh_queue layout) })) }
     {
         if queue < self.queues.len() {
-            self.queues[queue] = Queue::new(layout);
+            self.queues[queue].reset(layout);
             Ok(())
         } else {
             Err(DeviceError::NoSuchQueue)

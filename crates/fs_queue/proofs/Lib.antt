@@ -3,3 +3,4 @@ pub mod WalkLemmas
 pub mod TakeLemmas
 pub mod OfferLemmas
 pub mod ReturnLemmas
+pub mod BoundLemmas

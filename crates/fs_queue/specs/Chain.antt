@@ -1,13 +1,14 @@
 -- The chain of descriptors that begins at a head (VIRTIO 1.2, 2.7.5 and 2.7.5.3).
-use Rattle.std.specs.Prelude.{ℕ, zero, suc, ◌+◌, ◌-◌, ◌*◌, ◌^◌, Bool, false, not, ◌&&◌, nat_le, nat_lt, ◌==◌, List, [], ◌∷◌, Option, Some, None, if◌then◌else◌}
+use Rattle.std.specs.Prelude.{ℕ, zero, suc, ◌+◌, ◌-◌, ◌*◌, ◌/◌, ◌%◌, ◌^◌, Bool, true, false, not, ◌&&◌, ◌||◌, nat_le, nat_lt, ◌==◌, List, [], ◌∷◌, Option, Some, None, if◌then◌else◌}
 use Rattle.std.specs.Int.{w16, w32, w64}
 use Rattle.vm_iotlb.specs.declared.permissions.Permissions.TheVariants.{Read}
 use Rattle.vm_memory.specs.Memory.{Memory, number, reach}
 use Rattle.fs_queue.specs.declared.fault.ChainFault.{ChainFault}
-use Rattle.fs_queue.specs.declared.fault.ChainFault.TheVariants.{TooLong, NextOutOfTable, AddressOverflow, TableUnreachable}
+use Rattle.fs_queue.specs.declared.fault.ChainFault.TheVariants.{TooLong, NextOutOfTable, AddressOverflow, IndirectWithNext, IndirectNested, IndirectLength, TableUnreachable}
 use Rattle.fs_queue.specs.declared.descriptor.Descriptor.{Descriptor}
+use Rattle.fs_queue.specs.declared.walk.DescriptorTable.{DescriptorTable}
 use Rattle.fs_queue.specs.declared.walk.Verdict.{Verdict}
-use Rattle.fs_queue.specs.declared.walk.Verdict.TheVariants.{Joins, Faulty, Stops}
+use Rattle.fs_queue.specs.declared.walk.Verdict.TheVariants.{Joins, Leads, Faulty, Stops}
 use Rattle.fs_queue.specs.Queue.{Queue, has_bit}
 
 -- the entry of a table at an address: le64 addr, le32 len, le16 flags, le16 next (2.7.5)
@@ -26,12 +27,6 @@ is_writable d = has_bit d.flags 1
 abbrev pub is_indirect : Descriptor → Bool
 is_indirect d = has_bit d.flags 2
 
--- a table of descriptors: the queue's own, or one that a descriptor names
-pub record DescriptorTable : Type 0 where
-  pub address : ℕ
-  pub entries : ℕ
-  pub indirect : Bool
-
 -- a step of a walk: an entry of a table, and how many descriptors the chain may still have
 pub record Visit : Type 0 where
   pub table : DescriptorTable
@@ -42,9 +37,14 @@ pub record Visit : Type 0 where
 abbrev pub ends_in_64_bits : Descriptor → Bool
 ends_in_64_bits d = nat_lt (d.addr + d.len) (2 ^ 64)
 
--- a descriptor that names a table: no table is read so far (2.7.5.3.1)
+-- a descriptor that names a table, which is read from its entry 0 on (2.7.5.3.1). It isn't counted, and its WRITE says nothing
 abbrev pub indirect_verdict : Visit → Descriptor → Verdict
-indirect_verdict v d = Faulty TableUnreachable
+indirect_verdict v d =
+    if has_next d then Faulty IndirectWithNext
+    else if v.table.indirect then Faulty IndirectNested
+    else if d.len == 0 || not (d.len % 16 == 0) then Faulty IndirectLength
+    else if not (ends_in_64_bits d) then Faulty AddressOverflow
+    else Leads (record { address = d.addr; entries = d.len / 16; indirect = true })
 
 -- any other
 abbrev pub ordinary_verdict : Visit → Descriptor → Verdict
@@ -69,6 +69,7 @@ verdict m v =
 -- the step that a verdict leads to, if any
 abbrev pub next_visit : Visit → Verdict → Option Visit
 next_visit v (Joins d) = if has_next d then Some (record { table = v.table; index = d.next; left = v.left - 1 }) else None
+next_visit v (Leads table) = Some (record { table = table; index = 0; left = v.left })
 next_visit v (Faulty fault) = None
 next_visit v Stops = None
 
@@ -82,9 +83,26 @@ unfoldable pub path : Memory → ℕ → Visit → List Visit
 path m zero v = []
 path m (suc n) v = v ∷ onward (path m n) (next_visit v (verdict m v))
 
--- the walk from a head. It has at most size + 2 steps
+-- the queue's own table
+abbrev pub own_table : Queue → DescriptorTable
+own_table q = record { address = q.desc; entries = q.size; indirect = false }
+
+-- the first step of the walk from a head
+abbrev pub first_visit : Queue → ℕ → Visit
+first_visit q head = record { table = own_table q; index = head; left = q.size }
+
+-- the walk from a head. It has at most size + 2 steps, and none that the rules lead to is left out (Laws)
 abbrev pub walk : Memory → Queue → ℕ → List Visit
-walk m q head = path m (q.size + 2) (record { table = record { address = q.desc; entries = q.size; indirect = false }; index = head; left = q.size })
+walk m q head = path m (q.size + 2) (first_visit q head)
+
+-- how many steps a walk may still have for other than ordinary descriptors: the one that ends it, and one that names a table
+abbrev pub tables_left : Bool → ℕ
+tables_left true = 1
+tables_left false = 2
+
+-- how many steps a walk may have from one on
+abbrev pub steps_left : Visit → ℕ
+steps_left v = v.left + tables_left v.table.indirect
 
 -- what a walk finds
 pub data Found : Type 0 where
@@ -101,6 +119,7 @@ with_front d StopsQueue = StopsQueue
 -- what a step's verdict and the rest come to
 abbrev pub after_verdict : Verdict → Found → Found
 after_verdict (Joins d) rest = with_front d rest
+after_verdict (Leads table) rest = rest
 after_verdict (Faulty fault) rest = HasFault fault
 after_verdict Stops rest = StopsQueue
 

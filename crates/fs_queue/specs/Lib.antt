@@ -8,3 +8,4 @@ pub mod Look
 pub mod Taking
 pub mod Returning
 pub mod Windows
+pub mod Laws

@@ -22,6 +22,10 @@ fresh size desc avail used = record { size = size; desc = desc; avail = avail; u
 abbrev pub at_position : QueueLayout → (position : ℕ) → Queue
 at_position l position = record { size = l.size; desc = l.desc; avail = l.avail; used = l.used; position = position; stopped = false }
 
+-- a queue of this layout from which so many chains were taken, and which is stopped or not
+abbrev pub resumed : QueueLayout → (position : ℕ) → (stopped : Bool) → Queue
+resumed l position stopped = record { size = l.size; desc = l.desc; avail = l.avail; used = l.used; position = position; stopped = stopped }
+
 -- a queue that hands out no chain until it is reset
 abbrev pub stopped : Queue → Queue
 stopped q = record q { stopped = true }

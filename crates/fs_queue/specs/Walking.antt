@@ -1,16 +1,20 @@
 -- What the walk's values say.
-use Rattle.std.specs.Prelude.{ℕ, ◌+◌, ◌^◌, ◌<◌, All, false, List}
-use Rattle.fs_queue.specs.declared.layout.QueueLayout.{QueueLayout}
+use Rattle.std.specs.Prelude.{ℕ, ◌+◌, ◌*◌, ◌^◌, ◌<◌, All, List}
 use Rattle.fs_queue.specs.declared.descriptor.Descriptor.{Descriptor}
+use Rattle.fs_queue.specs.declared.walk.DescriptorTable.{DescriptorTable}
 use Rattle.fs_queue.specs.declared.walk.Verdict.{Verdict}
-use Rattle.fs_queue.specs.declared.walk.Verdict.TheVariants.{Joins, Faulty, Stops}
+use Rattle.fs_queue.specs.declared.walk.Verdict.TheVariants.{Joins, Leads, Faulty, Stops}
 use Rattle.fs_queue.specs.declared.walk.Walked as walked
 use Rattle.fs_queue.specs.declared.walk.Walked.TheVariants as comes_to
 use Rattle.fs_queue.specs.Chain.{Visit, Found, IsChain, HasFault, StopsQueue}
 
--- a step at an entry of the queue's own table
-abbrev pub in_table : QueueLayout → (index left : ℕ) → Visit
-in_table l index left = record { table = record { address = l.desc; entries = l.size; indirect = false }; index = index; left = left }
+-- a step at an entry of a table
+abbrev pub in_table : DescriptorTable → (index left : ℕ) → Visit
+in_table table index left = record { table = table; index = index; left = left }
+
+-- a table's end is an address
+abbrev pub EndsIn64Bits : DescriptorTable → Type 0
+EndsIn64Bits table = table.address + 16 * table.entries < 2 ^ 64
 
 -- what a walk found
 abbrev pub found_of : walked.Walked → Found
@@ -21,8 +25,16 @@ found_of comes_to.Stopped = StopsQueue
 -- of a descriptor that joins the chain
 abbrev pub IfJoins : Verdict → (Descriptor → Type 0) → Type 0
 IfJoins (Joins d) P = P d
+IfJoins (Leads table) P = Unit {0}
 IfJoins (Faulty fault) P = Unit {0}
 IfJoins Stops P = Unit {0}
+
+-- of a table that a descriptor names
+abbrev pub IfLeads : Verdict → (DescriptorTable → Type 0) → Type 0
+IfLeads (Joins d) P = Unit {0}
+IfLeads (Leads table) P = P table
+IfLeads (Faulty fault) P = Unit {0}
+IfLeads Stops P = Unit {0}
 
 -- no descriptor of a chain ends past 2^64 - 1
 unfoldable pub AllEndIn64Bits : List Descriptor → Type 0

@@ -5,6 +5,7 @@ mod access;
 mod chain;
 mod descriptor;
 mod fault;
+pub mod laws;
 mod layout;
 mod look;
 mod queue;

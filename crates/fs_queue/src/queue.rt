@@ -37,7 +37,7 @@ impl Model for Queue {
     ghost view = { λ q. record { size = q.layout.size; desc = q.layout.desc; avail = q.layout.avail; used = q.layout.used; position = q.position; stopped = q.stopped } };
 }
 
-ghost use Rattle.fs_queue.specs.Queue.{fresh};
+ghost use Rattle.fs_queue.specs.Queue.{fresh, resumed};
 ghost use Rattle.fs_queue.specs.Taking.{Asked, room_of};
 ghost use Rattle.fs_queue.specs.Returning.{returned, wants_notice, advanced};
 ghost use Rattle.fs_queue.specs.Windows.{Takes, after_taking, IsTaken, TakenLiesIn, ChainLiesIn, room_places, chain_places, HasItsWindows};
@@ -70,6 +70,34 @@ impl Queue {
             position: 0,
             stopped: false,
         }
+    }
+
+    /// A queue from which so many chains were taken, modulo 2^16, and which is stopped or not.
+    pub fn resume(layout: QueueLayout, position: u16, stopped: bool) -> Queue
+        ensures { result ≡ resumed layout position stopped }
+    {
+        Queue {
+            layout,
+            position,
+            stopped,
+        }
+    }
+
+    /// Begins the queue anew with a layout: its position is 0, and it isn't stopped.
+    pub fn reset(&mut self, layout: QueueLayout)
+        ensures { self.new ≡ fresh layout.size layout.desc layout.avail layout.used }
+    {
+        *self = Queue::new(layout);
+    }
+
+    /// Where the queue's parts are.
+    pub fn layout(&self) -> QueueLayout
+        ensures size { result.size ≡ self.now.size }
+        ensures desc { result.desc ≡ self.now.desc }
+        ensures avail { result.avail ≡ self.now.avail }
+        ensures used { result.used ≡ self.now.used }
+    {
+        self.layout
     }
 
     /// How many chains were returned, modulo 2^16.

@@ -1,6 +1,6 @@
 //! The walk through a chain of descriptors (VIRTIO 1.2, 2.7.5).
 
-ghost use Rattle.std.specs.Prelude.{◌≡◌, ◌+◌, ◌*◌, ◌<◌, ◌^◌, IfOk, false};
+ghost use Rattle.std.specs.Prelude.{◌≡◌, ◌+◌, ◌*◌, ◌<◌, ◌^◌, IfOk, false, true};
 ghost use Rattle.vm_memory.specs.Layout.{HostHolds};
 ghost use Rattle.vm_memory.specs.Memory.{memory_of};
 ghost use Rattle.fs_queue.specs.Queue.{at_position};
@@ -12,10 +12,22 @@ use std::alloc::{AllocError, Global};
 use vm_memory::GuestMemoryMmap;
 use vm_memory_core::{HostMemory, NewBitmap};
 
-/// What the rules say of a step: its descriptor joins the chain, the chain is faulty, or the queue stops.
+// How many bytes an entry of a table has.
+const ENTRY: u32 = 16;
+
+/// A table of descriptors: the queue's own, or one that a descriptor names.
+#[derive(Clone, Copy, Debug, PartialEq, Eq)]
+pub(crate) struct DescriptorTable {
+    pub(crate) address: u64,
+    pub(crate) entries: u32,
+    pub(crate) indirect: bool,
+}
+
+/// What the rules say of a step: its descriptor joins the chain, it leads to a table, the chain is faulty, or the queue stops.
 #[derive(Clone, Copy, Debug, PartialEq, Eq)]
 pub(crate) enum Verdict {
     Joins(Descriptor),
+    Leads(DescriptorTable),
     Faulty(ChainFault),
     Stops,
 }
@@ -28,14 +40,38 @@ pub(crate) enum Walked {
     Stopped,
 }
 
-ghost use Rattle.fs_queue.specs.Chain.{ordinary_verdict, verdict, chain};
-ghost use Rattle.fs_queue.specs.Walking.{in_table, found_of, IfJoins, DescriptorsFit};
+ghost use Rattle.fs_queue.specs.Chain.{indirect_verdict, ordinary_verdict, verdict, chain, own_table};
+ghost use Rattle.fs_queue.specs.Walking.{in_table, found_of, IfJoins, IfLeads, EndsIn64Bits, DescriptorsFit};
+
+// What the rules say of a descriptor that names a table, found in this one.
+fn lead(table: DescriptorTable, index: u16, left: u16, descriptor: Descriptor) -> Verdict
+    ensures verdict { result ≡ indirect_verdict (in_table table index left) descriptor }
+    ensures joins { IfJoins result (λ _. ⊥) }
+    ensures leads { IfLeads result (λ t. (table.indirect ≡ false) × (t.indirect ≡ true) × EndsIn64Bits t) }
+{
+    if descriptor.has_next() {
+        Verdict::Faulty(ChainFault::IndirectWithNext)
+    } else if table.indirect {
+        Verdict::Faulty(ChainFault::IndirectNested)
+    } else if descriptor.len == 0 || descriptor.len % ENTRY != 0 {
+        Verdict::Faulty(ChainFault::IndirectLength)
+    } else if descriptor.addr > u64::MAX - u64::from(descriptor.len) {
+        Verdict::Faulty(ChainFault::AddressOverflow)
+    } else {
+        Verdict::Leads(DescriptorTable {
+            address: descriptor.addr,
+            entries: descriptor.len / ENTRY,
+            indirect: true,
+        })
+    }
+}
 
 // What the rules say of an ordinary descriptor, where `left` more may join the chain.
-fn ordinary(layout: QueueLayout, index: u16, left: u16, descriptor: Descriptor) -> Verdict
-    ensures verdict { result ≡ ordinary_verdict (in_table layout index left) descriptor }
+fn ordinary(table: DescriptorTable, index: u16, left: u16, descriptor: Descriptor) -> Verdict
+    ensures verdict { result ≡ ordinary_verdict (in_table table index left) descriptor }
     ensures fits { IfJoins result (λ d. d.addr + d.len < 2 ^ 64) }
     ensures more { IfJoins result (λ _. 0 < left) }
+    ensures leads { IfLeads result (λ _. ⊥) }
 {
     if left == 0 {
         Verdict::Faulty(ChainFault::TooLong)
@@ -46,29 +82,47 @@ fn ordinary(layout: QueueLayout, index: u16, left: u16, descriptor: Descriptor) 
     }
 }
 
-// What the rules say of an entry of the queue's table, where `left` more descriptors may join the chain.
+// What the rules say of an entry of a table, where `left` more descriptors may join the chain.
 fn step<B: NewBitmap>(
-    layout: QueueLayout,
     host: &HostMemory<B>,
     mem: &GuestMemoryMmap,
+    table: DescriptorTable,
     index: u16,
     left: u16,
 ) -> Verdict
-    requires { HostHolds host.now mem.now }
-    ensures verdict { result ≡ verdict (memory_of host.now mem.now) (in_table layout index left) }
+    requires held { HostHolds host.now mem.now }
+    requires ends { EndsIn64Bits table }
+    ensures verdict { result ≡ verdict (memory_of host.now mem.now) (in_table table index left) }
     ensures fits { IfJoins result (λ d. d.addr + d.len < 2 ^ 64) }
     ensures more { IfJoins result (λ _. 0 < left) }
+    ensures leads { IfLeads result (λ t. (table.indirect ≡ false) × (t.indirect ≡ true) × EndsIn64Bits t) }
 {
-    if index >= layout.size() {
+    if u32::from(index) >= table.entries {
         return Verdict::Faulty(ChainFault::NextOutOfTable);
     }
-    let Some(descriptor) = read_descriptor(host, mem, layout.desc() + 16 * u64::from(index)) else {
-        return Verdict::Stops;
+    let Some(descriptor) = read_descriptor(host, mem, table.address + 16 * u64::from(index)) else {
+        return if table.indirect {
+            Verdict::Faulty(ChainFault::TableUnreachable)
+        } else {
+            Verdict::Stops
+        };
     };
     if descriptor.refers_to_indirect_table() {
-        Verdict::Faulty(ChainFault::TableUnreachable)
+        lead(table, index, left, descriptor)
     } else {
-        ordinary(layout, index, left, descriptor)
+        ordinary(table, index, left, descriptor)
+    }
+}
+
+// The queue's own table.
+fn queue_table(layout: QueueLayout) -> DescriptorTable
+    ensures table { result ≡ own_table (at_position layout 0) }
+    ensures ends { EndsIn64Bits result }
+{
+    DescriptorTable {
+        address: layout.desc(),
+        entries: u32::from(layout.size()),
+        indirect: false,
     }
 }
 
@@ -85,12 +139,17 @@ pub(crate) fn walk<B: NewBitmap>(
     ensures fit { IfOk result DescriptorsFit }
 {
     let mut descriptors = Descriptors::new(alloc);
+    let mut table = queue_table(layout);
     let mut index = head;
     let mut left = layout.size();
     loop {
-        match step(layout, host, mem, index, left) {
+        match step(host, mem, table, index, left) {
             Verdict::Stops => return Ok(Walked::Stopped),
             Verdict::Faulty(fault) => return Ok(Walked::Faulty(fault)),
+            Verdict::Leads(named) => {
+                table = named;
+                index = 0;
+            }
             Verdict::Joins(descriptor) => {
                 descriptors.push(descriptor)?;
                 if !descriptor.has_next() {

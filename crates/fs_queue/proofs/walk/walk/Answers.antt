@@ -4,25 +4,25 @@ use Rattle.vm_memory.specs.Memory.{memory_of}
 use Rattle.fs_queue.specs.declared.descriptor.Descriptor.{Descriptor}
 use Rattle.fs_queue.specs.Chain.{IsChain}
 use Rattle.fs_queue.specs.Walking.{AllEndIn64Bits}
-use Rattle.fs_queue.proofs.WalkLemmas.{walk_stops, walk_faulty, walk_ends, walk_next}
+use Rattle.fs_queue.proofs.WalkLemmas.{walk_stops, walk_faulty, walk_ends, walk_next, walk_leads}
 use Rattle.fs_queue.proofs.walk.walk.Goals as goal
 
 pub loop-descriptors-init : goal.loop-descriptors-init
 unfolding AllEndIn64Bits
-loop-descriptors-init g c = rw (c.new-descriptors.ensures.items, c.size-left.ensures) (record { chain = refl; fit = λ k d h. absurd (omega arith) })
+loop-descriptors-init g c = rw (c.new-descriptors.ensures.items, c.size-left.ensures) (record { chain = rw c.queue_table-table.ensures.table refl; fit = λ k d h. absurd (omega arith); ends = c.queue_table-table.ensures.ends })
 
 pub returns-in-Stops-clause-chain : goal.returns-in-Stops-clause-chain
 returns-in-Stops-clause-chain g c =
-    walk_stops (memory_of c.args.host.now c.args.mem.now) c.args.layout c.loop-descriptors.index c.loop-descriptors.left c.loop-descriptors.descriptors.items _ c.in-Stops.ensures.verdict c.loop-descriptors.invariant.chain
+    walk_stops (memory_of c.args.host.now c.args.mem.now) c.loop-descriptors.table c.loop-descriptors.index c.loop-descriptors.left c.loop-descriptors.descriptors.items _ c.in-Stops.ensures.verdict c.loop-descriptors.invariant.chain
 
 pub returns-in-Faulty-clause-chain : goal.returns-in-Faulty-clause-chain
 returns-in-Faulty-clause-chain g c =
-    walk_faulty (memory_of c.args.host.now c.args.mem.now) c.args.layout c.loop-descriptors.index c.loop-descriptors.left _ c.loop-descriptors.descriptors.items _ c.in-Faulty.ensures.verdict c.loop-descriptors.invariant.chain
+    walk_faulty (memory_of c.args.host.now c.args.mem.now) c.loop-descriptors.table c.loop-descriptors.index c.loop-descriptors.left _ c.loop-descriptors.descriptors.items _ c.in-Faulty.ensures.verdict c.loop-descriptors.invariant.chain
 
 pub returns-then-not-has_next-clause-chain : goal.returns-then-not-has_next-clause-chain
 returns-then-not-has_next-clause-chain g c =
     ap IsChain c.in_ok-push-in-Joins.ensures.ok
-    ∙ walk_ends (memory_of c.args.host.now c.args.mem.now) c.args.layout c.loop-descriptors.index c.loop-descriptors.left c.in-Joins.descriptor c.loop-descriptors.descriptors.items _ c.in-Joins.ensures.verdict (sym c.if-not-has_next.ensures) c.loop-descriptors.invariant.chain
+    ∙ walk_ends (memory_of c.args.host.now c.args.mem.now) c.loop-descriptors.table c.loop-descriptors.index c.loop-descriptors.left c.in-Joins.descriptor c.loop-descriptors.descriptors.items _ c.in-Joins.ensures.verdict (sym c.if-not-has_next.ensures) c.loop-descriptors.invariant.chain
 
 pub returns-then-not-has_next-clause-fit : goal.returns-then-not-has_next-clause-fit
 unfolding AllEndIn64Bits
@@ -32,6 +32,14 @@ returns-then-not-has_next-clause-fit g c =
 pub loop-descriptors-preserved : goal.loop-descriptors-preserved
 unfolding AllEndIn64Bits
 loop-descriptors-preserved g c = rw c.in_ok-push-in-Joins.ensures.ok (record {
-  chain = walk_next (memory_of c.args.host.now c.args.mem.now) c.args.layout c.loop-descriptors.index c.loop-descriptors.left c.in-Joins.descriptor c.loop-descriptors.descriptors.items _ c.in-Joins.ensures.verdict (sym c.has_next.ensures ∙ c.if-not-has_next.false) c.in-Joins.ensures.more c.loop-descriptors.invariant.chain;
+  chain = walk_next (memory_of c.args.host.now c.args.mem.now) c.loop-descriptors.table c.loop-descriptors.index c.loop-descriptors.left c.in-Joins.descriptor c.loop-descriptors.descriptors.items _ c.in-Joins.ensures.verdict (sym c.has_next.ensures ∙ c.if-not-has_next.false) c.in-Joins.ensures.more c.loop-descriptors.invariant.chain;
   fit = All-push (λ (d : Descriptor). d.addr + d.len < 2 ^ 64) _ _ c.loop-descriptors.invariant.fit c.in-Joins.ensures.fits;
+  ends = c.loop-descriptors.invariant.ends;
 })
+
+pub loop-descriptors-preserved-in-Leads : goal.loop-descriptors-preserved-in-Leads
+loop-descriptors-preserved-in-Leads g c = record {
+  chain = walk_leads (memory_of c.args.host.now c.args.mem.now) c.loop-descriptors.table c.in-Leads.named c.loop-descriptors.index c.loop-descriptors.left c.loop-descriptors.descriptors.items _ c.in-Leads.ensures.verdict c.in-Leads.ensures.leads.0 c.in-Leads.ensures.leads.1 c.loop-descriptors.invariant.chain;
+  fit = c.loop-descriptors.invariant.fit;
+  ends = c.in-Leads.ensures.leads.2;
+}

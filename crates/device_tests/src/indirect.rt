@@ -1,0 +1,205 @@
+//! Chains by tables that a descriptor names.
+
+use crate::stand::{REQUEST_AT, RING, ROOM_AT, Stand};
+use fs_device::Fault;
+use fs_queue::ChainFault;
+use guest_driver::Descriptor;
+use guest_driver::requests::header;
+use guest_driver::ring::{INDIRECT, NEXT, WRITE};
+use std::alloc::Global;
+use std::process::Abort;
+use vm_memory_core::GuestAddress;
+
+// The reply to the request whose opcode is unknown.
+const ENOSYS_REPLY: [u8; 16] = [16, 0, 0, 0, 0xda, 0xff, 0xff, 0xff, 1, 0, 0, 0, 0, 0, 0, 0];
+
+// The two descriptors of a chain that is served.
+const REQUEST: Descriptor = Descriptor {
+    addr: REQUEST_AT,
+    len: 40,
+    flags: NEXT,
+    next: 1,
+};
+
+const ROOM: Descriptor = Descriptor {
+    addr: ROOM_AT,
+    len: 16,
+    flags: WRITE,
+    next: 0,
+};
+
+// They as a table.
+const BOTH: &[Descriptor] = &[REQUEST, ROOM];
+
+// The request's first part, and what follows it where the table has more than these two.
+const FRONT: Descriptor = Descriptor { len: 33, ..REQUEST };
+
+const BACK: Descriptor = Descriptor {
+    addr: 0x1021,
+    len: 7,
+    flags: NEXT,
+    next: 2,
+};
+
+const ROOM_FRONT: Descriptor = Descriptor {
+    addr: ROOM_AT,
+    len: 3,
+    flags: WRITE | NEXT,
+    next: 3,
+};
+
+const NOTHING: Descriptor = Descriptor {
+    addr: ROOM_AT,
+    len: 0,
+    flags: WRITE | NEXT,
+    next: 4,
+};
+
+const ROOM_BACK: Descriptor = Descriptor {
+    addr: 0x2003,
+    len: 13,
+    flags: WRITE,
+    next: 0,
+};
+
+// Four descriptors in a chain, and five.
+const FOUR: &[Descriptor] = &[FRONT, BACK, ROOM_FRONT, ROOM_BACK];
+
+const FIVE: &[Descriptor] = &[FRONT, BACK, ROOM_FRONT, NOTHING, ROOM_BACK];
+
+// The descriptor that names a table.
+const NAMES: Descriptor = Descriptor {
+    addr: 0x3000,
+    len: 32,
+    flags: INDIRECT,
+    next: 0,
+};
+
+// A descriptor that names a table, and the table: in a region apart; to write, which says nothing; across two regions; over
+// the used ring; of four descriptors.
+const SERVED: [(Descriptor, &[Descriptor]); 5] = [
+    (NAMES, BOTH),
+    (
+        Descriptor {
+            flags: INDIRECT | WRITE,
+            ..NAMES
+        },
+        BOTH,
+    ),
+    (
+        Descriptor {
+            addr: 0x2ff8,
+            ..NAMES
+        },
+        BOTH,
+    ),
+    (
+        Descriptor {
+            addr: RING.used,
+            ..NAMES
+        },
+        BOTH,
+    ),
+    (Descriptor { len: 64, ..NAMES }, FOUR),
+];
+
+// The same with the fault of the chain.
+const FAULTY: [(Descriptor, &[Descriptor], ChainFault); 10] = [
+    (Descriptor { len: 80, ..NAMES }, FIVE, ChainFault::TooLong),
+    (
+        NAMES,
+        &[Descriptor { next: 0, ..REQUEST }, ROOM],
+        ChainFault::TooLong,
+    ),
+    (
+        NAMES,
+        &[Descriptor { next: 2, ..REQUEST }, ROOM],
+        ChainFault::NextOutOfTable,
+    ),
+    (
+        Descriptor {
+            addr: 0xffff_ffff_ffff_ffe0,
+            ..NAMES
+        },
+        &[],
+        ChainFault::AddressOverflow,
+    ),
+    (
+        Descriptor {
+            flags: INDIRECT | NEXT,
+            ..NAMES
+        },
+        BOTH,
+        ChainFault::IndirectWithNext,
+    ),
+    (NAMES, &[NAMES], ChainFault::IndirectNested),
+    (
+        Descriptor { len: 40, ..NAMES },
+        BOTH,
+        ChainFault::IndirectLength,
+    ),
+    (
+        Descriptor { len: 0, ..NAMES },
+        BOTH,
+        ChainFault::IndirectLength,
+    ),
+    (
+        Descriptor {
+            addr: 0x20000,
+            ..NAMES
+        },
+        &[],
+        ChainFault::TableUnreachable,
+    ),
+    (
+        Descriptor {
+            addr: 0xfff0,
+            ..NAMES
+        },
+        &[REQUEST],
+        ChainFault::TableUnreachable,
+    ),
+];
+
+// The request, a table where a descriptor says that it is, and a chain of that descriptor alone; no page is marked. The second
+// region begins at 0x3000.
+fn draw(rt: &impl Abort, alloc: Global, first: Descriptor, table: &[Descriptor]) -> Stand {
+    let regions = [(GuestAddress(0), 0x3000), (GuestAddress(0x3000), 0xd000)];
+    let mut stand = Stand::over(rt, alloc, &regions, RING);
+    stand.put(rt, REQUEST_AT, &header(40, 7, 1, 0));
+    let mut index = 0u16;
+    for entry in table {
+        stand
+            .guest
+            .descriptor_in(first.addr, index, *entry)
+            .expect(rt, "a place");
+        index = index.wrapping_add(1);
+    }
+    stand.guest.descriptor(0, first).expect(rt, "a place");
+    stand.guest.make_available(0).expect(rt, "a place");
+    stand.guest.clear_marks();
+    stand
+}
+
+#[test]
+fn table_is_served_as_its_descriptors(rt: HostRuntime) {
+    for (first, table) in SERVED {
+        let mut stand = draw(&rt, rt.alloc(), first, table);
+        stand.expect_reply(&rt, &ENOSYS_REPLY);
+        stand.expect_bytes(&rt, ROOM_AT, &ENOSYS_REPLY);
+        stand.expect_used(&rt, 0, (0, 16), 1);
+        stand.expect_marked(&rt, &[(0, 0), (0, 2)]);
+        stand.expect_calls(&rt, &[]);
+    }
+}
+
+#[test]
+fn faulty_table_goes_back_with_nothing_and_asks_nothing(rt: HostRuntime) {
+    for (first, table, fault) in FAULTY {
+        let mut stand = draw(&rt, rt.alloc(), first, table);
+        stand.expect_fault(&rt, Fault::Chain(fault));
+        stand.expect_used(&rt, 0, (0, 0), 1);
+        stand.expect_marked(&rt, &[(0, 0)]);
+        stand.expect_calls(&rt, &[]);
+    }
+}

@@ -1,0 +1,72 @@
+//! Queues that go on at a position, and queues that begin anew.
+
+use crate::stand::{LIMIT, REQUEST_AT, RING, ROOM_AT, Stand, expect_same, layout};
+use call_log::CallLog;
+use fs_device::Device;
+use fs_queue::Queue;
+use guest_driver::requests::header;
+use std::process::Abort;
+use virtiofsd_fuse::Server;
+
+// A stand with a chain of a request with an unknown opcode and its room, made available once.
+fn stand(rt: &impl Abort, alloc: std::alloc::Global) -> Stand {
+    let mut stand = Stand::new(rt, alloc);
+    let request = header(40, 7, 1, 0);
+    stand.chain(rt, 0, &request, &[(REQUEST_AT, 40)], &[(ROOM_AT, 16)]);
+    stand
+}
+
+// What tells a queue from another.
+fn expect_queue(rt: &impl Abort, queue: &Queue, position: u16, stopped: bool) {
+    let at = queue.layout();
+    expect_same(
+        rt,
+        (at.size(), at.desc(), at.avail(), at.used()),
+        (RING.size, RING.desc, RING.avail, RING.used),
+    );
+    expect_same(
+        rt,
+        (queue.position(), queue.is_stopped()),
+        (position, stopped),
+    );
+}
+
+#[test]
+fn resumed_queue_goes_on_at_its_position(rt: HostRuntime) {
+    let mut stand = stand(&rt, rt.alloc());
+    stand.guest.set_available(0).expect(&rt, "a place");
+    let queue = Queue::resume(layout(&rt, RING), 65535, false);
+    expect_queue(&rt, &queue, 65535, false);
+    let queues = Vec::from_array(rt.alloc(), [queue]).expect(&rt, "memory");
+    stand.device = Device::new(Server::new(CallLog::new(), 4096), queues, LIMIT);
+    let (_, _) = stand.exchange(&rt);
+    stand.expect_used(&rt, 3, (0, 16), 0);
+    expect_queue(&rt, stand.device.queue(0).expect(&rt, "a queue"), 0, false);
+}
+
+#[test]
+fn resumed_queue_that_is_stopped_is_reset(rt: HostRuntime) {
+    let stand = stand(&rt, rt.alloc());
+    let mut queue = Queue::resume(layout(&rt, RING), 7, true);
+    expect_queue(&rt, &queue, 7, true);
+    let refused = queue.take(rt.alloc(), &stand.guest.host, &stand.guest.mem, LIMIT);
+    expect_same(&rt, refused.is_err(), true);
+    queue.reset(layout(&rt, RING));
+    expect_queue(&rt, &queue, 0, false);
+}
+
+#[test]
+fn reset_queue_begins_at_its_first_slot(rt: HostRuntime) {
+    let mut stand = stand(&rt, rt.alloc());
+    let (_, _) = stand.exchange(&rt);
+    stand.put(&rt, 0x202, &[0xff; 10]);
+    stand.guest.make_available(0).expect(&rt, "a place");
+    let (_, _) = stand.exchange(&rt);
+    stand.expect_used(&rt, 1, (0, 16), 2);
+    stand
+        .device
+        .reset_queue(0, layout(&rt, RING))
+        .expect(&rt, "a queue");
+    let (_, _) = stand.exchange(&rt);
+    stand.expect_used(&rt, 0, (0, 16), 1);
+}
