@@ -25,7 +25,7 @@ const ROOM: Descriptor = Descriptor {
 
 // A table of two descriptors.
 const TABLE: Descriptor = Descriptor {
-    addr: 0x3000,
+    addr: 0x20000,
     len: 32,
     flags: INDIRECT,
     next: 0,
