@@ -12,22 +12,27 @@ pub data Field : Type 0 where
   big_endian : Width → ℕ → Field
   array : Width → ℕ → List ℕ → Field
 
--- fields by their widths: a byte, two, four, eight, and signed ones of four and eight
+-- fields by their widths: a byte
 abbrev pub b : ℕ → Field
 b n = unsigned w8 n
 
+-- two bytes
 abbrev pub w : ℕ → Field
 w n = unsigned w16 n
 
+-- four bytes
 abbrev pub d : ℕ → Field
 d n = unsigned w32 n
 
+-- eight bytes
 abbrev pub q : ℕ → Field
 q n = unsigned w64 n
 
+-- four bytes, signed
 abbrev pub i : ℤ → Field
 i z = signed w32 z
 
+-- eight bytes, signed
 abbrev pub l : ℤ → Field
 l z = signed w64 z
 
