@@ -1,4 +1,4 @@
-//! A bitmap of pages of 128 bytes, and steps on it of which the pass stays its own.
+//! Bitmaps, and steps on one of which the pass stays its own.
 
 ghost use Rattle.std.specs.Prelude.{◌≡◌, ◌<◌};
 ghost use Rattle.vm_atomic_bitmaps.specs.Passes.{IsPassOf};

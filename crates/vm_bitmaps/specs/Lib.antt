@@ -1,4 +1,4 @@
 pub mod Pages
 pub mod Words
 pub mod Keeps
-pub mod Slices
+pub mod OffsetBitmap

@@ -1,7 +1,7 @@
 //! A part of a bitmap's bytes (vm-memory's `BaseSlice`, `RefSlice`).
 
 ghost use Rattle.std.specs.Prelude.{◌≡◌, ◌+◌, refl};
-ghost use Rattle.vm_bitmaps.specs.Slices.{sliced_of, begin_of};
+ghost use Rattle.vm_bitmaps.specs.OffsetBitmap.{sliced_of, begin_of};
 
 use crate::bitmap::Bitmap;
 
