@@ -61,7 +61,10 @@ fn harvest_block(
 }
 
 // The marked pages of all blocks.
-fn gather(alloc: Global, host: &HostMemory<PageBitmap>) -> Result<Vec<HarvestedPage>, AllocError>
+fn copy_marked(
+    alloc: Global,
+    host: &HostMemory<PageBitmap>,
+) -> Result<Vec<HarvestedPage>, AllocError>
     ensures { IfOk result (λ pages. map page_view pages.items ≡ harvested host.now) }
 {
     let mut pages = Vec::new(alloc);
@@ -92,7 +95,7 @@ pub fn harvest(
     ensures err { OnErr result (host.new ≡ host.old) }
     ensures shape { shape host.new ≡ shape host.old }
 {
-    let pages = gather(alloc, host)?;
+    let pages = copy_marked(alloc, host)?;
     clear(host);
     Ok(pages)
 }

@@ -48,7 +48,7 @@ ReadsEnd may f rooms off total (Err e) g =
     (0 < first rooms) × (((e ≡ 5) × (2 ^ 64 ≤ off) × (g ≡ f)) ⊎ ((off < 2 ^ 64) × may f (first rooms) off (Err e) g))
 
 -- from f, the room in these segments is to be filled from a place on, and these bytes came
-pub record Gathers {F : Type 0} (may : MayRead F) (f : F) (rooms : List ℕ) (off : ℕ) (bytes : List ℕ) (answer : Result ℕ ℕ) (g : F) : Type 0 where
+pub record ReadsSegments {F : Type 0} (may : MayRead F) (f : F) (rooms : List ℕ) (off : ℕ) (bytes : List ℕ) (answer : Result ℕ ℕ) (g : F) : Type 0 where
   pub parts : List (List ℕ)
   pub mid : F
   pub whole : concat parts ≡ bytes

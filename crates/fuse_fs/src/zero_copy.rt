@@ -2,7 +2,7 @@
 
 ghost use Rattle.std.specs.Prelude.{◌≡◌, ℕ, ◌+◌, ◌≤◌, List, ◌++◌, length, take, drop, Result, Ok, Err, IfOk, IfErr, Option, option_map, vec_len, vec_capacity};
 ghost use Rattle.fuse_fs.specs.Lengths.{past, up_to};
-ghost use Rattle.fuse_fs.specs.Transfers.{bytes_answer, Gathers, Spends};
+ghost use Rattle.fuse_fs.specs.Transfers.{bytes_answer, ReadsSegments, Spends};
 
 use fuse_base::Errno;
 
@@ -73,7 +73,7 @@ pub trait ZeroCopyWriter {
     ) -> Result<usize, Errno>
         ensures { (bytes : List ℕ) × (put self.new ≡ put self.old ++ bytes) × (room self.old ≡ room self.new + length bytes)
             × (rooms self.new ≡ past (length bytes) (rooms self.old))
-            × Gathers F.read_gives file.old (up_to count (rooms self.old)) off bytes result file.new };
+            × ReadsSegments F.read_gives file.old (up_to count (rooms self.old)) off bytes result file.new };
 }
 
 impl<Inner: ZeroCopyWriter> ZeroCopyWriter for &mut Inner {

@@ -1,7 +1,7 @@
 -- A writer as what files fill.
 use Rattle.std.proofs.Common.{◌≡◌, ℕ, ◌+◌, min, List, ◌++◌, length, sum, ◌∙◌, ap, sym, arith, length-append}
 use Rattle.fuse_fs.specs.Lengths.{filled, past}
-use Rattle.fuse_fs.proofs.Gathering.{Filling, Offered, Added}
+use Rattle.fuse_fs.proofs.SegmentReads.{Filling, Offered, Added}
 use Rattle.fuse_fs.proofs.Lengths.{sum-past, filled-past, past-past}
 use Rattle.fuse_segments.specs.Views.{WriterView, rooms}
 

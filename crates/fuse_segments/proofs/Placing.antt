@@ -2,7 +2,7 @@
 use Rattle.std.proofs.Common.{◌≡◌, ℕ, ◌+◌, ◌-◌, ◌<◌, ◌≤◌, sum, List, [], ◌∷◌, ◌++◌, length, take, drop, get_or, sym, ap, ◌∙◌, arith}
 use Rattle.std.proofs.lemmas.List.{drop_more, drop_all, take_all, take_more, take-take, take-append-le, length-take-le}
 use Rattle.std.proofs.lemmas.List.Sums.{sum_by-append}
-use Rattle.fuse_segments.specs.Places.{bytes_before, IsIn}
+use Rattle.fuse_segments.specs.SegmentPlaces.{bytes_before, IsIn}
 use Rattle.fuse_fs.specs.Lengths.{filled, first, past, up_to}
 use Rattle.fuse_fs.proofs.Lengths.{past_at, past_part, past_none, up_to_at, filled-append}
 

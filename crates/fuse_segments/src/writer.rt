@@ -6,7 +6,7 @@ ghost use Rattle.std.specs.Io.{WritesAtMost};
 ghost use Rattle.std.specs.Io.KnownBytes.{Appends, WriteAppends, Keeps};
 ghost use Rattle.std.specs.IoError.{error_kind};
 ghost use Rattle.vm_values.specs.Fields.{spelled, AllFit};
-ghost use Rattle.fuse_segments.specs.Places.{bytes_before, IsIn};
+ghost use Rattle.fuse_segments.specs.SegmentPlaces.{bytes_before, IsIn};
 ghost use Rattle.fuse_fs.specs.Lengths.{filled, first, past, up_to};
 ghost use Rattle.fuse_fs.specs.Transfers.{moved, with_bytes, ReadsOnce};
 ghost use Rattle.fuse_segments.specs.Views.{rooms};
@@ -24,13 +24,13 @@ use vm_values::ByteValued;
 
 // A place in segments: one of them, and how many bytes of it are before the place.
 #[derive(Clone, Copy)]
-struct Place {
+struct SegmentPlace {
     segment: usize,
     used: usize,
 }
 
 // The place before all segments.
-const START: Place = Place {
+const START: SegmentPlace = SegmentPlace {
     segment: 0,
     used: 0,
 };
@@ -46,7 +46,7 @@ pub struct Writer {
     // How long each segment is; none is empty.
     segments: Lengths,
     // Where writing goes on.
-    place: Place,
+    place: SegmentPlace,
     rejoin: usize,
     spare: usize,
 }
@@ -56,7 +56,7 @@ impl Model for Writer {
     ghost use Rattle.smallvec.specs.SmallVec.{small_vec_len};
     ghost use Rattle.fuse_segments.specs.Views.{WriterView};
     ghost use Rattle.fuse_fs.specs.Lengths.{filled};
-    ghost use Rattle.fuse_segments.specs.Places.{bytes_before, IsIn};
+    ghost use Rattle.fuse_segments.specs.SegmentPlaces.{bytes_before, IsIn};
 
     ghost Value = { WriterView };
 
@@ -78,7 +78,7 @@ impl Model for Writer {
 }
 
 // The place so many bytes behind another one.
-fn behind(segments: &[usize], from: Place, n: usize) -> Place
+fn behind(segments: &[usize], from: SegmentPlace, n: usize) -> SegmentPlace
     requires segment { from.segment ≤ length segments.now }
     requires fits { from.used + n < 2 ^ 64 }
     ensures after { from.segment ≤ result.segment }
@@ -91,7 +91,7 @@ fn behind(segments: &[usize], from: Place, n: usize) -> Place
         used -= segments[segment];
         segment += 1;
     }
-    Place { segment, used }
+    SegmentPlace { segment, used }
 }
 
 // The sum of the lengths, where it fits.
@@ -136,13 +136,13 @@ fn filled_of(alloc: Global, lengths: &[usize]) -> Result<Lengths, Error>
 }
 
 // The segments behind a place.
-fn segments_behind(alloc: Global, segments: &[usize], place: Place) -> Result<Lengths, Error>
+fn segments_behind(alloc: Global, segments: &[usize], place: SegmentPlace) -> Result<Lengths, Error>
     requires { IsIn segments.now place.segment place.used }
     ensures ok { IfOk result (λ s. s.items ≡ past place.used (drop place.segment segments.now)) }
     ensures len { IfOk result (λ s. small_vec_len s + place.segment ≡ length segments.now) }
     ensures err { IfErr result (λ e. e ≡ Error.OutOfMemory) }
 {
-    let Place { segment, used } = place;
+    let SegmentPlace { segment, used } = place;
     let Ok(mut behind) = SmallVec::with_capacity(alloc, segments.len() - segment) else {
         return Err(Error::OutOfMemory);
     };
@@ -155,7 +155,7 @@ fn segments_behind(alloc: Global, segments: &[usize], place: Place) -> Result<Le
 }
 
 // Cuts segments off at a place.
-fn cut_off(segments: &mut Lengths, place: Place)
+fn cut_off(segments: &mut Lengths, place: SegmentPlace)
     requires inside { IsIn segments.old.items place.segment place.used }
     requires room { place.segment < segments.old.capacity }
     ensures items { segments.new.items ≡ take place.segment segments.old.items ++ filled (place.used ∷ []) }
@@ -297,7 +297,7 @@ impl Writer {
         ensures first { result ≡ first (rooms self.now) }
         ensures within { result ≤ self.now.free }
     {
-        let Place { segment, used } = self.place;
+        let SegmentPlace { segment, used } = self.place;
         if segment < self.segments.len() {
             self.segments[segment] - used
         } else {

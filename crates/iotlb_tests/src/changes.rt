@@ -4,6 +4,7 @@ use crate::given::{MappingRow, expect_found, table};
 use std::alloc::Global;
 use std::process::Abort;
 use vm_iotlb::Permissions::{self, Read, ReadWrite, Write};
+use vm_iotlb::laws::law_canonical;
 use vm_values::GuestAddress;
 
 // A look-up for reading from 0 up to 0x30 answers this after some mappings.
@@ -25,6 +26,7 @@ fn neighbours_are_one_where_they_go_on(rt: HostRuntime) {
         let mappings = [first, last, (0x10, *target, 0x10, *perm)];
         expect_after(&rt, rt.alloc(), &mappings, want);
     }
+    law_canonical();
 }
 
 #[test]

@@ -4,7 +4,7 @@ use Rattle.std.specs.Prelude.{IsTrue}
 use Rattle.std.proofs.lemmas.Bool.Decides.{nat_tests}
 use Rattle.bitflags.specs.Sets.{known_bits, known_from}
 use Rattle.fuse_base.specs.Flags.{fs_options}
-use Rattle.virtiofsd_fuse.specs.Pages.{is_page_size}
+use Rattle.virtiofsd_fuse.specs.PageSizes.{is_page_size}
 use Rattle.virtiofsd_fuse.specs.Grammar.{known_options}
 
 pub known_bits_are : known_bits fs_options ≡ known_options

@@ -16,24 +16,24 @@ use Rattle.fuse_in.specs.declared.files.ReadIn.{ReadIn}
 use Rattle.fuse_segments.specs.declared.error.Error.TheVariants.{DecodeMessage}
 use Rattle.fuse_segments.specs.declared.error.Error.{Error}
 use Rattle.virtiofsd_fuse.specs.Reading.{Faults, Reading, read_result}
-use Rattle.virtiofsd_fuse.specs.Records.{Part, u16, u32, u64, u32s, Said, size_of, numbers, said, MakesOf, size, made, record_of, reading_in_header, reading_forget_in, reading_read_in, reading_init_in_compat, reading_init_in_ext}
+use Rattle.virtiofsd_fuse.specs.Records.{RecordPart, u16, u32, u64, u32s, Said, size_of, numbers, said, MakesOf, size, made, record_of, reading_in_header, reading_forget_in, reading_read_in, reading_init_in_compat, reading_init_in_ext}
 
 -- what all parts say
-abbrev All : List Part → Type 0
+abbrev All : List RecordPart → Type 0
 All [] = Unit {0}
 All (p ∷ ps) = Said p × All ps
 
-abbrev field_of : (p : Part) → Said p → Field
+abbrev field_of : (p : RecordPart) → Said p → Field
 field_of u16 n = unsigned w16 n
 field_of u32 n = unsigned w32 n
 field_of u64 n = unsigned w64 n
 field_of (u32s k) xs = array w32 k xs
 
-abbrev fields_of : (ps : List Part) → All ps → List Field
+abbrev fields_of : (ps : List RecordPart) → All ps → List Field
 fields_of [] xs = []
 fields_of (p ∷ ps) xs = field_of p xs.0 ∷ fields_of ps xs.1
 
-abbrev taken : {R : Type 0} → (ps : List Part) → MakesOf ps R → All ps → R
+abbrev taken : {R : Type 0} → (ps : List RecordPart) → MakesOf ps R → All ps → R
 taken [] make xs = make
 taken (p ∷ ps) make xs = taken ps (make xs.0) xs.1
 
@@ -51,14 +51,14 @@ numbers_said (suc k) (x ∷ xs) l f =
     let i : numbers k (flat_map (to_le_bytes w32) xs) ≡ xs = numbers_said k xs (omega (arith, l)) (λ j h. f (suc j) (omega (arith, h))) in
     ap (λ n. n ∷ numbers k (flat_map (to_le_bytes w32) xs)) e ∙ ap (λ s. x ∷ s) i
 
-length_part : (p : Part) (x : Said p) → Fits (field_of p x) → length (field_bytes (field_of p x)) ≡ size_of p
+length_part : (p : RecordPart) (x : Said p) → Fits (field_of p x) → length (field_bytes (field_of p x)) ≡ size_of p
 unfolding field_bytes Fits
 length_part u16 x h = refl
 length_part u32 x h = refl
 length_part u64 x h = refl
 length_part (u32s k) xs h = length_numbers xs ∙ ap (λ n. n * 4) h.0
 
-part_said : (p : Part) (x : Said p) → Fits (field_of p x) → said p (field_bytes (field_of p x)) ≡ x
+part_said : (p : RecordPart) (x : Said p) → Fits (field_of p x) → said p (field_bytes (field_of p x)) ≡ x
 unfolding field_bytes Fits
 part_said u16 x h = from_le_bytes-to_le_bytes_2 x h
 part_said u32 x h = from_le_bytes-to_le_bytes_4 x h
@@ -68,7 +68,7 @@ part_said (u32s k) xs h = numbers_said k xs h.0 h.1
 first : (f : Field) (fs : List Field) → spelled (f ∷ fs) ≡ field_bytes f ++ spelled fs
 first f fs = then_is (field_bytes f) fs
 
-length_spelled : (ps : List Part) (xs : All ps) → AllFit (fields_of ps xs) → length (spelled (fields_of ps xs)) ≡ size ps
+length_spelled : (ps : List RecordPart) (xs : All ps) → AllFit (fields_of ps xs) → length (spelled (fields_of ps xs)) ≡ size ps
 length_spelled [] xs h = refl
 length_spelled (p ∷ ps) xs h =
     ap length (first (field_of p xs.0) (fields_of ps xs.1))
@@ -76,7 +76,7 @@ length_spelled (p ∷ ps) xs h =
     ∙ ap (λ n. n + length (spelled (fields_of ps xs.1))) (length_part p xs.0 h.0)
     ∙ ap (λ n. size_of p + n) (length_spelled ps xs.1 h.1)
 
-made_is : {R : Type 0} → (ps : List Part) (make : MakesOf ps R) (xs : All ps) → AllFit (fields_of ps xs) → made ps make (spelled (fields_of ps xs)) ≡ taken ps make xs
+made_is : {R : Type 0} → (ps : List RecordPart) (make : MakesOf ps R) (xs : All ps) → AllFit (fields_of ps xs) → made ps make (spelled (fields_of ps xs)) ≡ taken ps make xs
 made_is [] make xs h = refl
 made_is (p ∷ ps) make xs h =
     let f = field_bytes (field_of p xs.0) in
@@ -88,7 +88,7 @@ made_is (p ∷ ps) make xs h =
     ∙ made_is ps (make xs.0) xs.1 h.1
 
 -- a record's bytes in front
-front : {R : Type 0} → (ps : List Part) (make : MakesOf ps R) (xs : All ps) (all more : List ℕ) → all ≡ spelled (fields_of ps xs) ++ more → AllFit (fields_of ps xs) → record_of ps make all ≡ Ok (taken ps make xs, more)
+front : {R : Type 0} → (ps : List RecordPart) (make : MakesOf ps R) (xs : All ps) (all more : List ℕ) → all ≡ spelled (fields_of ps xs) ++ more → AllFit (fields_of ps xs) → record_of ps make all ≡ Ok (taken ps make xs, more)
 front ps make xs all more e h =
     let s = spelled (fields_of ps xs) in
     let l = length_spelled ps xs h in
@@ -96,7 +96,7 @@ front ps make xs all more e h =
     rw (e, le-ltb (length (s ++ more)) (size ps) enough, take_at s more (size ps) l, drop_at s more (size ps) l, made_is ps make xs h) refl
 
 -- too few bytes
-short : {R : Type 0} → (ps : List Part) (make : MakesOf ps R) (all : List ℕ) → length all < size ps → record_of ps make all ≡ Err (Faults DecodeMessage)
+short : {R : Type 0} → (ps : List RecordPart) (make : MakesOf ps R) (all : List ℕ) → length all < size ps → record_of ps make all ≡ Err (Faults DecodeMessage)
 short ps make all h = rw (lt-ltb (length all) (size ps) h) refl
 
 pub in_header_front : (x : InHeader) (all more : List ℕ) → all ≡ spelled (fields.in_header x) ++ more → AllFit (fields.in_header x) → reading_in_header all ≡ Ok (x, more)

@@ -1,6 +1,6 @@
 pub mod Examples
 pub mod Grammar
-pub mod Pages
+pub mod PageSizes
 pub mod Reading
 pub mod Records
 pub mod Serving

@@ -9,21 +9,21 @@ use Rattle.fuse_in.specs.declared.files.ReadIn.{ReadIn}
 use Rattle.virtiofsd_fuse.specs.Reading.{Reading, ◌>>=◌, give, exactly}
 
 -- a number of two, four or eight bytes, the lowest first, or n numbers of four
-pub data Part : Type 0 where
-  u16 : Part
-  u32 : Part
-  u64 : Part
-  u32s : ℕ → Part
+pub data RecordPart : Type 0 where
+  u16 : RecordPart
+  u32 : RecordPart
+  u64 : RecordPart
+  u32s : ℕ → RecordPart
 
 -- what a part says
-abbrev pub Said : Part → Type 0
+abbrev pub Said : RecordPart → Type 0
 Said u16 = ℕ
 Said u32 = ℕ
 Said u64 = ℕ
 Said (u32s n) = List ℕ
 
 -- how many bytes it has
-abbrev pub size_of : Part → ℕ
+abbrev pub size_of : RecordPart → ℕ
 size_of u16 = 2
 size_of u32 = 4
 size_of u64 = 8
@@ -35,29 +35,29 @@ numbers zero bytes = []
 numbers (suc n) bytes = from_le_bytes w32 (take 4 bytes) ∷ numbers n (drop 4 bytes)
 
 -- what these bytes say of a part
-abbrev pub said : (p : Part) → List ℕ → Said p
+abbrev pub said : (p : RecordPart) → List ℕ → Said p
 said u16 bytes = from_le_bytes w16 bytes
 said u32 bytes = from_le_bytes w32 bytes
 said u64 bytes = from_le_bytes w64 bytes
 said (u32s n) bytes = numbers n bytes
 
 -- a function of what the parts say, in their order
-abbrev pub MakesOf : List Part → Type 0 → Type 0
+abbrev pub MakesOf : List RecordPart → Type 0 → Type 0
 MakesOf [] R = R
 MakesOf (p ∷ ps) R = Said p → MakesOf ps R
 
 -- how many bytes the parts have, without gaps
-abbrev pub size : List Part → ℕ
+abbrev pub size : List RecordPart → ℕ
 size [] = 0
 size (p ∷ ps) = size_of p + size ps
 
 -- what is made of bytes, part by part
-abbrev pub made : {R : Type 0} → (ps : List Part) → MakesOf ps R → List ℕ → R
+abbrev pub made : {R : Type 0} → (ps : List RecordPart) → MakesOf ps R → List ℕ → R
 made [] make bytes = make
 made (p ∷ ps) make bytes = made ps (make (said p (take (size_of p) bytes))) (drop (size_of p) bytes)
 
 -- a record of these parts
-abbrev pub record_of : {R : Type 0} → (ps : List Part) → MakesOf ps R → Reading R
+abbrev pub record_of : {R : Type 0} → (ps : List RecordPart) → MakesOf ps R → Reading R
 record_of ps make = exactly (size ps) >>= λ bytes. give (made ps make bytes)
 
 -- struct fuse_in_header

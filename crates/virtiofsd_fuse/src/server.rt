@@ -2,7 +2,7 @@
 
 ghost use Rattle.std.specs.Prelude.{◌≡◌, ◌<◌, ◌≤◌, ◌^◌, [], length, IfOk, OnOk, IsTrue};
 ghost use Rattle.fuse_wire.specs.Opcodes.{opcode_of};
-ghost use Rattle.virtiofsd_fuse.specs.Pages.{is_page_size};
+ghost use Rattle.virtiofsd_fuse.specs.PageSizes.{is_page_size};
 ghost use Rattle.virtiofsd_fuse.specs.Grammar.{given, meant, meaning};
 
 use crate::records::read_in_header;

@@ -5,7 +5,7 @@ ghost use Rattle.vm_values.specs.Fields.{spelled};
 ghost use Rattle.fuse_wire.specs.Records.{init_out};
 ghost use Rattle.fuse_fs.specs.Answers.{options_answer};
 ghost use Rattle.fuse_fs.specs.Calls.{suits, Init};
-ghost use Rattle.virtiofsd_fuse.specs.Pages.{is_page_size};
+ghost use Rattle.virtiofsd_fuse.specs.PageSizes.{is_page_size};
 ghost use Rattle.virtiofsd_fuse.specs.Reading.{read_result};
 ghost use Rattle.virtiofsd_fuse.specs.Grammar.{init_row, flags2_of, started, versions_bytes, known_options};
 ghost use Rattle.virtiofsd_fuse.specs.Serving.{RowHandles, agreed, started_bytes};

@@ -13,7 +13,7 @@ use Rattle.vm_iotlb.specs.declared.iova.IovaRange.{IovaRange}
 use Rattle.vm_iotlb.specs.Table.{Mapping, Table, allows}
 use Rattle.vm_iotlb.specs.Ranges.{mapping_in, table_kept, AreRanges, EndsAbove, Agree}
 use Rattle.vm_iotlb.specs.Pieces.{Cover, pieces_in}
-use Rattle.vm_iotlb.specs.Runs.{may_pass, target_of, may_all, go_together, run_of, led_by, runs, missing, lacking, piece_of, pieces, addresses_joined, targets, between}
+use Rattle.vm_iotlb.specs.AddressRuns.{may_pass, target_of, may_all, go_together, run_of, led_by, runs, missing, lacking, piece_of, pieces, addresses_joined, targets, between}
 use Rattle.vm_iotlb.proofs.RangeLemmas.{table_before, table_in}
 use Rattle.vm_iotlb.proofs.RunLemmas.{runs_one, runs_more, gap_run, range_run, agree_rest, missing_run, missing_skip, lacking_run, lacking_skip, lacking_gap, pieces_run, nothing_left, may_stop, may_range}
 

@@ -8,7 +8,7 @@ use Rattle.vm_iotlb.specs.declared.range.IotlbRange.{IotlbRange}
 use Rattle.vm_iotlb.specs.declared.iova.IovaRange.{IovaRange}
 use Rattle.vm_iotlb.specs.Table.{Mapping, Table, allows}
 use Rattle.vm_iotlb.specs.Ranges.{has, mapping_in, table_kept, AreRanges, Agree}
-use Rattle.vm_iotlb.specs.Runs.{may_pass, may_all, go_together, run_of, runs, missing, lacking, pieces}
+use Rattle.vm_iotlb.specs.AddressRuns.{may_pass, may_all, go_together, run_of, runs, missing, lacking, pieces}
 use Rattle.vm_iotlb.proofs.RangeLemmas.{has_in, table_before, table_in, table_out}
 
 -- ---- runs of any table

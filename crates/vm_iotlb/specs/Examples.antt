@@ -3,7 +3,7 @@ use Rattle.std.specs.Prelude.{◌≡◌, ℕ, true, false, List, [], ◌∷◌, 
 use Rattle.vm_iotlb.specs.declared.permissions.Permissions.TheVariants.{Read, Write, ReadWrite}
 use Rattle.vm_iotlb.specs.declared.iova.MappedRange.{MappedRange}
 use Rattle.vm_iotlb.specs.Table.{Table, nothing_mapped, mapped, unmapped}
-use Rattle.vm_iotlb.specs.Runs.{run_of, runs, pieces, missing, lacking, may_all}
+use Rattle.vm_iotlb.specs.AddressRuns.{run_of, runs, pieces, missing, lacking, may_all}
 
 -- the table of these examples
 abbrev table : Table

@@ -1,6 +1,6 @@
 pub mod Table
 pub mod Ranges
-pub mod Runs
+pub mod AddressRuns
 pub mod Pieces
 pub mod Changes
 pub mod Numbers

@@ -3,7 +3,7 @@
 ghost use Rattle.std.specs.Prelude.{◌≡◌, ℕ, ◌≤◌, []};
 ghost use Rattle.vm_iotlb.specs.Changes.{InvalidatesMapping, SetsMapping};
 ghost use Rattle.vm_iotlb.specs.Ranges.{AreRanges, EndsAbove, table_kept};
-ghost use Rattle.vm_iotlb.specs.Runs.{LooksUp};
+ghost use Rattle.vm_iotlb.specs.AddressRuns.{LooksUp};
 
 use crate::error::IommuError;
 use crate::lookup::{IotlbIterator, LookupError, fails_among, is_covered, misses_whole};

@@ -5,7 +5,7 @@ ghost use Rattle.std.specs.Iterator.{at_most};
 ghost use Rattle.vm_iotlb.specs.Ranges.{Agree, AreRanges, EndsAbove};
 ghost use Rattle.vm_iotlb.specs.Table.{Table};
 ghost use Rattle.vm_iotlb.specs.Pieces.{Cover, pieces_in};
-ghost use Rattle.vm_iotlb.specs.Runs.{IsMissedWhole, between, lacking, may_all, missing, run_of};
+ghost use Rattle.vm_iotlb.specs.AddressRuns.{IsMissedWhole, between, lacking, may_all, missing, run_of};
 
 use crate::iova::{IovaRange, MappedRange};
 use crate::permissions::Permissions;

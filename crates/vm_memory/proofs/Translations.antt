@@ -5,7 +5,7 @@ use Rattle.vm_iotlb.specs.declared.range.IotlbRange.{IotlbRange}
 use Rattle.vm_iotlb.specs.declared.iova.MappedRange.{MappedRange}
 use Rattle.vm_iotlb.specs.declared.permissions.Permissions.{Permissions}
 use Rattle.vm_iotlb.specs.Ranges.{table_kept}
-use Rattle.vm_iotlb.specs.Runs.{may_all, pieces, runs}
+use Rattle.vm_iotlb.specs.AddressRuns.{may_all, pieces, runs}
 use Rattle.vm_iotlb.specs.Table.{Table}
 use Rattle.vm_memory.specs.Translating.{Translates}
 

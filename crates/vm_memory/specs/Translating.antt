@@ -5,7 +5,7 @@ use Rattle.vm_iotlb.specs.declared.iova.MappedRange.{MappedRange}
 use Rattle.vm_iotlb.specs.declared.error.IommuError.{IommuError}
 use Rattle.vm_iotlb.specs.declared.error.IommuError.TheVariants.{CannotResolve, Fragmented, IommuMisconfigured, OutOfMemory}
 use Rattle.vm_iotlb.specs.Table.{Table}
-use Rattle.vm_iotlb.specs.Runs.{addresses_joined, may_all, pieces, run_of, targets}
+use Rattle.vm_iotlb.specs.AddressRuns.{addresses_joined, may_all, pieces, run_of, targets}
 
 -- n addresses from iova on can't be translated: their end doesn't fit 64 bits, or an access may not go through each of them
 abbrev pub CannotTranslate : Table → (iova n : ℕ) → Permissions → Type 0

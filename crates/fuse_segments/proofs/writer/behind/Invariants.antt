@@ -1,5 +1,5 @@
 use Rattle.std.proofs.Common.{◌≡◌, ◌-◌, ◌≤◌, length}
-use Rattle.fuse_segments.specs.Places.{bytes_before}
+use Rattle.fuse_segments.specs.SegmentPlaces.{bytes_before}
 use Rattle.fuse_segments.proofs.writer.behind.Given as goal
 
 abbrev pub invariant-loop-segment : goal.invariant-loop-segment

@@ -3,7 +3,7 @@ use Rattle.vm_iotlb.specs.declared.permissions.Permissions.TheVariants.{No}
 use Rattle.vm_iotlb.specs.declared.range.IotlbRange.{IotlbRange}
 use Rattle.vm_iotlb.specs.declared.iova.IovaRange.{IovaRange}
 use Rattle.vm_iotlb.specs.Ranges.{AreRanges, Agree, EndsAbove}
-use Rattle.vm_iotlb.specs.Runs.{between, lacking, missing}
+use Rattle.vm_iotlb.specs.AddressRuns.{between, lacking, missing}
 use Rattle.vm_iotlb.proofs.RangeLemmas.{ranges_drop}
 use Rattle.vm_iotlb.proofs.RunLemmas.{agree_rest, nothing_left}
 use Rattle.vm_iotlb.proofs.PieceLemmas.{above_rest, drop_more, drop_past, fails_step, fails_end, pushed, all_done}

@@ -3,7 +3,7 @@ use Rattle.vm_iotlb.specs.declared.permissions.Permissions.TheVariants.{No}
 use Rattle.vm_iotlb.specs.declared.range.IotlbRange.{IotlbRange}
 use Rattle.vm_iotlb.specs.Table.{allows}
 use Rattle.vm_iotlb.specs.Ranges.{AreRanges, Agree, EndsAbove}
-use Rattle.vm_iotlb.specs.Runs.{may_pass}
+use Rattle.vm_iotlb.specs.AddressRuns.{may_pass}
 use Rattle.vm_iotlb.proofs.RangeLemmas.{ranges_drop, table_before, table_in}
 use Rattle.vm_iotlb.proofs.RunLemmas.{agree_rest, nothing_left, may_stop, may_range}
 use Rattle.vm_iotlb.proofs.PieceLemmas.{above_rest, covered_end, drop_more, drop_past}

@@ -1,7 +1,7 @@
 use Rattle.std.proofs.Common.{◌≡◌, ◌≤◌, ◌-◌, drop}
 use Rattle.vm_iotlb.specs.Table.{Table}
 use Rattle.vm_iotlb.specs.Ranges.{Agree, EndsAbove}
-use Rattle.vm_iotlb.specs.Runs.{may_all}
+use Rattle.vm_iotlb.specs.AddressRuns.{may_all}
 use Rattle.vm_iotlb.proofs.lookup.is_covered.Given as goal
 
 abbrev pub invariant-loop-range : goal.invariant-loop-range

@@ -1,7 +1,7 @@
 use Rattle.std.proofs.Common.{◌≡◌, ◌+◌, ◌++◌, length, sum, vec_len, arith, sym, ap, ◌∙◌}
 use Rattle.std.proofs.lemmas.Grind.{common_steps}
 use Rattle.fuse_fs.specs.Lengths.{filled}
-use Rattle.fuse_segments.specs.Places.{bytes_before}
+use Rattle.fuse_segments.specs.SegmentPlaces.{bytes_before}
 use Rattle.fuse_segments.specs.Views.{WriterView}
 use Rattle.fuse_fs.proofs.Lengths.{filled-append}
 use Rattle.fuse_segments.proofs.Placing.{joined_before, sum-append}

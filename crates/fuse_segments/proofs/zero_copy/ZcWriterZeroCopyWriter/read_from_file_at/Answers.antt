@@ -1,5 +1,5 @@
 use Rattle.std.proofs.Common.{◌≡◌, Err, arith, rules}
-use Rattle.fuse_fs.proofs.Gathering.{Offered, so_far_none, so_far_whole, so_far_past, so_far_stops, so_far_goes, so_far_fails}
+use Rattle.fuse_fs.proofs.SegmentReads.{Offered, so_far_none, so_far_whole, so_far_past, so_far_stops, so_far_goes, so_far_fails}
 use Rattle.fuse_segments.proofs.Fillings.{filling, offered, added}
 use Rattle.fuse_segments.proofs.zero_copy.ZcWriterZeroCopyWriter.read_from_file_at.Goals as goal
 

@@ -1,5 +1,5 @@
 use Rattle.std.proofs.Common.{◌-◌}
-use Rattle.fuse_fs.proofs.Gathering.{Offered, SoFar}
+use Rattle.fuse_fs.proofs.SegmentReads.{Offered, SoFar}
 use Rattle.fuse_segments.proofs.Fillings.{filling}
 use Rattle.fuse_segments.proofs.zero_copy.ZcWriterZeroCopyWriter.read_from_file_at.Given as goal
 

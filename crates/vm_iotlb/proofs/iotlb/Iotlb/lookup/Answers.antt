@@ -1,6 +1,6 @@
 use Rattle.std.proofs.Common.{◌≡◌, true, ◌-◌, ◌≤◌, sym, ◌∙◌, arith}
 use Rattle.vm_iotlb.specs.Ranges.{table_kept, Agree}
-use Rattle.vm_iotlb.specs.Runs.{may_all, pieces}
+use Rattle.vm_iotlb.specs.AddressRuns.{may_all, pieces}
 use Rattle.vm_iotlb.proofs.PieceLemmas.{cover, pieces_cover, joined_pieces}
 use Rattle.vm_iotlb.proofs.iotlb.Iotlb.lookup.Goals as goal
 

@@ -4,7 +4,7 @@ use Rattle.std.specs.List.{concat}
 use Rattle.std.proofs.lemmas.List.{append-nil, nil_from_length}
 use Rattle.std.proofs.lemmas.List.Folds.{concat-append}
 use Rattle.fuse_fs.specs.Lengths.{filled, first, past, up_to}
-use Rattle.fuse_fs.specs.Transfers.{MayRead, moved, ReadsOnce, ReadsOn, ReadsEnd, Gathers}
+use Rattle.fuse_fs.specs.Transfers.{MayRead, moved, ReadsOnce, ReadsOn, ReadsEnd, ReadsSegments}
 use Rattle.fuse_fs.proofs.Lengths.{sum-past, past_zero_of, past-past, past-up_to, first-up_to, filled-past, filled-up_to, up_to_min, first_some}
 
 -- a writer, by what was put in, how many bytes more there is room for, and in which segments that is
@@ -57,7 +57,7 @@ module _ {F : Type 0} (may : MayRead F) where
   abbrev pub Filled : F → Filling → (count off : ℕ) → Result ℕ ℕ → Filling → F → Type 0
   Filled f before count off answer now g =
       (bytes : List ℕ) × (now.put ≡ before.put ++ bytes) × (before.room ≡ now.room + length bytes) × (now.rooms ≡ past (length bytes) before.rooms)
-      × Gathers may f (up_to count before.rooms) off bytes answer g
+      × ReadsSegments may f (up_to count before.rooms) off bytes answer g
 
   pub so_far_none : (f : F) (before : Filling) (count most off : ℕ) → Offered before count most → SoFar f before most off 0 before f
   so_far_none f before count most off t =
@@ -73,7 +73,7 @@ module _ {F : Type 0} (may : MayRead F) where
   so_far_ends f before count most off done now new g answer h t s ep er es ends =
       let limit : most ≡ min count (sum before.rooms) = omega (arith, t.limit, t.all) in
       let rooms : up_to most before.rooms ≡ up_to count before.rooms = ap (λ i. up_to i before.rooms) limit ∙ up_to_min count before.rooms t.some in
-      let gathers : Gathers may f (up_to most before.rooms) off (concat s.parts) answer h =
+      let gathers : ReadsSegments may f (up_to most before.rooms) off (concat s.parts) answer h =
       record { parts = s.parts; mid = g; whole = refl; reads = s.reads; ends = rw s.count ends }
       in (
         concat s.parts,

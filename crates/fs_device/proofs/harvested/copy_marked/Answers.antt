@@ -2,8 +2,8 @@ use Rattle.std.proofs.Common.{arith, map}
 use Rattle.vm_memory_core.specs.Host.{Block}
 use Rattle.fs_device.specs.DeviceView.{page_view}
 use Rattle.fs_device.proofs.HarvestLemmas.{no_block, block_next, blocks_done, not_none}
-use Rattle.fs_device.proofs.harvested.gather.Goals as goal
-use Rattle.fs_device.proofs.harvested.gather.Goals.{in-Some+in_ok-harvest_block, in_default}
+use Rattle.fs_device.proofs.harvested.copy_marked.Goals as goal
+use Rattle.fs_device.proofs.harvested.copy_marked.Goals.{in-Some+in_ok-harvest_block, in_default}
 
 pub loop-block-preserved : goal.loop-block-preserved
 loop-block-preserved c =
