@@ -1,1 +1,2 @@
+pub mod ForgetLemmas
 pub mod LogLemmas

@@ -12,8 +12,7 @@ use Rattle.fs_queue.specs.Queue.{Queue}
 use Rattle.fs_queue.specs.Taking.{Offer, Asks, CannotAsk, Refuses, Offers}
 use Rattle.fs_queue.specs.Taking as taking
 use Rattle.fuse_fs.specs.Calls.{FileCall, FileAnswer, FileRun}
-use Rattle.virtiofsd_fuse.specs.Grammar.{Meaning, IsFault, Replies, IsSilent, One, Starts, meaning}
-use Rattle.virtiofsd_fuse.specs.Grammar as grammar
+use Rattle.virtiofsd_fuse.specs.Grammar.{meaning}
 use Rattle.fuse_segments.specs.declared.error.Error.{Error}
 use Rattle.virtiofsd_fuse.specs.Serving.{May, Served, Setting, served, setting, replied}
 use Rattle.fs_device.specs.declared.error.DeviceError.{DeviceError}
@@ -25,7 +24,7 @@ use Rattle.fs_device.specs.Run as run
 use Rattle.fs_device.specs.Run.{Command, Answer, Effect, KickEnds, KickRun, Kicks, Kicked, Does, Performs, Run, effect, insert, insert_block, is_known, some_overlap, reset}
 use Rattle.call_log.specs.declared.log.LoggedCall.{LoggedCall}
 use Rattle.call_log.specs.Log.{entry_of, kept, with_calls}
-use Rattle.call_log.specs.Runs.{calls_meant, entries_of, EachSuits, IsAnswered, WritesDown, IsLoggedBy, AreLoggedBy, exchanges_in, Grows}
+use Rattle.call_log.specs.Runs.{entries_of, EachSuits, IsAnswered, WritesDown, IsLoggedBy, AreLoggedBy, exchanges_in, Grows}
 
 -- ---- logs
 
@@ -38,24 +37,6 @@ unfolding AreLoggedBy
 logged-append [] ys front back none more = subst (AreLoggedBy ys) (sym (ap (λ (l : List LoggedCall). l ++ back) none)) more
 logged-append (x ∷ xs) ys front back (own, rest, is, more, all) behind =
     (own, rest ++ back, is, logged-append xs ys rest back more behind, ap (λ (l : List LoggedCall). l ++ back) all ∙ append_assoc own rest back)
-
--- ---- what the server asks
-
-either : (b : Bool) (x y : Served) (calls : List FileCall) → x.calls ≡ calls → y.calls ≡ calls → (if b then x else y).calls ≡ calls
-either true x y calls p q = p
-either false x y calls p q = q
-
-replied_calls : (room : ℕ) (calls : List FileCall) (options : ℕ) (bytes : List ℕ) → (replied room calls options bytes).calls ≡ calls
-replied_calls room calls options bytes = either (nat_lt room (length bytes)) _ _ calls refl refl
-
-served_calls : (s : Setting) (m : Meaning) (answers : List FileAnswer) → (served s m answers).calls ≡ calls_meant m
-served_calls s (IsFault fault) answers = refl
-served_calls s (Replies bytes) answers = replied_calls s.room [] s.options bytes
-served_calls s IsSilent answers = refl
-served_calls s (grammar.Asks (One unique call)) [] = refl
-served_calls s (grammar.Asks (One unique call)) (answer ∷ answers) = replied_calls s.room (call ∷ []) _ _
-served_calls s (grammar.Asks (Starts unique capable readahead)) [] = refl
-served_calls s (grammar.Asks (Starts unique capable readahead)) (answer ∷ answers) = replied_calls s.room _ _ _
 
 -- ---- a file system that keeps a log
 
@@ -102,10 +83,8 @@ taken_logged may log keeps s i q (Offers head (Asks request room)) calls x notic
     let set = setting s.page_size s.options (length room) in
     let same_head : x.head ≡ head = ap (λ (e : Exchange). e.head) r.returns.exchange in
     let same : x.request ≡ request = ap (λ (e : Exchange). e.request) r.returns.exchange in
-    let asked : r.given.calls ≡ calls_meant (meaning s.options request (length room)) =
-    ap (λ (g : Served). g.calls) r.serves.gives ∙ served_calls set (meaning s.options request (length room)) _ in
-    let own : map (λ (step : FileCall × FileAnswer). step.0) calls ≡ calls_meant (meaning s.options x.request (length room)) =
-    sym r.serves.asks ∙ asked ∙ ap (λ (bytes : List ℕ). calls_meant (meaning s.options bytes (length room))) (sym same) in
+    let own : (served set (meaning s.options x.request (length room)) answers).calls ≡ map (λ (step : FileCall × FileAnswer). step.0) calls =
+    ap (λ (bytes : List ℕ). (served set (meaning s.options bytes (length room)) answers).calls) same ∙ ap (λ (g : Served). g.calls) (sym r.serves.gives) ∙ r.serves.asks in
     let told : x ≡ served_exchange head request (served set (meaning s.options request (length room)) answers) =
     r.returns.exchange ∙ ap (λ (g : Served). served_exchange head request g) r.serves.gives in
     let is : x ≡ served_exchange x.head x.request (served set (meaning s.options x.request (length room)) answers) =

@@ -1,15 +1,17 @@
 -- What the file system writes down, and what it may answer.
-use Rattle.std.specs.Prelude.{◌≡◌, nat_lt, List, [], ◌∷◌, ◌++◌, length, if◌then◌else◌}
-use Rattle.fuse_fs.specs.Calls.{FileCall, FileAnswer, Init, Lookup, Forget, Read, HasEntry, Failed, Wants}
+use Rattle.std.specs.Prelude.{◌≡◌, nat_lt, List, [], ◌∷◌, ◌++◌, length, map, None, if◌then◌else◌}
+use Rattle.fuse_fs.specs.Answers.{default_stats}
+use Rattle.fuse_fs.specs.Calls.{FileCall, FileAnswer, Init, Destroy, Lookup, Forget, BatchForget, Open, Opendir, Read, Statfs, Done, HasEntry, Opened, Stats, Failed, Wants}
 use Rattle.call_log.specs.declared.files.CallLog.{CallLog}
 use Rattle.call_log.specs.declared.log.LoggedCall.{LoggedCall}
 use Rattle.call_log.specs.declared.log.LoggedCall.TheVariants as log
 
--- a call as it is written down; no other kind is made so far
+-- a call as it is written down, a list of nodes to be forgotten node by node; other calls leave nothing
 abbrev pub entry_of : FileCall → List LoggedCall
 entry_of (Init capable) = log.Init ∷ []
 entry_of (Lookup who parent name) = log.Lookup parent ∷ []
 entry_of (Forget who node count) = log.Forget node count ∷ []
+entry_of (BatchForget who counts) = map (λ node. log.Forget node.0 node.1) counts
 entry_of (Read who node handle room size offset owner flags) = log.Read node ∷ []
 entry_of _ = []
 
@@ -22,14 +24,22 @@ abbrev pub with_calls : List LoggedCall → List LoggedCall → List LoggedCall
 with_calls calls [] = calls
 with_calls calls (call ∷ more) = with_calls (kept calls call) more
 
--- what a call may be answered: a look-up finds node 2, or nothing (ENOENT); nothing is wanted of `init`
+-- what a call may be answered: a look-up finds node 2, or nothing (ENOENT); nothing is wanted of `init`; what isn't served
+-- has its default, which mostly is that there is no such call (ENOSYS)
 abbrev pub MayAnswer : FileCall → FileAnswer → Type 0
 MayAnswer (Init capable) (Wants options) = options ≡ 0
 MayAnswer (Init capable) _ = ⊥
 MayAnswer (Lookup who parent name) (HasEntry entry) = entry.inode ≡ 2
 MayAnswer (Lookup who parent name) (Failed errno) = errno ≡ 2
 MayAnswer (Lookup who parent name) _ = ⊥
-MayAnswer _ _ = Unit {0}
+MayAnswer (Read who node handle room size offset owner flags) _ = Unit {0}
+MayAnswer (Forget who node count) answer = answer ≡ Done
+MayAnswer (BatchForget who counts) answer = answer ≡ Done
+MayAnswer Destroy answer = answer ≡ Done
+MayAnswer (Open who node kill flags) answer = answer ≡ Opened None 0
+MayAnswer (Opendir who node flags) answer = answer ≡ Opened None 0
+MayAnswer (Statfs who node) answer = answer ≡ Stats default_stats
+MayAnswer _ answer = answer ≡ Failed 38
 
 -- each call grows the log by itself, and has one of the answers that it may have
 abbrev pub MayLog : CallLog → FileCall → FileAnswer → CallLog → Type 0

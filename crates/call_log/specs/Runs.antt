@@ -1,7 +1,7 @@
--- What a whole run writes down: the calls that the exchanged requests mean.
+-- What a whole run writes down: the calls of INIT, LOOKUP, FORGET, BATCH_FORGET and READ that the exchanged requests mean.
 use Rattle.std.specs.Prelude.{◌≡◌, IsTrue, List, [], ◌∷◌, ◌++◌, map, flat_map, Option, Some, None}
-use Rattle.fuse_fs.specs.Calls.{FileCall, Init, suits}
-use Rattle.virtiofsd_fuse.specs.Grammar.{Meaning, IsFault, Replies, IsSilent, Asks, One, Starts, meaning}
+use Rattle.fuse_fs.specs.Calls.{FileCall, suits}
+use Rattle.virtiofsd_fuse.specs.Grammar.{meaning}
 use Rattle.virtiofsd_fuse.specs.Serving.{Setting, served}
 use Rattle.fs_device.specs.declared.exchange.Fault.{Fault}
 use Rattle.fs_device.specs.declared.exchange.Fault.TheVariants as fault
@@ -9,14 +9,6 @@ use Rattle.fs_device.specs.Step.{Calls, Exchange, served_exchange}
 use Rattle.fs_device.specs.Run.{Answer, Done, Bytes, NewBlockIs, Served, IsRefused}
 use Rattle.call_log.specs.declared.log.LoggedCall.{LoggedCall}
 use Rattle.call_log.specs.Log.{entry_of, with_calls}
-
--- the calls of a meaning, whatever they are answered
-abbrev pub calls_meant : Meaning → List FileCall
-calls_meant (IsFault fault) = []
-calls_meant (Replies bytes) = []
-calls_meant IsSilent = []
-calls_meant (Asks (One unique call)) = call ∷ []
-calls_meant (Asks (Starts unique capable readahead)) = Init capable ∷ []
 
 -- what calls write down, one after another
 abbrev pub entries_of : List FileCall → List LoggedCall
@@ -27,10 +19,11 @@ abbrev pub EachSuits : Calls → Type 0
 EachSuits [] = Unit {0}
 EachSuits (step ∷ steps) = IsTrue (suits step.0 step.1) × EachSuits steps
 
--- what a request writes down that was answered so: the calls that it means in some setting, whose answers make this exchange
+-- what a request writes down that was answered so: the calls that it asks in some setting, each by the answers before it, which make
+-- this exchange
 abbrev pub IsAnswered : Exchange → List LoggedCall → Type 0
 IsAnswered x entries = (s : Setting) × (steps : Calls) × EachSuits steps
-    × (map (λ step. step.0) steps ≡ calls_meant (meaning s.options x.request s.room))
+    × ((served s (meaning s.options x.request s.room) (map (λ step. step.1) steps)).calls ≡ map (λ step. step.0) steps)
     × (x ≡ served_exchange x.head x.request (served s (meaning s.options x.request s.room) (map (λ step. step.1) steps)))
     × (entries ≡ entries_of (map (λ step. step.0) steps))
 

@@ -1,13 +1,20 @@
 //! The file system: two files that never change, and a log that grows by each call.
 
-ghost use Rattle.std.specs.Prelude.{◌≡◌, ⊤, [], ◌∷◌};
+ghost use Rattle.std.specs.Prelude.{◌≡◌, ⊤, [], ◌∷◌, option_map};
+ghost use Rattle.fuse_fs.specs.Answers.{attr_answer, pair_numbers};
+ghost use Rattle.fuse_fs.specs.Calls as call;
 ghost use Rattle.call_log.specs.Log.{MayLog, kept};
 
 use crate::log::{LoggedCall, MOST_CALLS};
 use arrayvec::ArrayVec;
 use bitflags::Flags;
-use fuse_fs::{Context, Entry, FileSystem, PositionedFile, Timeout, WritevFlags, ZeroCopyWriter};
-use fuse_wire::{Attr, Errno, FsOptions};
+use fuse_fs::{
+    Context, Entry, Extensions, FileSystem, FileSystemBase, GetxattrReply, ListxattrReply,
+    NoEntries, PositionedFile, Timeout, WritevFlags, ZeroCopyReader, ZeroCopyWriter, defaults,
+};
+use fuse_wire::{
+    Attr, Errno, FsOptions, OpenOptions, SetattrIn, SetattrValid, SetxattrFlags, StatVfs,
+};
 
 /// The node of the file `a`, which is `hello`.
 pub const HELLO: u64 = 2;
@@ -55,7 +62,7 @@ impl PositionedFile for Contents {
     }
 }
 
-/// A file system whose state is the log of its calls. A look-up of `a` in node 1 may find node 2, and any may find nothing.
+/// A file system whose state is the log of its calls of five kinds: INIT, LOOKUP, FORGET, lists of nodes to forget, and READ. A look-up of `a` in node 1 may find node 2, and any may find nothing.
 #[derive(Drop)]
 pub struct CallLog {
     calls: ArrayVec<LoggedCall, MOST_CALLS>,
@@ -71,7 +78,7 @@ impl CallLog {
         }
     }
 
-    /// The calls that were made, in order.
+    /// The calls of these kinds that were made, in order.
     pub fn calls(&self) -> &[LoggedCall]
         ensures { result.now ≡ self.now.calls.items }
     {
@@ -88,12 +95,20 @@ impl CallLog {
     }
 }
 
-impl FileSystem for CallLog {
+impl FileSystemBase for CallLog {
     type Inode = u64;
 
     type Handle = u64;
 
     ghost may = { MayLog };
+
+    fn forget(&mut self, _ctx: Context, inode: u64, count: u64) {
+        self.note(LoggedCall::Forget { node: inode, count });
+    }
+}
+
+impl FileSystem for CallLog {
+    type DirIter = NoEntries;
 
     fn init(&mut self, _capable: FsOptions) -> Result<FsOptions, Errno> {
         self.note(LoggedCall::Init);
@@ -115,10 +130,6 @@ impl FileSystem for CallLog {
         })
     }
 
-    fn forget(&mut self, _ctx: Context, inode: u64, count: u64) {
-        self.note(LoggedCall::Forget { node: inode, count });
-    }
-
     fn read<W: ZeroCopyWriter>(
         &mut self,
         _ctx: Context,
@@ -132,5 +143,339 @@ impl FileSystem for CallLog {
     ) -> Result<usize, Errno> {
         self.note(LoggedCall::Read { node: inode });
         w.read_from_file_at(&mut Contents { node: inode }, size as usize, offset)
+    }
+
+    fn destroy(&mut self) {
+        defaults::destroy(self);
+    }
+
+    fn batch_forget(&mut self, ctx: Context, requests: Vec<(u64, u64)>)
+        ensures may { MayLog self.old (call.BatchForget ctx (pair_numbers (λ n. n) requests.items)) call.Done self.new }
+    {
+        defaults::batch_forget(self, ctx, requests);
+    }
+
+    fn getattr(
+        &mut self,
+        _ctx: Context,
+        _inode: u64,
+        _handle: Option<u64>,
+    ) -> Result<(Attr, Timeout), Errno>
+        ensures may { MayLog self.old (call.Getattr _ctx _inode (option_map (λ n. n) _handle)) (attr_answer result) self.new }
+    {
+        defaults::getattr()
+    }
+
+    fn setattr(
+        &mut self,
+        _ctx: Context,
+        _inode: u64,
+        _attr: SetattrIn,
+        _handle: Option<u64>,
+        _valid: SetattrValid,
+    ) -> Result<(Attr, Timeout), Errno>
+        ensures may { MayLog self.old (call.Setattr _ctx _inode _attr (option_map (λ n. n) _handle) _valid.0) (attr_answer result) self.new }
+    {
+        defaults::setattr()
+    }
+
+    fn readlink(&mut self, _ctx: Context, _inode: u64) -> Result<Vec<u8>, Errno> {
+        defaults::readlink()
+    }
+
+    fn symlink(
+        &mut self,
+        _ctx: Context,
+        _linkname: &[u8],
+        _parent: u64,
+        _name: &[u8],
+        _extensions: Extensions,
+    ) -> Result<Entry<u64>, Errno> {
+        defaults::symlink()
+    }
+
+    fn mknod(
+        &mut self,
+        _ctx: Context,
+        _parent: u64,
+        _name: &[u8],
+        _mode: u32,
+        _rdev: u32,
+        _umask: u32,
+        _extensions: Extensions,
+    ) -> Result<Entry<u64>, Errno> {
+        defaults::mknod()
+    }
+
+    fn mkdir(
+        &mut self,
+        _ctx: Context,
+        _parent: u64,
+        _name: &[u8],
+        _mode: u32,
+        _umask: u32,
+        _extensions: Extensions,
+    ) -> Result<Entry<u64>, Errno> {
+        defaults::mkdir()
+    }
+
+    fn unlink(&mut self, _ctx: Context, _parent: u64, _name: &[u8]) -> Result<(), Errno> {
+        defaults::unlink()
+    }
+
+    fn rmdir(&mut self, _ctx: Context, _parent: u64, _name: &[u8]) -> Result<(), Errno> {
+        defaults::rmdir()
+    }
+
+    fn rename(
+        &mut self,
+        _ctx: Context,
+        _olddir: u64,
+        _oldname: &[u8],
+        _newdir: u64,
+        _newname: &[u8],
+        _flags: u32,
+    ) -> Result<(), Errno> {
+        defaults::rename()
+    }
+
+    fn link(
+        &mut self,
+        _ctx: Context,
+        _inode: u64,
+        _newparent: u64,
+        _newname: &[u8],
+    ) -> Result<Entry<u64>, Errno> {
+        defaults::link()
+    }
+
+    fn open(
+        &mut self,
+        _ctx: Context,
+        _inode: u64,
+        _kill_priv: bool,
+        _flags: u32,
+    ) -> Result<(Option<u64>, OpenOptions), Errno> {
+        defaults::open()
+    }
+
+    fn create(
+        &mut self,
+        _ctx: Context,
+        _parent: u64,
+        _name: &[u8],
+        _mode: u32,
+        _kill_priv: bool,
+        _flags: u32,
+        _umask: u32,
+        _extensions: Extensions,
+    ) -> Result<(Entry<u64>, Option<u64>, OpenOptions), Errno> {
+        defaults::create()
+    }
+
+    fn write<R: ZeroCopyReader>(
+        &mut self,
+        _ctx: Context,
+        _inode: u64,
+        _handle: u64,
+        _r: &mut R,
+        _size: u32,
+        _offset: u64,
+        _lock_owner: Option<u64>,
+        _delayed_write: bool,
+        _kill_priv: bool,
+        _flags: u32,
+    ) -> Result<u32, Errno> {
+        defaults::write()
+    }
+
+    fn flush(
+        &mut self,
+        _ctx: Context,
+        _inode: u64,
+        _handle: u64,
+        _lock_owner: u64,
+    ) -> Result<(), Errno> {
+        defaults::flush()
+    }
+
+    fn fsync(
+        &mut self,
+        _ctx: Context,
+        _inode: u64,
+        _datasync: bool,
+        _handle: u64,
+    ) -> Result<(), Errno> {
+        defaults::fsync()
+    }
+
+    fn fallocate(
+        &mut self,
+        _ctx: Context,
+        _inode: u64,
+        _handle: u64,
+        _mode: u32,
+        _offset: u64,
+        _length: u64,
+    ) -> Result<(), Errno> {
+        defaults::fallocate()
+    }
+
+    fn release(
+        &mut self,
+        _ctx: Context,
+        _inode: u64,
+        _flags: u32,
+        _handle: u64,
+        _flush: bool,
+        _flock_release: bool,
+        _lock_owner: Option<u64>,
+    ) -> Result<(), Errno> {
+        defaults::release()
+    }
+
+    fn statfs(&mut self, _ctx: Context, _inode: u64) -> Result<StatVfs, Errno> {
+        defaults::statfs()
+    }
+
+    fn setxattr(
+        &mut self,
+        _ctx: Context,
+        _inode: u64,
+        _name: &[u8],
+        _value: &[u8],
+        _flags: u32,
+        _extra_flags: SetxattrFlags,
+    ) -> Result<(), Errno> {
+        defaults::setxattr()
+    }
+
+    fn getxattr(
+        &mut self,
+        _ctx: Context,
+        _inode: u64,
+        _name: &[u8],
+        _size: u32,
+    ) -> Result<GetxattrReply, Errno> {
+        defaults::getxattr()
+    }
+
+    fn listxattr(
+        &mut self,
+        _ctx: Context,
+        _inode: u64,
+        _size: u32,
+    ) -> Result<ListxattrReply, Errno> {
+        defaults::listxattr()
+    }
+
+    fn removexattr(&mut self, _ctx: Context, _inode: u64, _name: &[u8]) -> Result<(), Errno> {
+        defaults::removexattr()
+    }
+
+    fn opendir(
+        &mut self,
+        _ctx: Context,
+        _inode: u64,
+        _flags: u32,
+    ) -> Result<(Option<u64>, OpenOptions), Errno> {
+        defaults::opendir()
+    }
+
+    fn readdir(
+        &mut self,
+        _ctx: Context,
+        _inode: u64,
+        _handle: u64,
+        _size: u32,
+        _offset: u64,
+    ) -> Result<NoEntries, Errno> {
+        defaults::readdir()
+    }
+
+    fn fsyncdir(
+        &mut self,
+        _ctx: Context,
+        _inode: u64,
+        _datasync: bool,
+        _handle: u64,
+    ) -> Result<(), Errno> {
+        defaults::fsyncdir()
+    }
+
+    fn releasedir(
+        &mut self,
+        _ctx: Context,
+        _inode: u64,
+        _flags: u32,
+        _handle: u64,
+    ) -> Result<(), Errno> {
+        defaults::releasedir()
+    }
+
+    fn access(&mut self, _ctx: Context, _inode: u64, _mask: u32) -> Result<(), Errno> {
+        defaults::access()
+    }
+
+    fn lseek(
+        &mut self,
+        _ctx: Context,
+        _inode: u64,
+        _handle: u64,
+        _offset: u64,
+        _whence: u32,
+    ) -> Result<u64, Errno> {
+        defaults::lseek()
+    }
+
+    fn copyfilerange(
+        &mut self,
+        _ctx: Context,
+        _inode_in: u64,
+        _handle_in: u64,
+        _offset_in: u64,
+        _inode_out: u64,
+        _handle_out: u64,
+        _offset_out: u64,
+        _len: u64,
+        _flags: u64,
+    ) -> Result<u32, Errno> {
+        defaults::copyfilerange()
+    }
+
+    fn syncfs(&mut self, _ctx: Context, _inode: u64) -> Result<(), Errno> {
+        defaults::syncfs()
+    }
+
+    fn getlk(&mut self) -> Result<(), Errno> {
+        defaults::getlk()
+    }
+
+    fn setlk(&mut self) -> Result<(), Errno> {
+        defaults::setlk()
+    }
+
+    fn setlkw(&mut self) -> Result<(), Errno> {
+        defaults::setlkw()
+    }
+
+    fn ioctl(&mut self) -> Result<(), Errno> {
+        defaults::ioctl()
+    }
+
+    fn bmap(&mut self) -> Result<(), Errno> {
+        defaults::bmap()
+    }
+
+    fn poll(&mut self) -> Result<(), Errno> {
+        defaults::poll()
+    }
+
+    fn notify_reply(&mut self) -> Result<(), Errno> {
+        defaults::notify_reply()
+    }
+
+    fn tmpfile(&mut self) -> Errno {
+        defaults::tmpfile()
     }
 }

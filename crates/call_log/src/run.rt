@@ -12,7 +12,7 @@ use crate::files::CallLog;
 use fs_device::{Answer, Command, Machine};
 use std::alloc::{AllocError, Global};
 
-/// Does commands one after another, as `Machine::run`, which this run is of. The log grows by the calls that the exchanged requests mean, in
+/// Does commands one after another, as `Machine::run`, which this run is of. The log grows by the calls of its five kinds that the exchanged requests mean, in
 /// the order of the exchanges; nothing else that is done adds to it.
 pub fn run_logged(
     alloc: Global,

@@ -10,6 +10,8 @@ mod indirect;
 #[cfg(test)]
 mod layouts;
 #[cfg(test)]
+mod longest;
+#[cfg(test)]
 mod machines;
 #[cfg(test)]
 mod numbers;

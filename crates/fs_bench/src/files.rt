@@ -4,8 +4,13 @@ ghost use Rattle.std.specs.Prelude.{⊤};
 
 use crate::fault::BenchFault;
 use bitflags::Flags;
-use fuse_fs::{Context, Entry, FileSystem, PositionedFile, Timeout, WritevFlags, ZeroCopyWriter};
-use fuse_wire::{Attr, Errno, FsOptions};
+use fuse_fs::{
+    Context, Entry, Extensions, FileSystem, FileSystemBase, GetxattrReply, ListxattrReply,
+    NoEntries, PositionedFile, Timeout, WritevFlags, ZeroCopyReader, ZeroCopyWriter, defaults,
+};
+use fuse_wire::{
+    Attr, Errno, FsOptions, OpenOptions, SetattrIn, SetattrValid, SetxattrFlags, StatVfs,
+};
 use std::alloc::Global;
 
 // How many bytes the file has.
@@ -55,11 +60,14 @@ impl PositionedFile for MemoryFile {
 
     fn write_at(
         &mut self,
-        _buf: &[u8],
-        _off: u64,
+        buf: &[u8],
+        off: u64,
         _flags: Option<WritevFlags>,
     ) -> Result<usize, Errno> {
-        Err(Errno::EINVAL)
+        let from = (off.min(FILE_LEN as u64) as usize).min(self.bytes.len());
+        let count = buf.len().min(self.bytes.len() - from);
+        self.bytes[from..][..count].copy_from_slice(&buf[..count]);
+        Ok(count)
     }
 
     fn append_at(&mut self, out: &mut Vec<u8>, most: usize, off: u64) -> Result<usize, Errno> {
@@ -70,26 +78,38 @@ impl PositionedFile for MemoryFile {
     }
 }
 
-impl FileSystem for MemoryFiles {
+// The file's attributes, which stay good for a second.
+fn file_attr() -> Result<(Attr, Timeout), Errno> {
+    let Some(second) = Timeout::new(1, 0) else {
+        return Err(Errno::EIO);
+    };
+    let attr = Attr {
+        ino: 2,
+        size: FILE_LEN as u64,
+        ..Attr::default()
+    };
+    Ok((attr, second))
+}
+
+impl FileSystemBase for MemoryFiles {
     type Inode = u64;
 
     type Handle = u64;
 
     ghost may = { λ before call answer after. ⊤ };
 
+    fn forget(&mut self, _ctx: Context, _inode: u64, _count: u64) {}
+}
+
+impl FileSystem for MemoryFiles {
+    type DirIter = NoEntries;
+
     fn init(&mut self, _capable: FsOptions) -> Result<FsOptions, Errno> {
         Ok(FsOptions::from_bits_retain(0))
     }
 
     fn lookup(&mut self, _ctx: Context, _parent: u64, name: &[u8]) -> Result<Entry<u64>, Errno> {
-        let Some(second) = Timeout::new(1, 0) else {
-            return Err(Errno::EIO);
-        };
-        let attr = Attr {
-            ino: 2,
-            size: FILE_LEN as u64,
-            ..Attr::default()
-        };
+        let (attr, second) = file_attr()?;
         Ok(Entry {
             inode: 2,
             generation: name.len() as u64,
@@ -98,8 +118,6 @@ impl FileSystem for MemoryFiles {
             entry_timeout: second,
         })
     }
-
-    fn forget(&mut self, _ctx: Context, _inode: u64, _count: u64) {}
 
     fn read<W: ZeroCopyWriter>(
         &mut self,
@@ -113,5 +131,340 @@ impl FileSystem for MemoryFiles {
         _flags: u32,
     ) -> Result<usize, Errno> {
         w.read_from_file_at(&mut self.file, size as usize, offset)
+    }
+
+    fn destroy(&mut self) {
+        defaults::destroy(self);
+    }
+
+    fn batch_forget(&mut self, ctx: Context, requests: Vec<(u64, u64)>)
+        ensures may { ⊤ }
+    {
+        defaults::batch_forget(self, ctx, requests);
+    }
+
+    fn getattr(
+        &mut self,
+        _ctx: Context,
+        _inode: u64,
+        _handle: Option<u64>,
+    ) -> Result<(Attr, Timeout), Errno>
+        ensures may { ⊤ }
+    {
+        file_attr()
+    }
+
+    fn setattr(
+        &mut self,
+        _ctx: Context,
+        _inode: u64,
+        _attr: SetattrIn,
+        _handle: Option<u64>,
+        _valid: SetattrValid,
+    ) -> Result<(Attr, Timeout), Errno>
+        ensures may { ⊤ }
+    {
+        defaults::setattr()
+    }
+
+    fn readlink(&mut self, _ctx: Context, _inode: u64) -> Result<Vec<u8>, Errno> {
+        defaults::readlink()
+    }
+
+    fn symlink(
+        &mut self,
+        _ctx: Context,
+        _linkname: &[u8],
+        _parent: u64,
+        _name: &[u8],
+        _extensions: Extensions,
+    ) -> Result<Entry<u64>, Errno> {
+        defaults::symlink()
+    }
+
+    fn mknod(
+        &mut self,
+        _ctx: Context,
+        _parent: u64,
+        _name: &[u8],
+        _mode: u32,
+        _rdev: u32,
+        _umask: u32,
+        _extensions: Extensions,
+    ) -> Result<Entry<u64>, Errno> {
+        defaults::mknod()
+    }
+
+    fn mkdir(
+        &mut self,
+        _ctx: Context,
+        _parent: u64,
+        _name: &[u8],
+        _mode: u32,
+        _umask: u32,
+        _extensions: Extensions,
+    ) -> Result<Entry<u64>, Errno> {
+        defaults::mkdir()
+    }
+
+    fn unlink(&mut self, _ctx: Context, _parent: u64, _name: &[u8]) -> Result<(), Errno> {
+        defaults::unlink()
+    }
+
+    fn rmdir(&mut self, _ctx: Context, _parent: u64, _name: &[u8]) -> Result<(), Errno> {
+        defaults::rmdir()
+    }
+
+    fn rename(
+        &mut self,
+        _ctx: Context,
+        _olddir: u64,
+        _oldname: &[u8],
+        _newdir: u64,
+        _newname: &[u8],
+        _flags: u32,
+    ) -> Result<(), Errno> {
+        defaults::rename()
+    }
+
+    fn link(
+        &mut self,
+        _ctx: Context,
+        _inode: u64,
+        _newparent: u64,
+        _newname: &[u8],
+    ) -> Result<Entry<u64>, Errno> {
+        defaults::link()
+    }
+
+    fn open(
+        &mut self,
+        _ctx: Context,
+        _inode: u64,
+        _kill_priv: bool,
+        _flags: u32,
+    ) -> Result<(Option<u64>, OpenOptions), Errno> {
+        defaults::open()
+    }
+
+    fn create(
+        &mut self,
+        _ctx: Context,
+        _parent: u64,
+        _name: &[u8],
+        _mode: u32,
+        _kill_priv: bool,
+        _flags: u32,
+        _umask: u32,
+        _extensions: Extensions,
+    ) -> Result<(Entry<u64>, Option<u64>, OpenOptions), Errno> {
+        defaults::create()
+    }
+
+    fn write<R: ZeroCopyReader>(
+        &mut self,
+        _ctx: Context,
+        _inode: u64,
+        _handle: u64,
+        r: &mut R,
+        size: u32,
+        offset: u64,
+        _lock_owner: Option<u64>,
+        _delayed_write: bool,
+        _kill_priv: bool,
+        _flags: u32,
+    ) -> Result<u32, Errno> {
+        let count = r.write_to_file_at(&mut self.file, size as usize, offset, None)?;
+        Ok(u32::try_from(count).unwrap_or(u32::MAX))
+    }
+
+    fn flush(
+        &mut self,
+        _ctx: Context,
+        _inode: u64,
+        _handle: u64,
+        _lock_owner: u64,
+    ) -> Result<(), Errno> {
+        defaults::flush()
+    }
+
+    fn fsync(
+        &mut self,
+        _ctx: Context,
+        _inode: u64,
+        _datasync: bool,
+        _handle: u64,
+    ) -> Result<(), Errno> {
+        defaults::fsync()
+    }
+
+    fn fallocate(
+        &mut self,
+        _ctx: Context,
+        _inode: u64,
+        _handle: u64,
+        _mode: u32,
+        _offset: u64,
+        _length: u64,
+    ) -> Result<(), Errno> {
+        defaults::fallocate()
+    }
+
+    fn release(
+        &mut self,
+        _ctx: Context,
+        _inode: u64,
+        _flags: u32,
+        _handle: u64,
+        _flush: bool,
+        _flock_release: bool,
+        _lock_owner: Option<u64>,
+    ) -> Result<(), Errno> {
+        defaults::release()
+    }
+
+    fn statfs(&mut self, _ctx: Context, _inode: u64) -> Result<StatVfs, Errno> {
+        defaults::statfs()
+    }
+
+    fn setxattr(
+        &mut self,
+        _ctx: Context,
+        _inode: u64,
+        _name: &[u8],
+        _value: &[u8],
+        _flags: u32,
+        _extra_flags: SetxattrFlags,
+    ) -> Result<(), Errno> {
+        defaults::setxattr()
+    }
+
+    fn getxattr(
+        &mut self,
+        _ctx: Context,
+        _inode: u64,
+        _name: &[u8],
+        _size: u32,
+    ) -> Result<GetxattrReply, Errno> {
+        defaults::getxattr()
+    }
+
+    fn listxattr(
+        &mut self,
+        _ctx: Context,
+        _inode: u64,
+        _size: u32,
+    ) -> Result<ListxattrReply, Errno> {
+        defaults::listxattr()
+    }
+
+    fn removexattr(&mut self, _ctx: Context, _inode: u64, _name: &[u8]) -> Result<(), Errno> {
+        defaults::removexattr()
+    }
+
+    fn opendir(
+        &mut self,
+        _ctx: Context,
+        _inode: u64,
+        _flags: u32,
+    ) -> Result<(Option<u64>, OpenOptions), Errno> {
+        defaults::opendir()
+    }
+
+    fn readdir(
+        &mut self,
+        _ctx: Context,
+        _inode: u64,
+        _handle: u64,
+        _size: u32,
+        _offset: u64,
+    ) -> Result<NoEntries, Errno> {
+        defaults::readdir()
+    }
+
+    fn fsyncdir(
+        &mut self,
+        _ctx: Context,
+        _inode: u64,
+        _datasync: bool,
+        _handle: u64,
+    ) -> Result<(), Errno> {
+        defaults::fsyncdir()
+    }
+
+    fn releasedir(
+        &mut self,
+        _ctx: Context,
+        _inode: u64,
+        _flags: u32,
+        _handle: u64,
+    ) -> Result<(), Errno> {
+        defaults::releasedir()
+    }
+
+    fn access(&mut self, _ctx: Context, _inode: u64, _mask: u32) -> Result<(), Errno> {
+        defaults::access()
+    }
+
+    fn lseek(
+        &mut self,
+        _ctx: Context,
+        _inode: u64,
+        _handle: u64,
+        _offset: u64,
+        _whence: u32,
+    ) -> Result<u64, Errno> {
+        defaults::lseek()
+    }
+
+    fn copyfilerange(
+        &mut self,
+        _ctx: Context,
+        _inode_in: u64,
+        _handle_in: u64,
+        _offset_in: u64,
+        _inode_out: u64,
+        _handle_out: u64,
+        _offset_out: u64,
+        _len: u64,
+        _flags: u64,
+    ) -> Result<u32, Errno> {
+        defaults::copyfilerange()
+    }
+
+    fn syncfs(&mut self, _ctx: Context, _inode: u64) -> Result<(), Errno> {
+        defaults::syncfs()
+    }
+
+    fn getlk(&mut self) -> Result<(), Errno> {
+        defaults::getlk()
+    }
+
+    fn setlk(&mut self) -> Result<(), Errno> {
+        defaults::setlk()
+    }
+
+    fn setlkw(&mut self) -> Result<(), Errno> {
+        defaults::setlkw()
+    }
+
+    fn ioctl(&mut self) -> Result<(), Errno> {
+        defaults::ioctl()
+    }
+
+    fn bmap(&mut self) -> Result<(), Errno> {
+        defaults::bmap()
+    }
+
+    fn poll(&mut self) -> Result<(), Errno> {
+        defaults::poll()
+    }
+
+    fn notify_reply(&mut self) -> Result<(), Errno> {
+        defaults::notify_reply()
+    }
+
+    fn tmpfile(&mut self) -> Errno {
+        defaults::tmpfile()
     }
 }

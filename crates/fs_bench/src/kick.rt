@@ -5,6 +5,7 @@ use crate::files::MemoryFiles;
 use crate::measure::{Case, Label, Meter};
 use fs_device::Device;
 use fs_queue::{Queue, QueueLayout};
+use fuse_wire::{GetattrIn, WriteIn};
 use guest_driver::requests;
 use guest_driver::ring::{Guest, Ring};
 use std::alloc::{AllocError, Global};
@@ -27,6 +28,9 @@ const REQUEST: u64 = 0x10000;
 
 const ROOM: u64 = 0x200000;
 
+// Where the table of an indirect chain is.
+const TABLE: u64 = 0x8000;
+
 const MEMORY: usize = 0x400000;
 
 const LIMIT: u32 = 0x101000;
@@ -35,6 +39,13 @@ const PAGE_SIZE: u32 = 4096;
 
 // The splits that are measured.
 const SPLITS: [u16; 3] = [1, 2, 16];
+
+// Whether a chain stands in the queue's table, or in one of its own that a descriptor names.
+#[derive(Clone, Copy)]
+enum Form {
+    Direct,
+    Indirect,
+}
 
 // A request, and how much room its reply has.
 #[derive(Drop)]
@@ -54,6 +65,25 @@ fn unknown(alloc: Global) -> Result<Asked, AllocError> {
     })
 }
 
+// The same with a room of 1 MiB.
+fn unknown_in_large_room(alloc: Global) -> Result<Asked, AllocError> {
+    Ok(Asked {
+        case: "unknown-room-1m",
+        room: 0x100000,
+        ..unknown(alloc)?
+    })
+}
+
+// GETATTR of the file.
+fn getattr(alloc: Global) -> Result<Asked, AllocError> {
+    let header = requests::header(56, 3, 1, 2);
+    Ok(Asked {
+        case: "getattr",
+        request: requests::with_record(alloc, &header, &GetattrIn::default())?,
+        room: 120,
+    })
+}
+
 // LOOKUP of a name of one byte.
 fn lookup(alloc: Global) -> Result<Asked, AllocError> {
     Ok(Asked {
@@ -69,6 +99,22 @@ fn read(alloc: Global, case: &'static str, size: u32) -> Result<Asked, AllocErro
         case,
         request: requests::read(alloc, 1, 2, 0, 0, size)?,
         room: size.saturating_add(16),
+    })
+}
+
+// WRITE of so many bytes from the file's start.
+fn write(alloc: Global, case: &'static str, size: u32) -> Result<Asked, AllocError> {
+    let header = requests::header(size.saturating_add(80), 16, 1, 2);
+    let record = WriteIn {
+        size,
+        ..WriteIn::default()
+    };
+    let mut request = requests::with_record(alloc, &header, &record)?;
+    request.resize(request.len().saturating_add(size as usize), 7)?;
+    Ok(Asked {
+        case,
+        request,
+        room: 24,
     })
 }
 
@@ -109,14 +155,18 @@ struct Kicking {
 }
 
 impl Kicking {
-    // A chain at the table's first descriptors, to which each entry of the ring points.
-    fn new(alloc: Global, asked: &Asked, split: u16) -> Result<Kicking, BenchFault> {
+    // A chain that begins at the table's first descriptor, to which each entry of the ring points.
+    fn new(alloc: Global, asked: &Asked, split: u16, form: Form) -> Result<Kicking, BenchFault> {
         let device = served(alloc)?;
         let mut guest = Guest::new(alloc, &[(GuestAddress(0), MEMORY)], RING)?;
         let len = u32::try_from(asked.request.len()).unwrap_or(u32::MAX);
         let readable = cut(alloc, REQUEST, len, split)?;
         let writable = cut(alloc, ROOM, asked.room, split)?;
-        guest.chain(0, &asked.request, &readable, &writable)?;
+        let request = &asked.request;
+        match form {
+            Form::Direct => guest.chain(0, request, &readable, &writable)?,
+            Form::Indirect => guest.indirect_chain(0, TABLE, request, &readable, &writable)?,
+        }
         Ok(Kicking {
             alloc,
             guest,
@@ -144,20 +194,27 @@ impl Case for Kicking {
     }
 }
 
-/// Measures kicks of a request that the server doesn't know, of LOOKUP and of READ, each cut into ever more descriptors.
+/// Measures kicks of a request that the server doesn't know, of GETATTR, LOOKUP, READ and WRITE, each cut into ever more descriptors, in the
+/// queue's table (`kick`) and in one of the chain's own (`indirect`).
 pub fn measure_kicks<R: Clock + Eprint>(
     meter: &mut Meter<'_, R>,
     alloc: Global,
 ) -> Result<(), BenchFault> {
     for asked in [
         unknown(alloc)?,
+        unknown_in_large_room(alloc)?,
+        getattr(alloc)?,
         lookup(alloc)?,
         read(alloc, "read-4k", 0x1000)?,
         read(alloc, "read-64k", 0x10000)?,
         read(alloc, "read-1m", 0x100000)?,
+        write(alloc, "write-4k", 0x1000)?,
+        write(alloc, "write-64k", 0x10000)?,
+        write(alloc, "write-1m", 0x100000)?,
     ] {
         for split in SPLITS {
-            measure_kick(meter, alloc, &asked, split)?;
+            measure_kick(meter, alloc, &asked, split, Form::Direct)?;
+            measure_kick(meter, alloc, &asked, split, Form::Indirect)?;
         }
     }
     Ok(())
@@ -169,14 +226,19 @@ fn measure_kick<R: Clock + Eprint>(
     alloc: Global,
     asked: &Asked,
     split: u16,
+    form: Form,
 ) -> Result<(), BenchFault> {
-    let mut case = Kicking::new(alloc, asked, split)?;
+    let mut case = Kicking::new(alloc, asked, split, form)?;
+    let bytes = asked.request.len().saturating_add(asked.room as usize);
     let label = Label {
-        kind: "kick",
+        kind: match form {
+            Form::Direct => "kick",
+            Form::Indirect => "indirect",
+        },
         case: asked.case,
         split,
-        bytes: asked.request.len().saturating_add(asked.room as usize),
-        runs: if asked.room > 0x2000 { 16 } else { QUEUE_SIZE },
+        bytes,
+        runs: if bytes > 0x3000 { 16 } else { QUEUE_SIZE },
     };
     meter.measure(label, &mut case)
 }

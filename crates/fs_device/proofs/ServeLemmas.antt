@@ -1,7 +1,5 @@
 -- what the server's answer says
-use Rattle.std.proofs.Common.{◌≡◌, ℕ, Bool, true, false, ◌≤◌, nat_lt, List, [], ◌∷◌, length, map, ap, sym, ◌∙◌, refl, subst, arith, Option, Some, None, Ok, Err}
-use Rattle.std.specs.Prelude.{if◌then◌else◌}
-use Rattle.std.proofs.lemmas.Bool.Decides.{nat_tests}
+use Rattle.std.proofs.Common.{◌≡◌, ℕ, true, false, ◌≤◌, List, [], length, map, ap, sym, ◌∙◌, refl, subst, Option, Some, None, Ok, Err}
 use Rattle.vm_memory_core.specs.Host.{Host}
 use Rattle.vm_memory_core.specs.Window.{places, byte_in}
 use Rattle.vm_memory.specs.Layout.{Region, place}
@@ -10,37 +8,15 @@ use Rattle.fs_queue.specs.declared.chain.Chain.{Chain}
 use Rattle.fs_queue.specs.Taking.{Asked, Asks, CannotAsk}
 use Rattle.fs_queue.specs.Windows.{HoldsChain}
 use Rattle.fs_queue.proofs.TakeLemmas.{length-located}
-use Rattle.fuse_fs.specs.Calls.{FileCall, FileAnswer}
 use Rattle.fuse_segments.specs.declared.error.Error.{Error}
-use Rattle.virtiofsd_fuse.specs.Grammar.{Meaning, IsFault, Replies, IsSilent, Asks as Commands, One, Starts, meaning}
-use Rattle.fuse_segments.specs.declared.error.Error.TheVariants.{EncodeMessage}
+use Rattle.virtiofsd_fuse.specs.Grammar.{Meaning, meaning}
 use Rattle.virtiofsd_fuse.specs.Serving.{May, Served, no_reply, Setting, setting, served, served_of, replied, Handles, is_memory}
 use Rattle.virtiofsd_fuse.specs.Serving as server
+use Rattle.virtiofsd_fuse.proofs.Serve.{served_fits}
 use Rattle.fs_device.specs.declared.exchange.Fault.{Fault}
 use Rattle.fs_device.specs.declared.exchange.Fault.TheVariants as fault
 use Rattle.fs_device.specs.Step.{Exchange, Calls, ServesRequest}
 use Rattle.fs_device.specs.DeviceView.{ServesChain, AnswersRequest}
-
-not_more : (room n : ℕ) → nat_lt room n ≡ false → n ≤ room
-not_more room n h = grind (arith, nat_tests)
-
--- a reply fits its room
-fits_if : (b : Bool) (room : ℕ) (calls : List FileCall) (options : ℕ) (bytes : List ℕ) → nat_lt room (length bytes) ≡ b →
-    length ((if b then no_reply calls options (Some EncodeMessage) else record { calls = calls; options = options; reply = bytes; fault = None }).reply) ≤ room
-fits_if true room calls options bytes e = omega arith
-fits_if false room calls options bytes e = not_more room (length bytes) e
-
-replied_fits : (room : ℕ) (calls : List FileCall) (options : ℕ) (bytes : List ℕ) → length (replied room calls options bytes).reply ≤ room
-replied_fits room calls options bytes = fits_if (nat_lt room (length bytes)) room calls options bytes refl
-
-served_fits : (s : Setting) (m : Meaning) (answers : List FileAnswer) → length (served s m answers).reply ≤ s.room
-served_fits s (IsFault fault) answers = omega arith
-served_fits s (Replies bytes) answers = replied_fits s.room [] s.options bytes
-served_fits s IsSilent answers = omega arith
-served_fits s (Commands (One unique call)) [] = omega arith
-served_fits s (Commands (One unique call)) (answer ∷ answers) = replied_fits s.room _ _ _
-served_fits s (Commands (Starts unique capable readahead)) [] = omega arith
-served_fits s (Commands (Starts unique capable readahead)) (answer ∷ answers) = replied_fits s.room _ _ _
 
 -- a reply that was written whole
 pub replied_ok : {F : Type 0} (may : May F) (page options room : ℕ) (request : List ℕ) (before after : F) (n : ℕ) (written : List ℕ) (agreed : ℕ) →

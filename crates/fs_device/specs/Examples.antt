@@ -11,7 +11,7 @@ use Rattle.fs_queue.specs.Chain.{path, found}
 use Rattle.fs_queue.specs.Taking.{Offer, Idle, Refuses, Offers, Asks, CannotAsk, offer}
 use Rattle.fuse_segments.specs.declared.error.Error.TheVariants as error
 use Rattle.vm_values.specs.Fields as fields
-use Rattle.virtiofsd_fuse.specs.Records.{reading_in_header}
+use Rattle.virtiofsd_fuse.specs.Reading.{reading_of}
 use Rattle.virtiofsd_fuse.specs.Examples.{zeros, le16, le32, le64, in_header_bytes}
 use Rattle.virtiofsd_fuse.specs.Grammar.{IsFault, Replies, meaning, meant, error_bytes}
 use Rattle.virtiofsd_fuse.specs.Serving.{May}
@@ -151,15 +151,15 @@ loop_in_table = refl
 -- ---- requests
 
 unknown : meaning 0 request 16 ≡ Replies (0x10 ∷ 0 ∷ 0 ∷ 0 ∷ 0xda ∷ 0xff ∷ 0xff ∷ 0xff ∷ 1 ∷ zeros 7)
-unfolding meaning reading_in_header meant error_bytes fields.field_bytes
+unfolding meaning reading_of meant error_bytes fields.field_bytes
 unknown = refl
 
 too_great_a_length : meaning 0 (in_header_bytes 0x101001 7 1 0) 16 ≡ Replies (0x10 ∷ 0 ∷ 0 ∷ 0 ∷ 0xf4 ∷ 0xff ∷ 0xff ∷ 0xff ∷ 1 ∷ zeros 7)
-unfolding meaning reading_in_header meant error_bytes fields.field_bytes
+unfolding meaning reading_of meant error_bytes fields.field_bytes
 too_great_a_length = refl
 
 too_short : meaning 0 (zeros 39) 16 ≡ IsFault error.DecodeMessage
-unfolding meaning reading_in_header meant error_bytes fields.field_bytes
+unfolding meaning reading_of meant error_bytes fields.field_bytes
 too_short = refl
 
 -- ---- whole steps, of a device whose file system is asked nothing
@@ -190,7 +190,7 @@ after_reply m q = after_return (device m q) 0 q 0 (addresses 0x2000 16) unknown_
 
 -- the chain is taken, answered and given back, and the driver is told
 pub one_step : Step may (device with_one_request queue) 0 [] (Exchanged unknown_exchange true) (after_reply with_one_request queue)
-unfolding offer place addresses stored_all path found meaning reading_in_header meant error_bytes fields.field_bytes
+unfolding offer place addresses stored_all path found meaning reading_of meant error_bytes fields.field_bytes
 one_step = record {
   given = record { calls = []; options = 0; reply = unknown_reply; fault = None };
   serves = record { gives = refl; asks = refl; run = refl };
@@ -208,7 +208,7 @@ element_stands = refl
 
 -- the driver asks not to be told
 not_told : Step may (device (put with_one_request 0x100 (le16 1)) queue) 0 [] (Exchanged unknown_exchange false) (after_reply (put with_one_request 0x100 (le16 1)) queue)
-unfolding offer place addresses stored_all path found meaning reading_in_header meant error_bytes fields.field_bytes
+unfolding offer place addresses stored_all path found meaning reading_of meant error_bytes fields.field_bytes
 not_told = record {
   given = record { calls = []; options = 0; reply = unknown_reply; fault = None };
   serves = record { gives = refl; asks = refl; run = refl };

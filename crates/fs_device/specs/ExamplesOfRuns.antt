@@ -11,7 +11,7 @@ use Rattle.fs_queue.specs.Taking.{offer}
 use Rattle.fs_queue.specs.Returning.{advanced}
 use Rattle.vm_values.specs.Fields as fields
 use Rattle.fuse_fs.specs.Calls as files
-use Rattle.virtiofsd_fuse.specs.Records.{reading_in_header, reading_forget_in}
+use Rattle.virtiofsd_fuse.specs.Reading.{reading_of}
 use Rattle.virtiofsd_fuse.specs.Examples.{le16, le64, zeros, nobody, in_header_bytes}
 use Rattle.virtiofsd_fuse.specs.Grammar.{meaning, meant, row, error_bytes}
 use Rattle.virtiofsd_fuse.specs.Serving.{May}
@@ -67,7 +67,7 @@ abbrev exchanges_unknown : (m : Memory) → Type 0
 exchanges_unknown m = Step may (device m queue) 0 [] (Exchanged unknown_exchange true) (after_reply m queue)
 
 first_of_two : exchanges_unknown two_wait
-unfolding offer place addresses stored_all path found meaning reading_in_header meant error_bytes fields.field_bytes
+unfolding offer place addresses stored_all path found meaning reading_of meant error_bytes fields.field_bytes
 first_of_two = record {
   given = record { calls = []; options = 0; reply = unknown_reply; fault = None };
   serves = record { gives = refl; asks = refl; run = refl };
@@ -87,7 +87,7 @@ abbrev stopped_after_one : State Nothing
 stopped_after_one = record (after_reply no_such_head queue) { queues = stopped (advanced queue) ∷ [] }
 
 first_before_refusal : exchanges_unknown no_such_head
-unfolding offer place addresses stored_all path found meaning reading_in_header meant error_bytes fields.field_bytes
+unfolding offer place addresses stored_all path found meaning reading_of meant error_bytes fields.field_bytes
 first_before_refusal = record {
   given = record { calls = []; options = 0; reply = unknown_reply; fault = None };
   serves = record { gives = refl; asks = refl; run = refl };
@@ -125,7 +125,7 @@ forgotten = after_return (with_count 4) 0 queue 0 [] [] 0 7
 
 kick_calls_the_files : Run counts (with_count 4)
     ((run.Kick 0 1, run.Served (record { exchanges = (record { head = 0; request = forget; reply = []; fault = None }, true) ∷ []; refused = None })) ∷ []) forgotten
-unfolding Run KickRun offer place addresses stored_all path found meaning reading_in_header meant row reading_forget_in
+unfolding Run KickRun offer place addresses stored_all path found meaning reading_of meant row
 kick_calls_the_files =
     let step : Step counts (with_count 4) 0 ((files.Forget nobody 5 3, files.Done) ∷ []) (Exchanged (record { head = 0; request = forget; reply = []; fault = None }) true) forgotten =
     record {
@@ -280,7 +280,7 @@ across =
     record c { host = cleared c.host }
 
 serves_across : Step may (device across queue) 0 [] (Exchanged unknown_exchange true) (after_reply across queue)
-unfolding offer place addresses stored_all path found meaning reading_in_header meant error_bytes fields.field_bytes
+unfolding offer place addresses stored_all path found meaning reading_of meant error_bytes fields.field_bytes
 serves_across = record {
   given = record { calls = []; options = 0; reply = unknown_reply; fault = None };
   serves = record { gives = refl; asks = refl; run = refl };

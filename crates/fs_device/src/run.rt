@@ -23,7 +23,7 @@ impl<F: FileSystem> Machine<F> {
         ensures { result ≡ reach (memory_of self.now.host self.now.mem) access addr len }
     {
         match addr.checked_add(len as u64) {
-            Some(_) => self.mem.check_range(GuestAddress(addr), len, access),
+            Some(_) => self.mem.has_range(GuestAddress(addr), len),
             None => false,
         }
     }

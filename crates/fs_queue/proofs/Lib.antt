@@ -1,6 +1,7 @@
 pub mod ReadLemmas
 pub mod WalkLemmas
 pub mod TakeLemmas
+pub mod TableLemmas
 pub mod OfferLemmas
 pub mod ReturnLemmas
 pub mod BoundLemmas

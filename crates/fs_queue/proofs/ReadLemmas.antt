@@ -43,13 +43,13 @@ read_all m a n k old new fits size all is =
 bytes-append : (m : Memory) (a j k : ℕ) → bytes m a (j + k) ≡ bytes m a j ++ bytes m (a + j) k
 bytes-append m a j k = ap (map (byte m)) (addresses-append j k a) ∙ map-append (byte m) (addresses a j) (addresses (a + j) k)
 
-length-bytes : (m : Memory) (a n : ℕ) → length (bytes m a n) ≡ n
+pub length-bytes : (m : Memory) (a n : ℕ) → length (bytes m a n) ≡ n
 length-bytes m a n = length-map (addresses a n) (byte m) ∙ length-addresses n a
 
-front_bytes : (m : Memory) (a j k : ℕ) → take j (bytes m a (j + k)) ≡ bytes m a j
+pub front_bytes : (m : Memory) (a j k : ℕ) → take j (bytes m a (j + k)) ≡ bytes m a j
 front_bytes m a j k = ap (take j) (bytes-append m a j k) ∙ take_at (bytes m a j) (bytes m (a + j) k) j (length-bytes m a j)
 
-back_bytes : (m : Memory) (a j k : ℕ) → drop j (bytes m a (j + k)) ≡ bytes m (a + j) k
+pub back_bytes : (m : Memory) (a j k : ℕ) → drop j (bytes m a (j + k)) ≡ bytes m (a + j) k
 back_bytes m a j k = ap (drop j) (bytes-append m a j k) ∙ drop_at (bytes m a j) (bytes m (a + j) k) j (length-bytes m a j)
 
 abbrev entry : (addr len flags next : ℕ) → Descriptor

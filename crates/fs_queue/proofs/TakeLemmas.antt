@@ -21,7 +21,7 @@ use Rattle.fs_queue.specs.Walking.{AllEndIn64Bits}
 use Rattle.fs_queue.specs.Taking.{readable, writable, total_len, all_reach, asked_by, Asks, CannotAsk}
 use Rattle.fs_queue.specs.declared.descriptor.Descriptor.{Descriptor}
 use Rattle.fs_queue.specs.Chain.{is_writable}
-use Rattle.fs_queue.specs.Windows.{part, addresses_of}
+use Rattle.fs_queue.specs.Windows.{of_direction, addresses_of}
 use Rattle.vm_memory.proofs.Places.{Where, length-addresses, located-append, after-after, bytes-located}
 
 parts : (o : Option Place) (r : Option (List Place)) (ps : List Place) →
@@ -46,6 +46,10 @@ pub none_lies : (lengths : List ℕ) → AllLieIn lengths []
 unfolding AllLieIn
 none_lies lengths k d h = absurd (omega arith)
 
+pub after_missing : (o : Option (List Place)) → after [] o ≡ None → o ≡ None
+after_missing None e = refl
+after_missing (Some ps) e = absurd (cc)
+
 pub after_empty : (o : Option (List Place)) (ps : List Place) → after [] o ≡ Some ps → o ≡ Some ps
 after_empty None ps e = absurd (cc)
 after_empty (Some qs) ps e = e
@@ -64,13 +68,13 @@ other_bool true false e = refl
 other_bool false true e = refl
 other_bool false false e = absurd (cc)
 
-part-kept : (b : Bool) (d : Descriptor) (ds : List Descriptor) → beq (is_writable d) b ≡ true → part b (d ∷ ds) ≡ d ∷ part b ds
-part-kept true d ds e = rw (same_bool (is_writable d) true e)
-part-kept false d ds e = rw (same_bool (is_writable d) false e)
+direction-kept : (b : Bool) (d : Descriptor) (ds : List Descriptor) → beq (is_writable d) b ≡ true → of_direction b (d ∷ ds) ≡ d ∷ of_direction b ds
+direction-kept true d ds e = rw (same_bool (is_writable d) true e)
+direction-kept false d ds e = rw (same_bool (is_writable d) false e)
 
-part-other : (b : Bool) (d : Descriptor) (ds : List Descriptor) → beq (is_writable d) b ≡ false → part b (d ∷ ds) ≡ part b ds
-part-other true d ds e = rw (other_bool (is_writable d) true e)
-part-other false d ds e = rw (other_bool (is_writable d) false e)
+direction-other : (b : Bool) (d : Descriptor) (ds : List Descriptor) → beq (is_writable d) b ≡ false → of_direction b (d ∷ ds) ≡ of_direction b ds
+direction-other true d ds e = rw (other_bool (is_writable d) true e)
+direction-other false d ds e = rw (other_bool (is_writable d) false e)
 
 lost_step : (o : Option Place) (r s : Option (List Place)) → option_and_then (λ (p : Place). option_map (λ (qs : List Place). p ∷ qs) r) o ≡ None →
     (r ≡ None → s ≡ None) → option_and_then (λ (p : Place). option_map (λ (qs : List Place). p ∷ qs) s) o ≡ None
@@ -95,29 +99,29 @@ after_lost : (o : Option (List Place)) (xs ys : List ℕ) (f : Where) (old : Lis
 after_lost None xs ys f old h e = ap (after old) (located-lost xs ys f h)
 after_lost (Some ps) xs ys f old h e = absurd (cc)
 
-pub part_found : (f : Where) (b : Bool) (ds : List Descriptor) (i : ℕ) (d : Descriptor) (old new : List Place) → drop i ds ≡ d ∷ drop (i + 1) ds → beq (is_writable d) b ≡ true →
+pub direction_found : (f : Where) (b : Bool) (ds : List Descriptor) (i : ℕ) (d : Descriptor) (old new : List Place) → drop i ds ≡ d ∷ drop (i + 1) ds → beq (is_writable d) b ≡ true →
     after old (located f (addresses d.addr d.len)) ≡ Some new →
-    after old (located f (addresses_of (part b (drop i ds)))) ≡ after new (located f (addresses_of (part b (drop (i + 1) ds))))
-part_found f b ds i d old new next kept found =
-    ap (λ (l : List Descriptor). after old (located f (addresses_of l))) (ap (part b) next ∙ part-kept b d (drop (i + 1) ds) kept)
-    ∙ after_found (located f (addresses d.addr d.len)) (addresses d.addr d.len) (addresses_of (part b (drop (i + 1) ds))) f old new refl found
+    after old (located f (addresses_of (of_direction b (drop i ds)))) ≡ after new (located f (addresses_of (of_direction b (drop (i + 1) ds))))
+direction_found f b ds i d old new next kept found =
+    ap (λ (l : List Descriptor). after old (located f (addresses_of l))) (ap (of_direction b) next ∙ direction-kept b d (drop (i + 1) ds) kept)
+    ∙ after_found (located f (addresses d.addr d.len)) (addresses d.addr d.len) (addresses_of (of_direction b (drop (i + 1) ds))) f old new refl found
 
-pub part_lost : (f : Where) (b : Bool) (ds : List Descriptor) (i : ℕ) (d : Descriptor) (old : List Place) → drop i ds ≡ d ∷ drop (i + 1) ds → beq (is_writable d) b ≡ true →
-    after old (located f (addresses d.addr d.len)) ≡ None → after old (located f (addresses_of (part b (drop i ds)))) ≡ None
-part_lost f b ds i d old next kept lost =
-    ap (λ (l : List Descriptor). after old (located f (addresses_of l))) (ap (part b) next ∙ part-kept b d (drop (i + 1) ds) kept)
-    ∙ after_lost (located f (addresses d.addr d.len)) (addresses d.addr d.len) (addresses_of (part b (drop (i + 1) ds))) f old refl lost
+pub direction_lost : (f : Where) (b : Bool) (ds : List Descriptor) (i : ℕ) (d : Descriptor) (old : List Place) → drop i ds ≡ d ∷ drop (i + 1) ds → beq (is_writable d) b ≡ true →
+    after old (located f (addresses d.addr d.len)) ≡ None → after old (located f (addresses_of (of_direction b (drop i ds)))) ≡ None
+direction_lost f b ds i d old next kept lost =
+    ap (λ (l : List Descriptor). after old (located f (addresses_of l))) (ap (of_direction b) next ∙ direction-kept b d (drop (i + 1) ds) kept)
+    ∙ after_lost (located f (addresses d.addr d.len)) (addresses d.addr d.len) (addresses_of (of_direction b (drop (i + 1) ds))) f old refl lost
 
-pub part_other : (f : Where) (b : Bool) (ds : List Descriptor) (i : ℕ) (d : Descriptor) (old : List Place) → drop i ds ≡ d ∷ drop (i + 1) ds → beq (is_writable d) b ≡ false →
-    after old (located f (addresses_of (part b (drop i ds)))) ≡ after old (located f (addresses_of (part b (drop (i + 1) ds))))
-part_other f b ds i d old next other =
-    ap (λ (l : List Descriptor). after old (located f (addresses_of l))) (ap (part b) next ∙ part-other b d (drop (i + 1) ds) other)
+pub direction_other : (f : Where) (b : Bool) (ds : List Descriptor) (i : ℕ) (d : Descriptor) (old : List Place) → drop i ds ≡ d ∷ drop (i + 1) ds → beq (is_writable d) b ≡ false →
+    after old (located f (addresses_of (of_direction b (drop i ds)))) ≡ after old (located f (addresses_of (of_direction b (drop (i + 1) ds))))
+direction_other f b ds i d old next other =
+    ap (λ (l : List Descriptor). after old (located f (addresses_of l))) (ap (of_direction b) next ∙ direction-other b d (drop (i + 1) ds) other)
 
 -- the end of the list
-pub part_done : (f : Where) (b : Bool) (ds : List Descriptor) (i : ℕ) (old : List Place) → length ds ≤ i → after old (located f (addresses_of (part b (drop i ds)))) ≡ Some old
+pub direction_done : (f : Where) (b : Bool) (ds : List Descriptor) (i : ℕ) (old : List Place) → length ds ≤ i → after old (located f (addresses_of (of_direction b (drop i ds)))) ≡ Some old
 unfolding located
-part_done f true ds i old h = rw (drop_all i ds h) (ap Some (append-nil old))
-part_done f false ds i old h = rw (drop_all i ds h) (ap Some (append-nil old))
+direction_done f true ds i old h = rw (drop_all i ds h) (ap Some (append-nil old))
+direction_done f false ds i old h = rw (drop_all i ds h) (ap Some (append-nil old))
 
 pub after-none : (o : Option (List Place)) → after [] o ≡ o
 after-none None = refl
@@ -137,12 +141,12 @@ some_step None r b e = refl
 some_step (Some p) None b e = e
 some_step (Some p) (Some qs) b e = e
 
-list_all-located : (xs : List ℕ) (f : Where) → list_all (λ a. is_some (f a)) xs ≡ is_some (located f xs)
+pub list_all-located : (xs : List ℕ) (f : Where) → list_all (λ a. is_some (f a)) xs ≡ is_some (located f xs)
 unfolding located
 list_all-located [] f = refl
 list_all-located (x ∷ xs) f = some_step (f x) (located f xs) (list_all (λ a. is_some (f a)) xs) (list_all-located xs f)
 
-list_all-append : (xs ys : List ℕ) (f : Where) → (list_all (λ a. is_some (f a)) xs && list_all (λ a. is_some (f a)) ys) ≡ list_all (λ a. is_some (f a)) (xs ++ ys)
+pub list_all-append : (xs ys : List ℕ) (f : Where) → (list_all (λ a. is_some (f a)) xs && list_all (λ a. is_some (f a)) ys) ≡ list_all (λ a. is_some (f a)) (xs ++ ys)
 list_all-append [] ys f = refl
 list_all-append (x ∷ xs) ys f = and_assoc (is_some (f x)) (list_all (λ a. is_some (f a)) xs) (list_all (λ a. is_some (f a)) ys) ∙ ap (λ b. is_some (f x) && b) (list_all-append xs ys f)
 
@@ -208,5 +212,5 @@ asks h l limit ds ps qs all a b found room =
     rw (within_limit limit (total_len (readable ds)) (total_len (writable ds)) a b, r, w) (ap (λ (x : List ℕ). Asks x (addresses_of (writable ds))) request)
 
 -- how many places a direction has
-pub length-part : (f : Where) (ds : List Descriptor) (ps : List Place) → Some ps ≡ located f (addresses_of ds) → length ps ≡ total_len ds
-length-part f ds ps e = length-located (addresses_of ds) f ps (sym e) ∙ length-addresses_of ds
+pub length-direction : (f : Where) (ds : List Descriptor) (ps : List Place) → Some ps ≡ located f (addresses_of ds) → length ps ≡ total_len ds
+length-direction f ds ps e = length-located (addresses_of ds) f ps (sym e) ∙ length-addresses_of ds

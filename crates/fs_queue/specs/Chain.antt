@@ -37,7 +37,7 @@ pub record Visit : Type 0 where
 abbrev pub ends_in_64_bits : Descriptor → Bool
 ends_in_64_bits d = nat_lt (d.addr + d.len) (2 ^ 64)
 
--- a descriptor that names a table, which is read from its entry 0 on (2.7.5.3.1). It isn't counted, and its WRITE says nothing
+-- a descriptor that names a table, which is read from its entry 0 on (2.7.5.3 and 2.7.5.3.2). It isn't counted, and its WRITE says nothing
 abbrev pub indirect_verdict : Visit → Descriptor → Verdict
 indirect_verdict v d =
     if has_next d then Faulty IndirectWithNext

@@ -5,7 +5,7 @@ pub use Rattle.vm_values.specs.Bits.{has_bit}
 use Rattle.vm_memory.specs.Memory.{Memory, number}
 use Rattle.fs_queue.specs.declared.layout.QueueLayout.{QueueLayout}
 
--- where a queue's parts are, how many chains were taken from it, modulo 2^16, and whether it stopped
+-- where a queue's parts are, how many of its chains were returned, modulo 2^16, and whether it stopped
 pub record Queue : Type 0 where
   pub size : ℕ
   pub desc : ℕ
@@ -14,7 +14,7 @@ pub record Queue : Type 0 where
   pub position : ℕ
   pub stopped : Bool
 
--- a queue of this layout from which no chain was taken
+-- a queue of this layout of which no chain was returned
 abbrev pub fresh : (size desc avail used : ℕ) → Queue
 fresh size desc avail used = record { size = size; desc = desc; avail = avail; used = used; position = 0; stopped = false }
 
@@ -22,7 +22,7 @@ fresh size desc avail used = record { size = size; desc = desc; avail = avail; u
 abbrev pub at_position : QueueLayout → (position : ℕ) → Queue
 at_position l position = record { size = l.size; desc = l.desc; avail = l.avail; used = l.used; position = position; stopped = false }
 
--- a queue of this layout from which so many chains were taken, and which is stopped or not
+-- a queue of this layout of which so many chains were returned, and which is stopped or not
 abbrev pub resumed : QueueLayout → (position : ℕ) → (stopped : Bool) → Queue
 resumed l position stopped = record { size = l.size; desc = l.desc; avail = l.avail; used = l.used; position = position; stopped = stopped }
 
@@ -30,7 +30,7 @@ resumed l position stopped = record { size = l.size; desc = l.desc; avail = l.av
 abbrev pub stopped : Queue → Queue
 stopped q = record q { stopped = true }
 
--- how many chains the driver has made available that were not taken
+-- how many chains the driver has made available that were not returned
 abbrev pub waiting : Memory → Queue → ℕ
 waiting m q = (number m w16 (q.avail + 2) + (2 ^ 16 - q.position)) % 2 ^ 16
 

@@ -1,5 +1,7 @@
 -- What the walk's values say.
-use Rattle.std.specs.Prelude.{ℕ, ◌+◌, ◌*◌, ◌^◌, ◌<◌, All, List}
+use Rattle.std.specs.Prelude.{◌≡◌, ℕ, ◌+◌, ◌*◌, ◌^◌, ◌<◌, true, All, List}
+use Rattle.vm_iotlb.specs.declared.permissions.Permissions.TheVariants.{Read}
+use Rattle.vm_memory.specs.Memory.{Memory, bytes, reach}
 use Rattle.fs_queue.specs.declared.descriptor.Descriptor.{Descriptor}
 use Rattle.fs_queue.specs.declared.walk.DescriptorTable.{DescriptorTable}
 use Rattle.fs_queue.specs.declared.walk.Verdict.{Verdict}
@@ -15,6 +17,10 @@ in_table table index left = record { table = table; index = index; left = left }
 -- a table's end is an address
 abbrev pub EndsIn64Bits : DescriptorTable → Type 0
 EndsIn64Bits table = table.address + 16 * table.entries < 2 ^ 64
+
+-- these are the bytes of a table, each of which can be read
+abbrev pub AreTheTable : Memory → DescriptorTable → List ℕ → Type 0
+AreTheTable m table bs = (bs ≡ bytes m table.address (16 * table.entries)) × (reach m Read table.address (16 * table.entries) ≡ true)
 
 -- what a walk found
 abbrev pub found_of : walked.Walked → Found

@@ -41,9 +41,9 @@ ends_of (Ok ends) = Holds (places ends.element.items) (places ends.index.items) 
 ends_of (Err e) = Lacks e
 
 -- the descriptors of one direction: those that the device writes, or those that it reads
-abbrev pub part : Bool → List Descriptor → List Descriptor
-part true ds = writable ds
-part false ds = readable ds
+abbrev pub of_direction : Bool → List Descriptor → List Descriptor
+of_direction true ds = writable ds
+of_direction false ds = readable ds
 
 -- the addresses of some descriptors, joined
 abbrev pub addresses_of : List Descriptor → List ℕ

@@ -8,6 +8,7 @@ ghost use Rattle.vm_memory_core.specs.Window.{places, AllLieIn};
 ghost use Rattle.vm_memory.specs.Layout.{place, AreHeld, HostHolds};
 ghost use Rattle.vm_memory.specs.Memory.{memory_of, addresses, located, after, reach, bytes, number};
 
+use crate::chain::ShortWindows;
 use std::alloc::{AllocError, Global};
 use vm_memory::GuestMemoryMmap;
 use vm_memory_core::{GuestAddress, HostMemory, NewBitmap, Windows};
@@ -76,23 +77,24 @@ pub(crate) fn add_windows(
         after (places windows.old.items) (located (place mem.now) (addresses addr len)) ≡ (if found then Some (places windows.new.items) else None)) }
     ensures lie { (lengths : List ℕ) → AreHeld lengths mem.now → AllLieIn lengths windows.old.items → AllLieIn lengths windows.new.items }
 {
-    mem.push_windows(GuestAddress(addr), len, windows)
+    mem.push_physical(GuestAddress(addr), len, windows)
 }
 
 /// The windows of a range of addresses, if each has a place.
+#[inline]
 pub(crate) fn hold(
     alloc: Global,
     mem: &GuestMemoryMmap,
     addr: u64,
     len: usize,
-) -> Result<Option<Windows>, AllocError>
+) -> Result<Option<ShortWindows>, AllocError>
     requires { addr + len < 2 ^ 64 }
     ensures found { IfOk result (λ o. option_map (λ v. places v.items) o ≡ located (place mem.now) (addresses addr len)) }
     ensures len { IfOk result (λ o. IfSome o (λ v. length (places v.items) ≡ len)) }
     ensures lie { (lengths : List ℕ) → AreHeld lengths mem.now → IfOk result (λ o. IfSome o (λ v. AllLieIn lengths v.items)) }
 {
-    let mut windows = Windows::new(alloc);
-    if add_windows(mem, addr, len, &mut windows)? {
+    let mut windows = ShortWindows::new(alloc);
+    if mem.push_physical(GuestAddress(addr), len, &mut windows)? {
         Ok(Some(windows))
     } else {
         Ok(None)

@@ -4,7 +4,8 @@ ghost use Rattle.std.specs.Prelude.{◌≡◌, length, MatchResult};
 ghost use Rattle.vm_memory_core.specs.Window.{places};
 
 use crate::fault::ChainFault;
-use vm_memory_core::Windows;
+use smallvec::SmallVec;
+use vm_memory_core::{VolatileSlice, Windows};
 
 /// The windows of a chain: its request, and the room for its reply, each in the order of its descriptors.
 #[derive(Drop)]
@@ -34,12 +35,15 @@ impl Chain {
     }
 }
 
-/// The windows of a used element, the used index and the available flags.
+/// Windows in order, of which the first takes no memory.
+pub(crate) type ShortWindows = SmallVec<VolatileSlice, 1>;
+
+/// The windows of a used element, the used index and the available flags: almost always one each.
 #[derive(Drop)]
 pub(crate) struct ReturnWindows {
-    pub(crate) element: Windows,
-    pub(crate) index: Windows,
-    pub(crate) flags: Windows,
+    pub(crate) element: ShortWindows,
+    pub(crate) index: ShortWindows,
+    pub(crate) flags: ShortWindows,
 }
 
 /// A chain that was taken and not yet given back, or its fault.

@@ -61,7 +61,7 @@ fn write_reply<B: NewBitmap>(
 }
 
 impl Queue {
-    /// A queue from which no chain was taken.
+    /// A queue of which no chain was returned.
     pub fn new(layout: QueueLayout) -> Queue
         ensures { result ≡ fresh layout.size layout.desc layout.avail layout.used }
     {
@@ -72,7 +72,7 @@ impl Queue {
         }
     }
 
-    /// A queue from which so many chains were taken, modulo 2^16, and which is stopped or not.
+    /// A queue of which so many chains were returned, modulo 2^16, and which is stopped or not.
     pub fn resume(layout: QueueLayout, position: u16, stopped: bool) -> Queue
         ensures { result ≡ resumed layout position stopped }
     {

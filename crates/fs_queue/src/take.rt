@@ -29,7 +29,7 @@ pub(crate) enum Asking {
 
 ghost use Rattle.fs_queue.specs.Queue.{at_position};
 ghost use Rattle.fs_queue.specs.Taking.{total_len, asked_by, offer, may_lack_memory, stops_queue};
-ghost use Rattle.fs_queue.specs.Windows.{room_places, part, addresses_of, ends_of, ends_at, EndsLieIn, ChainLiesIn, HoldsChain, AskingAs, AskingLiesIn, HoldsWindows, HasItsWindows, IfTook};
+ghost use Rattle.fs_queue.specs.Windows.{room_places, of_direction, addresses_of, ends_of, ends_at, EndsLieIn, ChainLiesIn, HoldsChain, AskingAs, AskingLiesIn, HoldsWindows, HasItsWindows, IfTook};
 ghost use Rattle.fs_queue.specs.Chain.{IsChain};
 
 // The windows that a return at this position writes and reads besides the room.
@@ -63,7 +63,7 @@ fn hold_ends(
 
 // The bytes of the descriptors of one direction, as far as they can be counted.
 fn count_bytes(descriptors: &[Descriptor], write_only: bool) -> u64
-    ensures { result ≡ min (total_len (part write_only descriptors.now)) (2 ^ 64 - 1) }
+    ensures { result ≡ min (total_len (of_direction write_only descriptors.now)) (2 ^ 64 - 1) }
 {
     let mut sum = 0u64;
     for descriptor in descriptors {
@@ -74,18 +74,46 @@ fn count_bytes(descriptors: &[Descriptor], write_only: bool) -> u64
     sum
 }
 
+// How many descriptors of one direction there are.
+fn count_descriptors(descriptors: &[Descriptor], write_only: bool) -> usize {
+    let mut count = 0usize;
+    for descriptor in descriptors {
+        if descriptor.is_write_only() == write_only {
+            count = count.saturating_add(1);
+        }
+    }
+    count
+}
+
+// Has room for a window of each descriptor of one direction, where a list may be too short for that.
+#[inline]
+fn reserve_windows(
+    windows: &mut Windows,
+    descriptors: &[Descriptor],
+    write_only: bool,
+) -> Result<(), AllocError>
+    ensures { windows.new.items ≡ windows.old.items }
+{
+    if descriptors.len() > 2 {
+        windows.reserve(count_descriptors(descriptors, write_only))
+    } else {
+        Ok(())
+    }
+}
+
 // The windows of the descriptors of one direction, joined, if each of their addresses has a place.
-fn hold_part(
+fn hold_direction(
     alloc: Global,
     mem: &GuestMemoryMmap,
     descriptors: &[Descriptor],
     write_only: bool,
 ) -> Result<Option<Windows>, AllocError>
     requires { AllEndIn64Bits descriptors.now }
-    ensures found { IfOk result (λ o. option_map (λ v. places v.items) o ≡ located (place mem.now) (addresses_of (part write_only descriptors.now))) }
+    ensures found { IfOk result (λ o. option_map (λ v. places v.items) o ≡ located (place mem.now) (addresses_of (of_direction write_only descriptors.now))) }
     ensures lie { (lengths : List ℕ) → AreHeld lengths mem.now → IfOk result (λ o. IfSome o (λ v. AllLieIn lengths v.items)) }
 {
     let mut windows = Windows::new(alloc);
+    reserve_windows(&mut windows, descriptors, write_only)?;
     for descriptor in descriptors {
         if descriptor.is_write_only() == write_only
             && !add_windows(mem, descriptor.addr, descriptor.len as usize, &mut windows)?
@@ -115,10 +143,10 @@ fn hold_chain(
     if request_len > u64::from(limit) || room_len > u64::from(limit) {
         return Ok(Err(ChainFault::OverLimit));
     }
-    let Some(readable) = hold_part(alloc, mem, descriptors, false)? else {
+    let Some(readable) = hold_direction(alloc, mem, descriptors, false)? else {
         return Ok(Err(ChainFault::RequestUnreachable));
     };
-    let Some(writable) = hold_part(alloc, mem, descriptors, true)? else {
+    let Some(writable) = hold_direction(alloc, mem, descriptors, true)? else {
         return Ok(Err(ChainFault::RoomUnreachable));
     };
     Ok(Ok(Chain {

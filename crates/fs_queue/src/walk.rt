@@ -1,16 +1,20 @@
 //! The walk through a chain of descriptors (VIRTIO 1.2, 2.7.5).
 
-ghost use Rattle.std.specs.Prelude.{◌≡◌, ◌+◌, ◌*◌, ◌<◌, ◌^◌, IfOk, false, true};
+ghost use Rattle.std.specs.Prelude.{◌≡◌, ◌+◌, ◌*◌, ◌<◌, ◌^◌, ◌≤◌, IfOk, IfSome, Some, None, if◌then◌else◌, false, true, length, take, drop};
+ghost use Rattle.vm_values.specs.Fields.{AllFit, spelled};
+ghost use Rattle.vm_iotlb.specs.declared.permissions.Permissions.TheVariants.{Read};
 ghost use Rattle.vm_memory.specs.Layout.{HostHolds};
-ghost use Rattle.vm_memory.specs.Memory.{memory_of};
+ghost use Rattle.vm_memory.specs.Memory.{memory_of, reach};
 ghost use Rattle.fs_queue.specs.Queue.{at_position};
+ghost use Rattle.fs_queue.specs.Records.{descriptor};
 
 use crate::descriptor::{Descriptor, Descriptors, read_descriptor};
 use crate::fault::ChainFault;
 use crate::layout::QueueLayout;
 use std::alloc::{AllocError, Global};
-use vm_memory::GuestMemoryMmap;
-use vm_memory_core::{HostMemory, NewBitmap};
+use vm_memory::{GuestMemory, GuestMemoryMmap};
+use vm_memory_core::{GuestAddress, HostMemory, NewBitmap, Permissions};
+use vm_values::ByteValued;
 
 // How many bytes an entry of a table has.
 const ENTRY: u32 = 16;
@@ -40,8 +44,60 @@ pub(crate) enum Walked {
     Stopped,
 }
 
-ghost use Rattle.fs_queue.specs.Chain.{indirect_verdict, ordinary_verdict, verdict, chain, own_table};
-ghost use Rattle.fs_queue.specs.Walking.{in_table, found_of, IfJoins, IfLeads, EndsIn64Bits, DescriptorsFit};
+ghost use Rattle.fs_queue.specs.Chain.{descriptor_at, indirect_verdict, ordinary_verdict, verdict, chain, own_table};
+ghost use Rattle.fs_queue.specs.Walking.{in_table, found_of, IfJoins, IfLeads, EndsIn64Bits, AreTheTable, DescriptorsFit};
+
+// The bytes of a table, where one window has all of them.
+fn table_bytes<'a, B: NewBitmap>(
+    alloc: Global,
+    host: &'a HostMemory<B>,
+    mem: &GuestMemoryMmap,
+    table: DescriptorTable,
+) -> Option<&'a [u8]>
+    requires held { HostHolds host.now mem.now }
+    requires ends { EndsIn64Bits table }
+    ensures { IfSome result (λ b. AreTheTable (memory_of host.now mem.now) table b.now) }
+{
+    let len = ENTRY as usize * table.entries as usize;
+    let start = GuestAddress(table.address);
+    let Ok(mut windows) = mem.get_slices(alloc, host, start, len, Permissions::Read) else {
+        return None;
+    };
+    match windows.next() {
+        Some(Ok(window)) if window.len() == len && host.has(&window) => Some(host.bytes(window)),
+        _ => None,
+    }
+}
+
+// An entry of a table, by the table's bytes.
+fn entry_at(bytes: &[u8], index: u16) -> Descriptor
+    requires { 16 * index + 16 ≤ length bytes.now }
+    ensures bytes { take 16 (drop (16 * index) bytes.now) ≡ spelled (descriptor result) }
+    ensures fits { AllFit (descriptor result) }
+{
+    Descriptor::get_bytes(&bytes[16 * usize::from(index)..][..16])
+}
+
+// An entry of a table, whose bytes are at hand or are read.
+fn read_entry<B: NewBitmap>(
+    host: &HostMemory<B>,
+    mem: &GuestMemoryMmap,
+    table: DescriptorTable,
+    whole: Option<&[u8]>,
+    index: u16,
+) -> Option<Descriptor>
+    requires held { HostHolds host.now mem.now }
+    requires ends { EndsIn64Bits table }
+    requires index { index < table.entries }
+    requires whole { IfSome whole (λ b. AreTheTable (memory_of host.now mem.now) table b.now) }
+    ensures { let m = memory_of host.now mem.now in let a = table.address + 16 * index in
+        result ≡ (if reach m Read a 16 then Some (descriptor_at m a) else None) }
+{
+    match whole {
+        Some(bytes) => Some(entry_at(bytes, index)),
+        None => read_descriptor(host, mem, table.address + 16 * u64::from(index)),
+    }
+}
 
 // What the rules say of a descriptor that names a table, found in this one.
 fn lead(table: DescriptorTable, index: u16, left: u16, descriptor: Descriptor) -> Verdict
@@ -87,11 +143,13 @@ fn step<B: NewBitmap>(
     host: &HostMemory<B>,
     mem: &GuestMemoryMmap,
     table: DescriptorTable,
+    whole: Option<&[u8]>,
     index: u16,
     left: u16,
 ) -> Verdict
     requires held { HostHolds host.now mem.now }
     requires ends { EndsIn64Bits table }
+    requires whole { IfSome whole (λ b. AreTheTable (memory_of host.now mem.now) table b.now) }
     ensures verdict { result ≡ verdict (memory_of host.now mem.now) (in_table table index left) }
     ensures fits { IfJoins result (λ d. d.addr + d.len < 2 ^ 64) }
     ensures more { IfJoins result (λ _. 0 < left) }
@@ -100,7 +158,7 @@ fn step<B: NewBitmap>(
     if u32::from(index) >= table.entries {
         return Verdict::Faulty(ChainFault::NextOutOfTable);
     }
-    let Some(descriptor) = read_descriptor(host, mem, table.address + 16 * u64::from(index)) else {
+    let Some(descriptor) = read_entry(host, mem, table, whole, index) else {
         return if table.indirect {
             Verdict::Faulty(ChainFault::TableUnreachable)
         } else {
@@ -140,14 +198,16 @@ pub(crate) fn walk<B: NewBitmap>(
 {
     let mut descriptors = Descriptors::new(alloc);
     let mut table = queue_table(layout);
+    let mut whole = table_bytes(alloc, host, mem, table);
     let mut index = head;
     let mut left = layout.size();
     loop {
-        match step(host, mem, table, index, left) {
+        match step(host, mem, table, whole, index, left) {
             Verdict::Stops => return Ok(Walked::Stopped),
             Verdict::Faulty(fault) => return Ok(Walked::Faulty(fault)),
             Verdict::Leads(named) => {
                 table = named;
+                whole = table_bytes(alloc, host, mem, named);
                 index = 0;
             }
             Verdict::Joins(descriptor) => {

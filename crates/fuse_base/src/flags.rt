@@ -248,7 +248,7 @@ impl FsOptions {
     pub const ASYNC_READ: Self = FlagSet(1 << 0, PhantomData);
     /// Locks of records are served.
     pub const POSIX_LOCKS: Self = FlagSet(1 << 1, PhantomData);
-    /// Handles come with attributes.
+    /// GETATTR and SETATTR come with a handle.
     pub const FILE_OPS: Self = FlagSet(1 << 2, PhantomData);
     /// An open truncates.
     pub const ATOMIC_O_TRUNC: Self = FlagSet(1 << 3, PhantomData);
@@ -310,7 +310,7 @@ impl FsOptions {
     pub const SECURITY_CTX: Self = FlagSet(1 << 32, PhantomData);
     /// Files choose their own mapping.
     pub const HAS_INODE_DAX: Self = FlagSet(1 << 33, PhantomData);
-    /// A new node comes with a group.
+    /// A request that makes a node comes with a group of the caller.
     pub const CREATE_SUPP_GROUP: Self = FlagSet(1 << 34, PhantomData);
     /// Direct files may be mapped.
     pub const DIRECT_IO_ALLOW_MMAP: Self = FlagSet(1 << 36, PhantomData);

@@ -3,9 +3,9 @@
 
 pub mod constants;
 pub mod flags;
-pub mod ids;
-pub mod records;
-pub mod stats;
+mod ids;
+mod records;
+mod stats;
 
 pub use flags::{
     FsOptions, IoctlFlags, NotifyInvalEntryOutFlags, OpenOptions, SetattrValid, SetupmappingFlags,

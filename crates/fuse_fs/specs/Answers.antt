@@ -1,16 +1,64 @@
 -- What the answers of a file system's methods say, as numbers and bytes.
-use Rattle.std.specs.Prelude.{ℕ, List, Result, Ok, Err}
+use Rattle.std.specs.Prelude.{◌≡◌, ℕ, List, [], ◌∷◌, map, Option, option_map, Result, Ok, Err, Vec}
+use Rattle.std.specs.Global.{Global}
 use Rattle.std.specs.Int.{w32, cast_signed}
 use Rattle.fuse_base.specs.Options.{FsOptions}
+use Rattle.fuse_base.specs.declared.flags.FlagSet.{FlagSet}
+use Rattle.fuse_base.specs.declared.flags.OpenOptionsNames.{OpenOptionsNames}
+use Rattle.fuse_base.specs.declared.ids.GuestGid.{GuestGid}
+use Rattle.fuse_base.specs.declared.records.Attr.{Attr}
+use Rattle.fuse_base.specs.declared.stats.StatVfs.{StatVfs}
 use Rattle.fuse_in.specs.declared.session.InHeader.{InHeader}
 use Rattle.fuse_wire.specs.declared.replies.EntryOut.{EntryOut}
 use Rattle.fuse_fs.specs.declared.answers.Context.{Context}
 use Rattle.fuse_fs.specs.declared.answers.Entry.{Entry}
-use Rattle.fuse_fs.specs.Calls.{FileAnswer, Failed, HasEntry, Bytes, Wants}
+use Rattle.fuse_fs.specs.declared.answers.GetxattrReply.{GetxattrReply}
+use Rattle.fuse_fs.specs.declared.answers.GetxattrReply.TheVariants as value
+use Rattle.fuse_fs.specs.declared.answers.ListxattrReply.{ListxattrReply}
+use Rattle.fuse_fs.specs.declared.answers.ListxattrReply.TheVariants as names
+use Rattle.fuse_fs.specs.declared.directory.DirEntry.{DirEntry}
+use Rattle.fuse_fs.specs.declared.extensions.Extensions.{Extensions}
+use Rattle.fuse_fs.specs.declared.extensions.SecContext.{SecContext}
+use Rattle.fuse_fs.specs.Calls.{FileCall, FileAnswer, Forget, Failed, Done, HasEntry, HasAttr, Opened, Created, Bytes, Count, Stats, Wrote, Offset, Entries, Wants, SecurityContext, Extra, Listed}
+use Rattle.fuse_fs.specs.Times.{Duration}
+
+-- how an open file is treated, as a flag set
+abbrev pub OpenOptions : Type 0
+OpenOptions = FlagSet ℕ OpenOptionsNames
 
 -- who asks, by a request's header
 abbrev pub context_of : InHeader → Context
 context_of h = record { uid = h.uid; gid = h.gid; pid = cast_signed w32 h.pid }
+
+-- a set without flags
+abbrev pub no_flags : {N : Type 0} → FlagSet ℕ N
+no_flags = record { 0 = 0; 1 = record {} }
+
+-- a label with the name of its kind
+abbrev pub security_of : SecContext → SecurityContext
+security_of label = record { name = label.name.items; label = label.secctx.items }
+
+-- what comes with a request that makes a node
+abbrev pub extra_of : Extensions → Extra
+extra_of ext = record { security = option_map security_of ext.secctx; group = option_map (λ (g : GuestGid). g.0) ext.sup_gid }
+
+-- an entry of a directory
+abbrev pub listed : DirEntry → Listed
+listed e = record { ino = e.ino; offset = e.offset; kind = e.type_; name = e.name.now }
+
+-- what a file system tells of itself that counts nothing
+abbrev pub default_stats : StatVfs
+default_stats = record { f_blocks = 0; f_bfree = 0; f_bavail = 0; f_files = 0; f_ffree = 0; f_bsize = 512; f_namemax = 255; f_frsize = 0 }
+
+-- nodes with how often each is to be forgotten, by their numbers
+abbrev pub pair_numbers : {I : Type 0} → (I → ℕ) → List (I × ℕ) → List (ℕ × ℕ)
+pair_numbers number pairs = map (λ pair. (number pair.0, pair.1)) pairs
+
+-- each of these nodes is forgotten so often, one after another
+abbrev pub ForgetsEach : {F : Type 0} → (F → FileCall → FileAnswer → F → Type 0) → F → Context → List (ℕ × ℕ) → F → Type 0
+ForgetsEach may before who [] after = after ≡ before
+ForgetsEach {F} may before who (pair ∷ pairs) after =
+    (between : F) × may before (Forget who pair.0 pair.1) Done between × ForgetsEach may between who pairs after
 
 -- an entry with its node's number
 abbrev pub numbered : {I : Type 0} → (I → ℕ) → Entry I → Entry ℕ
@@ -34,7 +82,7 @@ abbrev pub options_answer : Result FsOptions ℕ → FileAnswer
 options_answer (Ok want) = Wants want.0
 options_answer (Err e) = Failed e
 
--- of `lookup`
+-- of `lookup` and of each call that makes a node
 abbrev pub entry_answer : {I : Type 0} → (I → ℕ) → Result (Entry I) ℕ → FileAnswer
 entry_answer number (Ok e) = HasEntry (numbered number e)
 entry_answer number (Err e) = Failed e
@@ -43,3 +91,60 @@ entry_answer number (Err e) = Failed e
 abbrev pub data_answer : Result ℕ ℕ → List ℕ → FileAnswer
 data_answer (Ok n) bytes = Bytes bytes
 data_answer (Err e) bytes = Failed e
+
+-- of the calls that answer nothing but whether they failed
+abbrev pub done_answer : {T : Type 0} → Result T ℕ → FileAnswer
+done_answer (Ok nothing) = Done
+done_answer (Err e) = Failed e
+
+-- of `getattr` and `setattr`
+abbrev pub attr_answer : Result (Attr × Duration) ℕ → FileAnswer
+attr_answer (Ok r) = HasAttr r.0 r.1
+attr_answer (Err e) = Failed e
+
+-- of `readlink`
+abbrev pub target_answer : Result (Vec ℕ Global) ℕ → FileAnswer
+target_answer (Ok target) = Bytes target.items
+target_answer (Err e) = Failed e
+
+-- of `open` and `opendir`
+abbrev pub opened_answer : {H : Type 0} → (H → ℕ) → Result (Option H × OpenOptions) ℕ → FileAnswer
+opened_answer number (Ok r) = Opened (option_map number r.0) r.1.0
+opened_answer number (Err e) = Failed e
+
+-- of `create`
+abbrev pub created_answer : {I H : Type 0} → (I → ℕ) → (H → ℕ) → Result (Entry I × Option H × OpenOptions) ℕ → FileAnswer
+created_answer node file (Ok r) = Created (numbered node r.0) (option_map file r.1) r.2.0
+created_answer node file (Err e) = Failed e
+
+-- of `write` and `copyfilerange`
+abbrev pub written_answer : Result ℕ ℕ → FileAnswer
+written_answer (Ok n) = Wrote n
+written_answer (Err e) = Failed e
+
+-- of `statfs`
+abbrev pub stats_answer : Result StatVfs ℕ → FileAnswer
+stats_answer (Ok st) = Stats st
+stats_answer (Err e) = Failed e
+
+-- of `getxattr`
+abbrev pub value_answer : Result GetxattrReply ℕ → FileAnswer
+value_answer (Ok (value.Value bytes)) = Bytes bytes.items
+value_answer (Ok (value.Count n)) = Count n
+value_answer (Err e) = Failed e
+
+-- of `listxattr`
+abbrev pub names_answer : Result ListxattrReply ℕ → FileAnswer
+names_answer (Ok (names.Names bytes)) = Bytes bytes.items
+names_answer (Ok (names.Count n)) = Count n
+names_answer (Err e) = Failed e
+
+-- of `readdir`, by what its iterator still gives
+abbrev pub listed_answer : {D : Type 0} → (D → List Listed) → Result D ℕ → FileAnswer
+listed_answer rest (Ok entries) = Entries (rest entries)
+listed_answer rest (Err e) = Failed e
+
+-- of `lseek`
+abbrev pub offset_answer : Result ℕ ℕ → FileAnswer
+offset_answer (Ok offset) = Offset offset
+offset_answer (Err e) = Failed e

@@ -24,7 +24,7 @@ pub record Listed : Type 0 where
   pub kind : ℕ
   pub name : List ℕ
 
--- a call of a file system; node and file numbers are below 2^64, and room is how many bytes a read may put in
+-- a call of a file system; room is how many bytes a read may put in
 pub data FileCall : Type 0 where
   Init : (capable : ℕ) → FileCall
   Destroy : FileCall

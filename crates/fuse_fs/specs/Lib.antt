@@ -1,5 +1,6 @@
 pub mod Answers
 pub mod Calls
 pub mod Lengths
+pub mod Replies
 pub mod Times
 pub mod Transfers

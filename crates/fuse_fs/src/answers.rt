@@ -1,4 +1,4 @@
-//! The values that a file system is given and answers.
+//! Values that a file system is given, and answers.
 
 ghost use Rattle.std.specs.Prelude.{◌≡◌, ◌<◌, ◌^◌, SomeIff};
 
@@ -65,6 +65,23 @@ pub struct Entry<I> {
     pub attr_timeout: Timeout,
     /// How long the name stays good.
     pub entry_timeout: Timeout,
+}
+
+/// The value of an extended attribute.
+#[derive(Debug, Drop)]
+pub enum GetxattrReply {
+    Value(Vec<u8>),
+    /// How many bytes the value has, where it was asked for with a size of 0.
+    Count(u32),
+}
+
+/// The names of a node's extended attributes.
+#[derive(Debug, Drop)]
+pub enum ListxattrReply {
+    /// Each name with a zero byte behind it.
+    Names(Vec<u8>),
+    /// How many bytes the names have, where they were asked for with a size of 0.
+    Count(u32),
 }
 
 /// Who asks: the guest's process, and in whose name it runs.

@@ -1,10 +1,18 @@
 //! File systems behind a trait: what they are asked, and what they answer.
 #![tactic(auto)]
 
-pub mod answers;
-pub mod file_system;
-pub mod zero_copy;
+mod answers;
+pub mod defaults;
+mod directory;
+mod extensions;
+mod file_system;
+pub mod replies;
+mod serialization;
+mod zero_copy;
 
-pub use answers::{Context, Entry, Timeout};
-pub use file_system::{FileNumber, FileSystem};
+pub use answers::{Context, Entry, GetxattrReply, ListxattrReply, Timeout};
+pub use directory::{DirEntry, DirectoryIterator, NoEntries};
+pub use extensions::{Extensions, SecContext};
+pub use file_system::{FileNumber, FileSystem, FileSystemBase};
+pub use serialization::SerializableFileSystem;
 pub use zero_copy::{PositionedFile, WritevFlags, ZeroCopyReader, ZeroCopyWriter};

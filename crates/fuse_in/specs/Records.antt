@@ -1,7 +1,8 @@
--- The records as the fields that spell them (linux/fuse.h).
+-- The records (linux/fuse.h): those that are read from requests by their shape, the others as the fields that spell them.
 use Rattle.std.specs.Prelude.{List, [], ◌++◌, ◌∷◌}
-use Rattle.vm_values.specs.Fields.{Field, d, ds, q, w}
+use Rattle.vm_values.specs.Fields.{Field, d, q}
 use Rattle.fuse_base.specs.Records.{file_lock}
+use Rattle.fuse_in.specs.Shapes.{Shape, u16, u32, u64, u32s, ◌&◌, end}
 use Rattle.fuse_in.specs.declared.session.InHeader.{InHeader}
 use Rattle.fuse_in.specs.declared.session.InitInCompat.{InitInCompat}
 use Rattle.fuse_in.specs.declared.session.InitInExt.{InitInExt}
@@ -39,118 +40,254 @@ use Rattle.fuse_in.specs.declared.devices.SetupmappingIn.{SetupmappingIn}
 use Rattle.fuse_in.specs.declared.devices.RemovemappingIn.{RemovemappingIn}
 
 -- struct fuse_in_header, 40 bytes
-abbrev pub in_header : InHeader → List Field
-in_header r = d r.len ∷ d r.opcode ∷ q r.unique ∷ q r.nodeid ∷ d r.uid.0 ∷ d r.gid.0 ∷ d r.pid ∷ w r.total_extlen ∷ w r.padding ∷ []
+abbrev pub in_header : Shape InHeader
+in_header = record {
+  parts = u32 ∷ u32 ∷ u64 ∷ u64 ∷ u32 ∷ u32 ∷ u32 ∷ u16 ∷ u16 ∷ [];
+  make = λ len opcode unique nodeid uid gid pid total_extlen padding.
+      record {
+        len = len;
+        opcode = opcode;
+        unique = unique;
+        nodeid = nodeid;
+        uid = record { 0 = uid };
+        gid = record { 0 = gid };
+        pid = pid;
+        total_extlen = total_extlen;
+        padding = padding;
+      };
+  says = λ r. r.len & r.opcode & r.unique & r.nodeid & r.uid.0 & r.gid.0 & r.pid & r.total_extlen & r.padding & end;
+}
 
--- struct fuse_init_in, 16 bytes
-abbrev pub init_in_compat : InitInCompat → List Field
-init_in_compat r = d r.major ∷ d r.minor ∷ d r.max_readahead ∷ d r.flags ∷ []
+-- struct fuse_init_in, its first 16 bytes
+abbrev pub init_in_compat : Shape InitInCompat
+init_in_compat = record {
+  parts = u32 ∷ u32 ∷ u32 ∷ u32 ∷ [];
+  make = λ major minor max_readahead flags. record { major = major; minor = minor; max_readahead = max_readahead; flags = flags };
+  says = λ r. r.major & r.minor & r.max_readahead & r.flags & end;
+}
 
--- struct fuse_init_in, 48 bytes
-abbrev pub init_in_ext : InitInExt → List Field
-init_in_ext r = d r.flags2 ∷ ds 11 r.unused ∷ []
+-- struct fuse_init_in, the 48 bytes after them
+abbrev pub init_in_ext : Shape InitInExt
+init_in_ext = record {
+  parts = u32 ∷ u32s 11 ∷ [];
+  make = λ flags2 unused. record { flags2 = flags2; unused = unused };
+  says = λ r. r.flags2 & r.unused & end;
+}
 
 -- struct fuse_interrupt_in, 8 bytes
 abbrev pub interrupt_in : InterruptIn → List Field
 interrupt_in r = q r.unique ∷ []
 
 -- struct fuse_forget_in, 8 bytes
-abbrev pub forget_in : ForgetIn → List Field
-forget_in r = q r.nlookup ∷ []
+abbrev pub forget_in : Shape ForgetIn
+forget_in = record {
+  parts = u64 ∷ [];
+  make = λ nlookup. record { nlookup = nlookup };
+  says = λ r. r.nlookup & end;
+}
 
 -- struct fuse_batch_forget_in, 8 bytes
-abbrev pub batch_forget_in : BatchForgetIn → List Field
-batch_forget_in r = d r.count ∷ d r.dummy ∷ []
+abbrev pub batch_forget_in : Shape BatchForgetIn
+batch_forget_in = record {
+  parts = u32 ∷ u32 ∷ [];
+  make = λ count dummy. record { count = count; dummy = dummy };
+  says = λ r. r.count & r.dummy & end;
+}
 
 -- struct fuse_syncfs_in, 8 bytes
 abbrev pub syncfs_in : SyncfsIn → List Field
 syncfs_in r = q r.padding ∷ []
 
 -- struct fuse_getattr_in, 16 bytes
-abbrev pub getattr_in : GetattrIn → List Field
-getattr_in r = d r.flags ∷ d r.dummy ∷ q r.fh ∷ []
+abbrev pub getattr_in : Shape GetattrIn
+getattr_in = record {
+  parts = u32 ∷ u32 ∷ u64 ∷ [];
+  make = λ flags dummy fh. record { flags = flags; dummy = dummy; fh = fh };
+  says = λ r. r.flags & r.dummy & r.fh & end;
+}
 
 -- struct fuse_setattr_in, 88 bytes
-abbrev pub setattr_in : SetattrIn → List Field
-setattr_in r =
-    d r.valid ∷ d r.padding ∷ q r.fh ∷ q r.size ∷ q r.lock_owner ∷ q r.atime ∷ q r.mtime ∷ q r.ctime ∷
-    d r.atimensec ∷ d r.mtimensec ∷ d r.ctimensec ∷ d r.mode ∷ d r.unused4 ∷ d r.uid.0 ∷ d r.gid.0 ∷ d r.unused5 ∷ []
+abbrev pub setattr_in : Shape SetattrIn
+setattr_in = record {
+  parts = u32 ∷ u32 ∷ u64 ∷ u64 ∷ u64 ∷ u64 ∷ u64 ∷ u64 ∷ u32 ∷ u32 ∷ u32 ∷ u32 ∷ u32 ∷ u32 ∷ u32 ∷ u32 ∷ [];
+  make = λ valid padding fh size lock_owner atime mtime ctime atimensec mtimensec ctimensec mode unused4 uid gid unused5.
+      record {
+        valid = valid;
+        padding = padding;
+        fh = fh;
+        size = size;
+        lock_owner = lock_owner;
+        atime = atime;
+        mtime = mtime;
+        ctime = ctime;
+        atimensec = atimensec;
+        mtimensec = mtimensec;
+        ctimensec = ctimensec;
+        mode = mode;
+        unused4 = unused4;
+        uid = record { 0 = uid };
+        gid = record { 0 = gid };
+        unused5 = unused5;
+      };
+  says = λ r.
+      r.valid & r.padding & r.fh & r.size & r.lock_owner & r.atime & r.mtime & r.ctime & r.atimensec & r.mtimensec & r.ctimensec & r.mode & r.unused4 &
+      r.uid.0 & r.gid.0 & r.unused5 & end;
+}
 
 -- struct fuse_mknod_in, 16 bytes
-abbrev pub mknod_in : MknodIn → List Field
-mknod_in r = d r.mode ∷ d r.rdev ∷ d r.umask ∷ d r.padding ∷ []
+abbrev pub mknod_in : Shape MknodIn
+mknod_in = record {
+  parts = u32 ∷ u32 ∷ u32 ∷ u32 ∷ [];
+  make = λ mode rdev umask padding. record { mode = mode; rdev = rdev; umask = umask; padding = padding };
+  says = λ r. r.mode & r.rdev & r.umask & r.padding & end;
+}
 
 -- struct fuse_mkdir_in, 8 bytes
-abbrev pub mkdir_in : MkdirIn → List Field
-mkdir_in r = d r.mode ∷ d r.umask ∷ []
+abbrev pub mkdir_in : Shape MkdirIn
+mkdir_in = record {
+  parts = u32 ∷ u32 ∷ [];
+  make = λ mode umask. record { mode = mode; umask = umask };
+  says = λ r. r.mode & r.umask & end;
+}
 
 -- struct fuse_rename_in, 8 bytes
-abbrev pub rename_in : RenameIn → List Field
-rename_in r = q r.newdir ∷ []
+abbrev pub rename_in : Shape RenameIn
+rename_in = record {
+  parts = u64 ∷ [];
+  make = λ newdir. record { newdir = newdir };
+  says = λ r. r.newdir & end;
+}
 
 -- struct fuse_rename2_in, 16 bytes
-abbrev pub rename2_in : Rename2In → List Field
-rename2_in r = q r.newdir ∷ d r.flags ∷ d r.padding ∷ []
+abbrev pub rename2_in : Shape Rename2In
+rename2_in = record {
+  parts = u64 ∷ u32 ∷ u32 ∷ [];
+  make = λ newdir flags padding. record { newdir = newdir; flags = flags; padding = padding };
+  says = λ r. r.newdir & r.flags & r.padding & end;
+}
 
 -- struct fuse_link_in, 8 bytes
-abbrev pub link_in : LinkIn → List Field
-link_in r = q r.oldnodeid ∷ []
+abbrev pub link_in : Shape LinkIn
+link_in = record {
+  parts = u64 ∷ [];
+  make = λ oldnodeid. record { oldnodeid = oldnodeid };
+  says = λ r. r.oldnodeid & end;
+}
 
 -- struct fuse_access_in, 8 bytes
-abbrev pub access_in : AccessIn → List Field
-access_in r = d r.mask ∷ d r.padding ∷ []
+abbrev pub access_in : Shape AccessIn
+access_in = record {
+  parts = u32 ∷ u32 ∷ [];
+  make = λ mask padding. record { mask = mask; padding = padding };
+  says = λ r. r.mask & r.padding & end;
+}
 
 -- struct fuse_setxattr_in, 16 bytes
-abbrev pub setxattr_in : SetxattrIn → List Field
-setxattr_in r = d r.size ∷ d r.flags ∷ d r.setxattr_flags ∷ d r.padding ∷ []
+abbrev pub setxattr_in : Shape SetxattrIn
+setxattr_in = record {
+  parts = u32 ∷ u32 ∷ u32 ∷ u32 ∷ [];
+  make = λ size flags setxattr_flags padding. record { size = size; flags = flags; setxattr_flags = setxattr_flags; padding = padding };
+  says = λ r. r.size & r.flags & r.setxattr_flags & r.padding & end;
+}
 
--- struct fuse_setxattr_in, 8 bytes
-abbrev pub setxattr_in_compat : SetxattrInCompat → List Field
-setxattr_in_compat r = d r.size ∷ d r.flags ∷ []
+-- struct fuse_setxattr_in in its older form, 8 bytes
+abbrev pub setxattr_in_compat : Shape SetxattrInCompat
+setxattr_in_compat = record {
+  parts = u32 ∷ u32 ∷ [];
+  make = λ size flags. record { size = size; flags = flags };
+  says = λ r. r.size & r.flags & end;
+}
 
 -- struct fuse_getxattr_in, 8 bytes
-abbrev pub getxattr_in : GetxattrIn → List Field
-getxattr_in r = d r.size ∷ d r.padding ∷ []
+abbrev pub getxattr_in : Shape GetxattrIn
+getxattr_in = record {
+  parts = u32 ∷ u32 ∷ [];
+  make = λ size padding. record { size = size; padding = padding };
+  says = λ r. r.size & r.padding & end;
+}
 
 -- struct fuse_open_in, 8 bytes
-abbrev pub open_in : OpenIn → List Field
-open_in r = d r.flags ∷ d r.open_flags ∷ []
+abbrev pub open_in : Shape OpenIn
+open_in = record {
+  parts = u32 ∷ u32 ∷ [];
+  make = λ flags open_flags. record { flags = flags; open_flags = open_flags };
+  says = λ r. r.flags & r.open_flags & end;
+}
 
 -- struct fuse_create_in, 16 bytes
-abbrev pub create_in : CreateIn → List Field
-create_in r = d r.flags ∷ d r.mode ∷ d r.umask ∷ d r.open_flags ∷ []
+abbrev pub create_in : Shape CreateIn
+create_in = record {
+  parts = u32 ∷ u32 ∷ u32 ∷ u32 ∷ [];
+  make = λ flags mode umask open_flags. record { flags = flags; mode = mode; umask = umask; open_flags = open_flags };
+  says = λ r. r.flags & r.mode & r.umask & r.open_flags & end;
+}
 
 -- struct fuse_release_in, 24 bytes
-abbrev pub release_in : ReleaseIn → List Field
-release_in r = q r.fh ∷ d r.flags ∷ d r.release_flags ∷ q r.lock_owner ∷ []
+abbrev pub release_in : Shape ReleaseIn
+release_in = record {
+  parts = u64 ∷ u32 ∷ u32 ∷ u64 ∷ [];
+  make = λ fh flags release_flags lock_owner. record { fh = fh; flags = flags; release_flags = release_flags; lock_owner = lock_owner };
+  says = λ r. r.fh & r.flags & r.release_flags & r.lock_owner & end;
+}
 
 -- struct fuse_flush_in, 24 bytes
-abbrev pub flush_in : FlushIn → List Field
-flush_in r = q r.fh ∷ d r.unused ∷ d r.padding ∷ q r.lock_owner ∷ []
+abbrev pub flush_in : Shape FlushIn
+flush_in = record {
+  parts = u64 ∷ u32 ∷ u32 ∷ u64 ∷ [];
+  make = λ fh unused padding lock_owner. record { fh = fh; unused = unused; padding = padding; lock_owner = lock_owner };
+  says = λ r. r.fh & r.unused & r.padding & r.lock_owner & end;
+}
 
 -- struct fuse_read_in, 40 bytes
-abbrev pub read_in : ReadIn → List Field
-read_in r = q r.fh ∷ q r.offset ∷ d r.size ∷ d r.read_flags ∷ q r.lock_owner ∷ d r.flags ∷ d r.padding ∷ []
+abbrev pub read_in : Shape ReadIn
+read_in = record {
+  parts = u64 ∷ u64 ∷ u32 ∷ u32 ∷ u64 ∷ u32 ∷ u32 ∷ [];
+  make = λ fh offset size read_flags lock_owner flags padding.
+      record { fh = fh; offset = offset; size = size; read_flags = read_flags; lock_owner = lock_owner; flags = flags; padding = padding };
+  says = λ r. r.fh & r.offset & r.size & r.read_flags & r.lock_owner & r.flags & r.padding & end;
+}
 
 -- struct fuse_write_in, 40 bytes
-abbrev pub write_in : WriteIn → List Field
-write_in r = q r.fh ∷ q r.offset ∷ d r.size ∷ d r.write_flags ∷ q r.lock_owner ∷ d r.flags ∷ d r.padding ∷ []
+abbrev pub write_in : Shape WriteIn
+write_in = record {
+  parts = u64 ∷ u64 ∷ u32 ∷ u32 ∷ u64 ∷ u32 ∷ u32 ∷ [];
+  make = λ fh offset size write_flags lock_owner flags padding.
+      record { fh = fh; offset = offset; size = size; write_flags = write_flags; lock_owner = lock_owner; flags = flags; padding = padding };
+  says = λ r. r.fh & r.offset & r.size & r.write_flags & r.lock_owner & r.flags & r.padding & end;
+}
 
 -- struct fuse_fsync_in, 16 bytes
-abbrev pub fsync_in : FsyncIn → List Field
-fsync_in r = q r.fh ∷ d r.fsync_flags ∷ d r.padding ∷ []
+abbrev pub fsync_in : Shape FsyncIn
+fsync_in = record {
+  parts = u64 ∷ u32 ∷ u32 ∷ [];
+  make = λ fh fsync_flags padding. record { fh = fh; fsync_flags = fsync_flags; padding = padding };
+  says = λ r. r.fh & r.fsync_flags & r.padding & end;
+}
 
 -- struct fuse_fallocate_in, 32 bytes
-abbrev pub fallocate_in : FallocateIn → List Field
-fallocate_in r = q r.fh ∷ q r.offset ∷ q r.length ∷ d r.mode ∷ d r.padding ∷ []
+abbrev pub fallocate_in : Shape FallocateIn
+fallocate_in = record {
+  parts = u64 ∷ u64 ∷ u64 ∷ u32 ∷ u32 ∷ [];
+  make = λ fh offset length mode padding. record { fh = fh; offset = offset; length = length; mode = mode; padding = padding };
+  says = λ r. r.fh & r.offset & r.length & r.mode & r.padding & end;
+}
 
 -- struct fuse_lseek_in, 24 bytes
-abbrev pub lseek_in : LseekIn → List Field
-lseek_in r = q r.fh ∷ q r.offset ∷ d r.whence ∷ d r.padding ∷ []
+abbrev pub lseek_in : Shape LseekIn
+lseek_in = record {
+  parts = u64 ∷ u64 ∷ u32 ∷ u32 ∷ [];
+  make = λ fh offset whence padding. record { fh = fh; offset = offset; whence = whence; padding = padding };
+  says = λ r. r.fh & r.offset & r.whence & r.padding & end;
+}
 
 -- struct fuse_copyfilerange_in, 56 bytes
-abbrev pub copyfilerange_in : CopyfilerangeIn → List Field
-copyfilerange_in r = q r.fh_in ∷ q r.off_in ∷ q r.nodeid_out ∷ q r.fh_out ∷ q r.off_out ∷ q r.len ∷ q r.flags ∷ []
+abbrev pub copyfilerange_in : Shape CopyfilerangeIn
+copyfilerange_in = record {
+  parts = u64 ∷ u64 ∷ u64 ∷ u64 ∷ u64 ∷ u64 ∷ u64 ∷ [];
+  make = λ fh_in off_in nodeid_out fh_out off_out len flags.
+      record { fh_in = fh_in; off_in = off_in; nodeid_out = nodeid_out; fh_out = fh_out; off_out = off_out; len = len; flags = flags };
+  says = λ r. r.fh_in & r.off_in & r.nodeid_out & r.fh_out & r.off_out & r.len & r.flags & end;
+}
 
 -- struct fuse_lk_in, 48 bytes
 abbrev pub lk_in : LkIn → List Field

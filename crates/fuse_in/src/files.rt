@@ -2,8 +2,10 @@
 
 ghost use Rattle.std.specs.Prelude.{refl};
 ghost use Rattle.std.proofs.Common.{rules};
+ghost use Rattle.fuse_in.specs.Shapes.{fields_by};
 ghost use Rattle.fuse_in.specs.Records.{open_in, create_in, release_in, flush_in, read_in, write_in, fsync_in, fallocate_in, lseek_in, copyfilerange_in, lk_in};
 
+use crate::record::InRecord;
 use fuse_base::FileLock;
 use vm_values::{ByteValued, get_fields, put_fields};
 
@@ -19,7 +21,7 @@ impl ByteValued for OpenIn {
 
     const SIZE: usize = 8;
 
-    ghost fields = { open_in };
+    ghost fields = { fields_by open_in };
 
     fn put_bytes(&self, out: &mut [u8]) {
         put_fields!(self, out; flags open_flags);
@@ -30,6 +32,12 @@ impl ByteValued for OpenIn {
     }
 
     ghost lawful = { (λ x y. refl, λ x y h. Prim.search rules, Prim.search rules) };
+}
+
+impl InRecord for OpenIn {
+    ghost shape = { open_in };
+
+    ghost of_shape = { (λ x. refl, λ x. refl, refl) };
 }
 
 /// `struct fuse_create_in`: 16 bytes.
@@ -46,7 +54,7 @@ impl ByteValued for CreateIn {
 
     const SIZE: usize = 16;
 
-    ghost fields = { create_in };
+    ghost fields = { fields_by create_in };
 
     fn put_bytes(&self, out: &mut [u8]) {
         put_fields!(self, out; flags mode umask open_flags);
@@ -57,6 +65,12 @@ impl ByteValued for CreateIn {
     }
 
     ghost lawful = { (λ x y. refl, λ x y h. Prim.search rules, Prim.search rules) };
+}
+
+impl InRecord for CreateIn {
+    ghost shape = { create_in };
+
+    ghost of_shape = { (λ x. refl, λ x. refl, refl) };
 }
 
 /// `struct fuse_release_in`: 24 bytes.
@@ -73,7 +87,7 @@ impl ByteValued for ReleaseIn {
 
     const SIZE: usize = 24;
 
-    ghost fields = { release_in };
+    ghost fields = { fields_by release_in };
 
     fn put_bytes(&self, out: &mut [u8]) {
         put_fields!(self, out; fh flags release_flags lock_owner);
@@ -84,6 +98,12 @@ impl ByteValued for ReleaseIn {
     }
 
     ghost lawful = { (λ x y. refl, λ x y h. Prim.search rules, Prim.search rules) };
+}
+
+impl InRecord for ReleaseIn {
+    ghost shape = { release_in };
+
+    ghost of_shape = { (λ x. refl, λ x. refl, refl) };
 }
 
 /// `struct fuse_flush_in`: 24 bytes.
@@ -100,7 +120,7 @@ impl ByteValued for FlushIn {
 
     const SIZE: usize = 24;
 
-    ghost fields = { flush_in };
+    ghost fields = { fields_by flush_in };
 
     fn put_bytes(&self, out: &mut [u8]) {
         put_fields!(self, out; fh unused padding lock_owner);
@@ -111,6 +131,12 @@ impl ByteValued for FlushIn {
     }
 
     ghost lawful = { (λ x y. refl, λ x y h. Prim.search rules, Prim.search rules) };
+}
+
+impl InRecord for FlushIn {
+    ghost shape = { flush_in };
+
+    ghost of_shape = { (λ x. refl, λ x. refl, refl) };
 }
 
 /// `struct fuse_read_in`: 40 bytes.
@@ -130,7 +156,7 @@ impl ByteValued for ReadIn {
 
     const SIZE: usize = 40;
 
-    ghost fields = { read_in };
+    ghost fields = { fields_by read_in };
 
     fn put_bytes(&self, out: &mut [u8]) {
         put_fields!(self, out; fh offset size read_flags lock_owner flags padding);
@@ -141,6 +167,12 @@ impl ByteValued for ReadIn {
     }
 
     ghost lawful = { (λ x y. refl, λ x y h. Prim.search rules, Prim.search rules) };
+}
+
+impl InRecord for ReadIn {
+    ghost shape = { read_in };
+
+    ghost of_shape = { (λ x. refl, λ x. refl, refl) };
 }
 
 /// `struct fuse_write_in`: 40 bytes.
@@ -160,7 +192,7 @@ impl ByteValued for WriteIn {
 
     const SIZE: usize = 40;
 
-    ghost fields = { write_in };
+    ghost fields = { fields_by write_in };
 
     fn put_bytes(&self, out: &mut [u8]) {
         put_fields!(self, out; fh offset size write_flags lock_owner flags padding);
@@ -171,6 +203,12 @@ impl ByteValued for WriteIn {
     }
 
     ghost lawful = { (λ x y. refl, λ x y h. Prim.search rules, Prim.search rules) };
+}
+
+impl InRecord for WriteIn {
+    ghost shape = { write_in };
+
+    ghost of_shape = { (λ x. refl, λ x. refl, refl) };
 }
 
 /// `struct fuse_fsync_in`: 16 bytes.
@@ -186,7 +224,7 @@ impl ByteValued for FsyncIn {
 
     const SIZE: usize = 16;
 
-    ghost fields = { fsync_in };
+    ghost fields = { fields_by fsync_in };
 
     fn put_bytes(&self, out: &mut [u8]) {
         put_fields!(self, out; fh fsync_flags padding);
@@ -197,6 +235,12 @@ impl ByteValued for FsyncIn {
     }
 
     ghost lawful = { (λ x y. refl, λ x y h. Prim.search rules, Prim.search rules) };
+}
+
+impl InRecord for FsyncIn {
+    ghost shape = { fsync_in };
+
+    ghost of_shape = { (λ x. refl, λ x. refl, refl) };
 }
 
 /// `struct fuse_fallocate_in`: 32 bytes.
@@ -214,7 +258,7 @@ impl ByteValued for FallocateIn {
 
     const SIZE: usize = 32;
 
-    ghost fields = { fallocate_in };
+    ghost fields = { fields_by fallocate_in };
 
     fn put_bytes(&self, out: &mut [u8]) {
         put_fields!(self, out; fh offset length mode padding);
@@ -225,6 +269,12 @@ impl ByteValued for FallocateIn {
     }
 
     ghost lawful = { (λ x y. refl, λ x y h. Prim.search rules, Prim.search rules) };
+}
+
+impl InRecord for FallocateIn {
+    ghost shape = { fallocate_in };
+
+    ghost of_shape = { (λ x. refl, λ x. refl, refl) };
 }
 
 /// `struct fuse_lseek_in`: 24 bytes.
@@ -241,7 +291,7 @@ impl ByteValued for LseekIn {
 
     const SIZE: usize = 24;
 
-    ghost fields = { lseek_in };
+    ghost fields = { fields_by lseek_in };
 
     fn put_bytes(&self, out: &mut [u8]) {
         put_fields!(self, out; fh offset whence padding);
@@ -252,6 +302,12 @@ impl ByteValued for LseekIn {
     }
 
     ghost lawful = { (λ x y. refl, λ x y h. Prim.search rules, Prim.search rules) };
+}
+
+impl InRecord for LseekIn {
+    ghost shape = { lseek_in };
+
+    ghost of_shape = { (λ x. refl, λ x. refl, refl) };
 }
 
 /// `struct fuse_copyfilerange_in`: 56 bytes.
@@ -271,7 +327,7 @@ impl ByteValued for CopyfilerangeIn {
 
     const SIZE: usize = 56;
 
-    ghost fields = { copyfilerange_in };
+    ghost fields = { fields_by copyfilerange_in };
 
     fn put_bytes(&self, out: &mut [u8]) {
         put_fields!(self, out; fh_in off_in nodeid_out fh_out off_out len flags);
@@ -282,6 +338,12 @@ impl ByteValued for CopyfilerangeIn {
     }
 
     ghost lawful = { (λ x y. refl, λ x y h. Prim.search rules, Prim.search rules) };
+}
+
+impl InRecord for CopyfilerangeIn {
+    ghost shape = { copyfilerange_in };
+
+    ghost of_shape = { (λ x. refl, λ x. refl, refl) };
 }
 
 /// `struct fuse_lk_in`: 48 bytes.

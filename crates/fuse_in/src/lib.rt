@@ -1,10 +1,11 @@
 //! The records of FUSE requests.
 #![tactic(auto)]
 
-pub mod devices;
-pub mod files;
-pub mod nodes;
-pub mod session;
+mod devices;
+mod files;
+mod nodes;
+mod record;
+mod session;
 
 pub use devices::{BmapIn, IoctlIn, NotifyRetrieveIn, PollIn, RemovemappingIn, SetupmappingIn};
 pub use files::{
@@ -15,6 +16,7 @@ pub use nodes::{
     AccessIn, GetattrIn, GetxattrIn, LinkIn, MkdirIn, MknodIn, Rename2In, RenameIn, SetattrIn,
     SetxattrIn, SetxattrInCompat,
 };
+pub use record::InRecord;
 pub use session::{
     BatchForgetIn, ForgetIn, InHeader, InitInCompat, InitInExt, InterruptIn, SyncfsIn,
 };

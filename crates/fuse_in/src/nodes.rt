@@ -2,8 +2,10 @@
 
 ghost use Rattle.std.specs.Prelude.{refl};
 ghost use Rattle.std.proofs.Common.{rules};
+ghost use Rattle.fuse_in.specs.Shapes.{fields_by};
 ghost use Rattle.fuse_in.specs.Records.{getattr_in, setattr_in, mknod_in, mkdir_in, rename_in, rename2_in, link_in, access_in, setxattr_in, setxattr_in_compat, getxattr_in};
 
+use crate::record::InRecord;
 use fuse_base::{GuestGid, GuestUid};
 use vm_values::{ByteValued, get_fields, put_fields};
 
@@ -20,7 +22,7 @@ impl ByteValued for GetattrIn {
 
     const SIZE: usize = 16;
 
-    ghost fields = { getattr_in };
+    ghost fields = { fields_by getattr_in };
 
     fn put_bytes(&self, out: &mut [u8]) {
         put_fields!(self, out; flags dummy fh);
@@ -31,6 +33,12 @@ impl ByteValued for GetattrIn {
     }
 
     ghost lawful = { (λ x y. refl, λ x y h. Prim.search rules, Prim.search rules) };
+}
+
+impl InRecord for GetattrIn {
+    ghost shape = { getattr_in };
+
+    ghost of_shape = { (λ x. refl, λ x. refl, refl) };
 }
 
 /// `struct fuse_setattr_in`: 88 bytes.
@@ -59,7 +67,7 @@ impl ByteValued for SetattrIn {
 
     const SIZE: usize = 88;
 
-    ghost fields = { setattr_in };
+    ghost fields = { fields_by setattr_in };
 
     fn put_bytes(&self, out: &mut [u8]) {
         put_fields!(self, out;
@@ -78,6 +86,12 @@ impl ByteValued for SetattrIn {
     ghost lawful = { (λ x y. refl, λ x y h. Prim.search rules, Prim.search rules) };
 }
 
+impl InRecord for SetattrIn {
+    ghost shape = { setattr_in };
+
+    ghost of_shape = { (λ x. refl, λ x. refl, refl) };
+}
+
 /// `struct fuse_mknod_in`: 16 bytes.
 #[derive(Clone, Copy, Debug, Default, PartialEq)]
 pub struct MknodIn {
@@ -92,7 +106,7 @@ impl ByteValued for MknodIn {
 
     const SIZE: usize = 16;
 
-    ghost fields = { mknod_in };
+    ghost fields = { fields_by mknod_in };
 
     fn put_bytes(&self, out: &mut [u8]) {
         put_fields!(self, out; mode rdev umask padding);
@@ -103,6 +117,12 @@ impl ByteValued for MknodIn {
     }
 
     ghost lawful = { (λ x y. refl, λ x y h. Prim.search rules, Prim.search rules) };
+}
+
+impl InRecord for MknodIn {
+    ghost shape = { mknod_in };
+
+    ghost of_shape = { (λ x. refl, λ x. refl, refl) };
 }
 
 /// `struct fuse_mkdir_in`: 8 bytes.
@@ -117,7 +137,7 @@ impl ByteValued for MkdirIn {
 
     const SIZE: usize = 8;
 
-    ghost fields = { mkdir_in };
+    ghost fields = { fields_by mkdir_in };
 
     fn put_bytes(&self, out: &mut [u8]) {
         put_fields!(self, out; mode umask);
@@ -128,6 +148,12 @@ impl ByteValued for MkdirIn {
     }
 
     ghost lawful = { (λ x y. refl, λ x y h. Prim.search rules, Prim.search rules) };
+}
+
+impl InRecord for MkdirIn {
+    ghost shape = { mkdir_in };
+
+    ghost of_shape = { (λ x. refl, λ x. refl, refl) };
 }
 
 /// `struct fuse_rename_in`: 8 bytes.
@@ -141,7 +167,7 @@ impl ByteValued for RenameIn {
 
     const SIZE: usize = 8;
 
-    ghost fields = { rename_in };
+    ghost fields = { fields_by rename_in };
 
     fn put_bytes(&self, out: &mut [u8]) {
         put_fields!(self, out; newdir);
@@ -152,6 +178,12 @@ impl ByteValued for RenameIn {
     }
 
     ghost lawful = { (λ x y. refl, λ x y h. Prim.search rules, Prim.search rules) };
+}
+
+impl InRecord for RenameIn {
+    ghost shape = { rename_in };
+
+    ghost of_shape = { (λ x. refl, λ x. refl, refl) };
 }
 
 /// `struct fuse_rename2_in`: 16 bytes.
@@ -167,7 +199,7 @@ impl ByteValued for Rename2In {
 
     const SIZE: usize = 16;
 
-    ghost fields = { rename2_in };
+    ghost fields = { fields_by rename2_in };
 
     fn put_bytes(&self, out: &mut [u8]) {
         put_fields!(self, out; newdir flags padding);
@@ -178,6 +210,12 @@ impl ByteValued for Rename2In {
     }
 
     ghost lawful = { (λ x y. refl, λ x y h. Prim.search rules, Prim.search rules) };
+}
+
+impl InRecord for Rename2In {
+    ghost shape = { rename2_in };
+
+    ghost of_shape = { (λ x. refl, λ x. refl, refl) };
 }
 
 /// `struct fuse_link_in`: 8 bytes.
@@ -191,7 +229,7 @@ impl ByteValued for LinkIn {
 
     const SIZE: usize = 8;
 
-    ghost fields = { link_in };
+    ghost fields = { fields_by link_in };
 
     fn put_bytes(&self, out: &mut [u8]) {
         put_fields!(self, out; oldnodeid);
@@ -202,6 +240,12 @@ impl ByteValued for LinkIn {
     }
 
     ghost lawful = { (λ x y. refl, λ x y h. Prim.search rules, Prim.search rules) };
+}
+
+impl InRecord for LinkIn {
+    ghost shape = { link_in };
+
+    ghost of_shape = { (λ x. refl, λ x. refl, refl) };
 }
 
 /// `struct fuse_access_in`: 8 bytes.
@@ -216,7 +260,7 @@ impl ByteValued for AccessIn {
 
     const SIZE: usize = 8;
 
-    ghost fields = { access_in };
+    ghost fields = { fields_by access_in };
 
     fn put_bytes(&self, out: &mut [u8]) {
         put_fields!(self, out; mask padding);
@@ -227,6 +271,12 @@ impl ByteValued for AccessIn {
     }
 
     ghost lawful = { (λ x y. refl, λ x y h. Prim.search rules, Prim.search rules) };
+}
+
+impl InRecord for AccessIn {
+    ghost shape = { access_in };
+
+    ghost of_shape = { (λ x. refl, λ x. refl, refl) };
 }
 
 /// `struct fuse_setxattr_in`: 16 bytes.
@@ -243,7 +293,7 @@ impl ByteValued for SetxattrIn {
 
     const SIZE: usize = 16;
 
-    ghost fields = { setxattr_in };
+    ghost fields = { fields_by setxattr_in };
 
     fn put_bytes(&self, out: &mut [u8]) {
         put_fields!(self, out; size flags setxattr_flags padding);
@@ -256,7 +306,13 @@ impl ByteValued for SetxattrIn {
     ghost lawful = { (λ x y. refl, λ x y h. Prim.search rules, Prim.search rules) };
 }
 
-/// `struct fuse_setxattr_in`: 8 bytes.
+impl InRecord for SetxattrIn {
+    ghost shape = { setxattr_in };
+
+    ghost of_shape = { (λ x. refl, λ x. refl, refl) };
+}
+
+/// `struct fuse_setxattr_in` in its older form (FUSE_COMPAT_SETXATTR_IN_SIZE): 8 bytes.
 #[derive(Clone, Copy, Debug, Default, PartialEq)]
 pub struct SetxattrInCompat {
     pub size: u32,
@@ -268,7 +324,7 @@ impl ByteValued for SetxattrInCompat {
 
     const SIZE: usize = 8;
 
-    ghost fields = { setxattr_in_compat };
+    ghost fields = { fields_by setxattr_in_compat };
 
     fn put_bytes(&self, out: &mut [u8]) {
         put_fields!(self, out; size flags);
@@ -279,6 +335,12 @@ impl ByteValued for SetxattrInCompat {
     }
 
     ghost lawful = { (λ x y. refl, λ x y h. Prim.search rules, Prim.search rules) };
+}
+
+impl InRecord for SetxattrInCompat {
+    ghost shape = { setxattr_in_compat };
+
+    ghost of_shape = { (λ x. refl, λ x. refl, refl) };
 }
 
 /// `struct fuse_getxattr_in`: 8 bytes.
@@ -293,7 +355,7 @@ impl ByteValued for GetxattrIn {
 
     const SIZE: usize = 8;
 
-    ghost fields = { getxattr_in };
+    ghost fields = { fields_by getxattr_in };
 
     fn put_bytes(&self, out: &mut [u8]) {
         put_fields!(self, out; size padding);
@@ -304,4 +366,10 @@ impl ByteValued for GetxattrIn {
     }
 
     ghost lawful = { (λ x y. refl, λ x y h. Prim.search rules, Prim.search rules) };
+}
+
+impl InRecord for GetxattrIn {
+    ghost shape = { getxattr_in };
+
+    ghost of_shape = { (λ x. refl, λ x. refl, refl) };
 }

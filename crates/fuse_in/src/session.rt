@@ -2,8 +2,10 @@
 
 ghost use Rattle.std.specs.Prelude.{refl};
 ghost use Rattle.std.proofs.Common.{rules};
+ghost use Rattle.fuse_in.specs.Shapes.{fields_by};
 ghost use Rattle.fuse_in.specs.Records.{in_header, init_in_compat, init_in_ext, interrupt_in, forget_in, batch_forget_in, syncfs_in};
 
+use crate::record::InRecord;
 use fuse_base::{GuestGid, GuestUid};
 use vm_values::{ByteValued, get_fields, put_fields};
 
@@ -26,7 +28,7 @@ impl ByteValued for InHeader {
 
     const SIZE: usize = 40;
 
-    ghost fields = { in_header };
+    ghost fields = { fields_by in_header };
 
     fn put_bytes(&self, out: &mut [u8]) {
         put_fields!(self, out; len opcode unique nodeid uid gid pid total_extlen padding);
@@ -39,7 +41,13 @@ impl ByteValued for InHeader {
     ghost lawful = { (λ x y. refl, λ x y h. Prim.search rules, Prim.search rules) };
 }
 
-/// `struct fuse_init_in`: 16 bytes.
+impl InRecord for InHeader {
+    ghost shape = { in_header };
+
+    ghost of_shape = { (λ x. refl, λ x. refl, refl) };
+}
+
+/// `struct fuse_init_in`: its first 16 bytes.
 #[derive(Clone, Copy, Debug, Default, PartialEq)]
 pub struct InitInCompat {
     pub major: u32,
@@ -53,7 +61,7 @@ impl ByteValued for InitInCompat {
 
     const SIZE: usize = 16;
 
-    ghost fields = { init_in_compat };
+    ghost fields = { fields_by init_in_compat };
 
     fn put_bytes(&self, out: &mut [u8]) {
         put_fields!(self, out; major minor max_readahead flags);
@@ -66,7 +74,13 @@ impl ByteValued for InitInCompat {
     ghost lawful = { (λ x y. refl, λ x y h. Prim.search rules, Prim.search rules) };
 }
 
-/// `struct fuse_init_in`: 48 bytes.
+impl InRecord for InitInCompat {
+    ghost shape = { init_in_compat };
+
+    ghost of_shape = { (λ x. refl, λ x. refl, refl) };
+}
+
+/// `struct fuse_init_in`: the 48 bytes after them, with FUSE_INIT_EXT.
 #[derive(Clone, Copy, Debug, Default, PartialEq)]
 pub struct InitInExt {
     pub flags2: u32,
@@ -78,7 +92,7 @@ impl ByteValued for InitInExt {
 
     const SIZE: usize = 48;
 
-    ghost fields = { init_in_ext };
+    ghost fields = { fields_by init_in_ext };
 
     fn put_bytes(&self, out: &mut [u8]) {
         put_fields!(self, out; flags2 unused);
@@ -89,6 +103,12 @@ impl ByteValued for InitInExt {
     }
 
     ghost lawful = { (λ x y. refl, λ x y h. Prim.search rules, Prim.search rules) };
+}
+
+impl InRecord for InitInExt {
+    ghost shape = { init_in_ext };
+
+    ghost of_shape = { (λ x. refl, λ x. refl, refl) };
 }
 
 /// `struct fuse_interrupt_in`: 8 bytes.
@@ -126,7 +146,7 @@ impl ByteValued for ForgetIn {
 
     const SIZE: usize = 8;
 
-    ghost fields = { forget_in };
+    ghost fields = { fields_by forget_in };
 
     fn put_bytes(&self, out: &mut [u8]) {
         put_fields!(self, out; nlookup);
@@ -137,6 +157,12 @@ impl ByteValued for ForgetIn {
     }
 
     ghost lawful = { (λ x y. refl, λ x y h. Prim.search rules, Prim.search rules) };
+}
+
+impl InRecord for ForgetIn {
+    ghost shape = { forget_in };
+
+    ghost of_shape = { (λ x. refl, λ x. refl, refl) };
 }
 
 /// `struct fuse_batch_forget_in`: 8 bytes.
@@ -151,7 +177,7 @@ impl ByteValued for BatchForgetIn {
 
     const SIZE: usize = 8;
 
-    ghost fields = { batch_forget_in };
+    ghost fields = { fields_by batch_forget_in };
 
     fn put_bytes(&self, out: &mut [u8]) {
         put_fields!(self, out; count dummy);
@@ -162,6 +188,12 @@ impl ByteValued for BatchForgetIn {
     }
 
     ghost lawful = { (λ x y. refl, λ x y h. Prim.search rules, Prim.search rules) };
+}
+
+impl InRecord for BatchForgetIn {
+    ghost shape = { batch_forget_in };
+
+    ghost of_shape = { (λ x. refl, λ x. refl, refl) };
 }
 
 /// `struct fuse_syncfs_in`: 8 bytes.

@@ -1,7 +1,8 @@
 -- The faults by their numbers.
 use Rattle.std.specs.Prelude.{ℕ}
 use Rattle.fuse_segments.specs.declared.error.Error.{Error}
-use Rattle.fuse_segments.specs.declared.error.Error.TheVariants.{DecodeMessage, EncodeMessage, FlushMessage, MissingParameter, MissingExtension, InvalidHeaderLength, InvalidCString, InvalidCString2, InvalidXattrSize, DescriptorChainOverflow, SplitOutOfBounds, IoError, OutOfMemory}
+use Rattle.fuse_segments.specs.declared.error.Error.TheVariants.{DecodeMessage, EncodeMessage, FlushMessage, MissingParameter, MissingExtension}
+use Rattle.fuse_segments.specs.declared.error.Error.TheVariants.{InvalidHeaderLength, InvalidCString, InvalidCString2, InvalidXattrSize, DescriptorChainOverflow, SplitOutOfBounds, IoError, OutOfMemory}
 
 -- the number that tells a fault apart
 abbrev pub error_number : Error → ℕ

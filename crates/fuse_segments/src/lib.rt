@@ -1,10 +1,10 @@
 //! What requests are read from and replies are written to, over segments (virtiofsd's `descriptor_utils`).
 #![tactic(auto)]
 
-pub mod error;
-pub mod reader;
-pub mod writer;
-pub mod zero_copy;
+mod error;
+mod reader;
+mod writer;
+mod zero_copy;
 
 pub use error::Error;
 pub use reader::Reader;

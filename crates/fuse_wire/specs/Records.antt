@@ -1,7 +1,8 @@
--- The records as the fields that spell them (linux/fuse.h).
+-- The records (linux/fuse.h): those that are read from requests by their shape, the others as the fields that spell them.
 use Rattle.std.specs.Prelude.{List, [], ◌++◌, ◌∷◌}
 use Rattle.vm_values.specs.Fields.{Field, d, ds, i, l, q, w}
 use Rattle.fuse_base.specs.Records.{attr, file_lock, kstatfs}
+use Rattle.fuse_in.specs.Shapes.{Shape, u32, u64, ◌&◌, end}
 use Rattle.fuse_wire.specs.declared.replies.OutHeader.{OutHeader}
 use Rattle.fuse_wire.specs.declared.replies.StatfsOut.{StatfsOut}
 use Rattle.fuse_wire.specs.declared.replies.EntryOut.{EntryOut}
@@ -82,8 +83,12 @@ abbrev pub direntplus : Direntplus → List Field
 direntplus r = entry_out r.entry_out ++ dirent r.dirent
 
 -- struct fuse_forget_one, 16 bytes
-abbrev pub forget_one : ForgetOne → List Field
-forget_one r = q r.nodeid ∷ q r.nlookup ∷ []
+abbrev pub forget_one : Shape ForgetOne
+forget_one = record {
+  parts = u64 ∷ u64 ∷ [];
+  make = λ nodeid nlookup. record { nodeid = nodeid; nlookup = nlookup };
+  says = λ r. r.nodeid & r.nlookup & end;
+}
 
 -- struct fuse_removemapping_one, 16 bytes
 abbrev pub removemapping_one : RemovemappingOne → List Field
@@ -106,20 +111,32 @@ abbrev pub poll_out : PollOut → List Field
 poll_out r = d r.revents ∷ d r.padding ∷ []
 
 -- struct fuse_ext_header, 8 bytes
-abbrev pub ext_header : ExtHeader → List Field
-ext_header r = d r.size ∷ d r.ext_type ∷ []
+abbrev pub ext_header : Shape ExtHeader
+ext_header = record {
+  parts = u32 ∷ u32 ∷ [];
+  make = λ size ext_type. record { size = size; ext_type = ext_type };
+  says = λ r. r.size & r.ext_type & end;
+}
 
 -- struct fuse_secctx, 8 bytes
-abbrev pub secctx : Secctx → List Field
-secctx r = d r.size ∷ d r.padding ∷ []
+abbrev pub secctx : Shape Secctx
+secctx = record {
+  parts = u32 ∷ u32 ∷ [];
+  make = λ size padding. record { size = size; padding = padding };
+  says = λ r. r.size & r.padding & end;
+}
 
 -- struct fuse_secctx_header, 8 bytes
 abbrev pub secctx_header : SecctxHeader → List Field
 secctx_header r = d r.size ∷ d r.nr_secctx ∷ []
 
 -- struct fuse_supp_groups, 4 bytes
-abbrev pub supp_groups : SuppGroups → List Field
-supp_groups r = d r.nr_groups ∷ []
+abbrev pub supp_groups : Shape SuppGroups
+supp_groups = record {
+  parts = u32 ∷ [];
+  make = λ nr_groups. record { nr_groups = nr_groups };
+  says = λ r. r.nr_groups & end;
+}
 
 -- struct fuse_notify_poll_wakeup_out, 8 bytes
 abbrev pub notify_poll_wakeup_out : NotifyPollWakeupOut → List Field

@@ -1,10 +1,10 @@
 //! The records and numbers of the FUSE protocol, version 7.38.
 #![tactic(auto)]
 
-pub mod notices;
-pub mod opcodes;
-pub mod others;
-pub mod replies;
+mod notices;
+mod opcodes;
+mod others;
+mod replies;
 
 pub use fuse_base::{
     Attr, Errno, FileLock, FsOptions, GuestGid, GuestUid, HostGid, HostUid, IoctlFlags, Kstatfs,
@@ -13,10 +13,10 @@ pub use fuse_base::{
 };
 pub use fuse_in::{
     AccessIn, BatchForgetIn, BmapIn, CopyfilerangeIn, CreateIn, FallocateIn, FlushIn, ForgetIn,
-    FsyncIn, GetattrIn, GetxattrIn, InHeader, InitInCompat, InitInExt, InterruptIn, IoctlIn,
-    LinkIn, LkIn, LseekIn, MkdirIn, MknodIn, NotifyRetrieveIn, OpenIn, PollIn, ReadIn, ReleaseIn,
-    RemovemappingIn, Rename2In, RenameIn, SetattrIn, SetupmappingIn, SetxattrIn, SetxattrInCompat,
-    SyncfsIn, WriteIn,
+    FsyncIn, GetattrIn, GetxattrIn, InHeader, InRecord, InitInCompat, InitInExt, InterruptIn,
+    IoctlIn, LinkIn, LkIn, LseekIn, MkdirIn, MknodIn, NotifyRetrieveIn, OpenIn, PollIn, ReadIn,
+    ReleaseIn, RemovemappingIn, Rename2In, RenameIn, SetattrIn, SetupmappingIn, SetxattrIn,
+    SetxattrInCompat, SyncfsIn, WriteIn,
 };
 pub use notices::{
     Notify_Retrieve_Out, NotifyDeleteOut, NotifyInvalEntryOut, NotifyInvalInodeOut,

@@ -2,8 +2,10 @@
 
 ghost use Rattle.std.specs.Prelude.{refl};
 ghost use Rattle.std.proofs.Common.{rules};
+ghost use Rattle.fuse_in.specs.Shapes.{fields_by};
 ghost use Rattle.fuse_wire.specs.Records.{forget_one, removemapping_one, bmap_out, ioctl_iovec, ioctl_out, poll_out, ext_header, secctx, secctx_header, supp_groups};
 
+use fuse_in::InRecord;
 use vm_values::{ByteValued, get_fields, put_fields};
 
 /// `struct fuse_forget_one`: 16 bytes.
@@ -18,7 +20,7 @@ impl ByteValued for ForgetOne {
 
     const SIZE: usize = 16;
 
-    ghost fields = { forget_one };
+    ghost fields = { fields_by forget_one };
 
     fn put_bytes(&self, out: &mut [u8]) {
         put_fields!(self, out; nodeid nlookup);
@@ -29,6 +31,12 @@ impl ByteValued for ForgetOne {
     }
 
     ghost lawful = { (λ x y. refl, λ x y h. Prim.search rules, Prim.search rules) };
+}
+
+impl InRecord for ForgetOne {
+    ghost shape = { forget_one };
+
+    ghost of_shape = { (λ x. refl, λ x. refl, refl) };
 }
 
 /// `struct fuse_removemapping_one`: 16 bytes.
@@ -169,7 +177,7 @@ impl ByteValued for ExtHeader {
 
     const SIZE: usize = 8;
 
-    ghost fields = { ext_header };
+    ghost fields = { fields_by ext_header };
 
     fn put_bytes(&self, out: &mut [u8]) {
         put_fields!(self, out; size ext_type);
@@ -180,6 +188,12 @@ impl ByteValued for ExtHeader {
     }
 
     ghost lawful = { (λ x y. refl, λ x y h. Prim.search rules, Prim.search rules) };
+}
+
+impl InRecord for ExtHeader {
+    ghost shape = { ext_header };
+
+    ghost of_shape = { (λ x. refl, λ x. refl, refl) };
 }
 
 /// `struct fuse_secctx`: 8 bytes.
@@ -194,7 +208,7 @@ impl ByteValued for Secctx {
 
     const SIZE: usize = 8;
 
-    ghost fields = { secctx };
+    ghost fields = { fields_by secctx };
 
     fn put_bytes(&self, out: &mut [u8]) {
         put_fields!(self, out; size padding);
@@ -205,6 +219,12 @@ impl ByteValued for Secctx {
     }
 
     ghost lawful = { (λ x y. refl, λ x y h. Prim.search rules, Prim.search rules) };
+}
+
+impl InRecord for Secctx {
+    ghost shape = { secctx };
+
+    ghost of_shape = { (λ x. refl, λ x. refl, refl) };
 }
 
 /// `struct fuse_secctx_header`: 8 bytes.
@@ -243,7 +263,7 @@ impl ByteValued for SuppGroups {
 
     const SIZE: usize = 4;
 
-    ghost fields = { supp_groups };
+    ghost fields = { fields_by supp_groups };
 
     fn put_bytes(&self, out: &mut [u8]) {
         put_fields!(self, out; nr_groups);
@@ -254,4 +274,10 @@ impl ByteValued for SuppGroups {
     }
 
     ghost lawful = { (λ x y. refl, λ x y h. Prim.search rules, Prim.search rules) };
+}
+
+impl InRecord for SuppGroups {
+    ghost shape = { supp_groups };
+
+    ghost of_shape = { (λ x. refl, λ x. refl, refl) };
 }

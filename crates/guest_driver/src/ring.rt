@@ -154,51 +154,58 @@ impl Guest {
         readable: &[(u64, u32)],
         writable: &[(u64, u32)],
     ) -> Result<(), GuestMemoryError> {
+        self.chain_in(self.ring.desc, head, request, readable, writable)?;
+        self.make_available(head)
+    }
+
+    /// Offers such a chain of the entries of a table of its own, which begins at an address and is named by the entry `head`
+    /// of the descriptor table (VIRTIO 1.2, 2.7.5.3).
+    pub fn indirect_chain(
+        &mut self,
+        head: u16,
+        table: u64,
+        request: &[u8],
+        readable: &[(u64, u32)],
+        writable: &[(u64, u32)],
+    ) -> Result<(), GuestMemoryError> {
+        self.chain_in(table, 0, request, readable, writable)?;
+        let entries = readable.len().saturating_add(writable.len());
+        let names_table = Descriptor {
+            addr: table,
+            len: u32::try_from(entries.saturating_mul(16)).unwrap_or(u32::MAX),
+            flags: INDIRECT,
+            next: 0,
+        };
+        self.descriptor(head, names_table)?;
+        self.make_available(head)
+    }
+
+    // Puts a chain into the entries of a table from an index on.
+    fn chain_in(
+        &mut self,
+        table: u64,
+        first: u16,
+        request: &[u8],
+        readable: &[(u64, u32)],
+        writable: &[(u64, u32)],
+    ) -> Result<(), GuestMemoryError> {
         let mut left = readable.len().saturating_add(writable.len());
-        let mut index = head;
+        let mut index = first;
         let mut rest = request;
         for (addr, len) in readable {
             let (part, behind) = rest.split_at((*len as usize).min(rest.len()));
             self.put(*addr, part)?;
             rest = behind;
             left = left.saturating_sub(1);
-            self.link(index, *addr, *len, 0, left)?;
+            self.descriptor_in(table, index, linked(*addr, *len, 0, index, left))?;
             index = index.wrapping_add(1);
         }
         for (addr, len) in writable {
             left = left.saturating_sub(1);
-            self.link(index, *addr, *len, WRITE, left)?;
+            self.descriptor_in(table, index, linked(*addr, *len, WRITE, index, left))?;
             index = index.wrapping_add(1);
         }
-        self.make_available(head)
-    }
-
-    // An entry of a chain, after which `left` more come, each at the next index.
-    fn link(
-        &mut self,
-        index: u16,
-        addr: u64,
-        len: u32,
-        flags: u16,
-        left: usize,
-    ) -> Result<(), GuestMemoryError> {
-        let next = index.wrapping_add(1);
-        let entry = if left == 0 {
-            Descriptor {
-                addr,
-                len,
-                flags,
-                next: 0,
-            }
-        } else {
-            Descriptor {
-                addr,
-                len,
-                flags: flags | NEXT,
-                next,
-            }
-        };
-        self.descriptor(index, entry)
+        Ok(())
     }
 
     /// The used ring's element in a slot.
@@ -233,5 +240,24 @@ impl Guest {
             }
         }
         Ok(pages)
+    }
+}
+
+// The entry at an index of a chain, after which `left` more come, each at the next index.
+fn linked(addr: u64, len: u32, flags: u16, index: u16, left: usize) -> Descriptor {
+    if left == 0 {
+        Descriptor {
+            addr,
+            len,
+            flags,
+            next: 0,
+        }
+    } else {
+        Descriptor {
+            addr,
+            len,
+            flags: flags | NEXT,
+            next: index.wrapping_add(1),
+        }
     }
 }

@@ -6,10 +6,8 @@ use std::process::Abort;
 use vm_memory::GuestMemoryError::{
     self, InvalidBackendAddress, InvalidGuestAddress, PartialBuffer,
 };
-use vm_memory::{GuestMemoryMmap, GuestRegionMmap};
-use vm_memory_core::{
-    Bitmap, Bytes, GuestAddress, HostMemory, MemoryRegionAddress, PageBitmap, Permissions, Windows,
-};
+use vm_memory::GuestRegionMmap;
+use vm_memory_core::{Bitmap, Bytes, GuestAddress, HostMemory, MemoryRegionAddress, PageBitmap};
 
 type MemoryResult<T> = Result<T, GuestMemoryError>;
 
@@ -140,11 +138,6 @@ fn a_range_over_three_regions_is_marked_in_each(rt: HostRuntime) {
     }
 }
 
-// Whether a range is there.
-fn is_there(mem: &GuestMemoryMmap, addr: u64, len: usize) -> bool {
-    mem.check_range(GuestAddress(addr), len, Permissions::Read)
-}
-
 #[test]
 fn ranges_are_checked(rt: HostRuntime) {
     const RANGES: &[(u64, usize, bool)] = &[
@@ -156,29 +149,8 @@ fn ranges_are_checked(rt: HostRuntime) {
     ];
     let (_, mem) = made(&rt, rt.alloc(), HOLE);
     for (addr, len, want) in RANGES {
-        expect_same(&rt, is_there(&mem, *addr, *len), *want);
+        expect_same(&rt, mem.has_range(GuestAddress(*addr), *len), *want);
     }
-}
-
-// Whether the windows of a range are added whole, and how many are added.
-fn expect_windows(
-    rt: &impl Abort,
-    alloc: Global,
-    mem: &GuestMemoryMmap,
-    range: (u64, usize),
-    want: (bool, usize),
-) {
-    let mut windows = Windows::new(alloc);
-    let whole = mem.push_windows(GuestAddress(range.0), range.1, &mut windows);
-    expect_same(rt, (whole.expect(rt, "memory"), windows.len()), want);
-}
-
-#[test]
-fn windows_are_added(rt: HostRuntime) {
-    let (_, mem) = made(&rt, rt.alloc(), HOLE);
-    expect_windows(&rt, rt.alloc(), &mem, (0xffc, 5), (true, 2));
-    expect_windows(&rt, rt.alloc(), &mem, (0, 0x2000), (true, 2));
-    expect_windows(&rt, rt.alloc(), &mem, (0x1ffe, 5), (false, 1));
 }
 
 #[test]

@@ -64,6 +64,6 @@ fn errors_have_their_numbers_and_texts(rt: HostRuntime) {
     expect_same(
         &rt,
         texts.as_str(),
-        "address 0x9 is out of bounds, OutOfBounds { addr: 9 }, VolatileSlice { block: 1, offset: 2, len: 3 }",
+        "address 0x9 is out of bounds, OutOfBounds { addr: 9 }, VolatileSlice { block: 1, offset: 2, len: 3, set: 0, by: 0, marks: InBlock }",
     );
 }

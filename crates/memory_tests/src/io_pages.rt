@@ -1,10 +1,10 @@
-//! Sets of dirty I/O pages, and the tables beside them.
+//! Sets of dirty I/O pages, the windows that mark them, and the tables beside them.
 
-use crate::given::{Host, eight, expect_same};
+use crate::given::{Host, eight, expect_eight, expect_same};
 use std::alloc::Global;
 use std::process::Abort;
 use vm_memory::{Iommu, TableIommu};
-use vm_memory_core::{Bitmap, GuestAddress, HostMemory, IommuError, Permissions};
+use vm_memory_core::{Bitmap, GuestAddress, HostMemory, IommuError, Permissions, VolatileSlice};
 
 // A host with a block of the bytes 1 to 8, and a set of I/O pages for the addresses below 0x3000.
 fn with_io_pages(rt: &impl Abort, alloc: Global) -> Host {
@@ -18,6 +18,59 @@ fn marks(h: &Host) -> Option<([bool; 3], bool)> {
     let io = h.io_bitmap(0)?;
     let io = [io.dirty_at(0), io.dirty_at(0x1000), io.dirty_at(0x2fff)];
     Some((io, h.bitmap(0)?.dirty_at(0)))
+}
+
+// Two bytes written at the front of a window mark these I/O pages, and not the block's.
+fn expect_marks(rt: &impl Abort, alloc: Global, window: VolatileSlice, io: [bool; 3]) {
+    let mut h = with_io_pages(rt, alloc);
+    assert!(rt; h.has(&window) && 2 <= window.len());
+    h.write(window, &[9, 9]);
+    expect_same(rt, marks(&h), Some((io, false)));
+}
+
+#[test]
+fn a_window_marks_io_pages_in_place_of_its_own(rt: HostRuntime) {
+    let window = VolatileSlice::new(0, 2, 4);
+    let alloc = rt.alloc();
+    let both = [true, true, false];
+    expect_marks(&rt, alloc, window.replace_bitmap(0, 0xfff), both);
+    expect_marks(
+        &rt,
+        alloc,
+        window.replace_bitmap(0, 0x2fff),
+        [false, false, true],
+    );
+    expect_marks(&rt, alloc, window.replace_bitmap(0, 0x3000), [false; 3]);
+    expect_marks(&rt, alloc, window.replace_bitmap(0, u64::MAX), [false; 3]);
+    expect_marks(&rt, alloc, window.replace_bitmap(1, 0), [false; 3]);
+}
+
+#[test]
+fn a_part_marks_from_where_it_begins(rt: HostRuntime) {
+    let window = VolatileSlice::new(0, 0, 8).replace_bitmap(0, 0xffe);
+    let part = window.subslice(2, 2).expect(&rt, "a part");
+    expect_marks(&rt, rt.alloc(), part, [false, true, false]);
+}
+
+#[test]
+fn copies_and_values_mark_io_pages_too(rt: HostRuntime) {
+    let mut h = with_io_pages(&rt, rt.alloc());
+    h.new_block(8).expect(&rt, "memory");
+    let source = VolatileSlice::new(1, 0, 2);
+    let near = VolatileSlice::new(0, 2, 2).replace_bitmap(0, 0);
+    let far = VolatileSlice::new(0, 0, 2).replace_bitmap(0, 0x1000);
+    assert!(rt; h.has(&source) && h.has(&near) && h.has(&far));
+    near.copy_to_volatile_slice(&mut h, far);
+    expect_eight(&rt, &h, [3, 4, 3, 4, 5, 6, 7, 8]);
+    expect_same(&rt, marks(&h), Some(([false, true, false], false)));
+    source.copy_to_volatile_slice(&mut h, near);
+    expect_eight(&rt, &h, [3, 4, 0, 0, 5, 6, 7, 8]);
+    expect_same(&rt, marks(&h), Some(([true, true, false], false)));
+    let last = VolatileSlice::new(0, 6, 2).replace_bitmap(0, 0x2000);
+    let value = last.get_ref::<u16>(0).expect(&rt, "a value");
+    assert!(rt; h.has(&value.to_slice()));
+    value.store(&mut h, 0x0201);
+    expect_same(&rt, marks(&h), Some(([true, true, true], false)));
 }
 
 #[test]

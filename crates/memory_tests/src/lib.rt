@@ -24,9 +24,13 @@ mod given;
 #[cfg(test)]
 mod io_pages;
 #[cfg(test)]
+mod iommu;
+#[cfg(test)]
 mod joined;
 #[cfg(test)]
 mod permissions;
+#[cfg(test)]
+mod ranges;
 #[cfg(test)]
 mod regions;
 #[cfg(test)]

@@ -7,7 +7,7 @@ use vm_memory::GuestMemoryError::InvalidGuestAddress;
 use vm_memory::{GuestMemory, GuestMemoryBackend, GuestMemoryError, GuestMemorySliceIterator};
 use vm_memory_core::{GuestAddress, Permissions};
 
-type Item = Option<Result<Parts, GuestMemoryError>>;
+pub type Item = Option<Result<Parts, GuestMemoryError>>;
 
 // What is said of the first address in the hole.
 const MISSING: GuestMemoryError = InvalidGuestAddress(GuestAddress(0x2000));
@@ -22,13 +22,14 @@ fn next_of<I: GuestMemorySliceIterator>(slices: &mut I) -> Item {
 }
 
 // The first three items of some addresses, each with the error that was next before it, by the bound alone.
-fn items<M: GuestMemory>(
+pub fn items<M: GuestMemory>(
     mem: &M,
+    alloc: Global,
     host: &Host,
     addr: u64,
     count: usize,
 ) -> Result<[(Option<GuestMemoryError>, Item); 3], GuestMemoryError> {
-    let mut slices = mem.get_slices(host, GuestAddress(addr), count, Permissions::Read)?;
+    let mut slices = mem.get_slices(alloc, host, GuestAddress(addr), count, Permissions::Read)?;
     Ok([
         (slices.next_error(), next_of(&mut slices)),
         (slices.next_error(), next_of(&mut slices)),
@@ -51,7 +52,7 @@ fn expect_two(
         (None, Some(Ok(second))),
         (None, None),
     ];
-    expect_same(rt, items(&mem, &host, range.0, range.1), Ok(want));
+    expect_same(rt, items(&mem, alloc, &host, range.0, range.1), Ok(want));
 }
 
 #[test]
@@ -73,11 +74,12 @@ fn windows_come_in_order_and_are_as_long_as_their_regions(rt: HostRuntime) {
 // The first window up to an error, if there is one, and whether none follows, by the bound alone.
 fn until_error<M: GuestMemory>(
     mem: &M,
+    alloc: Global,
     host: &Host,
     addr: u64,
     count: usize,
 ) -> Result<(Option<Parts>, bool), GuestMemoryError> {
-    let slices = mem.get_slices(host, GuestAddress(addr), count, Permissions::Read)?;
+    let slices = mem.get_slices(alloc, host, GuestAddress(addr), count, Permissions::Read)?;
     let mut windows = slices.stop_on_error()?;
     let first = match windows.next() {
         Some(window) => Some(parts(window)),
@@ -94,34 +96,28 @@ fn a_hole_is_an_error(rt: HostRuntime) {
         (Some(MISSING), Some(Err(MISSING))),
         (None, None),
     ];
-    expect_same(&rt, items(&mem, &host, 0x1ffe, 0x1005), Ok(want));
+    expect_same(
+        &rt,
+        items(&mem, rt.alloc(), &host, 0x1ffe, 0x1005),
+        Ok(want),
+    );
 }
 
 #[test]
 fn windows_may_stop_at_the_first_error(rt: HostRuntime) {
     let (host, mem) = made(&rt, rt.alloc(), HOLE);
-    let before = until_error(&mem, &host, 0x1ffe, 5);
+    let before = until_error(&mem, rt.alloc(), &host, 0x1ffe, 5);
     expect_same(&rt, before, Ok((Some((1, 0xffe, 2)), true)));
-    let before = until_error(&mem, &host, 0x1fff, 9);
+    let before = until_error(&mem, rt.alloc(), &host, 0x1fff, 9);
     expect_same(&rt, before, Ok((Some((1, 0xfff, 1)), true)));
-    expect_same(&rt, until_error(&mem, &host, 0x2000, 0), Ok((None, true)));
-    expect_same(&rt, until_error(&mem, &host, 0x2000, 1), Err(MISSING));
-}
-
-// Whether some addresses have places, by the bound alone.
-fn are_there<M: GuestMemory>(mem: &M, host: &Host, addr: u64, count: usize) -> bool {
-    mem.check_range(host, GuestAddress(addr), count, Permissions::Write)
-}
-
-#[test]
-fn ranges_are_checked_through_the_trait(rt: HostRuntime) {
-    let (host, hole) = made(&rt, rt.alloc(), HOLE);
-    expect_same(&rt, are_there(&hole, &host, 0xffc, 5), true);
-    expect_same(&rt, are_there(&hole, &host, 0x1ffe, 5), false);
-    expect_same(&rt, are_there(&hole, &host, 0x2000, 0), true);
-    let below = hole.physical_memory().expect(&rt, "a layout");
-    expect_same(&rt, below.num_regions(), 3);
-    let (host, ends) = made(&rt, rt.alloc(), ENDS);
-    expect_same(&rt, are_there(&ends, &host, u64::MAX, 2), true);
-    expect_same(&rt, are_there(&ends, &host, u64::MAX, 0x1002), false);
+    expect_same(
+        &rt,
+        until_error(&mem, rt.alloc(), &host, 0x2000, 0),
+        Ok((None, true)),
+    );
+    expect_same(
+        &rt,
+        until_error(&mem, rt.alloc(), &host, 0x2000, 1),
+        Err(MISSING),
+    );
 }

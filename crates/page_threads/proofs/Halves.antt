@@ -28,11 +28,3 @@ whole_is a b y z p q =
 -- two halves are the whole
 pub halves_whole : (v w : PageCounts) → HasHalf v → HasHalf w → IsWhole (both_passes v w)
 halves_whole v w p q = whole_is v.parts w.parts (2 ^ v.depth) (2 ^ w.depth) p q ∙ sym (pow-add 2 v.depth w.depth)
-
--- half of all passes, as a new pass has it, and as one with the same part
-pub half_at_first : (v : PageCounts) → v.parts ≡ 1 → v.depth ≡ 1 → HasHalf v
-half_at_first v p d = ap (λ (k : ℕ). 2 * k) p ∙ sym (ap (λ (k : ℕ). 2 ^ k) d)
-
-pub same_half : (v w : PageCounts) → v.parts ≡ 1 → v.depth ≡ 1 → HaveSamePart v w → HasHalf w
-same_half v w p d e =
-    let one : w.parts * 2 ≡ 1 * 2 ^ w.depth = sym (ap (λ (k : ℕ). w.parts * 2 ^ k) d) ∙ e ∙ ap (λ (k : ℕ). k * 2 ^ w.depth) p in omega arith

@@ -64,16 +64,6 @@ pub record Left (rest whole : ℕ → Bool) (old cur : List Tally) : Type 0 wher
   pub held : (p : ℕ) → (tally_of old p).held ≤ (tally_of cur p).held
   pub ahead : (p : ℕ) → p < length old → whole p ≡ true → rest p ≡ false → (tally_of cur p).seen < (tally_of cur p).held
 
-pub left_at_first : (whole : ℕ → Bool) (l : List Tally) → Left whole whole l l
-left_at_first whole l = record {
-  count = refl;
-  off = λ p. refl;
-  marked = λ p h. refl;
-  seen = λ p. refl;
-  held = λ p. omega arith;
-  ahead = λ p h e n. absurd (true≢false (sym e ∙ n));
-}
-
 pub left_more : (rest hit rest' whole : ℕ → Bool) (old cur new : List Tally) → Left rest whole old cur → ((p : ℕ) → rest p ≡ hit p || rest' p) → Marking hit cur new → Left rest' whole old new
 left_more rest hit rest' whole old cur new l split m = record {
   count = m.count ∙ l.count;
@@ -92,16 +82,6 @@ left_more rest hit rest' whole old cur new l split m = record {
         let before = l.ahead p within e (split p ∙ (λ i. h i || n i)) in
         let same = m.seen p in
         let more = m.held p in omega arith
-
-pub left_at_last : (rest whole : ℕ → Bool) (old cur : List Tally) → ((p : ℕ) → rest p ≡ false) → Left rest whole old cur → Marking whole old cur
-left_at_last rest whole old cur none l = record {
-  count = l.count;
-  off = l.off;
-  marked = λ p within. sym (ap (λ (b : Bool). (tally_of cur p).marked || b) (none p) ∙ or_false (tally_of cur p).marked) ∙ l.marked p within;
-  seen = l.seen;
-  held = l.held;
-  ahead = λ p within e. l.ahead p within e (none p);
-}
 
 pub in_lists-append : {A : Type 0} → (size len : ℕ) (xs ys : List (Vec ByteRange A)) (p : ℕ) → is_in_lists size len (xs ++ ys) p ≡ is_in_lists size len xs p || is_in_lists size len ys p
 in_lists-append size len [] ys p = refl

@@ -93,13 +93,6 @@ gathers_more l words w found inside beyond g = (gathered, record { count = run.c
       | inr ne ↦ ap (λ (t : Tally). t.marked) (away p ne)
     ]
 
--- gathers, one after another
-pub no_gathering : (l : List Tally) → Gathering l l
-no_gathering l = record { count = refl; marked = λ p. refl }
-
-pub gathering_then : (a b c : List Tally) → Gathering a b → Gathering b c → Gathering a c
-gathering_then a b c x y = record { count = y.count ∙ x.count; marked = λ p. y.marked p ∙ x.marked p }
-
 page_bit-lt : (words : List ℕ) (p : ℕ) → page_bit words p < 2
 unfolding page_bit
 page_bit-lt words p = bit_at-lt (get_or words (p / 64) 0) (p % 64)

@@ -40,8 +40,8 @@ fn mark_in_turn(bitmap: &AtomicBitmap, mut pass: BitmapPass, lists: &[Vec<ByteRa
     pass
 }
 
-/// Marks the pages of each list, each in a thread of its own with a pass of its own, and joins their passes.
-pub fn mark_lists<R: Threads + Sync>(
+// Marks the pages of each list, each in a thread of its own with a pass of its own, and joins their passes.
+pub(crate) fn mark_lists<R: Threads + Sync>(
     rt: &R,
     bitmap: &AtomicBitmap,
     mut pass: BitmapPass,

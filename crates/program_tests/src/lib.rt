@@ -2,11 +2,15 @@
 #![tactic(auto)]
 
 #[cfg(test)]
+mod attributes;
+#[cfg(test)]
 mod calls;
 #[cfg(test)]
 mod layouts;
 #[cfg(test)]
 mod lines;
+#[cfg(test)]
+mod lists_and_writes;
 #[cfg(test)]
 mod queues;
 #[cfg(test)]

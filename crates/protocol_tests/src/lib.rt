@@ -2,22 +2,42 @@
 #![tactic(auto)]
 
 #[cfg(test)]
+mod faults;
+#[cfg(test)]
+mod file_rows;
+#[cfg(test)]
+mod file_systems;
+#[cfg(test)]
 mod files;
 #[cfg(test)]
 mod flags;
 #[cfg(test)]
 mod given;
 #[cfg(test)]
+mod list_rows;
+#[cfg(test)]
+mod log;
+#[cfg(test)]
+mod name_rows;
+#[cfg(test)]
+mod new_node_rows;
+#[cfg(test)]
+mod node_rows;
+#[cfg(test)]
 mod numbers;
+#[cfg(test)]
+mod recorder;
 #[cfg(test)]
 mod records;
 #[cfg(test)]
-mod segments;
+mod rows;
 #[cfg(test)]
-mod server;
+mod session_rows;
 #[cfg(test)]
 mod stats;
 #[cfg(test)]
 mod toy;
+#[cfg(test)]
+mod value_rows;
 #[cfg(test)]
 mod values;

@@ -1,10 +1,11 @@
-//! One file system for all tests: it knows the file `a` with the bytes `hello`, and writes down what it is asked.
+//! What the file system of all tests is told to answer.
 
-ghost use Rattle.std.specs.Prelude.{⊤, ◌≡◌, ◌≤◌};
+ghost use Rattle.std.specs.Prelude.{⊤, drop};
+ghost use Rattle.protocol_tests.specs.Entries.{listed_entries};
 
 use bitflags::Flags;
-use fuse_fs::{Context, Entry, FileSystem, PositionedFile, Timeout, WritevFlags, ZeroCopyWriter};
-use fuse_wire::{Attr, Errno, FsOptions};
+use fuse_fs::{DirEntry, DirectoryIterator, Entry, PositionedFile, Timeout, WritevFlags};
+use fuse_wire::{Attr, Errno, GuestGid, GuestUid, OpenOptions, StatVfs};
 
 /// The bytes of `hello`, read by a buffer.
 #[derive(Drop)]
@@ -64,105 +65,122 @@ impl PositionedFile for Copied {
     }
 }
 
-/// What was asked last, and how often something was asked. Where it has a mood, that is its answer.
+/// Node 1 as `.`, and node 2 as `a`, from one of them on.
 #[derive(Drop)]
-pub struct Recorder {
-    pub mood: Option<Errno>,
-    pub asked: u64,
-    pub node: u64,
-    pub count: u64,
-    pub name: [u8; 4],
-    pub capable: u64,
-    pub pid: i32,
+pub struct Entries {
+    pub at: u64,
 }
 
-impl Recorder {
-    pub fn new(mood: Option<Errno>) -> Recorder {
-        Recorder {
-            mood,
-            asked: 0,
-            node: 0,
-            count: 0,
-            name: [0; 4],
-            capable: 0,
-            pid: 0,
+impl DirectoryIterator for Entries {
+    ghost rest = { λ entries. drop entries.at listed_entries };
+
+    fn next(&mut self) -> Option<DirEntry<'_>> {
+        let at = self.at;
+        if at > 1 {
+            return None;
+        }
+        self.at = at + 1;
+        Some(match at {
+            0 => DirEntry {
+                ino: 1,
+                offset: 1,
+                type_: 4,
+                name: b".",
+            },
+            _ => DirEntry {
+                ino: 2,
+                offset: 2,
+                type_: 8,
+                name: b"a",
+            },
+        })
+    }
+}
+
+/// What the file system is told to answer.
+#[derive(Clone, Copy)]
+pub enum Told {
+    /// What a file system without a body of its own answers.
+    Default,
+    /// A good answer.
+    Good,
+    /// Another good answer: no handle, a count in place of bytes, each option that there is; but no name is found.
+    Other,
+    /// EIO.
+    Failing,
+}
+
+impl Told {
+    /// This value, or the error.
+    pub fn answer<T: Drop>(self, value: T) -> Result<T, Errno> {
+        match self {
+            Told::Failing => Err(Errno::EIO),
+            Told::Default | Told::Good | Told::Other => Ok(value),
         }
     }
 
-    fn note(&mut self, ctx: Context, node: u64)
-        ensures mood { self.new.mood ≡ self.old.mood }
-        ensures asked { self.old.asked ≤ self.new.asked }
-    {
-        self.asked = self.asked.saturating_add(1);
-        self.pid = ctx.pid;
-        self.node = node;
+    /// The answer to a call that opens something.
+    pub fn opened(self) -> Result<(Option<u64>, OpenOptions), Errno> {
+        self.answer(match self {
+            Told::Other => (None, OpenOptions::KEEP_CACHE),
+            _ => (Some(0x66), OpenOptions::from_bits_retain(5)),
+        })
+    }
+
+    /// The answer to a call for attributes.
+    pub fn attributes(self) -> Result<(Attr, Timeout), Errno> {
+        self.answer((attr(), timeout(22, 23)))
+    }
+
+    /// What the file system holds.
+    pub fn stats(self) -> Result<StatVfs, Errno> {
+        self.answer(StatVfs {
+            f_blocks: 1,
+            f_bfree: 2,
+            f_bavail: 3,
+            f_files: 4,
+            f_ffree: 5,
+            f_bsize: 6,
+            f_namemax: 7,
+            f_frsize: 8,
+        })
+    }
+
+    /// The entry of node 2.
+    pub fn entry(self) -> Result<Entry<u64>, Errno> {
+        self.answer(Entry {
+            inode: 2,
+            generation: 3,
+            attr: attr(),
+            attr_timeout: timeout(22, 23),
+            entry_timeout: timeout(20, 21),
+        })
     }
 }
 
-// The entry of node 2, the file `a`.
-fn entry_of_a() -> Result<Entry<u64>, Errno> {
-    let Some(second) = Timeout::new(1, 0) else {
-        return Err(Errno::EIO);
-    };
-    let attr = Attr {
+// The attributes of node 2: no field has the value of another, but its number's.
+fn attr() -> Attr {
+    Attr {
         ino: 2,
         size: 5,
-        ..Attr::default()
-    };
-    Ok(Entry {
-        inode: 2,
-        generation: 0,
-        attr,
-        attr_timeout: second,
-        entry_timeout: second,
-    })
+        blocks: 6,
+        atime: 7,
+        mtime: 8,
+        ctime: 9,
+        atimensec: 10,
+        mtimensec: 11,
+        ctimensec: 12,
+        mode: 0o100_644,
+        nlink: 13,
+        uid: GuestUid(14),
+        gid: GuestGid(15),
+        rdev: 16,
+        blksize: 17,
+        flags: 18,
+    }
 }
 
-// Its mood stays, and its count of calls never falls.
-impl FileSystem for Recorder {
-    type Inode = u64;
-
-    type Handle = u64;
-
-    ghost may = { λ before call answer after. (after.mood ≡ before.mood) × (before.asked ≤ after.asked) };
-
-    fn init(&mut self, capable: FsOptions) -> Result<FsOptions, Errno> {
-        self.asked = self.asked.saturating_add(1);
-        self.capable = capable.bits();
-        match self.mood {
-            Some(error) => Err(error),
-            None => Ok(FsOptions::from_bits_retain(0)),
-        }
-    }
-
-    fn lookup(&mut self, ctx: Context, parent: u64, name: &[u8]) -> Result<Entry<u64>, Errno> {
-        self.note(ctx, parent);
-        let n = name.len().min(4);
-        self.name[..n].copy_from_slice(&name[..n]);
-        match self.mood {
-            Some(error) => Err(error),
-            None if name == b"a".as_slice() => entry_of_a(),
-            None => Err(Errno::ENOENT),
-        }
-    }
-
-    fn forget(&mut self, ctx: Context, inode: u64, count: u64) {
-        self.note(ctx, inode);
-        self.count = count;
-    }
-
-    fn read<W: ZeroCopyWriter>(
-        &mut self,
-        ctx: Context,
-        inode: u64,
-        _handle: u64,
-        w: &mut W,
-        size: u32,
-        offset: u64,
-        _lock_owner: Option<u64>,
-        _flags: u32,
-    ) -> Result<usize, Errno> {
-        self.note(ctx, inode);
-        w.read_from_file_at(&mut Hello {}, size as usize, offset)
-    }
+// So many seconds, and nanoseconds below 100.
+fn timeout(secs: u64, nanos: u8) -> Timeout {
+    Timeout::new(secs, u32::from(nanos)).unwrap()
 }

@@ -22,7 +22,16 @@ pub enum Call {
         node: u64,
         count: u64,
     },
+    Getattr {
+        node: u64,
+    },
     Read {
+        node: u64,
+    },
+    Write {
+        node: u64,
+    },
+    Readdir {
         node: u64,
     },
 }

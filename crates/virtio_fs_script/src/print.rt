@@ -68,7 +68,10 @@ fn print_call<W: Write>(writer: &mut W, call: &Call) -> io::Result<()> {
         Call::Init => writer.write_all(b"call init\n"),
         Call::Lookup { parent, name } => print_lookup(writer, *parent, name.as_slice()),
         Call::Forget { node, count } => print_line(writer, b"call forget", &[*node, *count]),
+        Call::Getattr { node } => print_line(writer, b"call getattr", &[*node]),
         Call::Read { node } => print_line(writer, b"call read", &[*node]),
+        Call::Write { node } => print_line(writer, b"call write", &[*node]),
+        Call::Readdir { node } => print_line(writer, b"call readdir", &[*node]),
     }
 }
 

@@ -1,3 +1,6 @@
+pub mod ForgetLemmas
+pub mod ListingLemmas
+pub mod ExtraLemmas
 pub mod NameLemmas
 pub mod Options
 pub mod RecordLemmas

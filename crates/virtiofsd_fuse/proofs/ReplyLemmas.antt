@@ -1,13 +1,14 @@
 -- Replies that have room, and those that have none.
-use Rattle.std.proofs.Common.{◌≡◌, ℕ, ◌+◌, ◌<◌, ◌≤◌, List, [], ◌++◌, length, Ok, Err, refl, sym, ap, ◌∙◌, arith, length-append, drop}
+use Rattle.std.proofs.Common.{◌≡◌, ℕ, Bool, ◌+◌, ◌<◌, ◌≤◌, List, [], ◌++◌, length, Ok, Err, refl, sym, ap, ◌∙◌, arith, length-append, drop}
 use Rattle.std.specs.Prelude.{pos, neg_ℤ}
 use Rattle.std.proofs.lemmas.Bool.{lt-ltb, le-ltb}
 use Rattle.std.proofs.lemmas.List.{length-drop}
 use Rattle.vm_values.specs.Fields.{field_bytes, spelled}
 use Rattle.fuse_wire.specs.Records.{out_header}
 use Rattle.fuse_wire.specs.declared.replies.OutHeader.{OutHeader}
+use Rattle.fuse_fs.specs.Calls.{FileAnswer, Failed}
 use Rattle.virtiofsd_fuse.specs.Grammar.{reply_bytes, error_bytes}
-use Rattle.virtiofsd_fuse.specs.Serving.{sent}
+use Rattle.virtiofsd_fuse.specs.Serving.{sent, told_bytes}
 use Rattle.fuse_segments.specs.declared.error.Error.TheVariants.{EncodeMessage}
 
 pub length_header : (h : OutHeader) → length (spelled (out_header h)) ≡ 16
@@ -42,15 +43,22 @@ error_long room unique errno h = sent_long room (error_bytes unique errno) (rw (
 pub error_fits : (room unique errno : ℕ) → 16 ≤ room → sent room (error_bytes unique errno) ≡ Ok (error_bytes unique errno)
 error_fits room unique errno h = sent_fits room (error_bytes unique errno) (rw (length_error unique errno) h)
 
+-- the reply to an answer that says an error
+pub failure_told : (silent : Bool) (unique errno : ℕ) (answer : FileAnswer) → answer ≡ Failed errno → told_bytes silent unique answer ≡ error_bytes unique errno
+failure_told silent unique errno answer e = rw e refl
+
 -- a header, and a body behind it
-pub reply_put : (room unique len : ℕ) (w0 w1 w2 header body : List ℕ) → w0 ≡ [] → w1 ≡ w0 ++ header → header ≡ spelled (out_header (record { len = len; error = pos 0; unique = unique })) → len ≡ 16 + length body → w2 ≡ w1 ++ body → 16 + length body ≤ room → Ok w2 ≡ sent room (reply_bytes unique body)
+pub reply_put : (room unique len : ℕ) (w0 w1 w2 header body : List ℕ) → w0 ≡ [] → w1 ≡ w0 ++ header
+    → header ≡ spelled (out_header (record { len = len; error = pos 0; unique = unique })) → len ≡ 16 + length body → w2 ≡ w1 ++ body → 16 + length body ≤ room
+    → Ok w2 ≡ sent room (reply_bytes unique body)
 unfolding reply_bytes
 reply_put room unique len w0 w1 w2 header body a b c d e h =
     let all : w2 ≡ reply_bytes unique body = rw (e, b, a, c, d) refl in
     ap Ok all ∙ sym (reply_fits room unique body h)
 
 -- a header, over the front of what was written
-pub data_put : (unique len n : ℕ) (w0 w1 header : List ℕ) → header ≡ spelled (out_header (record { len = len; error = pos 0; unique = unique })) → w1 ≡ header ++ drop (length header) w0 → len ≡ 16 + n → 16 + n ≡ length w0 → w1 ≡ reply_bytes unique (drop 16 w0)
+pub data_put : (unique len n : ℕ) (w0 w1 header : List ℕ) → header ≡ spelled (out_header (record { len = len; error = pos 0; unique = unique }))
+    → w1 ≡ header ++ drop (length header) w0 → len ≡ 16 + n → 16 + n ≡ length w0 → w1 ≡ reply_bytes unique (drop 16 w0)
 unfolding reply_bytes
 data_put unique len n w0 w1 header a b c d =
     let long : length header ≡ 16 = ap length a ∙ length_header (record { len = len; error = pos 0; unique = unique }) in

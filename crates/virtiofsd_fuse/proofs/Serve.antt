@@ -1,11 +1,15 @@
 -- How a meaning is served.
-use Rattle.std.proofs.Common.{◌≡◌, ◌≤◌, ℕ, Bool, true, false, List, [], ◌∷◌, length, map, Result, Ok, Err, Some, None, refl, ap, cond, arith, subst}
+use Rattle.std.proofs.Common.{◌≡◌, ◌≤◌, ℕ, Bool, true, false, List, [], ◌∷◌, length, map, Result, Ok, Err, Some, None, refl, ap, sym, ◌∙◌, cond, arith, subst}
 use Rattle.std.proofs.lemmas.Bool.Decides.{nat_tests}
-use Rattle.std.specs.Prelude.{IsTrue, OnOk, nat_lt}
-use Rattle.fuse_fs.specs.Calls.{FileCall, FileAnswer, suits, Init}
-use Rattle.virtiofsd_fuse.specs.Reading.{ReadFailure, Read, and_then, value_of}
-use Rattle.virtiofsd_fuse.specs.Grammar.{Meaning, IsFault, Replies, IsSilent, Asks, One, Starts, refused, ended}
-use Rattle.virtiofsd_fuse.specs.Serving.{Served, served, Setting, Serves, Handles, served_of, replied, no_reply, answer_bytes, options_after, start_options, start_answered, lacks_memory, is_memory, told, sent}
+use Rattle.std.specs.Prelude.{IsTrue, OnOk, nat_lt, ◌-◌, Option}
+use Rattle.fuse_fs.specs.Calls.{FileCall, FileAnswer, suits, Init, Listed, Failed, Done, HasEntry, HasAttr, Opened, Created, Bytes, Count, Stats, Wrote, Offset, Entries}
+use Rattle.fuse_fs.specs.Calls.{Wants}
+use Rattle.virtiofsd_fuse.specs.Reading.{ReadFailure, Faults, Read, Reading, and_then, value_of, within}
+use Rattle.virtiofsd_fuse.specs.Grammar.{Meaning, IsFault, Replies, IsSilent, Asks, One, Starts, refused, ended, Lists, error_bytes}
+use Rattle.virtiofsd_fuse.specs.Listings.{Listing, readdir_call}
+use Rattle.virtiofsd_fuse.specs.ListingRuns.{ListRun}
+use Rattle.virtiofsd_fuse.specs.Serving.{Served, served, Setting, Serves, Handles, served_of, replied, no_reply, answer_bytes, options_after, start_options}
+use Rattle.virtiofsd_fuse.specs.Serving.{start_answered, lacks_memory, is_memory, told, sent, listing_bytes, list_ended, list_answered}
 use Rattle.fuse_segments.specs.declared.error.Error.{Error}
 use Rattle.fuse_segments.specs.declared.error.Error.TheVariants.{EncodeMessage, OutOfMemory}
 
@@ -17,7 +21,8 @@ told_by false calls options bytes (Ok n) written e = let same : bytes ≡ writte
 told_by false calls options bytes (Err f) written e = absurd (cc)
 
 -- what was told is the whole reply, or none
-pub told_replied : (room : ℕ) (calls : List FileCall) (options : ℕ) (bytes : List ℕ) (result : Result ℕ Error) (written : List ℕ) → told result written ≡ sent room bytes → replied room calls options bytes ≡ served_of calls options result written
+pub told_replied : (room : ℕ) (calls : List FileCall) (options : ℕ) (bytes : List ℕ) (result : Result ℕ Error) (written : List ℕ)
+    → told result written ≡ sent room bytes → replied room calls options bytes ≡ served_of calls options result written
 told_replied room calls options bytes result written e = told_by (nat_lt room (length bytes)) calls options bytes result written e
 
 memory_by : (t : Bool) (bytes : List ℕ) (e : Error) → Err e ≡ cond t (Err EncodeMessage) (Ok bytes) → lacks_memory (Err e) ≡ false
@@ -29,34 +34,99 @@ told_memory room bytes (Ok n) written h = refl
 told_memory room bytes (Err e) written h = memory_by (nat_lt room (length bytes)) bytes e h
 
 module _ {F : Type 0} (may : F → FileCall → FileAnswer → F → Type 0) where
-  handled : (s : Setting) (m : Meaning) (before : F) (result : Result ℕ Error) (written : List ℕ) (options : ℕ) (after : F) → lacks_memory result ≡ false → Serves may s m before result written options after → Handles may s m before result written options after
+  handled : (s : Setting) (m : Meaning) (before : F) (result : Result ℕ Error) (written : List ℕ) (options : ℕ) (after : F) → lacks_memory result ≡ false
+      → Serves may s m before result written options after → Handles may s m before result written options after
   handled s m before result written options after e h = rw e h
 
   -- a reply that needs no call
-  pub handles_reply : (s : Setting) (m : Meaning) (bytes : List ℕ) (before : F) (result : Result ℕ Error) (written : List ℕ) → m ≡ Replies bytes → told result written ≡ sent s.room bytes → Handles may s m before result written s.options before
+  pub handles_reply : (s : Setting) (m : Meaning) (bytes : List ℕ) (before : F) (result : Result ℕ Error) (written : List ℕ) → m ≡ Replies bytes
+      → told result written ≡ sent s.room bytes → Handles may s m before result written s.options before
   handles_reply s m bytes before result written e h =
-      rw e (handled s (Replies bytes) before result written s.options before (told_memory s.room bytes result written h) (record { steps = []; run = refl; gives = told_replied s.room [] s.options bytes result written h }))
+      rw e (handled s (Replies bytes) before result written s.options before (told_memory s.room bytes result written h)
+      (record { steps = []; run = refl; gives = told_replied s.room [] s.options bytes result written h }))
+
+  -- no call and no reply
+  pub handles_silence : (s : Setting) (m : Meaning) (before : F) (result : Result ℕ Error) (written : List ℕ) → m ≡ IsSilent → result ≡ Ok 0
+      → written ≡ [] → Handles may s m before result written s.options before
+  handles_silence s m before result written e r w =
+      rw (e, r, w) (handled s IsSilent before (Ok 0) [] s.options before refl (record { steps = []; run = refl; gives = refl }))
 
   -- a fault
   pub handles_fault : (s : Setting) (m : Meaning) (e : Error) (before : F) (written : List ℕ) → m ≡ IsFault e → is_memory e ≡ false → Handles may s m before (Err e) written s.options before
   handles_fault s m e before written h q =
       rw h (handled s (IsFault e) before (Err e) written s.options before q (record { steps = []; run = refl; gives = refl }))
 
+  refused_by : (t : Bool) (s : Setting) (m : Meaning) (e : Error) (before : F) (written : List ℕ) → is_memory e ≡ t → (is_memory e ≡ false → m ≡ IsFault e)
+      → Handles may s m before (Err e) written s.options before
+  refused_by true s m e before written q h = rw q (refl, refl)
+  refused_by false s m e before written q h = handles_fault s m e before written (h q) q
+
+  -- a fault, or memory is wanting and nothing is done
+  pub handles_refusal : (s : Setting) (m : Meaning) (e : Error) (before : F) (written : List ℕ) → (is_memory e ≡ false → m ≡ IsFault e) → Handles may s m before (Err e) written s.options before
+  handles_refusal s m e before written h = refused_by (is_memory e) s m e before written refl h
+
   -- no memory
   pub handles_nothing : (s : Setting) (m : Meaning) (before : F) (written : List ℕ) → Handles may s m before (Err OutOfMemory) written s.options before
   handles_nothing s m before written = (refl, refl)
 
   -- one call, and its reply
-  pub handles_one : (s : Setting) (m : Meaning) (unique : ℕ) (call : FileCall) (answer : FileAnswer) (before after : F) (result : Result ℕ Error) (written : List ℕ) (options : ℕ) → m ≡ Asks (One unique call) → IsTrue (suits call answer) → may before call answer after → options ≡ options_after s.options call → told result written ≡ sent s.room (answer_bytes unique call answer) → Handles may s m before result written options after
+  pub handles_one : (s : Setting) (m : Meaning) (unique : ℕ) (call : FileCall) (answer : FileAnswer) (before after : F) (result : Result ℕ Error)
+      (written : List ℕ) (options : ℕ) → m ≡ Asks (One unique call) → IsTrue (suits call answer) → may before call answer after
+      → options ≡ options_after s.options call → told result written ≡ sent s.room (answer_bytes unique call answer)
+      → Handles may s m before result written options after
   handles_one s m unique call answer before after result written options e fits step o h =
       rw (e, o) (handled s (Asks (One unique call)) before result written (options_after s.options call) after (told_memory s.room (answer_bytes unique call answer) result written h)
-      (record { steps = (call, answer) ∷ []; run = (after, fits, step, refl); gives = told_replied s.room (call ∷ []) (options_after s.options call) (answer_bytes unique call answer) result written h }))
+      (record {
+        steps = (call, answer) ∷ [];
+        run = (after, fits, step, refl);
+        gives = told_replied s.room (call ∷ []) (options_after s.options call)
+            (answer_bytes unique call answer) result written h;
+      }))
 
   -- INIT
-  pub handles_start : (s : Setting) (m : Meaning) (unique capable readahead : ℕ) (answer : FileAnswer) (before after : F) (result : Result ℕ Error) (written : List ℕ) (options : ℕ) → m ≡ Asks (Starts unique capable readahead) → IsTrue (suits (Init capable) answer) → may before (Init capable) answer after → options ≡ start_options s.options capable answer → told result written ≡ sent s.room (start_answered s.page_size unique capable readahead answer) → Handles may s m before result written options after
+  pub handles_start : (s : Setting) (m : Meaning) (unique capable readahead : ℕ) (answer : FileAnswer) (before after : F) (result : Result ℕ Error)
+      (written : List ℕ) (options : ℕ) → m ≡ Asks (Starts unique capable readahead) → IsTrue (suits (Init capable) answer)
+      → may before (Init capable) answer after → options ≡ start_options s.options capable answer
+      → told result written ≡ sent s.room (start_answered s.page_size unique capable readahead answer) → Handles may s m before result written options after
   handles_start s m unique capable readahead answer before after result written options e fits step o h =
-      rw (e, o) (handled s (Asks (Starts unique capable readahead)) before result written (start_options s.options capable answer) after (told_memory s.room (start_answered s.page_size unique capable readahead answer) result written h)
-      (record { steps = (Init capable, answer) ∷ []; run = (after, fits, step, refl); gives = told_replied s.room (Init capable ∷ []) (start_options s.options capable answer) (start_answered s.page_size unique capable readahead answer) result written h }))
+      rw (e, o) (handled s (Asks (Starts unique capable readahead)) before result written (start_options s.options capable answer) after
+      (told_memory s.room (start_answered s.page_size unique capable readahead answer) result written h)
+      (record {
+        steps = (Init capable, answer) ∷ [];
+        run = (after, fits, step, refl);
+        gives = told_replied s.room (Init capable ∷ [])
+            (start_options s.options capable answer) (start_answered s.page_size unique capable readahead answer) result written h;
+      }))
+
+  -- a listing that went so, and its reply
+  pub handles_list : (s : Setting) (m : Meaning) (unique : ℕ) (l : Listing) (ds : List Listed) (before between after : F) (front final : List ℕ) (error : Option ℕ)
+      (result : Result ℕ Error) (written : List ℕ) (options : ℕ) → m ≡ Asks (Lists unique l) → may before (readdir_call l) (Entries ds) between
+      → (went : ListRun may l ds l.size (s.room - 16) between front final error after) → options ≡ s.options
+      → told result written ≡ sent s.room (listing_bytes unique l.with_nodes went.bytes error) → Handles may s m before result written options after
+  handles_list s m unique l ds before between after front final error result written options e step went o h =
+      rw (e, o) (handled s (Asks (Lists unique l)) before result written s.options after
+      (told_memory s.room (listing_bytes unique l.with_nodes went.bytes error) result written h)
+      (record {
+        steps = (readdir_call l, Entries ds) ∷ went.steps;
+        run = (between, refl, step, went.run);
+        gives = ap (list_ended s unique l) went.gives
+            ∙ told_replied s.room (readdir_call l ∷ map (λ step. step.0) went.steps) s.options
+            (listing_bytes unique l.with_nodes went.bytes error) result written h;
+      }))
+
+  -- a directory that isn't listed
+  pub handles_unlisted : (s : Setting) (m : Meaning) (unique : ℕ) (l : Listing) (errno : ℕ) (before after : F)
+      (result : Result ℕ Error) (written : List ℕ) (options : ℕ) → m ≡ Asks (Lists unique l) → IsTrue (suits (readdir_call l) (Failed errno))
+      → may before (readdir_call l) (Failed errno) after → options ≡ s.options
+      → told result written ≡ sent s.room (error_bytes unique errno) → Handles may s m before result written options after
+  handles_unlisted s m unique l errno before after result written options e fits step o h =
+      rw (e, o) (handled s (Asks (Lists unique l)) before result written s.options after
+      (told_memory s.room (error_bytes unique errno) result written h)
+      (record {
+        steps = (readdir_call l, Failed errno) ∷ [];
+        run = (after, fits, step, refl);
+        gives = told_replied s.room (readdir_call l ∷ []) s.options (error_bytes unique errno) result written h;
+      }))
 
 -- what is asked for by what was read
 abbrev pub ask_of : {A : Type 0} → ℕ → (A → FileCall) → Result A ReadFailure → Meaning
@@ -67,24 +137,62 @@ pub ended_ask : {A : Type 0} (unique : ℕ) (f : A → FileCall) (r : Read A) �
 ended_ask unique f (Ok x) = refl
 ended_ask unique f (Err r) = refl
 
-fits_by : (t : Bool) (room : ℕ) (calls : List FileCall) (options : ℕ) (bytes : List ℕ) → nat_lt room (length bytes) ≡ t → length (cond t (no_reply calls options (Some EncodeMessage)) (record { calls = calls; options = options; reply = bytes; fault = None })).reply ≤ room
+-- what isn't read is a fault
+pub ended_fault : {A : Type 0} (unique : ℕ) (f : A × List ℕ → Read Meaning) (e : Error) (r : Read A) → Err (Faults e) ≡ value_of r → ended unique (and_then r f) ≡ IsFault e
+ended_fault unique f e (Ok x) h = absurd (cc)
+ended_fault unique f e (Err r) h = let same : Faults e ≡ r = cc in ap (refused unique) (sym same)
+
+within_value : {A : Type 0} (others : List ℕ) (r : Read A) → value_of (and_then r (λ x. Ok (x.0, others))) ≡ value_of r
+within_value others (Ok x) = refl
+within_value others (Err e) = refl
+
+-- bytes that were read are read again
+pub ended_parts : {X A : Type 0} (unique : ℕ) (bytes_of : X → List ℕ) (p : X → Reading A) (f : X → A → FileCall) (r : Read X) (x : X) → Ok x ≡ value_of r
+    → ended unique (and_then r (λ z. and_then (within (bytes_of z.0) (p z.0) z.1) (λ v. Ok (Asks (One unique (f z.0 v.0)), v.1))))
+    ≡ ask_of unique (f x) (value_of (p x (bytes_of x)))
+ended_parts unique bytes_of p f (Ok z) x h =
+    let same : x ≡ z.0 = cc in
+    rw same (ended_ask unique (f z.0) (within (bytes_of z.0) (p z.0) z.1) ∙ ap (ask_of unique (f z.0)) (within_value z.1 (p z.0 (bytes_of z.0))))
+ended_parts unique bytes_of p f (Err e) x h = absurd (cc)
+
+fits_by : (t : Bool) (room : ℕ) (calls : List FileCall) (options : ℕ) (bytes : List ℕ) → nat_lt room (length bytes) ≡ t
+    → length (cond t (no_reply calls options (Some EncodeMessage)) (record { calls = calls; options = options; reply = bytes; fault = None })).reply ≤ room
 fits_by true room calls options bytes e = omega arith
 fits_by false room calls options bytes e = grind (arith, nat_tests, e)
 
 replied_fits : (room : ℕ) (calls : List FileCall) (options : ℕ) (bytes : List ℕ) → length (replied room calls options bytes).reply ≤ room
 replied_fits room calls options bytes = fits_by (nat_lt room (length bytes)) room calls options bytes refl
 
+list_fits : (s : Setting) (unique : ℕ) (l : Listing) (answer : FileAnswer) (answers : List FileAnswer) → length (list_answered s unique l answer answers).reply ≤ s.room
+list_fits s unique l (Entries ds) answers = replied_fits s.room _ s.options _
+list_fits s unique l (Failed errno) answers = replied_fits s.room _ s.options _
+list_fits s unique l Done answers = omega arith
+list_fits s unique l (HasEntry e) answers = omega arith
+list_fits s unique l (HasAttr attr timeout) answers = omega arith
+list_fits s unique l (Opened handle options) answers = omega arith
+list_fits s unique l (Created e handle options) answers = omega arith
+list_fits s unique l (Bytes bytes) answers = omega arith
+list_fits s unique l (Count n) answers = omega arith
+list_fits s unique l (Stats st) answers = omega arith
+list_fits s unique l (Wrote n) answers = omega arith
+list_fits s unique l (Offset n) answers = omega arith
+list_fits s unique l (Wants options) answers = omega arith
+
 -- no reply is longer than the room
-served_fits : (s : Setting) (m : Meaning) (answers : List FileAnswer) → length (served s m answers).reply ≤ s.room
+pub served_fits : (s : Setting) (m : Meaning) (answers : List FileAnswer) → length (served s m answers).reply ≤ s.room
 served_fits s (IsFault fault) answers = omega arith
 served_fits s (Replies bytes) answers = replied_fits s.room [] s.options bytes
 served_fits s IsSilent answers = omega arith
 served_fits s (Asks (One unique call)) [] = omega arith
 served_fits s (Asks (One unique call)) (answer ∷ answers) = replied_fits s.room (call ∷ []) (options_after s.options call) (answer_bytes unique call answer)
 served_fits s (Asks (Starts unique capable readahead)) [] = omega arith
-served_fits s (Asks (Starts unique capable readahead)) (answer ∷ answers) = replied_fits s.room (Init capable ∷ []) (start_options s.options capable answer) (start_answered s.page_size unique capable readahead answer)
+served_fits s (Asks (Starts unique capable readahead)) (answer ∷ answers) = replied_fits s.room (Init capable ∷ []) (start_options s.options capable answer)
+    (start_answered s.page_size unique capable readahead answer)
+served_fits s (Asks (Lists unique l)) [] = omega arith
+served_fits s (Asks (Lists unique l)) (answer ∷ answers) = list_fits s unique l answer answers
 
-pub handles_fits : {F : Type 0} (may : F → FileCall → FileAnswer → F → Type 0) (s : Setting) (m : Meaning) (before : F) (result : Result ℕ Error) (written : List ℕ) (options : ℕ) (after : F) → Handles may s m before result written options after → OnOk result (length written ≤ s.room)
+pub handles_fits : {F : Type 0} (may : F → FileCall → FileAnswer → F → Type 0) (s : Setting) (m : Meaning) (before : F) (result : Result ℕ Error)
+    (written : List ℕ) (options : ℕ) (after : F) → Handles may s m before result written options after → OnOk result (length written ≤ s.room)
 handles_fits may s m before (Ok n) written options after h =
     let same : (served s m (map (λ step. step.1) h.steps)).reply ≡ written = ap (λ (x : Served). x.reply) h.gives in
     subst (λ b. length b ≤ s.room) same (served_fits s m (map (λ step. step.1) h.steps))

@@ -1,13 +1,14 @@
 -- Requests worked out.
-use Rattle.std.specs.Prelude.{◌≡◌, ℕ, ◌-◌, ◌^◌, List, [], ◌∷◌, ◌++◌, replicate, Some, pos, refl}
+use Rattle.std.specs.Prelude.{◌≡◌, ℕ, true, false, ◌+◌, ◌-◌, ◌^◌, List, [], ◌∷◌, ◌++◌, replicate, Some, None, pos, refl, length}
 use Rattle.std.specs.Int.{w16, w32, w64, to_le_bytes}
 use Rattle.vm_values.specs.Fields.{field_bytes}
 use Rattle.fuse_fs.specs.declared.answers.Context.{Context}
-use Rattle.fuse_fs.specs.Calls.{FileAnswer, Lookup, Forget, Wants}
-use Rattle.fuse_segments.specs.declared.error.Error.TheVariants.{EncodeMessage}
-use Rattle.virtiofsd_fuse.specs.Reading.{last_name}
-use Rattle.virtiofsd_fuse.specs.Records.{reading_in_header, reading_forget_in, reading_init_in_compat}
-use Rattle.virtiofsd_fuse.specs.Grammar.{meaning, meant, row, one_name, Asks, One, error_bytes, reply_bytes, versions_bytes}
+use Rattle.fuse_fs.specs.Calls.{FileAnswer, Lookup, Forget, Getattr, Mkdir, Release, Rename, Wants, Listed, Readdir, Entries, HasEntry, Done}
+use Rattle.fuse_segments.specs.declared.error.Error.TheVariants.{DecodeMessage, EncodeMessage, InvalidHeaderLength, InvalidXattrSize, MissingExtension}
+use Rattle.virtiofsd_fuse.specs.Reading.{reading_of, last_name, two_names, name_and_value, front_name}
+use Rattle.virtiofsd_fuse.specs.Extras.{one_group, part, extension, extensions, extra_in, new_name}
+use Rattle.virtiofsd_fuse.specs.Grammar.{meaning, meant, row, counted, with_bytes, setxattr_front, IsFault, Asks, One, error_bytes, reply_bytes, versions_bytes}
+use Rattle.virtiofsd_fuse.specs.Listings.{list_entries, fit_of, dirent_bytes, node_bytes, no_node}
 use Rattle.virtiofsd_fuse.specs.Serving.{Served, served, setting, started_bytes}
 
 -- who asks: nobody in particular
@@ -48,27 +49,37 @@ serve request room answers = served (setting 4096 0 room) (meaning 0 request roo
 
 -- FORGET of node 5, held three times less
 forget_means : meaning 0 (in_header_bytes 48 2 2 5 ++ le64 3) 0 ≡ Asks (One 2 (Forget nobody 5 3))
-unfolding meaning meant reading_in_header row reading_forget_in
+unfolding meaning meant reading_of row
 forget_means = refl
 
 -- LOOKUP of `a` in the root
 lookup_means : meaning 0 (in_header_bytes 42 1 1 1 ++ 97 ∷ 0 ∷ []) 143 ≡ Asks (One 1 (Lookup nobody 1 (97 ∷ [])))
-unfolding meaning meant reading_in_header row one_name last_name
+unfolding meaning meant reading_of row counted last_name
 lookup_means = refl
+
+-- GETATTR of node 5 by its open file 9
+getattr_means : meaning 0 (in_header_bytes 56 3 2 5 ++ le32 1 ++ le32 0 ++ le64 9) 0 ≡ Asks (One 2 (Getattr nobody 5 (Some 9)))
+unfolding meaning meant reading_of row
+getattr_means = refl
+
+-- RELEASE of file 9 with a flush: who holds the lock counts
+release_means : meaning 0 (in_header_bytes 64 18 2 5 ++ le64 9 ++ le32 2 ++ le32 1 ++ le64 7) 0 ≡ Asks (One 2 (Release nobody 5 2 9 true false (Some 7)))
+unfolding meaning meant reading_of row
+release_means = refl
 
 -- an opcode that isn't known is answered -38
 unknown_means : (serve (in_header_bytes 40 7 1 0) 16 []).reply ≡ answer_header 16 (2 ^ 32 - 38) 1
-unfolding meaning meant reading_in_header row error_bytes field_bytes
+unfolding meaning meant reading_of row error_bytes field_bytes
 unknown_means = refl
 
 -- INIT of version 8.0 is told version 7.38, without a call
 later_means : (serve (init 8 0 0 0) 80 []).reply ≡ answer_header 80 0 1 ++ le32 7 ++ le32 38 ++ zeros 56
-unfolding meaning meant reading_in_header row reading_init_in_compat reply_bytes versions_bytes field_bytes
+unfolding meaning meant reading_of row reply_bytes versions_bytes field_bytes
 later_means = refl
 
 -- the same in a room of 79 bytes
 later_cut : (serve (init 8 0 0 0) 79 []).fault ≡ Some EncodeMessage
-unfolding meaning meant reading_in_header row reading_init_in_compat reply_bytes versions_bytes field_bytes
+unfolding meaning meant reading_of row reply_bytes versions_bytes field_bytes
 later_cut = refl
 
 -- struct fuse_init_out of a client with the readahead 0x20000 and option 1 agreed: 65535 requests, 49149, 2^20 bytes, 256 pages
@@ -78,5 +89,77 @@ told_options =
 
 -- INIT of version 7.38 with one option, of which the file system wants none
 start_means : (serve (init 7 38 0x20000 1) 80 (Wants 0 ∷ [])).reply ≡ answer_header 80 0 1 ++ told_options
-unfolding meaning meant reading_in_header row reading_init_in_compat reply_bytes started_bytes field_bytes
+unfolding meaning meant reading_of row reply_bytes started_bytes field_bytes
 start_means = refl
+
+-- RENAME of `a` to `b` in node 3
+rename_means : meaning 0 (in_header_bytes 52 12 1 1 ++ le64 3 ++ 97 ∷ 0 ∷ 98 ∷ 0 ∷ []) 0 ≡ Asks (One 1 (Rename nobody 1 (97 ∷ []) 3 (98 ∷ []) 0))
+unfolding meaning meant reading_of row counted with_bytes two_names last_name
+rename_means = refl
+
+-- SETXATTR whose value has one byte less than it tells
+setxattr_means : meaning 0 (in_header_bytes 54 21 1 1 ++ le32 3 ++ le32 0 ++ 117 ∷ 46 ∷ 97 ∷ 0 ∷ 1 ∷ 2 ∷ []) 0 ≡ IsFault (InvalidXattrSize (3, 2))
+unfolding meaning meant reading_of row counted with_bytes setxattr_front name_and_value
+setxattr_means = refl
+
+-- MKDIR of `d` with an extension of this length, which holds the group 1000
+abbrev mkdir : (size : ℕ) → List ℕ
+mkdir size = in_header_bytes 66 9 1 1 ++ le32 511 ++ le32 18 ++ 100 ∷ 0 ∷ le32 size ++ le32 32 ++ le32 1 ++ le32 1000
+
+-- where groups are agreed
+mkdir_means : meaning (2 ^ 34) (mkdir 16) 0 ≡ Asks (One 1 (Mkdir nobody 1 (100 ∷ []) 511 18 (record { security = None; group = Some 1000 })))
+unfolding meaning meant reading_of row counted with_bytes front_name new_name extra_in extensions extension part one_group
+mkdir_means = refl
+
+-- an extension that is longer than what is left
+mkdir_long : meaning (2 ^ 34) (mkdir 17) 0 ≡ IsFault DecodeMessage
+unfolding meaning meant reading_of row counted with_bytes front_name new_name extra_in extensions extension
+mkdir_long = refl
+
+-- an extension that is shorter than its header
+mkdir_short : meaning (2 ^ 34) (mkdir 7) 0 ≡ IsFault InvalidHeaderLength
+unfolding meaning meant reading_of row counted with_bytes front_name new_name extra_in extensions extension
+mkdir_short = refl
+
+-- where security contexts are agreed too
+mkdir_missing : meaning (2 ^ 34 + 2 ^ 32) (mkdir 16) 0 ≡ IsFault MissingExtension
+unfolding meaning meant reading_of row counted with_bytes front_name new_name extra_in extensions extension part one_group
+mkdir_missing = refl
+
+-- BATCH_FORGET of more pairs than 2^20 bytes hold is answered -12
+forgets_means : (serve (in_header_bytes 48 42 2 0 ++ le32 65537 ++ le32 0) 16 []).reply ≡ answer_header 16 (2 ^ 32 - 12) 2
+unfolding meaning meant reading_of row error_bytes field_bytes
+forgets_means = refl
+
+-- a directory itself, and a file `a` in it
+abbrev itself : Listed
+itself = record { ino = 1; offset = 1; kind = 4; name = 46 ∷ [] }
+
+-- the file
+abbrev named_a : Listed
+named_a = record { ino = 2; offset = 2; kind = 8; name = 97 ∷ [] }
+
+-- a listing of the root, of this size
+abbrev list_root : (opcode size : ℕ) → List ℕ
+list_root opcode size = in_header_bytes 80 opcode 2 1 ++ zeros 16 ++ le32 size ++ zeros 20
+
+-- READDIR: both entries have 32 bytes
+both_listed : length (serve (list_root 28 64) 80 (Entries (itself ∷ named_a ∷ []) ∷ [])).reply ≡ 80
+unfolding meaning meant reading_of row reply_bytes field_bytes list_entries fit_of dirent_bytes
+both_listed = refl
+
+-- one byte less is asked for, and the second doesn't go in
+one_listed : length (serve (list_root 28 63) 80 (Entries (itself ∷ named_a ∷ []) ∷ [])).reply ≡ 48
+unfolding meaning meant reading_of row reply_bytes field_bytes list_entries fit_of dirent_bytes
+one_listed = refl
+
+-- one byte less of room is the error -5
+no_room_listed : (serve (list_root 28 64) 79 (Entries (itself ∷ named_a ∷ []) ∷ [])).reply ≡ answer_header 16 (2 ^ 32 - 5) 2
+unfolding meaning meant reading_of row error_bytes field_bytes list_entries fit_of dirent_bytes
+no_room_listed = refl
+
+-- READDIRPLUS: `.` fills the list without a look-up, and the node of `a`, which was looked up, is taken back
+plus_means : (serve (list_root 44 160) 176 (Entries (itself ∷ named_a ∷ []) ∷ HasEntry (no_node named_a) ∷ Done ∷ [])).calls
+    ≡ Readdir nobody 1 0 160 0 ∷ Lookup nobody 1 (97 ∷ []) ∷ Forget nobody 0 1 ∷ []
+unfolding meaning meant reading_of row reply_bytes field_bytes list_entries fit_of dirent_bytes node_bytes
+plus_means = refl

@@ -1,27 +1,39 @@
 -- What a request means, by the options that client and server agreed on, its bytes and the length of its room (linux/fuse.h).
-use Rattle.std.specs.Prelude.{ℕ, ◌+◌, ◌-◌, ◌*◌, ◌/◌, ◌^◌, ◌%◌, Bool, nat_le, nat_lt, List, ◌++◌, length, replicate, Option, Some, None, Result, Ok, Err, if◌then◌else◌, bit_and, pos, neg_ℤ}
+use Rattle.std.specs.Prelude.{ℕ, ◌+◌, ◌-◌, ◌*◌, ◌/◌, ◌^◌, ◌%◌, nat_le, nat_lt, List, ◌++◌, length, replicate, Option, Some, None, Result, Ok, Err, if◌then◌else◌, bit_and, pos}
+use Rattle.std.specs.Prelude.{neg_ℤ, Bool, true, false}
 use Rattle.vm_values.specs.Bits.{has_bit}
 use Rattle.vm_values.specs.Fields.{spelled}
 use Rattle.fuse_in.specs.declared.session.InHeader.{InHeader}
-use Rattle.fuse_in.specs.declared.session.ForgetIn.{ForgetIn}
 use Rattle.fuse_in.specs.declared.session.InitInCompat.{InitInCompat}
 use Rattle.fuse_in.specs.declared.files.ReadIn.{ReadIn}
+use Rattle.fuse_in.specs.declared.nodes.SetxattrIn.{SetxattrIn}
+use Rattle.fuse_in.specs.declared.nodes.SetxattrInCompat.{SetxattrInCompat}
+use Rattle.fuse_in.specs.Shapes.{Shape}
+use Rattle.fuse_in.specs.Records.{in_header, forget_in, getattr_in, setattr_in, open_in, read_in, release_in, fsync_in, flush_in, access_in, fallocate_in}
+use Rattle.fuse_in.specs.Records.{lseek_in, copyfilerange_in, init_in_compat, init_in_ext, link_in, rename_in, rename2_in, setxattr_in, setxattr_in_compat, getxattr_in}
+use Rattle.fuse_in.specs.Records.{batch_forget_in, write_in, mknod_in, mkdir_in, create_in}
 use Rattle.fuse_wire.specs.declared.replies.InitOut.{InitOut}
 use Rattle.fuse_wire.specs.declared.opcodes.Opcode.{Opcode}
 use Rattle.fuse_wire.specs.declared.opcodes.Opcode.TheVariants as op
-use Rattle.fuse_wire.specs.Records.{init_out, out_header}
+use Rattle.fuse_wire.specs.Records.{init_out, out_header, forget_one}
 use Rattle.fuse_wire.specs.Opcodes.{opcode_of}
-use Rattle.fuse_fs.specs.Answers.{context_of}
-use Rattle.fuse_fs.specs.Calls.{FileCall, Lookup, Forget, Read}
+use Rattle.virtiofsd_fuse.specs.Extras.{new_name, new_link}
+use Rattle.fuse_fs.specs.Calls.{FileCall, Extra, Destroy, Getlk, Setlk, Setlkw, Bmap, Ioctl, Poll, NotifyReply, TmpFile}
 use Rattle.fuse_segments.specs.declared.error.Error.{Error}
 use Rattle.fuse_segments.specs.declared.error.Error.TheVariants.{DecodeMessage, EncodeMessage, InvalidHeaderLength}
-use Rattle.virtiofsd_fuse.specs.Reading.{ReadFailure, Faults, Sends, Reading, ◌>>=◌, ◌>>◌, give, refuse, needs, exactly, within, last_name}
-use Rattle.virtiofsd_fuse.specs.Records.{reading_in_header, reading_forget_in, reading_read_in, reading_init_in_compat, reading_init_in_ext}
+use Rattle.virtiofsd_fuse.specs.Reading.{ReadFailure, Faults, Sends, Reading, ◌>>=◌, ◌>>◌, give, refuse, needs, exactly, reading_of, within, last_name, two_names}
+use Rattle.virtiofsd_fuse.specs.Reading.{name_and_value, rest, many}
+use Rattle.virtiofsd_fuse.specs.Requests.{lookup_call, forget_call, getattr_call, setattr_call, readlink_call, unlink_call, rmdir_call, open_call, statfs_call, release_call}
+use Rattle.virtiofsd_fuse.specs.Requests.{fsync_call, fsyncdir_call, removexattr_call, flush_call, opendir_call, releasedir_call, access_call, fallocate_call, lseek_call}
+use Rattle.virtiofsd_fuse.specs.Requests.{copy_file_range_call, syncfs_call, read_call, link_call, rename_call, rename2_call, setxattr_call, getxattr_call, listxattr_call}
+use Rattle.virtiofsd_fuse.specs.Requests.{write_call, batch_forget_call, listing_of, symlink_call, mknod_call, mkdir_call, create_call}
+use Rattle.virtiofsd_fuse.specs.Listings.{Listing}
 
--- a file command: one call, or INIT
+-- a file command: one call, INIT, or a listing
 pub data FileCommand : Type 0 where
   One : (unique : ℕ) → FileCall → FileCommand
   Starts : (unique capable readahead : ℕ) → FileCommand
+  Lists : (unique : ℕ) → Listing → FileCommand
 
 -- what a request means: a fault, a reply that asks no file system, silence, or a file command
 pub data Meaning : Type 0 where
@@ -65,16 +77,12 @@ abbrev pub one : Given → FileCall → Reading Meaning
 one g call = give (Asks (One g.header.unique call))
 
 -- as many bytes as the header's length leaves after k bytes of record
-abbrev pub counted : (len k : ℕ) → Reading (List ℕ)
+unfoldable pub counted : (len k : ℕ) → Reading (List ℕ)
 counted len k = needs (nat_le (40 + k) len) (Faults InvalidHeaderLength) >> exactly (len - 40 - k)
 
--- these bytes are one name
-unfoldable pub one_name : (len k : ℕ) → Reading (List ℕ)
-one_name len k = counted len k >>= λ bytes. within bytes last_name
-
--- a number that counts only where its flag is set
-abbrev pub if_set : Bool → ℕ → Option ℕ
-if_set test n = if test then Some n else None
+-- a record of k bytes, and as many bytes as the header's length leaves after it
+unfoldable pub with_bytes : {R : Type 0} → Shape R → (k len : ℕ) → Reading (R × List ℕ)
+with_bytes s k len = reading_of s >>= λ r. counted len k >>= λ bytes. give (r, bytes)
 
 -- every option that is known
 abbrev pub known_options : ℕ
@@ -116,27 +124,66 @@ started g r flags2 =
 
 -- the upper half of the client's options, read only where FUSE_INIT_EXT (bit 30 of `flags`) says that it stands there
 abbrev pub flags2_of : InitInCompat → Reading ℕ
-flags2_of r = if has_bit r.flags 30 then (reading_init_in_ext >>= λ more. give more.flags2) else give 0
+flags2_of r = if has_bit r.flags 30 then (reading_of init_in_ext >>= λ more. give more.flags2) else give 0
 
--- LOOKUP of a name in a node
-abbrev pub lookup_call : InHeader → List ℕ → FileCall
-lookup_call h name = Lookup (context_of h) h.nodeid name
+-- the rows of the grammar by their shape, each of which asks one call; one record
+abbrev pub record_row : {R : Type 0} → Shape R → (InHeader → R → FileCall) → Given → Reading Meaning
+record_row s call g = reading_of s >>= λ r. one g (call g.header r)
 
--- FORGET: so many of the counts that the client holds on the node
-abbrev pub forget_call : InHeader → ForgetIn → FileCall
-forget_call h r = Forget (context_of h) h.nodeid r.nlookup
+-- nothing but the header
+abbrev pub plain_row : (InHeader → FileCall) → Given → Reading Meaning
+plain_row call g = one g (call g.header)
 
--- READ: `lock_owner` counts only with FUSE_READ_LOCKOWNER (bit 1 of `read_flags`)
-abbrev pub read_call : InHeader → (room : ℕ) → ReadIn → FileCall
-read_call h room r = Read (context_of h) h.nodeid r.fh room r.size r.offset (if_set (has_bit r.read_flags 1) r.lock_owner) r.flags
+-- one name
+abbrev pub name_row : (InHeader → List ℕ → FileCall) → Given → Reading Meaning
+name_row call g = counted g.header.len 0 >>= λ bytes. within bytes last_name >>= λ name. one g (call g.header name)
 
--- the rows of the grammar, one for each request; LOOKUP: a name
-abbrev pub lookup_row : Given → Reading Meaning
-lookup_row g = one_name g.header.len 0 >>= λ name. one g (lookup_call g.header name)
+-- a record, and bytes that are read in a way that it may decide
+abbrev pub bytes_row : {R A : Type 0} → (Given → Reading (R × List ℕ)) → (Given → R → Reading A) → (InHeader → R → A → FileCall)
+    → Given → Reading Meaning
+bytes_row front parts call g = front g >>= λ x. within x.1 (parts g x.0) >>= λ y. one g (call g.header x.0 y)
 
--- FORGET: struct fuse_forget_in
-abbrev pub forget_row : Given → Reading Meaning
-forget_row g = reading_forget_in >>= λ r. one g (forget_call g.header r)
+-- a record of k bytes, and one name
+abbrev pub record_name_row : {R : Type 0} → Shape R → (k : ℕ) → (InHeader → R → List ℕ → FileCall) → Given → Reading Meaning
+record_name_row s k call = bytes_row (λ g. with_bytes s k g.header.len) (λ g r. last_name) call
+
+-- a record of k bytes, and two names
+abbrev pub two_names_row : {R : Type 0} → Shape R → (k : ℕ) → (InHeader → R → List ℕ × List ℕ → FileCall) → Given → Reading Meaning
+two_names_row s k call = bytes_row (λ g. with_bytes s k g.header.len) (λ g r. two_names) call
+
+-- a record of k bytes, and the name of a node that is made
+abbrev pub new_name_row : {R : Type 0} → Shape R → (k : ℕ) → (InHeader → R → List ℕ × Extra → FileCall) → Given → Reading Meaning
+new_name_row s k call = bytes_row (λ g. with_bytes s k g.header.len) (λ g r. new_name g.options) call
+
+-- SYMLINK: two names
+abbrev pub symlink_row : Given → Reading Meaning
+symlink_row g = counted g.header.len 0 >>= λ bytes. within bytes (new_link g.options) >>= λ x. one g (symlink_call g.header x)
+
+-- a value or a list of names has at most 2^20 bytes
+abbrev pub at_most_a_mebibyte : ℕ → Reading (Unit {0})
+at_most_a_mebibyte n = needs (nat_le n (2 ^ 20)) (Sends ENOMEM)
+
+-- GETXATTR: struct fuse_getxattr_in and the attribute's name
+abbrev pub getxattr_row : Given → Reading Meaning
+getxattr_row = bytes_row (λ g. with_bytes getxattr_in 8 g.header.len) (λ g r. at_most_a_mebibyte r.size >> last_name) getxattr_call
+
+-- LISTXATTR: struct fuse_getxattr_in
+abbrev pub listxattr_row : Given → Reading Meaning
+listxattr_row g = reading_of getxattr_in >>= λ r. at_most_a_mebibyte r.size >> one g (listxattr_call g.header r)
+
+-- struct fuse_setxattr_in as clients without FUSE_SETXATTR_EXT send it
+abbrev pub without_flags : SetxattrInCompat → SetxattrIn
+without_flags r = record { size = r.size; flags = r.flags; setxattr_flags = 0; padding = 0 }
+
+-- the record of SETXATTR, whose length FUSE_SETXATTR_EXT (bit 29 of the options) decides, and the bytes after it
+unfoldable pub setxattr_front : (options len : ℕ) → Reading (SetxattrIn × List ℕ)
+setxattr_front options len =
+    if has_bit options 29 then with_bytes setxattr_in 16 len
+    else (with_bytes setxattr_in_compat 8 len >>= λ x. give (without_flags x.0, x.1))
+
+-- SETXATTR: the attribute's name and its value
+abbrev pub setxattr_row : Given → Reading Meaning
+setxattr_row = bytes_row (λ g. setxattr_front g.options g.header.len) (λ g r. name_and_value r.size) setxattr_call
 
 -- a READ is a fault where its room has no place for the header of the reply
 abbrev pub read_asked : Given → ReadIn → Reading Meaning
@@ -144,19 +191,98 @@ read_asked g r = needs (nat_le 16 g.room) (Faults EncodeMessage) >> one g (read_
 
 -- READ: struct fuse_read_in
 abbrev pub read_row : Given → Reading Meaning
-read_row g = reading_read_in >>= λ r. read_asked g r
+read_row g = reading_of read_in >>= λ r. read_asked g r
 
--- INIT: struct fuse_init_in, whose end a client of an earlier minor version leaves out
+-- WRITE: struct fuse_write_in, and the data, which is all that is left
+abbrev pub write_row : Given → Reading Meaning
+write_row g = reading_of write_in >>= λ r. rest >>= λ bytes. one g (write_call g.header r bytes)
+
+-- READDIR and READDIRPLUS want at most 2^20 bytes, and room for as many as they want; without a place for the header of the
+-- reply they are faults
+abbrev pub listing_asked : Bool → ReadIn → Given → Reading Meaning
+listing_asked with_nodes r g =
+    at_most_a_mebibyte r.size >> needs (nat_le r.size g.room) (Sends ENOMEM) >> needs (nat_le 16 g.room) (Faults EncodeMessage)
+    >> give (Asks (Lists g.header.unique (listing_of with_nodes g.header r)))
+
+-- READDIR and READDIRPLUS: struct fuse_read_in
+abbrev pub listing_row : (with_nodes : Bool) → Given → Reading Meaning
+listing_row with_nodes g = reading_of read_in >>= λ r. listing_asked with_nodes r g
+
+-- struct fuse_forget_one: a node, and how many of the counts that the client holds on it
+abbrev pub forget_pair : Reading (ℕ × ℕ)
+forget_pair = reading_of forget_one >>= λ r. give (r.nodeid, r.nlookup)
+
+-- as many of these as a BATCH_FORGET says
+abbrev pub forgets_asked : ℕ → Given → Reading Meaning
+forgets_asked count g = at_most_a_mebibyte (count * 16) >> many count forget_pair >>= λ pairs. one g (batch_forget_call g.header pairs)
+
+-- BATCH_FORGET: struct fuse_batch_forget_in, and that many of struct fuse_forget_one
+abbrev pub batch_forget_row : Given → Reading Meaning
+batch_forget_row g = reading_of batch_forget_in >>= λ r. forgets_asked r.count g
+
+-- INIT: struct fuse_init_in, whose end stands there with FUSE_INIT_EXT
 abbrev pub init_row : Given → Reading Meaning
-init_row g = reading_init_in_compat >>= λ r. flags2_of r >>= λ flags2. started g r flags2
+init_row g = reading_of init_in_compat >>= λ r. flags2_of r >>= λ flags2. started g r flags2
 
--- the row of a request; those that aren't served yet are answered ENOSYS
+-- a request that asks nothing, and has no reply
+abbrev pub silent_row : Given → Reading Meaning
+silent_row g = give IsSilent
+
+-- a request that isn't served: no window of a file is mapped into the guest
+abbrev pub unserved_row : Given → Reading Meaning
+unserved_row g = refuse (Sends ENOSYS)
+
+-- the row of a request
 unfoldable pub row : Given → Opcode → Reading Meaning
-row g op.Lookup = lookup_row g
-row g op.Forget = forget_row g
+row g op.Lookup = name_row lookup_call g
+row g op.Forget = record_row forget_in forget_call g
 row g op.Read = read_row g
 row g op.Init = init_row g
-row g _ = refuse (Sends ENOSYS)
+row g op.Write = write_row g
+row g op.BatchForget = batch_forget_row g
+row g op.Readdir = listing_row false g
+row g op.Readdirplus = listing_row true g
+row g op.SetupMapping = unserved_row g
+row g op.RemoveMapping = unserved_row g
+row g op.Getattr = record_row getattr_in getattr_call g
+row g op.Setattr = record_row setattr_in setattr_call g
+row g op.Readlink = plain_row readlink_call g
+row g op.Unlink = name_row unlink_call g
+row g op.Rmdir = name_row rmdir_call g
+row g op.Open = record_row open_in open_call g
+row g op.Statfs = plain_row statfs_call g
+row g op.Release = record_row release_in release_call g
+row g op.Fsync = record_row fsync_in fsync_call g
+row g op.Removexattr = name_row removexattr_call g
+row g op.Flush = record_row flush_in flush_call g
+row g op.Opendir = record_row open_in opendir_call g
+row g op.Releasedir = record_row release_in releasedir_call g
+row g op.Fsyncdir = record_row fsync_in fsyncdir_call g
+row g op.Getlk = plain_row (λ h. Getlk) g
+row g op.Setlk = plain_row (λ h. Setlk) g
+row g op.Setlkw = plain_row (λ h. Setlkw) g
+row g op.Access = record_row access_in access_call g
+row g op.Interrupt = silent_row g
+row g op.Bmap = plain_row (λ h. Bmap) g
+row g op.Destroy = plain_row (λ h. Destroy) g
+row g op.Ioctl = plain_row (λ h. Ioctl) g
+row g op.Poll = plain_row (λ h. Poll) g
+row g op.NotifyReply = plain_row (λ h. NotifyReply) g
+row g op.Fallocate = record_row fallocate_in fallocate_call g
+row g op.Lseek = record_row lseek_in lseek_call g
+row g op.CopyFileRange = record_row copyfilerange_in copy_file_range_call g
+row g op.Syncfs = plain_row syncfs_call g
+row g op.TmpFile = plain_row (λ h. TmpFile) g
+row g op.Setxattr = setxattr_row g
+row g op.Getxattr = getxattr_row g
+row g op.Listxattr = listxattr_row g
+row g op.Symlink = symlink_row g
+row g op.Mknod = new_name_row mknod_in 16 mknod_call g
+row g op.Mkdir = new_name_row mkdir_in 8 mkdir_call g
+row g op.Create = new_name_row create_in 16 create_call g
+row g op.Link = record_name_row link_in 8 link_call g
+row g op.Rename = two_names_row rename_in 8 rename_call g
+row g op.Rename2 = two_names_row rename2_in 16 rename2_call g
 
 -- what a refusal means: a fault, or the reply of an error
 abbrev pub refused : ℕ → ReadFailure → Meaning
@@ -188,4 +314,4 @@ with_header options room (Ok x) = meant (given x.0 options room) x.1
 
 -- what a request means
 unfoldable pub meaning : (options : ℕ) (request : List ℕ) (room : ℕ) → Meaning
-meaning options request room = with_header options room (reading_in_header request)
+meaning options request room = with_header options room (reading_of in_header request)

@@ -1,6 +1,9 @@
 pub mod Examples
+pub mod Extras
 pub mod Grammar
+pub mod ListingRuns
+pub mod Listings
 pub mod PageSizes
 pub mod Reading
-pub mod Records
+pub mod Requests
 pub mod Serving

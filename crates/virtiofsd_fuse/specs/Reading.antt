@@ -1,7 +1,8 @@
 -- Reading a request from its front, with the first refusal that is met.
-use Rattle.std.specs.Prelude.{ℕ, Bool, ◌==◌, nat_lt, List, [], ◌∷◌, length, take, drop, Option, Some, None, Result, Ok, Err, if◌then◌else◌, option_map}
+use Rattle.std.specs.Prelude.{ℕ, zero, suc, Bool, ◌==◌, nat_lt, List, [], ◌∷◌, length, take, drop, Option, Some, None, Result, Ok, Err, if◌then◌else◌, option_map, true, false}
+use Rattle.fuse_in.specs.Shapes.{Shape, size, made}
 use Rattle.fuse_segments.specs.declared.error.Error.{Error}
-use Rattle.fuse_segments.specs.declared.error.Error.TheVariants.{DecodeMessage, InvalidCString}
+use Rattle.fuse_segments.specs.declared.error.Error.TheVariants.{DecodeMessage, InvalidCString, InvalidXattrSize, MissingParameter}
 
 -- why a request isn't read to its end: a fault, or an error number that is the reply
 pub data ReadFailure : Type 0 where
@@ -51,6 +52,15 @@ rest = λ bytes. Ok (bytes, [])
 abbrev pub exactly : ℕ → Reading (List ℕ)
 exactly n = λ bytes. if nat_lt (length bytes) n then Err (Faults DecodeMessage) else Ok (take n bytes, drop n bytes)
 
+-- n of them, one after another
+unfoldable pub many : {A : Type 0} → ℕ → Reading A → Reading (List A)
+many zero p = give []
+many (suc n) p = p >>= λ x. many n p >>= λ xs. give (x ∷ xs)
+
+-- a record, part by part
+unfoldable pub reading_of : {R : Type 0} → Shape R → Reading R
+reading_of s = exactly (size s.parts) >>= λ bytes. give (made s.parts s.make bytes)
+
 -- a reading of these bytes alone, of which what is left is ignored
 abbrev pub within : {A : Type 0} → List ℕ → Reading A → Reading A
 within bytes p = λ others. and_then (p bytes) (λ x. Ok (x.0, others))
@@ -77,10 +87,34 @@ name_or e = λ bytes. ended_or e (at_zero bytes)
 unfoldable pub last_name : Reading (List ℕ)
 last_name = name_or InvalidCString >>= λ name. rest >>= λ more. needs (length more == 0) (Faults InvalidCString) >> give name
 
+-- where no zero byte is met, all bytes are the name
+abbrev pub name_by : List ℕ → Option (List ℕ × List ℕ) → Read (List ℕ × Bool)
+name_by bytes None = Ok ((bytes, false), [])
+name_by bytes (Some split) = Ok ((split.0, true), split.1)
+
+-- a name up to its zero byte, or all bytes where there is none, and whether it has its zero byte
+unfoldable pub front_name : Reading (List ℕ × Bool)
+front_name = λ bytes. if length bytes == 0 then Err (Faults MissingParameter) else name_by bytes (at_zero bytes)
+
+-- all that is left is two names, the first of which ends with the first zero byte
+unfoldable pub two_names : Reading (List ℕ × List ℕ)
+two_names = name_or MissingParameter >>= λ old. last_name >>= λ new. give (old, new)
+
+-- a name, and all that is left is its value, of this size
+unfoldable pub name_and_value : (size : ℕ) → Reading (List ℕ × List ℕ)
+name_and_value size =
+    name_or MissingParameter >>= λ name. rest >>= λ value. needs (size == length value) (Faults (InvalidXattrSize (size, length value)))
+    >> give (name, value)
+
 -- what was read, whatever is left
 abbrev pub value_of : {A : Type 0} → Read A → Result A ReadFailure
 value_of (Ok x) = Ok x.0
 value_of (Err r) = Err r
+
+-- what a function answers, as what was read
+abbrev pub outcome : {A B : Type 0} → (A → B) → Result A Error → Result B ReadFailure
+outcome view (Ok x) = Ok (view x)
+outcome view (Err e) = Err (Faults e)
 
 -- what a function that reads says, with the bytes that it leaves
 abbrev pub read_result : {A : Type 0} → Result A Error → List ℕ → Read A

@@ -1,15 +1,20 @@
 -- What the server does for a meaning: its calls, given the answers so far, and its reply.
-use Rattle.std.specs.Prelude.{◌≡◌, ℕ, ◌+◌, ◌-◌, ◌/◌, ◌^◌, Bool, true, false, nat_lt, List, [], ◌∷◌, map, length, Option, Some, None, Result, Ok, Err, if◌then◌else◌, bit_and, bit_or, MatchBool}
+use Rattle.std.specs.Prelude.{◌≡◌, ℕ, ◌+◌, ◌-◌, ◌/◌, ◌^◌, Bool, true, false, ◌&&◌, nat_lt, List, [], ◌∷◌, ◌++◌, map, length, Option, Some, None, Result, Ok, Err, if◌then◌else◌, bit_and, bit_or, MatchBool}
 use Rattle.vm_values.specs.Fields.{spelled}
-use Rattle.fuse_wire.specs.Records.{entry_out, init_out}
+use Rattle.fuse_base.specs.Stats.{kstatfs_from}
+use Rattle.fuse_wire.specs.declared.opcodes.Opcode.{Opcode}
+use Rattle.fuse_wire.specs.Records.{entry_out, attr_out, open_out, getxattr_out, statfs_out, write_out, lseek_out, init_out}
 use Rattle.fuse_fs.specs.Answers.{entry_out_of}
-use Rattle.fuse_fs.specs.Calls.{FileCall, FileAnswer, FileRun, Init, Destroy, Forget, BatchForget, Getlk, Setlk, Setlkw, Bmap, Ioctl, Poll, NotifyReply, Failed, HasEntry, Bytes, Wants}
+use Rattle.fuse_fs.specs.Replies.{attr_out_of, open_out_of, getxattr_out_of, write_out_of, lseek_out_of}
+use Rattle.fuse_fs.specs.Calls.{FileCall, FileAnswer, FileRun, Init, Destroy, Forget, BatchForget, Getlk, Setlk, Setlkw, Bmap, Ioctl, Poll, NotifyReply, Failed}
+use Rattle.fuse_fs.specs.Calls.{HasEntry, HasAttr, Opened, Created, Bytes, Count, Stats, Wrote, Offset, Entries, Wants}
 use Rattle.fuse_segments.specs.declared.error.Error.{Error}
 use Rattle.fuse_segments.specs.declared.error.Error.TheVariants.{EncodeMessage, OutOfMemory}
 use Rattle.fuse_in.specs.declared.session.InHeader.{InHeader}
 use Rattle.virtiofsd_fuse.specs.declared.server.Server.{Server}
 use Rattle.virtiofsd_fuse.specs.Reading.{Reading}
-use Rattle.virtiofsd_fuse.specs.Grammar.{Meaning, IsFault, Replies, IsSilent, Asks, FileCommand, One, Starts, Given, given, ended, reply_bytes, error_bytes, init_record, default_options}
+use Rattle.virtiofsd_fuse.specs.Listings.{Listing, Went, list_entries, readdir_call}
+use Rattle.virtiofsd_fuse.specs.Grammar.{Meaning, IsFault, Replies, IsSilent, Asks, FileCommand, One, Starts, Lists, Given, given, ended, row, reply_bytes, error_bytes, init_record, default_options}
 
 -- what serving gives so far: the calls, the last of which may wait for its answer, the options after, the reply, and the fault if there is one
 pub record Served : Type 0 where
@@ -21,7 +26,14 @@ pub record Served : Type 0 where
 -- what follows the header, by the answer
 abbrev pub body_bytes : FileAnswer → List ℕ
 body_bytes (HasEntry e) = spelled (entry_out (entry_out_of e))
+body_bytes (HasAttr attr timeout) = spelled (attr_out (attr_out_of attr timeout))
+body_bytes (Opened handle options) = spelled (open_out (open_out_of handle options))
+body_bytes (Created e handle options) = spelled (entry_out (entry_out_of e)) ++ spelled (open_out (open_out_of handle options))
 body_bytes (Bytes bytes) = bytes
+body_bytes (Count n) = spelled (getxattr_out (getxattr_out_of n))
+body_bytes (Stats st) = spelled (statfs_out (record { st = kstatfs_from st }))
+body_bytes (Wrote n) = spelled (write_out (write_out_of n))
+body_bytes (Offset n) = spelled (lseek_out (lseek_out_of n))
 body_bytes _ = []
 
 -- the calls whose good answer is not told
@@ -38,10 +50,14 @@ is_silent NotifyReply = true
 is_silent Destroy = true
 is_silent _ = false
 
+-- the reply to an answer; a good one may have none
+abbrev pub told_bytes : (silent : Bool) → (unique : ℕ) → FileAnswer → List ℕ
+told_bytes silent unique (Failed errno) = error_bytes unique errno
+told_bytes silent unique answer = if silent then [] else reply_bytes unique (body_bytes answer)
+
 -- the reply to a call's answer
 abbrev pub answer_bytes : ℕ → FileCall → FileAnswer → List ℕ
-answer_bytes unique call (Failed errno) = error_bytes unique errno
-answer_bytes unique call answer = if is_silent call then [] else reply_bytes unique (body_bytes answer)
+answer_bytes unique call answer = told_bytes (is_silent call) unique answer
 
 -- DESTROY ends what was agreed
 abbrev pub options_after : ℕ → FileCall → ℕ
@@ -90,6 +106,30 @@ pub record Setting : Type 0 where
 abbrev pub setting : (page_size options room : ℕ) → Setting
 setting page_size options room = record { page_size = page_size; options = options; room = room }
 
+-- the reply to an answer of `read`, with the bytes that were put in
+abbrev pub data_reply : ℕ → Result ℕ ℕ → List ℕ → List ℕ
+data_reply unique (Ok n) bytes = reply_bytes unique bytes
+data_reply unique (Err errno) bytes = error_bytes unique errno
+
+-- as many bytes of entries, or the error that is the reply; in READDIRPLUS an error after the first entry ends the list
+abbrev pub listing_answer : (len : ℕ) → (with_nodes : Bool) → Option ℕ → Result ℕ ℕ
+listing_answer len with_nodes None = Ok len
+listing_answer len with_nodes (Some errno) = if with_nodes && nat_lt 0 len then Ok len else Err errno
+
+-- the reply to a listing, by the entries that went in and the error that ended it
+abbrev pub listing_bytes : ℕ → (with_nodes : Bool) → List ℕ → Option ℕ → List ℕ
+listing_bytes unique with_nodes bytes error = data_reply unique (listing_answer (length bytes) with_nodes error) bytes
+
+-- the calls of a listing that went so, and its reply
+abbrev pub list_ended : Setting → ℕ → Listing → Went → Served
+list_ended s unique l w = replied s.room (readdir_call l ∷ w.calls) s.options (listing_bytes unique l.with_nodes w.bytes w.error)
+
+-- the same by the answers, of which the first is the list of entries
+abbrev pub list_answered : Setting → ℕ → Listing → FileAnswer → List FileAnswer → Served
+list_answered s unique l (Entries ds) answers = list_ended s unique l (list_entries l ds l.size (s.room - 16) answers)
+list_answered s unique l (Failed errno) answers = replied s.room (readdir_call l ∷ []) s.options (error_bytes unique errno)
+list_answered s unique l _ answers = no_reply (readdir_call l ∷ []) s.options None
+
 -- a call without an answer so far has no reply; with one the reply is told of it
 abbrev pub commanded : Setting → FileCommand → List FileAnswer → Served
 commanded s (One unique call) [] = no_reply (call ∷ []) s.options None
@@ -99,6 +139,8 @@ commanded s (Starts unique capable readahead) [] = no_reply (Init capable ∷ []
 commanded s (Starts unique capable readahead) (answer ∷ answers) =
     replied s.room (Init capable ∷ []) (start_options s.options capable answer)
     (start_answered s.page_size unique capable readahead answer)
+commanded s (Lists unique l) [] = no_reply (readdir_call l ∷ []) s.options None
+commanded s (Lists unique l) (answer ∷ answers) = list_answered s unique l answer answers
 
 -- the calls of a meaning and its reply, by the answers so far
 abbrev pub served : Setting → Meaning → List FileAnswer → Served
@@ -149,6 +191,12 @@ abbrev pub RowHandles : {F : Type 0} → May F → Server F → (room : ℕ) →
 RowHandles may before room head row bytes result written after =
     ServerHandles may before room (ended head.unique (row (given head before.options.0 room) bytes)) result written after
 
+-- and of the row of an opcode
+abbrev pub OpcodeHandles : {F : Type 0} → May F → Server F → (room : ℕ) → InHeader → Opcode
+    → List ℕ → Result ℕ Error → List ℕ → Server F → Type 0
+OpcodeHandles may before room head opcode bytes result written after =
+    RowHandles may before room head (λ g. row g opcode) bytes result written after
+
 -- a writer's answer with what it wrote, and the reply that it is to be: whole, or not at all
 abbrev pub told : Result ℕ Error → List ℕ → Result (List ℕ) Error
 told (Ok n) written = Ok written
@@ -157,13 +205,3 @@ told (Err e) written = Err e
 -- a reply whole, or the fault that it is longer than the room
 abbrev pub sent : (room : ℕ) → List ℕ → Result (List ℕ) Error
 sent room bytes = if nat_lt room (length bytes) then Err EncodeMessage else Ok bytes
-
--- the reply to an answer of `read`, with the bytes that were put in
-abbrev pub data_reply : ℕ → Result ℕ ℕ → List ℕ → List ℕ
-data_reply unique (Ok n) bytes = reply_bytes unique bytes
-data_reply unique (Err errno) bytes = error_bytes unique errno
-
--- the reply to an answer of `lookup`
-abbrev pub entry_reply : ℕ → FileAnswer → List ℕ
-entry_reply unique (Failed errno) = error_bytes unique errno
-entry_reply unique answer = reply_bytes unique (body_bytes answer)

@@ -2,17 +2,29 @@
 #![tactic(auto)]
 
 mod answers;
-mod files;
+mod extensions;
+mod forgets;
+mod links;
+mod listings;
 mod names;
+mod new_nodes;
 mod nodes;
+mod open_files;
+mod plain_requests;
+mod reads;
 mod records;
 mod replies;
-pub mod server;
+mod requests;
+mod serialization;
+mod server;
 mod session;
+mod writes;
+mod xattrs;
 
 pub use fuse_fs::{
-    Context, Entry, FileNumber, FileSystem, PositionedFile, Timeout, WritevFlags, ZeroCopyReader,
-    ZeroCopyWriter,
+    Context, DirEntry, DirectoryIterator, Entry, Extensions, FileNumber, FileSystem,
+    FileSystemBase, GetxattrReply, ListxattrReply, NoEntries, PositionedFile, SecContext,
+    SerializableFileSystem, Timeout, WritevFlags, ZeroCopyReader, ZeroCopyWriter, defaults,
 };
 pub use fuse_segments::{DescriptorType, Error, Reader, Writer, ZcReader, ZcWriter};
 pub use server::Server;

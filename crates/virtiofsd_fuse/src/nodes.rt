@@ -1,126 +1,197 @@
 //! Requests about names and nodes.
 
-ghost use Rattle.std.specs.Prelude.{◌≡◌, [], length, IfOk, IsTrue, Ok};
-ghost use Rattle.vm_values.specs.Fields.{spelled};
-ghost use Rattle.fuse_wire.specs.Records.{entry_out};
-ghost use Rattle.fuse_fs.specs.Answers.{entry_answer, entry_out_of, numbered};
-ghost use Rattle.fuse_fs.specs.Calls.{suits, Done};
-ghost use Rattle.virtiofsd_fuse.specs.Grammar.{lookup_row, forget_row, lookup_call, forget_call};
-ghost use Rattle.virtiofsd_fuse.specs.Serving.{RowHandles, told, sent, entry_reply};
+ghost use Rattle.virtiofsd_fuse.specs.Requests.{lookup_call, forget_call, getattr_call, setattr_call, readlink_call, unlink_call, rmdir_call, statfs_call, removexattr_call, access_call, syncfs_call, if_set, known_setattr};
+ghost use Rattle.std.specs.Prelude.{◌≡◌, bit_and, option_map};
 
-use crate::answers::received;
-use crate::names::read_name;
-use crate::records::read_forget_in;
-use crate::replies::{reply, reply_error};
-use crate::server::Server;
-use fuse_fs::{Context, Entry, FileNumber, FileSystem};
-use fuse_in::{ForgetIn, InHeader};
-use fuse_segments::{Error, Reader, Writer};
-use fuse_wire::{EntryOut, Errno};
-use std::alloc::Global;
-use vm_values::ByteValued;
+use crate::answers::{Silence, received, received_entry};
+use crate::requests::{NameRequest, PlainRequest, RecordRequest};
+use bitflags::Flags;
+use fuse_fs::{Context, Entry, FileNumber, FileSystem, Timeout};
+use fuse_in::{AccessIn, ForgetIn, GetattrIn, InHeader, SetattrIn};
+use fuse_wire::constants::{FATTR_FH, GETATTR_FH};
+use fuse_wire::{Attr, Errno, SetattrValid, StatVfs};
 
-// An entry's record.
-fn entry_bytes<I: FileNumber>(entry: Entry<I>) -> [u8; 128]
-    ensures { result ≡ spelled (entry_out (entry_out_of (numbered I.number entry))) }
-{
-    let mut bytes = [0u8; 128];
-    EntryOut::from(entry).put_bytes(&mut bytes);
-    bytes
-}
+/// LOOKUP: what a name stands for.
+pub(crate) struct Lookup;
 
-// Replies with an entry, or with an error.
-fn reply_entry<I: FileNumber>(
-    w: &mut Writer,
-    unique: u64,
-    answer: Result<Entry<I>, Errno>,
-) -> Result<usize, Error>
-    requires fresh { w.old.written ≡ [] }
-    ensures sent { told result w.new.written ≡ sent w.old.free (entry_reply unique (entry_answer I.number answer)) }
-    ensures length { IfOk result (λ n. n ≡ length w.new.written) }
-{
-    match answer {
-        Ok(entry) => reply(w, unique, &entry_bytes(entry)),
-        Err(error) => reply_error(w, unique, error),
-    }
-}
+impl<F: FileSystem> NameRequest<F> for Lookup {
+    type Answer = Entry<F::Inode>;
 
-impl<F: FileSystem> Server<F> {
-    // Asks for a name.
-    fn ask_lookup(&mut self, head: &InHeader, name: &[u8]) -> Result<Entry<F::Inode>, Errno>
-        ensures may { F.may self.old.fs (lookup_call head.now name.now) (entry_answer F.Inode.number result) self.new.fs }
-        ensures suits { IsTrue (suits (lookup_call head.now name.now) (entry_answer F.Inode.number result)) }
-        ensures options { self.new.options ≡ self.old.options }
-        ensures page_size { self.new.page_size ≡ self.old.page_size }
-    {
+    ghost call = { lookup_call };
+
+    fn ask(fs: &mut F, head: &InHeader, name: &[u8]) -> Result<Entry<F::Inode>, Errno> {
         let parent = F::Inode::numbered(head.nodeid);
-        match received(self.fs.lookup(Context::from(*head), parent, name)) {
-            Ok(entry) => {
-                // Read for its range alone: a node's number is below 2^64.
-                let _number = entry.inode.as_number();
-                Ok(entry)
-            }
-            Err(error) => Err(error),
-        }
-    }
-
-    // Tells that a node is held less.
-    fn ask_forget(&mut self, head: &InHeader, request: &ForgetIn)
-        ensures may { F.may self.old.fs (forget_call head.now request.now) Done self.new.fs }
-        ensures options { self.new.options ≡ self.old.options }
-        ensures page_size { self.new.page_size ≡ self.old.page_size }
-    {
-        let (ctx, inode) = (Context::from(*head), F::Inode::numbered(head.nodeid));
-        self.fs.forget(ctx, inode, request.nlookup);
-    }
-
-    /// LOOKUP: `struct fuse_entry_out` of a name.
-    pub(crate) fn lookup(
-        &mut self,
-        alloc: Global,
-        head: &InHeader,
-        r: &mut Reader<'_>,
-        w: &mut Writer,
-    ) -> Result<usize, Error>
-        requires fresh { w.old.written ≡ [] }
-        ensures handles { RowHandles F.may self.old w.old.free head.now lookup_row r.old.left result w.new.written self.new }
-        ensures length { IfOk result (λ n. n ≡ length w.new.written) }
-        ensures page_size { self.new.page_size ≡ self.old.page_size }
-    {
-        match read_name(alloc, head.len, 0, r) {
-            Ok(name) => {
-                let answer = self.ask_lookup(head, &name);
-                reply_entry(w, head.unique, answer)
-            }
-            Err(error) => Err(error),
-        }
-    }
-
-    /// FORGET, which has no reply.
-    pub(crate) fn forget(
-        &mut self,
-        head: &InHeader,
-        r: &mut Reader<'_>,
-        w: &Writer,
-    ) -> Result<usize, Error>
-        requires fresh { w.now.written ≡ [] }
-        ensures handles { RowHandles F.may self.old w.now.free head.now forget_row r.old.left result w.now.written self.new }
-        ensures length { IfOk result (λ n. n ≡ length w.now.written) }
-        ensures page_size { self.new.page_size ≡ self.old.page_size }
-    {
-        match read_forget_in(r) {
-            Ok(request) => {
-                self.ask_forget(head, &request);
-                silence()
-            }
-            Err(error) => Err(error),
-        }
+        received_entry(fs.lookup(Context::from(*head), parent, name))
     }
 }
 
-// No reply.
-fn silence() -> Result<usize, Error>
-    ensures { result ≡ Ok 0 }
+/// FORGET: a node is held less.
+pub(crate) struct Forget;
+
+impl<F: FileSystem> RecordRequest<F> for Forget {
+    type Record = ForgetIn;
+
+    type Answer = Silence;
+
+    ghost call = { forget_call };
+
+    fn ask(fs: &mut F, head: &InHeader, request: &ForgetIn) -> Result<Silence, Errno> {
+        let inode = F::Inode::numbered(head.nodeid);
+        fs.forget(Context::from(*head), inode, request.nlookup);
+        Ok(Silence)
+    }
+}
+
+// An open file, where it is told.
+fn handle_if<H: FileNumber>(test: bool, fh: u64) -> Option<H>
+    ensures { option_map H.number result ≡ if_set test fh }
 {
-    Ok(0)
+    if test { Some(H::numbered(fh)) } else { None }
+}
+
+/// GETATTR: the attributes of a node.
+pub(crate) struct Getattr;
+
+impl<F: FileSystem> RecordRequest<F> for Getattr {
+    type Record = GetattrIn;
+
+    type Answer = (Attr, Timeout);
+
+    ghost call = { getattr_call };
+
+    fn ask(fs: &mut F, head: &InHeader, request: &GetattrIn) -> Result<(Attr, Timeout), Errno> {
+        let handle = handle_if(request.flags & GETATTR_FH != 0, request.fh);
+        received(fs.getattr(
+            Context::from(*head),
+            F::Inode::numbered(head.nodeid),
+            handle,
+        ))
+    }
+}
+
+// The attributes that are set, of those that are known.
+#[tactic(auto, using(crate::proofs::Options::known_setattr_are))]
+fn known_valid(valid: u32) -> SetattrValid
+    ensures { result.0 ≡ bit_and valid known_setattr }
+{
+    SetattrValid::from_bits_truncate(valid)
+}
+
+/// SETATTR: attributes of a node are set.
+pub(crate) struct Setattr;
+
+impl<F: FileSystem> RecordRequest<F> for Setattr {
+    type Record = SetattrIn;
+
+    type Answer = (Attr, Timeout);
+
+    ghost call = { setattr_call };
+
+    fn ask(fs: &mut F, head: &InHeader, request: &SetattrIn) -> Result<(Attr, Timeout), Errno> {
+        let handle = handle_if(request.valid & FATTR_FH != 0, request.fh);
+        received(fs.setattr(
+            Context::from(*head),
+            F::Inode::numbered(head.nodeid),
+            *request,
+            handle,
+            known_valid(request.valid),
+        ))
+    }
+}
+
+/// READLINK: what a symbolic link leads to.
+pub(crate) struct Readlink;
+
+impl<F: FileSystem> PlainRequest<F> for Readlink {
+    type Answer = Vec<u8>;
+
+    ghost call = { readlink_call };
+
+    fn ask(fs: &mut F, head: &InHeader) -> Result<Vec<u8>, Errno> {
+        received(fs.readlink(Context::from(*head), F::Inode::numbered(head.nodeid)))
+    }
+}
+
+/// UNLINK: a name goes.
+pub(crate) struct Unlink;
+
+impl<F: FileSystem> NameRequest<F> for Unlink {
+    type Answer = ();
+
+    ghost call = { unlink_call };
+
+    fn ask(fs: &mut F, head: &InHeader, name: &[u8]) -> Result<(), Errno> {
+        received(fs.unlink(Context::from(*head), F::Inode::numbered(head.nodeid), name))
+    }
+}
+
+/// RMDIR: an empty directory goes.
+pub(crate) struct Rmdir;
+
+impl<F: FileSystem> NameRequest<F> for Rmdir {
+    type Answer = ();
+
+    ghost call = { rmdir_call };
+
+    fn ask(fs: &mut F, head: &InHeader, name: &[u8]) -> Result<(), Errno> {
+        received(fs.rmdir(Context::from(*head), F::Inode::numbered(head.nodeid), name))
+    }
+}
+
+/// STATFS: the numbers of the file system.
+pub(crate) struct Statfs;
+
+impl<F: FileSystem> PlainRequest<F> for Statfs {
+    type Answer = StatVfs;
+
+    ghost call = { statfs_call };
+
+    fn ask(fs: &mut F, head: &InHeader) -> Result<StatVfs, Errno> {
+        received(fs.statfs(Context::from(*head), F::Inode::numbered(head.nodeid)))
+    }
+}
+
+/// REMOVEXATTR: an extended attribute goes.
+pub(crate) struct Removexattr;
+
+impl<F: FileSystem> NameRequest<F> for Removexattr {
+    type Answer = ();
+
+    ghost call = { removexattr_call };
+
+    fn ask(fs: &mut F, head: &InHeader, name: &[u8]) -> Result<(), Errno> {
+        received(fs.removexattr(Context::from(*head), F::Inode::numbered(head.nodeid), name))
+    }
+}
+
+/// ACCESS: whether a node may be used so.
+pub(crate) struct Access;
+
+impl<F: FileSystem> RecordRequest<F> for Access {
+    type Record = AccessIn;
+
+    type Answer = ();
+
+    ghost call = { access_call };
+
+    fn ask(fs: &mut F, head: &InHeader, request: &AccessIn) -> Result<(), Errno> {
+        received(fs.access(
+            Context::from(*head),
+            F::Inode::numbered(head.nodeid),
+            request.mask,
+        ))
+    }
+}
+
+/// SYNCFS: all is written to the disk.
+pub(crate) struct Syncfs;
+
+impl<F: FileSystem> PlainRequest<F> for Syncfs {
+    type Answer = ();
+
+    ghost call = { syncfs_call };
+
+    fn ask(fs: &mut F, head: &InHeader) -> Result<(), Errno> {
+        received(fs.syncfs(Context::from(*head), F::Inode::numbered(head.nodeid)))
+    }
 }

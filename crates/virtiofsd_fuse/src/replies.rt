@@ -1,6 +1,6 @@
 //! Replies, whole or not at all.
 
-ghost use Rattle.std.specs.Prelude.{◌≡◌, ◌+◌, ◌<◌, ◌≤◌, [], ◌++◌, length, IfOk};
+ghost use Rattle.std.specs.Prelude.{◌≡◌, ◌+◌, ◌<◌, ◌≤◌, ◌^◌, [], ◌++◌, length, IfOk};
 ghost use Rattle.vm_values.specs.Fields.{spelled};
 ghost use Rattle.fuse_wire.specs.Records.{out_header};
 ghost use Rattle.virtiofsd_fuse.specs.Grammar.{reply_bytes, error_bytes};
@@ -41,21 +41,38 @@ pub(crate) fn append(w: &mut Writer, bytes: &[u8])
     w.write_all(bytes).unwrap();
 }
 
-/// Writes a good reply of at most 144 bytes.
+/// Writes a good reply.
 #[tactic(auto, using(crate::proofs::ReplyLemmas::reply_long, crate::proofs::ReplyLemmas::reply_fits))]
 pub(crate) fn reply(w: &mut Writer, unique: u64, body: &[u8]) -> Result<usize, Error>
     requires fresh { w.old.written ≡ [] }
-    requires short { length body.now ≤ 128 }
+    requires room { w.old.free < 2 ^ 32 }
     ensures sent { told result w.new.written ≡ sent w.old.free (reply_bytes unique body.now) }
     ensures length { IfOk result (λ n. n ≡ length w.new.written) }
 {
-    let len = OUT_HEADER_LEN + body.len();
-    if w.available_bytes() < len {
+    let room = w.available_bytes();
+    if room < OUT_HEADER_LEN || room - OUT_HEADER_LEN < body.len() {
         return Err(Error::EncodeMessage);
     }
+    let len = OUT_HEADER_LEN + body.len();
     append(w, &header_bytes(len as u32, 0, unique));
     append(w, body);
     Ok(len)
+}
+
+/// Writes a good reply that is one record.
+pub(crate) fn reply_record<T: ByteValued>(
+    w: &mut Writer,
+    unique: u64,
+    body: &T,
+) -> Result<usize, Error>
+    requires fresh { w.old.written ≡ [] }
+    requires room { w.old.free < 2 ^ 32 }
+    ensures sent { told result w.new.written ≡ sent w.old.free (reply_bytes unique (spelled (T.fields body.now))) }
+    ensures length { IfOk result (λ n. n ≡ length w.new.written) }
+{
+    let mut buffer = [0; 256];
+    body.put_bytes(&mut buffer[..T::SIZE]);
+    reply(w, unique, &buffer[..T::SIZE])
 }
 
 /// Writes an error.

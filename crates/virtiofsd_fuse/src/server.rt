@@ -3,9 +3,18 @@
 ghost use Rattle.std.specs.Prelude.{◌≡◌, ◌<◌, ◌≤◌, ◌^◌, [], length, IfOk, OnOk, IsTrue};
 ghost use Rattle.fuse_wire.specs.Opcodes.{opcode_of};
 ghost use Rattle.virtiofsd_fuse.specs.PageSizes.{is_page_size};
-ghost use Rattle.virtiofsd_fuse.specs.Grammar.{given, meant, meaning};
+ghost use Rattle.virtiofsd_fuse.specs.Grammar.{given, meant, meaning, unserved_row};
 
-use crate::records::read_in_header;
+use crate::links::{Link, Rename, Rename2};
+use crate::new_nodes::{Create, Mkdir, Mknod};
+use crate::nodes::{
+    Access, Forget, Getattr, Lookup, Readlink, Removexattr, Rmdir, Setattr, Statfs, Syncfs, Unlink,
+};
+use crate::open_files::{
+    CopyFileRange, Fallocate, Flush, Fsync, Fsyncdir, Lseek, Open, Opendir, Release, Releasedir,
+};
+use crate::plain_requests::{Bmap, Getlk, Ioctl, NotifyReply, Poll, Setlk, Setlkw, TmpFile};
+use crate::records::read_record;
 use crate::replies::reply_error;
 use bitflags::Flags;
 use fuse_fs::FileSystem;
@@ -37,7 +46,7 @@ fn opcode_of(number: u32) -> Option<Opcode>
 }
 
 impl<F: FileSystem> Server<F> {
-    ghost use Rattle.virtiofsd_fuse.specs.Serving.{ServerHandles};
+    ghost use Rattle.virtiofsd_fuse.specs.Serving.{ServerHandles, RowHandles, OpcodeHandles};
 
     /// A server with which nothing was agreed yet. The guest's pages have `page_size` bytes.
     pub fn new(fs: F, page_size: u32) -> Server<F>
@@ -53,6 +62,28 @@ impl<F: FileSystem> Server<F> {
         }
     }
 
+    /// A server that goes on with the options that were agreed before. The guest's pages have `page_size` bytes.
+    pub fn resume(fs: F, page_size: u32, options: FsOptions) -> Server<F>
+        requires { IsTrue (is_page_size page_size) }
+        ensures fs { result.fs ≡ fs }
+        ensures page_size { result.page_size ≡ page_size }
+        ensures options { result.options ≡ options }
+    {
+        Server {
+            fs,
+            page_size,
+            options,
+        }
+    }
+
+    /// The file system, without its server.
+    pub fn into_fs(self) -> F
+        ensures { result ≡ self.fs }
+    {
+        let Server { fs, .. } = self;
+        fs
+    }
+
     /// The options that were agreed.
     pub fn options(&self) -> FsOptions
         ensures { result ≡ self.now.options }
@@ -65,6 +96,84 @@ impl<F: FileSystem> Server<F> {
         ensures { result.now ≡ self.now.fs }
     {
         &self.fs
+    }
+
+    // Answers a request that isn't served.
+    fn unserved(&mut self, head: &InHeader, r: &Reader<'_>, w: &mut Writer) -> Result<usize, Error>
+        requires fresh { w.old.written ≡ [] }
+        ensures handles { RowHandles F.may self.old w.old.free head.now unserved_row r.now.left result w.new.written self.new }
+        ensures length { IfOk result (λ n. n ≡ length w.new.written) }
+        ensures page_size { self.new.page_size ≡ self.old.page_size }
+    {
+        reply_error(w, head.unique, Errno::ENOSYS)
+    }
+
+    // Serves a request by its opcode.
+    #[tactic(auto, unfolding(crate::specs::Grammar::row))]
+    fn dispatch(
+        &mut self,
+        alloc: Global,
+        opcode: Opcode,
+        head: &InHeader,
+        r: &mut Reader<'_>,
+        w: &mut Writer,
+    ) -> Result<usize, Error>
+        requires fresh { w.old.written ≡ [] }
+        requires room { w.old.free < 2 ^ 32 }
+        ensures handles { OpcodeHandles F.may self.old w.old.free head.now opcode r.old.left result w.new.written self.new }
+        ensures length { IfOk result (λ n. n ≡ length w.new.written) }
+        ensures page_size { self.new.page_size ≡ self.old.page_size }
+    {
+        match opcode {
+            Opcode::Lookup => self.name_request::<Lookup>(alloc, head, r, w),
+            Opcode::Forget => self.record_request::<Forget>(head, r, w),
+            Opcode::Getattr => self.record_request::<Getattr>(head, r, w),
+            Opcode::Readlink => self.plain_request::<Readlink>(head, r, w),
+            Opcode::Unlink => self.name_request::<Unlink>(alloc, head, r, w),
+            Opcode::Rmdir => self.name_request::<Rmdir>(alloc, head, r, w),
+            Opcode::Open => self.record_request::<Open>(head, r, w),
+            Opcode::Statfs => self.plain_request::<Statfs>(head, r, w),
+            Opcode::Release => self.record_request::<Release>(head, r, w),
+            Opcode::Fsync => self.record_request::<Fsync>(head, r, w),
+            Opcode::Removexattr => self.name_request::<Removexattr>(alloc, head, r, w),
+            Opcode::Flush => self.record_request::<Flush>(head, r, w),
+            Opcode::Opendir => self.record_request::<Opendir>(head, r, w),
+            Opcode::Releasedir => self.record_request::<Releasedir>(head, r, w),
+            Opcode::Fsyncdir => self.record_request::<Fsyncdir>(head, r, w),
+            Opcode::Getlk => self.plain_request::<Getlk>(head, r, w),
+            Opcode::Setlk => self.plain_request::<Setlk>(head, r, w),
+            Opcode::Setlkw => self.plain_request::<Setlkw>(head, r, w),
+            Opcode::Access => self.record_request::<Access>(head, r, w),
+            Opcode::Bmap => self.plain_request::<Bmap>(head, r, w),
+            Opcode::Ioctl => self.plain_request::<Ioctl>(head, r, w),
+            Opcode::Poll => self.plain_request::<Poll>(head, r, w),
+            Opcode::NotifyReply => self.plain_request::<NotifyReply>(head, r, w),
+            Opcode::Fallocate => self.record_request::<Fallocate>(head, r, w),
+            Opcode::Lseek => self.record_request::<Lseek>(head, r, w),
+            Opcode::CopyFileRange => self.record_request::<CopyFileRange>(head, r, w),
+            Opcode::Syncfs => self.plain_request::<Syncfs>(head, r, w),
+            Opcode::TmpFile => self.plain_request::<TmpFile>(head, r, w),
+            Opcode::Read => self.read(alloc, head, r, w),
+            Opcode::Setattr => self.record_request::<Setattr>(head, r, w),
+            Opcode::Interrupt => self.interrupt(head, r, w),
+            Opcode::Destroy => self.end(head, r, w),
+            Opcode::Write => self.write(alloc, head, r, w),
+            Opcode::Readdir => self.read_directory(head, false, r, w),
+            Opcode::Readdirplus => self.read_directory(head, true, r, w),
+            Opcode::BatchForget => self.batch_forget(alloc, head, r, w),
+            Opcode::Init => self.init(head, r, w),
+            Opcode::Setxattr => self.setxattr(alloc, head, r, w),
+            Opcode::Getxattr => self.getxattr(alloc, head, r, w),
+            Opcode::Listxattr => self.listxattr(head, r, w),
+            Opcode::Symlink => self.symlink(alloc, head, r, w),
+            Opcode::Mknod => self.new_name_request::<Mknod>(alloc, head, r, w),
+            Opcode::Mkdir => self.new_name_request::<Mkdir>(alloc, head, r, w),
+            Opcode::Create => self.new_name_request::<Create>(alloc, head, r, w),
+            Opcode::Link => self.record_name_request::<Link>(alloc, head, r, w),
+            Opcode::Rename => self.two_names_request::<Rename>(alloc, head, r, w),
+            Opcode::Rename2 => self.two_names_request::<Rename2>(alloc, head, r, w),
+            Opcode::SetupMapping | Opcode::RemoveMapping => self.unserved(head, r, w),
+        }
     }
 
     // Serves a request whose header was read.
@@ -84,15 +193,9 @@ impl<F: FileSystem> Server<F> {
         if head.len > MAX_REQUEST_LEN {
             return reply_error(w, head.unique, Errno::ENOMEM);
         }
-        let Some(opcode) = opcode_of(head.opcode) else {
-            return reply_error(w, head.unique, Errno::ENOSYS);
-        };
-        match opcode {
-            Opcode::Lookup => self.lookup(alloc, head, r, w),
-            Opcode::Forget => self.forget(head, r, w),
-            Opcode::Read => self.read(alloc, head, r, w),
-            Opcode::Init => self.init(head, r, w),
-            _ => reply_error(w, head.unique, Errno::ENOSYS),
+        match opcode_of(head.opcode) {
+            Some(opcode) => self.dispatch(alloc, opcode, head, r, w),
+            None => reply_error(w, head.unique, Errno::ENOSYS),
         }
     }
 
@@ -112,7 +215,7 @@ impl<F: FileSystem> Server<F> {
         ensures fits { OnOk result (length w.new.written ≤ w.old.free) }
         ensures page_size { self.new.page_size ≡ self.old.page_size }
     {
-        match read_in_header(&mut r) {
+        match read_record(&mut r) {
             Ok(head) => self.serve(alloc, &head, &mut r, w),
             Err(error) => Err(error),
         }

@@ -1,22 +1,22 @@
 //! The start of a conversation.
 
-ghost use Rattle.std.specs.Prelude.{◌≡◌, ℕ, ◌+◌, ◌-◌, ◌/◌, ◌<◌, ◌≤◌, ◌^◌, List, [], length, IfOk, IfErr, IsTrue, bit_and};
+ghost use Rattle.std.specs.Prelude.{◌≡◌, ℕ, ◌+◌, ◌-◌, ◌/◌, ◌<◌, ◌≤◌, ◌^◌, List, [], length, IfOk, IfErr, IsTrue, bit_and, Ok};
 ghost use Rattle.vm_values.specs.Fields.{spelled};
 ghost use Rattle.fuse_wire.specs.Records.{init_out};
 ghost use Rattle.fuse_fs.specs.Answers.{options_answer};
-ghost use Rattle.fuse_fs.specs.Calls.{suits, Init};
+ghost use Rattle.fuse_fs.specs.Calls.{suits, Init, Destroy, Done};
 ghost use Rattle.virtiofsd_fuse.specs.PageSizes.{is_page_size};
 ghost use Rattle.virtiofsd_fuse.specs.Reading.{read_result};
-ghost use Rattle.virtiofsd_fuse.specs.Grammar.{init_row, flags2_of, started, versions_bytes, known_options};
+ghost use Rattle.virtiofsd_fuse.specs.Grammar.{plain_row, silent_row, init_row, flags2_of, started, versions_bytes, known_options};
 ghost use Rattle.virtiofsd_fuse.specs.Serving.{RowHandles, agreed, started_bytes};
 
 use crate::answers::received;
-use crate::records::{read_init_in_compat, read_init_in_ext};
+use crate::records::read_record;
 use crate::replies::{reply, reply_error};
 use crate::server::Server;
 use bitflags::Flags;
 use fuse_fs::FileSystem;
-use fuse_in::{InHeader, InitInCompat};
+use fuse_in::{InHeader, InitInCompat, InitInExt};
 use fuse_segments::{Error, Reader, Writer};
 use fuse_wire::constants::{KERNEL_MINOR_VERSION, KERNEL_VERSION, MIN_KERNEL_MINOR_VERSION};
 use fuse_wire::{Errno, FsOptions, InitOut};
@@ -26,7 +26,7 @@ use vm_values::ByteValued;
 const INIT_EXT: u32 = 1 << 30;
 
 /// The longest write, and the longest request but a page.
-const MAX_BUFFER_SIZE: u32 = 1 << 20;
+pub(crate) const MAX_BUFFER_SIZE: u32 = 1 << 20;
 
 // The options that are known.
 #[tactic(auto, using(crate::proofs::Options::known_bits_are))]
@@ -113,7 +113,7 @@ fn read_flags2(request: &InitInCompat, r: &mut Reader<'_>) -> Result<u32, Error>
     if request.flags & INIT_EXT == 0 {
         return Ok(0);
     }
-    match read_init_in_ext(r) {
+    match read_record::<InitInExt>(r) {
         Ok(more) => Ok(more.flags2),
         Err(error) => Err(error),
     }
@@ -139,6 +139,7 @@ impl<F: FileSystem> Server<F> {
         w: &mut Writer,
     ) -> Result<usize, Error>
         requires fresh { w.old.written ≡ [] }
+        requires room { w.old.free < 2 ^ 32 }
         ensures handles { (more : List ℕ)
             → RowHandles F.may self.old w.old.free head.now (λ g. started g request.now flags2) more result w.new.written self.new }
         ensures length { IfOk result (λ n. n ≡ length w.new.written) }
@@ -173,11 +174,12 @@ impl<F: FileSystem> Server<F> {
         w: &mut Writer,
     ) -> Result<usize, Error>
         requires fresh { w.old.written ≡ [] }
+        requires room { w.old.free < 2 ^ 32 }
         ensures handles { RowHandles F.may self.old w.old.free head.now init_row r.old.left result w.new.written self.new }
         ensures length { IfOk result (λ n. n ≡ length w.new.written) }
         ensures page_size { self.new.page_size ≡ self.old.page_size }
     {
-        match read_init_in_compat(r) {
+        match read_record(r) {
             Ok(request) => match read_flags2(&request, r) {
                 Ok(flags2) => self.start(head, &request, flags2, w),
                 Err(error) => Err(error),
@@ -185,4 +187,52 @@ impl<F: FileSystem> Server<F> {
             Err(error) => Err(error),
         }
     }
+
+    /// INTERRUPT: nothing is asked, and there is no reply.
+    pub(crate) fn interrupt(
+        &mut self,
+        head: &InHeader,
+        r: &Reader<'_>,
+        w: &Writer,
+    ) -> Result<usize, Error>
+        requires fresh { w.now.written ≡ [] }
+        ensures handles { RowHandles F.may self.old w.now.free head.now silent_row r.now.left result w.now.written self.new }
+        ensures length { IfOk result (λ n. n ≡ length w.now.written) }
+        ensures page_size { self.new.page_size ≡ self.old.page_size }
+    {
+        silence()
+    }
+
+    /// Ends a conversation: the file system is told, and nothing is agreed from then on.
+    pub fn destroy(&mut self)
+        ensures may { F.may self.old.fs Destroy Done self.new.fs }
+        ensures options { self.new.options.0 ≡ 0 }
+        ensures page_size { self.new.page_size ≡ self.old.page_size }
+    {
+        self.fs.destroy();
+        self.options = FsOptions::from_bits_retain(0);
+    }
+
+    /// DESTROY: the end of a conversation.
+    pub(crate) fn end(
+        &mut self,
+        head: &InHeader,
+        r: &Reader<'_>,
+        w: &Writer,
+    ) -> Result<usize, Error>
+        requires fresh { w.now.written ≡ [] }
+        ensures handles { RowHandles F.may self.old w.now.free head.now (plain_row (λ h. Destroy)) r.now.left result w.now.written self.new }
+        ensures length { IfOk result (λ n. n ≡ length w.now.written) }
+        ensures page_size { self.new.page_size ≡ self.old.page_size }
+    {
+        self.destroy();
+        silence()
+    }
+}
+
+/// No reply.
+pub(crate) fn silence() -> Result<usize, Error>
+    ensures { result ≡ Ok 0 }
+{
+    Ok(0)
 }

@@ -14,7 +14,7 @@ use Rattle.vm_atomic_bitmaps.specs.declared.counts.Tally.{Tally}
 use Rattle.vm_atomic_bitmaps.specs.declared.counts.PageCounts.{PageCounts}
 use Rattle.vm_bitmaps.specs.Words.{page_bit, bit_of}
 use Rattle.vm_atomic_bitmaps.specs.Counts.{no_tally, tally_of, each_tally, after_mark, after_clearing, after_read, picks, in_word, marked_by, cleared_by, read_by, first_pass, with_pages, IsWhole}
-use Rattle.vm_atomic_bitmaps.specs.Rule.{table_words, total_by, marks_at, on_at, off_at, Counted, weight, IsIdle, AddUp, PageAccount, holds}
+use Rattle.vm_atomic_bitmaps.specs.Rule.{table_words, total_by, marks_at, on_at, off_at, Counted, weight, IsIdle, AddUp, PageAccount, KeepsRule}
 use Rattle.vm_atomic_bitmaps.specs.Steps.{NoneBeyond, Settles, SettlesWord, PassSeat, MarkStep, GatherStep, ClearStep, ReadStep}
 use Rattle.vm_atomic_bitmaps.proofs.PassTotals.{total_set, total_part, total_alone, at_each, at_past}
 
@@ -306,7 +306,7 @@ settles : (len : ℕ) (s : State (Unit {0}) PageCounts) (id : ℕ) (v : PageCoun
 settles len s id v i long at_id r all p l here = subst (Settles (tally_of v.pages p)) (bit_was s.words i p here) (settles_all len s.words s.views id v at_id r all p (omega arith))
 
 pub marks_allowed : (len slots id : ℕ) (me : PassSeat) (i mask : ℕ) → length me.0.pages ≡ len → 0 < me.0.parts → i < div_ceil len 64 → NoneBeyond len i mask
-    → Allows (holds len) slots id me i (λ n. bit_or n mask) (MarkStep (step slots i mask 0 none) me)
+    → Allows (KeepsRule len) slots id me i (λ n. bit_or n mask) (MarkStep (step slots i mask 0 none) me)
 marks_allowed len slots id me i mask long some_part inside none_beyond s q _ at_id _ =
     let r = q.1 in
     let n : ℕ = get_or s.words i 0 in
@@ -324,7 +324,7 @@ marks_allowed len slots id me i mask long some_part inside none_beyond s q _ at_
     )
 
 pub clears_allowed : (len slots id : ℕ) (me : PassSeat) (i mask : ℕ) → length me.0.pages ≡ len → 0 < me.0.parts → i < div_ceil len 64
-    → Allows (holds len) slots id me i (λ n. bit_and n mask) (ClearStep (step slots i mask 0 none) me)
+    → Allows (KeepsRule len) slots id me i (λ n. bit_and n mask) (ClearStep (step slots i mask 0 none) me)
 clears_allowed len slots id me i mask long some_part inside s q _ at_id _ =
     let r = q.1 in
     let n : ℕ = get_or s.words i 0 in
@@ -342,7 +342,7 @@ clears_allowed len slots id me i mask long some_part inside s q _ at_id _ =
     )
 
 pub gathers_allowed : (len slots id : ℕ) (me : PassSeat) (i : ℕ) → length me.0.pages ≡ len → 0 < me.0.parts → i < div_ceil len 64
-    → Allows (holds len) slots id me i (λ n. 0) (GatherStep (step slots i 0 0 none) me)
+    → Allows (KeepsRule len) slots id me i (λ n. 0) (GatherStep (step slots i 0 0 none) me)
 gathers_allowed len slots id me i long some_part inside s q _ at_id _ =
     let r = q.1 in
     let n : ℕ = get_or s.words i 0 in
@@ -360,7 +360,7 @@ gathers_allowed len slots id me i long some_part inside s q _ at_id _ =
     )
 
 pub reads_allowed : (len slots id : ℕ) (me : PassSeat) (i : ℕ) → length me.0.pages ≡ len → 0 < me.0.parts → i < div_ceil len 64
-    → Allows (holds len) slots id me i (λ n. n) (ReadStep (step slots i 0 0 none) me)
+    → Allows (KeepsRule len) slots id me i (λ n. n) (ReadStep (step slots i 0 0 none) me)
 reads_allowed len slots id me i long some_part inside s q _ at_id _ =
     let r = q.1 in
     let n : ℕ = get_or s.words i 0 in
@@ -378,7 +378,7 @@ reads_allowed len slots id me i long some_part inside s q _ at_id _ =
     )
 
 -- clear words and the first pass
-pub begins : (len : ℕ) (words : List ℕ) → length words ≡ table_words len → ((i : ℕ) → get_or words i 0 ≡ 0) → holds len (opening words [] (first_pass len))
+pub begins : (len : ℕ) (words : List ℕ) → length words ≡ table_words len → ((i : ℕ) → get_or words i 0 ≡ 0) → KeepsRule len (opening words [] (first_pass len))
 unfolding page_bit
 begins len words count clear = (
   count,

@@ -7,7 +7,7 @@ use Rattle.std.proofs.lemmas.Bool.{cases_lt, cases_eq, eq-eqb, ne_eqb}
 use Rattle.vm_atomic_bitmaps.specs.declared.counts.Tally.{Tally}
 use Rattle.vm_bitmaps.specs.Words.{page_bit}
 use Rattle.vm_atomic_bitmaps.specs.Counts.{tally_of, each_tally, after_mark, after_clearing, picks, in_word, marked_by, cleared_by, first_pass}
-use Rattle.vm_atomic_bitmaps.specs.Rule.{table_words, table_words, holds, PageAccount, Stands}
+use Rattle.vm_atomic_bitmaps.specs.Rule.{table_words, table_words, KeepsRule, PageAccount, Stands}
 use Rattle.vm_atomic_bitmaps.specs.Steps.{NoneBeyond, Settles, SettlesWord, SettlesAll}
 use Rattle.vm_atomic_bitmaps.specs.Passes.{ChangesRun, ByMark, ByClearing, ByGathering}
 use Rattle.std.proofs.lemmas.List.{length-replicate, get_or-replicate, get_or_past, get_or-set_same}
@@ -143,7 +143,7 @@ pub none_of_past : (len w a b : ℕ) → b ≤ 64 → 64 * w + b ≤ len → (m 
 none_of_past len w a b h l m e p past here = ap (λ (k : ℕ). bit_at k (p % 64)) e ∙ mask_inside len w a b h l p past here
 
 -- words of zeros, and the first pass
-pub clear_words : (len k : ℕ) → k ≡ table_words len → holds len (opening (replicate k 0) [] (first_pass len))
+pub clear_words : (len k : ℕ) → k ≡ table_words len → KeepsRule len (opening (replicate k 0) [] (first_pass len))
 clear_words len k e = begins len (replicate k 0) (length-replicate {A = ℕ} k 0 ∙ e) (λ i. elim (cases_lt i k) [
   | inl l ↦ get_or-replicate k i 0 0 l
   | inr g ↦ get_or_past (replicate {A = ℕ} k 0) i 0 (omega (arith, length-replicate {A = ℕ} k 0))
@@ -192,7 +192,7 @@ same_bits len all words count same rest p = elim (cases_lt (p / 64) (length word
 ]
 
 -- what `close` answers: the rule of the words that it read, with the pass among the passes
-pub closes : (key len : ℕ) (s : State (Unit {0}) PageCounts) (id : ℕ) (v : PageCounts) (all words : List ℕ) → key ≡ len → holds key s → get_elem? s.views id ≡ some v → s.words ≡ all
+pub closes : (key len : ℕ) (s : State (Unit {0}) PageCounts) (id : ℕ) (v : PageCounts) (all words : List ℕ) → key ≡ len → KeepsRule key s → get_elem? s.views id ≡ some v → s.words ≡ all
     → length words ≡ div_ceil len 64 → ((i : ℕ) → i < length words → get_elem? all i ≡ some (get_or words i 0)) → Stands len words v
 closes key len s id v all words k h at_id is count same =
     let r : PageAccount len s.words s.views = subst (λ (n : ℕ). PageAccount n s.words s.views) k h.1 in

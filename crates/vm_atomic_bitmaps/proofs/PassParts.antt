@@ -10,7 +10,7 @@ use Rattle.vm_atomic_bitmaps.specs.declared.counts.Tally.{Tally}
 use Rattle.vm_atomic_bitmaps.specs.declared.counts.PageCounts.{PageCounts}
 use Rattle.vm_bitmaps.specs.Words.{bit_of}
 use Rattle.vm_atomic_bitmaps.specs.Counts.{no_tally, tally_of, both_of, only_seen, joined_with, clear_of, seen_of, spent, with_pages, kept_half, new_half, telling, both_passes, met_with}
-use Rattle.vm_atomic_bitmaps.specs.Rule.{total_by, marks_at, on_at, off_at, Counted, weight, IsIdle, AddUp, holds}
+use Rattle.vm_atomic_bitmaps.specs.Rule.{total_by, marks_at, on_at, off_at, Counted, weight, IsIdle, AddUp, KeepsRule}
 use Rattle.vm_atomic_bitmaps.proofs.PassTotals.{total_set, total_snoc, total_part, total_times, length-each_tally, at_each, at_past, each_same}
 
 -- where the pass's pages stay, and a new one has counted nothing, and seen no more than it
@@ -77,7 +77,7 @@ finer_total : (k m : ℕ) (views : List PageCounts) → ((id : ℕ) (v : PageCou
 finer_total k m views fits whole =
     total_times (2 ^ m) (weight k) (weight (k + m)) views (λ id v e. finer k m v (fits id v e)) ∙ ap (λ (n : ℕ). n * 2 ^ m) whole ∙ sym (pow-add 2 k m)
 
-pub halves_allowed : (len id : ℕ) (v : PageCounts) → 0 < v.parts → Splits (holds len) id v (kept_half v) (new_half v)
+pub halves_allowed : (len id : ℕ) (v : PageCounts) → 0 < v.parts → Splits (KeepsRule len) id v (kept_half v) (new_half v)
 halves_allowed len id v some_part s q at_id = let r = q.1 in (
   q.0,
   record {
@@ -122,7 +122,7 @@ halves_allowed len id v some_part s q at_id = let r = q.1 in (
     deep : v.depth ≤ k
     deep = q.1.shared.fits id v at_id
 
-pub tells_allowed : (len id : ℕ) (v : PageCounts) → 0 < v.parts → Splits (holds len) id v v (telling v)
+pub tells_allowed : (len id : ℕ) (v : PageCounts) → 0 < v.parts → Splits (KeepsRule len) id v v (telling v)
 tells_allowed len id v some_part s q at_id = let r = q.1 in (
   q.0,
   record {
@@ -260,7 +260,7 @@ module _ (len : ℕ) (words : List ℕ) (views : List PageCounts) (id : ℕ) (v 
       positive (suc a) b h l = omega arith
       positive zero b h l = absurd (omega arith)
 
-pub joins_allowed : (len id : ℕ) (v : PageCounts) (other : ℕ) (u : PageCounts) → length v.pages ≡ len → 0 < v.parts → Joins (holds len) id v other u (both_passes v u) spent
+pub joins_allowed : (len id : ℕ) (v : PageCounts) (other : ℕ) (u : PageCounts) → length v.pages ≡ len → 0 < v.parts → Joins (KeepsRule len) id v other u (both_passes v u) spent
 joins_allowed len id v other u long some_part s q at_id apart at_other = let r = q.1 in (
   q.0,
   record {

@@ -67,15 +67,6 @@ at_past [] p h = refl
 at_past (t ∷ ts) zero h = absurd (omega arith)
 at_past (t ∷ ts) (suc p) h = at_past ts p (omega arith)
 
-pub same_pages : (a b : List Tally) → length a ≡ length b → ((p : ℕ) → p < length a → tally_of a p ≡ tally_of b p) → a ≡ b
-same_pages [] [] e h = refl
-same_pages [] (u ∷ us) e h = absurd (omega arith)
-same_pages (t ∷ ts) [] e h = absurd (omega arith)
-same_pages (t ∷ ts) (u ∷ us) e h =
-    let one : t ≡ u = h 0 (omega arith) in
-    let more : ts ≡ us = same_pages ts us (omega arith) (λ p l. h (suc p) (omega arith)) in
-    λ i. one i ∷ more i
-
 pub each_same : (f g : ℕ → Tally → Tally) → ((p : ℕ) (t : Tally) → f p t ≡ g p t) → (k : ℕ) (l : List Tally) → each_tally f k l ≡ each_tally g k l
 each_same f g h k [] = refl
 each_same f g h k (t ∷ ts) = λ i. h k t i ∷ each_same f g h (suc k) ts i

@@ -61,9 +61,9 @@ pub record PageAccount (len : ℕ) (words : List ℕ) (views : List PageCounts) 
 abbrev pub table_words : (len : ℕ) → ℕ
 table_words len = max 1 (div_ceil len 64)
 
--- the rule, of a table
-abbrev pub holds : (len : ℕ) → State (Unit {0}) PageCounts → Type 0
-holds len s = (length s.words ≡ table_words len) × PageAccount len s.words s.views
+-- a table keeps the rule
+abbrev pub KeepsRule : (len : ℕ) → State (Unit {0}) PageCounts → Type 0
+KeepsRule len s = (length s.words ≡ table_words len) × PageAccount len s.words s.views
 
 -- the rule holds of the words and of all passes, of which this is one
 abbrev pub Stands : (len : ℕ) → List ℕ → PageCounts → Type 0

@@ -25,9 +25,9 @@ pub struct PageRule;
 
 impl TableRule<(), PageCounts, usize> for PageRule {
     ghost use Rattle.vm_atomic_bitmaps.specs.Counts.{first_pass};
-    ghost use Rattle.vm_atomic_bitmaps.specs.Rule.{holds};
+    ghost use Rattle.vm_atomic_bitmaps.specs.Rule.{KeepsRule};
 
-    ghost holds = { holds };
+    ghost holds = { KeepsRule };
 
     ghost first = { first_pass };
 }

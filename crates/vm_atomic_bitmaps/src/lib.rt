@@ -1,8 +1,8 @@
 //! Dirty pages that threads mark and gather without a lock.
 #![tactic(auto)]
 
-pub mod atomic_bitmap;
-pub mod bitmap_pass;
+mod atomic_bitmap;
+mod bitmap_pass;
 pub mod counts;
 mod ranges;
 

@@ -1,8 +1,8 @@
 //! Sets of dirty pages.
 #![tactic(auto)]
 
-pub mod bitmap;
-pub mod offset_bitmap;
+mod bitmap;
+mod offset_bitmap;
 pub mod page_bitmap;
 pub mod page_words;
 

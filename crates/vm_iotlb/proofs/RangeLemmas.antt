@@ -1,7 +1,7 @@
 -- lists of ranges, and the tables that they keep
 use Rattle.std.proofs.Common.{◌≡◌, ℕ, zero, suc, Bool, true, false, ◌+◌, ◌-◌, ◌<◌, ◌≤◌, ◌^◌, List, [], ◌∷◌, ◌++◌, length, get_or, take, drop, refl, ap, sym, ◌∙◌, arith, Some, None, Option, inl, inr}
-use Rattle.std.specs.Prelude.{nat_le, nat_lt, ◌&&◌, if◌then◌else◌, max, min}
-use Rattle.std.proofs.lemmas.Bool.{cases_lt, and_parts, and_left, and_right, and_from, leb-true, le-leb, lt-leb, lt-ltb, le-ltb}
+use Rattle.std.specs.Prelude.{nat_le, nat_lt, ◌&&◌, if◌then◌else◌}
+use Rattle.std.proofs.lemmas.Bool.{cases_lt, and_parts, leb-true}
 use Rattle.std.proofs.lemmas.Bool.Decides.{nat_tests}
 use Rattle.vm_iotlb.specs.declared.permissions.Permissions.{Permissions}
 use Rattle.vm_iotlb.specs.declared.range.IotlbRange.{IotlbRange}
@@ -18,9 +18,6 @@ has_below r a h = grind (arith, nat_tests)
 
 pub has_above : (r : IotlbRange) (a : ℕ) → r.end ≤ a → has r a ≡ false
 has_above r a h = grind (arith, nat_tests)
-
-pub has_from : (r : IotlbRange) (a : ℕ) → has r a ≡ true → (r.start ≤ a) × (a < r.end)
-has_from r a test = (grind (arith, nat_tests), grind (arith, nat_tests))
 
 pub same_mapping : (t u : ℕ) (p q : Permissions) → t ≡ u → p ≡ q → ◌≡◌ {A = Mapping} (record { target = t; perm = p }) (record { target = u; perm = q })
 same_mapping t u p q e f = rw (e, f) refl
@@ -208,38 +205,6 @@ table_joined l x r y a are is one s e t p =
     before ∙ joined_at x r y a (table_kept l a) front.1 is one s e t p ∙ ap (λ (o : Option Mapping). if has r a then Some (mapping_in r a) else o) (sym after)
 
 -- ---- parts of ranges
-
--- an address that a range or the asked part does not have
-off_before : (r : IotlbRange) (from to a : ℕ) → a < r.start → (has r a && (nat_le from a && nat_lt a to)) ≡ false
-off_before r from to a h = and_left (has r a) (nat_le from a && nat_lt a to) (has_below r a h)
-
-off_from : (r : IotlbRange) (from to a : ℕ) → a < from → (has r a && (nat_le from a && nat_lt a to)) ≡ false
-off_from r from to a h = and_right (has r a) (nat_le from a && nat_lt a to) (and_left (nat_le from a) (nat_lt a to) (lt-leb from a h))
-
-off_after : (r : IotlbRange) (from to a : ℕ) → r.end ≤ a → (has r a && (nat_le from a && nat_lt a to)) ≡ false
-off_after r from to a h = and_left (has r a) (nat_le from a && nat_lt a to) (has_above r a h)
-
-off_to : (r : IotlbRange) (from to a : ℕ) → to ≤ a → (has r a && (nat_le from a && nat_lt a to)) ≡ false
-off_to r from to a h = and_right (has r a) (nat_le from a && nat_lt a to) (and_right (nat_le from a) (nat_lt a to) (le-ltb a to h))
-
-on_all : (r : IotlbRange) (from to a : ℕ) → r.start ≤ a → from ≤ a → a < r.end → a < to → (has r a && (nat_le from a && nat_lt a to)) ≡ true
-on_all r from to a low from_low high to_high = and_from (has r a) (nat_le from a && nat_lt a to) (has_in r a low high) (and_from (nat_le from a) (nat_lt a to) (le-leb from a from_low) (lt-ltb a to to_high))
-
-same_tests : (r part : IotlbRange) (from to a : ℕ) → part.start ≡ max r.start from → part.end ≡ min r.end to → has part a ≡ (has r a && (nat_le from a && nat_lt a to))
-same_tests r part from to a s e =
-    elim (cases_lt a part.start) [
-      | inl low ↦ elim (cases_lt a r.start) [
-        | inl under ↦ has_below part a low ∙ sym (off_before r from to a under)
-        | inr over ↦ has_below part a low ∙ sym (off_from r from to a (omega arith))
-      ]
-      | inr high ↦ elim (cases_lt a part.end) [
-        | inl under ↦ has_in part a high under ∙ sym (on_all r from to a (omega arith) (omega arith) (omega arith) (omega arith))
-        | inr over ↦ elim (cases_lt a r.end) [
-          | inl below ↦ has_above part a over ∙ sym (off_to r from to a (omega arith))
-          | inr above ↦ has_above part a over ∙ sym (off_after r from to a above)
-        ]
-      ]
-    ]
 
 and_one : (b : Bool) → (b && true) ≡ b
 and_one true = refl

@@ -1,12 +1,12 @@
 //! An IOMMU's table: which address each I/O address is mapped to, and what may be done there.
 #![tactic(auto)]
 
-pub mod error;
-pub mod iotlb;
-pub mod iova;
+mod error;
+mod iotlb;
+mod iova;
 pub mod laws;
-pub mod lookup;
-pub mod permissions;
+mod lookup;
+mod permissions;
 mod range;
 
 pub use error::IommuError;

@@ -122,7 +122,7 @@ pub(crate) fn with_range(
 }
 
 // The ranges without the addresses from one up to another.
-pub fn without(
+pub(crate) fn without(
     alloc: Global,
     ranges: &[IotlbRange],
     start: u64,

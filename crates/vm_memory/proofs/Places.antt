@@ -55,14 +55,14 @@ abbrev pub Where : Type 0
 Where = ℕ → Option Place
 
 -- addresses whose places follow one another
-pub located_run : (n : ℕ) (f : Where) (a b o : ℕ) → ((k : ℕ) → k < n → f (a + k) ≡ Some (place_at b (o + k))) → located f (addresses a n) ≡ Some (span b o n)
+pub located_run : (n : ℕ) (f : Where) (a b o : ℕ) → ((k : ℕ) → k < n → f (a + k) ≡ Some (place_at b (o + k))) → located f (addresses a n) ≡ Some (span b o None n)
 unfolding located addresses span
 located_run zero f a b o at = refl
 located_run (suc n) f a b o at =
     let here : a + 0 ≡ a = omega arith in
     let there : o + 0 ≡ o = omega arith in
     let first : f a ≡ Some (place_at b o) = rw (there, here) at (at 0 (omega arith)) in
-    let more : located f (addresses (a + 1) n) ≡ Some (span b (o + 1) n) =
+    let more : located f (addresses (a + 1) n) ≡ Some (span b (o + 1) None n) =
     located_run n f (a + 1) b (o + 1) (λ k h.
     let e : a + 1 + k ≡ a + (k + 1) = omega arith in
     let g : o + 1 + k ≡ o + (k + 1) = omega arith in
@@ -232,7 +232,7 @@ stored_all-zip (a ∷ as') ps (x ∷ xs) l h e =
 
 -- a part of a region, from an address on
 pub located_in : (l : List Region) (i a n : ℕ) (d : Region) → IsLayout l → i < length l → (get_or l i d).start ≤ a → a - (get_or l i d).start + n ≤ (get_or l i d).size →
-    located (place l) (addresses a n) ≡ Some (span (get_or l i d).block (a - (get_or l i d).start) n)
+    located (place l) (addresses a n) ≡ Some (span (get_or l i d).block (a - (get_or l i d).start) None n)
 located_in l i a n d is h low high =
     located_run n (place l) a _ _ (λ k below.
     let e : a - (get_or l i d).start + k ≡ a + k - (get_or l i d).start = omega arith in
@@ -250,10 +250,10 @@ no_region = record { start = 0; size = 0; block = 0 }
 
 -- the same of an item of the list
 pub located_item : (l : List Region) (i a n : ℕ) (r : Region) → IsLayout l → i < length l → r ≡ get_or l i r → r.start ≤ a → a - r.start + n ≤ r.size →
-    located (place l) (addresses a n) ≡ Some (span r.block (a - r.start) n)
+    located (place l) (addresses a n) ≡ Some (span r.block (a - r.start) None n)
 located_item l i a n r is h item =
     let e : get_or l i no_region ≡ r = get_or_default l i no_region r h ∙ sym item in
-    subst (λ (s : Region). s.start ≤ a → a - s.start + n ≤ s.size → located (place l) (addresses a n) ≡ Some (span s.block (a - s.start) n)) e (located_in l i a n no_region is h)
+    subst (λ (s : Region). s.start ≤ a → a - s.start + n ≤ s.size → located (place l) (addresses a n) ≡ Some (span s.block (a - s.start) None n)) e (located_in l i a n no_region is h)
 
 pub held_item : (lengths : List ℕ) (l : List Region) (i : ℕ) (r : Region) → AreHeld lengths l → i < length l → r ≡ get_or l i r →
     (r.block < length lengths) × (get_or lengths r.block 0 ≡ r.size)
@@ -390,7 +390,7 @@ region_at-None (x ∷ l) a e =
 
 -- addresses from one on that lie in its region
 pub run_in : (l : List Region) (a n : ℕ) (r : Region) → IsLayout l → Some r ≡ region_at l a → a - r.start + n ≤ r.size →
-    located (place l) (addresses a n) ≡ Some (span r.block (a - r.start) n)
+    located (place l) (addresses a n) ≡ Some (span r.block (a - r.start) None n)
 run_in l a n r is found high =
     let here = region_at-Some l a r (sym found) in
     located_item l here.2 a n r is here.3 here.4 here.0 high
@@ -417,21 +417,21 @@ refused : (e : GuestMemoryError) (w : Window) → err_of e ≡ ok_of w → ⊥
 refused e w h = cc
 
 -- a window that its region has
-pub window_is : (r : Region) (o n : ℕ) → o + n ≤ r.size → window_in r o n ≡ ok_of (record { block = r.block; offset = o; len = n })
+pub window_is : (r : Region) (o n : ℕ) → o + n ≤ r.size → window_in r o n ≡ ok_of (record { block = r.block; offset = o; len = n; io = None })
 window_is r o n h =
     let test : nat_le (o + n) r.size ≡ true = grind (arith, nat_tests) in
-    ap (λ (b : Bool). if b then ok_of (record { block = r.block; offset = o; len = n }) else Err InvalidBackendAddress) test
+    ap (λ (b : Bool). if b then ok_of (record { block = r.block; offset = o; len = n; io = None }) else Err InvalidBackendAddress) test
 
 ok_is : (v w : Window) → ok_of v ≡ ok_of w → v ≡ w
 ok_is v w e = cc
 
 -- what the window from an address on is, and which addresses it has
 window_there : (l : List Region) (a most start size : ℕ) (r : Region) (w : Window) → Some r ≡ region_at l a → start ≡ r.start → size ≡ r.size →
-    ok_of w ≡ window_in r (a - start) (min (size - (a - start)) most) → w ≡ record { block = r.block; offset = a - r.start; len = min (r.size - (a - r.start)) most }
+    ok_of w ≡ window_in r (a - start) (min (size - (a - start)) most) → w ≡ record { block = r.block; offset = a - r.start; len = min (r.size - (a - r.start)) most; io = None }
 window_there l a most start size r w found from many e =
     let low = start_below l a r found in
     let high = end_above l a r found in
-    ok_is w (record { block = r.block; offset = a - r.start; len = min (r.size - (a - r.start)) most })
+    ok_is w (record { block = r.block; offset = a - r.start; len = min (r.size - (a - r.start)) most; io = None })
     (e ∙ ap (λ s. window_in r (a - s) (min (size - (a - s)) most)) from ∙ ap (λ n. window_in r (a - r.start) (min (n - (a - r.start)) most)) many
     ∙ window_is r (a - r.start) (min (r.size - (a - r.start)) most) (omega arith))
 

@@ -38,6 +38,13 @@ window_taken f g a n w low some len fits there =
     let rest : circular ((a + w.len) % 2 ^ 64) (n - w.len) ≡ drop w.len (circular a n) = circular-same (n - w.len) ((a + w.len) % 2 ^ 64) (a + w.len) (omega arith) ∙ sym (drop_circular a w.len n le) in
     (some, len ∙ sym (next_len-circular g a n ∙ ap (λ x. min n (g x)) same), ap (located f) front ∙ there, ap (λ (l : List ℕ). record { where_is = f; longest = g; left = l }) rest)
 
+-- the same below the greatest address
+pub window_taken_low : (f : Where) (g : ℕ → ℕ) (a n : ℕ) (w : Window) → 0 < w.len → w.len ≡ min n (g a) → a + w.len < 2 ^ 64 → located f (addresses a w.len) ≡ Some (places_of w) →
+    TakesWindow (slices_from f g a n) w (slices_from f g (a + w.len) (n - w.len))
+window_taken_low f g a n w some len fits there =
+    let same : (a + w.len) % 2 ^ 64 ≡ a + w.len = omega arith in
+    subst (λ x. TakesWindow (slices_from f g a n) w (slices_from f g x (n - w.len))) same (window_taken f g a n w (omega arith) some len (omega arith) there)
+
 -- a first address without a place is an error
 pub error_there : (f : Where) (a n : ℕ) → a < 2 ^ 64 → 0 < n → f a ≡ None → error_of f (circular a n) ≡ Some (InvalidGuestAddress (record { 0 = a }))
 unfolding addresses

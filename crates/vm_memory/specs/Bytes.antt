@@ -33,10 +33,10 @@ reached_by layout addr n = unless_none addr n (places_at (place layout) (circula
 -- ---- the bytes of one region
 
 -- what refuses an access to a window refuses one to its region
-abbrev pub behind : {X : Type 0} → Result X VolatileMemoryError → Result X GuestMemoryError
-behind (Ok x) = Ok x
-behind (Err e) = Err InvalidBackendAddress
+abbrev pub region_result : {X : Type 0} → Result X VolatileMemoryError → Result X GuestMemoryError
+region_result (Ok x) = Ok x
+region_result (Err e) = Err InvalidBackendAddress
 
 -- the places that n bytes from an offset on reach
 abbrev pub reached_in : Region → MemoryRegionAddress → (n : ℕ) → Result (List Place) GuestMemoryError
-reached_in r offset n = behind (reached_places (whole_of r) offset.0 n)
+reached_in r offset n = region_result (reached_places (whole_of r) offset.0 n)

@@ -1,11 +1,12 @@
 -- Which place a guest's physical address has: a partial function, given by regions.
-use Rattle.std.specs.Prelude.{ℕ, zero, suc, ◌≡◌, ◌+◌, ◌-◌, ◌<◌, ◌≤◌, ◌^◌, Bool, ◌&&◌, not, nat_le, nat_lt, ◌==◌, List, [], ◌∷◌, length, map, Option, Some, None, if◌then◌else◌, slice_index_or, refl}
+use Rattle.std.specs.Prelude.{ℕ, zero, suc, ◌≡◌, ◌+◌, ◌-◌, ◌<◌, ◌≤◌, ◌^◌, Bool, ◌&&◌, not, nat_le, nat_lt, ◌==◌, List, [], ◌∷◌, length, map, Option, Some, None, if◌then◌else◌, slice_index_or}
 use Rattle.std.specs.List.{filter}
 use Rattle.std.specs.Option.{option_or}
 use Rattle.std.specs.Arc.{arc_value}
 use Rattle.std.specs.declared.sync.Arc.{Arc}
 use Rattle.vm_iotlb.specs.Table.{is_within}
-use Rattle.vm_memory_core.specs.Host.{Host, Place, lengths}
+use Rattle.vm_memory_core.specs.Host.{Host, Place, lengths, shape}
+use Rattle.std.proofs.Common.{subst, sym, ap}
 
 -- size addresses from start on, which are the offsets of a block from 0 on
 pub record Region : Type 0 where
@@ -35,10 +36,6 @@ unfoldable pub place : List Region → ℕ → Option Place
 place [] a = None
 place (r ∷ rs) a = option_or (place_in r a) (place rs a)
 
--- a proof that `unfoldable` makes stand here, of which nothing has to be believed: layouts that are the same have an address at the same place
-pub place-same : (l m : List Region) (a : ℕ) → ◌≡◌ {A = Option (List Region)} (Some l) (Some m) → place l a ≡ place m a
-place-same l m a e = let same : l ≡ m = cc in rw same refl
-
 -- the region that has an address
 unfoldable pub region_at : List Region → ℕ → Option Region
 region_at [] a = None
@@ -52,10 +49,6 @@ left_of a (Some r) = r.start + r.size - a
 -- how many addresses from one on the region that has it still has; none where no region has it
 abbrev pub left_at : List Region → ℕ → ℕ
 left_at layout a = left_of a (region_at layout a)
-
--- and a second one: layouts that are the same have as many addresses left
-pub left_at-same : (l m : List Region) (a : ℕ) → ◌≡◌ {A = Option (List Region)} (Some l) (Some m) → left_at l a ≡ left_at m a
-left_at-same l m a e = let same : l ≡ m = cc in rw same refl
 
 -- the regions that are shared
 abbrev pub regions_of : {X Z : Type 0} → (X → Region) → List (Arc X Z) → List Region
@@ -112,3 +105,7 @@ AreHeld lengths (r ∷ rs) = (r.block < length lengths) × (slice_index_or lengt
 -- the blocks of a host have the regions, each as long as its block
 abbrev pub HostHolds : Host → List Region → Type 0
 HostHolds h layout = AreHeld (lengths h) layout
+
+-- a proof that a ghost member needs, of which nothing has to be believed: hosts of the same shape have the same regions
+pub held-same : (layout : List Region) (h g : Host) → shape g ≡ shape h → HostHolds h layout → HostHolds g layout
+held-same layout h g same held = subst (λ l. AreHeld l layout) (sym (ap (λ s. s.block_lengths) same)) held

@@ -9,5 +9,7 @@ pub mod ReachedBytes
 pub mod Numbers
 pub mod Making
 pub mod Slices
+pub mod Translated
 pub mod MemorySlices
+pub mod RangeAnswers
 pub mod OneProof

@@ -1,10 +1,12 @@
 -- Memory as a device sees it: each address is translated by itself.
-use Rattle.std.specs.Prelude.{ℕ, zero, suc, ◌+◌, ◌%◌, ◌^◌, ◌==◌, Bool, false, ◌&&◌, nat_lt, List, [], ◌∷◌, ◌++◌, map, take, drop, Option, Some, None, if◌then◌else◌, unwrap_or, option_and_then, slice_get, is_some, option_map, Result, Ok, Err}
+use Rattle.std.specs.Prelude.{ℕ, zero, suc, ◌+◌, ◌%◌, ◌^◌, ◌==◌, Bool, true, false, ◌&&◌, nat_lt}
+use Rattle.std.specs.Prelude.{List, [], ◌∷◌, ◌++◌, map, take, drop, Option, Some, None, if◌then◌else◌, unwrap_or, option_and_then, slice_get, is_some, option_map, Result, Ok, Err}
 use Rattle.std.specs.List.{list_all, zip}
 use Rattle.std.specs.Int.{Width, byte_len, from_le_bytes}
 use Rattle.vm_iotlb.specs.declared.permissions.Permissions.{Permissions}
 use Rattle.vm_iotlb.specs.declared.permissions.Permissions.TheVariants.{Read, Write}
 use Rattle.vm_iotlb.specs.Table.{Mapping, Table, allows}
+use Rattle.vm_iotlb.specs.AddressRuns.{may_all}
 use Rattle.vm_iotlb.specs.Ranges.{table_kept}
 use Rattle.vm_memory_core.specs.Host.{Host, Place, byte_at}
 use Rattle.vm_memory_core.specs.Window.{put_byte}
@@ -90,10 +92,30 @@ physical m = record m { translates = false }
 abbrev pub memory_of : Host → List Region → Memory
 memory_of h layout = record { host = h; layout = layout; table = 0; io_pages = 0; translates = false }
 
+-- a host under a layout behind an IOMMU that is on or off
+abbrev pub memory_behind : Host → List Region → (table set : ℕ) → (on : Bool) → Memory
+memory_behind h layout table set on = record { host = h; layout = layout; table = table; io_pages = set; translates = on }
+
+-- a host under a layout, where a table is used, and writes mark a set of I/O pages
+abbrev pub io_memory : Host → List Region → (table set : ℕ) → Memory
+io_memory h layout table set = memory_behind h layout table set true
+
 -- the places of some addresses, if each has one
 unfoldable pub located : (ℕ → Option Place) → List ℕ → Option (List Place)
 located where_is [] = Some []
 located where_is (a ∷ as') = option_and_then (λ p. option_map (λ ps. p ∷ ps) (located where_is as')) (where_is a)
+
+-- whether n addresses from a on may be looked at one by one: where they are translated, their end has to fit 64 bits and each to be mapped with the permission
+abbrev pub is_mapped : Memory → Permissions → (a n : ℕ) → Bool
+is_mapped m access a n = if m.translates then nat_lt (a + n) (2 ^ 64) && may_all (table_of m) access a n else true
+
+-- the places of n addresses from a on, for an access, if each has one; of addresses that aren't translated, 0 comes after the greatest
+abbrev pub places_from : Memory → Permissions → (a n : ℕ) → Option (List Place)
+places_from m access a n = if is_mapped m access a n then located (location m access) (circular a n) else None
+
+-- the layout, where its addresses are those that a device uses
+abbrev pub physical_layout : Memory → Option (List Region)
+physical_layout m = if m.translates then None else Some m.layout
 
 -- how many of some addresses, from the first on, have a place
 unfoldable pub reached : (ℕ → Option Place) → List ℕ → ℕ

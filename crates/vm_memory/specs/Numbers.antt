@@ -28,11 +28,12 @@ ranges_number (ranges.MmapRegion error) = 2
 ranges_number ranges.InvalidGuestRegion = 3
 ranges_number ranges.OutOfMemory = 4
 
--- why guest memory is not read or written; 5 is kept for an IOMMU's errors
+-- why guest memory is not read or written
 abbrev pub memory_number : GuestMemoryError → ℕ
 memory_number (memory.InvalidGuestAddress addr) = 1
 memory_number (memory.PartialBuffer expected completed) = 2
 memory_number memory.InvalidBackendAddress = 3
 memory_number memory.GuestAddressOverflow = 4
+memory_number (memory.IommuError error) = 5
 memory_number memory.HostAddressNotAvailable = 6
 memory_number memory.OutOfMemory = 7

@@ -11,7 +11,7 @@ use Rattle.vm_memory_core.specs.declared.error.VolatileMemoryError.{VolatileMemo
 use Rattle.vm_memory.specs.Layout.{Region, place}
 use Rattle.vm_memory.specs.Memory.{addresses, circular}
 use Rattle.vm_memory.specs.Regions.{whole_of}
-use Rattle.vm_memory.specs.Bytes.{and_after, behind, places_at, reached_by, reached_in, unless_none}
+use Rattle.vm_memory.specs.Bytes.{and_after, region_result, places_at, reached_by, reached_in, unless_none}
 use Rattle.vm_memory.specs.declared.error.GuestMemoryError.{GuestMemoryError}
 use Rattle.vm_memory.specs.declared.error.GuestMemoryError.TheVariants.{InvalidGuestAddress}
 
@@ -40,7 +40,7 @@ length-reached_by layout addr n places e =
     subst (λ r. AtMost n r) (sym e) (unless_none_at_most addr n (places_at (place layout) (circular addr.0 n)) (omega (arith, all, count)))
 
 ok_places : (o : Result (List Place) VolatileMemoryError) (places : List Place)
-    → ◌≡◌ {A = Result (List Place) GuestMemoryError} (Ok places) (behind o) → Ok places ≡ o
+    → ◌≡◌ {A = Result (List Place) GuestMemoryError} (Ok places) (region_result o) → Ok places ≡ o
 ok_places (Ok ps) places e = let same : places ≡ ps = cc in ap Ok same
 ok_places (Err f) places e = absurd (cc)
 

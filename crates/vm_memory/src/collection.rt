@@ -272,13 +272,11 @@ fn fault_of_pair<R: GuestMemoryRegion>(first: &R, second: &R) -> Option<GuestReg
     ensures lawful { IsLawful (R.region second.now) }
 {
     let start = second.start_addr().0;
-    let size = second.len();
     if start < first.start_addr().0 {
         Some(GuestRegionCollectionError::UnsortedMemoryRegions)
     } else if start <= first.last_addr().0 {
         Some(GuestRegionCollectionError::MemoryRegionOverlap)
     } else {
-        let _ = size;
         None
     }
 }
@@ -292,6 +290,7 @@ fn fault_among<R: GuestMemoryRegion>(regions: &[Arc<R>]) -> Option<GuestRegionCo
     if count == 0 {
         return Some(GuestRegionCollectionError::NoMemoryRegion);
     }
+    // Asked for its clause alone: the first region is lawful, as `fault_of_pair` says of each other one.
     let _ = regions[0].len();
     for at in 1..count {
         match fault_of_pair(&*regions[at - 1], &*regions[at]) {

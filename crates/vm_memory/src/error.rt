@@ -3,6 +3,7 @@
 ghost use Rattle.std.specs.Prelude.{◌≡◌};
 
 use thiserror::Error;
+use vm_memory_core::IommuError;
 use vm_values::GuestAddress;
 
 /// Why no block was made for a region (vm-memory's `MmapRegionError`).
@@ -99,6 +100,9 @@ pub enum GuestMemoryError {
     /// Kept for its name: the last address of a region always fits.
     #[error("the address does not fit 64 bits")]
     GuestAddressOverflow,
+    /// I/O addresses aren't translated.
+    #[error("{0}")]
+    IommuError(IommuError),
     /// Kept for its name: each region has its block.
     #[error("no host address")]
     HostAddressNotAvailable,
@@ -109,7 +113,7 @@ pub enum GuestMemoryError {
 impl GuestMemoryError {
     ghost use Rattle.vm_memory.specs.Numbers.{memory_number};
 
-    /// The number that tells the error apart; 5 is kept for an IOMMU's errors.
+    /// The number that tells the error apart, from 1 to 7.
     pub fn number(&self) -> u8
         ensures { result ≡ memory_number self.now }
     {
@@ -118,6 +122,7 @@ impl GuestMemoryError {
             GuestMemoryError::PartialBuffer { .. } => 2,
             GuestMemoryError::InvalidBackendAddress => 3,
             GuestMemoryError::GuestAddressOverflow => 4,
+            GuestMemoryError::IommuError(_) => 5,
             GuestMemoryError::HostAddressNotAvailable => 6,
             GuestMemoryError::OutOfMemory => 7,
         }

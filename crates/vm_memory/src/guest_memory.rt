@@ -14,11 +14,10 @@ use crate::collection::GuestRegionCollection;
 use crate::error::{FromRangesError, GuestMemoryError};
 use crate::region::{GuestMemoryRegion, GuestRegionMmap};
 use crate::slice_iterator::window_at;
+use smallvec::SmallVec;
 use std::alloc::{AllocError, Global};
 use std::sync::Arc;
-use vm_memory_core::{
-    GuestAddress, HostMemory, NewBitmap, Permissions, VolatileSlice, Windows, put_at,
-};
+use vm_memory_core::{GuestAddress, HostMemory, NewBitmap, VolatileSlice, put_at};
 
 /// A guest's physical memory over blocks of the host (vm-memory's `GuestMemoryMmap`).
 pub type GuestMemoryMmap = GuestRegionCollection<GuestRegionMmap>;
@@ -100,22 +99,20 @@ impl<R: GuestMemoryRegion> GuestRegionCollection<R> {
         done
     }
 
-    /// Whether each of `len` addresses from one on has a place, where 0 comes after the greatest address. Without an IOMMU
-    /// each access is allowed.
-    pub fn check_range(&self, addr: GuestAddress, len: usize, access: Permissions) -> bool
+    /// Whether each of `len` physical addresses from one on has a place, where 0 comes after the greatest address.
+    pub fn has_range(&self, addr: GuestAddress, len: usize) -> bool
         ensures { result ≡ list_all (λ a. is_some (place self.now a)) (circular addr.0 len) }
     {
-        let _ = access;
         self.reached_len(addr.0, len) == len
     }
 
-    /// Adds the windows of `len` addresses from one on, joined, or answers that one of them has no place. Where 0 comes
-    /// after the greatest address, and without an IOMMU each access is allowed.
-    pub fn push_windows(
+    /// Adds the windows of `len` physical addresses from one on, joined, or answers that one of them has no place, where 0
+    /// comes after the greatest address.
+    pub fn push_physical<const N: usize>(
         &self,
         addr: GuestAddress,
         len: usize,
-        windows: &mut Windows,
+        windows: &mut SmallVec<VolatileSlice, N>,
     ) -> Result<bool, AllocError>
         ensures found { IfOk result (λ found.
             after (places windows.old.items) (located (place self.now) (circular addr.0 len)) ≡ (if found then Some (places windows.new.items) else None)) }

@@ -1,18 +1,22 @@
 //! Guest memory: addresses over host blocks, each translated by itself.
 #![tactic(auto)]
 
-pub mod backend;
-pub mod bytes;
-pub mod collection;
-pub mod error;
-pub mod guest_memory;
-pub mod held;
-pub mod iommu;
-pub mod memory;
-pub mod mmap;
-pub mod region;
-pub mod slice_iterator;
-pub mod slices;
+mod backend;
+mod bytes;
+mod collection;
+mod error;
+mod guest_memory;
+mod held;
+mod io_ranges;
+mod iommu;
+mod iommu_memory;
+mod iommu_slices;
+mod memory;
+mod mmap;
+mod region;
+mod slice_iterator;
+mod slices;
+mod translated;
 
 pub use backend::{GuestMemoryBackend, RegionIter};
 pub use bytes::GuestMemoryRegionBytes;
@@ -20,6 +24,8 @@ pub use collection::GuestRegionCollection;
 pub use error::{FromRangesError, GuestMemoryError, GuestRegionCollectionError, MmapRegionError};
 pub use guest_memory::GuestMemoryMmap;
 pub use iommu::{Iommu, TableIommu};
+pub use iommu_memory::IommuMemory;
+pub use iommu_slices::IommuMemorySliceIterator;
 pub use memory::{GuestMemory, GuestMemorySlices};
 pub use mmap::MmapRegion;
 pub use region::{GuestMemoryRegion, GuestRegionMmap, HostAddress};

@@ -1,23 +1,28 @@
 //! Guest memory as a device reaches it (vm-memory's `GuestMemory`).
 
-ghost use Rattle.std.specs.Prelude.{◌≡◌, ℕ, List, length, Option, Some, option_map, is_some, IsSome, IsOk, IfOk, Result};
+ghost use Rattle.std.specs.Prelude.{◌≡◌, ℕ, List, length, false, true, Some, None, option_map, if◌then◌else◌, IfOk, IfErr, Result, refl};
 ghost use Rattle.std.specs.Iterator.{at_most, Drains};
-ghost use Rattle.std.specs.List.{list_all};
-ghost use Rattle.vm_memory_core.specs.Host.{Host, Place};
-ghost use Rattle.vm_memory_core.specs.Window.{Window};
+ghost use Rattle.vm_memory_core.specs.Host.{Host, lengths, shape};
+ghost use Rattle.vm_memory_core.specs.Window.{Window, places, AllLieIn};
 ghost use Rattle.vm_iotlb.specs.declared.permissions.Permissions.{Permissions};
-ghost use Rattle.vm_memory.specs.Layout.{Region, left_at, left_at-same, place, place-same};
-ghost use Rattle.vm_memory.specs.Memory.{circular};
+ghost use Rattle.vm_iotlb.specs.declared.permissions.Permissions.TheVariants.{Read};
+ghost use Rattle.vm_memory.specs.Layout.{left_at, held-same};
+ghost use Rattle.vm_memory.specs.Memory.{Memory, after, circular, is_mapped, location, memory_of, physical_layout, places_from};
+ghost use Rattle.vm_memory.specs.RangeAnswers.{CannotGive, Checks, Reads};
 ghost use Rattle.vm_memory.specs.declared.error.GuestMemoryError.{GuestMemoryError};
-ghost use Rattle.vm_memory.specs.Slices.{AreAllOf, Gives, slices_from};
+ghost use Rattle.vm_memory.specs.Slices.{AddsLongest, AreAllOf, Gives, slices_from};
 
 use crate::backend::GuestMemoryBackend;
 use crate::collection::GuestRegionCollection;
 use crate::error::GuestMemoryError;
+use crate::iommu_slices::IommuMemorySliceIterator;
 use crate::region::GuestMemoryRegion;
 use crate::slice_iterator::GuestMemoryBackendSliceIterator;
 use crate::slices::GuestMemorySliceIterator;
-use vm_memory_core::{GuestAddress, HostMemory, NewBitmap, Permissions, VolatileSlice};
+use std::alloc::{AllocError, Global};
+use vm_memory_core::{
+    GuestAddress, HeldIn, HostMemory, NewBitmap, Permissions, VolatileSlice, Windows,
+};
 
 /// Windows of a range of guest memory, one after another. It stands for the unnamed type that vm-memory's `get_slices`
 /// answers.
@@ -25,6 +30,8 @@ use vm_memory_core::{GuestAddress, HostMemory, NewBitmap, Permissions, VolatileS
 pub enum GuestMemorySlices<'a, M: GuestMemoryBackend> {
     /// Of physical addresses.
     Backend(GuestMemoryBackendSliceIterator<'a, M>),
+    /// Of I/O addresses.
+    Iommu(IommuMemorySliceIterator<'a, M>),
 }
 
 impl<'a, M: GuestMemoryBackend> Iterator for GuestMemorySlices<'a, M> {
@@ -39,6 +46,7 @@ impl<'a, M: GuestMemoryBackend> Iterator for GuestMemorySlices<'a, M> {
     fn next(&mut self) -> Option<Result<VolatileSlice, GuestMemoryError>> {
         match self {
             GuestMemorySlices::Backend(slices) => slices.next(),
+            GuestMemorySlices::Iommu(slices) => slices.next(),
         }
     }
 }
@@ -55,88 +63,131 @@ impl<'a, M: GuestMemoryBackend> GuestMemorySliceIterator for GuestMemorySlices<'
     fn next_error(&self) -> Option<GuestMemoryError> {
         match self {
             GuestMemorySlices::Backend(slices) => slices.next_error(),
+            GuestMemorySlices::Iommu(slices) => slices.next_error(),
         }
     }
 }
 
-/// Guest memory as a device reaches it (vm-memory's `GuestMemory`). The address after the greatest is 0.
-pub trait GuestMemory {
+/// Guest memory as a device reaches it (vm-memory's `GuestMemory`). Of addresses that aren't translated, 0 comes after the
+/// greatest; translated ones have to be mapped throughout. Memory is taken only where a translation fails, or a list grows.
+pub trait GuestMemory: HeldIn {
     ghost use Rattle.vm_memory.specs.MemorySlices.{slices_of};
 
     /// The memory by physical addresses.
     type PhysicalMemory: GuestMemoryBackend;
 
-    // where an address is in a host, for an access
-    ghost where_is: { Self → Host → Permissions → ℕ → Option Place };
+    // what a device sees of a host
+    ghost memory: { Self → Host → Memory };
 
     // how many addresses from one on a window has at most, for an access
     ghost longest: { Self → Host → Permissions → ℕ → ℕ };
 
-    // the layout, if its addresses are those that a device uses
-    ghost physical: { Self → Option (List Region) };
-
     /// Whether each of `count` addresses from one on has a place, for an access.
     fn check_range<B: NewBitmap>(
         &self,
+        alloc: Global,
         h: &HostMemory<B>,
         addr: GuestAddress,
         count: usize,
         access: Permissions,
-    ) -> bool
-        ensures { result ≡ list_all (λ a. is_some (where_is self.now h.now access a)) (circular addr.0 count) };
+    ) -> Result<bool, AllocError>
+        ensures { Checks (memory self.now h.now) access addr.0 count result };
 
     /// The windows of `count` addresses from one on, for an access.
     fn get_slices<'a, B: NewBitmap>(
         &'a self,
-        h: &HostMemory<B>,
+        alloc: Global,
+        h: &'a HostMemory<B>,
         addr: GuestAddress,
         count: usize,
         access: Permissions,
     ) -> Result<GuestMemorySlices<'a, Self::PhysicalMemory>, GuestMemoryError>
         ensures slices { IfOk result (λ s. slices_of s
-            ≡ slices_from (where_is self.now h.now access) (longest self.now h.now access) addr.0 count) }
+            ≡ slices_from (location (memory self.now h.now) access) (longest self.now h.now access) addr.0 count) }
         ensures joined { IfOk result (λ s. (items : List (Result Window GuestMemoryError)) → Drains (λ s r t. Gives (slices_of s) r (slices_of t)) s items
-            → AreAllOf (slices_from (where_is self.now h.now access) (longest self.now h.now access) addr.0 count) items) }
-        ensures never_refused { IsSome (physical self.now) → IsOk result };
+            → AreAllOf (slices_from (location (memory self.now h.now) access) (longest self.now h.now access) addr.0 count) items) }
+        ensures mapped { IfOk result (λ s. is_mapped (memory self.now h.now) access addr.0 count ≡ true) }
+        ensures refused { IfErr result (CannotGive (memory self.now h.now) access addr.0 count) };
 
     /// The memory by physical addresses, if these are the addresses that a device uses.
     fn physical_memory(&self) -> Option<&Self::PhysicalMemory>
-        ensures { option_map (λ m. Self.PhysicalMemory.layout m.now) result ≡ physical self.now };
+        ensures { (h : Host) → option_map (λ m. Self.PhysicalMemory.layout m.now) result ≡ physical_layout (memory self.now h) };
 
-    // a layout says where its addresses are, and that a window ends with its region
-    ghost by_layout: { (m : Self) (layout : List Region) (h : Host) (access : Permissions) (a : ℕ) → physical m ≡ Some layout
-        → (where_is m h access a ≡ place layout a) × (longest m h access a ≡ left_at layout a) };
+    /// Reads a buffer full of bytes from an address on, or answers that one of them isn't there.
+    fn read_range<B: NewBitmap>(
+        &self,
+        alloc: Global,
+        h: &HostMemory<B>,
+        addr: GuestAddress,
+        buffer: &mut [u8],
+    ) -> Result<bool, AllocError>
+        requires { Self.IsHeld self.now h.now }
+        ensures found { Checks (memory self.now h.now) Read addr.0 (length buffer.old) result }
+        ensures bytes { Reads (memory self.now h.now) addr.0 (length buffer.old) buffer.new result };
+
+    /// Adds the windows of `count` addresses from one on, joined, for an access, or answers that one of them has no place.
+    fn push_windows<B: NewBitmap>(
+        &self,
+        alloc: Global,
+        h: &HostMemory<B>,
+        addr: GuestAddress,
+        count: usize,
+        access: Permissions,
+        windows: &mut Windows,
+    ) -> Result<bool, AllocError>
+        ensures found { IfOk result (λ found. after (places windows.old.items) (places_from (memory self.now h.now) access addr.0 count)
+            ≡ (if found then Some (places windows.new.items) else None)) }
+        ensures longest { AddsLongest (longest self.now h.now access) (circular addr.0 count) windows.old.items windows.new.items }
+        ensures held { Self.IsHeld self.now h.now → AllLieIn (lengths h.now) windows.old.items → AllLieIn (lengths h.now) windows.new.items };
+
+    // what a device sees depends on the host by its bytes, tables and marks alone
+    ghost over: { (m : Self) (h g : Host) → memory m g ≡ record (memory m h) { host = g } };
+
+    // a window of addresses that aren't translated ends with its region
+    ghost by_layout: { (m : Self) (h : Host) (access : Permissions) (a : ℕ) → (memory m h).translates ≡ false
+        → longest m h access a ≡ left_at (memory m h).layout a };
+
+    // whether a host has all that the memory names is told by the host's shape
+    ghost by_shape: { (m : Self) (h g : Host) → shape g ≡ shape h → Self.IsHeld m h → Self.IsHeld m g };
 }
 
 impl<R: GuestMemoryRegion> GuestMemory for GuestRegionCollection<R> {
     type PhysicalMemory = GuestRegionCollection<R>;
 
-    ghost where_is = { λ m h access a. place m a };
+    ghost memory = { λ m h. memory_of h m };
 
     ghost longest = { λ m h access a. left_at m a };
 
-    ghost physical = { λ m. Some m };
+    ghost over = { λ m h g. refl };
 
-    ghost by_layout = { λ m layout h access a same. (place-same m layout a same, left_at-same m layout a same) };
+    ghost by_layout = { λ m h access a off. refl };
 
+    ghost by_shape = { λ m h g same held. held-same m h g same held };
+
+    #[inline]
     fn check_range<B: NewBitmap>(
         &self,
+        alloc: Global,
         h: &HostMemory<B>,
         addr: GuestAddress,
         count: usize,
         access: Permissions,
-    ) -> bool {
+    ) -> Result<bool, AllocError> {
+        let _ = alloc;
         let _ = h;
-        GuestRegionCollection::check_range(self, addr, count, access)
+        let _ = access;
+        Ok(self.has_range(addr, count))
     }
 
     fn get_slices<'a, B: NewBitmap>(
         &'a self,
-        h: &HostMemory<B>,
+        alloc: Global,
+        h: &'a HostMemory<B>,
         addr: GuestAddress,
         count: usize,
         access: Permissions,
     ) -> Result<GuestMemorySlices<'a, GuestRegionCollection<R>>, GuestMemoryError> {
+        let _ = alloc;
         let _ = h;
         let _ = access;
         let slices = GuestMemoryBackendSliceIterator::new(self, addr, count);
@@ -145,5 +196,35 @@ impl<R: GuestMemoryRegion> GuestMemory for GuestRegionCollection<R> {
 
     fn physical_memory(&self) -> Option<&GuestRegionCollection<R>> {
         Some(self)
+    }
+
+    #[inline]
+    fn read_range<B: NewBitmap>(
+        &self,
+        alloc: Global,
+        h: &HostMemory<B>,
+        addr: GuestAddress,
+        buffer: &mut [u8],
+    ) -> Result<bool, AllocError> {
+        let _ = alloc;
+        let asked = buffer.len();
+        let completed = self.read_some(h, buffer, addr.0);
+        Ok(completed == asked)
+    }
+
+    #[inline]
+    fn push_windows<B: NewBitmap>(
+        &self,
+        alloc: Global,
+        h: &HostMemory<B>,
+        addr: GuestAddress,
+        count: usize,
+        access: Permissions,
+        windows: &mut Windows,
+    ) -> Result<bool, AllocError> {
+        let _ = alloc;
+        let _ = h;
+        let _ = access;
+        self.push_physical(addr, count, windows)
     }
 }

@@ -1,15 +1,16 @@
 -- stores through several windows are one list of stores
-use Rattle.std.proofs.Common.{◌≡◌, ℕ, ◌+◌, ◌-◌, ◌<◌, ◌≤◌, List, [], ◌∷◌, ◌++◌, length, map, append_assoc, append-nil, get_or, take, drop, refl, ap, sym, ◌∙◌, arith, zero, suc, min, None, length-append, length-drop}
+use Rattle.std.proofs.Common.{◌≡◌, ℕ, ◌+◌, ◌-◌, ◌<◌, ◌≤◌, List, [], ◌∷◌, ◌++◌, length, map, append_assoc, append-nil, get_or, take, drop, refl, ap, sym, ◌∙◌, arith, zero, suc, min, Option, length-append, length-drop}
 use Rattle.std.specs.List.{zip}
 use Rattle.vm_memory_core.specs.Parts.{part_of}
 use Rattle.std.proofs.lemmas.List.{length-map, drop_more, drop-drop, take_rest, drop_all, map-append, length-take-le, take_at}
 use Rattle.vm_memory_core.specs.Host.{Host, Place}
-use Rattle.vm_memory_core.specs.Window.{Window, span, places, places_of, byte_in, put_byte, put_all}
+use Rattle.vm_memory_core.specs.declared.window.IoMarks.{IoMarks}
+use Rattle.vm_memory_core.specs.Window.{Window, io_address, span, places, places_of, byte_in, put_byte, put_all}
 
-pub length-span : (n block offset : ℕ) → length (span block offset n) ≡ n
+pub length-span : (n block offset : ℕ) (io : Option IoMarks) → length (span block offset io n) ≡ n
 unfolding span
-length-span zero b offset = refl
-length-span (suc n) b offset = ap suc (length-span n b (offset + 1))
+length-span zero b offset io = refl
+length-span (suc n) b offset io = ap suc (length-span n b (offset + 1) io)
 
 pub put_all-append : (xs ys : List (Place × ℕ)) (h : Host) → put_all h (xs ++ ys) ≡ put_all (put_all h xs) ys
 unfolding put_all
@@ -35,7 +36,7 @@ pub places_step : (ws : List Window) (i k done : ℕ) (w : Window) (bytes : List
     h' ≡ put_all h (zip (places_of w) (take k (take (length bytes - done) (drop done bytes)))) →
     put_all h' (zip (places (drop (i + 1) ws)) (drop (done + k) bytes)) ≡ put_all h (zip (places (drop i ws)) (drop done bytes))
 places_step ws i k done w bytes h h' at k-is stored =
-    let n = length-span w.len w.block w.offset in
+    let n = length-span w.len w.block w.offset w.io in
     let left = length-drop done bytes in
     let cut = zip-append (places_of w) (places (drop (i + 1) ws)) (drop done bytes) k (omega arith) in
     rw (at, cut, stored, take_rest bytes done, put_all-append, drop-drop)
@@ -43,7 +44,7 @@ places_step ws i k done w bytes h h' at k-is stored =
 pub length-places_step : (ws : List Window) (i : ℕ) (w : Window) → drop i ws ≡ w ∷ drop (i + 1) ws →
     length (places (drop i ws)) ≡ w.len + length (places (drop (i + 1) ws))
 length-places_step ws i w at =
-    let n = length-span w.len w.block w.offset in
+    let n = length-span w.len w.block w.offset w.io in
     rw at (omega (arith, length-append (places_of w) (places (drop (i + 1) ws))))
 
 -- the bytes read so far, one window further
@@ -71,17 +72,17 @@ pub drop_item : {X : Type 0} (xs : List X) (i : ℕ) (x : X) → i < length xs �
 drop_item {X} xs i x lt is = drop_more xs i x lt ∙ ap (λ (y : X). y ∷ drop (i + 1) xs) (sym is)
 
 -- the first places of a span
-pub span-part : (n m block offset : ℕ) → n ≤ m → span block offset n ≡ take n (span block offset m)
+pub span-part : (n m block offset : ℕ) (io : Option IoMarks) → n ≤ m → span block offset io n ≡ take n (span block offset io m)
 unfolding span
-span-part zero m b o h = refl
-span-part (suc n) zero b o h = absurd (omega arith)
-span-part (suc n) (suc m) b o h =
-    ap (λ (r : List Place). let p : Place = record { block = b; offset = o; io = None } in p ∷ r) (span-part n m b (o + 1) (omega arith))
+span-part zero m b o io h = refl
+span-part (suc n) zero b o io h = absurd (omega arith)
+span-part (suc n) (suc m) b o io h =
+    ap (λ (r : List Place). let p : Place = record { block = b; offset = o; io = io_address o io } in p ∷ r) (span-part n m b (o + 1) io (omega arith))
 
 pub places-part : (w : Window) (n : ℕ) → n ≤ w.len → places_of (part_of w 0 n) ≡ take n (places_of w)
 places-part w n h =
     let start : w.offset + 0 ≡ w.offset = omega arith in
-    ap (λ o. span w.block o n) start ∙ span-part n w.len w.block w.offset h
+    ap (λ o. span w.block o w.io n) start ∙ span-part n w.len w.block w.offset w.io h
 
 map-take : {X Y : Type 0} (f : X → Y) (n : ℕ) (l : List X) → map f (take n l) ≡ take n (map f l)
 map-take f zero l = refl
@@ -100,8 +101,8 @@ zip-take {X} {Y} (x ∷ a) (y ∷ b) (suc n) e = ap (λ (l : List (X × Y)). (x,
 pub zip-parts : (h : Host) (source dest : Window) (n : ℕ) → n ≡ min source.len dest.len →
     zip (places_of (part_of dest 0 n)) (map (byte_in h) (places_of (part_of source 0 n))) ≡ zip (places_of dest) (map (byte_in h) (places_of source))
 zip-parts h source dest n e =
-    let to = length-span dest.len dest.block dest.offset in
-    let from = length-span source.len source.block source.offset in
+    let to = length-span dest.len dest.block dest.offset dest.io in
+    let from = length-span source.len source.block source.offset source.io in
     let read = length-map (places_of source) (byte_in h) in
     rw (places-part dest n (omega arith), places-part source n (omega arith), map-take (byte_in h) n (places_of source))
     (zip-take (places_of dest) (map (byte_in h) (places_of source)) n (omega arith))

@@ -1,5 +1,6 @@
 -- The memory of the host: numbered blocks of bytes with their marked pages, numbered tables, and numbered sets of marked I/O pages.
 use Rattle.std.specs.Prelude.{ℕ, zero, suc, ◌+◌, ◌/◌, Bool, true, false, List, [], ◌∷◌, ◌++◌, length, map, replicate, Option, Some, None, slice_get, slice_set, option_and_then}
+use Rattle.vm_bitmaps.specs.Pages.{marked_at}
 use Rattle.vm_iotlb.specs.declared.range.IotlbRange.{IotlbRange}
 
 -- an address in a set of I/O pages
@@ -54,9 +55,9 @@ marked marks offset = slice_set marks (offset / 4096) true
 abbrev pub with_block_mark : Host → Place → Host
 with_block_mark h p = with_blocks h (changed_at h.blocks p.block (λ b. record b { marks = marked b.marks p.offset }))
 
--- the host with the page of an I/O address marked in its set
+-- the host with the page of an I/O address marked in its set: no address lies at or past 2^64
 abbrev pub with_io_mark : Host → IoAddress → Host
-with_io_mark h a = record h { io_marks = changed_at h.io_marks a.set (λ marks. marked marks a.address) }
+with_io_mark h a = record h { io_marks = changed_at h.io_marks a.set (λ marks. marked_at 4096 marks a.address) }
 
 -- the host with that page marked which belongs to a place
 abbrev pub with_mark_by : Option IoAddress → Place → Host → Host

@@ -24,7 +24,7 @@ end_within len base offset =
 
 -- n bytes of a window, from an offset on
 abbrev pub part_of : Window → (offset n : ℕ) → Window
-part_of w offset n = record { block = w.block; offset = w.offset + offset; len = n }
+part_of w offset n = record w { offset = w.offset + offset; len = n }
 
 -- n bytes of a window from an offset on, where it has them
 abbrev pub sub_window : Window → (offset n : ℕ) → Result Window VolatileMemoryError

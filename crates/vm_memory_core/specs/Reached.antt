@@ -1,17 +1,18 @@
 -- An access reaches at most as many places as it asks for: proofs, of which nothing has to be believed.
-use Rattle.std.specs.Prelude.{◌≡◌, ℕ, zero, suc, ◌+◌, ◌-◌, ◌≤◌, ◌==◌, List, length, min, nat_lt, if◌then◌else◌, true, false, Result, Ok, Err, refl}
+use Rattle.std.specs.Prelude.{◌≡◌, ℕ, zero, suc, ◌+◌, ◌-◌, ◌≤◌, ◌==◌, List, length, min, nat_lt, if◌then◌else◌, true, false, Option, Result, Ok, Err, refl}
 use Rattle.std.proofs.Common.{ap, sym, subst, arith}
 use Rattle.vm_memory_core.specs.Host.{Place}
 use Rattle.vm_memory_core.specs.Window.{Window, span}
+use Rattle.vm_memory_core.specs.declared.window.IoMarks.{IoMarks}
 use Rattle.vm_memory_core.specs.Parts.{part_of}
 use Rattle.vm_memory_core.specs.Access.{places_in, reached_places}
 use Rattle.vm_memory_core.specs.declared.error.VolatileMemoryError.{VolatileMemoryError}
 use Rattle.vm_memory_core.specs.declared.error.VolatileMemoryError.TheVariants.{OutOfBounds}
 
-count-span : (n block offset : ℕ) → length (span block offset n) ≡ n
+count-span : (n block offset : ℕ) (io : Option IoMarks) → length (span block offset io n) ≡ n
 unfolding span
-count-span zero b o = refl
-count-span (suc n) b o = ap suc (count-span n b (o + 1))
+count-span zero b o io = refl
+count-span (suc n) b o io = ap suc (count-span n b (o + 1) io)
 
 -- no more than n places are reached
 abbrev pub AtMost : {E : Type 0} → ℕ → Result (List Place) E → Type 0
@@ -22,9 +23,9 @@ of_window : (w : Window) (a n : ℕ) → AtMost n (reached_places w a n)
 of_window w a n =
     let part : Result Window VolatileMemoryError = if nat_lt a w.len then Ok (part_of w a (min n (w.len - a))) else Err (OutOfBounds a) in
     elim (n == 0) as (λ b. AtMost n (places_in (if b then Ok (part_of w 0 0) else part))) [
-      | true ↦ omega (arith, count-span 0 w.block (w.offset + 0))
+      | true ↦ omega (arith, count-span 0 w.block (w.offset + 0) w.io)
       | false ↦ elim (nat_lt a w.len) as (λ b. AtMost n (places_in (if b then Ok (part_of w a (min n (w.len - a))) else Err (OutOfBounds a)))) [
-        | true ↦ omega (arith, count-span (min n (w.len - a)) w.block (w.offset + a))
+        | true ↦ omega (arith, count-span (min n (w.len - a)) w.block (w.offset + a) w.io)
         | false ↦ tt
       ]
     ]

@@ -1,22 +1,78 @@
 -- A window is a list of places: what is read there, and what a write leaves.
-use Rattle.std.specs.Prelude.{◌≡◌, ℕ, zero, suc, ◌+◌, ◌<◌, ◌≤◌, List, [], ◌∷◌, length, All, None, slice_index_or, unwrap_or}
+use Rattle.std.specs.Prelude.{◌≡◌, ℕ, zero, suc, ◌+◌, ◌-◌, ◌<◌, ◌≤◌, nat_le, List, [], ◌∷◌, length, All, Option, Some, None, option_map, slice_index_or, unwrap_or, if◌then◌else◌, refl}
+use Rattle.std.proofs.Common.{arith}
 use Rattle.std.specs.List.{flat_map, zip}
-use Rattle.vm_memory_core.specs.Host.{Host, Place, byte_at, with_byte, with_mark_by}
+use Rattle.vm_memory_core.specs.Host.{Host, IoAddress, Place, byte_at, with_byte, with_mark_by}
+use Rattle.vm_memory_core.specs.declared.window.IoMarks.{IoMarks}
+use Rattle.vm_memory_core.specs.declared.window.Marking.{Marking}
+use Rattle.vm_memory_core.specs.declared.window.Marking.TheVariants.{InBlock, IoAbove, IoBelow}
 
--- len bytes of a block, from an offset on
+-- len bytes of a block, from an offset on, and the I/O pages that writes of them mark, if not their own in the block
 pub record Window : Type 0 where
   pub block : ℕ
   pub offset : ℕ
   pub len : ℕ
+  pub io : Option IoMarks
+
+-- the I/O pages of a set, where the byte at an offset has the I/O address base
+abbrev pub io_from : (set base offset : ℕ) → IoMarks
+io_from set base offset =
+    if nat_le offset base then record { set = set; base = base - offset; from = 0 } else record { set = set; base = 0; from = offset - base }
+
+-- the I/O pages that a window marks, if any
+abbrev pub io_of : Marking → (set by : ℕ) → Option IoMarks
+io_of InBlock set by = None
+io_of IoAbove set by = Some (record { set = set; base = by; from = 0 })
+io_of IoBelow set by = Some (record { set = set; base = 0; from = by })
+
+-- no I/O address lies below 0, and what marks the same pages is told in one way
+abbrev pub BeginsBy : (offset : ℕ) → Marking → (set by : ℕ) → Type 0
+BeginsBy offset InBlock set by = (set ≡ 0) × (by ≡ 0)
+BeginsBy offset IoAbove set by = Unit {0}
+BeginsBy offset IoBelow set by = (0 < by) × (by ≤ offset)
+
+-- the same told the other way round, with a proof that a ghost member needs, of which nothing has to be believed
+abbrev pub marking_from : (from : ℕ) → Marking
+marking_from zero = IoAbove
+marking_from (suc from) = IoBelow
+
+abbrev pub by_from : (base from : ℕ) → ℕ
+by_from base zero = base
+by_from base (suc from) = suc from
+
+abbrev pub marking_of : Option IoMarks → Marking
+marking_of None = InBlock
+marking_of (Some m) = marking_from m.from
+
+abbrev pub set_of : Option IoMarks → ℕ
+set_of None = 0
+set_of (Some m) = m.set
+
+abbrev pub by_of : Option IoMarks → ℕ
+by_of None = 0
+by_of (Some m) = by_from m.base m.from
+
+abbrev told : Option IoMarks → Marking × ℕ × ℕ
+told io = (marking_of io, set_of io, by_of io)
+
+pub marking_back : (m : Marking) (offset set by : ℕ) → BeginsBy offset m set by → told (io_of m set by) ≡ (m, set, by)
+marking_back InBlock offset set by begins = rw (begins.0, begins.1) refl
+marking_back IoAbove offset set by begins = refl
+marking_back IoBelow offset set zero begins = absurd (omega (arith, begins.0))
+marking_back IoBelow offset set (suc by) begins = refl
+
+-- the I/O address of the byte at an offset
+abbrev pub io_address : (offset : ℕ) → Option IoMarks → Option IoAddress
+io_address offset io = option_map (λ m. record { set = m.set; address = m.base + (offset - m.from) }) io
 
 -- n places of a block, from an offset on
-unfoldable pub span : (block offset n : ℕ) → List Place
-span block offset zero = []
-span block offset (suc n) = record { block = block; offset = offset; io = None } ∷ span block (offset + 1) n
+unfoldable pub span : (block offset : ℕ) → Option IoMarks → (n : ℕ) → List Place
+span block offset io zero = []
+span block offset io (suc n) = record { block = block; offset = offset; io = io_address offset io } ∷ span block (offset + 1) io n
 
 -- the places of a window
 abbrev pub places_of : Window → List Place
-places_of w = span w.block w.offset w.len
+places_of w = span w.block w.offset w.io w.len
 
 -- the places of some windows, one after another
 abbrev pub places : List Window → List Place

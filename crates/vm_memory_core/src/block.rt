@@ -1,10 +1,10 @@
 //! One block of host memory, and copies from one block to another.
 
 ghost use Rattle.std.specs.Prelude.{◌≡◌, ◌≢◌, ◌+◌, ◌<◌, ◌≤◌, ◌^◌, ◌*◌, ◌++◌, length, map, take, drop};
-ghost use Rattle.vm_bitmaps.specs.Pages.{marked_range};
 ghost use Rattle.vm_memory_core.specs.Host.{Block, Host, with_blocks};
 ghost use Rattle.vm_memory_core.specs.Parts.{spelled_all};
-ghost use Rattle.vm_memory_core.specs.Window.{places_of, LiesIn, Stores, byte_in};
+ghost use Rattle.vm_memory_core.specs.Putting.{marked_if, put_in_block};
+ghost use Rattle.vm_memory_core.specs.Window.{places_of, LiesIn, byte_in};
 
 use crate::copy::{put_at, put_values};
 use crate::window::VolatileSlice;
@@ -40,31 +40,35 @@ impl<B: NewBitmap> Block<B> {
         &self.bytes[offset..][..len]
     }
 
-    // Writes values, one after another.
-    pub(crate) fn write_values<T: ByteValued>(&mut self, offset: usize, values: &[T])
+    // Writes values, one after another, and marks their pages if `mark`.
+    pub(crate) fn write_values<T: ByteValued>(&mut self, offset: usize, values: &[T], mark: bool)
         requires { offset + length values.now * T.SIZE ≤ length self.old.bytes }
         ensures stored { self.new.bytes ≡ take offset self.old.bytes ++ spelled_all T.fields values.now
             ++ drop (offset + length (spelled_all T.fields values.now)) self.old.bytes }
-        ensures marked { self.new.marks ≡ marked_range 4096 self.old.marks offset (length (spelled_all T.fields values.now)) }
+        ensures marked { self.new.marks ≡ marked_if mark self.old.marks offset (length (spelled_all T.fields values.now)) }
         ensures fits { offset + length (spelled_all T.fields values.now) < 2 ^ 64 }
         ensures count { length (spelled_all T.fields values.now) ≡ length values.now * T.SIZE }
     {
         put_values(&mut self.bytes, offset, values);
-        self.bitmap.mark_dirty(offset, values.len() * T::SIZE);
+        if mark {
+            self.bitmap.mark_dirty(offset, values.len() * T::SIZE);
+        }
     }
 
-    // Copies bytes from one offset to another: those that stood there before.
-    pub(crate) fn copy_within(&mut self, from: usize, to: usize, len: usize)
+    // Copies bytes from one offset to another, those that stood there before, and marks their pages if `mark`.
+    pub(crate) fn copy_within(&mut self, from: usize, to: usize, len: usize, mark: bool)
         requires source { from + len ≤ length self.old.bytes }
         requires dest { to + len ≤ length self.old.bytes }
         ensures stored { self.new.bytes ≡ take to self.old.bytes ++ take len (drop from self.old.bytes)
             ++ drop (to + length (take len (drop from self.old.bytes))) self.old.bytes }
-        ensures marked { self.new.marks ≡ marked_range 4096 self.old.marks to (length (take len (drop from self.old.bytes))) }
+        ensures marked { self.new.marks ≡ marked_if mark self.old.marks to (length (take len (drop from self.old.bytes))) }
         ensures fits { to + length (take len (drop from self.old.bytes)) < 2 ^ 64 }
         ensures count { length (take len (drop from self.old.bytes)) ≡ len }
     {
         self.bytes.copy_within(from..from + len, to);
-        self.bitmap.mark_dirty(to, len);
+        if mark {
+            self.bitmap.mark_dirty(to, len);
+        }
     }
 
     // Sets bytes, and marks no page.
@@ -75,19 +79,22 @@ impl<B: NewBitmap> Block<B> {
         put_at(&mut self.bytes, offset, bytes);
     }
 
-    // Writes bytes, and marks their pages.
-    pub(crate) fn write(&mut self, offset: usize, bytes: &[u8])
+    // Writes bytes, and marks their pages if `mark`.
+    pub(crate) fn write(&mut self, offset: usize, bytes: &[u8], mark: bool)
         requires { offset + length bytes.now ≤ length self.old.bytes }
         ensures stored { self.new.bytes ≡ take offset self.old.bytes ++ bytes.now ++ drop (offset + length bytes.now) self.old.bytes }
-        ensures marked { self.new.marks ≡ marked_range 4096 self.old.marks offset (length bytes.now) }
+        ensures marked { self.new.marks ≡ marked_if mark self.old.marks offset (length bytes.now) }
         ensures fits { offset + length bytes.now < 2 ^ 64 }
     {
         put_at(&mut self.bytes, offset, bytes);
-        self.bitmap.mark_dirty(offset, bytes.len());
+        if mark {
+            self.bitmap.mark_dirty(offset, bytes.len());
+        }
     }
 }
 
-// Copies a window of one block to one of the same length in another.
+// Copies a window of one block to one of the same length in another, and marks the pages there if none of a set of I/O
+// pages are marked instead.
 pub(crate) fn copy_across<B: NewBitmap>(
     blocks: &mut [Block<B>],
     source: VolatileSlice,
@@ -97,15 +104,15 @@ pub(crate) fn copy_across<B: NewBitmap>(
     requires dest { LiesIn (map (λ b. length b.bytes) blocks.old) dest }
     requires len { source.len ≡ dest.len }
     requires other { source.block ≢ dest.block }
-    ensures { (h : Host) → Stores (with_blocks h blocks.old) (with_blocks h blocks.new) (places_of dest) (map (byte_in (with_blocks h blocks.old)) (places_of source)) }
+    ensures { (h : Host) → with_blocks h blocks.new ≡ put_in_block (with_blocks h blocks.old) dest (map (byte_in (with_blocks h blocks.old)) (places_of source)) }
 {
     if source.block() < dest.block() {
         let (low, high) = blocks.split_at_mut(dest.block());
         let bytes = low[source.block()].bytes(source.block_offset(), source.len());
-        high[0].write(dest.block_offset(), bytes);
+        high[0].write(dest.block_offset(), bytes, dest.marks_its_block());
     } else {
         let (low, high) = blocks.split_at_mut(source.block());
         let bytes = high[0].bytes(source.block_offset(), source.len());
-        low[dest.block()].write(dest.block_offset(), bytes);
+        low[dest.block()].write(dest.block_offset(), bytes, dest.marks_its_block());
     }
 }

@@ -4,10 +4,11 @@ ghost use Rattle.std.specs.Prelude.{[], IfOk, IfSome, IsSome, IsTrue, None, OnEr
 ghost use Rattle.std.specs.Borrow.{sem};
 ghost use Rattle.vm_memory_core.specs.Host.{byte_at, lengths, shape, with_block, with_io_pages, with_table};
 ghost use Rattle.vm_memory_core.specs.Parts.{spelled_all};
+ghost use Rattle.vm_memory_core.specs.Putting.{io_marked, put_in_block};
 ghost use Rattle.vm_memory_core.specs.Window.{places_of, LiesIn, Stores, byte_in};
 
 use crate::block::{Block, copy_across};
-use crate::io_pages::IoPages;
+use crate::io_pages::{IoPages, mark_pages};
 use crate::window::VolatileSlice;
 use std::alloc::{AllocError, Global};
 use std::marker::Model;
@@ -158,7 +159,20 @@ impl<B: NewBitmap> HostMemory<B> {
         ensures shape { shape self.new ≡ shape self.old }
     {
         let block = &mut self.blocks[window.block()];
-        block.write(window.block_offset(), bytes);
+        block.write(window.block_offset(), bytes, window.marks_its_block());
+        self.mark_io(window, bytes.len());
+    }
+
+    // Marks the I/O pages of the first bytes of a window that marks such pages.
+    #[inline]
+    fn mark_io(&mut self, window: VolatileSlice, count: usize)
+        ensures marked { self.new ≡ io_marked self.old window count }
+        ensures from { IfSome window.io (λ m. m.from ≤ window.offset) }
+    {
+        let Some(marks) = window.io() else {
+            return;
+        };
+        mark_pages(&mut self.io_pages, marks, window.block_offset(), count);
     }
 
     // Writes values at the first places of a window, and marks their pages.
@@ -169,7 +183,28 @@ impl<B: NewBitmap> HostMemory<B> {
         ensures shape { shape self.new ≡ shape self.old }
     {
         let block = &mut self.blocks[window.block()];
-        block.write_values(window.block_offset(), values);
+        block.write_values(window.block_offset(), values, window.marks_its_block());
+        self.mark_io(window, values.len() * T::SIZE);
+    }
+
+    // The same without a mark of I/O pages.
+    fn copy_in_blocks(&mut self, source: VolatileSlice, dest: VolatileSlice)
+        requires source { LiesIn (lengths self.old) source }
+        requires dest { LiesIn (lengths self.old) dest }
+        requires len { source.len ≡ dest.len }
+        ensures { self.new ≡ put_in_block self.old dest (map (byte_in self.old) (places_of source)) }
+    {
+        if source.block() == dest.block() {
+            let block = &mut self.blocks[dest.block()];
+            block.copy_within(
+                source.block_offset(),
+                dest.block_offset(),
+                dest.len(),
+                dest.marks_its_block(),
+            );
+        } else {
+            copy_across(&mut self.blocks, source, dest);
+        }
     }
 
     // Copies a window to one of the same length: the bytes that stood there before.
@@ -180,12 +215,8 @@ impl<B: NewBitmap> HostMemory<B> {
         ensures stored { Stores self.old self.new (places_of dest) (map (byte_in self.old) (places_of source)) }
         ensures shape { shape self.new ≡ shape self.old }
     {
-        if source.block() == dest.block() {
-            let block = &mut self.blocks[dest.block()];
-            block.copy_within(source.block_offset(), dest.block_offset(), dest.len());
-        } else {
-            copy_across(&mut self.blocks, source, dest);
-        }
+        self.copy_in_blocks(source, dest);
+        self.mark_io(dest, dest.len());
     }
 
     /// The dirty pages of a block, of 4096 bytes each.
@@ -222,8 +253,8 @@ impl<B: NewBitmap> HostMemory<B> {
 
     /// A window of a block, where the block has all of it.
     pub fn window(&self, block: usize, offset: usize, len: usize) -> Option<VolatileSlice>
-        ensures value { IfSome result (λ w. w ≡ record { block = block; offset = offset; len = len }) }
-        ensures found { IsSome result ↔ LiesIn (lengths self.now) (record { block = block; offset = offset; len = len }) }
+        ensures value { IfSome result (λ w. w ≡ record { block = block; offset = offset; len = len; io = None }) }
+        ensures found { IsSome result ↔ LiesIn (lengths self.now) (record { block = block; offset = offset; len = len; io = None }) }
     {
         let size = self.block_len(block)?;
         if offset <= size && len <= size - offset {

@@ -1,7 +1,10 @@
 //! The dirty pages of a device's I/O addresses.
 
-ghost use Rattle.std.specs.Prelude.{◌≡◌, IfOk, false, length, map, replicate};
+ghost use Rattle.std.specs.Prelude.{◌≡◌, ◌+◌, ◌-◌, ◌≤◌, IfOk, false, length, map, replicate};
+ghost use Rattle.vm_bitmaps.specs.Pages.{marked_range};
+ghost use Rattle.vm_memory_core.specs.Host.{changed_at};
 
+use crate::window::IoMarks;
 use std::alloc::{AllocError, Global};
 use std::marker::Model;
 use vm_bitmaps::{Bitmap, NewBitmap, PageBitmap};
@@ -29,6 +32,24 @@ impl<B: NewBitmap> IoPages<B> {
     {
         let bitmap = B::with_len(alloc, byte_size)?;
         Ok(IoPages { bitmap })
+    }
+}
+
+// Marks the I/O pages of `count` bytes from an offset of a block on. A set that isn't there has none, and no address lies
+// at or past 2^64.
+pub(crate) fn mark_pages<B: NewBitmap>(
+    sets: &mut [IoPages<B>],
+    marks: IoMarks,
+    offset: usize,
+    count: usize,
+)
+    requires { marks.from ≤ offset }
+    ensures { sets.new ≡ changed_at sets.old marks.set (λ m. marked_range 4096 m (marks.base + (offset - marks.from)) count) }
+{
+    if marks.set < sets.len() {
+        if let Some(address) = marks.base.checked_add((offset - marks.from) as u64) {
+            sets[marks.set].mark_dirty(address as usize, count);
+        }
     }
 }
 

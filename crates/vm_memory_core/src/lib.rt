@@ -1,18 +1,18 @@
 //! Host memory: numbered blocks of bytes with their dirty pages, and windows over them.
 #![tactic(auto)]
 
-pub mod access;
+mod access;
 mod block;
 mod copy;
-pub mod element;
-pub mod error;
-pub mod held;
-pub mod host;
-pub mod io_pages;
-pub mod memory;
-pub mod unmarked;
-pub mod window;
-pub mod windows;
+mod element;
+mod error;
+mod held;
+mod host;
+mod io_pages;
+mod memory;
+mod unmarked;
+mod window;
+mod windows;
 
 pub use access::Bytes;
 pub use copy::put_at;

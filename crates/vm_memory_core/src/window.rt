@@ -1,6 +1,8 @@
 //! A window over host memory (vm-memory's `VolatileSlice`).
 
-ghost use Rattle.std.specs.Prelude.{IfOk, ◌≡◌, ◌==◌, ◌+◌, ◌<◌, ◌≤◌, ◌^◌};
+ghost use Rattle.std.specs.Prelude.{IfOk, IfSome, None, Some, ◌≡◌, ◌==◌, ◌+◌, ◌<◌, ◌≤◌, ◌^◌};
+ghost use Rattle.std.specs.Option.{is_none};
+ghost use Rattle.vm_memory_core.specs.Window.{io_from};
 ghost use Rattle.vm_memory_core.specs.Parts.{halves_of, part_of, reached_part, rest_of, sub_window};
 
 use crate::error::{VolatileMemoryError, compute_offset};
@@ -13,31 +15,118 @@ pub struct VolatileSlice {
     block: usize,
     offset: usize,
     len: usize,
+    set: usize,
+    by: u64,
+    marks: Marking,
+}
+
+/// Which pages writes of a window mark: those of its block, or I/O pages of a set of the host's, whose addresses lie so far
+/// above or below the offsets in the block. So a part of a window marks as the window does.
+#[derive(Clone, Copy, Debug, Default)]
+pub enum Marking {
+    #[default]
+    InBlock,
+    IoAbove,
+    IoBelow,
+}
+
+/// The I/O pages that writes mark in place of a block's own: those of a set of the host's, in which the byte at offset
+/// `from` of the block has the I/O address `base`.
+#[derive(Clone, Copy, Debug)]
+pub struct IoMarks {
+    pub set: usize,
+    pub base: u64,
+    pub from: usize,
 }
 
 /// Windows in order, of which the first two take no memory.
 pub type Windows = SmallVec<VolatileSlice, 2>;
 
 impl Model for VolatileSlice {
-    ghost use Rattle.std.specs.Prelude.{◌+◌, ◌<◌, ◌^◌};
-    ghost use Rattle.vm_memory_core.specs.Window.{Window};
+    ghost use Rattle.std.specs.Prelude.{ℕ, ◌+◌, ◌<◌, ◌^◌};
+    ghost use Rattle.std.proofs.Common.{ap};
+    ghost use Rattle.vm_memory_core.specs.Window.{Window, BeginsBy, by_of, io_of, marking_of, marking_back, set_of};
+    ghost use Rattle.vm_memory_core.specs.declared.window.Marking.{Marking};
 
     ghost Value = { Window };
 
-    ghost view = { λ w. record { block = w.block; offset = w.offset; len = w.len } };
+    ghost view = { λ w. record { block = w.block; offset = w.offset; len = w.len; io = io_of w.marks w.set w.by } };
 
-    ghost invariant = { λ w. w.offset + w.len < 2 ^ 64 };
+    ghost invariant = { λ w. (w.offset + w.len < 2 ^ 64) × BeginsBy w.offset w.marks w.set w.by };
 
-    ghost inverse = { λ w. record { block = w.block; offset = w.offset; len = w.len } };
+    ghost inverse = { λ w. record { block = w.block; offset = w.offset; len = w.len; set = set_of w.io; by = by_of w.io; marks = marking_of w.io } };
+
+    ghost inverse_ok = { λ w h. ap (λ (m : Marking × ℕ × ℕ). record w { marks = m.0; set = m.1; by = m.2 }) (marking_back w.marks w.offset w.set w.by h.1) };
 }
 
 impl VolatileSlice {
     /// The window of `len` bytes of a block, from `offset` on. Whether a host has it, `HostMemory::has` tells.
     pub fn new(block: usize, offset: usize, len: usize) -> VolatileSlice
         requires { offset + len < 2 ^ 64 }
-        ensures { result ≡ record { block = block; offset = offset; len = len } }
+        ensures { result ≡ record { block = block; offset = offset; len = len; io = None } }
     {
-        VolatileSlice { block, offset, len }
+        VolatileSlice {
+            block,
+            offset,
+            len,
+            set: 0,
+            by: 0,
+            marks: Marking::InBlock,
+        }
+    }
+
+    /// The same bytes, of which writes mark I/O pages: those of a set of the host's, where its first byte has the I/O
+    /// address `base` (vm-memory's `VolatileSlice::replace_bitmap`).
+    pub fn replace_bitmap(&self, io: usize, base: u64) -> VolatileSlice
+        ensures { result ≡ record self.now { io = Some (io_from io base self.now.offset) } }
+    {
+        let offset = self.offset as u64;
+        if offset <= base {
+            VolatileSlice {
+                set: io,
+                by: base - offset,
+                marks: Marking::IoAbove,
+                ..*self
+            }
+        } else {
+            VolatileSlice {
+                set: io,
+                by: offset - base,
+                marks: Marking::IoBelow,
+                ..*self
+            }
+        }
+    }
+
+    // Whether writes of it mark the pages of its block.
+    pub(crate) fn marks_its_block(&self) -> bool
+        ensures { result ≡ is_none self.now.io }
+    {
+        match self.marks {
+            Marking::InBlock => true,
+            Marking::IoAbove => false,
+            Marking::IoBelow => false,
+        }
+    }
+
+    // The I/O pages that writes of it mark.
+    pub(crate) fn io(&self) -> Option<IoMarks>
+        ensures value { result ≡ self.now.io }
+        ensures from { IfSome result (λ m. m.from ≤ self.now.offset) }
+    {
+        match self.marks {
+            Marking::InBlock => None,
+            Marking::IoAbove => Some(IoMarks {
+                set: self.set,
+                base: self.by,
+                from: 0,
+            }),
+            Marking::IoBelow => Some(IoMarks {
+                set: self.set,
+                base: 0,
+                from: self.by as usize,
+            }),
+        }
     }
 
     /// The number of its block.
@@ -76,7 +165,7 @@ impl VolatileSlice {
         if count > self.len {
             return Err(VolatileMemoryError::OutOfBounds { addr: count });
         }
-        Ok(VolatileSlice::new(self.block, self.offset + count, self.len - count))
+        Ok(self.part(count, self.len - count))
     }
 
     /// Its `count` bytes from an offset on (vm-memory's `VolatileSlice::subslice`).
@@ -88,11 +177,7 @@ impl VolatileSlice {
         ensures { result ≡ sub_window self.now offset count }
     {
         match compute_offset(offset, count) {
-            Ok(end) if end <= self.len => Ok(VolatileSlice::new(
-                self.block,
-                self.offset + offset,
-                count,
-            )),
+            Ok(end) if end <= self.len => Ok(self.part(offset, count)),
             Ok(addr) => Err(VolatileMemoryError::OutOfBounds { addr }),
             Err(error) => Err(error),
         }
@@ -108,8 +193,8 @@ impl VolatileSlice {
         if mid > self.len {
             return Err(VolatileMemoryError::OutOfBounds { addr: mid });
         }
-        let front = VolatileSlice::new(self.block, self.offset, mid);
-        let back = VolatileSlice::new(self.block, self.offset + mid, self.len - mid);
+        let front = VolatileSlice { len: mid, ..*self };
+        let back = self.part(mid, self.len - mid);
         Ok((front, back))
     }
 
@@ -118,7 +203,11 @@ impl VolatileSlice {
         requires { offset + count ≤ self.now.len }
         ensures { result ≡ part_of self.now offset count }
     {
-        VolatileSlice::new(self.block, self.offset + offset, count)
+        VolatileSlice {
+            offset: self.offset + offset,
+            len: count,
+            ..*self
+        }
     }
 
     // The bytes that an access of `count` bytes from `addr` on reaches.
@@ -133,12 +222,12 @@ impl VolatileSlice {
         ensures most { IfOk result (λ w. w.len ≤ count) }
     {
         if count == 0 {
-            return Ok(VolatileSlice::new(self.block, self.offset, 0));
+            return Ok(self.part(0, 0));
         }
         if addr >= self.len {
             return Err(VolatileMemoryError::OutOfBounds { addr });
         }
         let count = count.min(self.len - addr);
-        Ok(VolatileSlice::new(self.block, self.offset + addr, count))
+        Ok(self.part(addr, count))
     }
 }

@@ -1,10 +1,10 @@
 //! Values of guest memory: addresses, and values that are spelled by a fixed number of bytes.
 #![tactic(auto)]
 
-pub mod address;
-pub mod byte_valued;
-pub mod endian;
-pub mod place;
+mod address;
+mod byte_valued;
+mod endian;
+mod place;
 
 pub use address::{Address, AddressValue, GuestAddress, GuestUsize, MemoryRegionAddress};
 pub use byte_valued::ByteValued;

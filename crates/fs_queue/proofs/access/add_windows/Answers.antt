@@ -8,5 +8,5 @@ use Rattle.fs_queue.proofs.access.add_windows.Goals as goal
 
 pub returns-clause-found : goal.returns-clause-found
 returns-clause-found c =
-    subst (λ (xs : List ℕ). IfOk c.push_windows.result (λ (found : Bool). after (places c.args.windows.now.items) (located (place c.args.mem.now) xs) ≡ (if found then Some (places c.push_windows.new.windows.items) else None)))
-    (circular-is c.args.len c.args.addr c.requires) c.push_windows.ensures.found
+    subst (λ (xs : List ℕ). IfOk c.push_physical.result (λ (found : Bool). after (places c.args.windows.now.items) (located (place c.args.mem.now) xs) ≡ (if found then Some (places c.push_physical.new.windows.items) else None)))
+    (circular-is c.args.len c.args.addr c.requires) c.push_physical.ensures.found

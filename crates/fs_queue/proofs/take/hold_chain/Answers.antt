@@ -1,7 +1,7 @@
 use Rattle.std.proofs.Common.{◌≤◌, sym, arith, refl}
 use Rattle.vm_memory.specs.Layout.{place}
 use Rattle.fs_queue.specs.Taking.{readable, writable, total_len}
-use Rattle.fs_queue.proofs.TakeLemmas.{asks_nothing_read, asks_nothing_written, asks, length-part}
+use Rattle.fs_queue.proofs.TakeLemmas.{asks_nothing_read, asks_nothing_written, asks, length-direction}
 use Rattle.fs_queue.proofs.take.hold_chain.Goals as goal
 
 pub returns-in_default-clause-asked : goal.returns-in_default-clause-asked
@@ -20,8 +20,8 @@ pub invariant_of-result : goal.invariant_of-result
 invariant_of-result c =
     let a : total_len (readable c.args.descriptors.now) ≤ c.args.limit = omega arith in
     let b : total_len (writable c.args.descriptors.now) ≤ c.args.limit = omega arith in
-    let r = length-part (place c.args.mem.now) (readable c.args.descriptors.now) _ (rw c.in-Some.is at c.in_ok-readable.ensures.found) in
-    let w = length-part (place c.args.mem.now) (writable c.args.descriptors.now) _ (rw c.in-Some-2.is at c.in_ok-writable.ensures.found) in
+    let r = length-direction (place c.args.mem.now) (readable c.args.descriptors.now) _ (rw c.in-Some.is at c.in_ok-readable.ensures.found) in
+    let w = length-direction (place c.args.mem.now) (writable c.args.descriptors.now) _ (rw c.in-Some-2.is at c.in_ok-writable.ensures.found) in
     record { request_counted = omega arith; room_counted = omega arith }
 
 pub returns-clause-asked : goal.returns-clause-asked

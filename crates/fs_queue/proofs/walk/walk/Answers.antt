@@ -9,7 +9,7 @@ use Rattle.fs_queue.proofs.walk.walk.Goals as goal
 
 pub loop-descriptors-init : goal.loop-descriptors-init
 unfolding AllEndIn64Bits
-loop-descriptors-init g c = rw (c.new-descriptors.ensures.items, c.size-left.ensures) (record { chain = rw c.queue_table-table.ensures.table refl; fit = λ k d h. absurd (omega arith); ends = c.queue_table-table.ensures.ends })
+loop-descriptors-init g c = rw (c.new-descriptors.ensures.items, c.size-left.ensures) (record { chain = rw c.queue_table-table.ensures.table refl; fit = λ k d h. absurd (omega arith); ends = c.queue_table-table.ensures.ends; whole = c.table_bytes-whole.ensures })
 
 pub returns-in-Stops-clause-chain : goal.returns-in-Stops-clause-chain
 returns-in-Stops-clause-chain g c =
@@ -35,6 +35,7 @@ loop-descriptors-preserved g c = rw c.in_ok-push-in-Joins.ensures.ok (record {
   chain = walk_next (memory_of c.args.host.now c.args.mem.now) c.loop-descriptors.table c.loop-descriptors.index c.loop-descriptors.left c.in-Joins.descriptor c.loop-descriptors.descriptors.items _ c.in-Joins.ensures.verdict (sym c.has_next.ensures ∙ c.if-not-has_next.false) c.in-Joins.ensures.more c.loop-descriptors.invariant.chain;
   fit = All-push (λ (d : Descriptor). d.addr + d.len < 2 ^ 64) _ _ c.loop-descriptors.invariant.fit c.in-Joins.ensures.fits;
   ends = c.loop-descriptors.invariant.ends;
+  whole = c.loop-descriptors.invariant.whole;
 })
 
 pub loop-descriptors-preserved-in-Leads : goal.loop-descriptors-preserved-in-Leads
@@ -42,4 +43,5 @@ loop-descriptors-preserved-in-Leads g c = record {
   chain = walk_leads (memory_of c.args.host.now c.args.mem.now) c.loop-descriptors.table c.in-Leads.named c.loop-descriptors.index c.loop-descriptors.left c.loop-descriptors.descriptors.items _ c.in-Leads.ensures.verdict c.in-Leads.ensures.leads.0 c.in-Leads.ensures.leads.1 c.loop-descriptors.invariant.chain;
   fit = c.loop-descriptors.invariant.fit;
   ends = c.in-Leads.ensures.leads.2;
+  whole = c.table_bytes-whole-in-Leads.ensures;
 }

@@ -1,8 +1,8 @@
-use Rattle.std.proofs.Common.{◌≡◌, ◌+◌}
+use Rattle.std.proofs.Common.{◌≡◌, ◌+◌, IfSome}
 use Rattle.vm_memory.specs.Memory.{memory_of}
 use Rattle.fs_queue.specs.Queue.{at_position}
 use Rattle.fs_queue.specs.Chain.{chain, tables_left}
-use Rattle.fs_queue.specs.Walking.{AllEndIn64Bits, EndsIn64Bits}
+use Rattle.fs_queue.specs.Walking.{AllEndIn64Bits, AreTheTable, EndsIn64Bits}
 use Rattle.fs_queue.proofs.WalkLemmas.{prepend, rest_of}
 use Rattle.fs_queue.proofs.walk.walk.Given as goal
 
@@ -13,6 +13,7 @@ invariant-loop-descriptors g l = record {
       ≡ chain (memory_of l.host l.mem) (at_position l.fn.layout 0) l.head;
   fit : AllEndIn64Bits l.descriptors.items;
   ends : EndsIn64Bits l.table;
+  whole : IfSome l.whole (λ b. AreTheTable (memory_of l.host l.mem) l.table b.now);
 }
 
 abbrev pub decreases-loop-descriptors : goal.decreases-loop-descriptors

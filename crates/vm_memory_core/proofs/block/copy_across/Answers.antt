@@ -1,8 +1,8 @@
-use Rattle.std.proofs.Common.{ℕ, List, [], length, take, drop, arith, refl, ap, sym, ◌∙◌}
-use Rattle.std.specs.List.{zip}
+use Rattle.std.proofs.Common.{[], length, take, drop, arith, refl, ap, sym, ◌∙◌}
 use Rattle.std.proofs.lemmas.List.{length-map, length-take}
 use Rattle.vm_memory_core.specs.Host.{Block, Host, with_blocks}
-use Rattle.vm_memory_core.specs.Window.{byte_in, places_of, put_all}
+use Rattle.vm_memory_core.specs.Putting.{put_in_block}
+use Rattle.vm_memory_core.specs.Window.{byte_in, places_of}
 use Rattle.vm_memory_core.proofs.Stores.{stored_at, loaded_at, room_at, seam_of, set-back, set-front, read-back, read-front}
 use Rattle.vm_memory_core.proofs.WindowLemmas.{length-span}
 use Rattle.vm_memory_core.proofs.block.copy_across.Goals as goal
@@ -47,11 +47,11 @@ returns-then-block g c h =
     let seam = seam_of l low high d halves.front halves.back in
     let at = c.index-low-block.is ∙ read-front l low high _ _ seam (omega arith) in
     let read = loaded_at before before source c.index-low-block.result c.bytes-bytes.result.now _ _ _ c.block-then-block-2.ensures c.block_offset.ensures c.len.ensures.len refl c.requires.source at (c.bytes-bytes.ensures ∙ ap (λ (b : Block). take c.len.result (drop c.block_offset.result b.bytes)) (sym c.index-low-block.is)) in
-    let count = ap length read ∙ length-map (places_of source) (byte_in before) ∙ length-span source.len source.block source.offset in
+    let count = ap length read ∙ length-map (places_of source) (byte_in before) ∙ length-span source.len source.block source.offset source.io in
     let old = c.index-high-0.is ∙ read-back l low high d _ seam halves.front_len in
     ap (with_blocks h) (set-back l low high d c.write.new.self seam halves.front_len)
-    ∙ stored_at before before dest c.bytes-bytes.result.now c.index-high-0.result c.write.new.self d _ c.block-then-block.ensures c.block_offset-then-block.ensures refl c.requires.dest (omega arith) c.write.ensures.fits old (rw (sym c.index-high-0.is) at c.write.ensures.stored) (rw (sym c.index-high-0.is) at c.write.ensures.marked)
-    ∙ ap (λ (xs : List ℕ). put_all before (zip (places_of dest) xs)) read
+    ∙ stored_at before before dest c.bytes-bytes.result.now c.index-high-0.result c.write.new.self d _ _ c.block-then-block.ensures c.block_offset-then-block.ensures c.marks_its_block.ensures refl old (rw (sym c.index-high-0.is) at c.write.ensures.stored) (rw (sym c.index-high-0.is) at c.write.ensures.marked)
+    ∙ ap (put_in_block before dest) read
 
 pub bytes-bytes-requires-else-block : goal.bytes-bytes-requires-else-block
 bytes-bytes-requires-else-block g c =
@@ -94,8 +94,8 @@ returns-else-block g c h =
     let seam = seam_of l low high d halves.front halves.back in
     let at = c.index-high-0-else-block.is ∙ read-back l low high d _ seam halves.front_len in
     let read = loaded_at before before source c.index-high-0-else-block.result c.bytes-bytes-else-block.result.now _ _ _ c.block-else-block.ensures c.block_offset-else-block.ensures c.len-else-block.ensures.len refl c.requires.source at (c.bytes-bytes-else-block.ensures ∙ ap (λ (b : Block). take c.len-else-block.result (drop c.block_offset-else-block.result b.bytes)) (sym c.index-high-0-else-block.is)) in
-    let count = ap length read ∙ length-map (places_of source) (byte_in before) ∙ length-span source.len source.block source.offset in
+    let count = ap length read ∙ length-map (places_of source) (byte_in before) ∙ length-span source.len source.block source.offset source.io in
     let old = c.index-low-block-else-block.is ∙ read-front l low high i _ seam (omega arith) in
     ap (with_blocks h) (set-front l low high i c.write-else-block.new.self seam (omega arith))
-    ∙ stored_at before before dest c.bytes-bytes-else-block.result.now c.index-low-block-else-block.result c.write-else-block.new.self i _ c.block-else-block-2.ensures c.block_offset-else-block-2.ensures refl c.requires.dest (omega arith) c.write-else-block.ensures.fits old (rw (sym c.index-low-block-else-block.is) at c.write-else-block.ensures.stored) (rw (sym c.index-low-block-else-block.is) at c.write-else-block.ensures.marked)
-    ∙ ap (λ (xs : List ℕ). put_all before (zip (places_of dest) xs)) read
+    ∙ stored_at before before dest c.bytes-bytes-else-block.result.now c.index-low-block-else-block.result c.write-else-block.new.self i _ _ c.block-else-block-2.ensures c.block_offset-else-block-2.ensures c.marks_its_block-else-block.ensures refl old (rw (sym c.index-low-block-else-block.is) at c.write-else-block.ensures.stored) (rw (sym c.index-low-block-else-block.is) at c.write-else-block.ensures.marked)
+    ∙ ap (put_in_block before dest) read

@@ -7,13 +7,13 @@ use Rattle.fs_device.proofs.device.Device.process_queue.Goals as goal
 pub returns-in-Ok-None-clause-run : goal.returns-in-Ok-None-clause-run
 returns-in-Ok-None-clause-run g c = (
   Prim.search rules,
-  rw c.ended.ensures (ends_idle g.F.FileSystem.may _ _ _ c.args.queue c.args.most _ _ _ c.loop.invariant.run (omega arith) (rw c.in-Ok-None.field-0-is at c.in-Ok-None.ensures.step.1)),
+  rw c.ended.ensures (ends_idle g.F.FileSystemBase.may _ _ _ c.args.queue c.args.most _ _ _ c.loop.invariant.run (omega arith) (rw c.in-Ok-None.field-0-is at c.in-Ok-None.ensures.step.1)),
 )
 
 pub returns-in-Err-clause-run : goal.returns-in-Err-clause-run
 returns-in-Err-clause-run g c = (
   Prim.search rules,
-  rw c.refused.ensures (ends_refused g.F.FileSystem.may _ _ _ c.args.queue c.args.most _ _ _ _ c.loop.invariant.run (omega arith) c.in-Err.ensures.step.1),
+  rw c.refused.ensures (ends_refused g.F.FileSystemBase.may _ _ _ c.args.queue c.args.most _ _ _ _ c.loop.invariant.run (omega arith) c.in-Err.ensures.step.1),
 )
 
 pub loop-preserved : goal.loop-preserved
@@ -26,11 +26,11 @@ loop-preserved g c =
       most = omega arith;
       room = Prim.search rules;
       kept = Prim.search rules;
-      run = rw turns (goes_on g.F.FileSystem.may _ _ _ c.args.queue c.args.most _ _ (map turn_of c.loop.done.items) (turn_of c.in-Ok-Some.exchanged) _ c.loop.invariant.run (omega (arith, c.loop-test.true)) (rw c.in-Ok-Some.field-0-is at c.in-Ok-Some.ensures.step.1));
+      run = rw turns (goes_on g.F.FileSystemBase.may _ _ _ c.args.queue c.args.most _ _ (map turn_of c.loop.done.items) (turn_of c.in-Ok-Some.exchanged) _ c.loop.invariant.run (omega (arith, c.loop-test.true)) (rw c.in-Ok-Some.field-0-is at c.in-Ok-Some.ensures.step.1));
     }
 
 pub returns-clause-run : goal.returns-clause-run
 returns-clause-run g c = (
   Prim.search rules,
-  rw c.ended-2.ensures (ends_full g.F.FileSystem.may _ _ c.args.queue c.args.most _ _ c.loop.invariant.run (omega arith)),
+  rw c.ended-2.ensures (ends_full g.F.FileSystemBase.may _ _ c.args.queue c.args.most _ _ c.loop.invariant.run (omega arith)),
 )

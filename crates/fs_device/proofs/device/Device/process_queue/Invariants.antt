@@ -14,6 +14,6 @@ invariant-loop g l = record {
   room : l.most ≤ vec_capacity l.done;
   kept : shape l.host ≡ shape l.initial.host;
   run : (rest : List (Exchange × Bool)) (refused : Option DeviceError) (after : State _) →
-      KickRun g.F.FileSystem.may (state_of l.host l.mem l.self) l.queue (l.most - l.counter) rest refused after →
-      KickRun g.F.FileSystem.may (state_of l.initial.host l.mem l.initial.self) l.queue l.most (map turn_of l.done.items ++ rest) refused after;
+      KickRun g.F.FileSystemBase.may (state_of l.host l.mem l.self) l.queue (l.most - l.counter) rest refused after →
+      KickRun g.F.FileSystemBase.may (state_of l.initial.host l.mem l.initial.self) l.queue l.most (map turn_of l.done.items ++ rest) refused after;
 }

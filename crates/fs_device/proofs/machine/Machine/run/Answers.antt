@@ -22,7 +22,7 @@ loop-command-preserved g c =
           );
       count = rw pushed (count_more at.yielded at.answers.items x c.perform-answer.result at.invariant.count);
       room = Prim.search rules;
-      run = rw pushed (run_more g.F.FileSystem.may command_of answer_of _ _ _ at.yielded at.answers.items x c.perform-answer.result at.invariant.count at.invariant.run c.perform-answer.ensures);
+      run = rw pushed (run_more g.F.FileSystemBase.may command_of answer_of _ _ _ at.yielded at.answers.items x c.perform-answer.result at.invariant.count at.invariant.run c.perform-answer.ensures);
     }
 
 pub returns-clause-run : goal.returns-clause-run
@@ -31,4 +31,4 @@ returns-clause-run g c =
     let none = c.in-None.ensures.steps in
     let empty : into_iter_items at.command-iterator ≡ [] = nothing_left _ (sym at.invariant.left ∙ none.0) in
     let all = sym (append-nil at.yielded) ∙ rw empty at at.invariant.all ∙ c.into_iter-command-iterator.ensures.into_iter_gives.0 in
-    rw (← all) (run_ends g.F.FileSystem.may _ _ _ at.invariant.run)
+    rw (← all) (run_ends g.F.FileSystemBase.may _ _ _ at.invariant.run)

@@ -14,6 +14,6 @@ invariant-loop-command g l = record {
   left : into_iter_len l.command-iterator ≡ length (into_iter_items l.command-iterator);
   count : length l.answers.items ≡ length l.yielded;
   room : length (into_iter_items l.initial.command-iterator) ≤ vec_capacity l.answers;
-  run : (events : List (Command × Answer)) (after : State _) → Run g.F.FileSystem.may (machine_of l.self) events after →
-      Run g.F.FileSystem.may (machine_of l.initial.self) (zip (map command_of l.yielded) (map answer_of l.answers.items) ++ events) after;
+  run : (events : List (Command × Answer)) (after : State _) → Run g.F.FileSystemBase.may (machine_of l.self) events after →
+      Run g.F.FileSystemBase.may (machine_of l.initial.self) (zip (map command_of l.yielded) (map answer_of l.answers.items) ++ events) after;
 }

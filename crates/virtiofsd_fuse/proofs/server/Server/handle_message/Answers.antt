@@ -9,8 +9,9 @@ returns-in-Ok-clause-handles g c =
     rw (meaning_head c.args.self.now.options.0 c.args.w.now.free c.args.r.left _ _ c.in-Ok.ensures.reads) c.serve.ensures.handles
 
 pub returns-in-Ok-clause-fits : goal.returns-in-Ok-clause-fits
-returns-in-Ok-clause-fits g c = handles_fits g.F.FileSystem.may _ _ _ _ _ _ _ c.serve.ensures.handles
+returns-in-Ok-clause-fits g c = handles_fits g.F.FileSystemBase.may _ _ _ _ _ _ _ c.serve.ensures.handles
 
 pub returns-clause-handles : goal.returns-clause-handles
 returns-clause-handles g c =
-    rw c.in-Err.ensures.fault (handles_fault g.F.FileSystem.may (setting c.args.self.now.page_size c.args.self.now.options.0 c.args.w.now.free) _ _ _ _ (meaning_fault _ _ _ _ c.in-Err.ensures.reads) refl)
+    rw c.in-Err.ensures.fault (handles_fault g.F.FileSystemBase.may (setting c.args.self.now.page_size c.args.self.now.options.0 c.args.w.now.free) _ _ _ _
+    (meaning_fault _ _ _ _ c.in-Err.ensures.reads) refl)

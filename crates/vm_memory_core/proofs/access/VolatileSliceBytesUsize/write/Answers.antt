@@ -8,7 +8,7 @@ use Rattle.vm_memory_core.proofs.access.VolatileSliceBytesUsize.write.Goals as g
 pub returns-in-Ok-clause-written : goal.returns-in-Ok-clause-written
 returns-in-Ok-clause-written g c =
     let w = c.in-Ok.window in
-    let n = length-span w.len w.block w.offset in
+    let n = length-span w.len w.block w.offset w.io in
     record {
       places = Ok (places_of w);
       may = ap places_in c.in-Ok.ensures.window;

@@ -1,0 +1,78 @@
+-- entries of a table whose bytes are at hand
+use Rattle.std.proofs.Common.{◌≡◌, ℕ, Bool, true, false, ◌+◌, ◌*◌, ◌-◌, ◌^◌, ◌<◌, ◌≤◌, List, ◌++◌, map, take, drop, Option, Some, None, Result, Ok, refl, ap, sym, subst, ◌∙◌, arith}
+use Rattle.std.specs.Prelude.{◌&&◌, is_some, if◌then◌else◌, length, nat_lt}
+use Rattle.std.specs.List.{list_all}
+use Rattle.std.proofs.lemmas.Bool.Decides.{nat_tests}
+use Rattle.std.proofs.lemmas.List.{take_all}
+use Rattle.vm_values.specs.Fields.{AllFit, spelled}
+use Rattle.vm_iotlb.specs.declared.permissions.Permissions.TheVariants.{Read}
+use Rattle.vm_memory.specs.Memory.{Memory, addresses, circular, located, location, reach, bytes}
+use Rattle.vm_memory_core.specs.Host.{Place}
+use Rattle.vm_memory_core.specs.Window.{Window, byte_in, places_of}
+use Rattle.vm_memory.specs.Slices.{Slices, Gives}
+use Rattle.vm_memory.specs.declared.error.GuestMemoryError.{GuestMemoryError}
+use Rattle.vm_memory.proofs.Places.{addresses-append, bytes-located, circular-is, length-circular}
+use Rattle.fs_queue.specs.declared.descriptor.Descriptor.{Descriptor}
+use Rattle.fs_queue.specs.Records.{descriptor}
+use Rattle.fs_queue.specs.Chain.{descriptor_at}
+use Rattle.fs_queue.proofs.ReadLemmas.{decoded, front_bytes, back_bytes, length-bytes}
+use Rattle.fs_queue.proofs.TakeLemmas.{list_all-append, list_all-located}
+
+both : (a b : Bool) → (a && b) ≡ true → (a ≡ true) × (b ≡ true)
+both true true h = (refl, refl)
+both true false h = (refl, h)
+both false b h = absurd (cc)
+
+below : (n : ℕ) → n < 2 ^ 64 → nat_lt n (2 ^ 64) ≡ true
+below n h = grind (arith, nat_tests)
+
+-- a part of a range that is reached is reached
+part_reached : (m : Memory) (a i n k : ℕ) → a + (i + (n + k)) < 2 ^ 64 → reach m Read a (i + (n + k)) ≡ true → reach m Read (a + i) n ≡ true
+part_reached m a i n k fits h =
+    let p : ℕ → Bool = λ x. is_some (location m Read x) in
+    let all = both (nat_lt (a + (i + (n + k))) (2 ^ 64)) (list_all p (addresses a (i + (n + k)))) h in
+    let cut : addresses a (i + (n + k)) ≡ addresses a i ++ (addresses (a + i) n ++ addresses (a + i + n) k) =
+    addresses-append i (n + k) a ∙ ap (λ (l : List ℕ). addresses a i ++ l) (addresses-append n k (a + i)) in
+    let back = both (list_all p (addresses a i)) (list_all p (addresses (a + i) n ++ addresses (a + i + n) k)) (list_all-append (addresses a i) (addresses (a + i) n ++ addresses (a + i + n) k) (location m Read) ∙ rw cut at all.1) in
+    let front = both (list_all p (addresses (a + i) n)) (list_all p (addresses (a + i + n) k)) (list_all-append (addresses (a + i) n) (addresses (a + i + n) k) (location m Read) ∙ back.1) in
+    rw (below (a + i + n) (omega (arith, fits)), front.0) refl
+
+entry_of : (m : Memory) (a i k : ℕ) (bs : List ℕ) (d : Descriptor) → a + (i + (16 + k)) < 2 ^ 64 → bs ≡ bytes m a (i + (16 + k)) →
+    reach m Read a (i + (16 + k)) ≡ true → take 16 (drop i bs) ≡ spelled (descriptor d) → AllFit (descriptor d) →
+    Some d ≡ (if reach m Read (a + i) 16 then Some (descriptor_at m (a + i)) else None)
+entry_of m a i k bs d ends is found read fits =
+    let here : take 16 (drop i bs) ≡ bytes m (a + i) 16 = ap (λ (l : List ℕ). take 16 (drop i l)) is ∙ ap (take 16) (back_bytes m a i (16 + k)) ∙ front_bytes m (a + i) 16 k in
+    rw (part_reached m a i 16 k ends found) (ap Some (decoded m (a + i) d (sym read ∙ here) fits))
+
+-- an entry of a table, by the table's bytes
+pub entry_in_table : (m : Memory) (a n i : ℕ) (bs : List ℕ) (d : Descriptor) → a + 16 * n < 2 ^ 64 → i < n → bs ≡ bytes m a (16 * n) →
+    reach m Read a (16 * n) ≡ true → take 16 (drop (16 * i) bs) ≡ spelled (descriptor d) → AllFit (descriptor d) →
+    Some d ≡ (if reach m Read (a + 16 * i) 16 then Some (descriptor_at m (a + 16 * i)) else None)
+entry_in_table m a n i bs d ends inside is found read fits =
+    let k = 16 * n - 16 * i - 16 in
+    let cut : 16 * n ≡ 16 * i + (16 + k) = omega (arith, inside) in
+    entry_of m a (16 * i) k bs d (rw cut at ends) (rw cut at is) (rw cut at found) read fits
+
+-- an entry lies in the bytes of its table
+pub entry_inside : (m : Memory) (a n i : ℕ) (bs : List ℕ) → i < n → bs ≡ bytes m a (16 * n) → 16 * i + 16 ≤ length bs
+entry_inside m a n i bs inside is =
+    let all : length bs ≡ 16 * n = ap length is ∙ length-bytes m a (16 * n) in
+    omega (arith, inside, all)
+
+-- the bytes of a window of all of a range
+pub whole_window : (m : Memory) (a n len : ℕ) (ps : List Place) (bs : List ℕ) → a + n < 2 ^ 64 → len ≡ n →
+    located (location m Read) (take len (circular a n)) ≡ Some ps → bs ≡ map (byte_in m.host) ps →
+    (bs ≡ bytes m a n) × (reach m Read a n ≡ true)
+whole_window m a n len ps bs fits same at is =
+    let front : take len (circular a n) ≡ addresses a n = take_all len (circular a n) (omega (arith, length-circular n a, same)) ∙ circular-is n a fits in
+    let there : located (location m Read) (addresses a n) ≡ Some ps = rw front at at in (
+      is ∙ sym (bytes-located (addresses a n) m ps there),
+      rw (below (a + n) fits) (list_all-located (addresses a n) (location m Read) ∙ ap is_some there),
+    )
+
+-- a first window has the places of the first addresses
+pub first_window : (s from t : Slices) (r : Option (Result Window GuestMemoryError)) (w : Window) → s ≡ from → r ≡ Some (Ok w) → Gives s r t →
+    located from.where_is (take w.len from.left) ≡ Some (places_of w)
+first_window s from t r w e f h =
+    let k : Gives from (Some (Ok w)) t = rw (e, f) at h in
+    k.2

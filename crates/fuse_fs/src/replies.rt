@@ -1,0 +1,79 @@
+//! Records of replies, of what a file system answers.
+
+ghost use Rattle.std.specs.Prelude.{◌≡◌, ◌<◌, ◌^◌, length, option_map};
+ghost use Rattle.fuse_fs.specs.Answers.{listed};
+ghost use Rattle.fuse_fs.specs.Replies.{attr_out_of, open_out_of, write_out_of, lseek_out_of, getxattr_out_of, dirent_of};
+
+use crate::answers::Timeout;
+use crate::directory::DirEntry;
+use crate::file_system::FileNumber;
+use bitflags::Flags;
+use fuse_base::{Attr, OpenOptions};
+use fuse_wire::{AttrOut, Dirent, GetxattrOut, LseekOut, OpenOut, WriteOut};
+
+/// Attributes that stay good for so long.
+pub fn attr_out(attr: Attr, timeout: Timeout) -> AttrOut
+    ensures { result ≡ attr_out_of attr timeout }
+{
+    AttrOut {
+        attr_valid: timeout.secs(),
+        attr_valid_nsec: timeout.nanos(),
+        dummy: 0,
+        attr,
+    }
+}
+
+/// An open file; the handle 0 where it has none.
+pub fn open_out<H: FileNumber>(handle: Option<H>, options: OpenOptions) -> OpenOut
+    ensures { result ≡ open_out_of (option_map H.number handle) options.0 }
+{
+    let fh = match handle {
+        Some(handle) => handle.as_number(),
+        None => 0,
+    };
+    OpenOut {
+        fh,
+        open_flags: options.bits(),
+        padding: 0,
+    }
+}
+
+/// How many bytes were written.
+pub fn write_out(count: u32) -> WriteOut
+    ensures { result ≡ write_out_of count }
+{
+    WriteOut {
+        size: count,
+        padding: 0,
+    }
+}
+
+/// A place in a file.
+pub fn lseek_out(offset: u64) -> LseekOut
+    ensures { result ≡ lseek_out_of offset }
+{
+    LseekOut { offset }
+}
+
+/// How many bytes a value or a list of names has.
+pub fn getxattr_out(count: u32) -> GetxattrOut
+    ensures { result ≡ getxattr_out_of count }
+{
+    GetxattrOut {
+        size: count,
+        padding: 0,
+    }
+}
+
+/// An entry of a directory, before its name. The name's length has 32 bits.
+pub fn dirent(entry: &DirEntry<'_>) -> Dirent
+    requires { length entry.now.name.now < 2 ^ 32 }
+    ensures { result ≡ dirent_of (listed entry.now) }
+{
+    Dirent {
+        ino: entry.ino,
+        off: entry.offset,
+        namelen: entry.name.len() as u32,
+        type_: entry.type_,
+    }
+}

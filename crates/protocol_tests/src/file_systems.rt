@@ -1,0 +1,103 @@
+//! What a file system has without bodies of its own, and the values that come with its calls.
+
+use crate::given::expect_same;
+use crate::log::Log;
+use crate::recorder::Recorder;
+use crate::toy::Told;
+use fuse_fs::{
+    Context, DirectoryIterator, Extensions, FileSystem, NoEntries, SecContext,
+    SerializableFileSystem,
+};
+use fuse_wire::{Errno, GuestGid, GuestUid, StatVfs};
+use std::alloc::Global;
+use std::cell::Cell;
+use std::io::ErrorKind;
+use std::process::Abort;
+use std::sync::atomic::AtomicBool;
+
+impl SerializableFileSystem for Recorder<'_> {}
+
+// Without bodies of its own its state can't be carried over.
+#[test]
+fn cannot_be_carried_over(rt: HostRuntime) {
+    let told = Cell::new(Told::Default);
+    let mut files = Recorder {
+        log: Log::new(rt.alloc(), &told),
+    };
+    files.prepare_serialization(&AtomicBool::new(false));
+    let mut out = Vec::new(rt.alloc());
+    let written = files.serialize(&mut out).map_err(|e| e.kind());
+    expect_same(&rt, written, Err(ErrorKind::Unsupported));
+    let read = files.deserialize_and_apply(&mut b"".as_slice());
+    let read = read.map_err(|e| e.kind());
+    expect_same(&rt, read, Err(ErrorKind::Unsupported));
+}
+
+const ROOT: Context = Context {
+    uid: GuestUid(0),
+    gid: GuestGid(0),
+    pid: 1,
+};
+
+// A list of nodes is forgotten node by node.
+#[test]
+fn forgets_each_node(rt: HostRuntime) {
+    let told = Cell::new(Told::Default);
+    let mut files = Recorder {
+        log: Log::new(rt.alloc(), &told),
+    };
+    let mut nodes = Vec::new(rt.alloc());
+    nodes.push((5, 1)).expect(&rt, "memory");
+    nodes.push((6, 3)).expect(&rt, "memory");
+    files.batch_forget(ROOT, nodes);
+    let calls = b"\nforget 0 0 1 5 1\nforget 0 0 1 6 3".as_slice();
+    expect_same(&rt, files.log.lines.as_slice(), calls);
+}
+
+// The calls with a default of their own, and some without.
+#[test]
+fn answers_by_default(rt: HostRuntime) {
+    let told = Cell::new(Told::Default);
+    let mut files = Recorder {
+        log: Log::new(rt.alloc(), &told),
+    };
+    let stats = StatVfs {
+        f_namemax: 255,
+        f_bsize: 512,
+        ..StatVfs::default()
+    };
+    expect_same(&rt, files.statfs(ROOT, 1), Ok(stats));
+    expect_same(&rt, files.lseek(ROOT, 1, 2, 3, 0), Err(Errno::ENOSYS));
+    expect_same(&rt, files.access(ROOT, 1, 4), Err(Errno::ENOSYS));
+    expect_same(&rt, files.tmpfile(), Errno::ENOSYS);
+    expect_same(&rt, NoEntries.next().is_none(), true);
+}
+
+fn label_of(rt: &impl Abort, alloc: Global) -> SecContext {
+    let mut label = SecContext::empty(alloc);
+    label
+        .name
+        .extend_from_slice(b"security.selinux")
+        .expect(rt, "memory");
+    label
+        .secctx
+        .extend_from_slice(b"label")
+        .expect(rt, "memory");
+    label
+}
+
+// A clone has the same parts; nothing is the default.
+#[test]
+fn clones_extensions(rt: HostRuntime) {
+    let ext = Extensions {
+        secctx: Some(label_of(&rt, rt.alloc())),
+        sup_gid: Some(GuestGid(7)),
+    };
+    let copy = ext.try_clone(rt.alloc()).expect(&rt, "memory");
+    expect_same(&rt, copy.sup_gid, Some(GuestGid(7)));
+    let label = copy.secctx.expect(&rt, "a label");
+    expect_same(&rt, label.name.as_slice(), b"security.selinux".as_slice());
+    expect_same(&rt, label.secctx.as_slice(), b"label".as_slice());
+    let none = Extensions::default();
+    expect_same(&rt, (none.secctx.is_none(), none.sup_gid), (true, None));
+}

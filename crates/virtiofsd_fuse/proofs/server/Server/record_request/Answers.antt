@@ -1,0 +1,21 @@
+use Rattle.std.proofs.Common.{sym, ap}
+use Rattle.virtiofsd_fuse.specs.Reading.{value_of}
+use Rattle.virtiofsd_fuse.specs.Serving.{setting}
+use Rattle.virtiofsd_fuse.specs.Grammar.{given, one}
+use Rattle.virtiofsd_fuse.proofs.Serve.{handles_one, handles_refusal, ended_fault}
+use Rattle.virtiofsd_fuse.proofs.Rows.{record_asks}
+use Rattle.virtiofsd_fuse.proofs.server.Server.record_request.Goals as goal
+
+pub returns-in-Ok-clause-handles : goal.returns-in-Ok-clause-handles
+returns-in-Ok-clause-handles g c =
+    let h = given c.args.head.now c.args.self.now.options.0 c.args.w.now.free in
+    handles_one g.F.FileSystemBase.may _ _ _ _ _ _ _ _ _ _
+    (record_asks h g.R.Record.InRecord.shape g.R.RecordRequest.call _ _ _ c.in-Ok.ensures.reads)
+    c.ask-answer.ensures.suits c.ask-answer.ensures.may (sym (c.ask-answer.ensures.options _))
+    (rw c.ask-answer.ensures.silent c.reply_answer.ensures.sent)
+
+pub returns-in-Err-clause-handles : goal.returns-in-Err-clause-handles
+returns-in-Err-clause-handles g c =
+    let h = given c.args.head.now c.args.self.now.options.0 c.args.w.now.free in
+    handles_refusal g.F.FileSystemBase.may (setting c.args.self.now.page_size c.args.self.now.options.0 c.args.w.now.free) _ _ _ _
+    (λ other. ended_fault c.args.head.now.unique (λ x. one h (g.R.RecordRequest.call c.args.head.now x.0) x.1) _ _ (ap value_of c.in-Err.ensures.reads))

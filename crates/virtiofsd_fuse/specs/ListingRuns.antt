@@ -1,0 +1,33 @@
+-- Listings with the calls of the file system that come with them.
+use Rattle.std.specs.Prelude.{◌≡◌, ℕ, ◌-◌, List, ◌∷◌, ◌++◌, map, Option, Some, None, Result, Ok, Err}
+use Rattle.fuse_fs.specs.Calls.{FileCall, FileAnswer, FileRun, Listed}
+use Rattle.virtiofsd_fuse.specs.Listings.{Listing, list_entries, Fit, GoesIn, IsFull, IsWrong}
+use Rattle.virtiofsd_fuse.specs.Serving.{May}
+
+-- what comes of one entry: what is left of the size after it, or the end of the list, by an error if there is one
+abbrev pub Outcome : Type 0
+Outcome = Result ℕ (Option ℕ)
+
+-- the outcome of an entry of this length
+abbrev pub outcome_of : Fit → (left len : ℕ) → Outcome
+outcome_of GoesIn left len = Ok (left - len)
+outcome_of IsFull left len = Err None
+outcome_of (IsWrong errno) left len = Err (Some errno)
+
+-- from one state of the file system to another, entries are listed behind what was written; error: what ended the list, if
+-- an error did
+pub record ListRun {F : Type 0} (may : May F) (l : Listing) (ds : List Listed) (left room : ℕ) (before : F)
+    (written final : List ℕ) (error : Option ℕ) (after : F) : Type 0 where
+  pub steps : List (FileCall × FileAnswer)
+  pub run : FileRun may before steps after
+  pub bytes : List ℕ
+  pub gives : list_entries l ds left room (map (λ step. step.1) steps) ≡ record { calls = map (λ step. step.0) steps; bytes = bytes; error = error }
+  pub all : final ≡ written ++ bytes
+
+-- one entry is listed, whatever entries come after it: they go on from there, or the list ends with it
+abbrev pub EntryRun : {F : Type 0} → May F → Listing → Listed → (left room : ℕ) → F → List ℕ → Outcome → (room : ℕ) → F → List ℕ → Type 0
+EntryRun {F} may l d left room before written (Ok left_after) room_after after written_after =
+    (ds : List Listed) (final : List ℕ) (error : Option ℕ) (end : F)
+    → ListRun may l ds left_after room_after after written_after final error end → ListRun may l (d ∷ ds) left room before written final error end
+EntryRun may l d left room before written (Err error) room_after after written_after =
+    (ds : List Listed) → ListRun may l (d ∷ ds) left room before written written_after error after

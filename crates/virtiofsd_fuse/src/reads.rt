@@ -1,0 +1,132 @@
+//! READ: bytes of a file go straight into the reply.
+
+ghost use Rattle.std.specs.Prelude.{◌≡◌, ℕ, ◌+◌, ◌<◌, ◌≤◌, ◌^◌, List, [], ◌++◌, length, drop, IfOk, IfErr};
+ghost use Rattle.std.specs.Result.{ForOk};
+ghost use Rattle.fuse_fs.specs.Answers.{data_answer};
+ghost use Rattle.virtiofsd_fuse.specs.Grammar.{read_row, read_asked};
+ghost use Rattle.virtiofsd_fuse.specs.Requests.{read_call, if_set};
+ghost use Rattle.vm_values.specs.Bits.{has_bit};
+ghost use Rattle.virtiofsd_fuse.specs.Serving.{RowHandles, data_reply};
+
+use crate::answers::received;
+use crate::records::read_record;
+use crate::replies::{OUT_HEADER_LEN, append, error_reply, header_bytes};
+use crate::server::Server;
+use fuse_fs::{Context, FileNumber, FileSystem};
+use fuse_in::{InHeader, ReadIn};
+use fuse_segments::{Error, Reader, Writer, ZcWriter};
+use fuse_wire::Errno;
+use fuse_wire::constants::READ_LOCKOWNER;
+use std::alloc::Global;
+use std::mem;
+
+// Who holds the lock, where the flags say that it is told.
+fn owner_of(request: &ReadIn) -> Option<u64>
+    ensures { result ≡ if_set (has_bit request.now.read_flags 1) request.now.lock_owner }
+{
+    if request.read_flags & READ_LOCKOWNER == 0 {
+        None
+    } else {
+        Some(request.lock_owner)
+    }
+}
+
+/// Puts a header before the bytes that stand behind its place, or an error in place of all of it.
+pub(crate) fn reply_data(w: &mut Writer, unique: u64, answer: Result<usize, Errno>) -> usize
+    requires behind { 16 ≤ length w.old.written }
+    requires count { ForOk answer (λ n. 16 + n ≡ length w.old.written) }
+    requires small { length w.old.written < 2 ^ 32 }
+    ensures reply { w.new.written ≡ data_reply unique answer (drop 16 w.old.written) }
+    ensures length { result ≡ length w.new.written }
+{
+    match answer {
+        Ok(n) => {
+            let len = OUT_HEADER_LEN + n;
+            w.put_front(&header_bytes(len as u32, 0, unique));
+            len
+        }
+        Err(error) => {
+            w.clear();
+            append(w, &error_reply(unique, error));
+            OUT_HEADER_LEN
+        }
+    }
+}
+
+impl<F: FileSystem> Server<F> {
+    // Asks for bytes of a file.
+    fn ask_read(
+        &mut self,
+        head: &InHeader,
+        request: &ReadIn,
+        into: &mut ZcWriter,
+    ) -> Result<usize, Errno>
+        ensures read { (bytes : List ℕ) × (into.new.writer.written ≡ into.old.writer.written ++ bytes)
+            × (into.old.writer.free ≡ into.new.writer.free + length bytes) × IfOk result (λ n. n ≡ length bytes)
+            × F.may self.old.fs (read_call head.now into.old.writer.free request.now) (data_answer result bytes) self.new.fs }
+        ensures errno { IfErr result (λ e. (0 < e) × (e < 4096)) }
+        ensures options { self.new.options ≡ self.old.options }
+        ensures page_size { self.new.page_size ≡ self.old.page_size }
+    {
+        received(
+            self.fs.read(
+                Context::from(*head),
+                F::Inode::numbered(head.nodeid),
+                F::Handle::numbered(request.fh),
+                into,
+                request.size,
+                request.offset,
+                owner_of(request),
+                request.flags,
+            ),
+        )
+    }
+
+    // READ, by its record: the data goes behind the header's place in the reply.
+    fn read_data(
+        &mut self,
+        alloc: Global,
+        head: &InHeader,
+        request: &ReadIn,
+        w: &mut Writer,
+    ) -> Result<usize, Error>
+        requires fresh { w.old.written ≡ [] }
+        requires room { w.old.free < 2 ^ 32 }
+        ensures handles { (more : List ℕ) → RowHandles F.may self.old w.old.free head.now (λ g. read_asked g request.now) more result w.new.written self.new }
+        ensures length { IfOk result (λ n. n ≡ length w.new.written) }
+        ensures page_size { self.new.page_size ≡ self.old.page_size }
+    {
+        let room = w.available_bytes();
+        if room < OUT_HEADER_LEN {
+            return Err(Error::EncodeMessage);
+        }
+        let none = Writer::of_length(alloc, 0)?;
+        append(w, &[0; OUT_HEADER_LEN]);
+        let writer = mem::replace(w, none);
+        let mut data = ZcWriter { writer };
+        let answer = self.ask_read(head, request, &mut data);
+        let ZcWriter { writer } = data;
+        *w = writer;
+        Ok(reply_data(w, head.unique, answer))
+    }
+
+    /// READ: bytes of a file.
+    pub(crate) fn read(
+        &mut self,
+        alloc: Global,
+        head: &InHeader,
+        r: &mut Reader<'_>,
+        w: &mut Writer,
+    ) -> Result<usize, Error>
+        requires fresh { w.old.written ≡ [] }
+        requires room { w.old.free < 2 ^ 32 }
+        ensures handles { RowHandles F.may self.old w.old.free head.now read_row r.old.left result w.new.written self.new }
+        ensures length { IfOk result (λ n. n ≡ length w.new.written) }
+        ensures page_size { self.new.page_size ≡ self.old.page_size }
+    {
+        match read_record(r) {
+            Ok(request) => self.read_data(alloc, head, &request, w),
+            Err(error) => Err(error),
+        }
+    }
+}

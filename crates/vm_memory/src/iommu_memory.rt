@@ -1,0 +1,260 @@
+//! Guest memory behind an IOMMU (vm-memory's `IommuMemory`).
+
+ghost use Rattle.std.specs.Prelude.{◌≡◌, ◌<◌, ◌↔◌, IfOk, IsTrue, length, refl};
+ghost use Rattle.vm_memory.specs.Layout.{IsLayout};
+ghost use Rattle.vm_memory.specs.Memory.{memory_behind};
+ghost use Rattle.vm_memory.specs.Translated.{HoldsBehind, holds-same, left_behind, left-off};
+
+use crate::backend::GuestMemoryBackend;
+use crate::collection::GuestRegionCollection;
+use crate::error::GuestMemoryError;
+use crate::io_ranges::{io_reached, push_io, read_io};
+use crate::iommu::Iommu;
+use crate::iommu_slices::IommuMemorySliceIterator;
+use crate::memory::{GuestMemory, GuestMemorySlices};
+use crate::region::GuestMemoryRegion;
+use crate::slice_iterator::GuestMemoryBackendSliceIterator;
+use std::alloc::{AllocError, Global};
+use vm_memory_core::{
+    GuestAddress, HeldIn, HostMemory, IommuError, NewBitmap, Permissions, Windows,
+};
+
+/// A backend behind an IOMMU, which a device uses by I/O addresses while the IOMMU is on, and by physical ones while it is
+/// off (vm-memory's `IommuMemory`).
+#[derive(Drop)]
+pub struct IommuMemory<M: GuestMemoryBackend + Drop, I: Iommu + Drop> {
+    alloc: Global,
+    backend: M,
+    iommu: I,
+    use_iommu: bool,
+    io_bitmap: usize,
+}
+
+impl<M: GuestMemoryBackend + Drop, I: Iommu + Drop> IommuMemory<M, I> {
+    /// A backend behind an IOMMU that is on or off, and the number of the set of I/O pages that writes mark while it is on.
+    pub fn new(
+        alloc: Global,
+        backend: M,
+        iommu: I,
+        use_iommu: bool,
+        io_bitmap: usize,
+    ) -> IommuMemory<M, I>
+        ensures backend { result.backend ≡ backend }
+        ensures iommu { result.iommu ≡ iommu }
+        ensures enabled { result.use_iommu ≡ use_iommu }
+        ensures io_bitmap { result.io_bitmap ≡ io_bitmap }
+    {
+        IommuMemory {
+            alloc,
+            backend,
+            iommu,
+            use_iommu,
+            io_bitmap,
+        }
+    }
+
+    /// The number of the set of I/O pages that writes mark while the IOMMU is on.
+    pub fn bitmap(&self) -> usize
+        ensures { result ≡ self.now.io_bitmap }
+    {
+        self.io_bitmap
+    }
+
+    /// Turns the IOMMU on or off.
+    pub fn set_iommu_enabled(&mut self, enabled: bool)
+        ensures { self.new ≡ record self.old { use_iommu = enabled } }
+    {
+        self.use_iommu = enabled;
+    }
+
+    /// Whether the IOMMU is on.
+    pub fn get_iommu_enabled(&self) -> bool
+        ensures { result ≡ self.now.use_iommu }
+    {
+        self.use_iommu
+    }
+
+    /// The IOMMU.
+    pub fn iommu(&self) -> &I
+        ensures { result.now ≡ self.now.iommu }
+    {
+        &self.iommu
+    }
+
+    /// The memory by physical addresses, whether the IOMMU is on or off.
+    pub fn get_backend(&self) -> &M
+        ensures { result.now ≡ self.now.backend }
+    {
+        &self.backend
+    }
+}
+
+impl<M: GuestMemoryBackend + Drop, I: Iommu + Clone> IommuMemory<M, I> {
+    /// Another backend behind the same IOMMU, with the same set of I/O pages.
+    pub fn with_replaced_backend(&self, new_backend: M) -> Result<IommuMemory<M, I>, AllocError>
+        ensures backend { IfOk result (λ m. m.backend ≡ new_backend) }
+        ensures iommu { IfOk result (λ m. I.is_clone self.now.iommu m.iommu) }
+        ensures enabled { IfOk result (λ m. m.use_iommu ≡ self.now.use_iommu) }
+        ensures io_bitmap { IfOk result (λ m. m.io_bitmap ≡ self.now.io_bitmap) }
+    {
+        let iommu = self.iommu.clone()?;
+        Ok(IommuMemory {
+            alloc: self.alloc,
+            backend: new_backend,
+            iommu,
+            use_iommu: self.use_iommu,
+            io_bitmap: self.io_bitmap,
+        })
+    }
+}
+
+// Whether a host has a table of this number.
+fn has_table<B: NewBitmap>(h: &HostMemory<B>, number: usize) -> bool
+    ensures { IsTrue result ↔ (number < length h.now.tables) }
+{
+    match h.table(number) {
+        Some(_) => true,
+        None => false,
+    }
+}
+
+// Whether a host has a set of I/O pages of this number.
+fn has_io_bitmap<B: NewBitmap>(h: &HostMemory<B>, set: usize) -> bool
+    ensures { IsTrue result ↔ (set < length h.now.io_marks) }
+{
+    match h.io_bitmap(set) {
+        Some(_) => true,
+        None => false,
+    }
+}
+
+impl<R: GuestMemoryRegion, I: Iommu + Drop> HeldIn for IommuMemory<GuestRegionCollection<R>, I> {
+    ghost IsHeld = { λ m h. HoldsBehind h m.backend (I.number m.iommu) m.io_bitmap };
+
+    ghost IsSound = { λ m. IsLayout m.backend };
+
+    fn is_held<B: NewBitmap>(&self, h: &HostMemory<B>) -> bool {
+        let backend = self.backend.is_held(h);
+        let table = has_table(h, self.iommu.table());
+        let io_bitmap = has_io_bitmap(h, self.io_bitmap);
+        backend && table && io_bitmap
+    }
+}
+
+impl<R: GuestMemoryRegion, I: Iommu + Drop> GuestMemory
+    for IommuMemory<GuestRegionCollection<R>, I> {
+    type PhysicalMemory = GuestRegionCollection<R>;
+
+    ghost memory = { λ m h. memory_behind h m.backend (I.number m.iommu) m.io_bitmap m.use_iommu };
+
+    ghost longest = { λ m h access a. left_behind m.use_iommu h m.backend (I.number m.iommu) a };
+
+    ghost over = { λ m h g. refl };
+
+    ghost by_layout = { λ m h access a off. left-off m.use_iommu _ _ off };
+
+    ghost by_shape = { λ m h g same held. holds-same m.backend (I.number m.iommu) m.io_bitmap h g same held };
+
+    fn check_range<B: NewBitmap>(
+        &self,
+        alloc: Global,
+        h: &HostMemory<B>,
+        addr: GuestAddress,
+        count: usize,
+        access: Permissions,
+    ) -> Result<bool, AllocError> {
+        if !self.use_iommu {
+            return self.backend.check_range(alloc, h, addr, count, access);
+        }
+        let table = self.iommu.table();
+        let set = self.io_bitmap;
+        match self.iommu.translate(h, addr, count, access) {
+            Ok(_) => {
+                Ok(io_reached(&self.backend, h, table, set, access, addr.0, count) == count)
+            }
+            Err(IommuError::OutOfMemory) => Err(AllocError),
+            Err(_) => Ok(false),
+        }
+    }
+
+    fn get_slices<'a, B: NewBitmap>(
+        &'a self,
+        alloc: Global,
+        h: &'a HostMemory<B>,
+        addr: GuestAddress,
+        count: usize,
+        access: Permissions,
+    ) -> Result<GuestMemorySlices<'a, GuestRegionCollection<R>>, GuestMemoryError> {
+        let _ = alloc;
+        if !self.use_iommu {
+            let slices = GuestMemoryBackendSliceIterator::new(&self.backend, addr, count);
+            return Ok(GuestMemorySlices::Backend(slices));
+        }
+        let table = self.iommu.table();
+        let set = self.io_bitmap;
+        match self.iommu.translate(h, addr, count, access) {
+            Ok(_) => Ok(GuestMemorySlices::Iommu(IommuMemorySliceIterator::new(
+                &self.backend,
+                h,
+                table,
+                set,
+                access,
+                addr,
+                count,
+            ))),
+            Err(IommuError::OutOfMemory) => Err(GuestMemoryError::OutOfMemory),
+            Err(error) => Err(GuestMemoryError::IommuError(error)),
+        }
+    }
+
+    fn physical_memory(&self) -> Option<&GuestRegionCollection<R>> {
+        if self.use_iommu {
+            None
+        } else {
+            Some(&self.backend)
+        }
+    }
+
+    fn read_range<B: NewBitmap>(
+        &self,
+        alloc: Global,
+        h: &HostMemory<B>,
+        addr: GuestAddress,
+        buffer: &mut [u8],
+    ) -> Result<bool, AllocError> {
+        if !self.use_iommu {
+            return self.backend.read_range(alloc, h, addr, buffer);
+        }
+        let table = self.iommu.table();
+        let set = self.io_bitmap;
+        let asked = buffer.len();
+        match self.iommu.translate(h, addr, asked, Permissions::Read) {
+            Ok(_) => Ok(read_io(&self.backend, h, table, set, buffer, addr.0) == asked),
+            Err(IommuError::OutOfMemory) => Err(AllocError),
+            Err(_) => Ok(false),
+        }
+    }
+
+    fn push_windows<B: NewBitmap>(
+        &self,
+        alloc: Global,
+        h: &HostMemory<B>,
+        addr: GuestAddress,
+        count: usize,
+        access: Permissions,
+        windows: &mut Windows,
+    ) -> Result<bool, AllocError> {
+        if !self.use_iommu {
+            return self
+                .backend
+                .push_windows(alloc, h, addr, count, access, windows);
+        }
+        let table = self.iommu.table();
+        let set = self.io_bitmap;
+        match self.iommu.translate(h, addr, count, access) {
+            Ok(_) => push_io(&self.backend, h, table, set, access, addr.0, count, windows),
+            Err(IommuError::OutOfMemory) => Err(AllocError),
+            Err(_) => Ok(false),
+        }
+    }
+}

@@ -1,0 +1,125 @@
+//! Windows of a range of I/O addresses (vm-memory's `IommuMemorySliceIterator`).
+
+ghost use Rattle.std.specs.Prelude.{◌≡◌, ◌+◌, ◌<◌, ◌^◌, length, true};
+ghost use Rattle.std.specs.Iterator.{at_most};
+ghost use Rattle.vm_iotlb.specs.AddressRuns.{may_all};
+ghost use Rattle.vm_memory.specs.Memory.{circular, table_in};
+ghost use Rattle.vm_memory.specs.Slices.{Gives};
+ghost use Rattle.vm_memory.specs.Translated.{ranges_in, slices_translated};
+
+use crate::backend::GuestMemoryBackend;
+use crate::error::GuestMemoryError;
+use crate::slices::GuestMemorySliceIterator;
+use crate::translated::translated_window;
+use std::marker::Model;
+use vm_memory_core::{GuestAddress, HostMemory, Iotlb, NewBitmap, Permissions, VolatileSlice};
+
+/// The windows of I/O addresses that follow one another and are mapped throughout, up to the first that is mapped to an
+/// address without a place, whose error ends them (vm-memory's `IommuMemorySliceIterator`).
+#[derive(Drop)]
+pub struct IommuMemorySliceIterator<'a, M: GuestMemoryBackend> {
+    backend: &'a M,
+    table: Option<&'a Iotlb>,
+    set: usize,
+    access: Permissions,
+    addr: u64,
+    count: usize,
+}
+
+impl<'a, M: GuestMemoryBackend> Model for IommuMemorySliceIterator<'a, M> {
+    ghost use Rattle.std.specs.Prelude.{◌≡◌, ◌+◌, ◌<◌, ◌^◌, true};
+    ghost use Rattle.vm_iotlb.specs.AddressRuns.{may_all};
+    ghost use Rattle.vm_iotlb.specs.Ranges.{table_kept};
+    ghost use Rattle.vm_memory.specs.Memory.{circular};
+    ghost use Rattle.vm_memory.specs.Translated.{TranslatedSlices, ranges_of};
+
+    ghost Value = { TranslatedSlices };
+
+    ghost view = { λ i. record { layout = M.layout i.backend.now; ranges = ranges_of i.table; set = i.set; access = i.access; left = circular i.addr i.count } };
+
+    ghost invariant = { λ i. (i.addr + i.count < 2 ^ 64) × (may_all (table_kept (ranges_of i.table)) i.access i.addr i.count ≡ true) };
+}
+
+impl<'a, M: GuestMemoryBackend> IommuMemorySliceIterator<'a, M> {
+    // The windows of `count` addresses from one on, which a table of the host maps throughout; writes of them mark a set of
+    // I/O pages.
+    pub(crate) fn new<B: NewBitmap>(
+        backend: &'a M,
+        h: &'a HostMemory<B>,
+        table: usize,
+        set: usize,
+        access: Permissions,
+        addr: GuestAddress,
+        count: usize,
+    ) -> IommuMemorySliceIterator<'a, M>
+        requires ends { addr.0 + count < 2 ^ 64 }
+        requires mapped { may_all (table_in h.now table) access addr.0 count ≡ true }
+        ensures { result ≡ record { layout = M.layout backend.now; ranges = ranges_in h.now table; set = set; access = access; left = circular addr.0 count } }
+    {
+        IommuMemorySliceIterator {
+            backend,
+            table: h.table(table),
+            set,
+            access,
+            addr: addr.0,
+            count,
+        }
+    }
+}
+
+impl<'a, M: GuestMemoryBackend> Iterator for IommuMemorySliceIterator<'a, M> {
+    type Item = Result<VolatileSlice, GuestMemoryError>;
+
+    ghost next_gives = { λ s r t. Gives (slices_translated s) r (slices_translated t) };
+
+    ghost remaining = { λ s. at_most (length s.left) };
+
+    fn next(&mut self) -> Option<Result<VolatileSlice, GuestMemoryError>> {
+        if self.count == 0 {
+            return None;
+        }
+        let addr = self.addr;
+        let Some(table) = self.table else {
+            return None;
+        };
+        match translated_window(self.backend, table, self.set, self.access, addr, self.count) {
+            Some(window) => {
+                self.addr = addr + window.len() as u64;
+                self.count -= window.len();
+                Some(Ok(window))
+            }
+            None => {
+                self.count = 0;
+                Some(Err(GuestMemoryError::InvalidGuestAddress(GuestAddress(addr))))
+            }
+        }
+    }
+}
+
+impl<'a, M: GuestMemoryBackend> GuestMemorySliceIterator for IommuMemorySliceIterator<'a, M> {
+    ghost slices = { slices_translated };
+
+    ghost callable = { λ s. tt };
+
+    ghost by_address = { λ s r t gives. gives };
+
+    fn next_error(&self) -> Option<GuestMemoryError> {
+        if self.count == 0 {
+            return None;
+        }
+        let Some(table) = self.table else {
+            return None;
+        };
+        match translated_window(
+            self.backend,
+            table,
+            self.set,
+            self.access,
+            self.addr,
+            self.count,
+        ) {
+            Some(_) => None,
+            None => Some(GuestMemoryError::InvalidGuestAddress(GuestAddress(self.addr))),
+        }
+    }
+}
