@@ -9,14 +9,16 @@ use Rattle.fuse_fs.specs.Calls.{FileCall, FileAnswer, Listed, FileRun, suits, ki
 use Rattle.fuse_fs.specs.Calls as call
 use Rattle.fuse_segments.specs.declared.error.Error.{Error}
 use Rattle.fuse_segments.specs.declared.error.Error.TheVariants.{EncodeMessage}
+use Rattle.fuse_replies.specs.WholeReplies.{reply_bytes, error_bytes, listing_bytes}
+use Rattle.fuse_calls.specs.Requests.{options_after}
 use Rattle.fs_queue.specs.declared.fault.ChainFault.{ChainFault}
 use Rattle.fs_queue.specs.Queue.{Queue}
 use Rattle.fs_queue.specs.Taking.{Offer, Asks, CannotAsk, Refuses, Offers}
 use Rattle.fs_queue.specs.Taking as taking
-use Rattle.virtiofsd_fuse.specs.Grammar.{Meaning, IsFault, Replies, IsSilent, One, Starts, Lists, meaning, reply_bytes, error_bytes}
+use Rattle.virtiofsd_fuse.specs.Grammar.{Meaning, IsFault, Replies, IsSilent, One, Starts, Lists, meaning}
 use Rattle.virtiofsd_fuse.specs.Grammar as grammar
 use Rattle.virtiofsd_fuse.specs.Listings.{Listing, Went, list_entries, readdir_call}
-use Rattle.virtiofsd_fuse.specs.Serving.{May, Served, Setting, setting, served, replied, no_reply, answer_bytes, options_after, start_options, start_answered, listing_bytes, list_ended}
+use Rattle.virtiofsd_fuse.specs.Serving.{May, Served, Setting, setting, served, replied, no_reply, answer_bytes, start_options, start_answered, list_ended}
 use Rattle.virtiofsd_fuse.proofs.ReplyLemmas.{length_reply, length_error}
 use Rattle.fs_device.specs.declared.error.DeviceError.{DeviceError}
 use Rattle.fs_device.specs.declared.exchange.Fault.{Fault}

@@ -8,7 +8,8 @@ use Rattle.fuse_fs.specs.declared.answers.Context.{Context}
 use Rattle.fuse_fs.specs.declared.answers.Entry.{Entry}
 use Rattle.fuse_fs.specs.Calls.{FileCall, FileAnswer, Listed, suits}
 use Rattle.fuse_fs.specs.Calls as call
-use Rattle.virtiofsd_fuse.specs.Listings.{Listing, Went, Next, Fit, GoesIn, IsFull, IsWrong, fit_of, entry_len, entry_bytes, placed, nothing_more, no_node, undo_call, is_dot, with_entry, after_call, looked_up, list_entry, list_entries}
+use Rattle.fuse_replies.specs.Entries.{Fit, GoesIn, IsFull, IsWrong, fit_of, entry_len, entry_bytes, no_node, is_dot}
+use Rattle.virtiofsd_fuse.specs.Listings.{Listing, Went, Next, placed, nothing_more, undo_call, with_entry, after_call, looked_up, list_entry, list_entries}
 use Rattle.fs_device.specs.Step.{Calls}
 use Rattle.fs_device.specs.Books.{entry_count, forget_count, nodes_listed}
 use Rattle.fs_device.proofs.NodeLemmas.{goes_in_fits, length_entry, nodes_more}

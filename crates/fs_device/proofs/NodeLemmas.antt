@@ -14,8 +14,8 @@ use Rattle.fuse_fs.specs.declared.answers.Entry.{Entry}
 use Rattle.fuse_fs.specs.Answers.{entry_out_of}
 use Rattle.fuse_fs.specs.Replies.{dirent_of}
 use Rattle.fuse_fs.specs.Calls.{Listed}
-use Rattle.virtiofsd_fuse.specs.Grammar.{reply_bytes, error_bytes}
-use Rattle.virtiofsd_fuse.specs.Listings.{dirent_len, entry_len, dirent_bytes, node_bytes, entry_bytes, fit_of, Fit, GoesIn, IsFull, IsWrong, EIO, EOVERFLOW}
+use Rattle.fuse_replies.specs.WholeReplies.{reply_bytes, error_bytes}
+use Rattle.fuse_replies.specs.Entries.{dirent_len, entry_len, dirent_bytes, node_bytes, entry_bytes, fit_of, Fit, GoesIn, IsFull, IsWrong, EIO, EOVERFLOW}
 use Rattle.virtiofsd_fuse.proofs.ReplyLemmas.{length_header, length_reply, length_error}
 use Rattle.fs_device.specs.Books.{number_at, replies_entry, lists_nodes, first_node, name_len_of, nodes_listed, nodes_of, nodes_in}
 

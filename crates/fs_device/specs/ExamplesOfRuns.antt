@@ -11,9 +11,10 @@ use Rattle.fs_queue.specs.Taking.{offer}
 use Rattle.fs_queue.specs.Returning.{advanced}
 use Rattle.vm_values.specs.Fields as fields
 use Rattle.fuse_fs.specs.Calls as files
-use Rattle.virtiofsd_fuse.specs.Reading.{reading_of}
+use Rattle.fuse_requests.specs.Reading.{reading_of}
+use Rattle.fuse_replies.specs.WholeReplies.{error_bytes}
 use Rattle.virtiofsd_fuse.specs.Examples.{le16, le32, le64, zeros, nobody, in_header_bytes}
-use Rattle.virtiofsd_fuse.specs.Grammar.{meaning, meant, row, error_bytes}
+use Rattle.virtiofsd_fuse.specs.Grammar.{meaning, meant, row}
 use Rattle.virtiofsd_fuse.specs.Serving.{May}
 use Rattle.fs_device.specs.declared.error.DeviceError.TheVariants as device_error
 use Rattle.fs_device.specs.declared.refusal.Refusal.TheVariants as why
