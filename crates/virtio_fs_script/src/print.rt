@@ -25,7 +25,10 @@ pub(crate) fn print_ok<W: Write>(writer: &mut W) -> io::Result<()> {
 }
 
 /// Why a queue's layout isn't one.
-pub(crate) fn print_bad_layout<W: Write>(writer: &mut W, error: QueueLayoutError) -> io::Result<()> {
+pub(crate) fn print_bad_layout<W: Write>(
+    writer: &mut W,
+    error: QueueLayoutError,
+) -> io::Result<()> {
     print_line(writer, b"badlayout", &[u64::from(error.number())])
 }
 

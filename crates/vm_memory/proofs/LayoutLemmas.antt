@@ -169,7 +169,7 @@ copied_more f items all new i arc copy h e same is before =
     ∙ ap (λ (l : List Region). l ++ f (arc_value copy) ∷ []) (before ∙ take-map (λ a. f (arc_value a)) i items)
     ∙ ap (λ x. map (λ a. f (arc_value a)) (take i items) ++ f x ∷ []) same
     ∙ sym (ap (take (i + 1)) refl ∙ take-map (λ a. f (arc_value a)) (i + 1) items ∙ ap (map (λ a. f (arc_value a))) (take_more items i arc h ∙ ap (λ a. take i items ++ a ∷ []) (sym e)) ∙ map-append
-        (λ a. f (arc_value a)) (take i items) (arc ∷ []))
+    (λ a. f (arc_value a)) (take i items) (arc ∷ []))
 
 max_left : (a b : ℕ) → b ≤ a → max a b ≡ a
 max_left a b h = omega arith
