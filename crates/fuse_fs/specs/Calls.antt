@@ -17,6 +17,12 @@ pub record Extra : Type 0 where
   pub security : Option SecurityContext
   pub group : Option ℕ
 
+-- a symbolic link that is made: its name, and what it leads to
+pub record NewLink : Type 0 where
+  pub name : List ℕ
+  pub link : List ℕ
+  pub extra : Extra
+
 -- an entry of a directory
 pub record Listed : Type 0 where
   pub ino : ℕ

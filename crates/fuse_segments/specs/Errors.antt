@@ -1,5 +1,5 @@
 -- The faults by their numbers.
-use Rattle.std.specs.Prelude.{ℕ}
+use Rattle.std.specs.Prelude.{ℕ, Bool, true, false}
 use Rattle.fuse_segments.specs.declared.error.Error.{Error}
 use Rattle.fuse_segments.specs.declared.error.Error.TheVariants.{DecodeMessage, EncodeMessage, FlushMessage, MissingParameter, MissingExtension}
 use Rattle.fuse_segments.specs.declared.error.Error.TheVariants.{InvalidHeaderLength, InvalidCString, InvalidCString2, InvalidXattrSize, DescriptorChainOverflow, SplitOutOfBounds, IoError, OutOfMemory}
@@ -19,3 +19,8 @@ error_number DescriptorChainOverflow = 10
 error_number (SplitOutOfBounds offset) = 11
 error_number (IoError kind) = 12
 error_number OutOfMemory = 13
+
+-- whether memory is wanting
+abbrev pub is_memory : Error → Bool
+is_memory OutOfMemory = true
+is_memory _ = false

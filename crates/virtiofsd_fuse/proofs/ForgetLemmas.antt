@@ -1,45 +1,14 @@
--- Pairs of BATCH_FORGET, one after another.
-use Rattle.std.proofs.Common.{◌≡◌, ℕ, suc, ◌*◌, ◌<◌, ◌≤◌, ◌^◌, true, false, List, [], ◌∷◌, ◌++◌, Ok, Err, refl, sym, ap, ◌∙◌, arith, append_assoc, append-nil}
+-- BATCH_FORGET, by its pairs.
+use Rattle.std.proofs.Common.{◌≡◌, ℕ, ◌*◌, ◌<◌, ◌≤◌, ◌^◌, true, false, List, Ok, Err, refl, arith}
 use Rattle.std.specs.Prelude.{nat_le}
 use Rattle.std.proofs.lemmas.Bool.Decides.{nat_tests}
-use Rattle.fuse_wire.specs.declared.others.ForgetOne.{ForgetOne}
-use Rattle.fuse_wire.specs.Records.{forget_one}
 use Rattle.fuse_in.specs.Records.{batch_forget_in}
-use Rattle.fuse_in.specs.declared.session.BatchForgetIn.{BatchForgetIn}
 use Rattle.fuse_segments.specs.declared.error.Error.{Error}
-use Rattle.virtiofsd_fuse.specs.Reading.{Read, Faults, and_then, many, reading_of}
-use Rattle.virtiofsd_fuse.specs.Requests.{batch_forget_call}
-use Rattle.virtiofsd_fuse.specs.Grammar.{IsFault, Replies, Asks, One, Given, ended, error_bytes, forget_pair, forgets_asked, batch_forget_row}
-
--- a list that was read, behind another
-abbrev pub behind : {A : Type 0} → List A → Read (List A) → Read (List A)
-behind done r = and_then r (λ x. Ok (done ++ x.0, x.1))
-
-pub pair_read : (bytes more : List ℕ) (r : ForgetOne) → Ok (r, more) ≡ reading_of forget_one bytes → forget_pair bytes ≡ Ok ((r.nodeid, r.nlookup), more)
-pair_read bytes more r h = rw (← h) refl
-
-pub pair_short : (bytes : List ℕ) (e : Error) → Err (Faults e) ≡ reading_of forget_one bytes → forget_pair bytes ≡ Err (Faults e)
-pair_short bytes e h = rw (← h) refl
-
-behind_one : {A : Type 0} (done : List A) (x : A) (r : Read (List A)) → behind done (and_then r (λ y. Ok (x ∷ y.0, y.1))) ≡ behind (done ++ x ∷ []) r
-behind_one done x (Ok y) = ap (λ (all : List _). Ok (all, y.1)) (sym (append_assoc done (x ∷ []) y.0))
-behind_one done x (Err e) = refl
-
--- one more
-pub many_next : (left n : ℕ) (whole : Read (List (ℕ × ℕ))) (done : List (ℕ × ℕ)) (x : ℕ × ℕ) (bytes more : List ℕ) → left ≡ suc n
-    → whole ≡ behind done (many left forget_pair bytes) → forget_pair bytes ≡ Ok (x, more) → whole ≡ behind (done ++ x ∷ []) (many n forget_pair more)
-unfolding many
-many_next left n whole done x bytes more e w h = w ∙ rw (e, h) (behind_one done x (many n forget_pair more))
-
--- the end, or one that is short
-pub many_end : (left : ℕ) (whole : Read (List (ℕ × ℕ))) (done : List (ℕ × ℕ)) (bytes : List ℕ) → left ≡ 0 → whole ≡ behind done (many left forget_pair bytes) → Ok (done, bytes) ≡ whole
-unfolding many
-many_end left whole done bytes e w = sym (w ∙ rw (e, append-nil done) refl)
-
-pub many_short : (left n : ℕ) (whole : Read (List (ℕ × ℕ))) (done : List (ℕ × ℕ)) (bytes : List ℕ) (e : Error) → left ≡ suc n
-    → whole ≡ behind done (many left forget_pair bytes) → forget_pair bytes ≡ Err (Faults e) → Err (Faults e) ≡ whole
-unfolding many
-many_short left n whole done bytes e k w h = sym (w ∙ rw (k, h) refl)
+use Rattle.fuse_requests.specs.Reading.{Faults, many, reading_of}
+use Rattle.fuse_requests.specs.Fronts.{forget_pair}
+use Rattle.fuse_calls.specs.Requests.{batch_forget_call}
+use Rattle.fuse_replies.specs.WholeReplies.{error_bytes}
+use Rattle.virtiofsd_fuse.specs.Grammar.{IsFault, Replies, Asks, One, Given, ended, forgets_asked, batch_forget_row}
 
 -- a BATCH_FORGET, by how many pairs it says
 pub forgets_long : (count : ℕ) (g : Given) (bytes : List ℕ) → 65536 < count → ended g.header.unique (forgets_asked count g bytes) ≡ Replies (error_bytes g.header.unique 12)
@@ -61,7 +30,3 @@ forgets_short count g bytes e h k =
 
 pub batch_short : (g : Given) (bytes : List ℕ) (e : Error) → Err (Faults e) ≡ reading_of batch_forget_in bytes → ended g.header.unique (batch_forget_row g bytes) ≡ IsFault e
 batch_short g bytes e h = rw (← h) refl
-
-pub batch_ends : (g : Given) (bytes more : List ℕ) (r : BatchForgetIn) → Ok (r, more) ≡ reading_of batch_forget_in bytes
-    → ended g.header.unique (batch_forget_row g bytes) ≡ ended g.header.unique (forgets_asked r.count g more)
-batch_ends g bytes more r h = rw (← h) refl

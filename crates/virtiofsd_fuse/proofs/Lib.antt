@@ -1,9 +1,5 @@
 pub mod ForgetLemmas
 pub mod ListingLemmas
-pub mod ExtraLemmas
-pub mod NameLemmas
 pub mod Options
-pub mod RecordLemmas
-pub mod ReplyLemmas
 pub mod Rows
 pub mod Serve

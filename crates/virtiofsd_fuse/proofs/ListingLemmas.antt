@@ -3,8 +3,9 @@ use Rattle.std.proofs.Common.{◌≡◌, ℕ, Bool, true, false, ◌+◌, ◌-�
 use Rattle.std.specs.Prelude.{IsTrue, OnOk, OnErr, slice_get}
 use Rattle.fuse_fs.specs.declared.answers.Entry.{Entry}
 use Rattle.fuse_fs.specs.Calls.{FileCall, FileAnswer, FileRun, Listed, Lookup, HasEntry, Failed, suits}
-use Rattle.virtiofsd_fuse.specs.Listings.{Listing, Went, Next, Fit, GoesIn, IsFull, IsWrong, entry_len, entry_bytes, fit_of, is_dot, no_node, undo_call, after_call, with_entry, list_entries}
-use Rattle.virtiofsd_fuse.specs.ListingRuns.{Outcome, outcome_of, ListRun, EntryRun}
+use Rattle.virtiofsd_fuse.specs.Listings.{Listing, Went, Next, undo_call, after_call, with_entry, list_entries}
+use Rattle.fuse_replies.specs.Entries.{Fit, GoesIn, IsFull, IsWrong, entry_len, entry_bytes, fit_of, is_dot, no_node, Outcome, outcome_of}
+use Rattle.virtiofsd_fuse.specs.ListingRuns.{ListRun, EntryRun}
 use Rattle.virtiofsd_fuse.specs.Serving.{May}
 
 -- the first of some entries, and the others
@@ -19,11 +20,6 @@ none_of (x ∷ xs) e = absurd (cc)
 pub on_error : {P Q : Type 0} → (o : Outcome) → (P → Q) → OnErr o P → OnErr o Q
 on_error (Ok n) f p = tt
 on_error (Err e) f p = f p
-
--- the bytes of an entry, one after another
-pub entry_joined : (w0 w1 w2 w3 w4 node head name zeros : List ℕ) → w1 ≡ w0 ++ node → w2 ≡ w1 ++ head → w3 ≡ w2 ++ name → w4 ≡ w3 ++ zeros
-    → w4 ≡ w0 ++ (node ++ (head ++ name ++ zeros))
-entry_joined w0 w1 w2 w3 w4 node head name zeros a b c d = rw (d, c, b, a) (simp append_assoc)
 
 -- the header's place stays
 pub place_stays : (front final bytes : List ℕ) → length front ≡ 16 → final ≡ front ++ bytes → 16 ≤ length final

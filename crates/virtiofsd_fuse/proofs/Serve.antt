@@ -4,12 +4,15 @@ use Rattle.std.proofs.lemmas.Bool.Decides.{nat_tests}
 use Rattle.std.specs.Prelude.{IsTrue, OnOk, nat_lt, ◌-◌, Option}
 use Rattle.fuse_fs.specs.Calls.{FileCall, FileAnswer, suits, Init, Listed, Failed, Done, HasEntry, HasAttr, Opened, Created, Bytes, Count, Stats, Wrote, Offset, Entries}
 use Rattle.fuse_fs.specs.Calls.{Wants}
-use Rattle.virtiofsd_fuse.specs.Reading.{ReadFailure, Faults, Read, Reading, and_then, value_of, within}
-use Rattle.virtiofsd_fuse.specs.Grammar.{Meaning, IsFault, Replies, IsSilent, Asks, One, Starts, refused, ended, Lists, error_bytes}
+use Rattle.fuse_requests.specs.Reading.{ReadFailure, Faults, Read, Reading, and_then, value_of, within}
+use Rattle.virtiofsd_fuse.specs.Grammar.{Meaning, IsFault, Replies, IsSilent, Asks, One, Starts, refused, ended, Lists}
+use Rattle.fuse_replies.specs.WholeReplies.{error_bytes, told, sent, listing_bytes}
 use Rattle.virtiofsd_fuse.specs.Listings.{Listing, readdir_call}
 use Rattle.virtiofsd_fuse.specs.ListingRuns.{ListRun}
-use Rattle.virtiofsd_fuse.specs.Serving.{Served, served, Setting, Serves, Handles, served_of, replied, no_reply, answer_bytes, options_after, start_options}
-use Rattle.virtiofsd_fuse.specs.Serving.{start_answered, lacks_memory, is_memory, told, sent, listing_bytes, list_ended, list_answered}
+use Rattle.virtiofsd_fuse.specs.Serving.{Served, served, Setting, Serves, Handles, served_of, replied, no_reply, answer_bytes, start_options}
+use Rattle.fuse_calls.specs.Requests.{options_after}
+use Rattle.virtiofsd_fuse.specs.Serving.{start_answered, lacks_memory, list_ended, list_answered}
+use Rattle.fuse_segments.specs.Errors.{is_memory}
 use Rattle.fuse_segments.specs.declared.error.Error.{Error}
 use Rattle.fuse_segments.specs.declared.error.Error.TheVariants.{EncodeMessage, OutOfMemory}
 

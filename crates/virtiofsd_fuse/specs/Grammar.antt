@@ -1,33 +1,29 @@
 -- What a request means, by the options that client and server agreed on, its bytes and the length of its room (linux/fuse.h).
-use Rattle.std.specs.Prelude.{ℕ, ◌+◌, ◌-◌, ◌*◌, ◌/◌, ◌^◌, ◌%◌, nat_le, nat_lt, List, ◌++◌, length, replicate, Option, Some, None, Result, Ok, Err, if◌then◌else◌, bit_and, pos}
-use Rattle.std.specs.Prelude.{neg_ℤ, Bool, true, false}
-use Rattle.vm_values.specs.Bits.{has_bit}
-use Rattle.vm_values.specs.Fields.{spelled}
+use Rattle.std.specs.Prelude.{ℕ, ◌+◌, ◌-◌, ◌*◌, ◌^◌, nat_le, nat_lt, List, Option, Some, None, Result, Ok, Err, if◌then◌else◌, bit_and}
+use Rattle.std.specs.Prelude.{Bool, true, false}
 use Rattle.fuse_in.specs.declared.session.InHeader.{InHeader}
 use Rattle.fuse_in.specs.declared.session.InitInCompat.{InitInCompat}
 use Rattle.fuse_in.specs.declared.files.ReadIn.{ReadIn}
-use Rattle.fuse_in.specs.declared.nodes.SetxattrIn.{SetxattrIn}
-use Rattle.fuse_in.specs.declared.nodes.SetxattrInCompat.{SetxattrInCompat}
 use Rattle.fuse_in.specs.Shapes.{Shape}
 use Rattle.fuse_in.specs.Records.{in_header, forget_in, getattr_in, setattr_in, open_in, read_in, release_in, fsync_in, flush_in, access_in, fallocate_in}
-use Rattle.fuse_in.specs.Records.{lseek_in, copyfilerange_in, init_in_compat, init_in_ext, link_in, rename_in, rename2_in, setxattr_in, setxattr_in_compat, getxattr_in}
+use Rattle.fuse_in.specs.Records.{lseek_in, copyfilerange_in, init_in_compat, link_in, rename_in, rename2_in, getxattr_in}
 use Rattle.fuse_in.specs.Records.{batch_forget_in, write_in, mknod_in, mkdir_in, create_in}
-use Rattle.fuse_wire.specs.declared.replies.InitOut.{InitOut}
 use Rattle.fuse_wire.specs.declared.opcodes.Opcode.{Opcode}
 use Rattle.fuse_wire.specs.declared.opcodes.Opcode.TheVariants as op
-use Rattle.fuse_wire.specs.Records.{init_out, out_header, forget_one}
 use Rattle.fuse_wire.specs.Opcodes.{opcode_of}
-use Rattle.virtiofsd_fuse.specs.Extras.{new_name, new_link}
+use Rattle.fuse_requests.specs.Extras.{new_name, new_link}
 use Rattle.fuse_fs.specs.Calls.{FileCall, Extra, Destroy, Getlk, Setlk, Setlkw, Bmap, Ioctl, Poll, NotifyReply, TmpFile}
 use Rattle.fuse_segments.specs.declared.error.Error.{Error}
-use Rattle.fuse_segments.specs.declared.error.Error.TheVariants.{DecodeMessage, EncodeMessage, InvalidHeaderLength}
-use Rattle.virtiofsd_fuse.specs.Reading.{ReadFailure, Faults, Sends, Reading, ◌>>=◌, ◌>>◌, give, refuse, needs, exactly, reading_of, within, last_name, two_names}
-use Rattle.virtiofsd_fuse.specs.Reading.{name_and_value, rest, many}
-use Rattle.virtiofsd_fuse.specs.Requests.{lookup_call, forget_call, getattr_call, setattr_call, readlink_call, unlink_call, rmdir_call, open_call, statfs_call, release_call}
-use Rattle.virtiofsd_fuse.specs.Requests.{fsync_call, fsyncdir_call, removexattr_call, flush_call, opendir_call, releasedir_call, access_call, fallocate_call, lseek_call}
-use Rattle.virtiofsd_fuse.specs.Requests.{copy_file_range_call, syncfs_call, read_call, link_call, rename_call, rename2_call, setxattr_call, getxattr_call, listxattr_call}
-use Rattle.virtiofsd_fuse.specs.Requests.{write_call, batch_forget_call, listing_of, symlink_call, mknod_call, mkdir_call, create_call}
-use Rattle.virtiofsd_fuse.specs.Listings.{Listing}
+use Rattle.fuse_segments.specs.declared.error.Error.TheVariants.{DecodeMessage, EncodeMessage}
+use Rattle.fuse_requests.specs.Reading.{ReadFailure, Faults, Sends, Reading, ◌>>=◌, ◌>>◌, give, refuse, needs, reading_of, within, last_name, two_names, name_and_value, rest, many}
+use Rattle.fuse_calls.specs.Requests.{lookup_call, forget_call, getattr_call, setattr_call, readlink_call, unlink_call, rmdir_call, open_call, statfs_call, release_call}
+use Rattle.fuse_calls.specs.Requests.{fsync_call, fsyncdir_call, removexattr_call, flush_call, opendir_call, releasedir_call, access_call, fallocate_call, lseek_call}
+use Rattle.fuse_calls.specs.Requests.{copy_file_range_call, syncfs_call, read_call, link_call, rename_call, rename2_call, setxattr_call, getxattr_call, listxattr_call}
+use Rattle.fuse_calls.specs.Requests.{write_call, batch_forget_call, symlink_call, mknod_call, mkdir_call, create_call}
+use Rattle.fuse_requests.specs.Fronts.{counted, with_bytes, setxattr_front, forget_pair, flags2_of}
+use Rattle.fuse_replies.specs.WholeReplies.{versions_bytes}
+unfoldable pub use Rattle.fuse_replies.specs.WholeReplies.{reply_bytes, error_bytes}
+use Rattle.virtiofsd_fuse.specs.Listings.{Listing, listing_of}
 
 -- a file command: one call, INIT, or a listing
 pub data FileCommand : Type 0 where
@@ -54,14 +50,6 @@ ENOSYS = 38
 abbrev pub EPROTO : ℕ
 EPROTO = 71
 
--- struct fuse_out_header and what follows it
-unfoldable pub reply_bytes : (unique : ℕ) → List ℕ → List ℕ
-reply_bytes unique bytes = spelled (out_header (record { len = 16 + length bytes; error = pos 0; unique = unique })) ++ bytes
-
--- struct fuse_out_header of an error, whose number goes out as its negative
-unfoldable pub error_bytes : (unique errno : ℕ) → List ℕ
-error_bytes unique errno = spelled (out_header (record { len = 16; error = neg_ℤ (pos errno); unique = unique }))
-
 -- what the rows of the grammar know besides the bytes
 pub record Given : Type 0 where
   pub header : InHeader
@@ -76,14 +64,6 @@ given header options room = record { header = header; options = options; room = 
 abbrev pub one : Given → FileCall → Reading Meaning
 one g call = give (Asks (One g.header.unique call))
 
--- as many bytes as the header's length leaves after k bytes of record
-unfoldable pub counted : (len k : ℕ) → Reading (List ℕ)
-counted len k = needs (nat_le (40 + k) len) (Faults InvalidHeaderLength) >> exactly (len - 40 - k)
-
--- a record of k bytes, and as many bytes as the header's length leaves after it
-unfoldable pub with_bytes : {R : Type 0} → Shape R → (k len : ℕ) → Reading (R × List ℕ)
-with_bytes s k len = reading_of s >>= λ r. counted len k >>= λ bytes. give (r, bytes)
-
 -- every option that is known
 abbrev pub known_options : ℕ
 known_options = 0x117fbffffff
@@ -92,28 +72,6 @@ known_options = 0x117fbffffff
 abbrev pub default_options : ℕ
 default_options = 0x10448449829
 
--- struct fuse_init_out
-abbrev pub init_record : (readahead options max_background congestion max_write gran max_pages : ℕ) → InitOut
-init_record readahead options max_background congestion max_write gran max_pages =
-    record {
-      major = 7;
-      minor = 38;
-      max_readahead = readahead;
-      flags = options % 2 ^ 32;
-      max_background = max_background;
-      congestion_threshold = congestion;
-      max_write = max_write;
-      time_gran = gran;
-      max_pages = max_pages;
-      map_alignment = 0;
-      flags2 = options / 2 ^ 32;
-      unused = replicate 7 0;
-    }
-
--- the record that tells a client of a later version which one is spoken
-unfoldable pub versions_bytes : List ℕ
-versions_bytes = spelled (init_out (init_record 0 0 0 0 0 0 0))
-
 -- the versions first, and then what both sides can
 abbrev pub started : Given → InitInCompat → ℕ → Reading Meaning
 started g r flags2 =
@@ -121,10 +79,6 @@ started g r flags2 =
     else if nat_lt 7 r.major then give (Replies (reply_bytes g.header.unique versions_bytes))
     else if nat_lt r.minor 27 then refuse (Sends EPROTO)
     else give (Asks (Starts g.header.unique (bit_and (flags2 * 2 ^ 32 + r.flags) known_options) r.max_readahead))
-
--- the upper half of the client's options, read only where FUSE_INIT_EXT (bit 30 of `flags`) says that it stands there
-abbrev pub flags2_of : InitInCompat → Reading ℕ
-flags2_of r = if has_bit r.flags 30 then (reading_of init_in_ext >>= λ more. give more.flags2) else give 0
 
 -- the rows of the grammar by their shape, each of which asks one call; one record
 abbrev pub record_row : {R : Type 0} → Shape R → (InHeader → R → FileCall) → Given → Reading Meaning
@@ -171,16 +125,6 @@ getxattr_row = bytes_row (λ g. with_bytes getxattr_in 8 g.header.len) (λ g r. 
 abbrev pub listxattr_row : Given → Reading Meaning
 listxattr_row g = reading_of getxattr_in >>= λ r. at_most_a_mebibyte r.size >> one g (listxattr_call g.header r)
 
--- struct fuse_setxattr_in as clients without FUSE_SETXATTR_EXT send it
-abbrev pub without_flags : SetxattrInCompat → SetxattrIn
-without_flags r = record { size = r.size; flags = r.flags; setxattr_flags = 0; padding = 0 }
-
--- the record of SETXATTR, whose length FUSE_SETXATTR_EXT (bit 29 of the options) decides, and the bytes after it
-unfoldable pub setxattr_front : (options len : ℕ) → Reading (SetxattrIn × List ℕ)
-setxattr_front options len =
-    if has_bit options 29 then with_bytes setxattr_in 16 len
-    else (with_bytes setxattr_in_compat 8 len >>= λ x. give (without_flags x.0, x.1))
-
 -- SETXATTR: the attribute's name and its value
 abbrev pub setxattr_row : Given → Reading Meaning
 setxattr_row = bytes_row (λ g. setxattr_front g.options g.header.len) (λ g r. name_and_value r.size) setxattr_call
@@ -208,11 +152,7 @@ listing_asked with_nodes r g =
 abbrev pub listing_row : (with_nodes : Bool) → Given → Reading Meaning
 listing_row with_nodes g = reading_of read_in >>= λ r. listing_asked with_nodes r g
 
--- struct fuse_forget_one: a node, and how many of the counts that the client holds on it
-abbrev pub forget_pair : Reading (ℕ × ℕ)
-forget_pair = reading_of forget_one >>= λ r. give (r.nodeid, r.nlookup)
-
--- as many of these as a BATCH_FORGET says
+-- as many pairs as a BATCH_FORGET says
 abbrev pub forgets_asked : ℕ → Given → Reading Meaning
 forgets_asked count g = at_most_a_mebibyte (count * 16) >> many count forget_pair >>= λ pairs. one g (batch_forget_call g.header pairs)
 

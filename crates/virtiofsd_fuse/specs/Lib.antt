@@ -1,9 +1,5 @@
 pub mod Examples
-pub mod Extras
 pub mod Grammar
 pub mod ListingRuns
 pub mod Listings
-pub mod PageSizes
-pub mod Reading
-pub mod Requests
 pub mod Serving

@@ -1,18 +1,9 @@
 -- Listings with the calls of the file system that come with them.
-use Rattle.std.specs.Prelude.{◌≡◌, ℕ, ◌-◌, List, ◌∷◌, ◌++◌, map, Option, Some, None, Result, Ok, Err}
+use Rattle.std.specs.Prelude.{◌≡◌, ℕ, List, ◌∷◌, ◌++◌, map, Option, Ok, Err}
 use Rattle.fuse_fs.specs.Calls.{FileCall, FileAnswer, FileRun, Listed}
-use Rattle.virtiofsd_fuse.specs.Listings.{Listing, list_entries, Fit, GoesIn, IsFull, IsWrong}
+use Rattle.fuse_replies.specs.Entries.{Outcome}
+use Rattle.virtiofsd_fuse.specs.Listings.{Listing, list_entries}
 use Rattle.virtiofsd_fuse.specs.Serving.{May}
-
--- what comes of one entry: what is left of the size after it, or the end of the list, by an error if there is one
-abbrev pub Outcome : Type 0
-Outcome = Result ℕ (Option ℕ)
-
--- the outcome of an entry of this length
-abbrev pub outcome_of : Fit → (left len : ℕ) → Outcome
-outcome_of GoesIn left len = Ok (left - len)
-outcome_of IsFull left len = Err None
-outcome_of (IsWrong errno) left len = Err (Some errno)
 
 -- from one state of the file system to another, entries are listed behind what was written; error: what ended the list, if
 -- an error did

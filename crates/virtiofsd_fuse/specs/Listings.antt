@@ -1,21 +1,12 @@
 -- READDIR and READDIRPLUS: which entries of a directory go into the reply, and which calls come with them (linux/fuse.h).
-use Rattle.std.specs.Prelude.{ℕ, ◌+◌, ◌-◌, ◌*◌, ◌/◌, ◌%◌, ◌^◌, Bool, true, false, not, ◌||◌, nat_lt, nat_le, List, [], ◌∷◌, ◌++◌, length, replicate, Option, Some, None, if◌then◌else◌}
-use Rattle.std.specs.Str.{bytes_eq}
-use Rattle.vm_values.specs.Fields.{spelled}
-use Rattle.fuse_wire.specs.Records.{entry_out, dirent}
+use Rattle.std.specs.Prelude.{ℕ, ◌-◌, Bool, true, false, not, List, [], ◌∷◌, ◌++◌, length, Option, Some, None, if◌then◌else◌}
+use Rattle.fuse_in.specs.declared.session.InHeader.{InHeader}
+use Rattle.fuse_in.specs.declared.files.ReadIn.{ReadIn}
 use Rattle.fuse_fs.specs.declared.answers.Context.{Context}
 use Rattle.fuse_fs.specs.declared.answers.Entry.{Entry}
-use Rattle.fuse_fs.specs.Answers.{entry_out_of}
-use Rattle.fuse_fs.specs.Replies.{dirent_of}
+use Rattle.fuse_fs.specs.Answers.{context_of}
 use Rattle.fuse_fs.specs.Calls.{FileCall, FileAnswer, Listed, Lookup, Forget, Readdir, HasEntry, Failed}
-
--- error numbers of Linux: no room
-abbrev pub EIO : ℕ
-EIO = 5
-
--- a name whose length has more than 32 bits
-abbrev pub EOVERFLOW : ℕ
-EOVERFLOW = 75
+use Rattle.fuse_replies.specs.Entries.{entry_len, entry_bytes, Fit, GoesIn, IsFull, IsWrong, fit_of, is_dot, no_node}
 
 -- which entries are asked for, and whether each comes with its node
 pub record Listing : Type 0 where
@@ -26,6 +17,11 @@ pub record Listing : Type 0 where
   pub offset : ℕ
   pub with_nodes : Bool
 
+-- READDIR, and with nodes READDIRPLUS
+abbrev pub listing_of : (with_nodes : Bool) → InHeader → ReadIn → Listing
+listing_of with_nodes h r =
+    record { context = context_of h; node = h.nodeid; handle = r.fh; size = r.size; offset = r.offset; with_nodes = with_nodes }
+
 -- the call that opens it
 abbrev pub readdir_call : Listing → FileCall
 readdir_call l = Readdir l.context l.node l.handle l.size l.offset
@@ -35,40 +31,6 @@ pub record Went : Type 0 where
   pub calls : List FileCall
   pub bytes : List ℕ
   pub error : Option ℕ
-
--- the length of struct fuse_dirent with a name, a multiple of 8 (FUSE_DIRENT_ALIGN)
-abbrev pub dirent_len : ℕ → ℕ
-dirent_len name_len = (24 + name_len + 7) / 8 * 8
-
--- an entry's length; struct fuse_entry_out has 128 bytes
-abbrev pub entry_len : (with_nodes : Bool) → (name_len : ℕ) → ℕ
-entry_len with_nodes name_len = (if with_nodes then 128 else 0) + dirent_len name_len
-
--- struct fuse_dirent, the name, and zeros up to a multiple of 8
-unfoldable pub dirent_bytes : Listed → List ℕ
-dirent_bytes d = spelled (dirent (dirent_of d)) ++ d.name ++ replicate (dirent_len (length d.name) - (24 + length d.name)) 0
-
--- struct fuse_entry_out, in READDIRPLUS
-unfoldable pub node_bytes : Entry ℕ → List ℕ
-node_bytes e = spelled (entry_out (entry_out_of e))
-
--- an entry: in READDIRPLUS with its node in front
-abbrev pub entry_bytes : Bool → Entry ℕ → Listed → List ℕ
-entry_bytes with_nodes e d = (if with_nodes then node_bytes e else []) ++ dirent_bytes d
-
--- whether an entry goes in, or the list is full, or it is an error
-pub data Fit : Type 0 where
-  GoesIn : Fit
-  IsFull : Fit
-  IsWrong : (errno : ℕ) → Fit
-
--- left: what is left of the size that was asked for, room: what is left of the room
-unfoldable pub fit_of : (name_len len left room : ℕ) → Fit
-fit_of name_len len left room =
-    if nat_le (2 ^ 32) name_len then IsWrong EOVERFLOW
-    else if nat_lt left len then IsFull
-    else if nat_lt room len then IsWrong EIO
-    else GoesIn
 
 -- no entry goes in any more
 abbrev pub nothing_more : List FileCall → Option ℕ → Went
@@ -83,38 +45,6 @@ placed (IsWrong errno) bytes undo next = nothing_more undo (Some errno)
 -- a call, and what comes after it
 abbrev pub after_call : FileCall → Went → Went
 after_call call w = record { calls = call ∷ w.calls; bytes = w.bytes; error = w.error }
-
--- `.` and `..`
-abbrev pub is_dot : List ℕ → Bool
-is_dot name = bytes_eq name (46 ∷ []) || bytes_eq name (46 ∷ 46 ∷ [])
-
--- the node of `.` and `..`, which are not looked up
-abbrev pub no_node : Listed → Entry ℕ
-no_node d =
-    record {
-      inode = 0;
-      generation = 0;
-      attr = record {
-        ino = d.ino;
-        size = 0;
-        blocks = 0;
-        atime = 0;
-        mtime = 0;
-        ctime = 0;
-        atimensec = 0;
-        mtimensec = 0;
-        ctimensec = 0;
-        mode = d.kind * 4096 % 2 ^ 32;
-        nlink = 0;
-        uid = record { 0 = 0 };
-        gid = record { 0 = 0 };
-        rdev = 0;
-        blksize = 0;
-        flags = 0;
-      };
-      attr_timeout = record { seconds = 0; nanos = 0 };
-      entry_timeout = record { seconds = 0; nanos = 0 };
-    }
 
 -- the call that takes a node back
 abbrev pub undo_call : Context → (node : ℕ) → FileCall

@@ -1,44 +1,22 @@
 //! BATCH_FORGET: many nodes are held less.
 
-ghost use Rattle.std.specs.Prelude.{◌≡◌, ◌<◌, ◌^◌, [], length, IfOk, IfErr, Ok, Err, false};
-ghost use Rattle.fuse_fs.specs.Answers.{pair_numbers};
-ghost use Rattle.virtiofsd_fuse.specs.Reading.{Faults, many};
-ghost use Rattle.virtiofsd_fuse.specs.Grammar.{batch_forget_row, forgets_asked, forget_pair};
-ghost use Rattle.virtiofsd_fuse.specs.Serving.{RowHandles, is_memory};
+ghost use Rattle.std.specs.Prelude.{◌≡◌, ◌<◌, ◌^◌, [], length, IfOk};
+ghost use Rattle.virtiofsd_fuse.specs.Grammar.{batch_forget_row, forgets_asked};
+ghost use Rattle.virtiofsd_fuse.specs.Serving.{RowHandles};
 
-use crate::records::read_record;
-use crate::replies::reply_error;
 use crate::server::Server;
 use crate::session::silence;
-use fuse_fs::{Context, FileNumber, FileSystem};
+use fuse_fs::{Context, FileSystem};
 use fuse_in::{BatchForgetIn, InHeader};
+use fuse_replies::replies::reply_error;
+use fuse_requests::forgets::read_pairs;
+use fuse_requests::records::read_record;
 use fuse_segments::{Error, Reader, Writer};
-use fuse_wire::{Errno, ForgetOne};
+use fuse_wire::Errno;
 use std::alloc::Global;
 
 /// How many pairs one request may have: 2^20 bytes of them.
 const MAX_FORGETS: u32 = 65536;
-
-// The next pairs of a node and a count. The memory for all of them is had first.
-fn read_pairs<I: FileNumber>(
-    alloc: Global,
-    r: &mut Reader<'_>,
-    count: usize,
-) -> Result<Vec<(I, u64)>, Error>
-    ensures ok { IfOk result (λ pairs. Ok (pair_numbers I.number pairs.items, r.new.left) ≡ many count forget_pair r.old.left) }
-    ensures err { IfErr result (λ e. is_memory e ≡ false → Err (Faults e) ≡ many count forget_pair r.old.left) }
-{
-    let Ok(mut pairs) = Vec::with_capacity(alloc, count) else {
-        return Err(Error::OutOfMemory);
-    };
-    for _ in 0..count {
-        match read_record::<ForgetOne>(r) {
-            Ok(one) => pairs.push((I::numbered(one.nodeid), one.nlookup)).unwrap(),
-            Err(error) => return Err(error),
-        }
-    }
-    Ok(pairs)
-}
 
 impl<F: FileSystem> Server<F> {
     // BATCH_FORGET, by how many pairs it says.

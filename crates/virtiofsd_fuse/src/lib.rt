@@ -1,19 +1,10 @@
 //! The FUSE server: it serves requests over a file system (virtiofsd's `Server`).
 #![tactic(auto)]
 
-mod answers;
-mod extensions;
 mod forgets;
-mod links;
 mod listings;
-mod names;
 mod new_nodes;
-mod nodes;
-mod open_files;
-mod plain_requests;
 mod reads;
-mod records;
-mod replies;
 mod requests;
 mod serialization;
 mod server;

@@ -1,19 +1,18 @@
 //! READ: bytes of a file go straight into the reply.
 
-ghost use Rattle.std.specs.Prelude.{◌≡◌, ℕ, ◌+◌, ◌<◌, ◌≤◌, ◌^◌, List, [], ◌++◌, length, drop, IfOk, IfErr};
-ghost use Rattle.std.specs.Result.{ForOk};
-ghost use Rattle.fuse_fs.specs.Answers.{data_answer};
-ghost use Rattle.virtiofsd_fuse.specs.Grammar.{read_row, read_asked};
-ghost use Rattle.virtiofsd_fuse.specs.Requests.{read_call, if_set};
+ghost use Rattle.std.specs.Prelude.{◌≡◌, ℕ, ◌+◌, ◌<◌, ◌^◌, List, [], ◌++◌, length, IfOk, IfErr};
 ghost use Rattle.vm_values.specs.Bits.{has_bit};
-ghost use Rattle.virtiofsd_fuse.specs.Serving.{RowHandles, data_reply};
+ghost use Rattle.fuse_fs.specs.Answers.{data_answer};
+ghost use Rattle.fuse_calls.specs.Requests.{read_call, if_set};
+ghost use Rattle.virtiofsd_fuse.specs.Grammar.{read_row, read_asked};
+ghost use Rattle.virtiofsd_fuse.specs.Serving.{RowHandles};
 
-use crate::answers::received;
-use crate::records::read_record;
-use crate::replies::{OUT_HEADER_LEN, append, error_reply, header_bytes};
 use crate::server::Server;
+use fuse_calls::received::received;
 use fuse_fs::{Context, FileNumber, FileSystem};
 use fuse_in::{InHeader, ReadIn};
+use fuse_replies::replies::{OUT_HEADER_LEN, append, reply_data};
+use fuse_requests::records::read_record;
 use fuse_segments::{Error, Reader, Writer, ZcWriter};
 use fuse_wire::Errno;
 use fuse_wire::constants::READ_LOCKOWNER;
@@ -28,28 +27,6 @@ fn owner_of(request: &ReadIn) -> Option<u64>
         None
     } else {
         Some(request.lock_owner)
-    }
-}
-
-/// Puts a header before the bytes that stand behind its place, or an error in place of all of it.
-pub(crate) fn reply_data(w: &mut Writer, unique: u64, answer: Result<usize, Errno>) -> usize
-    requires behind { 16 ≤ length w.old.written }
-    requires count { ForOk answer (λ n. 16 + n ≡ length w.old.written) }
-    requires small { length w.old.written < 2 ^ 32 }
-    ensures reply { w.new.written ≡ data_reply unique answer (drop 16 w.old.written) }
-    ensures length { result ≡ length w.new.written }
-{
-    match answer {
-        Ok(n) => {
-            let len = OUT_HEADER_LEN + n;
-            w.put_front(&header_bytes(len as u32, 0, unique));
-            len
-        }
-        Err(error) => {
-            w.clear();
-            append(w, &error_reply(unique, error));
-            OUT_HEADER_LEN
-        }
     }
 }
 

@@ -1,112 +1,20 @@
 //! Requests of one shape: they are read, they ask one call, and the client is told its answer.
 
-ghost use Rattle.std.specs.Prelude.{◌≡◌, ℕ, ◌<◌, ◌^◌, List, [], length, IfOk, IsTrue};
-ghost use Rattle.fuse_in.specs.declared.session.InHeader.{InHeader};
-ghost use Rattle.fuse_fs.specs.Calls.{FileCall, suits};
+ghost use Rattle.std.specs.Prelude.{◌≡◌, ◌<◌, ◌^◌, [], length, IfOk};
 ghost use Rattle.virtiofsd_fuse.specs.Grammar.{plain_row, record_row, name_row, record_name_row, two_names_row};
-ghost use Rattle.virtiofsd_fuse.specs.Serving.{RowHandles, is_silent, options_after};
+ghost use Rattle.virtiofsd_fuse.specs.Serving.{RowHandles};
 
-use crate::answers::{Answer, reply_answer};
-use crate::names::{last_name, read_counted, read_with_bytes, two_names};
-use crate::records::read_record;
 use crate::server::Server;
+use fuse_calls::requests::{
+    NameRequest, PlainRequest, RecordNameRequest, RecordRequest, TwoPartsRequest,
+};
 use fuse_fs::FileSystem;
-use fuse_in::{InHeader, InRecord};
+use fuse_in::InHeader;
+use fuse_replies::answers::{AsReply, reply_answer};
+use fuse_requests::names::{last_name, read_counted, read_with_bytes, two_names};
+use fuse_requests::records::read_record;
 use fuse_segments::{Error, Reader, Writer};
-use fuse_wire::Errno;
 use std::alloc::Global;
-
-/// A request that is one record.
-pub(crate) trait RecordRequest<F: FileSystem> {
-    type Record: InRecord;
-
-    type Answer: Answer;
-
-    // The call that it asks.
-    ghost call: { InHeader → Self.Record → FileCall };
-
-    /// Asks the file system.
-    fn ask(fs: &mut F, head: &InHeader, request: &Self::Record) -> Result<Self::Answer, Errno>
-        ensures may { F.may fs.old (call head.now request.now) (Self.Answer.said result) fs.new }
-        ensures suits { IsTrue (suits (call head.now request.now) (Self.Answer.said result)) }
-        ensures silent { is_silent (call head.now request.now) ≡ Self.Answer.silent }
-        ensures options { (options : ℕ) → options_after options (call head.now request.now) ≡ options };
-}
-
-/// A request that is nothing but its header.
-pub(crate) trait PlainRequest<F: FileSystem> {
-    type Answer: Answer;
-
-    // The call that it asks.
-    ghost call: { InHeader → FileCall };
-
-    /// Asks the file system.
-    fn ask(fs: &mut F, head: &InHeader) -> Result<Self::Answer, Errno>
-        ensures may { F.may fs.old (call head.now) (Self.Answer.said result) fs.new }
-        ensures suits { IsTrue (suits (call head.now) (Self.Answer.said result)) }
-        ensures silent { is_silent (call head.now) ≡ Self.Answer.silent }
-        ensures options { (options : ℕ) → options_after options (call head.now) ≡ options };
-}
-
-/// A request that is one name.
-pub(crate) trait NameRequest<F: FileSystem> {
-    type Answer: Answer;
-
-    // The call that it asks.
-    ghost call: { InHeader → List ℕ → FileCall };
-
-    /// Asks the file system.
-    fn ask(fs: &mut F, head: &InHeader, name: &[u8]) -> Result<Self::Answer, Errno>
-        ensures may { F.may fs.old (call head.now name.now) (Self.Answer.said result) fs.new }
-        ensures suits { IsTrue (suits (call head.now name.now) (Self.Answer.said result)) }
-        ensures silent { is_silent (call head.now name.now) ≡ Self.Answer.silent }
-        ensures options { (options : ℕ) → options_after options (call head.now name.now) ≡ options };
-}
-
-/// A request that is one record and one name.
-pub(crate) trait RecordNameRequest<F: FileSystem> {
-    type Record: InRecord;
-
-    type Answer: Answer;
-
-    // The call that it asks.
-    ghost call: { InHeader → Self.Record → List ℕ → FileCall };
-
-    /// Asks the file system.
-    fn ask(
-        fs: &mut F,
-        head: &InHeader,
-        request: &Self::Record,
-        name: &[u8],
-    ) -> Result<Self::Answer, Errno>
-        ensures may { F.may fs.old (call head.now request.now name.now) (Self.Answer.said result) fs.new }
-        ensures suits { IsTrue (suits (call head.now request.now name.now) (Self.Answer.said result)) }
-        ensures silent { is_silent (call head.now request.now name.now) ≡ Self.Answer.silent }
-        ensures options { (options : ℕ) → options_after options (call head.now request.now name.now) ≡ options };
-}
-
-/// A request that is one record and two parts: two names, or a name and a value.
-pub(crate) trait TwoPartsRequest<F: FileSystem> {
-    type Record: InRecord;
-
-    type Answer: Answer;
-
-    // The call that it asks.
-    ghost call: { InHeader → Self.Record → List ℕ × List ℕ → FileCall };
-
-    /// Asks the file system.
-    fn ask(
-        fs: &mut F,
-        head: &InHeader,
-        request: &Self::Record,
-        first: &[u8],
-        second: &[u8],
-    ) -> Result<Self::Answer, Errno>
-        ensures may { F.may fs.old (call head.now request.now (first.now, second.now)) (Self.Answer.said result) fs.new }
-        ensures suits { IsTrue (suits (call head.now request.now (first.now, second.now)) (Self.Answer.said result)) }
-        ensures silent { is_silent (call head.now request.now (first.now, second.now)) ≡ Self.Answer.silent }
-        ensures options { (options : ℕ) → options_after options (call head.now request.now (first.now, second.now)) ≡ options };
-}
 
 impl<F: FileSystem> Server<F> {
     /// Serves a request that is one record.
@@ -116,6 +24,8 @@ impl<F: FileSystem> Server<F> {
         r: &mut Reader<'_>,
         w: &mut Writer,
     ) -> Result<usize, Error>
+    where
+        R::Answer: AsReply,
         requires fresh { w.old.written ≡ [] }
         requires room { w.old.free < 2 ^ 32 }
         ensures handles { RowHandles F.may self.old w.old.free head.now (record_row R.Record.shape R.call) r.old.left result w.new.written self.new }
@@ -138,6 +48,8 @@ impl<F: FileSystem> Server<F> {
         r: &Reader<'_>,
         w: &mut Writer,
     ) -> Result<usize, Error>
+    where
+        R::Answer: AsReply,
         requires fresh { w.old.written ≡ [] }
         requires room { w.old.free < 2 ^ 32 }
         ensures handles { RowHandles F.may self.old w.old.free head.now (plain_row R.call) r.now.left result w.new.written self.new }
@@ -156,6 +68,8 @@ impl<F: FileSystem> Server<F> {
         r: &mut Reader<'_>,
         w: &mut Writer,
     ) -> Result<usize, Error>
+    where
+        R::Answer: AsReply,
         requires fresh { w.old.written ≡ [] }
         requires room { w.old.free < 2 ^ 32 }
         ensures handles { RowHandles F.may self.old w.old.free head.now (name_row R.call) r.old.left result w.new.written self.new }
@@ -182,6 +96,8 @@ impl<F: FileSystem> Server<F> {
         r: &mut Reader<'_>,
         w: &mut Writer,
     ) -> Result<usize, Error>
+    where
+        R::Answer: AsReply,
         requires fresh { w.old.written ≡ [] }
         requires room { w.old.free < 2 ^ 32 }
         ensures handles { RowHandles F.may self.old w.old.free head.now (record_name_row R.Record.shape R.Record.SIZE R.call) r.old.left result w.new.written self.new }
@@ -208,6 +124,8 @@ impl<F: FileSystem> Server<F> {
         r: &mut Reader<'_>,
         w: &mut Writer,
     ) -> Result<usize, Error>
+    where
+        R::Answer: AsReply,
         requires fresh { w.old.written ≡ [] }
         requires room { w.old.free < 2 ^ 32 }
         ensures handles { RowHandles F.may self.old w.old.free head.now (two_names_row R.Record.shape R.Record.SIZE R.call) r.old.left result w.new.written self.new }

@@ -2,23 +2,23 @@
 
 ghost use Rattle.std.specs.Prelude.{◌≡◌, ◌<◌, ◌≤◌, ◌^◌, [], length, IfOk, OnOk, IsTrue};
 ghost use Rattle.fuse_wire.specs.Opcodes.{opcode_of};
-ghost use Rattle.virtiofsd_fuse.specs.PageSizes.{is_page_size};
+ghost use Rattle.fuse_replies.specs.PageSizes.{is_page_size};
 ghost use Rattle.virtiofsd_fuse.specs.Grammar.{given, meant, meaning, unserved_row};
 
-use crate::links::{Link, Rename, Rename2};
-use crate::new_nodes::{Create, Mkdir, Mknod};
-use crate::nodes::{
+use bitflags::Flags;
+use fuse_calls::links::{Link, Rename, Rename2};
+use fuse_calls::new_nodes::{Create, Mkdir, Mknod};
+use fuse_calls::nodes::{
     Access, Forget, Getattr, Lookup, Readlink, Removexattr, Rmdir, Setattr, Statfs, Syncfs, Unlink,
 };
-use crate::open_files::{
+use fuse_calls::open_files::{
     CopyFileRange, Fallocate, Flush, Fsync, Fsyncdir, Lseek, Open, Opendir, Release, Releasedir,
 };
-use crate::plain_requests::{Bmap, Getlk, Ioctl, NotifyReply, Poll, Setlk, Setlkw, TmpFile};
-use crate::records::read_record;
-use crate::replies::reply_error;
-use bitflags::Flags;
+use fuse_calls::plain_requests::{Bmap, Getlk, Ioctl, NotifyReply, Poll, Setlk, Setlkw, TmpFile};
 use fuse_fs::FileSystem;
 use fuse_in::InHeader;
+use fuse_replies::replies::reply_error;
+use fuse_requests::records::read_record;
 use fuse_segments::{Error, Reader, Writer};
 use fuse_wire::{Errno, FsOptions, Opcode};
 use std::alloc::Global;

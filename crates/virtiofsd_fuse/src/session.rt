@@ -1,32 +1,22 @@
 //! The start of a conversation.
 
-ghost use Rattle.std.specs.Prelude.{◌≡◌, ℕ, ◌+◌, ◌-◌, ◌/◌, ◌<◌, ◌≤◌, ◌^◌, List, [], length, IfOk, IfErr, IsTrue, bit_and, Ok};
-ghost use Rattle.vm_values.specs.Fields.{spelled};
-ghost use Rattle.fuse_wire.specs.Records.{init_out};
+ghost use Rattle.std.specs.Prelude.{◌≡◌, ℕ, ◌<◌, ◌^◌, List, [], length, IfOk, IsTrue, bit_and, Ok};
 ghost use Rattle.fuse_fs.specs.Answers.{options_answer};
 ghost use Rattle.fuse_fs.specs.Calls.{suits, Init, Destroy, Done};
-ghost use Rattle.virtiofsd_fuse.specs.PageSizes.{is_page_size};
-ghost use Rattle.virtiofsd_fuse.specs.Reading.{read_result};
-ghost use Rattle.virtiofsd_fuse.specs.Grammar.{plain_row, silent_row, init_row, flags2_of, started, versions_bytes, known_options};
-ghost use Rattle.virtiofsd_fuse.specs.Serving.{RowHandles, agreed, started_bytes};
+ghost use Rattle.virtiofsd_fuse.specs.Grammar.{plain_row, silent_row, init_row, started, known_options};
+ghost use Rattle.virtiofsd_fuse.specs.Serving.{RowHandles, agreed};
 
-use crate::answers::received;
-use crate::records::read_record;
-use crate::replies::{reply, reply_error};
 use crate::server::Server;
 use bitflags::Flags;
+use fuse_calls::received::received;
 use fuse_fs::FileSystem;
-use fuse_in::{InHeader, InitInCompat, InitInExt};
+use fuse_in::{InHeader, InitInCompat};
+use fuse_replies::init::{start_bytes, versions};
+use fuse_replies::replies::{reply, reply_error};
+use fuse_requests::records::{read_flags2, read_record};
 use fuse_segments::{Error, Reader, Writer};
-use fuse_wire::constants::{KERNEL_MINOR_VERSION, KERNEL_VERSION, MIN_KERNEL_MINOR_VERSION};
-use fuse_wire::{Errno, FsOptions, InitOut};
-use vm_values::ByteValued;
-
-/// In `InitInCompat::flags`: the record goes on.
-const INIT_EXT: u32 = 1 << 30;
-
-/// The longest write, and the longest request but a page.
-pub(crate) const MAX_BUFFER_SIZE: u32 = 1 << 20;
+use fuse_wire::constants::{KERNEL_VERSION, MIN_KERNEL_MINOR_VERSION};
+use fuse_wire::{Errno, FsOptions};
 
 // The options that are known.
 #[tactic(auto, using(crate::proofs::Options::known_bits_are))]
@@ -41,82 +31,6 @@ fn agree(capable: FsOptions, wanted: FsOptions) -> FsOptions
     ensures { result.0 ≡ agreed capable.0 wanted.0 }
 {
     capable & (wanted | FsOptions::DEFAULT)
-}
-
-// How many pages the longest write takes.
-#[tactic(auto, using(crate::proofs::Options::page_least))]
-fn max_pages(page_size: u32) -> u16
-    requires { IsTrue (is_page_size page_size) }
-    ensures { result ≡ (2 ^ 20 - 1) / page_size + 1 }
-{
-    ((MAX_BUFFER_SIZE - 1) / page_size + 1) as u16
-}
-
-// `struct fuse_init_out`.
-fn init_bytes(reply: &InitOut) -> [u8; 64]
-    ensures { result ≡ spelled (init_out reply.now) }
-{
-    let mut bytes = [0u8; 64];
-    reply.put_bytes(&mut bytes);
-    bytes
-}
-
-// The answer to a client of a later version.
-#[tactic(auto, unfolding(crate::specs::Grammar::versions_bytes))]
-fn versions() -> [u8; 64]
-    ensures { result ≡ versions_bytes }
-{
-    init_bytes(&InitOut {
-        major: KERNEL_VERSION,
-        minor: KERNEL_MINOR_VERSION,
-        max_readahead: 0,
-        flags: 0,
-        max_background: 0,
-        congestion_threshold: 0,
-        max_write: 0,
-        time_gran: 0,
-        max_pages: 0,
-        map_alignment: 0,
-        flags2: 0,
-        unused: [0; 7],
-    })
-}
-
-// The answer to a client of this version.
-#[tactic(auto, unfolding(crate::specs::Serving::started_bytes))]
-fn start_bytes(page_size: u32, readahead: u32, options: FsOptions) -> [u8; 64]
-    requires { IsTrue (is_page_size page_size) }
-    ensures { result ≡ started_bytes page_size readahead options.0 }
-{
-    let bits = options.bits();
-    init_bytes(&InitOut {
-        major: KERNEL_VERSION,
-        minor: KERNEL_MINOR_VERSION,
-        max_readahead: readahead,
-        flags: (bits % 0x1_0000_0000) as u32,
-        max_background: 65535,
-        congestion_threshold: 49149,
-        max_write: MAX_BUFFER_SIZE,
-        time_gran: 1,
-        max_pages: max_pages(page_size),
-        map_alignment: 0,
-        flags2: (bits / 0x1_0000_0000) as u32,
-        unused: [0; 7],
-    })
-}
-
-// The high half of the options that the client can.
-fn read_flags2(request: &InitInCompat, r: &mut Reader<'_>) -> Result<u32, Error>
-    ensures reads { read_result result r.new.left ≡ flags2_of request.now r.old.left }
-    ensures fault { IfErr result (λ e. e ≡ Error.DecodeMessage) }
-{
-    if request.flags & INIT_EXT == 0 {
-        return Ok(0);
-    }
-    match read_record::<InitInExt>(r) {
-        Ok(more) => Ok(more.flags2),
-        Err(error) => Err(error),
-    }
 }
 
 impl<F: FileSystem> Server<F> {

@@ -4,14 +4,15 @@ ghost use Rattle.std.specs.Prelude.{◌≡◌, ◌<◌, ◌^◌, [], length, IfO
 ghost use Rattle.vm_values.specs.Bits.{has_bit};
 ghost use Rattle.fuse_fs.specs.Answers.{written_answer};
 ghost use Rattle.virtiofsd_fuse.specs.Grammar.{write_row};
-ghost use Rattle.virtiofsd_fuse.specs.Requests.{write_call, if_set};
+ghost use Rattle.fuse_calls.specs.Requests.{write_call, if_set};
 ghost use Rattle.virtiofsd_fuse.specs.Serving.{RowHandles};
 
-use crate::answers::{received, reply_answer};
-use crate::records::read_record;
 use crate::server::Server;
+use fuse_calls::received::received;
 use fuse_fs::{Context, FileNumber, FileSystem};
 use fuse_in::{InHeader, WriteIn};
+use fuse_replies::answers::reply_answer;
+use fuse_requests::records::read_record;
 use fuse_segments::{Error, Reader, Writer, ZcReader};
 use fuse_wire::Errno;
 use fuse_wire::constants::{WRITE_CACHE, WRITE_KILL_PRIV, WRITE_LOCKOWNER};

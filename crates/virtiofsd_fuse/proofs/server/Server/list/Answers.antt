@@ -1,7 +1,7 @@
 use Rattle.std.proofs.Common.{◌≡◌, ℕ, ◌-◌, Ok, length, refl, ap, ◌∙◌, arith, subst}
 use Rattle.fuse_base.specs.Options.{FsOptions}
 use Rattle.virtiofsd_fuse.specs.Grammar.{given}
-use Rattle.virtiofsd_fuse.specs.Requests.{listing_of}
+use Rattle.virtiofsd_fuse.specs.Listings.{listing_of}
 use Rattle.virtiofsd_fuse.specs.ListingRuns.{ListRun}
 use Rattle.virtiofsd_fuse.specs.Serving.{setting}
 use Rattle.virtiofsd_fuse.proofs.Serve.{handles_reply, handles_refusal, handles_list, handles_unlisted}

@@ -3,8 +3,8 @@ use Rattle.fuse_segments.specs.Views.{WriterView}
 use Rattle.fuse_fs.specs.declared.answers.Entry.{Entry}
 use Rattle.fuse_fs.specs.Answers.{listed, context_of}
 use Rattle.fuse_fs.specs.Calls.{Done}
-use Rattle.virtiofsd_fuse.specs.Listings.{no_node, undo_call}
-use Rattle.virtiofsd_fuse.specs.Requests.{listing_of}
+use Rattle.fuse_replies.specs.Entries.{no_node}
+use Rattle.virtiofsd_fuse.specs.Listings.{undo_call, listing_of}
 use Rattle.virtiofsd_fuse.proofs.ListingLemmas.{plain_run, dot_run, placed_one, on_error, nothing_done, nothing_undone}
 use Rattle.virtiofsd_fuse.proofs.server.Server.list_entry.Goals as goal
 

@@ -1,7 +1,8 @@
 use Rattle.std.proofs.Common.{ap, sym, refl, ◌∙◌}
 use Rattle.virtiofsd_fuse.specs.Serving.{setting}
-use Rattle.virtiofsd_fuse.specs.Extras.{new_name}
-use Rattle.virtiofsd_fuse.specs.Grammar.{Given, given, with_bytes}
+use Rattle.fuse_requests.specs.Extras.{new_name}
+use Rattle.virtiofsd_fuse.specs.Grammar.{Given, given}
+use Rattle.fuse_requests.specs.Fronts.{with_bytes}
 use Rattle.virtiofsd_fuse.proofs.Serve.{ask_of, handles_one, handles_refusal}
 use Rattle.virtiofsd_fuse.proofs.Rows.{bytes_read, bytes_fault}
 use Rattle.virtiofsd_fuse.proofs.server.Server.new_name_request.Goals as goal

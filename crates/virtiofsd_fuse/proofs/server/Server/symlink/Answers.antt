@@ -1,6 +1,6 @@
 use Rattle.std.proofs.Common.{ap, sym, refl, ◌∙◌}
 use Rattle.virtiofsd_fuse.specs.Serving.{setting}
-use Rattle.virtiofsd_fuse.specs.Requests.{symlink_call}
+use Rattle.fuse_calls.specs.Requests.{symlink_call}
 use Rattle.virtiofsd_fuse.specs.Grammar.{given}
 use Rattle.virtiofsd_fuse.proofs.Serve.{ask_of, handles_one, handles_refusal}
 use Rattle.virtiofsd_fuse.proofs.Rows.{symlink_read, symlink_fault}

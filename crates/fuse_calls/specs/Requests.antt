@@ -1,0 +1,199 @@
+-- What requests ask of the file system, by their header and what they say (linux/fuse.h).
+use Rattle.std.specs.Prelude.{ℕ, Bool, true, false, ◌||◌, List, Option, Some, None, if◌then◌else◌, bit_and}
+use Rattle.vm_values.specs.Bits.{has_bit}
+use Rattle.fuse_in.specs.declared.session.InHeader.{InHeader}
+use Rattle.fuse_in.specs.declared.nodes.AccessIn.{AccessIn}
+use Rattle.fuse_in.specs.declared.nodes.GetxattrIn.{GetxattrIn}
+use Rattle.fuse_in.specs.declared.nodes.SetxattrIn.{SetxattrIn}
+use Rattle.fuse_in.specs.declared.nodes.MknodIn.{MknodIn}
+use Rattle.fuse_in.specs.declared.nodes.MkdirIn.{MkdirIn}
+use Rattle.fuse_in.specs.declared.files.CreateIn.{CreateIn}
+use Rattle.fuse_in.specs.declared.nodes.LinkIn.{LinkIn}
+use Rattle.fuse_in.specs.declared.nodes.RenameIn.{RenameIn}
+use Rattle.fuse_in.specs.declared.nodes.Rename2In.{Rename2In}
+use Rattle.fuse_in.specs.declared.files.CopyfilerangeIn.{CopyfilerangeIn}
+use Rattle.fuse_in.specs.declared.files.FallocateIn.{FallocateIn}
+use Rattle.fuse_in.specs.declared.files.FlushIn.{FlushIn}
+use Rattle.fuse_in.specs.declared.session.ForgetIn.{ForgetIn}
+use Rattle.fuse_in.specs.declared.files.FsyncIn.{FsyncIn}
+use Rattle.fuse_in.specs.declared.nodes.GetattrIn.{GetattrIn}
+use Rattle.fuse_in.specs.declared.files.LseekIn.{LseekIn}
+use Rattle.fuse_in.specs.declared.files.OpenIn.{OpenIn}
+use Rattle.fuse_in.specs.declared.files.ReadIn.{ReadIn}
+use Rattle.fuse_in.specs.declared.files.ReleaseIn.{ReleaseIn}
+use Rattle.fuse_in.specs.declared.nodes.SetattrIn.{SetattrIn}
+use Rattle.fuse_in.specs.declared.files.WriteIn.{WriteIn}
+use Rattle.fuse_fs.specs.Answers.{context_of}
+use Rattle.fuse_fs.specs.Calls.{FileCall, Access, CopyFileRange, Fallocate, Flush, Forget, Fsync, Fsyncdir, Getattr, Lookup, Lseek, Open, Opendir, Readlink, Release}
+use Rattle.fuse_fs.specs.Calls.{Releasedir, Removexattr, Rmdir, Setattr, Statfs, Syncfs, Unlink, Read, Link, Rename, Setxattr, Getxattr, Listxattr, BatchForget, Write, Extra}
+use Rattle.fuse_fs.specs.Calls.{Symlink, Mknod, Mkdir, Create, NewLink, Destroy, Getlk, Setlk, Setlkw, Bmap, Ioctl, Poll, NotifyReply}
+
+-- a number that counts only where its flag is set
+abbrev pub if_set : Bool → ℕ → Option ℕ
+if_set test n = if test then Some n else None
+
+-- LOOKUP of a name in a node
+abbrev pub lookup_call : InHeader → List ℕ → FileCall
+lookup_call h name = Lookup (context_of h) h.nodeid name
+
+-- FORGET: so many of the counts that the client holds on the node
+abbrev pub forget_call : InHeader → ForgetIn → FileCall
+forget_call h r = Forget (context_of h) h.nodeid r.nlookup
+
+-- READ: `lock_owner` counts only with FUSE_READ_LOCKOWNER (bit 1 of `read_flags`)
+abbrev pub read_call : InHeader → (room : ℕ) → ReadIn → FileCall
+read_call h room r = Read (context_of h) h.nodeid r.fh room r.size r.offset (if_set (has_bit r.read_flags 1) r.lock_owner) r.flags
+
+-- BATCH_FORGET: nodes, each with how many of the counts that the client holds on it
+abbrev pub batch_forget_call : InHeader → List (ℕ × ℕ) → FileCall
+batch_forget_call h pairs = BatchForget (context_of h) pairs
+
+-- WRITE: `lock_owner` counts only with FUSE_WRITE_LOCKOWNER (bit 1 of `write_flags`); the page cache writes late with
+-- FUSE_WRITE_CACHE (bit 0), and set-id bits are dropped with FUSE_WRITE_KILL_SUIDGID (bit 2)
+abbrev pub write_call : InHeader → WriteIn → List ℕ → FileCall
+write_call h r bytes = Write (context_of h) h.nodeid r.fh bytes r.size r.offset (if_set (has_bit r.write_flags 1) r.lock_owner)
+    (has_bit r.write_flags 0) (has_bit r.write_flags 2) r.flags
+
+-- GETATTR: the handle counts only with FUSE_GETATTR_FH (bit 0 of `flags`)
+abbrev pub getattr_call : InHeader → GetattrIn → FileCall
+getattr_call h r = Getattr (context_of h) h.nodeid (if_set (has_bit r.flags 0) r.fh)
+
+-- the bits of `valid` in SETATTR that are known
+abbrev pub known_setattr : ℕ
+known_setattr = 0xdbf
+
+-- SETATTR: the handle counts only with FATTR_FH (bit 6 of `valid`)
+abbrev pub setattr_call : InHeader → SetattrIn → FileCall
+setattr_call h r = Setattr (context_of h) h.nodeid r (if_set (has_bit r.valid 6) r.fh) (bit_and r.valid known_setattr)
+
+-- READLINK
+abbrev pub readlink_call : InHeader → FileCall
+readlink_call h = Readlink (context_of h) h.nodeid
+
+-- UNLINK
+abbrev pub unlink_call : InHeader → List ℕ → FileCall
+unlink_call h name = Unlink (context_of h) h.nodeid name
+
+-- RMDIR
+abbrev pub rmdir_call : InHeader → List ℕ → FileCall
+rmdir_call h name = Rmdir (context_of h) h.nodeid name
+
+-- OPEN: set-id bits are dropped with FUSE_OPEN_KILL_SUIDGID (bit 0 of `open_flags`)
+abbrev pub open_call : InHeader → OpenIn → FileCall
+open_call h r = Open (context_of h) h.nodeid (has_bit r.open_flags 0) r.flags
+
+-- STATFS
+abbrev pub statfs_call : InHeader → FileCall
+statfs_call h = Statfs (context_of h) h.nodeid
+
+-- RELEASE: `lock_owner` counts only with FUSE_RELEASE_FLUSH or FUSE_RELEASE_FLOCK_UNLOCK (bits 0 and 1 of `release_flags`)
+abbrev pub release_call : InHeader → ReleaseIn → FileCall
+release_call h r = Release (context_of h) h.nodeid r.flags r.fh (has_bit r.release_flags 0) (has_bit r.release_flags 1)
+    (if_set (has_bit r.release_flags 0 || has_bit r.release_flags 1) r.lock_owner)
+
+-- FSYNC: the data alone with FUSE_FSYNC_FDATASYNC (bit 0 of `fsync_flags`)
+abbrev pub fsync_call : InHeader → FsyncIn → FileCall
+fsync_call h r = Fsync (context_of h) h.nodeid (has_bit r.fsync_flags 0) r.fh
+
+-- FSYNCDIR, likewise
+abbrev pub fsyncdir_call : InHeader → FsyncIn → FileCall
+fsyncdir_call h r = Fsyncdir (context_of h) h.nodeid (has_bit r.fsync_flags 0) r.fh
+
+-- REMOVEXATTR
+abbrev pub removexattr_call : InHeader → List ℕ → FileCall
+removexattr_call h name = Removexattr (context_of h) h.nodeid name
+
+-- FLUSH
+abbrev pub flush_call : InHeader → FlushIn → FileCall
+flush_call h r = Flush (context_of h) h.nodeid r.fh r.lock_owner
+
+-- OPENDIR
+abbrev pub opendir_call : InHeader → OpenIn → FileCall
+opendir_call h r = Opendir (context_of h) h.nodeid r.flags
+
+-- RELEASEDIR
+abbrev pub releasedir_call : InHeader → ReleaseIn → FileCall
+releasedir_call h r = Releasedir (context_of h) h.nodeid r.flags r.fh
+
+-- ACCESS
+abbrev pub access_call : InHeader → AccessIn → FileCall
+access_call h r = Access (context_of h) h.nodeid r.mask
+
+-- FALLOCATE
+abbrev pub fallocate_call : InHeader → FallocateIn → FileCall
+fallocate_call h r = Fallocate (context_of h) h.nodeid r.fh r.mode r.offset r.length
+
+-- LSEEK
+abbrev pub lseek_call : InHeader → LseekIn → FileCall
+lseek_call h r = Lseek (context_of h) h.nodeid r.fh r.offset r.whence
+
+-- COPY_FILE_RANGE
+abbrev pub copy_file_range_call : InHeader → CopyfilerangeIn → FileCall
+copy_file_range_call h r = CopyFileRange (context_of h) h.nodeid r.fh_in r.off_in r.nodeid_out r.fh_out r.off_out r.len r.flags
+
+-- SYNCFS
+abbrev pub syncfs_call : InHeader → FileCall
+syncfs_call h = Syncfs (context_of h) h.nodeid
+
+-- LINK of an old node
+abbrev pub link_call : InHeader → LinkIn → List ℕ → FileCall
+link_call h r name = Link (context_of h) r.oldnodeid h.nodeid name
+
+-- RENAME of the old name to the new one
+abbrev pub rename_call : InHeader → RenameIn → List ℕ × List ℕ → FileCall
+rename_call h r names = Rename (context_of h) h.nodeid names.0 r.newdir names.1 0
+
+-- RENAME2, likewise, with the flags RENAME_NOREPLACE, RENAME_EXCHANGE and RENAME_WHITEOUT
+abbrev pub rename2_call : InHeader → Rename2In → List ℕ × List ℕ → FileCall
+rename2_call h r names = Rename (context_of h) h.nodeid names.0 r.newdir names.1 (bit_and r.flags 7)
+
+-- the bits of `setxattr_flags` that are known
+abbrev pub known_setxattr : ℕ
+known_setxattr = 1
+
+-- SETXATTR of a name to a value; of its further flags one is known
+abbrev pub setxattr_call : InHeader → SetxattrIn → List ℕ × List ℕ → FileCall
+setxattr_call h r parts = Setxattr (context_of h) h.nodeid parts.0 parts.1 r.flags (bit_and r.setxattr_flags known_setxattr)
+
+-- GETXATTR
+abbrev pub getxattr_call : InHeader → GetxattrIn → List ℕ → FileCall
+getxattr_call h r name = Getxattr (context_of h) h.nodeid name r.size
+
+-- LISTXATTR
+abbrev pub listxattr_call : InHeader → GetxattrIn → FileCall
+listxattr_call h r = Listxattr (context_of h) h.nodeid r.size
+
+-- SYMLINK
+abbrev pub symlink_call : InHeader → NewLink → FileCall
+symlink_call h x = Symlink (context_of h) x.link h.nodeid x.name x.extra
+
+-- MKNOD
+abbrev pub mknod_call : InHeader → MknodIn → List ℕ × Extra → FileCall
+mknod_call h r x = Mknod (context_of h) h.nodeid x.0 r.mode r.rdev r.umask x.1
+
+-- MKDIR
+abbrev pub mkdir_call : InHeader → MkdirIn → List ℕ × Extra → FileCall
+mkdir_call h r x = Mkdir (context_of h) h.nodeid x.0 r.mode r.umask x.1
+
+-- CREATE: set-id bits are dropped with FUSE_OPEN_KILL_SUIDGID (bit 0 of `open_flags`)
+abbrev pub create_call : InHeader → CreateIn → List ℕ × Extra → FileCall
+create_call h r x = Create (context_of h) h.nodeid x.0 r.mode (has_bit r.open_flags 0) r.flags r.umask x.1
+
+-- the calls whose good answer is not told
+abbrev pub is_silent : FileCall → Bool
+is_silent (Forget c n k) = true
+is_silent (BatchForget c counts) = true
+is_silent Getlk = true
+is_silent Setlk = true
+is_silent Setlkw = true
+is_silent Bmap = true
+is_silent Ioctl = true
+is_silent Poll = true
+is_silent NotifyReply = true
+is_silent Destroy = true
+is_silent _ = false
+
+-- DESTROY ends what was agreed
+abbrev pub options_after : ℕ → FileCall → ℕ
+options_after options Destroy = 0
+options_after options _ = options

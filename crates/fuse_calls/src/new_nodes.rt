@@ -1,0 +1,116 @@
+//! Requests that make a node.
+
+ghost use Rattle.std.specs.Prelude.{IsTrue};
+ghost use Rattle.fuse_fs.specs.Answers.{extra_of, entry_answer};
+ghost use Rattle.fuse_fs.specs.Calls.{suits};
+ghost use Rattle.fuse_calls.specs.Requests.{symlink_call, mknod_call, mkdir_call, create_call};
+
+use crate::received::{received_entry, received_file};
+use crate::requests::NewNameRequest;
+use fuse_fs::{Context, Entry, Extensions, FileNumber, FileSystem};
+use fuse_in::{CreateIn, InHeader, MkdirIn, MknodIn};
+use fuse_wire::constants::OPEN_KILL_SUIDGID;
+use fuse_wire::{Errno, OpenOptions};
+
+/// MKNOD: a file of a kind is made.
+pub struct Mknod;
+
+impl<F: FileSystem> NewNameRequest<F> for Mknod {
+    type Record = MknodIn;
+
+    type Answer = Entry<F::Inode>;
+
+    ghost call = { mknod_call };
+
+    fn ask(
+        fs: &mut F,
+        head: &InHeader,
+        request: &MknodIn,
+        name: &[u8],
+        extensions: Extensions,
+    ) -> Result<Entry<F::Inode>, Errno> {
+        received_entry(fs.mknod(
+            Context::from(*head),
+            F::Inode::numbered(head.nodeid),
+            name,
+            request.mode,
+            request.rdev,
+            request.umask,
+            extensions,
+        ))
+    }
+}
+
+/// MKDIR: a directory is made.
+pub struct Mkdir;
+
+impl<F: FileSystem> NewNameRequest<F> for Mkdir {
+    type Record = MkdirIn;
+
+    type Answer = Entry<F::Inode>;
+
+    ghost call = { mkdir_call };
+
+    fn ask(
+        fs: &mut F,
+        head: &InHeader,
+        request: &MkdirIn,
+        name: &[u8],
+        extensions: Extensions,
+    ) -> Result<Entry<F::Inode>, Errno> {
+        received_entry(fs.mkdir(
+            Context::from(*head),
+            F::Inode::numbered(head.nodeid),
+            name,
+            request.mode,
+            request.umask,
+            extensions,
+        ))
+    }
+}
+
+/// CREATE: a file is made and opened.
+pub struct Create;
+
+impl<F: FileSystem> NewNameRequest<F> for Create {
+    type Record = CreateIn;
+
+    type Answer = (Entry<F::Inode>, Option<F::Handle>, OpenOptions);
+
+    ghost call = { create_call };
+
+    fn ask(
+        fs: &mut F,
+        head: &InHeader,
+        request: &CreateIn,
+        name: &[u8],
+        extensions: Extensions,
+    ) -> Result<(Entry<F::Inode>, Option<F::Handle>, OpenOptions), Errno> {
+        received_file(fs.create(
+            Context::from(*head),
+            F::Inode::numbered(head.nodeid),
+            name,
+            request.mode,
+            request.open_flags & OPEN_KILL_SUIDGID != 0,
+            request.flags,
+            request.umask,
+            extensions,
+        ))
+    }
+}
+
+/// Asks for a symbolic link.
+pub fn ask_symlink<F: FileSystem>(
+    fs: &mut F,
+    head: &InHeader,
+    link: &[u8],
+    name: &[u8],
+    extensions: Extensions,
+) -> Result<Entry<F::Inode>, Errno>
+    ensures may { F.may fs.old (symlink_call head.now (record { name = name.now; link = link.now; extra = extra_of extensions })) (entry_answer F.Inode.number result) fs.new }
+    ensures suits { IsTrue (suits (symlink_call head.now (record { name = name.now; link = link.now; extra = extra_of extensions })) (entry_answer F.Inode.number result)) }
+{
+    let parent = F::Inode::numbered(head.nodeid);
+    let context = Context::from(*head);
+    received_entry(fs.symlink(context, link, parent, name, extensions))
+}

@@ -1,0 +1,126 @@
+//! Requests by their shape: what each asks of a file system.
+
+ghost use Rattle.std.specs.Prelude.{◌≡◌, ℕ, List, IsTrue};
+ghost use Rattle.fuse_in.specs.declared.session.InHeader.{InHeader};
+ghost use Rattle.fuse_fs.specs.Answers.{extra_of};
+ghost use Rattle.fuse_fs.specs.Calls.{FileCall, Extra, suits};
+ghost use Rattle.fuse_calls.specs.Requests.{is_silent, options_after};
+
+use fuse_fs::{Answer, Extensions, FileSystem};
+use fuse_in::{InHeader, InRecord};
+use fuse_wire::Errno;
+
+/// A request that is one record.
+pub trait RecordRequest<F: FileSystem> {
+    type Record: InRecord;
+
+    type Answer: Answer;
+
+    // The call that it asks.
+    ghost call: { InHeader → Self.Record → FileCall };
+
+    /// Asks the file system.
+    fn ask(fs: &mut F, head: &InHeader, request: &Self::Record) -> Result<Self::Answer, Errno>
+        ensures may { F.may fs.old (call head.now request.now) (Self.Answer.said result) fs.new }
+        ensures suits { IsTrue (suits (call head.now request.now) (Self.Answer.said result)) }
+        ensures silent { is_silent (call head.now request.now) ≡ Self.Answer.silent }
+        ensures options { (options : ℕ) → options_after options (call head.now request.now) ≡ options };
+}
+
+/// A request that is nothing but its header.
+pub trait PlainRequest<F: FileSystem> {
+    type Answer: Answer;
+
+    // The call that it asks.
+    ghost call: { InHeader → FileCall };
+
+    /// Asks the file system.
+    fn ask(fs: &mut F, head: &InHeader) -> Result<Self::Answer, Errno>
+        ensures may { F.may fs.old (call head.now) (Self.Answer.said result) fs.new }
+        ensures suits { IsTrue (suits (call head.now) (Self.Answer.said result)) }
+        ensures silent { is_silent (call head.now) ≡ Self.Answer.silent }
+        ensures options { (options : ℕ) → options_after options (call head.now) ≡ options };
+}
+
+/// A request that is one name.
+pub trait NameRequest<F: FileSystem> {
+    type Answer: Answer;
+
+    // The call that it asks.
+    ghost call: { InHeader → List ℕ → FileCall };
+
+    /// Asks the file system.
+    fn ask(fs: &mut F, head: &InHeader, name: &[u8]) -> Result<Self::Answer, Errno>
+        ensures may { F.may fs.old (call head.now name.now) (Self.Answer.said result) fs.new }
+        ensures suits { IsTrue (suits (call head.now name.now) (Self.Answer.said result)) }
+        ensures silent { is_silent (call head.now name.now) ≡ Self.Answer.silent }
+        ensures options { (options : ℕ) → options_after options (call head.now name.now) ≡ options };
+}
+
+/// A request that is one record and one name.
+pub trait RecordNameRequest<F: FileSystem> {
+    type Record: InRecord;
+
+    type Answer: Answer;
+
+    // The call that it asks.
+    ghost call: { InHeader → Self.Record → List ℕ → FileCall };
+
+    /// Asks the file system.
+    fn ask(
+        fs: &mut F,
+        head: &InHeader,
+        request: &Self::Record,
+        name: &[u8],
+    ) -> Result<Self::Answer, Errno>
+        ensures may { F.may fs.old (call head.now request.now name.now) (Self.Answer.said result) fs.new }
+        ensures suits { IsTrue (suits (call head.now request.now name.now) (Self.Answer.said result)) }
+        ensures silent { is_silent (call head.now request.now name.now) ≡ Self.Answer.silent }
+        ensures options { (options : ℕ) → options_after options (call head.now request.now name.now) ≡ options };
+}
+
+/// A request that is one record and two parts: two names, or a name and a value.
+pub trait TwoPartsRequest<F: FileSystem> {
+    type Record: InRecord;
+
+    type Answer: Answer;
+
+    // The call that it asks.
+    ghost call: { InHeader → Self.Record → List ℕ × List ℕ → FileCall };
+
+    /// Asks the file system.
+    fn ask(
+        fs: &mut F,
+        head: &InHeader,
+        request: &Self::Record,
+        first: &[u8],
+        second: &[u8],
+    ) -> Result<Self::Answer, Errno>
+        ensures may { F.may fs.old (call head.now request.now (first.now, second.now)) (Self.Answer.said result) fs.new }
+        ensures suits { IsTrue (suits (call head.now request.now (first.now, second.now)) (Self.Answer.said result)) }
+        ensures silent { is_silent (call head.now request.now (first.now, second.now)) ≡ Self.Answer.silent }
+        ensures options { (options : ℕ) → options_after options (call head.now request.now (first.now, second.now)) ≡ options };
+}
+
+/// A request that is one record and the name of a node that is made.
+pub trait NewNameRequest<F: FileSystem> {
+    type Record: InRecord;
+
+    type Answer: Answer;
+
+    // The call that it asks.
+    ghost call: { InHeader → Self.Record → List ℕ × Extra → FileCall };
+
+    /// Asks the file system.
+    fn ask(
+        fs: &mut F,
+        head: &InHeader,
+        request: &Self::Record,
+        name: &[u8],
+        extensions: Extensions,
+    ) -> Result<Self::Answer, Errno>
+        ensures may { F.may fs.old (call head.now request.now (name.now, extra_of extensions)) (Self.Answer.said result) fs.new }
+        ensures suits { IsTrue (suits (call head.now request.now (name.now, extra_of extensions)) (Self.Answer.said result)) }
+        ensures silent { is_silent (call head.now request.now (name.now, extra_of extensions)) ≡ Self.Answer.silent }
+        ensures options { (options : ℕ) → options_after options (call head.now request.now (name.now, extra_of extensions)) ≡ options };
+}

@@ -1,0 +1,108 @@
+//! Replies, whole or not at all.
+
+ghost use Rattle.std.specs.Prelude.{◌≡◌, ◌+◌, ◌<◌, ◌≤◌, ◌^◌, [], ◌++◌, length, drop, IfOk};
+ghost use Rattle.std.specs.Result.{ForOk};
+ghost use Rattle.vm_values.specs.Fields.{spelled};
+ghost use Rattle.fuse_wire.specs.Records.{out_header};
+ghost use Rattle.fuse_replies.specs.WholeReplies.{reply_bytes, error_bytes, data_reply, told, sent};
+
+use fuse_segments::{Error, Writer};
+use fuse_wire::{Errno, OutHeader};
+use std::io::Write;
+use vm_values::ByteValued;
+
+/// The length of a reply's header, `struct fuse_out_header`.
+pub const OUT_HEADER_LEN: usize = 16;
+
+/// The bytes of a reply's header.
+pub fn header_bytes(len: u32, error: i32, unique: u64) -> [u8; OUT_HEADER_LEN]
+    ensures { result ≡ spelled (out_header (record { len = len; error = error; unique = unique })) }
+{
+    let mut bytes = [0u8; OUT_HEADER_LEN];
+    let header = OutHeader { len, error, unique };
+    header.put_bytes(&mut bytes);
+    bytes
+}
+
+/// The bytes of an error's reply.
+#[tactic(auto, unfolding(crate::specs::WholeReplies::error_bytes))]
+pub fn error_reply(unique: u64, error: Errno) -> [u8; OUT_HEADER_LEN]
+    ensures { result ≡ error_bytes unique error }
+{
+    header_bytes(16, -(error.raw() as i32), unique)
+}
+
+/// Writes these bytes, which have room.
+pub fn append(w: &mut Writer, bytes: &[u8])
+    requires { length bytes.now ≤ w.old.free }
+    ensures written { w.new.written ≡ w.old.written ++ bytes.now }
+    ensures free { w.new.free + length bytes.now ≡ w.old.free }
+{
+    w.write_all(bytes).unwrap();
+}
+
+/// Writes a good reply.
+#[tactic(auto, using(crate::proofs::ReplyLemmas::reply_long, crate::proofs::ReplyLemmas::reply_fits))]
+pub fn reply(w: &mut Writer, unique: u64, body: &[u8]) -> Result<usize, Error>
+    requires fresh { w.old.written ≡ [] }
+    requires room { w.old.free < 2 ^ 32 }
+    ensures sent { told result w.new.written ≡ sent w.old.free (reply_bytes unique body.now) }
+    ensures length { IfOk result (λ n. n ≡ length w.new.written) }
+{
+    let room = w.available_bytes();
+    if room < OUT_HEADER_LEN || room - OUT_HEADER_LEN < body.len() {
+        return Err(Error::EncodeMessage);
+    }
+    let len = OUT_HEADER_LEN + body.len();
+    append(w, &header_bytes(len as u32, 0, unique));
+    append(w, body);
+    Ok(len)
+}
+
+/// Writes a good reply that is one record.
+pub fn reply_record<T: ByteValued>(w: &mut Writer, unique: u64, body: &T) -> Result<usize, Error>
+    requires fresh { w.old.written ≡ [] }
+    requires room { w.old.free < 2 ^ 32 }
+    ensures sent { told result w.new.written ≡ sent w.old.free (reply_bytes unique (spelled (T.fields body.now))) }
+    ensures length { IfOk result (λ n. n ≡ length w.new.written) }
+{
+    let mut buffer = [0; 256];
+    body.put_bytes(&mut buffer[..T::SIZE]);
+    reply(w, unique, &buffer[..T::SIZE])
+}
+
+/// Writes an error.
+#[tactic(auto, using(crate::proofs::ReplyLemmas::error_long, crate::proofs::ReplyLemmas::error_fits))]
+pub fn reply_error(w: &mut Writer, unique: u64, error: Errno) -> Result<usize, Error>
+    requires fresh { w.old.written ≡ [] }
+    ensures sent { told result w.new.written ≡ sent w.old.free (error_bytes unique error) }
+    ensures length { IfOk result (λ n. n ≡ length w.new.written) }
+{
+    if w.available_bytes() < OUT_HEADER_LEN {
+        return Err(Error::EncodeMessage);
+    }
+    append(w, &error_reply(unique, error));
+    Ok(OUT_HEADER_LEN)
+}
+
+/// Puts a header before the bytes that stand behind its place, or an error in place of all of it.
+pub fn reply_data(w: &mut Writer, unique: u64, answer: Result<usize, Errno>) -> usize
+    requires behind { 16 ≤ length w.old.written }
+    requires count { ForOk answer (λ n. 16 + n ≡ length w.old.written) }
+    requires small { length w.old.written < 2 ^ 32 }
+    ensures reply { w.new.written ≡ data_reply unique answer (drop 16 w.old.written) }
+    ensures length { result ≡ length w.new.written }
+{
+    match answer {
+        Ok(n) => {
+            let len = OUT_HEADER_LEN + n;
+            w.put_front(&header_bytes(len as u32, 0, unique));
+            len
+        }
+        Err(error) => {
+            w.clear();
+            append(w, &error_reply(unique, error));
+            OUT_HEADER_LEN
+        }
+    }
+}

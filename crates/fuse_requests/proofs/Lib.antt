@@ -1,0 +1,4 @@
+pub mod ExtraLemmas
+pub mod ForgetLemmas
+pub mod NameLemmas
+pub mod RecordLemmas

@@ -1,0 +1,3 @@
+pub mod Extras
+pub mod Fronts
+pub mod Reading

@@ -1,0 +1,34 @@
+//! BATCH_FORGET's pairs.
+
+ghost use Rattle.std.specs.Prelude.{◌≡◌, Ok, Err, IfOk, IfErr, false};
+ghost use Rattle.fuse_fs.specs.Answers.{pair_numbers};
+ghost use Rattle.fuse_segments.specs.Errors.{is_memory};
+ghost use Rattle.fuse_requests.specs.Reading.{Faults, many};
+ghost use Rattle.fuse_requests.specs.Fronts.{forget_pair};
+
+use crate::records::read_record;
+use fuse_fs::FileNumber;
+use fuse_segments::{Error, Reader};
+use fuse_wire::ForgetOne;
+use std::alloc::Global;
+
+/// The next pairs of a node and a count. The memory for all of them is had first.
+pub fn read_pairs<I: FileNumber>(
+    alloc: Global,
+    r: &mut Reader<'_>,
+    count: usize,
+) -> Result<Vec<(I, u64)>, Error>
+    ensures ok { IfOk result (λ pairs. Ok (pair_numbers I.number pairs.items, r.new.left) ≡ many count forget_pair r.old.left) }
+    ensures err { IfErr result (λ e. is_memory e ≡ false → Err (Faults e) ≡ many count forget_pair r.old.left) }
+{
+    let Ok(mut pairs) = Vec::with_capacity(alloc, count) else {
+        return Err(Error::OutOfMemory);
+    };
+    for _ in 0..count {
+        match read_record::<ForgetOne>(r) {
+            Ok(one) => pairs.push((I::numbered(one.nodeid), one.nlookup)).unwrap(),
+            Err(error) => return Err(error),
+        }
+    }
+    Ok(pairs)
+}

@@ -1,0 +1,9 @@
+//! The parts of FUSE requests: records, names, values and extensions, read from the front of what is left.
+#![tactic(auto)]
+
+pub mod extensions;
+pub mod forgets;
+pub mod names;
+pub mod new_names;
+pub mod records;
+pub mod xattrs;

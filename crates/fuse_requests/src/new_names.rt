@@ -1,0 +1,85 @@
+//! Names of nodes that are made, with the extensions after them.
+
+ghost use Rattle.std.specs.Prelude.{◌≡◌, ◌&&◌, Ok, Err, IfOk, IfErr, false};
+ghost use Rattle.fuse_segments.specs.Errors.{is_memory};
+ghost use Rattle.fuse_requests.specs.Reading.{Faults, value_of};
+ghost use Rattle.fuse_requests.specs.Extras.{sent_of, parts_of, new_name, new_link};
+
+use crate::extensions::{Received, received_extensions};
+use crate::names::front_name;
+use fuse_segments::Error;
+use fuse_wire::FsOptions;
+
+/// The name of a node that is made, and what comes with it.
+#[derive(Clone, Copy)]
+pub struct NewName<'a> {
+    pub name: &'a [u8],
+    pub received: Received<'a>,
+}
+
+/// The name of a symbolic link that is made, what it leads to, and what comes with it.
+#[derive(Clone, Copy)]
+pub struct LinkParts<'a> {
+    pub name: &'a [u8],
+    pub link: &'a [u8],
+    pub received: Received<'a>,
+}
+
+/// What these bytes say of a node that is made.
+#[tactic(auto, using(crate::proofs::ExtraLemmas::new_given, crate::proofs::ExtraLemmas::new_endless, crate::proofs::ExtraLemmas::new_refused, crate::proofs::ExtraLemmas::new_unnamed))]
+pub fn new_name<'a>(options: FsOptions, bytes: &'a [u8]) -> Result<NewName<'a>, Error>
+    ensures reads { IfOk result (λ x. Ok (x.name.now, parts_of (sent_of x.received)) ≡ value_of (new_name options.0 bytes.now)) }
+    ensures fault { IfErr result (λ e. (Err (Faults e) ≡ value_of (new_name options.0 bytes.now)) × (is_memory e ≡ false)) }
+{
+    match front_name(bytes) {
+        Ok(front) => match received_extensions(options, front.rest) {
+            Ok(received) => {
+                if front.ends {
+                    Ok(NewName {
+                        name: front.name,
+                        received,
+                    })
+                } else {
+                    Err(Error::InvalidCString)
+                }
+            }
+            Err(error) => Err(error),
+        },
+        Err(error) => Err(error),
+    }
+}
+
+// Whether both names end.
+fn both_end(first: bool, second: bool) -> bool
+    ensures { result ≡ (first && second) }
+{
+    first && second
+}
+
+/// What these bytes say of a symbolic link that is made.
+#[tactic(auto, using(crate::proofs::ExtraLemmas::link_given, crate::proofs::ExtraLemmas::link_endless, crate::proofs::ExtraLemmas::link_refused, crate::proofs::ExtraLemmas::link_unlinked, crate::proofs::ExtraLemmas::link_unnamed))]
+pub fn new_link<'a>(options: FsOptions, bytes: &'a [u8]) -> Result<LinkParts<'a>, Error>
+    ensures reads { IfOk result (λ x. Ok (record { name = x.name.now; link = x.link.now; extra = parts_of (sent_of x.received) }) ≡ value_of (new_link options.0 bytes.now)) }
+    ensures fault { IfErr result (λ e. (Err (Faults e) ≡ value_of (new_link options.0 bytes.now)) × (is_memory e ≡ false)) }
+{
+    match front_name(bytes) {
+        Ok(front) => match front_name(front.rest) {
+            Ok(link) => match received_extensions(options, link.rest) {
+                Ok(received) => {
+                    if both_end(front.ends, link.ends) {
+                        Ok(LinkParts {
+                            name: front.name,
+                            link: link.name,
+                            received,
+                        })
+                    } else {
+                        Err(Error::InvalidCString)
+                    }
+                }
+                Err(error) => Err(error),
+            },
+            Err(error) => Err(error),
+        },
+        Err(error) => Err(error),
+    }
+}

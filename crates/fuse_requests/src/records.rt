@@ -1,0 +1,36 @@
+//! The records of requests, read from a reader.
+
+ghost use Rattle.std.specs.Prelude.{◌≡◌, IfErr};
+ghost use Rattle.fuse_requests.specs.Reading.{read_result, reading_of};
+ghost use Rattle.fuse_requests.specs.Fronts.{flags2_of};
+
+use fuse_in::{InRecord, InitInCompat, InitInExt};
+use fuse_segments::{Error, Reader};
+
+/// In `InitInCompat::flags`: the record goes on.
+const INIT_EXT: u32 = 1 << 30;
+
+/// A record; a short rest can't be decoded.
+pub fn read_record<T: InRecord>(r: &mut Reader<'_>) -> Result<T, Error>
+    ensures reads { read_result result r.new.left ≡ reading_of T.shape r.old.left }
+    ensures fault { IfErr result (λ e. e ≡ Error.DecodeMessage) }
+{
+    match r.read_obj() {
+        Ok(record) => Ok(record),
+        Err(_) => Err(Error::DecodeMessage),
+    }
+}
+
+/// The high half of the options that the client can, where INIT's record goes on with it.
+pub fn read_flags2(request: &InitInCompat, r: &mut Reader<'_>) -> Result<u32, Error>
+    ensures reads { read_result result r.new.left ≡ flags2_of request.now r.old.left }
+    ensures fault { IfErr result (λ e. e ≡ Error.DecodeMessage) }
+{
+    if request.flags & INIT_EXT == 0 {
+        return Ok(0);
+    }
+    match read_record::<InitInExt>(r) {
+        Ok(more) => Ok(more.flags2),
+        Err(error) => Err(error),
+    }
+}
