@@ -1,8 +1,6 @@
 -- A device and what it answers, as the plain machine has them.
 use Rattle.std.specs.Prelude.{◌≡◌, ℕ, Bool, IsTrue, List, [], length, Option, Some, None, Result, Ok, Err}
-use Rattle.vm_memory_core.specs.Host.{Host}
-use Rattle.vm_memory.specs.Layout.{Region}
-use Rattle.vm_memory.specs.Memory.{Memory, memory_of}
+use Rattle.vm_memory.specs.Memory.{Memory}
 use Rattle.fs_queue.specs.declared.fault.QueueError.{QueueError}
 use Rattle.fs_queue.specs.declared.fault.QueueError.TheVariants as stop
 use Rattle.fs_queue.specs.Queue.{Queue}
@@ -29,9 +27,9 @@ outcome_of (Ok None) = Idle
 outcome_of (Ok (Some x)) = Exchanged (exchange_of x.0) x.1
 outcome_of (Err e) = Refused e
 
--- a device over a host and a layout, as the plain machine
-abbrev pub state_of : {F : Type 0} → Host → List Region → DeviceParts F → State F
-state_of h layout d = record { memory = memory_of h layout; queues = d.queues; options = d.options; files = d.files; limit = d.limit; page_size = d.page_size }
+-- a device over a memory, as the plain machine
+abbrev pub state_of : {F : Type 0} → Memory → DeviceParts F → State F
+state_of m d = record { memory = m; queues = d.queues; options = d.options; files = d.files; limit = d.limit; page_size = d.page_size }
 
 -- a harvested page
 abbrev pub page_view : HarvestedPage → Page

@@ -2,8 +2,6 @@
 
 ghost use Rattle.std.specs.Prelude.{◌≡◌, ◌≤◌, ◌<◌, ◌^◌, List, length, set, slice_get, [], IfErr, IfOk, IfSome, None, OnErr, OnOk, option_map};
 ghost use Rattle.vm_memory_core.specs.Host.{shape};
-ghost use Rattle.vm_memory.specs.Layout.{Region, HostHolds};
-ghost use Rattle.vm_memory.specs.Memory.{memory_of};
 ghost use Rattle.fs_queue.specs.Queue.{Queue};
 ghost use Rattle.fs_queue.specs.Taking.{Asked};
 ghost use Rattle.fs_queue.specs.Windows.{IsTaken, TakenLiesIn, room_places};
@@ -16,7 +14,7 @@ use fuse_fs::FileSystem;
 use std::alloc::Global;
 use std::marker::Model;
 use virtiofsd_fuse::Server;
-use vm_memory::GuestMemoryMmap;
+use vm_memory::GuestMemory;
 use vm_memory_core::{HostMemory, NewBitmap};
 
 /// A server behind its queues, of which there are 1 to 64. A request or a room longer than the limit, from 0x101000 to 2^31
@@ -43,16 +41,16 @@ ghost use Rattle.fs_device.specs.Run.{fresh_queue};
 ghost use Rattle.fs_device.specs.declared.error.DeviceError.TheVariants.{NoSuchQueue};
 
 // One step of one queue.
-fn step<F: FileSystem, B: NewBitmap>(
+fn step<F: FileSystem, M: GuestMemory, B: NewBitmap>(
     alloc: Global,
     server: &mut Server<F>,
     host: &mut HostMemory<B>,
-    mem: &GuestMemoryMmap,
+    mem: &M,
     limit: u32,
     queue: &mut Queue,
 ) -> Result<Option<(Exchange, bool)>, QueueError>
-    requires { HostHolds host.old mem.now }
-    ensures step { StepsOne F.may server.old.page_size (memory_of host.old mem.now) limit queue.old (server_state server.old) result queue.new (memory_of host.new mem.now) (server_state server.new) }
+    requires { M.IsHeld mem.now host.old }
+    ensures step { StepsOne F.may server.old.page_size (M.memory mem.now host.old) limit queue.old (server_state server.old) result queue.new (M.memory mem.now host.new) (server_state server.new) }
     ensures shape { shape host.new ≡ shape host.old }
     ensures page_size { server.new.page_size ≡ server.old.page_size }
 {
@@ -99,15 +97,15 @@ impl<F: FileSystem> Device<F> {
     }
 
     /// Serves the next chain of a queue: what was exchanged, and whether the driver wants to be told; nothing where none waits.
-    pub fn process_one<B: NewBitmap>(
+    pub fn process_one<M: GuestMemory, B: NewBitmap>(
         &mut self,
         alloc: Global,
         host: &mut HostMemory<B>,
-        mem: &GuestMemoryMmap,
+        mem: &M,
         queue: usize,
     ) -> Result<Option<(Exchange, bool)>, DeviceError>
-        requires { HostHolds host.old mem.now }
-        ensures step { (calls : Calls) × Step F.may (state_of host.old mem.now self.old) queue calls (outcome_of result) (state_of host.new mem.now self.new) }
+        requires { M.IsHeld mem.now host.old }
+        ensures step { (calls : Calls) × Step F.may (state_of (M.memory mem.now host.old) self.old) queue calls (outcome_of result) (state_of (M.memory mem.now host.new) self.new) }
         ensures shape { shape host.new ≡ shape host.old }
     {
         if queue >= self.queues.len() {

@@ -2,7 +2,6 @@
 
 ghost use Rattle.std.specs.Prelude.{◌≡◌, ◌<◌, ◌≤◌, [], None, Some, IfOk, OnErr, vec_capacity};
 ghost use Rattle.vm_memory_core.specs.Host.{shape};
-ghost use Rattle.vm_memory.specs.Layout.{HostHolds};
 
 use crate::device::Device;
 use crate::error::DeviceError;
@@ -10,7 +9,7 @@ use crate::exchange::Exchange;
 use fs_queue::QueueError;
 use fuse_fs::FileSystem;
 use std::alloc::{AllocError, Global};
-use vm_memory::GuestMemoryMmap;
+use vm_memory::GuestMemory;
 use vm_memory_core::{HostMemory, NewBitmap};
 
 /// The chains that were exchanged one after another, each with whether the driver is to be told, and why none came after
@@ -63,16 +62,16 @@ impl<F: FileSystem> Device<F> {
     /// Serves the next chains of a queue one after another, until `most` are done, none waits or a step is refused. A missing
     /// queue is refused first, whatever memory there is; 9 comes where there is no room for `most` exchanges.
     #[tactic(auto, using(crate::proofs::KickLemmas::room_wanted))]
-    pub fn process_queue<B: NewBitmap>(
+    pub fn process_queue<M: GuestMemory, B: NewBitmap>(
         &mut self,
         alloc: Global,
         host: &mut HostMemory<B>,
-        mem: &GuestMemoryMmap,
+        mem: &M,
         queue: usize,
         most: u16,
     ) -> Result<QueueRun, DeviceError>
-        requires { HostHolds host.old mem.now }
-        ensures run { ServesQueue F.may (state_of host.old mem.now self.old) queue most result (state_of host.new mem.now self.new) }
+        requires { M.IsHeld mem.now host.old }
+        ensures run { ServesQueue F.may (state_of (M.memory mem.now host.old) self.old) queue most result (state_of (M.memory mem.now host.new) self.new) }
         ensures shape { shape host.new ≡ shape host.old }
     {
         if queue >= self.queues.len() {

@@ -34,3 +34,6 @@ returns-clause-run g c = (
   Prim.search rules,
   rw c.ended-2.ensures (ends_full g.F.FileSystemBase.may _ _ c.args.queue c.args.most _ _ c.loop.invariant.run (omega arith)),
 )
+
+pub process_one-requires : goal.process_one-requires
+process_one-requires g c = g.met.M.GuestMemory.by_shape c.args.mem.now c.args.host.now c.loop.host c.loop.invariant.kept c.requires

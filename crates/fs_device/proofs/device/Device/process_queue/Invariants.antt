@@ -13,6 +13,6 @@ invariant-loop g l = record {
   room : l.most ≤ vec_capacity l.done;
   kept : shape l.host ≡ shape l.initial.host;
   run : (rest : List (Exchange × Bool)) (refused : Option DeviceError) (after : State _) →
-      KickLists g.F.FileSystemBase.may (state_of l.host l.mem l.self) l.queue (l.most - l.counter) rest refused after →
-      KickLists g.F.FileSystemBase.may (state_of l.initial.host l.mem l.initial.self) l.queue l.most (map exchanged_of l.done.items ++ rest) refused after;
+      KickLists g.F.FileSystemBase.may (state_of (g.M.GuestMemory.memory l.mem l.host) l.self) l.queue (l.most - l.counter) rest refused after →
+      KickLists g.F.FileSystemBase.may (state_of (g.M.GuestMemory.memory l.mem l.initial.host) l.initial.self) l.queue l.most (map exchanged_of l.done.items ++ rest) refused after;
 }
