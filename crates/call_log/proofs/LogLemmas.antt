@@ -21,7 +21,7 @@ use Rattle.fs_device.specs.declared.exchange.Fault.{Fault}
 use Rattle.fs_device.specs.declared.refusal.Refusal.TheVariants as why
 use Rattle.fs_device.specs.Step.{State, Exchange, Calls, Idle, Refused, Exchanged, Exchanges, StepOf, served_fault, served_exchange}
 use Rattle.fs_device.specs.Run as run
-use Rattle.fs_device.specs.Run.{Command, Answer, Effect, KickEnds, KickRun, Kicks, Kicked, Does, Performs, Run, effect, insert, insert_block, is_known, some_overlap, reset}
+use Rattle.fs_device.specs.Run.{Command, Answer, Effect, Turn, Told, shown, KickEnds, KickRun, Kicks, Kicked, HasEffect, Does, Performs, RunTold, Run, effect, insert, insert_block, is_known, some_overlap, reset}
 use Rattle.call_log.specs.declared.log.LoggedCall.{LoggedCall}
 use Rattle.call_log.specs.Log.{entry_of, kept, with_calls}
 use Rattle.call_log.specs.Runs.{entries_of, EachSuits, IsAnswered, WritesDown, IsLoggedBy, AreLoggedBy, exchanges_in, Grows}
@@ -133,22 +133,29 @@ joined_growth : {F : Type 0} (log : F → List LoggedCall) (a b c : F) (xs ys : 
 joined_growth log a b c xs ys (front, are, is) (back, more, on) =
     (front ++ back, logged-append xs ys front back are more, on ∙ ap (λ (l : List LoggedCall). with_calls l back) is ∙ sym (with_calls-append (log a) front back))
 
-kick_logged : {F : Type 0} (may : May F) (log : F → List LoggedCall) → Keeps may log → (s : State F) (i most : ℕ) (xs : List (Exchange × Bool)) (refused : Option DeviceError) (after : State F) →
-    KickRun may s i most xs refused after → Grew log s.files (map (λ x. x.0) xs) after.files
+kick_logged : {F : Type 0} (may : May F) (log : F → List LoggedCall) → Keeps may log → (s : State F) (i most : ℕ) (told : Told) (refused : Option DeviceError) (after : State F) →
+    KickRun may s i most told refused after → Grew log s.files (map (λ t. t.exchange) told) after.files
 unfolding KickRun
 kick_logged may log keeps s i most [] refused after t = stayed log s.files after.files (end_stays may s i most refused after t)
-kick_logged may log keeps s i zero (x ∷ xs) refused after t = absurd t
-kick_logged may log keeps s i (suc most) (x ∷ xs) refused after (calls, mid, step, rest) =
-    joined_growth log s.files mid.files after.files (x.0 ∷ []) (map (λ x. x.0) xs)
-    (exchange_logged may log keeps s i (slice_get s.queues i) calls x.0 x.1 mid step)
-    (kick_logged may log keeps mid i most xs refused after rest)
+kick_logged may log keeps s i zero (x ∷ told) refused after t = absurd t
+kick_logged may log keeps s i (suc most) (x ∷ told) refused after (mid, step, rest) =
+    joined_growth log s.files mid.files after.files (x.exchange ∷ []) (map (λ t. t.exchange) told)
+    (exchange_logged may log keeps s i (slice_get s.queues i) x.calls x.exchange x.notice mid step)
+    (kick_logged may log keeps mid i most told refused after rest)
 
-kicks_logged : {F : Type 0} (may : May F) (log : F → List LoggedCall) → Keeps may log → (s : State F) (i most : ℕ) (o : Option Queue) (k : Kicked) (after : State F) →
-    Kicks may s i most o k after → Grew log s.files (map (λ x. x.0) k.exchanges) after.files
-kicks_logged may log keeps s i most None k after t =
-    let none : map (λ (x : Exchange × Bool). x.0) k.exchanges ≡ [] = ap (λ (k : Kicked). map (λ x. x.0) k.exchanges) t.1 in
+-- the exchanges that a kick lists are those that it made
+listed_exchanges : (told : Told) → map (λ x. x.0) (map shown told) ≡ map (λ t. t.exchange) told
+listed_exchanges [] = refl
+listed_exchanges (x ∷ told) = ap (λ (l : List Exchange). x.exchange ∷ l) (listed_exchanges told)
+
+kicks_logged : {F : Type 0} (may : May F) (log : F → List LoggedCall) → Keeps may log → (s : State F) (i most : ℕ) (o : Option Queue) (told : Told) (k : Kicked) (after : State F) →
+    Kicks may s i most o told k after → Grew log s.files (map (λ x. x.0) k.exchanges) after.files
+kicks_logged may log keeps s i most None told k after t =
+    let none : map (λ (x : Exchange × Bool). x.0) k.exchanges ≡ [] = ap (λ (k : Kicked). map (λ x. x.0) k.exchanges) t.2 in
     rw none (stayed log s.files after.files (ap (λ s. s.files) t.0))
-kicks_logged may log keeps s i most (Some q) k after t = kick_logged may log keeps s i most k.exchanges k.refused after t
+kicks_logged may log keeps s i most (Some q) told k after t =
+    let same : map (λ (x : Exchange × Bool). x.0) k.exchanges ≡ map (λ (x : Turn). x.exchange) told = ap (map (λ (x : Exchange × Bool). x.0)) t.1 ∙ listed_exchanges told in
+    rw same (kick_logged may log keeps s i most told k.refused after t.0)
 
 -- ---- the other commands ask nothing
 
@@ -190,43 +197,51 @@ quiet_logged {F} log s e answer after quiet is =
 
 -- ---- runs
 
-does_logged : {F : Type 0} (may : May F) (log : F → List LoggedCall) → Keeps may log → (s : State F) (command : Command) (answer : Answer) (after : State F) →
-    Does may s command answer after → Grew log s.files (exchanges_in answer) after.files
-does_logged may log keeps s (run.Kick i most) (run.Served k) after t = kicks_logged may log keeps s i most (slice_get s.queues i) k after t
-does_logged may log keeps s (run.Kick i most) run.Done after t = absurd t
-does_logged may log keeps s (run.Kick i most) (run.Bytes bytes) after t = absurd t
-does_logged may log keeps s (run.Kick i most) (run.NewBlockIs number) after t = absurd t
-does_logged may log keeps s (run.Kick i most) (run.IsRefused refusal) after t = absurd t
-does_logged may log keeps s (run.GuestRead a n) answer after t = quiet_logged log s _ answer after (effect_quiet s (run.GuestRead a n)) t
-does_logged may log keeps s (run.GuestWrite a bs) answer after t = quiet_logged log s _ answer after (effect_quiet s (run.GuestWrite a bs)) t
-does_logged may log keeps s (run.NewBlock n) answer after t = quiet_logged log s _ answer after (effect_quiet s (run.NewBlock n)) t
-does_logged may log keeps s (run.InsertRegion base block) answer after t = quiet_logged log s _ answer after (effect_quiet s (run.InsertRegion base block)) t
-does_logged may log keeps s (run.RemoveRegion base size) answer after t = quiet_logged log s _ answer after (effect_quiet s (run.RemoveRegion base size)) t
-does_logged may log keeps s (run.SetLayout layout) answer after t = quiet_logged log s _ answer after (effect_quiet s (run.SetLayout layout)) t
-does_logged may log keeps s (run.ResetQueue queue l) answer after t = quiet_logged log s _ answer after (effect_quiet s (run.ResetQueue queue l)) t
+effect_logged : {F : Type 0} (log : F → List LoggedCall) (s : State F) (command : Command) (told : Told) (answer : Answer) (after : State F) → HasEffect s command told answer after →
+    Grew log s.files (exchanges_in answer) after.files
+effect_logged log s command [] answer after t = quiet_logged log s (effect s command) answer after (effect_quiet s command) t
+effect_logged log s command (x ∷ told) answer after t = absurd t
 
-performs_logged : {F : Type 0} (may : May F) (log : F → List LoggedCall) → Keeps may log → (s : State F) (command : Command) (answer : Answer) (after : State F) →
-    Performs may s command answer after → Grew log s.files (exchanges_in answer) after.files
-performs_logged may log keeps s command (run.IsRefused why.OutOfMemory) after t = stayed log s.files after.files (ap (λ s. s.files) t.1)
-performs_logged may log keeps s command (run.IsRefused why.NoPlace) after t = does_logged may log keeps s command _ after t
-performs_logged may log keeps s command (run.IsRefused why.EmptyBlock) after t = does_logged may log keeps s command _ after t
-performs_logged may log keeps s command (run.IsRefused why.UnknownBlock) after t = does_logged may log keeps s command _ after t
-performs_logged may log keeps s command (run.IsRefused why.BadRegion) after t = does_logged may log keeps s command _ after t
-performs_logged may log keeps s command (run.IsRefused why.Overlap) after t = does_logged may log keeps s command _ after t
-performs_logged may log keeps s command (run.IsRefused why.NoRegion) after t = does_logged may log keeps s command _ after t
-performs_logged may log keeps s command (run.IsRefused why.NoSuchQueue) after t = does_logged may log keeps s command _ after t
-performs_logged may log keeps s command run.Done after t = does_logged may log keeps s command _ after t
-performs_logged may log keeps s command (run.Bytes bytes) after t = does_logged may log keeps s command _ after t
-performs_logged may log keeps s command (run.NewBlockIs number) after t = does_logged may log keeps s command _ after t
-performs_logged may log keeps s command (run.Served k) after t = does_logged may log keeps s command _ after t
+does_logged : {F : Type 0} (may : May F) (log : F → List LoggedCall) → Keeps may log → (s : State F) (command : Command) (told : Told) (answer : Answer) (after : State F) →
+    Does may s command told answer after → Grew log s.files (exchanges_in answer) after.files
+does_logged may log keeps s (run.Kick i most) told (run.Served k) after t = kicks_logged may log keeps s i most (slice_get s.queues i) told k after t
+does_logged may log keeps s (run.Kick i most) told run.Done after t = absurd t
+does_logged may log keeps s (run.Kick i most) told (run.Bytes bytes) after t = absurd t
+does_logged may log keeps s (run.Kick i most) told (run.NewBlockIs number) after t = absurd t
+does_logged may log keeps s (run.Kick i most) told (run.IsRefused refusal) after t = absurd t
+does_logged may log keeps s (run.GuestRead a n) told answer after t = effect_logged log s (run.GuestRead a n) told answer after t
+does_logged may log keeps s (run.GuestWrite a bs) told answer after t = effect_logged log s (run.GuestWrite a bs) told answer after t
+does_logged may log keeps s (run.NewBlock n) told answer after t = effect_logged log s (run.NewBlock n) told answer after t
+does_logged may log keeps s (run.InsertRegion base block) told answer after t = effect_logged log s (run.InsertRegion base block) told answer after t
+does_logged may log keeps s (run.RemoveRegion base size) told answer after t = effect_logged log s (run.RemoveRegion base size) told answer after t
+does_logged may log keeps s (run.SetLayout layout) told answer after t = effect_logged log s (run.SetLayout layout) told answer after t
+does_logged may log keeps s (run.ResetQueue queue l) told answer after t = effect_logged log s (run.ResetQueue queue l) told answer after t
 
-events_logged : {F : Type 0} (may : May F) (log : F → List LoggedCall) → Keeps may log → (s : State F) (events : List (Command × Answer)) (after : State F) → Run may s events after →
-    Grew log s.files (flat_map exchanges_in (map (λ e. e.1) events)) after.files
-unfolding Run
-events_logged may log keeps s [] after same = stayed log s.files after.files (ap (λ s. s.files) same)
-events_logged may log keeps s (e ∷ es) after (mid, performs, rest) =
+performs_logged : {F : Type 0} (may : May F) (log : F → List LoggedCall) → Keeps may log → (s : State F) (command : Command) (told : Told) (answer : Answer) (after : State F) →
+    Performs may s command told answer after → Grew log s.files (exchanges_in answer) after.files
+performs_logged may log keeps s command [] (run.IsRefused why.OutOfMemory) after t = stayed log s.files after.files (ap (λ s. s.files) t.1)
+performs_logged may log keeps s command (x ∷ told) (run.IsRefused why.OutOfMemory) after t = absurd t
+performs_logged may log keeps s command told (run.IsRefused why.NoPlace) after t = does_logged may log keeps s command told _ after t
+performs_logged may log keeps s command told (run.IsRefused why.EmptyBlock) after t = does_logged may log keeps s command told _ after t
+performs_logged may log keeps s command told (run.IsRefused why.UnknownBlock) after t = does_logged may log keeps s command told _ after t
+performs_logged may log keeps s command told (run.IsRefused why.BadRegion) after t = does_logged may log keeps s command told _ after t
+performs_logged may log keeps s command told (run.IsRefused why.Overlap) after t = does_logged may log keeps s command told _ after t
+performs_logged may log keeps s command told (run.IsRefused why.NoRegion) after t = does_logged may log keeps s command told _ after t
+performs_logged may log keeps s command told (run.IsRefused why.NoSuchQueue) after t = does_logged may log keeps s command told _ after t
+performs_logged may log keeps s command told run.Done after t = does_logged may log keeps s command told _ after t
+performs_logged may log keeps s command told (run.Bytes bytes) after t = does_logged may log keeps s command told _ after t
+performs_logged may log keeps s command told (run.NewBlockIs number) after t = does_logged may log keeps s command told _ after t
+performs_logged may log keeps s command told (run.Served k) after t = does_logged may log keeps s command told _ after t
+
+events_logged : {F : Type 0} (may : May F) (log : F → List LoggedCall) → Keeps may log → (s : State F) (events : List (Command × Answer)) (tolds : List Told) (after : State F) →
+    RunTold may s events tolds after → Grew log s.files (flat_map exchanges_in (map (λ e. e.1) events)) after.files
+unfolding RunTold
+events_logged may log keeps s [] [] after same = stayed log s.files after.files (ap (λ s. s.files) same)
+events_logged may log keeps s [] (told ∷ tolds) after t = absurd t
+events_logged may log keeps s (e ∷ es) [] after t = absurd t
+events_logged may log keeps s (e ∷ es) (told ∷ tolds) after (mid, performs, rest) =
     joined_growth log s.files mid.files after.files (exchanges_in e.1) (flat_map exchanges_in (map (λ e. e.1) es))
-    (performs_logged may log keeps s e.0 e.1 mid performs) (events_logged may log keeps mid es after rest)
+    (performs_logged may log keeps s e.0 told e.1 mid performs) (events_logged may log keeps mid es tolds after rest)
 
 answers_of : {X Y : Type 0} (xs : List X) (ys : List Y) → length ys ≡ length xs → map (λ e. e.1) (zip xs ys) ≡ ys
 answers_of [] [] same = refl
@@ -237,8 +252,8 @@ answers_of {X} {Y} (x ∷ xs) (y ∷ ys) same = ap (λ (l : List Y). y ∷ l) (a
 -- a run's log grew by the calls of its exchanges
 pub run_grows : {F : Type 0} (may : May F) (log : F → List LoggedCall) → Keeps may log → (s : State F) (commands : List Command) (answers : List Answer) (after : State F) →
     length answers ≡ length commands → Run may s (zip commands answers) after → Grows (log s.files) answers (log after.files)
-run_grows may log keeps s commands answers after same t =
-    subst (λ (l : List Answer). Grew log s.files (flat_map exchanges_in l) after.files) (answers_of commands answers same) (events_logged may log keeps s (zip commands answers) after t)
+run_grows may log keeps s commands answers after same (tolds, t) =
+    subst (λ (l : List Answer). Grew log s.files (flat_map exchanges_in l) after.files) (answers_of commands answers same) (events_logged may log keeps s (zip commands answers) tolds after t)
 
 -- of a result of which two things are known
 pub of_both : {X E : Type 0} (r : Result X E) (P Q R : X → Type 0) → IfOk r P → IfOk r Q → ((x : X) → P x → Q x → R x) → IfOk r R

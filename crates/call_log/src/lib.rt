@@ -2,8 +2,8 @@
 #![tactic(auto)]
 
 pub mod files;
-pub mod log;
-pub mod run;
+mod log;
+mod run;
 
 pub use files::CallLog;
 pub use log::LoggedCall;

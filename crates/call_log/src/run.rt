@@ -5,15 +5,19 @@ ghost use Rattle.std.specs.List.{zip};
 ghost use Rattle.fs_device.specs.CommandView.{answer_of, command_of};
 ghost use Rattle.fs_device.specs.MachineView.{machine_of};
 ghost use Rattle.fs_device.specs.Run.{Run};
+ghost use Rattle.fs_device.specs.Books.{BalancedRun};
 ghost use Rattle.call_log.specs.Log.{MayLog};
 ghost use Rattle.call_log.specs.Runs.{Grows};
 
 use crate::files::CallLog;
+use fs_device::laws::law_books;
 use fs_device::{Answer, Command, Machine};
 use std::alloc::{AllocError, Global};
 
-/// Does commands one after another, as `Machine::run`, which this run is of. The log grows by the calls of its five kinds that the exchanged requests mean, in
-/// the order of the exchanges; nothing else that is done adds to it.
+/// Does commands one after another, as `Machine::run`, which this run is of. The log grows by the
+/// calls of its five kinds that the exchanged requests mean, in the order of the exchanges; nothing
+/// else that is done adds to it. For each node, what the file system answered and was sent balances
+/// with what replies and requests say of it.
 pub fn run_logged(
     alloc: Global,
     machine: &mut Machine<CallLog>,
@@ -22,7 +26,9 @@ pub fn run_logged(
     ensures run { IfOk result (λ answers. Run MayLog (machine_of machine.old) (zip (map command_of commands.items) (map answer_of answers.items)) (machine_of machine.new)) }
     ensures all { IfOk result (λ answers. length answers.items ≡ length commands.items) }
     ensures log { IfOk result (λ answers. Grows machine.old.device.files.calls.items (map answer_of answers.items) machine.new.device.files.calls.items) }
+    ensures books { IfOk result (λ answers. BalancedRun MayLog (machine_of machine.old) (zip (map command_of commands.items) (map answer_of answers.items)) (machine_of machine.new)) }
     ensures err { OnErr result (machine_of machine.new ≡ machine_of machine.old) }
 {
+    law_books::<CallLog>();
     machine.run(alloc, commands)
 }

@@ -24,7 +24,7 @@ struct MemoryFile {
 
 /// A file system whose one file is node 2.
 #[derive(Drop)]
-pub struct MemoryFiles {
+pub(crate) struct MemoryFiles {
     file: MemoryFile,
 }
 

@@ -196,7 +196,7 @@ impl Case for Kicking {
 
 /// Measures kicks of a request that the server doesn't know, of GETATTR, LOOKUP, READ and WRITE, each cut into ever more descriptors, in the
 /// queue's table (`kick`) and in one of the chain's own (`indirect`).
-pub fn measure_kicks<R: Clock + Eprint>(
+pub(crate) fn measure_kicks<R: Clock + Eprint>(
     meter: &mut Meter<'_, R>,
     alloc: Global,
 ) -> Result<(), BenchFault> {

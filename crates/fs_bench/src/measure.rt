@@ -8,7 +8,7 @@ use std::time::{Clock, Instant};
 const FEW: u16 = 2;
 
 /// What is measured: it runs many times over.
-pub trait Case {
+pub(crate) trait Case {
     /// Makes ready for so many runs.
     fn prepare(&mut self, runs: u16);
 
@@ -19,7 +19,7 @@ pub trait Case {
 /// A case's name, the descriptors that its request and its room are each cut into, the bytes that one run moves, and how
 /// many runs make one sample.
 #[derive(Clone, Copy)]
-pub struct Label {
+pub(crate) struct Label {
     pub kind: &'static str,
     pub case: &'static str,
     pub split: u16,
@@ -28,14 +28,14 @@ pub struct Label {
 }
 
 /// Adds the nanoseconds of a sample.
-pub fn push_sample(samples: &mut Vec<u64>, nanos: u64) -> Result<(), AllocError> {
+pub(crate) fn push_sample(samples: &mut Vec<u64>, nanos: u64) -> Result<(), AllocError> {
     samples.push(nanos)?;
     Ok(())
 }
 
 /// Takes samples, and prints what comes of them where times are asked for.
 #[derive(Drop)]
-pub struct Meter<'a, R> {
+pub(crate) struct Meter<'a, R> {
     rt: &'a R,
     alloc: Global,
     samples: Option<usize>,

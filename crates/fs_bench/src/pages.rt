@@ -368,7 +368,7 @@ fn measure_steps<R: Clock + Eprint>(
 }
 
 /// Measures marks and gathers beside bare steps, and those of four threads beside those of one.
-pub fn measure_pages<R: Clock + Eprint + Threads + Sync>(
+pub(crate) fn measure_pages<R: Clock + Eprint + Threads + Sync>(
     meter: &mut Meter<'_, R>,
     rt: &R,
     alloc: Global,

@@ -55,7 +55,7 @@ impl Case for SliceCopy {
 }
 
 /// Measures copies of each size, and copies of copies.
-pub fn measure_copies<R: Clock + Eprint>(
+pub(crate) fn measure_copies<R: Clock + Eprint>(
     meter: &mut Meter<'_, R>,
     alloc: Global,
 ) -> Result<(), BenchFault> {

@@ -154,7 +154,7 @@ fn measure_reads<R: Clock + Eprint>(
 }
 
 /// Measures look-ups among ever more regions, and reads of 1 MiB from one region and across many.
-pub fn measure_regions<R: Clock + Eprint>(
+pub(crate) fn measure_regions<R: Clock + Eprint>(
     meter: &mut Meter<'_, R>,
     alloc: Global,
 ) -> Result<(), BenchFault> {

@@ -116,7 +116,7 @@ impl Case for Moving {
 }
 
 /// Measures reads, writes and copies of each size.
-pub fn measure_windows<R: Clock + Eprint>(
+pub(crate) fn measure_windows<R: Clock + Eprint>(
     meter: &mut Meter<'_, R>,
     alloc: Global,
 ) -> Result<(), BenchFault> {

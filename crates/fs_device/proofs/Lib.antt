@@ -6,3 +6,7 @@ pub mod GuestLemmas
 pub mod HarvestLemmas
 pub mod LayoutLemmas
 pub mod CutLemmas
+pub mod NodeLemmas
+pub mod MeaningLemmas
+pub mod ListBooks
+pub mod BookLemmas

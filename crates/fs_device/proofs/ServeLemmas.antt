@@ -32,11 +32,6 @@ replied_err {F} may page options room request before after e written agreed is h
     let s : server.Serves may (setting page options room) (meaning options request room) before (Err e) written agreed after = rw is at h in
     (s.steps, (served_of (map (λ step. step.0) s.steps) agreed (Err e) written, record { gives = sym s.gives; asks = refl; run = s.run }, refl, refl, refl))
 
--- want of memory, after which nothing has changed
-pub lacked : {F : Type 0} (may : May F) (s : Setting) (m : Meaning) (before after : F) (e : Error) (written : List ℕ) (agreed : ℕ) → is_memory e ≡ true →
-    Handles may s m before (Err e) written agreed after → (agreed ≡ s.options) × (after ≡ before)
-lacked {F} may s m before after e written agreed is h = rw is at h
-
 pub reply_fits : {F : Type 0} (may : May F) (page : ℕ) (old new : ℕ × F) (request : List ℕ) (room : ℕ) (calls : Calls) (reply : List ℕ) (fault : Option Fault) →
     AnswersRequest may page old request room calls reply fault new → length reply ≤ room
 reply_fits may page old new request room calls reply fault r =

@@ -1,5 +1,5 @@
 -- Commands, answers and kicks, as the plain machine has them.
-use Rattle.std.specs.Prelude.{◌≡◌, ◌<◌, ℕ, Bool, IsTrue, length, map, None, Result, Ok, Err, slice_get}
+use Rattle.std.specs.Prelude.{◌≡◌, ◌<◌, ℕ, Bool, IsTrue, List, length, map, Option, None, Result, Ok, Err, slice_get}
 use Rattle.fs_queue.specs.declared.fault.QueueError.TheVariants as stop
 use Rattle.virtiofsd_fuse.specs.Serving.{May}
 use Rattle.fs_device.specs.declared.error.DeviceError.{DeviceError}
@@ -9,16 +9,16 @@ use Rattle.fs_device.specs.declared.command.Command as asked
 use Rattle.fs_device.specs.declared.command.Answer as told
 use Rattle.fs_device.specs.declared.queues.QueueRun.{QueueRun}
 use Rattle.fs_device.specs.Step.{State, Exchange}
-use Rattle.fs_device.specs.Run.{Command, GuestRead, GuestWrite, NewBlock, InsertRegion, RemoveRegion, SetLayout, Kick, ResetQueue, Kicked, Answer, Done, Bytes, NewBlockIs, Served, IsRefused, KickRun, kick_takes_memory}
+use Rattle.fs_device.specs.Run.{Command, GuestRead, GuestWrite, NewBlock, InsertRegion, RemoveRegion, SetLayout, Kick, ResetQueue, Kicked, Answer, Done, Bytes, NewBlockIs, Served, IsRefused, Told, shown, KickRun, kick_takes_memory}
 use Rattle.fs_device.specs.DeviceView.{exchange_of}
 
 -- an exchange with its notice
-abbrev pub turn_of : code.Exchange × Bool → Exchange × Bool
-turn_of x = (exchange_of x.0, x.1)
+abbrev pub exchanged_of : code.Exchange × Bool → Exchange × Bool
+exchanged_of x = (exchange_of x.0, x.1)
 
 -- what a kick lists
 abbrev pub kicked_of : QueueRun → Kicked
-kicked_of run = record { exchanges = map turn_of run.done.items; refused = run.refused }
+kicked_of run = record { exchanges = map exchanged_of run.done.items; refused = run.refused }
 
 -- a command
 abbrev pub command_of : asked.Command → Command
@@ -39,9 +39,13 @@ answer_of (told.TheVariants.Block number) = NewBlockIs number
 answer_of (told.TheVariants.Served run) = Served (kicked_of run)
 answer_of (told.TheVariants.Refused why) = IsRefused why
 
+-- a kick of a queue that is there lists these exchanges, each of which made some calls
+abbrev pub KickLists : {F : Type 0} → May F → State F → (queue most : ℕ) → List (Exchange × Bool) → Option DeviceError → State F → Type 0
+KickLists may s i most listed refused after = (told : Told) × KickRun may s i most told refused after × (listed ≡ map shown told)
+
 -- what serving a queue's chains answers: of a missing queue that alone; nothing is done where there is no room for so many exchanges
 abbrev pub ServesQueue : {F : Type 0} → May F → State F → (queue most : ℕ) → Result QueueRun DeviceError → State F → Type 0
-ServesQueue may s i most (Ok run) after = (i < length s.queues) × KickRun may s i most (map turn_of run.done.items) run.refused after
+ServesQueue may s i most (Ok run) after = (i < length s.queues) × KickLists may s i most (map exchanged_of run.done.items) run.refused after
 ServesQueue may s i most (Err device.NoSuchQueue) after = (slice_get s.queues i ≡ None) × (after ≡ s)
 ServesQueue may s i most (Err (device.Queue stop.OutOfMemory)) after = IsTrue (kick_takes_memory s i most) × (after ≡ s)
 ServesQueue may s i most (Err e) after = ⊥

@@ -12,8 +12,9 @@ use Rattle.fs_queue.specs.Taking.{Offer, Idle, Refuses, Offers, Asks, CannotAsk,
 use Rattle.fuse_segments.specs.declared.error.Error.TheVariants as error
 use Rattle.vm_values.specs.Fields as fields
 use Rattle.fuse_requests.specs.Reading.{reading_of}
+use Rattle.fuse_replies.specs.WholeReplies.{error_bytes}
 use Rattle.virtiofsd_fuse.specs.Examples.{zeros, le16, le32, le64, in_header_bytes}
-use Rattle.virtiofsd_fuse.specs.Grammar.{IsFault, Replies, meaning, meant, error_bytes}
+use Rattle.virtiofsd_fuse.specs.Grammar.{IsFault, Replies, meaning, meant}
 use Rattle.virtiofsd_fuse.specs.Serving.{May}
 use Rattle.fs_device.specs.declared.error.DeviceError.TheVariants as device_error
 use Rattle.fs_device.specs.Step.{State, Exchange, Refused, Exchanged, Step, after_return}

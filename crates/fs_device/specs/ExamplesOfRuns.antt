@@ -12,28 +12,34 @@ use Rattle.fs_queue.specs.Returning.{advanced}
 use Rattle.vm_values.specs.Fields as fields
 use Rattle.fuse_fs.specs.Calls as files
 use Rattle.fuse_requests.specs.Reading.{reading_of}
-use Rattle.virtiofsd_fuse.specs.Examples.{le16, le64, zeros, nobody, in_header_bytes}
-use Rattle.virtiofsd_fuse.specs.Grammar.{meaning, meant, row, error_bytes}
+use Rattle.fuse_replies.specs.WholeReplies.{error_bytes}
+use Rattle.virtiofsd_fuse.specs.Examples.{le16, le32, le64, zeros, nobody, in_header_bytes}
+use Rattle.virtiofsd_fuse.specs.Grammar.{meaning, meant, row}
 use Rattle.virtiofsd_fuse.specs.Serving.{May}
 use Rattle.fs_device.specs.declared.error.DeviceError.TheVariants as device_error
 use Rattle.fs_device.specs.declared.refusal.Refusal.TheVariants as why
 use Rattle.fs_device.specs.Step.{State, Exchanged, Step, after_return}
 use Rattle.fs_device.specs.Harvested.{block_pages, host_pages, harvested}
 use Rattle.fs_device.specs.Run as run
-use Rattle.fs_device.specs.Run.{Command, Answer, Run, KickRun, effect, fresh_queue}
+use Rattle.fs_device.specs.Run.{Command, Answer, Turn, Run, RunTold, KickRun, effect, fresh_queue}
+use Rattle.fs_device.specs.Books.{sent, written, accepted, nodes_listed}
 use Rattle.fs_device.specs.Examples.{blank, queue, put, descriptor_bytes, request, with_one_request, Nothing, may, device, unknown_reply, unknown_exchange, after_reply, one_step}
 
 -- ---- kicks
 
+-- the exchange that makes no call
+abbrev unknown_turn : Turn
+unknown_turn = record { exchange = unknown_exchange; notice = true; calls = [] }
+
 -- one exchange, and then nothing waits
 kick_serves_one : Run may (device with_one_request queue) ((run.Kick 0 9, run.Served (record { exchanges = (unknown_exchange, true) ∷ []; refused = None })) ∷ []) (after_reply with_one_request queue)
-unfolding Run KickRun offer place addresses stored_all path found
-kick_serves_one = (after_reply with_one_request queue, ([], after_reply with_one_request queue, one_step, (refl, record { same = refl; no_call = refl })), refl)
+unfolding RunTold KickRun offer place addresses stored_all path found
+kick_serves_one = ((unknown_turn ∷ []) ∷ [], (after_reply with_one_request queue, ((after_reply with_one_request queue, one_step, (refl, record { same = refl; no_call = refl })), refl), refl))
 
 -- no more than was asked for
 kick_of_none : Run may (device with_one_request queue) ((run.Kick 0 0, run.Served (record { exchanges = []; refused = None })) ∷ []) (device with_one_request queue)
-unfolding Run KickRun
-kick_of_none = (device with_one_request queue, refl, refl)
+unfolding RunTold KickRun
+kick_of_none = ([] ∷ [], (device with_one_request queue, (refl, refl), refl))
 
 -- a refusal is listed, and stops the queue; the next kick lists that it is stopped
 abbrev far : Memory
@@ -43,20 +49,20 @@ kick_stops : Run may (device far queue)
     ((run.Kick 0 9, run.Served (record { exchanges = []; refused = Some (device_error.Queue queue_error.AvailTooFar) }))
     ∷ (run.Kick 0 9, run.Served (record { exchanges = []; refused = Some (device_error.Queue queue_error.Stopped) })) ∷ [])
     (device far (stopped queue))
-unfolding Run KickRun offer place addresses stored_all path found
-kick_stops = (device far (stopped queue), (refl, refl, refl), (device far (stopped queue), (refl, refl, refl), refl))
+unfolding RunTold KickRun offer place addresses stored_all path found
+kick_stops = ([] ∷ [] ∷ [], (device far (stopped queue), ((refl, refl, refl), refl), (device far (stopped queue), ((refl, refl, refl), refl), refl)))
 
 -- of a missing queue that is listed, whatever was asked for
 kick_of_missing : Run may (device with_one_request queue) ((run.Kick 1 0, run.Served (record { exchanges = []; refused = Some device_error.NoSuchQueue })) ∷ []) (device with_one_request queue)
-unfolding Run
-kick_of_missing = (device with_one_request queue, (refl, refl), refl)
+unfolding RunTold
+kick_of_missing = ([] ∷ [], (device with_one_request queue, (refl, refl, refl), refl))
 
 -- a kick may be refused for want of memory: its chain stays, and the next kick serves it
 kick_lacks_memory : Run may (device with_one_request queue)
     ((run.Kick 0 9, run.IsRefused why.OutOfMemory) ∷ (run.Kick 0 1, run.Served (record { exchanges = (unknown_exchange, true) ∷ []; refused = None })) ∷ [])
     (after_reply with_one_request queue)
-unfolding Run KickRun
-kick_lacks_memory = (device with_one_request queue, (refl, refl), (after_reply with_one_request queue, ([], after_reply with_one_request queue, one_step, refl), refl))
+unfolding RunTold KickRun
+kick_lacks_memory = ([] ∷ (unknown_turn ∷ []) ∷ [], (device with_one_request queue, (refl, refl), (after_reply with_one_request queue, ((after_reply with_one_request queue, one_step, refl), refl), refl)))
 
 -- no more than was asked for, where two wait
 abbrev two_wait : Memory
@@ -75,8 +81,8 @@ first_of_two = record {
 }
 
 kick_of_one : Run may (device two_wait queue) ((run.Kick 0 1, run.Served (record { exchanges = (unknown_exchange, true) ∷ []; refused = None })) ∷ []) (after_reply two_wait queue)
-unfolding Run KickRun
-kick_of_one = (after_reply two_wait queue, ([], after_reply two_wait queue, first_of_two, refl), refl)
+unfolding RunTold KickRun
+kick_of_one = ((unknown_turn ∷ []) ∷ [], (after_reply two_wait queue, ((after_reply two_wait queue, first_of_two, refl), refl), refl))
 
 -- an exchange, and then a refusal: the second head isn't in the table
 abbrev no_such_head : Memory
@@ -96,8 +102,8 @@ first_before_refusal = record {
 
 kick_stops_after_one : Run may (device no_such_head queue)
     ((run.Kick 0 9, run.Served (record { exchanges = (unknown_exchange, true) ∷ []; refused = Some (device_error.Queue queue_error.HeadOutOfTable) })) ∷ []) stopped_after_one
-unfolding Run KickRun offer place addresses stored_all path found
-kick_stops_after_one = (stopped_after_one, ([], after_reply no_such_head queue, first_before_refusal, (refl, refl, refl)), refl)
+unfolding RunTold KickRun offer place addresses stored_all path found
+kick_stops_after_one = ((unknown_turn ∷ []) ∷ [], (stopped_after_one, ((after_reply no_such_head queue, first_before_refusal, (refl, refl, refl)), refl), refl))
 
 -- a file system that counts what a client forgets; the request is FORGET of node 5, held three times less, in a chain without room
 abbrev forget : List ℕ
@@ -123,9 +129,13 @@ with_count n = record { memory = with_forget; queues = queue ∷ []; options = 0
 abbrev forgotten : State ℕ
 forgotten = after_return (with_count 4) 0 queue 0 [] [] 0 7
 
+-- the exchange, with its one call
+abbrev forgets_turn : Turn
+forgets_turn = record { exchange = record { head = 0; request = forget; reply = []; fault = None }; notice = true; calls = (files.Forget nobody 5 3, files.Done) ∷ [] }
+
 kick_calls_the_files : Run counts (with_count 4)
     ((run.Kick 0 1, run.Served (record { exchanges = (record { head = 0; request = forget; reply = []; fault = None }, true) ∷ []; refused = None })) ∷ []) forgotten
-unfolding Run KickRun offer place addresses stored_all path found meaning reading_of meant row
+unfolding RunTold KickRun offer place addresses stored_all path found meaning reading_of meant row
 kick_calls_the_files =
     let step : Step counts (with_count 4) 0 ((files.Forget nobody 5 3, files.Done) ∷ []) (Exchanged (record { head = 0; request = forget; reply = []; fault = None }) true) forgotten =
     record {
@@ -133,7 +143,44 @@ kick_calls_the_files =
       serves = record { gives = refl; asks = refl; run = (7, refl, refl, refl) };
       returns = record { exchange = refl; state = refl; told = refl };
     } in
-    (forgotten, ((files.Forget nobody 5 3, files.Done) ∷ [], forgotten, step, refl), refl)
+    ((forgets_turn ∷ []) ∷ [], (forgotten, ((forgotten, step, refl), refl), refl))
+
+-- the three counts were sent, and accepted of the driver; nothing was written
+forget_is_sent : sent 5 forgets_turn ≡ 3
+forget_is_sent = refl
+
+forget_is_accepted : accepted 5 forgets_turn ≡ 3
+unfolding meaning reading_of meant row
+forget_is_accepted = refl
+
+forget_of_no_other_node : accepted 6 forgets_turn ≡ 0
+unfolding meaning reading_of meant row
+forget_of_no_other_node = refl
+
+-- a reply to LOOKUP that tells of node 5
+lookup_turn : Turn
+lookup_turn = record { exchange = record { head = 0; request = in_header_bytes 42 1 9 1 ++ 97 ∷ 0 ∷ []; reply = zeros 16 ++ le64 5 ++ zeros 120; fault = None }; notice = true; calls = [] }
+
+reply_tells_of_one : written 5 lookup_turn ≡ 1
+unfolding lookup_turn
+reply_tells_of_one = refl
+
+-- and one to READDIRPLUS that tells of node 5, named by one letter, and of `.`, which has no node
+listing_turn : Turn
+listing_turn = record {
+  exchange = record {
+    head = 0;
+    request = in_header_bytes 80 44 9 1 ++ zeros 40;
+    reply = zeros 16 ++ le64 5 ++ zeros 120 ++ zeros 16 ++ le32 1 ++ le32 8 ++ 97 ∷ zeros 7 ++ zeros 128 ++ zeros 16 ++ le32 1 ++ le32 4 ++ 46 ∷ zeros 7;
+    fault = None;
+  };
+  notice = true;
+  calls = [];
+}
+
+list_tells_of_one : written 5 listing_turn ≡ 1
+unfolding listing_turn nodes_listed
+list_tells_of_one = refl
 
 -- a queue that stopped begins anew
 resets : (l : QueueLayout) → effect (device far (stopped queue)) (run.ResetQueue 0 l) ≡ (run.Done, device far (fresh_queue l))
@@ -261,8 +308,8 @@ nowhere = comes_to (device with_one_request queue) (run.SetLayout [] ∷ [])
 kick_without_memory : Run may nowhere
     ((run.Kick 0 1, run.Served (record { exchanges = []; refused = Some (device_error.Queue queue_error.AvailIndexUnreachable) })) ∷ [])
     (record nowhere { queues = stopped queue ∷ [] })
-unfolding Run KickRun effect offer place addresses stored_all
-kick_without_memory = (record nowhere { queues = stopped queue ∷ [] }, (refl, refl, refl), refl)
+unfolding RunTold KickRun effect offer place addresses stored_all
+kick_without_memory = ([] ∷ [], (record nowhere { queues = stopped queue ∷ [] }, ((refl, refl, refl), refl), refl))
 
 -- ---- two regions, of 0x1000 and 0xf000 bytes, and a request that lies in both
 

@@ -6,6 +6,7 @@ pub mod Refusing
 pub mod Run
 pub mod CommandView
 pub mod MachineView
+pub mod Books
 pub mod Laws
 pub mod Examples
 pub mod ExamplesOfRuns

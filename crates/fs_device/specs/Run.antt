@@ -1,5 +1,5 @@
 -- Whole runs of the plain machine.
-use Rattle.std.specs.Prelude.{◌≡◌, ◌==◌, ◌&&◌, ◌||◌, not, nat_lt, ℕ, zero, suc, Bool, false, true, IsTrue, List, [], ◌∷◌, length, zip, Option, Some, None, if◌then◌else◌, slice_get}
+use Rattle.std.specs.Prelude.{◌≡◌, ◌==◌, ◌&&◌, ◌||◌, not, nat_lt, ℕ, zero, suc, Bool, false, true, IsTrue, List, [], ◌∷◌, length, map, zip, Option, Some, None, if◌then◌else◌, slice_get}
 use Rattle.std.specs.List.{list_all, list_any}
 use Rattle.vm_iotlb.specs.declared.permissions.Permissions.TheVariants.{Read, Write}
 use Rattle.vm_memory_core.specs.Host.{Host, Block, new_block, with_block}
@@ -138,6 +138,20 @@ effect s (ResetQueue queue l) = reset s queue l (slice_get s.queues queue)
 
 -- ---- kicks
 
+-- an exchange with whether the driver was told, and the calls that it made
+pub record Turn : Type 0 where
+  pub exchange : Exchange
+  pub notice : Bool
+  pub calls : Calls
+
+-- what is behind the answer to a command: the exchanges of a kick, one after the other; behind other answers there is nothing
+abbrev pub Told : Type 0
+Told = List Turn
+
+-- what a kick lists of an exchange
+abbrev pub shown : Turn → Exchange × Bool
+shown t = (t.exchange, t.notice)
+
 -- a kick ends after most exchanges, or at a step that is idle or refused, which makes no call
 abbrev pub KickEnds : {F : Type 0} → May F → State F → ℕ → ℕ → Option DeviceError → State F → Type 0
 KickEnds may s i zero None after = after ≡ s
@@ -146,16 +160,16 @@ KickEnds may s i zero (Some e) after = ⊥
 KickEnds may s i (suc most) (Some e) after = Step may s i [] (Refused e) after
 
 -- these exchanges, one after the other, each with its calls, and this end
-unfoldable pub KickRun : {F : Type 0} → May F → State F → ℕ → ℕ → List (Exchange × Bool) → Option DeviceError → State F → Type 0
+unfoldable pub KickRun : {F : Type 0} → May F → State F → ℕ → ℕ → Told → Option DeviceError → State F → Type 0
 KickRun may s i most [] refused after = KickEnds may s i most refused after
-KickRun may s i zero (x ∷ xs) refused after = ⊥
-KickRun {F} may s i (suc most) (x ∷ xs) refused after =
-    (calls : Calls) × (mid : State F) × Step may s i calls (Exchanged x.0 x.1) mid × KickRun may mid i most xs refused after
+KickRun may s i zero (t ∷ ts) refused after = ⊥
+KickRun {F} may s i (suc most) (t ∷ ts) refused after =
+    (mid : State F) × Step may s i t.calls (Exchanged t.exchange t.notice) mid × KickRun may mid i most ts refused after
 
 -- of a missing queue a kick lists that, whatever most
-abbrev pub Kicks : {F : Type 0} → May F → State F → ℕ → ℕ → Option Queue → Kicked → State F → Type 0
-Kicks may s i most None k after = (after ≡ s) × (k ≡ record { exchanges = []; refused = Some device.NoSuchQueue })
-Kicks may s i most (Some q) k after = KickRun may s i most k.exchanges k.refused after
+abbrev pub Kicks : {F : Type 0} → May F → State F → ℕ → ℕ → Option Queue → Told → Kicked → State F → Type 0
+Kicks may s i most None told k after = (after ≡ s) × (told ≡ []) × (k ≡ record { exchanges = []; refused = Some device.NoSuchQueue })
+Kicks may s i most (Some q) told k after = KickRun may s i most told k.refused after × (k.exchanges ≡ map shown told)
 
 -- ---- runs
 
@@ -170,18 +184,34 @@ takes_memory s (Kick queue most) = kick_takes_memory s queue most
 takes_memory s (ResetQueue queue l) = false
 takes_memory s _ = true
 
--- a command that has enough memory
-abbrev pub Does : {F : Type 0} → May F → State F → Command → Answer → State F → Type 0
-Does may s (Kick queue most) (Served k) after = Kicks may s queue most (slice_get s.queues queue) k after
-Does may s (Kick queue most) answer after = ⊥
-Does may s command answer after = (answer, after) ≡ effect s command
+-- a command has its effect, and nothing is behind its answer
+abbrev pub HasEffect : {F : Type 0} → State F → Command → Told → Answer → State F → Type 0
+HasEffect s command [] answer after = (answer, after) ≡ effect s command
+HasEffect s command (t ∷ ts) answer after = ⊥
 
--- a command may be answered so, and leave this state
-abbrev pub Performs : {F : Type 0} → May F → State F → Command → Answer → State F → Type 0
-Performs may s command (IsRefused why.OutOfMemory) after = IsTrue (takes_memory s command) × (after ≡ s)
-Performs may s command answer after = Does may s command answer after
+-- a command that has enough memory
+abbrev pub Does : {F : Type 0} → May F → State F → Command → Told → Answer → State F → Type 0
+Does may s (Kick queue most) told (Served k) after = Kicks may s queue most (slice_get s.queues queue) told k after
+Does may s (Kick queue most) told answer after = ⊥
+Does may s command told answer after = HasEffect s command told answer after
+
+-- want of memory changes nothing
+abbrev pub LacksMemory : {F : Type 0} → State F → Command → Told → State F → Type 0
+LacksMemory s command [] after = IsTrue (takes_memory s command) × (after ≡ s)
+LacksMemory s command (t ∷ ts) after = ⊥
+
+-- a command may be answered so, with this behind its answer, and leave this state
+abbrev pub Performs : {F : Type 0} → May F → State F → Command → Told → Answer → State F → Type 0
+Performs may s command told (IsRefused why.OutOfMemory) after = LacksMemory s command told after
+Performs may s command told answer after = Does may s command told answer after
+
+-- these answers to these commands, one after the other, with what is behind each
+unfoldable pub RunTold : {F : Type 0} → May F → State F → List (Command × Answer) → List Told → State F → Type 0
+RunTold may s [] [] after = after ≡ s
+RunTold may s [] (told ∷ tolds) after = ⊥
+RunTold may s (e ∷ es) [] after = ⊥
+RunTold {F} may s (e ∷ es) (told ∷ tolds) after = (mid : State F) × Performs may s e.0 told e.1 mid × RunTold may mid es tolds after
 
 -- these answers to these commands, one after the other
-unfoldable pub Run : {F : Type 0} → May F → State F → List (Command × Answer) → State F → Type 0
-Run may s [] after = after ≡ s
-Run {F} may s (e ∷ es) after = (mid : State F) × Performs may s e.0 e.1 mid × Run may mid es after
+abbrev pub Run : {F : Type 0} → May F → State F → List (Command × Answer) → State F → Type 0
+Run may s events after = (tolds : List Told) × RunTold may s events tolds after

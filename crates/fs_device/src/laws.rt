@@ -1,5 +1,6 @@
 //! Laws of the definitions, each the contract of a function that does nothing.
 
+ghost use Rattle.fs_device.specs.Books.{Balances};
 ghost use Rattle.fs_device.specs.Laws.{CutsDoNotMatter};
 
 use fuse_fs::FileSystem;
@@ -7,4 +8,10 @@ use fuse_fs::FileSystem;
 /// However a request and its room are cut into descriptors, the file system may be asked the same, and the reply is the same.
 pub fn law_cuts<F: FileSystem>()
     ensures { CutsDoNotMatter F.may }
+{}
+
+/// Over a run, for each node but 0: what the file system answered of it less what it was sent back is what replies told of it, with
+/// what was lost in replies that did not fit, less what the driver gave back.
+pub fn law_books<F: FileSystem>()
+    ensures { Balances F.may }
 {}

@@ -1,6 +1,6 @@
 //! What a machine does to its blocks and its layout.
 
-ghost use Rattle.std.specs.Prelude.{◌≡◌};
+ghost use Rattle.std.specs.Prelude.{◌≡◌, []};
 ghost use Rattle.fs_device.specs.Run.{Performs, NewBlock, InsertRegion, RemoveRegion, SetLayout};
 ghost use Rattle.fs_device.specs.CommandView.{answer_of};
 ghost use Rattle.fs_device.specs.MachineView.{machine_of};
@@ -16,7 +16,7 @@ use vm_memory_core::GuestAddress;
 
 impl<F: FileSystem> Machine<F> {
     pub(crate) fn new_block(&mut self, len: usize) -> Answer
-        ensures { Performs F.may (machine_of self.old) (NewBlock len) (answer_of result) (machine_of self.new) }
+        ensures { Performs F.may (machine_of self.old) (NewBlock len) [] (answer_of result) (machine_of self.new) }
     {
         if len == 0 {
             return Answer::Refused(Refusal::EmptyBlock);
@@ -28,7 +28,7 @@ impl<F: FileSystem> Machine<F> {
     }
 
     pub(crate) fn insert_region(&mut self, alloc: Global, base: u64, block: usize) -> Answer
-        ensures { Performs F.may (machine_of self.old) (InsertRegion base block) (answer_of result) (machine_of self.new) }
+        ensures { Performs F.may (machine_of self.old) (InsertRegion base block) [] (answer_of result) (machine_of self.new) }
     {
         let Some(region) = MmapRegion::of_block(&self.host, block) else {
             return Answer::Refused(Refusal::UnknownBlock);
@@ -52,7 +52,7 @@ impl<F: FileSystem> Machine<F> {
     }
 
     pub(crate) fn remove_region(&mut self, base: u64, size: u64) -> Answer
-        ensures { Performs F.may (machine_of self.old) (RemoveRegion base size) (answer_of result) (machine_of self.new) }
+        ensures { Performs F.may (machine_of self.old) (RemoveRegion base size) [] (answer_of result) (machine_of self.new) }
     {
         match self.mem.remove_region(GuestAddress(base), size) {
             Ok((layout, _)) => {
@@ -65,7 +65,7 @@ impl<F: FileSystem> Machine<F> {
     }
 
     pub(crate) fn set_layout(&mut self, layout: GuestMemoryMmap) -> Answer
-        ensures { Performs F.may (machine_of self.old) (SetLayout layout) (answer_of result) (machine_of self.new) }
+        ensures { Performs F.may (machine_of self.old) (SetLayout layout) [] (answer_of result) (machine_of self.new) }
     {
         if !self.host.holds(&layout) {
             return Answer::Refused(Refusal::UnknownBlock);

@@ -1,9 +1,9 @@
 //! A machine does commands one after another.
 
-ghost use Rattle.std.specs.Prelude.{◌≡◌, IfOk, OnErr, true, length, map, zip};
+ghost use Rattle.std.specs.Prelude.{◌≡◌, [], IfOk, OnErr, true, length, map, zip};
 ghost use Rattle.vm_iotlb.specs.declared.permissions.Permissions.TheVariants.{Read, Write};
 ghost use Rattle.vm_memory.specs.Memory.{memory_of, reach, bytes};
-ghost use Rattle.fs_device.specs.Run.{Run, Performs, GuestRead, GuestWrite, Kick, ResetQueue, guest_written};
+ghost use Rattle.fs_device.specs.Run.{Run, Performs, Told, GuestRead, GuestWrite, Kick, ResetQueue, guest_written};
 ghost use Rattle.fs_device.specs.CommandView.{answer_of, command_of};
 ghost use Rattle.fs_device.specs.MachineView.{machine_of};
 
@@ -47,7 +47,7 @@ impl<F: FileSystem> Machine<F> {
     }
 
     fn guest_read(&self, alloc: Global, addr: u64, len: usize) -> Answer
-        ensures { Performs F.may (machine_of self.now) (GuestRead addr len) (answer_of result) (machine_of self.now) }
+        ensures { Performs F.may (machine_of self.now) (GuestRead addr len) [] (answer_of result) (machine_of self.now) }
     {
         if !self.reaches(addr, len, Permissions::Read) {
             return Answer::Refused(Refusal::NoPlace);
@@ -60,7 +60,7 @@ impl<F: FileSystem> Machine<F> {
     }
 
     fn guest_write(&mut self, addr: u64, bytes: &[u8]) -> Answer
-        ensures { Performs F.may (machine_of self.old) (GuestWrite addr bytes.now) (answer_of result) (machine_of self.new) }
+        ensures { Performs F.may (machine_of self.old) (GuestWrite addr bytes.now) [] (answer_of result) (machine_of self.new) }
     {
         if !self.reaches(addr, bytes.len(), Permissions::Write) {
             return Answer::Refused(Refusal::NoPlace);
@@ -70,7 +70,7 @@ impl<F: FileSystem> Machine<F> {
     }
 
     fn kick(&mut self, alloc: Global, queue: usize, most: u16) -> Answer
-        ensures { Performs F.may (machine_of self.old) (Kick queue most) (answer_of result) (machine_of self.new) }
+        ensures { (told : Told) × Performs F.may (machine_of self.old) (Kick queue most) told (answer_of result) (machine_of self.new) }
     {
         match self
             .device
@@ -86,7 +86,7 @@ impl<F: FileSystem> Machine<F> {
     }
 
     fn reset_queue(&mut self, queue: usize, layout: QueueLayout) -> Answer
-        ensures { Performs F.may (machine_of self.old) (ResetQueue queue layout) (answer_of result) (machine_of self.new) }
+        ensures { Performs F.may (machine_of self.old) (ResetQueue queue layout) [] (answer_of result) (machine_of self.new) }
     {
         match self.device.reset_queue(queue, layout) {
             Ok(()) => Answer::Done,
@@ -96,7 +96,7 @@ impl<F: FileSystem> Machine<F> {
 
     // Does one command.
     fn perform(&mut self, alloc: Global, command: Command) -> Answer
-        ensures { Performs F.may (machine_of self.old) (command_of command) (answer_of result) (machine_of self.new) }
+        ensures { (told : Told) × Performs F.may (machine_of self.old) (command_of command) told (answer_of result) (machine_of self.new) }
     {
         match command {
             Command::GuestRead { addr, len } => self.guest_read(alloc, addr, len),

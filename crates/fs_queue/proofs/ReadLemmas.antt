@@ -1,6 +1,7 @@
 -- reads of ranges, by the addresses that were reached
-use Rattle.std.proofs.Common.{◌≡◌, ℕ, true, ◌+◌, ◌^◌, ◌<◌, nat_lt, eqb, List, [], ◌∷◌, ◌++◌, length, map, take, drop, ap, sym, ◌∙◌, append-nil, arith}
-use Rattle.std.specs.Prelude.{is_ok}
+use Rattle.std.proofs.Common.{◌≡◌, ℕ, Bool, true, false, ◌+◌, ◌^◌, ◌<◌, nat_lt, eqb, List, [], ◌∷◌, ◌++◌, length, map, take, drop, refl, ap, sym, ◌∙◌, append-nil, arith, Ok, Err, None}
+use Rattle.std.specs.Prelude.{is_ok, is_some, IsTrue, IfOk, OnErr, Result, if◌then◌else◌}
+use Rattle.std.specs.declared.alloc.AllocError.{AllocError}
 use Rattle.std.specs.Int.{w16, w32, w64, from_le_bytes, to_le_bytes}
 use Rattle.std.proofs.lemmas.Bool.Decides.{nat_tests}
 use Rattle.std.proofs.lemmas.Nat.{from_le_bytes-to_le_bytes_2, from_le_bytes-to_le_bytes_4, from_le_bytes-to_le_bytes_8}
@@ -11,11 +12,14 @@ use Rattle.vm_values.specs.Fields as fields
 use Rattle.vm_memory_core.specs.Host.{Host}
 use Rattle.vm_iotlb.specs.declared.permissions.Permissions.TheVariants.{Read}
 use Rattle.vm_memory.specs.Layout.{Region, place}
-use Rattle.vm_memory.specs.Memory.{Memory, memory_of, addresses, circular, reached, reach, byte, bytes, number, transferred}
+use Rattle.vm_memory.specs.Memory.{Memory, memory_of, addresses, circular, located, location, reached, reach, byte, bytes, number, transferred}
+use Rattle.vm_memory.specs.RangeAnswers.{Checks, Reads}
 use Rattle.vm_memory.proofs.Places.{circular-is, length-circular, length-addresses, list_all-reached, addresses-append}
+use Rattle.vm_memory.proofs.RangeLemmas.{reach-from}
 use Rattle.fs_queue.specs.declared.descriptor.Descriptor.{Descriptor}
 use Rattle.fs_queue.specs.Records.{descriptor}
 use Rattle.fs_queue.specs.Chain.{descriptor_at}
+use Rattle.fs_queue.specs.Look.{IsUnmapped}
 
 -- a transfer succeeds where all was done
 pub is_ok-transferred : (a : GuestAddress) (n k : ℕ) → is_ok (transferred a n k) ≡ eqb k n
@@ -38,6 +42,27 @@ read_all m a n k old new fits size all is =
     let front : take k (circular a n) ≡ addresses a n = take_all k (circular a n) (omega (arith, length-circular n a)) ∙ circular-is n a fits in
     let back : drop k old ≡ [] = drop_all k old (omega arith) in
     is ∙ rw (front, back) (append-nil (map (byte m) (addresses a n)))
+
+-- what a memory answers for a range that ends below 2^64
+pub checked : (m : Memory) (a n : ℕ) (r : Result Bool AllocError) → a + n < 2 ^ 64 → Checks m Read a n r → IfOk r (λ found. found ≡ reach m Read a n)
+checked m a n (Ok found) fits h = h ∙ reach-from m Read a n fits
+checked m a n (Err e) fits h = tt
+
+pub have_read : (m : Memory) (a n : ℕ) (new : List ℕ) (r : Result Bool AllocError) → a + n < 2 ^ 64 → Reads m a n new r → IfOk r (λ found. IsTrue found → new ≡ bytes m a n)
+have_read m a n new (Ok found) fits h = λ all. h all ∙ ap (map (byte m)) (circular-is n a fits)
+have_read m a n new (Err e) fits h = tt
+
+switched_on : (on x : Bool) → (if on then x else true) ≡ false → on ≡ true
+switched_on true x e = refl
+switched_on false x e = absurd (cc)
+
+-- memory is wanting only where a range can't be translated
+pub wanting : (m : Memory) (a n : ℕ) (r : Result Bool AllocError) → a + n < 2 ^ 64 → Checks m Read a n r → OnErr r (IsUnmapped m a n)
+wanting m a n (Ok found) fits h = tt
+wanting m a n (Err e) fits h = (
+  switched_on m.translates _ h,
+  sym (reach-from m Read a n fits) ∙ ap (λ b. is_some (if b then located (location m Read) (circular a n) else None)) h,
+)
 
 -- the front and the rest of a range's bytes
 bytes-append : (m : Memory) (a j k : ℕ) → bytes m a (j + k) ≡ bytes m a j ++ bytes m (a + j) k

@@ -1,62 +1,126 @@
--- three stores of a return are the writes at their addresses
-use Rattle.std.proofs.Common.{◌≡◌, ℕ, Bool, true, false, ◌++◌, not, eqb, List, length, map, refl, ap, sym, ◌∙◌, Ok, Err}
+-- the stores of a return are the writes at their addresses
+use Rattle.std.proofs.Common.{◌≡◌, ℕ, Bool, true, false, [], ◌∷◌, ◌++◌, not, eqb, List, length, map, drop, append_assoc, length-append, arith, refl, ap, sym, ◌∙◌, Ok, Err, Option, Some, None}
 use Rattle.std.specs.Prelude.{Result, bit_and}
 use Rattle.std.specs.List.{zip}
+use Rattle.std.proofs.lemmas.List.{take_at, drop_at}
 use Rattle.std.specs.Int.{w16, w32, to_le_bytes, from_le_bytes}
-use Rattle.vm_memory_core.specs.Host.{Host}
-use Rattle.vm_memory_core.specs.Window.{Window, places, byte_in, put_all}
-use Rattle.vm_memory.specs.Layout.{Region}
-use Rattle.vm_memory.specs.Memory.{Memory, memory_of, addresses, stored_all, bytes}
-use Rattle.vm_memory.proofs.Places.{stored_all-zip, stored_all-append, bytes-located}
+use Rattle.vm_iotlb.specs.declared.permissions.Permissions.TheVariants.{Read, Write}
+use Rattle.vm_iotlb.specs.declared.range.IotlbRange.{IotlbRange}
+use Rattle.vm_memory_core.specs.Host.{Host, IoAddress, Place}
+use Rattle.vm_memory_core.specs.Window.{Window, places, byte_in, put_byte, put_all}
+use Rattle.vm_memory_core.proofs.WindowLemmas.{zip-append}
+use Rattle.vm_memory.specs.Memory.{Memory, addresses, located, location, stored_at, stored_all, bytes}
+use Rattle.vm_memory.proofs.Places.{parts, length-addresses, stored_all-append, bytes-located}
 use Rattle.fs_queue.specs.declared.chain.Chain.{Chain}
 use Rattle.fs_queue.specs.declared.chain.Taken.{Taken}
 use Rattle.fs_queue.specs.declared.fault.ChainFault.{ChainFault}
 use Rattle.fs_queue.specs.Queue.{Queue, element_at, index_at}
 use Rattle.fs_queue.specs.Taking.{Asked, Asks, CannotAsk, room_of}
 use Rattle.fs_queue.specs.Returning.{next_position, returned, wants_notice}
-use Rattle.fs_queue.specs.Windows.{HoldsChain, IsTaken, chain_places}
+use Rattle.fs_queue.specs.Windows.{HoldsChain, IsTaken, chain_places, used_addresses}
 
-room_stored : (h : Host) (l : List Region) (reply : List ℕ) (asked : Asked) (chain : Result Chain ChainFault) → HoldsChain (memory_of h l) asked chain →
-    stored_all (memory_of h l) (zip (room_of asked) reply) ≡ memory_of (put_all h (zip (chain_places chain) reply)) l
+-- a memory over another host
+abbrev pub over : Memory → Host → Memory
+over m h = record m { host = h }
+
+-- ---- stores keep tables, so each address stays where it is
+
+with_tables : (h : Host) (p : Place) (x : ℕ) (io : Option IoAddress) → p.io ≡ io → (put_byte h p x).tables ≡ h.tables
+with_tables h p x None e = rw e refl
+with_tables h p x (Some a) e = rw e refl
+
+put_tables : (h : Host) (p : Place) (x : ℕ) → (put_byte h p x).tables ≡ h.tables
+put_tables h p x = with_tables h p x p.io refl
+
+all_tables : (ws : List (Place × ℕ)) (h : Host) → (put_all h ws).tables ≡ h.tables
+unfolding put_all
+all_tables [] h = refl
+all_tables (w ∷ ws) h = all_tables ws (put_byte h w.0 w.1) ∙ put_tables h w.0 w.1
+
+same_location : (m : Memory) (h : Host) → h.tables ≡ m.host.tables → location (over m h) ≡ location m
+same_location m h e = ap (λ (t : List (List IotlbRange)). location (over m (record h { tables = t }))) e
+
+put_none : (ps : List Place) (h : Host) → h ≡ put_all h (zip ps [])
+unfolding put_all
+put_none [] h = refl
+put_none (p ∷ ps) h = refl
+
+stored_one : (a x : ℕ) (as' xs : List ℕ) (ps qs : List Place) (p : Place) (m : Memory) → location m Write a ≡ Some p → ps ≡ p ∷ qs →
+    stored_all (over m (put_byte m.host p x)) (zip as' xs) ≡ over m (put_all (put_byte m.host p x) (zip qs xs)) →
+    stored_all m (zip (a ∷ as') (x ∷ xs)) ≡ over m (put_all m.host (zip ps (x ∷ xs)))
 unfolding stored_all put_all
-room_stored h l reply (Asks request room) (Ok c) held = stored_all-zip room (places c.writable.items) reply l h held.1
-room_stored h l reply (Asks request room) (Err fault) held = absurd held
-room_stored h l reply (CannotAsk why) (Ok c) held = absurd held
-room_stored h l reply (CannotAsk why) (Err fault) held = refl
+stored_one a x as' xs ps qs p m at is ih =
+    ap (λ (o : Option Place). stored_all (stored_at m x o) (zip as' xs)) at ∙ ih ∙ sym (ap (λ (rs : List Place). over m (put_all m.host (zip rs (x ∷ xs)))) is)
 
-pub returned_is : (h0 h1 h2 h3 : Host) (l : List Region) (q : Queue) (asked : Asked) (t : Taken) (reply element index : List ℕ) (es is : List Window) → IsTaken (memory_of h0 l) q asked t →
+-- stores at addresses are stores at their places
+stored_located : (as' : List ℕ) (ps : List Place) (xs : List ℕ) (m : Memory) → located (location m Write) as' ≡ Some ps →
+    stored_all m (zip as' xs) ≡ over m (put_all m.host (zip ps xs))
+unfolding located stored_all put_all
+stored_located [] ps xs m e = let none : [] ≡ ps = cc in rw (← none)
+stored_located (a ∷ as') ps [] m e = ap (over m) (put_none ps m.host)
+stored_located (a ∷ as') ps (x ∷ xs) m e =
+    let s = parts (location m Write a) (located (location m Write) as') ps e in
+    let kept = same_location m (put_byte m.host s.0 x) (put_tables m.host s.0 x) in
+    stored_one a x as' xs ps s.1 s.0 m s.2 s.4 (stored_located as' s.1 xs (over m (put_byte m.host s.0 x)) (ap (λ f. located (f Write) as') kept ∙ s.3))
+
+-- ---- the stores of a return
+
+room_stored : (m : Memory) (reply : List ℕ) (asked : Asked) (chain : Result Chain ChainFault) → HoldsChain m asked chain →
+    stored_all m (zip (room_of asked) reply) ≡ over m (put_all m.host (zip (chain_places chain) reply))
+unfolding stored_all put_all
+room_stored m reply (Asks request room) (Ok c) held = stored_located room (places c.writable.items) reply m held.1
+room_stored m reply (Asks request room) (Err fault) held = absurd held
+room_stored m reply (CannotAsk why) (Ok c) held = absurd held
+room_stored m reply (CannotAsk why) (Err fault) held = refl
+
+-- a store through windows that were held before
+stored_held : (m : Memory) (h h' : Host) (as' xs : List ℕ) (ws vs : List Window) → h.tables ≡ m.host.tables → located (location m Write) as' ≡ Some (places vs) →
+    ws ≡ vs → h' ≡ put_all h (zip (places ws) xs) → stored_all (over m h) (zip as' xs) ≡ over m h'
+stored_held m h h' as' xs ws vs kept at e is =
+    stored_located as' (places vs) xs (over m h) (ap (λ f. located (f Write) as') (same_location m h kept) ∙ at)
+    ∙ ap (over m) (ap (λ (v : List Window). put_all h (zip (places v) xs)) (sym e) ∙ sym is)
+
+-- the used element and the used index at their addresses, at once
+zip_used : (a b x y : List ℕ) → length a ≡ length x → zip (a ++ b) (x ++ y) ≡ zip a x ++ zip b y
+zip_used a b x y e =
+    zip-append a b (x ++ y) (length x) (omega (arith, e, length-append x y))
+    ∙ ap (λ (l : List ℕ). zip a l ++ zip b (drop (length x) (x ++ y))) (take_at x y (length x) refl)
+    ∙ ap (λ (l : List ℕ). zip a x ++ zip b l) (drop_at x y (length x) refl)
+
+pub returned_is : (m : Memory) (h0 h1 h2 : Host) (q : Queue) (asked : Asked) (t : Taken) (reply bytes : List ℕ) (ws : List Window) → m.host ≡ h0 → IsTaken m q asked t →
     h1 ≡ put_all h0 (zip (chain_places t.chain) reply) →
-    es ≡ t.ends.element.items → element ≡ to_le_bytes w32 t.head ++ to_le_bytes w32 (length reply) → h2 ≡ put_all h1 (zip (places es) element) →
-    is ≡ t.ends.index.items → index ≡ to_le_bytes w16 (next_position q) → h3 ≡ put_all h2 (zip (places is) index) →
-    memory_of h3 l ≡ returned (memory_of h0 l) q t.head (room_of asked) reply
-returned_is h0 h1 h2 h3 l q asked t reply element index es is taken a e1 e2 b i1 i2 c =
-    let m0 : Memory = memory_of h0 l in
+    ws ≡ t.ends.used.items → bytes ≡ to_le_bytes w32 t.head ++ to_le_bytes w32 (length reply) ++ to_le_bytes w16 (next_position q) → h2 ≡ put_all h1 (zip (places ws) bytes) →
+    over m h2 ≡ returned m q t.head (room_of asked) reply
+returned_is m h0 h1 h2 q asked t reply bytes ws host taken a e1 e2 b =
     let room : List (ℕ × ℕ) = zip (room_of asked) reply in
-    let at_element : List (ℕ × ℕ) = zip (addresses (element_at q) 8) element in
-    let at_index : List (ℕ × ℕ) = zip (addresses (index_at q) 2) index in
-    let first : stored_all m0 room ≡ memory_of h1 l = room_stored h0 l reply asked t.chain taken.chain ∙ ap (λ (h : Host). memory_of h l) (sym a) in
-    let second : stored_all (memory_of h1 l) at_element ≡ memory_of h2 l =
-    stored_all-zip (addresses (element_at q) 8) (places t.ends.element.items) element l h1 taken.ends.element
-    ∙ ap (λ (h : Host). memory_of h l) (ap (λ (ws : List Window). put_all h1 (zip (places ws) element)) (sym e1) ∙ sym b) in
-    let third : stored_all (memory_of h2 l) at_index ≡ memory_of h3 l =
-    stored_all-zip (addresses (index_at q) 2) (places t.ends.index.items) index l h2 taken.ends.index
-    ∙ ap (λ (h : Host). memory_of h l) (ap (λ (ws : List Window). put_all h2 (zip (places ws) index)) (sym i1) ∙ sym c) in
-    let named : returned m0 q t.head (room_of asked) reply ≡ stored_all m0 (room ++ at_element ++ at_index) =
-    ap (λ (x : List ℕ). stored_all m0 (room ++ zip (addresses (element_at q) 8) x ++ zip (addresses (index_at q) 2) (to_le_bytes w16 (next_position q)))) (sym e2)
-    ∙ ap (λ (x : List ℕ). stored_all m0 (room ++ at_element ++ zip (addresses (index_at q) 2) x)) (sym i2) in
-    sym (named
-    ∙ stored_all-append (room ++ at_element) at_index m0
-    ∙ ap (λ (m : Memory). stored_all m at_index) (stored_all-append room at_element m0 ∙ ap (λ (m : Memory). stored_all m at_element) first ∙ second)
-    ∙ third)
+    let element : List ℕ = to_le_bytes w32 t.head ++ to_le_bytes w32 (length reply) in
+    let index : List ℕ = to_le_bytes w16 (next_position q) in
+    let at_used : List (ℕ × ℕ) = zip (used_addresses q) bytes in
+    let stored : h1 ≡ put_all m.host (zip (chain_places t.chain) reply) = a ∙ ap (λ (h : Host). put_all h (zip (chain_places t.chain) reply)) (sym host) in
+    let t1 : h1.tables ≡ m.host.tables = ap (λ (h : Host). h.tables) stored ∙ all_tables (zip (chain_places t.chain) reply) m.host in
+    let first : stored_all m room ≡ over m h1 = room_stored m reply asked t.chain taken.chain ∙ ap (over m) (sym stored) in
+    let second : stored_all (over m h1) at_used ≡ over m h2 = stored_held m h1 h2 (used_addresses q) bytes ws t.ends.used.items t1 taken.ends.used e1 b in
+    let cut : at_used ≡ zip (addresses (element_at q) 8) element ++ zip (addresses (index_at q) 2) index =
+    ap (zip (used_addresses q)) e2 ∙ zip_used (addresses (element_at q) 8) (addresses (index_at q) 2) element index (length-addresses 8 (element_at q)) in
+    let joined : room ++ zip (addresses (element_at q) 8) element ++ zip (addresses (index_at q) 2) index ≡ room ++ at_used =
+    append_assoc room (zip (addresses (element_at q) 8) element) (zip (addresses (index_at q) 2) index) ∙ ap (λ (l : List (ℕ × ℕ)). room ++ l) (sym cut) in
+    sym (ap (stored_all m) joined
+    ∙ stored_all-append room at_used m
+    ∙ ap (λ (n : Memory). stored_all n at_used) first ∙ second)
 
 not_not : (b : Bool) → b ≡ not (not b)
 not_not true = refl
 not_not false = refl
 
-pub told_is : (h0 h3 : Host) (l : List Region) (q : Queue) (asked : Asked) (t : Taken) (n : ℕ) (flags : List ℕ) (fs : List Window) → IsTaken (memory_of h0 l) q asked t →
-    fs ≡ t.ends.flags.items → flags ≡ map (byte_in h3) (places fs) → n ≡ from_le_bytes w16 flags → eqb (bit_and n 1) 0 ≡ wants_notice (memory_of h3 l) q
-told_is h0 h3 l q asked t n flags fs taken e f is =
-    let read : bytes (memory_of h3 l) q.avail 2 ≡ flags =
-    bytes-located (addresses q.avail 2) (memory_of h3 l) (places t.ends.flags.items) taken.ends.flags
-    ∙ ap (λ (ws : List Window). map (byte_in h3) (places ws)) (sym e) ∙ sym f in
+pub told_is : (m : Memory) (h2 : Host) (q : Queue) (asked : Asked) (t : Taken) (n : ℕ) (flags : List ℕ) (fs : List Window) → h2.tables ≡ m.host.tables → IsTaken m q asked t →
+    fs ≡ t.ends.flags.items → flags ≡ map (byte_in h2) (places fs) → n ≡ from_le_bytes w16 flags → eqb (bit_and n 1) 0 ≡ wants_notice (over m h2) q
+told_is m h2 q asked t n flags fs kept taken e f is =
+    let read : bytes (over m h2) q.avail 2 ≡ flags =
+    bytes-located (addresses q.avail 2) (over m h2) (places t.ends.flags.items) (ap (λ g. located (g Read) (addresses q.avail 2)) (same_location m h2 kept) ∙ taken.ends.flags)
+    ∙ ap (λ (ws : List Window). map (byte_in h2) (places ws)) (sym e) ∙ sym f in
     ap (λ k. eqb (bit_and k 1) 0) (is ∙ ap (from_le_bytes w16) (sym read)) ∙ not_not _
+
+-- both stores keep the tables
+pub kept_tables : (m : Memory) (h0 h1 h2 : Host) (ws1 ws2 : List (Place × ℕ)) → m.host ≡ h0 → h1 ≡ put_all h0 ws1 → h2 ≡ put_all h1 ws2 → h2.tables ≡ m.host.tables
+kept_tables m h0 h1 h2 ws1 ws2 host a b =
+    ap (λ (h : Host). h.tables) b ∙ all_tables ws2 h1 ∙ ap (λ (h : Host). h.tables) a ∙ all_tables ws1 h0 ∙ ap (λ (h : Host). h.tables) (sym host)

@@ -9,19 +9,19 @@ use Rattle.std.proofs.lemmas.List.Elements.{All-filter}
 use Rattle.std.proofs.lemmas.List.Sums.{sum_by-cons}
 use Rattle.std.proofs.lemmas.Bool.Decides.{nat_tests}
 use Rattle.std.proofs.Math.Bool.{and_assoc}
-use Rattle.vm_memory_core.specs.Host.{Host, Place}
+use Rattle.vm_memory_core.specs.Host.{Place}
 use Rattle.vm_memory_core.specs.Window.{AllLieIn}
 use Rattle.vm_iotlb.specs.declared.permissions.Permissions.{Permissions}
 use Rattle.vm_iotlb.specs.declared.permissions.Permissions.TheVariants.{Read, Write}
 use Rattle.vm_memory_core.specs.Window.{byte_in}
-use Rattle.vm_memory.specs.Layout.{Region, place}
-use Rattle.vm_memory.specs.Memory.{Memory, memory_of, addresses, located, after, reach, byte, bytes}
+use Rattle.vm_memory.specs.Memory.{Memory, addresses, located, location, after, reach, byte, bytes}
 use Rattle.fs_queue.specs.declared.fault.ChainFault.TheVariants.{RequestUnreachable, RoomUnreachable}
 use Rattle.fs_queue.specs.Walking.{AllEndIn64Bits}
 use Rattle.fs_queue.specs.Taking.{readable, writable, total_len, all_reach, asked_by, Asks, CannotAsk}
 use Rattle.fs_queue.specs.declared.descriptor.Descriptor.{Descriptor}
+use Rattle.fs_queue.specs.Queue.{Queue, element_at, index_at}
 use Rattle.fs_queue.specs.Chain.{is_writable}
-use Rattle.fs_queue.specs.Windows.{of_direction, addresses_of}
+use Rattle.fs_queue.specs.Windows.{of_direction, addresses_of, used_addresses}
 use Rattle.vm_memory.proofs.Places.{Where, length-addresses, located-append, after-after, bytes-located}
 
 parts : (o : Option Place) (r : Option (List Place)) (ps : List Place) →
@@ -41,6 +41,13 @@ length-located (x ∷ xs) f ps e =
 
 pub length-range : (n a : ℕ) (f : Where) (ps : List Place) → located f (addresses a n) ≡ Some ps → length ps ≡ n
 length-range n a f ps e = length-located (addresses a n) f ps e ∙ length-addresses n a
+
+-- what a return writes besides the reply has ten bytes
+pub length-used : (m : Memory) (q : Queue) (ps : List Place) → located (location m Write) (used_addresses q) ≡ Some ps → length ps ≡ 10
+length-used m q ps e =
+    let element = length-addresses 8 (element_at q) in
+    let index = length-addresses 2 (index_at q) in
+    length-located (used_addresses q) (location m Write) ps e ∙ length-append (addresses (element_at q) 8) (addresses (index_at q) 2) ∙ omega (arith, element, index)
 
 pub none_lies : (lengths : List ℕ) → AllLieIn lengths []
 unfolding AllLieIn
@@ -82,7 +89,7 @@ lost_step None r s e h = refl
 lost_step (Some p) None s e h = rw (h refl)
 lost_step (Some p) (Some qs) s e h = absurd (cc)
 
-located-lost : (xs ys : List ℕ) (f : Where) → located f xs ≡ None → located f (xs ++ ys) ≡ None
+pub located-lost : (xs ys : List ℕ) (f : Where) → located f xs ≡ None → located f (xs ++ ys) ≡ None
 unfolding located
 located-lost [] ys f e = absurd (cc)
 located-lost (x ∷ xs) ys f e = lost_step (f x) (located f xs) (located f (xs ++ ys)) e (located-lost xs ys f)
@@ -98,6 +105,13 @@ after_lost : (o : Option (List Place)) (xs ys : List ℕ) (f : Where) (old : Lis
     after old (located f (xs ++ ys)) ≡ None
 after_lost None xs ys f old h e = ap (after old) (located-lost xs ys f h)
 after_lost (Some ps) xs ys f old h e = absurd (cc)
+
+-- a second range after a first
+pub found_after : (xs ys : List ℕ) (f : Where) (first all : List Place) → Some first ≡ located f xs → after first (located f ys) ≡ Some all → Some all ≡ located f (xs ++ ys)
+found_after xs ys f first all e found = sym (located-append xs ys f first (sym e) ∙ found)
+
+pub lost_after : (xs ys : List ℕ) (f : Where) (first : List Place) → Some first ≡ located f xs → after first (located f ys) ≡ None → None ≡ located f (xs ++ ys)
+lost_after xs ys f first e lost = sym (located-append xs ys f first (sym e) ∙ lost)
 
 pub direction_found : (f : Where) (b : Bool) (ds : List Descriptor) (i : ℕ) (d : Descriptor) (old new : List Place) → drop i ds ≡ d ∷ drop (i + 1) ds → beq (is_writable d) b ≡ true →
     after old (located f (addresses d.addr d.len)) ≡ Some new →
@@ -153,22 +167,25 @@ list_all-append (x ∷ xs) ys f = and_assoc (is_some (f x)) (list_all (λ a. is_
 below : (n : ℕ) → n < 2 ^ 64 → nat_lt n (2 ^ 64) ≡ true
 below n h = grind (arith, nat_tests)
 
--- a range without an IOMMU, whatever the access
-pub reach-range : (h : Host) (l : List Region) (access : Permissions) (a n : ℕ) → a + n < 2 ^ 64 → reach (memory_of h l) access a n ≡ is_some (located (place l) (addresses a n))
-reach-range h l access a n fits = rw (below (a + n) fits) (list_all-located (addresses a n) (place l))
+-- a range that ends below 2^64
+pub reach-each : (m : Memory) (access : Permissions) (a n : ℕ) → a + n < 2 ^ 64 → reach m access a n ≡ list_all (λ x. is_some (location m access x)) (addresses a n)
+reach-each m access a n fits = rw (below (a + n) fits) refl
 
-all_reach_list : (h : Host) (l : List Region) (access : Permissions) (ds : List Descriptor) → AllEndIn64Bits ds →
-    all_reach (memory_of h l) access ds ≡ list_all (λ a. is_some (place l a)) (addresses_of ds)
+pub reach-range : (m : Memory) (access : Permissions) (a n : ℕ) → a + n < 2 ^ 64 → reach m access a n ≡ is_some (located (location m access) (addresses a n))
+reach-range m access a n fits = rw (below (a + n) fits) (list_all-located (addresses a n) (location m access))
+
+all_reach_list : (m : Memory) (access : Permissions) (ds : List Descriptor) → AllEndIn64Bits ds →
+    all_reach m access ds ≡ list_all (λ a. is_some (location m access a)) (addresses_of ds)
 unfolding AllEndIn64Bits
-all_reach_list h l access [] all = refl
-all_reach_list h l access (d ∷ ds) all =
-    let here : reach (memory_of h l) access d.addr d.len ≡ list_all (λ a. is_some (place l a)) (addresses d.addr d.len) = rw (below (d.addr + d.len) (all 0 d (omega arith))) in
-    rw (here, all_reach_list h l access ds (λ k x lt. all (suc k) x (omega arith))) (list_all-append (addresses d.addr d.len) (addresses_of ds) (place l))
+all_reach_list m access [] all = refl
+all_reach_list m access (d ∷ ds) all =
+    let here : reach m access d.addr d.len ≡ list_all (λ a. is_some (location m access a)) (addresses d.addr d.len) = rw (below (d.addr + d.len) (all 0 d (omega arith))) in
+    rw (here, all_reach_list m access ds (λ k x lt. all (suc k) x (omega arith))) (list_all-append (addresses d.addr d.len) (addresses_of ds) (location m access))
 
 -- all of some descriptors are reached where their addresses have their places
-pub all_reach-located : (h : Host) (l : List Region) (access : Permissions) (ds : List Descriptor) → AllEndIn64Bits ds →
-    all_reach (memory_of h l) access ds ≡ is_some (located (place l) (addresses_of ds))
-all_reach-located h l access ds all = all_reach_list h l access ds all ∙ list_all-located (addresses_of ds) (place l)
+pub all_reach-located : (m : Memory) (access : Permissions) (ds : List Descriptor) → AllEndIn64Bits ds →
+    all_reach m access ds ≡ is_some (located (location m access) (addresses_of ds))
+all_reach-located m access ds all = all_reach_list m access ds all ∙ list_all-located (addresses_of ds) (location m access)
 
 pub bytes-addresses_of : (m : Memory) (ds : List Descriptor) → flat_map (λ d. bytes m d.addr d.len) ds ≡ map (byte m) (addresses_of ds)
 bytes-addresses_of m [] = refl
@@ -188,27 +205,27 @@ not_above n limit h = grind (arith, nat_tests)
 within_limit : (limit a b : ℕ) → a ≤ limit → b ≤ limit → (nat_lt limit a || nat_lt limit b) ≡ false
 within_limit limit a b h k = rw (not_above a limit h, not_above b limit k)
 
-pub asks_nothing_read : (h : Host) (l : List Region) (limit : ℕ) (ds : List Descriptor) → AllEndIn64Bits ds → total_len (readable ds) ≤ limit → total_len (writable ds) ≤ limit →
-    None ≡ located (place l) (addresses_of (readable ds)) → asked_by (memory_of h l) limit ds ≡ CannotAsk RequestUnreachable
-asks_nothing_read h l limit ds all a b lost =
-    let r : all_reach (memory_of h l) Read (readable ds) ≡ false = all_reach-located h l Read (readable ds) (fits_filter (λ d. not (is_writable d)) ds all) ∙ ap is_some (sym lost) in
+pub asks_nothing_read : (m : Memory) (limit : ℕ) (ds : List Descriptor) → AllEndIn64Bits ds → total_len (readable ds) ≤ limit → total_len (writable ds) ≤ limit →
+    None ≡ located (location m Read) (addresses_of (readable ds)) → asked_by m limit ds ≡ CannotAsk RequestUnreachable
+asks_nothing_read m limit ds all a b lost =
+    let r : all_reach m Read (readable ds) ≡ false = all_reach-located m Read (readable ds) (fits_filter (λ d. not (is_writable d)) ds all) ∙ ap is_some (sym lost) in
     rw (within_limit limit (total_len (readable ds)) (total_len (writable ds)) a b, r)
 
-pub asks_nothing_written : (h : Host) (l : List Region) (limit : ℕ) (ds : List Descriptor) (ps : List Place) → AllEndIn64Bits ds → total_len (readable ds) ≤ limit → total_len (writable ds) ≤ limit →
-    Some ps ≡ located (place l) (addresses_of (readable ds)) → None ≡ located (place l) (addresses_of (writable ds)) → asked_by (memory_of h l) limit ds ≡ CannotAsk RoomUnreachable
-asks_nothing_written h l limit ds ps all a b found lost =
-    let r : all_reach (memory_of h l) Read (readable ds) ≡ true = all_reach-located h l Read (readable ds) (fits_filter (λ d. not (is_writable d)) ds all) ∙ ap is_some (sym found) in
-    let w : all_reach (memory_of h l) Write (writable ds) ≡ false = all_reach-located h l Write (writable ds) (fits_filter is_writable ds all) ∙ ap is_some (sym lost) in
+pub asks_nothing_written : (m : Memory) (limit : ℕ) (ds : List Descriptor) (ps : List Place) → AllEndIn64Bits ds → total_len (readable ds) ≤ limit → total_len (writable ds) ≤ limit →
+    Some ps ≡ located (location m Read) (addresses_of (readable ds)) → None ≡ located (location m Write) (addresses_of (writable ds)) → asked_by m limit ds ≡ CannotAsk RoomUnreachable
+asks_nothing_written m limit ds ps all a b found lost =
+    let r : all_reach m Read (readable ds) ≡ true = all_reach-located m Read (readable ds) (fits_filter (λ d. not (is_writable d)) ds all) ∙ ap is_some (sym found) in
+    let w : all_reach m Write (writable ds) ≡ false = all_reach-located m Write (writable ds) (fits_filter is_writable ds all) ∙ ap is_some (sym lost) in
     rw (within_limit limit (total_len (readable ds)) (total_len (writable ds)) a b, r, w)
 
-pub asks : (h : Host) (l : List Region) (limit : ℕ) (ds : List Descriptor) (ps qs : List Place) → AllEndIn64Bits ds → total_len (readable ds) ≤ limit → total_len (writable ds) ≤ limit →
-    Some ps ≡ located (place l) (addresses_of (readable ds)) → Some qs ≡ located (place l) (addresses_of (writable ds)) →
-    asked_by (memory_of h l) limit ds ≡ Asks (map (byte_in h) ps) (addresses_of (writable ds))
-asks h l limit ds ps qs all a b found room =
-    let r : all_reach (memory_of h l) Read (readable ds) ≡ true = all_reach-located h l Read (readable ds) (fits_filter (λ d. not (is_writable d)) ds all) ∙ ap is_some (sym found) in
-    let w : all_reach (memory_of h l) Write (writable ds) ≡ true = all_reach-located h l Write (writable ds) (fits_filter is_writable ds all) ∙ ap is_some (sym room) in
-    let request : flat_map (λ d. bytes (memory_of h l) d.addr d.len) (readable ds) ≡ map (byte_in h) ps =
-    bytes-addresses_of (memory_of h l) (readable ds) ∙ bytes-located (addresses_of (readable ds)) (memory_of h l) ps (sym found) in
+pub asks : (m : Memory) (limit : ℕ) (ds : List Descriptor) (ps qs : List Place) → AllEndIn64Bits ds → total_len (readable ds) ≤ limit → total_len (writable ds) ≤ limit →
+    Some ps ≡ located (location m Read) (addresses_of (readable ds)) → Some qs ≡ located (location m Write) (addresses_of (writable ds)) →
+    asked_by m limit ds ≡ Asks (map (byte_in m.host) ps) (addresses_of (writable ds))
+asks m limit ds ps qs all a b found room =
+    let r : all_reach m Read (readable ds) ≡ true = all_reach-located m Read (readable ds) (fits_filter (λ d. not (is_writable d)) ds all) ∙ ap is_some (sym found) in
+    let w : all_reach m Write (writable ds) ≡ true = all_reach-located m Write (writable ds) (fits_filter is_writable ds all) ∙ ap is_some (sym room) in
+    let request : flat_map (λ d. bytes m d.addr d.len) (readable ds) ≡ map (byte_in m.host) ps =
+    bytes-addresses_of m (readable ds) ∙ bytes-located (addresses_of (readable ds)) m ps (sym found) in
     rw (within_limit limit (total_len (readable ds)) (total_len (writable ds)) a b, r, w) (ap (λ (x : List ℕ). Asks x (addresses_of (writable ds))) request)
 
 -- how many places a direction has

@@ -9,3 +9,4 @@ pub mod Taking
 pub mod Returning
 pub mod Windows
 pub mod Laws
+pub mod Examples

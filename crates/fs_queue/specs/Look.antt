@@ -1,5 +1,5 @@
 -- What a queue that isn't stopped finds in its available ring (VIRTIO 1.2, 2.7.6 and 2.7.13 from the device's side).
-use Rattle.std.specs.Prelude.{◌+◌, ◌*◌, not, nat_le, nat_lt, ◌==◌, if◌then◌else◌}
+use Rattle.std.specs.Prelude.{◌≡◌, ℕ, ◌+◌, ◌*◌, true, false, not, nat_le, nat_lt, ◌==◌, if◌then◌else◌}
 use Rattle.vm_iotlb.specs.declared.permissions.Permissions.TheVariants.{Read}
 use Rattle.vm_memory.specs.Memory.{Memory, reach}
 use Rattle.fs_queue.specs.declared.look.Look.{Look}
@@ -17,6 +17,10 @@ looked m q =
     else if not (reach m Read (q.avail + 4 + 2 * slot q) 2) then Refused RingEntryUnreachable
     else if nat_le q.size (head m q) then Refused HeadOutOfTable
     else Head (head m q)
+
+-- n addresses from a on can't all be read, and they are translated
+abbrev pub IsUnmapped : Memory → (a n : ℕ) → Type 0
+IsUnmapped m a n = (m.translates ≡ true) × (reach m Read a n ≡ false)
 
 -- of a refusal
 abbrev pub IfRefused : Look → (QueueError → Type 0) → Type 0

@@ -3,12 +3,12 @@ use Rattle.std.specs.Prelude.{List, [], ◌∷◌}
 use Rattle.vm_values.specs.Fields.{Field}
 use Rattle.vm_values.specs.Fields as fields
 use Rattle.fs_queue.specs.declared.descriptor.Descriptor.{Descriptor}
-use Rattle.fs_queue.specs.declared.used.UsedElement.{UsedElement}
+use Rattle.fs_queue.specs.declared.used.UsedUpdate.{UsedUpdate}
 
 -- struct virtq_desc (2.7.5)
 abbrev pub descriptor : Descriptor → List Field
 descriptor r = fields.q r.addr ∷ fields.d r.len ∷ fields.w r.flags ∷ fields.w r.next ∷ []
 
--- struct virtq_used_elem (2.7.8)
-abbrev pub used_element : UsedElement → List Field
-used_element r = fields.d r.id ∷ fields.d r.len ∷ []
+-- struct virtq_used_elem, and after it the used index (2.7.8)
+abbrev pub used_update : UsedUpdate → List Field
+used_update r = fields.d r.id ∷ fields.d r.len ∷ fields.w r.index ∷ []

@@ -73,14 +73,14 @@ on_look m limit q (look.Head head) = on_head m limit q head
 unfoldable pub offer : Memory → ℕ → Queue → Offer
 offer m limit q = if q.stopped then Refuses stop.Stopped else on_look m limit q (looked m q)
 
--- whether a step may be refused for want of memory: not where the queue is stopped, nor without the IOMMU where no head is found
+-- whether a step may be refused for want of memory: not where the queue is stopped, nor before a head is found unless the ring can't be translated
 abbrev pub may_lack_memory : Memory → Offer → Bool
-may_lack_memory m Idle = m.translates
+may_lack_memory m Idle = false
 may_lack_memory m (Refuses stop.Stopped) = false
 may_lack_memory m (Refuses stop.AvailIndexUnreachable) = m.translates
-may_lack_memory m (Refuses stop.AvailTooFar) = m.translates
+may_lack_memory m (Refuses stop.AvailTooFar) = false
 may_lack_memory m (Refuses stop.RingEntryUnreachable) = m.translates
-may_lack_memory m (Refuses stop.HeadOutOfTable) = m.translates
+may_lack_memory m (Refuses stop.HeadOutOfTable) = false
 may_lack_memory m _ = true
 
 -- whether a refusal stops the queue: all but those of a stopped queue and for want of memory do

@@ -1,5 +1,6 @@
 -- What is kept of a chain that was taken: the windows of its descriptors and of its return, each address translated by itself.
-use Rattle.std.specs.Prelude.{◌≡◌, ℕ, Bool, true, false, IsTrue, List, [], length, map, Option, Some, None, Result, Ok, Err}
+use Rattle.std.specs.Prelude.{◌≡◌, ℕ, Bool, true, false, IsTrue, List, [], ◌++◌, length, map, Option, Some, None, Result, Ok, Err}
+use Rattle.vm_iotlb.specs.declared.permissions.Permissions.{Permissions}
 use Rattle.vm_iotlb.specs.declared.permissions.Permissions.TheVariants.{Read, Write}
 use Rattle.std.specs.List.{flat_map}
 use Rattle.vm_memory_core.specs.Host.{Place}
@@ -18,26 +19,28 @@ use Rattle.fs_queue.specs.Queue.{Queue, element_at, index_at}
 use Rattle.fs_queue.specs.Chain.{Found, IsChain, chain}
 use Rattle.fs_queue.specs.Taking.{readable, writable, Asked, Asks, CannotAsk, Idle, Refuses, Offers, offer, may_lack_memory, stops_queue, after_refusal}
 
--- the places of the used element, the used index and the available flags, or which of them has an address without a place
+-- the places of the used element and the used index, and of the available flags, or which of them has an address without a place
 pub data Ends : Type 0 where
-  Holds : (element index flags : List Place) → Ends
+  Holds : (used flags : List Place) → Ends
   Lacks : QueueError → Ends
 
--- of three lists of places, the first that is missing decides
-abbrev pub ends_found : (element index flags : Option (List Place)) → Ends
-ends_found None index flags = Lacks stop.UsedUnreachable
-ends_found (Some element) None flags = Lacks stop.UsedUnreachable
-ends_found (Some element) (Some index) None = Lacks stop.AvailFlagsUnreachable
-ends_found (Some element) (Some index) (Some flags) = Holds element index flags
+-- of two lists of places, the first that is missing decides
+abbrev pub ends_found : (used flags : Option (List Place)) → Ends
+ends_found None flags = Lacks stop.UsedUnreachable
+ends_found (Some used) None = Lacks stop.AvailFlagsUnreachable
+ends_found (Some used) (Some flags) = Holds used flags
 
--- those of a queue
-abbrev pub ends_at : (ℕ → Option Place) → Queue → Ends
-ends_at where_is q =
-    ends_found (located where_is (addresses (element_at q) 8)) (located where_is (addresses (index_at q) 2)) (located where_is (addresses q.avail 2))
+-- the addresses of the used element, then those of the used index
+abbrev pub used_addresses : Queue → List ℕ
+used_addresses q = addresses (element_at q) 8 ++ addresses (index_at q) 2
+
+-- those of a queue: the element and the index to be written, the flags to be read
+abbrev pub ends_at : Memory → Queue → Ends
+ends_at m q = ends_found (located (location m Write) (used_addresses q)) (located (location m Read) (addresses q.avail 2))
 
 -- those of the windows that the code holds
 abbrev pub ends_of : Result ReturnWindows QueueError → Ends
-ends_of (Ok ends) = Holds (places ends.element.items) (places ends.index.items) (places ends.flags.items)
+ends_of (Ok ends) = Holds (places ends.used.items) (places ends.flags.items)
 ends_of (Err e) = Lacks e
 
 -- the descriptors of one direction: those that the device writes, or those that it reads
@@ -45,14 +48,18 @@ abbrev pub of_direction : Bool → List Descriptor → List Descriptor
 of_direction true ds = writable ds
 of_direction false ds = readable ds
 
+-- the access that the device needs to them
+abbrev pub access_of : Bool → Permissions
+access_of true = Write
+access_of false = Read
+
 -- the addresses of some descriptors, joined
 abbrev pub addresses_of : List Descriptor → List ℕ
 addresses_of ds = flat_map (λ d. addresses d.addr d.len) ds
 
--- windows of these places, for writing: of the used element and the used index; for reading: of the available flags
+-- windows of these places, for writing: of the used element and then the used index; for reading: of the available flags
 pub record HoldsEnds (m : Memory) (q : Queue) (ends : ReturnWindows) : Type 0 where
-  pub element : located (location m Write) (addresses (element_at q) 8) ≡ Some (places ends.element.items)
-  pub index : located (location m Write) (addresses (index_at q) 2) ≡ Some (places ends.index.items)
+  pub used : located (location m Write) (used_addresses q) ≡ Some (places ends.used.items)
   pub flags : located (location m Read) (addresses q.avail 2) ≡ Some (places ends.flags.items)
 
 -- windows with the request's bytes and the room's places, or the fault
@@ -74,11 +81,9 @@ ChainLiesIn lengths (Err fault) = Unit {0}
 
 -- so do those of a return, with the lengths of what is written and read there
 pub record EndsLieIn (lengths : List ℕ) (ends : ReturnWindows) : Type 0 where
-  pub element : AllLieIn lengths ends.element.items
-  pub index : AllLieIn lengths ends.index.items
+  pub used : AllLieIn lengths ends.used.items
   pub flags : AllLieIn lengths ends.flags.items
-  pub element_len : length (places ends.element.items) ≡ 8
-  pub index_len : length (places ends.index.items) ≡ 2
+  pub used_len : length (places ends.used.items) ≡ 10
   pub flags_len : length (places ends.flags.items) ≡ 2
 
 -- so do all windows of a chain that was taken

@@ -1,32 +1,36 @@
 //! Reads and windows of guest memory that want all of a range.
 
-ghost use Rattle.std.specs.Prelude.{◌≡◌, ◌+◌, ◌<◌, ◌^◌, ℕ, List, IsTrue, IfOk, IfSome, length, Some, None, if◌then◌else◌};
+ghost use Rattle.std.specs.Prelude.{◌≡◌, ◌+◌, ◌<◌, ◌^◌, IsTrue, IfOk, IfSome, OnErr, length, Some, None, if◌then◌else◌};
 ghost use Rattle.std.specs.Option.{option_map};
-ghost use Rattle.std.specs.Int.{w16, from_le_bytes, to_le_bytes};
+ghost use Rattle.std.specs.Int.{w16, from_le_bytes};
 ghost use Rattle.vm_iotlb.specs.declared.permissions.Permissions.TheVariants.{Read};
+ghost use Rattle.vm_memory_core.specs.Host.{lengths};
 ghost use Rattle.vm_memory_core.specs.Window.{places, AllLieIn};
-ghost use Rattle.vm_memory.specs.Layout.{place, AreHeld, HostHolds};
-ghost use Rattle.vm_memory.specs.Memory.{memory_of, addresses, located, after, reach, bytes, number};
+ghost use Rattle.vm_memory.specs.Memory.{addresses, after, bytes, located, location, number, reach};
+ghost use Rattle.fs_queue.specs.Look.{IsUnmapped};
 
-use crate::chain::ShortWindows;
 use std::alloc::{AllocError, Global};
-use vm_memory::GuestMemoryMmap;
-use vm_memory_core::{GuestAddress, HostMemory, NewBitmap, Windows};
+use vm_memory::GuestMemory;
+use vm_memory_core::{GuestAddress, HostMemory, NewBitmap, Permissions, Windows};
 use vm_values::{ByteValued, Le16};
 
-/// Reads a buffer full of bytes from an address on, or answers that one of them isn't there.
-pub(crate) fn read<B: NewBitmap>(
+/// Reads a buffer full of bytes from an address on, or answers that one of them isn't there. Memory is wanting only where
+/// a translation fails.
+#[inline]
+pub(crate) fn read<M: GuestMemory, B: NewBitmap>(
+    alloc: Global,
     host: &HostMemory<B>,
-    mem: &GuestMemoryMmap,
+    mem: &M,
     addr: u64,
     buffer: &mut [u8],
-) -> bool
+) -> Result<bool, AllocError>
     requires fits { addr + length buffer.old < 2 ^ 64 }
-    requires held { HostHolds host.now mem.now }
-    ensures found { result ≡ reach (memory_of host.now mem.now) Read addr (length buffer.old) }
-    ensures bytes { IsTrue result → buffer.new ≡ bytes (memory_of host.now mem.now) addr (length buffer.old) }
+    requires held { M.IsHeld mem.now host.now }
+    ensures found { IfOk result (λ found. found ≡ reach (M.memory mem.now host.now) Read addr (length buffer.old)) }
+    ensures bytes { IfOk result (λ found. IsTrue found → buffer.new ≡ bytes (M.memory mem.now host.now) addr (length buffer.old)) }
+    ensures unmapped { OnErr result (IsUnmapped (M.memory mem.now host.now) addr (length buffer.old)) }
 {
-    mem.read_slice(host, buffer, GuestAddress(addr)).is_ok()
+    mem.read_range(alloc, host, GuestAddress(addr), buffer)
 }
 
 // The little-endian number that two bytes spell.
@@ -37,64 +41,64 @@ pub(crate) fn le16_number(bytes: &[u8; 2]) -> u16
     Le16::get_bytes(bytes).to_native()
 }
 
-// The two bytes that spell a number, the lowest first.
-#[tactic(auto, unfolding(vm_values::specs::Fields::field_bytes))]
-pub(crate) fn le16_bytes(number: u16) -> [u8; 2]
-    ensures { result ≡ to_le_bytes w16 number }
-{
-    let mut bytes = [0u8; 2];
-    Le16(number).put_bytes(&mut bytes);
-    bytes
-}
-
 /// The little-endian number in two bytes at an address.
-pub(crate) fn read_u16<B: NewBitmap>(
+pub(crate) fn read_u16<M: GuestMemory, B: NewBitmap>(
+    alloc: Global,
     host: &HostMemory<B>,
-    mem: &GuestMemoryMmap,
+    mem: &M,
     addr: u64,
-) -> Option<u16>
+) -> Result<Option<u16>, AllocError>
     requires fits { addr + 2 < 2 ^ 64 }
-    requires held { HostHolds host.now mem.now }
-    ensures { let m = memory_of host.now mem.now in result ≡ (if reach m Read addr 2 then Some (number m w16 addr) else None) }
+    requires held { M.IsHeld mem.now host.now }
+    ensures number { let m = M.memory mem.now host.now in
+        IfOk result (λ o. o ≡ (if reach m Read addr 2 then Some (number m w16 addr) else None)) }
+    ensures unmapped { OnErr result (IsUnmapped (M.memory mem.now host.now) addr 2) }
 {
     let mut bytes = [0u8; 2];
-    if read(host, mem, addr, &mut bytes) {
-        Some(le16_number(&bytes))
+    if read(alloc, host, mem, addr, &mut bytes)? {
+        Ok(Some(le16_number(&bytes)))
     } else {
-        None
+        Ok(None)
     }
 }
 
-/// Adds the windows of a range of addresses, or answers that one of them has no place.
-pub(crate) fn add_windows(
-    mem: &GuestMemoryMmap,
+/// Adds the windows of a range of addresses, for an access, or answers that one of them has no place.
+#[inline]
+pub(crate) fn add_windows<M: GuestMemory, B: NewBitmap>(
+    alloc: Global,
+    host: &HostMemory<B>,
+    mem: &M,
     addr: u64,
     len: usize,
+    access: Permissions,
     windows: &mut Windows,
 ) -> Result<bool, AllocError>
-    requires { addr + len < 2 ^ 64 }
-    ensures found { IfOk result (λ found.
-        after (places windows.old.items) (located (place mem.now) (addresses addr len)) ≡ (if found then Some (places windows.new.items) else None)) }
-    ensures lie { (lengths : List ℕ) → AreHeld lengths mem.now → AllLieIn lengths windows.old.items → AllLieIn lengths windows.new.items }
+    requires fits { addr + len < 2 ^ 64 }
+    requires held { M.IsHeld mem.now host.now }
+    ensures found { IfOk result (λ found. after (places windows.old.items) (located (location (M.memory mem.now host.now) access) (addresses addr len))
+        ≡ (if found then Some (places windows.new.items) else None)) }
+    ensures lie { AllLieIn (lengths host.now) windows.old.items → AllLieIn (lengths host.now) windows.new.items }
 {
-    mem.push_physical(GuestAddress(addr), len, windows)
+    mem.push_windows(alloc, host, GuestAddress(addr), len, access, windows)
 }
 
-/// The windows of a range of addresses, if each has a place.
+/// The windows of a range of addresses, for an access, if each has a place.
 #[inline]
-pub(crate) fn hold(
+pub(crate) fn hold<M: GuestMemory, B: NewBitmap>(
     alloc: Global,
-    mem: &GuestMemoryMmap,
+    host: &HostMemory<B>,
+    mem: &M,
     addr: u64,
     len: usize,
-) -> Result<Option<ShortWindows>, AllocError>
-    requires { addr + len < 2 ^ 64 }
-    ensures found { IfOk result (λ o. option_map (λ v. places v.items) o ≡ located (place mem.now) (addresses addr len)) }
-    ensures len { IfOk result (λ o. IfSome o (λ v. length (places v.items) ≡ len)) }
-    ensures lie { (lengths : List ℕ) → AreHeld lengths mem.now → IfOk result (λ o. IfSome o (λ v. AllLieIn lengths v.items)) }
+    access: Permissions,
+) -> Result<Option<Windows>, AllocError>
+    requires fits { addr + len < 2 ^ 64 }
+    requires held { M.IsHeld mem.now host.now }
+    ensures found { IfOk result (λ o. option_map (λ v. places v.items) o ≡ located (location (M.memory mem.now host.now) access) (addresses addr len)) }
+    ensures lie { IfOk result (λ o. IfSome o (λ v. AllLieIn (lengths host.now) v.items)) }
 {
-    let mut windows = ShortWindows::new(alloc);
-    if mem.push_physical(GuestAddress(addr), len, &mut windows)? {
+    let mut windows = Windows::new(alloc);
+    if add_windows(alloc, host, mem, addr, len, access, &mut windows)? {
         Ok(Some(windows))
     } else {
         Ok(None)

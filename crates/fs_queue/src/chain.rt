@@ -4,8 +4,7 @@ ghost use Rattle.std.specs.Prelude.{◌≡◌, length, MatchResult};
 ghost use Rattle.vm_memory_core.specs.Window.{places};
 
 use crate::fault::ChainFault;
-use smallvec::SmallVec;
-use vm_memory_core::{VolatileSlice, Windows};
+use vm_memory_core::Windows;
 
 /// The windows of a chain: its request, and the room for its reply, each in the order of its descriptors.
 #[derive(Drop)]
@@ -35,15 +34,11 @@ impl Chain {
     }
 }
 
-/// Windows in order, of which the first takes no memory.
-pub(crate) type ShortWindows = SmallVec<VolatileSlice, 1>;
-
-/// The windows of a used element, the used index and the available flags: almost always one each.
+/// The windows of a used element and, after it, the used index, and those of the available flags: almost always one each.
 #[derive(Drop)]
 pub(crate) struct ReturnWindows {
-    pub(crate) element: ShortWindows,
-    pub(crate) index: ShortWindows,
-    pub(crate) flags: ShortWindows,
+    pub(crate) used: Windows,
+    pub(crate) flags: Windows,
 }
 
 /// A chain that was taken and not yet given back, or its fault.

@@ -1,16 +1,16 @@
 //! Descriptors (VIRTIO 1.2, 2.7.5).
 
-ghost use Rattle.std.specs.Prelude.{◌≡◌, ◌+◌, ◌<◌, ◌^◌, Some, None, if◌then◌else◌, refl};
+ghost use Rattle.std.specs.Prelude.{◌≡◌, ◌+◌, ◌<◌, ◌^◌, IfOk, Some, None, if◌then◌else◌, refl};
 ghost use Rattle.std.proofs.Common.{rules};
 ghost use Rattle.vm_iotlb.specs.declared.permissions.Permissions.TheVariants.{Read};
-ghost use Rattle.vm_memory.specs.Layout.{HostHolds};
-ghost use Rattle.vm_memory.specs.Memory.{memory_of, reach};
+ghost use Rattle.vm_memory.specs.Memory.{reach};
 ghost use Rattle.fs_queue.specs.Records.{descriptor};
 ghost use Rattle.fs_queue.specs.Chain.{descriptor_at};
 
 use crate::access::read;
 use smallvec::SmallVec;
-use vm_memory::GuestMemoryMmap;
+use std::alloc::{AllocError, Global};
+use vm_memory::GuestMemory;
 use vm_memory_core::{HostMemory, NewBitmap};
 use vm_values::{ByteValued, get_fields, put_fields};
 
@@ -76,19 +76,20 @@ impl ByteValued for Descriptor {
 }
 
 /// The entry of a descriptor table at an address, or None where it can't be read.
-pub(crate) fn read_descriptor<B: NewBitmap>(
+pub(crate) fn read_descriptor<M: GuestMemory, B: NewBitmap>(
+    alloc: Global,
     host: &HostMemory<B>,
-    mem: &GuestMemoryMmap,
+    mem: &M,
     addr: u64,
-) -> Option<Descriptor>
+) -> Result<Option<Descriptor>, AllocError>
     requires fits { addr + 16 < 2 ^ 64 }
-    requires held { HostHolds host.now mem.now }
-    ensures { let m = memory_of host.now mem.now in result ≡ (if reach m Read addr 16 then Some (descriptor_at m addr) else None) }
+    requires held { M.IsHeld mem.now host.now }
+    ensures { let m = M.memory mem.now host.now in IfOk result (λ o. o ≡ (if reach m Read addr 16 then Some (descriptor_at m addr) else None)) }
 {
     let mut bytes = [0u8; 16];
-    if read(host, mem, addr, &mut bytes) {
-        Some(Descriptor::get_bytes(&bytes))
+    if read(alloc, host, mem, addr, &mut bytes)? {
+        Ok(Some(Descriptor::get_bytes(&bytes)))
     } else {
-        None
+        Ok(None)
     }
 }

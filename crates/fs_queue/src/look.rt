@@ -1,16 +1,15 @@
 //! What waits in the available ring (VIRTIO 1.2, 2.7.6).
 
-ghost use Rattle.std.specs.Prelude.{◌≡◌, IsTrue};
-ghost use Rattle.vm_memory.specs.Layout.{HostHolds};
-ghost use Rattle.vm_memory.specs.Memory.{memory_of};
+ghost use Rattle.std.specs.Prelude.{◌≡◌, ℕ, IfOk, IsTrue, OnErr};
 ghost use Rattle.fs_queue.specs.Queue.{at_position};
 ghost use Rattle.fs_queue.specs.Look.{looked, IfRefused};
-ghost use Rattle.fs_queue.specs.Taking.{stops_queue};
+ghost use Rattle.fs_queue.specs.Taking.{may_lack_memory, on_look, stops_queue};
 
 use crate::access::read_u16;
 use crate::fault::QueueError;
 use crate::layout::QueueLayout;
-use vm_memory::GuestMemoryMmap;
+use std::alloc::{AllocError, Global};
+use vm_memory::GuestMemory;
 use vm_memory_core::{HostMemory, NewBitmap};
 
 /// Nothing, the head of a chain, or why there is none.
@@ -21,34 +20,38 @@ pub(crate) enum Look {
     Refused(QueueError),
 }
 
-/// What waits at a position of a queue that isn't stopped.
-pub(crate) fn next_head<B: NewBitmap>(
+/// What waits at a position of a queue that isn't stopped. Memory is wanting only where a translation fails.
+pub(crate) fn next_head<M: GuestMemory, B: NewBitmap>(
+    alloc: Global,
     layout: QueueLayout,
     position: u16,
     host: &HostMemory<B>,
-    mem: &GuestMemoryMmap,
-) -> Look
-    requires { HostHolds host.now mem.now }
-    ensures look { result ≡ looked (memory_of host.now mem.now) (at_position layout position) }
-    ensures stops { IfRefused result (λ e. IsTrue (stops_queue e)) }
+    mem: &M,
+) -> Result<Look, AllocError>
+    requires { M.IsHeld mem.now host.now }
+    ensures look { IfOk result (λ l. l ≡ looked (M.memory mem.now host.now) (at_position layout position)) }
+    ensures stops { IfOk result (λ l. IfRefused l (λ e. IsTrue (stops_queue e))) }
+    ensures memory { OnErr result ((limit : ℕ) → let m = M.memory mem.now host.now in let q = at_position layout position in
+        IsTrue (may_lack_memory m (on_look m limit q (looked m q)))) }
 {
-    let Some(index) = read_u16(host, mem, layout.avail() + 2) else {
-        return Look::Refused(QueueError::AvailIndexUnreachable);
+    let Some(index) = read_u16(alloc, host, mem, layout.avail() + 2)? else {
+        return Ok(Look::Refused(QueueError::AvailIndexUnreachable));
     };
     let waiting = index.wrapping_sub(position);
     if waiting == 0 {
-        return Look::Idle;
+        return Ok(Look::Idle);
     }
     if waiting > layout.size() {
-        return Look::Refused(QueueError::AvailTooFar);
+        return Ok(Look::Refused(QueueError::AvailTooFar));
     }
     let slot = position % layout.size();
-    let Some(head) = read_u16(host, mem, layout.avail() + 4 + 2 * u64::from(slot)) else {
-        return Look::Refused(QueueError::RingEntryUnreachable);
+    let entry = layout.avail() + 4 + 2 * u64::from(slot);
+    let Some(head) = read_u16(alloc, host, mem, entry)? else {
+        return Ok(Look::Refused(QueueError::RingEntryUnreachable));
     };
     if head >= layout.size() {
-        Look::Refused(QueueError::HeadOutOfTable)
+        Ok(Look::Refused(QueueError::HeadOutOfTable))
     } else {
-        Look::Head(head)
+        Ok(Look::Head(head))
     }
 }

@@ -1,21 +1,20 @@
 //! A split virtqueue (VIRTIO 1.2, 2.7).
 
-ghost use Rattle.std.specs.Prelude.{◌≡◌, ◌+◌, ◌<◌, ◌≤◌, ◌^◌, List, length, IfOk, IfSome};
+ghost use Rattle.std.specs.Prelude.{◌≡◌, ◌+◌, ◌<◌, ◌≤◌, ◌^◌, length, IfOk, IfSome};
 ghost use Rattle.std.specs.List.{zip};
 ghost use Rattle.vm_memory_core.specs.Host.{lengths, shape};
 ghost use Rattle.vm_memory_core.specs.Window.{put_all};
-ghost use Rattle.vm_memory.specs.Layout.{Region, HostHolds};
-ghost use Rattle.vm_memory.specs.Memory.{memory_of};
+ghost use Rattle.vm_memory.specs.Memory.{Memory};
 
-use crate::access::{le16_bytes, le16_number};
+use crate::access::le16_number;
 use crate::chain::{Chain, Taken};
 use crate::fault::{ChainFault, QueueError};
 use crate::layout::QueueLayout;
 use crate::take::{Asking, ask};
-use crate::used::UsedElement;
+use crate::used::UsedUpdate;
 use std::alloc::Global;
 use std::marker::Model;
-use vm_memory::GuestMemoryMmap;
+use vm_memory::GuestMemory;
 use vm_memory_core::{HostMemory, NewBitmap};
 
 // The available flag by which the driver wants no notice (VIRTIO 1.2, 2.7.7).
@@ -116,16 +115,16 @@ impl Queue {
 
     /// The chain that waits at the queue's position, with its windows. The position stays until the chain is given back.
     /// Requests and rooms longer than `limit` make a chain faulty.
-    pub fn take<B: NewBitmap>(
+    pub fn take<M: GuestMemory, B: NewBitmap>(
         &mut self,
         alloc: Global,
         host: &HostMemory<B>,
-        mem: &GuestMemoryMmap,
+        mem: &M,
         limit: u32,
     ) -> Result<Option<Taken>, QueueError>
-        requires { HostHolds host.now mem.now }
-        ensures takes { Takes (memory_of host.now mem.now) limit self.old result }
-        ensures windows { IfOk result (λ o. IfSome o (HasItsWindows (memory_of host.now mem.now) self.old)) }
+        requires { M.IsHeld mem.now host.now }
+        ensures takes { Takes (M.memory mem.now host.now) limit self.old result }
+        ensures windows { IfOk result (λ o. IfSome o (HasItsWindows (M.memory mem.now host.now) self.old)) }
         ensures queue { self.new ≡ after_taking self.old result }
         ensures lie { IfOk result (λ o. IfSome o (TakenLiesIn (lengths host.now))) }
         ensures short { IfOk result (λ o. IfSome o (λ t. room_places t.chain ≤ limit)) }
@@ -155,21 +154,21 @@ impl Queue {
         requires lies { TakenLiesIn (lengths host.old) taken }
         requires fits { length reply.now ≤ room_places taken.chain }
         requires small { length reply.now < 2 ^ 32 }
-        ensures stored { (l : List Region) (asked : Asked) → IsTaken (memory_of host.old l) self.old asked taken →
-            memory_of host.new l ≡ returned (memory_of host.old l) self.old taken.head (room_of asked) reply.now }
-        ensures told { (l : List Region) (asked : Asked) → IsTaken (memory_of host.old l) self.old asked taken →
-            result ≡ wants_notice (memory_of host.new l) self.old }
+        ensures stored { (m : Memory) (asked : Asked) → m.host ≡ host.old → IsTaken m self.old asked taken →
+            record m { host = host.new } ≡ returned m self.old taken.head (room_of asked) reply.now }
+        ensures told { (m : Memory) (asked : Asked) → m.host ≡ host.old → IsTaken m self.old asked taken →
+            result ≡ wants_notice (record m { host = host.new }) self.old }
         ensures queue { self.new ≡ advanced self.old }
         ensures shape { shape host.new ≡ shape host.old }
     {
         write_reply(host, &taken.chain, reply);
-        let element = UsedElement {
+        self.position = self.position.wrapping_add(1);
+        let update = UsedUpdate {
             id: u32::from(taken.head),
             len: reply.len() as u32,
+            index: self.position,
         };
-        host.write_windows(&taken.ends.element, &element.to_bytes());
-        self.position = self.position.wrapping_add(1);
-        host.write_windows(&taken.ends.index, &le16_bytes(self.position));
+        host.write_windows(&taken.ends.used, &update.to_bytes());
         let mut flags = [0u8; 2];
         host.read_windows(&taken.ends.flags, &mut flags);
         le16_number(&flags) & NO_INTERRUPT == 0

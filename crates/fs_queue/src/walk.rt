@@ -3,8 +3,7 @@
 ghost use Rattle.std.specs.Prelude.{◌≡◌, ◌+◌, ◌*◌, ◌<◌, ◌^◌, ◌≤◌, IfOk, IfSome, Some, None, if◌then◌else◌, false, true, length, take, drop};
 ghost use Rattle.vm_values.specs.Fields.{AllFit, spelled};
 ghost use Rattle.vm_iotlb.specs.declared.permissions.Permissions.TheVariants.{Read};
-ghost use Rattle.vm_memory.specs.Layout.{HostHolds};
-ghost use Rattle.vm_memory.specs.Memory.{memory_of, reach};
+ghost use Rattle.vm_memory.specs.Memory.{reach};
 ghost use Rattle.fs_queue.specs.Queue.{at_position};
 ghost use Rattle.fs_queue.specs.Records.{descriptor};
 
@@ -12,7 +11,7 @@ use crate::descriptor::{Descriptor, Descriptors, read_descriptor};
 use crate::fault::ChainFault;
 use crate::layout::QueueLayout;
 use std::alloc::{AllocError, Global};
-use vm_memory::{GuestMemory, GuestMemoryMmap};
+use vm_memory::GuestMemory;
 use vm_memory_core::{GuestAddress, HostMemory, NewBitmap, Permissions};
 use vm_values::ByteValued;
 
@@ -48,15 +47,15 @@ ghost use Rattle.fs_queue.specs.Chain.{descriptor_at, indirect_verdict, ordinary
 ghost use Rattle.fs_queue.specs.Walking.{in_table, found_of, IfJoins, IfLeads, EndsIn64Bits, AreTheTable, DescriptorsFit};
 
 // The bytes of a table, where one window has all of them.
-fn table_bytes<'a, B: NewBitmap>(
+fn table_bytes<'a, M: GuestMemory, B: NewBitmap>(
     alloc: Global,
     host: &'a HostMemory<B>,
-    mem: &GuestMemoryMmap,
+    mem: &M,
     table: DescriptorTable,
 ) -> Option<&'a [u8]>
-    requires held { HostHolds host.now mem.now }
+    requires held { M.IsHeld mem.now host.now }
     requires ends { EndsIn64Bits table }
-    ensures { IfSome result (λ b. AreTheTable (memory_of host.now mem.now) table b.now) }
+    ensures { IfSome result (λ b. AreTheTable (M.memory mem.now host.now) table b.now) }
 {
     let len = ENTRY as usize * table.entries as usize;
     let start = GuestAddress(table.address);
@@ -79,23 +78,24 @@ fn entry_at(bytes: &[u8], index: u16) -> Descriptor
 }
 
 // An entry of a table, whose bytes are at hand or are read.
-fn read_entry<B: NewBitmap>(
+fn read_entry<M: GuestMemory, B: NewBitmap>(
+    alloc: Global,
     host: &HostMemory<B>,
-    mem: &GuestMemoryMmap,
+    mem: &M,
     table: DescriptorTable,
     whole: Option<&[u8]>,
     index: u16,
-) -> Option<Descriptor>
-    requires held { HostHolds host.now mem.now }
+) -> Result<Option<Descriptor>, AllocError>
+    requires held { M.IsHeld mem.now host.now }
     requires ends { EndsIn64Bits table }
     requires index { index < table.entries }
-    requires whole { IfSome whole (λ b. AreTheTable (memory_of host.now mem.now) table b.now) }
-    ensures { let m = memory_of host.now mem.now in let a = table.address + 16 * index in
-        result ≡ (if reach m Read a 16 then Some (descriptor_at m a) else None) }
+    requires whole { IfSome whole (λ b. AreTheTable (M.memory mem.now host.now) table b.now) }
+    ensures { let m = M.memory mem.now host.now in let a = table.address + 16 * index in
+        IfOk result (λ o. o ≡ (if reach m Read a 16 then Some (descriptor_at m a) else None)) }
 {
     match whole {
-        Some(bytes) => Some(entry_at(bytes, index)),
-        None => read_descriptor(host, mem, table.address + 16 * u64::from(index)),
+        Some(bytes) => Ok(Some(entry_at(bytes, index))),
+        None => read_descriptor(alloc, host, mem, table.address + 16 * u64::from(index)),
     }
 }
 
@@ -139,36 +139,37 @@ fn ordinary(table: DescriptorTable, index: u16, left: u16, descriptor: Descripto
 }
 
 // What the rules say of an entry of a table, where `left` more descriptors may join the chain.
-fn step<B: NewBitmap>(
+fn step<M: GuestMemory, B: NewBitmap>(
+    alloc: Global,
     host: &HostMemory<B>,
-    mem: &GuestMemoryMmap,
+    mem: &M,
     table: DescriptorTable,
     whole: Option<&[u8]>,
     index: u16,
     left: u16,
-) -> Verdict
-    requires held { HostHolds host.now mem.now }
+) -> Result<Verdict, AllocError>
+    requires held { M.IsHeld mem.now host.now }
     requires ends { EndsIn64Bits table }
-    requires whole { IfSome whole (λ b. AreTheTable (memory_of host.now mem.now) table b.now) }
-    ensures verdict { result ≡ verdict (memory_of host.now mem.now) (in_table table index left) }
-    ensures fits { IfJoins result (λ d. d.addr + d.len < 2 ^ 64) }
-    ensures more { IfJoins result (λ _. 0 < left) }
-    ensures leads { IfLeads result (λ t. (table.indirect ≡ false) × (t.indirect ≡ true) × EndsIn64Bits t) }
+    requires whole { IfSome whole (λ b. AreTheTable (M.memory mem.now host.now) table b.now) }
+    ensures verdict { IfOk result (λ v. v ≡ verdict (M.memory mem.now host.now) (in_table table index left)) }
+    ensures fits { IfOk result (λ v. IfJoins v (λ d. d.addr + d.len < 2 ^ 64)) }
+    ensures more { IfOk result (λ v. IfJoins v (λ _. 0 < left)) }
+    ensures leads { IfOk result (λ v. IfLeads v (λ t. (table.indirect ≡ false) × (t.indirect ≡ true) × EndsIn64Bits t)) }
 {
     if u32::from(index) >= table.entries {
-        return Verdict::Faulty(ChainFault::NextOutOfTable);
+        return Ok(Verdict::Faulty(ChainFault::NextOutOfTable));
     }
-    let Some(descriptor) = read_entry(host, mem, table, whole, index) else {
-        return if table.indirect {
+    let Some(descriptor) = read_entry(alloc, host, mem, table, whole, index)? else {
+        return Ok(if table.indirect {
             Verdict::Faulty(ChainFault::TableUnreachable)
         } else {
             Verdict::Stops
-        };
+        });
     };
     if descriptor.refers_to_indirect_table() {
-        lead(table, index, left, descriptor)
+        Ok(lead(table, index, left, descriptor))
     } else {
-        ordinary(table, index, left, descriptor)
+        Ok(ordinary(table, index, left, descriptor))
     }
 }
 
@@ -185,15 +186,15 @@ fn queue_table(layout: QueueLayout) -> DescriptorTable
 }
 
 /// The chain that begins at an entry of the queue's table.
-pub(crate) fn walk<B: NewBitmap>(
+pub(crate) fn walk<M: GuestMemory, B: NewBitmap>(
     alloc: Global,
     layout: QueueLayout,
     host: &HostMemory<B>,
-    mem: &GuestMemoryMmap,
+    mem: &M,
     head: u16,
 ) -> Result<Walked, AllocError>
-    requires { HostHolds host.now mem.now }
-    ensures chain { IfOk result (λ w. found_of w ≡ chain (memory_of host.now mem.now) (at_position layout 0) head) }
+    requires { M.IsHeld mem.now host.now }
+    ensures chain { IfOk result (λ w. found_of w ≡ chain (M.memory mem.now host.now) (at_position layout 0) head) }
     ensures fit { IfOk result DescriptorsFit }
 {
     let mut descriptors = Descriptors::new(alloc);
@@ -202,7 +203,7 @@ pub(crate) fn walk<B: NewBitmap>(
     let mut index = head;
     let mut left = layout.size();
     loop {
-        match step(host, mem, table, whole, index, left) {
+        match step(alloc, host, mem, table, whole, index, left)? {
             Verdict::Stops => return Ok(Walked::Stopped),
             Verdict::Faulty(fault) => return Ok(Walked::Faulty(fault)),
             Verdict::Leads(named) => {

@@ -27,7 +27,9 @@ pub record Added (now : Filling) (part : List ℕ) (new : Filling) : Type 0 wher
 
 module _ {F : Type 0} (may : MayRead F) where
   -- reads go on by one
-  reads_more : (f : F) (rooms : List ℕ) (off : ℕ) (parts : List (List ℕ)) (g : F) (k : ℕ) (part : List ℕ) (place : ℕ) (h : F) → filled rooms ≡ rooms → ReadsOn may f rooms off parts g → k ≡ first (past (length (concat parts)) rooms) → place ≡ off + length (concat parts) → length part ≤ k → 0 < length part → may g k place (Ok part) h → ReadsOn may f rooms off (parts ++ part ∷ []) h
+  reads_more : (f : F) (rooms : List ℕ) (off : ℕ) (parts : List (List ℕ)) (g : F) (k : ℕ) (part : List ℕ) (place : ℕ) (h : F) → filled rooms ≡ rooms → ReadsOn may f rooms off parts g →
+      k ≡ first (past (length (concat parts)) rooms) → place ≡ off + length (concat parts) → length part ≤ k → 0 < length part → may g k place (Ok part) h →
+      ReadsOn may f rooms off (parts ++ part ∷ []) h
   reads_more f rooms off [] g k part place h fs y ek ep le some step =
       let here : k ≡ first rooms = ek ∙ ap first (past_zero_of rooms fs) in
       let at : place ≡ off = omega (arith, ep) in
@@ -69,7 +71,8 @@ module _ {F : Type 0} (may : MayRead F) where
       ap (λ (ns : List ℕ). min (most - done) (first ns)) s.rooms ∙ sym (ap first (past-up_to done most before.rooms) ∙ first-up_to (most - done) (past done before.rooms))
 
   -- where reads end, what was put in was gathered
-  so_far_ends : (f : F) (before : Filling) (count most off done : ℕ) (now new : Filling) (g : F) (answer : Result ℕ ℕ) (h : F) → Offered before count most → SoFar f before most off done now g → new.put ≡ now.put → new.room ≡ now.room → new.rooms ≡ now.rooms → ReadsEnd may g (past done (up_to most before.rooms)) (off + done) done answer h → Filled f before count off answer new h
+  so_far_ends : (f : F) (before : Filling) (count most off done : ℕ) (now new : Filling) (g : F) (answer : Result ℕ ℕ) (h : F) → Offered before count most → SoFar f before most off done now g →
+      new.put ≡ now.put → new.room ≡ now.room → new.rooms ≡ now.rooms → ReadsEnd may g (past done (up_to most before.rooms)) (off + done) done answer h → Filled f before count off answer new h
   so_far_ends f before count most off done now new g answer h t s ep er es ends =
       let limit : most ≡ min count (sum before.rooms) = omega (arith, t.limit, t.all) in
       let rooms : up_to most before.rooms ≡ up_to count before.rooms = ap (λ i. up_to i before.rooms) limit ∙ up_to_min count before.rooms t.some in
@@ -90,7 +93,8 @@ module _ {F : Type 0} (may : MayRead F) where
       so_far_ends f before count most off done now now g (Ok done) g t s refl refl refl (refl, inl (none, refl))
 
   -- the place is past the greatest
-  pub so_far_past : (f : F) (before : Filling) (count most off done : ℕ) (now : Filling) (g : F) → Offered before count most → SoFar f before most off done now g → done < most → 2 ^ 64 ≤ off + done → Filled f before count off (Err 5) now g
+  pub so_far_past : (f : F) (before : Filling) (count most off done : ℕ) (now : Filling) (g : F) → Offered before count most → SoFar f before most off done now g → done < most →
+      2 ^ 64 ≤ off + done → Filled f before count off (Err 5) now g
   so_far_past f before count most off done now g t s lt far =
       let left : 0 < sum (past done before.rooms) = omega (arith, sum-past done before.rooms, t.all, t.limit, lt) in
       let there : 0 < first (past done before.rooms) = first_some (past done before.rooms) (filled-past done before.rooms t.some) left in
@@ -99,7 +103,9 @@ module _ {F : Type 0} (may : MayRead F) where
       so_far_ends f before count most off done now now g (Err 5) g t s refl refl refl (some, inl (refl, far, refl))
 
   -- one more call of a file gave nothing
-  pub so_far_stops : (f : F) (before : Filling) (count most off done : ℕ) (now : Filling) (g : F) (n place : ℕ) (part : List ℕ) (new : Filling) (h : F) → Offered before count most → SoFar f before most off done now g → ReadsOnce may g (min (most - done) (first now.rooms)) place part (Ok n) h → Added now part new → n ≡ 0 → place ≡ off + done → place < 2 ^ 64 → Filled f before count off (Ok done) new h
+  pub so_far_stops : (f : F) (before : Filling) (count most off done : ℕ) (now : Filling) (g : F) (n place : ℕ) (part : List ℕ) (new : Filling) (h : F) → Offered before count most →
+      SoFar f before most off done now g → ReadsOnce may g (min (most - done) (first now.rooms)) place part (Ok n) h → Added now part new → n ≡ 0 → place ≡ off + done → place < 2 ^ 64 →
+      Filled f before count off (Ok done) new h
   so_far_stops f before count most off done now g n place part new h t s once a zero at fits =
       let is = asked f before most off done now g s in
       let none : length part ≡ 0 = omega (arith, once.0, zero) in
@@ -118,7 +124,9 @@ module _ {F : Type 0} (may : MayRead F) where
       (a.rooms ∙ ap (λ i. past i now.rooms) none ∙ past_zero_of now.rooms same) ends
 
   -- one more call of a file failed
-  pub so_far_fails : (f : F) (before : Filling) (count most off done : ℕ) (now : Filling) (g : F) (e place : ℕ) (part : List ℕ) (new : Filling) (h : F) → Offered before count most → SoFar f before most off done now g → ReadsOnce may g (min (most - done) (first now.rooms)) place part (Err e) h → Added now part new → place ≡ off + done → place < 2 ^ 64 → Filled f before count off (Err e) new h
+  pub so_far_fails : (f : F) (before : Filling) (count most off done : ℕ) (now : Filling) (g : F) (e place : ℕ) (part : List ℕ) (new : Filling) (h : F) → Offered before count most →
+      SoFar f before most off done now g → ReadsOnce may g (min (most - done) (first now.rooms)) place part (Err e) h → Added now part new → place ≡ off + done → place < 2 ^ 64 →
+      Filled f before count off (Err e) new h
   so_far_fails f before count most off done now g e place part new h t s once a at fits =
       let is = asked f before most off done now g s in
       let none : length part ≡ 0 = sym once.0 in
@@ -136,7 +144,9 @@ module _ {F : Type 0} (may : MayRead F) where
       (a.rooms ∙ ap (λ i. past i now.rooms) none ∙ past_zero_of now.rooms same) ends
 
   -- one more call of a file gave something
-  pub so_far_goes : (f : F) (before : Filling) (count most off done : ℕ) (now : Filling) (g : F) (n place : ℕ) (part : List ℕ) (new : Filling) (h : F) → Offered before count most → SoFar f before most off done now g → ReadsOnce may g (min (most - done) (first now.rooms)) place part (Ok n) h → Added now part new → (n ≡ 0 → ⊥) → place ≡ off + done → SoFar f before most off (done + n) new h
+  pub so_far_goes : (f : F) (before : Filling) (count most off done : ℕ) (now : Filling) (g : F) (n place : ℕ) (part : List ℕ) (new : Filling) (h : F) → Offered before count most →
+      SoFar f before most off done now g → ReadsOnce may g (min (most - done) (first now.rooms)) place part (Ok n) h → Added now part new → (n ≡ 0 → ⊥) → place ≡ off + done →
+      SoFar f before most off (done + n) new h
   so_far_goes f before count most off done now g n place part new h t s once a some at =
       ⊎_elim
       (λ (full : (min (most - done) (first now.rooms) ≡ 0) × (Ok n ≡ Ok 0) × (h ≡ g)). absurd (some (ap moved full.1)))

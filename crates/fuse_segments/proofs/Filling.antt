@@ -15,7 +15,8 @@ pub placed : (at : ℕ) (xs ys : List ℕ) → take at xs ++ (ys ++ drop (length
 placed at xs ys = sym (append_assoc (take at xs) ys (drop (length ys) (drop at xs))) ∙ ap (λ s. (take at xs ++ ys) ++ s) (drop-drop (length ys) at xs)
 
 -- a buffer that was filled so far takes one part more
-pub filled_more : (room left : List ℕ) (done n : ℕ) (now part : List ℕ) → done ≤ length room → done ≤ length left → now ≡ take done left ++ drop done room → part ≡ take n (drop done left) → take done now ++ part ++ drop (done + n) now ≡ take (done + n) left ++ drop (done + n) room
+pub filled_more : (room left : List ℕ) (done n : ℕ) (now part : List ℕ) → done ≤ length room → done ≤ length left → now ≡ take done left ++ drop done room → part ≡ take n (drop done left) →
+    take done now ++ part ++ drop (done + n) now ≡ take (done + n) left ++ drop (done + n) room
 filled_more room left done n now part hr hl e p =
     let t : length (take done left) ≡ done = length-take-le done left hl in
     let front : take done now ≡ take done left = ap (take done) e ∙ take_at (take done left) (drop done room) done t in

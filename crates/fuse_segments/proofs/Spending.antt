@@ -21,7 +21,9 @@ pub record Lent (before : ReaderView) (count most : ℕ) : Type 0 where
 
 module _ {F : Type 0} (gives : F → List ℕ → ℕ → Option ℕ → Result ℕ ℕ → F → Type 0) where
   -- writes go on by one
-  writes_more : (f : F) (all segments : List ℕ) (off : ℕ) (flags : Option ℕ) (parts : List ℕ) (g : F) (k n : ℕ) (bytes : List ℕ) (place : ℕ) (h : F) → filled segments ≡ segments → WritesOn gives f all segments off flags parts g → k ≡ first (past (sum parts) segments) → bytes ≡ take k (drop (sum parts) all) → place ≡ off + sum parts → n ≤ k → 0 < n → gives g bytes place flags (Ok n) h → WritesOn gives f all segments off flags (parts ++ n ∷ []) h
+  writes_more : (f : F) (all segments : List ℕ) (off : ℕ) (flags : Option ℕ) (parts : List ℕ) (g : F) (k n : ℕ) (bytes : List ℕ) (place : ℕ) (h : F) → filled segments ≡ segments →
+      WritesOn gives f all segments off flags parts g → k ≡ first (past (sum parts) segments) → bytes ≡ take k (drop (sum parts) all) → place ≡ off + sum parts → n ≤ k → 0 < n →
+      gives g bytes place flags (Ok n) h → WritesOn gives f all segments off flags (parts ++ n ∷ []) h
   writes_more f all segments off flags [] g k n bytes place h fs y ek eb ep le some step =
       let here : k ≡ first segments = ek ∙ ap first (past_zero_of segments fs) in
       let front : bytes ≡ take (first segments) all = eb ∙ ap (λ i. take i all) here in
@@ -60,15 +62,19 @@ module _ {F : Type 0} (gives : F → List ℕ → ℕ → Option ℕ → Result 
       record { parts = []; writes = refl; whole = refl; within = omega arith; left = refl; segments = sym (past_zero_of before.segments t.some); read = omega arith }
 
   -- what one call is lent
-  lent : (f : F) (before : ReaderView) (most off : ℕ) (flags : Option ℕ) (done : ℕ) (now : ReaderView) (g : F) → Spent f before most off flags done now g → min (most - done) (first now.segments) ≡ first (past done (up_to most before.segments))
+  lent : (f : F) (before : ReaderView) (most off : ℕ) (flags : Option ℕ) (done : ℕ) (now : ReaderView) (g : F) → Spent f before most off flags done now g →
+      min (most - done) (first now.segments) ≡ first (past done (up_to most before.segments))
   lent f before most off flags done now g s =
       ap (λ (ns : List ℕ). min (most - done) (first ns)) s.segments ∙ sym (ap first (past-up_to done most before.segments) ∙ first-up_to (most - done) (past done before.segments))
 
-  lent_bytes : (f : F) (before : ReaderView) (most off : ℕ) (flags : Option ℕ) (done : ℕ) (now : ReaderView) (g : F) (m : ℕ) → Spent f before most off flags done now g → m ≤ most - done → take m now.left ≡ take m (drop done (take most before.left))
+  lent_bytes : (f : F) (before : ReaderView) (most off : ℕ) (flags : Option ℕ) (done : ℕ) (now : ReaderView) (g : F) (m : ℕ) → Spent f before most off flags done now g → m ≤ most - done →
+      take m now.left ≡ take m (drop done (take most before.left))
   lent_bytes f before most off flags done now g m s le = ap (take m) s.left ∙ same_front m done most before.left le s.within
 
   -- where writes end, what is taken was spent
-  spent_ends : (f : F) (before : ReaderView) (count most off : ℕ) (flags : Option ℕ) (done : ℕ) (now new : ReaderView) (g : F) (answer : Result ℕ ℕ) (h : F) → Lent before count most → Spent f before most off flags done now g → new.left ≡ now.left → new.segments ≡ now.segments → new.read ≡ now.read → WritesEnd gives g (drop done (take most before.left)) (past done (up_to most before.segments)) (off + done) flags done answer h → Gone f before count off flags answer new h
+  spent_ends : (f : F) (before : ReaderView) (count most off : ℕ) (flags : Option ℕ) (done : ℕ) (now new : ReaderView) (g : F) (answer : Result ℕ ℕ) (h : F) → Lent before count most →
+      Spent f before most off flags done now g → new.left ≡ now.left → new.segments ≡ now.segments → new.read ≡ now.read →
+      WritesEnd gives g (drop done (take most before.left)) (past done (up_to most before.segments)) (off + done) flags done answer h → Gone f before count off flags answer new h
   spent_ends f before count most off flags done now new g answer h t s el es er ends =
       let bytes : take most before.left ≡ take count before.left = ap (λ i. take i before.left) t.limit ∙ take_min count before.left in
       let limit : most ≡ min count (sum before.segments) = omega (arith, t.limit, t.all) in
@@ -85,13 +91,15 @@ module _ {F : Type 0} (gives : F → List ℕ → ℕ → Option ℕ → Result 
       )
 
   -- the count is done, or no data is left
-  pub spent_whole : (f : F) (before : ReaderView) (count most off : ℕ) (flags : Option ℕ) (done : ℕ) (now : ReaderView) (g : F) → Lent before count most → Spent f before most off flags done now g → most ≤ done → Gone f before count off flags (Ok done) now g
+  pub spent_whole : (f : F) (before : ReaderView) (count most off : ℕ) (flags : Option ℕ) (done : ℕ) (now : ReaderView) (g : F) → Lent before count most → Spent f before most off flags done now g →
+      most ≤ done → Gone f before count off flags (Ok done) now g
   spent_whole f before count most off flags done now g t s le =
       let none : first (past done (up_to most before.segments)) ≡ 0 = omega (arith, lent f before most off flags done now g s, le) in
       spent_ends f before count most off flags done now now g (Ok done) g t s refl refl refl (refl, inl (none, refl))
 
   -- the place is past the greatest
-  pub spent_past : (f : F) (before : ReaderView) (count most off : ℕ) (flags : Option ℕ) (done : ℕ) (now : ReaderView) (g : F) → Lent before count most → Spent f before most off flags done now g → done < most → 2 ^ 64 ≤ off + done → Gone f before count off flags (Err 5) now g
+  pub spent_past : (f : F) (before : ReaderView) (count most off : ℕ) (flags : Option ℕ) (done : ℕ) (now : ReaderView) (g : F) → Lent before count most → Spent f before most off flags done now g →
+      done < most → 2 ^ 64 ≤ off + done → Gone f before count off flags (Err 5) now g
   spent_past f before count most off flags done now g t s lt far =
       let left : 0 < sum (past done before.segments) = omega (arith, sum-past done before.segments, t.all, t.limit, lt) in
       let there : 0 < first (past done before.segments) = first_some (past done before.segments) (filled-past done before.segments t.some) left in
@@ -100,7 +108,9 @@ module _ {F : Type 0} (gives : F → List ℕ → ℕ → Option ℕ → Result 
       spent_ends f before count most off flags done now now g (Err 5) g t s refl refl refl (some, inl (refl, far, refl))
 
   -- one more call of a file took nothing
-  pub spent_stops : (f : F) (before : ReaderView) (count most off : ℕ) (flags : Option ℕ) (done : ℕ) (now : ReaderView) (g : F) (n place : ℕ) (new : ReaderView) (h : F) → Lent before count most → Spent f before most off flags done now g → WritesOnce gives g now.left now.segments (most - done) place flags (Ok n) h → new.left ≡ drop n now.left → new.segments ≡ past n now.segments → new.read ≡ now.read + n → n ≡ 0 → place ≡ off + done → place < 2 ^ 64 → Gone f before count off flags (Ok done) new h
+  pub spent_stops : (f : F) (before : ReaderView) (count most off : ℕ) (flags : Option ℕ) (done : ℕ) (now : ReaderView) (g : F) (n place : ℕ) (new : ReaderView) (h : F) → Lent before count most →
+      Spent f before most off flags done now g → WritesOnce gives g now.left now.segments (most - done) place flags (Ok n) h → new.left ≡ drop n now.left → new.segments ≡ past n now.segments →
+      new.read ≡ now.read + n → n ≡ 0 → place ≡ off + done → place < 2 ^ 64 → Gone f before count off flags (Ok done) new h
   spent_stops f before count most off flags done now g n place new h t s once el es er zero at fits =
       let is = lent f before most off flags done now g s in
       let same : filled now.segments ≡ now.segments = ap filled s.segments ∙ filled-past done before.segments t.some ∙ sym s.segments in
@@ -120,7 +130,9 @@ module _ {F : Type 0} (gives : F → List ℕ → ℕ → Option ℕ → Result 
       (el ∙ ap (λ i. drop i now.left) zero) (es ∙ ap (λ i. past i now.segments) zero ∙ past_zero_of now.segments same) (omega (arith, er, zero)) ends
 
   -- one more call of a file failed
-  pub spent_fails : (f : F) (before : ReaderView) (count most off : ℕ) (flags : Option ℕ) (done : ℕ) (now : ReaderView) (g : F) (e place : ℕ) (new : ReaderView) (h : F) → Lent before count most → Spent f before most off flags done now g → WritesOnce gives g now.left now.segments (most - done) place flags (Err e) h → new ≡ now → place ≡ off + done → place < 2 ^ 64 → Gone f before count off flags (Err e) new h
+  pub spent_fails : (f : F) (before : ReaderView) (count most off : ℕ) (flags : Option ℕ) (done : ℕ) (now : ReaderView) (g : F) (e place : ℕ) (new : ReaderView) (h : F) → Lent before count most →
+      Spent f before most off flags done now g → WritesOnce gives g now.left now.segments (most - done) place flags (Err e) h → new ≡ now → place ≡ off + done → place < 2 ^ 64 →
+      Gone f before count off flags (Err e) new h
   spent_fails f before count most off flags done now g e place new h t s once same at fits =
       let is = lent f before most off flags done now g s in
       let ends : WritesEnd gives g (drop done (take most before.left)) (past done (up_to most before.segments)) (off + done) flags done (Err e) h =
@@ -139,7 +151,9 @@ module _ {F : Type 0} (gives : F → List ℕ → ℕ → Option ℕ → Result 
       (ap (λ (r : ReaderView). r.left) same) (ap (λ (r : ReaderView). r.segments) same) (ap (λ (r : ReaderView). r.read) same) ends
 
   -- one more call of a file took something
-  pub spent_goes : (f : F) (before : ReaderView) (count most off : ℕ) (flags : Option ℕ) (done : ℕ) (now : ReaderView) (g : F) (n place : ℕ) (new : ReaderView) (h : F) → Lent before count most → Spent f before most off flags done now g → WritesOnce gives g now.left now.segments (most - done) place flags (Ok n) h → new.left ≡ drop n now.left → new.segments ≡ past n now.segments → new.read ≡ now.read + n → (n ≡ 0 → ⊥) → place ≡ off + done → Spent f before most off flags (done + n) new h
+  pub spent_goes : (f : F) (before : ReaderView) (count most off : ℕ) (flags : Option ℕ) (done : ℕ) (now : ReaderView) (g : F) (n place : ℕ) (new : ReaderView) (h : F) → Lent before count most →
+      Spent f before most off flags done now g → WritesOnce gives g now.left now.segments (most - done) place flags (Ok n) h → new.left ≡ drop n now.left → new.segments ≡ past n now.segments →
+      new.read ≡ now.read + n → (n ≡ 0 → ⊥) → place ≡ off + done → Spent f before most off flags (done + n) new h
   spent_goes f before count most off flags done now g n place new h t s once el es er some at =
       ⊎_elim
       (λ (full : (min (most - done) (first now.segments) ≡ 0) × (Ok n ≡ Ok 0) × (h ≡ g)). absurd (some (ap moved full.1)))

@@ -1,4 +1,4 @@
-//! A guest, as tests draw one: its memory with a ring in it, the bytes of its requests, and of the replies that it waits for.
+//! A guest, as tests draw one: its memory with a ring in it, and the bytes of its requests.
 #![tactic(auto)]
 
 pub mod requests;

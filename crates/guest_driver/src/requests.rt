@@ -1,16 +1,13 @@
-//! The flat bytes of FUSE requests, and of the replies to them.
+//! The flat bytes of FUSE requests.
 
 ghost use Rattle.std.specs.Prelude.{◌<◌, ◌^◌, length};
 
-use fuse_wire::{Errno, ForgetIn, InHeader, InitInCompat, InitInExt, Opcode, OutHeader, ReadIn};
+use fuse_wire::{ForgetIn, InHeader, InitInCompat, Opcode, ReadIn};
 use std::alloc::{AllocError, Global};
 use vm_values::ByteValued;
 
 /// The length of a request's header.
 pub const IN_HEADER_LEN: usize = 40;
-
-/// The length of a reply's header.
-pub const OUT_HEADER_LEN: usize = 16;
 
 /// A request's header, from user, group and process 0. `len` may be any, true or not, and `opcode` of no request.
 pub fn header(len: u32, opcode: u32, unique: u64, nodeid: u64) -> [u8; IN_HEADER_LEN] {
@@ -92,50 +89,4 @@ pub fn read(
 /// INIT of a version with these flags, in 56 bytes.
 pub fn init(alloc: Global, unique: u64, record: &InitInCompat) -> Result<Vec<u8>, AllocError> {
     with_record(alloc, &header(56, Opcode::Init as u32, unique, 0), record)
-}
-
-/// INIT with the second word of flags too, in 104 bytes; `record.flags` says by its bit 30 that it is there.
-pub fn init_ext(
-    alloc: Global,
-    unique: u64,
-    record: &InitInCompat,
-    flags2: u32,
-) -> Result<Vec<u8>, AllocError> {
-    let front = with_record(alloc, &header(104, Opcode::Init as u32, unique, 0), record)?;
-    let rest = InitInExt {
-        flags2,
-        unused: [0; 11],
-    };
-    with_record(alloc, &front, &rest)
-}
-
-/// The reply's header of this length, with the error's number below 0, or 0.
-pub fn out_header(len: u32, error: i32, unique: u64) -> [u8; OUT_HEADER_LEN] {
-    let header = OutHeader { len, error, unique };
-    let mut bytes = [0; OUT_HEADER_LEN];
-    header.put_bytes(&mut bytes);
-    bytes
-}
-
-/// The reply that names an error.
-pub fn error_reply(unique: u64, error: Errno) -> [u8; OUT_HEADER_LEN] {
-    out_header(16, -(error.raw() as i32), unique)
-}
-
-/// The good reply with these bytes.
-pub fn data_reply(alloc: Global, unique: u64, bytes: &[u8]) -> Result<Vec<u8>, AllocError>
-    requires { length bytes.now < 2 ^ 20 }
-{
-    let len = (OUT_HEADER_LEN + bytes.len()) as u32;
-    joined(alloc, &out_header(len, 0, unique), bytes)
-}
-
-/// The good reply with this record.
-pub fn record_reply<T: ByteValued>(
-    alloc: Global,
-    unique: u64,
-    record: &T,
-) -> Result<Vec<u8>, AllocError> {
-    let len = (OUT_HEADER_LEN + T::SIZE) as u32;
-    with_record(alloc, &out_header(len, 0, unique), record)
 }

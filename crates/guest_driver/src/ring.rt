@@ -124,12 +124,6 @@ impl Guest {
         self.put(at.wrapping_add(14), &descriptor.next.to_le_bytes())
     }
 
-    /// Puts the available ring's flags: 1 where the driver doesn't want to be told.
-    pub fn set_flags(&mut self, flags: u16) -> Result<(), GuestMemoryError> {
-        let at = self.ring.avail;
-        self.put(at, &flags.to_le_bytes())
-    }
-
     /// Puts the available ring's index.
     pub fn set_available(&mut self, index: u16) -> Result<(), GuestMemoryError> {
         let at = self.ring.avail.wrapping_add(2);

@@ -115,7 +115,7 @@ fn root_attr() -> Attr {
 
 /// The root's entries from one on.
 #[derive(Drop)]
-pub struct RootEntries {
+pub(crate) struct RootEntries {
     at: u64,
 }
 
@@ -147,7 +147,7 @@ impl DirectoryIterator for RootEntries {
 
 /// Root 1 with the file `a`, which is node 2. Calls of the kinds that it has something of its own to do for stand in the log.
 #[derive(Drop)]
-pub struct LoggingFiles<'a> {
+pub(crate) struct LoggingFiles<'a> {
     log: &'a Cell<FirstCalls>,
     contents: SmallFile,
 }

@@ -20,7 +20,7 @@ pub(crate) const PAGE_BYTES: u32 = 4096;
 
 /// A guest and the device that serves it.
 #[derive(Drop)]
-pub struct GuestMachine<'a> {
+pub(crate) struct GuestMachine<'a> {
     alloc: Global,
     log: &'a Cell<FirstCalls>,
     machine: Machine<LoggingFiles<'a>>,

@@ -7,7 +7,7 @@ use std::alloc::{AllocError, Global};
 
 /// A queue's size, and the addresses of its three areas.
 #[derive(Clone, Copy)]
-pub struct AskedLayout {
+pub(crate) struct AskedLayout {
     pub size: u16,
     pub desc: u64,
     pub avail: u64,
@@ -23,7 +23,7 @@ impl AskedLayout {
 
 /// A command of the script.
 #[derive(Drop)]
-pub enum Line {
+pub(crate) enum Line {
     /// One more queue.
     Queue(AskedLayout),
     /// A region of guest memory over a new block.
@@ -166,7 +166,7 @@ fn parse_all(name: &[u8], words: &mut Words<'_>) -> Option<Line> {
 }
 
 /// The command of a line, if it is one.
-pub fn parse(alloc: Global, line: &[u8]) -> Result<Option<Line>, AllocError> {
+pub(crate) fn parse(alloc: Global, line: &[u8]) -> Result<Option<Line>, AllocError> {
     let mut words = Words { rest: Some(line) };
     match words.next_word() {
         Some(b"write") => parse_write(alloc, &mut words),

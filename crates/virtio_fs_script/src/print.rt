@@ -20,17 +20,20 @@ fn print_line<W: Write>(writer: &mut W, word: &[u8], numbers: &[u64]) -> io::Res
 }
 
 /// That a command was done which has nothing to tell.
-pub fn print_ok<W: Write>(writer: &mut W) -> io::Result<()> {
+pub(crate) fn print_ok<W: Write>(writer: &mut W) -> io::Result<()> {
     writer.write_all(b"ok\n")
 }
 
 /// Why a queue's layout isn't one.
-pub fn print_bad_layout<W: Write>(writer: &mut W, error: QueueLayoutError) -> io::Result<()> {
+pub(crate) fn print_bad_layout<W: Write>(
+    writer: &mut W,
+    error: QueueLayoutError,
+) -> io::Result<()> {
     print_line(writer, b"badlayout", &[u64::from(error.number())])
 }
 
 /// Why a command was refused, by its number.
-pub fn print_refused<W: Write>(writer: &mut W, number: u8) -> io::Result<()> {
+pub(crate) fn print_refused<W: Write>(writer: &mut W, number: u8) -> io::Result<()> {
     print_line(writer, b"refused", &[u64::from(number)])
 }
 
@@ -151,7 +154,7 @@ fn print_run<W: Write>(writer: &mut W, run: &QueueRun) -> io::Result<()> {
 }
 
 /// What a command of the machine came to.
-pub fn print_answer<W: Write>(writer: &mut W, answer: &Answer) -> io::Result<()> {
+pub(crate) fn print_answer<W: Write>(writer: &mut W, answer: &Answer) -> io::Result<()> {
     match answer {
         Answer::Done => print_ok(writer),
         Answer::Bytes(bytes) => print_bytes(writer, bytes),
@@ -162,12 +165,12 @@ pub fn print_answer<W: Write>(writer: &mut W, answer: &Answer) -> io::Result<()>
 }
 
 /// That no request was waiting.
-pub fn print_idle<W: Write>(writer: &mut W) -> io::Result<()> {
+pub(crate) fn print_idle<W: Write>(writer: &mut W) -> io::Result<()> {
     writer.write_all(b"idle\n")
 }
 
 /// The pages that were marked.
-pub fn print_pages<W: Write>(writer: &mut W, pages: &[HarvestedPage]) -> io::Result<()> {
+pub(crate) fn print_pages<W: Write>(writer: &mut W, pages: &[HarvestedPage]) -> io::Result<()> {
     if pages.is_empty() {
         return writer.write_all(b"none\n");
     }

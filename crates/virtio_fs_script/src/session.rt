@@ -21,7 +21,7 @@ const MOST_QUEUES: usize = 64;
 
 /// The queues so far, and from the first other command on a guest whose device has them.
 #[derive(Drop)]
-pub struct Session<'a> {
+pub(crate) struct Session<'a> {
     alloc: Global,
     log: &'a Cell<FirstCalls>,
     queues: Vec<Queue>,

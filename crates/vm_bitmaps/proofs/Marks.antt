@@ -172,8 +172,3 @@ marked_none n s o = nil_from (marked_range s [] o n) (ap length (marked_range-is
 
 pub marked_past : (n s : ℕ) (m : List Bool) (o : ℕ) → 2 ^ 64 ≤ o → m ≡ marked_range s m o n
 marked_past n s m o g = sym (marked_range-is n s m o ∙ range_past n true (2 ^ 64) s m o g)
-
--- ---- what a caller may cite
-
-pub length-marked_range : (n s : ℕ) (m : List Bool) (o : ℕ) → length (marked_range s m o n) ≡ length m
-length-marked_range n s m o = ap length (marked_range-is n s m o) ∙ length-range n true (2 ^ 64) s m o

@@ -40,7 +40,8 @@ ends_after r l s m are is same start =
       | inr high ↦ high
     ]
 
-tails_same : (r : IotlbRange) (l : List IotlbRange) (s : IotlbRange) (m : List IotlbRange) → AreRanges (r ∷ l) → AreRanges (s ∷ m) → AreSame (table_kept (r ∷ l)) (table_kept (s ∷ m)) → r.end ≡ s.end → AreSame (table_kept l) (table_kept m)
+tails_same : (r : IotlbRange) (l : List IotlbRange) (s : IotlbRange) (m : List IotlbRange) → AreRanges (r ∷ l) → AreRanges (s ∷ m) → AreSame (table_kept (r ∷ l)) (table_kept (s ∷ m)) →
+    r.end ≡ s.end → AreSame (table_kept l) (table_kept m)
 tails_same r l s m are is same end = λ a.
     elim (cases_lt a r.end) [
       | inl low ↦ table_before l r.end a are.2 (from_after r l are.1) low ∙ sym (table_before m s.end a is.2 (from_after s m is.1) (omega arith))

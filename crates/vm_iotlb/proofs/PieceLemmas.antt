@@ -140,7 +140,8 @@ gap_part t access r l a s e are agree order start =
 
 -- the addresses of a range, from one of its own on
 pub range_part : (t : Table) (access : Permissions) (r : IotlbRange) (l : List IotlbRange) (a p e : ℕ) → AreRanges (r ∷ l) → Agree t (r ∷ l) a e → a < e → r.start ≤ a → a < r.end → p ≡ min r.end e →
-    (missing t a (e - a) ≡ missing t p (e - p)) × (allows r.perm access ≡ true → lacking t access a (e - a) ≡ lacking t access p (e - p)) × (allows r.perm access ≡ false → lacking t access a (e - a) ≡ between a p ++ lacking t access p (e - p))
+    (missing t a (e - a) ≡ missing t p (e - p)) × (allows r.perm access ≡ true → lacking t access a (e - a) ≡ lacking t access p (e - p)) ×
+    (allows r.perm access ≡ false → lacking t access a (e - a) ≡ between a p ++ lacking t access p (e - p))
 range_part t access r l a p e are agree some low high end =
     let run = range_run t r l a p e are agree low (omega arith) (omega arith) (omega arith) (λ more. omega arith) in
     let this = agree a (omega arith) some ∙ table_in r l a low high in (
@@ -193,7 +194,8 @@ fails_end t access a e agree =
 
 -- one range is left behind
 pub fails_step : (t : Table) (access : Permissions) (r : IotlbRange) (l : List IotlbRange) (a s p e : ℕ) → AreRanges (r ∷ l) → Agree t (r ∷ l) a e → a < e → a < r.end → s ≡ min (max r.start a) e → p ≡ min r.end e →
-    (missing t a (e - a) ≡ between a s ++ missing t p (e - p)) × (allows r.perm access ≡ true → lacking t access a (e - a) ≡ between p p ++ lacking t access p (e - p)) × (allows r.perm access ≡ false → lacking t access a (e - a) ≡ between s p ++ lacking t access p (e - p))
+    (missing t a (e - a) ≡ between a s ++ missing t p (e - p)) × (allows r.perm access ≡ true → lacking t access a (e - a) ≡ between p p ++ lacking t access p (e - p)) ×
+    (allows r.perm access ≡ false → lacking t access a (e - a) ≡ between s p ++ lacking t access p (e - p))
 fails_step t access r l a s p e are agree some high start end =
     let up : r.start < r.end = are.0.0 in
     let gap = gap_part t access r l a s e are agree (omega arith) start in

@@ -236,7 +236,8 @@ parts_init old from to a ends =
     ] refl
 
 -- a range that was put between the parts of ranges before and after it
-pub with_at : (r : IotlbRange) (a most : ℕ) (t0 t1 t2 t3 : Option Mapping) → r.start < r.end → (most ≤ a → t0 ≡ None) → t1 ≡ (if nat_le 0 a && nat_lt a r.start then t0 else None) → t2 ≡ (if has r a then Some (mapping_in r a) else t1) → t3 ≡ (if nat_le r.end a && nat_lt a most then t0 else t2) → r.end ≤ most →
+pub with_at : (r : IotlbRange) (a most : ℕ) (t0 t1 t2 t3 : Option Mapping) → r.start < r.end → (most ≤ a → t0 ≡ None) → t1 ≡ (if nat_le 0 a && nat_lt a r.start then t0 else None) →
+    t2 ≡ (if has r a then Some (mapping_in r a) else t1) → t3 ≡ (if nat_le r.end a && nat_lt a most then t0 else t2) → r.end ≤ most →
     t3 ≡ (if has r a then Some (mapping_in r a) else t0)
 with_at r a most t0 t1 t2 t3 order past first second third fits =
     elim (cases_lt a r.start) [
@@ -273,7 +274,8 @@ with_at r a most t0 t1 t2 t3 order past first second third fits =
     ]
 
 -- the parts of ranges before and after some addresses
-pub without_at : (a start end most : ℕ) (t0 t1 t2 : Option Mapping) → start ≤ end → end ≤ most → (most ≤ a → t0 ≡ None) → t1 ≡ (if nat_le 0 a && nat_lt a start then t0 else None) → t2 ≡ (if nat_le end a && nat_lt a most then t0 else t1) →
+pub without_at : (a start end most : ℕ) (t0 t1 t2 : Option Mapping) → start ≤ end → end ≤ most → (most ≤ a → t0 ≡ None) → t1 ≡ (if nat_le 0 a && nat_lt a start then t0 else None) →
+    t2 ≡ (if nat_le end a && nat_lt a most then t0 else t1) →
     t2 ≡ (if nat_le start a && nat_lt a end then None else t0)
 without_at a start end most t0 t1 t2 order fits past first second =
     elim (cases_lt a start) [

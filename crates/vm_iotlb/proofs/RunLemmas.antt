@@ -125,7 +125,8 @@ pub missing_skip : (t : Table) (a b c m n : ℕ) (to : Mapping) → runs t a m �
 unfolding missing
 missing_skip t a b c m n to run some = rw (run, some) refl
 
-pub lacking_run : (t : Table) (access : Permissions) (a b c m n : ℕ) (to : Mapping) → runs t a m ≡ run_of a c ∷ runs t b n → t a ≡ Some to → allows to.perm access ≡ false → lacking t access a m ≡ run_of a c ∷ lacking t access b n
+pub lacking_run : (t : Table) (access : Permissions) (a b c m n : ℕ) (to : Mapping) → runs t a m ≡ run_of a c ∷ runs t b n → t a ≡ Some to → allows to.perm access ≡ false →
+    lacking t access a m ≡ run_of a c ∷ lacking t access b n
 unfolding lacking
 lacking_run t access a b c m n to run some denied = rw (run, some, denied) refl
 
@@ -162,7 +163,8 @@ may_rest t access (suc c) a b (suc m) n count end all =
 pub may_stop : (t : Table) (access : Permissions) (a e : ℕ) → a < e → may_pass access (t a) ≡ false → may_all t access a (e - a) ≡ false
 may_stop t access a e some denied = may_first t access a (e - a) (omega arith) denied
 
-pub may_range : (t : Table) (access : Permissions) (r : IotlbRange) (l : List IotlbRange) (a b e : ℕ) → Agree t (r ∷ l) a e → r.start ≤ a → a ≤ b → b ≤ r.end → b ≤ e → allows r.perm access ≡ true → may_all t access a (e - a) ≡ may_all t access b (e - b)
+pub may_range : (t : Table) (access : Permissions) (r : IotlbRange) (l : List IotlbRange) (a b e : ℕ) → Agree t (r ∷ l) a e → r.start ≤ a → a ≤ b → b ≤ r.end → b ≤ e → allows r.perm access ≡ true →
+    may_all t access a (e - a) ≡ may_all t access b (e - b)
 may_range t access r l a b e agree low order within most all =
     may_rest t access (b - a) a b (e - a) (e - b) (omega arith) (omega arith)
     (λ x from to. let this = agree x from (omega arith) ∙ table_in r l x (omega arith) (omega arith) in rw this all)

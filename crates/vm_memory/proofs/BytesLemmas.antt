@@ -73,7 +73,8 @@ over_places h addr n [] old = elim (n == 0) as (λ b. old ≡ read_over h (if b 
 over_places h addr n (p ∷ ps) old = refl
 
 -- what was read
-pub read-reached : (m : Memory) (addr : GuestAddress) (n : ℕ) (xs old : List ℕ) → map (byte m) (take (reached (location m Read) xs) xs) ++ drop (reached (location m Read) xs) old ≡ read_over m.host (unless_none addr n (places_at (location m Read) xs)) old
+pub read-reached : (m : Memory) (addr : GuestAddress) (n : ℕ) (xs old : List ℕ) →
+    map (byte m) (take (reached (location m Read) xs) xs) ++ drop (reached (location m Read) xs) old ≡ read_over m.host (unless_none addr n (places_at (location m Read) xs)) old
 read-reached m addr n xs old =
     let count = count-places_at xs (location m Read) in
     let got = bytes-located (take (reached (location m Read) xs) xs) m (places_at (location m Read) xs) (located-reached xs (location m Read)) in

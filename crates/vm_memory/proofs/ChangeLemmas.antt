@@ -288,7 +288,8 @@ is_not_size r base size out = grind (arith, nat_tests)
 pub is_this : (r : Region) (base size : ℕ) → r.start ≡ base → r.size ≡ size → is_region base size r ≡ true
 is_this r base size e f = grind (arith, nat_tests)
 
-pub removed_item : {X Z : Type 0} (f : X → Region) (items : List (Arc X Z)) (l : List Region) (i : ℕ) (r : Region) (arc : Arc X Z) → regions_of f items ≡ l → slice_get l i ≡ Some r → arc ≡ get_or items i arc → Some r ≡ Some (f (arc_value arc))
+pub removed_item : {X Z : Type 0} (f : X → Region) (items : List (Arc X Z)) (l : List Region) (i : ℕ) (r : Region) (arc : Arc X Z) → regions_of f items ≡ l → slice_get l i ≡ Some r →
+    arc ≡ get_or items i arc → Some r ≡ Some (f (arc_value arc))
 removed_item f items l i r arc same found e =
     let within : i < length items = omega (arith, slice_get_within l i r found, ap length same, length-shared f items) in
     sym found ∙ sym (ap (λ (k : List Region). slice_get k i) same) ∙ shared_item f items i arc within e

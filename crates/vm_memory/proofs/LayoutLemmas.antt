@@ -168,7 +168,8 @@ copied_more f items all new i arc copy h e same is before =
     ap (regions_of f) is ∙ map-append (λ a. f (arc_value a)) all (copy ∷ [])
     ∙ ap (λ (l : List Region). l ++ f (arc_value copy) ∷ []) (before ∙ take-map (λ a. f (arc_value a)) i items)
     ∙ ap (λ x. map (λ a. f (arc_value a)) (take i items) ++ f x ∷ []) same
-    ∙ sym (ap (take (i + 1)) refl ∙ take-map (λ a. f (arc_value a)) (i + 1) items ∙ ap (map (λ a. f (arc_value a))) (take_more items i arc h ∙ ap (λ a. take i items ++ a ∷ []) (sym e)) ∙ map-append (λ a. f (arc_value a)) (take i items) (arc ∷ []))
+    ∙ sym (ap (take (i + 1)) refl ∙ take-map (λ a. f (arc_value a)) (i + 1) items ∙ ap (map (λ a. f (arc_value a))) (take_more items i arc h ∙ ap (λ a. take i items ++ a ∷ []) (sym e)) ∙ map-append
+    (λ a. f (arc_value a)) (take i items) (arc ∷ []))
 
 max_left : (a b : ℕ) → b ≤ a → max a b ≡ a
 max_left a b h = omega arith
@@ -196,7 +197,8 @@ last_is (x ∷ (y ∷ l)) (suc i) r is e h =
 abbrev pub HasBlock : List ℕ → Region → Type 0
 HasBlock lengths r = (r.block < length lengths) × (slice_index_or lengths r.block 0 ≡ r.size)
 
-pub blocks_more : (lengths : List ℕ) (l : List Region) (i : ℕ) (r : Region) → ((k : ℕ) → k < i → HasBlock lengths (region_of l k)) → slice_get l i ≡ Some r → HasBlock lengths r → (k : ℕ) → k < i + 1 → HasBlock lengths (region_of l k)
+pub blocks_more : (lengths : List ℕ) (l : List Region) (i : ℕ) (r : Region) → ((k : ℕ) → k < i → HasBlock lengths (region_of l k)) → slice_get l i ≡ Some r → HasBlock lengths r → (k : ℕ) →
+    k < i + 1 → HasBlock lengths (region_of l k)
 blocks_more lengths l i r below is here k h =
     let same : region_of l i ≡ r = get_or_from_slice_get l i r no_region is in
     elim (cases_eq k i) [

@@ -75,7 +75,8 @@ regions_more regions made xs i n block d x r h e before is at new =
     new ∙ ap (λ (l : List Region). l ++ r ∷ []) before ∙ ap (λ (s : Region). regions_from n (take i xs) ++ s ∷ []) (is ∙ ap (λ b. record { start = x.0.0; size = x.1; block = b }) there)
     ∙ sym (ap (regions_from n) (taken xs i d x h e) ∙ regions_from-push (take i xs) n x)
 
-pub shared-push : {Z : Type 0} (items new : List (Arc Region Z)) (arc : Arc Region Z) (r : Region) → new ≡ items ++ arc ∷ [] → arc_value arc ≡ r → regions_of (λ (x : Region). x) new ≡ regions_of (λ (x : Region). x) items ++ r ∷ []
+pub shared-push : {Z : Type 0} (items new : List (Arc Region Z)) (arc : Arc Region Z) (r : Region) → new ≡ items ++ arc ∷ [] → arc_value arc ≡ r →
+    regions_of (λ (x : Region). x) new ≡ regions_of (λ (x : Region). x) items ++ r ∷ []
 shared-push items new arc r e is =
     ap (regions_of (λ (x : Region). x)) e ∙ map-append (λ a. arc_value a) items (arc ∷ []) ∙ ap (λ (x : Region). regions_of (λ (y : Region). y) items ++ x ∷ []) is
 
@@ -110,7 +111,8 @@ unless_ok None regions layout e = cc
 unless_ok (Some f) regions layout e = absurd (cc)
 
 -- a refused range
-pub refused_at : (count : ℕ → ℕ) (old now new : Host) (xs : List Range) (i : ℕ) (d x : Range) (e : FromRangesError) → i < length xs → get_or xs i d ≡ x → list_all is_good (take i xs) ≡ true → now ≡ grown_by count old (take i xs) →
+pub refused_at : (count : ℕ → ℕ) (old now new : Host) (xs : List Range) (i : ℕ) (d x : Range) (e : FromRangesError) → i < length xs → get_or xs i d ≡ x → list_all is_good (take i xs) ≡ true →
+    now ≡ grown_by count old (take i xs) →
     IsRegionMade count now new x.0.0 x.1 (Err e) → AreRegionsMade count old new xs (Err e)
 refused_at count old now new xs i d x (Collection f) h at good before made = absurd made
 refused_at count old now new xs i d x (MmapRegion mmap.Mmap) h at good before made =

@@ -368,7 +368,8 @@ pub region_at-Some : (l : List Region) (a : ℕ) (r : Region) → region_at l a 
 unfolding region_at
 region_at-Some [] a r e = absurd (cc)
 region_at-Some (x ∷ l) a r e =
-    elim (is_within x.start x.size a) as (λ b. is_within x.start x.size a ≡ b → (if b then Some x else region_at l a) ≡ Some r → (r.start ≤ a) × (a < r.start + r.size) × (i : ℕ) × (i < suc (length l)) × (r ≡ get_or (x ∷ l) i r)) [
+    elim (is_within x.start x.size a) as (λ b. is_within x.start x.size a ≡ b → (if b then Some x else region_at l a) ≡ Some r →
+    (r.start ≤ a) × (a < r.start + r.size) × (i : ℕ) × (i < suc (length l)) × (r ≡ get_or (x ∷ l) i r)) [
       | true ↦ λ inside found.
           let same : x ≡ r = cc in
           let low = within_low x a inside in

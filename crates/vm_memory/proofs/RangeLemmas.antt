@@ -55,7 +55,8 @@ and_then_none (Some p) = refl
 unmapped_step : (l : List Region) (access : Permissions) (set a : ℕ) (o : Option Mapping) (r : Option (List Place)) (b : Bool) → (b ≡ false → r ≡ None) → (may_pass access o && b) ≡ false →
     option_and_then (λ (p : Place). option_map (λ (ps : List Place). p ∷ ps) r) (for_io set a (place_behind l access o)) ≡ None
 unmapped_step l access set a o r b rest e =
-    elim (may_pass access o) as (λ (pass : Bool). may_pass access o ≡ pass → (pass && b) ≡ false → option_and_then (λ (p : Place). option_map (λ (ps : List Place). p ∷ ps) r) (for_io set a (place_behind l access o)) ≡ None) [
+    elim (may_pass access o) as (λ (pass : Bool). may_pass access o ≡ pass → (pass && b) ≡ false →
+    option_and_then (λ (p : Place). option_map (λ (ps : List Place). p ∷ ps) r) (for_io set a (place_behind l access o)) ≡ None) [
       | true ↦ λ passes none. rw (rest none) (and_then_none (for_io set a (place_behind l access o)))
       | false ↦ λ stops none. rw (none_behind l access set a o stops) refl
     ] refl e

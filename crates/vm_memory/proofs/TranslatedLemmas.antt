@@ -33,7 +33,8 @@ runs_head (suc n) a table =
     let next = runs_head n (a + 1) table in
     let l : ℕ = run_len table (a + 1) (suc n) in
     let led : led_by a (runs table (a + 1) (suc n)) ≡ run_of a (suc l) ∷ next.0 = ap (led_by a) next.1 ∙ ap (λ k. run_of a k ∷ next.0) (omega arith) in
-    elim (go_together (table a) (table (a + 1))) as (λ b. (rest : List IovaRange) × ((if b then led_by a (runs table (a + 1) (suc n)) else run_of a 1 ∷ runs table (a + 1) (suc n)) ≡ run_of a (if b then suc l else 1) ∷ rest)) [
+    elim (go_together (table a) (table (a + 1))) as (λ b. (rest : List IovaRange) ×
+    ((if b then led_by a (runs table (a + 1) (suc n)) else run_of a 1 ∷ runs table (a + 1) (suc n)) ≡ run_of a (if b then suc l else 1) ∷ rest)) [
       | true ↦ (next.0, led)
       | false ↦ (runs table (a + 1) (suc n), refl)
     ]
@@ -48,15 +49,6 @@ first_piece (suc n) a table piece rest some is =
     let same : piece_of table (run_of a (run_len table a (suc n))) ∷ map (piece_of table) head.0 ≡ piece ∷ rest = sym (ap (map (piece_of table)) head.1) ∙ is in
     let one : piece_of table (run_of a (run_len table a (suc n))) ≡ piece = cc in
     (sym (ap (λ (p : MappedRange). p.base.0) one), sym (ap (λ (p : MappedRange). p.length) one))
-
--- some addresses are mapped to some piece
-pub some_piece : (n a : ℕ) (table : Table) → 0 < n → pieces table a n ≡ [] → ⊥
-unfolding pieces
-some_piece zero a table some is = absurd (omega arith)
-some_piece (suc n) a table some is =
-    let head = runs_head n a table in
-    let same : piece_of table (run_of a (run_len table a (suc n))) ∷ map (piece_of table) head.0 ≡ [] = sym (ap (map (piece_of table)) head.1) ∙ is in
-    absurd (cc)
 
 pub run_len-min : (n m a : ℕ) (table : Table) → n ≤ m → run_len table a n ≡ min n (run_len table a m)
 unfolding run_len
@@ -115,8 +107,10 @@ run_place (suc n) a table access l all (suc j) below =
     let here = both_true (may_pass access (table a)) (may_all table access (a + 1) n) all in
     let at : a + suc j ≡ a + 1 + j = omega arith in
     ap (λ x. place_behind l access (table x)) at ∙
-    elim (go_together (table a) (table (a + 1))) as (λ b. go_together (table a) (table (a + 1)) ≡ b → suc j < (if b then suc (run_len table (a + 1) n) else 1) → place_behind l access (table (a + 1 + j)) ≡ place l (target_of (table a) + suc j)) [
-      | true ↦ λ joins more. next_place l (place_behind l access (table (a + 1 + j))) (target_of (table a)) (target_of (table (a + 1))) j (run_place n (a + 1) table access l here.1 j (omega arith)) (next_target (table a) (table (a + 1)) access here.0 joins)
+    elim (go_together (table a) (table (a + 1))) as (λ b. go_together (table a) (table (a + 1)) ≡ b → suc j < (if b then suc (run_len table (a + 1) n) else 1) →
+    place_behind l access (table (a + 1 + j)) ≡ place l (target_of (table a) + suc j)) [
+      | true ↦ λ joins more. next_place l (place_behind l access (table (a + 1 + j))) (target_of (table a)) (target_of (table (a + 1))) j (run_place n (a + 1) table access l here.1 j (omega arith))
+          (next_target (table a) (table (a + 1)) access here.0 joins)
       | false ↦ λ parts more. absurd (omega arith)
     ] refl below
 
@@ -147,7 +141,8 @@ located_io (suc n) a t f p set ps each e =
 
 from_address : (o a k : ℕ) (set : ℕ) → io_address (o + k) (Some (io_from set a o)) ≡ Some (record { set = set; address = a + k })
 from_address o a k set =
-    elim (nat_le o a) as (λ b. nat_le o a ≡ b → io_address (o + k) (Some (if b then record { set = set; base = a - o; from = 0 } else record { set = set; base = 0; from = o - a })) ≡ Some (record { set = set; address = a + k })) [
+    elim (nat_le o a) as (λ b. nat_le o a ≡ b → io_address (o + k) (Some (if b then record { set = set; base = a - o; from = 0 } else record { set = set; base = 0; from = o - a })) ≡ Some
+    (record { set = set; address = a + k })) [
       | true ↦ λ le. let low : o ≤ a = grind (arith, nat_tests) in let same : a - o + (o + k - 0) ≡ a + k = omega arith in ap (λ x. Some (record { set = set; address = x })) same
       | false ↦ λ gt. let high : a < o = grind (arith, nat_tests) in let same : 0 + (o + k - (o - a)) ≡ a + k = omega arith in ap (λ x. Some (record { set = set; address = x })) same
     ] refl

@@ -1,4 +1,4 @@
-//! What names blocks of a host.
+//! What names blocks, tables and sets of I/O pages of a host.
 
 ghost use Rattle.std.specs.Prelude.{IsTrue, ◌↔◌};
 ghost use Rattle.vm_memory_core.specs.Host.{Host};
@@ -6,7 +6,7 @@ ghost use Rattle.vm_memory_core.specs.Host.{Host};
 use crate::host::HostMemory;
 use vm_bitmaps::NewBitmap;
 
-/// What names blocks of a host with their lengths, as a layout does.
+/// What names things of a host: blocks with their lengths, as a layout does, a table and a set of I/O pages.
 pub trait HeldIn {
     // whether a host has all that it names
     ghost IsHeld: { Self → Host → Type 0 };
@@ -21,7 +21,7 @@ pub trait HeldIn {
 }
 
 impl<B: NewBitmap> HostMemory<B> {
-    /// Whether this memory has all blocks that something names, with their lengths.
+    /// Whether this memory has all that something names: blocks with their lengths, tables and sets of I/O pages.
     pub fn holds<M: HeldIn>(&self, m: &M) -> bool
         ensures held { IsTrue result ↔ M.IsHeld m.now self.now }
         ensures sound { M.IsSound m.now }

@@ -55,9 +55,11 @@ one_byte (x ∷ []) l h = let e : x ≡ x % 256 = omega (arith, h) in ap (λ n. 
 one_byte (x ∷ y ∷ ys) l h = absurd (omega (arith, l))
 
 -- the number of sixteen bytes whose halves are spelled so
-pub read_16 : (xs : List ℕ) (low high : ℕ) → length xs ≡ 16 → low < 2 ^ 64 → high < 2 ^ 64 → take 8 xs ≡ to_le_bytes w64 low → take (length xs - 8) (drop 8 xs) ≡ to_le_bytes w64 high → xs ≡ to_le_bytes w128 (high * 18446744073709551616 + low)
+pub read_16 : (xs : List ℕ) (low high : ℕ) → length xs ≡ 16 → low < 2 ^ 64 → high < 2 ^ 64 → take 8 xs ≡ to_le_bytes w64 low → take (length xs - 8) (drop 8 xs) ≡ to_le_bytes w64 high →
+    xs ≡ to_le_bytes w128 (high * 18446744073709551616 + low)
 read_16 xs low high len below above l h =
     let n : ℕ = high * 18446744073709551616 + low in
     let a : n % 2 ^ 64 ≡ low = omega arith in
     let b : n / 2 ^ 64 ≡ high = omega arith in
-    sym (two_halves n ∙ ap (λ m. to_le_bytes w64 m ++ to_le_bytes w64 (n / 2 ^ 64)) a ∙ ap (λ m. to_le_bytes w64 low ++ to_le_bytes w64 m) b ∙ ap (λ s. s ++ to_le_bytes w64 high) (sym l) ∙ ap (λ s. take 8 xs ++ s) (sym h ∙ take_all (length xs - 8) (drop 8 xs) (omega (arith, length-drop 8 xs))) ∙ take-append-drop 8 xs)
+    sym (two_halves n ∙ ap (λ m. to_le_bytes w64 m ++ to_le_bytes w64 (n / 2 ^ 64)) a ∙ ap (λ m. to_le_bytes w64 low ++ to_le_bytes w64 m) b ∙ ap (λ s. s ++ to_le_bytes w64 high) (sym l) ∙ ap
+        (λ s. take 8 xs ++ s) (sym h ∙ take_all (length xs - 8) (drop 8 xs) (omega (arith, length-drop 8 xs))) ∙ take-append-drop 8 xs)

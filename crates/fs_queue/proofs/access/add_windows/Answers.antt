@@ -1,12 +1,15 @@
-use Rattle.std.proofs.Common.{◌≡◌, ℕ, Bool, List, Some, None, subst}
+use Rattle.std.proofs.Common.{◌≡◌, Bool, List, Option, Some, None, subst}
 use Rattle.std.specs.Prelude.{if◌then◌else◌, IfOk}
+use Rattle.vm_memory_core.specs.Host.{Place}
 use Rattle.vm_memory_core.specs.Window.{places}
-use Rattle.vm_memory.specs.Layout.{place}
-use Rattle.vm_memory.specs.Memory.{located, after}
-use Rattle.vm_memory.proofs.Places.{circular-is}
+use Rattle.vm_memory.specs.Memory.{after}
+use Rattle.vm_memory.proofs.RangeLemmas.{places_from-is}
 use Rattle.fs_queue.proofs.access.add_windows.Goals as goal
 
 pub returns-clause-found : goal.returns-clause-found
-returns-clause-found c =
-    subst (λ (xs : List ℕ). IfOk c.push_physical.result (λ (found : Bool). after (places c.args.windows.now.items) (located (place c.args.mem.now) xs) ≡ (if found then Some (places c.push_physical.new.windows.items) else None)))
-    (circular-is c.args.len c.args.addr c.requires) c.push_physical.ensures.found
+returns-clause-found g c =
+    subst (λ (o : Option (List Place)). IfOk c.push_windows.result (λ (found : Bool). after (places c.args.windows.now.items) o ≡ (if found then Some (places c.push_windows.new.windows.items) else None)))
+    (places_from-is (g.M.GuestMemory.memory c.args.mem.now c.args.host.now) c.args.access c.args.addr c.args.len c.requires.fits) c.push_windows.ensures.found
+
+pub returns-clause-lie : goal.returns-clause-lie
+returns-clause-lie g c = c.push_windows.ensures.held c.requires.held

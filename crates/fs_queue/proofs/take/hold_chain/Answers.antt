@@ -1,38 +1,39 @@
 use Rattle.std.proofs.Common.{◌≤◌, sym, arith, refl}
-use Rattle.vm_memory.specs.Layout.{place}
+use Rattle.vm_iotlb.specs.declared.permissions.Permissions.TheVariants.{Read, Write}
+use Rattle.vm_memory.specs.Memory.{location}
 use Rattle.fs_queue.specs.Taking.{readable, writable, total_len}
 use Rattle.fs_queue.proofs.TakeLemmas.{asks_nothing_read, asks_nothing_written, asks, length-direction}
 use Rattle.fs_queue.proofs.take.hold_chain.Goals as goal
 
 pub returns-in_default-clause-asked : goal.returns-in_default-clause-asked
-returns-in_default-clause-asked c h =
+returns-in_default-clause-asked g c =
     let a : total_len (readable c.args.descriptors.now) ≤ c.args.limit = omega arith in
     let b : total_len (writable c.args.descriptors.now) ≤ c.args.limit = omega arith in
-    rw (asks_nothing_read h c.args.mem.now c.args.limit c.args.descriptors.now c.requires a b (rw c.in_default.is at c.in_ok-readable.ensures.found))
+    rw (asks_nothing_read (g.M.GuestMemory.memory c.args.mem.now c.args.host.now) c.args.limit c.args.descriptors.now c.requires.fits a b (rw c.in_default.is at c.in_ok-readable.ensures.found))
 
 pub returns-in_default-2-clause-asked : goal.returns-in_default-2-clause-asked
-returns-in_default-2-clause-asked c h =
+returns-in_default-2-clause-asked g c =
     let a : total_len (readable c.args.descriptors.now) ≤ c.args.limit = omega arith in
     let b : total_len (writable c.args.descriptors.now) ≤ c.args.limit = omega arith in
-    rw (asks_nothing_written h c.args.mem.now c.args.limit c.args.descriptors.now _ c.requires a b (rw c.in-Some.is at c.in_ok-readable.ensures.found) (rw c.in_default-2.is at c.in_ok-writable.ensures.found))
+    rw (asks_nothing_written (g.M.GuestMemory.memory c.args.mem.now c.args.host.now) c.args.limit c.args.descriptors.now _ c.requires.fits a b (rw c.in-Some.is at c.in_ok-readable.ensures.found) (rw c.in_default-2.is at c.in_ok-writable.ensures.found))
 
 pub invariant_of-result : goal.invariant_of-result
-invariant_of-result c =
+invariant_of-result g c =
     let a : total_len (readable c.args.descriptors.now) ≤ c.args.limit = omega arith in
     let b : total_len (writable c.args.descriptors.now) ≤ c.args.limit = omega arith in
-    let r = length-direction (place c.args.mem.now) (readable c.args.descriptors.now) _ (rw c.in-Some.is at c.in_ok-readable.ensures.found) in
-    let w = length-direction (place c.args.mem.now) (writable c.args.descriptors.now) _ (rw c.in-Some-2.is at c.in_ok-writable.ensures.found) in
+    let r = length-direction (location (g.M.GuestMemory.memory c.args.mem.now c.args.host.now) Read) (readable c.args.descriptors.now) _ (rw c.in-Some.is at c.in_ok-readable.ensures.found) in
+    let w = length-direction (location (g.M.GuestMemory.memory c.args.mem.now c.args.host.now) Write) (writable c.args.descriptors.now) _ (rw c.in-Some-2.is at c.in_ok-writable.ensures.found) in
     record { request_counted = omega arith; room_counted = omega arith }
 
 pub returns-clause-asked : goal.returns-clause-asked
-returns-clause-asked c h =
+returns-clause-asked g c =
     let a : total_len (readable c.args.descriptors.now) ≤ c.args.limit = omega arith in
     let b : total_len (writable c.args.descriptors.now) ≤ c.args.limit = omega arith in
     let room = rw c.in-Some-2.is at c.in_ok-writable.ensures.found in
-    rw (asks h c.args.mem.now c.args.limit c.args.descriptors.now _ _ c.requires a b (rw c.in-Some.is at c.in_ok-readable.ensures.found) room) (refl, sym room)
+    rw (asks (g.M.GuestMemory.memory c.args.mem.now c.args.host.now) c.args.limit c.args.descriptors.now _ _ c.requires.fits a b (rw c.in-Some.is at c.in_ok-readable.ensures.found) room) (refl, sym room)
 
 pub returns-clause-lie : goal.returns-clause-lie
-returns-clause-lie c lengths held = (rw c.in-Some.is at (c.in_ok-readable.ensures.lie lengths held), rw c.in-Some-2.is at (c.in_ok-writable.ensures.lie lengths held))
+returns-clause-lie g c = (rw c.in-Some.is at c.in_ok-readable.ensures.lie, rw c.in-Some-2.is at c.in_ok-writable.ensures.lie)
 
 pub returns-clause-windows : goal.returns-clause-windows
-returns-clause-windows c h = (refl, sym (rw c.in-Some.is at c.in_ok-readable.ensures.found), sym (rw c.in-Some-2.is at c.in_ok-writable.ensures.found))
+returns-clause-windows g c = (refl, sym (rw c.in-Some.is at c.in_ok-readable.ensures.found), sym (rw c.in-Some-2.is at c.in_ok-writable.ensures.found))

@@ -1,5 +1,4 @@
 use Rattle.std.proofs.Common.{◌≡◌, ◌+◌, IfSome}
-use Rattle.vm_memory.specs.Memory.{memory_of}
 use Rattle.fs_queue.specs.Queue.{at_position}
 use Rattle.fs_queue.specs.Chain.{chain, tables_left}
 use Rattle.fs_queue.specs.Walking.{AllEndIn64Bits, AreTheTable, EndsIn64Bits}
@@ -9,11 +8,11 @@ use Rattle.fs_queue.proofs.walk.walk.Given as goal
 abbrev pub invariant-loop-descriptors : goal.invariant-loop-descriptors
 invariant-loop-descriptors g l = record {
   chain :
-      prepend l.descriptors.items (rest_of (memory_of l.host l.mem) l.table l.index l.left)
-      ≡ chain (memory_of l.host l.mem) (at_position l.fn.layout 0) l.head;
+      prepend l.descriptors.items (rest_of (g.M.GuestMemory.memory l.mem l.host) l.table l.index l.left)
+      ≡ chain (g.M.GuestMemory.memory l.mem l.host) (at_position l.fn.layout 0) l.head;
   fit : AllEndIn64Bits l.descriptors.items;
   ends : EndsIn64Bits l.table;
-  whole : IfSome l.whole (λ b. AreTheTable (memory_of l.host l.mem) l.table b.now);
+  whole : IfSome l.whole (λ b. AreTheTable (g.M.GuestMemory.memory l.mem l.host) l.table b.now);
 }
 
 abbrev pub decreases-loop-descriptors : goal.decreases-loop-descriptors

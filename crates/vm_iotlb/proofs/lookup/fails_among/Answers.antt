@@ -18,7 +18,8 @@ returns-then-end-next-clause-misses c = λ table agree.
 pub returns-then-end-next-clause-access : goal.returns-then-end-next-clause-access
 returns-then-end-next-clause-access c = λ table agree.
     let left = nothing_left table c.args.access c.loop-range.next c.args.end (omega arith) in
-    all_done c.loop-range.access_fails.items (lacking table c.args.access c.loop-range.next (c.args.end - c.loop-range.next)) (lacking table c.args.access c.args.iova (c.args.end - c.args.iova)) left.1 (c.loop-range.invariant.access table agree)
+    all_done c.loop-range.access_fails.items (lacking table c.args.access c.loop-range.next (c.args.end - c.loop-range.next)) (lacking table c.args.access c.args.iova (c.args.end - c.args.iova))
+    left.1 (c.loop-range.invariant.access table agree)
 
 pub loop-range-preserved : goal.loop-range-preserved
 loop-range-preserved c =
@@ -38,16 +39,21 @@ loop-range-preserved c =
       misses = λ table agree.
           let rest : Agree table (r ∷ drop (i + 1) c.args.ranges.now) c.loop-range.next c.args.end = rw more at (c.loop-range.invariant.rest table agree) in
           let step = fails_step table c.args.access r (drop (i + 1) c.args.ranges.now) c.loop-range.next c.min-start.result c.min-stop.result c.args.end are rest (omega arith) first (omega arith) (omega arith) in
-          pushed c.loop-range.misses.items c.push_between.new.ranges.items (between c.loop-range.next c.min-start.result) (missing table c.loop-range.next (c.args.end - c.loop-range.next)) (missing table c.min-stop.result (c.args.end - c.min-stop.result)) (missing table c.args.iova (c.args.end - c.args.iova)) c.in_ok-push_between.ensures step.0 (c.loop-range.invariant.misses table agree);
+          pushed c.loop-range.misses.items c.push_between.new.ranges.items (between c.loop-range.next c.min-start.result) (missing table c.loop-range.next (c.args.end - c.loop-range.next))
+          (missing table c.min-stop.result (c.args.end - c.min-stop.result)) (missing table c.args.iova (c.args.end - c.args.iova)) c.in_ok-push_between.ensures step.0
+          (c.loop-range.invariant.misses table agree);
       access = λ table agree.
           let rest : Agree table (r ∷ drop (i + 1) c.args.ranges.now) c.loop-range.next c.args.end = rw more at (c.loop-range.invariant.rest table agree) in
           let step = fails_step table c.args.access r (drop (i + 1) c.args.ranges.now) c.loop-range.next c.min-start.result c.min-stop.result c.args.end are rest (omega arith) first (omega arith) (omega arith) in
-          let part : lacking table c.args.access c.loop-range.next (c.args.end - c.loop-range.next) ≡ between c.if-allow.denied c.min-stop.result ++ lacking table c.args.access c.min-stop.result (c.args.end - c.min-stop.result) =
+          let part : lacking table c.args.access c.loop-range.next (c.args.end - c.loop-range.next) ≡ between c.if-allow.denied c.min-stop.result ++ lacking table c.args.access c.min-stop.result
+          (c.args.end - c.min-stop.result) =
           elim c.if-allow.branch [
             | then-allow w ↦ rw w.denied-is (step.1 (sym w.if-allow.ensures))
             | else-allow w ↦ rw w.denied-is (step.2 (sym w.if-allow.ensures))
           ] in
-          pushed c.loop-range.access_fails.items c.push_between-in-loop-range.new.ranges.items (between c.if-allow.denied c.min-stop.result) (lacking table c.args.access c.loop-range.next (c.args.end - c.loop-range.next)) (lacking table c.args.access c.min-stop.result (c.args.end - c.min-stop.result)) (lacking table c.args.access c.args.iova (c.args.end - c.args.iova)) c.in_ok-push_between-2.ensures part (c.loop-range.invariant.access table agree);
+          pushed c.loop-range.access_fails.items c.push_between-in-loop-range.new.ranges.items (between c.if-allow.denied c.min-stop.result)
+          (lacking table c.args.access c.loop-range.next (c.args.end - c.loop-range.next)) (lacking table c.args.access c.min-stop.result (c.args.end - c.min-stop.result))
+          (lacking table c.args.access c.args.iova (c.args.end - c.args.iova)) c.in_ok-push_between-2.ensures part (c.loop-range.invariant.access table agree);
     }
 
 pub returns-clause-misses : goal.returns-clause-misses
@@ -62,4 +68,5 @@ returns-clause-access c = λ table agree.
     let none = drop_past c.args.ranges.now c.loop-range.range-index (omega arith) in
     let rest = rw none at (c.loop-range.invariant.rest table agree) in
     let left = fails_end table c.args.access c.loop-range.next c.args.end rest in
-    all_done c.loop-range.access_fails.items (lacking table c.args.access c.loop-range.next (c.args.end - c.loop-range.next)) (lacking table c.args.access c.args.iova (c.args.end - c.args.iova)) left.1 (c.loop-range.invariant.access table agree)
+    all_done c.loop-range.access_fails.items (lacking table c.args.access c.loop-range.next (c.args.end - c.loop-range.next)) (lacking table c.args.access c.args.iova (c.args.end - c.args.iova))
+    left.1 (c.loop-range.invariant.access table agree)

@@ -56,7 +56,8 @@ loop-range-preserved c =
           agree_rest table r (drop (i + 1) c.args.ranges.now) c.loop-range.next c.min-next.result c.args.end rest (omega arith) (λ left. omega arith);
       all = λ table agree.
           let rest : Agree table (r ∷ drop (i + 1) c.args.ranges.now) c.loop-range.next c.args.end = rw more at (c.loop-range.invariant.rest table agree) in
-          c.loop-range.invariant.all table agree ∙ may_range table c.args.access r (drop (i + 1) c.args.ranges.now) c.loop-range.next c.min-next.result c.args.end rest (omega arith) (omega arith) (omega arith) (omega arith) allowed;
+          c.loop-range.invariant.all table agree ∙ may_range table c.args.access r (drop (i + 1) c.args.ranges.now) c.loop-range.next c.min-next.result c.args.end rest (omega arith) (omega arith)
+          (omega arith) (omega arith) allowed;
     }
 
 pub returns : goal.returns

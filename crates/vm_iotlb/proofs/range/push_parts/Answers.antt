@@ -40,5 +40,6 @@ loop-range-preserved c =
           let front = ends_front (take i c.args.others.now) r e both in
           c.in_ok-push_part.ensures.ends e (c.loop-range.invariant.ends e low front.0) (omega (arith, front.1));
       top = c.in_ok-push_part.ensures.ends c.args.to c.loop-range.invariant.top (omega arith);
-      table = λ a. rw more (parts_step (take i c.args.others.now) r (nat_le c.args.from a && nat_lt a c.args.to) a (table_kept c.args.ranges.now.items a) (table_kept c.loop-range.ranges.items a) (table_kept c.push_part.new.ranges.items a) is.1 (c.in_ok-push_part.ensures.table a) (c.loop-range.invariant.table a));
+      table = λ a. rw more (parts_step (take i c.args.others.now) r (nat_le c.args.from a && nat_lt a c.args.to) a (table_kept c.args.ranges.now.items a) (table_kept c.loop-range.ranges.items a)
+          (table_kept c.push_part.new.ranges.items a) is.1 (c.in_ok-push_part.ensures.table a) (c.loop-range.invariant.table a));
     }

@@ -25,12 +25,14 @@ pub returns-then-goes_on_in-clause-ends : goal.returns-then-goes_on_in-clause-en
 returns-then-goes_on_in-clause-ends c =
     let ends : EndBy c.args.range.start (c.pop.new.self.items ++ c.in-Some.last ∷ []) = rw c.in-Some.ensures.items at c.requires.ends in
     let front = ends_front c.pop.new.self.items c.in-Some.last c.args.range.start ends in
-    rw c.in_ok-push-2.ensures.items (ends_push c.pop.new.self.items (record c.in-Some.last { end = c.args.range.end }) c.args.range.end (ends_higher c.pop.new.self.items c.args.range.start c.args.range.end front.0 (omega (arith, c.requires.range.0))) (omega arith))
+    rw c.in_ok-push-2.ensures.items (ends_push c.pop.new.self.items (record c.in-Some.last { end = c.args.range.end }) c.args.range.end
+    (ends_higher c.pop.new.self.items c.args.range.start c.args.range.end front.0 (omega (arith, c.requires.range.0))) (omega arith))
 
 pub returns-then-goes_on_in-clause-table : goal.returns-then-goes_on_in-clause-table
 returns-then-goes_on_in-clause-table c = λ a.
     let are : AreRanges (c.pop.new.self.items ++ c.in-Some.last ∷ []) = rw c.in-Some.ensures.items at c.requires.ranges in
-    rw (c.in_ok-push-2.ensures.items, c.in-Some.ensures.items) (table_joined c.pop.new.self.items c.in-Some.last c.args.range (record c.in-Some.last { end = c.args.range.end }) a are c.requires.range c.if-goes_on_in.ensures.one refl refl refl refl)
+    rw (c.in_ok-push-2.ensures.items, c.in-Some.ensures.items) (table_joined c.pop.new.self.items c.in-Some.last c.args.range (record c.in-Some.last { end = c.args.range.end }) a are c.requires.range
+    c.if-goes_on_in.ensures.one refl refl refl refl)
 
 pub returns-clause-ranges : goal.returns-clause-ranges
 returns-clause-ranges c =
@@ -42,7 +44,9 @@ returns-clause-ranges c =
 pub returns-clause-ends : goal.returns-clause-ends
 returns-clause-ends c =
     let ends : EndBy c.args.range.start (c.pop.new.self.items ++ c.in-Some.last ∷ []) = rw c.in-Some.ensures.items at c.requires.ends in
-    rw (c.in_ok-push-4.ensures.items, c.in_ok-push-3.ensures.items) (ends_push (c.pop.new.self.items ++ c.in-Some.last ∷ []) c.args.range c.args.range.end (ends_higher (c.pop.new.self.items ++ c.in-Some.last ∷ []) c.args.range.start c.args.range.end ends (omega (arith, c.requires.range.0))) (omega arith))
+    rw (c.in_ok-push-4.ensures.items, c.in_ok-push-3.ensures.items)
+    (ends_push (c.pop.new.self.items ++ c.in-Some.last ∷ []) c.args.range c.args.range.end
+    (ends_higher (c.pop.new.self.items ++ c.in-Some.last ∷ []) c.args.range.start c.args.range.end ends (omega (arith, c.requires.range.0))) (omega arith))
 
 pub returns-clause-table : goal.returns-clause-table
 returns-clause-table c = λ a.

@@ -27,8 +27,10 @@ loop-range-preserved g c =
       good = all_more c.args.ranges.now c.loop-range.range-index no_range _ c.loop-range-test.true refl c.loop-range.invariant.good made.0 made.1;
       host = grown_more g.B.NewBitmap.count c.args.host.now c.loop-range.host c.from_range.new.h c.args.ranges.now c.loop-range.range-index no_range _ c.loop-range-test.true refl c.loop-range.invariant.host made.3;
       made = regions_more _ _ c.args.ranges.now c.loop-range.range-index (length c.args.host.now.blocks) _ no_range _ c.in-Ok-from_range.region c.loop-range-test.true refl c.loop-range.invariant.made made.2
-          (ap (λ (h : Host). length h.blocks) c.loop-range.invariant.host ∙ count) (shared-push c.loop-range.regions.items c.push.new.self.items c.in-Ok-new.region c.in-Ok-from_range.region c.in-Ok-push.ensures.items c.in-Ok-new.ensures.ok);
+          (ap (λ (h : Host). length h.blocks) c.loop-range.invariant.host ∙ count)
+          (shared-push c.loop-range.regions.items c.push.new.self.items c.in-Ok-new.region c.in-Ok-from_range.region c.in-Ok-push.ensures.items c.in-Ok-new.ensures.ok);
     }
 
 pub returns-in-Err : goal.returns-in-Err
-returns-in-Err g c = refused_at g.B.NewBitmap.count c.args.host.now c.loop-range.host c.from_range.new.h c.args.ranges.now c.loop-range.range-index no_range _ c.in-Err.error c.loop-range-test.true refl c.loop-range.invariant.good c.loop-range.invariant.host c.in-Err.ensures.made
+returns-in-Err g c = refused_at g.B.NewBitmap.count c.args.host.now c.loop-range.host c.from_range.new.h c.args.ranges.now c.loop-range.range-index no_range _ c.in-Err.error c.loop-range-test.true
+    refl c.loop-range.invariant.good c.loop-range.invariant.host c.in-Err.ensures.made

@@ -15,13 +15,15 @@ io_window-requires g c =
 
 pub returns-in_default : goal.returns-in_default
 returns-in_default g c =
-    let none = count_none (location (io_memory c.args.h.now (g.M.GuestMemoryBackend.layout c.args.backend.now) c.args.table c.args.set) c.args.access) c.args.addr c.loop-done.done c.args.len (c.args.addr + c.loop-done.done) (omega (arith, c.requires.0)) c.loop-done-test.true (c.io_window.ensures.none c.in_default.is) in
+    let none = count_none (location (io_memory c.args.h.now (g.M.GuestMemoryBackend.layout c.args.backend.now) c.args.table c.args.set) c.args.access) c.args.addr c.loop-done.done c.args.len
+    (c.args.addr + c.loop-done.done) (omega (arith, c.requires.0)) c.loop-done-test.true (c.io_window.ensures.none c.in_default.is) in
     omega (arith, none, c.loop-done.invariant.count)
 
 pub loop-done-preserved : goal.loop-done-preserved
 loop-done-preserved g c =
     let le : c.loop-done.done + c.in-Some.window.len ≤ c.args.len = omega (arith, c.in-Some.ensures.some.1) in
-    let step = count_step (location (io_memory c.args.h.now (g.M.GuestMemoryBackend.layout c.args.backend.now) c.args.table c.args.set) c.args.access) c.args.addr c.loop-done.done c.args.len c.in-Some.window.len (c.args.addr + c.loop-done.done) _ (omega (arith, c.requires.0)) c.in-Some.ensures.some.2 le c.in-Some.ensures.some.3 in
+    let step = count_step (location (io_memory c.args.h.now (g.M.GuestMemoryBackend.layout c.args.backend.now) c.args.table c.args.set) c.args.access) c.args.addr c.loop-done.done c.args.len
+    c.in-Some.window.len (c.args.addr + c.loop-done.done) _ (omega (arith, c.requires.0)) c.in-Some.ensures.some.2 le c.in-Some.ensures.some.3 in
     rw c.len-done.ensures.len (record { within = le; count = step ∙ c.loop-done.invariant.count })
 
 pub returns : goal.returns

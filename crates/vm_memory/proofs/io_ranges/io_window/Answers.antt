@@ -10,7 +10,8 @@ use Rattle.vm_memory.proofs.io_ranges.io_window.Goals as goal
 
 pub returns-in_default-clause-none : goal.returns-in_default-clause-none
 returns-in_default-clause-none g c none =
-    absurd (no_table (slice_get c.args.h.now.tables c.args.table) c.args.addr c.args.most c.args.access (sym c.table.ensures ∙ ap (option_map (λ (t : Bor (List IotlbRange)). t.now)) c.in_default.is) c.requires.0 c.requires.2)
+    absurd (no_table (slice_get c.args.h.now.tables c.args.table) c.args.addr c.args.most c.args.access (sym c.table.ensures ∙ ap (option_map (λ (t : Bor (List IotlbRange)). t.now)) c.in_default.is)
+    c.requires.0 c.requires.2)
 
 pub returns-clause-some : goal.returns-clause-some
 returns-clause-some g c =

@@ -12,7 +12,8 @@ use Rattle.vm_memory.proofs.io_ranges.push_io.Goals as goal
 pub loop-done-init : goal.loop-done-init
 loop-done-init g c = record {
   within = omega arith;
-  found = ap (λ as'. after (places c.args.windows.now.items) (located (location (io_memory c.args.h.now (g.M.GuestMemoryBackend.layout c.args.backend.now) c.args.table c.args.set) c.args.access) as')) (circular_all c.args.addr c.args.len);
+  found = ap (λ as'. after (places c.args.windows.now.items) (located (location (io_memory c.args.h.now (g.M.GuestMemoryBackend.layout c.args.backend.now) c.args.table c.args.set) c.args.access)
+      as')) (circular_all c.args.addr c.args.len);
   longest = ([], sym (append-nil c.args.windows.now.items), tt, sym (circular_all c.args.addr c.args.len));
   held = λ lengths held all. all;
 }
@@ -20,7 +21,8 @@ loop-done-init g c = record {
 pub returns-in_default-clause-found : goal.returns-in_default-clause-found
 returns-in_default-clause-found g c =
     sym c.loop-done.invariant.found
-    ∙ find_none (location (io_memory c.args.h.now (g.M.GuestMemoryBackend.layout c.args.backend.now) c.args.table c.args.set) c.args.access) c.args.addr c.loop-done.done c.args.len (c.args.addr + c.loop-done.done) (places c.loop-done.windows.items) (omega (arith, c.requires.0)) c.loop-done-test.true (c.io_window.ensures.none c.in_default.is)
+    ∙ find_none (location (io_memory c.args.h.now (g.M.GuestMemoryBackend.layout c.args.backend.now) c.args.table c.args.set) c.args.access) c.args.addr c.loop-done.done c.args.len
+    (c.args.addr + c.loop-done.done) (places c.loop-done.windows.items) (omega (arith, c.requires.0)) c.loop-done-test.true (c.io_window.ensures.none c.in_default.is)
 
 pub returns-in_default-clause-longest : goal.returns-in_default-clause-longest
 returns-in_default-clause-longest g c = let so = c.loop-done.invariant.longest in (so.0, so.1, so.2)
@@ -40,8 +42,12 @@ loop-done-preserved g c =
     ap places c.in_ok-push.ensures.ok ∙ sym (flat_map_more places_of [] c.loop-done.windows.items c.in-Some.window) in
     rw c.len-done.ensures.len (record {
       within = le;
-      found = find_step (location (io_memory c.args.h.now (g.M.GuestMemoryBackend.layout c.args.backend.now) c.args.table c.args.set) c.args.access) c.args.addr c.loop-done.done c.args.len c.in-Some.window.len (c.args.addr + c.loop-done.done) _ (places c.loop-done.windows.items) (places c.push.new.self.items) (omega (arith, c.requires.0)) c.in-Some.ensures.some.2 le c.in-Some.ensures.some.3 more ∙ c.loop-done.invariant.found;
-      longest = longest_step (translated_left (g.M.GuestMemoryBackend.layout c.args.backend.now) (table_in c.args.h.now c.args.table)) c.args.addr c.loop-done.done c.args.len (c.args.addr + c.loop-done.done) c.args.windows.now.items c.loop-done.windows.items c.push.new.self.items c.in-Some.window c.loop-done.invariant.longest (omega (arith, c.requires.0)) c.in-Some.ensures.some.0 c.in-Some.ensures.longest c.in_ok-push.ensures.ok;
+      found = find_step (location (io_memory c.args.h.now (g.M.GuestMemoryBackend.layout c.args.backend.now) c.args.table c.args.set) c.args.access) c.args.addr c.loop-done.done c.args.len
+          c.in-Some.window.len (c.args.addr + c.loop-done.done) _ (places c.loop-done.windows.items) (places c.push.new.self.items) (omega (arith, c.requires.0)) c.in-Some.ensures.some.2 le
+          c.in-Some.ensures.some.3 more ∙ c.loop-done.invariant.found;
+      longest = longest_step (translated_left (g.M.GuestMemoryBackend.layout c.args.backend.now) (table_in c.args.h.now c.args.table)) c.args.addr c.loop-done.done c.args.len
+          (c.args.addr + c.loop-done.done) c.args.windows.now.items c.loop-done.windows.items c.push.new.self.items c.in-Some.window c.loop-done.invariant.longest (omega (arith, c.requires.0))
+          c.in-Some.ensures.some.0 c.in-Some.ensures.longest c.in_ok-push.ensures.ok;
       held = λ lengths held old.
           rw c.in_ok-push.ensures.ok (All-push (LiesIn lengths) _ _ (c.loop-done.invariant.held lengths held old) (c.in-Some.ensures.held lengths held));
     })
@@ -49,7 +55,8 @@ loop-done-preserved g c =
 pub returns-clause-found : goal.returns-clause-found
 returns-clause-found g c =
     sym c.loop-done.invariant.found
-    ∙ find_end (location (io_memory c.args.h.now (g.M.GuestMemoryBackend.layout c.args.backend.now) c.args.table c.args.set) c.args.access) c.args.addr c.loop-done.done c.args.len (places c.loop-done.windows.items) c.loop-done-test.false
+    ∙ find_end (location (io_memory c.args.h.now (g.M.GuestMemoryBackend.layout c.args.backend.now) c.args.table c.args.set) c.args.access) c.args.addr c.loop-done.done c.args.len
+    (places c.loop-done.windows.items) c.loop-done-test.false
 
 pub returns-clause-longest : goal.returns-clause-longest
 returns-clause-longest g c = let so = c.loop-done.invariant.longest in (so.0, so.1, so.2)

@@ -22,7 +22,8 @@ returns-in-Some-window_at-clause-some g c =
       some.0,
       omega (arith, some.1, first.1, most),
       omega (arith, some.1, first.1, most, c.requires.ends),
-      window_translated c.args.most c.args.addr w.len (table_kept c.args.table.now) c.args.access (g.M.GuestMemoryBackend.layout c.args.backend.now) c.args.set w c.requires.mapped (omega (arith, some.1, first.1)) refl there,
+      window_translated c.args.most c.args.addr w.len (table_kept c.args.table.now) c.args.access (g.M.GuestMemoryBackend.layout c.args.backend.now) c.args.set w c.requires.mapped
+          (omega (arith, some.1, first.1)) refl there,
     )
 
 pub returns-in-Some-window_at-clause-longest : goal.returns-in-Some-window_at-clause-longest
@@ -31,7 +32,8 @@ returns-in-Some-window_at-clause-longest g c =
     let layout = g.M.GuestMemoryBackend.layout c.args.backend.now in
     let first = first_piece c.args.most c.args.addr table c.in-Some.piece _ c.requires.some (sym c.in-Ok.ensures.found.2 ∙ c.in-Some.ensures.steps) in
     let len = c.in-Some-window_at.ensures.longest in
-    rw c.replace_bitmap.ensures (translated_len c.args.most c.args.addr c.in-Some-window_at.window.len (left_at layout c.in-Some.piece.base.0) table layout (omega (arith, c.requires.ends)) (ap (left_at layout) first.0) (omega (arith, len, first.1)))
+    rw c.replace_bitmap.ensures (translated_len c.args.most c.args.addr c.in-Some-window_at.window.len (left_at layout c.in-Some.piece.base.0) table layout (omega (arith, c.requires.ends))
+    (ap (left_at layout) first.0) (omega (arith, len, first.1)))
 
 pub returns-in-None-clause-none : goal.returns-in-None-clause-none
 returns-in-None-clause-none g c none =

@@ -1,6 +1,6 @@
 use Rattle.std.proofs.Common.{◌≡◌, ◌++◌, ◌∷◌, ◌∙◌, [], map, arith, ap, rules}
 use Rattle.std.proofs.lemmas.List.{map-append}
-use Rattle.fs_device.specs.CommandView.{turn_of}
+use Rattle.fs_device.specs.CommandView.{exchanged_of}
 use Rattle.fs_device.proofs.KickLemmas.{ends_idle, ends_refused, ends_full, goes_on}
 use Rattle.fs_device.proofs.device.Device.process_queue.Goals as goal
 
@@ -19,14 +19,14 @@ returns-in-Err-clause-run g c = (
 pub loop-preserved : goal.loop-preserved
 loop-preserved g c =
     let pushed : c.push.new.self.items ≡ c.loop.done.items ++ c.in-Ok-Some.exchanged ∷ [] = rw c.unwrap.ensures at c.push.ensures.items in
-    let turns : map turn_of c.push.new.self.items ≡ map turn_of c.loop.done.items ++ turn_of c.in-Ok-Some.exchanged ∷ [] =
-    ap (map turn_of) pushed ∙ map-append turn_of c.loop.done.items (c.in-Ok-Some.exchanged ∷ []) in
+    let turns : map exchanged_of c.push.new.self.items ≡ map exchanged_of c.loop.done.items ++ exchanged_of c.in-Ok-Some.exchanged ∷ [] =
+    ap (map exchanged_of) pushed ∙ map-append exchanged_of c.loop.done.items (c.in-Ok-Some.exchanged ∷ []) in
     record {
       count = Prim.search rules;
       most = omega arith;
       room = Prim.search rules;
       kept = Prim.search rules;
-      run = rw turns (goes_on g.F.FileSystemBase.may _ _ _ c.args.queue c.args.most _ _ (map turn_of c.loop.done.items) (turn_of c.in-Ok-Some.exchanged) _ c.loop.invariant.run (omega (arith, c.loop-test.true)) (rw c.in-Ok-Some.field-0-is at c.in-Ok-Some.ensures.step.1));
+      run = rw turns (goes_on g.F.FileSystemBase.may _ _ _ c.args.queue c.args.most _ _ (map exchanged_of c.loop.done.items) (exchanged_of c.in-Ok-Some.exchanged) _ c.loop.invariant.run (omega (arith, c.loop-test.true)) (rw c.in-Ok-Some.field-0-is at c.in-Ok-Some.ensures.step.1));
     }
 
 pub returns-clause-run : goal.returns-clause-run

@@ -3,8 +3,7 @@ use Rattle.vm_memory_core.specs.Host.{shape}
 use Rattle.fs_device.specs.declared.error.DeviceError.{DeviceError}
 use Rattle.fs_device.specs.Step.{State, Exchange}
 use Rattle.fs_device.specs.DeviceView.{state_of}
-use Rattle.fs_device.specs.Run.{KickRun}
-use Rattle.fs_device.specs.CommandView.{turn_of}
+use Rattle.fs_device.specs.CommandView.{exchanged_of, KickLists}
 use Rattle.fs_device.proofs.device.Device.process_queue.Given as goal
 
 abbrev pub invariant-loop : goal.invariant-loop
@@ -14,6 +13,6 @@ invariant-loop g l = record {
   room : l.most ≤ vec_capacity l.done;
   kept : shape l.host ≡ shape l.initial.host;
   run : (rest : List (Exchange × Bool)) (refused : Option DeviceError) (after : State _) →
-      KickRun g.F.FileSystemBase.may (state_of l.host l.mem l.self) l.queue (l.most - l.counter) rest refused after →
-      KickRun g.F.FileSystemBase.may (state_of l.initial.host l.mem l.initial.self) l.queue l.most (map turn_of l.done.items ++ rest) refused after;
+      KickLists g.F.FileSystemBase.may (state_of l.host l.mem l.self) l.queue (l.most - l.counter) rest refused after →
+      KickLists g.F.FileSystemBase.may (state_of l.initial.host l.mem l.initial.self) l.queue l.most (map exchanged_of l.done.items ++ rest) refused after;
 }

@@ -12,5 +12,11 @@ returns-in-Ok-clause-ok g c =
     let front : take c.len-from.result c.deref_mut.result.now ≡ c.args.out.now.items = grind (arith, common_steps) in
     let long : c.len-from.result ≤ length c.deref_mut.result.now = grind (arith, common_steps) in
     let whole : c.len-from.result + c.in-Ok.n ≤ c.resize.new.self.len = grind (arith, common_steps) in
-    let asked = sym c.read_at.auto.buf ∙ size in
-    (take c.in-Ok.n c.read_at.new.buf, c.truncate.ensures.items ∙ kept _ _ _ _ _ _ _ long fits whole ∙ ap (λ s. s ++ take c.in-Ok.n c.read_at.new.buf) front, sym (length-take-le _ _ fits), within, rw asked at c.in-Ok.ensures.gives)
+    let asked = sym c.read_at.auto.buf ∙ size in (
+      take c.in-Ok.n c.read_at.new.buf,
+      c.truncate.ensures.items ∙ kept _ _ _ _ _ _ _ long fits whole ∙ ap (λ s. s ++ take c.in-Ok.n c.read_at.new.buf) front,
+      sym (length-take-le _ _ fits),
+      within,
+      rw
+          asked at c.in-Ok.ensures.gives,
+    )

@@ -15,7 +15,8 @@ pub returns-then-offset-segment-clause-behind : goal.returns-then-offset-segment
 returns-then-offset-segment-clause-behind c =
     let i = c.self.inside in
     let same : c.replace-later.result.items ≡ i.later.items = grind (arith, common_steps) in
-    cut_behind i.first.now _ i.later.items c.replace-later.result.items c.args.offset c.args.self.now.segments c.over.result.segments (ap (λ (r : ReaderView). r.segments) c.self.view_is) c.if-offset-segment.true same (search (rules, places)) c.over.ensures.segments
+    cut_behind i.first.now _ i.later.items c.replace-later.result.items c.args.offset c.args.self.now.segments c.over.result.segments (ap (λ (r : ReaderView). r.segments) c.self.view_is)
+    c.if-offset-segment.true same (search (rules, places)) c.over.ensures.segments
 
 pub returns-clause-segments : goal.returns-clause-segments
 returns-clause-segments c =
@@ -29,4 +30,5 @@ returns-clause-behind c =
     let i = c.self.inside in
     let short : length i.first.now ≤ c.args.offset = omega (arith, c.if-offset-segment.false) in
     let queue : c.swap.new.x.items ≡ c.take_front.new.queue.items = grind (arith, common_steps) in
-    long_behind i.first.now i.later.items c.args.offset c.args.self.now.segments _ c.over-2.result.segments (ap (λ (r : ReaderView). r.segments) c.self.view_is) short c.in_ok-later.ensures.behind (rw queue at c.over-2.ensures.segments)
+    long_behind i.first.now i.later.items c.args.offset c.args.self.now.segments _ c.over-2.result.segments (ap (λ (r : ReaderView). r.segments) c.self.view_is) short c.in_ok-later.ensures.behind
+    (rw queue at c.over-2.ensures.segments)

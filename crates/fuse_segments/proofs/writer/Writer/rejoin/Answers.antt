@@ -20,7 +20,8 @@ invariant_of-self c =
     let free = ap (λ (v : WriterView). v.free) c.other.view_is in
     let seen : c.deref-3.result.now ≡ c.extend_from_slice-2.new.self.items = c.deref-3.ensures in
     let here = joined_before i.segments.items o.segments.items i.place.segment i.place.used c.self.invariant.6.there in
-    let before_is_joined : bytes_before c.extend_from_slice-2.new.self.items b.result.segment b.result.used ≡ bytes_before (i.segments.items ++ o.segments.items) i.place.segment i.place.used + c.args.count = rw all (rw (seen, all) at b.ensures.before) in (
+    let before_is_joined : bytes_before c.extend_from_slice-2.new.self.items b.result.segment b.result.used ≡ bytes_before (i.segments.items ++ o.segments.items) i.place.segment i.place.used +
+    c.args.count = rw all (rw (seen, all) at b.ensures.before) in (
       omega (arith, len, full, long, c.requires.count, c.other.invariant.0),
       grind (arith, common_steps, len, full, long, free, spare, c.requires.bytes, c.self.invariant.1, c.other.invariant.0),
       grind (arith, common_steps, c.self.invariant.2, c.requires.segments, ap (λ (v : WriterView). v.rejoin) c.self.view_is, ap (λ (v : WriterView). length v.segments) c.other.view_is),

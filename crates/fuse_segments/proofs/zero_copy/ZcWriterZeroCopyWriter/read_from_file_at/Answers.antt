@@ -24,7 +24,8 @@ pub returns-then-n-eq0 : goal.returns-then-n-eq0
 returns-then-n-eq0 g c =
     let e = c.in_ok-n.ensures.once in
     let l = c.loop-done.invariant in
-    so_far_stops g.F.PositionedFile.read_gives _ _ _ _ _ _ _ _ _ _ e.0 _ _ l.offered l.so_far e.3 (added c.loop-done.self.writer c.read_from_file_at.new.self e.0 e.1 e.2 c.in_ok-n.ensures.segments) c.if-n-eq0.true c.in-Some.ensures.1 (omega arith)
+    so_far_stops g.F.PositionedFile.read_gives _ _ _ _ _ _ _ _ _ _ e.0 _ _ l.offered l.so_far e.3 (added c.loop-done.self.writer c.read_from_file_at.new.self e.0 e.1 e.2 c.in_ok-n.ensures.segments)
+    c.if-n-eq0.true c.in-Some.ensures.1 (omega arith)
 
 pub loop-done-preserved : goal.loop-done-preserved
 loop-done-preserved g c =
@@ -32,7 +33,8 @@ loop-done-preserved g c =
     let l = c.loop-done.invariant in
     record {
       offered = l.offered;
-      so_far = so_far_goes g.F.PositionedFile.read_gives _ _ _ _ _ _ _ _ _ _ e.0 _ _ l.offered l.so_far e.3 (added c.loop-done.self.writer c.read_from_file_at.new.self e.0 e.1 e.2 c.in_ok-n.ensures.segments) c.if-n-eq0.false c.in-Some.ensures.1;
+      so_far = so_far_goes g.F.PositionedFile.read_gives _ _ _ _ _ _ _ _ _ _ e.0 _ _ l.offered l.so_far e.3
+          (added c.loop-done.self.writer c.read_from_file_at.new.self e.0 e.1 e.2 c.in_ok-n.ensures.segments) c.if-n-eq0.false c.in-Some.ensures.1;
     }
 
 pub returns-in_err-n : goal.returns-in_err-n
@@ -40,4 +42,5 @@ returns-in_err-n g c =
     let e = c.in_err-n.ensures.once in
     let l = c.loop-done.invariant in
     let failed : c.from_residual.result ≡ Err c.in_err-n.field-0.0 = search rules in
-    rw failed (so_far_fails g.F.PositionedFile.read_gives _ _ _ _ _ _ _ _ _ _ e.0 _ _ l.offered l.so_far e.3 (added c.loop-done.self.writer c.read_from_file_at.new.self e.0 e.1 e.2 c.in_err-n.ensures.segments) c.in-Some.ensures.1 (omega arith))
+    rw failed (so_far_fails g.F.PositionedFile.read_gives _ _ _ _ _ _ _ _ _ _ e.0 _ _ l.offered l.so_far e.3
+    (added c.loop-done.self.writer c.read_from_file_at.new.self e.0 e.1 e.2 c.in_err-n.ensures.segments) c.in-Some.ensures.1 (omega arith))

@@ -7,7 +7,8 @@ use Rattle.vm_iotlb.proofs.iotlb.Iotlb.lookup.Goals as goal
 pub over-requires : goal.over-requires
 over-requires c =
     let agree : Agree (table_kept c.args.self.now) c.ranges_from-ranges.result.now c.args.iova.0 c.in-Some.end = λ x from to. c.ranges_from-ranges.ensures.table x from in
-    cover (table_kept c.args.self.now) c.args.access c.ranges_from-ranges.result.now c.args.iova.0 c.in-Some.end c.ranges_from-ranges.ensures.ranges c.ranges_from-ranges.ensures.first (omega (arith, c.in-Some.ensures)) agree (sym (c.if-is_covered.ensures (table_kept c.args.self.now) agree))
+    cover (table_kept c.args.self.now) c.args.access c.ranges_from-ranges.result.now c.args.iova.0 c.in-Some.end c.ranges_from-ranges.ensures.ranges c.ranges_from-ranges.ensures.first
+    (omega (arith, c.in-Some.ensures)) agree (sym (c.if-is_covered.ensures (table_kept c.args.self.now) agree))
 
 pub returns-then-is_covered-clause-found : goal.returns-then-is_covered-clause-found
 returns-then-is_covered-clause-found c =

@@ -14,10 +14,12 @@ invariant_of-result g c =
     let lawful : IsLawful r = subst IsLawful first c.start_addr-start.ensures.lawful in
     let start : c.start_addr-start.result.0 ≡ r.start = c.start_addr-start.ensures.start ∙ ap (λ (x : Region). x.start) first in
     let last : c.last_addr-last.result.0 ≡ r.start + r.size - 1 = c.last_addr-last.ensures.last ∙ ap (λ (x : Region). x.start + x.size - 1) second in
-    let apart : list_any (overlap r) c.args.self.now ≡ false = sym (any-block c.args.self.now r c.start_addr-start.result.0 (c.last_addr-last.result.0 - c.start_addr-start.result.0 + 1) (sym start) (omega arith)) ∙ sym c.if-collides.ensures in
+    let apart : list_any (overlap r) c.args.self.now ≡ false = sym
+    (any-block c.args.self.now r c.start_addr-start.result.0 (c.last_addr-last.result.0 - c.start_addr-start.result.0 + 1) (sym start) (omega arith)) ∙ sym c.if-collides.ensures in
     let left = ap (regions_of g.R.GuestMemoryRegion.region) c.in-Ok-insert.ensures.items ∙ shared-insert g.R.GuestMemoryRegion.region c.in-Ok.regions.items c.begun-at.result c.args.region
     ∙ ap (λ (l : List Region). insert l c.begun-at.result r) c.in-Ok.ensures
-    ∙ with_region-insert c.args.self.now c.begun-at.result r c.begun-at.ensures.layout c.begun-at.ensures.most (λ some. omega (arith, c.begun-at.ensures.below some)) (λ within. omega (arith, c.begun-at.ensures.above within)) in
+    ∙ with_region-insert c.args.self.now c.begun-at.result r c.begun-at.ensures.layout c.begun-at.ensures.most (λ some. omega (arith, c.begun-at.ensures.below some))
+    (λ within. omega (arith, c.begun-at.ensures.above within)) in
     subst IsLayout (sym left) (layout_with c.args.self.now r c.begun-at.ensures.layout lawful apart)
 
 pub returns-in-Ok-insert : goal.returns-in-Ok-insert
@@ -28,8 +30,10 @@ returns-in-Ok-insert g c =
     let lawful : IsLawful r = subst IsLawful first c.start_addr-start.ensures.lawful in
     let start : c.start_addr-start.result.0 ≡ r.start = c.start_addr-start.ensures.start ∙ ap (λ (x : Region). x.start) first in
     let last : c.last_addr-last.result.0 ≡ r.start + r.size - 1 = c.last_addr-last.ensures.last ∙ ap (λ (x : Region). x.start + x.size - 1) second in
-    let apart : list_any (overlap r) c.args.self.now ≡ false = sym (any-block c.args.self.now r c.start_addr-start.result.0 (c.last_addr-last.result.0 - c.start_addr-start.result.0 + 1) (sym start) (omega arith)) ∙ sym c.if-collides.ensures in
+    let apart : list_any (overlap r) c.args.self.now ≡ false = sym
+    (any-block c.args.self.now r c.start_addr-start.result.0 (c.last_addr-last.result.0 - c.start_addr-start.result.0 + 1) (sym start) (omega arith)) ∙ sym c.if-collides.ensures in
     let left = ap (regions_of g.R.GuestMemoryRegion.region) c.in-Ok-insert.ensures.items ∙ shared-insert g.R.GuestMemoryRegion.region c.in-Ok.regions.items c.begun-at.result c.args.region
     ∙ ap (λ (l : List Region). insert l c.begun-at.result r) c.in-Ok.ensures
-    ∙ with_region-insert c.args.self.now c.begun-at.result r c.begun-at.ensures.layout c.begun-at.ensures.most (λ some. omega (arith, c.begun-at.ensures.below some)) (λ within. omega (arith, c.begun-at.ensures.above within)) in
+    ∙ with_region-insert c.args.self.now c.begun-at.result r c.begun-at.ensures.layout c.begun-at.ensures.most (λ some. omega (arith, c.begun-at.ensures.below some))
+    (λ within. omega (arith, c.begun-at.ensures.above within)) in
     (apart, left)

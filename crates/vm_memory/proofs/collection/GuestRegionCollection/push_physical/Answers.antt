@@ -39,8 +39,10 @@ loop-done-preserved g c =
     ap places c.in_ok-push.ensures.ok ∙ sym (flat_map_more places_of [] c.loop-done.windows.items c.in-Some.window) in
     rw c.len-done.ensures.len (record {
       within = le;
-      found = find_step (place c.args.self.now) c.args.addr.0 c.loop-done.done c.args.len c.in-Some.window.len _ _ (places c.loop-done.windows.items) (places c.push.new.self.items) refl c.in-Some.ensures.some.2 le c.in-Some.ensures.some.3 more ∙ c.loop-done.invariant.found;
-      longest = longest_step (left_at c.args.self.now) c.args.addr.0 c.loop-done.done c.args.len _ c.args.windows.now.items c.loop-done.windows.items c.push.new.self.items c.in-Some.window c.loop-done.invariant.longest refl c.in-Some.ensures.some.0 c.in-Some.ensures.longest c.in_ok-push.ensures.ok;
+      found = find_step (place c.args.self.now) c.args.addr.0 c.loop-done.done c.args.len c.in-Some.window.len _ _ (places c.loop-done.windows.items) (places c.push.new.self.items) refl
+          c.in-Some.ensures.some.2 le c.in-Some.ensures.some.3 more ∙ c.loop-done.invariant.found;
+      longest = longest_step (left_at c.args.self.now) c.args.addr.0 c.loop-done.done c.args.len _ c.args.windows.now.items c.loop-done.windows.items c.push.new.self.items c.in-Some.window
+          c.loop-done.invariant.longest refl c.in-Some.ensures.some.0 c.in-Some.ensures.longest c.in_ok-push.ensures.ok;
       held = λ lengths held old.
           rw c.in_ok-push.ensures.ok (All-push (LiesIn lengths) _ _ (c.loop-done.invariant.held lengths held old) (c.in-Some.ensures.held lengths held));
     })

@@ -15,20 +15,23 @@ returns-then-start_addr-base g c =
     let r : Region = g.R.GuestMemoryRegion.region c.region-last.result.now in
     let begins = start_at-get c.args.self.now (c.begun-begun.result - 1) r c.region-last.ensures in
     let next : c.begun-begun.result - 1 + 1 ≡ c.begun-begun.result = omega arith in
-    not_there c.args.self.now (c.begun-begun.result - 1) c.args.base.0 c.args.size r c.begun-begun.ensures.layout c.region-last.ensures (omega arith) (rw next c.begun-begun.ensures.above) (is_not_start r c.args.base.0 c.args.size (λ same. c.if-start_addr-base.true (c.start_addr.ensures.start ∙ same)))
+    not_there c.args.self.now (c.begun-begun.result - 1) c.args.base.0 c.args.size r c.begun-begun.ensures.layout c.region-last.ensures (omega arith) (rw next c.begun-begun.ensures.above)
+    (is_not_start r c.args.base.0 c.args.size (λ same. c.if-start_addr-base.true (c.start_addr.ensures.start ∙ same)))
 
 pub returns-then-len-size : goal.returns-then-len-size
 returns-then-len-size g c =
     let r : Region = g.R.GuestMemoryRegion.region c.region-last.result.now in
     let begins = start_at-get c.args.self.now (c.begun-begun.result - 1) r c.region-last.ensures in
     let next : c.begun-begun.result - 1 + 1 ≡ c.begun-begun.result = omega arith in
-    not_there c.args.self.now (c.begun-begun.result - 1) c.args.base.0 c.args.size r c.begun-begun.ensures.layout c.region-last.ensures (omega arith) (rw next c.begun-begun.ensures.above) (is_not_size r c.args.base.0 c.args.size (λ same. c.if-len-size.true (c.len.ensures.len ∙ same)))
+    not_there c.args.self.now (c.begun-begun.result - 1) c.args.base.0 c.args.size r c.begun-begun.ensures.layout c.region-last.ensures (omega arith) (rw next c.begun-begun.ensures.above)
+    (is_not_size r c.args.base.0 c.args.size (λ same. c.if-len-size.true (c.len.ensures.len ∙ same)))
 
 pub invariant_of-result : goal.invariant_of-result
 invariant_of-result g c =
     let r : Region = g.R.GuestMemoryRegion.region c.region-last.result.now in
     let this : is_region c.args.base.0 c.args.size r ≡ true = is_this r c.args.base.0 c.args.size (omega arith) (omega arith) in
-    let left = ap (regions_of g.R.GuestMemoryRegion.region) c.remove-removed.ensures.items ∙ shared-remove g.R.GuestMemoryRegion.region c.in-Ok.regions.items (c.begun-begun.result - 1) ∙ ap (λ (l : List Region). remove l (c.begun-begun.result - 1)) c.in-Ok.ensures
+    let left = ap (regions_of g.R.GuestMemoryRegion.region) c.remove-removed.ensures.items ∙ shared-remove g.R.GuestMemoryRegion.region c.in-Ok.regions.items (c.begun-begun.result - 1) ∙ ap
+    (λ (l : List Region). remove l (c.begun-begun.result - 1)) c.in-Ok.ensures
     ∙ without-remove c.args.self.now (c.begun-begun.result - 1) c.args.base.0 c.args.size r c.begun-begun.ensures.layout c.region-last.ensures this in
     subst IsLayout (sym left) (layout_without c.args.self.now c.args.base.0 c.args.size c.begun-begun.ensures.layout)
 
@@ -36,7 +39,8 @@ pub returns : goal.returns
 returns g c =
     let r : Region = g.R.GuestMemoryRegion.region c.region-last.result.now in
     let this : is_region c.args.base.0 c.args.size r ≡ true = is_this r c.args.base.0 c.args.size (omega arith) (omega arith) in
-    let left = ap (regions_of g.R.GuestMemoryRegion.region) c.remove-removed.ensures.items ∙ shared-remove g.R.GuestMemoryRegion.region c.in-Ok.regions.items (c.begun-begun.result - 1) ∙ ap (λ (l : List Region). remove l (c.begun-begun.result - 1)) c.in-Ok.ensures
+    let left = ap (regions_of g.R.GuestMemoryRegion.region) c.remove-removed.ensures.items ∙ shared-remove g.R.GuestMemoryRegion.region c.in-Ok.regions.items (c.begun-begun.result - 1) ∙ ap
+    (λ (l : List Region). remove l (c.begun-begun.result - 1)) c.in-Ok.ensures
     ∙ without-remove c.args.self.now (c.begun-begun.result - 1) c.args.base.0 c.args.size r c.begun-begun.ensures.layout c.region-last.ensures this in (
       found_there c.args.self.now (c.begun-begun.result - 1) c.args.base.0 c.args.size r c.begun-begun.ensures.layout c.region-last.ensures this
           ∙ removed_item g.R.GuestMemoryRegion.region c.in-Ok.regions.items c.args.self.now (c.begun-begun.result - 1) r c.remove-removed.result c.in-Ok.ensures c.region-last.ensures c.remove-removed.ensures.value,

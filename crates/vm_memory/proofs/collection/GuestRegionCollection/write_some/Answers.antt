@@ -27,7 +27,8 @@ loop-done-preserved g c =
       within = le;
       same_shape = c.write.ensures.shape ∙ c.loop-done.invariant.same_shape;
       count = step ∙ c.loop-done.invariant.count;
-      stored = store_step c.args.self.now (memory_of c.args.host.now c.args.self.now) c.loop-done.host c.write.new.self c.args.bytes.now _ c.args.addr c.loop-done.done (length c.args.bytes.now) c.in-Some.window.len _ _ refl c.in-Some.ensures.some.2 le refl c.in-Some.ensures.some.3 c.loop-done.invariant.stored cut c.write.ensures.stored;
+      stored = store_step c.args.self.now (memory_of c.args.host.now c.args.self.now) c.loop-done.host c.write.new.self c.args.bytes.now _ c.args.addr c.loop-done.done (length c.args.bytes.now)
+          c.in-Some.window.len _ _ refl c.in-Some.ensures.some.2 le refl c.in-Some.ensures.some.3 c.loop-done.invariant.stored cut c.write.ensures.stored;
     })
 
 pub returns-clause-count : goal.returns-clause-count

@@ -14,7 +14,8 @@ returns-then-self-eq0-clause-steps g c =
 
 pub returns-in_default-clause-steps : goal.returns-in_default-clause-steps
 returns-in_default-clause-steps g c =
-    absurd (no_table (option_map (λ (t : Bor (List IotlbRange)). t.now) c.self.inside.table) c.self.inside.addr c.self.inside.count c.self.inside.access (ap (option_map (λ (t : Bor (List IotlbRange)). t.now)) c.in_default.is) (omega arith) c.self.invariant.1)
+    absurd (no_table (option_map (λ (t : Bor (List IotlbRange)). t.now) c.self.inside.table) c.self.inside.addr c.self.inside.count c.self.inside.access
+    (ap (option_map (λ (t : Bor (List IotlbRange)). t.now)) c.in_default.is) (omega arith) c.self.invariant.1)
 
 pub invariant_of-self : goal.invariant_of-self
 invariant_of-self g c =
@@ -32,7 +33,8 @@ returns-in-Some-translated_window-clause-steps g c =
     let same : ranges_of c.self.inside.table ≡ c.in-Some.table.now = ap ranges_of c.in-Some.is in
     let le = c.in-Some-translated_window.ensures.some.1 in
     rw (← c.self.view_is, same, c.len.ensures.len, c.len-in-Some-translated_window.ensures.len)
-    (window_taken_low _ _ c.self.inside.addr c.self.inside.count c.in-Some-translated_window.window c.in-Some-translated_window.ensures.some.0 c.in-Some-translated_window.ensures.longest (omega (arith, le, c.self.invariant.0)) c.in-Some-translated_window.ensures.some.3)
+    (window_taken_low _ _ c.self.inside.addr c.self.inside.count c.in-Some-translated_window.window c.in-Some-translated_window.ensures.some.0 c.in-Some-translated_window.ensures.longest
+    (omega (arith, le, c.self.invariant.0)) c.in-Some-translated_window.ensures.some.3)
 
 pub returns-in-Some-translated_window-clause-goes : goal.returns-in-Some-translated_window-clause-goes
 returns-in-Some-translated_window-clause-goes g c =

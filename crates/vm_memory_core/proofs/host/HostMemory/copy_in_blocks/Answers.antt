@@ -17,7 +17,8 @@ returns-then-block g c =
     let length-is : c.len.result ≡ source.len = omega (arith, c.len.ensures.len) in
     let xs = take c.len.result (drop c.block_offset.result old.bytes) in
     let read = loaded_at c.args.self.now inside source old xs b _ _ here c.block_offset.ensures length-is c.self.view_is c.requires.source c.index_mut-block.ensures.value refl in
-    stored_at c.args.self.now inside dest xs old c.copy_within.new.self b _ _ c.block-then-block.ensures c.block_offset-then-block.ensures c.marks_its_block.ensures c.self.view_is c.index_mut-block.ensures.value c.copy_within.ensures.stored c.copy_within.ensures.marked
+    stored_at c.args.self.now inside dest xs old c.copy_within.new.self b _ _ c.block-then-block.ensures c.block_offset-then-block.ensures c.marks_its_block.ensures c.self.view_is
+    c.index_mut-block.ensures.value c.copy_within.ensures.stored c.copy_within.ensures.marked
     ∙ ap (put_in_block c.args.self.now dest) read
 
 pub returns-else-block : goal.returns-else-block

@@ -1,0 +1,332 @@
+-- the accounts of steps, kicks and runs
+use Rattle.std.proofs.Common.{◌≡◌, ℕ, zero, suc, ◌+◌, ◌-◌, ◌<◌, ◌≤◌, Bool, true, false, List, [], ◌∷◌, ◌++◌, map, length, drop, Option, Some, None, Ok, Err, refl, ap, sym, ◌∙◌, subst, arith}
+use Rattle.std.specs.Prelude.{◌==◌, ◌≢◌, if◌then◌else◌, IsTrue, nat_lt, sum_by, slice_get}
+use Rattle.std.proofs.lemmas.List.Sums.{sum_by-cons}
+use Rattle.std.proofs.lemmas.Bool.{le-ltb, lt-ltb}
+use Rattle.fuse_wire.specs.declared.opcodes.Opcode.{Opcode}
+use Rattle.fuse_wire.specs.declared.opcodes.Opcode.TheVariants as op
+use Rattle.fuse_fs.specs.Calls.{FileCall, FileAnswer, Listed, FileRun, suits, kind_of}
+use Rattle.fuse_fs.specs.Calls as call
+use Rattle.fuse_segments.specs.declared.error.Error.{Error}
+use Rattle.fuse_segments.specs.declared.error.Error.TheVariants.{EncodeMessage}
+use Rattle.fuse_replies.specs.WholeReplies.{reply_bytes, error_bytes, listing_bytes}
+use Rattle.fuse_calls.specs.Requests.{options_after}
+use Rattle.fs_queue.specs.declared.fault.ChainFault.{ChainFault}
+use Rattle.fs_queue.specs.Queue.{Queue}
+use Rattle.fs_queue.specs.Taking.{Offer, Asks, CannotAsk, Refuses, Offers}
+use Rattle.fs_queue.specs.Taking as taking
+use Rattle.virtiofsd_fuse.specs.Grammar.{Meaning, IsFault, Replies, IsSilent, One, Starts, Lists, meaning}
+use Rattle.virtiofsd_fuse.specs.Grammar as grammar
+use Rattle.virtiofsd_fuse.specs.Listings.{Listing, Went, list_entries, readdir_call}
+use Rattle.virtiofsd_fuse.specs.Serving.{May, Served, Setting, setting, served, replied, no_reply, answer_bytes, start_options, start_answered, list_ended}
+use Rattle.virtiofsd_fuse.proofs.ReplyLemmas.{length_reply, length_error}
+use Rattle.fs_device.specs.declared.error.DeviceError.{DeviceError}
+use Rattle.fs_device.specs.declared.exchange.Fault.{Fault}
+use Rattle.fs_device.specs.declared.refusal.Refusal.TheVariants as why
+use Rattle.fs_device.specs.Step.{State, Exchange, Calls, Exchanged, Exchanges, StepOf, faulty, served_fault, served_exchange}
+use Rattle.fs_device.specs.Run as run
+use Rattle.fs_device.specs.Run.{Turn, Told, Command, Answer, KickRun, Kicks, Kicked, Does, Performs, RunTold}
+use Rattle.fs_device.specs.Books.{answered, sent, written, lost, accepted, is_lost, nodes_in, nodes_listed, opcode_in, entry_count, forget_count, forgets_meant, IsBalanced}
+use Rattle.fs_device.proofs.NodeLemmas.{drop_reply, drop_error, none_in_nothing, not_zero}
+use Rattle.fs_device.proofs.MeaningLemmas.{has_entry, no_entry, not_true, CallFits, MeaningFits, ListFits, meaning_fits}
+use Rattle.fs_device.proofs.ListBooks.{EachSuits, asked_of, told_of, entries_in, counts_in, times, entries_more, counts_more, no_step, one_step, list_balances, list_fits, plain_asks_nothing}
+
+-- ---- one request
+
+-- the counts that are taken back by a request that means this, where a call was made
+abbrev taken : (n : ℕ) → Calls → Meaning → ℕ
+taken n calls m = if length calls == 0 then 0 else forgets_meant n m
+
+-- the entries that were lost
+abbrev gone : (n : ℕ) → Calls → Option Error → ℕ
+gone n calls e = if is_lost (served_fault e) then entries_in n calls else 0
+
+-- what comes of a request balances
+abbrev Balanced : (n : ℕ) → Option Opcode → Calls → (back : ℕ) → Served → Type 0
+Balanced n o calls back given = entries_in n calls + back ≡ times n (nodes_in o (drop 16 given.reply)) + gone n calls given.fault + counts_in n calls
+
+either_way : (b : Bool) (k : ℕ) → (if b then k else k) ≡ k
+either_way true k = refl
+either_way false k = refl
+
+silent : (n : ℕ) (o : Option Opcode) → times n (nodes_in o (drop 16 [])) ≡ 0
+silent n o = ap (times n) (none_in_nothing o)
+
+-- nothing was asked, and no node is in the reply
+nothing_asked : (n : ℕ) (o : Option Opcode) (calls : Calls) (m : Meaning) (given : Served) → [] ≡ asked_of calls → times n (nodes_in o (drop 16 given.reply)) ≡ 0 →
+    Balanced n o calls (taken n calls m) given
+nothing_asked n o calls m given asks none =
+    let no_loss : gone n [] given.fault ≡ 0 = either_way (is_lost (served_fault given.fault)) 0 in
+    subst (λ (l : Calls). Balanced n o l (taken n l m) given) (sym (no_step calls asks)) (omega (arith, none, no_loss))
+
+-- a reply goes in whole, or is lost
+abbrev in_room : Bool → List FileCall → (options : ℕ) → List ℕ → Served
+in_room long asked options bytes = if long then no_reply asked options (Some EncodeMessage) else record { calls = asked; options = options; reply = bytes; fault = None }
+
+replied_asks : (long : Bool) (asked : List FileCall) (options : ℕ) (bytes : List ℕ) → (in_room long asked options bytes).calls ≡ asked
+replied_asks true asked options bytes = refl
+replied_asks false asked options bytes = refl
+
+replied_nodes : (n : ℕ) (o : Option Opcode) (long : Bool) (asked : List FileCall) (options : ℕ) (bytes : List ℕ) → nodes_in o (drop 16 bytes) ≡ [] →
+    times n (nodes_in o (drop 16 (in_room long asked options bytes).reply)) ≡ 0
+replied_nodes n o true asked options bytes none = silent n o
+replied_nodes n o false asked options bytes none = ap (times n) none
+
+replied_balances : (n : ℕ) (o : Option Opcode) (calls : Calls) (back options : ℕ) (asked : List FileCall) (bytes : List ℕ) (long : Bool) →
+    times n (nodes_in o (drop 16 bytes)) ≡ entries_in n calls → back ≡ counts_in n calls → Balanced n o calls back (in_room long asked options bytes)
+replied_balances n o calls back options asked bytes true same keeps = let none = silent n o in omega (arith, none, keeps)
+replied_balances n o calls back options asked bytes false same keeps = omega (arith, same, keeps)
+
+replied_whole : (n : ℕ) (o : Option Opcode) (calls : Calls) (back options : ℕ) (asked : List FileCall) (bytes : List ℕ) (long : Bool) → long ≡ false →
+    entries_in n calls ≡ times n (nodes_in o (drop 16 bytes)) + counts_in n calls → back ≡ 0 → Balanced n o calls back (in_room long asked options bytes)
+replied_whole n o calls back options asked bytes true fits same none = not_true (sym fits)
+replied_whole n o calls back options asked bytes false fits same none = omega (arith, same, none)
+
+-- ---- listings
+
+listing_whole : (unique : ℕ) (bytes : List ℕ) (error : Option ℕ) → (drop 16 (listing_bytes unique true bytes error) ≡ bytes) × (length (listing_bytes unique true bytes error) ≡ 16 + length bytes)
+listing_whole unique bytes None = (drop_reply unique bytes, length_reply unique bytes)
+listing_whole unique [] (Some errno) = (drop_error unique errno, length_error unique errno)
+listing_whole unique (b ∷ bytes) (Some errno) =
+    let some = lt-ltb 0 (length (b ∷ bytes)) (omega arith) in
+    rw some (drop_reply unique (b ∷ bytes), length_reply unique (b ∷ bytes))
+
+plus_nodes : (bytes : List ℕ) → nodes_in (Some op.Readdirplus) bytes ≡ nodes_listed (length bytes) bytes
+unfolding nodes_listed
+plus_nodes [] = refl
+plus_nodes (b ∷ bytes) = let some = not_zero (length (b ∷ bytes)) (omega arith) in rw some refl
+
+module _ (n : ℕ) (some : n ≢ 0) (s : Setting) (o : Option Opcode) where
+  -- one call, by its answer
+  one_given : (unique : ℕ) (c : FileCall) (a : FileAnswer) → CallFits n o c → IsTrue (suits c a) →
+      Balanced n o ((c, a) ∷ []) (taken n ((c, a) ∷ []) (grammar.Asks (One unique c))) (served s (grammar.Asks (One unique c)) (a ∷ []))
+  one_given unique c a fits suit =
+      let bytes = answer_bytes unique c a in
+      let x = entries_more n (c, a) [] in
+      let y = counts_more n (c, a) [] in
+      let counted : times n (nodes_in o (drop 16 bytes)) ≡ entries_in n ((c, a) ∷ []) = (let z = fits unique a suit in omega (arith, x, z)) in
+      replied_balances n o ((c, a) ∷ []) _ (options_after s.options c) (c ∷ []) bytes (nat_lt s.room (length bytes)) counted (omega (arith, y))
+
+  one_balances : (unique : ℕ) (c : FileCall) (calls : Calls) → CallFits n o c → EachSuits calls → (served s (grammar.Asks (One unique c)) (told_of calls)).calls ≡ asked_of calls →
+      Balanced n o calls (taken n calls (grammar.Asks (One unique c))) (served s (grammar.Asks (One unique c)) (told_of calls))
+  one_balances unique c [] fits suit asks = absurd (cc)
+  one_balances unique c (step ∷ calls) fits suit asks =
+      let bytes = answer_bytes unique c step.1 in
+      let one = one_step c (step ∷ calls) (sym (replied_asks (nat_lt s.room (length bytes)) (c ∷ []) (options_after s.options c) bytes) ∙ asks) in
+      let only : EachSuits ((c, one.0) ∷ []) = subst EachSuits one.1 suit in
+      subst (λ (l : Calls). Balanced n o l (taken n l (grammar.Asks (One unique c))) (served s (grammar.Asks (One unique c)) (told_of l))) (sym one.1) (one_given unique c one.0 fits only.0)
+
+  start_given : (unique capable readahead : ℕ) (a : FileAnswer) → ((bytes : List ℕ) → nodes_in o bytes ≡ []) → IsTrue (suits (call.Init capable) a) →
+      Balanced n o ((call.Init capable, a) ∷ []) 0 (served s (grammar.Asks (Starts unique capable readahead)) (a ∷ []))
+  start_given unique capable readahead a fits suit =
+      let bytes = start_answered s.page_size unique capable readahead a in
+      let x = entries_more n (call.Init capable, a) [] in
+      let y = counts_more n (call.Init capable, a) [] in
+      let counted : times n (nodes_in o (drop 16 bytes)) ≡ entries_in n ((call.Init capable, a) ∷ []) =
+      (let z = no_entry n (call.Init capable) a refl suit in let k = ap (times n) (fits (drop 16 bytes)) in omega (arith, x, z, k)) in
+      replied_balances n o ((call.Init capable, a) ∷ []) 0 (start_options s.options capable a) (call.Init capable ∷ []) bytes (nat_lt s.room (length bytes)) counted (omega (arith, y))
+
+  start_balances : (unique capable readahead : ℕ) (calls : Calls) → ((bytes : List ℕ) → nodes_in o bytes ≡ []) → EachSuits calls →
+      (served s (grammar.Asks (Starts unique capable readahead)) (told_of calls)).calls ≡ asked_of calls → Balanced n o calls 0 (served s (grammar.Asks (Starts unique capable readahead)) (told_of calls))
+  start_balances unique capable readahead [] fits suit asks = absurd (cc)
+  start_balances unique capable readahead (step ∷ calls) fits suit asks =
+      let bytes = start_answered s.page_size unique capable readahead step.1 in
+      let one = one_step (call.Init capable) (step ∷ calls) (sym (replied_asks (nat_lt s.room (length bytes)) (call.Init capable ∷ []) (start_options s.options capable step.1) bytes) ∙ asks) in
+      let only : EachSuits ((call.Init capable, one.0) ∷ []) = subst EachSuits one.1 suit in
+      subst (λ (l : Calls). Balanced n o l 0 (served s (grammar.Asks (Starts unique capable readahead)) (told_of l))) (sym one.1) (start_given unique capable readahead one.0 fits only.0)
+
+  -- a directory's entries, with the calls that come with them
+  went_balances : (unique : ℕ) (l : Listing) (ds : List Listed) (steps : Calls) (nodes : Bool) → l.with_nodes ≡ nodes → ListFits s.room o nodes → EachSuits steps →
+      (list_entries l ds l.size (s.room - 16) (told_of steps)).calls ≡ asked_of steps →
+      Balanced n o ((readdir_call l, call.Entries ds) ∷ steps) 0 (list_ended s unique l (list_entries l ds l.size (s.room - 16) (told_of steps)))
+  went_balances unique l ds steps true is fits suit asks =
+      let w = list_entries l ds l.size (s.room - 16) (told_of steps) in
+      let bytes = listing_bytes unique l.with_nodes w.bytes w.error in
+      let whole = listing_whole unique w.bytes w.error in
+      let plain : bytes ≡ listing_bytes unique true w.bytes w.error = ap (λ (b : Bool). listing_bytes unique b w.bytes w.error) is in
+      let long : length bytes ≡ 16 + length w.bytes = ap length plain ∙ whole.1 in
+      let room = list_fits l is ds l.size (s.room - 16) (told_of steps) in
+      let low : length bytes ≤ s.room = (let place = fits.1 in omega (arith, long, room, place)) in
+      let nodes : nodes_in o (drop 16 bytes) ≡ nodes_listed (length w.bytes) w.bytes =
+      ap (λ (k : Option Opcode). nodes_in k (drop 16 bytes)) fits.0 ∙ ap (λ (b : List ℕ). nodes_in (Some op.Readdirplus) (drop 16 b)) plain ∙ ap (nodes_in (Some op.Readdirplus)) whole.0 ∙ plus_nodes w.bytes in
+      let same = list_balances n some l is ds steps l.size (s.room - 16) suit asks (length w.bytes) (omega arith) in
+      let x = entries_more n (readdir_call l, call.Entries ds) steps in
+      let y = counts_more n (readdir_call l, call.Entries ds) steps in
+      let k = ap (times n) nodes in
+      replied_whole n o ((readdir_call l, call.Entries ds) ∷ steps) 0 s.options (readdir_call l ∷ w.calls) bytes (nat_lt s.room (length bytes)) (le-ltb s.room (length bytes) low) (omega (arith, same, x, y, k)) refl
+  went_balances unique l ds steps false is fits suit asks =
+      let w = list_entries l ds l.size (s.room - 16) (told_of steps) in
+      let bytes = listing_bytes unique l.with_nodes w.bytes w.error in
+      let nothing = no_step steps (sym (plain_asks_nothing l is ds l.size (s.room - 16) (told_of steps)) ∙ asks) in
+      let x = entries_more n (readdir_call l, call.Entries ds) steps in
+      let y = counts_more n (readdir_call l, call.Entries ds) steps in
+      let a : entries_in n steps ≡ 0 = ap (entries_in n) nothing in
+      let b : counts_in n steps ≡ 0 = ap (counts_in n) nothing in
+      let k = ap (times n) (fits (drop 16 bytes)) in
+      replied_balances n o ((readdir_call l, call.Entries ds) ∷ steps) 0 s.options (readdir_call l ∷ w.calls) bytes (nat_lt s.room (length bytes)) (omega (arith, x, a, k)) (omega (arith, y, b))
+
+  -- an answer that lists nothing
+  unlisted : (l : Listing) (c : FileCall) (a : FileAnswer) (steps : Calls) (bytes : List ℕ) (long : Bool) → readdir_call l ≡ c → IsTrue (suits c a) → [] ≡ asked_of steps → nodes_in o (drop 16 bytes) ≡ [] →
+      Balanced n o ((c, a) ∷ steps) 0 (in_room long (readdir_call l ∷ []) s.options bytes)
+  unlisted l c a steps bytes long is suit asks none =
+      let x = entries_more n (c, a) steps in
+      let y = counts_more n (c, a) steps in
+      let z : entries_in n steps ≡ 0 = ap (entries_in n) (no_step steps asks) in
+      let v : counts_in n steps ≡ 0 = ap (counts_in n) (no_step steps asks) in
+      let f : forget_count n c ≡ 0 = ap (forget_count n) (sym is) in
+      let e : entry_count n a ≡ 0 = no_entry n c a (ap (λ (c : FileCall). has_entry (kind_of c)) (sym is)) suit in
+      let k = ap (times n) none in
+      replied_balances n o ((c, a) ∷ steps) 0 s.options (readdir_call l ∷ []) bytes long (omega (arith, x, z, e, k)) (omega (arith, y, v, f))
+
+  list_given : (unique : ℕ) (l : Listing) (c : FileCall) (a : FileAnswer) (steps : Calls) → ListFits s.room o l.with_nodes → EachSuits ((c, a) ∷ steps) →
+      (served s (grammar.Asks (Lists unique l)) (a ∷ told_of steps)).calls ≡ c ∷ asked_of steps → Balanced n o ((c, a) ∷ steps) 0 (served s (grammar.Asks (Lists unique l)) (a ∷ told_of steps))
+  list_given unique l c (call.Failed errno) steps fits suit asks =
+      let bytes = error_bytes unique errno in
+      let all : (readdir_call l ∷ []) ≡ c ∷ asked_of steps = sym (replied_asks (nat_lt s.room (length bytes)) (readdir_call l ∷ []) s.options bytes) ∙ asks in
+      unlisted l c (call.Failed errno) steps bytes (nat_lt s.room (length bytes)) (cc) suit.0 (cc) (ap (nodes_in o) (drop_error unique errno) ∙ none_in_nothing o)
+  list_given unique l c call.Done steps fits suit asks = unlisted l c call.Done steps [] false (cc) suit.0 (cc) (none_in_nothing o)
+  list_given unique l c (call.HasEntry e) steps fits suit asks = unlisted l c (call.HasEntry e) steps [] false (cc) suit.0 (cc) (none_in_nothing o)
+  list_given unique l c (call.HasAttr attr timeout) steps fits suit asks = unlisted l c (call.HasAttr attr timeout) steps [] false (cc) suit.0 (cc) (none_in_nothing o)
+  list_given unique l c (call.Opened handle options) steps fits suit asks = unlisted l c (call.Opened handle options) steps [] false (cc) suit.0 (cc) (none_in_nothing o)
+  list_given unique l c (call.Created e handle options) steps fits suit asks = unlisted l c (call.Created e handle options) steps [] false (cc) suit.0 (cc) (none_in_nothing o)
+  list_given unique l c (call.Bytes bytes) steps fits suit asks = unlisted l c (call.Bytes bytes) steps [] false (cc) suit.0 (cc) (none_in_nothing o)
+  list_given unique l c (call.Count k) steps fits suit asks = unlisted l c (call.Count k) steps [] false (cc) suit.0 (cc) (none_in_nothing o)
+  list_given unique l c (call.Stats st) steps fits suit asks = unlisted l c (call.Stats st) steps [] false (cc) suit.0 (cc) (none_in_nothing o)
+  list_given unique l c (call.Wrote k) steps fits suit asks = unlisted l c (call.Wrote k) steps [] false (cc) suit.0 (cc) (none_in_nothing o)
+  list_given unique l c (call.Offset k) steps fits suit asks = unlisted l c (call.Offset k) steps [] false (cc) suit.0 (cc) (none_in_nothing o)
+  list_given unique l c (call.Entries ds) steps fits suit asks =
+      let w = list_entries l ds l.size (s.room - 16) (told_of steps) in
+      let bytes = listing_bytes unique l.with_nodes w.bytes w.error in
+      let all : (readdir_call l ∷ w.calls) ≡ c ∷ asked_of steps = sym (replied_asks (nat_lt s.room (length bytes)) (readdir_call l ∷ w.calls) s.options bytes) ∙ asks in
+      let same : readdir_call l ≡ c = cc in
+      subst (λ (c : FileCall). Balanced n o ((c, call.Entries ds) ∷ steps) 0 (list_ended s unique l w)) same (went_balances unique l ds steps l.with_nodes refl fits suit.1 (cc))
+  list_given unique l c (call.Wants options) steps fits suit asks = unlisted l c (call.Wants options) steps [] false (cc) suit.0 (cc) (none_in_nothing o)
+
+  list_all : (unique : ℕ) (l : Listing) (calls : Calls) → ListFits s.room o l.with_nodes → EachSuits calls → (served s (grammar.Asks (Lists unique l)) (told_of calls)).calls ≡ asked_of calls →
+      Balanced n o calls 0 (served s (grammar.Asks (Lists unique l)) (told_of calls))
+  list_all unique l [] fits suit asks = absurd (cc)
+  list_all unique l (step ∷ calls) fits suit asks = list_given unique l step.0 step.1 calls fits suit asks
+
+  meaning_balances : (m : Meaning) (calls : Calls) → MeaningFits n s.room o m → EachSuits calls → (served s m (told_of calls)).calls ≡ asked_of calls →
+      Balanced n o calls (taken n calls m) (served s m (told_of calls))
+  meaning_balances (IsFault e) calls fits suit asks = nothing_asked n o calls (IsFault e) (served s (IsFault e) (told_of calls)) asks (silent n o)
+  meaning_balances (Replies bytes) calls fits suit asks =
+      nothing_asked n o calls (Replies bytes) (served s (Replies bytes) (told_of calls)) (sym (replied_asks (nat_lt s.room (length bytes)) [] s.options bytes) ∙ asks)
+      (replied_nodes n o (nat_lt s.room (length bytes)) [] s.options bytes fits)
+  meaning_balances IsSilent calls fits suit asks = nothing_asked n o calls IsSilent (served s IsSilent (told_of calls)) asks (silent n o)
+  meaning_balances (grammar.Asks (One unique c)) calls fits suit asks = one_balances unique c calls fits suit asks
+  meaning_balances (grammar.Asks (Starts unique capable readahead)) calls fits suit asks =
+      subst (λ (k : ℕ). Balanced n o calls k (served s (grammar.Asks (Starts unique capable readahead)) (told_of calls))) (sym (either_way (length calls == 0) 0))
+      (start_balances unique capable readahead calls fits suit asks)
+  meaning_balances (grammar.Asks (Lists unique l)) calls fits suit asks =
+      subst (λ (k : ℕ). Balanced n o calls k (served s (grammar.Asks (Lists unique l)) (told_of calls))) (sym (either_way (length calls == 0) 0)) (list_all unique l calls fits suit asks)
+
+-- ---- steps
+
+abbrev TurnBalances : (n : ℕ) → Turn → Type 0
+TurnBalances n t = answered n t + accepted n t ≡ written n t + lost n t + sent n t
+
+abbrev turn : Exchange → Bool → Calls → Turn
+turn x notice calls = record { exchange = x; notice = notice; calls = calls }
+
+faulty_balances : (n head : ℕ) (why : ChainFault) (notice : Bool) → TurnBalances n (turn (faulty head why) notice [])
+faulty_balances n head why notice = let none = silent n (opcode_in []) in omega (arith, none)
+
+all_suit : {F : Type 0} (may : May F) (before : F) (steps : Calls) (after : F) → FileRun may before steps after → EachSuits steps
+all_suit may before [] after same = tt
+all_suit may before (step ∷ steps) after (between, suit, made, rest) = (suit, all_suit may between steps after rest)
+
+exchange_balances : {F : Type 0} (may : May F) (n : ℕ) → n ≢ 0 → (s : State F) (i : ℕ) (q : Queue) (o : Offer) (calls : Calls) (x : Exchange) (notice : Bool) (after : State F) →
+    Exchanges may s i q o calls x notice after → TurnBalances n (turn x notice calls)
+exchange_balances may n some s i q (Offers head (CannotAsk fault)) calls x notice after r =
+    subst (λ (l : Calls). TurnBalances n (turn x notice l)) (sym r.no_call)
+    (subst (λ (y : Exchange). TurnBalances n (turn y notice [])) (sym r.returns.exchange) (faulty_balances n head fault notice))
+exchange_balances may n some s i q (Offers head (Asks request room)) calls x notice after r =
+    let set = setting s.page_size s.options (length room) in
+    let m = meaning s.options request (length room) in
+    let fits = meaning_fits n s.options (length room) request in
+    let asks : (served set m (told_of calls)).calls ≡ asked_of calls = ap (λ (g : Served). g.calls) (sym r.serves.gives) ∙ r.serves.asks in
+    let bal = meaning_balances n some set (opcode_in request) m calls fits.0 (all_suit may s.files calls after.files r.serves.run) asks in
+    let given = served set m (told_of calls) in
+    let back : taken n calls m ≡ taken n calls (meaning 0 request 0) = ap (λ (k : ℕ). if length calls == 0 then 0 else k) fits.1 in
+    let is : x ≡ served_exchange head request given = r.returns.exchange ∙ ap (served_exchange head request) r.serves.gives in
+    subst (λ (y : Exchange). TurnBalances n (turn y notice calls)) (sym is) (subst (λ (k : ℕ). Balanced n (opcode_in request) calls k given) back bal)
+exchange_balances may n some s i q taking.Idle calls x notice after r = absurd r
+exchange_balances may n some s i q (Refuses e) calls x notice after r = absurd r
+
+step_balances : {F : Type 0} (may : May F) (n : ℕ) → n ≢ 0 → (s : State F) (i : ℕ) (o : Option Queue) (calls : Calls) (x : Exchange) (notice : Bool) (after : State F) →
+    StepOf may s i o calls (Exchanged x notice) after → TurnBalances n (turn x notice calls)
+step_balances may n some s i None calls x notice after t = absurd (cc)
+step_balances may n some s i (Some q) calls x notice after t = exchange_balances may n some s i q _ calls x notice after t
+
+-- ---- kicks
+
+-- over exchanges
+abbrev ToldBalances : (n : ℕ) → Told → Type 0
+ToldBalances n told = sum_by (answered n) told + sum_by (accepted n) told ≡ sum_by (written n) told + sum_by (lost n) told + sum_by (sent n) told
+
+kick_balances : {F : Type 0} (may : May F) (n : ℕ) → n ≢ 0 → (s : State F) (i most : ℕ) (told : Told) (refused : Option DeviceError) (after : State F) → KickRun may s i most told refused after → ToldBalances n told
+unfolding KickRun
+kick_balances may n some s i most [] refused after t = refl
+kick_balances may n some s i zero (x ∷ told) refused after t = absurd t
+kick_balances may n some s i (suc most) (x ∷ told) refused after (mid, step, rest) =
+    let own = step_balances may n some s i (slice_get s.queues i) x.calls x.exchange x.notice mid step in
+    let others = kick_balances may n some mid i most told refused after rest in
+    let a = sum_by-cons (answered n) x told in
+    let b = sum_by-cons (accepted n) x told in
+    let c = sum_by-cons (written n) x told in
+    let d = sum_by-cons (lost n) x told in
+    let e = sum_by-cons (sent n) x told in
+    omega (arith, own, others, a, b, c, d, e)
+
+kicks_balance : {F : Type 0} (may : May F) (n : ℕ) → n ≢ 0 → (s : State F) (i most : ℕ) (o : Option Queue) (told : Told) (k : Kicked) (after : State F) → Kicks may s i most o told k after → ToldBalances n told
+kicks_balance may n some s i most None told k after t = subst (ToldBalances n) (sym t.1) refl
+kicks_balance may n some s i most (Some q) told k after t = kick_balances may n some s i most told k.refused after t.0
+
+-- ---- runs
+
+does_balance : {F : Type 0} (may : May F) (n : ℕ) → n ≢ 0 → (s : State F) (command : Command) (told : Told) (answer : Answer) (after : State F) → Does may s command told answer after → ToldBalances n told
+does_balance may n some s command [] answer after t = refl
+does_balance may n some s (run.Kick i most) (x ∷ told) (run.Served k) after t = kicks_balance may n some s i most (slice_get s.queues i) (x ∷ told) k after t
+does_balance may n some s (run.Kick i most) (x ∷ told) run.Done after t = absurd t
+does_balance may n some s (run.Kick i most) (x ∷ told) (run.Bytes bytes) after t = absurd t
+does_balance may n some s (run.Kick i most) (x ∷ told) (run.NewBlockIs number) after t = absurd t
+does_balance may n some s (run.Kick i most) (x ∷ told) (run.IsRefused refusal) after t = absurd t
+does_balance may n some s (run.GuestRead a k) (x ∷ told) answer after t = absurd t
+does_balance may n some s (run.GuestWrite a bs) (x ∷ told) answer after t = absurd t
+does_balance may n some s (run.NewBlock k) (x ∷ told) answer after t = absurd t
+does_balance may n some s (run.InsertRegion base block) (x ∷ told) answer after t = absurd t
+does_balance may n some s (run.RemoveRegion base size) (x ∷ told) answer after t = absurd t
+does_balance may n some s (run.SetLayout layout) (x ∷ told) answer after t = absurd t
+does_balance may n some s (run.ResetQueue queue l) (x ∷ told) answer after t = absurd t
+
+performs_balance : {F : Type 0} (may : May F) (n : ℕ) → n ≢ 0 → (s : State F) (command : Command) (told : Told) (answer : Answer) (after : State F) → Performs may s command told answer after → ToldBalances n told
+performs_balance may n some s command [] (run.IsRefused why.OutOfMemory) after t = refl
+performs_balance may n some s command (x ∷ told) (run.IsRefused why.OutOfMemory) after t = absurd t
+performs_balance may n some s command told (run.IsRefused why.NoPlace) after t = does_balance may n some s command told _ after t
+performs_balance may n some s command told (run.IsRefused why.EmptyBlock) after t = does_balance may n some s command told _ after t
+performs_balance may n some s command told (run.IsRefused why.UnknownBlock) after t = does_balance may n some s command told _ after t
+performs_balance may n some s command told (run.IsRefused why.BadRegion) after t = does_balance may n some s command told _ after t
+performs_balance may n some s command told (run.IsRefused why.Overlap) after t = does_balance may n some s command told _ after t
+performs_balance may n some s command told (run.IsRefused why.NoRegion) after t = does_balance may n some s command told _ after t
+performs_balance may n some s command told (run.IsRefused why.NoSuchQueue) after t = does_balance may n some s command told _ after t
+performs_balance may n some s command told run.Done after t = does_balance may n some s command told _ after t
+performs_balance may n some s command told (run.Bytes bytes) after t = does_balance may n some s command told _ after t
+performs_balance may n some s command told (run.NewBlockIs number) after t = does_balance may n some s command told _ after t
+performs_balance may n some s command told (run.Served k) after t = does_balance may n some s command told _ after t
+
+-- a run balances
+pub run_balances : {F : Type 0} (may : May F) (n : ℕ) → n ≢ 0 → (s : State F) (events : List (Command × Answer)) (tolds : List Told) (after : State F) → RunTold may s events tolds after → IsBalanced n tolds
+unfolding RunTold
+run_balances may n some s [] [] after t = refl
+run_balances may n some s [] (told ∷ tolds) after t = absurd t
+run_balances may n some s (e ∷ es) [] after t = absurd t
+run_balances may n some s (e ∷ es) (told ∷ tolds) after (mid, performs, rest) =
+    let own = performs_balance may n some s e.0 told e.1 mid performs in
+    let others = run_balances may n some mid es tolds after rest in
+    let a = sum_by-cons (λ (l : Told). sum_by (answered n) l) told tolds in
+    let b = sum_by-cons (λ (l : Told). sum_by (accepted n) l) told tolds in
+    let c = sum_by-cons (λ (l : Told). sum_by (written n) l) told tolds in
+    let d = sum_by-cons (λ (l : Told). sum_by (lost n) l) told tolds in
+    let k = sum_by-cons (λ (l : Told). sum_by (sent n) l) told tolds in
+    omega (arith, own, others, a, b, c, d, k)

@@ -1,0 +1,135 @@
+-- The accounts of a node over whole runs: how often the file system answered it and was sent it back, and the same by the bytes of requests and replies.
+use Rattle.std.specs.Prelude.{◌≡◌, ◌≢◌, ℕ, zero, suc, ◌+◌, Bool, true, false, ◌==◌, List, [], ◌∷◌, length, take, drop, Option, Some, None, if◌then◌else◌, sum_by, count_by}
+use Rattle.std.specs.Int.{Width, w32, w64, byte_len, from_le_bytes}
+use Rattle.fuse_wire.specs.declared.opcodes.Opcode.{Opcode}
+use Rattle.fuse_wire.specs.declared.opcodes.Opcode.TheVariants as op
+use Rattle.fuse_wire.specs.Opcodes.{opcode_of}
+use Rattle.fuse_fs.specs.Calls.{FileCall, FileAnswer, Forget, BatchForget, HasEntry, Created}
+use Rattle.fuse_segments.specs.declared.error.Error.TheVariants.{EncodeMessage}
+use Rattle.fuse_replies.specs.Entries.{entry_len}
+use Rattle.virtiofsd_fuse.specs.Grammar.{Meaning, Asks, One, meaning}
+use Rattle.virtiofsd_fuse.specs.Serving.{May}
+use Rattle.fs_device.specs.declared.exchange.Fault.{Fault}
+use Rattle.fs_device.specs.declared.exchange.Fault.TheVariants as fault
+use Rattle.fs_device.specs.Step.{State}
+use Rattle.fs_device.specs.Run.{Turn, Told, Command, Answer, RunTold}
+
+-- ---- what the file system was asked, and what it answered
+
+-- how many entries of a node an answer has
+abbrev pub entry_count : (node : ℕ) → FileAnswer → ℕ
+entry_count n (HasEntry e) = if e.inode == n then 1 else 0
+entry_count n (Created e handle options) = if e.inode == n then 1 else 0
+entry_count n _ = 0
+
+-- the count of a pair, where it is the node's
+abbrev pub pair_count : (node : ℕ) → ℕ × ℕ → ℕ
+pair_count n pair = if pair.0 == n then pair.1 else 0
+
+-- how many counts of a node a call takes back
+abbrev pub forget_count : (node : ℕ) → FileCall → ℕ
+forget_count n (Forget who node count) = pair_count n (node, count)
+forget_count n (BatchForget who counts) = sum_by (pair_count n) counts
+forget_count n _ = 0
+
+-- the entries of a node that the file system answered
+abbrev pub answered : (node : ℕ) → Turn → ℕ
+answered n t = sum_by (λ step. entry_count n step.1) t.calls
+
+-- the counts of a node that it was sent back
+abbrev pub sent : (node : ℕ) → Turn → ℕ
+sent n t = sum_by (λ step. forget_count n step.0) t.calls
+
+-- ---- what the bytes of requests and replies say (linux/fuse.h)
+
+-- the number that stands at a place, its lowest byte first
+abbrev pub number_at : Width → List ℕ → (place : ℕ) → ℕ
+number_at w bytes place = from_le_bytes w (take (byte_len w) (drop place bytes))
+
+-- the request that the header names: its number has four bytes after the length
+abbrev pub opcode_in : (request : List ℕ) → Option Opcode
+opcode_in request = opcode_of (number_at w32 request 4)
+
+-- the requests whose good reply begins with struct fuse_entry_out
+abbrev pub replies_entry : Opcode → Bool
+replies_entry op.Lookup = true
+replies_entry op.Symlink = true
+replies_entry op.Mknod = true
+replies_entry op.Mkdir = true
+replies_entry op.Link = true
+replies_entry op.Create = true
+replies_entry _ = false
+
+-- the request whose good reply is a list of struct fuse_direntplus
+abbrev pub lists_nodes : Opcode → Bool
+lists_nodes op.Readdirplus = true
+lists_nodes _ = false
+
+-- struct fuse_entry_out and struct fuse_direntplus begin with the node
+abbrev pub first_node : List ℕ → ℕ
+first_node bytes = number_at w64 bytes 0
+
+-- the length of a name, in struct fuse_direntplus
+abbrev pub name_len_of : List ℕ → ℕ
+name_len_of bytes = number_at w32 bytes 144
+
+-- the nodes of a list of struct fuse_direntplus, each with its name behind it; there are no more of them than bytes
+unfoldable pub nodes_listed : (most : ℕ) → List ℕ → List ℕ
+nodes_listed zero bytes = []
+nodes_listed (suc most) bytes =
+    if length bytes == 0 then [] else first_node bytes ∷ nodes_listed most (drop (entry_len true (name_len_of bytes)) bytes)
+
+-- the nodes of the entries in what follows the header of a reply; of an error nothing follows it
+abbrev pub nodes_of : Opcode → (body : List ℕ) → List ℕ
+nodes_of opcode body =
+    if length body == 0 then []
+    else if replies_entry opcode then first_node body ∷ []
+    else if lists_nodes opcode then nodes_listed (length body) body
+    else []
+
+-- a number that names no request has no nodes in its reply
+abbrev pub nodes_in : Option Opcode → (body : List ℕ) → List ℕ
+nodes_in None body = []
+nodes_in (Some opcode) body = nodes_of opcode body
+
+-- the entries of a node that were written, by the bytes of request and reply alone; struct fuse_out_header has 16 bytes
+abbrev pub written : (node : ℕ) → Turn → ℕ
+written n t = count_by (λ k. k == n) (nodes_in (opcode_in t.exchange.request) (drop 16 t.exchange.reply))
+
+-- whether the reply was longer than its room
+abbrev pub is_lost : Option Fault → Bool
+is_lost (Some (fault.Served EncodeMessage)) = true
+is_lost _ = false
+
+-- the entries of a node that were answered, and whose reply was lost
+abbrev pub lost : (node : ℕ) → Turn → ℕ
+lost n t = if is_lost t.exchange.fault then answered n t else 0
+
+-- the counts of a node that a request takes back, by what it means
+abbrev pub forgets_meant : (node : ℕ) → Meaning → ℕ
+forgets_meant n (Asks (One unique call)) = forget_count n call
+forgets_meant n _ = 0
+
+-- the counts of a node that the driver took back by FORGET and BATCH_FORGET, where their call was made; neither the options that were
+-- agreed nor the room matters to what these say
+abbrev pub accepted : (node : ℕ) → Turn → ℕ
+accepted n t = if length t.calls == 0 then 0 else forgets_meant n (meaning 0 t.exchange.request 0)
+
+-- ---- over whole runs
+
+-- over all exchanges of a run
+abbrev pub over : (Turn → ℕ) → List Told → ℕ
+over amount tolds = sum_by (λ told. sum_by amount told) tolds
+
+-- answered minus sent is written plus lost minus accepted
+abbrev pub IsBalanced : (node : ℕ) → List Told → Type 0
+IsBalanced n tolds = over (answered n) tolds + over (accepted n) tolds ≡ over (written n) tolds + over (lost n) tolds + over (sent n) tolds
+
+-- each run balances, whatever the state that it begins in, for each node but 0, which stands for no node
+abbrev pub Balances : {F : Type 0} → May F → Type 0
+Balances {F} may =
+    (s after : State F) (events : List (Command × Answer)) (tolds : List Told) (n : ℕ) → n ≢ 0 → RunTold may s events tolds after → IsBalanced n tolds
+
+-- a run that balances for each node but 0
+abbrev pub BalancedRun : {F : Type 0} → May F → State F → List (Command × Answer) → State F → Type 0
+BalancedRun may s events after = (tolds : List Told) × RunTold may s events tolds after × ((n : ℕ) → n ≢ 0 → IsBalanced n tolds)

@@ -1,0 +1,54 @@
+-- Worked offers that compute, behind a table: a queue of one descriptor, its table at 0, its rings at 0x10 and 0x18, a room of 4 bytes at 0x28.
+use Rattle.std.specs.Prelude.{◌≡◌, ℕ, ◌+◌, false, List, [], ◌∷◌, refl}
+use Rattle.vm_iotlb.specs.declared.permissions.Permissions.{Permissions}
+use Rattle.vm_iotlb.specs.declared.permissions.Permissions.TheVariants.{Read, Write, ReadWrite}
+use Rattle.vm_iotlb.specs.declared.range.IotlbRange.{IotlbRange}
+use Rattle.vm_iotlb.specs.Ranges.{table_kept}
+use Rattle.vm_memory.specs.Layout.{place}
+use Rattle.vm_memory.specs.Memory.{Memory, addresses, io_memory}
+use Rattle.fs_queue.specs.declared.fault.ChainFault.TheVariants.{RoomUnreachable}
+use Rattle.fs_queue.specs.declared.fault.QueueError.TheVariants as stop
+use Rattle.fs_queue.specs.Chain.{path, found}
+use Rattle.fs_queue.specs.Taking.{Offer, Refuses, Offers, Asks, CannotAsk, offer}
+
+-- a descriptor of the room, then the available ring with head 0 at position 0, then the used ring and the room
+abbrev block_bytes : List ℕ
+block_bytes =
+    0x28 ∷ 0 ∷ 0 ∷ 0 ∷ 0 ∷ 0 ∷ 0 ∷ 0 ∷ 4 ∷ 0 ∷ 0 ∷ 0 ∷ 2 ∷ 0 ∷ 0 ∷ 0
+    ∷ 0 ∷ 0 ∷ 1 ∷ 0 ∷ 0 ∷ 0 ∷ 0 ∷ 0
+    ∷ 0 ∷ 0 ∷ 0 ∷ 0 ∷ 0 ∷ 0 ∷ 0 ∷ 0 ∷ 0 ∷ 0 ∷ 0 ∷ 0 ∷ 0 ∷ 0 ∷ 0 ∷ 0
+    ∷ 0 ∷ 0 ∷ 0 ∷ 0 ∷ []
+
+-- I/O addresses from start up to end are mapped to those 0x100 higher
+abbrev range : (start end : ℕ) → Permissions → IotlbRange
+range start end perm = record { start = start; end = end; target = 0x100 + start; perm = perm }
+
+-- these bytes at 0x100, behind a table
+abbrev memory : List IotlbRange → Memory
+memory ranges =
+    io_memory (record { blocks = record { bytes = block_bytes; marks = false ∷ [] } ∷ []; tables = ranges ∷ []; io_marks = [] })
+    (record { start = 0x100; size = 0x2c; block = 0 } ∷ []) 0 0
+
+-- what the queue offers there
+abbrev gives : List IotlbRange → Offer
+gives ranges = offer (memory ranges) 0x1000 (record { size = 1; desc = 0; avail = 0x10; used = 0x18; position = 0; stopped = false })
+
+-- all may be read and written
+room_offered : gives (range 0 0x2c ReadWrite ∷ []) ≡ Offers 0 (Asks [] (addresses 0x28 4))
+unfolding offer place addresses table_kept path found
+room_offered = refl
+
+-- the ring's entry isn't mapped
+entry_unmapped : gives (range 0 0x14 ReadWrite ∷ []) ≡ Refuses stop.RingEntryUnreachable
+unfolding offer place addresses table_kept path found
+entry_unmapped = refl
+
+-- the room may be read alone
+room_not_written : gives (range 0 0x28 ReadWrite ∷ range 0x28 0x2c Read ∷ []) ≡ Offers 0 (CannotAsk RoomUnreachable)
+unfolding offer place addresses table_kept path found
+room_not_written = refl
+
+-- it need not be read, nor need the used ring
+room_written : gives (range 0 0x18 Read ∷ range 0x18 0x2c Write ∷ []) ≡ Offers 0 (Asks [] (addresses 0x28 4))
+unfolding offer place addresses table_kept path found
+room_written = refl
