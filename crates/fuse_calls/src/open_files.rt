@@ -4,7 +4,7 @@ ghost use Rattle.fuse_calls.specs.Requests.{open_call, release_call, fsync_call,
 ghost use Rattle.std.specs.Prelude.{◌≡◌, ◌||◌};
 ghost use Rattle.vm_values.specs.Bits.{has_bit};
 
-use crate::received::received;
+use crate::received::{received, received_count, received_offset, received_opened};
 use crate::requests::RecordRequest;
 use fuse_fs::{Context, FileNumber, FileSystem};
 use fuse_in::{
@@ -44,7 +44,7 @@ impl<F: FileSystem> RecordRequest<F> for Open {
         request: &OpenIn,
     ) -> Result<(Option<F::Handle>, OpenOptions), Errno> {
         let kill_priv = request.open_flags & OPEN_KILL_SUIDGID != 0;
-        received(fs.open(
+        received_opened(fs.open(
             Context::from(*head),
             F::Inode::numbered(head.nodeid),
             kill_priv,
@@ -155,7 +155,7 @@ impl<F: FileSystem> RecordRequest<F> for Opendir {
         head: &InHeader,
         request: &OpenIn,
     ) -> Result<(Option<F::Handle>, OpenOptions), Errno> {
-        received(fs.opendir(
+        received_opened(fs.opendir(
             Context::from(*head),
             F::Inode::numbered(head.nodeid),
             request.flags,
@@ -216,7 +216,7 @@ impl<F: FileSystem> RecordRequest<F> for Lseek {
     ghost call = { lseek_call };
 
     fn ask(fs: &mut F, head: &InHeader, request: &LseekIn) -> Result<u64, Errno> {
-        received(fs.lseek(
+        received_offset(fs.lseek(
             Context::from(*head),
             F::Inode::numbered(head.nodeid),
             F::Handle::numbered(request.fh),
@@ -237,7 +237,7 @@ impl<F: FileSystem> RecordRequest<F> for CopyFileRange {
     ghost call = { copy_file_range_call };
 
     fn ask(fs: &mut F, head: &InHeader, request: &CopyfilerangeIn) -> Result<u32, Errno> {
-        received(fs.copyfilerange(
+        received_count(fs.copyfilerange(
             Context::from(*head),
             F::Inode::numbered(head.nodeid),
             F::Handle::numbered(request.fh_in),

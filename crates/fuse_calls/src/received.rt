@@ -1,9 +1,10 @@
 //! Answers of a file system as they come.
 
-ghost use Rattle.std.specs.Prelude.{◌≡◌, ◌<◌, ◌^◌, IfOk, IfErr};
-ghost use Rattle.fuse_fs.specs.Answers.{done_answer};
+ghost use Rattle.std.specs.Prelude.{◌≡◌, ◌<◌, ◌^◌, true, Ok, IfOk, IfErr, option_map};
+ghost use Rattle.fuse_fs.specs.Answers.{done_answer, value_answer, names_answer};
+ghost use Rattle.fuse_fs.specs.Calls.{is_handle, is_of, IsBytesOrCount};
 
-use fuse_fs::{Entry, FileNumber, Silence};
+use fuse_fs::{Entry, FileNumber, GetxattrReply, ListxattrReply, Silence};
 use fuse_wire::{Errno, OpenOptions};
 
 /// An answer as it came. An error's number is from 1 to 4095, which is told here once for all calls.
@@ -35,19 +36,98 @@ pub fn received_entry<I: FileNumber>(answer: Result<Entry<I>, Errno>) -> Result<
     }
 }
 
-/// A created file as it came. The number of its node is below 2^64.
+// An open file's number as it came, below 2^64 where there is one.
+fn received_handle<H: FileNumber>(handle: Option<H>) -> Option<H>
+    ensures same { result ≡ handle }
+    ensures handle { is_handle (option_map H.number result) ≡ true }
+{
+    match handle {
+        Some(handle) => {
+            let _number = handle.as_number();
+            Some(handle)
+        }
+        None => None,
+    }
+}
+
+/// An opened file as it came. Its number is below 2^64.
+pub fn received_opened<H: FileNumber>(
+    answer: Result<(Option<H>, OpenOptions), Errno>,
+) -> Result<(Option<H>, OpenOptions), Errno>
+    ensures same { result ≡ answer }
+    ensures errno { IfErr result (λ e. (0 < e) × (e < 4096)) }
+    ensures handle { IfOk result (λ r. is_handle (option_map H.number r.0) ≡ true) }
+{
+    match received(answer) {
+        Ok((handle, options)) => Ok((received_handle(handle), options)),
+        Err(error) => Err(error),
+    }
+}
+
+/// A created file as it came. The numbers of its node and of the open file are below 2^64.
 pub fn received_file<I: FileNumber, H: FileNumber>(
     answer: Result<(Entry<I>, Option<H>, OpenOptions), Errno>,
 ) -> Result<(Entry<I>, Option<H>, OpenOptions), Errno>
     ensures same { result ≡ answer }
     ensures errno { IfErr result (λ e. (0 < e) × (e < 4096)) }
     ensures node { IfOk result (λ r. I.number r.0.inode < 2 ^ 64) }
+    ensures handle { IfOk result (λ r. is_handle (option_map H.number r.1) ≡ true) }
 {
     match received(answer) {
         Ok((entry, handle, options)) => {
             let _number = entry.inode.as_number();
-            Ok((entry, handle, options))
+            Ok((entry, received_handle(handle), options))
         }
+        Err(error) => Err(error),
+    }
+}
+
+/// A count as it came, below 2^32.
+pub fn received_count(answer: Result<u32, Errno>) -> Result<u32, Errno>
+    ensures same { result ≡ answer }
+    ensures errno { IfErr result (λ e. (0 < e) × (e < 4096)) }
+    ensures count { IfOk result (λ n. n < 2 ^ 32) }
+{
+    match received(answer) {
+        Ok(count) => Ok(count),
+        Err(error) => Err(error),
+    }
+}
+
+/// A place in a file as it came, below 2^64.
+pub fn received_offset(answer: Result<u64, Errno>) -> Result<u64, Errno>
+    ensures same { result ≡ answer }
+    ensures errno { IfErr result (λ e. (0 < e) × (e < 4096)) }
+    ensures offset { IfOk result (λ n. n < 2 ^ 64) }
+{
+    match received(answer) {
+        Ok(offset) => Ok(offset),
+        Err(error) => Err(error),
+    }
+}
+
+/// A value, or its count, as it came.
+pub fn received_value(answer: Result<GetxattrReply, Errno>) -> Result<GetxattrReply, Errno>
+    ensures same { result ≡ answer }
+    ensures errno { IfErr result (λ e. (0 < e) × (e < 4096)) }
+    ensures value { IfOk result (λ r. is_of IsBytesOrCount (value_answer (Ok r)) ≡ true) }
+{
+    match received(answer) {
+        Ok(GetxattrReply::Value(value)) => Ok(GetxattrReply::Value(value)),
+        Ok(GetxattrReply::Count(count)) => Ok(GetxattrReply::Count(count)),
+        Err(error) => Err(error),
+    }
+}
+
+/// Names, or their count, as they came.
+pub fn received_names(answer: Result<ListxattrReply, Errno>) -> Result<ListxattrReply, Errno>
+    ensures same { result ≡ answer }
+    ensures errno { IfErr result (λ e. (0 < e) × (e < 4096)) }
+    ensures names { IfOk result (λ r. is_of IsBytesOrCount (names_answer (Ok r)) ≡ true) }
+{
+    match received(answer) {
+        Ok(ListxattrReply::Names(names)) => Ok(ListxattrReply::Names(names)),
+        Ok(ListxattrReply::Count(count)) => Ok(ListxattrReply::Count(count)),
         Err(error) => Err(error),
     }
 }

@@ -3,7 +3,7 @@
 ghost use Rattle.std.specs.Prelude.{◌≡◌, bit_and};
 ghost use Rattle.fuse_calls.specs.Requests.{getxattr_call, listxattr_call, setxattr_call, known_setxattr};
 
-use crate::received::received;
+use crate::received::{received, received_names, received_value};
 use crate::requests::{RecordNameRequest, RecordRequest, TwoPartsRequest};
 use bitflags::Flags;
 use fuse_fs::{Context, FileNumber, FileSystem, GetxattrReply, ListxattrReply};
@@ -27,7 +27,7 @@ impl<F: FileSystem> RecordNameRequest<F> for Getxattr {
         name: &[u8],
     ) -> Result<GetxattrReply, Errno> {
         let inode = F::Inode::numbered(head.nodeid);
-        received(fs.getxattr(Context::from(*head), inode, name, request.size))
+        received_value(fs.getxattr(Context::from(*head), inode, name, request.size))
     }
 }
 
@@ -43,7 +43,7 @@ impl<F: FileSystem> RecordRequest<F> for Listxattr {
 
     fn ask(fs: &mut F, head: &InHeader, request: &GetxattrIn) -> Result<ListxattrReply, Errno> {
         let inode = F::Inode::numbered(head.nodeid);
-        received(fs.listxattr(Context::from(*head), inode, request.size))
+        received_names(fs.listxattr(Context::from(*head), inode, request.size))
     }
 }
 

@@ -1,5 +1,5 @@
 -- What a server asks of a file system, and what it may be answered.
-use Rattle.std.specs.Prelude.{◌≡◌, ℕ, Bool, true, false, not, ◌&&◌, IsTrue, nat_lt, nat_le, ◌^◌, List, [], ◌∷◌, length, Option}
+use Rattle.std.specs.Prelude.{◌≡◌, ℕ, Bool, true, false, not, ◌&&◌, IsTrue, nat_lt, nat_le, ◌^◌, List, [], ◌∷◌, length, Option, Some, None}
 use Rattle.fuse_base.specs.declared.records.Attr.{Attr}
 use Rattle.fuse_base.specs.declared.stats.StatVfs.{StatVfs}
 use Rattle.fuse_in.specs.declared.nodes.SetattrIn.{SetattrIn}
@@ -141,21 +141,26 @@ never_fails (BatchForget c counts) = true
 never_fails Destroy = true
 never_fails _ = false
 
--- whether a good answer is of a kind; a node's number has 64 bits
+-- an open file's number, where there is one, has 64 bits
+abbrev pub is_handle : Option ℕ → Bool
+is_handle None = true
+is_handle (Some handle) = nat_lt handle (2 ^ 64)
+
+-- whether a good answer is of a kind; numbers of nodes, open files, places and options have 64 bits, counts 32
 abbrev pub is_of : Kind → FileAnswer → Bool
 is_of IsDone Done = true
 is_of IsEntry (HasEntry e) = nat_lt e.inode (2 ^ 64)
 is_of IsAttr (HasAttr a t) = true
-is_of IsOpen (Opened h o) = true
-is_of IsCreate (Created e h o) = nat_lt e.inode (2 ^ 64)
+is_of IsOpen (Opened h o) = is_handle h
+is_of IsCreate (Created e h o) = nat_lt e.inode (2 ^ 64) && is_handle h
 is_of IsBytes (Bytes b) = true
 is_of IsBytesOrCount (Bytes b) = true
-is_of IsBytesOrCount (Count n) = true
+is_of IsBytesOrCount (Count n) = nat_lt n (2 ^ 32)
 is_of IsStats (Stats st) = true
-is_of IsWritten (Wrote n) = true
-is_of IsOffset (Offset n) = true
+is_of IsWritten (Wrote n) = nat_lt n (2 ^ 32)
+is_of IsOffset (Offset n) = nat_lt n (2 ^ 64)
 is_of IsEntries (Entries ds) = true
-is_of IsWish (Wants o) = true
+is_of IsWish (Wants o) = nat_lt o (2 ^ 64)
 is_of _ _ = false
 
 -- whether an answer is one that the call can have

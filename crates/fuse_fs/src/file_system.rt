@@ -60,13 +60,15 @@ pub trait FileSystemBase {
     // From a state, a call may have this answer and leave that state.
     ghost may: { Self → FileCall → FileAnswer → Self → Type 0 };
 
-    /// The guest holds a node this many times less.
+    /// The guest holds a node this many times less. Node 0 comes too: READDIRPLUS takes back an entry without a node, `.` and
+    /// `..` among them, as it does one with a node.
     fn forget(&mut self, ctx: Context, inode: Self::Inode, count: u64)
         ensures may { may self.old (call.Forget ctx (Self.Inode.number inode) count) call.Done self.new };
 }
 
 /// A file system, by what it may answer. Each call's answer stands in the relation `may`, which the implementer names; what
-/// a call does where a file system has nothing of its own to do stands in `defaults`. The server hands in names without a zero byte.
+/// a call does where a file system has nothing of its own to do stands in `defaults`. The names of requests that the server
+/// hands in have no zero byte; those that READDIRPLUS looks up are the file system's own, as its listing gave them.
 pub trait FileSystem: FileSystemBase {
     type DirIter: DirectoryIterator;
 

@@ -1,5 +1,5 @@
 -- Replies whole, by the answers that are told (linux/fuse.h).
-use Rattle.std.specs.Prelude.{ℕ, ◌+◌, ◌-◌, ◌/◌, ◌^◌, ◌%◌, Bool, ◌&&◌, nat_lt, List, [], ◌++◌, length, replicate, Option, Some, None, Result, Ok, Err, if◌then◌else◌, pos, neg_ℤ}
+use Rattle.std.specs.Prelude.{◌≡◌, ℕ, ◌+◌, ◌-◌, ◌/◌, ◌^◌, ◌%◌, Bool, ◌&&◌, nat_lt, List, [], ◌++◌, length, replicate, Option, Some, None, Result, Ok, Err, if◌then◌else◌, pos, neg_ℤ}
 use Rattle.vm_values.specs.Fields.{spelled}
 use Rattle.fuse_base.specs.Stats.{kstatfs_from}
 use Rattle.fuse_wire.specs.declared.replies.InitOut.{InitOut}
@@ -8,6 +8,7 @@ use Rattle.fuse_fs.specs.Answers.{entry_out_of}
 use Rattle.fuse_fs.specs.Replies.{attr_out_of, open_out_of, getxattr_out_of, write_out_of, lseek_out_of}
 use Rattle.fuse_fs.specs.Calls.{FileAnswer, Failed, HasEntry, HasAttr, Opened, Created, Bytes, Count, Stats, Wrote, Offset}
 use Rattle.fuse_segments.specs.declared.error.Error.{Error}
+use Rattle.fuse_segments.specs.Views.{WriterView}
 use Rattle.fuse_segments.specs.declared.error.Error.TheVariants.{EncodeMessage}
 
 -- struct fuse_out_header and what follows it
@@ -86,3 +87,8 @@ told (Err e) written = Err e
 -- a reply whole, or the fault that it is longer than the room
 abbrev pub sent : (room : ℕ) → List ℕ → Result (List ℕ) Error
 sent room bytes = if nat_lt room (length bytes) then Err EncodeMessage else Ok bytes
+
+-- what an answer leaves in its writer: a reply of that length, in the room that there was; after an error nothing has changed
+abbrev pub LeavesWriter : Result ℕ Error → (old new : WriterView) → Type 0
+LeavesWriter (Ok n) old new = (n ≡ length new.written) × (length new.written + new.free ≡ length old.written + old.free)
+LeavesWriter (Err e) old new = new ≡ old

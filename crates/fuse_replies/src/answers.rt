@@ -1,9 +1,10 @@
 //! Answers of a file system as they are told.
 
-ghost use Rattle.std.specs.Prelude.{◌≡◌, ◌<◌, ◌^◌, ◌++◌, [], length, Ok, IfOk};
+ghost use Rattle.std.specs.Prelude.{◌≡◌, ◌<◌, ◌^◌, ◌++◌, [], length, Ok, false};
 ghost use Rattle.vm_values.specs.Fields.{spelled};
 ghost use Rattle.fuse_wire.specs.Records.{entry_out, open_out};
-ghost use Rattle.fuse_replies.specs.WholeReplies.{told, sent, told_bytes};
+ghost use Rattle.fuse_replies.specs.WholeReplies.{told, sent, told_bytes, LeavesWriter};
+ghost use Rattle.fuse_segments.specs.Errors.{lacks_memory};
 
 use crate::replies::{reply, reply_error, reply_record};
 use fuse_fs::replies::{attr_out, getxattr_out, lseek_out, open_out, write_out};
@@ -19,7 +20,8 @@ pub trait AsReply: Answer {
         requires fresh { w.old.written ≡ [] }
         requires room { w.old.free < 2 ^ 32 }
         ensures sent { told result w.new.written ≡ sent w.old.free (told_bytes Self.silent unique (Self.said (Ok self))) }
-        ensures length { IfOk result (λ n. n ≡ length w.new.written) };
+        ensures writer { LeavesWriter result w.old w.new }
+        ensures memory { lacks_memory result ≡ false };
 }
 
 /// Replies with an answer.
@@ -31,7 +33,8 @@ pub fn reply_answer<A: AsReply>(
     requires fresh { w.old.written ≡ [] }
     requires room { w.old.free < 2 ^ 32 }
     ensures sent { told result w.new.written ≡ sent w.old.free (told_bytes A.silent unique (A.said answer)) }
-    ensures length { IfOk result (λ n. n ≡ length w.new.written) }
+    ensures writer { LeavesWriter result w.old w.new }
+    ensures memory { lacks_memory result ≡ false }
 {
     match answer {
         Ok(good) => good.reply(w, unique),

@@ -155,6 +155,7 @@ pub fn reply_listing(w: &mut Writer, unique: u64, with_nodes: bool, error: Optio
     requires small { length w.old.written < 2 ^ 32 }
     ensures reply { w.new.written ≡ listing_bytes unique with_nodes (drop 16 w.old.written) error }
     ensures length { result ≡ length w.new.written }
+    ensures room { length w.new.written + w.new.free ≡ length w.old.written + w.old.free }
 {
     let len = w.bytes_written() - OUT_HEADER_LEN;
     reply_data(w, unique, ended_by(len, with_nodes, error))

@@ -1,10 +1,11 @@
 //! Replies, whole or not at all.
 
-ghost use Rattle.std.specs.Prelude.{◌≡◌, ◌+◌, ◌<◌, ◌≤◌, ◌^◌, [], ◌++◌, length, drop, IfOk};
+ghost use Rattle.std.specs.Prelude.{◌≡◌, ◌+◌, ◌<◌, ◌≤◌, ◌^◌, [], ◌++◌, length, drop, false};
 ghost use Rattle.std.specs.Result.{ForOk};
 ghost use Rattle.vm_values.specs.Fields.{spelled};
 ghost use Rattle.fuse_wire.specs.Records.{out_header};
-ghost use Rattle.fuse_replies.specs.WholeReplies.{reply_bytes, error_bytes, data_reply, told, sent};
+ghost use Rattle.fuse_replies.specs.WholeReplies.{reply_bytes, error_bytes, data_reply, told, sent, LeavesWriter};
+ghost use Rattle.fuse_segments.specs.Errors.{lacks_memory};
 
 use fuse_segments::{Error, Writer};
 use fuse_wire::{Errno, OutHeader};
@@ -37,6 +38,7 @@ pub fn append(w: &mut Writer, bytes: &[u8])
     requires { length bytes.now ≤ w.old.free }
     ensures written { w.new.written ≡ w.old.written ++ bytes.now }
     ensures free { w.new.free + length bytes.now ≡ w.old.free }
+    ensures room { length w.new.written + w.new.free ≡ length w.old.written + w.old.free }
 {
     w.write_all(bytes).unwrap();
 }
@@ -47,7 +49,8 @@ pub fn reply(w: &mut Writer, unique: u64, body: &[u8]) -> Result<usize, Error>
     requires fresh { w.old.written ≡ [] }
     requires room { w.old.free < 2 ^ 32 }
     ensures sent { told result w.new.written ≡ sent w.old.free (reply_bytes unique body.now) }
-    ensures length { IfOk result (λ n. n ≡ length w.new.written) }
+    ensures writer { LeavesWriter result w.old w.new }
+    ensures memory { lacks_memory result ≡ false }
 {
     let room = w.available_bytes();
     if room < OUT_HEADER_LEN || room - OUT_HEADER_LEN < body.len() {
@@ -64,7 +67,8 @@ pub fn reply_record<T: ByteValued>(w: &mut Writer, unique: u64, body: &T) -> Res
     requires fresh { w.old.written ≡ [] }
     requires room { w.old.free < 2 ^ 32 }
     ensures sent { told result w.new.written ≡ sent w.old.free (reply_bytes unique (spelled (T.fields body.now))) }
-    ensures length { IfOk result (λ n. n ≡ length w.new.written) }
+    ensures writer { LeavesWriter result w.old w.new }
+    ensures memory { lacks_memory result ≡ false }
 {
     let mut buffer = [0; 256];
     body.put_bytes(&mut buffer[..T::SIZE]);
@@ -76,7 +80,8 @@ pub fn reply_record<T: ByteValued>(w: &mut Writer, unique: u64, body: &T) -> Res
 pub fn reply_error(w: &mut Writer, unique: u64, error: Errno) -> Result<usize, Error>
     requires fresh { w.old.written ≡ [] }
     ensures sent { told result w.new.written ≡ sent w.old.free (error_bytes unique error) }
-    ensures length { IfOk result (λ n. n ≡ length w.new.written) }
+    ensures writer { LeavesWriter result w.old w.new }
+    ensures memory { lacks_memory result ≡ false }
 {
     if w.available_bytes() < OUT_HEADER_LEN {
         return Err(Error::EncodeMessage);
@@ -92,6 +97,7 @@ pub fn reply_data(w: &mut Writer, unique: u64, answer: Result<usize, Errno>) -> 
     requires small { length w.old.written < 2 ^ 32 }
     ensures reply { w.new.written ≡ data_reply unique answer (drop 16 w.old.written) }
     ensures length { result ≡ length w.new.written }
+    ensures room { length w.new.written + w.new.free ≡ length w.old.written + w.old.free }
 {
     match answer {
         Ok(n) => {

@@ -1,5 +1,5 @@
 -- The faults by their numbers.
-use Rattle.std.specs.Prelude.{ℕ, Bool, true, false}
+use Rattle.std.specs.Prelude.{ℕ, Bool, true, false, Result, Ok, Err}
 use Rattle.fuse_segments.specs.declared.error.Error.{Error}
 use Rattle.fuse_segments.specs.declared.error.Error.TheVariants.{DecodeMessage, EncodeMessage, FlushMessage, MissingParameter, MissingExtension}
 use Rattle.fuse_segments.specs.declared.error.Error.TheVariants.{InvalidHeaderLength, InvalidCString, InvalidCString2, InvalidXattrSize, DescriptorChainOverflow, SplitOutOfBounds, IoError, OutOfMemory}
@@ -24,3 +24,8 @@ error_number OutOfMemory = 13
 abbrev pub is_memory : Error → Bool
 is_memory OutOfMemory = true
 is_memory _ = false
+
+-- whether an answer says that memory is wanting
+abbrev pub lacks_memory : Result ℕ Error → Bool
+lacks_memory (Ok n) = false
+lacks_memory (Err e) = is_memory e

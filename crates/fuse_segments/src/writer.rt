@@ -214,6 +214,22 @@ impl Writer {
         Writer::over(alloc, size, segments)
     }
 
+    /// A writer without room. It takes no memory.
+    pub fn empty(alloc: Global) -> Writer
+        ensures written { result.written ≡ [] }
+        ensures room { (result.free ≡ 0) × (result.segments ≡ []) }
+        ensures rejoin { (result.rejoin ≡ 0) × (result.spare ≡ 0) }
+    {
+        Writer {
+            bytes: Vec::new(alloc),
+            room: 0,
+            segments: SmallVec::new(alloc),
+            place: START,
+            rejoin: 0,
+            spare: 0,
+        }
+    }
+
     // A writer of so much room, in these segments.
     fn over(alloc: Global, room: usize, segments: Lengths) -> Result<Writer, Error>
         requires sum { sum segments.items ≡ room }

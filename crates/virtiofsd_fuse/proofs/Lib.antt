@@ -1,4 +1,5 @@
 pub mod ForgetLemmas
+pub mod Left
 pub mod ListingLemmas
 pub mod Options
 pub mod Rows

@@ -1,6 +1,6 @@
 -- The rows of the grammar, by what was read.
 use Rattle.std.proofs.Common.{◌≡◌, ℕ, ◌+◌, ◌-◌, ◌<◌, ◌≤◌, true, false, List, [], ◌++◌, length, Result, Ok, Err, Option, None, refl, sym, ap, ◌∙◌, arith, Bool}
-use Rattle.std.specs.Prelude.{IsTrue, nat_le, bit_and, ◌*◌, ◌^◌, IfErr, drop}
+use Rattle.std.specs.Prelude.{IsTrue, nat_le, bit_and, ◌*◌, ◌^◌, IfErr, IfOk, drop}
 use Rattle.std.proofs.lemmas.Bool.{lt-ltb, le-ltb}
 use Rattle.std.proofs.lemmas.Bool.Decides.{nat_tests}
 use Rattle.fuse_in.specs.declared.session.InHeader.{InHeader}
@@ -191,9 +191,10 @@ write_asks g bytes more r h = rw (← h) refl
 pub write_short : (g : Given) (bytes : List ℕ) (e : Error) → Err (Faults e) ≡ reading_of write_in bytes → ended g.header.unique (write_row g bytes) ≡ IsFault e
 write_short g bytes e h = rw (← h) refl
 
-pub write_suits : (h : InHeader) (r : WriteIn) (bytes : List ℕ) (answer : Result ℕ ℕ) → IfErr answer (λ e. (0 < e) × (e < 4096)) → IsTrue (suits (write_call h r bytes) (written_answer answer))
-write_suits h r bytes (Ok n) k = refl
-write_suits h r bytes (Err n) k = grind (arith, nat_tests, k.0, k.1)
+pub write_suits : (h : InHeader) (r : WriteIn) (bytes : List ℕ) (answer : Result ℕ ℕ) → IfErr answer (λ e. (0 < e) × (e < 4096)) → IfOk answer (λ n. n < 2 ^ 32)
+    → IsTrue (suits (write_call h r bytes) (written_answer answer))
+write_suits h r bytes (Ok n) k c = grind (arith, nat_tests, c)
+write_suits h r bytes (Err n) k c = grind (arith, nat_tests, k.0, k.1)
 
 -- a listing, by its record
 pub listing_short : (with_nodes : Bool) (g : Given) (bytes : List ℕ) (e : Error) → Err (Faults e) ≡ reading_of read_in bytes → ended g.header.unique (listing_row with_nodes g bytes) ≡ IsFault e

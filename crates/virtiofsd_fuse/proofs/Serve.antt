@@ -14,7 +14,7 @@ use Rattle.fuse_calls.specs.Requests.{options_after}
 use Rattle.virtiofsd_fuse.specs.Serving.{start_answered, lacks_memory, list_ended, list_answered}
 use Rattle.fuse_segments.specs.Errors.{is_memory}
 use Rattle.fuse_segments.specs.declared.error.Error.{Error}
-use Rattle.fuse_segments.specs.declared.error.Error.TheVariants.{EncodeMessage, OutOfMemory}
+use Rattle.fuse_segments.specs.declared.error.Error.TheVariants.{EncodeMessage}
 
 told_by : (t : Bool) (calls : List FileCall) (options : ℕ) (bytes : List ℕ) (result : Result ℕ Error) (written : List ℕ) → told result written ≡ cond t (Err EncodeMessage) (Ok bytes)
     → cond t (no_reply calls options (Some EncodeMessage)) (record { calls = calls; options = options; reply = bytes; fault = None }) ≡ served_of calls options result written
@@ -67,10 +67,6 @@ module _ {F : Type 0} (may : F → FileCall → FileAnswer → F → Type 0) whe
   -- a fault, or memory is wanting and nothing is done
   pub handles_refusal : (s : Setting) (m : Meaning) (e : Error) (before : F) (written : List ℕ) → (is_memory e ≡ false → m ≡ IsFault e) → Handles may s m before (Err e) written s.options before
   handles_refusal s m e before written h = refused_by (is_memory e) s m e before written refl h
-
-  -- no memory
-  pub handles_nothing : (s : Setting) (m : Meaning) (before : F) (written : List ℕ) → Handles may s m before (Err OutOfMemory) written s.options before
-  handles_nothing s m before written = (refl, refl)
 
   -- one call, and its reply
   pub handles_one : (s : Setting) (m : Meaning) (unique : ℕ) (call : FileCall) (answer : FileAnswer) (before after : F) (result : Result ℕ Error)

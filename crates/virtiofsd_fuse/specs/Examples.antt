@@ -3,6 +3,7 @@ use Rattle.std.specs.Prelude.{◌≡◌, ℕ, true, false, ◌+◌, ◌-◌, ◌
 use Rattle.std.specs.Int.{w16, w32, w64, to_le_bytes}
 use Rattle.vm_values.specs.Fields.{field_bytes}
 use Rattle.fuse_fs.specs.declared.answers.Context.{Context}
+use Rattle.fuse_fs.specs.declared.answers.Entry.{Entry}
 use Rattle.fuse_fs.specs.Calls.{FileAnswer, Lookup, Forget, Getattr, Mkdir, Release, Rename, Wants, Listed, Readdir, Entries, HasEntry, Done}
 use Rattle.fuse_segments.specs.declared.error.Error.TheVariants.{DecodeMessage, EncodeMessage, InvalidHeaderLength, InvalidXattrSize, MissingExtension}
 use Rattle.fuse_requests.specs.Reading.{reading_of, last_name, two_names, name_and_value, front_name}
@@ -11,7 +12,7 @@ use Rattle.virtiofsd_fuse.specs.Grammar.{meaning, meant, row, IsFault, Asks, One
 use Rattle.fuse_requests.specs.Fronts.{counted, with_bytes, setxattr_front}
 use Rattle.fuse_replies.specs.WholeReplies.{error_bytes, reply_bytes, versions_bytes, started_bytes}
 use Rattle.virtiofsd_fuse.specs.Listings.{list_entries}
-use Rattle.fuse_replies.specs.Entries.{fit_of, dirent_bytes, node_bytes, no_node}
+use Rattle.fuse_replies.specs.Entries.{entry_len, fit_of, GoesIn, IsWrong, dirent_bytes, node_bytes, no_node}
 use Rattle.virtiofsd_fuse.specs.Serving.{Served, served, setting}
 
 -- who asks: nobody in particular
@@ -161,8 +162,22 @@ no_room_listed : (serve (list_root 28 64) 79 (Entries (itself ∷ named_a ∷ []
 unfolding meaning meant reading_of row error_bytes field_bytes list_entries fit_of dirent_bytes
 no_room_listed = refl
 
+-- the node of `a`, which is node 2
+abbrev node_of_a : Entry ℕ
+node_of_a = record (no_node named_a) { inode = 2 }
+
 -- READDIRPLUS: `.` fills the list without a look-up, and the node of `a`, which was looked up, is taken back
-plus_means : (serve (list_root 44 160) 176 (Entries (itself ∷ named_a ∷ []) ∷ HasEntry (no_node named_a) ∷ Done ∷ [])).calls
-    ≡ Readdir nobody 1 0 160 0 ∷ Lookup nobody 1 (97 ∷ []) ∷ Forget nobody 0 1 ∷ []
+plus_means : (serve (list_root 44 160) 176 (Entries (itself ∷ named_a ∷ []) ∷ HasEntry node_of_a ∷ Done ∷ [])).calls
+    ≡ Readdir nobody 1 0 160 0 ∷ Lookup nobody 1 (97 ∷ []) ∷ Forget nobody 2 1 ∷ []
 unfolding meaning meant reading_of row reply_bytes field_bytes list_entries fit_of dirent_bytes node_bytes
 plus_means = refl
+
+-- a name whose length has more than 32 bits is the error 75, however much room there is
+long_name : fit_of (2 ^ 32) (entry_len false (2 ^ 32)) (2 ^ 33) (2 ^ 33) ≡ IsWrong 75
+unfolding fit_of
+long_name = refl
+
+-- one byte less is not
+longest_name : fit_of (2 ^ 32 - 1) (entry_len false (2 ^ 32 - 1)) (2 ^ 33) (2 ^ 33) ≡ GoesIn
+unfolding fit_of
+longest_name = refl

@@ -255,3 +255,35 @@ with_header options room (Ok x) = meant (given x.0 options room) x.1
 -- what a request means
 unfoldable pub meaning : (options : ℕ) (request : List ℕ) (room : ℕ) → Meaning
 meaning options request room = with_header options room (reading_of in_header request)
+
+-- the requests that may take memory: names and values that stand in several segments, extensions, and lists of nodes
+abbrev pub takes_memory : Opcode → Bool
+takes_memory op.Lookup = true
+takes_memory op.Symlink = true
+takes_memory op.Mknod = true
+takes_memory op.Mkdir = true
+takes_memory op.Unlink = true
+takes_memory op.Rmdir = true
+takes_memory op.Rename = true
+takes_memory op.Link = true
+takes_memory op.Setxattr = true
+takes_memory op.Getxattr = true
+takes_memory op.Removexattr = true
+takes_memory op.Create = true
+takes_memory op.BatchForget = true
+takes_memory op.Rename2 = true
+takes_memory _ = false
+
+-- an opcode's, or none
+abbrev pub row_takes_memory : Option Opcode → Bool
+row_takes_memory None = false
+row_takes_memory (Some opcode) = takes_memory opcode
+
+-- by the header that was read, or none
+abbrev pub header_takes_memory : Result (InHeader × List ℕ) ReadFailure → Bool
+header_takes_memory (Err r) = false
+header_takes_memory (Ok x) = row_takes_memory (opcode_of x.0.opcode)
+
+-- whether a request may take memory
+abbrev pub may_take_memory : List ℕ → Bool
+may_take_memory request = header_takes_memory (reading_of in_header request)

@@ -10,9 +10,10 @@ use Rattle.virtiofsd_fuse.specs.declared.server.Server.{Server}
 use Rattle.fuse_requests.specs.Reading.{Reading}
 use Rattle.virtiofsd_fuse.specs.Listings.{Listing, Went, list_entries, readdir_call}
 use Rattle.virtiofsd_fuse.specs.Grammar.{Meaning, IsFault, Replies, IsSilent, Asks, FileCommand, One, Starts, Lists, Given, given, ended, row, default_options}
-use Rattle.fuse_replies.specs.WholeReplies.{reply_bytes, error_bytes, started_bytes, told_bytes, listing_bytes}
+use Rattle.fuse_segments.specs.Views.{WriterView}
+use Rattle.fuse_replies.specs.WholeReplies.{reply_bytes, error_bytes, started_bytes, told_bytes, listing_bytes, LeavesWriter}
 use Rattle.fuse_calls.specs.Requests.{is_silent, options_after}
-pub use Rattle.fuse_segments.specs.Errors.{is_memory}
+pub use Rattle.fuse_segments.specs.Errors.{is_memory, lacks_memory}
 
 -- what serving gives so far: the calls, the last of which may wait for its answer, the options after, the reply, and the fault if there is one
 pub record Served : Type 0 where
@@ -106,11 +107,6 @@ pub record Serves {F : Type 0} (may : May F) (s : Setting) (m : Meaning) (before
   pub run : FileRun may before steps after
   pub gives : served s m (map (λ step. step.1) steps) ≡ served_of (map (λ step. step.0) steps) options result written
 
--- whether the server's answer says that memory is wanting
-abbrev pub lacks_memory : Result ℕ Error → Bool
-lacks_memory (Ok n) = false
-lacks_memory (Err e) = is_memory e
-
 -- a request is served, or memory is wanting and nothing has changed
 abbrev pub Handles : {F : Type 0} → May F → Setting → Meaning → F → Result ℕ Error → List ℕ → ℕ → F → Type 0
 Handles may s m before result written options after =
@@ -132,3 +128,8 @@ abbrev pub OpcodeHandles : {F : Type 0} → May F → Server F → (room : ℕ) 
     → List ℕ → Result ℕ Error → List ℕ → Server F → Type 0
 OpcodeHandles may before room head opcode bytes result written after =
     RowHandles may before room head (λ g. row g opcode) bytes result written after
+
+-- what a row leaves besides: its writer, and the page size; memory is wanting only where the row takes some
+abbrev pub Leaves : {F : Type 0} → (takes : Bool) → Result ℕ Error → (old new : WriterView) → (before after : Server F) → Type 0
+Leaves takes result old new before after =
+    LeavesWriter result old new × (takes ≡ false → lacks_memory result ≡ false) × (after.page_size ≡ before.page_size)

@@ -1,8 +1,8 @@
 //! BATCH_FORGET: many nodes are held less.
 
-ghost use Rattle.std.specs.Prelude.{◌≡◌, ◌<◌, ◌^◌, [], length, IfOk};
+ghost use Rattle.std.specs.Prelude.{◌≡◌, ◌<◌, ◌^◌, [], length, IfOk, true};
 ghost use Rattle.virtiofsd_fuse.specs.Grammar.{batch_forget_row, forgets_asked};
-ghost use Rattle.virtiofsd_fuse.specs.Serving.{RowHandles};
+ghost use Rattle.virtiofsd_fuse.specs.Serving.{RowHandles, Leaves};
 
 use crate::server::Server;
 use crate::session::silence;
@@ -31,8 +31,7 @@ impl<F: FileSystem> Server<F> {
         requires fresh { w.old.written ≡ [] }
         requires room { w.old.free < 2 ^ 32 }
         ensures handles { RowHandles F.may self.old w.old.free head.now (forgets_asked count) r.old.left result w.new.written self.new }
-        ensures length { IfOk result (λ n. n ≡ length w.new.written) }
-        ensures page_size { self.new.page_size ≡ self.old.page_size }
+        ensures rest { Leaves true result w.old w.new self.old self.new }
     {
         if count > MAX_FORGETS {
             return reply_error(w, head.unique, Errno::ENOMEM);
@@ -57,8 +56,7 @@ impl<F: FileSystem> Server<F> {
         requires fresh { w.old.written ≡ [] }
         requires room { w.old.free < 2 ^ 32 }
         ensures handles { RowHandles F.may self.old w.old.free head.now batch_forget_row r.old.left result w.new.written self.new }
-        ensures length { IfOk result (λ n. n ≡ length w.new.written) }
-        ensures page_size { self.new.page_size ≡ self.old.page_size }
+        ensures rest { Leaves true result w.old w.new self.old self.new }
     {
         match read_record::<BatchForgetIn>(r) {
             Ok(request) => self.forget_pairs(alloc, head, request.count, r, w),

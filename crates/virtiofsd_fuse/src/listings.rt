@@ -8,7 +8,7 @@ ghost use Rattle.fuse_replies.specs.Entries.{dirent_bytes, node_bytes, entry_len
 ghost use Rattle.virtiofsd_fuse.specs.Listings.{listing_of, readdir_call, undo_call};
 ghost use Rattle.virtiofsd_fuse.specs.ListingRuns.{ListRun, EntryRun};
 ghost use Rattle.virtiofsd_fuse.specs.Grammar.{listing_row, listing_asked};
-ghost use Rattle.virtiofsd_fuse.specs.Serving.{RowHandles};
+ghost use Rattle.virtiofsd_fuse.specs.Serving.{RowHandles, Leaves};
 
 use crate::server::Server;
 use fuse_calls::nodes::Lookup;
@@ -151,8 +151,7 @@ impl<F: FileSystem> Server<F> {
         requires fresh { w.old.written ≡ [] }
         requires room { w.old.free < 2 ^ 32 }
         ensures handles { (more : List ℕ) → RowHandles F.may self.old w.old.free head.now (listing_asked with_nodes request.now) more result w.new.written self.new }
-        ensures length { IfOk result (λ n. n ≡ length w.new.written) }
-        ensures page_size { self.new.page_size ≡ self.old.page_size }
+        ensures rest { Leaves false result w.old w.new self.old self.new }
     {
         let room = w.available_bytes();
         if request.size > MAX_BUFFER_SIZE {
@@ -185,8 +184,7 @@ impl<F: FileSystem> Server<F> {
         requires fresh { w.old.written ≡ [] }
         requires room { w.old.free < 2 ^ 32 }
         ensures handles { RowHandles F.may self.old w.old.free head.now (listing_row with_nodes) r.old.left result w.new.written self.new }
-        ensures length { IfOk result (λ n. n ≡ length w.new.written) }
-        ensures page_size { self.new.page_size ≡ self.old.page_size }
+        ensures rest { Leaves false result w.old w.new self.old self.new }
     {
         match read_record(r) {
             Ok(request) => self.list(head, &request, with_nodes, w),

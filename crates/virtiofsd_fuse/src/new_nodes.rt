@@ -1,8 +1,8 @@
 //! Requests that make a node.
 
-ghost use Rattle.std.specs.Prelude.{◌≡◌, ◌<◌, ◌^◌, [], length, IfOk};
+ghost use Rattle.std.specs.Prelude.{◌≡◌, ◌<◌, ◌^◌, [], length, IfOk, true};
 ghost use Rattle.virtiofsd_fuse.specs.Grammar.{new_name_row, symlink_row};
-ghost use Rattle.virtiofsd_fuse.specs.Serving.{RowHandles};
+ghost use Rattle.virtiofsd_fuse.specs.Serving.{RowHandles, Leaves};
 
 use crate::server::Server;
 use fuse_calls::new_nodes::ask_symlink;
@@ -30,8 +30,7 @@ impl<F: FileSystem> Server<F> {
         requires fresh { w.old.written ≡ [] }
         requires room { w.old.free < 2 ^ 32 }
         ensures handles { RowHandles F.may self.old w.old.free head.now (new_name_row R.Record.shape R.Record.SIZE R.call) r.old.left result w.new.written self.new }
-        ensures length { IfOk result (λ n. n ≡ length w.new.written) }
-        ensures page_size { self.new.page_size ≡ self.old.page_size }
+        ensures rest { Leaves true result w.old w.new self.old self.new }
     {
         match read_with_bytes::<R::Record>(alloc, head.len, r) {
             Ok(front) => match new_name(self.options, &front.bytes) {
@@ -65,8 +64,7 @@ impl<F: FileSystem> Server<F> {
         requires fresh { w.old.written ≡ [] }
         requires room { w.old.free < 2 ^ 32 }
         ensures handles { RowHandles F.may self.old w.old.free head.now symlink_row r.old.left result w.new.written self.new }
-        ensures length { IfOk result (λ n. n ≡ length w.new.written) }
-        ensures page_size { self.new.page_size ≡ self.old.page_size }
+        ensures rest { Leaves true result w.old w.new self.old self.new }
     {
         match read_counted(alloc, head.len, 0, r) {
             Ok(bytes) => match new_link(self.options, &bytes) {

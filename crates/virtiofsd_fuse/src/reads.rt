@@ -1,11 +1,11 @@
 //! READ: bytes of a file go straight into the reply.
 
-ghost use Rattle.std.specs.Prelude.{◌≡◌, ℕ, ◌+◌, ◌<◌, ◌^◌, List, [], ◌++◌, length, IfOk, IfErr};
+ghost use Rattle.std.specs.Prelude.{◌≡◌, ℕ, ◌+◌, ◌<◌, ◌^◌, List, [], ◌++◌, length, IfOk, IfErr, false};
 ghost use Rattle.vm_values.specs.Bits.{has_bit};
 ghost use Rattle.fuse_fs.specs.Answers.{data_answer};
 ghost use Rattle.fuse_calls.specs.Requests.{read_call, if_set};
 ghost use Rattle.virtiofsd_fuse.specs.Grammar.{read_row, read_asked};
-ghost use Rattle.virtiofsd_fuse.specs.Serving.{RowHandles};
+ghost use Rattle.virtiofsd_fuse.specs.Serving.{RowHandles, Leaves};
 
 use crate::server::Server;
 use fuse_calls::received::received;
@@ -41,6 +41,7 @@ impl<F: FileSystem> Server<F> {
         ensures read { (bytes : List ℕ) × (into.new.writer.written ≡ into.old.writer.written ++ bytes)
             × (into.old.writer.free ≡ into.new.writer.free + length bytes) × IfOk result (λ n. n ≡ length bytes)
             × F.may self.old.fs (read_call head.now into.old.writer.free request.now) (data_answer result bytes) self.new.fs }
+        ensures room { length into.new.writer.written + into.new.writer.free ≡ length into.old.writer.written + into.old.writer.free }
         ensures errno { IfErr result (λ e. (0 < e) × (e < 4096)) }
         ensures options { self.new.options ≡ self.old.options }
         ensures page_size { self.new.page_size ≡ self.old.page_size }
@@ -70,16 +71,14 @@ impl<F: FileSystem> Server<F> {
         requires fresh { w.old.written ≡ [] }
         requires room { w.old.free < 2 ^ 32 }
         ensures handles { (more : List ℕ) → RowHandles F.may self.old w.old.free head.now (λ g. read_asked g request.now) more result w.new.written self.new }
-        ensures length { IfOk result (λ n. n ≡ length w.new.written) }
-        ensures page_size { self.new.page_size ≡ self.old.page_size }
+        ensures rest { Leaves false result w.old w.new self.old self.new }
     {
         let room = w.available_bytes();
         if room < OUT_HEADER_LEN {
             return Err(Error::EncodeMessage);
         }
-        let none = Writer::of_length(alloc, 0)?;
         append(w, &[0; OUT_HEADER_LEN]);
-        let writer = mem::replace(w, none);
+        let writer = mem::replace(w, Writer::empty(alloc));
         let mut data = ZcWriter { writer };
         let answer = self.ask_read(head, request, &mut data);
         let ZcWriter { writer } = data;
@@ -98,8 +97,7 @@ impl<F: FileSystem> Server<F> {
         requires fresh { w.old.written ≡ [] }
         requires room { w.old.free < 2 ^ 32 }
         ensures handles { RowHandles F.may self.old w.old.free head.now read_row r.old.left result w.new.written self.new }
-        ensures length { IfOk result (λ n. n ≡ length w.new.written) }
-        ensures page_size { self.new.page_size ≡ self.old.page_size }
+        ensures rest { Leaves false result w.old w.new self.old self.new }
     {
         match read_record(r) {
             Ok(request) => self.read_data(alloc, head, &request, w),

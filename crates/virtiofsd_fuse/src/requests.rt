@@ -1,8 +1,8 @@
 //! Requests of one shape: they are read, they ask one call, and the client is told its answer.
 
-ghost use Rattle.std.specs.Prelude.{◌≡◌, ◌<◌, ◌^◌, [], length, IfOk};
+ghost use Rattle.std.specs.Prelude.{◌≡◌, ◌<◌, ◌^◌, [], length, IfOk, true, false};
 ghost use Rattle.virtiofsd_fuse.specs.Grammar.{plain_row, record_row, name_row, record_name_row, two_names_row};
-ghost use Rattle.virtiofsd_fuse.specs.Serving.{RowHandles};
+ghost use Rattle.virtiofsd_fuse.specs.Serving.{RowHandles, Leaves};
 
 use crate::server::Server;
 use fuse_calls::requests::{
@@ -29,8 +29,7 @@ impl<F: FileSystem> Server<F> {
         requires fresh { w.old.written ≡ [] }
         requires room { w.old.free < 2 ^ 32 }
         ensures handles { RowHandles F.may self.old w.old.free head.now (record_row R.Record.shape R.call) r.old.left result w.new.written self.new }
-        ensures length { IfOk result (λ n. n ≡ length w.new.written) }
-        ensures page_size { self.new.page_size ≡ self.old.page_size }
+        ensures rest { Leaves false result w.old w.new self.old self.new }
     {
         match read_record(r) {
             Ok(request) => {
@@ -53,8 +52,7 @@ impl<F: FileSystem> Server<F> {
         requires fresh { w.old.written ≡ [] }
         requires room { w.old.free < 2 ^ 32 }
         ensures handles { RowHandles F.may self.old w.old.free head.now (plain_row R.call) r.now.left result w.new.written self.new }
-        ensures length { IfOk result (λ n. n ≡ length w.new.written) }
-        ensures page_size { self.new.page_size ≡ self.old.page_size }
+        ensures rest { Leaves false result w.old w.new self.old self.new }
     {
         let answer = R::ask(&mut self.fs, head);
         reply_answer(w, head.unique, answer)
@@ -73,8 +71,7 @@ impl<F: FileSystem> Server<F> {
         requires fresh { w.old.written ≡ [] }
         requires room { w.old.free < 2 ^ 32 }
         ensures handles { RowHandles F.may self.old w.old.free head.now (name_row R.call) r.old.left result w.new.written self.new }
-        ensures length { IfOk result (λ n. n ≡ length w.new.written) }
-        ensures page_size { self.new.page_size ≡ self.old.page_size }
+        ensures rest { Leaves true result w.old w.new self.old self.new }
     {
         match read_counted(alloc, head.len, 0, r) {
             Ok(bytes) => match last_name(&bytes) {
@@ -101,8 +98,7 @@ impl<F: FileSystem> Server<F> {
         requires fresh { w.old.written ≡ [] }
         requires room { w.old.free < 2 ^ 32 }
         ensures handles { RowHandles F.may self.old w.old.free head.now (record_name_row R.Record.shape R.Record.SIZE R.call) r.old.left result w.new.written self.new }
-        ensures length { IfOk result (λ n. n ≡ length w.new.written) }
-        ensures page_size { self.new.page_size ≡ self.old.page_size }
+        ensures rest { Leaves true result w.old w.new self.old self.new }
     {
         match read_with_bytes::<R::Record>(alloc, head.len, r) {
             Ok(front) => match last_name(&front.bytes) {
@@ -129,8 +125,7 @@ impl<F: FileSystem> Server<F> {
         requires fresh { w.old.written ≡ [] }
         requires room { w.old.free < 2 ^ 32 }
         ensures handles { RowHandles F.may self.old w.old.free head.now (two_names_row R.Record.shape R.Record.SIZE R.call) r.old.left result w.new.written self.new }
-        ensures length { IfOk result (λ n. n ≡ length w.new.written) }
-        ensures page_size { self.new.page_size ≡ self.old.page_size }
+        ensures rest { Leaves true result w.old w.new self.old self.new }
     {
         match read_with_bytes::<R::Record>(alloc, head.len, r) {
             Ok(front) => match two_names(&front.bytes) {

@@ -1,9 +1,10 @@
 //! The server: it reads a request, asks its file system, and writes the reply (virtiofsd's `Server`).
 
-ghost use Rattle.std.specs.Prelude.{◌≡◌, ◌<◌, ◌≤◌, ◌^◌, [], length, IfOk, OnOk, IsTrue};
+ghost use Rattle.std.specs.Prelude.{◌≡◌, ◌+◌, ◌<◌, ◌≤◌, ◌^◌, false, [], length, IfOk, OnOk, OnErr, IsTrue};
 ghost use Rattle.fuse_wire.specs.Opcodes.{opcode_of};
 ghost use Rattle.fuse_replies.specs.PageSizes.{is_page_size};
-ghost use Rattle.virtiofsd_fuse.specs.Grammar.{given, meant, meaning, unserved_row};
+ghost use Rattle.fuse_segments.specs.Errors.{lacks_memory};
+ghost use Rattle.virtiofsd_fuse.specs.Grammar.{given, meant, meaning, unserved_row, takes_memory, row_takes_memory, may_take_memory};
 
 use bitflags::Flags;
 use fuse_calls::links::{Link, Rename, Rename2};
@@ -46,7 +47,7 @@ fn opcode_of(number: u32) -> Option<Opcode>
 }
 
 impl<F: FileSystem> Server<F> {
-    ghost use Rattle.virtiofsd_fuse.specs.Serving.{ServerHandles, RowHandles, OpcodeHandles};
+    ghost use Rattle.virtiofsd_fuse.specs.Serving.{ServerHandles, RowHandles, OpcodeHandles, Leaves};
 
     /// A server with which nothing was agreed yet. The guest's pages have `page_size` bytes.
     pub fn new(fs: F, page_size: u32) -> Server<F>
@@ -102,8 +103,7 @@ impl<F: FileSystem> Server<F> {
     fn unserved(&mut self, head: &InHeader, r: &Reader<'_>, w: &mut Writer) -> Result<usize, Error>
         requires fresh { w.old.written ≡ [] }
         ensures handles { RowHandles F.may self.old w.old.free head.now unserved_row r.now.left result w.new.written self.new }
-        ensures length { IfOk result (λ n. n ≡ length w.new.written) }
-        ensures page_size { self.new.page_size ≡ self.old.page_size }
+        ensures rest { Leaves false result w.old w.new self.old self.new }
     {
         reply_error(w, head.unique, Errno::ENOSYS)
     }
@@ -121,8 +121,7 @@ impl<F: FileSystem> Server<F> {
         requires fresh { w.old.written ≡ [] }
         requires room { w.old.free < 2 ^ 32 }
         ensures handles { OpcodeHandles F.may self.old w.old.free head.now opcode r.old.left result w.new.written self.new }
-        ensures length { IfOk result (λ n. n ≡ length w.new.written) }
-        ensures page_size { self.new.page_size ≡ self.old.page_size }
+        ensures rest { Leaves (takes_memory opcode) result w.old w.new self.old self.new }
     {
         match opcode {
             Opcode::Lookup => self.name_request::<Lookup>(alloc, head, r, w),
@@ -187,8 +186,7 @@ impl<F: FileSystem> Server<F> {
         requires fresh { w.old.written ≡ [] }
         requires room { w.old.free < 2 ^ 32 }
         ensures handles { ServerHandles F.may self.old w.old.free (meant (given head.now self.old.options.0 w.old.free) r.old.left) result w.new.written self.new }
-        ensures length { IfOk result (λ n. n ≡ length w.new.written) }
-        ensures page_size { self.new.page_size ≡ self.old.page_size }
+        ensures rest { Leaves (row_takes_memory (opcode_of head.now.opcode)) result w.old w.new self.old self.new }
     {
         if head.len > MAX_REQUEST_LEN {
             return reply_error(w, head.unique, Errno::ENOMEM);
@@ -200,8 +198,9 @@ impl<F: FileSystem> Server<F> {
     }
 
     /// Serves one request, which is what the reader has left: what its bytes mean, by calls of the file system that may be
-    /// answered so. Answers the reply's length; the reply stands in the writer, whose free bytes are its room, and which holds
-    /// anything after an error. `OutOfMemory` comes before any call.
+    /// answered so. Answers the reply's length; the reply stands in the writer, whose free bytes are its room. A fault leaves
+    /// the writer as it was. `OutOfMemory` comes before any call.
+    #[tactic(auto, using(crate::proofs::Left::left_length, crate::proofs::Left::left_room, crate::proofs::Left::left_same))]
     pub fn handle_message(
         &mut self,
         alloc: Global,
@@ -213,6 +212,9 @@ impl<F: FileSystem> Server<F> {
         ensures handles { ServerHandles F.may self.old w.old.free (meaning self.old.options.0 r.entry.left w.old.free) result w.new.written self.new }
         ensures length { IfOk result (λ n. n ≡ length w.new.written) }
         ensures fits { OnOk result (length w.new.written ≤ w.old.free) }
+        ensures free { OnOk result (length w.new.written + w.new.free ≡ w.old.free) }
+        ensures same { OnErr result (w.new ≡ w.old) }
+        ensures memory { may_take_memory r.entry.left ≡ false → lacks_memory result ≡ false }
         ensures page_size { self.new.page_size ≡ self.old.page_size }
     {
         match read_record(&mut r) {

@@ -1,10 +1,10 @@
 //! The start of a conversation.
 
-ghost use Rattle.std.specs.Prelude.{◌≡◌, ℕ, ◌<◌, ◌^◌, List, [], length, IfOk, IsTrue, bit_and, Ok};
+ghost use Rattle.std.specs.Prelude.{◌≡◌, ℕ, ◌<◌, ◌^◌, List, [], length, IfOk, IsTrue, bit_and, Ok, false};
 ghost use Rattle.fuse_fs.specs.Answers.{options_answer};
 ghost use Rattle.fuse_fs.specs.Calls.{suits, Init, Destroy, Done};
 ghost use Rattle.virtiofsd_fuse.specs.Grammar.{plain_row, silent_row, init_row, started, known_options};
-ghost use Rattle.virtiofsd_fuse.specs.Serving.{RowHandles, agreed};
+ghost use Rattle.virtiofsd_fuse.specs.Serving.{RowHandles, Leaves, agreed};
 
 use crate::server::Server;
 use bitflags::Flags;
@@ -41,7 +41,13 @@ impl<F: FileSystem> Server<F> {
         ensures page_size { self.new.page_size ≡ self.old.page_size }
         ensures options { self.new.options ≡ self.old.options }
     {
-        received(self.fs.init(capable))
+        match received(self.fs.init(capable)) {
+            Ok(wanted) => {
+                let _bits = wanted.bits();
+                Ok(wanted)
+            }
+            Err(error) => Err(error),
+        }
     }
 
     // INIT, by its records: the versions first, and then what both sides can.
@@ -56,8 +62,7 @@ impl<F: FileSystem> Server<F> {
         requires room { w.old.free < 2 ^ 32 }
         ensures handles { (more : List ℕ)
             → RowHandles F.may self.old w.old.free head.now (λ g. started g request.now flags2) more result w.new.written self.new }
-        ensures length { IfOk result (λ n. n ≡ length w.new.written) }
-        ensures page_size { self.new.page_size ≡ self.old.page_size }
+        ensures rest { Leaves false result w.old w.new self.old self.new }
     {
         if request.major < KERNEL_VERSION {
             return reply_error(w, head.unique, Errno::EPROTO);
@@ -90,8 +95,7 @@ impl<F: FileSystem> Server<F> {
         requires fresh { w.old.written ≡ [] }
         requires room { w.old.free < 2 ^ 32 }
         ensures handles { RowHandles F.may self.old w.old.free head.now init_row r.old.left result w.new.written self.new }
-        ensures length { IfOk result (λ n. n ≡ length w.new.written) }
-        ensures page_size { self.new.page_size ≡ self.old.page_size }
+        ensures rest { Leaves false result w.old w.new self.old self.new }
     {
         match read_record(r) {
             Ok(request) => match read_flags2(&request, r) {
@@ -111,8 +115,7 @@ impl<F: FileSystem> Server<F> {
     ) -> Result<usize, Error>
         requires fresh { w.now.written ≡ [] }
         ensures handles { RowHandles F.may self.old w.now.free head.now silent_row r.now.left result w.now.written self.new }
-        ensures length { IfOk result (λ n. n ≡ length w.now.written) }
-        ensures page_size { self.new.page_size ≡ self.old.page_size }
+        ensures rest { Leaves false result w.now w.now self.old self.new }
     {
         silence()
     }
@@ -136,8 +139,7 @@ impl<F: FileSystem> Server<F> {
     ) -> Result<usize, Error>
         requires fresh { w.now.written ≡ [] }
         ensures handles { RowHandles F.may self.old w.now.free head.now (plain_row (λ h. Destroy)) r.now.left result w.now.written self.new }
-        ensures length { IfOk result (λ n. n ≡ length w.now.written) }
-        ensures page_size { self.new.page_size ≡ self.old.page_size }
+        ensures rest { Leaves false result w.now w.now self.old self.new }
     {
         self.destroy();
         silence()

@@ -1,14 +1,14 @@
 //! WRITE: a file is written with the rest of a request.
 
-ghost use Rattle.std.specs.Prelude.{◌≡◌, ◌<◌, ◌^◌, [], length, IfOk, IfErr};
+ghost use Rattle.std.specs.Prelude.{◌≡◌, ◌<◌, ◌^◌, [], length, IfOk, IfErr, false};
 ghost use Rattle.vm_values.specs.Bits.{has_bit};
 ghost use Rattle.fuse_fs.specs.Answers.{written_answer};
 ghost use Rattle.virtiofsd_fuse.specs.Grammar.{write_row};
 ghost use Rattle.fuse_calls.specs.Requests.{write_call, if_set};
-ghost use Rattle.virtiofsd_fuse.specs.Serving.{RowHandles};
+ghost use Rattle.virtiofsd_fuse.specs.Serving.{RowHandles, Leaves};
 
 use crate::server::Server;
-use fuse_calls::received::received;
+use fuse_calls::received::received_count;
 use fuse_fs::{Context, FileNumber, FileSystem};
 use fuse_in::{InHeader, WriteIn};
 use fuse_replies::answers::reply_answer;
@@ -40,12 +40,13 @@ impl<F: FileSystem> Server<F> {
     ) -> Result<u32, Errno>
         ensures may { F.may self.old.fs (write_call head.now request.now from.old.reader.left) (written_answer result) self.new.fs }
         ensures errno { IfErr result (λ e. (0 < e) × (e < 4096)) }
+        ensures count { IfOk result (λ n. n < 2 ^ 32) }
         ensures options { self.new.options ≡ self.old.options }
         ensures page_size { self.new.page_size ≡ self.old.page_size }
     {
         let delayed_write = request.write_flags & WRITE_CACHE != 0;
         let kill_priv = request.write_flags & WRITE_KILL_PRIV != 0;
-        received(
+        received_count(
             self.fs.write(
                 Context::from(*head),
                 F::Inode::numbered(head.nodeid),
@@ -72,8 +73,7 @@ impl<F: FileSystem> Server<F> {
         requires fresh { w.old.written ≡ [] }
         requires room { w.old.free < 2 ^ 32 }
         ensures handles { RowHandles F.may self.old w.old.free head.now write_row r.old.left result w.new.written self.new }
-        ensures length { IfOk result (λ n. n ≡ length w.new.written) }
-        ensures page_size { self.new.page_size ≡ self.old.page_size }
+        ensures rest { Leaves false result w.old w.new self.old self.new }
     {
         match read_record(r) {
             Ok(request) => {

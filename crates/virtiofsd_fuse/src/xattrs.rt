@@ -1,8 +1,8 @@
 //! Requests about extended attributes.
 
-ghost use Rattle.std.specs.Prelude.{◌≡◌, ◌<◌, ◌^◌, [], length, IfOk};
+ghost use Rattle.std.specs.Prelude.{◌≡◌, ◌<◌, ◌^◌, [], length, IfOk, true, false};
 ghost use Rattle.virtiofsd_fuse.specs.Grammar.{getxattr_row, listxattr_row, setxattr_row};
-ghost use Rattle.virtiofsd_fuse.specs.Serving.{RowHandles};
+ghost use Rattle.virtiofsd_fuse.specs.Serving.{RowHandles, Leaves};
 
 use crate::server::Server;
 use fuse_calls::requests::{RecordNameRequest, RecordRequest, TwoPartsRequest};
@@ -31,8 +31,7 @@ impl<F: FileSystem> Server<F> {
         requires fresh { w.old.written ≡ [] }
         requires room { w.old.free < 2 ^ 32 }
         ensures handles { RowHandles F.may self.old w.old.free head.now getxattr_row r.old.left result w.new.written self.new }
-        ensures length { IfOk result (λ n. n ≡ length w.new.written) }
-        ensures page_size { self.new.page_size ≡ self.old.page_size }
+        ensures rest { Leaves true result w.old w.new self.old self.new }
     {
         match read_with_bytes::<GetxattrIn>(alloc, head.len, r) {
             Ok(front) => {
@@ -61,8 +60,7 @@ impl<F: FileSystem> Server<F> {
         requires fresh { w.old.written ≡ [] }
         requires room { w.old.free < 2 ^ 32 }
         ensures handles { RowHandles F.may self.old w.old.free head.now listxattr_row r.old.left result w.new.written self.new }
-        ensures length { IfOk result (λ n. n ≡ length w.new.written) }
-        ensures page_size { self.new.page_size ≡ self.old.page_size }
+        ensures rest { Leaves false result w.old w.new self.old self.new }
     {
         match read_record::<GetxattrIn>(r) {
             Ok(request) => {
@@ -87,8 +85,7 @@ impl<F: FileSystem> Server<F> {
         requires fresh { w.old.written ≡ [] }
         requires room { w.old.free < 2 ^ 32 }
         ensures handles { RowHandles F.may self.old w.old.free head.now setxattr_row r.old.left result w.new.written self.new }
-        ensures length { IfOk result (λ n. n ≡ length w.new.written) }
-        ensures page_size { self.new.page_size ≡ self.old.page_size }
+        ensures rest { Leaves true result w.old w.new self.old self.new }
     {
         match read_setxattr(alloc, self.options, head.len, r) {
             Ok(front) => match name_and_value(&front.bytes, front.record.size) {

@@ -14,7 +14,7 @@ returns-in-Ok-clause-handles g c =
     handles_one g.F.FileSystemBase.may (setting c.args.self.now.page_size c.args.self.now.options.0 c.args.w.now.free) _ c.args.head.now.unique
     (write_call c.args.head.now c.in-Ok.request c.replace-reader.result.left) (written_answer c.ask_write-answer.result) _ _ _ _ _
     (rw left (write_asks (given c.args.head.now c.args.self.now.options.0 c.args.w.now.free) _ _ _ c.in-Ok.ensures.reads))
-    (write_suits c.args.head.now c.in-Ok.request c.replace-reader.result.left c.ask_write-answer.result c.ask_write-answer.ensures.errno)
+    (write_suits c.args.head.now c.in-Ok.request c.replace-reader.result.left c.ask_write-answer.result c.ask_write-answer.ensures.errno c.ask_write-answer.ensures.count)
     c.ask_write-answer.ensures.may
     (ap (λ (o : FsOptions). o.0) c.ask_write-answer.ensures.options)
     c.reply_answer.ensures.sent
