@@ -1,5 +1,5 @@
 -- the accounts of steps, kicks and runs
-use Rattle.std.proofs.Common.{◌≡◌, ℕ, zero, suc, ◌+◌, ◌-◌, ◌<◌, ◌≤◌, Bool, true, false, List, [], ◌∷◌, ◌++◌, map, length, drop, Option, Some, None, Ok, Err, refl, ap, sym, ◌∙◌, subst, arith}
+use Rattle.std.proofs.Common.{◌≡◌, ℕ, zero, suc, ◌+◌, ◌-◌, ◌≤◌, Bool, true, false, List, [], ◌∷◌, length, drop, Option, Some, None, refl, ap, sym, ◌∙◌, subst, arith}
 use Rattle.std.specs.Prelude.{◌==◌, ◌≢◌, if◌then◌else◌, IsTrue, nat_lt, sum_by, slice_get}
 use Rattle.std.proofs.lemmas.List.Sums.{sum_by-cons}
 use Rattle.std.proofs.lemmas.Bool.{le-ltb, lt-ltb}
@@ -9,7 +9,7 @@ use Rattle.fuse_fs.specs.Calls.{FileCall, FileAnswer, Listed, FileRun, suits, ki
 use Rattle.fuse_fs.specs.Calls as call
 use Rattle.fuse_segments.specs.declared.error.Error.{Error}
 use Rattle.fuse_segments.specs.declared.error.Error.TheVariants.{EncodeMessage}
-use Rattle.fuse_replies.specs.WholeReplies.{reply_bytes, error_bytes, listing_bytes}
+use Rattle.fuse_replies.specs.WholeReplies.{error_bytes, listing_bytes}
 use Rattle.fuse_calls.specs.Requests.{options_after}
 use Rattle.fs_queue.specs.declared.fault.ChainFault.{ChainFault}
 use Rattle.fs_queue.specs.Queue.{Queue}
@@ -17,11 +17,10 @@ use Rattle.fs_queue.specs.Taking.{Offer, Asks, CannotAsk, Refuses, Offers}
 use Rattle.fs_queue.specs.Taking as taking
 use Rattle.virtiofsd_fuse.specs.Grammar.{Meaning, IsFault, Replies, IsSilent, One, Starts, Lists, meaning}
 use Rattle.virtiofsd_fuse.specs.Grammar as grammar
-use Rattle.virtiofsd_fuse.specs.Listings.{Listing, Went, list_entries, readdir_call}
-use Rattle.virtiofsd_fuse.specs.Serving.{May, Served, Setting, setting, served, replied, no_reply, answer_bytes, start_options, start_answered, list_ended}
+use Rattle.virtiofsd_fuse.specs.Listings.{Listing, list_entries, readdir_call}
+use Rattle.virtiofsd_fuse.specs.Serving.{May, Served, Setting, setting, served, no_reply, answer_bytes, start_options, start_answered, list_ended}
 use Rattle.fuse_replies.proofs.ReplyLemmas.{length_reply, length_error}
 use Rattle.fs_device.specs.declared.error.DeviceError.{DeviceError}
-use Rattle.fs_device.specs.declared.exchange.Fault.{Fault}
 use Rattle.fs_device.specs.declared.refusal.Refusal.TheVariants as why
 use Rattle.fs_device.specs.Step.{State, Exchange, Calls, Exchanged, Exchanges, StepOf, faulty, served_fault, served_exchange}
 use Rattle.fs_device.specs.Run as run

@@ -1,6 +1,6 @@
 -- the accounts of a listing: what READDIRPLUS lists, looks up and takes back
-use Rattle.std.proofs.Common.{◌≡◌, ℕ, zero, suc, ◌+◌, ◌-◌, ◌^◌, ◌<◌, ◌≤◌, Bool, true, false, not, List, [], ◌∷◌, ◌++◌, map, length, Option, Some, None, refl, ap, sym, ◌∙◌, subst, arith, length-append}
-use Rattle.std.specs.Prelude.{◌==◌, ◌≢◌, if◌then◌else◌, IsTrue, nat_lt, count_by, sum_by}
+use Rattle.std.proofs.Common.{◌≡◌, ℕ, zero, suc, ◌+◌, ◌-◌, ◌^◌, ◌<◌, ◌≤◌, Bool, true, false, List, [], ◌∷◌, ◌++◌, map, length, refl, ap, sym, ◌∙◌, subst, arith, length-append}
+use Rattle.std.specs.Prelude.{◌==◌, ◌≢◌, if◌then◌else◌, IsTrue, count_by, sum_by}
 use Rattle.std.proofs.lemmas.List.Sums.{sum_by-cons}
 use Rattle.std.proofs.lemmas.Bool.{ltb-true}
 use Rattle.std.proofs.lemmas.Bool.Decides.{nat_tests}
@@ -9,7 +9,7 @@ use Rattle.fuse_fs.specs.declared.answers.Entry.{Entry}
 use Rattle.fuse_fs.specs.Calls.{FileCall, FileAnswer, Listed, suits}
 use Rattle.fuse_fs.specs.Calls as call
 use Rattle.fuse_replies.specs.Entries.{Fit, GoesIn, IsFull, IsWrong, fit_of, entry_len, entry_bytes, no_node, is_dot}
-use Rattle.virtiofsd_fuse.specs.Listings.{Listing, Went, Next, placed, nothing_more, undo_call, with_entry, after_call, looked_up, list_entry, list_entries}
+use Rattle.virtiofsd_fuse.specs.Listings.{Listing, Went, Next, placed, undo_call, with_entry, after_call, looked_up, list_entry, list_entries}
 use Rattle.fs_device.specs.Step.{Calls}
 use Rattle.fs_device.specs.Books.{entry_count, forget_count, nodes_listed}
 use Rattle.fs_device.proofs.NodeLemmas.{goes_in_fits, length_entry, nodes_more}

@@ -1,6 +1,6 @@
 -- what a request means fits the nodes in its reply
 use Rattle.std.proofs.Common.{◌≡◌, ℕ, ◌*◌, ◌-◌, ◌^◌, ◌<◌, ◌≤◌, Bool, true, false, List, [], ◌∷◌, ◌++◌, length, take, drop, Option, Some, None, Ok, Err, refl, ap, sym, ◌∙◌, subst, arith, append-nil}
-use Rattle.std.specs.Prelude.{◌==◌, if◌then◌else◌, Result, IsTrue, nat_lt, nat_le, count_by}
+use Rattle.std.specs.Prelude.{◌==◌, ◌&&◌, if◌then◌else◌, Result, IsTrue, nat_lt, nat_le, count_by}
 use Rattle.std.specs.Int.{w32, from_le_bytes}
 use Rattle.std.proofs.lemmas.Bool.{leb-true, ltb-true, ltb-false}
 use Rattle.std.proofs.lemmas.List.Sums.{sum_by-cons}
@@ -153,6 +153,11 @@ by_entry n o c unique (call.Offset k) begins told kind no_bytes fits = not_true 
 by_entry n o c unique (call.Entries ds) begins told kind no_bytes fits = not_true (rw kind at fits)
 by_entry n o c unique (call.Wants options) begins told kind no_bytes fits = not_true (rw kind at fits)
 
+-- where both hold, the first does
+first_holds : (a b : Bool) → (a && b) ≡ true → a ≡ true
+first_holds true b both = refl
+first_holds false b both = both
+
 by_creation : (n : ℕ) (o : Opcode) (c : FileCall) (unique : ℕ) (a : FileAnswer) → replies_entry o ≡ true → is_silent c ≡ false → kind_of c ≡ call.IsCreate →
     ((bytes : List ℕ) → suits c (call.Bytes bytes) ≡ false) → IsTrue (suits c a) →
     Counted n o unique c a
@@ -162,7 +167,7 @@ by_creation n o c unique (call.HasEntry e) begins told kind no_bytes fits = not_
 by_creation n o c unique (call.HasAttr attr timeout) begins told kind no_bytes fits = not_true (rw kind at fits)
 by_creation n o c unique (call.Opened handle options) begins told kind no_bytes fits = not_true (rw kind at fits)
 by_creation n o c unique (call.Created e handle options) begins told kind no_bytes fits =
-    rw told (entry_counts n o unique e (spelled (open_out (open_out_of handle options))) begins (node_fits e.inode (rw kind at fits)))
+    rw told (entry_counts n o unique e (spelled (open_out (open_out_of handle options))) begins (node_fits e.inode (first_holds (nat_lt e.inode (2 ^ 64)) (call.is_handle handle) (rw kind at fits))))
 by_creation n o c unique (call.Bytes bytes) begins told kind no_bytes fits = not_true (sym (no_bytes bytes) ∙ fits)
 by_creation n o c unique (call.Count k) begins told kind no_bytes fits = not_true (rw kind at fits)
 by_creation n o c unique (call.Stats st) begins told kind no_bytes fits = not_true (rw kind at fits)

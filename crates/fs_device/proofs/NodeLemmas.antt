@@ -1,6 +1,6 @@
 -- the nodes in the bytes of replies
-use Rattle.std.proofs.Common.{◌≡◌, ℕ, zero, suc, ◌+◌, ◌*◌, ◌/◌, ◌-◌, ◌^◌, ◌<◌, ◌≤◌, Bool, true, false, cond, List, [], ◌∷◌, ◌++◌, length, take, drop, Option, Some, None, refl, ap, sym, ◌∙◌, subst, arith, length-append, append_assoc}
-use Rattle.std.specs.Prelude.{◌==◌, if◌then◌else◌, replicate, pos, neg_ℤ, nat_lt, nat_le}
+use Rattle.std.proofs.Common.{◌≡◌, ℕ, zero, suc, ◌+◌, ◌-◌, ◌^◌, ◌<◌, ◌≤◌, Bool, true, false, List, [], ◌∷◌, ◌++◌, length, take, drop, Option, Some, None, refl, ap, ◌∙◌, arith, length-append, append_assoc}
+use Rattle.std.specs.Prelude.{◌==◌, if◌then◌else◌, replicate, pos, nat_lt, nat_le}
 use Rattle.std.specs.Int.{w32, w64, to_le_bytes, from_le_bytes}
 use Rattle.std.proofs.lemmas.Bool.{leb-false, ltb-false}
 use Rattle.std.proofs.lemmas.Bool.Decides.{nat_tests}
@@ -15,9 +15,9 @@ use Rattle.fuse_fs.specs.Answers.{entry_out_of}
 use Rattle.fuse_fs.specs.Replies.{dirent_of}
 use Rattle.fuse_fs.specs.Calls.{Listed}
 use Rattle.fuse_replies.specs.WholeReplies.{reply_bytes, error_bytes}
-use Rattle.fuse_replies.specs.Entries.{dirent_len, entry_len, dirent_bytes, node_bytes, entry_bytes, fit_of, Fit, GoesIn, IsFull, IsWrong, EIO, EOVERFLOW}
-use Rattle.fuse_replies.proofs.ReplyLemmas.{length_header, length_reply, length_error}
-use Rattle.fs_device.specs.Books.{number_at, replies_entry, lists_nodes, first_node, name_len_of, nodes_listed, nodes_of, nodes_in}
+use Rattle.fuse_replies.specs.Entries.{dirent_len, entry_len, dirent_bytes, node_bytes, entry_bytes, fit_of, GoesIn, IsFull, IsWrong, EIO, EOVERFLOW}
+use Rattle.fuse_replies.proofs.ReplyLemmas.{length_header, length_error}
+use Rattle.fs_device.specs.Books.{replies_entry, lists_nodes, first_node, name_len_of, nodes_listed, nodes_of, nodes_in}
 
 -- ---- what follows a header
 

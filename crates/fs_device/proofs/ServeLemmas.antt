@@ -1,5 +1,5 @@
 -- what the server's answer says
-use Rattle.std.proofs.Common.{◌≡◌, ℕ, true, false, ◌≤◌, List, [], length, map, ap, sym, ◌∙◌, refl, subst, Option, Some, None, Ok, Err}
+use Rattle.std.proofs.Common.{◌≡◌, ℕ, false, ◌≤◌, List, [], length, map, ap, sym, ◌∙◌, refl, subst, Option, Some, None, Ok, Err}
 use Rattle.vm_memory_core.specs.Host.{Host}
 use Rattle.vm_memory_core.specs.Window.{places, byte_in}
 use Rattle.vm_iotlb.specs.declared.permissions.Permissions.TheVariants.{Write}
@@ -9,10 +9,9 @@ use Rattle.fs_queue.specs.Taking.{Asked, Asks, CannotAsk}
 use Rattle.fs_queue.specs.Windows.{HoldsChain}
 use Rattle.fs_queue.proofs.TakeLemmas.{length-located}
 use Rattle.fuse_segments.specs.declared.error.Error.{Error}
-use Rattle.virtiofsd_fuse.specs.Grammar.{Meaning, meaning}
+use Rattle.virtiofsd_fuse.specs.Grammar.{meaning}
 use Rattle.virtiofsd_fuse.specs.Serving.{May, Served, no_reply, Setting, setting, served, served_of, replied, Handles, is_memory}
 use Rattle.virtiofsd_fuse.specs.Serving as server
-use Rattle.virtiofsd_fuse.proofs.Serve.{served_fits}
 use Rattle.fs_device.specs.declared.exchange.Fault.{Fault}
 use Rattle.fs_device.specs.declared.exchange.Fault.TheVariants as fault
 use Rattle.fs_device.specs.Step.{Exchange, Calls, ServesRequest}
@@ -31,12 +30,6 @@ pub replied_err : {F : Type 0} (may : May F) (page options room : ℕ) (request 
 replied_err {F} may page options room request before after e written agreed is h =
     let s : server.Serves may (setting page options room) (meaning options request room) before (Err e) written agreed after = rw is at h in
     (s.steps, (served_of (map (λ step. step.0) s.steps) agreed (Err e) written, record { gives = sym s.gives; asks = refl; run = s.run }, refl, refl, refl))
-
-pub reply_fits : {F : Type 0} (may : May F) (page : ℕ) (old new : ℕ × F) (request : List ℕ) (room : ℕ) (calls : Calls) (reply : List ℕ) (fault : Option Fault) →
-    AnswersRequest may page old request room calls reply fault new → length reply ≤ room
-reply_fits may page old new request room calls reply fault r =
-    let same : reply ≡ (served (setting page old.0 room) (meaning old.0 request room) (map (λ step. step.1) calls)).reply = r.2 ∙ ap (λ (g : Served). g.reply) r.1.gives in
-    subst (λ (bytes : List ℕ). length bytes ≤ room) (sym same) (served_fits (setting page old.0 room) (meaning old.0 request room) (map (λ step. step.1) calls))
 
 abbrev exchange : (head : ℕ) → (request reply : List ℕ) → Option Fault → Exchange
 exchange head request reply fault = record { head = head; request = request; reply = reply; fault = fault }
