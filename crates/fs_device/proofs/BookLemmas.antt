@@ -19,7 +19,7 @@ use Rattle.virtiofsd_fuse.specs.Grammar.{Meaning, IsFault, Replies, IsSilent, On
 use Rattle.virtiofsd_fuse.specs.Grammar as grammar
 use Rattle.virtiofsd_fuse.specs.Listings.{Listing, Went, list_entries, readdir_call}
 use Rattle.virtiofsd_fuse.specs.Serving.{May, Served, Setting, setting, served, replied, no_reply, answer_bytes, start_options, start_answered, list_ended}
-use Rattle.virtiofsd_fuse.proofs.ReplyLemmas.{length_reply, length_error}
+use Rattle.fuse_replies.proofs.ReplyLemmas.{length_reply, length_error}
 use Rattle.fs_device.specs.declared.error.DeviceError.{DeviceError}
 use Rattle.fs_device.specs.declared.exchange.Fault.{Fault}
 use Rattle.fs_device.specs.declared.refusal.Refusal.TheVariants as why

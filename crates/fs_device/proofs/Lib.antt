@@ -10,3 +10,4 @@ pub mod NodeLemmas
 pub mod MeaningLemmas
 pub mod ListBooks
 pub mod BookLemmas
+pub mod TellingLemmas

@@ -26,6 +26,8 @@ use Rattle.fuse_requests.specs.Extras.{new_link, new_name}
 use Rattle.virtiofsd_fuse.specs.Grammar as grammar
 use Rattle.virtiofsd_fuse.specs.Grammar.{Meaning, IsFault, Replies, IsSilent, Asks, One, Starts, Lists, Given, given, one, row, row_of, refused, ended, meant, meaning, with_header}
 use Rattle.fuse_calls.specs.Requests as request
+use Rattle.fuse_requests.specs.Fronts as fronts
+use Rattle.virtiofsd_fuse.specs.Listings as listings
 use Rattle.fuse_replies.specs.WholeReplies.{error_bytes, reply_bytes}
 use Rattle.fuse_calls.specs.Requests.{is_silent}
 use Rattle.virtiofsd_fuse.specs.Serving.{answer_bytes}
@@ -232,7 +234,7 @@ module _ (n : ℕ) (g : Given) (o : Opcode) where
 
   name_ends : (c : InHeader → List ℕ → FileCall) (bytes : List ℕ) → ((name : List ℕ) → Asked (c g.header name)) → Ends (grammar.name_row c g bytes)
   name_ends c bytes good =
-      then_ends (grammar.counted g.header.len 0 bytes) (λ inner. within inner last_name >>= λ name. one g (c g.header name)) (λ inner more.
+      then_ends (fronts.counted g.header.len 0 bytes) (λ inner. within inner last_name >>= λ name. one g (c g.header name)) (λ inner more.
       then_ends (within inner last_name more) (λ name. one g (c g.header name)) (λ name rest. good name))
 
   bytes_ends : {R A : Type 0} (front : Given → Reading (R × List ℕ)) (parts : Given → R → Reading A) (c : InHeader → R → A → FileCall) (bytes : List ℕ) →
@@ -243,7 +245,7 @@ module _ (n : ℕ) (g : Given) (o : Opcode) where
 
   symlink_ends : (bytes : List ℕ) → ((x : NewLink) → Asked (request.symlink_call g.header x)) → Ends (grammar.symlink_row g bytes)
   symlink_ends bytes good =
-      then_ends (grammar.counted g.header.len 0 bytes) (λ inner. within inner (new_link g.options) >>= λ x. one g (request.symlink_call g.header x)) (λ inner more.
+      then_ends (fronts.counted g.header.len 0 bytes) (λ inner. within inner (new_link g.options) >>= λ x. one g (request.symlink_call g.header x)) (λ inner more.
       then_ends (within inner (new_link g.options) more) (λ x. one g (request.symlink_call g.header x)) (λ x rest. good x))
 
   listxattr_ends : (bytes : List ℕ) → ((r : GetxattrIn) → Asked (request.listxattr_call g.header r)) → Ends (grammar.listxattr_row g bytes)
@@ -267,8 +269,8 @@ module _ (n : ℕ) (g : Given) (o : Opcode) where
 
   init_ends : (bytes : List ℕ) → ((body : List ℕ) → nodes_of o body ≡ []) → Ends (grammar.init_row g bytes)
   init_ends bytes none =
-      then_ends (reading_of inputs.init_in_compat bytes) (λ r. grammar.flags2_of r >>= λ flags2. grammar.started g r flags2) (λ r more.
-      then_ends (grammar.flags2_of r more) (λ flags2. grammar.started g r flags2) (λ flags2 rest.
+      then_ends (reading_of inputs.init_in_compat bytes) (λ r. fronts.flags2_of r >>= λ flags2. grammar.started g r flags2) (λ r more.
+      then_ends (fronts.flags2_of r more) (λ flags2. grammar.started g r flags2) (λ flags2 rest.
       if_ends (nat_lt r.major 7) _ _ rest (bad (Sends grammar.EPROTO))
       (if_ends (nat_lt 7 r.major) _ _ rest (none _, refl)
       (if_ends (nat_lt r.minor 27) _ _ rest (bad (Sends grammar.EPROTO)) (none, refl)))))
@@ -285,7 +287,7 @@ module _ (n : ℕ) (g : Given) (o : Opcode) where
   listing_ends with_nodes bytes good =
       then_ends (reading_of inputs.read_in bytes) (λ r. grammar.listing_asked with_nodes r g) (λ r more.
       needed (nat_le 16 g.room) (Faults EncodeMessage) ((grammar.at_most_a_mebibyte r.size >> needs (nat_le r.size g.room) (Sends grammar.ENOMEM)) more)
-      (Asks (Lists g.header.unique (request.listing_of with_nodes g.header r))) (λ holds. (good (leb-true 16 g.room holds), refl)))
+      (Asks (Lists g.header.unique (listings.listing_of with_nodes g.header r))) (λ holds. (good (leb-true 16 g.room holds), refl)))
 
 -- ---- all rows
 
@@ -312,7 +314,7 @@ row_fits n g op.Init bytes = takes_nothing n g op.Init bytes (λ g. init_ends n 
 row_fits n g op.Write bytes = takes_nothing n g op.Write bytes (λ g. write_ends n g op.Write bytes (λ r payload. quiet_call n op.Write (request.write_call g.header r payload) refl refl refl refl))
 row_fits n g op.BatchForget bytes = (
   after_part (MeaningFits n g.room (Some op.BatchForget)) g.header.unique (reading_of inputs.batch_forget_in bytes) (λ r. grammar.forgets_asked r.count g) (λ e. (bad n g op.BatchForget e).0) (λ r more.
-      after_part (MeaningFits n g.room (Some op.BatchForget)) g.header.unique ((grammar.at_most_a_mebibyte (r.count * 16) >> many r.count grammar.forget_pair) more)
+      after_part (MeaningFits n g.room (Some op.BatchForget)) g.header.unique ((grammar.at_most_a_mebibyte (r.count * 16) >> many r.count fronts.forget_pair) more)
       (λ pairs. one g (request.batch_forget_call g.header pairs)) (λ e. (bad n g op.BatchForget e).0)
       (λ pairs rest. other_fits n op.BatchForget (request.batch_forget_call g.header pairs) refl refl refl)),
   refl,
@@ -362,30 +364,30 @@ row_fits n g op.CopyFileRange bytes = takes_nothing n g op.CopyFileRange bytes
 row_fits n g op.Syncfs bytes = takes_nothing n g op.Syncfs bytes (λ g. quiet_call n op.Syncfs (request.syncfs_call g.header) refl refl refl refl)
 row_fits n g op.TmpFile bytes = takes_nothing n g op.TmpFile bytes (λ g. quiet_call n op.TmpFile call.TmpFile refl refl refl refl)
 row_fits n g op.Setxattr bytes = takes_nothing n g op.Setxattr bytes
-    (λ g. bytes_ends n g op.Setxattr (λ g. grammar.setxattr_front g.options g.header.len) (λ g r. name_and_value r.size) request.setxattr_call bytes
+    (λ g. bytes_ends n g op.Setxattr (λ g. fronts.setxattr_front g.options g.header.len) (λ g r. name_and_value r.size) request.setxattr_call bytes
     (λ r parts. quiet_call n op.Setxattr (request.setxattr_call g.header r parts) refl refl refl refl))
 row_fits n g op.Getxattr bytes = takes_nothing n g op.Getxattr bytes
-    (λ g. bytes_ends n g op.Getxattr (λ g. grammar.with_bytes inputs.getxattr_in 8 g.header.len) (λ g r. grammar.at_most_a_mebibyte r.size >> last_name) request.getxattr_call bytes
+    (λ g. bytes_ends n g op.Getxattr (λ g. fronts.with_bytes inputs.getxattr_in 8 g.header.len) (λ g r. grammar.at_most_a_mebibyte r.size >> last_name) request.getxattr_call bytes
     (λ r name. quiet_call n op.Getxattr (request.getxattr_call g.header r name) refl refl refl refl))
 row_fits n g op.Listxattr bytes = takes_nothing n g op.Listxattr bytes (λ g. listxattr_ends n g op.Listxattr bytes (λ r. quiet_call n op.Listxattr (request.listxattr_call g.header r) refl refl refl refl))
 row_fits n g op.Symlink bytes = takes_nothing n g op.Symlink bytes (λ g. symlink_ends n g op.Symlink bytes (λ x. entry_call n op.Symlink (request.symlink_call g.header x) refl refl refl (λ b. refl) refl))
 row_fits n g op.Mknod bytes = takes_nothing n g op.Mknod bytes
-    (λ g. bytes_ends n g op.Mknod (λ g. grammar.with_bytes inputs.mknod_in 16 g.header.len) (λ g r. new_name g.options) request.mknod_call bytes
+    (λ g. bytes_ends n g op.Mknod (λ g. fronts.with_bytes inputs.mknod_in 16 g.header.len) (λ g r. new_name g.options) request.mknod_call bytes
     (λ r x. entry_call n op.Mknod (request.mknod_call g.header r x) refl refl refl (λ b. refl) refl))
 row_fits n g op.Mkdir bytes = takes_nothing n g op.Mkdir bytes
-    (λ g. bytes_ends n g op.Mkdir (λ g. grammar.with_bytes inputs.mkdir_in 8 g.header.len) (λ g r. new_name g.options) request.mkdir_call bytes
+    (λ g. bytes_ends n g op.Mkdir (λ g. fronts.with_bytes inputs.mkdir_in 8 g.header.len) (λ g r. new_name g.options) request.mkdir_call bytes
     (λ r x. entry_call n op.Mkdir (request.mkdir_call g.header r x) refl refl refl (λ b. refl) refl))
 row_fits n g op.Create bytes = takes_nothing n g op.Create bytes
-    (λ g. bytes_ends n g op.Create (λ g. grammar.with_bytes inputs.create_in 16 g.header.len) (λ g r. new_name g.options) request.create_call bytes
+    (λ g. bytes_ends n g op.Create (λ g. fronts.with_bytes inputs.create_in 16 g.header.len) (λ g r. new_name g.options) request.create_call bytes
     (λ r x. creating_call n op.Create (request.create_call g.header r x) refl refl refl (λ b. refl) refl))
 row_fits n g op.Link bytes = takes_nothing n g op.Link bytes
-    (λ g. bytes_ends n g op.Link (λ g. grammar.with_bytes inputs.link_in 8 g.header.len) (λ g r. last_name) request.link_call bytes
+    (λ g. bytes_ends n g op.Link (λ g. fronts.with_bytes inputs.link_in 8 g.header.len) (λ g r. last_name) request.link_call bytes
     (λ r name. entry_call n op.Link (request.link_call g.header r name) refl refl refl (λ b. refl) refl))
 row_fits n g op.Rename bytes = takes_nothing n g op.Rename bytes
-    (λ g. bytes_ends n g op.Rename (λ g. grammar.with_bytes inputs.rename_in 8 g.header.len) (λ g r. two_names) request.rename_call bytes
+    (λ g. bytes_ends n g op.Rename (λ g. fronts.with_bytes inputs.rename_in 8 g.header.len) (λ g r. two_names) request.rename_call bytes
     (λ r names. quiet_call n op.Rename (request.rename_call g.header r names) refl refl refl refl))
 row_fits n g op.Rename2 bytes = takes_nothing n g op.Rename2 bytes
-    (λ g. bytes_ends n g op.Rename2 (λ g. grammar.with_bytes inputs.rename2_in 16 g.header.len) (λ g r. two_names) request.rename2_call bytes
+    (λ g. bytes_ends n g op.Rename2 (λ g. fronts.with_bytes inputs.rename2_in 16 g.header.len) (λ g r. two_names) request.rename2_call bytes
     (λ r names. quiet_call n op.Rename2 (request.rename2_call g.header r names) refl refl refl refl))
 
 -- ---- the header, and a whole request

@@ -16,7 +16,7 @@ use Rattle.fuse_fs.specs.Replies.{dirent_of}
 use Rattle.fuse_fs.specs.Calls.{Listed}
 use Rattle.fuse_replies.specs.WholeReplies.{reply_bytes, error_bytes}
 use Rattle.fuse_replies.specs.Entries.{dirent_len, entry_len, dirent_bytes, node_bytes, entry_bytes, fit_of, Fit, GoesIn, IsFull, IsWrong, EIO, EOVERFLOW}
-use Rattle.virtiofsd_fuse.proofs.ReplyLemmas.{length_header, length_reply, length_error}
+use Rattle.fuse_replies.proofs.ReplyLemmas.{length_header, length_reply, length_error}
 use Rattle.fs_device.specs.Books.{number_at, replies_entry, lists_nodes, first_node, name_len_of, nodes_listed, nodes_of, nodes_in}
 
 -- ---- what follows a header

@@ -2,8 +2,8 @@
 use Rattle.std.proofs.Common.{◌≡◌, ℕ, true, false, ◌≤◌, List, [], length, map, ap, sym, ◌∙◌, refl, subst, Option, Some, None, Ok, Err}
 use Rattle.vm_memory_core.specs.Host.{Host}
 use Rattle.vm_memory_core.specs.Window.{places, byte_in}
-use Rattle.vm_memory.specs.Layout.{Region, place}
-use Rattle.vm_memory.specs.Memory.{memory_of}
+use Rattle.vm_iotlb.specs.declared.permissions.Permissions.TheVariants.{Write}
+use Rattle.vm_memory.specs.Memory.{Memory, location}
 use Rattle.fs_queue.specs.declared.chain.Chain.{Chain}
 use Rattle.fs_queue.specs.Taking.{Asked, Asks, CannotAsk}
 use Rattle.fs_queue.specs.Windows.{HoldsChain}
@@ -42,14 +42,14 @@ abbrev exchange : (head : ℕ) → (request reply : List ℕ) → Option Fault �
 exchange head request reply fault = record { head = head; request = request; reply = reply; fault = fault }
 
 -- the code's exchange is the one that the chain's request and room ask for
-pub served_chain : {F : Type 0} (may : May F) (page : ℕ) (old new : ℕ × F) (h : Host) (l : List Region) (asked : Asked) (c : Chain) (head at : ℕ) (request : List ℕ) (fault : Option Fault) (reply : List ℕ) (calls : Calls) →
-    HoldsChain (memory_of h l) asked (Ok c) → at ≡ head → request ≡ map (byte_in h) (places c.readable.items) →
+pub served_chain : {F : Type 0} (may : May F) (page : ℕ) (old new : ℕ × F) (m : Memory) (h : Host) (asked : Asked) (c : Chain) (head at : ℕ) (request : List ℕ) (fault : Option Fault) (reply : List ℕ) (calls : Calls) →
+    m.host ≡ h → HoldsChain m asked (Ok c) → at ≡ head → request ≡ map (byte_in h) (places c.readable.items) →
     AnswersRequest may page old request (length (places c.writable.items)) calls reply fault new →
     ServesChain may page old head asked calls (exchange at request reply fault) new
-served_chain may page old new h l (CannotAsk why) c head at request fault reply calls held a e r = absurd held
-served_chain {F} may page old new h l (Asks bytes room) c head at request fault reply calls held a e r =
-    let same : request ≡ bytes = e ∙ sym held.0 in
-    let count : length (places c.writable.items) ≡ length room = length-located room (place l) (places c.writable.items) held.1 in
+served_chain may page old new m h (CannotAsk why) c head at request fault reply calls host held a e r = absurd held
+served_chain {F} may page old new m h (Asks bytes room) c head at request fault reply calls host held a e r =
+    let same : request ≡ bytes = e ∙ ap (λ (g : Host). map (byte_in g) (places c.readable.items)) (sym host) ∙ sym held.0 in
+    let count : length (places c.writable.items) ≡ length room = length-located room (location m Write) (places c.writable.items) held.1 in
     let serves = subst (λ (n : ℕ). ServesRequest may page old.0 bytes n old.1 calls r.0 new.1) count (subst (λ (x : List ℕ). ServesRequest may page old.0 x (length (places c.writable.items)) old.1 calls r.0 new.1) same r.1) in (
       r.0,
       serves,

@@ -7,6 +7,7 @@ pub mod Run
 pub mod CommandView
 pub mod MachineView
 pub mod Books
+pub mod Telling
 pub mod Laws
 pub mod Examples
 pub mod ExamplesOfRuns

@@ -2,6 +2,7 @@
 
 ghost use Rattle.fs_device.specs.Books.{Balances};
 ghost use Rattle.fs_device.specs.Laws.{CutsDoNotMatter};
+ghost use Rattle.fs_device.specs.Telling.{CallsAreTold};
 
 use fuse_fs::FileSystem;
 
@@ -14,4 +15,10 @@ pub fn law_cuts<F: FileSystem>()
 /// what was lost in replies that did not fit, less what the driver gave back.
 pub fn law_books<F: FileSystem>()
     ensures { Balances F.may }
+{}
+
+/// All file calls of a run, in their order, are a run of the file system from its first state to its
+/// last; and each exchange, with its calls, is what its request means.
+pub fn law_calls<F: FileSystem>()
+    ensures { CallsAreTold F.may }
 {}

@@ -1,9 +1,8 @@
 //! What is exchanged for a chain that was taken.
 
-ghost use Rattle.std.specs.Prelude.{◌≡◌, ◌≤◌, ◌<◌, ◌^◌, List, length, IfOk, IfSome, OnErr, IfNone};
+ghost use Rattle.std.specs.Prelude.{◌≡◌, ◌≤◌, ◌<◌, ◌^◌, length, IfOk, IfSome, OnErr, IfNone};
 ghost use Rattle.vm_memory_core.specs.Host.{lengths};
-ghost use Rattle.vm_memory.specs.Layout.{Region};
-ghost use Rattle.vm_memory.specs.Memory.{memory_of};
+ghost use Rattle.vm_memory.specs.Memory.{Memory};
 ghost use Rattle.fs_queue.specs.Queue.{Queue};
 ghost use Rattle.fs_queue.specs.Taking.{Asked};
 ghost use Rattle.fs_queue.specs.Windows.{IsTaken, TakenLiesIn, room_places};
@@ -76,7 +75,7 @@ pub(crate) fn serve<F: FileSystem, B: NewBitmap>(
 ) -> Result<Exchange, AllocError>
     requires lies { TakenLiesIn (lengths host.now) taken.now }
     requires short { room_places taken.now.chain < 2 ^ 32 }
-    ensures exchange { (l : List Region) (q : Queue) (asked : Asked) → IsTaken (memory_of host.now l) q asked taken.now →
+    ensures exchange { (m : Memory) (q : Queue) (asked : Asked) → m.host ≡ host.now → IsTaken m q asked taken.now →
         IfOk result (λ e. (calls : Calls) × ServesChain F.may server.old.page_size (server_state server.old) taken.now.head asked calls (exchange_of e) (server_state server.new)) }
     ensures fits { IfOk result (λ e. length e.reply.items ≤ room_places taken.now.chain) }
     ensures head { IfOk result (λ e. e.head ≡ taken.now.head) }

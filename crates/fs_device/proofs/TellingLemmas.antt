@@ -1,0 +1,185 @@
+-- the file calls of a told run
+use Rattle.std.proofs.Common.{◌≡◌, ℕ, zero, suc, Bool, true, false, List, [], ◌∷◌, ◌++◌, map, append-nil, append_assoc, length, Option, Some, None, refl, ap, sym, ◌∙◌, subst}
+use Rattle.std.specs.Prelude.{if◌then◌else◌, slice_get, not, nat_lt, ◌==◌, flat_map}
+use Rattle.std.specs.List.{AllByRecursion, list_any, list_all}
+use Rattle.vm_iotlb.specs.declared.permissions.Permissions.TheVariants.{Read, Write}
+use Rattle.vm_memory_core.specs.Host.{Block}
+use Rattle.vm_memory.specs.Layout.{Region, fits, overlap, is_region}
+use Rattle.vm_memory.specs.Memory.{reach, physical}
+use Rattle.fs_queue.specs.declared.layout.QueueLayout.{QueueLayout}
+use Rattle.fs_queue.specs.declared.fault.QueueError.TheVariants as stop
+use Rattle.fs_queue.specs.Queue.{Queue}
+use Rattle.fs_queue.specs.Taking.{Offer, Asks, CannotAsk, Refuses, Offers}
+use Rattle.fs_queue.specs.Taking as taking
+use Rattle.fuse_fs.specs.Calls.{FileCall, FileAnswer, FileRun}
+use Rattle.fuse_segments.specs.declared.error.Error.{Error}
+use Rattle.virtiofsd_fuse.specs.Grammar.{meaning}
+use Rattle.virtiofsd_fuse.specs.Serving.{May, Served, setting, served}
+use Rattle.fs_device.specs.declared.error.DeviceError.{DeviceError}
+use Rattle.fs_device.specs.declared.error.DeviceError.TheVariants as device
+use Rattle.fs_device.specs.declared.exchange.Fault.{Fault}
+use Rattle.fs_device.specs.declared.refusal.Refusal.TheVariants as why
+use Rattle.fs_device.specs.Step.{State, Exchange, Calls, Idle, Refused, Exchanged, Exchanges, StepOf, served_fault, served_exchange}
+use Rattle.fs_device.specs.Run as run
+use Rattle.fs_device.specs.Run.{Turn, Told, Command, Answer, Effect, KickEnds, KickRun, Kicks, Kicked, HasEffect, Does, Performs, RunTold, effect, insert, insert_block, is_known, some_overlap, reset}
+use Rattle.fs_device.specs.Telling.{calls_of, calls_told, IsMeant, IsServedBy, IsServed}
+
+-- what exchanges tell: their calls lead from one state of the file system to another
+abbrev Tells : {F : Type 0} → May F → F → Told → F → Type 0
+Tells may before told after = FileRun may before (calls_of told) after × AllByRecursion IsServed told
+
+files_joined : {F : Type 0} (may : May F) (a b c : F) (xs ys : Calls) → FileRun may a xs b → FileRun may b ys c → FileRun may a (xs ++ ys) c
+files_joined may a b c [] ys front back = subst (λ x. FileRun may x ys c) front back
+files_joined may a b c (step ∷ xs) ys (between, suit, made, rest) back = (between, suit, made, files_joined may between b c xs ys rest back)
+
+-- ---- steps
+
+by_fault : (e : Option Error) (t : Turn) → t.exchange.fault ≡ served_fault e → IsMeant t → IsServed t
+by_fault None t same is = subst (λ (f : Option Fault). IsServedBy f t) (sym same) is
+by_fault (Some e) t same is = subst (λ (f : Option Fault). IsServedBy f t) (sym same) is
+
+abbrev turn : Exchange → Bool → Calls → Turn
+turn x notice calls = record { exchange = x; notice = notice; calls = calls }
+
+exchange_tells : {F : Type 0} (may : May F) (s : State F) (i : ℕ) (q : Queue) (o : Offer) (calls : Calls) (x : Exchange) (notice : Bool) (after : State F) →
+    Exchanges may s i q o calls x notice after → FileRun may s.files calls after.files × IsServed (turn x notice calls)
+exchange_tells may s i q (Offers head (CannotAsk fault)) calls x notice after r = (
+  subst (λ (l : Calls). FileRun may s.files l after.files) (sym r.no_call) r.files,
+  subst (λ (f : Option Fault). IsServedBy f (turn x notice calls)) (sym (ap (λ (e : Exchange). e.fault) r.returns.exchange)) r.no_call,
+)
+exchange_tells may s i q (Offers head (Asks request room)) calls x notice after r =
+    let answers = map (λ (step : FileCall × FileAnswer). step.1) calls in
+    let set = setting s.page_size s.options (length room) in
+    let same_head : x.head ≡ head = ap (λ (e : Exchange). e.head) r.returns.exchange in
+    let same : x.request ≡ request = ap (λ (e : Exchange). e.request) r.returns.exchange in
+    let own : (served set (meaning s.options x.request (length room)) answers).calls ≡ map (λ (step : FileCall × FileAnswer). step.0) calls =
+    ap (λ (bytes : List ℕ). (served set (meaning s.options bytes (length room)) answers).calls) same ∙ ap (λ (g : Served). g.calls) (sym r.serves.gives) ∙ r.serves.asks in
+    let told : x ≡ served_exchange head request (served set (meaning s.options request (length room)) answers) =
+    r.returns.exchange ∙ ap (λ (g : Served). served_exchange head request g) r.serves.gives in
+    let is : x ≡ served_exchange x.head x.request (served set (meaning s.options x.request (length room)) answers) =
+    subst (λ (n : ℕ). x ≡ served_exchange n x.request (served set (meaning s.options x.request (length room)) answers)) (sym same_head)
+    (subst (λ (bytes : List ℕ). x ≡ served_exchange head bytes (served set (meaning s.options bytes (length room)) answers)) (sym same) told) in
+    (r.serves.run, by_fault r.given.fault (turn x notice calls) (ap (λ (e : Exchange). e.fault) r.returns.exchange) (set, own, is))
+exchange_tells may s i q taking.Idle calls x notice after r = absurd r
+exchange_tells may s i q (Refuses e) calls x notice after r = absurd r
+
+step_tells : {F : Type 0} (may : May F) (s : State F) (i : ℕ) (o : Option Queue) (calls : Calls) (x : Exchange) (notice : Bool) (after : State F) →
+    StepOf may s i o calls (Exchanged x notice) after → FileRun may s.files calls after.files × IsServed (turn x notice calls)
+step_tells may s i None calls x notice after t = absurd (cc)
+step_tells may s i (Some q) calls x notice after t = exchange_tells may s i q _ calls x notice after t
+
+idle_stays : {F : Type 0} (may : May F) (s : State F) (i : ℕ) (o : Option Queue) (calls : Calls) (after : State F) → StepOf may s i o calls Idle after → after.files ≡ s.files
+idle_stays may s i None calls after t = ap (λ s. s.files) t.1.same
+idle_stays may s i (Some q) calls after t = ap (λ s. s.files) t.1.same
+
+refused_stays : {F : Type 0} (may : May F) (s : State F) (i : ℕ) (o : Option Queue) (calls : Calls) (e : DeviceError) (after : State F) →
+    StepOf may s i o calls (Refused e) after → after.files ≡ s.files
+refused_stays may s i None calls e after t = ap (λ s. s.files) t.1.same
+refused_stays may s i (Some q) calls device.NoSuchQueue after t = absurd t
+refused_stays may s i (Some q) calls (device.Queue stop.OutOfMemory) after t = ap (λ s. s.files) t.1.same
+refused_stays may s i (Some q) calls (device.Queue stop.Stopped) after t = ap (λ s. s.files) t.2
+refused_stays may s i (Some q) calls (device.Queue stop.AvailIndexUnreachable) after t = ap (λ s. s.files) t.2
+refused_stays may s i (Some q) calls (device.Queue stop.AvailTooFar) after t = ap (λ s. s.files) t.2
+refused_stays may s i (Some q) calls (device.Queue stop.RingEntryUnreachable) after t = ap (λ s. s.files) t.2
+refused_stays may s i (Some q) calls (device.Queue stop.HeadOutOfTable) after t = ap (λ s. s.files) t.2
+refused_stays may s i (Some q) calls (device.Queue stop.UsedUnreachable) after t = ap (λ s. s.files) t.2
+refused_stays may s i (Some q) calls (device.Queue stop.AvailFlagsUnreachable) after t = ap (λ s. s.files) t.2
+refused_stays may s i (Some q) calls (device.Queue stop.DescriptorUnreachable) after t = ap (λ s. s.files) t.2
+
+-- ---- kicks
+
+end_stays : {F : Type 0} (may : May F) (s : State F) (i most : ℕ) (refused : Option DeviceError) (after : State F) → KickEnds may s i most refused after → after.files ≡ s.files
+end_stays may s i zero None after same = ap (λ s. s.files) same
+end_stays may s i zero (Some e) after t = absurd t
+end_stays may s i (suc most) None after t = idle_stays may s i (slice_get s.queues i) [] after t
+end_stays may s i (suc most) (Some e) after t = refused_stays may s i (slice_get s.queues i) [] e after t
+
+kick_tells : {F : Type 0} (may : May F) (s : State F) (i most : ℕ) (told : Told) (refused : Option DeviceError) (after : State F) → KickRun may s i most told refused after → Tells may s.files told after.files
+unfolding KickRun
+kick_tells may s i most [] refused after t = (end_stays may s i most refused after t, tt)
+kick_tells may s i zero (x ∷ told) refused after t = absurd t
+kick_tells may s i (suc most) (x ∷ told) refused after (mid, step, rest) =
+    let own = step_tells may s i (slice_get s.queues i) x.calls x.exchange x.notice mid step in
+    let others = kick_tells may mid i most told refused after rest in
+    (files_joined may s.files mid.files after.files x.calls (calls_of told) own.0 others.0, (own.1, others.1))
+
+kicks_tell : {F : Type 0} (may : May F) (s : State F) (i most : ℕ) (o : Option Queue) (told : Told) (k : Kicked) (after : State F) → Kicks may s i most o told k after → Tells may s.files told after.files
+kicks_tell may s i most None told k after t = subst (λ (l : Told). Tells may s.files l after.files) (sym t.1) (ap (λ s. s.files) t.0, tt)
+kicks_tell may s i most (Some q) told k after t = kick_tells may s i most told k.refused after t.0
+
+-- ---- the other commands ask nothing
+
+whichever : {F : Type 0} (s : State F) (b : Bool) (x y : Effect F) → x.1.files ≡ s.files → y.1.files ≡ s.files → (if b then x else y).1.files ≡ s.files
+whichever s true x y p q = p
+whichever s false x y p q = q
+
+insert_stays : {F : Type 0} (s : State F) (r : Region) → (insert s r).1.files ≡ s.files
+insert_stays s r = whichever s (not (fits r)) _ _ refl (whichever s (list_any (overlap r) s.memory.layout) _ _ refl refl)
+
+block_stays : {F : Type 0} (s : State F) (base block : ℕ) (o : Option Block) → (insert_block s base block o).1.files ≡ s.files
+block_stays s base block None = refl
+block_stays s base block (Some b) = insert_stays s _
+
+reset_stays : {F : Type 0} (s : State F) (i : ℕ) (l : QueueLayout) (o : Option Queue) → (reset s i l o).1.files ≡ s.files
+reset_stays s i l None = refl
+reset_stays s i l (Some q) = refl
+
+effect_stays : {F : Type 0} (s : State F) (command : Command) → (effect s command).1.files ≡ s.files
+unfolding effect
+effect_stays s (run.GuestRead a n) = whichever s (reach (physical s.memory) Read a n) _ _ refl refl
+effect_stays s (run.GuestWrite a bs) = whichever s (reach (physical s.memory) Write a (length bs)) _ _ refl refl
+effect_stays s (run.NewBlock n) = whichever s (n == 0) _ _ refl refl
+effect_stays s (run.InsertRegion base block) = block_stays s base block _
+effect_stays s (run.RemoveRegion base size) = whichever s (list_any (is_region base size) s.memory.layout) _ _ refl refl
+effect_stays s (run.SetLayout layout) =
+    whichever s (not (list_all (is_known s.memory.host) layout)) _ _ refl
+    (whichever s (not (list_all fits layout)) _ _ refl (whichever s (some_overlap layout) _ _ refl refl))
+effect_stays s (run.Kick queue most) = refl
+effect_stays s (run.ResetQueue queue l) = reset_stays s queue l _
+
+effect_tells : {F : Type 0} (may : May F) (s : State F) (command : Command) (told : Told) (answer : Answer) (after : State F) → HasEffect s command told answer after → Tells may s.files told after.files
+effect_tells {F} may s command [] answer after t = (ap (λ (p : Effect F). p.1.files) t ∙ effect_stays s command, tt)
+effect_tells may s command (x ∷ told) answer after t = absurd t
+
+-- ---- runs
+
+does_tell : {F : Type 0} (may : May F) (s : State F) (command : Command) (told : Told) (answer : Answer) (after : State F) → Does may s command told answer after → Tells may s.files told after.files
+does_tell may s (run.Kick i most) told (run.Served k) after t = kicks_tell may s i most (slice_get s.queues i) told k after t
+does_tell may s (run.Kick i most) told run.Done after t = absurd t
+does_tell may s (run.Kick i most) told (run.Bytes bytes) after t = absurd t
+does_tell may s (run.Kick i most) told (run.NewBlockIs number) after t = absurd t
+does_tell may s (run.Kick i most) told (run.IsRefused refusal) after t = absurd t
+does_tell may s (run.GuestRead a n) told answer after t = effect_tells may s (run.GuestRead a n) told answer after t
+does_tell may s (run.GuestWrite a bs) told answer after t = effect_tells may s (run.GuestWrite a bs) told answer after t
+does_tell may s (run.NewBlock n) told answer after t = effect_tells may s (run.NewBlock n) told answer after t
+does_tell may s (run.InsertRegion base block) told answer after t = effect_tells may s (run.InsertRegion base block) told answer after t
+does_tell may s (run.RemoveRegion base size) told answer after t = effect_tells may s (run.RemoveRegion base size) told answer after t
+does_tell may s (run.SetLayout layout) told answer after t = effect_tells may s (run.SetLayout layout) told answer after t
+does_tell may s (run.ResetQueue queue l) told answer after t = effect_tells may s (run.ResetQueue queue l) told answer after t
+
+performs_tell : {F : Type 0} (may : May F) (s : State F) (command : Command) (told : Told) (answer : Answer) (after : State F) → Performs may s command told answer after → Tells may s.files told after.files
+performs_tell may s command [] (run.IsRefused why.OutOfMemory) after t = (ap (λ s. s.files) t.1, tt)
+performs_tell may s command (x ∷ told) (run.IsRefused why.OutOfMemory) after t = absurd t
+performs_tell may s command told (run.IsRefused why.NoPlace) after t = does_tell may s command told _ after t
+performs_tell may s command told (run.IsRefused why.EmptyBlock) after t = does_tell may s command told _ after t
+performs_tell may s command told (run.IsRefused why.UnknownBlock) after t = does_tell may s command told _ after t
+performs_tell may s command told (run.IsRefused why.BadRegion) after t = does_tell may s command told _ after t
+performs_tell may s command told (run.IsRefused why.Overlap) after t = does_tell may s command told _ after t
+performs_tell may s command told (run.IsRefused why.NoRegion) after t = does_tell may s command told _ after t
+performs_tell may s command told (run.IsRefused why.NoSuchQueue) after t = does_tell may s command told _ after t
+performs_tell may s command told run.Done after t = does_tell may s command told _ after t
+performs_tell may s command told (run.Bytes bytes) after t = does_tell may s command told _ after t
+performs_tell may s command told (run.NewBlockIs number) after t = does_tell may s command told _ after t
+performs_tell may s command told (run.Served k) after t = does_tell may s command told _ after t
+
+-- a run tells its calls
+pub run_tells : {F : Type 0} (may : May F) (s : State F) (events : List (Command × Answer)) (tolds : List Told) (after : State F) → RunTold may s events tolds after →
+    FileRun may s.files (calls_told tolds) after.files × AllByRecursion (AllByRecursion IsServed) tolds
+unfolding RunTold
+run_tells may s [] [] after t = (ap (λ s. s.files) t, tt)
+run_tells may s [] (told ∷ tolds) after t = absurd t
+run_tells may s (e ∷ es) [] after t = absurd t
+run_tells may s (e ∷ es) (told ∷ tolds) after (mid, performs, rest) =
+    let own = performs_tell may s e.0 told e.1 mid performs in
+    let others = run_tells may mid es tolds after rest in
+    (files_joined may s.files mid.files after.files (calls_of told) (calls_told tolds) own.0 others.0, (own.1, others.1))

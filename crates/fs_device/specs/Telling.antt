@@ -1,0 +1,40 @@
+-- What a run tells of its file calls: in their order they are a run of the file system, and each exchange is what its request means.
+use Rattle.std.specs.Prelude.{◌≡◌, List, [], map, flat_map, Option, Some, None}
+use Rattle.std.specs.List.{AllByRecursion}
+use Rattle.fuse_fs.specs.Calls.{FileRun}
+use Rattle.virtiofsd_fuse.specs.Grammar.{meaning}
+use Rattle.virtiofsd_fuse.specs.Serving.{May, Setting, served}
+use Rattle.fs_device.specs.declared.exchange.Fault.{Fault}
+use Rattle.fs_device.specs.declared.exchange.Fault.TheVariants as fault
+use Rattle.fs_device.specs.Step.{State, Calls, served_exchange}
+use Rattle.fs_device.specs.Run.{Turn, Told, Command, Answer, RunTold}
+
+-- the calls of a kick, in their order
+abbrev pub calls_of : Told → Calls
+calls_of told = flat_map (λ t. t.calls) told
+
+-- and of a run
+abbrev pub calls_told : List Told → Calls
+calls_told tolds = flat_map calls_of tolds
+
+-- in some setting the request means these calls, each by the answers before it, and they make this exchange
+abbrev pub IsMeant : Turn → Type 0
+IsMeant t = (s : Setting)
+    × ((served s (meaning s.options t.exchange.request s.room) (map (λ step. step.1) t.calls)).calls ≡ map (λ step. step.0) t.calls)
+    × (t.exchange ≡ served_exchange t.exchange.head t.exchange.request (served s (meaning s.options t.exchange.request s.room) (map (λ step. step.1) t.calls)))
+
+-- by its fault: a faulty chain makes no call
+abbrev pub IsServedBy : Option Fault → Turn → Type 0
+IsServedBy (Some (fault.Chain why)) t = t.calls ≡ []
+IsServedBy (Some (fault.Served e)) t = IsMeant t
+IsServedBy None t = IsMeant t
+
+-- an exchange and its calls are what its request means
+abbrev pub IsServed : Turn → Type 0
+IsServed t = IsServedBy t.exchange.fault t
+
+-- all calls of a run are a run of the file system from its first state to its last, and each exchange is what its request means
+abbrev pub CallsAreTold : {F : Type 0} → May F → Type 0
+CallsAreTold {F} may =
+    (s after : State F) (events : List (Command × Answer)) (tolds : List Told) → RunTold may s events tolds after →
+    FileRun may s.files (calls_told tolds) after.files × AllByRecursion (AllByRecursion IsServed) tolds
