@@ -1,10 +1,9 @@
 //! The extensions after the names of a request that makes a node.
 
 ghost use Rattle.std.specs.Prelude.{◌≡◌, ◌+◌, ◌<◌, ◌&&◌, ◌||◌, not, nat_le, length, is_none, Ok, Err, IfOk, IfErr, false};
-ghost use Rattle.vm_values.specs.Bits.{has_bit};
 ghost use Rattle.fuse_fs.specs.Answers.{extra_of, security_of};
 ghost use Rattle.fuse_requests.specs.Reading.{Faults, outcome, reading_of, value_of};
-ghost use Rattle.fuse_requests.specs.Extras.{takes_security, takes_group, label_of, sent_of, parts_of, nothing_sent, security_context, group_number, one_group, part, extension, extensions, extra_in, security_part, group_part};
+ghost use Rattle.fuse_requests.specs.Extras.{takes_security, takes_group, label_of, sent_of, parts_of, nothing_sent, security_context, one_group, part, extension, extensions, extra_in, security_part, group_part};
 ghost use Rattle.fuse_segments.specs.Errors.{is_memory};
 
 use crate::names::first_name;

@@ -1,6 +1,6 @@
 //! BATCH_FORGET: many nodes are held less.
 
-ghost use Rattle.std.specs.Prelude.{◌≡◌, ◌<◌, ◌^◌, [], length, IfOk, true};
+ghost use Rattle.std.specs.Prelude.{◌≡◌, ◌<◌, ◌^◌, [], true};
 ghost use Rattle.virtiofsd_fuse.specs.Grammar.{batch_forget_row, forgets_asked};
 ghost use Rattle.virtiofsd_fuse.specs.Serving.{RowHandles, Leaves};
 

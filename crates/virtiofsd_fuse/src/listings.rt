@@ -1,6 +1,6 @@
 //! READDIR and READDIRPLUS: entries of a directory go straight into the reply.
 
-ghost use Rattle.std.specs.Prelude.{◌≡◌, ◌+◌, ◌<◌, ◌^◌, Bool, true, false, List, ℕ, [], ◌++◌, length, IfOk, IfErr, OnOk, OnErr};
+ghost use Rattle.std.specs.Prelude.{◌≡◌, ◌+◌, ◌<◌, ◌^◌, Bool, true, false, List, ℕ, [], ◌++◌, length, IfErr, OnOk, OnErr};
 ghost use Rattle.fuse_in.specs.declared.files.ReadIn.{ReadIn};
 ghost use Rattle.fuse_fs.specs.Answers.{listed, numbered, context_of, listed_answer};
 ghost use Rattle.fuse_fs.specs.Calls.{Done};

@@ -1,6 +1,6 @@
 //! Requests that make a node.
 
-ghost use Rattle.std.specs.Prelude.{◌≡◌, ◌<◌, ◌^◌, [], length, IfOk, true};
+ghost use Rattle.std.specs.Prelude.{◌≡◌, ◌<◌, ◌^◌, [], true};
 ghost use Rattle.virtiofsd_fuse.specs.Grammar.{new_name_row, symlink_row};
 ghost use Rattle.virtiofsd_fuse.specs.Serving.{RowHandles, Leaves};
 

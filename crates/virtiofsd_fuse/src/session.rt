@@ -1,6 +1,6 @@
 //! The start of a conversation.
 
-ghost use Rattle.std.specs.Prelude.{◌≡◌, ℕ, ◌<◌, ◌^◌, List, [], length, IfOk, IsTrue, bit_and, Ok, false};
+ghost use Rattle.std.specs.Prelude.{◌≡◌, ℕ, ◌<◌, ◌^◌, List, [], IsTrue, bit_and, Ok, false};
 ghost use Rattle.fuse_fs.specs.Answers.{options_answer};
 ghost use Rattle.fuse_fs.specs.Calls.{suits, Init, Destroy, Done};
 ghost use Rattle.virtiofsd_fuse.specs.Grammar.{plain_row, silent_row, init_row, started, known_options};

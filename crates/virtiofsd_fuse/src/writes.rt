@@ -1,6 +1,6 @@
 //! WRITE: a file is written with the rest of a request.
 
-ghost use Rattle.std.specs.Prelude.{◌≡◌, ◌<◌, ◌^◌, [], length, IfOk, IfErr, false};
+ghost use Rattle.std.specs.Prelude.{◌≡◌, ◌<◌, ◌^◌, [], IfOk, IfErr, false};
 ghost use Rattle.vm_values.specs.Bits.{has_bit};
 ghost use Rattle.fuse_fs.specs.Answers.{written_answer};
 ghost use Rattle.virtiofsd_fuse.specs.Grammar.{write_row};

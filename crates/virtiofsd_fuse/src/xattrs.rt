@@ -1,6 +1,7 @@
 //! Requests about extended attributes.
 
-ghost use Rattle.std.specs.Prelude.{◌≡◌, ◌<◌, ◌^◌, [], length, IfOk, true, false};
+ghost use Rattle.std.specs.Prelude.{◌≡◌, ◌<◌, ◌^◌, [], false};
+ghost use Rattle.fuse_segments.specs.Views.{is_cut};
 ghost use Rattle.virtiofsd_fuse.specs.Grammar.{getxattr_row, listxattr_row, setxattr_row};
 ghost use Rattle.virtiofsd_fuse.specs.Serving.{RowHandles, Leaves};
 
@@ -31,7 +32,7 @@ impl<F: FileSystem> Server<F> {
         requires fresh { w.old.written ≡ [] }
         requires room { w.old.free < 2 ^ 32 }
         ensures handles { RowHandles F.may self.old w.old.free head.now getxattr_row r.old.left result w.new.written self.new }
-        ensures rest { Leaves true result w.old w.new self.old self.new }
+        ensures rest { Leaves (is_cut r.old) result w.old w.new self.old self.new }
     {
         match read_with_bytes::<GetxattrIn>(alloc, head.len, r) {
             Ok(front) => {
@@ -85,7 +86,7 @@ impl<F: FileSystem> Server<F> {
         requires fresh { w.old.written ≡ [] }
         requires room { w.old.free < 2 ^ 32 }
         ensures handles { RowHandles F.may self.old w.old.free head.now setxattr_row r.old.left result w.new.written self.new }
-        ensures rest { Leaves true result w.old w.new self.old self.new }
+        ensures rest { Leaves (is_cut r.old) result w.old w.new self.old self.new }
     {
         match read_setxattr(alloc, self.options, head.len, r) {
             Ok(front) => match name_and_value(&front.bytes, front.record.size) {

@@ -2,6 +2,7 @@ use Rattle.std.proofs.Common.{◌+◌, ◌-◌, ◌<◌, ◌≤◌, length, sym,
 use Rattle.std.specs.Cow.{cow_slice_items}
 use Rattle.std.proofs.lemmas.Grind.{common_steps}
 use Rattle.fuse_requests.proofs.NameLemmas.{counted_short, counted_none, counted_by}
+use Rattle.fuse_requests.proofs.OneSegment.{one_enough}
 use Rattle.fuse_requests.proofs.names.read_counted.Goals as goal
 
 pub returns-in_default-clause-fault : goal.returns-in_default-clause-fault
@@ -22,3 +23,8 @@ returns-clause-bytes c =
     let s = c.in-Some.ensures in
     let h : 40 + c.args.fixed ≤ c.args.len = omega arith in
     counted_by cow_slice_items c.args.len c.args.fixed c.in-Some.count _ _ c.read_bytes.result h (omega arith) c.read_bytes.ensures.ok
+
+pub returns-clause-whole : goal.returns-clause-whole
+returns-clause-whole c = λ one.
+    one_enough c.read_bytes.result _ _ _ c.read_bytes.ensures.err c.available_bytes.ensures.segments.0
+    (omega (arith, c.available_bytes.ensures.left, c.if-available_bytes-count.false)) one

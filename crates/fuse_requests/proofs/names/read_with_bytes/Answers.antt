@@ -12,3 +12,6 @@ returns-in-Err-read_counted-clause-fault g c = λ other.
 pub returns-in-Err-clause-fault : goal.returns-in-Err-clause-fault
 returns-in-Err-clause-fault g c = λ other.
     with_short g.T.InRecord.shape g.T.ByteValued.SIZE _ _ _ c.in-Err.ensures.reads
+
+pub returns-in-Err-read_counted-clause-whole : goal.returns-in-Err-read_counted-clause-whole
+returns-in-Err-read_counted-clause-whole g c = λ one. c.in-Err-read_counted.ensures.whole (c.in-Ok.ensures.whole one)

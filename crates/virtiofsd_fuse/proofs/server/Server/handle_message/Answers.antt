@@ -2,6 +2,7 @@ use Rattle.std.proofs.Common.{refl}
 use Rattle.virtiofsd_fuse.specs.Serving.{setting}
 use Rattle.virtiofsd_fuse.proofs.Serve.{handles_fault, handles_fits}
 use Rattle.virtiofsd_fuse.proofs.Rows.{meaning_head, meaning_fault}
+use Rattle.virtiofsd_fuse.proofs.Left.{takes_none}
 use Rattle.virtiofsd_fuse.proofs.server.Server.handle_message.Goals as goal
 
 pub returns-in-Ok-clause-handles : goal.returns-in-Ok-clause-handles
@@ -15,3 +16,7 @@ pub returns-clause-handles : goal.returns-clause-handles
 returns-clause-handles g c =
     rw c.in-Err.ensures.fault (handles_fault g.F.FileSystemBase.may (setting c.args.self.now.page_size c.args.self.now.options.0 c.args.w.now.free) _ _ _ _
     (meaning_fault _ _ _ _ c.in-Err.ensures.reads) refl)
+
+pub returns-in-Ok-clause-memory : goal.returns-in-Ok-clause-memory
+returns-in-Ok-clause-memory g c = λ none.
+    c.serve.ensures.rest.1 (takes_none _ _ _ _ _ c.in-Ok.ensures.reads c.in-Ok.ensures.whole none)
