@@ -39,7 +39,7 @@ answer_of (told.TheVariants.Block number) = NewBlockIs number
 answer_of (told.TheVariants.Served run) = Served (kicked_of run)
 answer_of (told.TheVariants.Refused why) = IsRefused why
 
--- a kick of a queue that is there lists these exchanges, each of which made some calls
+-- a kick of a queue that is there lists these exchanges, each with the calls that it made
 abbrev pub KickLists : {F : Type 0} → May F → State F → (queue most : ℕ) → List (Exchange × Bool) → Option DeviceError → State F → Type 0
 KickLists may s i most listed refused after = (told : Told) × KickRun may s i most told refused after × (listed ≡ map shown told)
 

@@ -96,56 +96,56 @@ room_far_away = refl
 -- ---- indirect tables
 
 -- the two descriptors as a table of 32 bytes at 0x3000, which the first descriptor names
-abbrev pub with_table : Memory
-with_table =
+abbrev pub with_descriptors : Memory
+with_descriptors =
     let a = put with_one_request 0x3000 (descriptor_bytes 0x1000 40 1 1 ++ descriptor_bytes 0x2000 16 2 0) in
     put a 0 (descriptor_bytes 0x3000 32 4 0)
 
 -- the same request and room
-by_table : gives with_table ≡ Offers 0 (Asks request (addresses 0x2000 16))
+by_table : gives with_descriptors ≡ Offers 0 (Asks request (addresses 0x2000 16))
 unfolding offer place addresses stored_all path found
 by_table = refl
 
 -- that the descriptor is one to write says nothing
-by_table_to_write : gives (put with_table 0 (descriptor_bytes 0x3000 32 6 0)) ≡ Offers 0 (Asks request (addresses 0x2000 16))
+by_table_to_write : gives (put with_descriptors 0 (descriptor_bytes 0x3000 32 6 0)) ≡ Offers 0 (Asks request (addresses 0x2000 16))
 unfolding offer place addresses stored_all path found
 by_table_to_write = refl
 
 -- descriptors of the queue come first, and the one that names the table is the last of these
-after_own : gives (put (put with_table 0 (descriptor_bytes 0x1000 40 1 1 ++ descriptor_bytes 0x3010 16 4 0)) 0x3010 (descriptor_bytes 0x2000 16 2 0)) ≡ Offers 0 (Asks request (addresses 0x2000 16))
+after_own : gives (put (put with_descriptors 0 (descriptor_bytes 0x1000 40 1 1 ++ descriptor_bytes 0x3010 16 4 0)) 0x3010 (descriptor_bytes 0x2000 16 2 0)) ≡ Offers 0 (Asks request (addresses 0x2000 16))
 unfolding offer place addresses stored_all path found
 after_own = refl
 
-table_with_next : gives (put with_table 0 (descriptor_bytes 0x3000 32 5 1)) ≡ Offers 0 (CannotAsk chain_fault.IndirectWithNext)
+table_with_next : gives (put with_descriptors 0 (descriptor_bytes 0x3000 32 5 1)) ≡ Offers 0 (CannotAsk chain_fault.IndirectWithNext)
 unfolding offer place addresses stored_all path found
 table_with_next = refl
 
-table_in_table : gives (put with_table 0x3000 (descriptor_bytes 0x3000 32 4 0)) ≡ Offers 0 (CannotAsk chain_fault.IndirectNested)
+table_in_table : gives (put with_descriptors 0x3000 (descriptor_bytes 0x3000 32 4 0)) ≡ Offers 0 (CannotAsk chain_fault.IndirectNested)
 unfolding offer place addresses stored_all path found
 table_in_table = refl
 
-table_of_no_entry : gives (put with_table 0 (descriptor_bytes 0x3000 0 4 0)) ≡ Offers 0 (CannotAsk chain_fault.IndirectLength)
+table_of_no_entry : gives (put with_descriptors 0 (descriptor_bytes 0x3000 0 4 0)) ≡ Offers 0 (CannotAsk chain_fault.IndirectLength)
 unfolding offer place addresses stored_all path found
 table_of_no_entry = refl
 
-table_of_half_entries : gives (put with_table 0 (descriptor_bytes 0x3000 40 4 0)) ≡ Offers 0 (CannotAsk chain_fault.IndirectLength)
+table_of_half_entries : gives (put with_descriptors 0 (descriptor_bytes 0x3000 40 4 0)) ≡ Offers 0 (CannotAsk chain_fault.IndirectLength)
 unfolding offer place addresses stored_all path found
 table_of_half_entries = refl
 
-table_past_64_bits : gives (put with_table 0 (descriptor_bytes 0xfffffffffffffff0 16 4 0)) ≡ Offers 0 (CannotAsk chain_fault.AddressOverflow)
+table_past_64_bits : gives (put with_descriptors 0 (descriptor_bytes 0xfffffffffffffff0 16 4 0)) ≡ Offers 0 (CannotAsk chain_fault.AddressOverflow)
 unfolding offer place addresses stored_all path found
 table_past_64_bits = refl
 
-table_far_away : gives (put with_table 0 (descriptor_bytes 0x20000 32 4 0)) ≡ Offers 0 (CannotAsk chain_fault.TableUnreachable)
+table_far_away : gives (put with_descriptors 0 (descriptor_bytes 0x20000 32 4 0)) ≡ Offers 0 (CannotAsk chain_fault.TableUnreachable)
 unfolding offer place addresses stored_all path found
 table_far_away = refl
 
-next_past_named_table : gives (put with_table 0x3000 (descriptor_bytes 0x1000 40 1 2)) ≡ Offers 0 (CannotAsk chain_fault.NextOutOfTable)
+next_past_named_table : gives (put with_descriptors 0x3000 (descriptor_bytes 0x1000 40 1 2)) ≡ Offers 0 (CannotAsk chain_fault.NextOutOfTable)
 unfolding offer place addresses stored_all path found
 next_past_named_table = refl
 
 -- a descriptor of a table that leads to itself
-loop_in_table : gives (put with_table 0x3000 (descriptor_bytes 0x1000 40 1 0)) ≡ Offers 0 (CannotAsk chain_fault.TooLong)
+loop_in_table : gives (put with_descriptors 0x3000 (descriptor_bytes 0x1000 40 1 0)) ≡ Offers 0 (CannotAsk chain_fault.TooLong)
 unfolding offer place addresses stored_all path found
 loop_in_table = refl
 

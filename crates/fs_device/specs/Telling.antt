@@ -1,4 +1,4 @@
--- What a run tells of its file calls: in their order they are a run of the file system, and each exchange is what its request means.
+-- What a run tells of its file calls: in their order they are a run of the file system, and each exchange is what its request means in some setting.
 use Rattle.std.specs.Prelude.{◌≡◌, List, [], map, flat_map, Option, Some, None}
 use Rattle.std.specs.List.{AllByRecursion}
 use Rattle.fuse_fs.specs.Calls.{FileRun}
@@ -33,7 +33,7 @@ IsServedBy None t = IsMeant t
 abbrev pub IsServed : Turn → Type 0
 IsServed t = IsServedBy t.exchange.fault t
 
--- all calls of a run are a run of the file system from its first state to its last, and each exchange is what its request means
+-- all calls of a run are a run of the file system from its first state to its last, and each exchange is what its request means in some setting
 abbrev pub CallsAreTold : {F : Type 0} → May F → Type 0
 CallsAreTold {F} may =
     (s after : State F) (events : List (Command × Answer)) (tolds : List Told) → RunTold may s events tolds after →

@@ -18,7 +18,8 @@ pub fn law_books<F: FileSystem>()
 {}
 
 /// All file calls of a run, in their order, are a run of the file system from its first state to its
-/// last; and each exchange, with its calls, is what its request means.
+/// last; and each exchange, with its calls, is what its request means in some setting (options, page
+/// size, room); `RunTold` says which.
 pub fn law_calls<F: FileSystem>()
     ensures { CallsAreTold F.may }
 {}

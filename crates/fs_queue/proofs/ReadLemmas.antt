@@ -1,18 +1,17 @@
 -- reads of ranges, by the addresses that were reached
 use Rattle.std.proofs.Common.{◌≡◌, ℕ, Bool, true, false, ◌+◌, ◌^◌, ◌<◌, nat_lt, eqb, List, [], ◌∷◌, ◌++◌, length, map, take, drop, refl, ap, sym, ◌∙◌, append-nil, arith, Ok, Err, None}
-use Rattle.std.specs.Prelude.{is_ok, is_some, IsTrue, IfOk, OnErr, Result, if◌then◌else◌}
+use Rattle.std.specs.Prelude.{is_some, IsTrue, IfOk, OnErr, Result, if◌then◌else◌}
 use Rattle.std.specs.declared.alloc.AllocError.{AllocError}
 use Rattle.std.specs.Int.{w16, w32, w64, from_le_bytes, to_le_bytes}
 use Rattle.std.proofs.lemmas.Bool.Decides.{nat_tests}
 use Rattle.std.proofs.lemmas.Nat.{from_le_bytes-to_le_bytes_2, from_le_bytes-to_le_bytes_4, from_le_bytes-to_le_bytes_8}
 use Rattle.std.proofs.lemmas.List.{take_all, drop_all, take_at, drop_at, map-append, length-map}
-use Rattle.vm_values.specs.declared.address.GuestAddress.{GuestAddress}
 use Rattle.vm_values.specs.Fields.{AllFit, spelled}
 use Rattle.vm_values.specs.Fields as fields
 use Rattle.vm_memory_core.specs.Host.{Host}
 use Rattle.vm_iotlb.specs.declared.permissions.Permissions.TheVariants.{Read}
 use Rattle.vm_memory.specs.Layout.{Region, place}
-use Rattle.vm_memory.specs.Memory.{Memory, memory_of, addresses, circular, located, location, reached, reach, byte, bytes, number, transferred}
+use Rattle.vm_memory.specs.Memory.{Memory, memory_of, addresses, circular, located, location, reached, reach, byte, bytes, number}
 use Rattle.vm_memory.specs.RangeAnswers.{Checks, Reads}
 use Rattle.vm_memory.proofs.Places.{circular-is, length-circular, length-addresses, list_all-reached, addresses-append}
 use Rattle.vm_memory.proofs.RangeLemmas.{reach-from}
@@ -20,10 +19,6 @@ use Rattle.fs_queue.specs.declared.descriptor.Descriptor.{Descriptor}
 use Rattle.fs_queue.specs.Records.{descriptor}
 use Rattle.fs_queue.specs.Chain.{descriptor_at}
 use Rattle.fs_queue.specs.Look.{IsUnmapped}
-
--- a transfer succeeds where all was done
-pub is_ok-transferred : (a : GuestAddress) (n k : ℕ) → is_ok (transferred a n k) ≡ eqb k n
-is_ok-transferred a n k = grind arith
 
 below : (n : ℕ) → n < 2 ^ 64 → nat_lt n (2 ^ 64) ≡ true
 below n h = grind (arith, nat_tests)

@@ -1,4 +1,4 @@
--- Worked offers that compute, behind a table: a queue of one descriptor, its table at 0, its rings at 0x10 and 0x18, a room of 4 bytes at 0x28.
+-- Worked offers that compute, behind an IOMMU: a queue of one descriptor, which stands at 0, its rings at 0x10 and 0x18, a room of 4 bytes at 0x28.
 use Rattle.std.specs.Prelude.{◌≡◌, ℕ, ◌+◌, false, List, [], ◌∷◌, refl}
 use Rattle.vm_iotlb.specs.declared.permissions.Permissions.{Permissions}
 use Rattle.vm_iotlb.specs.declared.permissions.Permissions.TheVariants.{Read, Write, ReadWrite}
@@ -43,7 +43,17 @@ entry_unmapped : gives (range 0 0x14 ReadWrite ∷ []) ≡ Refuses stop.RingEntr
 unfolding offer place addresses table_kept path found
 entry_unmapped = refl
 
--- the room may be read alone
+-- the used ring may only be read
+used_not_written : gives (range 0 0x18 ReadWrite ∷ range 0x18 0x28 Read ∷ range 0x28 0x2c ReadWrite ∷ []) ≡ Refuses stop.UsedUnreachable
+unfolding offer place addresses table_kept path found
+used_not_written = refl
+
+-- the available flags aren't mapped, but the index and the entry behind them are
+flags_unmapped : gives (range 0 0x10 ReadWrite ∷ range 0x12 0x2c ReadWrite ∷ []) ≡ Refuses stop.AvailFlagsUnreachable
+unfolding offer place addresses table_kept path found
+flags_unmapped = refl
+
+-- the room may only be read
 room_not_written : gives (range 0 0x28 ReadWrite ∷ range 0x28 0x2c Read ∷ []) ≡ Offers 0 (CannotAsk RoomUnreachable)
 unfolding offer place addresses table_kept path found
 room_not_written = refl

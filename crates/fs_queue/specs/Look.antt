@@ -18,7 +18,7 @@ looked m q =
     else if nat_le q.size (head m q) then Refused HeadOutOfTable
     else Head (head m q)
 
--- n addresses from a on can't all be read, and they are translated
+-- n addresses from a on are translated, and not each can be read
 abbrev pub IsUnmapped : Memory → (a n : ℕ) → Type 0
 IsUnmapped m a n = (m.translates ≡ true) × (reach m Read a n ≡ false)
 

@@ -73,7 +73,7 @@ on_look m limit q (look.Head head) = on_head m limit q head
 unfoldable pub offer : Memory → ℕ → Queue → Offer
 offer m limit q = if q.stopped then Refuses stop.Stopped else on_look m limit q (looked m q)
 
--- whether a step may be refused for want of memory: not where the queue is stopped, nor before a head is found unless the ring can't be translated
+-- whether a step may be refused for want of memory: not where the queue is stopped, nor before a head is found unless the ring is behind an IOMMU and can't be read
 abbrev pub may_lack_memory : Memory → Offer → Bool
 may_lack_memory m Idle = false
 may_lack_memory m (Refuses stop.Stopped) = false
