@@ -8,6 +8,6 @@ pub mod monitor;
 pub mod run;
 pub mod table;
 
-pub use monitor::{MonitorError, read_file};
+pub use monitor::{Monitor, MonitorError, read_file};
 pub use run::run_directory;
 pub use table::{Entries, File, ReadOnlyDirectory};
