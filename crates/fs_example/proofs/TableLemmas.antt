@@ -1,0 +1,57 @@
+-- the table of files, entry by entry
+use Rattle.std.proofs.Common.{◌≡◌, ℕ, zero, suc, ◌+◌, ◌-◌, ◌<◌, Bool, List, [], ◌∷◌, length, drop, get_or, Option, Some, None, refl, ap, sym, ◌∙◌, arith}
+use Rattle.std.specs.Prelude.{if◌then◌else◌, slice_get}
+use Rattle.std.specs.Str.{bytes_eq}
+use Rattle.std.proofs.lemmas.List.{drop-drop}
+use Rattle.std.proofs.lemmas.Option.{slice_get-get_or}
+use Rattle.fuse_fs.specs.declared.answers.Context.{Context}
+use Rattle.fuse_fs.specs.Answers.{ForgetsEach}
+use Rattle.fuse_fs.specs.Calls.{Listed}
+use Rattle.fs_example.specs.declared.table.File.{File}
+use Rattle.fs_example.specs.declared.table.ReadOnlyDirectory.{ReadOnlyDirectory}
+use Rattle.fs_example.specs.Directory.{listing_from, node_of, MayAnswer}
+
+-- ---- entries
+
+listing_rest : (at : ℕ) (l : List File) → listing_from (at + 1 + 2) (drop 1 l) ≡ drop 1 (listing_from (at + 2) l)
+listing_rest at [] = refl
+listing_rest at (f ∷ fs) = let same : at + 1 + 2 ≡ at + 2 + 1 = omega arith in ap (λ (n : ℕ). listing_from n fs) same
+
+pub listing_goes_on : (at : ℕ) (fs : List File) → listing_from (at + 1 + 2) (drop (at + 1) fs) ≡ drop 1 (listing_from (at + 2) (drop at fs))
+listing_goes_on at fs = ap (listing_from (at + 1 + 2)) (sym (drop-drop 1 at fs)) ∙ listing_rest at (drop at fs)
+
+first_there : (at : ℕ) (fs : List File) → slice_get (drop at fs) 0 ≡ slice_get fs at
+first_there zero fs = refl
+first_there (suc at) [] = refl
+first_there (suc at) (f ∷ fs) = first_there at fs
+
+first_listed : (at : ℕ) (l : List File) (f : File) → slice_get l 0 ≡ Some f → Some (record { ino = at + 2; offset = at + 1; kind = 8; name = f.name.now }) ≡ slice_get (listing_from (at + 2) l) 0
+first_listed at [] f e = absurd (cc)
+first_listed at (x ∷ l) f e =
+    let same : x ≡ f = cc in
+    let place : at + 1 ≡ at + 2 - 1 = omega arith in
+    ap (λ (n : ℕ). Some (record { ino = at + 2; offset = n; kind = 8; name = f.name.now })) place
+    ∙ ap (λ (y : File). Some (record { ino = at + 2; offset = at + 2 - 1; kind = 8; name = y.name.now })) (sym same)
+
+pub entry_there : (at : ℕ) (fs : List File) (d : File) → at < length fs →
+    Some (record { ino = at + 2; offset = at + 1; kind = 8; name = (get_or fs at d).name.now }) ≡ slice_get (listing_from (at + 2) (drop at fs)) 0
+entry_there at fs d low = first_listed at (drop at fs) (get_or fs at d) (first_there at fs ∙ slice_get-get_or fs at d low)
+
+-- ---- names
+
+one_more : (l : List File) (name : List ℕ) (first : ℕ) (f : File) → slice_get l 0 ≡ Some f → node_of l name first ≡ (if bytes_eq f.name.now name then Some first else node_of (drop 1 l) name (first + 1))
+one_more [] name first f e = absurd (cc)
+one_more (x ∷ l) name first f e = let same : x ≡ f = cc in ap (λ (y : File). if bytes_eq y.name.now name then Some first else node_of l name (first + 1)) same
+
+-- of the files from one on
+pub node_from : (fs : List File) (name : List ℕ) (i first : ℕ) (d : File) → i < length fs →
+    node_of (drop i fs) name first ≡ (if bytes_eq (get_or fs i d).name.now name then Some first else node_of (drop (i + 1) fs) name (first + 1))
+node_from fs name i first d low =
+    one_more (drop i fs) name first (get_or fs i d) (first_there i fs ∙ slice_get-get_or fs i d low)
+    ∙ ap (λ (l : List File). if bytes_eq (get_or fs i d).name.now name then Some first else node_of l name (first + 1)) (drop-drop 1 i fs)
+
+-- ---- what is forgotten changes nothing
+
+pub forgets_nothing : (before : ReadOnlyDirectory) (who : Context) (counts : List (ℕ × ℕ)) (after : ReadOnlyDirectory) → ForgetsEach MayAnswer before who counts after → after ≡ before
+forgets_nothing before who [] after same = same
+forgets_nothing before who (node ∷ counts) after (between, made, rest) = forgets_nothing between who counts after rest ∙ made.1

@@ -1,0 +1,118 @@
+-- What the read-only directory answers. The root is node 1, and the files are the nodes from 2 on, in the order of the table.
+use Rattle.std.specs.Prelude.{◌≡◌, ◌⊎◌, ℕ, ◌+◌, ◌-◌, Bool, ◌==◌, nat_lt, List, [], ◌∷◌, length, take, drop, Option, Some, None, if◌then◌else◌, slice_get}
+use Rattle.std.specs.Str.{bytes_eq}
+use Rattle.fuse_base.specs.declared.records.Attr.{Attr}
+use Rattle.fuse_fs.specs.declared.answers.Entry.{Entry}
+use Rattle.fuse_fs.specs.Answers.{default_stats}
+use Rattle.fuse_fs.specs.Times.{Duration}
+use Rattle.fuse_fs.specs.Calls.{FileCall, FileAnswer, Listed, Init, Destroy, Lookup, Forget, BatchForget, Getattr, Open, Opendir, Read, Readdir, Statfs, Failed, Done, HasEntry, HasAttr, Opened, Bytes, Stats, Entries, Wants}
+use Rattle.fs_example.specs.declared.table.File.{File}
+use Rattle.fs_example.specs.declared.table.ReadOnlyDirectory.{ReadOnlyDirectory}
+
+-- error numbers of Linux: nothing has this name or number
+abbrev pub ENOENT : ℕ
+ENOENT = 2
+
+-- the room is too short for the bytes
+abbrev pub EIO : ℕ
+EIO = 5
+
+-- the call is not served
+abbrev pub ENOSYS : ℕ
+ENOSYS = 38
+
+-- the node of a name, where the first file of the table has this node
+abbrev pub node_of : List File → (name : List ℕ) → (first : ℕ) → Option ℕ
+node_of [] name first = None
+node_of (f ∷ fs) name first = if bytes_eq f.name.now name then Some first else node_of fs name (first + 1)
+
+-- the file that a node is
+abbrev pub file_at : List File → (node : ℕ) → Option File
+file_at fs node = if nat_lt node 2 then None else slice_get fs (node - 2)
+
+-- an answer stays good for a second
+abbrev pub second : Duration
+second = record { seconds = 1; nanos = 0 }
+
+-- a node's attributes; all others are 0
+abbrev pub attr_of : (node size mode : ℕ) → Attr
+attr_of node size mode = record {
+  ino = node;
+  size = size;
+  blocks = 0;
+  atime = 0;
+  mtime = 0;
+  ctime = 0;
+  atimensec = 0;
+  mtimensec = 0;
+  ctimensec = 0;
+  mode = mode;
+  nlink = 1;
+  uid = record { 0 = 0 };
+  gid = record { 0 = 0 };
+  rdev = 0;
+  blksize = 4096;
+  flags = 0;
+}
+
+-- a regular file that all may read (0o100444)
+abbrev pub file_attr : (node : ℕ) → File → Attr
+file_attr node f = attr_of node (length f.contents.now) 0x8124
+
+-- a directory that all may read and go through (0o40555)
+abbrev pub root_attr : Attr
+root_attr = attr_of 1 0 0x416d
+
+-- what a look-up that found a node answers
+abbrev pub entry_at : (node : ℕ) → Option File → FileAnswer
+entry_at node None = Failed ENOENT
+entry_at node (Some f) = HasEntry (record { inode = node; generation = 0; attr = file_attr node f; attr_timeout = second; entry_timeout = second })
+
+-- what a look-up answers
+abbrev pub found : List File → Option ℕ → FileAnswer
+found fs None = Failed ENOENT
+found fs (Some node) = entry_at node (file_at fs node)
+
+-- the attributes of a node that may be no file
+abbrev pub attr_at : (node : ℕ) → Option File → FileAnswer
+attr_at node None = Failed ENOENT
+attr_at node (Some f) = HasAttr (file_attr node f) second
+
+-- the bytes of a file from an offset on, at most so many
+abbrev pub bytes_at : Option File → (size offset : ℕ) → FileAnswer
+bytes_at None size offset = Failed ENOENT
+bytes_at (Some f) size offset = Bytes (take size (drop offset f.contents.now))
+
+-- the entries of files of which the first has this node, each with where a listing goes on behind it; regular files (8 is DT_REG of dirent.h)
+abbrev pub listing_from : (first : ℕ) → List File → List Listed
+listing_from first [] = []
+listing_from first (f ∷ fs) = record { ino = first; offset = first - 1; kind = 8; name = f.name.now } ∷ listing_from (first + 1) fs
+
+-- what each call is answered
+abbrev pub answer_of : List File → FileCall → FileAnswer
+answer_of fs (Init capable) = Wants 0
+answer_of fs (Lookup who parent name) = if parent == 1 then found fs (node_of fs name 2) else Failed ENOENT
+answer_of fs (Getattr who node handle) = if node == 1 then HasAttr root_attr second else attr_at node (file_at fs node)
+answer_of fs (Read who node handle room size offset owner flags) = bytes_at (file_at fs node) size offset
+answer_of fs (Readdir who node handle size offset) = if node == 1 then Entries (listing_from (offset + 2) (drop offset fs)) else Failed ENOENT
+answer_of fs (Open who node kill flags) = Opened None 0
+answer_of fs (Opendir who node flags) = Opened None 0
+answer_of fs (Statfs who node) = Stats default_stats
+answer_of fs (Forget who node count) = Done
+answer_of fs (BatchForget who counts) = Done
+answer_of fs Destroy = Done
+answer_of fs _ = Failed ENOSYS
+
+-- these bytes, all of them, or a failure
+abbrev pub IsWhole : List ℕ → FileAnswer → Type 0
+IsWhole bytes answer = (answer ≡ Bytes bytes) ⊎ (answer ≡ Failed EIO)
+
+-- a call has its answer; READ may fail instead, as it does where its room is too short for all the bytes
+abbrev pub Answers : List File → FileCall → FileAnswer → Type 0
+Answers fs (Read who node handle room size offset owner flags) answer =
+    (answer ≡ answer_of fs (Read who node handle room size offset owner flags)) ⊎ (answer ≡ Failed EIO)
+Answers fs call answer = answer ≡ answer_of fs call
+
+-- each call has its answer, and nothing changes
+abbrev pub MayAnswer : ReadOnlyDirectory → FileCall → FileAnswer → ReadOnlyDirectory → Type 0
+MayAnswer before call answer after = Answers before.files.now call answer × (after ≡ before)

@@ -1,0 +1,549 @@
+//! A read-only directory, as a file system.
+
+ghost use Rattle.std.specs.Prelude.{◌≡◌, ◌<◌, ◌^◌, ◌+◌, ◌++◌, ℕ, List, length, take, drop, Ok, IfOk, option_map};
+ghost use Rattle.fuse_fs.specs.Answers.{attr_answer, data_answer, pair_numbers};
+ghost use Rattle.fuse_fs.specs.Calls as call;
+ghost use Rattle.fs_example.specs.Directory.{IsWhole, attr_of, file_at, listing_from, node_of, MayAnswer};
+
+use crate::table::{Entries, File, ReadOnlyDirectory};
+use bitflags::Flags;
+use fuse_fs::{
+    Context, DirEntry, DirectoryIterator, Entry, Extensions, FileSystem, FileSystemBase,
+    GetxattrReply, ListxattrReply, PositionedFile, Timeout, WritevFlags, ZeroCopyReader,
+    ZeroCopyWriter, defaults,
+};
+use fuse_wire::{
+    Attr, Errno, FsOptions, GuestGid, GuestUid, OpenOptions, SetattrIn, SetattrValid,
+    SetxattrFlags, StatVfs,
+};
+
+// The node of the root.
+const ROOT: u64 = 1;
+
+// The node of the first file.
+const FIRST: u64 = 2;
+
+// What is kept of how long answers stay good.
+fn second() -> Timeout
+    ensures { result ≡ record { seconds = 1; nanos = 0 } }
+{
+    Timeout::new(1, 0).unwrap()
+}
+
+// The attributes of a node.
+fn attr(node: u64, size: u64, mode: u32) -> Attr
+    ensures { result ≡ attr_of node size mode }
+{
+    Attr {
+        ino: node,
+        size,
+        blocks: 0,
+        atime: 0,
+        mtime: 0,
+        ctime: 0,
+        atimensec: 0,
+        mtimensec: 0,
+        ctimensec: 0,
+        mode,
+        nlink: 1,
+        uid: GuestUid(0),
+        gid: GuestGid(0),
+        rdev: 0,
+        blksize: 4096,
+        flags: 0,
+    }
+}
+
+// The node of a name.
+fn node_named(files: &[File], name: &[u8]) -> Option<u64>
+    requires { length files.now < 2 ^ 32 }
+    ensures { result ≡ node_of files.now name.now 2 }
+{
+    for i in 0..files.len() {
+        if *files[i].name == *name {
+            return Some(FIRST + i as u64);
+        }
+    }
+    None
+}
+
+// The file that a node is.
+fn file_at<'a>(files: &[File<'a>], node: u64) -> Option<File<'a>>
+    ensures { result ≡ file_at files.now node }
+{
+    if node < FIRST {
+        None
+    } else {
+        files.get((node - FIRST) as usize).copied()
+    }
+}
+
+// The contents of a file, as they are read at a place.
+#[derive(Drop)]
+struct Contents<'a> {
+    bytes: &'a [u8],
+}
+
+// The bytes from a place on.
+fn rest(bytes: &[u8], off: u64) -> &[u8]
+    ensures { result.now ≡ drop off bytes.now }
+{
+    if off < bytes.len() as u64 {
+        &bytes[off as usize..]
+    } else {
+        &[]
+    }
+}
+
+impl<'a> PositionedFile for Contents<'a> {
+    ghost read_gives = { λ f most off answer g. (answer ≡ Ok (take most (drop off f.bytes.now))) × (g ≡ f) };
+
+    ghost write_gives = { λ f bytes off flags answer g. g ≡ f };
+
+    fn read_at(&mut self, buf: &mut [u8], off: u64) -> Result<usize, Errno> {
+        let rest = rest(self.bytes, off);
+        let count = rest.len().min(buf.len());
+        buf[..count].copy_from_slice(&rest[..count]);
+        Ok(count)
+    }
+
+    fn write_at(
+        &mut self,
+        _buf: &[u8],
+        _off: u64,
+        _flags: Option<WritevFlags>,
+    ) -> Result<usize, Errno> {
+        Err(Errno::EINVAL)
+    }
+}
+
+// Puts so many bytes of contents from an offset on into a writer, or fails where not all of them go in.
+fn put_bytes<W: ZeroCopyWriter>(
+    w: &mut W,
+    contents: &[u8],
+    size: u32,
+    offset: u64,
+) -> Result<usize, Errno>
+    ensures { (bytes : List ℕ) × (W.put w.new ≡ W.put w.old ++ bytes) × (W.room w.old ≡ W.room w.new + length bytes)
+        × IfOk result (λ n. n ≡ length bytes) × IsWhole (take size (drop offset contents.now)) (data_answer result bytes) }
+{
+    let wanted = rest(contents, offset).len().min(size as usize);
+    match w.read_from_file_at(&mut Contents { bytes: contents }, wanted, offset) {
+        Ok(n) if n == wanted => Ok(n),
+        _ => Err(Errno::EIO),
+    }
+}
+
+impl<'a> DirectoryIterator for Entries<'a> {
+    ghost rest = { λ entries. listing_from (entries.at + 2) (drop entries.at entries.files.now) };
+
+    fn next(&mut self) -> Option<DirEntry<'_>> {
+        let at = self.at;
+        if at >= self.files.len() as u64 {
+            return None;
+        }
+        self.at = at + 1;
+        Some(DirEntry {
+            ino: at + FIRST,
+            offset: at + 1,
+            type_: 8,
+            name: self.files[at as usize].name,
+        })
+    }
+}
+
+impl<'a> FileSystemBase for ReadOnlyDirectory<'a> {
+    type Inode = u64;
+
+    type Handle = u64;
+
+    ghost may = { MayAnswer };
+
+    fn forget(&mut self, _ctx: Context, _inode: u64, _count: u64) {}
+}
+
+impl<'a> FileSystem for ReadOnlyDirectory<'a> {
+    type DirIter = Entries<'a>;
+
+    fn init(&mut self, _capable: FsOptions) -> Result<FsOptions, Errno> {
+        defaults::init()
+    }
+
+    fn lookup(&mut self, _ctx: Context, parent: u64, name: &[u8]) -> Result<Entry<u64>, Errno> {
+        if parent != ROOT {
+            return Err(Errno::ENOENT);
+        }
+        let node = node_named(self.files, name).ok_or(Errno::ENOENT)?;
+        let file = file_at(self.files, node).ok_or(Errno::ENOENT)?;
+        Ok(Entry {
+            inode: node,
+            generation: 0,
+            attr: attr(node, file.contents.len() as u64, 0o100_444),
+            attr_timeout: second(),
+            entry_timeout: second(),
+        })
+    }
+
+    fn getattr(
+        &mut self,
+        _ctx: Context,
+        inode: u64,
+        _handle: Option<u64>,
+    ) -> Result<(Attr, Timeout), Errno>
+        ensures may { MayAnswer self.old (call.Getattr _ctx inode (option_map (λ n. n) _handle)) (attr_answer result) self.new }
+    {
+        if inode == ROOT {
+            return Ok((attr(ROOT, 0, 0o40_555), second()));
+        }
+        match file_at(self.files, inode) {
+            Some(file) => Ok((attr(inode, file.contents.len() as u64, 0o100_444), second())),
+            None => Err(Errno::ENOENT),
+        }
+    }
+
+    fn read<W: ZeroCopyWriter>(
+        &mut self,
+        _ctx: Context,
+        inode: u64,
+        _handle: u64,
+        w: &mut W,
+        size: u32,
+        offset: u64,
+        _lock_owner: Option<u64>,
+        _flags: u32,
+    ) -> Result<usize, Errno> {
+        match file_at(self.files, inode) {
+            Some(file) => put_bytes(w, file.contents, size, offset),
+            None => Err(Errno::ENOENT),
+        }
+    }
+
+    fn readdir(
+        &mut self,
+        _ctx: Context,
+        inode: u64,
+        _handle: u64,
+        _size: u32,
+        offset: u64,
+    ) -> Result<Entries<'a>, Errno> {
+        if inode != ROOT {
+            return Err(Errno::ENOENT);
+        }
+        Ok(Entries {
+            files: self.files,
+            at: offset,
+        })
+    }
+
+    fn batch_forget(&mut self, ctx: Context, requests: Vec<(u64, u64)>)
+        ensures may { MayAnswer self.old (call.BatchForget ctx (pair_numbers (λ n. n) requests.items)) call.Done self.new }
+    {
+        defaults::batch_forget(self, ctx, requests);
+    }
+
+    fn destroy(&mut self) {
+        defaults::destroy(self);
+    }
+
+    fn setattr(
+        &mut self,
+        _ctx: Context,
+        _inode: u64,
+        _attr: SetattrIn,
+        _handle: Option<u64>,
+        _valid: SetattrValid,
+    ) -> Result<(Attr, Timeout), Errno>
+        ensures may { MayAnswer self.old (call.Setattr _ctx _inode _attr (option_map (λ n. n) _handle) _valid.0) (attr_answer result) self.new }
+    {
+        defaults::setattr()
+    }
+
+    fn readlink(&mut self, _ctx: Context, _inode: u64) -> Result<Vec<u8>, Errno> {
+        defaults::readlink()
+    }
+
+    fn symlink(
+        &mut self,
+        _ctx: Context,
+        _linkname: &[u8],
+        _parent: u64,
+        _name: &[u8],
+        _extensions: Extensions,
+    ) -> Result<Entry<u64>, Errno> {
+        defaults::symlink()
+    }
+
+    fn mknod(
+        &mut self,
+        _ctx: Context,
+        _parent: u64,
+        _name: &[u8],
+        _mode: u32,
+        _rdev: u32,
+        _umask: u32,
+        _extensions: Extensions,
+    ) -> Result<Entry<u64>, Errno> {
+        defaults::mknod()
+    }
+
+    fn mkdir(
+        &mut self,
+        _ctx: Context,
+        _parent: u64,
+        _name: &[u8],
+        _mode: u32,
+        _umask: u32,
+        _extensions: Extensions,
+    ) -> Result<Entry<u64>, Errno> {
+        defaults::mkdir()
+    }
+
+    fn unlink(&mut self, _ctx: Context, _parent: u64, _name: &[u8]) -> Result<(), Errno> {
+        defaults::unlink()
+    }
+
+    fn rmdir(&mut self, _ctx: Context, _parent: u64, _name: &[u8]) -> Result<(), Errno> {
+        defaults::rmdir()
+    }
+
+    fn rename(
+        &mut self,
+        _ctx: Context,
+        _olddir: u64,
+        _oldname: &[u8],
+        _newdir: u64,
+        _newname: &[u8],
+        _flags: u32,
+    ) -> Result<(), Errno> {
+        defaults::rename()
+    }
+
+    fn link(
+        &mut self,
+        _ctx: Context,
+        _inode: u64,
+        _newparent: u64,
+        _newname: &[u8],
+    ) -> Result<Entry<u64>, Errno> {
+        defaults::link()
+    }
+
+    fn open(
+        &mut self,
+        _ctx: Context,
+        _inode: u64,
+        _kill_priv: bool,
+        _flags: u32,
+    ) -> Result<(Option<u64>, OpenOptions), Errno> {
+        defaults::open()
+    }
+
+    fn create(
+        &mut self,
+        _ctx: Context,
+        _parent: u64,
+        _name: &[u8],
+        _mode: u32,
+        _kill_priv: bool,
+        _flags: u32,
+        _umask: u32,
+        _extensions: Extensions,
+    ) -> Result<(Entry<u64>, Option<u64>, OpenOptions), Errno> {
+        defaults::create()
+    }
+
+    fn write<R: ZeroCopyReader>(
+        &mut self,
+        _ctx: Context,
+        _inode: u64,
+        _handle: u64,
+        _r: &mut R,
+        _size: u32,
+        _offset: u64,
+        _lock_owner: Option<u64>,
+        _delayed_write: bool,
+        _kill_priv: bool,
+        _flags: u32,
+    ) -> Result<u32, Errno> {
+        defaults::write()
+    }
+
+    fn flush(
+        &mut self,
+        _ctx: Context,
+        _inode: u64,
+        _handle: u64,
+        _lock_owner: u64,
+    ) -> Result<(), Errno> {
+        defaults::flush()
+    }
+
+    fn fsync(
+        &mut self,
+        _ctx: Context,
+        _inode: u64,
+        _datasync: bool,
+        _handle: u64,
+    ) -> Result<(), Errno> {
+        defaults::fsync()
+    }
+
+    fn fallocate(
+        &mut self,
+        _ctx: Context,
+        _inode: u64,
+        _handle: u64,
+        _mode: u32,
+        _offset: u64,
+        _length: u64,
+    ) -> Result<(), Errno> {
+        defaults::fallocate()
+    }
+
+    fn release(
+        &mut self,
+        _ctx: Context,
+        _inode: u64,
+        _flags: u32,
+        _handle: u64,
+        _flush: bool,
+        _flock_release: bool,
+        _lock_owner: Option<u64>,
+    ) -> Result<(), Errno> {
+        defaults::release()
+    }
+
+    fn statfs(&mut self, _ctx: Context, _inode: u64) -> Result<StatVfs, Errno> {
+        defaults::statfs()
+    }
+
+    fn setxattr(
+        &mut self,
+        _ctx: Context,
+        _inode: u64,
+        _name: &[u8],
+        _value: &[u8],
+        _flags: u32,
+        _extra_flags: SetxattrFlags,
+    ) -> Result<(), Errno> {
+        defaults::setxattr()
+    }
+
+    fn getxattr(
+        &mut self,
+        _ctx: Context,
+        _inode: u64,
+        _name: &[u8],
+        _size: u32,
+    ) -> Result<GetxattrReply, Errno> {
+        defaults::getxattr()
+    }
+
+    fn listxattr(
+        &mut self,
+        _ctx: Context,
+        _inode: u64,
+        _size: u32,
+    ) -> Result<ListxattrReply, Errno> {
+        defaults::listxattr()
+    }
+
+    fn removexattr(&mut self, _ctx: Context, _inode: u64, _name: &[u8]) -> Result<(), Errno> {
+        defaults::removexattr()
+    }
+
+    fn opendir(
+        &mut self,
+        _ctx: Context,
+        _inode: u64,
+        _flags: u32,
+    ) -> Result<(Option<u64>, OpenOptions), Errno> {
+        defaults::opendir()
+    }
+
+    fn fsyncdir(
+        &mut self,
+        _ctx: Context,
+        _inode: u64,
+        _datasync: bool,
+        _handle: u64,
+    ) -> Result<(), Errno> {
+        defaults::fsyncdir()
+    }
+
+    fn releasedir(
+        &mut self,
+        _ctx: Context,
+        _inode: u64,
+        _flags: u32,
+        _handle: u64,
+    ) -> Result<(), Errno> {
+        defaults::releasedir()
+    }
+
+    fn access(&mut self, _ctx: Context, _inode: u64, _mask: u32) -> Result<(), Errno> {
+        defaults::access()
+    }
+
+    fn lseek(
+        &mut self,
+        _ctx: Context,
+        _inode: u64,
+        _handle: u64,
+        _offset: u64,
+        _whence: u32,
+    ) -> Result<u64, Errno> {
+        defaults::lseek()
+    }
+
+    fn copyfilerange(
+        &mut self,
+        _ctx: Context,
+        _inode_in: u64,
+        _handle_in: u64,
+        _offset_in: u64,
+        _inode_out: u64,
+        _handle_out: u64,
+        _offset_out: u64,
+        _len: u64,
+        _flags: u64,
+    ) -> Result<u32, Errno> {
+        defaults::copyfilerange()
+    }
+
+    fn syncfs(&mut self, _ctx: Context, _inode: u64) -> Result<(), Errno> {
+        defaults::syncfs()
+    }
+
+    fn getlk(&mut self) -> Result<(), Errno> {
+        defaults::getlk()
+    }
+
+    fn setlk(&mut self) -> Result<(), Errno> {
+        defaults::setlk()
+    }
+
+    fn setlkw(&mut self) -> Result<(), Errno> {
+        defaults::setlkw()
+    }
+
+    fn ioctl(&mut self) -> Result<(), Errno> {
+        defaults::ioctl()
+    }
+
+    fn bmap(&mut self) -> Result<(), Errno> {
+        defaults::bmap()
+    }
+
+    fn poll(&mut self) -> Result<(), Errno> {
+        defaults::poll()
+    }
+
+    fn notify_reply(&mut self) -> Result<(), Errno> {
+        defaults::notify_reply()
+    }
+
+    fn tmpfile(&mut self) -> Errno {
+        defaults::tmpfile()
+    }
+}

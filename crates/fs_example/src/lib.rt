@@ -1,0 +1,13 @@
+//! The device with a file system of one's own, from end to end: a read-only directory, handed in as a
+//! table of names and contents; what each run of a machine with it gives a guest that reads; and a
+//! monitor that has a guest read one file.
+#![tactic(auto)]
+
+pub mod directory;
+pub mod monitor;
+pub mod run;
+pub mod table;
+
+pub use monitor::{Monitor, MonitorError, read_file};
+pub use run::run_directory;
+pub use table::{Entries, File, ReadOnlyDirectory};

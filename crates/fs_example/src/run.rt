@@ -1,0 +1,27 @@
+//! Runs of a machine over the directory.
+
+ghost use Rattle.std.specs.Prelude.{◌≡◌, length, map, IfOk, OnErr};
+ghost use Rattle.std.specs.List.{zip};
+ghost use Rattle.fs_device.specs.CommandView.{answer_of, command_of};
+ghost use Rattle.fs_device.specs.MachineView.{machine_of};
+ghost use Rattle.fs_example.specs.Reading.{ReadingRun};
+
+use crate::table::ReadOnlyDirectory;
+use fs_device::laws::law_calls;
+use fs_device::{Answer, Command, Machine};
+use std::alloc::{AllocError, Global};
+
+/// Does commands one after another, as `Machine::run`. Whatever the guest does: where it reads a file, the
+/// reply holds the file's bytes.
+pub fn run_directory<'a>(
+    alloc: Global,
+    machine: &mut Machine<ReadOnlyDirectory<'a>>,
+    commands: Vec<Command>,
+) -> Result<Vec<Answer>, AllocError>
+    ensures run { IfOk result (λ answers. ReadingRun (machine_of machine.old) (zip (map command_of commands.items) (map answer_of answers.items)) (machine_of machine.new)) }
+    ensures all { IfOk result (λ answers. length answers.items ≡ length commands.items) }
+    ensures err { OnErr result (machine_of machine.new ≡ machine_of machine.old) }
+{
+    law_calls::<ReadOnlyDirectory<'a>>();
+    machine.run(alloc, commands)
+}

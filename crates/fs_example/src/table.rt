@@ -1,0 +1,36 @@
+//! The table of files that the directory is, and its entries.
+
+ghost use Rattle.std.specs.Prelude.{◌≡◌, ◌<◌, ◌^◌, length};
+
+/// A file of the directory.
+#[derive(Clone, Copy)]
+pub struct File<'a> {
+    pub name: &'a [u8],
+    pub contents: &'a [u8],
+}
+
+/// A directory that never changes. The root is node 1, and its files are the nodes from 2 on, in the
+/// order of the table.
+#[derive(Drop)]
+pub struct ReadOnlyDirectory<'a> {
+    pub files: &'a [File<'a>],
+    ghost few: { length files.now < 2 ^ 32 },
+}
+
+/// The entries of the directory, from one on.
+#[derive(Drop)]
+pub struct Entries<'a> {
+    pub(crate) files: &'a [File<'a>],
+    pub(crate) at: u64,
+    ghost few: { length files.now < 2 ^ 32 },
+}
+
+impl<'a> ReadOnlyDirectory<'a> {
+    /// The directory of these files. Of two with one name only the first is found.
+    pub fn new(files: &'a [File<'a>]) -> ReadOnlyDirectory<'a>
+        requires { length files.now < 2 ^ 32 }
+        ensures { result.files.now ≡ files.now }
+    {
+        ReadOnlyDirectory { files }
+    }
+}
