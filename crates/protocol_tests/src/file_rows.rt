@@ -1,6 +1,6 @@
 //! Requests about open files, and what comes of them.
 
-use crate::rows::{ASKER, Change, EMPTY, End, Row, UNIQUE, expect_rows};
+use crate::rows::{ASKER, Change, EIO, EMPTY, End, Row, UNIQUE, expect_rows};
 use crate::toy::Told;
 use virtiofsd_fuse::Error;
 
@@ -316,6 +316,18 @@ const READ_ROOMS: &[Row] = &[
         room: 15,
         calls: &[],
         end: End::Fault(Error::EncodeMessage),
+    },
+    // a READ that fails after bytes were put in: the error is the reply
+    Row {
+        request: &[
+            "50000000 0f000000",
+            ASKER,
+            "2200000000000000 0100000000000000 03000000 00000000 0000000000000000 00000000 00000000",
+        ],
+        told: Told::Other,
+        room: 100,
+        calls: &["read 10 11 12 5 34 3 1 - 0"],
+        end: End::Reply(EIO),
     },
     // from the end on
     Row {

@@ -14,9 +14,11 @@ const DOT: &str = "0100000000000000 0100000000000000 01000000 04000000 2e0000000
 
 const A: &str = "0200000000000000 0200000000000000 01000000 08000000 6100000000000000";
 
-// READDIR of `.` and `a`.
+const DOT_DOT: &str = "0100000000000000 0300000000000000 02000000 04000000 2e2e000000000000";
+
+// READDIR of `.`, `a` and `..`.
 const LISTS: &[Row] = &[
-    // both fit
+    // two fit
     Row {
         request: &[
             "50000000 1c000000",
@@ -53,19 +55,19 @@ const LISTS: &[Row] = &[
         told: Told::Good,
         room: 80,
         calls: &["readdir 10 11 12 5 34 64 1"],
-        end: End::Reply(&["30000000 00000000", UNIQUE, A]),
+        end: End::Reply(&["50000000 00000000", UNIQUE, A, DOT_DOT]),
     },
     // from the last on
     Row {
         request: &[
             "50000000 1c000000",
             ASKER,
-            "2200000000000000 0200000000000000 40000000 00000000",
+            "2200000000000000 0300000000000000 40000000 00000000",
             "0000000000000000 00000000 00000000",
         ],
         told: Told::Good,
         room: 80,
-        calls: &["readdir 10 11 12 5 34 64 2"],
+        calls: &["readdir 10 11 12 5 34 64 3"],
         end: End::Reply(EMPTY),
     },
     // nothing fits
@@ -214,13 +216,13 @@ const PLUS_ROOMS: &[Row] = &[
     },
 ];
 
-// The attributes of `.`, which is not looked up: its number and its kind.
+// The attributes of `.` and `..`, which are not looked up: their number and their kind.
 const DOT_ENTRY: &str =
     "0000000000000000 0000000000000000 0000000000000000 0000000000000000 00000000 00000000 0100000000000000 0000000000000000 0000000000000000 0000000000000000 0000000000000000 0000000000000000 00000000 00000000 00000000 00400000 00000000 00000000 00000000 00000000 00000000 00000000";
 
-// READDIRPLUS of `.` and `a`.
+// READDIRPLUS of `.`, `a` and `..`.
 const PLUS: &[Row] = &[
-    // both fit
+    // two fit: `..`, which has no node, is undone as if it had
     Row {
         request: &[
             "50000000 2c000000",
@@ -230,7 +232,11 @@ const PLUS: &[Row] = &[
         ],
         told: Told::Good,
         room: 336,
-        calls: &["readdir 10 11 12 5 34 320 0", "lookup 10 11 12 5 a"],
+        calls: &[
+            "readdir 10 11 12 5 34 320 0",
+            "lookup 10 11 12 5 a",
+            "forget 10 11 12 0 1",
+        ],
         end: End::Reply(&["50010000 00000000", UNIQUE, DOT_ENTRY, DOT, ENTRY_OUT, A]),
     },
     // one fits its size: the other is undone
@@ -319,7 +325,7 @@ const PLUS: &[Row] = &[
         calls: &["readdir 10 11 12 5 34 160 0", "forget 10 11 12 0 1"],
         end: End::Reply(EIO),
     },
-    // from the last on
+    // `..` is not looked up
     Row {
         request: &[
             "50000000 2c000000",
@@ -330,6 +336,19 @@ const PLUS: &[Row] = &[
         told: Told::Good,
         room: 176,
         calls: &["readdir 10 11 12 5 34 160 2"],
+        end: End::Reply(&["b0000000 00000000", UNIQUE, DOT_ENTRY, DOT_DOT]),
+    },
+    // from the last on
+    Row {
+        request: &[
+            "50000000 2c000000",
+            ASKER,
+            "2200000000000000 0300000000000000 a0000000 00000000",
+            "0000000000000000 00000000 00000000",
+        ],
+        told: Told::Good,
+        room: 176,
+        calls: &["readdir 10 11 12 5 34 160 3"],
         end: End::Reply(EMPTY),
     },
 ];

@@ -236,6 +236,34 @@ const GROUPS: &[Row] = &[
         calls: &[],
         end: End::Fault(Error::DecodeMessage),
     },
+    // less than a number of groups
+    Row {
+        request: &[
+            "3c000000 09000000",
+            ASKER,
+            "ed410000 22000000",
+            "6400",
+            "0a000000 20000000 0100",
+        ],
+        told: Told::Good,
+        room: 144,
+        calls: &[],
+        end: End::Fault(Error::DecodeMessage),
+    },
+    // a group that is cut off
+    Row {
+        request: &[
+            "41000000 09000000",
+            ASKER,
+            "ed410000 22000000",
+            "6400",
+            "0f000000 20000000 01000000 e80300",
+        ],
+        told: Told::Good,
+        room: 144,
+        calls: &[],
+        end: End::Fault(Error::DecodeMessage),
+    },
     // groups twice
     Row {
         request: &[
@@ -341,6 +369,35 @@ const LABELS: &[Row] = &[
         room: 144,
         calls: &[],
         end: End::Fault(Error::MissingExtension),
+    },
+    // a second label
+    Row {
+        request: &[
+            "5c000000 09000000",
+            ASKER,
+            "ed410000 22000000",
+            "6400",
+            "15000000 01000000 03000000 00000000 7300 6c6162",
+            "15000000 01000000 03000000 00000000 7300 6c6162",
+        ],
+        told: Told::Good,
+        room: 144,
+        calls: &[],
+        end: End::Fault(Error::DecodeMessage),
+    },
+    // less than a label's record
+    Row {
+        request: &[
+            "41000000 09000000",
+            ASKER,
+            "ed410000 22000000",
+            "6400",
+            "0f000000 01000000 03000000 000000",
+        ],
+        told: Told::Good,
+        room: 144,
+        calls: &[],
+        end: End::Fault(Error::DecodeMessage),
     },
     // two kinds of label
     Row {

@@ -182,17 +182,15 @@ impl FileSystem for Recorder<'_> {
     }
 
     fn unlink(&mut self, ctx: Context, parent: u64, name: &[u8]) -> Result<(), Errno> {
-        match self.log.note_named("unlink", ctx, &[parent], name) {
-            Told::Default => defaults::unlink(),
-            told => told.answer(()),
-        }
+        self.log
+            .note_named("unlink", ctx, &[parent], name)
+            .done(defaults::unlink())
     }
 
     fn rmdir(&mut self, ctx: Context, parent: u64, name: &[u8]) -> Result<(), Errno> {
-        match self.log.note_named("rmdir", ctx, &[parent], name) {
-            Told::Default => defaults::rmdir(),
-            told => told.answer(()),
-        }
+        self.log
+            .note_named("rmdir", ctx, &[parent], name)
+            .done(defaults::rmdir())
     }
 
     fn rename(
@@ -207,10 +205,7 @@ impl FileSystem for Recorder<'_> {
         let numbers = [olddir, newdir, u64::from(flags)];
         let told = self.log.note_named("rename", ctx, &numbers, oldname);
         self.log.note_texts(&[newname]);
-        match told {
-            Told::Default => defaults::rename(),
-            told => told.answer(()),
-        }
+        told.done(defaults::rename())
     }
 
     fn link(
@@ -297,7 +292,11 @@ impl FileSystem for Recorder<'_> {
             Told::Default => defaults::read(),
             told => {
                 told.answer(())?;
-                w.read_from_file_at(&mut Hello {}, size as usize, offset)
+                let n = w.read_from_file_at(&mut Hello {}, size as usize, offset)?;
+                match told {
+                    Told::Other => Err(Errno::EIO),
+                    _ => Ok(n),
+                }
             },
         }
     }
@@ -337,13 +336,9 @@ impl FileSystem for Recorder<'_> {
         handle: u64,
         lock_owner: u64,
     ) -> Result<(), Errno> {
-        match self
-            .log
+        self.log
             .note_call("flush", ctx, &[inode, handle, lock_owner])
-        {
-            Told::Default => defaults::flush(),
-            told => told.answer(()),
-        }
+            .done(defaults::flush())
     }
 
     fn fsync(
@@ -353,13 +348,9 @@ impl FileSystem for Recorder<'_> {
         datasync: bool,
         handle: u64,
     ) -> Result<(), Errno> {
-        match self
-            .log
+        self.log
             .note_call("fsync", ctx, &[inode, u64::from(datasync), handle])
-        {
-            Told::Default => defaults::fsync(),
-            told => told.answer(()),
-        }
+            .done(defaults::fsync())
     }
 
     fn fallocate(
@@ -373,10 +364,7 @@ impl FileSystem for Recorder<'_> {
     ) -> Result<(), Errno> {
         let numbers = [inode, handle, u64::from(mode), offset, length];
         let told = self.log.note_call("fallocate", ctx, &numbers);
-        match told {
-            Told::Default => defaults::fallocate(),
-            told => told.answer(()),
-        }
+        told.done(defaults::fallocate())
     }
 
     fn release(
@@ -395,10 +383,7 @@ impl FileSystem for Recorder<'_> {
         let [flush, flock_release] = [flush, flock_release].map(u64::from);
         self.log
             .note_numbers(&[flush, flock_release, lock_owner.unwrap_or(NONE)]);
-        match told {
-            Told::Default => defaults::release(),
-            told => told.answer(()),
-        }
+        told.done(defaults::release())
     }
 
     fn statfs(&mut self, ctx: Context, inode: u64) -> Result<StatVfs, Errno> {
@@ -420,10 +405,7 @@ impl FileSystem for Recorder<'_> {
         let numbers = [inode, u64::from(flags), u64::from(extra_flags.bits())];
         let told = self.log.note_named("setxattr", ctx, &numbers, name);
         self.log.note_texts(&[value]);
-        match told {
-            Told::Default => defaults::setxattr(),
-            told => told.answer(()),
-        }
+        told.done(defaults::setxattr())
     }
 
     fn getxattr(
@@ -459,10 +441,9 @@ impl FileSystem for Recorder<'_> {
     }
 
     fn removexattr(&mut self, ctx: Context, inode: u64, name: &[u8]) -> Result<(), Errno> {
-        match self.log.note_named("removexattr", ctx, &[inode], name) {
-            Told::Default => defaults::removexattr(),
-            told => told.answer(()),
-        }
+        self.log
+            .note_named("removexattr", ctx, &[inode], name)
+            .done(defaults::removexattr())
     }
 
     fn opendir(
@@ -504,13 +485,9 @@ impl FileSystem for Recorder<'_> {
         datasync: bool,
         handle: u64,
     ) -> Result<(), Errno> {
-        match self
-            .log
+        self.log
             .note_call("fsyncdir", ctx, &[inode, u64::from(datasync), handle])
-        {
-            Told::Default => defaults::fsyncdir(),
-            told => told.answer(()),
-        }
+            .done(defaults::fsyncdir())
     }
 
     fn releasedir(
@@ -520,20 +497,15 @@ impl FileSystem for Recorder<'_> {
         flags: u32,
         handle: u64,
     ) -> Result<(), Errno> {
-        match self
-            .log
+        self.log
             .note_call("releasedir", ctx, &[inode, u64::from(flags), handle])
-        {
-            Told::Default => defaults::releasedir(),
-            told => told.answer(()),
-        }
+            .done(defaults::releasedir())
     }
 
     fn access(&mut self, ctx: Context, inode: u64, mask: u32) -> Result<(), Errno> {
-        match self.log.note_call("access", ctx, &[inode, u64::from(mask)]) {
-            Told::Default => defaults::access(),
-            told => told.answer(()),
-        }
+        self.log
+            .note_call("access", ctx, &[inode, u64::from(mask)])
+            .done(defaults::access())
     }
 
     fn lseek(
@@ -577,59 +549,37 @@ impl FileSystem for Recorder<'_> {
     }
 
     fn syncfs(&mut self, ctx: Context, inode: u64) -> Result<(), Errno> {
-        match self.log.note_call("syncfs", ctx, &[inode]) {
-            Told::Default => defaults::syncfs(),
-            told => told.answer(()),
-        }
+        self.log
+            .note_call("syncfs", ctx, &[inode])
+            .done(defaults::syncfs())
     }
 
     fn getlk(&mut self) -> Result<(), Errno> {
-        match self.log.note("getlk") {
-            Told::Default => defaults::getlk(),
-            told => told.answer(()),
-        }
+        self.log.note("getlk").done(defaults::getlk())
     }
 
     fn setlk(&mut self) -> Result<(), Errno> {
-        match self.log.note("setlk") {
-            Told::Default => defaults::setlk(),
-            told => told.answer(()),
-        }
+        self.log.note("setlk").done(defaults::setlk())
     }
 
     fn setlkw(&mut self) -> Result<(), Errno> {
-        match self.log.note("setlkw") {
-            Told::Default => defaults::setlkw(),
-            told => told.answer(()),
-        }
+        self.log.note("setlkw").done(defaults::setlkw())
     }
 
     fn ioctl(&mut self) -> Result<(), Errno> {
-        match self.log.note("ioctl") {
-            Told::Default => defaults::ioctl(),
-            told => told.answer(()),
-        }
+        self.log.note("ioctl").done(defaults::ioctl())
     }
 
     fn bmap(&mut self) -> Result<(), Errno> {
-        match self.log.note("bmap") {
-            Told::Default => defaults::bmap(),
-            told => told.answer(()),
-        }
+        self.log.note("bmap").done(defaults::bmap())
     }
 
     fn poll(&mut self) -> Result<(), Errno> {
-        match self.log.note("poll") {
-            Told::Default => defaults::poll(),
-            told => told.answer(()),
-        }
+        self.log.note("poll").done(defaults::poll())
     }
 
     fn notify_reply(&mut self) -> Result<(), Errno> {
-        match self.log.note("notify_reply") {
-            Told::Default => defaults::notify_reply(),
-            told => told.answer(()),
-        }
+        self.log.note("notify_reply").done(defaults::notify_reply())
     }
 
     fn tmpfile(&mut self) -> Errno {

@@ -65,7 +65,7 @@ impl PositionedFile for Copied {
     }
 }
 
-/// Node 1 as `.`, and node 2 as `a`, from one of them on.
+/// Node 1 as `.`, node 2 as `a`, and node 1 as `..`, from one of them on.
 #[derive(Drop)]
 pub struct Entries {
     pub at: u64,
@@ -76,7 +76,7 @@ impl DirectoryIterator for Entries {
 
     fn next(&mut self) -> Option<DirEntry<'_>> {
         let at = self.at;
-        if at > 1 {
+        if at > 2 {
             return None;
         }
         self.at = at + 1;
@@ -87,11 +87,17 @@ impl DirectoryIterator for Entries {
                 type_: 4,
                 name: b".",
             },
-            _ => DirEntry {
+            1 => DirEntry {
                 ino: 2,
                 offset: 2,
                 type_: 8,
                 name: b"a",
+            },
+            _ => DirEntry {
+                ino: 1,
+                offset: 3,
+                type_: 4,
+                name: b"..",
             },
         })
     }
@@ -104,7 +110,8 @@ pub enum Told {
     Default,
     /// A good answer.
     Good,
-    /// Another good answer: no handle, a count in place of bytes, each option that there is; but no name is found.
+    /// Another good answer: no handle, a count in place of bytes, each option that there is; but no name is found, and a
+    /// file that was read then answers EIO.
     Other,
     /// EIO.
     Failing,
@@ -116,6 +123,14 @@ impl Told {
         match self {
             Told::Failing => Err(Errno::EIO),
             Told::Default | Told::Good | Told::Other => Ok(value),
+        }
+    }
+
+    /// The answer to a call that answers nothing, which has this one by default.
+    pub fn done(self, default: Result<(), Errno>) -> Result<(), Errno> {
+        match self {
+            Told::Default => default,
+            told => told.answer(()),
         }
     }
 

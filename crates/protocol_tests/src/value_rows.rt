@@ -80,6 +80,47 @@ fn lengths_of_values_are_told(rt: HostRuntime) {
     expect_rows(&rt, rt.alloc(), COUNTS, Change::Same);
 }
 
+// GETXATTR's checks in their order.
+const CHECKS: &[Row] = &[
+    // a length that ends in its record, before the size
+    Row {
+        request: &["2f000000 16000000", ASKER, "01001000 00000000", "6161"],
+        told: Told::Good,
+        room: 16,
+        calls: &[],
+        end: End::Fault(Error::InvalidHeaderLength),
+    },
+    // a short name, before the size
+    Row {
+        request: &["33000000 16000000", ASKER, "01001000 00000000", "6161"],
+        told: Told::Good,
+        room: 16,
+        calls: &[],
+        end: End::Fault(Error::DecodeMessage),
+    },
+    // the size, before a name without its zero byte
+    Row {
+        request: &["32000000 16000000", ASKER, "01001000 00000000", "6161"],
+        told: Told::Good,
+        room: 16,
+        calls: &[],
+        end: End::Reply(ENOMEM),
+    },
+    // such a name, of a size that may be
+    Row {
+        request: &["32000000 16000000", ASKER, "00001000 00000000", "6161"],
+        told: Told::Good,
+        room: 16,
+        calls: &[],
+        end: End::Fault(Error::InvalidCString),
+    },
+];
+
+#[test]
+fn sizes_are_checked_before_names(rt: HostRuntime) {
+    expect_rows(&rt, rt.alloc(), CHECKS, Change::Same);
+}
+
 // Sizes of more than a mebibyte.
 const TOO_LARGE: &[Row] = &[
     Row {
