@@ -21,7 +21,8 @@ use Rattle.fs_device.specs.DeviceView.{ServesChain, AnswersRequest}
 pub replied_ok : {F : Type 0} (may : May F) (page options room : ℕ) (request : List ℕ) (before after : F) (n : ℕ) (written : List ℕ) (agreed : ℕ) →
     Handles may (setting page options room) (meaning options request room) before (Ok n) written agreed after →
     (calls : Calls) × AnswersRequest may page (options, before) request room calls written None (agreed, after)
-replied_ok may page options room request before after n written agreed h = (h.steps, (served_of (map (λ step. step.0) h.steps) agreed (Ok n) written, record { gives = sym h.gives; asks = refl; run = h.run }, refl, refl, refl))
+replied_ok may page options room request before after n written agreed h =
+    (h.steps, (served_of (map (λ step. step.0) h.steps) agreed (Ok n) written, record { gives = sym h.gives; asks = refl; run = h.run }, refl, refl, refl))
 
 -- a fault
 pub replied_err : {F : Type 0} (may : May F) (page options room : ℕ) (request : List ℕ) (before after : F) (e : Error) (written : List ℕ) (agreed : ℕ) → is_memory e ≡ false →
@@ -43,7 +44,8 @@ served_chain may page old new m h (CannotAsk why) c head at request fault reply 
 served_chain {F} may page old new m h (Asks bytes room) c head at request fault reply calls host held a e r =
     let same : request ≡ bytes = e ∙ ap (λ (g : Host). map (byte_in g) (places c.readable.items)) (sym host) ∙ sym held.0 in
     let count : length (places c.writable.items) ≡ length room = length-located room (location m Write) (places c.writable.items) held.1 in
-    let serves = subst (λ (n : ℕ). ServesRequest may page old.0 bytes n old.1 calls r.0 new.1) count (subst (λ (x : List ℕ). ServesRequest may page old.0 x (length (places c.writable.items)) old.1 calls r.0 new.1) same r.1) in (
+    let serves = subst (λ (n : ℕ). ServesRequest may page old.0 bytes n old.1 calls r.0 new.1) count
+            (subst (λ (x : List ℕ). ServesRequest may page old.0 x (length (places c.writable.items)) old.1 calls r.0 new.1) same r.1) in (
       r.0,
       serves,
       ap (λ n. exchange n request reply fault) a

@@ -3,10 +3,10 @@
 //! monitor that has a guest read one file.
 #![tactic(auto)]
 
-pub mod directory;
-pub mod monitor;
-pub mod run;
-pub mod table;
+mod directory;
+mod monitor;
+mod run;
+mod table;
 
 pub use monitor::{Monitor, MonitorError, read_file};
 pub use run::run_directory;

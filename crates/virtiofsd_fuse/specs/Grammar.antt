@@ -269,7 +269,7 @@ has_names op.Removexattr = true
 has_names op.Rename2 = true
 has_names _ = false
 
--- the requests with extensions or pairs
+-- the requests that may have extensions or pairs
 abbrev pub has_parts : Opcode → Bool
 has_parts op.Symlink = true
 has_parts op.Mknod = true

@@ -9,11 +9,13 @@ use Rattle.fs_queue.proofs.take.ask.Goals.{in-Faulty, in-Chain+in_ok-chain-in-Ch
 
 pub returns-in-Idle-clause-asking : goal.returns-in-Idle-clause-asking
 returns-in-Idle-clause-asking g c =
-    offer_looked _ c.args.limit _ refl ∙ sym (ap (on_look (g.M.GuestMemory.memory c.args.mem.now c.args.host.now) c.args.limit (at_position c.args.layout c.args.position)) (rw c.in-Idle.is at c.in_ok-next_head.ensures.look))
+    offer_looked _ c.args.limit _ refl ∙ sym (ap (on_look (g.M.GuestMemory.memory c.args.mem.now c.args.host.now) c.args.limit (at_position c.args.layout c.args.position))
+        (rw c.in-Idle.is at c.in_ok-next_head.ensures.look))
 
 pub returns-in-Refused-clause-asking : goal.returns-in-Refused-clause-asking
 returns-in-Refused-clause-asking g c = (
-  offer_looked _ c.args.limit _ refl ∙ sym (ap (on_look (g.M.GuestMemory.memory c.args.mem.now c.args.host.now) c.args.limit (at_position c.args.layout c.args.position)) (rw c.in-Refused.is at c.in_ok-next_head.ensures.look)),
+  offer_looked _ c.args.limit _ refl ∙ sym (ap (on_look (g.M.GuestMemory.memory c.args.mem.now c.args.host.now) c.args.limit (at_position c.args.layout c.args.position))
+      (rw c.in-Refused.is at c.in_ok-next_head.ensures.look)),
   (rw c.in-Refused.is at c.in_ok-next_head.ensures.stops),
 )
 
@@ -28,7 +30,8 @@ returns-in_err-error-clause-memory g c =
 
 pub returns-in-Err-clause-asking : goal.returns-in-Err-clause-asking
 returns-in-Err-clause-asking g c = (
-  offer_lacks (g.M.GuestMemory.memory c.args.mem.now c.args.host.now) c.args.limit c.args.layout c.args.position c.in-Head.head c.in-Err.error (rw c.in-Head.is at c.in_ok-next_head.ensures.look) (rw c.in-Err.is at c.in_ok-error.ensures.ends),
+  offer_lacks (g.M.GuestMemory.memory c.args.mem.now c.args.host.now) c.args.limit c.args.layout c.args.position c.in-Head.head c.in-Err.error (rw c.in-Head.is at c.in_ok-next_head.ensures.look)
+      (rw c.in-Err.is at c.in_ok-error.ensures.ends),
   rw c.in-Err.is at c.in_ok-error.ensures.stops,
 )
 
@@ -38,7 +41,8 @@ returns-in_err-walk-clause-memory g c =
 
 pub returns-in-Stopped-clause-asking : goal.returns-in-Stopped-clause-asking
 returns-in-Stopped-clause-asking g c = (
-  offer_found (g.M.GuestMemory.memory c.args.mem.now c.args.host.now) c.args.limit c.args.layout c.args.position c.in-Head.head _ _ StopsQueue (rw c.in-Head.is at c.in_ok-next_head.ensures.look) (rw c.in-Ok.is at c.in_ok-error.ensures.ends) (rw c.in-Stopped.is at c.in_ok-walk.ensures.chain),
+  offer_found (g.M.GuestMemory.memory c.args.mem.now c.args.host.now) c.args.limit c.args.layout c.args.position c.in-Head.head _ _ StopsQueue (rw c.in-Head.is at c.in_ok-next_head.ensures.look)
+      (rw c.in-Ok.is at c.in_ok-error.ensures.ends) (rw c.in-Stopped.is at c.in_ok-walk.ensures.chain),
   refl,
 )
 
@@ -54,12 +58,14 @@ returns-clause-asking g c =
     elim c.match-branch-6.branch [
       | in-Faulty w ↦ rw w.chain-is (
         CannotAsk w.in-Faulty.fault,
-        offer_found (g.M.GuestMemory.memory c.args.mem.now c.args.host.now) c.args.limit c.args.layout c.args.position c.in-Head.head _ _ (HasFault w.in-Faulty.fault) (rw c.in-Head.is at c.in_ok-next_head.ensures.look) ends (rw w.in-Faulty.is at c.in_ok-walk.ensures.chain),
+        offer_found (g.M.GuestMemory.memory c.args.mem.now c.args.host.now) c.args.limit c.args.layout c.args.position c.in-Head.head _ _ (HasFault w.in-Faulty.fault)
+            (rw c.in-Head.is at c.in_ok-next_head.ensures.look) ends (rw w.in-Faulty.is at c.in_ok-walk.ensures.chain),
         record { ends = kept; chain = refl },
       )
       | in-Chain+in_ok-chain-in-Chain w ↦ rw w.chain-is (
         asked_by (g.M.GuestMemory.memory c.args.mem.now c.args.host.now) c.args.limit w.in-Chain.descriptors.items,
-        offer_found (g.M.GuestMemory.memory c.args.mem.now c.args.host.now) c.args.limit c.args.layout c.args.position c.in-Head.head _ _ (IsChain w.in-Chain.descriptors.items) (rw c.in-Head.is at c.in_ok-next_head.ensures.look) ends (rw w.in-Chain.is at c.in_ok-walk.ensures.chain),
+        offer_found (g.M.GuestMemory.memory c.args.mem.now c.args.host.now) c.args.limit c.args.layout c.args.position c.in-Head.head _ _ (IsChain w.in-Chain.descriptors.items)
+            (rw c.in-Head.is at c.in_ok-next_head.ensures.look) ends (rw w.in-Chain.is at c.in_ok-walk.ensures.chain),
         record { ends = kept; chain = w.in_ok-chain-in-Chain.ensures.asked },
       )
     ]

@@ -22,7 +22,8 @@ returns-then-not-branch-clause-found g c =
     let next = drop_more c.args.descriptors.now c.loop-descriptor.descriptor-index no_descriptor c.loop-descriptor-test.true in
     let kept = ap (λ x. beq x c.args.write_only) (sym c.is_write_only.ensures) ∙ c.if-is_write_only-write_only.true in
     let lost = rw (c.if-not-branch.true, c.access_of-access.ensures) at c.in_ok-add_windows.ensures.found in
-    sym (direction_lost (location (g.M.GuestMemory.memory c.args.mem.now c.args.host.now) (access_of c.args.write_only)) c.args.write_only c.args.descriptors.now c.loop-descriptor.descriptor-index _ (places c.loop-descriptor.windows.items) next kept lost) ∙ c.loop-descriptor.invariant.found
+    sym (direction_lost (location (g.M.GuestMemory.memory c.args.mem.now c.args.host.now) (access_of c.args.write_only)) c.args.write_only c.args.descriptors.now c.loop-descriptor.descriptor-index _
+        (places c.loop-descriptor.windows.items) next kept lost) ∙ c.loop-descriptor.invariant.found
 
 pub loop-descriptor-preserved : goal.loop-descriptor-preserved
 loop-descriptor-preserved g c =
@@ -32,16 +33,19 @@ loop-descriptor-preserved g c =
           let kept = ap (λ x. beq x c.args.write_only) (sym c.is_write_only.ensures) ∙ w.if-is_write_only-write_only.true in
           let found = rw (w.if-not-branch.false, c.access_of-access.ensures) at w.in_ok-add_windows.ensures.found in
           rw w.windows-is (record {
-            found = sym (direction_found (location (g.M.GuestMemory.memory c.args.mem.now c.args.host.now) (access_of c.args.write_only)) c.args.write_only c.args.descriptors.now c.loop-descriptor.descriptor-index _ (places c.loop-descriptor.windows.items) _ next kept found) ∙ c.loop-descriptor.invariant.found;
+            found = sym (direction_found (location (g.M.GuestMemory.memory c.args.mem.now c.args.host.now) (access_of c.args.write_only)) c.args.write_only c.args.descriptors.now
+                c.loop-descriptor.descriptor-index _ (places c.loop-descriptor.windows.items) _ next kept found) ∙ c.loop-descriptor.invariant.found;
             lie = w.add_windows.ensures.lie c.loop-descriptor.invariant.lie;
           })
       | else-is_write_only-write_only-via-else-is_write_only-write_only w ↦
           let other = ap (λ x. beq x c.args.write_only) (sym c.is_write_only.ensures) ∙ w.if-is_write_only-write_only.false in
           rw w.windows-is (record {
-            found = sym (direction_other (location (g.M.GuestMemory.memory c.args.mem.now c.args.host.now) (access_of c.args.write_only)) c.args.write_only c.args.descriptors.now c.loop-descriptor.descriptor-index _ (places c.loop-descriptor.windows.items) next other) ∙ c.loop-descriptor.invariant.found;
+            found = sym (direction_other (location (g.M.GuestMemory.memory c.args.mem.now c.args.host.now) (access_of c.args.write_only)) c.args.write_only c.args.descriptors.now
+                c.loop-descriptor.descriptor-index _ (places c.loop-descriptor.windows.items) next other) ∙ c.loop-descriptor.invariant.found;
             lie = c.loop-descriptor.invariant.lie;
           })
     ]
 
 pub returns-clause-found : goal.returns-clause-found
-returns-clause-found g c = sym (direction_done (location (g.M.GuestMemory.memory c.args.mem.now c.args.host.now) (access_of c.args.write_only)) c.args.write_only c.args.descriptors.now c.loop-descriptor.descriptor-index _ c.loop-descriptor-test.false) ∙ c.loop-descriptor.invariant.found
+returns-clause-found g c = sym (direction_done (location (g.M.GuestMemory.memory c.args.mem.now c.args.host.now) (access_of c.args.write_only)) c.args.write_only c.args.descriptors.now
+    c.loop-descriptor.descriptor-index _ c.loop-descriptor-test.false) ∙ c.loop-descriptor.invariant.found

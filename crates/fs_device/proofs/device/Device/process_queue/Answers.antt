@@ -26,7 +26,8 @@ loop-preserved g c =
       most = omega arith;
       room = Prim.search rules;
       kept = Prim.search rules;
-      run = rw turns (goes_on g.F.FileSystemBase.may _ _ _ c.args.queue c.args.most _ _ (map exchanged_of c.loop.done.items) (exchanged_of c.in-Ok-Some.exchanged) _ c.loop.invariant.run (omega (arith, c.loop-test.true)) (rw c.in-Ok-Some.field-0-is at c.in-Ok-Some.ensures.step.1));
+      run = rw turns (goes_on g.F.FileSystemBase.may _ _ _ c.args.queue c.args.most _ _ (map exchanged_of c.loop.done.items) (exchanged_of c.in-Ok-Some.exchanged) _ c.loop.invariant.run
+          (omega (arith, c.loop-test.true)) (rw c.in-Ok-Some.field-0-is at c.in-Ok-Some.ensures.step.1));
     }
 
 pub returns-clause-run : goal.returns-clause-run
