@@ -27,3 +27,5 @@ mod resumed;
 mod stand;
 #[cfg(test)]
 mod steps;
+#[cfg(test)]
+mod translated;
