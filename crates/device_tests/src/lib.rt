@@ -29,3 +29,5 @@ mod resumed;
 mod stand;
 #[cfg(test)]
 mod steps;
+#[cfg(test)]
+mod translated;

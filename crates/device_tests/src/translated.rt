@@ -1,0 +1,108 @@
+//! Chains behind an IOMMU: each address is translated by itself.
+
+use crate::stand::{REQUEST_AT, ROOM_AT, Stand, expect_same};
+use fs_device::Fault;
+use fs_queue::ChainFault;
+use guest_driver::requests::header;
+use std::alloc::Global;
+use std::process::Abort;
+use vm_memory::{GuestMemoryMmap, IommuMemory, TableIommu};
+use vm_memory_core::{Bitmap, GuestAddress, HostMemory, PageBitmap, Permissions};
+
+// The reply to the request whose opcode is unknown.
+const ENOSYS_REPLY: [u8; 16] = [16, 0, 0, 0, 0xda, 0xff, 0xff, 0xff, 1, 0, 0, 0, 0, 0, 0, 0];
+
+// Each mapping's I/O address, target, length and permission: the queue's page, and the request's, which is cut in two.
+const MAPPED: &[(u64, u64, usize, Permissions)] = &[
+    (0, 0, 0x1000, Permissions::ReadWrite),
+    (0x1000, 0x1000, 0x14, Permissions::Read),
+    (0x1014, 0x6014, 0xfec, Permissions::Read),
+];
+
+// The memory of a host behind such a table, where the room's page is the one at 0x3000, with this permission.
+fn behind(
+    rt: &impl Abort,
+    alloc: Global,
+    host: &mut HostMemory<PageBitmap>,
+    backend: GuestMemoryMmap,
+    room: Permissions,
+) -> IommuMemory<GuestMemoryMmap, TableIommu> {
+    let number = host.new_table().expect(rt, "memory");
+    let set = host.new_io_bitmap(0x3000).expect(rt, "memory");
+    let table = host.table_mut(number).expect(rt, "a table");
+    for (iova, target, length, access) in MAPPED {
+        table
+            .set_mapping(GuestAddress(*iova), GuestAddress(*target), *length, *access)
+            .expect(rt, "memory");
+    }
+    table
+        .set_mapping(GuestAddress(ROOM_AT), GuestAddress(0x3000), 0x1000, room)
+        .expect(rt, "memory");
+    IommuMemory::new(alloc, backend, TableIommu::new(number), true, set)
+}
+
+// A request whose last twenty bytes are elsewhere has this reply or fault. The reply stands where the room is mapped; the I/O
+// pages that are marked, of the first three, are these, and no page of the block is.
+fn expect_exchanged(
+    rt: &impl Abort,
+    alloc: Global,
+    room: Permissions,
+    fault: Option<Fault>,
+    reply: &[u8],
+    io: [bool; 3],
+) {
+    let mut stand = Stand::new(rt, alloc);
+    let request = header(40, 7, 1, 0);
+    stand.chain(rt, 0, &request, &[(REQUEST_AT, 40)], &[(ROOM_AT, 16)]);
+    stand.put(rt, 0x1014, &[0xff; 20]);
+    stand.put(rt, 0x6014, &request[20..]);
+    stand.guest.clear_marks();
+    let (mut host, backend) = stand.guest.into_memory();
+    let mem = behind(rt, alloc, &mut host, backend, room);
+    assert!(rt; host.holds(&mem));
+    let (exchange, notify) = stand
+        .device
+        .process_one(alloc, &mut host, &mem, 0)
+        .expect(rt, "no refusal")
+        .expect(rt, "a chain that waits");
+    expect_same(rt, (exchange.fault, notify), (fault, true));
+    expect_same(rt, exchange.request.is_empty(), fault.is_some());
+    expect_same(rt, exchange.reply.as_slice(), reply);
+    let mut there = [0; 16];
+    expect_same(rt, host.read_block(0, 0x3000, &mut there), true);
+    expect_same(rt, &there[..reply.len().min(16)], reply);
+    let pages = host.io_bitmap(mem.bitmap()).expect(rt, "a set");
+    let marked = [
+        pages.dirty_at(0),
+        pages.dirty_at(0x1000),
+        pages.dirty_at(0x2000),
+    ];
+    expect_same(rt, marked, io);
+    let block = host.bitmap(0).expect(rt, "a bitmap");
+    let is_marked = block.dirty_at(0) || block.dirty_at(0x2000) || block.dirty_at(0x3000);
+    expect_same(rt, is_marked, false);
+}
+
+#[test]
+fn a_request_is_read_and_its_reply_stored_where_they_are_mapped(rt: HostRuntime) {
+    expect_exchanged(
+        &rt,
+        rt.alloc(),
+        Permissions::Write,
+        None,
+        &ENOSYS_REPLY,
+        [true, false, true],
+    );
+}
+
+#[test]
+fn a_room_that_may_not_be_written_is_out_of_reach(rt: HostRuntime) {
+    expect_exchanged(
+        &rt,
+        rt.alloc(),
+        Permissions::Read,
+        Some(Fault::Chain(ChainFault::RoomUnreachable)),
+        &[],
+        [true, false, false],
+    );
+}
