@@ -50,7 +50,7 @@ block_next blocks i bytes marks old new whole h eb em is all =
     let same_bytes : Some bytes ≡ Some b.bytes = eb ∙ ap (option_map (λ (k : Block). k.bytes)) found in
     let same_marks : Some marks ≡ Some b.marks = em ∙ ap (option_map (λ (k : Block). k.marks)) found in
     let same : block_pages i bytes 0 marks ≡ block_pages i b.bytes 0 b.marks = ap (λ (x : List ℕ). block_pages i x 0 marks) (some_is bytes b.bytes same_bytes) ∙ ap (block_pages i b.bytes 0)
-            (some_is marks b.marks same_marks) in
+    (some_is marks b.marks same_marks) in
     ap (λ (r : List Page). r ++ host_pages (i + 1) (drop (i + 1) blocks)) (is ∙ ap (λ (r : List Page). old ++ r) same)
     ∙ append_assoc old (block_pages i b.bytes 0 b.marks) (host_pages (i + 1) (drop (i + 1) blocks))
     ∙ sym (ap (λ (l : List Block). old ++ host_pages i l) (drop_more blocks i no_block h)) ∙ all

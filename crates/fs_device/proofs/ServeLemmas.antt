@@ -1,5 +1,5 @@
 -- what the server's answer says
-use Rattle.std.proofs.Common.{◌≡◌, ℕ, false, ◌≤◌, List, [], length, map, ap, sym, ◌∙◌, refl, subst, Option, Some, None, Ok, Err}
+use Rattle.std.proofs.Common.{◌≡◌, ℕ, false, List, [], length, map, ap, sym, ◌∙◌, refl, subst, Option, Some, None, Ok, Err}
 use Rattle.vm_memory_core.specs.Host.{Host}
 use Rattle.vm_memory_core.specs.Window.{places, byte_in}
 use Rattle.vm_iotlb.specs.declared.permissions.Permissions.TheVariants.{Write}
@@ -45,7 +45,7 @@ served_chain {F} may page old new m h (Asks bytes room) c head at request fault 
     let same : request ≡ bytes = e ∙ ap (λ (g : Host). map (byte_in g) (places c.readable.items)) (sym host) ∙ sym held.0 in
     let count : length (places c.writable.items) ≡ length room = length-located room (location m Write) (places c.writable.items) held.1 in
     let serves = subst (λ (n : ℕ). ServesRequest may page old.0 bytes n old.1 calls r.0 new.1) count
-            (subst (λ (x : List ℕ). ServesRequest may page old.0 x (length (places c.writable.items)) old.1 calls r.0 new.1) same r.1) in (
+    (subst (λ (x : List ℕ). ServesRequest may page old.0 x (length (places c.writable.items)) old.1 calls r.0 new.1) same r.1) in (
       r.0,
       serves,
       ap (λ n. exchange n request reply fault) a

@@ -34,7 +34,7 @@ part_reached m a i n k fits h =
     let cut : addresses a (i + (n + k)) ≡ addresses a i ++ (addresses (a + i) n ++ addresses (a + i + n) k) =
     addresses-append i (n + k) a ∙ ap (λ (l : List ℕ). addresses a i ++ l) (addresses-append n k (a + i)) in
     let back = both (list_all p (addresses a i)) (list_all p (addresses (a + i) n ++ addresses (a + i + n) k))
-            (list_all-append (addresses a i) (addresses (a + i) n ++ addresses (a + i + n) k) (location m Read) ∙ rw cut at all.1) in
+    (list_all-append (addresses a i) (addresses (a + i) n ++ addresses (a + i + n) k) (location m Read) ∙ rw cut at all.1) in
     let front = both (list_all p (addresses (a + i) n)) (list_all p (addresses (a + i + n) k)) (list_all-append (addresses (a + i) n) (addresses (a + i + n) k) (location m Read) ∙ back.1) in
     rw (below (a + i + n) (omega (arith, fits)), front.0) refl
 

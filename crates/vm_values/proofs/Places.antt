@@ -62,4 +62,4 @@ read_16 xs low high len below above l h =
     let a : n % 2 ^ 64 ≡ low = omega arith in
     let b : n / 2 ^ 64 ≡ high = omega arith in
     sym (two_halves n ∙ ap (λ m. to_le_bytes w64 m ++ to_le_bytes w64 (n / 2 ^ 64)) a ∙ ap (λ m. to_le_bytes w64 low ++ to_le_bytes w64 m) b ∙ ap (λ s. s ++ to_le_bytes w64 high) (sym l) ∙ ap
-        (λ s. take 8 xs ++ s) (sym h ∙ take_all (length xs - 8) (drop 8 xs) (omega (arith, length-drop 8 xs))) ∙ take-append-drop 8 xs)
+    (λ s. take 8 xs ++ s) (sym h ∙ take_all (length xs - 8) (drop 8 xs) (omega (arith, length-drop 8 xs))) ∙ take-append-drop 8 xs)

@@ -10,7 +10,7 @@ loop-block-preserved c =
     elim c.match-bytes_and_bitmap.branch [
       | in-Some+in_ok-harvest_block w ↦
           rw w.pages-is (block_next c.args.host.now.blocks c.loop-block.block _ _ (map page_view c.loop-block.pages.items) _ _ (omega arith) (rw w.in-Some.is at c.bytes_and_bitmap.ensures.bytes)
-              (rw w.in-Some.is at c.bytes_and_bitmap.ensures.marks) w.in_ok-harvest_block.ensures c.loop-block.invariant)
+          (rw w.in-Some.is at c.bytes_and_bitmap.ensures.marks) w.in_ok-harvest_block.ensures c.loop-block.invariant)
       | in_default w ↦ absurd (not_none (λ (b : Block). b.bytes) c.args.host.now.blocks c.loop-block.block no_block (omega arith) (rw w.in_default.is at c.bytes_and_bitmap.ensures.bytes))
     ]
 

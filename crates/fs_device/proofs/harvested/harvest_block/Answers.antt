@@ -12,10 +12,10 @@ loop-page-preserved c =
           let added : map page_view w.push.new.self.items ≡ map page_view c.loop-page.pages.items ++ page_view w.in_ok-copy_page.field-0 ∷ [] =
           ap (map page_view) w.in_ok-push.ensures.items ∙ map-append page_view c.loop-page.pages.items (w.in_ok-copy_page.field-0 ∷ []) in
           rw (w.pages-is, added) (page_marked c.args.block c.args.bytes.now c.loop-page.page c.args.bitmap.now.marks (map page_view c.loop-page.pages.items) _ _ (omega arith)
-              (sym c.is_bit_set.ensures ∙ w.if-is_bit_set.true) w.in_ok-copy_page.ensures c.loop-page.invariant)
+          (sym c.is_bit_set.ensures ∙ w.if-is_bit_set.true) w.in_ok-copy_page.ensures c.loop-page.invariant)
       | else-is_bit_set w ↦
           rw w.pages-is (page_unmarked c.args.block c.args.bytes.now c.loop-page.page c.args.bitmap.now.marks (map page_view c.loop-page.pages.items) _ (omega arith)
-              (sym c.is_bit_set.ensures ∙ w.if-is_bit_set.false) c.loop-page.invariant)
+          (sym c.is_bit_set.ensures ∙ w.if-is_bit_set.false) c.loop-page.invariant)
     ]
 
 pub returns : goal.returns

@@ -10,7 +10,7 @@ use Rattle.fs_queue.proofs.take.ask.Goals.{in-Faulty, in-Chain+in_ok-chain-in-Ch
 pub returns-in-Idle-clause-asking : goal.returns-in-Idle-clause-asking
 returns-in-Idle-clause-asking g c =
     offer_looked _ c.args.limit _ refl ∙ sym (ap (on_look (g.M.GuestMemory.memory c.args.mem.now c.args.host.now) c.args.limit (at_position c.args.layout c.args.position))
-        (rw c.in-Idle.is at c.in_ok-next_head.ensures.look))
+    (rw c.in-Idle.is at c.in_ok-next_head.ensures.look))
 
 pub returns-in-Refused-clause-asking : goal.returns-in-Refused-clause-asking
 returns-in-Refused-clause-asking g c = (

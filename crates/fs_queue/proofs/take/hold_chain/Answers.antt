@@ -16,7 +16,7 @@ returns-in_default-2-clause-asked g c =
     let a : total_len (readable c.args.descriptors.now) ≤ c.args.limit = omega arith in
     let b : total_len (writable c.args.descriptors.now) ≤ c.args.limit = omega arith in
     rw (asks_nothing_written (g.M.GuestMemory.memory c.args.mem.now c.args.host.now) c.args.limit c.args.descriptors.now _ c.requires.fits a b (rw c.in-Some.is at c.in_ok-readable.ensures.found)
-        (rw c.in_default-2.is at c.in_ok-writable.ensures.found))
+    (rw c.in_default-2.is at c.in_ok-writable.ensures.found))
 
 pub invariant_of-result : goal.invariant_of-result
 invariant_of-result g c =

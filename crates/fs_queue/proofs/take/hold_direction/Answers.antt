@@ -23,7 +23,7 @@ returns-then-not-branch-clause-found g c =
     let kept = ap (λ x. beq x c.args.write_only) (sym c.is_write_only.ensures) ∙ c.if-is_write_only-write_only.true in
     let lost = rw (c.if-not-branch.true, c.access_of-access.ensures) at c.in_ok-add_windows.ensures.found in
     sym (direction_lost (location (g.M.GuestMemory.memory c.args.mem.now c.args.host.now) (access_of c.args.write_only)) c.args.write_only c.args.descriptors.now c.loop-descriptor.descriptor-index _
-        (places c.loop-descriptor.windows.items) next kept lost) ∙ c.loop-descriptor.invariant.found
+    (places c.loop-descriptor.windows.items) next kept lost) ∙ c.loop-descriptor.invariant.found
 
 pub loop-descriptor-preserved : goal.loop-descriptor-preserved
 loop-descriptor-preserved g c =

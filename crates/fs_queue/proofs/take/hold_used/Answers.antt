@@ -16,11 +16,11 @@ returns-then-branch-clause-found g c =
     let m = g.M.GuestMemory.memory c.args.mem.now c.args.host.now in
     let q = at_position c.args.layout c.args.position in
     found_after (addresses (element_at q) 8) (addresses (index_at q) 2) (location m Write) _ _ (rw (c.in-Some.is, c.used.ensures, c.from.ensures, c.size.ensures) at c.in_ok-windows.ensures.found)
-        (rw (c.if-branch.true, c.used-index.ensures) at c.in_ok-add_windows.ensures.found)
+    (rw (c.if-branch.true, c.used-index.ensures) at c.in_ok-add_windows.ensures.found)
 
 pub returns-else-branch-clause-found : goal.returns-else-branch-clause-found
 returns-else-branch-clause-found g c =
     let m = g.M.GuestMemory.memory c.args.mem.now c.args.host.now in
     let q = at_position c.args.layout c.args.position in
     lost_after (addresses (element_at q) 8) (addresses (index_at q) 2) (location m Write) _ (rw (c.in-Some.is, c.used.ensures, c.from.ensures, c.size.ensures) at c.in_ok-windows.ensures.found)
-        (rw (c.if-branch.false, c.used-index.ensures) at c.in_ok-add_windows.ensures.found)
+    (rw (c.if-branch.false, c.used-index.ensures) at c.in_ok-add_windows.ensures.found)

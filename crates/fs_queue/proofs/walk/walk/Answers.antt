@@ -14,18 +14,18 @@ loop-descriptors-init g c = rw (c.new-descriptors.ensures.items, c.size-left.ens
 pub returns-in-Stops-clause-chain : goal.returns-in-Stops-clause-chain
 returns-in-Stops-clause-chain g c =
     walk_stops (g.M.GuestMemory.memory c.args.mem.now c.args.host.now) c.loop-descriptors.table c.loop-descriptors.index c.loop-descriptors.left c.loop-descriptors.descriptors.items _
-        (rw c.in-Stops.is at c.in_ok-step.ensures.verdict) c.loop-descriptors.invariant.chain
+    (rw c.in-Stops.is at c.in_ok-step.ensures.verdict) c.loop-descriptors.invariant.chain
 
 pub returns-in-Faulty-clause-chain : goal.returns-in-Faulty-clause-chain
 returns-in-Faulty-clause-chain g c =
     walk_faulty (g.M.GuestMemory.memory c.args.mem.now c.args.host.now) c.loop-descriptors.table c.loop-descriptors.index c.loop-descriptors.left _ c.loop-descriptors.descriptors.items _
-        (rw c.in-Faulty.is at c.in_ok-step.ensures.verdict) c.loop-descriptors.invariant.chain
+    (rw c.in-Faulty.is at c.in_ok-step.ensures.verdict) c.loop-descriptors.invariant.chain
 
 pub returns-then-not-has_next-clause-chain : goal.returns-then-not-has_next-clause-chain
 returns-then-not-has_next-clause-chain g c =
     ap IsChain c.in_ok-push-in-Joins.ensures.ok
     ∙ walk_ends (g.M.GuestMemory.memory c.args.mem.now c.args.host.now) c.loop-descriptors.table c.loop-descriptors.index c.loop-descriptors.left c.in-Joins.descriptor
-        c.loop-descriptors.descriptors.items _ (rw c.in-Joins.is at c.in_ok-step.ensures.verdict) (sym c.if-not-has_next.ensures) c.loop-descriptors.invariant.chain
+    c.loop-descriptors.descriptors.items _ (rw c.in-Joins.is at c.in_ok-step.ensures.verdict) (sym c.if-not-has_next.ensures) c.loop-descriptors.invariant.chain
 
 pub returns-then-not-has_next-clause-fit : goal.returns-then-not-has_next-clause-fit
 unfolding AllEndIn64Bits

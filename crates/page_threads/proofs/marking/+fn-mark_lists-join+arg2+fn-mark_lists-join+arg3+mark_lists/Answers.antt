@@ -27,7 +27,7 @@ returns-clause-pages g t c =
     subst (λ (w : PageCounts). Marking (is_in_lists size len left) w.pages a.pages) told c.join-first.ensures.first.1.0 in
     subst (λ (w : PageCounts). Marking (is_in_lists size len c.args.lists.now) v.pages w.pages) (sym joint)
     (both_halves (is_in_lists size len left) (is_in_lists size len right) (is_in_lists size len c.args.lists.now) v c.meet_pass.new.pass.counts a b split (ap (λ (w : PageCounts). w.pages) met)
-        first_marks c.join-first.ensures.second.1.0)
+    first_marks c.join-first.ensures.second.1.0)
 
 pub returns-clause-part : goal.returns-clause-part
 returns-clause-part g t c =

@@ -9,8 +9,10 @@ unfolding effect
 returns-then-len-eq0 g c = rw c.if-len-eq0.true refl
 
 pub invariant_of-self : goal.invariant_of-self
-invariant_of-self g c = record { held = kept (pages_of 4096) c.args.len c.args.self.now.host c.new_block.new.self c.args.self.now.mem c.new_block.result c.new_block.ensures.ok c.new_block.ensures.err
-    c.args.self.now.held }
+invariant_of-self g c = record {
+  held = kept (pages_of 4096) c.args.len c.args.self.now.host c.new_block.new.self c.args.self.now.mem c.new_block.result c.new_block.ensures.ok c.new_block.ensures.err
+      c.args.self.now.held;
+}
 
 pub returns-in-Ok : goal.returns-in-Ok
 unfolding effect

@@ -9,7 +9,7 @@ unfolding effect
 returns-in-Ok g c =
     let d = c.args.self.now.device in
     rw c.in-Ok.ensures.there.1 (reset_there (record { limit = d.limit; page_size = d.page_size }) (memory_of c.args.self.now.host c.args.self.now.mem) d.queues (d.options, d.files) c.args.queue
-        c.args.layout c.in-Ok.ensures.there.0)
+    c.args.layout c.in-Ok.ensures.there.0)
 
 pub returns-in-Err : goal.returns-in-Err
 unfolding effect

@@ -29,7 +29,7 @@ returns-in-Ok-clause-handles g c =
     handles_refusal g.F.FileSystemBase.may (setting c.args.self.now.page_size c.args.self.now.options.0 c.args.w.now.free) _ _ _ _
     (λ other. bytes_read h front parts getxattr_call _ c.in-Ok.front.record _ c.in-Ok.ensures.reads
     ∙ ap (ask_of c.args.head.now.unique (getxattr_call c.args.head.now c.in-Ok.front.record))
-        (sized _ last_name _ c.if-front-gt-MAX_BUFFER_SIZE.false ∙ sym (rw c.deref.ensures.value at c.in-Err-last_name.ensures.err.0)))
+    (sized _ last_name _ c.if-front-gt-MAX_BUFFER_SIZE.false ∙ sym (rw c.deref.ensures.value at c.in-Err-last_name.ensures.err.0)))
 
 pub returns-then-front-gt-MAX_BUFFER_SIZE-clause-handles : goal.returns-then-front-gt-MAX_BUFFER_SIZE-clause-handles
 returns-then-front-gt-MAX_BUFFER_SIZE-clause-handles g c =
