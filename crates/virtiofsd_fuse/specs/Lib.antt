@@ -2,4 +2,5 @@ pub mod Examples
 pub mod Grammar
 pub mod ListingRuns
 pub mod Listings
+pub mod Memory
 pub mod Serving
