@@ -1,3 +1,4 @@
+pub mod Carrying
 pub mod Examples
 pub mod Grammar
 pub mod ListingRuns
