@@ -59,7 +59,7 @@ module _ {F : Type 0} (may : MayRead F) where
   abbrev pub Filled : F → Filling → (count off : ℕ) → Result ℕ ℕ → Filling → F → Type 0
   Filled f before count off answer now g =
       (bytes : List ℕ) × (now.put ≡ before.put ++ bytes) × (before.room ≡ now.room + length bytes) × (now.rooms ≡ past (length bytes) before.rooms)
-      × ReadsSegments may f (up_to count before.rooms) off bytes answer g
+      × (sum before.rooms ≡ before.room) × ReadsSegments may f (up_to count before.rooms) off bytes answer g
 
   pub so_far_none : (f : F) (before : Filling) (count most off : ℕ) → Offered before count most → SoFar f before most off 0 before f
   so_far_none f before count most off t =
@@ -83,6 +83,7 @@ module _ {F : Type 0} (may : MayRead F) where
         ep ∙ s.put,
         omega (arith, s.room, s.count, er),
         es ∙ s.rooms ∙ ap (λ i. past i before.rooms) (sym s.count),
+        t.all,
         rw rooms at gathers,
       )
 

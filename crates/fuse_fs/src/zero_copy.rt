@@ -1,6 +1,6 @@
 //! Files that are read and written at a place, and what they fill.
 
-ghost use Rattle.std.specs.Prelude.{◌≡◌, ℕ, ◌+◌, ◌≤◌, List, ◌++◌, length, take, drop, Result, Ok, Err, IfOk, IfErr, Option, option_map, vec_len, vec_capacity};
+ghost use Rattle.std.specs.Prelude.{◌≡◌, ℕ, ◌+◌, ◌≤◌, List, ◌++◌, length, take, drop, Result, Ok, Err, IfOk, IfErr, Option, option_map, vec_len, vec_capacity, sum};
 ghost use Rattle.fuse_fs.specs.Lengths.{past, up_to};
 ghost use Rattle.fuse_fs.specs.Transfers.{bytes_answer, ReadsSegments, Spends};
 
@@ -72,7 +72,7 @@ pub trait ZeroCopyWriter {
         off: u64,
     ) -> Result<usize, Errno>
         ensures { (bytes : List ℕ) × (put self.new ≡ put self.old ++ bytes) × (room self.old ≡ room self.new + length bytes)
-            × (rooms self.new ≡ past (length bytes) (rooms self.old))
+            × (rooms self.new ≡ past (length bytes) (rooms self.old)) × (sum (rooms self.old) ≡ room self.old)
             × ReadsSegments F.read_gives file.old (up_to count (rooms self.old)) off bytes result file.new };
 }
 

@@ -100,6 +100,17 @@ impl Guest {
         Ok(bytes)
     }
 
+    /// So many bytes from an address on.
+    pub fn read(&self, alloc: Global, addr: u64, len: usize) -> Result<Vec<u8>, GuestMemoryError> {
+        let mut bytes = Vec::new(alloc);
+        bytes
+            .resize(len, 0)
+            .map_err(|_| GuestMemoryError::OutOfMemory)?;
+        self.mem
+            .read_slice(&self.host, &mut bytes, GuestAddress(addr))?;
+        Ok(bytes)
+    }
+
     /// Puts an entry of the descriptor table.
     pub fn descriptor(
         &mut self,
@@ -214,6 +225,16 @@ impl Guest {
     pub fn used_index(&self) -> Result<u16, GuestMemoryError> {
         let bytes = self.bytes(self.ring.used.wrapping_add(2))?;
         Ok(u16::from_le_bytes(bytes))
+    }
+
+    /// The element of the chain that was returned last, where all that were offered are returned (VIRTIO 1.2, 2.7.8); nothing
+    /// where one isn't. At least one is to have been offered.
+    pub fn last_used(&self) -> Result<Option<UsedElement>, GuestMemoryError> {
+        if self.used_index()? != self.offered {
+            return Ok(None);
+        }
+        let slot = self.offered.wrapping_sub(1) % self.ring.size.max(1);
+        Ok(Some(self.used(slot)?))
     }
 
     /// Clears the marks of all pages.
