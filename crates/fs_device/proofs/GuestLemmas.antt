@@ -1,18 +1,17 @@
 -- what a guest reads and writes of its own memory
-use Rattle.std.proofs.Common.{◌≡◌, ℕ, Bool, true, false, ◌+◌, ◌^◌, ◌<◌, ◌&&◌, nat_lt, List, [], ◌∷◌, ◌++◌, Some, None, length, map, take, drop, zip, ap, sym, ◌∙◌, refl, arith}
+use Rattle.std.proofs.Common.{◌≡◌, ℕ, Bool, true, false, ◌+◌, ◌^◌, ◌<◌, ◌&&◌, nat_lt, eqb, List, [], ◌∷◌, ◌++◌, Some, None, length, map, take, drop, zip, append-nil, ap, sym, ◌∙◌, refl, arith}
 use Rattle.std.specs.Prelude.{is_some}
 use Rattle.std.specs.List.{list_all}
 use Rattle.std.proofs.lemmas.Bool.{eqb-true}
 use Rattle.std.proofs.lemmas.Bool.Decides.{nat_tests}
-use Rattle.std.proofs.lemmas.List.{take_all}
+use Rattle.std.proofs.lemmas.List.{take_all, drop_all}
 use Rattle.vm_iotlb.specs.declared.permissions.Permissions.{Permissions}
 use Rattle.vm_iotlb.specs.declared.permissions.Permissions.TheVariants.{Read, Write}
 use Rattle.vm_memory_core.specs.Host.{Host}
 use Rattle.vm_memory_core.specs.Window.{put_byte}
 use Rattle.vm_memory.specs.Layout.{Region, place}
 use Rattle.vm_memory.specs.Memory.{Memory, memory_of, memory_behind, addresses, circular, reached, reach, byte, bytes, stored_all, stored_at}
-use Rattle.vm_memory.proofs.Places.{circular-is, length-circular}
-use Rattle.fs_queue.proofs.ReadLemmas.{reach-is, read_all}
+use Rattle.vm_memory.proofs.Places.{circular-is, length-circular, length-addresses, list_all-reached}
 use Rattle.fs_device.specs.Run.{guest_written}
 
 below : (n : ℕ) → n < 2 ^ 64 → nat_lt n (2 ^ 64) ≡ true
@@ -32,6 +31,21 @@ both_first false y h = absurd (cc)
 -- a range that is reached ends below 2^64
 pub reach_ends : (h : Host) (l : List Region) (access : Permissions) (a n : ℕ) → reach (memory_of h l) access a n ≡ true → a + n < 2 ^ 64
 reach_ends h l access a n all = below_of (a + n) (both_first (nat_lt (a + n) (2 ^ 64)) _ all)
+
+-- a range is reached where each of its addresses is
+reach-is : (h : Host) (l : List Region) (a n : ℕ) → a + n < 2 ^ 64 → reach (memory_of h l) Read a n ≡ eqb (reached (place l) (circular a n)) n
+reach-is h l a n fits =
+    rw (below (a + n) fits) (list_all-reached (addresses a n) (place l)
+    ∙ ap (eqb (reached (place l) (addresses a n))) (length-addresses n a)
+    ∙ ap (λ (xs : List ℕ). eqb (reached (place l) xs) n) (sym (circular-is n a fits)))
+
+-- a buffer that was read to its end
+read_all : (m : Memory) (a n k : ℕ) (old new : List ℕ) → a + n < 2 ^ 64 → length old ≡ n → k ≡ n →
+    new ≡ map (byte m) (take k (circular a n)) ++ drop k old → new ≡ bytes m a n
+read_all m a n k old new fits size all is =
+    let front : take k (circular a n) ≡ addresses a n = take_all k (circular a n) (omega (arith, length-circular n a)) ∙ circular-is n a fits in
+    let back : drop k old ≡ [] = drop_all k old (omega arith) in
+    is ∙ rw (front, back) (append-nil (map (byte m) (addresses a n)))
 
 -- all of it was done
 all_reached : (h : Host) (l : List Region) (a n : ℕ) → reach (memory_of h l) Read a n ≡ true → reached (place l) (circular a n) ≡ n

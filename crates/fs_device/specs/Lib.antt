@@ -2,6 +2,7 @@ pub mod DeviceParts
 pub mod Step
 pub mod Harvested
 pub mod DeviceView
+pub mod Begun
 pub mod Refusing
 pub mod Run
 pub mod CommandView

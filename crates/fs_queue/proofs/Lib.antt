@@ -5,3 +5,4 @@ pub mod TableLemmas
 pub mod OfferLemmas
 pub mod ReturnLemmas
 pub mod BoundLemmas
+pub mod PathLemmas
