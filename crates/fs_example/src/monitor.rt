@@ -11,7 +11,7 @@ use guest_driver::requests::{lookup, read};
 use std::alloc::{AllocError, Global};
 use thiserror::Error;
 use virtiofsd_fuse::Server;
-use vm_memory::{FromRangesError, GuestMemoryMmap};
+use vm_memory::{FromRangesError, GuestMemoryMmap, IommuMemory, TableIommu};
 use vm_memory_core::{GuestAddress, HostMemory};
 
 /// Why a file is not read.
@@ -145,17 +145,21 @@ fn node_in(reply: &[u8]) -> Option<u64> {
 #[derive(Drop)]
 pub struct Monitor<'a> {
     alloc: Global,
-    machine: Machine<ReadOnlyDirectory<'a>>,
+    machine: Machine<ReadOnlyDirectory<'a>, TableIommu>,
     offered: u16,
 }
 
 impl<'a> Monitor<'a> {
-    /// A guest with memory from 0 on, and a device of one queue that serves it the files.
+    /// A guest with memory from 0 on, and a device of one queue that serves it the files. Its IOMMU stays off.
+    #[tactic(auto, using(crate::proofs::MachineLemmas::holds))]
     pub fn new(alloc: Global, files: &'a [File<'a>]) -> Result<Monitor<'a>, MonitorError>
         requires { length files.now < 2 ^ 32 }
     {
         let mut host = HostMemory::new(alloc);
-        let mem = GuestMemoryMmap::from_ranges(alloc, &mut host, &[(GuestAddress(0), MEMORY)])?;
+        let layout = GuestMemoryMmap::from_ranges(alloc, &mut host, &[(GuestAddress(0), MEMORY)])?;
+        let iommu = TableIommu::new(host.new_table()?);
+        let pages = host.new_io_bitmap(0)?;
+        let mem = IommuMemory::new(alloc, layout, iommu, false, pages);
         let queue = Queue::new(QueueLayout::new(QUEUE_SIZE, 0, AVAILABLE, USED)?);
         let mut queues = Vec::with_capacity(alloc, 1)?;
         queues.push(queue).unwrap();
