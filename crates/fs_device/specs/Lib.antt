@@ -5,6 +5,7 @@ pub mod DeviceView
 pub mod Refusing
 pub mod Run
 pub mod CommandView
+pub mod OneProof
 pub mod MachineView
 pub mod Books
 pub mod Telling

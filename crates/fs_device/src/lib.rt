@@ -9,6 +9,7 @@ mod harvested;
 pub mod laws;
 mod layouts;
 mod machine;
+mod mappings;
 mod queues;
 mod refusal;
 mod run;
