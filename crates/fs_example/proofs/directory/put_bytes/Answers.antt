@@ -9,5 +9,5 @@ returns-in-Ok g c =
     let r = c.read_from_file_at.ensures in
     let long = ap length c.rest.ensures in
     let count : c.in-Ok.n ≡ min (length (drop c.args.offset c.args.contents.now)) c.args.size = omega (arith, c.if-n-wanted.true, c.min-wanted.ensures, long) in
-    let all = whole _ _ c.args.offset c.args.size c.in-Ok.n r.0 c.read_from_file_at.result _ r.4 c.in-Ok.is count in
+    let all = whole _ _ c.args.offset c.args.size c.in-Ok.n r.0 c.read_from_file_at.result _ r.5 c.in-Ok.is count in
     (r.0, r.1, r.2, all.0, inl (ap call.Bytes all.1))
