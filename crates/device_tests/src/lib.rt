@@ -16,6 +16,8 @@ mod longest;
 #[cfg(test)]
 mod machines;
 #[cfg(test)]
+mod mappings;
+#[cfg(test)]
 mod numbers;
 #[cfg(test)]
 mod queues;
