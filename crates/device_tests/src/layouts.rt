@@ -72,10 +72,10 @@ fn layout_that_the_host_lacks_is_refused(rt: HostRuntime) {
 #[test]
 fn queue_stops_where_the_layout_lacks_its_ring(rt: HostRuntime) {
     let mut machine = machine(&rt, rt.alloc(), 1);
-    let same = machine.mem.try_clone().expect(&rt, "memory");
+    let same = machine.mem.get_backend().try_clone().expect(&rt, "memory");
     let none = Command::SetLayout(GuestMemoryMmap::new(rt.alloc()));
     expect_refusal(&rt, rt.alloc(), &mut machine, none, 0);
     expect_rows(&rt, rt.alloc(), &mut machine, KICK_STOPS);
     expect_refusal(&rt, rt.alloc(), &mut machine, Command::SetLayout(same), 0);
-    expect_same(&rt, machine.mem.num_regions(), 1);
+    expect_same(&rt, machine.mem.get_backend().num_regions(), 1);
 }

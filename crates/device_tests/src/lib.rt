@@ -18,6 +18,8 @@ mod longest;
 #[cfg(test)]
 mod machines;
 #[cfg(test)]
+mod mappings;
+#[cfg(test)]
 mod numbers;
 #[cfg(test)]
 mod queues;

@@ -5,22 +5,23 @@ use call_log::{CallLog, LoggedCall, run_logged};
 use fs_device::{Answer, Command, DeviceError, Machine};
 use std::alloc::Global;
 use std::process::Abort;
-use vm_memory::GuestMemoryBackend;
+use vm_memory::{GuestMemoryBackend, TableIommu};
+use vm_memory_core::Permissions;
 
 /// A machine whose guest has made the chain of an unknown request available so often; no page is marked.
-pub fn machine(rt: &impl Abort, alloc: Global, times: u16) -> Machine<CallLog> {
+pub fn machine(rt: &impl Abort, alloc: Global, times: u16) -> Machine<CallLog, TableIommu> {
     let mut stand = Stand::new(rt, alloc);
     stand.ask(rt, UNKNOWN, 16);
     stand.guest.set_available(times).expect(rt, "a place");
     stand.guest.clear_marks();
-    stand.into_machine()
+    stand.into_machine(rt)
 }
 
 /// What one command comes to.
 pub fn done(
     rt: &impl Abort,
     alloc: Global,
-    machine: &mut Machine<CallLog>,
+    machine: &mut Machine<CallLog, TableIommu>,
     command: Command,
 ) -> Answer {
     let commands = Vec::from_array(alloc, [command]).expect(rt, "memory");
@@ -32,7 +33,7 @@ pub fn done(
 pub fn expect_refusal(
     rt: &impl Abort,
     alloc: Global,
-    machine: &mut Machine<CallLog>,
+    machine: &mut Machine<CallLog, TableIommu>,
     command: Command,
     number: u8,
 ) {
@@ -94,6 +95,14 @@ pub enum Row<'a> {
     NoRead(u64, usize, u8),
     /// A queue is reset to the layout of `RING`, and the refusal.
     Reset(usize, u8),
+    /// The device's addresses from one on are mapped to those from a target on, so many, with a permission, and the refusal.
+    Map(u64, u64, usize, Permissions, u8),
+    /// The device's addresses from one on, so many, are mapped no more, and the refusal.
+    Unmap(u64, usize, u8),
+    /// None of the device's addresses is mapped any more.
+    UnmapAll,
+    /// The IOMMU is turned on or off.
+    Turn(bool),
 }
 
 impl Row<'_> {
@@ -117,6 +126,15 @@ impl Row<'_> {
                 let layout = layout(rt, RING);
                 Command::ResetQueue { queue, layout }
             }
+            Row::Map(iova, target, len, perm, _) => Command::Map {
+                iova,
+                target,
+                len,
+                perm,
+            },
+            Row::Unmap(iova, len, _) => Command::Unmap { iova, len },
+            Row::UnmapAll => Command::UnmapAll,
+            Row::Turn(on) => Command::SetIommu(on),
         }
     }
 
@@ -131,7 +149,10 @@ impl Row<'_> {
             | Row::Remove(_, _, refusal)
             | Row::Write(_, _, refusal)
             | Row::NoRead(_, _, refusal)
-            | Row::Reset(_, refusal) => expect_same(rt, refusal_of(answer), Some(refusal)),
+            | Row::Reset(_, refusal)
+            | Row::Map(_, _, _, _, refusal)
+            | Row::Unmap(_, _, refusal) => expect_same(rt, refusal_of(answer), Some(refusal)),
+            Row::UnmapAll | Row::Turn(_) => expect_same(rt, refusal_of(answer), Some(0)),
         }
     }
 }
@@ -140,7 +161,7 @@ impl Row<'_> {
 pub fn expect_rows(
     rt: &impl Abort,
     alloc: Global,
-    machine: &mut Machine<CallLog>,
+    machine: &mut Machine<CallLog, TableIommu>,
     rows: &[Row<'_>],
 ) {
     for row in rows {
@@ -160,7 +181,10 @@ pub fn expect_run(
 ) {
     let mut machine = machine(rt, alloc, times);
     expect_rows(rt, alloc, &mut machine, rows);
-    let found = (machine.host.block_count(), machine.mem.num_regions());
+    let found = (
+        machine.host.block_count(),
+        machine.mem.get_backend().num_regions(),
+    );
     expect_same(rt, found, shape);
 }
 

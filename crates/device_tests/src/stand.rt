@@ -12,7 +12,8 @@ use std::alloc::Global;
 use std::fmt::Debug;
 use std::process::Abort;
 use virtiofsd_fuse::Server;
-use vm_memory_core::GuestAddress;
+use vm_memory::{GuestMemoryMmap, IommuMemory, TableIommu};
+use vm_memory_core::{GuestAddress, HostMemory, PageBitmap};
 
 /// A queue of four descriptors: its table at 0, its rings at 0x100 and 0x200.
 pub const RING: Ring = Ring {
@@ -438,11 +439,25 @@ impl Stand {
         }
     }
 
-    /// The machine of this guest and this device.
-    pub fn into_machine(self) -> Machine<CallLog> {
-        let (host, mem) = self.guest.into_memory();
+    /// The machine of this guest and this device. Its IOMMU is off; no address is mapped, and no I/O page is marked.
+    pub fn into_machine(self, rt: &impl Abort) -> Machine<CallLog, TableIommu> {
+        let (mut host, backend) = self.guest.into_memory();
+        let mem = behind(rt, self.alloc, &mut host, backend);
+        assert!(rt; host.holds(&mem));
         Machine::new(host, mem, self.device)
     }
+}
+
+/// Memory behind an IOMMU that is off: no address is mapped, and the I/O pages are those below 0x3000.
+pub fn behind(
+    rt: &impl Abort,
+    alloc: Global,
+    host: &mut HostMemory<PageBitmap>,
+    backend: GuestMemoryMmap,
+) -> IommuMemory<GuestMemoryMmap, TableIommu> {
+    let number = host.new_table().expect(rt, "memory");
+    let set = host.new_io_bitmap(0x3000).expect(rt, "memory");
+    IommuMemory::new(alloc, backend, TableIommu::new(number), false, set)
 }
 
 /// Each act in turn, at a stand with one region from 0 to 0x10000.

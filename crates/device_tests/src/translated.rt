@@ -1,35 +1,34 @@
 //! Chains behind an IOMMU: each address is translated by itself.
 
-use crate::stand::{REQUEST_AT, ROOM_AT, Stand, expect_same};
+use crate::stand::{REQUEST_AT, ROOM_AT, Stand, behind, expect_same};
 use fs_device::Fault;
 use fs_queue::ChainFault;
 use guest_driver::requests::header;
 use std::alloc::Global;
 use std::process::Abort;
-use vm_memory::{GuestMemoryMmap, IommuMemory, TableIommu};
+use vm_memory::{GuestMemoryMmap, Iommu, IommuMemory, TableIommu};
 use vm_memory_core::{Bitmap, GuestAddress, HostMemory, PageBitmap, Permissions};
 
-// The reply to the request whose opcode is unknown.
-const ENOSYS_REPLY: [u8; 16] = [16, 0, 0, 0, 0xda, 0xff, 0xff, 0xff, 1, 0, 0, 0, 0, 0, 0, 0];
+/// The reply to the request whose opcode is unknown.
+pub const ENOSYS_REPLY: [u8; 16] = [16, 0, 0, 0, 0xda, 0xff, 0xff, 0xff, 1, 0, 0, 0, 0, 0, 0, 0];
 
-// Each mapping's I/O address, target, length and permission: the queue's page, and the request's, which is cut in two.
-const MAPPED: &[(u64, u64, usize, Permissions)] = &[
+/// Each mapping's I/O address, target, length and permission: the queue's page, and the request's, which is cut in two.
+pub const MAPPED: &[(u64, u64, usize, Permissions)] = &[
     (0, 0, 0x1000, Permissions::ReadWrite),
     (0x1000, 0x1000, 0x14, Permissions::Read),
     (0x1014, 0x6014, 0xfec, Permissions::Read),
 ];
 
 // The memory of a host behind such a table, where the room's page is the one at 0x3000, with this permission.
-fn behind(
+fn behind_mapped(
     rt: &impl Abort,
     alloc: Global,
     host: &mut HostMemory<PageBitmap>,
     backend: GuestMemoryMmap,
     room: Permissions,
 ) -> IommuMemory<GuestMemoryMmap, TableIommu> {
-    let number = host.new_table().expect(rt, "memory");
-    let set = host.new_io_bitmap(0x3000).expect(rt, "memory");
-    let table = host.table_mut(number).expect(rt, "a table");
+    let mut mem = behind(rt, alloc, host, backend);
+    let table = host.table_mut(mem.iommu().table()).expect(rt, "a table");
     for (iova, target, length, access) in MAPPED {
         table
             .set_mapping(GuestAddress(*iova), GuestAddress(*target), *length, *access)
@@ -38,7 +37,33 @@ fn behind(
     table
         .set_mapping(GuestAddress(ROOM_AT), GuestAddress(0x3000), 0x1000, room)
         .expect(rt, "memory");
-    IommuMemory::new(alloc, backend, TableIommu::new(number), true, set)
+    mem.set_iommu_enabled(true);
+    mem
+}
+
+/// The unknown request, whose last twenty bytes are where the table has them, is available; no page is marked.
+pub fn cut_request(rt: &impl Abort, alloc: Global) -> Stand {
+    let mut stand = Stand::new(rt, alloc);
+    let request = header(40, 7, 1, 0);
+    stand.chain(rt, 0, &request, &[(REQUEST_AT, 40)], &[(ROOM_AT, 16)]);
+    stand.put(rt, 0x1014, &[0xff; 20]);
+    stand.put(rt, 0x6014, &request[20..]);
+    stand.guest.clear_marks();
+    stand
+}
+
+/// Of the first three I/O pages of a set these are marked, and no page of the block is.
+pub fn expect_io_marks(rt: &impl Abort, host: &HostMemory<PageBitmap>, set: usize, io: [bool; 3]) {
+    let pages = host.io_bitmap(set).expect(rt, "a set");
+    let marked = [
+        pages.dirty_at(0),
+        pages.dirty_at(0x1000),
+        pages.dirty_at(0x2000),
+    ];
+    expect_same(rt, marked, io);
+    let block = host.bitmap(0).expect(rt, "a bitmap");
+    let is_marked = block.dirty_at(0) || block.dirty_at(0x2000) || block.dirty_at(0x3000);
+    expect_same(rt, is_marked, false);
 }
 
 // A request whose last twenty bytes are elsewhere has this reply or fault. The reply stands where the room is mapped; the I/O
@@ -51,14 +76,9 @@ fn expect_exchanged(
     reply: &[u8],
     io: [bool; 3],
 ) {
-    let mut stand = Stand::new(rt, alloc);
-    let request = header(40, 7, 1, 0);
-    stand.chain(rt, 0, &request, &[(REQUEST_AT, 40)], &[(ROOM_AT, 16)]);
-    stand.put(rt, 0x1014, &[0xff; 20]);
-    stand.put(rt, 0x6014, &request[20..]);
-    stand.guest.clear_marks();
+    let mut stand = cut_request(rt, alloc);
     let (mut host, backend) = stand.guest.into_memory();
-    let mem = behind(rt, alloc, &mut host, backend, room);
+    let mem = behind_mapped(rt, alloc, &mut host, backend, room);
     assert!(rt; host.holds(&mem));
     let (exchange, notify) = stand
         .device
@@ -71,16 +91,7 @@ fn expect_exchanged(
     let mut there = [0; 16];
     expect_same(rt, host.read_block(0, 0x3000, &mut there), true);
     expect_same(rt, &there[..reply.len().min(16)], reply);
-    let pages = host.io_bitmap(mem.bitmap()).expect(rt, "a set");
-    let marked = [
-        pages.dirty_at(0),
-        pages.dirty_at(0x1000),
-        pages.dirty_at(0x2000),
-    ];
-    expect_same(rt, marked, io);
-    let block = host.bitmap(0).expect(rt, "a bitmap");
-    let is_marked = block.dirty_at(0) || block.dirty_at(0x2000) || block.dirty_at(0x3000);
-    expect_same(rt, is_marked, false);
+    expect_io_marks(rt, &host, mem.bitmap(), io);
 }
 
 #[test]
