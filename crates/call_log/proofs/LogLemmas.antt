@@ -3,6 +3,7 @@ use Rattle.std.proofs.Common.{◌≡◌, ℕ, zero, suc, Bool, true, false, List
 use Rattle.std.specs.Prelude.{Result, Ok, Err, IfOk, if◌then◌else◌, slice_get, flat_map, not, nat_lt, ◌==◌}
 use Rattle.std.specs.List.{list_any, list_all}
 use Rattle.vm_iotlb.specs.declared.permissions.Permissions.TheVariants.{Read, Write}
+use Rattle.vm_iotlb.specs.Table.{Table, nothing_mapped}
 use Rattle.vm_memory_core.specs.Host.{Block}
 use Rattle.vm_memory.specs.Layout.{Region, fits, overlap, is_region}
 use Rattle.vm_memory.specs.Memory.{reach, physical}
@@ -21,7 +22,7 @@ use Rattle.fs_device.specs.declared.exchange.Fault.{Fault}
 use Rattle.fs_device.specs.declared.refusal.Refusal.TheVariants as why
 use Rattle.fs_device.specs.Step.{State, Exchange, Calls, Idle, Refused, Exchanged, Exchanges, StepOf, served_fault, served_exchange}
 use Rattle.fs_device.specs.Run as run
-use Rattle.fs_device.specs.Run.{Command, Answer, Effect, Turn, Told, shown, KickEnds, KickRun, Kicks, Kicked, HasEffect, Does, Performs, RunTold, Run, effect, insert, insert_block, is_known, some_overlap, reset}
+use Rattle.fs_device.specs.Run.{Command, Answer, Effect, Turn, Told, shown, KickEnds, KickRun, Kicks, Kicked, Affects, ChangesTable, HasEffect, Does, Performs, RunTold, Run, effect, insert, insert_block, is_known, some_overlap, reset}
 use Rattle.call_log.specs.declared.log.LoggedCall.{LoggedCall}
 use Rattle.call_log.specs.Log.{entry_of, kept, with_calls}
 use Rattle.call_log.specs.Runs.{entries_of, EachSuits, IsAnswered, WritesDown, IsLoggedBy, AreLoggedBy, exchanges_in, Grows}
@@ -187,6 +188,10 @@ effect_quiet s (run.RemoveRegion base size) = whichever s (list_any (is_region b
 effect_quiet s (run.SetLayout layout) =
     whichever s (not (list_all (is_known s.memory.host) layout)) _ _ (refl, refl)
     (whichever s (not (list_all fits layout)) _ _ (refl, refl) (whichever s (some_overlap layout) _ _ (refl, refl) (refl, refl)))
+effect_quiet s (run.Map iova target n perm) = (refl, refl)
+effect_quiet s (run.Unmap iova n) = (refl, refl)
+effect_quiet s run.UnmapAll = (refl, refl)
+effect_quiet s (run.SetIommu on) = (refl, refl)
 effect_quiet s (run.Kick queue most) = (refl, refl)
 effect_quiet s (run.ResetQueue queue l) = reset_quiet s queue l _
 
@@ -195,11 +200,35 @@ quiet_logged {F} log s e answer after quiet is =
     let none : exchanges_in answer ≡ [] = ap (λ (p : Effect F). exchanges_in p.0) is ∙ quiet.1 in
     rw none (stayed log s.files after.files (ap (λ (p : Effect F). p.1.files) is ∙ quiet.0))
 
+by_effect : {F : Type 0} (log : F → List LoggedCall) (s : State F) (command : Command) (answer : Answer) (after : State F) → (answer, after) ≡ effect s command → Grew log s.files (exchanges_in answer) after.files
+by_effect log s command answer after t = quiet_logged log s (effect s command) answer after (effect_quiet s command) t
+
+change_logged : {F : Type 0} (log : F → List LoggedCall) (s : State F) (fit : Bool) (table : Table) (answer : Answer) (after : State F) → ChangesTable s fit table answer after →
+    Grew log s.files (exchanges_in answer) after.files
+change_logged log s true table answer after t =
+    let none : exchanges_in answer ≡ [] = ap exchanges_in t.0 in
+    rw none (stayed log s.files after.files (ap (λ s. s.files) t.1.3))
+change_logged log s false table answer after t = quiet_logged log s _ answer after (refl, refl) t
+
+affect_logged : {F : Type 0} (log : F → List LoggedCall) (s : State F) (command : Command) (answer : Answer) (after : State F) → Affects s command answer after → Grew log s.files (exchanges_in answer) after.files
+affect_logged log s (run.GuestRead a n) answer after t = by_effect log s (run.GuestRead a n) answer after t
+affect_logged log s (run.GuestWrite a bs) answer after t = by_effect log s (run.GuestWrite a bs) answer after t
+affect_logged log s (run.NewBlock n) answer after t = by_effect log s (run.NewBlock n) answer after t
+affect_logged log s (run.InsertRegion base block) answer after t = by_effect log s (run.InsertRegion base block) answer after t
+affect_logged log s (run.RemoveRegion base size) answer after t = by_effect log s (run.RemoveRegion base size) answer after t
+affect_logged log s (run.SetLayout layout) answer after t = by_effect log s (run.SetLayout layout) answer after t
+affect_logged log s (run.Map iova target n perm) answer after t = change_logged log s _ _ answer after t
+affect_logged log s (run.Unmap iova n) answer after t = change_logged log s _ _ answer after t
+affect_logged log s run.UnmapAll answer after t = change_logged log s true nothing_mapped answer after t
+affect_logged log s (run.SetIommu on) answer after t = by_effect log s (run.SetIommu on) answer after t
+affect_logged log s (run.Kick queue most) answer after t = by_effect log s (run.Kick queue most) answer after t
+affect_logged log s (run.ResetQueue queue l) answer after t = by_effect log s (run.ResetQueue queue l) answer after t
+
 -- ---- runs
 
 effect_logged : {F : Type 0} (log : F → List LoggedCall) (s : State F) (command : Command) (told : Told) (answer : Answer) (after : State F) → HasEffect s command told answer after →
     Grew log s.files (exchanges_in answer) after.files
-effect_logged log s command [] answer after t = quiet_logged log s (effect s command) answer after (effect_quiet s command) t
+effect_logged log s command [] answer after t = affect_logged log s command answer after t
 effect_logged log s command (x ∷ told) answer after t = absurd t
 
 does_logged : {F : Type 0} (may : May F) (log : F → List LoggedCall) → Keeps may log → (s : State F) (command : Command) (told : Told) (answer : Answer) (after : State F) →
@@ -215,6 +244,10 @@ does_logged may log keeps s (run.NewBlock n) told answer after t = effect_logged
 does_logged may log keeps s (run.InsertRegion base block) told answer after t = effect_logged log s (run.InsertRegion base block) told answer after t
 does_logged may log keeps s (run.RemoveRegion base size) told answer after t = effect_logged log s (run.RemoveRegion base size) told answer after t
 does_logged may log keeps s (run.SetLayout layout) told answer after t = effect_logged log s (run.SetLayout layout) told answer after t
+does_logged may log keeps s (run.Map iova target n perm) told answer after t = effect_logged log s (run.Map iova target n perm) told answer after t
+does_logged may log keeps s (run.Unmap iova n) told answer after t = effect_logged log s (run.Unmap iova n) told answer after t
+does_logged may log keeps s run.UnmapAll told answer after t = effect_logged log s run.UnmapAll told answer after t
+does_logged may log keeps s (run.SetIommu on) told answer after t = effect_logged log s (run.SetIommu on) told answer after t
 does_logged may log keeps s (run.ResetQueue queue l) told answer after t = effect_logged log s (run.ResetQueue queue l) told answer after t
 
 performs_logged : {F : Type 0} (may : May F) (log : F → List LoggedCall) → Keeps may log → (s : State F) (command : Command) (told : Told) (answer : Answer) (after : State F) →
@@ -227,6 +260,7 @@ performs_logged may log keeps s command told (run.IsRefused why.UnknownBlock) af
 performs_logged may log keeps s command told (run.IsRefused why.BadRegion) after t = does_logged may log keeps s command told _ after t
 performs_logged may log keeps s command told (run.IsRefused why.Overlap) after t = does_logged may log keeps s command told _ after t
 performs_logged may log keeps s command told (run.IsRefused why.NoRegion) after t = does_logged may log keeps s command told _ after t
+performs_logged may log keeps s command told (run.IsRefused why.BadMapping) after t = does_logged may log keeps s command told _ after t
 performs_logged may log keeps s command told (run.IsRefused why.NoSuchQueue) after t = does_logged may log keeps s command told _ after t
 performs_logged may log keeps s command told run.Done after t = does_logged may log keeps s command told _ after t
 performs_logged may log keeps s command told (run.Bytes bytes) after t = does_logged may log keeps s command told _ after t

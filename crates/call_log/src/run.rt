@@ -13,14 +13,15 @@ use crate::files::CallLog;
 use fs_device::laws::law_books;
 use fs_device::{Answer, Command, Machine};
 use std::alloc::{AllocError, Global};
+use vm_memory::Iommu;
 
 /// Does commands one after another, as `Machine::run`, which this run is of. The log grows by the
 /// calls of its five kinds that the exchanged requests mean, in the order of the exchanges; nothing
 /// else that is done adds to it. For each node but 0, what the file system answered and was sent balances
 /// with what replies and requests say of it.
-pub fn run_logged(
+pub fn run_logged<I: Iommu + Drop>(
     alloc: Global,
-    machine: &mut Machine<CallLog>,
+    machine: &mut Machine<CallLog, I>,
     commands: Vec<Command>,
 ) -> Result<Vec<Answer>, AllocError>
     ensures run { IfOk result (λ answers. Run MayLog (machine_of machine.old) (zip (map command_of commands.items) (map answer_of answers.items)) (machine_of machine.new)) }

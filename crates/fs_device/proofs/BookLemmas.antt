@@ -297,6 +297,10 @@ does_balance may n some s (run.NewBlock k) (x ∷ told) answer after t = absurd 
 does_balance may n some s (run.InsertRegion base block) (x ∷ told) answer after t = absurd t
 does_balance may n some s (run.RemoveRegion base size) (x ∷ told) answer after t = absurd t
 does_balance may n some s (run.SetLayout layout) (x ∷ told) answer after t = absurd t
+does_balance may n some s (run.Map iova target k perm) (x ∷ told) answer after t = absurd t
+does_balance may n some s (run.Unmap iova k) (x ∷ told) answer after t = absurd t
+does_balance may n some s run.UnmapAll (x ∷ told) answer after t = absurd t
+does_balance may n some s (run.SetIommu on) (x ∷ told) answer after t = absurd t
 does_balance may n some s (run.ResetQueue queue l) (x ∷ told) answer after t = absurd t
 
 performs_balance : {F : Type 0} (may : May F) (n : ℕ) → n ≢ 0 → (s : State F) (command : Command) (told : Told) (answer : Answer) (after : State F) → Performs may s command told answer after → ToldBalances n told
@@ -308,6 +312,7 @@ performs_balance may n some s command told (run.IsRefused why.UnknownBlock) afte
 performs_balance may n some s command told (run.IsRefused why.BadRegion) after t = does_balance may n some s command told _ after t
 performs_balance may n some s command told (run.IsRefused why.Overlap) after t = does_balance may n some s command told _ after t
 performs_balance may n some s command told (run.IsRefused why.NoRegion) after t = does_balance may n some s command told _ after t
+performs_balance may n some s command told (run.IsRefused why.BadMapping) after t = does_balance may n some s command told _ after t
 performs_balance may n some s command told (run.IsRefused why.NoSuchQueue) after t = does_balance may n some s command told _ after t
 performs_balance may n some s command told run.Done after t = does_balance may n some s command told _ after t
 performs_balance may n some s command told (run.Bytes bytes) after t = does_balance may n some s command told _ after t

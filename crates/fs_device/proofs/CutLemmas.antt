@@ -1,5 +1,5 @@
 -- what a chain asks, by its joined bytes and its lengths
-use Rattle.std.proofs.Common.{◌≡◌, ℕ, Bool, true, false, ◌||◌, not, nat_lt, List, length, ap, ◌∙◌}
+use Rattle.std.proofs.Common.{◌≡◌, ℕ, Bool, true, false, ◌||◌, not, nat_lt, List, length, ap, sym, ◌∙◌, subst}
 use Rattle.std.specs.Prelude.{if◌then◌else◌}
 use Rattle.vm_iotlb.specs.declared.permissions.Permissions.TheVariants.{Read, Write}
 use Rattle.vm_memory.specs.Memory.{Memory}
@@ -9,7 +9,10 @@ use Rattle.fs_queue.specs.declared.fault.ChainFault.TheVariants.{OverLimit, Requ
 use Rattle.fs_queue.specs.Taking.{readable, writable, total_len, all_reach, Asks, CannotAsk, asked_by}
 use Rattle.fs_queue.specs.Windows.{addresses_of}
 use Rattle.fs_queue.proofs.TakeLemmas.{length-addresses_of}
-use Rattle.fs_device.specs.Laws.{joined_request}
+use Rattle.fs_queue.proofs.OfferedLemmas.{offered_asks}
+use Rattle.virtiofsd_fuse.specs.Serving.{May}
+use Rattle.fs_device.specs.Laws.{joined_request, CutsDoNotMatter, OffersAreServedAlike}
+use Rattle.fs_device.specs.Step.{ServesRequest}
 
 three : (a b c : Bool) (x y z : ChainFault) (request room bytes places : List ℕ) →
     (if a then CannotAsk x else if b then CannotAsk y else if c then CannotAsk z else Asks bytes places) ≡ Asks request room → (request ≡ bytes) × (room ≡ places)
@@ -24,9 +27,28 @@ asks_joined m limit ds request room e =
     OverLimit RequestUnreachable RoomUnreachable request room (joined_request m ds) (addresses_of (writable ds)) e
 
 -- the request of a chain that can be served is its joined bytes
-pub request_joined : (m : Memory) (limit : ℕ) (ds : List Descriptor) (request room : List ℕ) → asked_by m limit ds ≡ Asks request room → request ≡ joined_request m ds
+request_joined : (m : Memory) (limit : ℕ) (ds : List Descriptor) (request room : List ℕ) → asked_by m limit ds ≡ Asks request room → request ≡ joined_request m ds
 request_joined m limit ds request room e = (asks_joined m limit ds request room e).0
 
 -- and its room has as many places as the lengths come to
-pub room_counted : (m : Memory) (limit : ℕ) (ds : List Descriptor) (request room : List ℕ) → asked_by m limit ds ≡ Asks request room → length room ≡ total_len (writable ds)
+room_counted : (m : Memory) (limit : ℕ) (ds : List Descriptor) (request room : List ℕ) → asked_by m limit ds ≡ Asks request room → length room ≡ total_len (writable ds)
 room_counted m limit ds request room e = ap length (asks_joined m limit ds request room e).1 ∙ length-addresses_of (writable ds)
+
+-- any two lists of descriptors
+pub cuts : {F : Type 0} (may : May F) → CutsDoNotMatter may
+cuts may m n limit other ds es request room request' room' asks asks' bytes lengths page_size options before after calls given =
+    let same : request ≡ request' = request_joined m limit ds request room asks ∙ bytes ∙ sym (request_joined n other es request' room' asks') in
+    let count : length room ≡ length room' = room_counted m limit ds request room asks ∙ lengths ∙ sym (room_counted n other es request' room' asks') in (
+      λ serves.
+          subst (λ (k : ℕ). ServesRequest may page_size options request' k before calls given after) count
+          (subst (λ (bs : List ℕ). ServesRequest may page_size options bs (length room) before calls given after) same serves),
+      λ serves.
+          subst (λ (k : ℕ). ServesRequest may page_size options request k before calls given after) (sym count)
+          (subst (λ (bs : List ℕ). ServesRequest may page_size options bs (length room') before calls given after) (sym same) serves),
+    )
+
+-- the chains that two queues offer
+pub offers : {F : Type 0} (may : May F) → OffersAreServedAlike may
+offers may m n limit other q p ds es request room request' room' one two =
+    cuts may m n limit other ds es request room request' room' (offered_asks m limit q one.head ds request room one.walked one.offered)
+    (offered_asks n other p two.head es request' room' two.walked two.offered)

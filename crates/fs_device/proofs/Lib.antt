@@ -5,6 +5,7 @@ pub mod RunLemmas
 pub mod GuestLemmas
 pub mod HarvestLemmas
 pub mod LayoutLemmas
+pub mod MappingLemmas
 pub mod CutLemmas
 pub mod NodeLemmas
 pub mod MeaningLemmas

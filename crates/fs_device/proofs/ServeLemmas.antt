@@ -1,7 +1,6 @@
 -- what the server's answer says
 use Rattle.std.proofs.Common.{◌≡◌, ℕ, false, List, [], length, map, ap, sym, ◌∙◌, refl, subst, Option, Some, None, Ok, Err}
-use Rattle.vm_memory_core.specs.Host.{Host}
-use Rattle.vm_memory_core.specs.Window.{places, byte_in}
+use Rattle.vm_memory_core.specs.Window.{places}
 use Rattle.vm_iotlb.specs.declared.permissions.Permissions.TheVariants.{Write}
 use Rattle.vm_memory.specs.Memory.{Memory, location}
 use Rattle.fs_queue.specs.declared.chain.Chain.{Chain}
@@ -15,7 +14,7 @@ use Rattle.virtiofsd_fuse.specs.Serving as server
 use Rattle.fs_device.specs.declared.exchange.Fault.{Fault}
 use Rattle.fs_device.specs.declared.exchange.Fault.TheVariants as fault
 use Rattle.fs_device.specs.Step.{Exchange, Calls, ServesRequest}
-use Rattle.fs_device.specs.DeviceView.{ServesChain, AnswersRequest}
+use Rattle.fs_device.specs.DeviceView.{request_of, ServesChain, AnswersRequest}
 
 -- a reply that was written whole
 pub replied_ok : {F : Type 0} (may : May F) (page options room : ℕ) (request : List ℕ) (before after : F) (n : ℕ) (written : List ℕ) (agreed : ℕ) →
@@ -36,13 +35,12 @@ abbrev exchange : (head : ℕ) → (request reply : List ℕ) → Option Fault �
 exchange head request reply fault = record { head = head; request = request; reply = reply; fault = fault }
 
 -- the code's exchange is the one that the chain's request and room ask for
-pub served_chain : {F : Type 0} (may : May F) (page : ℕ) (old new : ℕ × F) (m : Memory) (h : Host) (asked : Asked) (c : Chain) (head at : ℕ) (request : List ℕ) (fault : Option Fault) (reply : List ℕ) (calls : Calls) →
-    m.host ≡ h → HoldsChain m asked (Ok c) → at ≡ head → request ≡ map (byte_in h) (places c.readable.items) →
+pub served_chain : {F : Type 0} (may : May F) (page : ℕ) (old new : ℕ × F) (m : Memory) (asked : Asked) (c : Chain) (head at : ℕ) (request : List ℕ) (fault : Option Fault) (reply : List ℕ) (calls : Calls) →
+    HoldsChain m asked (Ok c) → at ≡ head → request ≡ request_of asked →
     AnswersRequest may page old request (length (places c.writable.items)) calls reply fault new →
     ServesChain may page old head asked calls (exchange at request reply fault) new
-served_chain may page old new m h (CannotAsk why) c head at request fault reply calls host held a e r = absurd held
-served_chain {F} may page old new m h (Asks bytes room) c head at request fault reply calls host held a e r =
-    let same : request ≡ bytes = e ∙ ap (λ (g : Host). map (byte_in g) (places c.readable.items)) (sym host) ∙ sym held.0 in
+served_chain may page old new m (CannotAsk why) c head at request fault reply calls held a e r = absurd held
+served_chain {F} may page old new m (Asks bytes room) c head at request fault reply calls held a same r =
     let count : length (places c.writable.items) ≡ length room = length-located room (location m Write) (places c.writable.items) held.1 in
     let serves = subst (λ (n : ℕ). ServesRequest may page old.0 bytes n old.1 calls r.0 new.1) count
     (subst (λ (x : List ℕ). ServesRequest may page old.0 x (length (places c.writable.items)) old.1 calls r.0 new.1) same r.1) in (

@@ -1,19 +1,22 @@
 -- a step of one queue is a step of the device
-use Rattle.std.proofs.Common.{◌≡◌, ℕ, Bool, zero, suc, List, [], ◌∷◌, set, refl, ap, sym, ◌∙◌, subst, Option, Some, None, Ok, Err}
-use Rattle.std.specs.Prelude.{Result, slice_get}
+use Rattle.std.proofs.Common.{◌≡◌, ℕ, Bool, zero, suc, List, [], ◌∷◌, set, refl, ap, sym, ◌∙◌, subst, Option, Some, Ok, Err}
+use Rattle.std.specs.Prelude.{slice_get}
 use Rattle.vm_memory_core.specs.Host.{changed_at}
 use Rattle.vm_memory.specs.Memory.{Memory}
+use Rattle.fs_queue.specs.declared.chain.Taken.{Taken}
 use Rattle.fs_queue.specs.declared.fault.QueueError.{QueueError}
 use Rattle.fs_queue.specs.declared.fault.QueueError.TheVariants as stop
 use Rattle.fs_queue.specs.Queue.{Queue}
-use Rattle.fs_queue.specs.Taking.{Asked, Asks, CannotAsk, Offer, Offers, offer, after_refusal, room_of}
+use Rattle.fs_queue.specs.Taking.{Asked, Asks, CannotAsk, Offer, Offers, offer, may_lack_memory, after_refusal, room_of}
+use Rattle.fs_queue.specs.Taking as taking
 use Rattle.fs_queue.specs.Returning.{returned, wants_notice, advanced}
+use Rattle.fs_queue.specs.Windows.{Takes, IsTaken, HoldsChain}
 use Rattle.virtiofsd_fuse.specs.Serving.{May}
-use Rattle.fs_device.specs.declared.error.DeviceError.{DeviceError}
+use Rattle.fs_device.specs.declared.begun.Begun.{Begun}
 use Rattle.fs_device.specs.declared.error.DeviceError.TheVariants as device
-use Rattle.fs_device.specs.declared.exchange.Exchange as code
-use Rattle.fs_device.specs.Step.{State, Exchange, Calls, Returns, Exchanges, Acts, StepOf, Step}
-use Rattle.fs_device.specs.DeviceView.{exchange_of, outcome_of, ServesChain, StepsOne}
+use Rattle.fs_device.specs.Step.{State, Exchange, Outcome, Idle, Refused, Exchanged, Calls, Returns, Exchanges, Acts, StepOf, Step}
+use Rattle.fs_device.specs.Begun.{IsBegun}
+use Rattle.fs_device.specs.DeviceView.{request_of, ServesChain}
 
 pub changed_at-set : (l : List Queue) (i : ℕ) (q : Queue) → changed_at l i (λ _. q) ≡ set l i q
 changed_at-set [] i q = refl
@@ -33,77 +36,106 @@ pub record Fixed : Type 0 where
 abbrev pub state : {F : Type 0} → Fixed → Memory → List Queue → ℕ × F → State F
 state f m queues s = record { memory = m; queues = queues; options = s.0; files = s.1; limit = f.limit; page_size = f.page_size }
 
-unchanged : {F : Type 0} (f : Fixed) (m m' : Memory) (queues : List Queue) (i : ℕ) (q q' : Queue) (s s' : ℕ × F) → slice_get queues i ≡ Some q → q' ≡ q → m' ≡ m → s' ≡ s →
-    state f m' (set queues i q') s' ≡ state f m queues s
-unchanged {F} f m m' queues i q q' s s' there same kept still =
-    ap (λ (x : Memory). state f x (set queues i q') s') kept
-    ∙ ap (λ (l : List Queue). state f m l s') (ap (set queues i) same ∙ set-same queues i q there)
-    ∙ ap (λ (x : ℕ × F). state f m queues x) still
+-- putting the same queue back changes nothing
+pub unchanged : {F : Type 0} (f : Fixed) (m : Memory) (queues : List Queue) (i : ℕ) (q q' : Queue) (s : ℕ × F) → slice_get queues i ≡ Some q → q' ≡ q →
+    state f m (set queues i q') s ≡ state f m queues s
+unchanged f m queues i q q' s there same = ap (λ (l : List Queue). state f m l s) (ap (set queues i) same ∙ set-same queues i q there)
 
-moved : {F : Type 0} (f : Fixed) (m m' : Memory) (queues : List Queue) (i : ℕ) (q q' : Queue) (s s' : ℕ × F) → q' ≡ q → m' ≡ m → s' ≡ s →
-    state f m' (set queues i q') s' ≡ state f m (changed_at queues i (λ _. q)) s
-moved {F} f m m' queues i q q' s s' same kept still =
-    ap (λ (x : Memory). state f x (set queues i q') s') kept
-    ∙ ap (λ (l : List Queue). state f m l s') (ap (set queues i) same ∙ sym (changed_at-set queues i q))
-    ∙ ap (λ (x : ℕ × F). state f m (changed_at queues i (λ _. q)) x) still
+moved : {F : Type 0} (f : Fixed) (m : Memory) (queues : List Queue) (i : ℕ) (q q' : Queue) (s : ℕ × F) → q' ≡ q → state f m (set queues i q') s ≡ state f m (changed_at queues i (λ _. q)) s
+moved f m queues i q q' s same = ap (λ (l : List Queue). state f m l s) (ap (set queues i) same ∙ sym (changed_at-set queues i q))
 
--- the code's answer, as the device's
-abbrev pub device_result : Result (Option (code.Exchange × Bool)) QueueError → Result (Option (code.Exchange × Bool)) DeviceError
-device_result (Ok x) = Ok x
-device_result (Err e) = Err (device.Queue e)
+-- a step on a queue that is there
+on_queue : {F : Type 0} (may : May F) (before : State F) (i : ℕ) (q : Queue) (calls : Calls) (outcome : Outcome) (after : State F) → slice_get before.queues i ≡ Some q →
+    Acts may before i q (offer before.memory before.limit q) calls outcome after → Step may before i calls outcome after
+on_queue may before i q calls outcome after there acts = subst (λ (o : Option Queue). StepOf may before i o calls outcome after) (sym there) acts
+
+-- nothing waits
+pub idles : {F : Type 0} (may : May F) (f : Fixed) (m : Memory) (queues : List Queue) (i : ℕ) (q q' : Queue) (s : ℕ × F) → slice_get queues i ≡ Some q → offer m f.limit q ≡ taking.Idle → q' ≡ q →
+    Step may (state f m queues s) i [] Idle (state f m (set queues i q') s)
+idles may f m queues i q q' s there idle same = on_queue may (state f m queues s) i q [] Idle _ there (idle, record { same = unchanged f m queues i q q' s there same; no_call = refl })
+
+-- memory is wanting once a chain is offered
+pub lacks : {F : Type 0} (may : May F) (before after : State F) (i : ℕ) (q : Queue) (head : ℕ) (asked : Asked) → slice_get before.queues i ≡ Some q → offer before.memory before.limit q ≡ Offers head asked →
+    after ≡ before → Step may before i [] (Refused (device.Queue stop.OutOfMemory)) after
+lacks may before after i q head asked there offered same =
+    on_queue may before i q [] (Refused (device.Queue stop.OutOfMemory)) after there (ap (may_lack_memory before.memory) offered, record { same = same; no_call = refl })
+
+refused : {F : Type 0} (may : May F) (f : Fixed) (m : Memory) (queues : List Queue) (i : ℕ) (q q' : Queue) (s : ℕ × F) (e : QueueError) → Takes m f.limit q (Err e) → slice_get queues i ≡ Some q →
+    q' ≡ after_refusal q e → Acts may (state f m queues s) i q (offer m f.limit q) [] (Refused (device.Queue e)) (state f m (set queues i q') s)
+refused may f m queues i q q' s stop.OutOfMemory t there after = (t, record { same = unchanged f m queues i q q' s there after; no_call = refl })
+refused may f m queues i q q' s stop.Stopped t there after = (t, refl, moved f m queues i _ q' s after)
+refused may f m queues i q q' s stop.AvailIndexUnreachable t there after = (t, refl, moved f m queues i _ q' s after)
+refused may f m queues i q q' s stop.AvailTooFar t there after = (t, refl, moved f m queues i _ q' s after)
+refused may f m queues i q q' s stop.RingEntryUnreachable t there after = (t, refl, moved f m queues i _ q' s after)
+refused may f m queues i q q' s stop.HeadOutOfTable t there after = (t, refl, moved f m queues i _ q' s after)
+refused may f m queues i q q' s stop.UsedUnreachable t there after = (t, refl, moved f m queues i _ q' s after)
+refused may f m queues i q q' s stop.AvailFlagsUnreachable t there after = (t, refl, moved f m queues i _ q' s after)
+refused may f m queues i q q' s stop.DescriptorUnreachable t there after = (t, refl, moved f m queues i _ q' s after)
+
+-- a queue hands out no chain
+pub refuses : {F : Type 0} (may : May F) (f : Fixed) (m : Memory) (queues : List Queue) (i : ℕ) (q q' : Queue) (s : ℕ × F) (e : QueueError) → slice_get queues i ≡ Some q → Takes m f.limit q (Err e) →
+    q' ≡ after_refusal q e → Step may (state f m queues s) i [] (Refused (device.Queue e)) (state f m (set queues i q') s)
+refuses may f m queues i q q' s e there t after =
+    on_queue may (state f m queues s) i q [] (Refused (device.Queue e)) _ there (refused may f m queues i q q' s e t there after)
+
+-- a chain was taken, and its request was read
+pub is_begun : {F : Type 0} (f : Fixed) (m : Memory) (queues : List Queue) (q : Queue) (s : ℕ × F) (t : Taken) (b : Begun) → slice_get queues b.queue ≡ Some q → Takes m f.limit q (Ok (Some t)) → b.taken ≡ t →
+    ((asked : Asked) → HoldsChain m asked t.chain → b.request.items ≡ request_of asked) → IsBegun (state f m queues s) b
+is_begun f m queues q s t b there takes is request = record {
+  queue = q;
+  asked = takes.0;
+  there = there;
+  offered = takes.1 ∙ ap (λ (x : Taken). Offers x.head takes.0) (sym is);
+  taken = subst (IsTaken m q takes.0) (sym is) takes.2;
+  request = request takes.0 takes.2.chain;
+}
 
 returns : {F : Type 0} (f : Fixed) (m m' : Memory) (queues : List Queue) (i : ℕ) (q q' : Queue) (s s' : ℕ × F) (room : List ℕ) (expected x : Exchange) (options : ℕ) (notice : Bool) → x ≡ expected →
     s'.0 ≡ options → m' ≡ returned m q expected.head room x.reply → notice ≡ wants_notice m' q → q' ≡ advanced q →
     Returns (state f m queues s) i q room expected options x notice (state f m' (set queues i q') s')
-returns f m m' queues i q q' s s' room expected x options notice same agreed stored told moved = record {
+returns f m m' queues i q q' s s' room expected x options notice same agreed stored told after = record {
   exchange = same;
   state =
       ap (λ (y : Memory). state f y (set queues i q') s') (stored ∙ ap (λ (y : Exchange). returned m q expected.head room y.reply) same)
-      ∙ ap (λ (l : List Queue). state f (returned m q expected.head room expected.reply) l s') (ap (set queues i) moved ∙ sym (changed_at-set queues i (advanced q)))
+      ∙ ap (λ (l : List Queue). state f (returned m q expected.head room expected.reply) l s') (ap (set queues i) after ∙ sym (changed_at-set queues i (advanced q)))
       ∙ ap (λ (o : ℕ). state f (returned m q expected.head room expected.reply) (changed_at queues i (λ _. advanced q)) (o, s'.1)) agreed;
   told = told;
 }
 
-takes : {F : Type 0} (may : May F) (f : Fixed) (m m' : Memory) (queues : List Queue) (i : ℕ) (q q' : Queue) (s s' : ℕ × F) (x : code.Exchange) (notice : Bool) (asked : Asked) (calls : Calls) →
-    ServesChain may f.page_size s x.head asked calls (exchange_of x) s' →
-    m' ≡ returned m q x.head (room_of asked) x.reply.items → notice ≡ wants_notice m' q → q' ≡ advanced q →
-    Exchanges may (state f m queues s) i q (Offers x.head asked) calls (exchange_of x) notice (state f m' (set queues i q') s')
-takes may f m m' queues i q q' s s' x notice (CannotAsk why) calls served stored told moved = record {
+goes_back : {F : Type 0} (may : May F) (f : Fixed) (m m' : Memory) (queues : List Queue) (i : ℕ) (q q' : Queue) (s s' : ℕ × F) (head : ℕ) (x : Exchange) (notice : Bool) (asked : Asked) (calls : Calls) →
+    ServesChain may f.page_size s head asked calls x s' → m' ≡ returned m q head (room_of asked) x.reply → notice ≡ wants_notice m' q → q' ≡ advanced q →
+    Exchanges may (state f m queues s) i q (Offers head asked) calls x notice (state f m' (set queues i q') s')
+goes_back may f m m' queues i q q' s s' head x notice (CannotAsk why) calls served stored told after = record {
   no_call = served.1;
   files = ap (λ p. p.1) served.2;
-  returns = returns f m m' queues i q q' s s' [] _ (exchange_of x) s.0 notice served.0 (ap (λ p. p.0) served.2) stored told moved;
+  returns = returns f m m' queues i q q' s s' [] _ x s.0 notice served.0 (ap (λ p. p.0) served.2) stored told after;
 }
-takes may f m m' queues i q q' s s' x notice (Asks request room) calls served stored told moved = record {
+goes_back may f m m' queues i q q' s s' head x notice (Asks request room) calls served stored told after = record {
   given = served.0;
   serves = served.1;
-  returns = returns f m m' queues i q q' s s' room _ (exchange_of x) _ notice served.2 served.3 stored told moved;
+  returns = returns f m m' queues i q q' s s' room _ x _ notice served.2 served.3 stored told after;
 }
 
-acts : {F : Type 0} (may : May F) (f : Fixed) (m m' : Memory) (queues : List Queue) (i : ℕ) (q q' : Queue) (s s' : ℕ × F) (r : Result (Option (code.Exchange × Bool)) QueueError) →
-    slice_get queues i ≡ Some q → StepsOne may f.page_size m f.limit q s r q' m' s' →
-    (calls : Calls) × Acts may (state f m queues s) i q (offer m f.limit q) calls (outcome_of (device_result r)) (state f m' (set queues i q') s')
-acts may f m m' queues i q q' s s' (Ok None) there t = ([], (t.0, record { same = unchanged f m m' queues i q q' s s' there t.1 t.2 t.3; no_call = refl }))
-acts may f m m' queues i q q' s s' (Ok (Some x)) there t = (
-  t.1,
-  subst (λ (o : Offer). Exchanges may (state f m queues s) i q o t.1 (exchange_of x.0) x.1 (state f m' (set queues i q') s')) (sym t.2)
-      (takes may f m m' queues i q q' s s' x.0 x.1 t.0 t.1 t.3 t.4 t.5 t.6),
-)
-acts may f m m' queues i q q' s s' (Err stop.OutOfMemory) there t = ([], (t.0, record { same = unchanged f m m' queues i q q' s s' there t.1 t.2 t.3; no_call = refl }))
-acts may f m m' queues i q q' s s' (Err stop.Stopped) there t = ([], (t.0, refl, moved f m m' queues i (after_refusal q stop.Stopped) q' s s' t.1 t.2 t.3))
-acts may f m m' queues i q q' s s' (Err stop.AvailIndexUnreachable) there t = ([], (t.0, refl, moved f m m' queues i (after_refusal q stop.AvailIndexUnreachable) q' s s' t.1 t.2 t.3))
-acts may f m m' queues i q q' s s' (Err stop.AvailTooFar) there t = ([], (t.0, refl, moved f m m' queues i (after_refusal q stop.AvailTooFar) q' s s' t.1 t.2 t.3))
-acts may f m m' queues i q q' s s' (Err stop.RingEntryUnreachable) there t = ([], (t.0, refl, moved f m m' queues i (after_refusal q stop.RingEntryUnreachable) q' s s' t.1 t.2 t.3))
-acts may f m m' queues i q q' s s' (Err stop.HeadOutOfTable) there t = ([], (t.0, refl, moved f m m' queues i (after_refusal q stop.HeadOutOfTable) q' s s' t.1 t.2 t.3))
-acts may f m m' queues i q q' s s' (Err stop.UsedUnreachable) there t = ([], (t.0, refl, moved f m m' queues i (after_refusal q stop.UsedUnreachable) q' s s' t.1 t.2 t.3))
-acts may f m m' queues i q q' s s' (Err stop.AvailFlagsUnreachable) there t = ([], (t.0, refl, moved f m m' queues i (after_refusal q stop.AvailFlagsUnreachable) q' s s' t.1 t.2 t.3))
-acts may f m m' queues i q q' s s' (Err stop.DescriptorUnreachable) there t = ([], (t.0, refl, moved f m m' queues i (after_refusal q stop.DescriptorUnreachable) q' s s' t.1 t.2 t.3))
-
--- a step of the queue at i, as a step of the device
-pub steps : {F : Type 0} (may : May F) (f : Fixed) (m m' : Memory) (queues : List Queue) (i : ℕ) (q q' : Queue) (s s' : ℕ × F) (r : Result (Option (code.Exchange × Bool)) QueueError) →
-    slice_get queues i ≡ Some q → StepsOne may f.page_size m f.limit q s r q' m' s' →
-    (calls : Calls) × Step may (state f m queues s) i calls (outcome_of (device_result r)) (state f m' (set queues i q') s')
-steps may f m m' queues i q q' s s' r there t =
-    let done = acts may f m m' queues i q q' s s' r there t in (
-      done.0,
-      subst (λ (o : Option Queue). StepOf may (state f m queues s) i o done.0 (outcome_of (device_result r)) (state f m' (set queues i q') s')) (sym there) done.1,
+-- a chain that was begun is served and given back
+pub finishes : {F : Type 0} (may : May F) (f : Fixed) (m m' : Memory) (queues : List Queue) (q q' : Queue) (s s' : ℕ × F) (x : Exchange) (notice : Bool) (b : Begun) (is : IsBegun (state f m queues s) b) →
+    slice_get queues b.queue ≡ Some q → (calls : Calls) × ServesChain may f.page_size s b.taken.head is.asked calls x s' →
+    (IsTaken m q is.asked b.taken → m' ≡ returned m q b.taken.head (room_of is.asked) x.reply) → (IsTaken m q is.asked b.taken → notice ≡ wants_notice m' q) → q' ≡ advanced q →
+    (calls : Calls) × Step may (state f m queues s) b.queue calls (Exchanged x notice) (state f m' (set queues b.queue q') s')
+finishes may f m m' queues q q' s s' x notice b is there served stored told after =
+    let both : Some is.queue ≡ Some q = sym is.there ∙ there in
+    let same : is.queue ≡ q = cc in
+    let taken : IsTaken m q is.asked b.taken = subst (λ (p : Queue). IsTaken m p is.asked b.taken) same is.taken in
+    let offered : offer m f.limit q ≡ Offers b.taken.head is.asked = sym (ap (offer m f.limit) same) ∙ is.offered in (
+      served.0,
+      on_queue may (state f m queues s) b.queue q served.0 (Exchanged x notice) _ there
+          (subst (λ (o : Offer). Exchanges may (state f m queues s) b.queue q o served.0 x notice (state f m' (set queues b.queue q') s')) (sym offered)
+          (goes_back may f m m' queues b.queue q q' s s' b.taken.head x notice is.asked served.0 served.1 (stored taken) (told taken) after)),
     )
+
+-- a step by two parts is a whole one
+pub whole_step : {F : Type 0} (may : May F) (before between after after' : State F) (i k : ℕ) (o : Outcome) → k ≡ i → between ≡ before → after' ≡ after →
+    (calls : Calls) × Step may between k calls o after → (calls : Calls) × Step may before i calls o after'
+whole_step {F} may before between after after' i k o at same is done = (
+  done.0,
+  subst (λ (s : State F). Step may s i done.0 o after') same (subst (λ (s : State F). Step may between i done.0 o s) (sym is) (subst (λ (n : ℕ). Step may between n done.0 o after) at done.1)),
+)

@@ -3,6 +3,7 @@ use Rattle.std.proofs.Common.{◌≡◌, ℕ, zero, suc, Bool, true, false, List
 use Rattle.std.specs.Prelude.{if◌then◌else◌, slice_get, not, ◌==◌}
 use Rattle.std.specs.List.{AllByRecursion, list_any, list_all}
 use Rattle.vm_iotlb.specs.declared.permissions.Permissions.TheVariants.{Read, Write}
+use Rattle.vm_iotlb.specs.Table.{Table, nothing_mapped}
 use Rattle.vm_memory_core.specs.Host.{Block}
 use Rattle.vm_memory.specs.Layout.{Region, fits, overlap, is_region}
 use Rattle.vm_memory.specs.Memory.{reach, physical}
@@ -21,7 +22,7 @@ use Rattle.fs_device.specs.declared.exchange.Fault.{Fault}
 use Rattle.fs_device.specs.declared.refusal.Refusal.TheVariants as why
 use Rattle.fs_device.specs.Step.{State, Exchange, Calls, Idle, Refused, Exchanged, Exchanges, StepOf, served_fault, served_exchange}
 use Rattle.fs_device.specs.Run as run
-use Rattle.fs_device.specs.Run.{Turn, Told, Command, Answer, Effect, KickEnds, KickRun, Kicks, Kicked, HasEffect, Does, Performs, RunTold, effect, insert, insert_block, is_known, some_overlap, reset}
+use Rattle.fs_device.specs.Run.{Turn, Told, Command, Answer, Effect, KickEnds, KickRun, Kicks, Kicked, Affects, ChangesTable, HasEffect, Does, Performs, RunTold, effect, insert, insert_block, is_known, some_overlap, reset}
 use Rattle.fs_device.specs.Telling.{calls_of, calls_told, IsMeant, IsServedBy, IsServed}
 
 -- what exchanges tell: their calls lead from one state of the file system to another
@@ -134,11 +135,36 @@ effect_stays s (run.RemoveRegion base size) = whichever s (list_any (is_region b
 effect_stays s (run.SetLayout layout) =
     whichever s (not (list_all (is_known s.memory.host) layout)) _ _ refl
     (whichever s (not (list_all fits layout)) _ _ refl (whichever s (some_overlap layout) _ _ refl refl))
+effect_stays s (run.Map iova target n perm) = refl
+effect_stays s (run.Unmap iova n) = refl
+effect_stays s run.UnmapAll = refl
+effect_stays s (run.SetIommu on) = refl
 effect_stays s (run.Kick queue most) = refl
 effect_stays s (run.ResetQueue queue l) = reset_stays s queue l _
 
+change_stays : {F : Type 0} (s : State F) (fit : Bool) (table : Table) (answer : Answer) (after : State F) → ChangesTable s fit table answer after → after.files ≡ s.files
+change_stays s true table answer after t = ap (λ s. s.files) t.1.3
+change_stays {F} s false table answer after t = ap (λ (p : Effect F). p.1.files) t
+
+by_effect : {F : Type 0} (s : State F) (command : Command) (answer : Answer) (after : State F) → (answer, after) ≡ effect s command → after.files ≡ s.files
+by_effect {F} s command answer after t = ap (λ (p : Effect F). p.1.files) t ∙ effect_stays s command
+
+affect_stays : {F : Type 0} (s : State F) (command : Command) (answer : Answer) (after : State F) → Affects s command answer after → after.files ≡ s.files
+affect_stays s (run.GuestRead a n) answer after t = by_effect s (run.GuestRead a n) answer after t
+affect_stays s (run.GuestWrite a bs) answer after t = by_effect s (run.GuestWrite a bs) answer after t
+affect_stays s (run.NewBlock n) answer after t = by_effect s (run.NewBlock n) answer after t
+affect_stays s (run.InsertRegion base block) answer after t = by_effect s (run.InsertRegion base block) answer after t
+affect_stays s (run.RemoveRegion base size) answer after t = by_effect s (run.RemoveRegion base size) answer after t
+affect_stays s (run.SetLayout layout) answer after t = by_effect s (run.SetLayout layout) answer after t
+affect_stays s (run.Map iova target n perm) answer after t = change_stays s _ _ answer after t
+affect_stays s (run.Unmap iova n) answer after t = change_stays s _ _ answer after t
+affect_stays s run.UnmapAll answer after t = change_stays s true nothing_mapped answer after t
+affect_stays s (run.SetIommu on) answer after t = by_effect s (run.SetIommu on) answer after t
+affect_stays s (run.Kick queue most) answer after t = by_effect s (run.Kick queue most) answer after t
+affect_stays s (run.ResetQueue queue l) answer after t = by_effect s (run.ResetQueue queue l) answer after t
+
 effect_tells : {F : Type 0} (may : May F) (s : State F) (command : Command) (told : Told) (answer : Answer) (after : State F) → HasEffect s command told answer after → Tells may s.files told after.files
-effect_tells {F} may s command [] answer after t = (ap (λ (p : Effect F). p.1.files) t ∙ effect_stays s command, tt)
+effect_tells may s command [] answer after t = (affect_stays s command answer after t, tt)
 effect_tells may s command (x ∷ told) answer after t = absurd t
 
 -- ---- runs
@@ -155,6 +181,10 @@ does_tell may s (run.NewBlock n) told answer after t = effect_tells may s (run.N
 does_tell may s (run.InsertRegion base block) told answer after t = effect_tells may s (run.InsertRegion base block) told answer after t
 does_tell may s (run.RemoveRegion base size) told answer after t = effect_tells may s (run.RemoveRegion base size) told answer after t
 does_tell may s (run.SetLayout layout) told answer after t = effect_tells may s (run.SetLayout layout) told answer after t
+does_tell may s (run.Map iova target n perm) told answer after t = effect_tells may s (run.Map iova target n perm) told answer after t
+does_tell may s (run.Unmap iova n) told answer after t = effect_tells may s (run.Unmap iova n) told answer after t
+does_tell may s run.UnmapAll told answer after t = effect_tells may s run.UnmapAll told answer after t
+does_tell may s (run.SetIommu on) told answer after t = effect_tells may s (run.SetIommu on) told answer after t
 does_tell may s (run.ResetQueue queue l) told answer after t = effect_tells may s (run.ResetQueue queue l) told answer after t
 
 performs_tell : {F : Type 0} (may : May F) (s : State F) (command : Command) (told : Told) (answer : Answer) (after : State F) → Performs may s command told answer after → Tells may s.files told after.files
@@ -166,6 +196,7 @@ performs_tell may s command told (run.IsRefused why.UnknownBlock) after t = does
 performs_tell may s command told (run.IsRefused why.BadRegion) after t = does_tell may s command told _ after t
 performs_tell may s command told (run.IsRefused why.Overlap) after t = does_tell may s command told _ after t
 performs_tell may s command told (run.IsRefused why.NoRegion) after t = does_tell may s command told _ after t
+performs_tell may s command told (run.IsRefused why.BadMapping) after t = does_tell may s command told _ after t
 performs_tell may s command told (run.IsRefused why.NoSuchQueue) after t = does_tell may s command told _ after t
 performs_tell may s command told run.Done after t = does_tell may s command told _ after t
 performs_tell may s command told (run.Bytes bytes) after t = does_tell may s command told _ after t

@@ -9,7 +9,7 @@ use Rattle.fs_device.specs.declared.command.Command as asked
 use Rattle.fs_device.specs.declared.command.Answer as told
 use Rattle.fs_device.specs.declared.queues.QueueRun.{QueueRun}
 use Rattle.fs_device.specs.Step.{State, Exchange}
-use Rattle.fs_device.specs.Run.{Command, GuestRead, GuestWrite, NewBlock, InsertRegion, RemoveRegion, SetLayout, Kick, ResetQueue, Kicked, Answer, Done, Bytes, NewBlockIs, Served, IsRefused, Told, shown, KickRun, kick_takes_memory}
+use Rattle.fs_device.specs.Run.{Command, GuestRead, GuestWrite, NewBlock, InsertRegion, RemoveRegion, SetLayout, Map, Unmap, UnmapAll, SetIommu, Kick, ResetQueue, Kicked, Answer, Done, Bytes, NewBlockIs, Served, IsRefused, Told, shown, KickRun, kick_takes_memory}
 use Rattle.fs_device.specs.DeviceView.{exchange_of}
 
 -- an exchange with its notice
@@ -28,6 +28,10 @@ command_of (asked.TheVariants.NewBlock n) = NewBlock n
 command_of (asked.TheVariants.InsertRegion base block) = InsertRegion base block
 command_of (asked.TheVariants.RemoveRegion base size) = RemoveRegion base size
 command_of (asked.TheVariants.SetLayout layout) = SetLayout layout
+command_of (asked.TheVariants.Map iova target n perm) = Map iova target n perm
+command_of (asked.TheVariants.Unmap iova n) = Unmap iova n
+command_of asked.TheVariants.UnmapAll = UnmapAll
+command_of (asked.TheVariants.SetIommu on) = SetIommu on
 command_of (asked.TheVariants.Kick queue most) = Kick queue most
 command_of (asked.TheVariants.ResetQueue queue l) = ResetQueue queue l
 

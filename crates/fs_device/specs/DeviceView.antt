@@ -1,12 +1,7 @@
 -- A device and what it answers, as the plain machine has them.
-use Rattle.std.specs.Prelude.{◌≡◌, ℕ, Bool, IsTrue, List, [], length, Option, Some, None, Result, Ok, Err}
+use Rattle.std.specs.Prelude.{◌≡◌, ℕ, Bool, List, [], length, Option, Some, None, Result, Ok, Err}
 use Rattle.vm_memory.specs.Memory.{Memory}
-use Rattle.fs_queue.specs.declared.fault.QueueError.{QueueError}
-use Rattle.fs_queue.specs.declared.fault.QueueError.TheVariants as stop
-use Rattle.fs_queue.specs.Queue.{Queue}
-use Rattle.fs_queue.specs.Taking.{Asked, Asks, CannotAsk, Refuses, Offers, offer, may_lack_memory, room_of, after_refusal}
-use Rattle.fs_queue.specs.Taking as taking
-use Rattle.fs_queue.specs.Returning.{returned, wants_notice, advanced}
+use Rattle.fs_queue.specs.Taking.{Asked, Asks, CannotAsk}
 use Rattle.virtiofsd_fuse.specs.declared.server.Server.{Server}
 use Rattle.virtiofsd_fuse.specs.Serving.{May, Served}
 use Rattle.fs_device.specs.declared.error.DeviceError.{DeviceError}
@@ -39,20 +34,16 @@ page_view p = record { block = p.block; offset = p.offset; bytes = p.bytes.items
 abbrev pub server_state : {F : Type 0} → Server F → ℕ × F
 server_state server = (server.options.0, server.fs)
 
+-- the request's bytes; a faulty chain has none
+abbrev pub request_of : Asked → List ℕ
+request_of (Asks request room) = request
+request_of (CannotAsk why) = []
+
 -- serving a chain that was offered so: a faulty one makes no call
 abbrev pub ServesChain : {F : Type 0} → May F → (page_size : ℕ) → ℕ × F → (head : ℕ) → Asked → Calls → Exchange → ℕ × F → Type 0
 ServesChain may page_size old head (CannotAsk why) calls x new = (x ≡ faulty head why) × (calls ≡ []) × (new ≡ old)
 ServesChain may page_size old head (Asks request room) calls x new =
     (given : Served) × ServesRequest may page_size old.0 request (length room) old.1 calls given new.1 × (x ≡ served_exchange head request given) × (new.0 ≡ given.options)
-
--- what a step does to one queue, and to the options and the file system of the server
-abbrev pub StepsOne : {F : Type 0} → May F → (page_size : ℕ) → Memory → ℕ → Queue → ℕ × F → Result (Option (code.Exchange × Bool)) QueueError → Queue → Memory → ℕ × F → Type 0
-StepsOne may page m limit q s (Ok None) q' m' s' = (offer m limit q ≡ taking.Idle) × (q' ≡ q) × (m' ≡ m) × (s' ≡ s)
-StepsOne may page m limit q s (Ok (Some x)) q' m' s' =
-    (asked : Asked) × (calls : Calls) × (offer m limit q ≡ Offers x.0.head asked) × ServesChain may page s x.0.head asked calls (exchange_of x.0) s'
-    × (m' ≡ returned m q x.0.head (room_of asked) x.0.reply.items) × (x.1 ≡ wants_notice m' q) × (q' ≡ advanced q)
-StepsOne may page m limit q s (Err stop.OutOfMemory) q' m' s' = IsTrue (may_lack_memory m (offer m limit q)) × (q' ≡ q) × (m' ≡ m) × (s' ≡ s)
-StepsOne may page m limit q s (Err e) q' m' s' = (offer m limit q ≡ Refuses e) × (q' ≡ after_refusal q e) × (m' ≡ m) × (s' ≡ s)
 
 -- from these options and this file system a request is answered by this reply or fault, after these calls
 abbrev pub AnswersRequest : {F : Type 0} → May F → (page_size : ℕ) → ℕ × F → (request : List ℕ) → (room : ℕ) → Calls → (reply : List ℕ) → Option Fault → ℕ × F → Type 0

@@ -1,8 +1,15 @@
 -- Worked runs that compute: kicks, guest accesses, layouts that change, two regions, and harvests. Pages are compared by where they begin, or are small.
-use Rattle.std.specs.Prelude.{◌≡◌, ℕ, ◌+◌, ◌-◌, ◌^◌, true, List, [], ◌∷◌, ◌++◌, map, refl, Some, None}
+use Rattle.std.specs.Prelude.{◌≡◌, ℕ, ◌+◌, ◌-◌, ◌^◌, true, false, List, [], ◌∷◌, ◌++◌, map, refl, Some, None, if◌then◌else◌}
+use Rattle.std.proofs.Common.{arith}
+use Rattle.std.proofs.lemmas.Bool.Decides.{nat_tests}
+use Rattle.vm_iotlb.specs.declared.permissions.Permissions.{Permissions}
+use Rattle.vm_iotlb.specs.declared.permissions.Permissions.TheVariants.{ReadWrite, Write}
+use Rattle.vm_iotlb.specs.declared.range.IotlbRange.{IotlbRange}
+use Rattle.vm_iotlb.specs.Table.{is_within, unmapped}
+use Rattle.vm_iotlb.specs.Ranges.{mapping_in, table_kept}
 use Rattle.vm_memory_core.specs.Host.{new_block, cleared}
 use Rattle.vm_memory.specs.Layout.{Region, place}
-use Rattle.vm_memory.specs.Memory.{Memory, memory_of, addresses, stored_all}
+use Rattle.vm_memory.specs.Memory.{Memory, memory_behind, memory_of, addresses, reach, stored_all}
 use Rattle.fs_queue.specs.declared.fault.QueueError.TheVariants as queue_error
 use Rattle.fs_queue.specs.declared.layout.QueueLayout.{QueueLayout}
 use Rattle.fs_queue.specs.Queue.{stopped}
@@ -21,7 +28,7 @@ use Rattle.fs_device.specs.declared.refusal.Refusal.TheVariants as why
 use Rattle.fs_device.specs.Step.{State, Exchanged, Step, after_return}
 use Rattle.fs_device.specs.Harvested.{block_pages, host_pages, harvested}
 use Rattle.fs_device.specs.Run as run
-use Rattle.fs_device.specs.Run.{Command, Answer, Turn, Run, RunTold, KickRun, effect, fresh_queue}
+use Rattle.fs_device.specs.Run.{Command, Answer, Turn, Affects, Run, RunTold, KickRun, effect, fresh_queue, with_ranges}
 use Rattle.fs_device.specs.Books.{sent, written, accepted, nodes_listed}
 use Rattle.fs_device.specs.Examples.{blank, queue, put, descriptor_bytes, request, with_one_request, Nothing, may, device, unknown_reply, unknown_exchange, after_reply, one_step}
 
@@ -310,6 +317,92 @@ kick_without_memory : Run may nowhere
     (record nowhere { queues = stopped queue ∷ [] })
 unfolding RunTold KickRun effect offer place addresses stored_all
 kick_without_memory = ([] ∷ [], (record nowhere { queues = stopped queue ∷ [] }, ((refl, refl, refl), refl), refl))
+
+-- ---- a table that changes
+
+-- 32 bytes at 0 behind an IOMMU that is off, a table in which nothing is mapped, and a set of two I/O pages
+abbrev behind : State Nothing
+behind = device (memory_behind (record { blocks = new_block 32 ∷ []; tables = [] ∷ []; io_marks = (false ∷ false ∷ []) ∷ [] }) (region 0 32 ∷ []) 0 0 false) queue
+
+-- addresses up to an end, mapped from a target on
+abbrev mapped_to : ℕ → ℕ → ℕ → Permissions → IotlbRange
+mapped_to start end target perm = record { start = start; end = end; target = target; perm = perm }
+
+-- sixteen addresses, to the sixteen bytes from 8 on
+abbrev sixteen : List IotlbRange
+sixteen = mapped_to 0x1000 0x1010 8 ReadWrite ∷ []
+
+-- such a command, where the table is these ranges, is done and leaves those
+abbrev leaves : List IotlbRange → Command → List IotlbRange → Type 0
+leaves before command ranges = Affects (with_ranges behind before) command run.Done (with_ranges behind ranges)
+
+-- and is refused
+abbrev maps_badly : Command → Type 0
+maps_badly command = Affects behind command (run.IsRefused why.BadMapping) behind
+
+maps_sixteen : leaves [] (run.Map 0x1000 8 16 ReadWrite) sixteen
+unfolding table_kept
+maps_sixteen = (refl, (sixteen, ((omega arith, omega arith, omega arith), tt, tt), (λ a. refl), refl))
+
+-- among n addresses from one on, of which there are none
+within_none : (start a : ℕ) → is_within start 0 a ≡ false
+within_none start a = grind (arith, nat_tests)
+
+-- at the very end of the addresses
+maps_none : leaves [] (run.Map (2 ^ 64 - 1) 0 0 ReadWrite) []
+unfolding table_kept
+maps_none = (refl, ([], tt, (λ a. rw (within_none (2 ^ 64 - 1) a) refl), refl))
+
+maps_nothing_past_it : maps_badly (run.Map (2 ^ 64 - 1) 0 1 ReadWrite)
+maps_nothing_past_it = refl
+
+maps_to_nothing_past_it : maps_badly (run.Map 0 (2 ^ 64 - 1) 1 ReadWrite)
+maps_to_nothing_past_it = refl
+
+unmaps_sixteen : leaves sixteen (run.Unmap 0x1000 16) []
+unfolding table_kept
+unmaps_sixteen =
+    let none : (a : ℕ) → None ≡ unmapped 0x1000 16 (table_kept sixteen) a =
+    λ a. elim (is_within 0x1000 16 a) as (λ b. None ≡ (if b then None else if b then Some (mapping_in (mapped_to 0x1000 0x1010 8 ReadWrite) a) else None)) [ true ↦ refl | false ↦ refl ] in
+    (refl, ([], tt, none, refl))
+
+unmaps_nothing_past_the_end : maps_badly (run.Unmap (2 ^ 64 - 1) 1)
+unmaps_nothing_past_the_end = refl
+
+unmaps_all : leaves sixteen run.UnmapAll []
+unfolding table_kept
+unmaps_all = (refl, ([], tt, (λ a. refl), refl))
+
+-- the table is used from then on; the guest's own accesses go by physical addresses all the same
+abbrev turned_on : List IotlbRange → State Nothing
+turned_on ranges = comes_to (with_ranges behind ranges) (run.SetIommu true ∷ [])
+
+turns_on : effect behind (run.SetIommu true) ≡ (run.Done, record behind { memory = record behind.memory { translates = true } })
+unfolding effect
+turns_on = refl
+
+turns_off : comes_to behind (run.SetIommu true ∷ run.SetIommu false ∷ []) ≡ behind
+unfolding effect
+turns_off = refl
+
+reaches_what_is_mapped : reach (turned_on sixteen).memory Write 0x1000 16 ≡ true
+unfolding effect table_kept place addresses
+reaches_what_is_mapped = refl
+
+reaches_no_more : reach (turned_on sixteen).memory Write 0x1000 17 ≡ false
+unfolding effect table_kept place addresses
+reaches_no_more = refl
+
+guest_goes_by_physical_addresses : answers (turned_on sixteen) guest_writes (run.GuestRead 4 4) ≡ run.Bytes (0 ∷ 7 ∷ 8 ∷ 0 ∷ [])
+unfolding effect place addresses stored_all
+guest_goes_by_physical_addresses = refl
+
+-- a device that finds its queue nowhere in the table stops it
+kick_without_mapping : Run may (turned_on [])
+    ((run.Kick 0 1, run.Served (record { exchanges = []; refused = Some (device_error.Queue queue_error.AvailIndexUnreachable) })) ∷ [])
+    (record (turned_on []) { queues = stopped queue ∷ [] })
+unfolding RunTold KickRun effect offer table_kept place addresses
+kick_without_mapping = ([] ∷ [], (record (turned_on []) { queues = stopped queue ∷ [] }, ((refl, refl, refl), refl), refl))
 
 -- ---- two regions, of 0x1000 and 0xf000 bytes, and a request that lies in both
 

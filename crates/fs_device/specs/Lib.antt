@@ -2,9 +2,11 @@ pub mod DeviceParts
 pub mod Step
 pub mod Harvested
 pub mod DeviceView
+pub mod Begun
 pub mod Refusing
 pub mod Run
 pub mod CommandView
+pub mod OneProof
 pub mod MachineView
 pub mod Books
 pub mod Telling

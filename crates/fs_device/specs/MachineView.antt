@@ -1,9 +1,9 @@
 -- A machine, as the plain one.
 use Rattle.fs_device.specs.declared.machine.Machine.{Machine}
 use Rattle.fs_device.specs.Step.{State}
-use Rattle.vm_memory.specs.Memory.{memory_of}
+use Rattle.vm_memory.specs.Memory.{memory_behind}
 use Rattle.fs_device.specs.DeviceView.{state_of}
 
--- its memory and its device's parts
-abbrev pub machine_of : {F : Type 0} → Machine F → State F
-machine_of m = state_of (memory_of m.host m.mem) m.device
+-- its memory behind the IOMMU, and its device's parts
+abbrev pub machine_of : {F I : Type 0} {g : _} → Machine F I g → State F
+machine_of {g = g} m = state_of (memory_behind m.host m.mem.backend (g.number m.mem.iommu) m.mem.io_bitmap m.mem.use_iommu) m.device

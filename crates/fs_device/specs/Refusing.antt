@@ -19,5 +19,6 @@ command_refusal_number why.UnknownBlock = 3
 command_refusal_number why.BadRegion = 4
 command_refusal_number why.Overlap = 5
 command_refusal_number why.NoRegion = 6
+command_refusal_number why.BadMapping = 7
 command_refusal_number why.NoSuchQueue = 8
 command_refusal_number why.OutOfMemory = 9

@@ -1,10 +1,15 @@
 -- Whole runs of the plain machine.
-use Rattle.std.specs.Prelude.{◌≡◌, ◌==◌, ◌&&◌, ◌||◌, not, nat_lt, ℕ, zero, suc, Bool, false, true, IsTrue, List, [], ◌∷◌, length, map, zip, Option, Some, None, if◌then◌else◌, slice_get}
+use Rattle.std.specs.Prelude.{◌≡◌, ◌==◌, ◌&&◌, ◌||◌, not, nat_lt, ℕ, zero, suc, ◌+◌, ◌^◌, Bool, false, true, IsTrue, List, [], ◌∷◌, length, map, zip, Option, Some, None, if◌then◌else◌, slice_get}
 use Rattle.std.specs.List.{list_all, list_any}
+use Rattle.vm_iotlb.specs.declared.permissions.Permissions.{Permissions}
 use Rattle.vm_iotlb.specs.declared.permissions.Permissions.TheVariants.{Read, Write}
+use Rattle.vm_iotlb.specs.declared.range.IotlbRange.{IotlbRange}
+use Rattle.vm_iotlb.specs.Table.{Table, AreSame, mapped, nothing_mapped, unmapped}
+use Rattle.vm_iotlb.specs.Ranges.{AreRanges, table_kept}
 use Rattle.vm_memory_core.specs.Host.{Host, Block, new_block, with_block}
+use Rattle.vm_memory_core.specs.Lending.{with_table_at}
 use Rattle.vm_memory.specs.Layout.{Region, fits, overlap, with_region, is_region, without_region}
-use Rattle.vm_memory.specs.Memory.{Memory, addresses, reach, bytes, stored_all, physical}
+use Rattle.vm_memory.specs.Memory.{Memory, addresses, reach, bytes, stored_all, physical, table_of}
 use Rattle.fs_queue.specs.declared.layout.QueueLayout.{QueueLayout}
 use Rattle.fs_queue.specs.Queue.{Queue, fresh}
 use Rattle.virtiofsd_fuse.specs.Serving.{May}
@@ -22,6 +27,10 @@ pub data Command : Type 0 where
   InsertRegion : (base block : ℕ) → Command
   RemoveRegion : (base size : ℕ) → Command
   SetLayout : List Region → Command
+  Map : (iova target len : ℕ) → Permissions → Command
+  Unmap : (iova len : ℕ) → Command
+  UnmapAll : Command
+  SetIommu : Bool → Command
   Kick : (queue most : ℕ) → Command
   ResetQueue : (queue : ℕ) → QueueLayout → Command
 
@@ -125,7 +134,11 @@ abbrev pub reset : {F : Type 0} → State F → ℕ → QueueLayout → Option Q
 reset s i l None = no why.NoSuchQueue s
 reset s i l (Some q) = (Done, with_queue s i (fresh_queue l))
 
--- what a command that isn't a kick answers, and the state that it leaves
+-- the table that the device's addresses go by is used, or not
+abbrev pub set_iommu : {F : Type 0} → State F → Bool → Effect F
+set_iommu s on = (Done, record s { memory = record s.memory { translates = on } })
+
+-- what a command answers, and the state that it leaves; of a kick, and of what changes the table, this says nothing
 unfoldable pub effect : {F : Type 0} → State F → Command → Effect F
 effect s (GuestRead a n) = guest_read s a n
 effect s (GuestWrite a bs) = guest_write s a bs
@@ -133,8 +146,43 @@ effect s (NewBlock n) = make_block s n
 effect s (InsertRegion base block) = insert_block s base block (slice_get s.memory.host.blocks block)
 effect s (RemoveRegion base size) = remove_region s base size
 effect s (SetLayout layout) = set_layout s layout
-effect s (Kick queue most) = (Done, s)
+effect s (SetIommu on) = set_iommu s on
 effect s (ResetQueue queue l) = reset s queue l (slice_get s.queues queue)
+effect s _ = (Done, s)
+
+-- ---- what changes the table
+
+-- whether the end of n addresses from a on fits 64 bits
+abbrev pub ends_fit : ℕ → ℕ → Bool
+ends_fit a n = nat_lt (a + n) (2 ^ 64)
+
+-- the state whose table is told by these ranges
+abbrev pub with_ranges : {F : Type 0} → State F → List IotlbRange → State F
+with_ranges s ranges = with_host s (with_table_at s.memory.host s.memory.table ranges)
+
+-- the table becomes this one, and all else stays. A host tells a table by its ranges: those that ascend and are as long as can be, of which each table has one list
+abbrev pub TableBecomes : {F : Type 0} → State F → Table → State F → Type 0
+TableBecomes s table after = (ranges : List IotlbRange) × AreRanges ranges × AreSame (table_kept ranges) table × (after ≡ with_ranges s ranges)
+
+-- the table becomes this one where each end fits 64 bits
+abbrev pub ChangesTable : {F : Type 0} → State F → (fit : Bool) → Table → Answer → State F → Type 0
+ChangesTable s true table answer after = (answer ≡ Done) × TableBecomes s table after
+ChangesTable s false table answer after = (answer, after) ≡ no why.BadMapping s
+
+-- n addresses from iova on are mapped to those from target on
+abbrev pub Maps : {F : Type 0} → State F → (iova target n : ℕ) → Permissions → Answer → State F → Type 0
+Maps s iova target n perm answer after = ChangesTable s (ends_fit iova n && ends_fit target n) (mapped iova target n perm (table_of s.memory)) answer after
+
+-- n addresses from iova on are taken out
+abbrev pub Unmaps : {F : Type 0} → State F → (iova n : ℕ) → Answer → State F → Type 0
+Unmaps s iova n answer after = ChangesTable s (ends_fit iova n) (unmapped iova n (table_of s.memory)) answer after
+
+-- what a command that isn't a kick may answer, and the state that it leaves then
+abbrev pub Affects : {F : Type 0} → State F → Command → Answer → State F → Type 0
+Affects s (Map iova target n perm) answer after = Maps s iova target n perm answer after
+Affects s (Unmap iova n) answer after = Unmaps s iova n answer after
+Affects s UnmapAll answer after = ChangesTable s true nothing_mapped answer after
+Affects s command answer after = (answer, after) ≡ effect s command
 
 -- ---- kicks
 
@@ -180,13 +228,17 @@ kick_takes_memory s queue most = nat_lt queue (length s.queues) && nat_lt 0 most
 -- the commands that take memory, any of which may be refused for want of it
 abbrev pub takes_memory : {F : Type 0} → State F → Command → Bool
 takes_memory s (GuestWrite a bs) = false
+takes_memory s (Map iova target n perm) = nat_lt 0 n
+takes_memory s (Unmap iova n) = nat_lt 0 n
+takes_memory s UnmapAll = false
+takes_memory s (SetIommu on) = false
 takes_memory s (Kick queue most) = kick_takes_memory s queue most
 takes_memory s (ResetQueue queue l) = false
 takes_memory s _ = true
 
 -- a command has its effect, and nothing is behind its answer
 abbrev pub HasEffect : {F : Type 0} → State F → Command → Told → Answer → State F → Type 0
-HasEffect s command [] answer after = (answer, after) ≡ effect s command
+HasEffect s command [] answer after = Affects s command answer after
 HasEffect s command (t ∷ ts) answer after = ⊥
 
 -- a command that has enough memory

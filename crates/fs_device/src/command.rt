@@ -4,26 +4,63 @@ use crate::queues::QueueRun;
 use crate::refusal::Refusal;
 use fs_queue::QueueLayout;
 use vm_memory::GuestMemoryMmap;
+use vm_memory_core::Permissions;
 
 /// What a guest or its monitor does.
 #[derive(Drop)]
 pub enum Command {
     /// The guest reads `len` bytes from a physical address on, all of them or none.
-    GuestRead { addr: u64, len: usize },
+    GuestRead {
+        addr: u64,
+        len: usize,
+    },
     /// The guest writes bytes from a physical address on, all of them or none.
-    GuestWrite { addr: u64, bytes: Vec<u8> },
+    GuestWrite {
+        addr: u64,
+        bytes: Vec<u8>,
+    },
     /// The host gets a block of `len` zeros more, none of whose pages is marked.
-    NewBlock { len: usize },
+    NewBlock {
+        len: usize,
+    },
     /// All of a block lies in guest memory from an address on, once more where it lies there already.
-    InsertRegion { base: u64, block: usize },
+    InsertRegion {
+        base: u64,
+        block: usize,
+    },
     /// The region that begins at an address and has `size` of them goes; its block stays.
-    RemoveRegion { base: u64, size: u64 },
+    RemoveRegion {
+        base: u64,
+        size: u64,
+    },
     /// Other regions take the place of all that are there.
     SetLayout(GuestMemoryMmap),
+    /// The device's addresses from `iova` on, `len` of them, are mapped to those from a physical address on.
+    Map {
+        iova: u64,
+        target: u64,
+        len: usize,
+        perm: Permissions,
+    },
+    /// `len` of the device's addresses, from one on, are mapped no more.
+    Unmap {
+        iova: u64,
+        len: usize,
+    },
+    /// None of the device's addresses is mapped any more.
+    UnmapAll,
+    /// The IOMMU is turned on or off. While it is on, the device's addresses are those of its table.
+    SetIommu(bool),
     /// A queue's chains are served, at most so many.
-    Kick { queue: usize, most: u16 },
+    Kick {
+        queue: usize,
+        most: u16,
+    },
     /// A queue begins anew, with this layout.
-    ResetQueue { queue: usize, layout: QueueLayout },
+    ResetQueue {
+        queue: usize,
+        layout: QueueLayout,
+    },
 }
 
 /// What a command comes to.

@@ -1,17 +1,17 @@
 //! The device: its queues are served one chain a step.
 
 ghost use Rattle.std.specs.Prelude.{◌≡◌, ◌≤◌, ◌<◌, ◌^◌, List, length, set, slice_get, [], IfErr, IfOk, IfSome, None, OnErr, OnOk, option_map};
-ghost use Rattle.vm_memory_core.specs.Host.{shape};
-ghost use Rattle.fs_queue.specs.Queue.{Queue};
-ghost use Rattle.fs_queue.specs.Taking.{Asked};
-ghost use Rattle.fs_queue.specs.Windows.{IsTaken, TakenLiesIn, room_places};
+ghost use Rattle.vm_memory_core.specs.Host.{lengths, shape};
+ghost use Rattle.vm_memory.specs.Memory.{Memory};
+ghost use Rattle.fs_queue.specs.Windows.{TakenLiesIn};
 
+use crate::begun::Begun;
 use crate::error::DeviceError;
 use crate::exchange::Exchange;
 use crate::serve::serve;
 use fs_queue::{Queue, QueueError, QueueLayout};
 use fuse_fs::FileSystem;
-use std::alloc::Global;
+use std::alloc::{AllocError, Global};
 use std::marker::Model;
 use virtiofsd_fuse::Server;
 use vm_memory::GuestMemory;
@@ -36,33 +36,10 @@ impl<F> Model for Device<F> {
 }
 
 ghost use Rattle.fs_device.specs.Step.{Calls, Step};
-ghost use Rattle.fs_device.specs.DeviceView.{outcome_of, state_of, StepsOne, server_state};
+ghost use Rattle.fs_device.specs.Begun.{Begins, Finishes, IsBegun};
+ghost use Rattle.fs_device.specs.DeviceView.{outcome_of, state_of};
 ghost use Rattle.fs_device.specs.Run.{fresh_queue};
 ghost use Rattle.fs_device.specs.declared.error.DeviceError.TheVariants.{NoSuchQueue};
-
-// One step of one queue.
-fn step<F: FileSystem, M: GuestMemory, B: NewBitmap>(
-    alloc: Global,
-    server: &mut Server<F>,
-    host: &mut HostMemory<B>,
-    mem: &M,
-    limit: u32,
-    queue: &mut Queue,
-) -> Result<Option<(Exchange, bool)>, QueueError>
-    requires { M.IsHeld mem.now host.old }
-    ensures step { StepsOne F.may server.old.page_size (M.memory mem.now host.old) limit queue.old (server_state server.old) result queue.new (M.memory mem.now host.new) (server_state server.new) }
-    ensures shape { shape host.new ≡ shape host.old }
-    ensures page_size { server.new.page_size ≡ server.old.page_size }
-{
-    let Some(taken) = queue.take(alloc, host, mem, limit)? else {
-        return Ok(None);
-    };
-    let Ok(exchange) = serve(alloc, server, host, &taken) else {
-        return Err(QueueError::OutOfMemory);
-    };
-    let notify = queue.give_back(host, taken, &exchange.reply);
-    Ok(Some((exchange, notify)))
-}
 
 impl<F: FileSystem> Device<F> {
     /// A device.
@@ -96,6 +73,62 @@ impl<F: FileSystem> Device<F> {
         &self.server
     }
 
+    /// Takes the next chain of a queue and all the memory that its exchange wants of the device: its request is read, and there
+    /// is room for its reply. Nothing where none waits. A refusal is that of a step, and the file system isn't asked.
+    #[inline]
+    pub fn begin<M: GuestMemory, B: NewBitmap>(
+        &mut self,
+        alloc: Global,
+        host: &HostMemory<B>,
+        mem: &M,
+        queue: usize,
+    ) -> Result<Option<Begun>, DeviceError>
+        requires { M.IsHeld mem.now host.now }
+        ensures begins { Begins F.may (state_of (M.memory mem.now host.now) self.old) queue result (state_of (M.memory mem.now host.now) self.new) }
+        ensures lies { IfOk result (λ o. IfSome o (λ begun. TakenLiesIn (lengths host.now) begun.taken)) }
+        ensures there { IfOk result (λ o. IfSome o (λ begun. begun.queue < length self.new.queues)) }
+    {
+        if queue >= self.queues.len() {
+            return Err(DeviceError::NoSuchQueue);
+        }
+        let taken = match self.queues[queue].take(alloc, host, mem, self.limit) {
+            Ok(Some(taken)) => taken,
+            Ok(None) => return Ok(None),
+            Err(error) => return Err(DeviceError::Queue(error)),
+        };
+        match Begun::of(alloc, host, queue, taken) {
+            Ok(begun) => Ok(Some(begun)),
+            Err(_) => Err(DeviceError::Queue(QueueError::OutOfMemory)),
+        }
+    }
+
+    /// Has the server answer what was begun, and gives the chain back: what was exchanged, and whether the driver wants to be
+    /// told. Only memory that the server wants before it asks the file system can be lacking; then nothing changes, and the
+    /// chain may be begun again.
+    #[inline]
+    pub fn finish<B: NewBitmap>(
+        &mut self,
+        alloc: Global,
+        host: &mut HostMemory<B>,
+        begun: Begun,
+    ) -> Result<(Exchange, bool), AllocError>
+        requires lies { TakenLiesIn (lengths host.old) begun.taken }
+        requires there { begun.queue < length self.old.queues }
+        ensures finishes { (m : Memory) → m.host ≡ host.old → IsBegun (state_of m self.old) begun →
+            Finishes F.may (state_of m self.old) begun.queue result (state_of (record m { host = host.new }) self.new) }
+        ensures shape { shape host.new ≡ shape host.old }
+    {
+        let Begun {
+            queue,
+            taken,
+            request,
+            room,
+        } = begun;
+        let exchange = serve(alloc, &mut self.server, &taken, request, room)?;
+        let notify = self.queues[queue].give_back(host, taken, &exchange.reply);
+        Ok((exchange, notify))
+    }
+
     /// Serves the next chain of a queue: what was exchanged, and whether the driver wants to be told; nothing where none waits.
     pub fn process_one<M: GuestMemory, B: NewBitmap>(
         &mut self,
@@ -108,13 +141,12 @@ impl<F: FileSystem> Device<F> {
         ensures step { (calls : Calls) × Step F.may (state_of (M.memory mem.now host.old) self.old) queue calls (outcome_of result) (state_of (M.memory mem.now host.new) self.new) }
         ensures shape { shape host.new ≡ shape host.old }
     {
-        if queue >= self.queues.len() {
-            return Err(DeviceError::NoSuchQueue);
-        }
-        let queue = &mut self.queues[queue];
-        match step(alloc, &mut self.server, host, mem, self.limit, queue) {
-            Ok(exchanged) => Ok(exchanged),
-            Err(error) => Err(DeviceError::Queue(error)),
+        let Some(begun) = self.begin(alloc, host, mem, queue)? else {
+            return Ok(None);
+        };
+        match self.finish(alloc, host, begun) {
+            Ok(exchanged) => Ok(Some(exchanged)),
+            Err(_) => Err(DeviceError::Queue(QueueError::OutOfMemory)),
         }
     }
 

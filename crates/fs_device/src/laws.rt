@@ -1,14 +1,16 @@
 //! Laws of the definitions, each the contract of a function that does nothing.
 
 ghost use Rattle.fs_device.specs.Books.{Balances};
-ghost use Rattle.fs_device.specs.Laws.{CutsDoNotMatter};
+ghost use Rattle.fs_device.specs.Laws.{CutsDoNotMatter, OffersAreServedAlike};
 ghost use Rattle.fs_device.specs.Telling.{CallsAreTold};
 
 use fuse_fs::FileSystem;
 
-/// However a request and its room are cut into descriptors, the file system may be asked the same, and the reply is the same.
+/// However a request and its room are cut into descriptors, the file system may be asked the same, and the reply is the same:
+/// of any two lists of descriptors, and so of the chains that two queues offer, direct or by tables.
 pub fn law_cuts<F: FileSystem>()
-    ensures { CutsDoNotMatter F.may }
+    ensures cuts { CutsDoNotMatter F.may }
+    ensures offers { OffersAreServedAlike F.may }
 {}
 
 /// Over a run, for each node but 0: what the file system answered of it less what it was sent back is what replies told of it, with

@@ -11,10 +11,10 @@ use crate::refusal::Refusal;
 use fuse_fs::FileSystem;
 use std::alloc::Global;
 use std::sync::Arc;
-use vm_memory::{GuestMemoryMmap, GuestRegionCollectionError, GuestRegionMmap, MmapRegion};
+use vm_memory::{GuestMemoryMmap, GuestRegionCollectionError, GuestRegionMmap, Iommu, MmapRegion};
 use vm_memory_core::GuestAddress;
 
-impl<F: FileSystem> Machine<F> {
+impl<F: FileSystem, I: Iommu + Drop> Machine<F, I> {
     pub(crate) fn new_block(&mut self, len: usize) -> Answer
         ensures { Performs F.may (machine_of self.old) (NewBlock len) [] (answer_of result) (machine_of self.new) }
     {
@@ -39,9 +39,9 @@ impl<F: FileSystem> Machine<F> {
         let Ok(region) = Arc::new(alloc, region) else {
             return Answer::Refused(Refusal::OutOfMemory);
         };
-        match self.mem.insert_region(region) {
+        match self.mem.get_backend().insert_region(region) {
             Ok(layout) => {
-                self.mem = layout;
+                self.mem.set_backend(layout);
                 Answer::Done
             }
             Err(GuestRegionCollectionError::MemoryRegionOverlap) => Answer::Refused(
@@ -54,9 +54,13 @@ impl<F: FileSystem> Machine<F> {
     pub(crate) fn remove_region(&mut self, base: u64, size: u64) -> Answer
         ensures { Performs F.may (machine_of self.old) (RemoveRegion base size) [] (answer_of result) (machine_of self.new) }
     {
-        match self.mem.remove_region(GuestAddress(base), size) {
+        match self
+            .mem
+            .get_backend()
+            .remove_region(GuestAddress(base), size)
+        {
             Ok((layout, _)) => {
-                self.mem = layout;
+                self.mem.set_backend(layout);
                 Answer::Done
             }
             Err(GuestRegionCollectionError::NoMemoryRegion) => Answer::Refused(Refusal::NoRegion),
@@ -70,7 +74,7 @@ impl<F: FileSystem> Machine<F> {
         if !self.host.holds(&layout) {
             return Answer::Refused(Refusal::UnknownBlock);
         }
-        self.mem = layout;
+        self.mem.set_backend(layout);
         Answer::Done
     }
 }

@@ -1,6 +1,7 @@
 //! A virtio-fs device.
 #![tactic(auto)]
 
+mod begun;
 mod command;
 mod device;
 mod error;
@@ -9,11 +10,13 @@ mod harvested;
 pub mod laws;
 mod layouts;
 mod machine;
+mod mappings;
 mod queues;
 mod refusal;
 mod run;
 mod serve;
 
+pub use begun::Begun;
 pub use command::{Answer, Command};
 pub use device::Device;
 pub use error::DeviceError;

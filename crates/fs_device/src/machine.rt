@@ -1,28 +1,32 @@
 //! A guest's memory and the device that serves it, as one machine.
 
 ghost use Rattle.std.specs.Prelude.{◌≡◌};
-ghost use Rattle.vm_memory_core.specs.Host.{lengths};
-ghost use Rattle.vm_memory.specs.Layout.{AreHeld, HostHolds};
-ghost use Rattle.vm_memory.specs.OneProof.{AreHeld-prop};
+ghost use Rattle.vm_memory.specs.Translated.{HoldsBehind};
+ghost use Rattle.fs_device.specs.OneProof.{HoldsBehind-prop};
 
 use crate::device::Device;
 use fuse_fs::FileSystem;
-use vm_memory::GuestMemoryMmap;
+use vm_memory::{GuestMemoryMmap, Iommu, IommuMemory};
 use vm_memory_core::{HostMemory, PageBitmap};
 
-/// A guest's memory and its device. Each event is one command.
+/// A guest's memory, the IOMMU before it, and its device. Each event is one command.
 #[derive(Drop)]
-pub struct Machine<F> {
+pub struct Machine<F, I: Iommu + Drop> {
     pub host: HostMemory<PageBitmap>,
-    pub mem: GuestMemoryMmap,
+    pub mem: IommuMemory<GuestMemoryMmap, I>,
     pub device: Device<F>,
-    pub ghost held: { AreHeld (lengths host) mem } by { AreHeld-prop (lengths host) mem },
+    pub ghost held: { HoldsBehind host mem.backend (I.number mem.iommu) mem.io_bitmap } by { HoldsBehind-prop host mem.backend (I.number mem.iommu) mem.io_bitmap },
 }
 
-impl<F: FileSystem> Machine<F> {
-    /// A machine of a host, a layout over its blocks, and a device.
-    pub fn new(host: HostMemory<PageBitmap>, mem: GuestMemoryMmap, device: Device<F>) -> Machine<F>
-        requires { HostHolds host mem }
+impl<F: FileSystem, I: Iommu + Drop> Machine<F, I> {
+    /// A machine of a host, a layout over its blocks behind an IOMMU, and a device. The host has the IOMMU's table and its
+    /// set of I/O pages too: `HostMemory::holds` tests it.
+    pub fn new(
+        host: HostMemory<PageBitmap>,
+        mem: IommuMemory<GuestMemoryMmap, I>,
+        device: Device<F>,
+    ) -> Machine<F, I>
+        requires { HoldsBehind host mem.backend (I.number mem.iommu) mem.io_bitmap }
         ensures host { result.host ≡ host }
         ensures mem { result.mem ≡ mem }
         ensures device { result.device ≡ device }

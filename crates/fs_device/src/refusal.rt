@@ -19,6 +19,8 @@ pub enum Refusal {
     Overlap,
     #[error("there is no such region")]
     NoRegion,
+    #[error("the end of a mapping, or of its target, is past the greatest address")]
+    BadMapping,
     #[error("there is no such queue")]
     NoSuchQueue,
     #[error("out of memory")]
@@ -39,6 +41,7 @@ impl Refusal {
             Refusal::BadRegion => 4,
             Refusal::Overlap => 5,
             Refusal::NoRegion => 6,
+            Refusal::BadMapping => 7,
             Refusal::NoSuchQueue => 8,
             Refusal::OutOfMemory => 9,
         }

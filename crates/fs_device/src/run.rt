@@ -2,7 +2,7 @@
 
 ghost use Rattle.std.specs.Prelude.{◌≡◌, [], IfOk, OnErr, true, length, map, zip};
 ghost use Rattle.vm_iotlb.specs.declared.permissions.Permissions.TheVariants.{Read, Write};
-ghost use Rattle.vm_memory.specs.Memory.{memory_of, reach, bytes};
+ghost use Rattle.vm_memory.specs.Memory.{physical, reach, bytes};
 ghost use Rattle.fs_device.specs.Run.{Run, Performs, Told, GuestRead, GuestWrite, Kick, ResetQueue, guest_written};
 ghost use Rattle.fs_device.specs.CommandView.{answer_of, command_of};
 ghost use Rattle.fs_device.specs.MachineView.{machine_of};
@@ -15,35 +15,36 @@ use crate::refusal::Refusal;
 use fs_queue::QueueLayout;
 use fuse_fs::FileSystem;
 use std::alloc::{AllocError, Global};
+use vm_memory::Iommu;
 use vm_memory_core::{GuestAddress, Permissions};
 
-impl<F: FileSystem> Machine<F> {
+impl<F: FileSystem, I: Iommu + Drop> Machine<F, I> {
     // Whether the guest reaches that many bytes from an address on.
     fn reaches(&self, addr: u64, len: usize, access: Permissions) -> bool
-        ensures { result ≡ reach (memory_of self.now.host self.now.mem) access addr len }
+        ensures { result ≡ reach (physical (machine_of self.now).memory) access addr len }
     {
         match addr.checked_add(len as u64) {
-            Some(_) => self.mem.has_range(GuestAddress(addr), len),
+            Some(_) => self.mem.get_backend().has_range(GuestAddress(addr), len),
             None => false,
         }
     }
 
     // Reads bytes that the guest reaches.
     fn fill(&self, addr: u64, buffer: &mut [u8])
-        requires { reach (memory_of self.now.host self.now.mem) Read addr (length buffer.old) ≡ true }
-        ensures { buffer.new ≡ bytes (memory_of self.now.host self.now.mem) addr (length buffer.old) }
+        requires { reach (physical (machine_of self.now).memory) Read addr (length buffer.old) ≡ true }
+        ensures { buffer.new ≡ bytes (physical (machine_of self.now).memory) addr (length buffer.old) }
     {
-        let _ = self.mem.read_slice(&self.host, buffer, GuestAddress(addr));
+        let layout = self.mem.get_backend();
+        let _ = layout.read_slice(&self.host, buffer, GuestAddress(addr));
     }
 
     // Writes bytes that the guest reaches.
     fn store(&mut self, addr: u64, bytes: &[u8])
-        requires { reach (memory_of self.old.host self.old.mem) Write addr (length bytes.now) ≡ true }
+        requires { reach (physical (machine_of self.old).memory) Write addr (length bytes.now) ≡ true }
         ensures { machine_of self.new ≡ record (machine_of self.old) { memory = guest_written (machine_of self.old).memory addr bytes.now } }
     {
-        let _ = self
-            .mem
-            .write_slice(&mut self.host, bytes, GuestAddress(addr));
+        let layout = self.mem.get_backend();
+        let _ = layout.write_slice(&mut self.host, bytes, GuestAddress(addr));
     }
 
     fn guest_read(&self, alloc: Global, addr: u64, len: usize) -> Answer
@@ -105,6 +106,15 @@ impl<F: FileSystem> Machine<F> {
             Command::InsertRegion { base, block } => self.insert_region(alloc, base, block),
             Command::RemoveRegion { base, size } => self.remove_region(base, size),
             Command::SetLayout(layout) => self.set_layout(layout),
+            Command::Map {
+                iova,
+                target,
+                len,
+                perm,
+            } => self.map(iova, target, len, perm),
+            Command::Unmap { iova, len } => self.unmap(iova, len),
+            Command::UnmapAll => self.unmap_all(),
+            Command::SetIommu(on) => self.set_iommu(on),
             Command::Kick { queue, most } => self.kick(alloc, queue, most),
             Command::ResetQueue { queue, layout } => self.reset_queue(queue, layout),
         }

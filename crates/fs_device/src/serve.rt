@@ -1,18 +1,16 @@
 //! What is exchanged for a chain that was taken.
 
-ghost use Rattle.std.specs.Prelude.{◌≡◌, ◌≤◌, ◌<◌, ◌^◌, length, IfOk, IfSome, OnErr, IfNone};
-ghost use Rattle.vm_memory_core.specs.Host.{lengths};
+ghost use Rattle.std.specs.Prelude.{◌≡◌, ◌≤◌, ◌<◌, ◌^◌, [], length, IfOk, IfSome, OnErr, IfNone};
 ghost use Rattle.vm_memory.specs.Memory.{Memory};
 ghost use Rattle.fs_queue.specs.Queue.{Queue};
 ghost use Rattle.fs_queue.specs.Taking.{Asked};
-ghost use Rattle.fs_queue.specs.Windows.{IsTaken, TakenLiesIn, room_places};
+ghost use Rattle.fs_queue.specs.Windows.{IsTaken, room_places};
 
 use crate::exchange::{Exchange, Fault};
 use fs_queue::Taken;
 use fuse_fs::FileSystem;
 use std::alloc::{AllocError, Global};
 use virtiofsd_fuse::{Error, Reader, Server, Writer};
-use vm_memory_core::{HostMemory, NewBitmap};
 
 /// A reply, or why there is none.
 #[derive(Drop)]
@@ -23,7 +21,7 @@ pub(crate) struct Reply {
 
 ghost use Rattle.virtiofsd_fuse.specs.Serving.{is_memory};
 ghost use Rattle.fs_device.specs.Step.{Calls};
-ghost use Rattle.fs_device.specs.DeviceView.{exchange_of, ServesChain, AnswersRequest, server_state};
+ghost use Rattle.fs_device.specs.DeviceView.{exchange_of, request_of, ServesChain, AnswersRequest, server_state};
 
 // Whether memory was wanting.
 fn is_memory(error: Error) -> bool
@@ -32,22 +30,21 @@ fn is_memory(error: Error) -> bool
     matches!(error, Error::OutOfMemory)
 }
 
-// Has the server answer a request into a room of so many bytes; nothing where memory was wanting, and then nothing changed.
+// Has the server answer a request into a writer's room; nothing where memory was wanting, and then nothing changed.
 fn answer<F: FileSystem>(
     alloc: Global,
     server: &mut Server<F>,
     request: &[u8],
-    room: usize,
+    room: Writer,
 ) -> Option<Reply>
-    requires { room < 2 ^ 32 }
-    ensures some { IfSome result (λ r. (calls : Calls) × AnswersRequest F.may server.old.page_size (server_state server.old) request.now room calls r.bytes.items r.fault (server_state server.new)) }
-    ensures fits { IfSome result (λ r. length r.bytes.items ≤ room) }
+    requires unwritten { room.written ≡ [] }
+    requires short { room.free < 2 ^ 32 }
+    ensures some { IfSome result (λ r. (calls : Calls) × AnswersRequest F.may server.old.page_size (server_state server.old) request.now room.free calls r.bytes.items r.fault (server_state server.new)) }
+    ensures fits { IfSome result (λ r. length r.bytes.items ≤ room.free) }
     ensures none { IfNone result ((server.new.options.0 ≡ server.old.options.0) × (server.new.fs ≡ server.old.fs)) }
     ensures page_size { server.new.page_size ≡ server.old.page_size }
 {
-    let Ok(mut writer) = Writer::of_length(alloc, room) else {
-        return None;
-    };
+    let mut writer = room;
     let reader = Reader::of_slice(alloc, request);
     match server.handle_message(alloc, reader, &mut writer) {
         Ok(_) => Some(Reply {
@@ -66,16 +63,19 @@ fn answer<F: FileSystem>(
     }
 }
 
-/// Serves a chain that was taken. Nothing is written, and nothing is refused once the file system was asked.
-pub(crate) fn serve<F: FileSystem, B: NewBitmap>(
+/// Serves a chain that was taken, by its request's bytes and a writer with its room. Nothing is refused once the file system was
+/// asked.
+pub(crate) fn serve<F: FileSystem>(
     alloc: Global,
     server: &mut Server<F>,
-    host: &HostMemory<B>,
     taken: &Taken,
+    request: Vec<u8>,
+    room: Writer,
 ) -> Result<Exchange, AllocError>
-    requires lies { TakenLiesIn (lengths host.now) taken.now }
+    requires unwritten { room.written ≡ [] }
+    requires counted { room.free ≡ room_places taken.now.chain }
     requires short { room_places taken.now.chain < 2 ^ 32 }
-    ensures exchange { (m : Memory) (q : Queue) (asked : Asked) → m.host ≡ host.now → IsTaken m q asked taken.now →
+    ensures exchange { (m : Memory) (q : Queue) (asked : Asked) → IsTaken m q asked taken.now → request.items ≡ request_of asked →
         IfOk result (λ e. (calls : Calls) × ServesChain F.may server.old.page_size (server_state server.old) taken.now.head asked calls (exchange_of e) (server_state server.new)) }
     ensures fits { IfOk result (λ e. length e.reply.items ≤ room_places taken.now.chain) }
     ensures head { IfOk result (λ e. e.head ≡ taken.now.head) }
@@ -83,25 +83,21 @@ pub(crate) fn serve<F: FileSystem, B: NewBitmap>(
     ensures page_size { server.new.page_size ≡ server.old.page_size }
 {
     let head = taken.head();
-    let chain = match taken.chain() {
-        Ok(chain) => chain,
-        Err(fault) => {
-            return Ok(Exchange {
-                head,
-                request: Vec::new(alloc),
-                reply: Vec::new(alloc),
-                fault: Some(Fault::Chain(fault)),
-            });
-        }
-    };
-    let request = host.fetch_windows(alloc, &chain.readable, chain.request_len())?;
-    match answer(alloc, server, &request, chain.room_len()) {
-        Some(reply) => Ok(Exchange {
+    match taken.chain() {
+        Err(fault) => Ok(Exchange {
             head,
             request,
-            reply: reply.bytes,
-            fault: reply.fault,
+            reply: Vec::new(alloc),
+            fault: Some(Fault::Chain(fault)),
         }),
-        None => Err(AllocError),
+        Ok(_) => match answer(alloc, server, &request, room) {
+            Some(reply) => Ok(Exchange {
+                head,
+                request,
+                reply: reply.bytes,
+                fault: reply.fault,
+            }),
+            None => Err(AllocError),
+        },
     }
 }

@@ -1,3 +1,4 @@
 pub mod ContentsLemmas
 pub mod ReadLemmas
 pub mod TableLemmas
+pub mod MachineLemmas

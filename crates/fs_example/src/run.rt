@@ -10,12 +10,13 @@ use crate::table::ReadOnlyDirectory;
 use fs_device::laws::law_calls;
 use fs_device::{Answer, Command, Machine};
 use std::alloc::{AllocError, Global};
+use vm_memory::Iommu;
 
 /// Does commands one after another, as `Machine::run`. Whatever the guest does: where an exchange without a fault reads a
 /// file, its reply has the file's bytes, or is EIO.
-pub fn run_directory<'a>(
+pub fn run_directory<'a, I: Iommu + Drop>(
     alloc: Global,
-    machine: &mut Machine<ReadOnlyDirectory<'a>>,
+    machine: &mut Machine<ReadOnlyDirectory<'a>, I>,
     commands: Vec<Command>,
 ) -> Result<Vec<Answer>, AllocError>
     ensures run { IfOk result (λ answers. ReadingRun (machine_of machine.old) (zip (map command_of commands.items) (map answer_of answers.items)) (machine_of machine.new)) }

@@ -10,14 +10,19 @@ use Rattle.fs_queue.specs.declared.walk.DescriptorTable.{DescriptorTable}
 use Rattle.fs_queue.specs.declared.walk.Verdict.{Verdict}
 use Rattle.fs_queue.specs.declared.walk.Verdict.TheVariants.{Joins, Leads, Faulty, Stops}
 use Rattle.fs_queue.specs.Queue.{Queue}
-use Rattle.fs_queue.specs.Chain.{Visit, descriptor_at, has_next, verdict, verdict_at, indirect_verdict, ordinary_verdict, is_indirect, ends_in_64_bits, next_visit, onward, path, first_visit, walk, tables_left, steps_left}
+use Rattle.fs_queue.specs.Chain.{Visit, descriptor_at, has_next, verdict, verdict_at, indirect_verdict, ordinary_verdict, is_indirect, ends_in_64_bits, next_visit, onward, path, first_visit, walk}
+use Rattle.fs_queue.proofs.WalkLemmas.{tables_left}
 
-either : (P : Verdict → Type 0) (b : Bool) (x y : Verdict) → (b ≡ true → P x) → (b ≡ false → P y) → P (cond b x y)
+-- how many steps a walk may have from one on
+abbrev pub steps_left : Visit → ℕ
+steps_left v = v.left + tables_left v.table.indirect
+
+pub either : (P : Verdict → Type 0) (b : Bool) (x y : Verdict) → (b ≡ true → P x) → (b ≡ false → P y) → P (cond b x y)
 either P true x y p q = p refl
 either P false x y p q = q refl
 
 -- a chain with room for no more takes no more, and no table leads to another from within one
-Allows : Visit → Verdict → Type 0
+pub Allows : Visit → Verdict → Type 0
 Allows v (Joins d) = eqb v.left 0 ≡ false
 Allows v (Leads t) = (v.table.indirect ≡ false) × (t.indirect ≡ true)
 Allows v (Faulty f) = Unit {0}
@@ -59,10 +64,10 @@ allowed_at m v a =
     (λ _. either (Allows v) v.table.indirect _ _ (λ _. faulty v _) (λ _. stops v))
     (λ _. either (Allows v) (is_indirect (descriptor_at m a)) _ _ (λ _. allowed_indirect v (descriptor_at m a)) (λ _. allowed_ordinary v (descriptor_at m a)))
 
-allowed : (m : Memory) (v : Visit) → Allows v (verdict m v)
+pub allowed : (m : Memory) (v : Visit) → Allows v (verdict m v)
 allowed m v = past_fault v (nat_le v.table.entries v.index) _ _ (λ _. allowed_at m v (v.table.address + 16 * v.index))
 
-abbrev Falls : ℕ → Option Visit → Type 0
+abbrev pub Falls : ℕ → Option Visit → Type 0
 Falls n None = Unit {0}
 Falls n (Some w) = steps_left w < n
 
@@ -70,7 +75,7 @@ if_more : (b : Bool) (n : ℕ) (w : Visit) → steps_left w < n → Falls n (con
 if_more true n w h = h
 if_more false n w h = tt
 
-falls : (v : Visit) (w : Verdict) → Allows v w → Falls (steps_left v) (next_visit v w)
+pub falls : (v : Visit) (w : Verdict) → Allows v w → Falls (steps_left v) (next_visit v w)
 unfolding Allows
 falls v (Joins d) h =
     let some : (v.left ≡ 0 → ⊥) = eqb-false v.left 0 h in

@@ -3,5 +3,7 @@ pub mod WalkLemmas
 pub mod TakeLemmas
 pub mod TableLemmas
 pub mod OfferLemmas
+pub mod OfferedLemmas
 pub mod ReturnLemmas
 pub mod BoundLemmas
+pub mod PathLemmas

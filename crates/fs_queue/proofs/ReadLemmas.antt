@@ -1,19 +1,17 @@
 -- reads of ranges, by the addresses that were reached
-use Rattle.std.proofs.Common.{◌≡◌, ℕ, Bool, true, false, ◌+◌, ◌^◌, ◌<◌, nat_lt, eqb, List, [], ◌∷◌, ◌++◌, length, map, take, drop, refl, ap, sym, ◌∙◌, append-nil, arith, Ok, Err, None}
+use Rattle.std.proofs.Common.{◌≡◌, ℕ, Bool, true, false, ◌+◌, ◌^◌, ◌<◌, nat_lt, List, [], ◌∷◌, ◌++◌, length, map, take, drop, refl, ap, sym, ◌∙◌, arith, Ok, Err, None}
 use Rattle.std.specs.Prelude.{is_some, IsTrue, IfOk, OnErr, Result, if◌then◌else◌}
 use Rattle.std.specs.declared.alloc.AllocError.{AllocError}
 use Rattle.std.specs.Int.{w16, w32, w64, from_le_bytes, to_le_bytes}
 use Rattle.std.proofs.lemmas.Bool.Decides.{nat_tests}
 use Rattle.std.proofs.lemmas.Nat.{from_le_bytes-to_le_bytes_2, from_le_bytes-to_le_bytes_4, from_le_bytes-to_le_bytes_8}
-use Rattle.std.proofs.lemmas.List.{take_all, drop_all, take_at, drop_at, map-append, length-map}
+use Rattle.std.proofs.lemmas.List.{take_at, drop_at, map-append, length-map}
 use Rattle.vm_values.specs.Fields.{AllFit, spelled}
 use Rattle.vm_values.specs.Fields as fields
-use Rattle.vm_memory_core.specs.Host.{Host}
 use Rattle.vm_iotlb.specs.declared.permissions.Permissions.TheVariants.{Read}
-use Rattle.vm_memory.specs.Layout.{Region, place}
-use Rattle.vm_memory.specs.Memory.{Memory, memory_of, addresses, circular, located, location, reached, reach, byte, bytes, number}
+use Rattle.vm_memory.specs.Memory.{Memory, addresses, circular, located, location, reach, byte, bytes, number}
 use Rattle.vm_memory.specs.RangeAnswers.{Checks, Reads}
-use Rattle.vm_memory.proofs.Places.{circular-is, length-circular, length-addresses, list_all-reached, addresses-append}
+use Rattle.vm_memory.proofs.Places.{circular-is, length-addresses, addresses-append}
 use Rattle.vm_memory.proofs.RangeLemmas.{reach-from}
 use Rattle.fs_queue.specs.declared.descriptor.Descriptor.{Descriptor}
 use Rattle.fs_queue.specs.Records.{descriptor}
@@ -22,21 +20,6 @@ use Rattle.fs_queue.specs.Look.{IsUnmapped}
 
 below : (n : ℕ) → n < 2 ^ 64 → nat_lt n (2 ^ 64) ≡ true
 below n h = grind (arith, nat_tests)
-
--- a range is reached where each of its addresses is
-pub reach-is : (h : Host) (l : List Region) (a n : ℕ) → a + n < 2 ^ 64 → reach (memory_of h l) Read a n ≡ eqb (reached (place l) (circular a n)) n
-reach-is h l a n fits =
-    rw (below (a + n) fits) (list_all-reached (addresses a n) (place l)
-    ∙ ap (eqb (reached (place l) (addresses a n))) (length-addresses n a)
-    ∙ ap (λ (xs : List ℕ). eqb (reached (place l) xs) n) (sym (circular-is n a fits)))
-
--- a buffer that was read to its end
-pub read_all : (m : Memory) (a n k : ℕ) (old new : List ℕ) → a + n < 2 ^ 64 → length old ≡ n → k ≡ n →
-    new ≡ map (byte m) (take k (circular a n)) ++ drop k old → new ≡ bytes m a n
-read_all m a n k old new fits size all is =
-    let front : take k (circular a n) ≡ addresses a n = take_all k (circular a n) (omega (arith, length-circular n a)) ∙ circular-is n a fits in
-    let back : drop k old ≡ [] = drop_all k old (omega arith) in
-    is ∙ rw (front, back) (append-nil (map (byte m) (addresses a n)))
 
 -- what a memory answers for a range that ends below 2^64
 pub checked : (m : Memory) (a n : ℕ) (r : Result Bool AllocError) → a + n < 2 ^ 64 → Checks m Read a n r → IfOk r (λ found. found ≡ reach m Read a n)

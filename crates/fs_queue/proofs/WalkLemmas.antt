@@ -7,8 +7,13 @@ use Rattle.fs_queue.specs.declared.fault.ChainFault.{ChainFault}
 use Rattle.fs_queue.specs.declared.walk.DescriptorTable.{DescriptorTable}
 use Rattle.fs_queue.specs.declared.walk.Verdict.{Verdict}
 use Rattle.fs_queue.specs.declared.walk.Verdict.TheVariants.{Joins, Leads, Faulty, Stops}
-use Rattle.fs_queue.specs.Chain.{Visit, has_next, verdict, next_visit, onward, path, tables_left, with_front, after_verdict, Found, IsChain, HasFault, StopsQueue, found}
+use Rattle.fs_queue.specs.Chain.{Visit, has_next, verdict, next_visit, onward, path, with_front, after_verdict, Found, IsChain, HasFault, StopsQueue, found}
 use Rattle.fs_queue.specs.Walking.{in_table}
+
+-- how many steps a walk may still have for other than ordinary descriptors: the one that ends it, and one that names a table
+abbrev pub tables_left : Bool → ℕ
+tables_left true = 1
+tables_left false = 2
 
 -- descriptors that stand before those of a chain
 abbrev pub prepend : List Descriptor → Found → Found

@@ -95,15 +95,6 @@ first_visit q head = record { table = own_table q; index = head; left = q.size }
 abbrev pub walk : Memory → Queue → ℕ → List Visit
 walk m q head = path m (q.size + 2) (first_visit q head)
 
--- how many steps a walk may still have for other than ordinary descriptors: the one that ends it, and one that names a table
-abbrev pub tables_left : Bool → ℕ
-tables_left true = 1
-tables_left false = 2
-
--- how many steps a walk may have from one on
-abbrev pub steps_left : Visit → ℕ
-steps_left v = v.left + tables_left v.table.indirect
-
 -- what a walk finds
 pub data Found : Type 0 where
   IsChain : List Descriptor → Found

@@ -8,5 +8,6 @@ pub mod Look
 pub mod Taking
 pub mod Returning
 pub mod Windows
+pub mod Paths
 pub mod Laws
 pub mod Examples

@@ -1,5 +1,5 @@
 -- What requests ask of the file system, by their header and what they say (linux/fuse.h).
-use Rattle.std.specs.Prelude.{ℕ, Bool, true, false, ◌||◌, List, Option, Some, None, if◌then◌else◌, bit_and}
+use Rattle.std.specs.Prelude.{ℕ, Bool, true, false, not, ◌||◌, nat_lt, List, length, Option, Some, None, is_none, if◌then◌else◌, bit_and}
 use Rattle.vm_values.specs.Bits.{has_bit}
 use Rattle.fuse_in.specs.declared.session.InHeader.{InHeader}
 use Rattle.fuse_in.specs.declared.nodes.AccessIn.{AccessIn}
@@ -192,6 +192,19 @@ is_silent Poll = true
 is_silent NotifyReply = true
 is_silent Destroy = true
 is_silent _ = false
+
+-- whether a context comes that isn't empty
+abbrev pub has_security : Extra → Bool
+has_security x = not (is_none x.security)
+
+-- the calls that are handed memory of their own: pairs, or a context that isn't empty
+abbrev pub owns_memory : FileCall → Bool
+owns_memory (BatchForget c counts) = nat_lt 0 (length counts)
+owns_memory (Symlink c l n name x) = has_security x
+owns_memory (Mknod c n name m r u x) = has_security x
+owns_memory (Mkdir c n name m u x) = has_security x
+owns_memory (Create c n name m k f u x) = has_security x
+owns_memory _ = false
 
 -- DESTROY ends what was agreed
 abbrev pub options_after : ℕ → FileCall → ℕ

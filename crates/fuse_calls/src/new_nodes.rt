@@ -1,6 +1,6 @@
 //! Requests that make a node.
 
-ghost use Rattle.std.specs.Prelude.{IsTrue};
+ghost use Rattle.std.specs.Prelude.{IsTrue, refl};
 ghost use Rattle.fuse_fs.specs.Answers.{extra_of, entry_answer};
 ghost use Rattle.fuse_fs.specs.Calls.{suits};
 ghost use Rattle.fuse_calls.specs.Requests.{symlink_call, mknod_call, mkdir_call, create_call};
@@ -21,6 +21,8 @@ impl<F: FileSystem> NewNameRequest<F> for Mknod {
     type Answer = Entry<F::Inode>;
 
     ghost call = { mknod_call };
+
+    ghost owns = { λ h r x. refl };
 
     fn ask(
         fs: &mut F,
@@ -51,6 +53,8 @@ impl<F: FileSystem> NewNameRequest<F> for Mkdir {
 
     ghost call = { mkdir_call };
 
+    ghost owns = { λ h r x. refl };
+
     fn ask(
         fs: &mut F,
         head: &InHeader,
@@ -78,6 +82,8 @@ impl<F: FileSystem> NewNameRequest<F> for Create {
     type Answer = (Entry<F::Inode>, Option<F::Handle>, OpenOptions);
 
     ghost call = { create_call };
+
+    ghost owns = { λ h r x. refl };
 
     fn ask(
         fs: &mut F,

@@ -4,7 +4,7 @@ ghost use Rattle.std.specs.Prelude.{◌≡◌, ℕ, List, IsTrue};
 ghost use Rattle.fuse_in.specs.declared.session.InHeader.{InHeader};
 ghost use Rattle.fuse_fs.specs.Answers.{extra_of};
 ghost use Rattle.fuse_fs.specs.Calls.{FileCall, Extra, suits};
-ghost use Rattle.fuse_calls.specs.Requests.{is_silent, options_after};
+ghost use Rattle.fuse_calls.specs.Requests.{has_security, is_silent, options_after, owns_memory};
 
 use fuse_fs::{Answer, Extensions, FileSystem};
 use fuse_in::{InHeader, InRecord};
@@ -110,6 +110,9 @@ pub trait NewNameRequest<F: FileSystem> {
 
     // The call that it asks.
     ghost call: { InHeader → Self.Record → List ℕ × Extra → FileCall };
+
+    // It is handed memory of its own only for a context.
+    ghost owns: { (h : InHeader) (r : Self.Record) (x : List ℕ × Extra) → owns_memory (call h r x) ≡ has_security x.1 };
 
     /// Asks the file system.
     fn ask(

@@ -2,5 +2,6 @@ pub mod Answers
 pub mod Calls
 pub mod Lengths
 pub mod Replies
+pub mod Serializing
 pub mod Times
 pub mod Transfers

@@ -1,10 +1,14 @@
 -- Pairs of BATCH_FORGET, one after another.
-use Rattle.std.proofs.Common.{◌≡◌, ℕ, suc, List, [], ◌∷◌, ◌++◌, Ok, Err, refl, sym, ap, ◌∙◌, append_assoc, append-nil}
+use Rattle.std.proofs.Common.{◌≡◌, ℕ, zero, suc, ◌*◌, ◌<◌, ◌≤◌, true, List, [], ◌∷◌, ◌++◌, length, drop, take, Ok, Err, refl, sym, ap, ◌∙◌, arith, append_assoc, append-nil, ⊎_elim}
+use Rattle.std.proofs.lemmas.Bool.{cases_lt, lt-ltb, le-ltb}
+use Rattle.std.proofs.lemmas.List.{length-drop}
+use Rattle.fuse_in.specs.Shapes.{made}
+use Rattle.fuse_segments.specs.declared.error.Error.TheVariants.{DecodeMessage}
 use Rattle.fuse_wire.specs.declared.others.ForgetOne.{ForgetOne}
 use Rattle.fuse_wire.specs.Records.{forget_one}
 use Rattle.fuse_segments.specs.declared.error.Error.{Error}
 use Rattle.fuse_requests.specs.Reading.{Read, Faults, and_then, many, reading_of}
-use Rattle.fuse_requests.specs.Fronts.{forget_pair}
+use Rattle.fuse_requests.specs.Fronts.{forget_pair, has_pairs}
 
 -- a list that was read, behind another
 abbrev pub behind : {A : Type 0} → List A → Read (List A) → Read (List A)
@@ -35,3 +39,45 @@ pub many_short : (left n : ℕ) (whole : Read (List (ℕ × ℕ))) (done : List 
     → whole ≡ behind done (many left forget_pair bytes) → forget_pair bytes ≡ Err (Faults e) → Err (Faults e) ≡ whole
 unfolding many
 many_short left n whole done bytes e k w h = sym (w ∙ rw (k, h) refl)
+
+-- a pair by its bytes
+abbrev first_pair : List ℕ → ℕ × ℕ
+first_pair bytes = let r = made forget_one.parts forget_one.make (take 16 bytes) in (r.nodeid, r.nlookup)
+
+pair_there : (bytes : List ℕ) → 16 ≤ length bytes → forget_pair bytes ≡ Ok (first_pair bytes, drop 16 bytes)
+unfolding reading_of
+pair_there bytes h = rw (le-ltb (length bytes) 16 h) refl
+
+pair_cut : (bytes : List ℕ) → length bytes < 16 → forget_pair bytes ≡ Err (Faults DecodeMessage)
+unfolding reading_of
+pair_cut bytes h = rw (lt-ltb (length bytes) 16 h) refl
+
+-- too few bytes for all of them
+pub many_few : (n : ℕ) (bytes : List ℕ) → length bytes < n * 16 → many n forget_pair bytes ≡ Err (Faults DecodeMessage)
+unfolding many
+many_few zero bytes h = absurd (omega (arith, h))
+many_few (suc n) bytes h =
+    ⊎_elim
+    (λ (l : length bytes < 16). rw (pair_cut bytes l) refl)
+    (λ (l : 16 ≤ length bytes).
+    let few : length (drop 16 bytes) < n * 16 = rw (length-drop 16 bytes) (omega (arith, h, l)) in
+    rw (pair_there bytes l, many_few n (drop 16 bytes) few) refl)
+    (cases_lt (length bytes) 16)
+
+-- enough for all of them
+abbrev Pairs : ℕ → List ℕ → Type 0
+Pairs n bytes = (pairs : List (ℕ × ℕ)) × (more : List ℕ) × (many n forget_pair bytes ≡ Ok (pairs, more)) × (length pairs ≡ n)
+
+many_there : (n : ℕ) (bytes : List ℕ) → n * 16 ≤ length bytes → Pairs n bytes
+unfolding many
+many_there zero bytes h = ([], bytes, refl, refl)
+many_there (suc n) bytes h =
+    let one : 16 ≤ length bytes = omega (arith, h) in
+    let others = many_there n (drop 16 bytes) (rw (length-drop 16 bytes) (omega (arith, h))) in
+    (first_pair bytes ∷ others.0, others.1, rw (pair_there bytes one, others.2) refl, ap suc others.3)
+
+pub pairs_there : (n : ℕ) (bytes : List ℕ) → n * 16 ≤ length bytes → 0 < n → has_pairs (many n forget_pair bytes) ≡ true
+pairs_there n bytes h l =
+    let all = many_there n bytes h in
+    let some : 0 < length all.0 = rw all.3 l in
+    rw all.2 (lt-ltb 0 (length all.0) some)

@@ -1,5 +1,5 @@
 pub mod ExtraLemmas
 pub mod ForgetLemmas
 pub mod NameLemmas
-pub mod OneSegment
 pub mod RecordLemmas
+pub mod Split

@@ -341,7 +341,7 @@ fn owned_label(alloc: Global, label: Label<'_>) -> Result<SecContext, Error>
 /// What has come as a file system gets it: a label in memory of its own.
 pub fn owned_extensions(alloc: Global, received: Received<'_>) -> Result<Extensions, Error>
     ensures ok { IfOk result (λ ext. extra_of ext ≡ parts_of (sent_of received.entry)) }
-    ensures err { IfErr result (λ e. e ≡ Error.OutOfMemory) }
+    ensures err { IfErr result (λ e. (e ≡ Error.OutOfMemory) × (is_none (parts_of (sent_of received.entry)).security ≡ false)) }
 {
     let sup_gid = match received.sup_gid {
         Some(group) => Some(GuestGid::from(group)),

@@ -4,7 +4,7 @@ ghost use Rattle.std.specs.Prelude.{◌≡◌, Ok, Err, IfOk, IfErr, false};
 ghost use Rattle.fuse_fs.specs.Answers.{pair_numbers};
 ghost use Rattle.fuse_segments.specs.Errors.{is_memory};
 ghost use Rattle.fuse_requests.specs.Reading.{Faults, many};
-ghost use Rattle.fuse_requests.specs.Fronts.{forget_pair};
+ghost use Rattle.fuse_requests.specs.Fronts.{forget_pair, has_pairs};
 
 use crate::records::read_record;
 use fuse_fs::FileNumber;
@@ -12,16 +12,23 @@ use fuse_segments::{Error, Reader};
 use fuse_wire::ForgetOne;
 use std::alloc::Global;
 
-/// The next pairs of a node and a count. The memory for all of them is had first.
+/// How many bytes `struct fuse_forget_one` has.
+const FORGET_ONE_LEN: usize = 16;
+
+/// The next pairs of a node and a count. The memory for all of them is had first, where they are there.
 pub fn read_pairs<I: FileNumber>(
     alloc: Global,
     r: &mut Reader<'_>,
-    count: usize,
+    count: u32,
 ) -> Result<Vec<(I, u64)>, Error>
     ensures ok { IfOk result (λ pairs. Ok (pair_numbers I.number pairs.items, r.new.left) ≡ many count forget_pair r.old.left) }
     ensures err { IfErr result (λ e. is_memory e ≡ false → Err (Faults e) ≡ many count forget_pair r.old.left) }
+    ensures memory { has_pairs (many count forget_pair r.old.left) ≡ false → IfErr result (λ e. is_memory e ≡ false) }
 {
-    let Ok(mut pairs) = Vec::with_capacity(alloc, count) else {
+    if r.available_bytes() < count as usize * FORGET_ONE_LEN {
+        return Err(Error::DecodeMessage);
+    }
+    let Ok(mut pairs) = Vec::with_capacity(alloc, count as usize) else {
         return Err(Error::OutOfMemory);
     };
     for _ in 0..count {

@@ -1,12 +1,11 @@
 //! Names in requests.
 
-ghost use Rattle.std.specs.Prelude.{◌≡◌, ◌<◌, ◌≤◌, position, ◌==◌, length, ◌++◌, Ok, Err, Some, None, IfOk, IfErr, IfSome, IfNone, false};
+ghost use Rattle.std.specs.Prelude.{◌≡◌, ◌-◌, ◌<◌, ◌≤◌, position, ◌==◌, length, ◌++◌, Ok, Err, Some, None, IfOk, IfErr, IfSome, IfNone, false};
 ghost use Rattle.std.specs.Cow.{cow_slice_items};
-ghost use Rattle.fuse_fs.specs.Lengths.{first};
+ghost use Rattle.fuse_fs.specs.Lengths.{first, past};
 ghost use Rattle.fuse_requests.specs.Reading.{Faults, value_of, at_zero, last_name, two_names, name_and_value, front_name};
-ghost use Rattle.fuse_requests.specs.Fronts.{counted, with_bytes};
+ghost use Rattle.fuse_requests.specs.Fronts.{counted, is_split, counted_split, with_bytes};
 ghost use Rattle.fuse_segments.specs.Errors.{is_memory};
-ghost use Rattle.fuse_segments.specs.Views.{is_cut};
 
 use crate::records::read_record;
 use fuse_in::InRecord;
@@ -60,12 +59,14 @@ pub fn read_counted<'a>(
     requires { fixed ≤ 256 }
     ensures bytes { IfOk result (λ bytes. Ok (cow_slice_items bytes) ≡ value_of (counted len fixed r.old.left)) }
     ensures fault { IfErr result (λ e. is_memory e ≡ false → Err (Faults e) ≡ value_of (counted len fixed r.old.left)) }
-    ensures whole { is_cut r.old ≡ false → IfErr result (λ e. is_memory e ≡ false) }
+    ensures in_place { is_split (len - 40 - fixed) r.old.segments ≡ false → IfErr result (λ e. is_memory e ≡ false) }
+    ensures segments { past 0 r.old.segments ≡ r.old.segments }
 {
+    let left = r.available_bytes();
     let Some(count) = len.checked_sub(40 + fixed) else {
         return Err(Error::InvalidHeaderLength);
     };
-    if r.available_bytes() < count as usize {
+    if left < count as usize {
         return Err(Error::DecodeMessage);
     }
     read_bytes(alloc, r, count as usize)
@@ -86,7 +87,7 @@ pub fn read_with_bytes<'a, T: InRecord>(
 ) -> Result<WithBytes<'a, T>, Error>
     ensures reads { IfOk result (λ x. Ok (x.record, cow_slice_items x.bytes) ≡ value_of (with_bytes T.shape T.SIZE len r.old.left)) }
     ensures fault { IfErr result (λ e. is_memory e ≡ false → Err (Faults e) ≡ value_of (with_bytes T.shape T.SIZE len r.old.left)) }
-    ensures whole { is_cut r.old ≡ false → IfErr result (λ e. is_memory e ≡ false) }
+    ensures in_place { counted_split len T.SIZE r.old.segments ≡ false → IfErr result (λ e. is_memory e ≡ false) }
 {
     match read_record(r) {
         Ok(record) => match read_counted(alloc, len, T::SIZE as u32, r) {

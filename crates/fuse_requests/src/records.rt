@@ -1,7 +1,7 @@
 //! The records of requests, read from a reader.
 
-ghost use Rattle.std.specs.Prelude.{◌≡◌, false, IfErr, OnOk};
-ghost use Rattle.fuse_segments.specs.Views.{is_cut};
+ghost use Rattle.std.specs.Prelude.{◌≡◌, IfErr, OnOk};
+ghost use Rattle.fuse_fs.specs.Lengths.{past};
 ghost use Rattle.fuse_requests.specs.Reading.{read_result, reading_of};
 ghost use Rattle.fuse_requests.specs.Fronts.{flags2_of};
 
@@ -12,11 +12,10 @@ use fuse_segments::{Error, Reader};
 const INIT_EXT: u32 = 1 << 30;
 
 /// A record; a short rest can't be decoded.
-#[tactic(auto, using(crate::proofs::OneSegment::one_past))]
 pub fn read_record<T: InRecord>(r: &mut Reader<'_>) -> Result<T, Error>
     ensures reads { read_result result r.new.left ≡ reading_of T.shape r.old.left }
     ensures fault { IfErr result (λ e. e ≡ Error.DecodeMessage) }
-    ensures whole { OnOk result (is_cut r.old ≡ false → is_cut r.new ≡ false) }
+    ensures segments { OnOk result (r.new.segments ≡ past T.SIZE r.old.segments) }
 {
     match r.read_obj() {
         Ok(record) => Ok(record),

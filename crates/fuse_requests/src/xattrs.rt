@@ -4,9 +4,8 @@ ghost use Rattle.std.specs.Prelude.{◌≡◌, Ok, Err, IfOk, IfErr, false};
 ghost use Rattle.std.specs.Cow.{cow_slice_items};
 ghost use Rattle.vm_values.specs.Bits.{has_bit};
 ghost use Rattle.fuse_segments.specs.Errors.{is_memory};
-ghost use Rattle.fuse_segments.specs.Views.{is_cut};
 ghost use Rattle.fuse_requests.specs.Reading.{Faults, value_of};
-ghost use Rattle.fuse_requests.specs.Fronts.{setxattr_front};
+ghost use Rattle.fuse_requests.specs.Fronts.{counted_split, setxattr_front, setxattr_len};
 
 use crate::names::{WithBytes, read_with_bytes};
 use bitflags::Flags;
@@ -32,7 +31,7 @@ pub fn read_setxattr<'a>(
 ) -> Result<WithBytes<'a, SetxattrIn>, Error>
     ensures reads { IfOk result (λ x. Ok (x.record, cow_slice_items x.bytes) ≡ value_of (setxattr_front options.0 len r.old.left)) }
     ensures fault { IfErr result (λ e. is_memory e ≡ false → Err (Faults e) ≡ value_of (setxattr_front options.0 len r.old.left)) }
-    ensures whole { is_cut r.old ≡ false → IfErr result (λ e. is_memory e ≡ false) }
+    ensures in_place { counted_split len (setxattr_len options.0) r.old.segments ≡ false → IfErr result (λ e. is_memory e ≡ false) }
 {
     if has_setxattr_ext(options) {
         return read_with_bytes(alloc, len, r);

@@ -1,5 +1,5 @@
 -- What contracts see of a reader and of a writer.
-use Rattle.std.specs.Prelude.{ℕ, Bool, true, false, List, [], ◌∷◌, length}
+use Rattle.std.specs.Prelude.{ℕ, List, length}
 use Rattle.fuse_fs.specs.Lengths.{past}
 
 -- the bytes that are left, the lengths of the segments in which they stand, and how many bytes were read
@@ -7,16 +7,6 @@ pub record ReaderView : Type 0 where
   pub left : List ℕ
   pub segments : List ℕ
   pub read : ℕ
-
--- more than one
-abbrev pub several : List ℕ → Bool
-several [] = false
-several (n ∷ []) = false
-several (n ∷ m ∷ ns) = true
-
--- whether what is left stands in several segments
-abbrev pub is_cut : ReaderView → Bool
-is_cut r = several r.segments
 
 -- the bytes that were written, how many more there is room for, the lengths of all segments, written ones too; and how many
 -- segments and bytes a writer may have that is joined on

@@ -1,6 +1,6 @@
 -- What a request means, by the options that client and server agreed on, its bytes and the length of its room (linux/fuse.h).
 use Rattle.std.specs.Prelude.{ℕ, ◌+◌, ◌-◌, ◌*◌, ◌^◌, nat_le, nat_lt, List, Option, Some, None, Result, Ok, Err, if◌then◌else◌, bit_and}
-use Rattle.std.specs.Prelude.{Bool, true, false, ◌||◌, ◌&&◌}
+use Rattle.std.specs.Prelude.{Bool, true, false}
 use Rattle.fuse_in.specs.declared.session.InHeader.{InHeader}
 use Rattle.fuse_in.specs.declared.session.InitInCompat.{InitInCompat}
 use Rattle.fuse_in.specs.declared.files.ReadIn.{ReadIn}
@@ -255,43 +255,3 @@ with_header options room (Ok x) = meant (given x.0 options room) x.1
 -- what a request means
 unfoldable pub meaning : (options : ℕ) (request : List ℕ) (room : ℕ) → Meaning
 meaning options request room = with_header options room (reading_of in_header request)
-
--- the requests with names or a value
-abbrev pub has_names : Opcode → Bool
-has_names op.Lookup = true
-has_names op.Unlink = true
-has_names op.Rmdir = true
-has_names op.Rename = true
-has_names op.Link = true
-has_names op.Setxattr = true
-has_names op.Getxattr = true
-has_names op.Removexattr = true
-has_names op.Rename2 = true
-has_names _ = false
-
--- the requests that may have extensions or pairs
-abbrev pub has_parts : Opcode → Bool
-has_parts op.Symlink = true
-has_parts op.Mknod = true
-has_parts op.Mkdir = true
-has_parts op.Create = true
-has_parts op.BatchForget = true
-has_parts _ = false
-
--- whether a request may take memory; cut: it stands in several segments, and so may its names and its value
-abbrev pub takes_memory : Opcode → (cut : Bool) → Bool
-takes_memory opcode cut = has_parts opcode || (has_names opcode && cut)
-
--- a number without an opcode takes none
-abbrev pub row_takes_memory : Option Opcode → (cut : Bool) → Bool
-row_takes_memory None cut = false
-row_takes_memory (Some opcode) cut = takes_memory opcode cut
-
--- nor does a request that is shorter than its header
-abbrev pub header_takes_memory : (cut : Bool) → Result (InHeader × List ℕ) ReadFailure → Bool
-header_takes_memory cut (Err r) = false
-header_takes_memory cut (Ok x) = row_takes_memory (opcode_of x.0.opcode) cut
-
--- whether these bytes of a request may take memory
-abbrev pub may_take_memory : (cut : Bool) → List ℕ → Bool
-may_take_memory cut request = header_takes_memory cut (reading_of in_header request)

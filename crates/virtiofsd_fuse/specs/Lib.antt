@@ -1,5 +1,7 @@
+pub mod Carrying
 pub mod Examples
 pub mod Grammar
 pub mod ListingRuns
 pub mod Listings
+pub mod Memory
 pub mod Serving

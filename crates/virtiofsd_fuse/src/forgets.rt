@@ -1,7 +1,8 @@
 //! BATCH_FORGET: many nodes are held less.
 
-ghost use Rattle.std.specs.Prelude.{◌≡◌, ◌<◌, ◌^◌, [], true};
-ghost use Rattle.virtiofsd_fuse.specs.Grammar.{batch_forget_row, forgets_asked};
+ghost use Rattle.std.specs.Prelude.{◌≡◌, ◌<◌, ◌^◌, []};
+ghost use Rattle.virtiofsd_fuse.specs.Grammar.{given, batch_forget_row, forgets_asked};
+ghost use Rattle.virtiofsd_fuse.specs.Memory.{row_owns};
 ghost use Rattle.virtiofsd_fuse.specs.Serving.{RowHandles, Leaves};
 
 use crate::server::Server;
@@ -31,12 +32,12 @@ impl<F: FileSystem> Server<F> {
         requires fresh { w.old.written ≡ [] }
         requires room { w.old.free < 2 ^ 32 }
         ensures handles { RowHandles F.may self.old w.old.free head.now (forgets_asked count) r.old.left result w.new.written self.new }
-        ensures rest { Leaves true result w.old w.new self.old self.new }
+        ensures rest { Leaves (row_owns (given head.now self.old.options.0 w.old.free) (forgets_asked count) r.old.left) result w.old w.new self.old self.new }
     {
         if count > MAX_FORGETS {
             return reply_error(w, head.unique, Errno::ENOMEM);
         }
-        match read_pairs(alloc, r, count as usize) {
+        match read_pairs(alloc, r, count) {
             Ok(pairs) => {
                 self.fs.batch_forget(Context::from(*head), pairs);
                 silence()
@@ -56,7 +57,7 @@ impl<F: FileSystem> Server<F> {
         requires fresh { w.old.written ≡ [] }
         requires room { w.old.free < 2 ^ 32 }
         ensures handles { RowHandles F.may self.old w.old.free head.now batch_forget_row r.old.left result w.new.written self.new }
-        ensures rest { Leaves true result w.old w.new self.old self.new }
+        ensures rest { Leaves (row_owns (given head.now self.old.options.0 w.old.free) batch_forget_row r.old.left) result w.old w.new self.old self.new }
     {
         match read_record::<BatchForgetIn>(r) {
             Ok(request) => self.forget_pairs(alloc, head, request.count, r, w),

@@ -1,7 +1,9 @@
 //! Requests that make a node.
 
-ghost use Rattle.std.specs.Prelude.{◌≡◌, ◌<◌, ◌^◌, [], true};
-ghost use Rattle.virtiofsd_fuse.specs.Grammar.{new_name_row, symlink_row};
+ghost use Rattle.std.specs.Prelude.{◌≡◌, ◌<◌, ◌^◌, ◌||◌, []};
+ghost use Rattle.fuse_requests.specs.Fronts.{counted_split};
+ghost use Rattle.virtiofsd_fuse.specs.Grammar.{given, new_name_row, symlink_row};
+ghost use Rattle.virtiofsd_fuse.specs.Memory.{row_owns};
 ghost use Rattle.virtiofsd_fuse.specs.Serving.{RowHandles, Leaves};
 
 use crate::server::Server;
@@ -30,7 +32,8 @@ impl<F: FileSystem> Server<F> {
         requires fresh { w.old.written ≡ [] }
         requires room { w.old.free < 2 ^ 32 }
         ensures handles { RowHandles F.may self.old w.old.free head.now (new_name_row R.Record.shape R.Record.SIZE R.call) r.old.left result w.new.written self.new }
-        ensures rest { Leaves true result w.old w.new self.old self.new }
+        ensures rest { Leaves (row_owns (given head.now self.old.options.0 w.old.free) (new_name_row R.Record.shape R.Record.SIZE R.call) r.old.left
+            || counted_split head.now.len R.Record.SIZE r.old.segments) result w.old w.new self.old self.new }
     {
         match read_with_bytes::<R::Record>(alloc, head.len, r) {
             Ok(front) => match new_name(self.options, &front.bytes) {
@@ -64,7 +67,7 @@ impl<F: FileSystem> Server<F> {
         requires fresh { w.old.written ≡ [] }
         requires room { w.old.free < 2 ^ 32 }
         ensures handles { RowHandles F.may self.old w.old.free head.now symlink_row r.old.left result w.new.written self.new }
-        ensures rest { Leaves true result w.old w.new self.old self.new }
+        ensures rest { Leaves (row_owns (given head.now self.old.options.0 w.old.free) symlink_row r.old.left || counted_split head.now.len 0 r.old.segments) result w.old w.new self.old self.new }
     {
         match read_counted(alloc, head.len, 0, r) {
             Ok(bytes) => match new_link(self.options, &bytes) {

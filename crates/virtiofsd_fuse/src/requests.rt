@@ -1,7 +1,7 @@
 //! Requests of one shape: they are read, they ask one call, and the client is told its answer.
 
 ghost use Rattle.std.specs.Prelude.{◌≡◌, ◌<◌, ◌^◌, [], false};
-ghost use Rattle.fuse_segments.specs.Views.{is_cut};
+ghost use Rattle.fuse_requests.specs.Fronts.{counted_split};
 ghost use Rattle.virtiofsd_fuse.specs.Grammar.{plain_row, record_row, name_row, record_name_row, two_names_row};
 ghost use Rattle.virtiofsd_fuse.specs.Serving.{RowHandles, Leaves};
 
@@ -72,7 +72,7 @@ impl<F: FileSystem> Server<F> {
         requires fresh { w.old.written ≡ [] }
         requires room { w.old.free < 2 ^ 32 }
         ensures handles { RowHandles F.may self.old w.old.free head.now (name_row R.call) r.old.left result w.new.written self.new }
-        ensures rest { Leaves (is_cut r.old) result w.old w.new self.old self.new }
+        ensures rest { Leaves (counted_split head.now.len 0 r.old.segments) result w.old w.new self.old self.new }
     {
         match read_counted(alloc, head.len, 0, r) {
             Ok(bytes) => match last_name(&bytes) {
@@ -99,7 +99,7 @@ impl<F: FileSystem> Server<F> {
         requires fresh { w.old.written ≡ [] }
         requires room { w.old.free < 2 ^ 32 }
         ensures handles { RowHandles F.may self.old w.old.free head.now (record_name_row R.Record.shape R.Record.SIZE R.call) r.old.left result w.new.written self.new }
-        ensures rest { Leaves (is_cut r.old) result w.old w.new self.old self.new }
+        ensures rest { Leaves (counted_split head.now.len R.Record.SIZE r.old.segments) result w.old w.new self.old self.new }
     {
         match read_with_bytes::<R::Record>(alloc, head.len, r) {
             Ok(front) => match last_name(&front.bytes) {
@@ -126,7 +126,7 @@ impl<F: FileSystem> Server<F> {
         requires fresh { w.old.written ≡ [] }
         requires room { w.old.free < 2 ^ 32 }
         ensures handles { RowHandles F.may self.old w.old.free head.now (two_names_row R.Record.shape R.Record.SIZE R.call) r.old.left result w.new.written self.new }
-        ensures rest { Leaves (is_cut r.old) result w.old w.new self.old self.new }
+        ensures rest { Leaves (counted_split head.now.len R.Record.SIZE r.old.segments) result w.old w.new self.old self.new }
     {
         match read_with_bytes::<R::Record>(alloc, head.len, r) {
             Ok(front) => match two_names(&front.bytes) {

@@ -1,6 +1,10 @@
 //! Carrying a server's file system over to another process.
 
-ghost use Rattle.std.specs.Prelude.{◌≡◌, ◌⊎◌, false};
+ghost use Rattle.std.specs.Prelude.{option_map};
+ghost use Rattle.std.specs.Result.{result_err};
+ghost use Rattle.std.specs.IoError.{error_kind};
+ghost use Rattle.fuse_fs.specs.Serializing.{Prepared, Carried};
+ghost use Rattle.virtiofsd_fuse.specs.Carrying.{ServerPrepared, ServerCarried};
 
 use crate::server::Server;
 use fuse_fs::SerializableFileSystem;
@@ -8,27 +12,33 @@ use std::io::{self, Read, Write};
 use std::sync::atomic::AtomicBool;
 
 impl<F: SerializableFileSystem> SerializableFileSystem for Server<F> {
-    // The file system's own way, or none; the server stays.
-    ghost may_prepare = { λ before after. (F.may_prepare before.fs after.fs ⊎ (after.fs ≡ before.fs))
-        × (after.page_size ≡ before.page_size) × (after.options ≡ before.options) };
+    ghost may_prepare = { ServerPrepared F.may_prepare };
 
-    ghost may_serialize = { λ before held done holds after.
-        (F.may_serialize before.fs held done holds after.fs ⊎ ((after.fs ≡ before.fs) × (holds ≡ held) × (done ≡ false)))
-        × (after.page_size ≡ before.page_size) × (after.options ≡ before.options) };
+    ghost may_serialize = { ServerCarried F.may_serialize };
 
-    ghost may_apply = { λ before had done has after.
-        (F.may_apply before.fs had done has after.fs ⊎ ((after.fs ≡ before.fs) × (has ≡ had) × (done ≡ false)))
-        × (after.page_size ≡ before.page_size) × (after.options ≡ before.options) };
+    ghost may_apply = { ServerCarried F.may_apply };
 
-    fn prepare_serialization(&mut self, cancel: &AtomicBool) {
+    /// Has its file system made ready.
+    fn prepare_serialization(&mut self, cancel: &AtomicBool)
+        ensures prepares { Prepared (ServerPrepared F.may_prepare) self.old self.new }
+        ensures handed { ServerPrepared F.may_prepare self.old self.new }
+    {
         self.fs.prepare_serialization(cancel);
     }
 
-    fn serialize<W: Write>(&mut self, w: &mut W) -> io::Result<()> {
+    /// Has its file system write its state, and answers what it answers.
+    fn serialize<W: Write>(&mut self, w: &mut W) -> io::Result<()>
+        ensures serializes { Carried (ServerCarried F.may_serialize) self.old (W.contents w.old) (option_map error_kind (result_err result)) (W.contents w.new) self.new }
+        ensures handed { ServerCarried F.may_serialize self.old (W.contents w.old) (option_map error_kind (result_err result)) (W.contents w.new) self.new }
+    {
         self.fs.serialize(w)
     }
 
-    fn deserialize_and_apply<R: Read>(&mut self, r: &mut R) -> io::Result<()> {
+    /// Has its file system read a state, and answers what it answers.
+    fn deserialize_and_apply<R: Read>(&mut self, r: &mut R) -> io::Result<()>
+        ensures applies { Carried (ServerCarried F.may_apply) self.old (R.remaining r.old) (option_map error_kind (result_err result)) (R.remaining r.new) self.new }
+        ensures handed { ServerCarried F.may_apply self.old (R.remaining r.old) (option_map error_kind (result_err result)) (R.remaining r.new) self.new }
+    {
         self.fs.deserialize_and_apply(r)
     }
 }

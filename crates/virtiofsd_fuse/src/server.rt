@@ -4,8 +4,8 @@ ghost use Rattle.std.specs.Prelude.{◌≡◌, ◌+◌, ◌<◌, ◌≤◌, ◌^
 ghost use Rattle.fuse_wire.specs.Opcodes.{opcode_of};
 ghost use Rattle.fuse_replies.specs.PageSizes.{is_page_size};
 ghost use Rattle.fuse_segments.specs.Errors.{lacks_memory};
-ghost use Rattle.fuse_segments.specs.Views.{is_cut};
-ghost use Rattle.virtiofsd_fuse.specs.Grammar.{given, meant, meaning, unserved_row, takes_memory, row_takes_memory, may_take_memory};
+ghost use Rattle.virtiofsd_fuse.specs.Grammar.{given, meant, meaning, unserved_row};
+ghost use Rattle.virtiofsd_fuse.specs.Memory.{takes_memory, body_takes_memory, may_take_memory};
 
 use bitflags::Flags;
 use fuse_calls::links::{Link, Rename, Rename2};
@@ -122,7 +122,7 @@ impl<F: FileSystem> Server<F> {
         requires fresh { w.old.written ≡ [] }
         requires room { w.old.free < 2 ^ 32 }
         ensures handles { OpcodeHandles F.may self.old w.old.free head.now opcode r.old.left result w.new.written self.new }
-        ensures rest { Leaves (takes_memory opcode (is_cut r.old)) result w.old w.new self.old self.new }
+        ensures rest { Leaves (takes_memory (given head.now self.old.options.0 w.old.free) opcode r.old.segments r.old.left) result w.old w.new self.old self.new }
     {
         match opcode {
             Opcode::Lookup => self.name_request::<Lookup>(alloc, head, r, w),
@@ -187,7 +187,7 @@ impl<F: FileSystem> Server<F> {
         requires fresh { w.old.written ≡ [] }
         requires room { w.old.free < 2 ^ 32 }
         ensures handles { ServerHandles F.may self.old w.old.free (meant (given head.now self.old.options.0 w.old.free) r.old.left) result w.new.written self.new }
-        ensures rest { Leaves (row_takes_memory (opcode_of head.now.opcode) (is_cut r.old)) result w.old w.new self.old self.new }
+        ensures rest { Leaves (body_takes_memory (given head.now self.old.options.0 w.old.free) r.old.segments r.old.left) result w.old w.new self.old self.new }
     {
         if head.len > MAX_REQUEST_LEN {
             return reply_error(w, head.unique, Errno::ENOMEM);
@@ -215,7 +215,7 @@ impl<F: FileSystem> Server<F> {
         ensures fits { OnOk result (length w.new.written ≤ w.old.free) }
         ensures free { OnOk result (length w.new.written + w.new.free ≡ w.old.free) }
         ensures same { OnErr result (w.new ≡ w.old) }
-        ensures memory { may_take_memory (is_cut r.entry) r.entry.left ≡ false → lacks_memory result ≡ false }
+        ensures memory { may_take_memory self.old.options.0 r.entry w.old.free ≡ false → lacks_memory result ≡ false }
         ensures page_size { self.new.page_size ≡ self.old.page_size }
     {
         match read_record(&mut r) {

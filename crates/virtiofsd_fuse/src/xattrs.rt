@@ -1,7 +1,7 @@
 //! Requests about extended attributes.
 
 ghost use Rattle.std.specs.Prelude.{◌≡◌, ◌<◌, ◌^◌, [], false};
-ghost use Rattle.fuse_segments.specs.Views.{is_cut};
+ghost use Rattle.fuse_requests.specs.Fronts.{counted_split, setxattr_len};
 ghost use Rattle.virtiofsd_fuse.specs.Grammar.{getxattr_row, listxattr_row, setxattr_row};
 ghost use Rattle.virtiofsd_fuse.specs.Serving.{RowHandles, Leaves};
 
@@ -32,7 +32,7 @@ impl<F: FileSystem> Server<F> {
         requires fresh { w.old.written ≡ [] }
         requires room { w.old.free < 2 ^ 32 }
         ensures handles { RowHandles F.may self.old w.old.free head.now getxattr_row r.old.left result w.new.written self.new }
-        ensures rest { Leaves (is_cut r.old) result w.old w.new self.old self.new }
+        ensures rest { Leaves (counted_split head.now.len 8 r.old.segments) result w.old w.new self.old self.new }
     {
         match read_with_bytes::<GetxattrIn>(alloc, head.len, r) {
             Ok(front) => {
@@ -86,7 +86,7 @@ impl<F: FileSystem> Server<F> {
         requires fresh { w.old.written ≡ [] }
         requires room { w.old.free < 2 ^ 32 }
         ensures handles { RowHandles F.may self.old w.old.free head.now setxattr_row r.old.left result w.new.written self.new }
-        ensures rest { Leaves (is_cut r.old) result w.old w.new self.old self.new }
+        ensures rest { Leaves (counted_split head.now.len (setxattr_len self.old.options.0) r.old.segments) result w.old w.new self.old self.new }
     {
         match read_setxattr(alloc, self.options, head.len, r) {
             Ok(front) => match name_and_value(&front.bytes, front.record.size) {

@@ -87,6 +87,13 @@ impl<M: GuestMemoryBackend + Drop, I: Iommu + Drop> IommuMemory<M, I> {
     {
         &self.backend
     }
+
+    /// Puts another backend behind the IOMMU, which stays as it is, as its set of I/O pages does (own).
+    pub fn set_backend(&mut self, backend: M)
+        ensures { self.new ≡ record self.old { backend = backend } }
+    {
+        self.backend = backend;
+    }
 }
 
 impl<M: GuestMemoryBackend + Drop, I: Iommu + Clone> IommuMemory<M, I> {

@@ -4,10 +4,9 @@ use Rattle.fs_device.proofs.ServeLemmas.{served_chain}
 use Rattle.fs_device.proofs.serve.serve.Goals as goal
 
 pub returns-in-Some-clause-exchange : goal.returns-in-Some-clause-exchange
-returns-in-Some-clause-exchange g c m q asked host taken =
-    let held : HoldsChain m asked (Ok c.in-Ok.chain.now) = rw (← c.in-Ok.ensures) taken.chain in
-    let told = rw (c.room_len.ensures, c.deref-2.ensures.value) at c.in-Some.ensures.some in (
+returns-in-Some-clause-exchange g c m q asked taken read =
+    let held : HoldsChain m asked (Ok c.in-Ok.field-0.now) = rw (← c.in-Ok.ensures) taken.chain in
+    let told = rw (c.deref.ensures.value, c.requires.counted, c.in-Ok.ensures) at c.in-Some.ensures.some in (
       told.0,
-      served_chain g.F.FileSystemBase.may _ _ _ m c.args.host.now asked c.in-Ok.chain.now c.args.taken.now.head c.head-head.result _ _ _ told.0 host held c.head-head.ensures
-          (rw c.deref.ensures at c.in_ok-request.ensures) told.1,
+      served_chain g.F.FileSystemBase.may _ _ _ m asked c.in-Ok.field-0.now c.args.taken.now.head c.head-head.result _ _ _ told.0 held c.head-head.ensures read told.1,
     )

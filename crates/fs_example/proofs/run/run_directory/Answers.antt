@@ -6,7 +6,7 @@ use Rattle.fs_example.proofs.ReadLemmas.{run_reads}
 use Rattle.fs_example.proofs.run.run_directory.Goals as goal
 
 pub returns-clause-run : goal.returns-clause-run
-returns-clause-run c =
+returns-clause-run g c =
     IfOk-weaker c.run.result _ _ (λ answers ran.
     let before = machine_of c.args.machine.now in
     let after = machine_of c.run.new.self in

@@ -1,8 +1,20 @@
-use Rattle.std.proofs.Common.{◌≡◌, ◌++◌, ◌∷◌, ◌-◌, ◌+◌, [], arith, ap, ◌∙◌, rules}
+use Rattle.std.proofs.Common.{◌≡◌, ◌≢◌, ◌++◌, ◌∷◌, ◌-◌, ◌+◌, ◌*◌, ◌<◌, ◌≤◌, false, true, [], length, arith, ap, sym, ◌∙◌, rules}
 use Rattle.std.proofs.lemmas.List.{map-append}
 use Rattle.fuse_fs.specs.Answers.{pair_numbers}
-use Rattle.fuse_requests.proofs.ForgetLemmas.{many_next, many_end, many_short, pair_read, pair_short}
+use Rattle.fuse_requests.proofs.ForgetLemmas.{many_next, many_end, many_short, many_few, pairs_there, pair_read, pair_short}
 use Rattle.fuse_requests.proofs.forgets.read_pairs.Goals as goal
+
+pub returns-then-available_bytes-count-clause-err :
+    goal.returns-then-available_bytes-count-clause-err
+returns-then-available_bytes-count-clause-err g c = λ other.
+    let few : length c.args.r.now.left < c.args.count * 16 = omega (arith, c.available_bytes.ensures.left, c.if-available_bytes-count.true) in
+    sym (many_few c.args.count c.args.r.now.left few)
+
+pub returns-in_default-clause-memory : goal.returns-in_default-clause-memory
+returns-in_default-clause-memory g c = λ none.
+    let enough : c.args.count * 16 ≤ length c.args.r.now.left = omega (arith, c.available_bytes.ensures.left, c.if-available_bytes-count.false) in
+    let some : c.args.count ≢ 0 = λ z. (let wrong : false ≡ true = c.in_default.ensures.succeeds z in absurd (cc)) in
+    absurd (let pairs = pairs_there c.args.count c.args.r.now.left enough (omega (arith, some)) in cc)
 
 pub returns-in-Err-clause-err : goal.returns-in-Err-clause-err
 returns-in-Err-clause-err g c = λ other.

@@ -13,5 +13,6 @@ pub returns-in-Err-clause-fault : goal.returns-in-Err-clause-fault
 returns-in-Err-clause-fault g c = λ other.
     with_short g.T.InRecord.shape g.T.ByteValued.SIZE _ _ _ c.in-Err.ensures.reads
 
-pub returns-in-Err-read_counted-clause-whole : goal.returns-in-Err-read_counted-clause-whole
-returns-in-Err-read_counted-clause-whole g c = λ one. c.in-Err-read_counted.ensures.whole (c.in-Ok.ensures.whole one)
+pub returns-in-Err-read_counted-clause-in_place : goal.returns-in-Err-read_counted-clause-in_place
+returns-in-Err-read_counted-clause-in_place g c = λ whole.
+    (rw c.SIZE.ensures at c.in-Err-read_counted.ensures.in_place) (rw c.in-Ok.ensures.segments whole)

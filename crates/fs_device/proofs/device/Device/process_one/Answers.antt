@@ -1,15 +1,13 @@
-use Rattle.std.proofs.Common.{vec_len, arith}
-use Rattle.std.proofs.lemmas.Option.{slice_get_read}
-use Rattle.fs_device.proofs.StepLemmas.{Fixed, steps}
+use Rattle.std.proofs.Common.{◌≡◌, ap}
+use Rattle.vm_memory.specs.Memory.{Memory}
+use Rattle.fs_device.specs.DeviceView.{state_of}
+use Rattle.fs_device.proofs.StepLemmas.{whole_step}
 use Rattle.fs_device.proofs.device.Device.process_one.Goals as goal
-use Rattle.fs_device.proofs.device.Device.process_one.Goals.{in-Ok, in-Err}
 
-pub returns-clause-step : goal.returns-clause-step
-returns-clause-step g c =
-    let there = slice_get_read c.self.inside.queues.items (vec_len c.self.inside.queues) c.args.queue _ c.self.inside.queues.ok.0 (omega arith) c.index_mut-queue.ensures.value in
-    let fixed : Fixed = record { limit = c.self.inside.limit; page_size = c.self.inside.server.page_size } in
-    let done = steps g.F.FileSystemBase.may fixed _ _ c.self.inside.queues.items c.args.queue c.index_mut-queue.result.now c.step.new.queue _ _ c.step.result there c.step.ensures.step in
-    elim c.match-step.branch [
-      | in-Ok w ↦ rw (← c.self.view_is, w.result-is, c.step.ensures.page_size) (rw w.in-Ok.is at done)
-      | in-Err w ↦ rw (← c.self.view_is, w.result-is, c.step.ensures.page_size) (rw w.in-Err.is at done)
-    ]
+pub returns-in-Ok-clause-step : goal.returns-in-Ok-clause-step
+returns-in-Ok-clause-step g c =
+    let m = g.M.GuestMemory.memory c.args.mem.now c.args.host.now in
+    let host : m.host ≡ c.args.host.now = ap (λ (x : Memory). x.host) (g.met.M.GuestMemory.over c.args.mem.now c.args.host.now c.args.host.now) in
+    let begun = rw c.in-Some.is at c.in_ok-begun.ensures.begins in
+    let done = c.in-Ok.ensures.finishes m host (rw begun.2 begun.1) in
+    whole_step g.F.FileSystemBase.may _ _ _ _ _ _ _ begun.0 begun.2 (ap (λ (x : Memory). state_of x c.finish.new.self) (g.met.M.GuestMemory.over c.args.mem.now c.args.host.now c.finish.new.host)) done

@@ -4,4 +4,5 @@ use Rattle.fs_device.proofs.machine.Machine.fill.Goals as goal
 
 pub returns : goal.returns
 returns g c =
-    filled c.args.self.now.host c.args.self.now.mem c.args.addr (length c.args.buffer.now) c.args.buffer.now c.read_slice.new.buffer refl c.requires c.read_slice.ensures.bytes
+    filled c.args.self.now.host c.args.self.now.mem.backend c.args.addr (length c.args.buffer.now) c.args.buffer.now c.read_slice.new.buffer refl c.requires
+    (rw c.get_backend-layout.ensures at c.read_slice.ensures.bytes)

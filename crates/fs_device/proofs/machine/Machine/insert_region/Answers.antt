@@ -1,6 +1,5 @@
 use Rattle.std.proofs.Common.{◌≡◌, sym, refl, subst}
 use Rattle.vm_memory_core.specs.Host.{lengths}
-use Rattle.vm_memory.specs.Layout.{AreHeld}
 use Rattle.fs_device.specs.Run.{effect}
 use Rattle.fs_device.specs.MachineView.{machine_of}
 use Rattle.fs_device.proofs.LayoutLemmas.{HasBlock, held_with, unknown, known, past_end, within, has_block}
@@ -22,7 +21,8 @@ invariant_of-self g c =
     let new : r ≡ c.in-Some-new.region = c.in-Ok.ensures.ok in
     let there = lengths c.args.self.now.host in
     let here = subst (HasBlock there) (sym new) (has_block c.args.self.now.host c.args.base c.args.block c.in-Some.region c.in-Some-new.region c.in-Some.ensures c.in-Some-new.ensures) in
-    record { held = subst (AreHeld there) (sym c.in-Ok-insert_region.ensures.1) (held_with there r c.args.self.now.mem here c.args.self.now.held) }
+    let held = c.args.self.now.held in
+    record { held = rw (c.set_backend.ensures, c.in-Ok-insert_region.ensures.1, c.get_backend.ensures) (held_with there r c.args.self.now.mem.backend here held.0, held.1, held.2) }
 
 pub returns-in-Ok-insert_region : goal.returns-in-Ok-insert_region
 unfolding effect
@@ -30,7 +30,7 @@ returns-in-Ok-insert_region g c =
     let m = c.in-Some.region in
     let new = c.in-Ok.ensures.ok in
     let is = within c.args.base m c.in-Some-new.region c.in-Some-new.ensures in
-    rw (known (machine_of c.args.self.now) c.args.base c.args.block m c.in-Some.ensures, is.0, is.1, ← new, c.in-Ok-insert_region.ensures.0, c.in-Ok-insert_region.ensures.1) refl
+    rw (known (machine_of c.args.self.now) c.args.base c.args.block m c.in-Some.ensures, is.0, is.1, ← new, ← c.get_backend.ensures, c.in-Ok-insert_region.ensures.0, c.set_backend.ensures, c.in-Ok-insert_region.ensures.1) refl
 
 pub returns-in-Err-MemoryRegionOverlap : goal.returns-in-Err-MemoryRegionOverlap
 unfolding effect
@@ -39,4 +39,4 @@ returns-in-Err-MemoryRegionOverlap g c =
     let new = c.in-Ok.ensures.ok in
     let is = within c.args.base m c.in-Some-new.region c.in-Some-new.ensures in
     let common = rw c.in-Err-MemoryRegionOverlap.field-0-is at c.in-Err-MemoryRegionOverlap.ensures in
-    rw (known (machine_of c.args.self.now) c.args.base c.args.block m c.in-Some.ensures, is.0, is.1, ← new, common) refl
+    rw (known (machine_of c.args.self.now) c.args.base c.args.block m c.in-Some.ensures, is.0, is.1, ← new, ← c.get_backend.ensures, common) refl

@@ -19,4 +19,4 @@ returns-clause-handles g c =
 
 pub returns-in-Ok-clause-memory : goal.returns-in-Ok-clause-memory
 returns-in-Ok-clause-memory g c = λ none.
-    c.serve.ensures.rest.1 (takes_none _ _ _ _ _ c.in-Ok.ensures.reads c.in-Ok.ensures.whole none)
+    c.serve.ensures.rest.1 (takes_none _ _ c.args.r _ _ _ c.in-Ok.ensures.reads c.in-Ok.ensures.segments none)

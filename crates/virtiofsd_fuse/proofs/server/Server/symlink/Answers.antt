@@ -1,8 +1,11 @@
 use Rattle.std.proofs.Common.{ap, sym, refl, ◌∙◌}
 use Rattle.virtiofsd_fuse.specs.Serving.{setting}
 use Rattle.fuse_calls.specs.Requests.{symlink_call}
+use Rattle.fuse_fs.specs.Calls.{NewLink}
 use Rattle.virtiofsd_fuse.specs.Grammar.{given}
 use Rattle.virtiofsd_fuse.proofs.Serve.{ask_of, handles_one, handles_refusal}
+use Rattle.fuse_requests.specs.Extras.{parts_of, sent_of}
+use Rattle.virtiofsd_fuse.proofs.Left.{context_owned}
 use Rattle.virtiofsd_fuse.proofs.Rows.{symlink_read, symlink_fault}
 use Rattle.virtiofsd_fuse.proofs.server.Server.symlink.Goals as goal
 
@@ -16,7 +19,7 @@ returns-in-Ok-owned_extensions-clause-handles g c =
 
 pub returns-in-Ok-new_link-clause-handles : goal.returns-in-Ok-new_link-clause-handles
 returns-in-Ok-new_link-clause-handles g c =
-    rw c.in-Err-owned_extensions.ensures.err (refl, refl)
+    rw c.in-Err-owned_extensions.ensures.err.0 (refl, refl)
 
 pub returns-in-Ok-clause-handles : goal.returns-in-Ok-clause-handles
 returns-in-Ok-clause-handles g c =
@@ -30,3 +33,16 @@ returns-clause-handles g c =
     let h = given c.args.head.now c.args.self.now.options.0 c.args.w.now.free in
     handles_refusal g.F.FileSystemBase.may (setting c.args.self.now.page_size c.args.self.now.options.0 c.args.w.now.free) _ _ _ _
     (λ other. symlink_fault h _ _ (c.in-Err.ensures.fault other))
+
+pub returns-in-Ok-new_link-clause-rest : goal.returns-in-Ok-new_link-clause-rest
+returns-in-Ok-new_link-clause-rest g c =
+    let h = given c.args.head.now c.args.self.now.options.0 c.args.w.now.free in
+    let parts = c.in-Ok-new_link.parts in
+    let link : NewLink = record { name = parts.name.now; link = parts.link.now; extra = parts_of (sent_of parts.received) } in (
+      refl,
+      λ none. context_owned _ _ c.args.head.now.unique (symlink_call c.args.head.now link) link.extra _
+          (symlink_read h _ _ c.in-Ok.ensures.bytes
+          ∙ ap (ask_of c.args.head.now.unique (symlink_call c.args.head.now)) (sym (rw c.deref.ensures.value at c.in-Ok-new_link.ensures.reads)))
+          refl c.in-Err-owned_extensions.ensures.err.1 none,
+      refl,
+    )

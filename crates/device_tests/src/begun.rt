@@ -1,0 +1,87 @@
+//! Steps in two parts: an exchange is begun, and finished.
+
+use crate::stand::{RING, ROOM_AT, Stand, UNKNOWN, expect_same};
+use fs_device::{Begun, DeviceError, Exchange};
+use fs_queue::QueueError;
+use std::process::Abort;
+
+// The reply to the request whose opcode is unknown.
+const ENOSYS_REPLY: [u8; 16] = [16, 0, 0, 0, 0xda, 0xff, 0xff, 0xff, 1, 0, 0, 0, 0, 0, 0, 0];
+
+// Begins an exchange of a queue.
+fn begin(stand: &mut Stand, queue: usize) -> Result<Option<Begun>, DeviceError> {
+    stand
+        .device
+        .begin(stand.alloc, &stand.guest.host, &stand.guest.mem, queue)
+}
+
+// The queue is as it was before its first exchange, and nothing was written.
+fn expect_untouched(rt: &impl Abort, stand: &Stand) {
+    stand.expect_position(rt, 0);
+    stand.expect_used(rt, 0, (0, 0), 0);
+    stand.expect_marked(rt, &[]);
+}
+
+// The first exchange of a queue in two parts, between which nothing is written.
+fn exchange(rt: &impl Abort, stand: &mut Stand) -> (Exchange, bool) {
+    let begun = stand
+        .device
+        .begin(stand.alloc, &stand.guest.host, &stand.guest.mem, 0)
+        .expect(rt, "no refusal")
+        .expect(rt, "a chain that waits");
+    expect_untouched(rt, stand);
+    stand
+        .device
+        .finish(stand.alloc, &mut stand.guest.host, begun)
+        .expect(rt, "memory")
+}
+
+#[test]
+fn step_in_two_parts_answers_enosys(rt: HostRuntime) {
+    let mut stand = Stand::new(&rt, rt.alloc());
+    stand.ask(&rt, UNKNOWN, 16);
+    let (exchange, notify) = exchange(&rt, &mut stand);
+    expect_same(
+        &rt,
+        (exchange.head, exchange.fault, notify),
+        (0, None, true),
+    );
+    expect_same(&rt, exchange.reply.as_slice(), &ENOSYS_REPLY);
+    stand.expect_bytes(&rt, ROOM_AT, &ENOSYS_REPLY);
+    stand.expect_used(&rt, 0, (0, 16), 1);
+    stand.expect_marked(&rt, &[(0, 0), (0, 2)]);
+    stand.expect_calls(&rt, &[]);
+}
+
+#[test]
+fn idle_missing_or_stopped_queue_begins_nothing(rt: HostRuntime) {
+    let mut stand = Stand::new(&rt, rt.alloc());
+    let idle = begin(&mut stand, 0).expect(&rt, "no refusal");
+    expect_same(&rt, idle.is_none(), true);
+    let missing = begin(&mut stand, 1).err();
+    stand.put(&rt, RING.avail + 2, &[5, 0]);
+    let too_far = begin(&mut stand, 0).err();
+    let stopped = begin(&mut stand, 0).err();
+    expect_same(
+        &rt,
+        [missing, too_far, stopped],
+        [
+            Some(DeviceError::NoSuchQueue),
+            Some(DeviceError::Queue(QueueError::AvailTooFar)),
+            Some(DeviceError::Queue(QueueError::Stopped)),
+        ],
+    );
+}
+
+#[test]
+fn dropped_exchange_is_begun_again(rt: HostRuntime) {
+    let mut stand = Stand::new(&rt, rt.alloc());
+    stand.ask(&rt, UNKNOWN, 16);
+    let dropped = begin(&mut stand, 0).expect(&rt, "no refusal");
+    expect_same(&rt, dropped.is_some(), true);
+    drop(dropped);
+    expect_untouched(&rt, &stand);
+    let (exchange, _) = exchange(&rt, &mut stand);
+    expect_same(&rt, exchange.reply.as_slice(), &ENOSYS_REPLY);
+    stand.expect_position(&rt, 1);
+}

@@ -1,0 +1,62 @@
+-- the table of a machine's device, and what its host holds besides
+use Rattle.std.proofs.Common.{◌≡◌, ℕ, zero, suc, Bool, true, false, ◌+◌, ◌<◌, ◌≤◌, ◌^◌, ◌&&◌, nat_lt, List, [], ◌∷◌, length, ap, sym, ◌∙◌, refl, arith, subst, inl, inr}
+use Rattle.std.specs.Prelude.{◌⊎◌, Result, Ok, Err, replicate, slice_get, slice_set, unwrap_or}
+use Rattle.std.specs.Result.{IfOk, OnErr}
+use Rattle.std.specs.declared.alloc.AllocError.{AllocError}
+use Rattle.std.proofs.lemmas.Bool.Decides.{nat_tests}
+use Rattle.vm_iotlb.specs.declared.range.IotlbRange.{IotlbRange}
+use Rattle.vm_iotlb.specs.Table.{Table}
+use Rattle.vm_memory_core.specs.Host.{Host, with_block}
+use Rattle.vm_memory_core.specs.Lending.{with_table_at}
+use Rattle.vm_memory.specs.Layout.{Region}
+use Rattle.vm_memory.specs.Translated.{HoldsBehind, ranges_in}
+use Rattle.fs_device.specs.declared.refusal.Refusal.TheVariants as why
+use Rattle.fs_device.specs.Step.{State}
+use Rattle.fs_device.specs.Run.{IsRefused, ChangesTable, ends_fit}
+use Rattle.fs_device.proofs.LayoutLemmas.{kept}
+
+-- ---- ends
+
+pub fits_not : (a n : ℕ) → 2 ^ 64 ≤ a + n → ends_fit a n ≡ false
+fits_not a n h = grind (arith, nat_tests)
+
+and_false : (x : Bool) → (x && false) ≡ false
+and_false true = refl
+and_false false = refl
+
+pub one_fits_not : (a b n : ℕ) → (2 ^ 64 ≤ a + n) ⊎ (2 ^ 64 ≤ b + n) → (ends_fit a n && ends_fit b n) ≡ false
+one_fits_not a b n (inl h) = rw (fits_not a n h) refl
+one_fits_not a b n (inr h) = rw (fits_not b n h) (and_false (ends_fit a n))
+
+-- ---- what changes a table
+
+pub refused : {F : Type 0} (s : State F) (fit : Bool) (table : Table) (after : State F) → fit ≡ false → after ≡ s → ChangesTable s fit table (IsRefused why.BadMapping) after
+refused s true table after fit is = absurd (cc)
+refused {F} s false table after fit is = ap (λ (x : State F). (IsRefused why.BadMapping, x)) is
+
+set-same : (l : List (List IotlbRange)) (i : ℕ) → slice_set l i (unwrap_or (slice_get l i) []) ≡ l
+set-same [] i = refl
+set-same (x ∷ l) zero = refl
+set-same (x ∷ l) (suc i) = ap (λ (r : List (List IotlbRange)). x ∷ r) (set-same l i)
+
+-- a table that is left as it was
+pub left_same : (old new : Host) (number : ℕ) (ranges : List IotlbRange) → ranges ≡ ranges_in old number → new ≡ with_table_at old number ranges → new ≡ old
+left_same old new number ranges same is =
+    is ∙ ap (with_table_at old number) same ∙ ap (λ (l : List (List IotlbRange)). record old { tables = l }) (set-same old.tables number)
+
+-- memory is wanted for some address alone
+pub wanted : (n : ℕ) → 0 < n → nat_lt 0 n ≡ true
+wanted n h = grind (arith, nat_tests)
+
+-- ---- what a host holds
+
+-- whether or not there is one more block
+pub kept_behind : (count : ℕ → ℕ) (n : ℕ) (old new : Host) (l : List Region) (number set : ℕ) (made : Result ℕ AllocError) →
+    IfOk made (λ number. new ≡ with_block old (record { bytes = replicate n 0; marks = replicate (count n) false })) → OnErr made (new ≡ old) →
+    HoldsBehind old l number set → HoldsBehind new l number set
+kept_behind count n old new l number set (Ok block) ok err held = (
+  kept count n old new l (Ok block) ok err held.0,
+  subst (λ (h : Host). number < length h.tables) (sym ok) held.1,
+  subst (λ (h : Host). set < length h.io_marks) (sym ok) held.2,
+)
+kept_behind count n old new l number set (Err e) ok err held = subst (λ (h : Host). HoldsBehind h l number set) (sym err) held

@@ -1,0 +1,21 @@
+use Rattle.std.proofs.Common.{ap}
+use Rattle.vm_memory_core.specs.Host.{Host}
+use Rattle.fs_device.specs.Run.{with_host}
+use Rattle.fs_device.specs.MachineView.{machine_of}
+use Rattle.fs_device.proofs.MappingLemmas.{fits_not, left_same, refused, wanted}
+use Rattle.fs_device.proofs.machine.Machine.unmap.Goals as goal
+
+pub returns-in-Err-IommuMisconfigured : goal.returns-in-Err-IommuMisconfigured
+returns-in-Err-IommuMisconfigured g c =
+    let s = machine_of c.args.self.now in
+    let t = c.in-Err-IommuMisconfigured.ensures.changed in
+    let why = rw c.in-Err-IommuMisconfigured.field-0-is at t.2 in
+    refused s _ _ _ (fits_not c.args.iova c.args.len why.0)
+    (ap (λ (h : Host). with_host s h) (left_same c.args.self.now.host c.unmap_in.new.host c.table-number.result t.0 why.1 t.3))
+
+pub returns-in-Err-OutOfMemory : goal.returns-in-Err-OutOfMemory
+returns-in-Err-OutOfMemory g c =
+    let s = machine_of c.args.self.now in
+    let t = c.in-Err-OutOfMemory.ensures.changed in
+    let why = rw c.in-Err-OutOfMemory.field-0-is at t.2 in
+    (wanted c.args.len why.1, ap (λ (h : Host). with_host s h) (left_same c.args.self.now.host c.unmap_in.new.host c.table-number.result t.0 why.2 t.3))
