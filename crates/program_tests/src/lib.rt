@@ -6,11 +6,17 @@ mod attributes;
 #[cfg(test)]
 mod calls;
 #[cfg(test)]
+mod iommu;
+#[cfg(test)]
 mod layouts;
 #[cfg(test)]
 mod lines;
 #[cfg(test)]
 mod lists_and_writes;
+#[cfg(test)]
+mod mappings;
+#[cfg(test)]
+mod offered;
 #[cfg(test)]
 mod queues;
 #[cfg(test)]

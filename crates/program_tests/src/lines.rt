@@ -59,6 +59,24 @@ refused 2
 block 0
 block 1
 status 0
+
+> map 0 0 1 r
+line 1: not a command
+status 1
+
+> queue 3 0 0 0
+> iommu on
+badlayout 1
+line 2: not a command
+status 1
+
+> queue 4 0 0x100 0x200
+> unmap 0 1
+> queue 4 0 0x100 0x200
+ok
+ok
+line 3: not a command
+status 1
 ";
 
 #[test]
@@ -126,9 +144,39 @@ alias 0\n\
 reset 0 4 0 0x100\n\
 region 0\n\
 unregion 0\n\
-move\n\
-map 0 0 1 r\n\
-iommu on";
+move";
+    check_refused(&rt, rt.alloc(), lines);
+}
+
+#[test]
+fn refuses_what_is_no_mapping(rt: HostRuntime) {
+    let lines = b"map\n\
+map 0 0 1\n\
+map 0 0 1 \n\
+map 0 0 r\n\
+map 0 0 1 R\n\
+map 0 0 1 wr\n\
+map 0 0 1 no\n\
+map 0 0 1 3\n\
+map 0 0 1 rw rw\n\
+map 0 0 1 rw \n\
+map r 0 0 1\n\
+map 0x 0 1 r\n\
+map 0 0x10000000000000000 1 r\n\
+map 0 0 18446744073709551616 r\n\
+Map 0 0 1 r\n\
+unmap\n\
+unmap 0\n\
+unmap 0 1 r\n\
+unmap 0 1 \n\
+unmap 0 0x10000000000000000\n\
+iommu\n\
+iommu \n\
+iommu On\n\
+iommu of\n\
+iommu 1\n\
+iommu on off\n\
+iommu on ";
     check_refused(&rt, rt.alloc(), lines);
 }
 

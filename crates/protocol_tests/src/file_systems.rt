@@ -5,33 +5,13 @@ use crate::log::Log;
 use crate::recorder::Recorder;
 use crate::toy::Told;
 use fuse_fs::{
-    Context, DirectoryIterator, Extensions, FileSystem, NoEntries, SecContext,
-    SerializableFileSystem,
+    Context, DirectoryIterator, Extensions, FileSystem, FileSystemBase, NoEntries, SecContext,
+    defaults,
 };
 use fuse_wire::{Errno, GuestGid, GuestUid, StatVfs};
 use std::alloc::Global;
 use std::cell::Cell;
-use std::io::ErrorKind;
 use std::process::Abort;
-use std::sync::atomic::AtomicBool;
-
-impl SerializableFileSystem for Recorder<'_> {}
-
-// Without bodies of its own its state can't be carried over.
-#[test]
-fn cannot_be_carried_over(rt: HostRuntime) {
-    let told = Cell::new(Told::Default);
-    let mut files = Recorder {
-        log: Log::new(rt.alloc(), &told),
-    };
-    files.prepare_serialization(&AtomicBool::new(false));
-    let mut out = Vec::new(rt.alloc());
-    let written = files.serialize(&mut out).map_err(|e| e.kind());
-    expect_same(&rt, written, Err(ErrorKind::Unsupported));
-    let read = files.deserialize_and_apply(&mut b"".as_slice());
-    let read = read.map_err(|e| e.kind());
-    expect_same(&rt, read, Err(ErrorKind::Unsupported));
-}
 
 const ROOT: Context = Context {
     uid: GuestUid(0),
@@ -45,6 +25,7 @@ fn forgets_each_node(rt: HostRuntime) {
     let told = Cell::new(Told::Default);
     let mut files = Recorder {
         log: Log::new(rt.alloc(), &told),
+        kept: (),
     };
     let mut nodes = Vec::new(rt.alloc());
     nodes.push((5, 1)).expect(&rt, "memory");
@@ -54,12 +35,27 @@ fn forgets_each_node(rt: HostRuntime) {
     expect_same(&rt, files.log.lines.as_slice(), calls);
 }
 
+// By default a node that is forgotten changes nothing.
+#[test]
+fn forgets_nothing_by_default(rt: HostRuntime) {
+    let told = Cell::new(Told::Default);
+    let mut files = Recorder {
+        log: Log::new(rt.alloc(), &told),
+        kept: (),
+    };
+    files.forget(ROOT, 5, 1);
+    defaults::forget(&mut files);
+    let calls = b"\nforget 0 0 1 5 1".as_slice();
+    expect_same(&rt, files.log.lines.as_slice(), calls);
+}
+
 // The calls with a default of their own, and some without.
 #[test]
 fn answers_by_default(rt: HostRuntime) {
     let told = Cell::new(Told::Default);
     let mut files = Recorder {
         log: Log::new(rt.alloc(), &told),
+        kept: (),
     };
     let stats = StatVfs {
         f_namemax: 255,

@@ -13,14 +13,15 @@ use fuse_wire::{
     Attr, Errno, FsOptions, OpenOptions, SetattrIn, SetattrValid, SetxattrFlags, StatVfs,
 };
 
-/// It writes down each call.
+/// It writes down each call, and keeps something that no call needs.
 #[derive(Drop)]
-pub struct Recorder<'a> {
+pub struct Recorder<'a, K> {
     pub log: Log<'a>,
+    pub kept: K,
 }
 
 // It may answer anything: what it answers is the tests' own.
-impl FileSystemBase for Recorder<'_> {
+impl<K> FileSystemBase for Recorder<'_, K> {
     type Inode = u64;
 
     type Handle = u64;
@@ -32,7 +33,7 @@ impl FileSystemBase for Recorder<'_> {
     }
 }
 
-impl FileSystem for Recorder<'_> {
+impl<K> FileSystem for Recorder<'_, K> {
     type DirIter = Entries;
 
     fn init(&mut self, capable: FsOptions) -> Result<FsOptions, Errno> {

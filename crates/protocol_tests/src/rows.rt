@@ -155,7 +155,7 @@ fn writer(rt: &impl Abort, alloc: Global, room: usize, cut: usize) -> Writer
 fn answer(
     rt: &impl Abort,
     alloc: Global,
-    server: &mut Server<Recorder<'_>>,
+    server: &mut Server<Recorder<'_, ()>>,
     r: Reader<'_>,
     mut w: Writer,
 ) -> Result<(usize, Vec<u8>), Error>
@@ -170,7 +170,7 @@ fn answer(
 fn expect_row(
     rt: &impl Abort,
     alloc: Global,
-    server: &mut Server<Recorder<'_>>,
+    server: &mut Server<Recorder<'_, ()>>,
     row: &Row,
     missing: usize,
     cut: &(usize, usize),
@@ -204,7 +204,7 @@ fn expect_served(
 ) -> u64 {
     let told = Cell::new(Told::Default);
     let log = Log::new(alloc, &told);
-    let mut server = Server::new(Recorder { log }, 4096);
+    let mut server = Server::new(Recorder { log, kept: () }, 4096);
     for row in rows {
         let row = change.of(row);
         told.set(row.told);

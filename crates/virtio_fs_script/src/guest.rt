@@ -9,11 +9,14 @@ use fs_queue::Queue;
 use std::alloc::{AllocError, Global};
 use std::cell::Cell;
 use virtiofsd_fuse::Server;
-use vm_memory::GuestMemoryMmap;
+use vm_memory::{GuestMemoryMmap, IommuMemory, TableIommu};
 use vm_memory_core::HostMemory;
 
 // The longest request, and the longest reply.
 const LIMIT: u32 = 0x101000;
+
+// The I/O addresses below this one have their pages marked.
+const IO_BYTES: usize = 0x10000;
 
 // How many bytes a page of the guest has.
 pub(crate) const PAGE_BYTES: u32 = 4096;
@@ -23,7 +26,7 @@ pub(crate) const PAGE_BYTES: u32 = 4096;
 pub(crate) struct GuestMachine<'a> {
     alloc: Global,
     log: &'a Cell<FirstCalls>,
-    machine: Machine<LoggingFiles<'a>>,
+    machine: Machine<LoggingFiles<'a>, TableIommu>,
 }
 
 // A list of one command.
@@ -36,20 +39,28 @@ fn alone(alloc: Global, command: Command) -> Result<Vec<Command>, AllocError>
 }
 
 impl<'a> GuestMachine<'a> {
-    /// A guest without memory, whose device has these queues. What the device's file system is asked is logged.
-    pub fn new(alloc: Global, log: &'a Cell<FirstCalls>, queues: Vec<Queue>) -> GuestMachine<'a>
+    /// A guest without memory, whose device has these queues and an IOMMU that is off and maps nothing. What the
+    /// device's file system is asked is logged.
+    pub fn new(
+        alloc: Global,
+        log: &'a Cell<FirstCalls>,
+        queues: Vec<Queue>,
+    ) -> Result<GuestMachine<'a>, AllocError>
         requires some { 1 ≤ length queues.items }
         requires few { length queues.items ≤ 64 }
     {
+        let mut host = HostMemory::new(alloc);
+        let iommu = TableIommu::new(host.new_table()?);
+        let io_bitmap = host.new_io_bitmap(IO_BYTES)?;
+        let layout = GuestMemoryMmap::new(alloc);
+        let mem = IommuMemory::new(alloc, layout, iommu, false, io_bitmap);
         let server = Server::new(LoggingFiles::new(log), PAGE_BYTES);
         let device = Device::new(server, queues, LIMIT);
-        let host = HostMemory::new(alloc);
-        let mem = GuestMemoryMmap::new(alloc);
-        GuestMachine {
+        Ok(GuestMachine {
             alloc,
             log,
             machine: Machine::new(host, mem, device),
-        }
+        })
     }
 
     /// Whether there is a queue of this number.

@@ -1,9 +1,11 @@
 //! The commands of a script, and how a line is read as one.
 
 use crate::number::parse_number;
+use fs_device::Command;
 use fs_queue::{QueueLayout, QueueLayoutError};
 use hex::FromHexError;
 use std::alloc::{AllocError, Global};
+use vm_memory_core::Permissions;
 
 /// A queue's size, and the addresses of its three areas.
 #[derive(Clone, Copy)]
@@ -28,20 +30,14 @@ pub(crate) enum Line {
     Queue(AskedLayout),
     /// A region of guest memory over a new block.
     Region { base: u64, size: u64 },
-    /// A region over all of a block that there is.
-    Alias { base: u64, block: u64 },
-    /// The region of this base and size goes.
-    Unregion { base: u64, size: u64 },
-    /// The guest writes these bytes.
-    Write { addr: u64, bytes: Vec<u8> },
-    /// The guest reads that many bytes.
-    Read { addr: u64, len: u64 },
     /// The device serves at most that many requests of a queue.
     Kick { queue: u64, most: u16 },
     /// A queue begins anew.
     Reset { queue: u64, layout: AskedLayout },
     /// The marked pages are gathered, and their marks cleared.
     Harvest,
+    /// One command of the machine, as each other line is.
+    Machine(Command),
 }
 
 // What is left of a line: words with one space between each two, or nothing after the last.
@@ -86,6 +82,26 @@ impl<'a> Words<'a> {
         })
     }
 
+    // What a mapping allows.
+    fn next_permissions(&mut self) -> Option<Permissions> {
+        match self.next_word()? {
+            b"none" => Some(Permissions::No),
+            b"r" => Some(Permissions::Read),
+            b"w" => Some(Permissions::Write),
+            b"rw" => Some(Permissions::ReadWrite),
+            _ => None,
+        }
+    }
+
+    // Whether something is to be on.
+    fn next_switch(&mut self) -> Option<bool> {
+        match self.next_word()? {
+            b"on" => Some(true),
+            b"off" => Some(false),
+            _ => None,
+        }
+    }
+
     fn is_at_end(&self) -> bool {
         self.rest.is_none()
     }
@@ -114,7 +130,8 @@ fn parse_write(alloc: Global, words: &mut Words<'_>) -> Result<Option<Line>, All
     if !words.is_at_end() {
         return Ok(None);
     }
-    Ok(parse_bytes(alloc, word)?.map(|bytes| Line::Write { addr, bytes }))
+    let bytes = parse_bytes(alloc, word)?;
+    Ok(bytes.map(|bytes| Line::Machine(Command::GuestWrite { addr, bytes })))
 }
 
 // The rest of a `kick` line.
@@ -133,35 +150,66 @@ fn parse_reset(words: &mut Words<'_>) -> Option<Line> {
     })
 }
 
-// The line of a first word and two numbers.
-fn pair_line(name: &[u8], pair: (u64, u64)) -> Option<Line> {
-    let (base, size) = pair;
+// The rest of a `map` line.
+fn parse_map(words: &mut Words<'_>) -> Option<Line> {
+    let (iova, target) = words.next_pair()?;
+    let len = words.next_number()? as usize;
+    let perm = words.next_permissions()?;
+    Some(Line::Machine(Command::Map {
+        iova,
+        target,
+        len,
+        perm,
+    }))
+}
+
+// The rest of a `region` line.
+fn parse_region(words: &mut Words<'_>) -> Option<Line> {
+    let (base, size) = words.next_pair()?;
+    Some(Line::Region { base, size })
+}
+
+// The command of the machine that a first word and two numbers ask for.
+fn pair_command(name: &[u8], pair: (u64, u64)) -> Option<Command> {
+    let (first, second) = pair;
     match name {
-        b"region" => Some(Line::Region { base, size }),
-        b"alias" => Some(Line::Alias { base, block: size }),
-        b"unregion" => Some(Line::Unregion { base, size }),
-        b"read" => Some(Line::Read {
-            addr: base,
-            len: size,
+        b"alias" => Some(Command::InsertRegion {
+            base: first,
+            block: second as usize,
+        }),
+        b"unregion" => Some(Command::RemoveRegion {
+            base: first,
+            size: second,
+        }),
+        b"read" => Some(Command::GuestRead {
+            addr: first,
+            len: second as usize,
+        }),
+        b"unmap" => Some(Command::Unmap {
+            iova: first,
+            len: second as usize,
         }),
         _ => None,
     }
 }
 
-// A line of numbers alone, behind its first word.
-fn parse_numbers(name: &[u8], words: &mut Words<'_>) -> Option<Line> {
+// What stands behind the first word of a line other than `write`.
+fn parse_operands(name: &[u8], words: &mut Words<'_>) -> Option<Line> {
     match name {
         b"queue" => Some(Line::Queue(words.next_layout()?)),
+        b"region" => parse_region(words),
         b"kick" => parse_kick(words),
         b"reset" => parse_reset(words),
         b"harvest" => Some(Line::Harvest),
-        _ => pair_line(name, words.next_pair()?),
+        b"map" => parse_map(words),
+        b"iommu" => Some(Line::Machine(Command::SetIommu(words.next_switch()?))),
+        _ => Some(Line::Machine(pair_command(name, words.next_pair()?)?)),
     }
 }
 
-// A line of numbers alone, with nothing behind the last.
+// The same, with nothing behind the last operand.
 fn parse_all(name: &[u8], words: &mut Words<'_>) -> Option<Line> {
-    let line = parse_numbers(name, words)?;
+    let line = parse_operands(name, words)?;
     if words.is_at_end() { Some(line) } else { None }
 }
 

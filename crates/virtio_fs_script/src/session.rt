@@ -45,7 +45,7 @@ impl<'a> Session<'a> {
         if let Line::Queue(layout) = line {
             return self.add_queue(number, layout, writer);
         }
-        self.start();
+        self.start()?;
         match &mut self.guest {
             Some(guest) => run_on(guest, number, line, writer),
             None => Err(Halt::NotACommand(number)),
@@ -73,11 +73,12 @@ impl<'a> Session<'a> {
     }
 
     // Makes the guest, once there is a queue.
-    fn start(&mut self) {
+    fn start(&mut self) -> Result<(), AllocError> {
         if !self.queues.is_empty() {
             let queues = mem::replace(&mut self.queues, Vec::new(self.alloc));
-            self.guest = Some(GuestMachine::new(self.alloc, self.log, queues));
+            self.guest = Some(GuestMachine::new(self.alloc, self.log, queues)?);
         }
+        Ok(())
     }
 }
 
@@ -91,21 +92,10 @@ fn run_on<W: Write>(
     match line {
         Line::Queue(_) => Err(Halt::NotACommand(number)),
         Line::Region { base, size } => region(guest, base, size, writer),
-        Line::Alias { base, block } => {
-            let block = block as usize;
-            perform(guest, Command::InsertRegion { base, block }, writer)
-        }
-        Line::Unregion { base, size } => {
-            perform(guest, Command::RemoveRegion { base, size }, writer)
-        }
-        Line::Write { addr, bytes } => perform(guest, Command::GuestWrite { addr, bytes }, writer),
-        Line::Read { addr, len } => {
-            let len = len as usize;
-            perform(guest, Command::GuestRead { addr, len }, writer)
-        }
         Line::Kick { queue, most } => kick(guest, queue, most, writer),
         Line::Reset { queue, layout } => reset(guest, queue, layout, writer),
         Line::Harvest => Ok(harvest(guest, writer)?),
+        Line::Machine(command) => perform(guest, command, writer),
     }
 }
 

@@ -1,5 +1,6 @@
 pub mod Carrying
 pub mod Examples
+pub mod ExamplesOfMemory
 pub mod Grammar
 pub mod ListingRuns
 pub mod Listings
