@@ -1,5 +1,5 @@
 -- A read worked out: a file with the bytes `hello`, which is node 2, and a guest that reads three bytes of it from the second on.
-use Rattle.std.specs.Prelude.{◌≡◌, ℕ, ◌-◌, ◌^◌, Bool, true, false, List, [], ◌∷◌, ◌++◌, nat_le, Some, None, Ok, Err, refl, if◌then◌else◌}
+use Rattle.std.specs.Prelude.{◌≡◌, ℕ, ◌-◌, ◌^◌, Bool, true, false, List, [], ◌∷◌, ◌++◌, nat_le, None, Ok, Err, refl, if◌then◌else◌}
 use Rattle.vm_values.specs.Fields.{field_bytes}
 use Rattle.vm_memory.specs.Layout.{place}
 use Rattle.vm_memory.specs.Memory.{Memory, addresses, bytes, stored_all}
@@ -26,7 +26,7 @@ call room = Read nobody 2 0 (room - 16) 3 1 None 0
 
 -- by whether the room has a place for a header
 means : (room : ℕ) (place : Bool) →
-    ended 2 (and_then (if place then Ok (tt {0}, []) else Err (Faults EncodeMessage)) (λ x. Ok (Asks (One 2 (call room)), x.1)))
+    ended 2 (and_then {A = Unit {0} × List ℕ} (if place then Ok (tt, []) else Err (Faults EncodeMessage)) (λ x. Ok (Asks (One 2 (call room)), x.1)))
     ≡ (if place then Asks (One 2 (call room)) else IsFault EncodeMessage)
 means room true = refl
 means room false = refl
