@@ -2,8 +2,11 @@
 
 use crate::stand::expect_same;
 use fs_example::{File, Monitor, MonitorError, read_file};
-use fuse_wire::{Opcode, ReadIn};
-use guest_driver::requests::{header, with_record};
+use fuse_wire::{Opcode, OpenIn, ReadIn};
+use guest_driver::replies::body;
+use guest_driver::requests::{header, read, with_record};
+use std::alloc::Global;
+use std::process::Abort;
 
 // A file that takes two reads and a bit.
 const LONG: &[u8] = &[7; 0x2010];
@@ -30,19 +33,114 @@ const FIRST_ENTRY: [u8; 32] = [
     0,
 ];
 
+// What the reply to a request says: how many bytes follow its header, or its error.
+fn said(
+    rt: &impl Abort,
+    monitor: &mut Monitor<'_>,
+    request: &[u8],
+    unique: u64,
+) -> Result<usize, i32> {
+    let reply = monitor.ask(request).expect(rt, "a reply");
+    let body = body(&reply, unique).expect(rt, "the reply to this request");
+    body.map(|bytes| bytes.len())
+}
+
+// OPEN of a node with these flags of open(2), or OPENDIR.
+fn open(
+    rt: &impl Abort,
+    alloc: Global,
+    opcode: Opcode,
+    unique: u64,
+    node: u64,
+    flags: u32,
+) -> Vec<u8> {
+    let record = OpenIn {
+        flags,
+        ..OpenIn::default()
+    };
+    with_record(alloc, &header(48, opcode as u32, unique, node), &record).expect(rt, "memory")
+}
+
 #[test]
 fn a_guest_reads_each_file(rt: HostRuntime) {
     for file in &FILES {
-        let name = &file.name[..file.name.len().min(8)];
-        let bytes = read_file(rt.alloc(), &FILES, name).expect(&rt, "a file");
+        let bytes = read_file(rt.alloc(), &FILES, file.name).expect(&rt, "a file");
         expect_same(&rt, bytes.as_slice(), file.contents);
     }
 }
 
 #[test]
 fn a_guest_finds_no_other_name(rt: HostRuntime) {
-    let missing = read_file(rt.alloc(), &FILES, b"b");
-    expect_same(&rt, matches!(missing, Err(MonitorError::NotFound)), true);
+    let longest = [b'a'; 255];
+    for len in [0, 2, 255] {
+        let name = &longest[..len];
+        let missing = read_file(rt.alloc(), &FILES, name);
+        expect_same(&rt, matches!(missing, Err(MonitorError::Failed(-2))), true);
+    }
+}
+
+#[test]
+fn a_name_of_256_bytes_is_refused(rt: HostRuntime) {
+    let long = read_file(rt.alloc(), &FILES, &[b'a'; 256]);
+    expect_same(&rt, matches!(long, Err(MonitorError::LongName)), true);
+}
+
+#[test]
+fn a_read_that_has_no_room_fails_and_one_of_no_file_too(rt: HostRuntime) {
+    let alloc = rt.alloc();
+    let mut monitor = Monitor::new(alloc, &FILES).expect(&rt, "a monitor");
+    for (unique, node, size, want) in [
+        (1, 4, 0x1000, Ok(0x1000)),
+        (2, 4, 0x1001, Err(-5)),
+        (3, 2, 0x1001, Ok(5)),
+        (4, 5, 1, Err(-2)),
+    ] {
+        let request = read(alloc, unique, node, 0, 0, size).expect(&rt, "memory");
+        let told = said(&rt, &mut monitor, &request, unique);
+        expect_same(&rt, told, want);
+    }
+}
+
+#[test]
+fn a_file_is_opened_for_reading_alone(rt: HostRuntime) {
+    let alloc = rt.alloc();
+    let mut monitor = Monitor::new(alloc, &FILES).expect(&rt, "a monitor");
+    for (unique, opcode, node, flags, want) in [
+        (1, Opcode::Open, 2, 0, Ok(16)),
+        (2, Opcode::Open, 2, 1, Err(-30)),
+        (3, Opcode::Open, 2, 2, Err(-30)),
+        (4, Opcode::Open, 2, 0x8000, Ok(16)),
+        (5, Opcode::Open, 5, 1, Err(-2)),
+        (6, Opcode::Opendir, 1, 0, Ok(16)),
+        (7, Opcode::Opendir, 2, 0, Err(-2)),
+    ] {
+        let request = open(&rt, alloc, opcode, unique, node, flags);
+        let told = said(&rt, &mut monitor, &request, unique);
+        expect_same(&rt, told, want);
+    }
+}
+
+#[test]
+fn a_request_that_has_no_place_is_refused(rt: HostRuntime) {
+    let alloc = rt.alloc();
+    let mut monitor = Monitor::new(alloc, &FILES).expect(&rt, "a monitor");
+    let mut request = Vec::new(alloc);
+    request.resize(0xd001, 0).expect(&rt, "memory");
+    let refused = monitor.ask(&request);
+    expect_same(&rt, matches!(refused, Err(MonitorError::Place(_))), true);
+}
+
+#[test]
+fn a_reply_is_that_to_its_request_alone(rt: HostRuntime) {
+    let alloc = rt.alloc();
+    let mut monitor = Monitor::new(alloc, &FILES).expect(&rt, "a monitor");
+    let request = read(alloc, 7, 2, 0, 0, 5).expect(&rt, "memory");
+    let reply = monitor.ask(&request).expect(&rt, "a reply");
+    expect_same(&rt, body(&reply, 7), Some(Ok(b"hello".as_slice())));
+    expect_same(&rt, body(&reply, 8), None);
+    expect_same(&rt, body(&reply[..20], 7), None);
+    let short = monitor.ask(&request[..79]).expect(&rt, "a chain returned");
+    expect_same(&rt, short.len(), 0);
 }
 
 #[test]

@@ -1,26 +1,33 @@
--- what a guest reads in a run over the directory
-use Rattle.std.proofs.Common.{◌≡◌, ℕ, Bool, true, false, List, [], ◌∷◌, ◌++◌, map, length, Option, Some, None, refl, ap, sym, ◌∙◌, subst, inl, inr}
-use Rattle.std.specs.Prelude.{if◌then◌else◌, nat_lt, nat_le, ◌-◌}
+-- what a guest reads over the directory
+use Rattle.std.proofs.Common.{◌≡◌, ℕ, ◌-◌, ◌≤◌, Bool, true, false, List, [], ◌∷◌, ◌++◌, map, length, Option, Some, None, refl, ap, sym, ◌∙◌, subst, inl, inr, arith}
+use Rattle.std.specs.Prelude.{if◌then◌else◌, nat_lt, nat_le}
 use Rattle.std.specs.List.{AllByRecursion}
+use Rattle.std.proofs.lemmas.Bool.{leb-true, ltb-true, ltb-false}
+use Rattle.fs_queue.specs.Queue.{Queue}
+use Rattle.fs_queue.specs.Taking.{Offer}
+use Rattle.fs_queue.specs.Returning.{returned}
 use Rattle.fuse_fs.specs.declared.answers.Context.{Context}
-use Rattle.fuse_fs.specs.Calls.{FileCall, FileAnswer, FileRun, Read}
+use Rattle.fuse_fs.specs.Calls.{FileCall, FileAnswer, FileRun, Failed, Bytes, Read}
+use Rattle.fuse_segments.specs.declared.error.Error.{Error}
 use Rattle.fuse_segments.specs.declared.error.Error.TheVariants.{EncodeMessage}
-use Rattle.virtiofsd_fuse.specs.Grammar.{Meaning, Asks, One, IsFault, meaning}
-use Rattle.virtiofsd_fuse.specs.Serving.{Setting, Served, served, no_reply, answer_bytes}
+use Rattle.fuse_replies.proofs.ReplyLemmas.{length_reply, length_error}
+use Rattle.virtiofsd_fuse.specs.Grammar.{Meaning, Asks, One, IsFault, meaning, reply_bytes, error_bytes}
+use Rattle.virtiofsd_fuse.specs.Serving.{Setting, Served, served, setting, no_reply, replied, answer_bytes}
 use Rattle.fs_device.specs.declared.exchange.Fault.{Fault}
-use Rattle.fs_device.specs.Step.{State, Calls, Exchange, served_exchange}
+use Rattle.fs_device.specs.Step as step
+use Rattle.fs_device.specs.Step.{State, Calls, Exchange, Outcome, Idle, Refused, Exchanged, Step, StepOf, Exchanges, served_fault}
 use Rattle.fs_device.specs.Run.{Turn, Told, Command, Answer, RunTold}
 use Rattle.fs_device.specs.Telling.{calls_of, calls_told, IsMeant, IsServedBy, IsServed}
 use Rattle.fs_example.specs.declared.table.File.{File}
 use Rattle.fs_example.specs.declared.table.ReadOnlyDirectory.{ReadOnlyDirectory}
-use Rattle.fs_example.specs.Directory.{Answers, MayAnswer, file_at, bytes_at}
-use Rattle.fs_example.specs.Reading.{read_in_room, GivesBytes, ReadsTrue, ReadingRun}
+use Rattle.fs_example.specs.Directory.{EIO, MayAnswer, answer_of, file_at, bytes_at, bytes_in}
+use Rattle.fs_example.specs.Reading.{read_in_room, wanted, read_reply, GivesBytes, ReadsTrue, ReadsIntoRoom, ReadingRun}
 
 -- each call has its answer
 abbrev Answered : List File → Calls → Type 0
-Answered fs calls = AllByRecursion (λ step. Answers fs step.0 step.1) calls
+Answered fs calls = AllByRecursion (λ step. step.1 ≡ answer_of fs step.0) calls
 
-pub serves_each : (before : ReadOnlyDirectory) (calls : Calls) (after : ReadOnlyDirectory) → FileRun MayAnswer before calls after → Answered before.files.now calls × (after ≡ before)
+serves_each : (before : ReadOnlyDirectory) (calls : Calls) (after : ReadOnlyDirectory) → FileRun MayAnswer before calls after → Answered before.files.now calls × (after ≡ before)
 serves_each before [] after same = (tt, same)
 serves_each before (step ∷ calls) after (between, suit, made, rest) =
     let others = serves_each between calls after rest in
@@ -34,7 +41,7 @@ back_of : (fs : List File) (xs ys : Calls) → Answered fs (xs ++ ys) → Answer
 back_of fs [] ys all = all
 back_of fs (x ∷ xs) ys (own, all) = back_of fs xs ys all
 
--- ---- one exchange
+-- ---- one request
 
 abbrev told_of : Calls → List FileAnswer
 told_of calls = map (λ step. step.1) calls
@@ -42,55 +49,121 @@ told_of calls = map (λ step. step.1) calls
 abbrev asked_of : Calls → List FileCall
 asked_of calls = map (λ step. step.0) calls
 
--- what is exchanged for a request that was served so
-abbrev IsExchange : Exchange → Served → Type 0
-IsExchange x given = x ≡ served_exchange x.head x.request given
+-- a reply for which there is room goes out whole
+by_fit : (room : ℕ) (calls : List FileCall) (options : ℕ) (bytes : List ℕ) (long : Bool) → nat_lt room (length bytes) ≡ long → length bytes ≤ room →
+    (if long then no_reply calls options (Some EncodeMessage) else record { calls = calls; options = options; reply = bytes; fault = None }).reply ≡ bytes
+by_fit room calls options bytes true is low = let high = ltb-true room (length bytes) is in absurd (omega (arith, high, low))
+by_fit room calls options bytes false is low = refl
 
-module _ (fs : List File) (f : File) (s : Setting) (x : Exchange) (who : Context) (unique node handle size offset flags : ℕ) (owner : Option ℕ) (there : file_at fs node ≡ Some f) (well : x.fault ≡ None) where
+whole_reply : (room : ℕ) (calls : List FileCall) (options : ℕ) (bytes : List ℕ) → length bytes ≤ room → (replied room calls options bytes).reply ≡ bytes
+whole_reply room calls options bytes low = by_fit room calls options bytes (nat_lt room (length bytes)) refl low
+
+module _ (fs : List File) (f : File) (s : Setting) (who : Context) (unique node handle size offset flags : ℕ) (owner : Option ℕ) (there : file_at fs node ≡ Some f) where
   abbrev reading : FileCall
   reading = Read who node handle (s.room - 16) size offset owner flags
 
-  -- by the answer of the file system
-  by_answer : (a : FileAnswer) → Answers fs reading a → x.reply ≡ answer_bytes unique reading a → GivesBytes x.reply unique size offset f
-  by_answer a (inl good) is = inl (is ∙ ap (answer_bytes unique reading) (good ∙ ap (λ (o : Option File). bytes_at o size offset) there))
-  by_answer a (inr bad) is = inr (is ∙ ap (answer_bytes unique reading) bad)
+  -- the reply, by whether the bytes are too many
+  abbrev told : Bool → List ℕ
+  told long = if long then error_bytes unique EIO else reply_bytes unique (wanted f size offset)
 
-  -- by whether the reply is longer than the room
-  by_reply : (calls : Calls) (a : FileAnswer) (long : Bool) → Answers fs reading a →
-      IsExchange x (if long then no_reply (reading ∷ []) s.options (Some EncodeMessage) else record { calls = reading ∷ []; options = s.options; reply = answer_bytes unique reading a; fault = None }) →
-      GivesBytes x.reply unique size offset f
-  by_reply calls a true ans is = let e = ap (λ (y : Exchange). y.fault) is in absurd (cc)
-  by_reply calls a false ans is = by_answer a ans (ap (λ (y : Exchange). y.reply) is)
+  replies : (long : Bool) → answer_bytes unique reading (if long then Failed EIO else Bytes (wanted f size offset)) ≡ told long
+  replies true = refl
+  replies false = refl
 
-  asked_once : (long : Bool) (a : FileAnswer) →
-      (if long then no_reply (reading ∷ []) s.options (Some EncodeMessage) else record { calls = reading ∷ []; options = s.options; reply = answer_bytes unique reading a; fault = None }).calls ≡ reading ∷ []
-  asked_once true a = refl
-  asked_once false a = refl
+  fits : (long : Bool) → nat_lt (s.room - 16) (length (wanted f size offset)) ≡ long → 16 ≤ s.room → length (told long) ≤ s.room
+  fits true is place = omega (arith, length_error unique EIO, place)
+  fits false is place = omega (arith, length_reply unique (wanted f size offset), ltb-false (s.room - 16) (length (wanted f size offset)) is, place)
 
-  by_calls : (calls : Calls) → Answered fs calls → (served s (Asks (One unique reading)) (told_of calls)).calls ≡ asked_of calls → IsExchange x (served s (Asks (One unique reading)) (told_of calls)) →
-      GivesBytes x.reply unique size offset f
-  by_calls [] all asks is = absurd (cc)
-  by_calls (step ∷ calls) all asks is =
-      let long = nat_lt s.room (length (answer_bytes unique reading step.1)) in
-      let list : (reading ∷ []) ≡ step.0 ∷ asked_of calls = sym (asked_once long step.1) ∙ asks in
+  asked_once : (options : ℕ) (long : Bool) (bytes : List ℕ) →
+      (if long then no_reply (reading ∷ []) options (Some EncodeMessage) else record { calls = reading ∷ []; options = options; reply = bytes; fault = None }).calls ≡ reading ∷ []
+  asked_once options true bytes = refl
+  asked_once options false bytes = refl
+
+  by_calls : (calls : Calls) → Answered fs calls → (served s (Asks (One unique reading)) (told_of calls)).calls ≡ asked_of calls → 16 ≤ s.room →
+      (served s (Asks (One unique reading)) (told_of calls)).reply ≡ told (nat_lt (s.room - 16) (length (wanted f size offset)))
+  by_calls [] all asks place = absurd (cc)
+  by_calls (step ∷ calls) all asks place =
+      let bytes = answer_bytes unique reading step.1 in
+      let long = nat_lt (s.room - 16) (length (wanted f size offset)) in
+      let list : (reading ∷ []) ≡ step.0 ∷ asked_of calls = sym (asked_once s.options (nat_lt s.room (length bytes)) bytes) ∙ asks in
       let same : step.0 ≡ reading = cc in
-      by_reply calls step.1 long (subst (λ (c : FileCall). Answers fs c step.1) same all.0) is
+      let answer : step.1 ≡ bytes_in (s.room - 16) (wanted f size offset) =
+      all.0 ∙ ap (answer_of fs) same ∙ ap (λ (o : Option File). bytes_at o (s.room - 16) size offset) there in
+      let is : bytes ≡ told long = ap (answer_bytes unique reading) answer ∙ replies long in
+      let low : length bytes ≤ s.room = subst (λ (l : List ℕ). length l ≤ s.room) (sym is) (fits long refl place) in
+      whole_reply s.room (reading ∷ []) s.options bytes low ∙ is
 
-  by_room : (calls : Calls) (place : Bool) → Answered fs calls → (served s (if place then Asks (One unique reading) else IsFault EncodeMessage) (told_of calls)).calls ≡ asked_of calls →
-      IsExchange x (served s (if place then Asks (One unique reading) else IsFault EncodeMessage) (told_of calls)) → GivesBytes x.reply unique size offset f
-  by_room calls true all asks is = by_calls calls all asks is
-  by_room calls false all asks is = let e = ap (λ (y : Exchange). y.fault) is in absurd (cc)
+  by_room : (calls : Calls) (place : Bool) → nat_le 16 s.room ≡ place → Answered fs calls →
+      (served s (if place then Asks (One unique reading) else IsFault EncodeMessage) (told_of calls)).calls ≡ asked_of calls →
+      (served s (if place then Asks (One unique reading) else IsFault EncodeMessage) (told_of calls)).reply
+      ≡ (if place then told (nat_lt (s.room - 16) (length (wanted f size offset))) else [])
+  by_room calls true is all asks = by_calls calls all asks (leb-true 16 s.room is)
+  by_room calls false is all asks = refl
+
+  -- the reply that its answer makes
+  read_served : (calls : Calls) (m : Meaning) → m ≡ read_in_room unique s.room reading → Answered fs calls → (served s m (told_of calls)).calls ≡ asked_of calls →
+      (served s m (told_of calls)).reply ≡ read_reply s.room unique (wanted f size offset)
+  read_served calls m is all asks =
+      ap (λ (k : Meaning). (served s k (told_of calls)).reply) is
+      ∙ by_room calls (nat_le 16 s.room) refl all (subst (λ (k : Meaning). (served s k (told_of calls)).calls ≡ asked_of calls) is asks)
+
+  -- where the room has no place for a header, that is a fault
+  has_place : (calls : Calls) (place : Bool) → (served s (if place then Asks (One unique reading) else IsFault EncodeMessage) (told_of calls)).fault ≡ None → place ≡ true
+  has_place calls true well = refl
+  has_place calls false well = absurd (cc)
+
+  by_length : (reply : List ℕ) (place long : Bool) → place ≡ true → reply ≡ (if place then told long else []) → GivesBytes reply unique size offset f
+  by_length reply true true is made = inr made
+  by_length reply true false is made = inl made
+  by_length reply false long is made = absurd (cc)
+
+  read_well : (calls : Calls) (m : Meaning) (reply : List ℕ) → m ≡ read_in_room unique s.room reading → (served s m (told_of calls)).fault ≡ None →
+      reply ≡ read_reply s.room unique (wanted f size offset) → GivesBytes reply unique size offset f
+  read_well calls m reply is well made =
+      by_length reply (nat_le 16 s.room) (nat_lt (s.room - 16) (length (wanted f size offset)))
+      (has_place calls (nat_le 16 s.room) (subst (λ (k : Meaning). (served s k (told_of calls)).fault ≡ None) is well)) made
+
+-- ---- steps
+
+step_into_room : (s after : State ReadOnlyDirectory) (i : ℕ) (calls : Calls) (x : Exchange) (notice : Bool) → Step MayAnswer s i calls (Exchanged x notice) after →
+    ReadsIntoRoom s i (Exchanged x notice) after
+step_into_room s after i calls x notice made q head request room unique node size offset f there offered (who, handle, flags, owner, means) file =
+    let found : StepOf MayAnswer s i (Some q) calls (Exchanged x notice) after = subst (λ (o : Option Queue). StepOf MayAnswer s i o calls (Exchanged x notice) after) there made in
+    let done : step.Answers MayAnswer s i q head request room calls x notice after = subst (λ (o : Offer). Exchanges MayAnswer s i q o calls x notice after) offered found in
+    let known = setting s.page_size s.options (length room) in
+    let m = meaning s.options request (length room) in
+    let each = serves_each s.files calls after.files done.serves.run in
+    let asks : (served known m (told_of calls)).calls ≡ asked_of calls = ap (λ (g : Served). g.calls) (sym done.serves.gives) ∙ done.serves.asks in
+    let reply : done.given.reply ≡ read_reply (length room) unique (wanted f size offset) =
+    ap (λ (g : Served). g.reply) done.serves.gives
+    ∙ read_served s.files.files.now f known who unique node handle size offset flags owner file calls m (means s.options (length room)) each.0 asks in
+    (
+      ap (λ (y : Exchange). y.reply) done.returns.exchange ∙ reply,
+      ap (λ (t : State ReadOnlyDirectory). t.memory) done.returns.state ∙ ap (returned s.memory q head room) reply,
+    )
+
+pub step_reads : (s after : State ReadOnlyDirectory) (i : ℕ) (calls : Calls) (outcome : Outcome) → Step MayAnswer s i calls outcome after → ReadsIntoRoom s i outcome after
+step_reads s after i calls Idle made = tt
+step_reads s after i calls (Refused e) made = tt
+step_reads s after i calls (Exchanged x notice) made = step_into_room s after i calls x notice made
+
+-- ---- turns
+
+no_fault : (o : Option Error) → served_fault o ≡ None → o ≡ None
+no_fault None e = refl
+no_fault (Some x) e = absurd (cc)
 
 turn_true : (fs : List File) (t : Turn) → IsServed t → Answered fs t.calls → ReadsTrue fs t
 turn_true fs t serves all unique node size offset f (who, handle, flags, owner, means) there well =
     let meant : IsMeant t = subst (λ (o : Option Fault). IsServedBy o t) well serves in
     let s = meant.0 in
-    let request = t.exchange.request in
-    let m = meaning s.options request s.room in
+    let m = meaning s.options t.exchange.request s.room in
     let is : m ≡ read_in_room unique s.room (Read who node handle (s.room - 16) size offset owner flags) = means s.options s.room in
-    by_room fs f s t.exchange who unique node handle size offset flags owner there well t.calls (nat_le 16 s.room) all
-    (subst (λ (k : Meaning). (served s k (told_of t.calls)).calls ≡ asked_of t.calls) is meant.1)
-    (subst (λ (k : Meaning). IsExchange t.exchange (served s k (told_of t.calls))) is meant.2)
+    let given = served s m (told_of t.calls) in
+    let reply : t.exchange.reply ≡ given.reply = ap (λ (y : Exchange). y.reply) meant.2 in
+    let fault : served_fault given.fault ≡ None = ap (λ (y : Exchange). y.fault) (sym meant.2) ∙ well in
+    read_well fs f s who unique node handle size offset flags owner there t.calls m t.exchange.reply is (no_fault given.fault fault)
+    (reply ∙ read_served fs f s who unique node handle size offset flags owner there t.calls m is all meant.1)
 
 -- ---- runs
 

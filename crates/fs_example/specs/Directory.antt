@@ -1,5 +1,6 @@
 -- What the read-only directory answers. The root is node 1, and the files are the nodes from 2 on, in the order of the table.
-use Rattle.std.specs.Prelude.{◌≡◌, ◌⊎◌, ℕ, ◌+◌, ◌-◌, Bool, ◌==◌, nat_lt, List, [], ◌∷◌, length, take, drop, Option, Some, None, if◌then◌else◌, slice_get}
+use Rattle.std.specs.Prelude.{◌≡◌, ℕ, ◌+◌, ◌-◌, Bool, ◌==◌, nat_lt, bit_and, List, [], ◌∷◌, length, take, drop, Option, Some, None, if◌then◌else◌, slice_get}
+use Rattle.std.specs.Int.{div_ceil}
 use Rattle.std.specs.Str.{bytes_eq}
 use Rattle.fuse_base.specs.declared.records.Attr.{Attr}
 use Rattle.fuse_fs.specs.declared.answers.Entry.{Entry}
@@ -17,14 +18,13 @@ ENOENT = 2
 abbrev pub EIO : ℕ
 EIO = 5
 
+-- the directory is not for writing
+abbrev pub EROFS : ℕ
+EROFS = 30
+
 -- the call is not served
 abbrev pub ENOSYS : ℕ
 ENOSYS = 38
-
--- the node of a name, where the first file of the table has this node
-abbrev pub node_of : List File → (name : List ℕ) → (first : ℕ) → Option ℕ
-node_of [] name first = None
-node_of (f ∷ fs) name first = if bytes_eq f.name.now name then Some first else node_of fs name (first + 1)
 
 -- the file that a node is
 abbrev pub file_at : List File → (node : ℕ) → Option File
@@ -34,12 +34,12 @@ file_at fs node = if nat_lt node 2 then None else slice_get fs (node - 2)
 abbrev pub second : Duration
 second = record { seconds = 1; nanos = 0 }
 
--- a node's attributes; all others are 0
+-- a node's attributes, its bytes counted in blocks of 512 too; all others are 0
 abbrev pub attr_of : (node size mode : ℕ) → Attr
 attr_of node size mode = record {
   ino = node;
   size = size;
-  blocks = 0;
+  blocks = div_ceil size 512;
   atime = 0;
   mtime = 0;
   ctime = 0;
@@ -63,25 +63,37 @@ file_attr node f = attr_of node (length f.contents.now) 0x8124
 abbrev pub root_attr : Attr
 root_attr = attr_of 1 0 0x416d
 
--- what a look-up that found a node answers
-abbrev pub entry_at : (node : ℕ) → Option File → FileAnswer
-entry_at node None = Failed ENOENT
-entry_at node (Some f) = HasEntry (record { inode = node; generation = 0; attr = file_attr node f; attr_timeout = second; entry_timeout = second })
+-- what a look-up that found a file answers
+abbrev pub entry_of : (node : ℕ) → File → Entry ℕ
+entry_of node f = record { inode = node; generation = 0; attr = file_attr node f; attr_timeout = second; entry_timeout = second }
 
--- what a look-up answers
-abbrev pub found : List File → Option ℕ → FileAnswer
-found fs None = Failed ENOENT
-found fs (Some node) = entry_at node (file_at fs node)
+-- the first file with a name, where the first of the table has this node
+abbrev pub found_from : List File → (name : List ℕ) → (first : ℕ) → FileAnswer
+found_from [] name first = Failed ENOENT
+found_from (f ∷ fs) name first = if bytes_eq f.name.now name then HasEntry (entry_of first f) else found_from fs name (first + 1)
 
 -- the attributes of a node that may be no file
 abbrev pub attr_at : (node : ℕ) → Option File → FileAnswer
 attr_at node None = Failed ENOENT
 attr_at node (Some f) = HasAttr (file_attr node f) second
 
+-- bytes that go into a room whole, or not at all
+abbrev pub bytes_in : (room : ℕ) → List ℕ → FileAnswer
+bytes_in room bytes = if nat_lt room (length bytes) then Failed EIO else Bytes bytes
+
 -- the bytes of a file from an offset on, at most so many
-abbrev pub bytes_at : Option File → (size offset : ℕ) → FileAnswer
-bytes_at None size offset = Failed ENOENT
-bytes_at (Some f) size offset = Bytes (take size (drop offset f.contents.now))
+abbrev pub bytes_at : Option File → (room size offset : ℕ) → FileAnswer
+bytes_at None room size offset = Failed ENOENT
+bytes_at (Some f) room size offset = bytes_in room (take size (drop offset f.contents.now))
+
+-- whether a file is opened for reading alone (O_RDONLY of O_ACCMODE in fcntl.h)
+abbrev pub reads_only : (flags : ℕ) → Bool
+reads_only flags = bit_and flags 3 == 0
+
+-- a file is opened without a handle, for reading alone
+abbrev pub opened_at : Option File → (flags : ℕ) → FileAnswer
+opened_at None flags = Failed ENOENT
+opened_at (Some f) flags = if reads_only flags then Opened None 0 else Failed EROFS
 
 -- the entries of files of which the first has this node, each with where a listing goes on behind it; regular files (8 is DT_REG of dirent.h)
 abbrev pub listing_from : (first : ℕ) → List File → List Listed
@@ -91,28 +103,18 @@ listing_from first (f ∷ fs) = record { ino = first; offset = first - 1; kind =
 -- what each call is answered
 abbrev pub answer_of : List File → FileCall → FileAnswer
 answer_of fs (Init capable) = Wants 0
-answer_of fs (Lookup who parent name) = if parent == 1 then found fs (node_of fs name 2) else Failed ENOENT
+answer_of fs (Lookup who parent name) = if parent == 1 then found_from fs name 2 else Failed ENOENT
 answer_of fs (Getattr who node handle) = if node == 1 then HasAttr root_attr second else attr_at node (file_at fs node)
-answer_of fs (Read who node handle room size offset owner flags) = bytes_at (file_at fs node) size offset
+answer_of fs (Read who node handle room size offset owner flags) = bytes_at (file_at fs node) room size offset
 answer_of fs (Readdir who node handle size offset) = if node == 1 then Entries (listing_from (offset + 2) (drop offset fs)) else Failed ENOENT
-answer_of fs (Open who node kill flags) = Opened None 0
-answer_of fs (Opendir who node flags) = Opened None 0
+answer_of fs (Open who node kill flags) = opened_at (file_at fs node) flags
+answer_of fs (Opendir who node flags) = if node == 1 then Opened None 0 else Failed ENOENT
 answer_of fs (Statfs who node) = Stats default_stats
 answer_of fs (Forget who node count) = Done
 answer_of fs (BatchForget who counts) = Done
 answer_of fs Destroy = Done
 answer_of fs _ = Failed ENOSYS
 
--- these bytes, all of them, or a failure
-abbrev pub IsWhole : List ℕ → FileAnswer → Type 0
-IsWhole bytes answer = (answer ≡ Bytes bytes) ⊎ (answer ≡ Failed EIO)
-
--- a call has its answer; READ may fail instead, as it does where its room is too short for all the bytes
-abbrev pub Answers : List File → FileCall → FileAnswer → Type 0
-Answers fs (Read who node handle room size offset owner flags) answer =
-    (answer ≡ answer_of fs (Read who node handle room size offset owner flags)) ⊎ (answer ≡ Failed EIO)
-Answers fs call answer = answer ≡ answer_of fs call
-
 -- each call has its answer, and nothing changes
 abbrev pub MayAnswer : ReadOnlyDirectory → FileCall → FileAnswer → ReadOnlyDirectory → Type 0
-MayAnswer before call answer after = Answers before.files.now call answer × (after ≡ before)
+MayAnswer before call answer after = (answer ≡ answer_of before.files.now call) × (after ≡ before)

@@ -1,11 +1,15 @@
--- What runs with the directory give a guest that reads.
-use Rattle.std.specs.Prelude.{◌≡◌, ◌⊎◌, ℕ, ◌-◌, nat_le, List, take, drop, Option, Some, None, if◌then◌else◌}
+-- What steps and runs over the directory give a guest that reads.
+use Rattle.std.specs.Prelude.{◌≡◌, ◌⊎◌, ℕ, ◌-◌, nat_le, nat_lt, List, [], length, take, drop, Option, Some, None, if◌then◌else◌, slice_get}
 use Rattle.std.specs.List.{AllByRecursion}
+use Rattle.fs_queue.specs.Queue.{Queue}
+use Rattle.fs_queue.specs.Taking as taking
+use Rattle.fs_queue.specs.Taking.{Offers, offer}
+use Rattle.fs_queue.specs.Returning.{returned}
 use Rattle.fuse_fs.specs.declared.answers.Context.{Context}
 use Rattle.fuse_fs.specs.Calls.{FileCall, Read}
 use Rattle.fuse_segments.specs.declared.error.Error.TheVariants.{EncodeMessage}
 use Rattle.virtiofsd_fuse.specs.Grammar.{Meaning, IsFault, Asks, One, meaning, reply_bytes, error_bytes}
-use Rattle.fs_device.specs.Step.{State}
+use Rattle.fs_device.specs.Step.{State, Outcome, Idle, Refused, Exchanged, Calls, Step}
 use Rattle.fs_device.specs.Run.{Turn, Told, Command, Answer, RunTold}
 use Rattle.fs_example.specs.declared.table.File.{File}
 use Rattle.fs_example.specs.declared.table.ReadOnlyDirectory.{ReadOnlyDirectory}
@@ -21,9 +25,34 @@ IsRead request unique node size offset =
     (who : Context) × (handle flags : ℕ) × (owner : Option ℕ)
     × ((options room : ℕ) → meaning options request room ≡ read_in_room unique room (Read who node handle (room - 16) size offset owner flags))
 
+-- the bytes of a file from an offset on, at most so many
+abbrev pub wanted : File → (size offset : ℕ) → List ℕ
+wanted f size offset = take size (drop offset f.contents.now)
+
+-- the reply with these bytes; EIO where a room behind the header is too short for them; nothing where it has no place for a header
+abbrev pub read_reply : (room unique : ℕ) → List ℕ → List ℕ
+read_reply room unique bytes =
+    if nat_le 16 room then (if nat_lt (room - 16) (length bytes) then error_bytes unique EIO else reply_bytes unique bytes)
+    else []
+
+-- where a step took a READ of a file from queue i, the reply stands in the room of its chain, and what was returned after it
+abbrev pub ReadsIntoRoom : State ReadOnlyDirectory → (i : ℕ) → Outcome → State ReadOnlyDirectory → Type 0
+ReadsIntoRoom s i (Exchanged x notice) after =
+    (q : Queue) (head : ℕ) (request room : List ℕ) (unique node size offset : ℕ) (f : File) →
+    slice_get s.queues i ≡ Some q → offer s.memory s.limit q ≡ Offers head (taking.Asks request room) →
+    IsRead request unique node size offset → file_at s.files.files.now node ≡ Some f →
+    (x.reply ≡ read_reply (length room) unique (wanted f size offset))
+    × (after.memory ≡ returned s.memory q head room (read_reply (length room) unique (wanted f size offset)))
+ReadsIntoRoom s i Idle after = Unit {0}
+ReadsIntoRoom s i (Refused e) after = Unit {0}
+
+-- a step of a device over the directory
+abbrev pub ReadingStep : State ReadOnlyDirectory → (i : ℕ) → Outcome → State ReadOnlyDirectory → Type 0
+ReadingStep s i outcome after = (calls : Calls) × Step MayAnswer s i calls outcome after × ReadsIntoRoom s i outcome after
+
 -- the good reply with the bytes of the file from there on, at most so many; or that they had no room
 abbrev pub GivesBytes : (reply : List ℕ) → (unique size offset : ℕ) → File → Type 0
-GivesBytes reply unique size offset f = (reply ≡ reply_bytes unique (take size (drop offset f.contents.now))) ⊎ (reply ≡ error_bytes unique EIO)
+GivesBytes reply unique size offset f = (reply ≡ reply_bytes unique (wanted f size offset)) ⊎ (reply ≡ error_bytes unique EIO)
 
 -- where an exchange without a fault read a file, the reply gives its bytes
 abbrev pub ReadsTrue : List File → Turn → Type 0

@@ -1,9 +1,9 @@
 //! A read-only directory, as a file system.
 
 ghost use Rattle.std.specs.Prelude.{◌≡◌, ◌<◌, ◌^◌, ◌+◌, ◌++◌, ℕ, List, length, take, drop, Ok, IfOk, option_map};
-ghost use Rattle.fuse_fs.specs.Answers.{attr_answer, data_answer, pair_numbers};
+ghost use Rattle.fuse_fs.specs.Answers.{attr_answer, data_answer, entry_answer, pair_numbers};
 ghost use Rattle.fuse_fs.specs.Calls as call;
-ghost use Rattle.fs_example.specs.Directory.{IsWhole, attr_of, file_at, listing_from, node_of, MayAnswer};
+ghost use Rattle.fs_example.specs.Directory.{EROFS, attr_of, bytes_in, entry_of, file_at, found_from, listing_from, MayAnswer};
 
 use crate::table::{Entries, File, ReadOnlyDirectory};
 use bitflags::Flags;
@@ -23,7 +23,19 @@ const ROOT: u64 = 1;
 // The node of the first file.
 const FIRST: u64 = 2;
 
-// What is kept of how long answers stay good.
+// The bits of an open file's flags that say whether it is read or written, and reading alone (fcntl.h).
+const O_ACCMODE: u32 = 3;
+
+const O_RDONLY: u32 = 0;
+
+// The error of writing where nothing may be written (EROFS).
+fn read_only() -> Errno
+    ensures { result ≡ EROFS }
+{
+    Errno::new(30).unwrap()
+}
+
+// How long answers stay good.
 fn second() -> Timeout
     ensures { result ≡ record { seconds = 1; nanos = 0 } }
 {
@@ -37,7 +49,7 @@ fn attr(node: u64, size: u64, mode: u32) -> Attr
     Attr {
         ino: node,
         size,
-        blocks: 0,
+        blocks: size.div_ceil(512),
         atime: 0,
         mtime: 0,
         ctime: 0,
@@ -54,19 +66,6 @@ fn attr(node: u64, size: u64, mode: u32) -> Attr
     }
 }
 
-// The node of a name.
-fn node_named(files: &[File], name: &[u8]) -> Option<u64>
-    requires { length files.now < 2 ^ 32 }
-    ensures { result ≡ node_of files.now name.now 2 }
-{
-    for i in 0..files.len() {
-        if *files[i].name == *name {
-            return Some(FIRST + i as u64);
-        }
-    }
-    None
-}
-
 // The file that a node is.
 fn file_at<'a>(files: &[File<'a>], node: u64) -> Option<File<'a>>
     ensures { result ≡ file_at files.now node }
@@ -76,6 +75,32 @@ fn file_at<'a>(files: &[File<'a>], node: u64) -> Option<File<'a>>
     } else {
         files.get((node - FIRST) as usize).copied()
     }
+}
+
+// What a look-up that found a file answers.
+fn entry(node: u64, file: &File) -> Entry<u64>
+    ensures { result ≡ entry_of node file.now }
+{
+    Entry {
+        inode: node,
+        generation: 0,
+        attr: attr(node, file.contents.len() as u64, 0o100_444),
+        attr_timeout: second(),
+        entry_timeout: second(),
+    }
+}
+
+// Looks a name up, among files of which the first is node 2.
+fn entry_named(files: &[File], name: &[u8]) -> Result<Entry<u64>, Errno>
+    requires { length files.now < 2 ^ 32 }
+    ensures { entry_answer (λ n. n) result ≡ found_from files.now name.now 2 }
+{
+    for i in 0..files.len() {
+        if *files[i].name == *name {
+            return Ok(entry(FIRST + i as u64, &files[i]));
+        }
+    }
+    Err(Errno::ENOENT)
 }
 
 // The contents of a file, as they are read at a place.
@@ -117,7 +142,7 @@ impl<'a> PositionedFile for Contents<'a> {
     }
 }
 
-// Puts so many bytes of contents from an offset on into a writer, or fails where not all of them go in.
+// Puts so many bytes of contents from an offset on into a writer, or fails where there is no room for all of them.
 fn put_bytes<W: ZeroCopyWriter>(
     w: &mut W,
     contents: &[u8],
@@ -125,7 +150,7 @@ fn put_bytes<W: ZeroCopyWriter>(
     offset: u64,
 ) -> Result<usize, Errno>
     ensures { (bytes : List ℕ) × (W.put w.new ≡ W.put w.old ++ bytes) × (W.room w.old ≡ W.room w.new + length bytes)
-        × IfOk result (λ n. n ≡ length bytes) × IsWhole (take size (drop offset contents.now)) (data_answer result bytes) }
+        × IfOk result (λ n. n ≡ length bytes) × (data_answer result bytes ≡ bytes_in (W.room w.old) (take size (drop offset contents.now))) }
 {
     let wanted = rest(contents, offset).len().min(size as usize);
     match w.read_from_file_at(&mut Contents { bytes: contents }, wanted, offset) {
@@ -173,15 +198,7 @@ impl<'a> FileSystem for ReadOnlyDirectory<'a> {
         if parent != ROOT {
             return Err(Errno::ENOENT);
         }
-        let node = node_named(self.files, name).ok_or(Errno::ENOENT)?;
-        let file = file_at(self.files, node).ok_or(Errno::ENOENT)?;
-        Ok(Entry {
-            inode: node,
-            generation: 0,
-            attr: attr(node, file.contents.len() as u64, 0o100_444),
-            attr_timeout: second(),
-            entry_timeout: second(),
-        })
+        entry_named(self.files, name)
     }
 
     fn getattr(
@@ -331,11 +348,15 @@ impl<'a> FileSystem for ReadOnlyDirectory<'a> {
     fn open(
         &mut self,
         _ctx: Context,
-        _inode: u64,
+        inode: u64,
         _kill_priv: bool,
-        _flags: u32,
+        flags: u32,
     ) -> Result<(Option<u64>, OpenOptions), Errno> {
-        defaults::open()
+        match file_at(self.files, inode) {
+            None => Err(Errno::ENOENT),
+            Some(_) if flags & O_ACCMODE != O_RDONLY => Err(read_only()),
+            Some(_) => defaults::open(),
+        }
     }
 
     fn create(
@@ -455,9 +476,12 @@ impl<'a> FileSystem for ReadOnlyDirectory<'a> {
     fn opendir(
         &mut self,
         _ctx: Context,
-        _inode: u64,
+        inode: u64,
         _flags: u32,
     ) -> Result<(Option<u64>, OpenOptions), Errno> {
+        if inode != ROOT {
+            return Err(Errno::ENOENT);
+        }
         defaults::opendir()
     }
 

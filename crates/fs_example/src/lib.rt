@@ -1,13 +1,15 @@
 //! The device with a file system of one's own, from end to end: a read-only directory, handed in as a
-//! table of names and contents; what each run of a machine with it gives a guest that reads; and a
-//! monitor that has a guest read one file.
+//! table of names and contents; what a step over it leaves in the memory of a guest that reads, and a run
+//! tells it; and a monitor that has a guest read one file.
 #![tactic(auto)]
 
 mod directory;
 mod monitor;
 mod run;
+mod step;
 mod table;
 
 pub use monitor::{Monitor, MonitorError, read_file};
 pub use run::run_directory;
+pub use step::step_directory;
 pub use table::{Entries, File, ReadOnlyDirectory};

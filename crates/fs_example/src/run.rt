@@ -12,8 +12,8 @@ use fs_device::{Answer, Command, Machine};
 use std::alloc::{AllocError, Global};
 use vm_memory::Iommu;
 
-/// Does commands one after another, as `Machine::run`. Whatever the guest does: where it reads a file, the
-/// reply holds the file's bytes.
+/// Does commands one after another, as `Machine::run`. Whatever the guest does: where an exchange without a fault reads a
+/// file, its reply has the file's bytes, or is EIO.
 pub fn run_directory<'a, I: Iommu + Drop>(
     alloc: Global,
     machine: &mut Machine<ReadOnlyDirectory<'a>, I>,

@@ -1,0 +1,76 @@
+-- A read worked out: a file with the bytes `hello`, which is node 2, and a guest that reads three bytes of it from the second on.
+use Rattle.std.specs.Prelude.{◌≡◌, ℕ, ◌-◌, ◌^◌, Bool, true, false, List, [], ◌∷◌, ◌++◌, nat_le, None, Ok, Err, refl, if◌then◌else◌}
+use Rattle.vm_values.specs.Fields.{field_bytes}
+use Rattle.vm_memory.specs.Layout.{place}
+use Rattle.vm_memory.specs.Memory.{Memory, addresses, bytes, stored_all}
+use Rattle.fs_queue.specs.Chain.{path, found}
+use Rattle.fs_queue.specs.Taking.{Offers, offer}
+use Rattle.fs_queue.specs.Taking as taking
+use Rattle.fs_queue.specs.Returning.{returned}
+use Rattle.fuse_fs.specs.Calls.{FileCall, Read}
+use Rattle.fuse_segments.specs.declared.error.Error.TheVariants.{EncodeMessage}
+use Rattle.fuse_requests.specs.Reading.{Faults, and_then, reading_of}
+use Rattle.fuse_replies.specs.WholeReplies.{error_bytes, reply_bytes}
+use Rattle.virtiofsd_fuse.specs.Examples.{nobody, zeros, le16, le32, le64, in_header_bytes}
+use Rattle.virtiofsd_fuse.specs.Grammar.{Asks, IsFault, One, ended, meaning, meant, row}
+use Rattle.fs_device.specs.Examples.{blank, descriptor_bytes, put, queue}
+use Rattle.fs_example.specs.Reading.{IsRead, read_reply}
+
+-- READ of 3 bytes of node 2 from offset 1
+abbrev pub request : List ℕ
+request = in_header_bytes 80 15 2 2 ++ le64 0 ++ le64 1 ++ le32 3 ++ zeros 20
+
+-- what the file system is asked
+abbrev call : (room : ℕ) → FileCall
+call room = Read nobody 2 0 (room - 16) 3 1 None 0
+
+-- by whether the room has a place for a header
+means : (room : ℕ) (place : Bool) →
+    ended 2 (and_then {A = Unit {0} × List ℕ} (if place then Ok (tt, []) else Err (Faults EncodeMessage)) (λ x. Ok (Asks (One 2 (call room)), x.1)))
+    ≡ (if place then Asks (One 2 (call room)) else IsFault EncodeMessage)
+means room true = refl
+means room false = refl
+
+-- whatever was agreed on, and whatever the room
+is_read : IsRead request 2 2 3 1
+unfolding meaning meant reading_of row
+is_read = (nobody, 0, 0, None, λ options room. means room (nat_le 16 room))
+
+-- the request at 0x1000 in a chain with a room of this length at 0x2000
+abbrev pub offering : (room : ℕ) → Memory
+offering room =
+    let a = put blank 0x1000 request in
+    let b = put a 0 (descriptor_bytes 0x1000 80 1 1 ++ descriptor_bytes 0x2000 room 2 0) in
+    put b 0x100 (le16 0 ++ le16 1 ++ le16 0)
+
+-- it is offered
+offered : offer (offering 32) 0x101000 queue ≡ Offers 0 (taking.Asks request (addresses 0x2000 32))
+unfolding offer place addresses stored_all path found
+offered = refl
+
+-- the bytes of the file from the second on, three of them: `ell`
+abbrev pub ell : List ℕ
+ell = 101 ∷ 108 ∷ 108 ∷ []
+
+-- the memory after a step, where a room of 32 bytes had a reply
+abbrev pub left : Memory
+left = returned (offering 32) queue 0 (addresses 0x2000 32) (read_reply 32 2 ell)
+
+-- the reply stands in the room: 19 bytes, no error, the request's number, and the bytes; behind it nothing changed
+reply_stands : bytes left 0x2000 20 ≡ le32 19 ++ le32 0 ++ le64 2 ++ 101 ∷ 108 ∷ 108 ∷ 0 ∷ []
+unfolding place addresses stored_all reply_bytes field_bytes
+reply_stands = refl
+
+-- the used ring's index, and the element: the head, and the length of the reply
+element_stands : bytes left 0x202 10 ≡ le16 1 ++ le32 0 ++ le32 19
+unfolding place addresses stored_all reply_bytes field_bytes
+element_stands = refl
+
+-- a room of one byte less than the reply is told the error -5
+short_room : read_reply 18 2 ell ≡ le32 16 ++ le32 (2 ^ 32 - 5) ++ le64 2
+unfolding error_bytes field_bytes
+short_room = refl
+
+-- one without a place for a header is told nothing
+no_room : read_reply 15 2 ell ≡ []
+no_room = refl

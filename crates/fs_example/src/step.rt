@@ -1,0 +1,28 @@
+//! Steps of a device over the directory.
+
+ghost use Rattle.std.specs.Prelude.{◌≡◌};
+ghost use Rattle.vm_memory_core.specs.Host.{shape};
+ghost use Rattle.fs_device.specs.DeviceView.{outcome_of, state_of};
+ghost use Rattle.fs_example.specs.Reading.{ReadingStep};
+
+use crate::table::ReadOnlyDirectory;
+use fs_device::{Device, DeviceError, Exchange};
+use std::alloc::Global;
+use vm_memory::GuestMemory;
+use vm_memory_core::{HostMemory, NewBitmap};
+
+/// Serves the next chain of a queue, as `Device::process_one`. Where that is a READ of a file, the chain's room then holds
+/// the reply with the file's bytes; EIO, where it is too short for them; or nothing, where it has no place for a header.
+pub fn step_directory<'a, M: GuestMemory, B: NewBitmap>(
+    alloc: Global,
+    device: &mut Device<ReadOnlyDirectory<'a>>,
+    host: &mut HostMemory<B>,
+    mem: &M,
+    queue: usize,
+) -> Result<Option<(Exchange, bool)>, DeviceError>
+    requires { M.IsHeld mem.now host.old }
+    ensures step { ReadingStep (state_of (M.memory mem.now host.old) device.old) queue (outcome_of result) (state_of (M.memory mem.now host.new) device.new) }
+    ensures shape { shape host.new ≡ shape host.old }
+{
+    device.process_one(alloc, host, mem, queue)
+}
