@@ -1,12 +1,18 @@
 //! The example's directory, as a guest reads it.
 
-use crate::stand::expect_same;
-use fs_example::{File, Monitor, MonitorError, read_file};
+use crate::stand::{RING, behind, expect_same, layout};
+use fs_device::{Answer, Command, Device, Machine};
+use fs_example::{File, Monitor, MonitorError, ReadOnlyDirectory, read_file, run_directory};
+use fs_queue::Queue;
 use fuse_wire::{Opcode, OpenIn, ReadIn};
+use guest_driver::Guest;
 use guest_driver::replies::body;
 use guest_driver::requests::{header, read, with_record};
 use std::alloc::Global;
 use std::process::Abort;
+use virtiofsd_fuse::Server;
+use vm_memory::TableIommu;
+use vm_memory_core::GuestAddress;
 
 // A file that takes two reads and a bit.
 const LONG: &[u8] = &[7; 0x2010];
@@ -136,10 +142,15 @@ fn a_reply_is_that_to_its_request_alone(rt: HostRuntime) {
     let mut monitor = Monitor::new(alloc, &FILES).expect(&rt, "a monitor");
     let request = read(alloc, 7, 2, 0, 0, 5).expect(&rt, "memory");
     let reply = monitor.ask(&request).expect(&rt, "a reply");
-    expect_same(&rt, body(&reply, 7), Some(Ok(b"hello".as_slice())));
-    expect_same(&rt, body(&reply, 8), None);
-    expect_same(&rt, body(&reply[..20], 7), None);
-    let short = monitor.ask(&request[..79]).expect(&rt, "a chain returned");
+    let Some(Ok(bytes)) = body(&reply, 7) else {
+        panic!(rt; "the reply to this request");
+    };
+    expect_same(&rt, bytes, b"hello".as_slice());
+    expect_same(&rt, body(&reply, 8).is_none(), true);
+    let cut = reply.get(..20).expect(&rt, "a longer reply");
+    expect_same(&rt, body(cut, 7).is_none(), true);
+    let cut = request.get(..79).expect(&rt, "a longer request");
+    let short = monitor.ask(cut).expect(&rt, "a chain returned");
     expect_same(&rt, short.len(), 0);
 }
 
@@ -156,4 +167,39 @@ fn a_guest_lists_the_names(rt: HostRuntime) {
     let reply = monitor.ask(&request).expect(&rt, "a reply");
     expect_same(&rt, reply.len(), 16 + 3 * 32);
     expect_same(&rt, reply.get(16..48), Some(FIRST_ENTRY.as_slice()));
+}
+
+// A machine over the directory, whose guest reads the first five bytes of node 2.
+fn reading(rt: &impl Abort, alloc: Global) -> Machine<ReadOnlyDirectory<'static>, TableIommu> {
+    let regions = [(GuestAddress(0), 0x10000)];
+    let mut guest = Guest::new(alloc, &regions, RING).expect(rt, "memory");
+    let request = read(alloc, 1, 2, 0, 0, 5).expect(rt, "memory");
+    let chained = guest.chain(0, &request, &[(0x1000, 80)], &[(0x2000, 32)]);
+    chained.expect(rt, "a place");
+    let server = Server::new(ReadOnlyDirectory::new(&FILES), 4096);
+    let queues = Vec::from_array(alloc, [Queue::new(layout(rt, RING))]).expect(rt, "memory");
+    let device = Device::new(server, queues, 0x101000);
+    let (mut host, backend) = guest.into_memory();
+    let mem = behind(rt, alloc, &mut host, backend);
+    assert!(rt; host.holds(&mem));
+    Machine::new(host, mem, device)
+}
+
+// The reply of 21 bytes: its header (struct fuse_out_header), and the file's bytes.
+const HELLO: [u8; 21] = [
+    21, 0, 0, 0, 0, 0, 0, 0, 1, 0, 0, 0, 0, 0, 0, 0, b'h', b'e', b'l', b'l', b'o',
+];
+
+#[test]
+fn a_run_exchanges_a_read_of_a_file(rt: HostRuntime) {
+    let alloc = rt.alloc();
+    let mut machine = reading(&rt, alloc);
+    let kick = Command::Kick { queue: 0, most: 1 };
+    let commands = Vec::from_array(alloc, [kick]).expect(&rt, "memory");
+    let mut answers = run_directory(alloc, &mut machine, commands).expect(&rt, "memory");
+    let Some(Answer::Served(run)) = answers.pop() else {
+        panic!(rt; "a kick");
+    };
+    let (exchange, _) = run.done.first().expect(&rt, "an exchange");
+    expect_same(&rt, exchange.reply.as_slice(), &HELLO);
 }
