@@ -136,8 +136,7 @@ step_into_room s after i calls x notice made q head request room unique node siz
     let asks : (served known m (told_of calls)).calls ≡ asked_of calls = ap (λ (g : Served). g.calls) (sym done.serves.gives) ∙ done.serves.asks in
     let reply : done.given.reply ≡ read_reply (length room) unique (wanted f size offset) =
     ap (λ (g : Served). g.reply) done.serves.gives
-    ∙ read_served s.files.files.now f known who unique node handle size offset flags owner file calls m (means s.options (length room)) each.0 asks in
-    (
+    ∙ read_served s.files.files.now f known who unique node handle size offset flags owner file calls m (means s.options (length room)) each.0 asks in (
       ap (λ (y : Exchange). y.reply) done.returns.exchange ∙ reply,
       ap (λ (t : State ReadOnlyDirectory). t.memory) done.returns.state ∙ ap (returned s.memory q head room) reply,
     )

@@ -27,8 +27,8 @@ returns-in_default g c =
     let small : length c.args.contents.now < 2 ^ 64 = omega arith in
     let high : sum (g.W.ZeroCopyWriter.rooms c.args.w.now) < c.min-wanted.result =
     elim c.in_default.branch [
-      in_default-via-in-Ok+else-n-wanted w ↦ short_count _ _ c.args.offset _ r.0 _ there _ c.read_from_file_at.result r.5 w.in-Ok.is w.if-n-wanted.false
-    | in_default-via-in_default w ↦ absurd (never_fails _ (g.W.ZeroCopyWriter.rooms c.args.w.now) c.args.offset _ r.0 _ there _ c.read_from_file_at.result r.5 w.in_default.is (omega arith) small)
+      | in_default-via-in-Ok+else-n-wanted w ↦ short_count _ _ c.args.offset _ r.0 _ there _ c.read_from_file_at.result r.5 w.in-Ok.is w.if-n-wanted.false
+      | in_default-via-in_default w ↦ absurd (never_fails _ (g.W.ZeroCopyWriter.rooms c.args.w.now) c.args.offset _ r.0 _ there _ c.read_from_file_at.result r.5 w.in_default.is (omega arith) small)
     ]
     in
     (r.0, r.1, r.2, tt, stays_out room (take c.args.size wanted) (omega (arith, high, r.4, c.min-wanted.ensures, long, length-take c.args.size wanted)))
