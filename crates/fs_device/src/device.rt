@@ -104,7 +104,7 @@ impl<F: FileSystem> Device<F> {
 
     /// Has the server answer what was begun, and gives the chain back: what was exchanged, and whether the driver wants to be
     /// told. Only memory that the server wants before it asks the file system can be lacking; then nothing changes, and the
-    /// chain may be begun again.
+    /// chain may be begun again. Finish it while memory and queue are as `begin` left them: of another nothing is said.
     #[inline]
     pub fn finish<B: NewBitmap>(
         &mut self,

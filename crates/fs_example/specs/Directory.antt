@@ -34,7 +34,7 @@ file_at fs node = if nat_lt node 2 then None else slice_get fs (node - 2)
 abbrev pub second : Duration
 second = record { seconds = 1; nanos = 0 }
 
--- a node's attributes, its bytes counted in blocks of 512 too; all others are 0
+-- a node's attributes, its bytes counted in blocks of 512 too
 abbrev pub attr_of : (node size mode : ℕ) → Attr
 attr_of node size mode = record {
   ino = node;

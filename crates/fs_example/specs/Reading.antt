@@ -35,7 +35,7 @@ read_reply room unique bytes =
     if nat_le 16 room then (if nat_lt (room - 16) (length bytes) then error_bytes unique EIO else reply_bytes unique bytes)
     else []
 
--- where a step took a READ of a file from queue i, the reply stands in the room of its chain, and what was returned after it
+-- where a step took a READ of a file from queue i, the reply was written over the room of its chain, and then what goes back with it
 abbrev pub ReadsIntoRoom : State ReadOnlyDirectory → (i : ℕ) → Outcome → State ReadOnlyDirectory → Type 0
 ReadsIntoRoom s i (Exchanged x notice) after =
     (q : Queue) (head : ℕ) (request room : List ℕ) (unique node size offset : ℕ) (f : File) →
@@ -50,7 +50,7 @@ ReadsIntoRoom s i (Refused e) after = Unit {0}
 abbrev pub ReadingStep : State ReadOnlyDirectory → (i : ℕ) → Outcome → State ReadOnlyDirectory → Type 0
 ReadingStep s i outcome after = (calls : Calls) × Step MayAnswer s i calls outcome after × ReadsIntoRoom s i outcome after
 
--- the good reply with the bytes of the file from there on, at most so many; or that they had no room
+-- the good reply with the bytes of the file from there on, at most so many; or EIO
 abbrev pub GivesBytes : (reply : List ℕ) → (unique size offset : ℕ) → File → Type 0
 GivesBytes reply unique size offset f = (reply ≡ reply_bytes unique (wanted f size offset)) ⊎ (reply ≡ error_bytes unique EIO)
 

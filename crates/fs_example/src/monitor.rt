@@ -87,9 +87,10 @@ impl<'a> Monitor<'a> {
         })
     }
 
-    /// The guest offers a request, the device takes a step, and the guest reads the reply from its memory, as long as the used
-    /// ring says. `NoReply`: the device has not returned this chain, or with more bytes than its room has. A request longer
-    /// than 52 KiB has no place in memory.
+    /// The guest offers a request, the device takes a step, and the guest reads the reply from its memory, as long as
+    /// the used ring says. `NoReply`: the device has not returned this chain, or with more bytes than its room has. A
+    /// request longer than 52 KiB has no place in memory (`Place`). After `Device` the monitor is of no more use: its
+    /// chain still waits.
     pub fn ask(&mut self, request: &[u8]) -> Result<Vec<u8>, MonitorError> {
         let len = u32::try_from(request.len()).map_err(|_| MonitorError::NoReply)?;
         let guest = &mut self.guest;

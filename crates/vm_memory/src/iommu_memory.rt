@@ -88,7 +88,7 @@ impl<M: GuestMemoryBackend + Drop, I: Iommu + Drop> IommuMemory<M, I> {
         &self.backend
     }
 
-    /// Puts another backend behind the IOMMU, which stays as it is, as its set of I/O pages does (own).
+    /// Puts another backend behind the IOMMU, which stays as it is, as its set of I/O pages does.
     pub fn set_backend(&mut self, backend: M)
         ensures { self.new ≡ record self.old { backend = backend } }
     {
