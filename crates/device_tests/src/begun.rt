@@ -1,8 +1,9 @@
 //! Steps in two parts: an exchange is begun, and finished.
 
-use crate::stand::{RING, ROOM_AT, Stand, UNKNOWN, expect_same};
-use fs_device::{Begun, DeviceError, Exchange};
-use fs_queue::QueueError;
+use crate::stand::{REQUEST_AT, RING, ROOM_AT, Request, Stand, UNKNOWN, expect_same};
+use call_log::LoggedCall;
+use fs_device::{Begun, DeviceError, Exchange, Fault};
+use fs_queue::{ChainFault, QueueError};
 use std::process::Abort;
 
 // The reply to the request whose opcode is unknown.
@@ -51,6 +52,34 @@ fn step_in_two_parts_answers_enosys(rt: HostRuntime) {
     stand.expect_used(&rt, 0, (0, 16), 1);
     stand.expect_marked(&rt, &[(0, 0), (0, 2)]);
     stand.expect_calls(&rt, &[]);
+}
+
+#[test]
+fn file_system_is_asked_when_a_step_is_finished(rt: HostRuntime) {
+    let mut stand = Stand::new(&rt, rt.alloc());
+    let request = Request::Forget { node: 5, count: 3 };
+    stand.ask_cut(&rt, request, &[(REQUEST_AT, 48)], &[]);
+    let dropped = begin(&mut stand, 0).expect(&rt, "no refusal");
+    expect_same(&rt, dropped.is_some(), true);
+    stand.expect_calls(&rt, &[]);
+    let (exchange, _) = exchange(&rt, &mut stand);
+    expect_same(&rt, (exchange.reply.len(), exchange.fault), (0, None));
+    stand.expect_calls(&rt, &[LoggedCall::Forget { node: 5, count: 3 }]);
+    stand.expect_used(&rt, 0, (0, 0), 1);
+}
+
+#[test]
+fn faulty_chain_is_given_back_in_two_parts(rt: HostRuntime) {
+    let mut stand = Stand::new(&rt, rt.alloc());
+    let request = Request::Forget { node: 5, count: 3 };
+    stand.ask_cut(&rt, request, &[(REQUEST_AT, 48)], &[(0x20000, 16)]);
+    let (exchange, notify) = exchange(&rt, &mut stand);
+    let fault = Some(Fault::Chain(ChainFault::RoomUnreachable));
+    expect_same(&rt, (exchange.fault, notify), (fault, true));
+    expect_same(&rt, (exchange.request.len(), exchange.reply.len()), (0, 0));
+    stand.expect_calls(&rt, &[]);
+    stand.expect_used(&rt, 0, (0, 0), 1);
+    stand.expect_marked(&rt, &[(0, 0)]);
 }
 
 #[test]

@@ -49,7 +49,8 @@ const FAULTY: &[(Descriptor, Descriptor, ChainFault)] = &[
     ),
     (
         Descriptor {
-            addr: 0xffff_ffff_ffff_ffd8,
+            addr: 0xffff_ffff_ffff_fff8,
+            len: 8,
             ..REQUEST
         },
         ROOM,
@@ -75,7 +76,7 @@ const FAULTY: &[(Descriptor, Descriptor, ChainFault)] = &[
     ),
     (
         Descriptor {
-            addr: 0xffe0,
+            addr: 0xfff0,
             ..REQUEST
         },
         ROOM,
@@ -85,6 +86,14 @@ const FAULTY: &[(Descriptor, Descriptor, ChainFault)] = &[
         REQUEST,
         Descriptor {
             addr: 0xfff8,
+            ..ROOM
+        },
+        ChainFault::RoomUnreachable,
+    ),
+    (
+        REQUEST,
+        Descriptor {
+            addr: 0x20000,
             ..ROOM
         },
         ChainFault::RoomUnreachable,

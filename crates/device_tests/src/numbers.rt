@@ -34,6 +34,7 @@ const REFUSALS: &[(Refusal, u8)] = &[
     (Refusal::BadRegion, 4),
     (Refusal::Overlap, 5),
     (Refusal::NoRegion, 6),
+    (Refusal::BadMapping, 7),
     (Refusal::NoSuchQueue, 8),
     (Refusal::OutOfMemory, 9),
 ];

@@ -35,6 +35,7 @@ fn expect_queue(rt: &impl Abort, queue: &Queue, position: u16, stopped: bool) {
 fn resumed_queue_goes_on_at_its_position(rt: HostRuntime) {
     let mut stand = stand(&rt, rt.alloc());
     stand.guest.set_available(0).expect(&rt, "a place");
+    stand.put(&rt, 0x202, &[0xff, 0xff]);
     let queue = Queue::resume(layout(&rt, RING), 65535, false);
     expect_queue(&rt, &queue, 65535, false);
     let queues = Vec::from_array(rt.alloc(), [queue]).expect(&rt, "memory");
@@ -67,6 +68,7 @@ fn reset_queue_begins_at_its_first_slot(rt: HostRuntime) {
         .device
         .reset_queue(0, layout(&rt, RING))
         .expect(&rt, "a queue");
+    stand.expect_position(&rt, 0);
     let (_, _) = stand.exchange(&rt);
     stand.expect_used(&rt, 0, (0, 16), 1);
 }

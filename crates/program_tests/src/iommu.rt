@@ -41,6 +41,48 @@ fn serves_what_is_mapped(rt: HostRuntime) {
     check_offered(&rt, rt.alloc(), SERVES_WHAT_IS_MAPPED);
 }
 
+// Entries of a table that a descriptor names lie in two pages, each of which is mapped elsewhere.
+const READS_A_TABLE_WHERE_IT_IS_MAPPED: &[&[u8]] = &[
+    b"\
+> # A table of two entries at 0x3ff0: reads 40 at 0x1000; writes 16 at 0x2000
+> write 0x5ff0 00100000000000002800000001000100
+ok
+> write 0x7000 00200000000000001000000002000000
+ok
+> # Chain 0: the table of 32 bytes
+> write 0 f03f0000000000002000000004000000
+ok
+> harvest
+page 0 0
+page 0 5
+page 0 7
+> map 0 0 0x1000 rw
+ok
+> map 0x1000 0x1000 0x1000 r
+ok
+> map 0x2000 0x2000 0x1000 w
+ok
+> map 0x3000 0x5000 0x1000 r
+ok
+> map 0x4000 0x7000 0x1000 r
+ok
+> iommu on
+ok
+> kick 0 1
+done 0 16 - 1
+> read 0x2000 16
+bytes 10000000daffffff0100000000000000
+> harvest
+none
+status 0
+",
+];
+
+#[test]
+fn reads_a_table_where_it_is_mapped(rt: HostRuntime) {
+    check_offered(&rt, rt.alloc(), READS_A_TABLE_WHERE_IT_IS_MAPPED);
+}
+
 // The name of a LOOKUP is read where it is mapped, and the reply goes to two places.
 const TRANSLATES_EACH_ADDRESS: &[&[u8]] = &[
     b"\

@@ -1,5 +1,6 @@
 //! Kicks of one queue and of several, queues that stop, and resets.
 
+use crate::offered::check_offered;
 use crate::transcript::{check, expect_played, push};
 use std::alloc::Global;
 use std::process::Abort;
@@ -173,18 +174,29 @@ refused 1
 idle
 status 0
 
-> queue 4 0x1000 0xffe 0x2000
+> queue 4 0x3000 0xffe 0x2000
 ok
 > region 0x1000 0xf000
 block 0
 > write 0x1000 01000000
 ok
+> harvest
+page 0 0
 > kick 0 1
 refused 7
 > kick 0 1
 refused 1
 > kick 0 0
 idle
+> read 0x2000 12
+bytes 000000000000000000000000
+> harvest
+none
+> # A queue that was reset isn't stopped
+> reset 0 4 0x3000 0xffe 0x2000
+ok
+> kick 0 1
+refused 7
 status 0
 
 > queue 4 0x10000 0x1000 0x2000
@@ -205,6 +217,31 @@ status 0
 #[test]
 fn prints_each_refusal_of_a_step(rt: HostRuntime) {
     check(&rt, rt.alloc(), PRINTS_EACH_REFUSAL_OF_A_STEP);
+}
+
+// A request of the most bytes that a chain may have, which reaches past the region, and one of a byte more.
+const HAS_A_LONGEST_REQUEST: &[&[u8]] = &[
+    b"\
+> # Chain 0: reads 0x101000 at 0x1000; writes 16 at 0x2000
+> write 0 0010000000000000001010000100010000200000000000001000000002000000
+ok
+> kick 0 1
+done 0 0 RequestUnreachable 1
+status 0
+",
+    b"\
+> # Chain 0: reads 0x101001 at 0x1000; writes 16 at 0x2000
+> write 0 0010000000000000011010000100010000200000000000001000000002000000
+ok
+> kick 0 1
+done 0 0 OverLimit 1
+status 0
+",
+];
+
+#[test]
+fn has_a_longest_request(rt: HostRuntime) {
+    check_offered(&rt, rt.alloc(), HAS_A_LONGEST_REQUEST);
 }
 
 // The calls of each request stand before its end, and a kick ends where none is waiting.

@@ -11,10 +11,10 @@ use fuse_fs::SerializableFileSystem;
 use fuse_wire::FsOptions;
 use std::cell::Cell;
 use std::io::{self, ErrorKind, Read, Write};
-use std::sync::atomic::AtomicBool;
+use std::sync::atomic::{AtomicBool, Ordering};
 use virtiofsd_fuse::Server;
 
-/// What a file system has that is carried over: three bytes, once it was made ready.
+/// What a file system has that is carried over: three bytes, once it was made ready and nobody cancelled that.
 #[derive(Drop)]
 pub struct Carried {
     is_ready: bool,
@@ -29,8 +29,8 @@ impl SerializableFileSystem for Recorder<'_, Carried> {
 
     ghost may_apply = { λ before had failed has after. ⊤ };
 
-    fn prepare_serialization(&mut self, _cancel: &AtomicBool) {
-        self.kept.is_ready = true;
+    fn prepare_serialization(&mut self, cancel: &AtomicBool) {
+        self.kept.is_ready = !cancel.load(Ordering::Relaxed);
     }
 
     fn serialize<W: Write>(&mut self, w: &mut W) -> io::Result<()> {
@@ -67,6 +67,7 @@ fn server_hands_its_file_system_over(rt: HostRuntime) {
     let mut server = Server::resume(files, 4096, FsOptions::from_bits_retain(5));
     let mut out = Vec::new(rt.alloc());
     let busy = Err(ErrorKind::ResourceBusy);
+    server.prepare_serialization(&AtomicBool::new(true));
     expect_same(&rt, kind_of(server.serialize(&mut out)), busy);
     server.prepare_serialization(&AtomicBool::new(false));
     expect_same(&rt, kind_of(server.serialize(&mut out)), Ok(()));
