@@ -9,7 +9,8 @@ use Rattle.fs_queue.specs.declared.layout.QueueLayout.{QueueLayout}
 use Rattle.fs_queue.specs.declared.look.Look.TheVariants as looks
 use Rattle.fs_queue.specs.declared.fault.QueueError.{QueueError}
 use Rattle.fs_queue.specs.declared.fault.QueueError.TheVariants as stop
-use Rattle.fs_queue.specs.Queue.{Queue, element_at, index_at, at_position}
+use Rattle.fs_queue.specs.Queue.{Queue, element_at, index_at}
+use Rattle.fs_queue.specs.Walking.{at_position}
 use Rattle.fs_queue.specs.Chain.{Found, IsChain, HasFault, StopsQueue, chain}
 use Rattle.fs_queue.specs.Look.{looked}
 use Rattle.fs_queue.specs.Taking.{Offer, Refuses, offer_of, on_head, on_look, offer, may_lack_memory}

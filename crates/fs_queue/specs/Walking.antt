@@ -1,5 +1,5 @@
--- What the walk's values say.
-use Rattle.std.specs.Prelude.{◌≡◌, ℕ, ◌+◌, ◌*◌, ◌^◌, ◌<◌, true, All, List}
+-- What the values of the code say, by the plain definitions.
+use Rattle.std.specs.Prelude.{◌≡◌, ℕ, ◌+◌, ◌*◌, ◌^◌, ◌<◌, true, false, All, List}
 use Rattle.vm_iotlb.specs.declared.permissions.Permissions.TheVariants.{Read}
 use Rattle.vm_memory.specs.Memory.{Memory, bytes, reach}
 use Rattle.fs_queue.specs.declared.descriptor.Descriptor.{Descriptor}
@@ -8,7 +8,13 @@ use Rattle.fs_queue.specs.declared.walk.Verdict.{Verdict}
 use Rattle.fs_queue.specs.declared.walk.Verdict.TheVariants.{Joins, Leads, Faulty, Stops}
 use Rattle.fs_queue.specs.declared.walk.Walked as walked
 use Rattle.fs_queue.specs.declared.walk.Walked.TheVariants as comes_to
+use Rattle.fs_queue.specs.declared.layout.QueueLayout.{QueueLayout}
+use Rattle.fs_queue.specs.Queue.{Queue, resumed}
 use Rattle.fs_queue.specs.Chain.{Visit, Found, IsChain, HasFault, StopsQueue}
+
+-- the queue with the numbers of a layout, at a position, which isn't stopped
+abbrev pub at_position : QueueLayout → (position : ℕ) → Queue
+at_position l position = resumed l.size l.desc l.avail l.used position false
 
 -- a step at an entry of a table
 abbrev pub in_table : DescriptorTable → (index left : ℕ) → Visit

@@ -1,7 +1,7 @@
 //! What waits in the available ring (VIRTIO 1.2, 2.7.6).
 
 ghost use Rattle.std.specs.Prelude.{◌≡◌, ℕ, IfOk, IsTrue, OnErr};
-ghost use Rattle.fs_queue.specs.Queue.{at_position};
+ghost use Rattle.fs_queue.specs.Walking.{at_position};
 ghost use Rattle.fs_queue.specs.Look.{looked, IfRefused};
 ghost use Rattle.fs_queue.specs.Taking.{may_lack_memory, on_look, stops_queue};
 

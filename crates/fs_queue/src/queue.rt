@@ -73,7 +73,7 @@ impl Queue {
 
     /// A queue of which so many chains were returned, modulo 2^16, and which is stopped or not.
     pub fn resume(layout: QueueLayout, position: u16, stopped: bool) -> Queue
-        ensures { result ≡ resumed layout position stopped }
+        ensures { result ≡ resumed layout.size layout.desc layout.avail layout.used position stopped }
     {
         Queue {
             layout,

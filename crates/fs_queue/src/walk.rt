@@ -4,7 +4,6 @@ ghost use Rattle.std.specs.Prelude.{◌≡◌, ◌+◌, ◌*◌, ◌<◌, ◌^�
 ghost use Rattle.vm_values.specs.Fields.{AllFit, spelled};
 ghost use Rattle.vm_iotlb.specs.declared.permissions.Permissions.TheVariants.{Read};
 ghost use Rattle.vm_memory.specs.Memory.{reach};
-ghost use Rattle.fs_queue.specs.Queue.{at_position};
 ghost use Rattle.fs_queue.specs.Records.{descriptor};
 
 use crate::descriptor::{Descriptor, Descriptors, read_descriptor};
@@ -44,7 +43,7 @@ pub(crate) enum Walked {
 }
 
 ghost use Rattle.fs_queue.specs.Chain.{descriptor_at, indirect_verdict, ordinary_verdict, verdict, chain, own_table};
-ghost use Rattle.fs_queue.specs.Walking.{in_table, found_of, IfJoins, IfLeads, EndsIn64Bits, AreTheTable, DescriptorsFit};
+ghost use Rattle.fs_queue.specs.Walking.{at_position, in_table, found_of, IfJoins, IfLeads, EndsIn64Bits, AreTheTable, DescriptorsFit};
 
 // The bytes of a table, where one window has all of them.
 fn table_bytes<'a, M: GuestMemory, B: NewBitmap>(

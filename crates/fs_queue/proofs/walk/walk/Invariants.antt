@@ -1,7 +1,6 @@
 use Rattle.std.proofs.Common.{◌≡◌, ◌+◌, IfSome}
-use Rattle.fs_queue.specs.Queue.{at_position}
 use Rattle.fs_queue.specs.Chain.{chain}
-use Rattle.fs_queue.specs.Walking.{AllEndIn64Bits, AreTheTable, EndsIn64Bits}
+use Rattle.fs_queue.specs.Walking.{at_position, AllEndIn64Bits, AreTheTable, EndsIn64Bits}
 use Rattle.fs_queue.proofs.WalkLemmas.{tables_left, prepend, rest_of}
 use Rattle.fs_queue.proofs.walk.walk.Given as goal
 
