@@ -5,8 +5,14 @@ use Rattle.vm_iotlb.specs.declared.permissions.Permissions.TheVariants.{Read}
 use Rattle.vm_memory.specs.Memory.{Memory, number, reach}
 use Rattle.fs_queue.specs.declared.fault.ChainFault.{ChainFault}
 use Rattle.fs_queue.specs.declared.fault.ChainFault.TheVariants.{TooLong, NextOutOfTable, AddressOverflow, IndirectWithNext, IndirectNested, IndirectLength, TableUnreachable}
-use Rattle.fs_queue.specs.declared.descriptor.Descriptor.{Descriptor}
 use Rattle.fs_queue.specs.Queue.{Queue, has_bit}
+
+-- an entry of a descriptor table: where its bytes are, how many, its flags, and the entry that follows (2.7.5)
+pub record Descriptor : Type 0 where
+  pub addr : ℕ
+  pub len : ℕ
+  pub flags : ℕ
+  pub next : ℕ
 
 -- the entry of a table at an address: le64 addr, le32 len, le16 flags, le16 next (2.7.5)
 abbrev pub descriptor_at : Memory → ℕ → Descriptor

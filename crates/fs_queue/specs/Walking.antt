@@ -2,7 +2,6 @@
 use Rattle.std.specs.Prelude.{◌≡◌, ℕ, ◌+◌, ◌*◌, ◌^◌, ◌<◌, true, false, All, List}
 use Rattle.vm_iotlb.specs.declared.permissions.Permissions.TheVariants.{Read}
 use Rattle.vm_memory.specs.Memory.{Memory, bytes, reach}
-use Rattle.fs_queue.specs.declared.descriptor.Descriptor.{Descriptor}
 use Rattle.fs_queue.specs.declared.look.Look as code_look
 use Rattle.fs_queue.specs.declared.look.Look.TheVariants as finds
 use Rattle.fs_queue.specs.declared.walk.DescriptorTable as code_table
@@ -13,7 +12,7 @@ use Rattle.fs_queue.specs.declared.walk.Walked.TheVariants as comes_to
 use Rattle.fs_queue.specs.declared.layout.QueueLayout.{QueueLayout}
 use Rattle.fs_queue.specs.Queue.{Queue, resumed}
 use Rattle.fs_queue.specs.Look.{Look, Idle, Head, Refused}
-use Rattle.fs_queue.specs.Chain.{DescriptorTable, Visit, Verdict, Joins, Leads, Faulty, Stops, Found, IsChain, HasFault, StopsQueue}
+use Rattle.fs_queue.specs.Chain.{Descriptor, DescriptorTable, Visit, Verdict, Joins, Leads, Faulty, Stops, Found, IsChain, HasFault, StopsQueue}
 
 -- the queue with the numbers of a layout, at a position, which isn't stopped
 abbrev pub at_position : QueueLayout → (position : ℕ) → Queue

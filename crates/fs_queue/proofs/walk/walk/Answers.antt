@@ -1,7 +1,6 @@
 use Rattle.std.proofs.Common.{◌+◌, ◌<◌, ◌^◌, ◌∙◌, ap, sym, arith}
 use Rattle.std.proofs.lemmas.List.Elements.{All-push}
-use Rattle.fs_queue.specs.declared.descriptor.Descriptor.{Descriptor}
-use Rattle.fs_queue.specs.Chain.{DescriptorTable, IsChain}
+use Rattle.fs_queue.specs.Chain.{Descriptor, DescriptorTable, IsChain}
 use Rattle.fs_queue.specs.Walking.{table_of, AllEndIn64Bits}
 use Rattle.fs_queue.proofs.WalkLemmas.{rest_of, walk_stops, walk_faulty, walk_ends, walk_next, walk_leads}
 use Rattle.fs_queue.proofs.walk.walk.Goals as goal
@@ -40,9 +39,9 @@ returns-then-not-has_next-clause-fit g c =
 pub loop-descriptors-preserved : goal.loop-descriptors-preserved
 unfolding AllEndIn64Bits
 loop-descriptors-preserved g c = rw c.in_ok-push-in-Joins.ensures.ok (record {
-  chain = walk_next (g.M.GuestMemory.memory c.args.mem.now c.args.host.now) (table_of c.loop-descriptors.table) c.loop-descriptors.index c.loop-descriptors.left c.in-Joins.descriptor
+  chain = rw (ap (λ (d : Descriptor). d.next) c.descriptor.view_is) (walk_next (g.M.GuestMemory.memory c.args.mem.now c.args.host.now) (table_of c.loop-descriptors.table) c.loop-descriptors.index c.loop-descriptors.left c.in-Joins.descriptor
       c.loop-descriptors.descriptors.items _ (rw c.in-Joins.is at c.in_ok-step.ensures.verdict) (sym c.has_next.ensures ∙ c.if-not-has_next.false) (rw c.in-Joins.is at c.in_ok-step.ensures.more)
-      c.loop-descriptors.invariant.chain;
+      c.loop-descriptors.invariant.chain);
   fit = All-push (λ (d : Descriptor). d.addr + d.len < 2 ^ 64) _ _ c.loop-descriptors.invariant.fit (rw c.in-Joins.is at c.in_ok-step.ensures.fits);
   ends = c.loop-descriptors.invariant.ends;
   whole = c.loop-descriptors.invariant.whole;
