@@ -153,7 +153,6 @@ impl Queue {
     ) -> bool
         requires lies { TakenLiesIn (lengths host.old) taken }
         requires fits { length reply.now ≤ room_places taken.chain }
-        requires small { length reply.now < 2 ^ 32 }
         ensures stored { (m : Memory) (asked : Asked) → m.host ≡ host.old → IsTaken m self.old asked taken →
             record m { host = host.new } ≡ returned m self.old taken.head (room_of asked) reply.now }
         ensures told { (m : Memory) (asked : Asked) → m.host ≡ host.old → IsTaken m self.old asked taken →
