@@ -1,9 +1,8 @@
 -- Laws that follow from what a step is.
 use Rattle.std.specs.Prelude.{◌≡◌, ◌↔◌, ℕ, List, length, flat_map}
 use Rattle.vm_memory.specs.Memory.{Memory, bytes}
-use Rattle.fs_queue.specs.declared.descriptor.Descriptor.{Descriptor}
 use Rattle.fs_queue.specs.Queue.{Queue}
-use Rattle.fs_queue.specs.Chain.{IsChain, chain}
+use Rattle.fs_queue.specs.Chain.{Descriptor, IsChain, chain}
 use Rattle.fs_queue.specs.Taking.{readable, writable, total_len, Asks, asked_by, Offers, offer}
 use Rattle.virtiofsd_fuse.specs.Serving.{May, Served}
 use Rattle.fs_device.specs.Step.{Calls, ServesRequest}

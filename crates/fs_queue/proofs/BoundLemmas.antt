@@ -4,13 +4,9 @@ use Rattle.std.specs.Prelude.{◌==◌, ◌||◌, nat_le}
 use Rattle.std.proofs.lemmas.Bool.{eqb-false}
 use Rattle.vm_iotlb.specs.declared.permissions.Permissions.TheVariants.{Read}
 use Rattle.vm_memory.specs.Memory.{Memory, reach}
-use Rattle.fs_queue.specs.declared.descriptor.Descriptor.{Descriptor}
 use Rattle.fs_queue.specs.declared.fault.ChainFault.{ChainFault}
-use Rattle.fs_queue.specs.declared.walk.DescriptorTable.{DescriptorTable}
-use Rattle.fs_queue.specs.declared.walk.Verdict.{Verdict}
-use Rattle.fs_queue.specs.declared.walk.Verdict.TheVariants.{Joins, Leads, Faulty, Stops}
 use Rattle.fs_queue.specs.Queue.{Queue}
-use Rattle.fs_queue.specs.Chain.{Visit, descriptor_at, has_next, verdict, verdict_at, indirect_verdict, ordinary_verdict, is_indirect, ends_in_64_bits, next_visit, onward, path, first_visit, walk}
+use Rattle.fs_queue.specs.Chain.{Descriptor, DescriptorTable, Visit, Verdict, Joins, Leads, Faulty, Stops, descriptor_at, has_next, verdict, verdict_at, indirect_verdict, ordinary_verdict, is_indirect, ends_in_64_bits, next_visit, onward, path, first_visit, walk}
 use Rattle.fs_queue.proofs.WalkLemmas.{tables_left}
 
 -- how many steps a walk may have from one on

@@ -6,12 +6,13 @@ use Rattle.vm_memory_core.specs.Host.{Place}
 use Rattle.vm_iotlb.specs.declared.permissions.Permissions.TheVariants.{Read, Write}
 use Rattle.vm_memory.specs.Memory.{Memory, addresses, located, location, reach}
 use Rattle.fs_queue.specs.declared.layout.QueueLayout.{QueueLayout}
-use Rattle.fs_queue.specs.declared.look.Look.TheVariants as looks
 use Rattle.fs_queue.specs.declared.fault.QueueError.{QueueError}
 use Rattle.fs_queue.specs.declared.fault.QueueError.TheVariants as stop
-use Rattle.fs_queue.specs.Queue.{Queue, element_at, index_at, at_position}
+use Rattle.fs_queue.specs.Queue.{Queue, element_at, index_at}
+use Rattle.fs_queue.specs.Walking.{at_position}
 use Rattle.fs_queue.specs.Chain.{Found, IsChain, HasFault, StopsQueue, chain}
 use Rattle.fs_queue.specs.Look.{looked}
+use Rattle.fs_queue.specs.Look as looks
 use Rattle.fs_queue.specs.Taking.{Offer, Refuses, offer_of, on_head, on_look, offer, may_lack_memory}
 use Rattle.fs_queue.specs.Windows.{Ends, Lacks, ends_found, ends_at, used_addresses}
 use Rattle.fs_queue.specs.Windows as held

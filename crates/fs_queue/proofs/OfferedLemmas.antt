@@ -1,16 +1,14 @@
--- what a chain that is offered asks. It stands here since what the available ring holds has no name outside this crate
+-- what a chain that is offered asks
 use Rattle.std.proofs.Common.{◌≡◌, ℕ, Bool, true, false, ◌&&◌, not, List, ap, sym, ◌∙◌}
 use Rattle.std.specs.Prelude.{if◌then◌else◌}
 use Rattle.vm_iotlb.specs.declared.permissions.Permissions.TheVariants.{Read, Write}
 use Rattle.vm_memory.specs.Memory.{Memory, reach}
-use Rattle.fs_queue.specs.declared.descriptor.Descriptor.{Descriptor}
 use Rattle.fs_queue.specs.declared.fault.QueueError.{QueueError}
 use Rattle.fs_queue.specs.declared.fault.QueueError.TheVariants as stop
-use Rattle.fs_queue.specs.declared.look.Look.{Look}
-use Rattle.fs_queue.specs.declared.look.Look.TheVariants as look
 use Rattle.fs_queue.specs.Queue.{Queue, element_at, index_at}
-use Rattle.fs_queue.specs.Chain.{Found, IsChain, HasFault, StopsQueue, chain}
-use Rattle.fs_queue.specs.Look.{looked}
+use Rattle.fs_queue.specs.Chain.{Descriptor, Found, IsChain, HasFault, StopsQueue, chain}
+use Rattle.fs_queue.specs.Look.{Look, looked}
+use Rattle.fs_queue.specs.Look as look
 use Rattle.fs_queue.specs.Taking.{Asked, Asks, asked_by, Offer, Refuses, Offers, offer_of, on_head, on_look, offer}
 
 past_refusal : (b : Bool) (e : QueueError) (rest : Offer) (head : ℕ) (asked : Asked) → (if b then Refuses e else rest) ≡ Offers head asked → rest ≡ Offers head asked

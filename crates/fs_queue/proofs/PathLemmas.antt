@@ -4,14 +4,10 @@ use Rattle.std.specs.Prelude.{◌==◌, ◌||◌, if◌then◌else◌}
 use Rattle.std.proofs.lemmas.Bool.{eqb-true, ltb-true, ltb-false, leb-false, lt-ltb, leb-true, or_parts, and_right, not-false}
 use Rattle.vm_iotlb.specs.declared.permissions.Permissions.TheVariants.{Read}
 use Rattle.vm_memory.specs.Memory.{Memory, reach}
-use Rattle.fs_queue.specs.declared.descriptor.Descriptor.{Descriptor}
 use Rattle.fs_queue.specs.declared.fault.ChainFault.{ChainFault}
 use Rattle.fs_queue.specs.declared.fault.ChainFault.TheVariants.{TooLong, NextOutOfTable, AddressOverflow, IndirectWithNext, IndirectNested, IndirectLength}
-use Rattle.fs_queue.specs.declared.walk.DescriptorTable.{DescriptorTable}
-use Rattle.fs_queue.specs.declared.walk.Verdict.{Verdict}
-use Rattle.fs_queue.specs.declared.walk.Verdict.TheVariants.{Joins, Leads, Faulty, Stops}
 use Rattle.fs_queue.specs.Queue.{Queue}
-use Rattle.fs_queue.specs.Chain.{Visit, has_next, is_indirect, ends_in_64_bits, indirect_verdict, ordinary_verdict, verdict, verdict_at, next_visit, onward, path, first_visit, walk}
+use Rattle.fs_queue.specs.Chain.{Descriptor, DescriptorTable, Visit, Verdict, Joins, Leads, Faulty, Stops, has_next, is_indirect, ends_in_64_bits, indirect_verdict, ordinary_verdict, verdict, verdict_at, next_visit, onward, path, first_visit, walk}
 use Rattle.fs_queue.specs.Walking.{in_table}
 use Rattle.fs_queue.specs.Paths.{entry_address, entry_of, HasEntry, PassesOrdinary, PassesTable, FollowsByNext, FollowsByTable, Follows, EachFollows, IsPath, IsFront}
 use Rattle.fs_queue.proofs.WalkLemmas.{tables_left}

@@ -13,9 +13,8 @@ use Rattle.vm_memory.specs.Memory.{Memory, addresses, circular, located, locatio
 use Rattle.vm_memory.specs.RangeAnswers.{Checks, Reads}
 use Rattle.vm_memory.proofs.Places.{circular-is, length-addresses, addresses-append}
 use Rattle.vm_memory.proofs.RangeLemmas.{reach-from}
-use Rattle.fs_queue.specs.declared.descriptor.Descriptor.{Descriptor}
 use Rattle.fs_queue.specs.Records.{descriptor}
-use Rattle.fs_queue.specs.Chain.{descriptor_at}
+use Rattle.fs_queue.specs.Chain.{Descriptor, descriptor_at}
 use Rattle.fs_queue.specs.Look.{IsUnmapped}
 
 below : (n : ℕ) → n < 2 ^ 64 → nat_lt n (2 ^ 64) ≡ true

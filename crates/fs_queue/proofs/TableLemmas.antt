@@ -12,9 +12,8 @@ use Rattle.vm_memory_core.specs.Window.{Window, byte_in, places_of}
 use Rattle.vm_memory.specs.Slices.{Slices, Gives}
 use Rattle.vm_memory.specs.declared.error.GuestMemoryError.{GuestMemoryError}
 use Rattle.vm_memory.proofs.Places.{addresses-append, bytes-located, circular-is, length-circular}
-use Rattle.fs_queue.specs.declared.descriptor.Descriptor.{Descriptor}
 use Rattle.fs_queue.specs.Records.{descriptor}
-use Rattle.fs_queue.specs.Chain.{descriptor_at}
+use Rattle.fs_queue.specs.Chain.{Descriptor, descriptor_at}
 use Rattle.fs_queue.proofs.ReadLemmas.{decoded, front_bytes, back_bytes, length-bytes}
 use Rattle.fs_queue.proofs.TakeLemmas.{list_all-append, list_all-located}
 

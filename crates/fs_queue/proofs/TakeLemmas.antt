@@ -18,9 +18,8 @@ use Rattle.vm_memory.specs.Memory.{Memory, addresses, located, location, after, 
 use Rattle.fs_queue.specs.declared.fault.ChainFault.TheVariants.{RequestUnreachable, RoomUnreachable}
 use Rattle.fs_queue.specs.Walking.{AllEndIn64Bits}
 use Rattle.fs_queue.specs.Taking.{readable, writable, total_len, all_reach, asked_by, Asks, CannotAsk}
-use Rattle.fs_queue.specs.declared.descriptor.Descriptor.{Descriptor}
 use Rattle.fs_queue.specs.Queue.{Queue, element_at, index_at}
-use Rattle.fs_queue.specs.Chain.{is_writable}
+use Rattle.fs_queue.specs.Chain.{Descriptor, is_writable}
 use Rattle.fs_queue.specs.Windows.{of_direction, addresses_of, used_addresses}
 use Rattle.vm_memory.proofs.Places.{Where, length-addresses, located-append, after-after, bytes-located}
 
@@ -140,9 +139,6 @@ direction_done f false ds i old h = rw (drop_all i ds h) (ap Some (append-nil ol
 pub after-none : (o : Option (List Place)) → after [] o ≡ o
 after-none None = refl
 after-none (Some ps) = refl
-
-abbrev pub no_descriptor : Descriptor
-no_descriptor = record { addr = 0; len = 0; flags = 0; next = 0 }
 
 -- ---- what a chain asks
 

@@ -2,12 +2,8 @@
 use Rattle.std.proofs.Common.{◌≡◌, ℕ, Bool, true, false, ◌+◌, ◌-◌, ◌<◌, ◌++◌, List, [], ◌∷◌, refl, ap, sym, ◌∙◌, arith, suc, Some, None}
 use Rattle.std.specs.Prelude.{if◌then◌else◌}
 use Rattle.vm_memory.specs.Memory.{Memory}
-use Rattle.fs_queue.specs.declared.descriptor.Descriptor.{Descriptor}
 use Rattle.fs_queue.specs.declared.fault.ChainFault.{ChainFault}
-use Rattle.fs_queue.specs.declared.walk.DescriptorTable.{DescriptorTable}
-use Rattle.fs_queue.specs.declared.walk.Verdict.{Verdict}
-use Rattle.fs_queue.specs.declared.walk.Verdict.TheVariants.{Joins, Leads, Faulty, Stops}
-use Rattle.fs_queue.specs.Chain.{Visit, has_next, verdict, next_visit, onward, path, with_front, after_verdict, Found, IsChain, HasFault, StopsQueue, found}
+use Rattle.fs_queue.specs.Chain.{Descriptor, DescriptorTable, Visit, Verdict, Joins, Leads, Faulty, Stops, has_next, verdict, next_visit, onward, path, with_front, after_verdict, Found, IsChain, HasFault, StopsQueue, found}
 use Rattle.fs_queue.specs.Walking.{in_table}
 
 -- how many steps a walk may still have for other than ordinary descriptors: the one that ends it, and one that names a table

@@ -5,11 +5,14 @@ use Rattle.vm_iotlb.specs.declared.permissions.Permissions.TheVariants.{Read}
 use Rattle.vm_memory.specs.Memory.{Memory, number, reach}
 use Rattle.fs_queue.specs.declared.fault.ChainFault.{ChainFault}
 use Rattle.fs_queue.specs.declared.fault.ChainFault.TheVariants.{TooLong, NextOutOfTable, AddressOverflow, IndirectWithNext, IndirectNested, IndirectLength, TableUnreachable}
-use Rattle.fs_queue.specs.declared.descriptor.Descriptor.{Descriptor}
-use Rattle.fs_queue.specs.declared.walk.DescriptorTable.{DescriptorTable}
-use Rattle.fs_queue.specs.declared.walk.Verdict.{Verdict}
-use Rattle.fs_queue.specs.declared.walk.Verdict.TheVariants.{Joins, Leads, Faulty, Stops}
 use Rattle.fs_queue.specs.Queue.{Queue, has_bit}
+
+-- an entry of a descriptor table: where its bytes are, how many, its flags, and the entry that follows (2.7.5)
+pub record Descriptor : Type 0 where
+  pub addr : ℕ
+  pub len : ℕ
+  pub flags : ℕ
+  pub next : ℕ
 
 -- the entry of a table at an address: le64 addr, le32 len, le16 flags, le16 next (2.7.5)
 abbrev pub descriptor_at : Memory → ℕ → Descriptor
@@ -27,11 +30,24 @@ is_writable d = has_bit d.flags 1
 abbrev pub is_indirect : Descriptor → Bool
 is_indirect d = has_bit d.flags 2
 
+-- a table of descriptors: where it begins, how many entries it has, and whether a descriptor names it; else it is the queue's own
+pub record DescriptorTable : Type 0 where
+  pub address : ℕ
+  pub entries : ℕ
+  pub indirect : Bool
+
 -- a step of a walk: an entry of a table, and how many descriptors the chain may still have
 pub record Visit : Type 0 where
   pub table : DescriptorTable
   pub index : ℕ
   pub left : ℕ
+
+-- what the rules say of a step: its descriptor joins the chain, it leads to a table, the chain is faulty, or the queue stops
+pub data Verdict : Type 0 where
+  Joins : Descriptor → Verdict
+  Leads : DescriptorTable → Verdict
+  Faulty : ChainFault → Verdict
+  Stops : Verdict
 
 -- its end is an address
 abbrev pub ends_in_64_bits : Descriptor → Bool

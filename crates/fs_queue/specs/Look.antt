@@ -2,11 +2,15 @@
 use Rattle.std.specs.Prelude.{◌≡◌, ℕ, ◌+◌, ◌*◌, true, false, not, nat_le, nat_lt, ◌==◌, if◌then◌else◌}
 use Rattle.vm_iotlb.specs.declared.permissions.Permissions.TheVariants.{Read}
 use Rattle.vm_memory.specs.Memory.{Memory, reach}
-use Rattle.fs_queue.specs.declared.look.Look.{Look}
-use Rattle.fs_queue.specs.declared.look.Look.TheVariants.{Idle, Head, Refused}
 use Rattle.fs_queue.specs.declared.fault.QueueError.{QueueError}
 use Rattle.fs_queue.specs.declared.fault.QueueError.TheVariants.{AvailIndexUnreachable, AvailTooFar, RingEntryUnreachable, HeadOutOfTable}
 use Rattle.fs_queue.specs.Queue.{Queue, waiting, slot, head}
+
+-- what waits in the available ring: nothing, the head of a chain, or a refusal
+pub data Look : Type 0 where
+  Idle : Look
+  Head : (head : ℕ) → Look
+  Refused : QueueError → Look
 
 -- the head that waits, nothing, or the first refusal that applies
 abbrev pub looked : Memory → Queue → Look

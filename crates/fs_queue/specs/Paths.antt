@@ -2,9 +2,8 @@
 use Rattle.std.specs.Prelude.{◌≡◌, ◌⊎◌, ℕ, ◌+◌, ◌*◌, ◌/◌, ◌%◌, ◌^◌, ◌<◌, true, false, List, [], ◌∷◌, ◌++◌}
 use Rattle.vm_iotlb.specs.declared.permissions.Permissions.TheVariants.{Read}
 use Rattle.vm_memory.specs.Memory.{Memory, reach}
-use Rattle.fs_queue.specs.declared.descriptor.Descriptor.{Descriptor}
 use Rattle.fs_queue.specs.Queue.{Queue}
-use Rattle.fs_queue.specs.Chain.{Visit, descriptor_at, has_next, is_indirect, first_visit, walk}
+use Rattle.fs_queue.specs.Chain.{Descriptor, Visit, descriptor_at, has_next, is_indirect, first_visit, walk}
 
 -- where the entry of a step is
 abbrev pub entry_address : Visit → ℕ

@@ -3,7 +3,6 @@ use Rattle.std.specs.Prelude.{ℕ, ◌+◌, ◌-◌, ◌*◌, ◌%◌, ◌^◌, 
 use Rattle.std.specs.Int.{w16}
 pub use Rattle.vm_values.specs.Bits.{has_bit}
 use Rattle.vm_memory.specs.Memory.{Memory, number}
-use Rattle.fs_queue.specs.declared.layout.QueueLayout.{QueueLayout}
 
 -- where a queue's parts are, how many of its chains were returned, modulo 2^16, and whether it stopped
 pub record Queue : Type 0 where
@@ -18,13 +17,9 @@ pub record Queue : Type 0 where
 abbrev pub fresh : (size desc avail used : ℕ) → Queue
 fresh size desc avail used = record { size = size; desc = desc; avail = avail; used = used; position = 0; stopped = false }
 
--- a queue of this layout at a position, which isn't stopped
-abbrev pub at_position : QueueLayout → (position : ℕ) → Queue
-at_position l position = record { size = l.size; desc = l.desc; avail = l.avail; used = l.used; position = position; stopped = false }
-
 -- a queue of this layout of which so many chains were returned, and which is stopped or not
-abbrev pub resumed : QueueLayout → (position : ℕ) → (stopped : Bool) → Queue
-resumed l position stopped = record { size = l.size; desc = l.desc; avail = l.avail; used = l.used; position = position; stopped = stopped }
+abbrev pub resumed : (size desc avail used position : ℕ) → (stopped : Bool) → Queue
+resumed size desc avail used position stopped = record { size = size; desc = desc; avail = avail; used = used; position = position; stopped = stopped }
 
 -- a queue that hands out no chain until it is reset
 abbrev pub stopped : Queue → Queue

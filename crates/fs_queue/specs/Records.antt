@@ -2,7 +2,7 @@
 use Rattle.std.specs.Prelude.{List, [], ◌∷◌}
 use Rattle.vm_values.specs.Fields.{Field}
 use Rattle.vm_values.specs.Fields as fields
-use Rattle.fs_queue.specs.declared.descriptor.Descriptor.{Descriptor}
+use Rattle.fs_queue.specs.Chain.{Descriptor}
 use Rattle.fs_queue.specs.declared.used.UsedUpdate.{UsedUpdate}
 
 -- struct virtq_desc (2.7.5)

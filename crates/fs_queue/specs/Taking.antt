@@ -8,12 +8,10 @@ use Rattle.fs_queue.specs.declared.fault.ChainFault.{ChainFault}
 use Rattle.fs_queue.specs.declared.fault.ChainFault.TheVariants.{OverLimit, RequestUnreachable, RoomUnreachable}
 use Rattle.fs_queue.specs.declared.fault.QueueError.{QueueError}
 use Rattle.fs_queue.specs.declared.fault.QueueError.TheVariants as stop
-use Rattle.fs_queue.specs.declared.look.Look.{Look}
-use Rattle.fs_queue.specs.declared.look.Look.TheVariants as look
 use Rattle.fs_queue.specs.Queue.{Queue, element_at, index_at, stopped}
-use Rattle.fs_queue.specs.declared.descriptor.Descriptor.{Descriptor}
-use Rattle.fs_queue.specs.Chain.{is_writable, Found, IsChain, HasFault, StopsQueue, chain}
-use Rattle.fs_queue.specs.Look.{looked}
+use Rattle.fs_queue.specs.Chain.{Descriptor, is_writable, Found, IsChain, HasFault, StopsQueue, chain}
+use Rattle.fs_queue.specs.Look.{Look, looked}
+use Rattle.fs_queue.specs.Look as look
 
 -- the entries that the device reads, in their order
 abbrev pub readable : List Descriptor → List Descriptor

@@ -9,14 +9,13 @@ use Rattle.vm_memory.specs.Memory.{Memory, addresses, location, located}
 use Rattle.fs_queue.specs.declared.fault.ChainFault.{ChainFault}
 use Rattle.fs_queue.specs.declared.fault.QueueError.{QueueError}
 use Rattle.fs_queue.specs.declared.fault.QueueError.TheVariants as stop
-use Rattle.fs_queue.specs.declared.descriptor.Descriptor.{Descriptor}
 use Rattle.fs_queue.specs.declared.chain.Chain.{Chain}
 use Rattle.fs_queue.specs.declared.chain.ReturnWindows.{ReturnWindows}
 use Rattle.fs_queue.specs.declared.chain.Taken.{Taken}
 use Rattle.fs_queue.specs.declared.take.Asking.{Asking}
 use Rattle.fs_queue.specs.declared.take.Asking.TheVariants.{Nobody, Refused, Took}
 use Rattle.fs_queue.specs.Queue.{Queue, element_at, index_at}
-use Rattle.fs_queue.specs.Chain.{Found, IsChain, chain}
+use Rattle.fs_queue.specs.Chain.{Descriptor, Found, IsChain, chain}
 use Rattle.fs_queue.specs.Taking.{readable, writable, Asked, Asks, CannotAsk, Idle, Refuses, Offers, offer, may_lack_memory, stops_queue, after_refusal}
 
 -- the places of the used element and the used index, and of the available flags, or which of them has an address without a place

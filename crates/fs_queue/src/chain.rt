@@ -1,6 +1,6 @@
 //! A chain that was taken from a queue.
 
-ghost use Rattle.std.specs.Prelude.{◌≡◌, length, MatchResult};
+ghost use Rattle.std.specs.Prelude.{◌≡◌, ◌<◌, ◌^◌, length, MatchResult};
 ghost use Rattle.vm_memory_core.specs.Window.{places};
 
 use crate::fault::ChainFault;
@@ -16,6 +16,7 @@ pub struct Chain {
     pub(crate) room_len: usize,
     pub ghost request_counted: { request_len ≡ length (places readable.items) },
     pub ghost room_counted: { room_len ≡ length (places writable.items) },
+    pub ghost short: { length (places writable.items) < 2 ^ 32 },
 }
 
 impl Chain {

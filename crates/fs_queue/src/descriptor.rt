@@ -10,17 +10,28 @@ ghost use Rattle.fs_queue.specs.Chain.{descriptor_at};
 use crate::access::read;
 use smallvec::SmallVec;
 use std::alloc::{AllocError, Global};
+use std::marker::Model;
 use vm_memory::GuestMemory;
 use vm_memory_core::{HostMemory, NewBitmap};
 use vm_values::{ByteValued, get_fields, put_fields};
 
 /// An entry of a descriptor table: le64 addr, le32 len, le16 flags, le16 next, 16 bytes in all (VIRTIO 1.2, 2.7.5).
 #[derive(Clone, Copy, Debug, Default, PartialEq, Eq)]
-pub struct Descriptor {
-    pub addr: u64,
-    pub len: u32,
-    pub flags: u16,
-    pub next: u16,
+pub(crate) struct Descriptor {
+    pub(crate) addr: u64,
+    pub(crate) len: u32,
+    pub(crate) flags: u16,
+    pub(crate) next: u16,
+}
+
+impl Model for Descriptor {
+    ghost use Rattle.fs_queue.specs.Chain.{Descriptor};
+
+    ghost Value = { Descriptor };
+
+    ghost view = { λ d. record { addr = d.addr; len = d.len; flags = d.flags; next = d.next } };
+
+    ghost inverse = { λ d. record { addr = d.addr; len = d.len; flags = d.flags; next = d.next } };
 }
 
 /// Descriptors in order, of which the first eight take no memory.

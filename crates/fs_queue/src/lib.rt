@@ -14,7 +14,6 @@ mod used;
 mod walk;
 
 pub use chain::{Chain, Taken};
-pub use descriptor::Descriptor;
 pub use fault::{ChainFault, QueueError, QueueLayoutError};
 pub use layout::QueueLayout;
 pub use queue::Queue;

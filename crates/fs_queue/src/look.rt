@@ -1,9 +1,6 @@
 //! What waits in the available ring (VIRTIO 1.2, 2.7.6).
 
 ghost use Rattle.std.specs.Prelude.{◌≡◌, ℕ, IfOk, IsTrue, OnErr};
-ghost use Rattle.fs_queue.specs.Queue.{at_position};
-ghost use Rattle.fs_queue.specs.Look.{looked, IfRefused};
-ghost use Rattle.fs_queue.specs.Taking.{may_lack_memory, on_look, stops_queue};
 
 use crate::access::read_u16;
 use crate::fault::QueueError;
@@ -20,6 +17,10 @@ pub(crate) enum Look {
     Refused(QueueError),
 }
 
+ghost use Rattle.fs_queue.specs.Walking.{at_position, look_of};
+ghost use Rattle.fs_queue.specs.Look.{looked, IfRefused};
+ghost use Rattle.fs_queue.specs.Taking.{may_lack_memory, on_look, stops_queue};
+
 /// What waits at a position of a queue that isn't stopped. Memory is wanting only where a translation fails.
 pub(crate) fn next_head<M: GuestMemory, B: NewBitmap>(
     alloc: Global,
@@ -29,8 +30,8 @@ pub(crate) fn next_head<M: GuestMemory, B: NewBitmap>(
     mem: &M,
 ) -> Result<Look, AllocError>
     requires { M.IsHeld mem.now host.now }
-    ensures look { IfOk result (λ l. l ≡ looked (M.memory mem.now host.now) (at_position layout position)) }
-    ensures stops { IfOk result (λ l. IfRefused l (λ e. IsTrue (stops_queue e))) }
+    ensures look { IfOk result (λ l. look_of l ≡ looked (M.memory mem.now host.now) (at_position layout position)) }
+    ensures stops { IfOk result (λ l. IfRefused (look_of l) (λ e. IsTrue (stops_queue e))) }
     ensures memory { OnErr result ((limit : ℕ) → let m = M.memory mem.now host.now in let q = at_position layout position in
         IsTrue (may_lack_memory m (on_look m limit q (looked m q)))) }
 {

@@ -73,7 +73,7 @@ impl Queue {
 
     /// A queue of which so many chains were returned, modulo 2^16, and which is stopped or not.
     pub fn resume(layout: QueueLayout, position: u16, stopped: bool) -> Queue
-        ensures { result ≡ resumed layout position stopped }
+        ensures { result ≡ resumed layout.size layout.desc layout.avail layout.used position stopped }
     {
         Queue {
             layout,
@@ -153,7 +153,6 @@ impl Queue {
     ) -> bool
         requires lies { TakenLiesIn (lengths host.old) taken }
         requires fits { length reply.now ≤ room_places taken.chain }
-        requires small { length reply.now < 2 ^ 32 }
         ensures stored { (m : Memory) (asked : Asked) → m.host ≡ host.old → IsTaken m self.old asked taken →
             record m { host = host.new } ≡ returned m self.old taken.head (room_of asked) reply.now }
         ensures told { (m : Memory) (asked : Asked) → m.host ≡ host.old → IsTaken m self.old asked taken →

@@ -6,7 +6,7 @@ ghost use Rattle.vm_iotlb.specs.declared.permissions.Permissions.TheVariants.{Wr
 ghost use Rattle.vm_memory_core.specs.Host.{lengths};
 ghost use Rattle.vm_memory_core.specs.Window.{places, AllLieIn};
 ghost use Rattle.vm_memory.specs.Memory.{located, location};
-ghost use Rattle.fs_queue.specs.Walking.{AllEndIn64Bits};
+ghost use Rattle.fs_queue.specs.Walking.{AllEndIn64Bits, at_position};
 
 use crate::access::{add_windows, hold};
 use crate::chain::{Chain, ReturnWindows, Taken};
@@ -27,7 +27,6 @@ pub(crate) enum Asking {
     Took(Taken),
 }
 
-ghost use Rattle.fs_queue.specs.Queue.{at_position};
 ghost use Rattle.fs_queue.specs.Taking.{total_len, asked_by, offer, may_lack_memory, stops_queue};
 ghost use Rattle.fs_queue.specs.Windows.{room_places, of_direction, access_of, addresses_of, used_addresses, ends_of, ends_at, EndsLieIn, ChainLiesIn, HoldsChain, AskingAs, AskingLiesIn, HoldsWindows, HasItsWindows, IfTook};
 ghost use Rattle.fs_queue.specs.Chain.{IsChain};

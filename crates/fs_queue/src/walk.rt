@@ -4,7 +4,6 @@ ghost use Rattle.std.specs.Prelude.{◌≡◌, ◌+◌, ◌*◌, ◌<◌, ◌^�
 ghost use Rattle.vm_values.specs.Fields.{AllFit, spelled};
 ghost use Rattle.vm_iotlb.specs.declared.permissions.Permissions.TheVariants.{Read};
 ghost use Rattle.vm_memory.specs.Memory.{reach};
-ghost use Rattle.fs_queue.specs.Queue.{at_position};
 ghost use Rattle.fs_queue.specs.Records.{descriptor};
 
 use crate::descriptor::{Descriptor, Descriptors, read_descriptor};
@@ -44,7 +43,7 @@ pub(crate) enum Walked {
 }
 
 ghost use Rattle.fs_queue.specs.Chain.{descriptor_at, indirect_verdict, ordinary_verdict, verdict, chain, own_table};
-ghost use Rattle.fs_queue.specs.Walking.{in_table, found_of, IfJoins, IfLeads, EndsIn64Bits, AreTheTable, DescriptorsFit};
+ghost use Rattle.fs_queue.specs.Walking.{at_position, table_of, in_table, verdict_of, found_of, IfJoins, IfLeads, EndsIn64Bits, AreTheTable, DescriptorsFit};
 
 // The bytes of a table, where one window has all of them.
 fn table_bytes<'a, M: GuestMemory, B: NewBitmap>(
@@ -101,7 +100,7 @@ fn read_entry<M: GuestMemory, B: NewBitmap>(
 
 // What the rules say of a descriptor that names a table, found in this one.
 fn lead(table: DescriptorTable, index: u16, left: u16, descriptor: Descriptor) -> Verdict
-    ensures verdict { result ≡ indirect_verdict (in_table table index left) descriptor }
+    ensures verdict { verdict_of result ≡ indirect_verdict (in_table (table_of table) index left) descriptor }
     ensures joins { IfJoins result (λ _. ⊥) }
     ensures leads { IfLeads result (λ t. (table.indirect ≡ false) × (t.indirect ≡ true) × EndsIn64Bits t) }
 {
@@ -124,7 +123,7 @@ fn lead(table: DescriptorTable, index: u16, left: u16, descriptor: Descriptor) -
 
 // What the rules say of an ordinary descriptor, where `left` more may join the chain.
 fn ordinary(table: DescriptorTable, index: u16, left: u16, descriptor: Descriptor) -> Verdict
-    ensures verdict { result ≡ ordinary_verdict (in_table table index left) descriptor }
+    ensures verdict { verdict_of result ≡ ordinary_verdict (in_table (table_of table) index left) descriptor }
     ensures fits { IfJoins result (λ d. d.addr + d.len < 2 ^ 64) }
     ensures more { IfJoins result (λ _. 0 < left) }
     ensures leads { IfLeads result (λ _. ⊥) }
@@ -151,7 +150,7 @@ fn step<M: GuestMemory, B: NewBitmap>(
     requires held { M.IsHeld mem.now host.now }
     requires ends { EndsIn64Bits table }
     requires whole { IfSome whole (λ b. AreTheTable (M.memory mem.now host.now) table b.now) }
-    ensures verdict { IfOk result (λ v. v ≡ verdict (M.memory mem.now host.now) (in_table table index left)) }
+    ensures verdict { IfOk result (λ v. verdict_of v ≡ verdict (M.memory mem.now host.now) (in_table (table_of table) index left)) }
     ensures fits { IfOk result (λ v. IfJoins v (λ d. d.addr + d.len < 2 ^ 64)) }
     ensures more { IfOk result (λ v. IfJoins v (λ _. 0 < left)) }
     ensures leads { IfOk result (λ v. IfLeads v (λ t. (table.indirect ≡ false) × (t.indirect ≡ true) × EndsIn64Bits t)) }
@@ -175,7 +174,7 @@ fn step<M: GuestMemory, B: NewBitmap>(
 
 // The queue's own table.
 fn queue_table(layout: QueueLayout) -> DescriptorTable
-    ensures table { result ≡ own_table (at_position layout 0) }
+    ensures table { table_of result ≡ own_table (at_position layout 0) }
     ensures ends { EndsIn64Bits result }
 {
     DescriptorTable {

@@ -1,5 +1,5 @@
 use Rattle.std.proofs.Common.{◌∙◌, ap, sym, refl}
-use Rattle.fs_queue.specs.Queue.{at_position}
+use Rattle.fs_queue.specs.Walking.{at_position}
 use Rattle.fs_queue.specs.Chain.{IsChain, HasFault, StopsQueue}
 use Rattle.fs_queue.specs.Taking.{CannotAsk, asked_by, may_lack_memory, on_look}
 use Rattle.fs_queue.specs.Windows.{HoldsEnds}

@@ -24,7 +24,7 @@ invariant_of-result g c =
     let b : total_len (writable c.args.descriptors.now) ≤ c.args.limit = omega arith in
     let r = length-direction (location (g.M.GuestMemory.memory c.args.mem.now c.args.host.now) Read) (readable c.args.descriptors.now) _ (rw c.in-Some.is at c.in_ok-readable.ensures.found) in
     let w = length-direction (location (g.M.GuestMemory.memory c.args.mem.now c.args.host.now) Write) (writable c.args.descriptors.now) _ (rw c.in-Some-2.is at c.in_ok-writable.ensures.found) in
-    record { request_counted = omega arith; room_counted = omega arith }
+    record { request_counted = omega arith; room_counted = omega arith; short = omega (arith, b, w) }
 
 pub returns-clause-asked : goal.returns-clause-asked
 returns-clause-asked g c =

@@ -1,7 +1,7 @@
 use Rattle.std.proofs.Common.{sym}
 use Rattle.vm_iotlb.specs.declared.permissions.Permissions.TheVariants.{Read}
 use Rattle.vm_memory.specs.Memory.{location}
-use Rattle.fs_queue.specs.Queue.{at_position}
+use Rattle.fs_queue.specs.Walking.{at_position}
 use Rattle.fs_queue.proofs.TakeLemmas.{length-range, length-used}
 use Rattle.fs_queue.proofs.take.hold_ends.Goals as goal
 

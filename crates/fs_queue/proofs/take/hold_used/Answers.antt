@@ -1,7 +1,8 @@
 use Rattle.std.proofs.Common.{sym}
 use Rattle.vm_iotlb.specs.declared.permissions.Permissions.TheVariants.{Write}
 use Rattle.vm_memory.specs.Memory.{addresses, location}
-use Rattle.fs_queue.specs.Queue.{at_position, element_at, index_at}
+use Rattle.fs_queue.specs.Queue.{element_at, index_at}
+use Rattle.fs_queue.specs.Walking.{at_position}
 use Rattle.fs_queue.proofs.TakeLemmas.{found_after, located-lost, lost_after}
 use Rattle.fs_queue.proofs.take.hold_used.Goals as goal
 
