@@ -26,7 +26,7 @@ use Rattle.virtiofsd_fuse.specs.Serving.{May}
 use Rattle.fs_device.specs.declared.error.DeviceError.TheVariants as device_error
 use Rattle.fs_device.specs.declared.refusal.Refusal.TheVariants as why
 use Rattle.fs_device.specs.Step.{State, Exchanged, Step, after_return}
-use Rattle.fs_device.specs.Harvested.{block_pages, host_pages, harvested}
+use Rattle.host_copies.specs.Harvested.{block_pages, host_pages, harvested}
 use Rattle.fs_device.specs.Run as run
 use Rattle.fs_device.specs.Run.{Command, Answer, Turn, Affects, Run, RunTold, KickRun, effect, fresh_queue, with_ranges}
 use Rattle.fs_device.specs.Books.{sent, written, accepted, nodes_listed}

@@ -1,0 +1,3 @@
+pub mod Harvested
+pub mod PageView
+pub mod Applying
