@@ -3,6 +3,7 @@
 
 mod begun;
 mod command;
+mod copies;
 mod device;
 mod error;
 mod exchange;

@@ -11,6 +11,7 @@ use crate::block::{Block, cloned_blocks, copy_across};
 use crate::io_pages::{IoPages, cloned_sets, mark_pages};
 use crate::window::VolatileSlice;
 use std::alloc::{AllocError, Global};
+use std::fmt;
 use std::marker::Model;
 use vm_bitmaps::{NewBitmap, PageBitmap};
 use vm_iotlb::Iotlb;
@@ -262,6 +263,17 @@ impl<B: NewBitmap> HostMemory<B> {
         } else {
             None
         }
+    }
+}
+
+/// Of how many blocks, tables and sets of I/O pages it is, without their bytes.
+impl<B: NewBitmap> fmt::Debug for HostMemory<B> {
+    fn fmt<W: fmt::Write>(&self, f: &mut fmt::Formatter<W>) -> fmt::Result {
+        f.debug_struct("HostMemory")
+            .field("blocks", &self.blocks.len())
+            .field("tables", &self.tables.len())
+            .field("io_pages", &self.io_pages.len())
+            .finish_non_exhaustive()
     }
 }
 
