@@ -194,6 +194,8 @@ effect_quiet s run.UnmapAll = (refl, refl)
 effect_quiet s (run.SetIommu on) = (refl, refl)
 effect_quiet s (run.Kick queue most) = (refl, refl)
 effect_quiet s (run.ResetQueue queue l) = reset_quiet s queue l _
+effect_quiet s run.Image = (refl, refl)
+effect_quiet s run.Harvest = (refl, refl)
 
 quiet_logged : {F : Type 0} (log : F → List LoggedCall) (s : State F) (e : Effect F) (answer : Answer) (after : State F) → IsQuiet s e → (answer, after) ≡ e → Grew log s.files (exchanges_in answer) after.files
 quiet_logged {F} log s e answer after quiet is =
@@ -223,6 +225,8 @@ affect_logged log s run.UnmapAll answer after t = change_logged log s true nothi
 affect_logged log s (run.SetIommu on) answer after t = by_effect log s (run.SetIommu on) answer after t
 affect_logged log s (run.Kick queue most) answer after t = by_effect log s (run.Kick queue most) answer after t
 affect_logged log s (run.ResetQueue queue l) answer after t = by_effect log s (run.ResetQueue queue l) answer after t
+affect_logged log s run.Image answer after t = by_effect log s run.Image answer after t
+affect_logged log s run.Harvest answer after t = by_effect log s run.Harvest answer after t
 
 -- ---- runs
 
@@ -237,6 +241,8 @@ does_logged may log keeps s (run.Kick i most) told (run.Served k) after t = kick
 does_logged may log keeps s (run.Kick i most) told run.Done after t = absurd t
 does_logged may log keeps s (run.Kick i most) told (run.Bytes bytes) after t = absurd t
 does_logged may log keeps s (run.Kick i most) told (run.NewBlockIs number) after t = absurd t
+does_logged may log keeps s (run.Kick i most) told (run.Copied host) after t = absurd t
+does_logged may log keeps s (run.Kick i most) told (run.Pages pages) after t = absurd t
 does_logged may log keeps s (run.Kick i most) told (run.IsRefused refusal) after t = absurd t
 does_logged may log keeps s (run.GuestRead a n) told answer after t = effect_logged log s (run.GuestRead a n) told answer after t
 does_logged may log keeps s (run.GuestWrite a bs) told answer after t = effect_logged log s (run.GuestWrite a bs) told answer after t
@@ -249,6 +255,8 @@ does_logged may log keeps s (run.Unmap iova n) told answer after t = effect_logg
 does_logged may log keeps s run.UnmapAll told answer after t = effect_logged log s run.UnmapAll told answer after t
 does_logged may log keeps s (run.SetIommu on) told answer after t = effect_logged log s (run.SetIommu on) told answer after t
 does_logged may log keeps s (run.ResetQueue queue l) told answer after t = effect_logged log s (run.ResetQueue queue l) told answer after t
+does_logged may log keeps s run.Image told answer after t = effect_logged log s run.Image told answer after t
+does_logged may log keeps s run.Harvest told answer after t = effect_logged log s run.Harvest told answer after t
 
 performs_logged : {F : Type 0} (may : May F) (log : F → List LoggedCall) → Keeps may log → (s : State F) (command : Command) (told : Told) (answer : Answer) (after : State F) →
     Performs may s command told answer after → Grew log s.files (exchanges_in answer) after.files
@@ -266,6 +274,8 @@ performs_logged may log keeps s command told run.Done after t = does_logged may 
 performs_logged may log keeps s command told (run.Bytes bytes) after t = does_logged may log keeps s command told _ after t
 performs_logged may log keeps s command told (run.NewBlockIs number) after t = does_logged may log keeps s command told _ after t
 performs_logged may log keeps s command told (run.Served k) after t = does_logged may log keeps s command told _ after t
+performs_logged may log keeps s command told (run.Copied host) after t = does_logged may log keeps s command told _ after t
+performs_logged may log keeps s command told (run.Pages pages) after t = does_logged may log keeps s command told _ after t
 
 events_logged : {F : Type 0} (may : May F) (log : F → List LoggedCall) → Keeps may log → (s : State F) (events : List (Command × Answer)) (tolds : List Told) (after : State F) →
     RunTold may s events tolds after → Grew log s.files (flat_map exchanges_in (map (λ e. e.1) events)) after.files

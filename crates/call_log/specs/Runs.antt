@@ -6,7 +6,7 @@ use Rattle.virtiofsd_fuse.specs.Serving.{Setting, served}
 use Rattle.fs_device.specs.declared.exchange.Fault.{Fault}
 use Rattle.fs_device.specs.declared.exchange.Fault.TheVariants as fault
 use Rattle.fs_device.specs.Step.{Calls, Exchange, served_exchange}
-use Rattle.fs_device.specs.Run.{Answer, Done, Bytes, NewBlockIs, Served, IsRefused}
+use Rattle.fs_device.specs.Run.{Answer, Done, Bytes, NewBlockIs, Served, Copied, Pages, IsRefused}
 use Rattle.call_log.specs.declared.log.LoggedCall.{LoggedCall}
 use Rattle.call_log.specs.Log.{entry_of, with_calls}
 
@@ -48,6 +48,8 @@ exchanges_in (Served k) = map (λ x. x.0) k.exchanges
 exchanges_in Done = []
 exchanges_in (Bytes bytes) = []
 exchanges_in (NewBlockIs number) = []
+exchanges_in (Copied host) = []
+exchanges_in (Pages pages) = []
 exchanges_in (IsRefused why) = []
 
 -- from one log to another, by commands that were answered so: it grew by the calls of the exchanges, in their order, and by nothing else

@@ -4,6 +4,8 @@
 #[cfg(test)]
 mod begun;
 #[cfg(test)]
+mod copies;
+#[cfg(test)]
 mod directory;
 #[cfg(test)]
 mod faults;

@@ -290,6 +290,8 @@ does_balance may n some s (run.Kick i most) (x ∷ told) (run.Served k) after t 
 does_balance may n some s (run.Kick i most) (x ∷ told) run.Done after t = absurd t
 does_balance may n some s (run.Kick i most) (x ∷ told) (run.Bytes bytes) after t = absurd t
 does_balance may n some s (run.Kick i most) (x ∷ told) (run.NewBlockIs number) after t = absurd t
+does_balance may n some s (run.Kick i most) (x ∷ told) (run.Copied host) after t = absurd t
+does_balance may n some s (run.Kick i most) (x ∷ told) (run.Pages pages) after t = absurd t
 does_balance may n some s (run.Kick i most) (x ∷ told) (run.IsRefused refusal) after t = absurd t
 does_balance may n some s (run.GuestRead a k) (x ∷ told) answer after t = absurd t
 does_balance may n some s (run.GuestWrite a bs) (x ∷ told) answer after t = absurd t
@@ -302,6 +304,8 @@ does_balance may n some s (run.Unmap iova k) (x ∷ told) answer after t = absur
 does_balance may n some s run.UnmapAll (x ∷ told) answer after t = absurd t
 does_balance may n some s (run.SetIommu on) (x ∷ told) answer after t = absurd t
 does_balance may n some s (run.ResetQueue queue l) (x ∷ told) answer after t = absurd t
+does_balance may n some s run.Image (x ∷ told) answer after t = absurd t
+does_balance may n some s run.Harvest (x ∷ told) answer after t = absurd t
 
 performs_balance : {F : Type 0} (may : May F) (n : ℕ) → n ≢ 0 → (s : State F) (command : Command) (told : Told) (answer : Answer) (after : State F) → Performs may s command told answer after → ToldBalances n told
 performs_balance may n some s command [] (run.IsRefused why.OutOfMemory) after t = refl
@@ -318,6 +322,8 @@ performs_balance may n some s command told run.Done after t = does_balance may n
 performs_balance may n some s command told (run.Bytes bytes) after t = does_balance may n some s command told _ after t
 performs_balance may n some s command told (run.NewBlockIs number) after t = does_balance may n some s command told _ after t
 performs_balance may n some s command told (run.Served k) after t = does_balance may n some s command told _ after t
+performs_balance may n some s command told (run.Copied host) after t = does_balance may n some s command told _ after t
+performs_balance may n some s command told (run.Pages pages) after t = does_balance may n some s command told _ after t
 
 -- a run balances
 pub run_balances : {F : Type 0} (may : May F) (n : ℕ) → n ≢ 0 → (s : State F) (events : List (Command × Answer)) (tolds : List Told) (after : State F) → RunTold may s events tolds after → IsBalanced n tolds

@@ -3,7 +3,6 @@ pub mod StepLemmas
 pub mod KickLemmas
 pub mod RunLemmas
 pub mod GuestLemmas
-pub mod HarvestLemmas
 pub mod LayoutLemmas
 pub mod MappingLemmas
 pub mod CutLemmas

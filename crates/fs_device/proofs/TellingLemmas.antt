@@ -141,6 +141,8 @@ effect_stays s run.UnmapAll = refl
 effect_stays s (run.SetIommu on) = refl
 effect_stays s (run.Kick queue most) = refl
 effect_stays s (run.ResetQueue queue l) = reset_stays s queue l _
+effect_stays s run.Image = refl
+effect_stays s run.Harvest = refl
 
 change_stays : {F : Type 0} (s : State F) (fit : Bool) (table : Table) (answer : Answer) (after : State F) → ChangesTable s fit table answer after → after.files ≡ s.files
 change_stays s true table answer after t = ap (λ s. s.files) t.1.3
@@ -162,6 +164,8 @@ affect_stays s run.UnmapAll answer after t = change_stays s true nothing_mapped 
 affect_stays s (run.SetIommu on) answer after t = by_effect s (run.SetIommu on) answer after t
 affect_stays s (run.Kick queue most) answer after t = by_effect s (run.Kick queue most) answer after t
 affect_stays s (run.ResetQueue queue l) answer after t = by_effect s (run.ResetQueue queue l) answer after t
+affect_stays s run.Image answer after t = by_effect s run.Image answer after t
+affect_stays s run.Harvest answer after t = by_effect s run.Harvest answer after t
 
 effect_tells : {F : Type 0} (may : May F) (s : State F) (command : Command) (told : Told) (answer : Answer) (after : State F) → HasEffect s command told answer after → Tells may s.files told after.files
 effect_tells may s command [] answer after t = (affect_stays s command answer after t, tt)
@@ -174,6 +178,8 @@ does_tell may s (run.Kick i most) told (run.Served k) after t = kicks_tell may s
 does_tell may s (run.Kick i most) told run.Done after t = absurd t
 does_tell may s (run.Kick i most) told (run.Bytes bytes) after t = absurd t
 does_tell may s (run.Kick i most) told (run.NewBlockIs number) after t = absurd t
+does_tell may s (run.Kick i most) told (run.Copied host) after t = absurd t
+does_tell may s (run.Kick i most) told (run.Pages pages) after t = absurd t
 does_tell may s (run.Kick i most) told (run.IsRefused refusal) after t = absurd t
 does_tell may s (run.GuestRead a n) told answer after t = effect_tells may s (run.GuestRead a n) told answer after t
 does_tell may s (run.GuestWrite a bs) told answer after t = effect_tells may s (run.GuestWrite a bs) told answer after t
@@ -186,6 +192,8 @@ does_tell may s (run.Unmap iova n) told answer after t = effect_tells may s (run
 does_tell may s run.UnmapAll told answer after t = effect_tells may s run.UnmapAll told answer after t
 does_tell may s (run.SetIommu on) told answer after t = effect_tells may s (run.SetIommu on) told answer after t
 does_tell may s (run.ResetQueue queue l) told answer after t = effect_tells may s (run.ResetQueue queue l) told answer after t
+does_tell may s run.Image told answer after t = effect_tells may s run.Image told answer after t
+does_tell may s run.Harvest told answer after t = effect_tells may s run.Harvest told answer after t
 
 performs_tell : {F : Type 0} (may : May F) (s : State F) (command : Command) (told : Told) (answer : Answer) (after : State F) → Performs may s command told answer after → Tells may s.files told after.files
 performs_tell may s command [] (run.IsRefused why.OutOfMemory) after t = (ap (λ s. s.files) t.1, tt)
@@ -202,6 +210,8 @@ performs_tell may s command told run.Done after t = does_tell may s command told
 performs_tell may s command told (run.Bytes bytes) after t = does_tell may s command told _ after t
 performs_tell may s command told (run.NewBlockIs number) after t = does_tell may s command told _ after t
 performs_tell may s command told (run.Served k) after t = does_tell may s command told _ after t
+performs_tell may s command told (run.Copied host) after t = does_tell may s command told _ after t
+performs_tell may s command told (run.Pages pages) after t = does_tell may s command told _ after t
 
 -- a run tells its calls
 pub run_tells : {F : Type 0} (may : May F) (s : State F) (events : List (Command × Answer)) (tolds : List Told) (after : State F) → RunTold may s events tolds after →

@@ -1,6 +1,7 @@
 -- Commands, answers and kicks, as the plain machine has them.
 use Rattle.std.specs.Prelude.{◌≡◌, ◌<◌, ℕ, Bool, IsTrue, List, length, map, Option, None, Result, Ok, Err, slice_get}
 use Rattle.fs_queue.specs.declared.fault.QueueError.TheVariants as stop
+use Rattle.host_copies.specs.PageView.{page_view}
 use Rattle.virtiofsd_fuse.specs.Serving.{May}
 use Rattle.fs_device.specs.declared.error.DeviceError.{DeviceError}
 use Rattle.fs_device.specs.declared.error.DeviceError.TheVariants as device
@@ -9,7 +10,7 @@ use Rattle.fs_device.specs.declared.command.Command as asked
 use Rattle.fs_device.specs.declared.command.Answer as told
 use Rattle.fs_device.specs.declared.queues.QueueRun.{QueueRun}
 use Rattle.fs_device.specs.Step.{State, Exchange}
-use Rattle.fs_device.specs.Run.{Command, GuestRead, GuestWrite, NewBlock, InsertRegion, RemoveRegion, SetLayout, Map, Unmap, UnmapAll, SetIommu, Kick, ResetQueue, Kicked, Answer, Done, Bytes, NewBlockIs, Served, IsRefused, Told, shown, KickRun, kick_takes_memory}
+use Rattle.fs_device.specs.Run.{Command, GuestRead, GuestWrite, NewBlock, InsertRegion, RemoveRegion, SetLayout, Map, Unmap, UnmapAll, SetIommu, Kick, ResetQueue, Image, Harvest, Kicked, Answer, Done, Bytes, NewBlockIs, Served, Copied, Pages, IsRefused, Told, shown, KickRun, kick_takes_memory}
 use Rattle.fs_device.specs.DeviceView.{exchange_of}
 
 -- an exchange with its notice
@@ -34,6 +35,8 @@ command_of asked.TheVariants.UnmapAll = UnmapAll
 command_of (asked.TheVariants.SetIommu on) = SetIommu on
 command_of (asked.TheVariants.Kick queue most) = Kick queue most
 command_of (asked.TheVariants.ResetQueue queue l) = ResetQueue queue l
+command_of asked.TheVariants.Image = Image
+command_of asked.TheVariants.Harvest = Harvest
 
 -- its answer
 abbrev pub answer_of : told.Answer → Answer
@@ -41,6 +44,8 @@ answer_of told.TheVariants.Done = Done
 answer_of (told.TheVariants.Bytes bs) = Bytes bs.items
 answer_of (told.TheVariants.Block number) = NewBlockIs number
 answer_of (told.TheVariants.Served run) = Served (kicked_of run)
+answer_of (told.TheVariants.Copied host) = Copied host
+answer_of (told.TheVariants.Pages pages) = Pages (map page_view pages.items)
 answer_of (told.TheVariants.Refused why) = IsRefused why
 
 -- a kick of a queue that is there lists these exchanges, each with the calls that it made

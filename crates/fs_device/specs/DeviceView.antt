@@ -7,9 +7,7 @@ use Rattle.virtiofsd_fuse.specs.Serving.{May, Served}
 use Rattle.fs_device.specs.declared.error.DeviceError.{DeviceError}
 use Rattle.fs_device.specs.declared.exchange.Exchange as code
 use Rattle.fs_device.specs.declared.exchange.Fault.{Fault}
-use Rattle.fs_device.specs.declared.harvested.HarvestedPage.{HarvestedPage}
 use Rattle.fs_device.specs.Step.{State, Exchange, Outcome, Idle, Refused, Exchanged, Calls, ServesRequest, faulty, served_exchange, served_fault}
-use Rattle.fs_device.specs.Harvested.{Page}
 use Rattle.fs_device.specs.DeviceParts.{DeviceParts}
 
 -- an exchange
@@ -25,10 +23,6 @@ outcome_of (Err e) = Refused e
 -- a device over a memory, as the plain machine
 abbrev pub state_of : {F : Type 0} → Memory → DeviceParts F → State F
 state_of m d = record { memory = m; queues = d.queues; options = d.options; files = d.files; limit = d.limit; page_size = d.page_size }
-
--- a harvested page
-abbrev pub page_view : HarvestedPage → Page
-page_view p = record { block = p.block; offset = p.offset; bytes = p.bytes.items }
 
 -- what a step may change of a server: the options that were agreed, and the file system
 abbrev pub server_state : {F : Type 0} → Server F → ℕ × F

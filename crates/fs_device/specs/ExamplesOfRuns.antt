@@ -1,4 +1,4 @@
--- Worked runs that compute: kicks, guest accesses, layouts that change, two regions, and harvests. Pages are compared by where they begin, or are small.
+-- Worked runs that compute: kicks, guest accesses, layouts that change, two regions, harvests and images. Pages are compared by where they begin, or are small.
 use Rattle.std.specs.Prelude.{◌≡◌, ℕ, ◌+◌, ◌-◌, ◌^◌, true, false, List, [], ◌∷◌, ◌++◌, map, refl, Some, None, if◌then◌else◌}
 use Rattle.std.proofs.Common.{arith}
 use Rattle.std.proofs.lemmas.Bool.Decides.{nat_tests}
@@ -26,7 +26,7 @@ use Rattle.virtiofsd_fuse.specs.Serving.{May}
 use Rattle.fs_device.specs.declared.error.DeviceError.TheVariants as device_error
 use Rattle.fs_device.specs.declared.refusal.Refusal.TheVariants as why
 use Rattle.fs_device.specs.Step.{State, Exchanged, Step, after_return}
-use Rattle.fs_device.specs.Harvested.{block_pages, host_pages, harvested}
+use Rattle.host_copies.specs.Harvested.{block_pages, host_pages, harvested}
 use Rattle.fs_device.specs.Run as run
 use Rattle.fs_device.specs.Run.{Command, Answer, Turn, Affects, Run, RunTold, KickRun, effect, fresh_queue, with_ranges}
 use Rattle.fs_device.specs.Books.{sent, written, accepted, nodes_listed}
@@ -455,3 +455,22 @@ harvests_once = refl
 harvests_no_read : harvested (comes_to small (run.GuestRead 0 32 ∷ [])).memory.host ≡ []
 unfolding effect place addresses stored_all block_pages host_pages
 harvests_no_read = refl
+
+answers_the_pages : answers small guest_writes run.Harvest ≡ run.Pages (record { block = 0; offset = 0; bytes = zeros 5 ++ 7 ∷ 8 ∷ zeros 25 } ∷ [])
+unfolding effect place addresses stored_all block_pages host_pages
+answers_the_pages = refl
+
+answers_them_once : answers small (guest_writes ++ run.Harvest ∷ []) run.Harvest ≡ run.Pages []
+unfolding effect place addresses stored_all block_pages host_pages
+answers_them_once = refl
+
+-- ---- images
+
+-- the copy has the bytes, and nothing is harvested of what was written before it
+answers_the_copy : answers small guest_writes run.Image ≡ run.Copied (cleared (comes_to small guest_writes).memory.host)
+unfolding effect place addresses stored_all
+answers_the_copy = refl
+
+harvests_nothing_of_before : answers small (guest_writes ++ run.Image ∷ []) run.Harvest ≡ run.Pages []
+unfolding effect place addresses stored_all block_pages host_pages
+harvests_nothing_of_before = refl

@@ -1,6 +1,5 @@
 pub mod DeviceParts
 pub mod Step
-pub mod Harvested
 pub mod DeviceView
 pub mod Begun
 pub mod Refusing

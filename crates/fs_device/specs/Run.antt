@@ -6,13 +6,14 @@ use Rattle.vm_iotlb.specs.declared.permissions.Permissions.TheVariants.{Read, Wr
 use Rattle.vm_iotlb.specs.declared.range.IotlbRange.{IotlbRange}
 use Rattle.vm_iotlb.specs.Table.{Table, AreSame, mapped, nothing_mapped, unmapped}
 use Rattle.vm_iotlb.specs.Ranges.{AreRanges, table_kept}
-use Rattle.vm_memory_core.specs.Host.{Host, Block, new_block, with_block}
+use Rattle.vm_memory_core.specs.Host.{Host, Block, cleared, new_block, with_block}
 use Rattle.vm_memory_core.specs.Lending.{with_table_at}
 use Rattle.vm_memory.specs.Layout.{Region, fits, overlap, with_region, is_region, without_region}
 use Rattle.vm_memory.specs.Memory.{Memory, addresses, reach, bytes, stored_all, physical, table_of}
 use Rattle.fs_queue.specs.declared.layout.QueueLayout.{QueueLayout}
 use Rattle.fs_queue.specs.Queue.{Queue, fresh}
 use Rattle.virtiofsd_fuse.specs.Serving.{May}
+use Rattle.host_copies.specs.Harvested.{Page, harvested}
 use Rattle.fs_device.specs.declared.error.DeviceError.{DeviceError}
 use Rattle.fs_device.specs.declared.error.DeviceError.TheVariants as device
 use Rattle.fs_device.specs.declared.refusal.Refusal.{Refusal}
@@ -33,6 +34,8 @@ pub data Command : Type 0 where
   SetIommu : Bool → Command
   Kick : (queue most : ℕ) → Command
   ResetQueue : (queue : ℕ) → QueueLayout → Command
+  Image : Command
+  Harvest : Command
 
 -- the exchanges of a kick with whether each was told, and the refusal that ended it
 pub record Kicked : Type 0 where
@@ -45,6 +48,8 @@ pub data Answer : Type 0 where
   Bytes : List ℕ → Answer
   NewBlockIs : ℕ → Answer
   Served : Kicked → Answer
+  Copied : Host → Answer
+  Pages : List Page → Answer
   IsRefused : Refusal → Answer
 
 -- ---- what each command but a kick does
@@ -138,6 +143,18 @@ reset s i l (Some q) = (Done, with_queue s i (fresh_queue l))
 abbrev pub set_iommu : {F : Type 0} → State F → Bool → Effect F
 set_iommu s on = (Done, record s { memory = record s.memory { translates = on } })
 
+-- the state in which no page of a block is marked; the I/O pages stay
+abbrev pub with_marks_cleared : {F : Type 0} → State F → State F
+with_marks_cleared s = with_host s (cleared s.memory.host)
+
+-- a copy of the host, in which no page of a block is marked; nor is one in the host then
+abbrev pub image : {F : Type 0} → State F → Effect F
+image s = (Copied (cleared s.memory.host), with_marks_cleared s)
+
+-- each marked page of a block with its bytes, by block and page; none is marked then
+abbrev pub harvest : {F : Type 0} → State F → Effect F
+harvest s = (Pages (harvested s.memory.host), with_marks_cleared s)
+
 -- what a command answers, and the state that it leaves; of a kick, and of what changes the table, this says nothing
 unfoldable pub effect : {F : Type 0} → State F → Command → Effect F
 effect s (GuestRead a n) = guest_read s a n
@@ -148,6 +165,8 @@ effect s (RemoveRegion base size) = remove_region s base size
 effect s (SetLayout layout) = set_layout s layout
 effect s (SetIommu on) = set_iommu s on
 effect s (ResetQueue queue l) = reset s queue l (slice_get s.queues queue)
+effect s Image = image s
+effect s Harvest = harvest s
 effect s _ = (Done, s)
 
 -- ---- what changes the table

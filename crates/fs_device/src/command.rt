@@ -3,8 +3,9 @@
 use crate::queues::QueueRun;
 use crate::refusal::Refusal;
 use fs_queue::QueueLayout;
+use host_copies::HarvestedPage;
 use vm_memory::GuestMemoryMmap;
-use vm_memory_core::Permissions;
+use vm_memory_core::{HostMemory, PageBitmap, Permissions};
 
 /// What a guest or its monitor does.
 #[derive(Drop)]
@@ -61,6 +62,10 @@ pub enum Command {
         queue: usize,
         layout: QueueLayout,
     },
+    /// The host is copied, and no page of a block is marked from then on: what is written later is harvested.
+    Image,
+    /// The marked pages of blocks are copied, and marked no more.
+    Harvest,
 }
 
 /// What a command comes to.
@@ -71,5 +76,9 @@ pub enum Answer {
     /// The number of a new block.
     Block(usize),
     Served(QueueRun),
+    /// The host as it was, but that no page of a block is marked.
+    Copied(HostMemory<PageBitmap>),
+    /// The pages that were marked, by block and page.
+    Pages(Vec<HarvestedPage>),
     Refused(Refusal),
 }

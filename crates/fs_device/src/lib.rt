@@ -3,10 +3,10 @@
 
 mod begun;
 mod command;
+mod copies;
 mod device;
 mod error;
 mod exchange;
-mod harvested;
 pub mod laws;
 mod layouts;
 mod machine;
@@ -21,7 +21,7 @@ pub use command::{Answer, Command};
 pub use device::Device;
 pub use error::DeviceError;
 pub use exchange::{Exchange, Fault};
-pub use harvested::{HarvestedPage, harvest};
+pub use host_copies::{ApplyError, HarvestedPage, apply, harvest, image};
 pub use machine::Machine;
 pub use queues::QueueRun;
 pub use refusal::Refusal;

@@ -4,7 +4,7 @@ ghost use Rattle.std.specs.Prelude.{◌≡◌, ◌≤◌, length, IfOk};
 
 use crate::calls::FirstCalls;
 use crate::files::LoggingFiles;
-use fs_device::{Answer, Command, Device, HarvestedPage, Machine};
+use fs_device::{Answer, Command, Device, Machine};
 use fs_queue::Queue;
 use std::alloc::{AllocError, Global};
 use std::cell::Cell;
@@ -77,11 +77,5 @@ impl<'a> GuestMachine<'a> {
     /// What the file system was asked since this was called last.
     pub fn take_log(&self) -> FirstCalls {
         self.log.take()
-    }
-
-    /// The marked pages, whose marks are then cleared.
-    pub fn harvest(&mut self) -> Result<Vec<HarvestedPage>, AllocError> {
-        let machine = &mut self.machine;
-        fs_device::harvest(self.alloc, &mut machine.host)
     }
 }

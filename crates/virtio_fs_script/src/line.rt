@@ -34,8 +34,6 @@ pub(crate) enum Line {
     Kick { queue: u64, most: u16 },
     /// A queue begins anew.
     Reset { queue: u64, layout: AskedLayout },
-    /// The marked pages are gathered, and their marks cleared.
-    Harvest,
     /// One command of the machine, as each other line is.
     Machine(Command),
 }
@@ -200,7 +198,7 @@ fn parse_operands(name: &[u8], words: &mut Words<'_>) -> Option<Line> {
         b"region" => parse_region(words),
         b"kick" => parse_kick(words),
         b"reset" => parse_reset(words),
-        b"harvest" => Some(Line::Harvest),
+        b"harvest" => Some(Line::Machine(Command::Harvest)),
         b"map" => parse_map(words),
         b"iommu" => Some(Line::Machine(Command::SetIommu(words.next_switch()?))),
         _ => Some(Line::Machine(pair_command(name, words.next_pair()?)?)),

@@ -160,6 +160,8 @@ pub(crate) fn print_answer<W: Write>(writer: &mut W, answer: &Answer) -> io::Res
         Answer::Bytes(bytes) => print_bytes(writer, bytes),
         Answer::Block(block) => print_line(writer, b"block", &[*block as u64]),
         Answer::Served(run) => print_run(writer, run),
+        Answer::Copied(_) => print_ok(writer),
+        Answer::Pages(pages) => print_pages(writer, pages),
         Answer::Refused(refusal) => print_refused(writer, refusal.number()),
     }
 }
@@ -169,8 +171,8 @@ pub(crate) fn print_idle<W: Write>(writer: &mut W) -> io::Result<()> {
     writer.write_all(b"idle\n")
 }
 
-/// The pages that were marked.
-pub(crate) fn print_pages<W: Write>(writer: &mut W, pages: &[HarvestedPage]) -> io::Result<()> {
+// The pages that were marked.
+fn print_pages<W: Write>(writer: &mut W, pages: &[HarvestedPage]) -> io::Result<()> {
     if pages.is_empty() {
         return writer.write_all(b"none\n");
     }

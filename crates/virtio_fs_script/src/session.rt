@@ -7,14 +7,14 @@ use crate::guest::GuestMachine;
 use crate::halt::Halt;
 use crate::line::{AskedLayout, Line};
 use crate::print::{
-    print_answer, print_bad_layout, print_calls, print_idle, print_ok, print_pages, print_refused,
+    print_answer, print_bad_layout, print_calls, print_idle, print_ok, print_refused,
 };
-use fs_device::{Answer, Command, DeviceError, Refusal};
+use fs_device::{Answer, Command, DeviceError};
 use fs_queue::Queue;
 use std::alloc::{AllocError, Global};
 use std::cell::Cell;
 use std::io::Write;
-use std::{io, mem};
+use std::mem;
 
 // The most queues of a device.
 const MOST_QUEUES: usize = 64;
@@ -94,7 +94,6 @@ fn run_on<W: Write>(
         Line::Region { base, size } => region(guest, base, size, writer),
         Line::Kick { queue, most } => kick(guest, queue, most, writer),
         Line::Reset { queue, layout } => reset(guest, queue, layout, writer),
-        Line::Harvest => Ok(harvest(guest, writer)?),
         Line::Machine(command) => perform(guest, command, writer),
     }
 }
@@ -203,12 +202,5 @@ fn reset<W: Write>(
             print_bad_layout(writer, error)?;
             Ok(())
         }
-    }
-}
-
-fn harvest<W: Write>(guest: &mut GuestMachine<'_>, writer: &mut W) -> io::Result<()> {
-    match guest.harvest() {
-        Ok(pages) => print_pages(writer, &pages),
-        Err(_) => print_refused(writer, Refusal::OutOfMemory.number()),
     }
 }

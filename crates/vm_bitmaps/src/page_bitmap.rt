@@ -85,6 +85,18 @@ impl PageBitmap {
         PageBitmap::made(alloc, byte_size, page_size.get())
     }
 
+    /// The same bytes, pages and marks once more, in memory of the allocator that this value was made with.
+    pub fn try_clone(&self) -> Result<PageBitmap, AllocError>
+        ensures { IfOk result (λ b. b ≡ self.now) }
+    {
+        Ok(PageBitmap {
+            page_size: self.page_size,
+            byte_size: self.byte_size,
+            len: self.len,
+            words: Vec::from_slice(*self.words.allocator(), &self.words)?,
+        })
+    }
+
     /// The number of pages: the bytes over the bytes of a page, rounded up (vm-memory's `AtomicBitmap::len`).
     pub fn len(&self) -> usize
         ensures pages { result ≡ pages_of self.now.page_size self.now.byte_size }

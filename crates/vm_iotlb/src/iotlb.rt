@@ -1,6 +1,6 @@
 //! An IOMMU's table (vm-memory's `Iotlb`).
 
-ghost use Rattle.std.specs.Prelude.{◌≡◌, ℕ, ◌≤◌, []};
+ghost use Rattle.std.specs.Prelude.{◌≡◌, ℕ, ◌≤◌, [], IfOk};
 ghost use Rattle.vm_iotlb.specs.Changes.{InvalidatesMapping, SetsMapping};
 ghost use Rattle.vm_iotlb.specs.Ranges.{AreRanges, EndsAbove, table_kept};
 ghost use Rattle.vm_iotlb.specs.AddressRuns.{LooksUp};
@@ -9,7 +9,7 @@ use crate::error::IommuError;
 use crate::lookup::{IotlbIterator, LookupError, fails_among, is_covered, misses_whole};
 use crate::permissions::Permissions;
 use crate::range::{IotlbRange, with_range, without};
-use std::alloc::Global;
+use std::alloc::{AllocError, Global};
 use std::marker::Model;
 use vm_values::GuestAddress;
 
@@ -42,6 +42,16 @@ impl Iotlb {
             alloc,
             ranges: Vec::new(alloc),
         }
+    }
+
+    /// The same mappings once more, in memory of the allocator that this table was made with.
+    pub fn try_clone(&self) -> Result<Iotlb, AllocError>
+        ensures { IfOk result (λ t. t ≡ self.now) }
+    {
+        Ok(Iotlb {
+            alloc: self.alloc,
+            ranges: Vec::from_slice(self.alloc, &self.ranges)?,
+        })
     }
 
     /// Maps `length` I/O addresses to those from a target on, whatever they had before.

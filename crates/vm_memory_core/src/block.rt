@@ -1,6 +1,6 @@
 //! One block of host memory, and copies from one block to another.
 
-ghost use Rattle.std.specs.Prelude.{◌≡◌, ◌≢◌, ◌+◌, ◌<◌, ◌≤◌, ◌^◌, ◌*◌, ◌++◌, length, map, take, drop};
+ghost use Rattle.std.specs.Prelude.{◌≡◌, ◌≢◌, ◌+◌, ◌<◌, ◌≤◌, ◌^◌, ◌*◌, ◌++◌, IfOk, length, map, take, drop};
 ghost use Rattle.vm_memory_core.specs.Host.{Block, Host, with_blocks};
 ghost use Rattle.vm_memory_core.specs.Parts.{spelled_all};
 ghost use Rattle.vm_memory_core.specs.Putting.{marked_if, put_in_block};
@@ -8,8 +8,9 @@ ghost use Rattle.vm_memory_core.specs.Window.{places_of, LiesIn, byte_in};
 
 use crate::copy::{put_at, put_values};
 use crate::window::VolatileSlice;
+use std::alloc::{AllocError, Global};
 use std::marker::Model;
-use vm_bitmaps::NewBitmap;
+use vm_bitmaps::{NewBitmap, PageBitmap};
 use vm_values::ByteValued;
 
 // A block: its bytes, and their dirty pages.
@@ -91,6 +92,32 @@ impl<B: NewBitmap> Block<B> {
             self.bitmap.mark_dirty(offset, bytes.len());
         }
     }
+}
+
+impl Block<PageBitmap> {
+    // The same bytes and marks once more.
+    fn try_clone(&self) -> Result<Block<PageBitmap>, AllocError>
+        ensures { IfOk result (λ b. b ≡ self.now) }
+    {
+        Ok(Block {
+            bytes: Vec::from_slice(*self.bytes.allocator(), &self.bytes)?,
+            bitmap: self.bitmap.try_clone()?,
+        })
+    }
+}
+
+// The same blocks once more.
+pub(crate) fn cloned_blocks(
+    alloc: Global,
+    blocks: &[Block<PageBitmap>],
+) -> Result<Vec<Block<PageBitmap>>, AllocError>
+    ensures { IfOk result (λ copies. copies.items ≡ blocks.now) }
+{
+    let mut copies = Vec::with_capacity(alloc, blocks.len())?;
+    for block in blocks {
+        copies.push(block.try_clone()?)?;
+    }
+    Ok(copies)
 }
 
 // Copies a window of one block to one of the same length in another, and marks the pages there if none of a set of I/O

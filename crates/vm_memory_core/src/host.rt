@@ -7,10 +7,11 @@ ghost use Rattle.vm_memory_core.specs.Parts.{spelled_all};
 ghost use Rattle.vm_memory_core.specs.Putting.{io_marked, put_in_block};
 ghost use Rattle.vm_memory_core.specs.Window.{places_of, LiesIn, Stores, byte_in};
 
-use crate::block::{Block, copy_across};
-use crate::io_pages::{IoPages, mark_pages};
+use crate::block::{Block, cloned_blocks, copy_across};
+use crate::io_pages::{IoPages, cloned_sets, mark_pages};
 use crate::window::VolatileSlice;
 use std::alloc::{AllocError, Global};
+use std::fmt;
 use std::marker::Model;
 use vm_bitmaps::{NewBitmap, PageBitmap};
 use vm_iotlb::Iotlb;
@@ -265,8 +266,42 @@ impl<B: NewBitmap> HostMemory<B> {
     }
 }
 
+/// Of how many blocks, tables and sets of I/O pages it is, without their bytes.
+impl<B: NewBitmap> fmt::Debug for HostMemory<B> {
+    fn fmt<W: fmt::Write>(&self, f: &mut fmt::Formatter<W>) -> fmt::Result {
+        f.debug_struct("HostMemory")
+            .field("blocks", &self.blocks.len())
+            .field("tables", &self.tables.len())
+            .field("io_pages", &self.io_pages.len())
+            .finish_non_exhaustive()
+    }
+}
+
+// The same tables once more.
+fn cloned_tables(alloc: Global, tables: &[Iotlb]) -> Result<Vec<Iotlb>, AllocError>
+    ensures { IfOk result (λ copies. copies.items ≡ tables.now) }
+{
+    let mut copies = Vec::with_capacity(alloc, tables.len())?;
+    for table in tables {
+        copies.push(table.try_clone()?)?;
+    }
+    Ok(copies)
+}
+
 impl HostMemory<PageBitmap> {
     ghost use Rattle.vm_memory_core.specs.Host.{changed_at, unmarked, with_blocks};
+
+    /// The same memory once more: blocks with their bytes and marks, tables, and sets of I/O pages.
+    pub fn try_clone(&self) -> Result<HostMemory<PageBitmap>, AllocError>
+        ensures { IfOk result (λ h. h ≡ self.now) }
+    {
+        Ok(HostMemory {
+            alloc: self.alloc,
+            blocks: cloned_blocks(self.alloc, &self.blocks)?,
+            tables: cloned_tables(self.alloc, &self.tables)?,
+            io_pages: cloned_sets(self.alloc, &self.io_pages)?,
+        })
+    }
 
     /// Clears the marks of a block, or changes nothing where there is no such block.
     pub fn reset_bitmap(&mut self, block: usize) -> bool

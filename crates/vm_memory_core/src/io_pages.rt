@@ -79,6 +79,14 @@ impl IoPages<PageBitmap> {
         self.bitmap.len()
     }
 
+    // The same marks once more.
+    fn try_clone(&self) -> Result<IoPages<PageBitmap>, AllocError>
+        ensures { IfOk result (λ p. p ≡ self.now) }
+    {
+        let bitmap = self.bitmap.try_clone()?;
+        Ok(IoPages { bitmap })
+    }
+
     /// Clears all marks.
     pub fn reset(&mut self)
         ensures { self.new ≡ map (λ _. false) self.old }
@@ -87,4 +95,18 @@ impl IoPages<PageBitmap> {
         self.bitmap.reset();
         prove_eq!(self.bitmap.len(), pages);
     }
+}
+
+// The same sets once more.
+pub(crate) fn cloned_sets(
+    alloc: Global,
+    sets: &[IoPages<PageBitmap>],
+) -> Result<Vec<IoPages<PageBitmap>>, AllocError>
+    ensures { IfOk result (λ copies. copies.items ≡ sets.now) }
+{
+    let mut copies = Vec::with_capacity(alloc, sets.len())?;
+    for set in sets {
+        copies.push(set.try_clone()?)?;
+    }
+    Ok(copies)
 }

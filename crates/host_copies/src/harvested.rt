@@ -3,8 +3,8 @@
 ghost use Rattle.std.specs.Prelude.{◌≡◌, ◌+◌, ◌*◌, ◌<◌, ◌++◌, map, length, OnOk, OnErr, IfOk, slice_range};
 ghost use Rattle.vm_bitmaps.specs.Pages.{pages_of};
 ghost use Rattle.vm_memory_core.specs.Host.{cleared, shape};
-ghost use Rattle.fs_device.specs.Harvested.{block_pages, host_pages, harvested};
-ghost use Rattle.fs_device.specs.DeviceView.{page_view};
+ghost use Rattle.host_copies.specs.Harvested.{block_pages, host_pages, harvested};
+ghost use Rattle.host_copies.specs.PageView.{page_view};
 
 use std::alloc::{AllocError, Global};
 use vm_memory_core::{HostMemory, PageBitmap};
@@ -77,7 +77,7 @@ fn copy_marked(
 }
 
 // Clears the marks of all blocks.
-fn clear(host: &mut HostMemory<PageBitmap>)
+pub(crate) fn clear(host: &mut HostMemory<PageBitmap>)
     ensures { host.new ≡ cleared host.old }
 {
     for block in 0..host.block_count() {

@@ -1,9 +1,9 @@
 use Rattle.std.proofs.Common.{◌≡◌, ◌++◌, ◌∷◌, [], map, ap, sym, ◌∙◌, arith}
 use Rattle.std.proofs.lemmas.List.{map-append}
-use Rattle.fs_device.specs.DeviceView.{page_view}
-use Rattle.fs_device.proofs.HarvestLemmas.{page_marked, page_unmarked, pages_done}
-use Rattle.fs_device.proofs.harvested.harvest_block.Goals as goal
-use Rattle.fs_device.proofs.harvested.harvest_block.Goals.{then-is_bit_set+in_ok-copy_page+in_ok-push, else-is_bit_set}
+use Rattle.host_copies.specs.PageView.{page_view}
+use Rattle.host_copies.proofs.HarvestLemmas.{page_marked, page_unmarked, pages_done}
+use Rattle.host_copies.proofs.harvested.harvest_block.Goals as goal
+use Rattle.host_copies.proofs.harvested.harvest_block.Goals.{then-is_bit_set+in_ok-copy_page+in_ok-push, else-is_bit_set}
 
 pub loop-page-preserved : goal.loop-page-preserved
 loop-page-preserved c =

@@ -1,7 +1,7 @@
 use Rattle.std.proofs.Common.{◌≡◌, ◌++◌, map, drop}
-use Rattle.fs_device.specs.Harvested.{block_pages}
-use Rattle.fs_device.specs.DeviceView.{page_view}
-use Rattle.fs_device.proofs.harvested.harvest_block.Given as goal
+use Rattle.host_copies.specs.Harvested.{block_pages}
+use Rattle.host_copies.specs.PageView.{page_view}
+use Rattle.host_copies.proofs.harvested.harvest_block.Given as goal
 
 abbrev pub invariant-loop-page : goal.invariant-loop-page
 invariant-loop-page l =

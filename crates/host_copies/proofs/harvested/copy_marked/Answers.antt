@@ -1,9 +1,9 @@
 use Rattle.std.proofs.Common.{arith, map}
 use Rattle.vm_memory_core.specs.Host.{Block}
-use Rattle.fs_device.specs.DeviceView.{page_view}
-use Rattle.fs_device.proofs.HarvestLemmas.{no_block, block_next, blocks_done, not_none}
-use Rattle.fs_device.proofs.harvested.copy_marked.Goals as goal
-use Rattle.fs_device.proofs.harvested.copy_marked.Goals.{in-Some+in_ok-harvest_block, in_default}
+use Rattle.host_copies.specs.PageView.{page_view}
+use Rattle.host_copies.proofs.HarvestLemmas.{no_block, block_next, blocks_done, not_none}
+use Rattle.host_copies.proofs.harvested.copy_marked.Goals as goal
+use Rattle.host_copies.proofs.harvested.copy_marked.Goals.{in-Some+in_ok-harvest_block, in_default}
 
 pub loop-block-preserved : goal.loop-block-preserved
 loop-block-preserved c =

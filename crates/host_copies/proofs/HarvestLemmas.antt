@@ -5,7 +5,7 @@ use Rattle.std.specs.Option.{option_map}
 use Rattle.std.proofs.lemmas.List.{drop_more, drop_all}
 use Rattle.std.proofs.lemmas.Option.{slice_get-get_or}
 use Rattle.vm_memory_core.specs.Host.{Block, Host, Shape, changed_at, cleared, shape, unmarked, with_blocks}
-use Rattle.fs_device.specs.Harvested.{Page, block_pages, host_pages}
+use Rattle.host_copies.specs.Harvested.{Page, block_pages, host_pages}
 
 abbrev pub page_at : (block : ℕ) → List ℕ → (page : ℕ) → Page
 page_at block bytes page = record { block = block; offset = page * 4096; bytes = slice_range bytes (page * 4096) (page * 4096 + 4096) }

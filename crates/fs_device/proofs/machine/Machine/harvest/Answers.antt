@@ -1,0 +1,7 @@
+use Rattle.std.proofs.Common.{refl}
+use Rattle.fs_device.specs.Run.{effect}
+use Rattle.fs_device.proofs.machine.Machine.harvest.Goals as goal
+
+pub returns-in-Ok : goal.returns-in-Ok
+unfolding effect
+returns-in-Ok g c = rw (c.in-Ok.ensures.pages, c.in-Ok.ensures.cleared) refl

@@ -1,0 +1,33 @@
+//! What a machine copies of its host.
+
+ghost use Rattle.std.specs.Prelude.{[]};
+ghost use Rattle.fs_device.specs.Run.{Harvest, Image, Performs};
+ghost use Rattle.fs_device.specs.CommandView.{answer_of};
+ghost use Rattle.fs_device.specs.MachineView.{machine_of};
+
+use crate::command::Answer;
+use crate::machine::Machine;
+use crate::refusal::Refusal;
+use fuse_fs::FileSystem;
+use std::alloc::Global;
+use vm_memory::Iommu;
+
+impl<F: FileSystem, I: Iommu + Drop> Machine<F, I> {
+    pub(crate) fn image(&mut self) -> Answer
+        ensures { Performs F.may (machine_of self.old) Image [] (answer_of result) (machine_of self.new) }
+    {
+        match host_copies::image(&mut self.host) {
+            Ok(copy) => Answer::Copied(copy),
+            Err(_) => Answer::Refused(Refusal::OutOfMemory),
+        }
+    }
+
+    pub(crate) fn harvest(&mut self, alloc: Global) -> Answer
+        ensures { Performs F.may (machine_of self.old) Harvest [] (answer_of result) (machine_of self.new) }
+    {
+        match host_copies::harvest(alloc, &mut self.host) {
+            Ok(pages) => Answer::Pages(pages),
+            Err(_) => Answer::Refused(Refusal::OutOfMemory),
+        }
+    }
+}

@@ -1,0 +1,2 @@
+pub mod HarvestLemmas
+pub mod ApplyLemmas

@@ -1,0 +1,4 @@
+pub mod Harvested
+pub mod PageView
+pub mod Applying
+pub mod Examples
