@@ -12,7 +12,7 @@ use Rattle.fs_queue.specs.Queue.{Queue}
 use Rattle.vm_values.specs.Fields.{spelled}
 use Rattle.device_record.specs.Fields.{head_fields}
 use Rattle.device_record.specs.Record.{head_of, queue_bytes, IsSavedQueue}
-use Rattle.device_record.specs.Restoring.{IsFront, Refuses, RefusesQueue, Leaves}
+use Rattle.device_record.specs.Restoring.{IsRecordFront, RefusesRecord, RefusesQueue, LeavesSource}
 use Rattle.device_record.specs.declared.error.RestoreError.{RestoreError}
 use Rattle.device_record.specs.declared.error.RestoreError.TheVariants.{Truncated, BadMagic, BadVersion, BadCount, BadReserved, BadQueue, BadOptions, ReadFault, OutOfMemory}
 
@@ -43,8 +43,8 @@ put_queue whole part one later left a b c all next before more =
     (part ++ one, all ∙ ap (λ l. part ++ l) next ∙ sym (append_assoc part one later), Appends-trans a b c part one before more)
 
 -- a front with one queue more
-pub front_more : (bytes : List ℕ) (options count : ℕ) (queues : List Queue) (q : Queue) → IsFront bytes options count queues → length queues < count → IsSavedQueue q
-    → IsFront (bytes ++ queue_bytes q) options count (queues ++ q ∷ [])
+pub front_more : (bytes : List ℕ) (options count : ℕ) (queues : List Queue) (q : Queue) → IsRecordFront bytes options count queues → length queues < count → IsSavedQueue q
+    → IsRecordFront (bytes ++ queue_bytes q) options count (queues ++ q ∷ [])
 front_more bytes options count queues q front short one =
     let head = spelled (head_fields (head_of options count)) in
     let all : flat_map queue_bytes (queues ++ q ∷ []) ≡ flat_map queue_bytes queues ++ queue_bytes q =
@@ -58,8 +58,8 @@ front_more bytes options count queues q front short one =
     )
 
 -- what is wrong with a queue behind a front
-pub queue_refuses : (bytes part : List ℕ) (options count index : ℕ) (queues : List Queue) (e : RestoreError) → IsFront bytes options count queues → length queues ≡ index → index < count
-    → RefusesQueue part index e → Refuses (bytes ++ part) e
+pub queue_refuses : (bytes part : List ℕ) (options count index : ℕ) (queues : List Queue) (e : RestoreError) → IsRecordFront bytes options count queues → length queues ≡ index → index < count
+    → RefusesQueue part index e → RefusesRecord (bytes ++ part) e
 queue_refuses bytes part options count index queues Truncated front at below h = inr (options, count, queues, bytes, part, front, omega (arith, at, below), refl, h)
 queue_refuses bytes part options count index queues ReadFault front at below h = inr (options, count, queues, bytes, part, front, omega (arith, at, below), refl, h)
 queue_refuses bytes part options count index queues (BadQueue i) front at below h =
@@ -72,5 +72,5 @@ queue_refuses bytes part options count index queues BadOptions front at below h 
 queue_refuses bytes part options count index queues OutOfMemory front at below h = absurd h
 
 -- a source that hadn't failed before is left so too
-pub leaves_too : (e : RestoreError) (has : Option (List ℕ)) (before failed fails : Bool) → failed ≡ before → Leaves e has failed fails → Leaves e has before fails
-leaves_too e has before failed fails same h = subst (λ (b : Bool). Leaves e has b fails) same h
+pub leaves_too : (e : RestoreError) (has : Option (List ℕ)) (before failed fails : Bool) → failed ≡ before → LeavesSource e has failed fails → LeavesSource e has before fails
+leaves_too e has before failed fails same h = subst (λ (b : Bool). LeavesSource e has b fails) same h

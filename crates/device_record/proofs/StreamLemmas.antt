@@ -5,7 +5,7 @@ use Rattle.std.proofs.lemmas.Slice.{take-put_mid_below}
 use Rattle.std.specs.Io.KnownBytes.{Appends, Consumes, Keeps}
 use Rattle.std.proofs.KnownBytes.{Appends-trans, Consumes-trans, Consumes-kept}
 use Rattle.std.specs.Prelude.{IsErr}
-use Rattle.device_record.specs.Streams.{Sends}
+use Rattle.device_record.specs.Streams.{GoesOut}
 use borrow.Rule.Slice.PartMut.{put_mid, post_of}
 use lib.Seq.{take-add, take-append-le}
 
@@ -55,9 +55,9 @@ read_kept at buf a b c short before kept =
     (take at buf, omega (arith, short, front), Consumes-kept a b c (take at buf) before kept)
 
 -- a part of one piece went out behind those before it, and not all of it
-pub sends_part : (whole done one later part rest : List ℕ) (a b c : Option (List ℕ)) → whole ≡ done ++ (one ++ later) → one ≡ part ++ rest → 0 < length rest
+pub part_goes_out : (whole done one later part rest : List ℕ) (a b c : Option (List ℕ)) → whole ≡ done ++ (one ++ later) → one ≡ part ++ rest → 0 < length rest
     → Appends a b done → Appends b c part → (x y : List ℕ) × (whole ≡ x ++ y) × (0 < length y) × Appends a c x
-sends_part whole done one later part rest a b c all piece some before last = (
+part_goes_out whole done one later part rest a b c all piece some before last = (
   done ++ part,
   rest ++ later,
   all ∙ ap (λ l. done ++ (l ++ later)) piece ∙ ap (λ l. done ++ l) (append_assoc part rest later) ∙ sym (append_assoc done part (rest ++ later)),
@@ -66,7 +66,7 @@ sends_part whole done one later part rest a b c all piece some before last = (
 )
 
 -- an answer that is an error, where a part went out
-pub sends_less : {E : Type 0} (bytes : List ℕ) (had has : Option (List ℕ)) (failed fails : Bool) (result : Result Unit E) → IsErr result
-    → (x y : List ℕ) × (bytes ≡ x ++ y) × (0 < length y) × Appends had has x → fails ≡ true → Sends bytes had failed result has fails
-sends_less bytes had has failed fails (Ok u) wrong part now = absurd (let h : false ≡ true = wrong in cc)
-sends_less bytes had has failed fails (Err e) wrong part now = (part.0, part.1, part.2, part.3, part.4, now)
+pub goes_out_less : {E : Type 0} (bytes : List ℕ) (had has : Option (List ℕ)) (failed fails : Bool) (result : Result Unit E) → IsErr result
+    → (x y : List ℕ) × (bytes ≡ x ++ y) × (0 < length y) × Appends had has x → fails ≡ true → GoesOut bytes had failed result has fails
+goes_out_less bytes had has failed fails (Ok u) wrong part now = absurd (let h : false ≡ true = wrong in cc)
+goes_out_less bytes had has failed fails (Err e) wrong part now = (part.0, part.1, part.2, part.3, part.4, now)

@@ -34,12 +34,12 @@ abbrev pub queue_bytes : Queue → List ℕ
 queue_bytes q = spelled (queue_fields (saved q))
 
 -- the head of a record of so many queues, and some of these queues
-abbrev pub front_bytes : (options count : ℕ) → List Queue → List ℕ
-front_bytes options count queues = spelled (head_fields (head_of options count)) ++ flat_map queue_bytes queues
+abbrev pub record_front : (options count : ℕ) → List Queue → List ℕ
+record_front options count queues = spelled (head_fields (head_of options count)) ++ flat_map queue_bytes queues
 
 -- the whole record
 abbrev pub record_bytes : (options : ℕ) → List Queue → List ℕ
-record_bytes options queues = front_bytes options (length queues) queues
+record_bytes options queues = record_front options (length queues) queues
 
 -- no bit is set but those of options that have a name
 abbrev pub IsKnown : (options : ℕ) → Type 0

@@ -8,7 +8,7 @@ took_nothing (Ok n) = n == 0
 took_nothing (Err e) = true
 
 -- all of some bytes went out, or a part of them, and then the sink failed
-abbrev pub Sends : {E : Type 0} → (bytes : List ℕ) → (had : Option (List ℕ)) → (failed : Bool) → Result Unit E → (has : Option (List ℕ)) → (fails : Bool) → Type 0
-Sends bytes had failed result has fails = MatchResult result
+abbrev pub GoesOut : {E : Type 0} → (bytes : List ℕ) → (had : Option (List ℕ)) → (failed : Bool) → Result Unit E → (has : Option (List ℕ)) → (fails : Bool) → Type 0
+GoesOut bytes had failed result has fails = MatchResult result
     (λ _. Appends had has bytes × (fails ≡ failed))
     (λ _. (part rest : List ℕ) × (bytes ≡ part ++ rest) × (0 < length rest) × Appends had has part × (fails ≡ true))

@@ -4,7 +4,7 @@ ghost use Rattle.std.specs.Prelude.{◌≡◌, ◌<◌, ◌≤◌, ℕ, List, []
 ghost use Rattle.std.specs.Io.KnownBytes.{Consumes};
 ghost use Rattle.vm_values.specs.Fields.{spelled, AllFit};
 ghost use Rattle.device_record.specs.Record.{IsKnown, IsRecord, IsSavedQueue, head_error, head_of, saved, queue_bytes, is_queue};
-ghost use Rattle.device_record.specs.Restoring.{Leaves, Refuses, RefusesQueue, IsFront, ends_early};
+ghost use Rattle.device_record.specs.Restoring.{LeavesSource, RefusesRecord, RefusesQueue, IsRecordFront, ends_early};
 
 use crate::error::RestoreError;
 use crate::fields::{RecordHead, SavedQueue};
@@ -23,7 +23,7 @@ const MAX_QUEUES: u32 = 64;
 fn fill<S: RecordSource>(source: &mut S, buf: &mut [u8]) -> Result<(), RestoreError>
     ensures ok { OnOk result (Consumes (S.left source.old) (S.left source.new) buf.new × (S.failed source.new ≡ S.failed source.old)) }
     ensures err { IfErr result (λ e. (part : List ℕ) × (length part < length buf.old) × Consumes (S.left source.old) (S.left source.new) part
-        × (ends_early e ≡ true) × Leaves e (S.left source.new) (S.failed source.old) (S.failed source.new)) }
+        × (ends_early e ≡ true) × LeavesSource e (S.left source.new) (S.failed source.old) (S.failed source.new)) }
 {
     let mut at = 0;
     while at < buf.len() {
@@ -41,7 +41,7 @@ fn next_value<S: RecordSource, T: ByteValued>(source: &mut S) -> Result<T, Resto
     ensures ok { IfOk result (λ x. Consumes (S.left source.old) (S.left source.new) (spelled (T.fields x)) × AllFit (T.fields x)
         × (S.failed source.new ≡ S.failed source.old)) }
     ensures err { IfErr result (λ e. (part : List ℕ) × (length part < T.SIZE) × Consumes (S.left source.old) (S.left source.new) part
-        × (ends_early e ≡ true) × Leaves e (S.left source.new) (S.failed source.old) (S.failed source.new)) }
+        × (ends_early e ≡ true) × LeavesSource e (S.left source.new) (S.failed source.old) (S.failed source.new)) }
 {
     let mut buffer = [0; 256];
     fill(source, &mut buffer[..T::SIZE])?;
@@ -101,10 +101,10 @@ impl SavedQueue {
 
 // The options and the number of queues that the next 24 bytes have, or why these aren't the head of a record.
 fn read_head<S: RecordSource>(source: &mut S) -> Result<(FsOptions, usize), RestoreError>
-    ensures ok { IfOk result (λ v. (taken : List ℕ) × Consumes (S.left source.old) (S.left source.new) taken × IsFront taken v.0.0 v.1 []
+    ensures ok { IfOk result (λ v. (taken : List ℕ) × Consumes (S.left source.old) (S.left source.new) taken × IsRecordFront taken v.0.0 v.1 []
         × (S.failed source.new ≡ S.failed source.old)) }
-    ensures err { IfErr result (λ e. (taken : List ℕ) × Consumes (S.left source.old) (S.left source.new) taken × Refuses taken e
-        × Leaves e (S.left source.new) (S.failed source.old) (S.failed source.new)) }
+    ensures err { IfErr result (λ e. (taken : List ℕ) × Consumes (S.left source.old) (S.left source.new) taken × RefusesRecord taken e
+        × LeavesSource e (S.left source.new) (S.failed source.old) (S.failed source.new)) }
 {
     let head: RecordHead = next_value(source)?;
     head.checked()
@@ -115,7 +115,7 @@ fn read_queue<S: RecordSource>(source: &mut S, index: usize) -> Result<Queue, Re
     ensures ok { IfOk result (λ q. Consumes (S.left source.old) (S.left source.new) (queue_bytes q) × IsSavedQueue q
         × (S.failed source.new ≡ S.failed source.old)) }
     ensures err { IfErr result (λ e. (taken : List ℕ) × Consumes (S.left source.old) (S.left source.new) taken × RefusesQueue taken index e
-        × Leaves e (S.left source.new) (S.failed source.old) (S.failed source.new)) }
+        × LeavesSource e (S.left source.new) (S.failed source.old) (S.failed source.new)) }
 {
     let saved: SavedQueue = next_value(source)?;
     saved.queue().ok_or(RestoreError::BadQueue(index))
@@ -131,8 +131,8 @@ pub fn restore_record<S: RecordSource>(
 ) -> Result<(FsOptions, Vec<Queue>), RestoreError>
     ensures ok { IfOk result (λ v. (taken : List ℕ) × Consumes (S.left source.old) (S.left source.new) taken × IsRecord taken v.0.0 v.1.items
         × (S.failed source.new ≡ S.failed source.old)) }
-    ensures err { IfErr result (λ e. (taken : List ℕ) × Consumes (S.left source.old) (S.left source.new) taken × Refuses taken e
-        × Leaves e (S.left source.new) (S.failed source.old) (S.failed source.new)) }
+    ensures err { IfErr result (λ e. (taken : List ℕ) × Consumes (S.left source.old) (S.left source.new) taken × RefusesRecord taken e
+        × LeavesSource e (S.left source.new) (S.failed source.old) (S.failed source.new)) }
 {
     let (options, count) = read_head(source)?;
     let Ok(mut queues) = Vec::with_capacity(alloc, count) else {

@@ -2,7 +2,7 @@
 
 ghost use Rattle.std.specs.Prelude.{◌≡◌, ◌<◌, ◌≤◌, ◌^◌, length, OnOk};
 ghost use Rattle.vm_values.specs.Fields.{spelled};
-ghost use Rattle.device_record.specs.Streams.{Sends};
+ghost use Rattle.device_record.specs.Streams.{GoesOut};
 ghost use Rattle.device_record.specs.Record.{IsKnown, IsSavable, IsSavedQueue, head_of, saved, flag, record_bytes};
 
 use crate::error::WriteFault;
@@ -19,8 +19,8 @@ pub(crate) const MAGIC: u32 = 0x4453_4656;
 pub(crate) const VERSION: u32 = 1;
 
 // Puts all of a slice.
-fn put_all<S: RecordSink>(sink: &mut S, bytes: &[u8]) -> Result<(), WriteFault>
-    ensures { Sends bytes.now (S.sent sink.old) (S.failed sink.old) result (S.sent sink.new) (S.failed sink.new) }
+fn put_slice<S: RecordSink>(sink: &mut S, bytes: &[u8]) -> Result<(), WriteFault>
+    ensures { GoesOut bytes.now (S.sent sink.old) (S.failed sink.old) result (S.sent sink.new) (S.failed sink.new) }
 {
     let mut rest = bytes;
     while !rest.is_empty() {
@@ -34,11 +34,11 @@ fn put_all<S: RecordSink>(sink: &mut S, bytes: &[u8]) -> Result<(), WriteFault>
 
 // Puts the bytes that spell a value.
 fn put_value<S: RecordSink, T: ByteValued>(sink: &mut S, value: &T) -> Result<(), WriteFault>
-    ensures { Sends (spelled (T.fields value.now)) (S.sent sink.old) (S.failed sink.old) result (S.sent sink.new) (S.failed sink.new) }
+    ensures { GoesOut (spelled (T.fields value.now)) (S.sent sink.old) (S.failed sink.old) result (S.sent sink.new) (S.failed sink.new) }
 {
     let mut buffer = [0; 256];
     value.put_bytes(&mut buffer[..T::SIZE]);
-    put_all(sink, &buffer[..T::SIZE])
+    put_slice(sink, &buffer[..T::SIZE])
 }
 
 // A queue as a record has it.
@@ -67,7 +67,7 @@ pub fn save_record<S: RecordSink>(
     requires known { IsKnown options.0 }
     requires some { 1 ≤ length queues.now }
     requires few { length queues.now ≤ 64 }
-    ensures sends { Sends (record_bytes options.0 queues.now) (S.sent sink.old) (S.failed sink.old) result (S.sent sink.new) (S.failed sink.new) }
+    ensures goes_out { GoesOut (record_bytes options.0 queues.now) (S.sent sink.old) (S.failed sink.old) result (S.sent sink.new) (S.failed sink.new) }
     ensures savable { OnOk result (IsSavable options.0 queues.now) }
 {
     let head = RecordHead {

@@ -6,32 +6,32 @@ use Rattle.vm_values.specs.Fields.{spelled}
 use Rattle.device_record.specs.Fields.{head_fields, queue_fields}
 use Rattle.device_record.specs.Record.{IsSavedQueue, head_of, queue_bytes, record_bytes}
 use Rattle.device_record.specs.declared.fields.SavedQueue.{SavedQueue}
-use Rattle.device_record.proofs.StreamLemmas.{sends_part, sends_less}
+use Rattle.device_record.proofs.StreamLemmas.{part_goes_out, goes_out_less}
 use Rattle.device_record.proofs.QueueLemmas.{next_queue, more_lawful, put_queue}
 use Rattle.device_record.proofs.save.save_record.Goals as goal
 
-pub returns-in_err-put_value-clause-sends : goal.returns-in_err-put_value-clause-sends
-returns-in_err-put_value-clause-sends g c =
+pub returns-in_err-put_value-clause-goes_out : goal.returns-in_err-put_value-clause-goes_out
+returns-in_err-put_value-clause-goes_out g c =
     let queues = c.args.queues.now in
     let same : c.bits.result ≡ c.args.options.0 = Prim.search rules in
     let stopped = c.in_err-put_value.ensures in
     let head : spelled (head_fields (head_of c.args.options.0 (length queues))) ≡ stopped.0 ++ stopped.1 =
     ap (λ o. spelled (head_fields (head_of o (length queues)))) (sym same) ∙ stopped.2 in
-    let part = sends_part (record_bytes c.args.options.0 queues) [] (spelled (head_fields (head_of c.args.options.0 (length queues)))) (flat_map queue_bytes queues) stopped.0 stopped.1 _ _ _ refl head stopped.3
+    let part = part_goes_out (record_bytes c.args.options.0 queues) [] (spelled (head_fields (head_of c.args.options.0 (length queues)))) (flat_map queue_bytes queues) stopped.0 stopped.1 _ _ _ refl head stopped.3
     (Appends-nil _) stopped.4 in
-    sends_less _ _ _ _ _ c.from_residual.result c.from_residual.ensures.0 part stopped.5
+    goes_out_less _ _ _ _ _ c.from_residual.result c.from_residual.ensures.0 part stopped.5
 
-pub returns-in_err-put_value-2-clause-sends : goal.returns-in_err-put_value-2-clause-sends
-returns-in_err-put_value-2-clause-sends g c =
+pub returns-in_err-put_value-2-clause-goes_out : goal.returns-in_err-put_value-2-clause-goes_out
+returns-in_err-put_value-2-clause-goes_out g c =
     let queues = c.args.queues.now in
     let i = c.loop-queue.queue-index in
     let before = c.loop-queue.invariant.put in
     let stopped = c.in_err-put_value-2.ensures in
     let next = next_queue queues i c.queue-item.result c.loop-queue-test.true c.queue-item.is in
     let one : queue_bytes c.queue-item.result ≡ stopped.0 ++ stopped.1 = ap (λ (s : SavedQueue). spelled (queue_fields s)) (sym c.saved.ensures.value) ∙ stopped.2 in
-    let part = sends_part (record_bytes c.args.options.0 queues) before.0 (queue_bytes c.queue-item.result) (flat_map queue_bytes (drop (i + 1) queues)) stopped.0 stopped.1 _ _ _
+    let part = part_goes_out (record_bytes c.args.options.0 queues) before.0 (queue_bytes c.queue-item.result) (flat_map queue_bytes (drop (i + 1) queues)) stopped.0 stopped.1 _ _ _
     (before.1 ∙ ap (λ l. before.0 ++ l) next) one stopped.3 before.2 stopped.4 in
-    sends_less _ _ _ _ _ c.from_residual-in_err-put_value-2.result c.from_residual-in_err-put_value-2.ensures.0 part stopped.5
+    goes_out_less _ _ _ _ _ c.from_residual-in_err-put_value-2.result c.from_residual-in_err-put_value-2.ensures.0 part stopped.5
 
 pub loop-queue-preserved : goal.loop-queue-preserved
 loop-queue-preserved g c =

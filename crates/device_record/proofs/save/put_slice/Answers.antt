@@ -1,6 +1,6 @@
 use Rattle.std.proofs.Common.{rules, refl}
 use Rattle.device_record.proofs.StreamLemmas.{put_more}
-use Rattle.device_record.proofs.save.put_all.Goals as goal
+use Rattle.device_record.proofs.save.put_slice.Goals as goal
 
 pub loop-rest-preserved : goal.loop-rest-preserved
 loop-rest-preserved g c = record {

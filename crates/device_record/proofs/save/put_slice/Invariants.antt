@@ -1,7 +1,7 @@
 -- What was put so far, in front of what is left, is all of it.
 use Rattle.std.proofs.Common.{◌≡◌, ℕ, List, ◌++◌, length}
 use Rattle.std.specs.Io.KnownBytes.{Appends}
-use Rattle.device_record.proofs.save.put_all.Given as goal
+use Rattle.device_record.proofs.save.put_slice.Given as goal
 
 abbrev pub invariant-loop-rest : goal.invariant-loop-rest
 invariant-loop-rest g l = record {
