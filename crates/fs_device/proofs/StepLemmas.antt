@@ -1,5 +1,5 @@
 -- a step of one queue is a step of the device
-use Rattle.std.proofs.Common.{◌≡◌, ℕ, Bool, zero, suc, List, [], ◌∷◌, set, refl, ap, sym, ◌∙◌, subst, Option, Some, Ok, Err}
+use Rattle.std.proofs.Common.{◌≡◌, ℕ, Bool, zero, suc, List, [], ◌∷◌, set, refl, ap, sym, ◌∙◌, subst, Option, Some, None, Ok, Err}
 use Rattle.std.specs.Prelude.{slice_get}
 use Rattle.vm_memory_core.specs.Host.{changed_at}
 use Rattle.vm_memory.specs.Memory.{Memory}
@@ -23,7 +23,7 @@ changed_at-set [] i q = refl
 changed_at-set (x ∷ l) zero q = refl
 changed_at-set (x ∷ l) (suc i) q = ap (λ (r : List Queue). x ∷ r) (changed_at-set l i q)
 
-set-same : (l : List Queue) (i : ℕ) (q : Queue) → slice_get l i ≡ Some q → set l i q ≡ l
+pub set-same : (l : List Queue) (i : ℕ) (q : Queue) → slice_get l i ≡ Some q → set l i q ≡ l
 set-same [] i q e = refl
 set-same (x ∷ l) zero q e = let is : x ≡ q = cc in ap (λ (y : Queue). y ∷ l) (sym is)
 set-same (x ∷ l) (suc i) q e = ap (λ (r : List Queue). x ∷ r) (set-same l i q e)
@@ -48,6 +48,10 @@ moved f m queues i q q' s same = ap (λ (l : List Queue). state f m l s) (ap (se
 on_queue : {F : Type 0} (may : May F) (before : State F) (i : ℕ) (q : Queue) (calls : Calls) (outcome : Outcome) (after : State F) → slice_get before.queues i ≡ Some q →
     Acts may before i q (offer before.memory before.limit q) calls outcome after → Step may before i calls outcome after
 on_queue may before i q calls outcome after there acts = subst (λ (o : Option Queue). StepOf may before i o calls outcome after) (sym there) acts
+
+-- there is no such queue
+pub misses : {F : Type 0} (may : May F) (s : State F) (i : ℕ) → slice_get s.queues i ≡ None → Step may s i [] (Refused device.NoSuchQueue) s
+misses may s i missing = subst (λ (o : Option Queue). StepOf may s i o [] (Refused device.NoSuchQueue) s) (sym missing) (refl, record { same = refl; no_call = refl })
 
 -- nothing waits
 pub idles : {F : Type 0} (may : May F) (f : Fixed) (m : Memory) (queues : List Queue) (i : ℕ) (q q' : Queue) (s : ℕ × F) → slice_get queues i ≡ Some q → offer m f.limit q ≡ taking.Idle → q' ≡ q →
@@ -116,7 +120,19 @@ goes_back may f m m' queues i q q' s s' head x notice (Asks request room) calls 
   returns = returns f m m' queues i q q' s s' room _ x _ notice served.2 served.3 stored told after;
 }
 
--- a chain that was begun is served and given back
+-- a chain that was offered is served and given back
+pub exchanged : {F : Type 0} (may : May F) (f : Fixed) (m m' : Memory) (queues : List Queue) (i : ℕ) (q q' : Queue) (s s' : ℕ × F) (head : ℕ) (asked : Asked) (x : Exchange) (notice : Bool) →
+    slice_get queues i ≡ Some q → offer m f.limit q ≡ Offers head asked → (calls : Calls) × ServesChain may f.page_size s head asked calls x s' →
+    m' ≡ returned m q head (room_of asked) x.reply → notice ≡ wants_notice m' q → q' ≡ advanced q →
+    (calls : Calls) × Step may (state f m queues s) i calls (Exchanged x notice) (state f m' (set queues i q') s')
+exchanged may f m m' queues i q q' s s' head asked x notice there offered served stored told after = (
+  served.0,
+  on_queue may (state f m queues s) i q served.0 (Exchanged x notice) _ there
+      (subst (λ (o : Offer). Exchanges may (state f m queues s) i q o served.0 x notice (state f m' (set queues i q') s')) (sym offered)
+      (goes_back may f m m' queues i q q' s s' head x notice asked served.0 served.1 stored told after)),
+)
+
+-- so is one that was begun
 pub finishes : {F : Type 0} (may : May F) (f : Fixed) (m m' : Memory) (queues : List Queue) (q q' : Queue) (s s' : ℕ × F) (x : Exchange) (notice : Bool) (b : Begun) (is : IsBegun (state f m queues s) b) →
     slice_get queues b.queue ≡ Some q → (calls : Calls) × ServesChain may f.page_size s b.taken.head is.asked calls x s' →
     (IsTaken m q is.asked b.taken → m' ≡ returned m q b.taken.head (room_of is.asked) x.reply) → (IsTaken m q is.asked b.taken → notice ≡ wants_notice m' q) → q' ≡ advanced q →
@@ -125,17 +141,21 @@ finishes may f m m' queues q q' s s' x notice b is there served stored told afte
     let both : Some is.queue ≡ Some q = sym is.there ∙ there in
     let same : is.queue ≡ q = cc in
     let taken : IsTaken m q is.asked b.taken = subst (λ (p : Queue). IsTaken m p is.asked b.taken) same is.taken in
-    let offered : offer m f.limit q ≡ Offers b.taken.head is.asked = sym (ap (offer m f.limit) same) ∙ is.offered in (
-      served.0,
-      on_queue may (state f m queues s) b.queue q served.0 (Exchanged x notice) _ there
-          (subst (λ (o : Offer). Exchanges may (state f m queues s) b.queue q o served.0 x notice (state f m' (set queues b.queue q') s')) (sym offered)
-          (goes_back may f m m' queues b.queue q q' s s' b.taken.head x notice is.asked served.0 served.1 (stored taken) (told taken) after)),
-    )
+    let offered : offer m f.limit q ≡ Offers b.taken.head is.asked = sym (ap (offer m f.limit) same) ∙ is.offered in
+    exchanged may f m m' queues b.queue q q' s s' b.taken.head is.asked x notice there offered served (stored taken) (told taken) after
 
--- a step by two parts is a whole one
-pub whole_step : {F : Type 0} (may : May F) (before between after after' : State F) (i k : ℕ) (o : Outcome) → k ≡ i → between ≡ before → after' ≡ after →
-    (calls : Calls) × Step may between k calls o after → (calls : Calls) × Step may before i calls o after'
-whole_step {F} may before between after after' i k o at same is done = (
-  done.0,
-  subst (λ (s : State F). Step may s i done.0 o after') same (subst (λ (s : State F). Step may between i done.0 o s) (sym is) (subst (λ (n : ℕ). Step may between n done.0 o after) at done.1)),
-)
+-- and one that was taken, by which the queues stayed as they were
+pub exchanges : {F : Type 0} (may : May F) (f : Fixed) (m m' : Memory) (queues between : List Queue) (i : ℕ) (q p q' : Queue) (s s' : ℕ × F) (t : Taken) (takes : Takes m f.limit q (Ok (Some t))) (x : Exchange) (notice : Bool) →
+    slice_get queues i ≡ Some q → between ≡ queues → slice_get between i ≡ Some p → (calls : Calls) × ServesChain may f.page_size s t.head takes.0 calls x s' →
+    (IsTaken m p takes.0 t → m' ≡ returned m p t.head (room_of takes.0) x.reply) → (IsTaken m p takes.0 t → notice ≡ wants_notice m' p) → q' ≡ advanced p →
+    (calls : Calls) × Step may (state f m queues s) i calls (Exchanged x notice) (state f m' (set between i q') s')
+exchanges {F} may f m m' queues between i q p q' s s' t takes x notice there kept at served stored told after =
+    let both : Some q ≡ Some p = sym there ∙ ap (λ (l : List Queue). slice_get l i) (sym kept) ∙ at in
+    let same : q ≡ p = cc in
+    let taken : IsTaken m p takes.0 t = subst (λ (o : Queue). IsTaken m o takes.0 t) same takes.2 in
+    let offered : offer m f.limit p ≡ Offers t.head takes.0 = ap (offer m f.limit) (sym same) ∙ takes.1 in
+    let found : slice_get queues i ≡ Some p = ap (λ (l : List Queue). slice_get l i) (sym kept) ∙ at in
+    let done = exchanged may f m m' queues i p q' s s' t.head takes.0 x notice found offered served (stored taken) (told taken) after in (
+      done.0,
+      subst (λ (l : List Queue). Step may (state f m queues s) i done.0 (Exchanged x notice) (state f m' (set l i q') s')) (sym kept) done.1,
+    )

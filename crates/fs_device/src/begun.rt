@@ -26,8 +26,8 @@ pub struct Begun {
 
 ghost use Rattle.fs_device.specs.DeviceView.{request_of};
 
-// The bytes of a chain's request. A faulty chain has none, and takes no memory.
-fn fetch_request<B: NewBitmap>(
+/// The bytes of a chain's request. A faulty chain has none, and takes no memory.
+pub(crate) fn fetch_request<B: NewBitmap>(
     alloc: Global,
     host: &HostMemory<B>,
     taken: &Taken,
@@ -41,8 +41,8 @@ fn fetch_request<B: NewBitmap>(
     }
 }
 
-// A writer with a chain's room. A faulty chain has none, and takes no memory.
-fn make_room(alloc: Global, taken: &Taken) -> Result<Writer, AllocError>
+/// A writer with a chain's room. A faulty chain has none, and takes no memory.
+pub(crate) fn make_room(alloc: Global, taken: &Taken) -> Result<Writer, AllocError>
     ensures unwritten { IfOk result (λ room. room.written ≡ []) }
     ensures counted { IfOk result (λ room. room.free ≡ room_places taken.now.chain) }
 {

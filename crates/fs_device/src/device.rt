@@ -8,7 +8,7 @@ ghost use Rattle.fs_queue.specs.Windows.{TakenLiesIn};
 use crate::begun::Begun;
 use crate::error::DeviceError;
 use crate::exchange::Exchange;
-use crate::serve::serve;
+use crate::serve::{serve, serve_taken};
 use fs_queue::{Queue, QueueError, QueueLayout};
 use fuse_fs::FileSystem;
 use std::alloc::{AllocError, Global};
@@ -141,13 +141,19 @@ impl<F: FileSystem> Device<F> {
         ensures step { (calls : Calls) × Step F.may (state_of (M.memory mem.now host.old) self.old) queue calls (outcome_of result) (state_of (M.memory mem.now host.new) self.new) }
         ensures shape { shape host.new ≡ shape host.old }
     {
-        let Some(begun) = self.begin(alloc, host, mem, queue)? else {
-            return Ok(None);
-        };
-        match self.finish(alloc, host, begun) {
-            Ok(exchanged) => Ok(Some(exchanged)),
-            Err(_) => Err(DeviceError::Queue(QueueError::OutOfMemory)),
+        if queue >= self.queues.len() {
+            return Err(DeviceError::NoSuchQueue);
         }
+        let taken = match self.queues[queue].take(alloc, host, mem, self.limit) {
+            Ok(Some(taken)) => taken,
+            Ok(None) => return Ok(None),
+            Err(error) => return Err(DeviceError::Queue(error)),
+        };
+        let Ok(exchange) = serve_taken(alloc, &mut self.server, host, &taken) else {
+            return Err(DeviceError::Queue(QueueError::OutOfMemory));
+        };
+        let notify = self.queues[queue].give_back(host, taken, &exchange.reply);
+        Ok(Some((exchange, notify)))
     }
 
     /// Begins a queue anew: its position is 0, and it isn't stopped.

@@ -1,16 +1,19 @@
 //! What is exchanged for a chain that was taken.
 
 ghost use Rattle.std.specs.Prelude.{◌≡◌, ◌≤◌, ◌<◌, ◌^◌, [], length, IfOk, IfSome, OnErr, IfNone};
+ghost use Rattle.vm_memory_core.specs.Host.{lengths};
 ghost use Rattle.vm_memory.specs.Memory.{Memory};
 ghost use Rattle.fs_queue.specs.Queue.{Queue};
 ghost use Rattle.fs_queue.specs.Taking.{Asked};
-ghost use Rattle.fs_queue.specs.Windows.{IsTaken, room_places};
+ghost use Rattle.fs_queue.specs.Windows.{IsTaken, TakenLiesIn, room_places};
 
+use crate::begun::{fetch_request, make_room};
 use crate::exchange::{Exchange, Fault};
 use fs_queue::Taken;
 use fuse_fs::FileSystem;
 use std::alloc::{AllocError, Global};
 use virtiofsd_fuse::{Error, Reader, Server, Writer};
+use vm_memory_core::{HostMemory, NewBitmap};
 
 /// A reply, or why there is none.
 #[derive(Drop)]
@@ -100,4 +103,26 @@ pub(crate) fn serve<F: FileSystem>(
             None => Err(AllocError),
         },
     }
+}
+
+/// Fetches the request of a chain that was taken, makes room for its reply, and serves it. Nothing is refused once the file
+/// system was asked.
+pub(crate) fn serve_taken<F: FileSystem, B: NewBitmap>(
+    alloc: Global,
+    server: &mut Server<F>,
+    host: &HostMemory<B>,
+    taken: &Taken,
+) -> Result<Exchange, AllocError>
+    requires lies { TakenLiesIn (lengths host.now) taken.now }
+    requires short { room_places taken.now.chain < 2 ^ 32 }
+    ensures exchange { (m : Memory) (q : Queue) (asked : Asked) → m.host ≡ host.now → IsTaken m q asked taken.now →
+        IfOk result (λ e. (calls : Calls) × ServesChain F.may server.old.page_size (server_state server.old) taken.now.head asked calls (exchange_of e) (server_state server.new)) }
+    ensures fits { IfOk result (λ e. length e.reply.items ≤ room_places taken.now.chain) }
+    ensures head { IfOk result (λ e. e.head ≡ taken.now.head) }
+    ensures err { OnErr result ((server.new.options.0 ≡ server.old.options.0) × (server.new.fs ≡ server.old.fs)) }
+    ensures page_size { server.new.page_size ≡ server.old.page_size }
+{
+    let request = fetch_request(alloc, host, taken)?;
+    let room = make_room(alloc, taken)?;
+    serve(alloc, server, taken, request, room)
 }

@@ -1,13 +1,56 @@
-use Rattle.std.proofs.Common.{◌≡◌, ap}
+use Rattle.std.proofs.Common.{◌≡◌, ◌∙◌, [], ap, sym, set, vec_len, length-set, arith}
+use Rattle.std.proofs.lemmas.Option.{slice_get_past, slice_get_read}
 use Rattle.vm_memory.specs.Memory.{Memory}
-use Rattle.fs_device.specs.DeviceView.{state_of}
-use Rattle.fs_device.proofs.StepLemmas.{whole_step}
+use Rattle.fs_device.proofs.StepLemmas.{Fixed, exchanges, idles, lacks, misses, refuses, set-same, unchanged}
 use Rattle.fs_device.proofs.device.Device.process_one.Goals as goal
 
-pub returns-in-Ok-clause-step : goal.returns-in-Ok-clause-step
-returns-in-Ok-clause-step g c =
+pub returns-then-queue-len-clause-step : goal.returns-then-queue-len-clause-step
+returns-then-queue-len-clause-step g c = (
+  [],
+  rw (← c.self.view_is) (misses g.F.FileSystemBase.may _ c.args.queue (slice_get_past c.self.inside.queues.items c.args.queue (omega (arith, c.if-queue-len.true, c.len.ensures, c.self.inside.queues.ok.0)))),
+)
+
+pub returns-in-Ok-None-clause-step : goal.returns-in-Ok-None-clause-step
+returns-in-Ok-None-clause-step g c =
+    let there = slice_get_read c.self.inside.queues.items (vec_len c.self.inside.queues) c.args.queue _ c.self.inside.queues.ok.0 (omega arith) c.index_mut.ensures.value in
+    let fixed : Fixed = record { limit = c.self.inside.limit; page_size = c.self.inside.server.page_size } in (
+      [],
+      rw (← c.self.view_is) (idles g.F.FileSystemBase.may fixed (g.M.GuestMemory.memory c.args.mem.now c.args.host.now) c.self.inside.queues.items c.args.queue c.index_mut.result.now c.take.new.self (c.self.inside.server.options.0, c.self.inside.server.fs) there
+          (rw c.in-Ok-None.field-0-is at c.in-Ok-None.ensures.takes) c.in-Ok-None.ensures.queue),
+    )
+
+pub returns-in-Err-clause-step : goal.returns-in-Err-clause-step
+returns-in-Err-clause-step g c =
+    let there = slice_get_read c.self.inside.queues.items (vec_len c.self.inside.queues) c.args.queue _ c.self.inside.queues.ok.0 (omega arith) c.index_mut.ensures.value in
+    let fixed : Fixed = record { limit = c.self.inside.limit; page_size = c.self.inside.server.page_size } in (
+      [],
+      rw (← c.self.view_is) (refuses g.F.FileSystemBase.may fixed (g.M.GuestMemory.memory c.args.mem.now c.args.host.now) c.self.inside.queues.items c.args.queue c.index_mut.result.now c.take.new.self (c.self.inside.server.options.0, c.self.inside.server.fs) c.in-Err.error there
+          c.in-Err.ensures.takes c.in-Err.ensures.queue),
+    )
+
+pub returns-in_default-clause-step : goal.returns-in_default-clause-step
+returns-in_default-clause-step g c =
+    let m = g.M.GuestMemory.memory c.args.mem.now c.args.host.now in
+    let there = slice_get_read c.self.inside.queues.items (vec_len c.self.inside.queues) c.args.queue _ c.self.inside.queues.ok.0 (omega arith) c.index_mut.ensures.value in
+    let fixed : Fixed = record { limit = c.self.inside.limit; page_size = c.self.inside.server.page_size } in
+    let takes = rw c.in-Ok-Some.field-0-is at c.in-Ok-Some.ensures.takes in
+    let same = unchanged fixed m c.self.inside.queues.items c.args.queue c.index_mut.result.now c.take.new.self (c.self.inside.server.options.0, c.self.inside.server.fs) there c.in-Ok-Some.ensures.queue in
+    let still = rw c.in_default.is at c.serve_taken.ensures.err in (
+      [],
+      rw (← c.self.view_is, still.0, still.1, c.serve_taken.ensures.page_size) (lacks g.F.FileSystemBase.may _ _ c.args.queue c.index_mut.result.now c.in-Ok-Some.taken.head takes.0 there takes.1 same),
+    )
+
+pub returns-clause-step : goal.returns-clause-step
+returns-clause-step g c =
     let m = g.M.GuestMemory.memory c.args.mem.now c.args.host.now in
     let host : m.host ≡ c.args.host.now = ap (λ (x : Memory). x.host) (g.met.M.GuestMemory.over c.args.mem.now c.args.host.now c.args.host.now) in
-    let begun = rw c.in-Some.is at c.in_ok-begun.ensures.begins in
-    let done = c.in-Ok.ensures.finishes m host (rw begun.2 begun.1) in
-    whole_step g.F.FileSystemBase.may _ _ _ _ _ _ _ begun.0 begun.2 (ap (λ (x : Memory). state_of x c.finish.new.self) (g.met.M.GuestMemory.over c.args.mem.now c.args.host.now c.finish.new.host)) done
+    let over = g.met.M.GuestMemory.over c.args.mem.now c.args.host.now c.give_back-notify.new.host in
+    let queues = c.self.inside.queues.items in
+    let there = slice_get_read queues (vec_len c.self.inside.queues) c.args.queue _ c.self.inside.queues.ok.0 (omega arith) c.index_mut.ensures.value in
+    let fixed : Fixed = record { limit = c.self.inside.limit; page_size = c.self.inside.server.page_size } in
+    let takes = rw c.in-Ok-Some.field-0-is at c.in-Ok-Some.ensures.takes in
+    let kept = ap (set queues c.args.queue) c.in-Ok-Some.ensures.queue ∙ set-same queues c.args.queue c.index_mut.result.now there in
+    let at = slice_get_read (set queues c.args.queue c.take.new.self) (vec_len c.self.inside.queues) c.args.queue _ (c.self.inside.queues.ok.0 ∙ sym (length-set queues c.args.queue c.take.new.self)) (omega arith) c.index_mut-2.ensures.value in
+    rw (← c.self.view_is, over, c.serve_taken.ensures.page_size) (exchanges g.F.FileSystemBase.may fixed m _ queues (set queues c.args.queue c.take.new.self) c.args.queue c.index_mut.result.now c.index_mut-2.result.now
+    c.give_back-notify.new.self (c.self.inside.server.options.0, c.self.inside.server.fs) _ c.in-Ok-Some.taken takes _ c.give_back-notify.result there kept at (c.in-Ok.ensures.exchange m c.index_mut.result.now takes.0 host takes.2)
+    (λ taken. rw c.deref.ensures.value at c.give_back-notify.ensures.stored m takes.0 host taken) (λ taken. c.give_back-notify.ensures.told m takes.0 host taken) c.give_back-notify.ensures.queue)
