@@ -1,0 +1,3 @@
+pub mod StreamLemmas
+pub mod QueueLemmas
+pub mod ReadingLemmas
