@@ -1,5 +1,8 @@
 //! Readers that files empty, and writers that they fill (virtiofsd's `ZcReader` and `ZcWriter`).
 
+ghost use Rattle.std.specs.Prelude.{◌≡◌, ℕ, ◌+◌, List, ◌++◌, length, sum};
+ghost use Rattle.fuse_fs.specs.Lengths.{past, up_to};
+ghost use Rattle.fuse_fs.specs.Transfers.{ReadsSegments};
 ghost use Rattle.fuse_segments.specs.Views.{rooms};
 
 use crate::reader::Reader;
@@ -63,7 +66,14 @@ impl ZeroCopyWriter for ZcWriter {
         file: &mut F,
         count: usize,
         off: u64,
-    ) -> Result<usize, Errno> {
+    ) -> Result<usize, Errno>
+        ensures puts { (bytes : List ℕ) × (self.new.writer.written ≡ self.old.writer.written ++ bytes) × (self.old.writer.free ≡ self.new.writer.free + length bytes)
+            × (rooms self.new.writer ≡ past (length bytes) (rooms self.old.writer)) × (sum (rooms self.old.writer) ≡ self.old.writer.free)
+            × ReadsSegments F.read_gives file.old (up_to count (rooms self.old.writer)) off bytes result file.new }
+        ensures segments { self.new.writer.segments ≡ self.old.writer.segments }
+        ensures rejoin { self.new.writer.rejoin ≡ self.old.writer.rejoin }
+        ensures spare { self.new.writer.spare ≡ self.old.writer.spare }
+    {
         let most = count.min(self.writer.available_bytes());
         let mut done = 0;
         while done < most {
