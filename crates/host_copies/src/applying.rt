@@ -1,8 +1,8 @@
 //! Pages put into a host.
 
-ghost use Rattle.std.specs.Prelude.{◌≡◌, map, None, OnErr, OnOk};
+ghost use Rattle.std.specs.Prelude.{◌≡◌, map, None, OnErr, OnOk, slice_get};
 ghost use Rattle.vm_memory_core.specs.Host.{lengths, shape};
-ghost use Rattle.host_copies.specs.Applying.{applied, first_refused, page_put, pages_put, refused_by};
+ghost use Rattle.host_copies.specs.Applying.{applied, first_refused, pages_put, refused_by};
 ghost use Rattle.host_copies.specs.PageView.{page_view};
 
 use crate::harvested::HarvestedPage;
@@ -31,8 +31,6 @@ impl ApplyError {
         }
     }
 }
-
-ghost use Rattle.std.specs.Prelude.{slice_get};
 
 // Whether a page, which has this number in a list, has its place in the host.
 fn check_page(
