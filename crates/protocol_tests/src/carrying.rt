@@ -1,20 +1,21 @@
 //! A file system that is carried over, by its server.
 
-ghost use Rattle.std.specs.Prelude.{⊤};
+ghost use Rattle.std.specs.Prelude.{⊤, ◌≡◌, Some};
+ghost use Rattle.std.specs.declared.io.ErrorKind.TheVariants.{Unsupported};
 
 use crate::given::expect_same;
 use crate::log::Log;
 use crate::recorder::Recorder;
 use crate::toy::Told;
 use bitflags::Flags;
-use fuse_fs::SerializableFileSystem;
+use fuse_fs::{SerializableFileSystem, defaults};
 use fuse_wire::FsOptions;
 use std::cell::Cell;
 use std::io::{self, ErrorKind, Read, Write};
-use std::sync::atomic::AtomicBool;
+use std::sync::atomic::{AtomicBool, Ordering};
 use virtiofsd_fuse::Server;
 
-/// What a file system has that is carried over: three bytes, once it was made ready.
+/// What a file system has that is carried over: three bytes, once it was made ready and nobody cancelled that.
 #[derive(Drop)]
 pub struct Carried {
     is_ready: bool,
@@ -29,8 +30,8 @@ impl SerializableFileSystem for Recorder<'_, Carried> {
 
     ghost may_apply = { λ before had failed has after. ⊤ };
 
-    fn prepare_serialization(&mut self, _cancel: &AtomicBool) {
-        self.kept.is_ready = true;
+    fn prepare_serialization(&mut self, cancel: &AtomicBool) {
+        self.kept.is_ready = !cancel.load(Ordering::Relaxed);
     }
 
     fn serialize<W: Write>(&mut self, w: &mut W) -> io::Result<()> {
@@ -45,8 +46,26 @@ impl SerializableFileSystem for Recorder<'_, Carried> {
     }
 }
 
-// Without bodies of its own its state can't be carried over.
-impl SerializableFileSystem for Recorder<'_, ()> {}
+// It has nothing to carry over, so it does what the defaults do, and nothing else.
+impl SerializableFileSystem for Recorder<'_, ()> {
+    ghost may_prepare = { λ before after. after ≡ before };
+
+    ghost may_serialize = { λ before held failed holds after. (after ≡ before) × (holds ≡ held) × (failed ≡ Some Unsupported) };
+
+    ghost may_apply = { λ before had failed has after. (after ≡ before) × (has ≡ had) × (failed ≡ Some Unsupported) };
+
+    fn prepare_serialization(&mut self, _cancel: &AtomicBool) {
+        defaults::prepare_serialization(self);
+    }
+
+    fn serialize<W: Write>(&mut self, _w: &mut W) -> io::Result<()> {
+        defaults::serialize()
+    }
+
+    fn deserialize_and_apply<R: Read>(&mut self, _r: &mut R) -> io::Result<()> {
+        defaults::deserialize_and_apply()
+    }
+}
 
 // The kind of an error alone.
 fn kind_of(answer: io::Result<()>) -> Result<(), ErrorKind> {
@@ -67,6 +86,7 @@ fn server_hands_its_file_system_over(rt: HostRuntime) {
     let mut server = Server::resume(files, 4096, FsOptions::from_bits_retain(5));
     let mut out = Vec::new(rt.alloc());
     let busy = Err(ErrorKind::ResourceBusy);
+    server.prepare_serialization(&AtomicBool::new(true));
     expect_same(&rt, kind_of(server.serialize(&mut out)), busy);
     server.prepare_serialization(&AtomicBool::new(false));
     expect_same(&rt, kind_of(server.serialize(&mut out)), Ok(()));
