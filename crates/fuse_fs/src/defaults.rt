@@ -1,13 +1,16 @@
-//! What a call of `FileSystem` does where a file system has nothing of its own to do, for a method to call. A default that
-//! takes no file system leaves it as it is.
+//! What a call of `FileSystem` or `SerializableFileSystem` does where a file system has nothing of its own to do, for a method
+//! to call. What a default doesn't take stays as it is: file system, writer, stream.
 
-ghost use Rattle.std.specs.Prelude.{◌≡◌, Ok, Err, None};
+ghost use Rattle.std.specs.Prelude.{◌≡◌, Ok, Err, None, Some, option_map};
+ghost use Rattle.std.specs.Result.{result_err};
+ghost use Rattle.std.specs.IoError.{error_kind};
 ghost use Rattle.fuse_fs.specs.Answers.{ForgetsEach, pair_numbers, default_stats, no_flags};
 
 use crate::answers::{Context, Entry, GetxattrReply, ListxattrReply, Timeout};
 use crate::file_system::FileSystemBase;
 use bitflags::Flags;
 use fuse_base::{Attr, Errno, FsOptions, OpenOptions, StatVfs};
+use std::io::{self, ErrorKind};
 
 /// Of what both sides can, nothing is wanted.
 pub fn init() -> Result<FsOptions, Errno>
@@ -317,4 +320,23 @@ pub fn tmpfile() -> Errno
     ensures { result ≡ 38 }
 {
     Errno::ENOSYS
+}
+
+/// Nothing is made ready.
+pub fn prepare_serialization<F>(_fs: &mut F)
+    ensures { _fs.new ≡ _fs.old }
+{}
+
+/// Not supported. It writes nothing to the stream.
+pub fn serialize() -> io::Result<()>
+    ensures { option_map error_kind (result_err result) ≡ Some ErrorKind.Unsupported }
+{
+    Err(io::Error::from(ErrorKind::Unsupported))
+}
+
+/// Not supported. It reads nothing from the stream.
+pub fn deserialize_and_apply() -> io::Result<()>
+    ensures { option_map error_kind (result_err result) ≡ Some ErrorKind.Unsupported }
+{
+    Err(io::Error::from(ErrorKind::Unsupported))
 }

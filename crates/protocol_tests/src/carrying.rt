@@ -1,13 +1,14 @@
 //! A file system that is carried over, by its server.
 
-ghost use Rattle.std.specs.Prelude.{⊤};
+ghost use Rattle.std.specs.Prelude.{⊤, ◌≡◌, Some};
+ghost use Rattle.std.specs.declared.io.ErrorKind.TheVariants.{Unsupported};
 
 use crate::given::expect_same;
 use crate::log::Log;
 use crate::recorder::Recorder;
 use crate::toy::Told;
 use bitflags::Flags;
-use fuse_fs::SerializableFileSystem;
+use fuse_fs::{SerializableFileSystem, defaults};
 use fuse_wire::FsOptions;
 use std::cell::Cell;
 use std::io::{self, ErrorKind, Read, Write};
@@ -45,8 +46,26 @@ impl SerializableFileSystem for Recorder<'_, Carried> {
     }
 }
 
-// Without bodies of its own its state can't be carried over.
-impl SerializableFileSystem for Recorder<'_, ()> {}
+// It has nothing to carry over, so it does what the defaults do, and nothing else.
+impl SerializableFileSystem for Recorder<'_, ()> {
+    ghost may_prepare = { λ before after. after ≡ before };
+
+    ghost may_serialize = { λ before held failed holds after. (after ≡ before) × (holds ≡ held) × (failed ≡ Some Unsupported) };
+
+    ghost may_apply = { λ before had failed has after. (after ≡ before) × (has ≡ had) × (failed ≡ Some Unsupported) };
+
+    fn prepare_serialization(&mut self, _cancel: &AtomicBool) {
+        defaults::prepare_serialization(self);
+    }
+
+    fn serialize<W: Write>(&mut self, _w: &mut W) -> io::Result<()> {
+        defaults::serialize()
+    }
+
+    fn deserialize_and_apply<R: Read>(&mut self, _r: &mut R) -> io::Result<()> {
+        defaults::deserialize_and_apply()
+    }
+}
 
 // The kind of an error alone.
 fn kind_of(answer: io::Result<()>) -> Result<(), ErrorKind> {

@@ -69,16 +69,10 @@ fn answers_by_default(rt: HostRuntime) {
     expect_same(&rt, NoEntries.next().is_none(), true);
 }
 
-fn label_of(rt: &impl Abort, alloc: Global) -> SecContext {
+fn label_of(rt: &impl Abort, alloc: Global, name: &[u8], bytes: &[u8]) -> SecContext {
     let mut label = SecContext::empty(alloc);
-    label
-        .name
-        .extend_from_slice(b"security.selinux")
-        .expect(rt, "memory");
-    label
-        .secctx
-        .extend_from_slice(b"label")
-        .expect(rt, "memory");
+    label.name.extend_from_slice(name).expect(rt, "memory");
+    label.secctx.extend_from_slice(bytes).expect(rt, "memory");
     label
 }
 
@@ -86,7 +80,7 @@ fn label_of(rt: &impl Abort, alloc: Global) -> SecContext {
 #[test]
 fn clones_extensions(rt: HostRuntime) {
     let ext = Extensions {
-        secctx: Some(label_of(&rt, rt.alloc())),
+        secctx: Some(label_of(&rt, rt.alloc(), b"security.selinux", b"label")),
         sup_gid: Some(GuestGid(7)),
     };
     let copy = ext.try_clone(rt.alloc()).expect(&rt, "memory");
@@ -96,4 +90,20 @@ fn clones_extensions(rt: HostRuntime) {
     expect_same(&rt, label.secctx.as_slice(), b"label".as_slice());
     let none = Extensions::default();
     expect_same(&rt, (none.secctx.is_none(), none.sup_gid), (true, None));
+}
+
+// A group without a label, as a MKDIR tells it, is cloned too, and so is a label by itself.
+#[test]
+fn clones_each_part_alone(rt: HostRuntime) {
+    let group = Extensions {
+        secctx: None,
+        sup_gid: Some(GuestGid(1000)),
+    };
+    let copy = group.try_clone(rt.alloc()).expect(&rt, "memory");
+    let parts = (copy.secctx.is_none(), copy.sup_gid);
+    expect_same(&rt, parts, (true, Some(GuestGid(1000))));
+    let label = label_of(&rt, rt.alloc(), b"s", &[7]);
+    let copy = label.try_clone(rt.alloc()).expect(&rt, "memory");
+    expect_same(&rt, copy.name.as_slice(), b"s".as_slice());
+    expect_same(&rt, copy.secctx.as_slice(), [7].as_slice());
 }

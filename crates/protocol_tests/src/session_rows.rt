@@ -102,6 +102,25 @@ fn options_are_agreed(rt: HostRuntime) {
     expect_options(&rt, rt.alloc(), START, 1);
 }
 
+// The same in a room that is a byte too short.
+const UNTOLD: &[Row] = &[Row {
+    request: &[
+        "38000000 1a000000",
+        ASKER,
+        "07000000 26000000 00000200 03000000",
+    ],
+    told: Told::Good,
+    room: 79,
+    calls: &["init 3"],
+    end: End::Fault(Error::EncodeMessage),
+}];
+
+// The call was made, so what came of it is agreed.
+#[test]
+fn options_are_agreed_without_a_reply(rt: HostRuntime) {
+    expect_options(&rt, rt.alloc(), UNTOLD, 1);
+}
+
 // INIT of a file system that wants what there is.
 const WANTS_ALL: &[Row] = &[
     // the file system wants all that the client has

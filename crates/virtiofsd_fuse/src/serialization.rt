@@ -1,9 +1,5 @@
 //! Carrying a server's file system over to another process.
 
-ghost use Rattle.std.specs.Prelude.{option_map};
-ghost use Rattle.std.specs.Result.{result_err};
-ghost use Rattle.std.specs.IoError.{error_kind};
-ghost use Rattle.fuse_fs.specs.Serializing.{Prepared, Carried};
 ghost use Rattle.virtiofsd_fuse.specs.Carrying.{ServerPrepared, ServerCarried};
 
 use crate::server::Server;
@@ -19,26 +15,17 @@ impl<F: SerializableFileSystem> SerializableFileSystem for Server<F> {
     ghost may_apply = { ServerCarried F.may_apply };
 
     /// Has its file system made ready.
-    fn prepare_serialization(&mut self, cancel: &AtomicBool)
-        ensures prepares { Prepared (ServerPrepared F.may_prepare) self.old self.new }
-        ensures handed { ServerPrepared F.may_prepare self.old self.new }
-    {
+    fn prepare_serialization(&mut self, cancel: &AtomicBool) {
         self.fs.prepare_serialization(cancel);
     }
 
     /// Has its file system write its state, and answers what it answers.
-    fn serialize<W: Write>(&mut self, w: &mut W) -> io::Result<()>
-        ensures serializes { Carried (ServerCarried F.may_serialize) self.old (W.contents w.old) (option_map error_kind (result_err result)) (W.contents w.new) self.new }
-        ensures handed { ServerCarried F.may_serialize self.old (W.contents w.old) (option_map error_kind (result_err result)) (W.contents w.new) self.new }
-    {
+    fn serialize<W: Write>(&mut self, w: &mut W) -> io::Result<()> {
         self.fs.serialize(w)
     }
 
     /// Has its file system read a state, and answers what it answers.
-    fn deserialize_and_apply<R: Read>(&mut self, r: &mut R) -> io::Result<()>
-        ensures applies { Carried (ServerCarried F.may_apply) self.old (R.remaining r.old) (option_map error_kind (result_err result)) (R.remaining r.new) self.new }
-        ensures handed { ServerCarried F.may_apply self.old (R.remaining r.old) (option_map error_kind (result_err result)) (R.remaining r.new) self.new }
-    {
+    fn deserialize_and_apply<R: Read>(&mut self, r: &mut R) -> io::Result<()> {
         self.fs.deserialize_and_apply(r)
     }
 }
