@@ -1,12 +1,13 @@
-//! A file system of one file in memory.
+//! A file system of one file in memory, whose root lists it a hundred times.
 
 ghost use Rattle.std.specs.Prelude.{⊤};
 
 use crate::fault::BenchFault;
+use crate::listing::Listing;
 use bitflags::Flags;
 use fuse_fs::{
     Context, Entry, Extensions, FileSystem, FileSystemBase, GetxattrReply, ListxattrReply,
-    NoEntries, PositionedFile, Timeout, WritevFlags, ZeroCopyReader, ZeroCopyWriter, defaults,
+    PositionedFile, Timeout, WritevFlags, ZeroCopyReader, ZeroCopyWriter, defaults,
 };
 use fuse_wire::{
     Attr, Errno, FsOptions, OpenOptions, SetattrIn, SetattrValid, SetxattrFlags, StatVfs,
@@ -102,7 +103,7 @@ impl FileSystemBase for MemoryFiles {
 }
 
 impl FileSystem for MemoryFiles {
-    type DirIter = NoEntries;
+    type DirIter = Listing;
 
     fn init(&mut self, _capable: FsOptions) -> Result<FsOptions, Errno> {
         Ok(FsOptions::from_bits_retain(0))
@@ -378,8 +379,8 @@ impl FileSystem for MemoryFiles {
         _handle: u64,
         _size: u32,
         _offset: u64,
-    ) -> Result<NoEntries, Errno> {
-        defaults::readdir()
+    ) -> Result<Listing, Errno> {
+        Ok(Listing::new())
     }
 
     fn fsyncdir(

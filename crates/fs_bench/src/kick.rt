@@ -5,7 +5,7 @@ use crate::files::MemoryFiles;
 use crate::measure::{Case, Label, Meter};
 use fs_device::Device;
 use fs_queue::{Queue, QueueLayout};
-use fuse_wire::{GetattrIn, WriteIn};
+use fuse_wire::{GetattrIn, ReadIn, WriteIn};
 use guest_driver::requests;
 use guest_driver::ring::{Guest, Ring};
 use std::alloc::{AllocError, Global};
@@ -13,14 +13,23 @@ use std::time::Clock;
 use virtiofsd_fuse::Server;
 use vm_memory_core::GuestAddress;
 
-const QUEUE_SIZE: u16 = 256;
+/// How many descriptors the queue has, and so how many chains can wait in it.
+pub(crate) const QUEUE_SIZE: u16 = 256;
 
-// Where the queue's parts are.
-const RING: Ring = Ring {
+/// Where the queue's parts are.
+pub(crate) const RING: Ring = Ring {
     size: QUEUE_SIZE,
     desc: 0,
     avail: 0x2000,
     used: 0x3000,
+};
+
+// A queue of the greatest size, its parts one after another.
+const LONG_RING: Ring = Ring {
+    size: 32768,
+    desc: 0,
+    avail: 0x80000,
+    used: 0x91000,
 };
 
 // Where the request and its room are.
@@ -28,10 +37,17 @@ const REQUEST: u64 = 0x10000;
 
 const ROOM: u64 = 0x200000;
 
+// Where the request of a long chain is.
+const LONG_REQUEST: u64 = 0x100000;
+
+// Into how many parts of 32 bytes the request of a long chain is cut; its room is one more.
+const LONG_SPLITS: [u16; 2] = [4095, 32767];
+
 // Where the table of an indirect chain is.
 const TABLE: u64 = 0x8000;
 
-const MEMORY: usize = 0x400000;
+/// How many bytes the guest has, from address 0 on.
+pub(crate) const MEMORY: usize = 0x400000;
 
 const LIMIT: u32 = 0x101000;
 
@@ -40,28 +56,37 @@ const PAGE_SIZE: u32 = 4096;
 // The splits that are measured.
 const SPLITS: [u16; 3] = [1, 2, 16];
 
-// Whether a chain stands in the queue's table, or in one of its own that a descriptor names.
+/// Whether a chain stands in the queue's table, or in one of its own that a descriptor names.
 #[derive(Clone, Copy)]
-enum Form {
+pub(crate) enum Form {
     Direct,
     Indirect,
 }
 
-// A request, and how much room its reply has.
+/// A request, how much room its reply has, and how much of it the reply takes.
 #[derive(Drop)]
-struct Asked {
-    case: &'static str,
-    request: Vec<u8>,
-    room: u32,
+pub(crate) struct Asked {
+    pub case: &'static str,
+    pub request: Vec<u8>,
+    pub room: u32,
+    pub reply: u32,
 }
 
-// An opcode that the server doesn't know.
-fn unknown(alloc: Global) -> Result<Asked, AllocError> {
+impl Asked {
+    /// How many bytes a kick moves.
+    pub fn len(&self) -> usize {
+        self.request.len().saturating_add(self.reply as usize)
+    }
+}
+
+/// An opcode that the server doesn't know.
+pub(crate) fn unknown(alloc: Global) -> Result<Asked, AllocError> {
     let header = requests::header(40, 7, 1, 0);
     Ok(Asked {
         case: "unknown",
         request: requests::joined(alloc, &header, &[])?,
         room: 16,
+        reply: 16,
     })
 }
 
@@ -81,24 +106,42 @@ fn getattr(alloc: Global) -> Result<Asked, AllocError> {
         case: "getattr",
         request: requests::with_record(alloc, &header, &GetattrIn::default())?,
         room: 120,
+        reply: 120,
     })
 }
 
-// LOOKUP of a name of one byte.
-fn lookup(alloc: Global) -> Result<Asked, AllocError> {
+/// LOOKUP of a name of one byte.
+pub(crate) fn lookup(alloc: Global) -> Result<Asked, AllocError> {
     Ok(Asked {
         case: "lookup",
         request: requests::lookup(alloc, 1, 1, b"a")?,
         room: 144,
+        reply: 144,
     })
 }
 
-// READ of so many bytes from the file's start.
-fn read(alloc: Global, case: &'static str, size: u32) -> Result<Asked, AllocError> {
+/// READ of so many bytes from the file's start.
+pub(crate) fn read(alloc: Global, case: &'static str, size: u32) -> Result<Asked, AllocError> {
     Ok(Asked {
         case,
         request: requests::read(alloc, 1, 2, 0, 0, size)?,
         room: size.saturating_add(16),
+        reply: size.saturating_add(16),
+    })
+}
+
+// READDIRPLUS of a directory of a hundred entries, each of which takes 168 bytes.
+fn readdirplus(alloc: Global) -> Result<Asked, AllocError> {
+    let header = requests::header(80, 44, 1, 1);
+    let record = ReadIn {
+        size: 0x8000,
+        ..ReadIn::default()
+    };
+    Ok(Asked {
+        case: "readdirplus-100",
+        request: requests::with_record(alloc, &header, &record)?,
+        room: 0x8010,
+        reply: 16_816,
     })
 }
 
@@ -115,6 +158,7 @@ fn write(alloc: Global, case: &'static str, size: u32) -> Result<Asked, AllocErr
         case,
         request,
         room: 24,
+        reply: 24,
     })
 }
 
@@ -134,9 +178,9 @@ fn cut(alloc: Global, addr: u64, len: u32, split: u16) -> Result<Vec<(u64, u32)>
     Ok(parts)
 }
 
-// A device of one queue.
-fn served(alloc: Global) -> Result<Device<MemoryFiles>, BenchFault> {
-    let Ok(layout) = QueueLayout::new(RING.size, RING.desc, RING.avail, RING.used) else {
+// A device whose one queue is a ring.
+fn served(alloc: Global, ring: Ring) -> Result<Device<MemoryFiles>, BenchFault> {
+    let Ok(layout) = QueueLayout::new(ring.size, ring.desc, ring.avail, ring.used) else {
         return Err(BenchFault::Guest);
     };
     let files = MemoryFiles::new(alloc)?;
@@ -145,34 +189,53 @@ fn served(alloc: Global) -> Result<Device<MemoryFiles>, BenchFault> {
     Ok(Device::new(Server::new(files, PAGE_SIZE), queues, LIMIT))
 }
 
-// A guest that has the same chain served over and over, and its device.
+/// A guest that has the same chain served over and over, and its device.
 #[derive(Drop)]
-struct Kicking {
+pub(crate) struct Kicking {
     alloc: Global,
-    guest: Guest,
-    device: Device<MemoryFiles>,
+    pub guest: Guest,
+    pub device: Device<MemoryFiles>,
     available: u16,
 }
 
 impl Kicking {
-    // A chain that begins at the table's first descriptor, to which each entry of the ring points.
-    fn new(alloc: Global, asked: &Asked, split: u16, form: Form) -> Result<Kicking, BenchFault> {
-        let device = served(alloc)?;
-        let mut guest = Guest::new(alloc, &[(GuestAddress(0), MEMORY)], RING)?;
-        let len = u32::try_from(asked.request.len()).unwrap_or(u32::MAX);
+    // A guest with zeros, in whose ring nothing is offered.
+    fn idle(alloc: Global, ring: Ring) -> Result<Kicking, BenchFault> {
+        Ok(Kicking {
+            alloc,
+            guest: Guest::new(alloc, &[(GuestAddress(0), MEMORY)], ring)?,
+            device: served(alloc, ring)?,
+            available: 0,
+        })
+    }
+
+    /// A chain that begins at the table's first descriptor, to which each entry of the ring points.
+    pub fn new(
+        alloc: Global,
+        asked: &Asked,
+        split: u16,
+        form: Form,
+    ) -> Result<Kicking, BenchFault> {
+        let mut kicking = Kicking::idle(alloc, RING)?;
+        let request = &asked.request;
+        let len = u32::try_from(request.len()).unwrap_or(u32::MAX);
         let readable = cut(alloc, REQUEST, len, split)?;
         let writable = cut(alloc, ROOM, asked.room, split)?;
-        let request = &asked.request;
+        let guest = &mut kicking.guest;
         match form {
             Form::Direct => guest.chain(0, request, &readable, &writable)?,
             Form::Indirect => guest.indirect_chain(0, TABLE, request, &readable, &writable)?,
         }
-        Ok(Kicking {
-            alloc,
-            guest,
-            device,
-            available: 0,
-        })
+        Ok(kicking)
+    }
+
+    // A chain whose request is cut into so many parts, and whose room is one more.
+    fn long(alloc: Global, request: &[u8], split: u16) -> Result<Kicking, BenchFault> {
+        let mut kicking = Kicking::idle(alloc, LONG_RING)?;
+        let len = u32::try_from(request.len()).unwrap_or(u32::MAX);
+        let readable = cut(alloc, LONG_REQUEST, len, split)?;
+        kicking.guest.chain(0, request, &readable, &[(ROOM, 16)])?;
+        Ok(kicking)
     }
 }
 
@@ -194,8 +257,8 @@ impl Case for Kicking {
     }
 }
 
-/// Measures kicks of a request that the server doesn't know, of GETATTR, LOOKUP, READ and WRITE, each cut into ever more descriptors, in the
-/// queue's table (`kick`) and in one of the chain's own (`indirect`).
+/// Measures kicks of a request that the server doesn't know, of GETATTR, LOOKUP, READDIRPLUS, READ and WRITE, each cut into
+/// ever more descriptors, in the queue's table (`kick`) and in one of the chain's own (`indirect`); and chains of very many.
 pub(crate) fn measure_kicks<R: Clock + Eprint>(
     meter: &mut Meter<'_, R>,
     alloc: Global,
@@ -205,6 +268,7 @@ pub(crate) fn measure_kicks<R: Clock + Eprint>(
         unknown_in_large_room(alloc)?,
         getattr(alloc)?,
         lookup(alloc)?,
+        readdirplus(alloc)?,
         read(alloc, "read-4k", 0x1000)?,
         read(alloc, "read-64k", 0x10000)?,
         read(alloc, "read-1m", 0x100000)?,
@@ -216,6 +280,27 @@ pub(crate) fn measure_kicks<R: Clock + Eprint>(
             measure_kick(meter, alloc, &asked, split, Form::Direct)?;
             measure_kick(meter, alloc, &asked, split, Form::Indirect)?;
         }
+    }
+    measure_long_chains(meter, alloc)
+}
+
+// Measures chains of very many descriptors.
+fn measure_long_chains<R: Clock + Eprint>(
+    meter: &mut Meter<'_, R>,
+    alloc: Global,
+) -> Result<(), BenchFault> {
+    for split in LONG_SPLITS {
+        let mut request = unknown(alloc)?.request;
+        request.resize(usize::from(split).saturating_mul(32), 0)?;
+        let mut case = Kicking::long(alloc, &request, split)?;
+        let label = Label {
+            kind: "kick",
+            case: "long",
+            split,
+            bytes: request.len(),
+            runs: 16,
+        };
+        meter.measure(label, &mut case)?;
     }
     Ok(())
 }
@@ -229,7 +314,7 @@ fn measure_kick<R: Clock + Eprint>(
     form: Form,
 ) -> Result<(), BenchFault> {
     let mut case = Kicking::new(alloc, asked, split, form)?;
-    let bytes = asked.request.len().saturating_add(asked.room as usize);
+    let bytes = asked.len();
     let label = Label {
         kind: match form {
             Form::Direct => "kick",

@@ -1,5 +1,5 @@
-//! Measures windows of memory, memory of many regions and whole kicks beside plain slice copies, and page marks beside bare
-//! steps on atomic words.
+//! Measures windows of memory, memory of many regions, whole kicks and kicks behind an IOMMU beside plain slice copies, and
+//! page marks beside bare steps on atomic words.
 //!
 //! Without an argument each case runs a few times, and the checksum of what was done is printed. An argument is how many
 //! samples are taken of each case; the times are then printed on standard error.
@@ -8,6 +8,8 @@
 mod fault;
 mod files;
 mod kick;
+mod listing;
+mod mappings;
 mod measure;
 mod pages;
 mod plain;
@@ -16,6 +18,7 @@ mod window;
 
 use fault::BenchFault;
 use kick::measure_kicks;
+use mappings::measure_mappings;
 use measure::Meter;
 use pages::measure_pages;
 use plain::measure_copies;
@@ -47,6 +50,7 @@ fn run<R: Clock + Eprint + Threads + Sync>(
     measure_windows(&mut meter, alloc)?;
     measure_regions(&mut meter, alloc)?;
     measure_kicks(&mut meter, alloc)?;
+    measure_mappings(&mut meter, alloc)?;
     measure_pages(&mut meter, rt, alloc)?;
     Ok(meter.checksum())
 }

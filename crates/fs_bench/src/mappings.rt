@@ -1,0 +1,209 @@
+//! A device behind an IOMMU: its kicks with the IOMMU off and on, and look-ups in tables of ever more mappings.
+
+use crate::fault::BenchFault;
+use crate::files::MemoryFiles;
+use crate::kick::{Asked, Form, Kicking, MEMORY, QUEUE_SIZE, RING, lookup, read, unknown};
+use crate::measure::{Case, Label, Meter};
+use fs_device::{Command, Machine};
+use std::alloc::Global;
+use std::time::Clock;
+use vm_iotlb::Iotlb;
+use vm_memory::{IommuMemory, TableIommu};
+use vm_memory_core::{GuestAddress, Permissions};
+
+const PAGE: usize = 0x1000;
+
+// The mappings that a kick needs: from an address to itself, so many bytes. One has the queue and the request, one the room.
+const NEEDED: [(u64, usize); 2] = [(0, 0x40000), (0x20_0000, 0x20_0000)];
+
+// How many pages are mapped besides, of which no two join.
+const OTHERS: u64 = 14;
+
+// How many mappings there are, and under which name an address is looked up among them.
+const LOOK_UPS: [(&str, u64); 3] = [("look-up-1", 1), ("look-up-64", 64), ("look-up-4096", 4096)];
+
+// A mapping of a page behind all that the guest has. Between two of them a page is not mapped.
+fn map_page(table: &mut Iotlb, number: u64) -> Result<(), BenchFault> {
+    let page = number.wrapping_mul(PAGE as u64);
+    let iova = GuestAddress(page.wrapping_mul(2).wrapping_add(MEMORY as u64));
+    match table.set_mapping(iova, GuestAddress(page), PAGE, Permissions::ReadWrite) {
+        Ok(()) => Ok(()),
+        Err(_) => Err(BenchFault::OutOfMemory),
+    }
+}
+
+// Sixteen mappings.
+fn fill(table: &mut Iotlb) -> Result<(), BenchFault> {
+    for (addr, len) in NEEDED {
+        let addr = GuestAddress(addr);
+        if table
+            .set_mapping(addr, addr, len, Permissions::ReadWrite)
+            .is_err()
+        {
+            return Err(BenchFault::OutOfMemory);
+        }
+    }
+    for number in 0..OTHERS {
+        map_page(table, number)?;
+    }
+    Ok(())
+}
+
+// A guest that has the same chain served over and over, by a device behind an IOMMU.
+#[derive(Drop)]
+struct Behind {
+    alloc: Global,
+    machine: Machine<MemoryFiles, TableIommu>,
+    available: u16,
+}
+
+impl Behind {
+    // The IOMMU is off or on.
+    fn new(alloc: Global, asked: &Asked, on: bool) -> Result<Behind, BenchFault> {
+        let Kicking { guest, device, .. } = Kicking::new(alloc, asked, 1, Form::Direct)?;
+        let (mut host, backend) = guest.into_memory();
+        let number = host.new_table()?;
+        let set = host.new_io_bitmap(MEMORY)?;
+        match host.table_mut(number) {
+            Some(table) => fill(table)?,
+            None => return Err(BenchFault::Guest),
+        }
+        let mem = IommuMemory::new(alloc, backend, TableIommu::new(number), on, set);
+        if !host.holds(&mem) {
+            return Err(BenchFault::Guest);
+        }
+        Ok(Behind {
+            alloc,
+            machine: Machine::new(host, mem, device),
+            available: 0,
+        })
+    }
+}
+
+impl Case for Behind {
+    fn prepare(&mut self, runs: u16) {
+        self.available = self.available.wrapping_add(runs);
+        let Ok(bytes) = self.available.to_le_bytes().to_vec(self.alloc) else {
+            return;
+        };
+        let write = Command::GuestWrite {
+            addr: RING.avail + 2,
+            bytes,
+        };
+        if let Ok(commands) = Vec::from_array(self.alloc, [write]) {
+            let _ = self.machine.run(self.alloc, commands);
+        }
+    }
+
+    fn run(&mut self) -> u64 {
+        let machine = &mut self.machine;
+        match machine
+            .device
+            .process_one(self.alloc, &mut machine.host, &machine.mem, 0)
+        {
+            Ok(Some((exchange, _))) => exchange.reply.len() as u64,
+            _ => 0,
+        }
+    }
+}
+
+// Look-ups of pages that are mapped, in no order.
+#[derive(Drop)]
+struct LookingUp {
+    table: Iotlb,
+    count: u64,
+    state: u64,
+}
+
+impl LookingUp {
+    fn new(alloc: Global, count: u64) -> Result<LookingUp, BenchFault> {
+        let mut table = Iotlb::new(alloc);
+        for number in 0..count {
+            map_page(&mut table, number)?;
+        }
+        Ok(LookingUp {
+            table,
+            count,
+            state: 0,
+        })
+    }
+
+    // The next address, by a linear congruential generator (Knuth's MMIX), of whose state the high half is taken.
+    fn next(&mut self) -> GuestAddress {
+        self.state = self
+            .state
+            .wrapping_mul(6_364_136_223_846_793_005)
+            .wrapping_add(1_442_695_040_888_963_407);
+        let number = (self.state >> 32).wrapping_mul(self.count) >> 32;
+        let offset = number.wrapping_mul(2 * PAGE as u64);
+        GuestAddress(offset.wrapping_add(MEMORY as u64))
+    }
+}
+
+impl Case for LookingUp {
+    fn prepare(&mut self, _runs: u16) {}
+
+    fn run(&mut self) -> u64 {
+        let addr = self.next();
+        let Some(mut pieces) = self.table.lookup(addr, 8, Permissions::Read).ok() else {
+            return 0;
+        };
+        match pieces.next() {
+            Some(piece) => piece.base.0,
+            None => 0,
+        }
+    }
+}
+
+// Measures kicks of one request.
+fn measure_behind<R: Clock + Eprint>(
+    meter: &mut Meter<'_, R>,
+    alloc: Global,
+    asked: &Asked,
+    on: bool,
+) -> Result<(), BenchFault> {
+    let mut case = Behind::new(alloc, asked, on)?;
+    let label = Label {
+        kind: if on { "iommu-on" } else { "iommu-off" },
+        case: asked.case,
+        split: 1,
+        bytes: asked.len(),
+        runs: QUEUE_SIZE,
+    };
+    meter.measure(label, &mut case)
+}
+
+// Measures look-ups in one table.
+fn measure_look_ups<R: Clock + Eprint>(
+    meter: &mut Meter<'_, R>,
+    alloc: Global,
+) -> Result<(), BenchFault> {
+    for (name, count) in LOOK_UPS {
+        let label = Label {
+            kind: "table",
+            case: name,
+            split: 1,
+            bytes: 0,
+            runs: 1 << 15,
+        };
+        let mut case = LookingUp::new(alloc, count)?;
+        meter.measure(label, &mut case)?;
+    }
+    Ok(())
+}
+
+/// Measures kicks of a device whose IOMMU is off, or on with 16 mappings, and look-ups among ever more mappings.
+pub(crate) fn measure_mappings<R: Clock + Eprint>(
+    meter: &mut Meter<'_, R>,
+    alloc: Global,
+) -> Result<(), BenchFault> {
+    for asked in [
+        unknown(alloc)?,
+        lookup(alloc)?,
+        read(alloc, "read-4k", 0x1000)?,
+    ] {
+        measure_behind(meter, alloc, &asked, false)?;
+        measure_behind(meter, alloc, &asked, true)?;
+    }
+    measure_look_ups(meter, alloc)
+}
