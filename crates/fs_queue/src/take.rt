@@ -93,17 +93,20 @@ fn count_bytes(descriptors: &[Descriptor], write_only: bool) -> u64
 }
 
 // How many descriptors of one direction there are.
-fn count_descriptors(descriptors: &[Descriptor], write_only: bool) -> usize {
-    let mut count = 0usize;
+fn count_descriptors(descriptors: &[Descriptor], write_only: bool) -> usize
+    ensures { result ≡ length (of_direction write_only descriptors.now) }
+{
+    let mut count = 0;
     for descriptor in descriptors {
         if descriptor.is_write_only() == write_only {
-            count = count.saturating_add(1);
+            count += 1;
         }
     }
     count
 }
 
-// Has room for a window of each descriptor of one direction, where a list may be too short for that.
+// Has room for a window of each descriptor of one direction, where a list may be too short for that. An error is a want of
+// memory, which a chain's taking may have at any time.
 #[inline]
 fn reserve_windows(
     windows: &mut Windows,

@@ -45,7 +45,7 @@ pub(crate) enum Walked {
 ghost use Rattle.fs_queue.specs.Chain.{descriptor_at, indirect_verdict, ordinary_verdict, verdict, chain, own_table};
 ghost use Rattle.fs_queue.specs.Walking.{at_position, table_of, in_table, verdict_of, found_of, IfJoins, IfLeads, EndsIn64Bits, AreTheTable, DescriptorsFit};
 
-// The bytes of a table, where one window has all of them.
+// The bytes of a table, where one window has all of them. None says nothing of the table: each entry is then read by itself.
 fn table_bytes<'a, M: GuestMemory, B: NewBitmap>(
     alloc: Global,
     host: &'a HostMemory<B>,
