@@ -121,10 +121,10 @@ fn read_queue<S: RecordSource>(source: &mut S, index: usize) -> Result<Queue, Re
     saved.queue().ok_or(RestoreError::BadQueue(index))
 }
 
-/// The options and the queues of the record that stands next in a source, of which no byte behind the record is taken. A
-/// refusal says what stands there instead: Truncated or ReadFault where the head's 24 bytes can't be had, then BadMagic,
-/// BadVersion, BadCount, BadReserved, BadOptions and OutOfMemory, and then for each queue Truncated or ReadFault where its 32
-/// bytes can't be had, and BadQueue.
+/// The options and the queues of the record that stands next in a source; no byte behind the record is taken. A refusal
+/// says what stands there instead: Truncated or ReadFault where the head's 24 bytes can't be had, then BadMagic,
+/// BadVersion, BadCount, BadReserved, BadOptions and OutOfMemory, and then for each queue Truncated or ReadFault where
+/// its 32 bytes can't be had, and BadQueue.
 pub fn restore_record<S: RecordSource>(
     alloc: Global,
     source: &mut S,

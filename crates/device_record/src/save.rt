@@ -57,8 +57,8 @@ fn saved(queue: &Queue) -> SavedQueue
     }
 }
 
-/// Puts the record of some options and of 1 to 64 queues. WriteFault where the sink answers an error or takes nothing: a part
-/// of the record went out, and not all of it.
+/// Puts the record of some options and of 1 to 64 queues. WriteFault where the sink answers an error or takes nothing: a
+/// part of the record went out, and not all of it.
 pub fn save_record<S: RecordSink>(
     sink: &mut S,
     options: FsOptions,

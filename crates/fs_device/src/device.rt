@@ -25,6 +25,8 @@ pub struct Device<F> {
     pub(crate) queues: Vec<Queue>,
     limit: u32,
     ghost short: { limit < 2 ^ 32 },
+    pub ghost some: { 1 ≤ length queues.items },
+    pub ghost few: { length queues.items ≤ 64 },
 }
 
 impl<F> Model for Device<F> {

@@ -14,11 +14,13 @@ mod mappings;
 mod queues;
 mod refusal;
 mod run;
+mod saved;
 mod serve;
 
 pub use begun::Begun;
 pub use command::{Answer, Command};
 pub use device::Device;
+pub use device_record::{RecordSink, RecordSource, RestoreError, Stream, WriteFault};
 pub use error::DeviceError;
 pub use exchange::{Exchange, Fault};
 pub use host_copies::{ApplyError, HarvestedPage, apply, harvest, image};

@@ -1,12 +1,13 @@
 //! The server: it reads a request, asks its file system, and writes the reply (virtiofsd's `Server`).
 
-ghost use Rattle.std.specs.Prelude.{◌≡◌, ◌+◌, ◌<◌, ◌≤◌, ◌^◌, false, [], length, IfOk, OnOk, OnErr, IsTrue};
+ghost use Rattle.std.specs.Prelude.{◌≡◌, ◌+◌, ◌<◌, ◌≤◌, ◌^◌, false, [], length, IfOk, OnOk, OnErr, IsTrue, bit_and};
 ghost use Rattle.fuse_wire.specs.Opcodes.{opcode_of};
 ghost use Rattle.fuse_replies.specs.PageSizes.{is_page_size};
 ghost use Rattle.fuse_segments.specs.Errors.{lacks_memory};
-ghost use Rattle.virtiofsd_fuse.specs.Grammar.{given, meant, meaning, unserved_row};
+ghost use Rattle.virtiofsd_fuse.specs.Grammar.{given, meant, meaning, unserved_row, known_options};
 ghost use Rattle.virtiofsd_fuse.specs.Memory.{takes_memory, body_takes_memory, may_take_memory};
 
+use crate::session::known;
 use bitflags::Flags;
 use fuse_calls::links::{Link, Rename, Rename2};
 use fuse_calls::new_nodes::{Create, Mkdir, Mknod};
@@ -35,6 +36,7 @@ pub struct Server<F> {
     pub(crate) page_size: u32,
     pub(crate) options: FsOptions,
     ghost pages: { IsTrue (is_page_size page_size) },
+    ghost known: { bit_and options.0 known_options ≡ options.0 },
 }
 
 // The request that a number asks for.
@@ -64,17 +66,18 @@ impl<F: FileSystem> Server<F> {
         }
     }
 
-    /// A server that goes on with the options that were agreed before. The guest's pages have `page_size` bytes.
+    /// A server that goes on with the options that were agreed before; bits of no option are dropped. The guest's pages have
+    /// `page_size` bytes.
     pub fn resume(fs: F, page_size: u32, options: FsOptions) -> Server<F>
         requires { IsTrue (is_page_size page_size) }
         ensures fs { result.fs ≡ fs }
         ensures page_size { result.page_size ≡ page_size }
-        ensures options { result.options ≡ options }
+        ensures options { result.options.0 ≡ bit_and options.0 known_options }
     {
         Server {
             fs,
             page_size,
-            options,
+            options: known(options.bits()),
         }
     }
 
@@ -88,7 +91,8 @@ impl<F: FileSystem> Server<F> {
 
     /// The options that were agreed.
     pub fn options(&self) -> FsOptions
-        ensures { result ≡ self.now.options }
+        ensures value { result ≡ self.now.options }
+        ensures known { bit_and result.0 known_options ≡ result.0 }
     {
         self.options
     }

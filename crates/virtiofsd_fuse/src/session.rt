@@ -19,16 +19,20 @@ use fuse_wire::constants::{KERNEL_VERSION, MIN_KERNEL_MINOR_VERSION};
 use fuse_wire::{Errno, FsOptions};
 
 // The options that are known.
-#[tactic(auto, using(crate::proofs::Options::known_bits_are))]
-fn known(bits: u64) -> FsOptions
-    ensures { result.0 ≡ bit_and bits known_options }
+#[tactic(auto, using(crate::proofs::Options::known_bits_are, crate::proofs::Options::known_twice))]
+pub(crate) fn known(bits: u64) -> FsOptions
+    ensures options { result.0 ≡ bit_and bits known_options }
+    ensures known { bit_and result.0 known_options ≡ result.0 }
 {
     FsOptions::from_bits_truncate(bits)
 }
 
 // What both sides can, and the file system wants or is agreed on anyway.
+#[tactic(auto, using(crate::proofs::Options::some_known))]
 fn agree(capable: FsOptions, wanted: FsOptions) -> FsOptions
-    ensures { result.0 ≡ agreed capable.0 wanted.0 }
+    requires { bit_and capable.0 known_options ≡ capable.0 }
+    ensures options { result.0 ≡ agreed capable.0 wanted.0 }
+    ensures known { bit_and result.0 known_options ≡ result.0 }
 {
     capable & (wanted | FsOptions::DEFAULT)
 }

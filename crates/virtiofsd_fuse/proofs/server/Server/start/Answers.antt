@@ -41,9 +41,9 @@ returns-in-Ok-clause-handles g c = λ more.
     handles_start g.F.FileSystemBase.may s _ _ _ _ (Wants c.in-Ok.wanted.0) _ _ _ _ _
     (start_asks h c.args.request.now c.args.flags2 more c.if-request-lt-KERNEL_VERSION.false c.if-request-gt-KERNEL_VERSION.false
     c.if-request-lt-MIN_KERNEL_MINOR_VERSION.false
-    ∙ ap (λ k. Asks (Starts c.args.head.now.unique k c.args.request.now.max_readahead)) (sym c.known-capable.ensures))
-    c.in-Ok.ensures.suits c.in-Ok.ensures.may c.agree-options.ensures
-    (rw (c.start_bytes-bytes.ensures, c.ask_init.ensures.page_size, c.agree-options.ensures) at c.reply-in-Ok.ensures.sent)
+    ∙ ap (λ k. Asks (Starts c.args.head.now.unique k c.args.request.now.max_readahead)) (sym c.known-capable.ensures.options))
+    c.in-Ok.ensures.suits c.in-Ok.ensures.may c.agree-options.ensures.options
+    (rw (c.start_bytes-bytes.ensures, c.ask_init.ensures.page_size, c.agree-options.ensures.options) at c.reply-in-Ok.ensures.sent)
 
 pub returns-in-Err-clause-handles : goal.returns-in-Err-clause-handles
 returns-in-Err-clause-handles g c = λ more.
@@ -52,6 +52,6 @@ returns-in-Err-clause-handles g c = λ more.
     handles_start g.F.FileSystemBase.may s _ _ _ _ (Failed c.in-Err.error) _ _ _ _ _
     (start_asks h c.args.request.now c.args.flags2 more c.if-request-lt-KERNEL_VERSION.false c.if-request-gt-KERNEL_VERSION.false
     c.if-request-lt-MIN_KERNEL_MINOR_VERSION.false
-    ∙ ap (λ k. Asks (Starts c.args.head.now.unique k c.args.request.now.max_readahead)) (sym c.known-capable.ensures))
+    ∙ ap (λ k. Asks (Starts c.args.head.now.unique k c.args.request.now.max_readahead)) (sym c.known-capable.ensures.options))
     c.in-Err.ensures.suits c.in-Err.ensures.may (ap (λ (o : FsOptions). o.0) c.ask_init.ensures.options)
     c.reply_error-in-Err.ensures.sent

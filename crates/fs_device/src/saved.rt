@@ -1,0 +1,66 @@
+//! A device's record: it is saved, and a device goes on from it.
+
+ghost use Rattle.std.specs.Prelude.{◌≡◌, ◌≤◌, ◌^◌, ℕ, List, IsTrue, IfOk, IfErr, OnOk};
+ghost use Rattle.std.specs.Io.KnownBytes.{Consumes};
+ghost use Rattle.device_record.specs.Record.{IsKnown, IsRecord, IsSavable, record_bytes};
+ghost use Rattle.device_record.specs.Restoring.{RefusesRecord, LeavesSource};
+ghost use Rattle.device_record.specs.Streams.{GoesOut};
+ghost use Rattle.fuse_replies.specs.PageSizes.{is_page_size};
+
+use crate::device::Device;
+use device_record::{
+    RecordSink, RecordSource, RestoreError, WriteFault, restore_record, save_record,
+};
+use fuse_fs::FileSystem;
+use fuse_wire::FsOptions;
+use std::alloc::Global;
+use virtiofsd_fuse::Server;
+
+impl<F: FileSystem> Device<F> {
+    // The options that were agreed, each of which is known.
+    #[tactic(auto, using(virtiofsd_fuse::proofs::Options::known_bits_are))]
+    fn options(&self) -> FsOptions
+        ensures value { result.0 ≡ self.now.options }
+        ensures known { IsKnown result.0 }
+    {
+        self.server().options()
+    }
+
+    /// Puts the device's record into a sink: its queues, and the options that were agreed. WriteFault where the sink
+    /// answers an error or takes nothing: a part of the record went out, and not all of it.
+    pub fn save<S: RecordSink>(&self, sink: &mut S) -> Result<(), WriteFault>
+        ensures goes_out { GoesOut (record_bytes self.now.options self.now.queues) (S.sent sink.old) (S.failed sink.old) result (S.sent sink.new) (S.failed sink.new) }
+        ensures savable { OnOk result (IsSavable self.now.options self.now.queues) }
+    {
+        save_record(sink, self.options(), &self.queues)
+    }
+
+    /// A device that goes on from the record that stands next in a source, over a file system that was carried over. The
+    /// guest's pages have `page_size` bytes, a power of two from 4096 to 65536; the limit is from 0x101000 to 2^31. Each
+    /// refusal says what stands in the source, as `restore_record` does, and hands the file system back.
+    pub fn restore<S: RecordSource>(
+        alloc: Global,
+        source: &mut S,
+        fs: F,
+        page_size: u32,
+        limit: u32,
+    ) -> Result<Device<F>, (RestoreError, F)>
+        requires page_size { IsTrue (is_page_size page_size) }
+        requires low { 0x101000 ≤ limit }
+        requires high { limit ≤ 2 ^ 31 }
+        ensures ok { IfOk result (λ d. (taken : List ℕ) × Consumes (S.left source.old) (S.left source.new) taken × IsRecord taken d.options d.queues
+            × (S.failed source.new ≡ S.failed source.old)) }
+        ensures made { IfOk result (λ d. (d.files ≡ fs) × (d.limit ≡ limit) × (d.page_size ≡ page_size)) }
+        ensures err { IfErr result (λ e. (taken : List ℕ) × Consumes (S.left source.old) (S.left source.new) taken × RefusesRecord taken e.0
+            × LeavesSource e.0 (S.left source.new) (S.failed source.old) (S.failed source.new)) }
+        ensures back { IfErr result (λ e. e.1 ≡ fs) }
+    {
+        match restore_record(alloc, source) {
+            Ok((options, queues)) => {
+                let server = Server::resume(fs, page_size, options);
+                Ok(Device::new(server, queues, limit))
+            }
+            Err(error) => Err((error, fs)),
+        }
+    }
+}
