@@ -1,5 +1,5 @@
 -- Worked runs that compute: kicks, guest accesses, layouts that change, two regions, harvests and images. Pages are compared by where they begin, or are small.
-use Rattle.std.specs.Prelude.{◌≡◌, ℕ, ◌+◌, ◌-◌, ◌^◌, true, false, List, [], ◌∷◌, ◌++◌, map, refl, Some, None, if◌then◌else◌}
+use Rattle.std.specs.Prelude.{◌≡◌, ℕ, ◌+◌, ◌-◌, ◌^◌, true, false, List, [], ◌∷◌, ◌++◌, map, zip, refl, Some, None, if◌then◌else◌}
 use Rattle.std.proofs.Common.{arith}
 use Rattle.std.proofs.lemmas.Bool.Decides.{nat_tests}
 use Rattle.vm_iotlb.specs.declared.permissions.Permissions.{Permissions}
@@ -17,19 +17,25 @@ use Rattle.fs_queue.specs.Chain.{path, found}
 use Rattle.fs_queue.specs.Taking.{offer}
 use Rattle.fs_queue.specs.Returning.{advanced}
 use Rattle.vm_values.specs.Fields as fields
+use Rattle.fuse_fs.specs.declared.answers.Entry.{Entry}
 use Rattle.fuse_fs.specs.Calls as files
-use Rattle.fuse_requests.specs.Reading.{reading_of}
-use Rattle.fuse_replies.specs.WholeReplies.{error_bytes}
+use Rattle.fuse_segments.specs.declared.error.Error.TheVariants.{EncodeMessage}
+use Rattle.fuse_requests.specs.Fronts.{counted}
+use Rattle.fuse_requests.specs.Reading.{reading_of, last_name}
+use Rattle.fuse_replies.specs.Entries.{no_node, fit_of, dirent_bytes, node_bytes}
+use Rattle.fuse_replies.specs.WholeReplies.{error_bytes, reply_bytes}
 use Rattle.virtiofsd_fuse.specs.Examples.{le16, le32, le64, zeros, nobody, in_header_bytes}
 use Rattle.virtiofsd_fuse.specs.Grammar.{meaning, meant, row}
-use Rattle.virtiofsd_fuse.specs.Serving.{May}
+use Rattle.virtiofsd_fuse.specs.Listings.{list_entries}
+use Rattle.virtiofsd_fuse.specs.Serving.{May, Served, served, setting}
 use Rattle.fs_device.specs.declared.error.DeviceError.TheVariants as device_error
+use Rattle.fs_device.specs.declared.exchange.Fault.TheVariants as fault
 use Rattle.fs_device.specs.declared.refusal.Refusal.TheVariants as why
-use Rattle.fs_device.specs.Step.{State, Exchanged, Step, after_return}
+use Rattle.fs_device.specs.Step.{State, Exchange, Exchanged, Step, after_return}
 use Rattle.host_copies.specs.Harvested.{block_pages, host_pages, harvested}
 use Rattle.fs_device.specs.Run as run
 use Rattle.fs_device.specs.Run.{Command, Answer, Turn, Affects, Run, RunTold, KickRun, effect, fresh_queue, with_ranges}
-use Rattle.fs_device.specs.Books.{sent, written, accepted, nodes_listed}
+use Rattle.fs_device.specs.Books.{answered, sent, written, lost, accepted, nodes_listed}
 use Rattle.fs_device.specs.Examples.{blank, queue, put, descriptor_bytes, request, with_one_request, Nothing, may, device, unknown_reply, unknown_exchange, after_reply, one_step}
 
 -- ---- kicks
@@ -188,6 +194,84 @@ listing_turn = record {
 list_tells_of_one : written 5 listing_turn ≡ 1
 unfolding listing_turn nodes_listed
 list_tells_of_one = refl
+
+-- the accounts of node 2 over one exchange: answered, sent, written, lost, accepted
+abbrev accounts : Turn → List ℕ
+accounts t = answered 2 t ∷ sent 2 t ∷ written 2 t ∷ lost 2 t ∷ accepted 2 t ∷ []
+
+-- a file `a` in a listing
+abbrev listed_a : files.Listed
+listed_a = record { ino = 2; offset = 2; kind = 8; name = 97 ∷ [] }
+
+-- the entry of its node, which is node 2
+abbrev entry_of_a : Entry ℕ
+entry_of_a = record (no_node listed_a) { inode = 2 }
+
+-- each LOOKUP is answered with that entry, and counted
+abbrev finds : May ℕ
+finds before (files.Lookup who parent name) (files.HasEntry entry) after = (entry ≡ entry_of_a) × (after ≡ before + 1)
+finds before call answer after = ⊥
+
+-- LOOKUP of `a` in the root
+abbrev look_up : List ℕ
+look_up = in_header_bytes 42 1 9 1 ++ 97 ∷ 0 ∷ []
+
+-- a device whose file system has found nothing so far, and that request in a chain whose room is a byte too short for the reply
+abbrev short_of_room : State ℕ
+short_of_room =
+    let a = put blank 0x1000 look_up in
+    let b = put a 0 (descriptor_bytes 0x1000 42 1 1 ++ descriptor_bytes 0x2000 143 2 0) in
+    let c = put b 0x100 (le16 0 ++ le16 1 ++ le16 0) in
+    record { memory = c; queues = queue ∷ []; options = 0; files = 0; limit = 0x101000; page_size = 4096 }
+
+-- the exchange without its reply
+abbrev lost_exchange : Exchange
+lost_exchange = record { head = 0; request = look_up; reply = []; fault = Some (fault.Served EncodeMessage) }
+
+-- that exchange, with its one call, which was answered
+abbrev lost_turn : Turn
+lost_turn = record { exchange = lost_exchange; notice = true; calls = (files.Lookup nobody 1 (97 ∷ []), files.HasEntry entry_of_a) ∷ [] }
+
+-- the chain went back with nothing
+abbrev reply_lost : State ℕ
+reply_lost = after_return short_of_room 0 queue 0 (addresses 0x2000 143) [] 0 1
+
+kick_loses_a_reply : Run finds short_of_room ((run.Kick 0 1, run.Served (record { exchanges = (lost_exchange, true) ∷ []; refused = None })) ∷ []) reply_lost
+unfolding RunTold KickRun offer place addresses stored_all path found meaning reading_of meant row counted last_name reply_bytes fields.field_bytes
+kick_loses_a_reply =
+    let step : Step finds short_of_room 0 lost_turn.calls (Exchanged lost_exchange true) reply_lost =
+    record {
+      given = record { calls = files.Lookup nobody 1 (97 ∷ []) ∷ []; options = 0; reply = []; fault = Some EncodeMessage };
+      serves = record { gives = refl; asks = refl; run = (1, refl, (refl, refl), refl) };
+      returns = record { exchange = refl; state = refl; told = refl };
+    } in
+    ((lost_turn ∷ []) ∷ [], (reply_lost, ((reply_lost, step, refl), refl), refl))
+
+-- the node was answered once, and the driver never heard of it
+lost_once : accounts lost_turn ≡ 1 ∷ 0 ∷ 0 ∷ 1 ∷ 0 ∷ []
+unfolding meaning reading_of meant row counted last_name
+lost_once = refl
+
+-- READDIRPLUS of `.` and `a` with room for one of them: `a`, which was looked up, is taken back
+abbrev list_two : List ℕ
+list_two = in_header_bytes 80 44 9 1 ++ zeros 16 ++ le32 160 ++ zeros 20
+
+-- the answers to its calls
+abbrev list_answers : List files.FileAnswer
+list_answers = files.Entries (record { ino = 1; offset = 1; kind = 4; name = 46 ∷ [] } ∷ listed_a ∷ []) ∷ files.HasEntry entry_of_a ∷ files.Done ∷ []
+
+-- what is served for it
+abbrev listed : Served
+listed = served (setting 4096 0 176) (meaning 0 list_two 176) list_answers
+
+-- its exchange, whose reply has the entry of `.` alone
+abbrev listed_turn : Turn
+listed_turn = record { exchange = record { head = 0; request = list_two; reply = listed.reply; fault = None }; notice = true; calls = zip listed.calls list_answers }
+
+-- the node was answered once and taken back once
+given_back_once : accounts listed_turn ≡ 1 ∷ 1 ∷ 0 ∷ 0 ∷ 0 ∷ []
+unfolding meaning reading_of meant row reply_bytes fields.field_bytes list_entries fit_of dirent_bytes node_bytes nodes_listed
+given_back_once = refl
 
 -- a queue that stopped begins anew
 resets : (l : QueueLayout) → effect (device far (stopped queue)) (run.ResetQueue 0 l) ≡ (run.Done, device far (fresh_queue l))

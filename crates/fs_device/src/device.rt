@@ -75,6 +75,16 @@ impl<F: FileSystem> Device<F> {
         &self.server
     }
 
+    /// The server, without its queues.
+    pub fn into_server(self) -> Server<F>
+        ensures files { result.fs ≡ self.files }
+        ensures options { result.options.0 ≡ self.options }
+        ensures page_size { result.page_size ≡ self.page_size }
+    {
+        let Device { server, .. } = self;
+        server
+    }
+
     /// Takes the next chain of a queue and all the memory that its exchange wants of the device: its request is read, and there
     /// is room for its reply. Nothing where none waits. A refusal is that of a step, and the file system isn't asked.
     #[inline]
