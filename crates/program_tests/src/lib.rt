@@ -16,6 +16,8 @@ mod lists_and_writes;
 #[cfg(test)]
 mod mappings;
 #[cfg(test)]
+mod moves;
+#[cfg(test)]
 mod offered;
 #[cfg(test)]
 mod queues;

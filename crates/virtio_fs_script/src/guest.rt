@@ -4,7 +4,8 @@ ghost use Rattle.std.specs.Prelude.{◌≡◌, ◌≤◌, length, IfOk};
 
 use crate::calls::FirstCalls;
 use crate::files::LoggingFiles;
-use fs_device::{Answer, Command, Device, Machine};
+use crate::halt::Halt;
+use fs_device::{Answer, Command, Device, Machine, Stream};
 use fs_queue::Queue;
 use std::alloc::{AllocError, Global};
 use std::cell::Cell;
@@ -72,6 +73,38 @@ impl<'a> GuestMachine<'a> {
     pub fn perform(&mut self, command: Command) -> Result<Answer, AllocError> {
         let mut answers = self.machine.run(self.alloc, alone(self.alloc, command)?)?;
         Ok(answers.pop().unwrap())
+    }
+
+    /// The guest as it goes on over an image of its host, with a device that was restored from its record; and how many bytes
+    /// the record has.
+    pub fn moved(mut self) -> Result<(GuestMachine<'a>, usize), Halt> {
+        let mut sink = Stream::new(Vec::new(self.alloc));
+        if self.machine.device.save(&mut sink).is_err() {
+            return Err(Halt::OutOfMemory);
+        }
+        let Answer::Copied(host) = self.perform(Command::Image)? else {
+            return Err(Halt::OutOfMemory);
+        };
+        let GuestMachine { alloc, log, machine } = self;
+        let Machine { mem, device, .. } = machine;
+        let record = sink.into_inner();
+        let mut source = Stream::new(record.as_slice());
+        let files = device.into_server().into_fs();
+        let Ok(device) = Device::restore(alloc, &mut source, files, PAGE_BYTES, LIMIT) else {
+            return Err(Halt::OutOfMemory);
+        };
+        if !host.holds(&mem) {
+            return Err(Halt::OutOfMemory);
+        }
+        let machine = Machine::new(host, mem, device);
+        Ok((
+            GuestMachine {
+                alloc,
+                log,
+                machine,
+            },
+            record.len(),
+        ))
     }
 
     /// What the file system was asked since this was called last.

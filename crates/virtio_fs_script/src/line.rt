@@ -34,6 +34,8 @@ pub(crate) enum Line {
     Kick { queue: u64, most: u16 },
     /// A queue begins anew.
     Reset { queue: u64, layout: AskedLayout },
+    /// The guest and its device go on on another host.
+    Move,
     /// One command of the machine, as each other line is.
     Machine(Command),
 }
@@ -199,6 +201,7 @@ fn parse_operands(name: &[u8], words: &mut Words<'_>) -> Option<Line> {
         b"kick" => parse_kick(words),
         b"reset" => parse_reset(words),
         b"harvest" => Some(Line::Machine(Command::Harvest)),
+        b"move" => Some(Line::Move),
         b"map" => parse_map(words),
         b"iommu" => Some(Line::Machine(Command::SetIommu(words.next_switch()?))),
         _ => Some(Line::Machine(pair_command(name, words.next_pair()?)?)),

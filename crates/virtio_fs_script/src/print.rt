@@ -32,6 +32,11 @@ pub(crate) fn print_bad_layout<W: Write>(
     print_line(writer, b"badlayout", &[u64::from(error.number())])
 }
 
+/// How many bytes the record had by which a device went on elsewhere.
+pub(crate) fn print_moved<W: Write>(writer: &mut W, record_len: usize) -> io::Result<()> {
+    print_line(writer, b"moved", &[record_len as u64])
+}
+
 /// Why a command was refused, by its number.
 pub(crate) fn print_refused<W: Write>(writer: &mut W, number: u8) -> io::Result<()> {
     print_line(writer, b"refused", &[u64::from(number)])

@@ -7,7 +7,7 @@ use crate::guest::GuestMachine;
 use crate::halt::Halt;
 use crate::line::{AskedLayout, Line};
 use crate::print::{
-    print_answer, print_bad_layout, print_calls, print_idle, print_ok, print_refused,
+    print_answer, print_bad_layout, print_calls, print_idle, print_moved, print_ok, print_refused,
 };
 use fs_device::{Answer, Command, DeviceError};
 use fs_queue::Queue;
@@ -46,6 +46,9 @@ impl<'a> Session<'a> {
             return self.add_queue(number, layout, writer);
         }
         self.start()?;
+        if let Line::Move = line {
+            return self.move_guest(number, writer);
+        }
         match &mut self.guest {
             Some(guest) => run_on(guest, number, line, writer),
             None => Err(Halt::NotACommand(number)),
@@ -72,6 +75,17 @@ impl<'a> Session<'a> {
         Ok(())
     }
 
+    // The guest goes on on another host.
+    fn move_guest<W: Write>(&mut self, number: usize, writer: &mut W) -> Result<(), Halt> {
+        let Some(guest) = self.guest.take() else {
+            return Err(Halt::NotACommand(number));
+        };
+        let (guest, record_len) = guest.moved()?;
+        self.guest = Some(guest);
+        print_moved(writer, record_len)?;
+        Ok(())
+    }
+
     // Makes the guest, once there is a queue.
     fn start(&mut self) -> Result<(), AllocError> {
         if !self.queues.is_empty() {
@@ -82,7 +96,7 @@ impl<'a> Session<'a> {
     }
 }
 
-// Runs a command that isn't a queue.
+// Runs a command that is neither a queue nor a move.
 fn run_on<W: Write>(
     guest: &mut GuestMachine<'_>,
     number: usize,
@@ -90,7 +104,7 @@ fn run_on<W: Write>(
     writer: &mut W,
 ) -> Result<(), Halt> {
     match line {
-        Line::Queue(_) => Err(Halt::NotACommand(number)),
+        Line::Queue(_) | Line::Move => Err(Halt::NotACommand(number)),
         Line::Region { base, size } => region(guest, base, size, writer),
         Line::Kick { queue, most } => kick(guest, queue, most, writer),
         Line::Reset { queue, layout } => reset(guest, queue, layout, writer),

@@ -1,0 +1,232 @@
+//! Guests that go on on another host, with their devices.
+
+use crate::transcript::{check, push};
+use std::alloc::Global;
+use std::process::Abort;
+
+// A request, a move, and the next request: its element lies behind the first one's, and no page of before is marked.
+const GOES_ON_WHERE_IT_WAS: &[u8] = b"\
+> queue 4 0 0x100 0x200
+ok
+> region 0 0x10000
+block 0
+> # A request of kind 7
+> write 0x1000 28000000070000000100000000000000000000000000000000000000000000000000000000000000
+ok
+> # Chain 0: reads 40 at 0x1000; writes 16 at 0x2000
+> write 0 0010000000000000280000000100010000200000000000001000000002000000
+ok
+> # Offers 0
+> write 0x100 000001000000
+ok
+> kick 0 1
+done 0 16 - 1
+> move
+moved 56
+> harvest
+none
+> read 0x2000 16
+bytes 10000000daffffff0100000000000000
+> # Offers 0 again
+> write 0x102 02000000
+ok
+> kick 0 1
+done 0 16 - 1
+> read 0x202 18
+bytes 020000000000100000000000000010000000
+> harvest
+page 0 0
+page 0 2
+> kick 0 1
+idle
+status 0
+";
+
+#[test]
+fn goes_on_where_it_was(rt: HostRuntime) {
+    check(&rt, rt.alloc(), GOES_ON_WHERE_IT_WAS);
+}
+
+// A move is no first command, and takes no operand; the record has 32 bytes for each queue.
+const HAS_A_RECORD_OF_ITS_QUEUES: &[u8] = b"\
+> move
+line 1: not a command
+status 1
+
+> queue 4 0 0x100 0x200
+ok
+> move 1
+line 2: not a command
+status 1
+
+> queue 4 0 0x100 0x200
+ok
+> queue 8 0x1000 0x1100 0x1200
+ok
+> move
+moved 88
+> move
+moved 88
+> queue 4 0 0x100 0x200
+line 5: not a command
+status 1
+";
+
+#[test]
+fn has_a_record_of_its_queues(rt: HostRuntime) {
+    check(&rt, rt.alloc(), HAS_A_RECORD_OF_ITS_QUEUES);
+}
+
+// The table of the IOMMU goes along, and whether it is on; so does a queue that stopped.
+const TAKES_ITS_MAPPINGS_ALONG: &[u8] = b"\
+> queue 4 0 0x100 0x200
+ok
+> queue 4 0x20000 0x20100 0x20200
+ok
+> region 0 0x10000
+block 0
+> write 0x1000 28000000070000000100000000000000000000000000000000000000000000000000000000000000
+ok
+> write 0 0010000000000000280000000100010000200000000000001000000002000000
+ok
+> write 0x100 000001000000
+ok
+> map 0 0 0x2000 rw
+ok
+> map 0x2000 0x3000 0x1000 w
+ok
+> iommu on
+ok
+> kick 1 1
+refused 2
+> move
+moved 88
+> kick 1 1
+refused 1
+> kick 0 1
+done 0 16 - 1
+> read 0x3000 16
+bytes 10000000daffffff0100000000000000
+> harvest
+none
+> unmap 0x2000 0x1000
+ok
+> move
+moved 88
+> write 0x102 02000000
+ok
+> kick 0 1
+done 0 0 RoomUnreachable 1
+status 0
+";
+
+#[test]
+fn takes_its_mappings_along(rt: HostRuntime) {
+    check(&rt, rt.alloc(), TAKES_ITS_MAPPINGS_ALONG);
+}
+
+// INIT, LOOKUP, WRITE, READDIRPLUS and FORGET, one after another, with what they ask and answer.
+const SESSION: &[u8] = b"\
+> queue 4 0 0x100 0x200
+ok
+> region 0 0x10000
+block 0
+> # LOOKUP of `a` in the root
+> write 0x1000 2a0000000100000003000000000000000100000000000000000000000000000000000000000000006100
+ok
+> # Chain 0: reads 42 at 0x1000; writes 144 at 0x2000
+> write 0 00100000000000002a0000000100010000200000000000009000000002000000
+ok
+> write 0x100 000001000000
+ok
+> kick 0 1
+call lookup 1 61
+done 0 144 - 1
+> read 0x2000 24
+bytes 900000000000000003000000000000000200000000000000
+> # WRITE of `J` at 0 of node 2
+> write 0x1000 51000000100000000400000000000000020000000000000000000000000000000000000000000000
+ok
+> write 0x1028 00000000000000000000000000000000010000000000000000000000000000000000000000000000
+ok
+> write 0x1050 4a
+ok
+> # Chain 0: reads 81 at 0x1000; writes 24 at 0x2000
+> write 0 0010000000000000510000000100010000200000000000001800000002000000
+ok
+> write 0x102 02000000
+ok
+> kick 0 1
+call write 2
+done 0 24 - 1
+> read 0x2000 24
+bytes 180000000000000004000000000000000100000000000000
+> # READDIRPLUS of the root from its start, at most 352 bytes
+> write 0x1000 500000002c0000000500000000000000010000000000000000000000000000000000000000000000
+ok
+> write 0x1028 00000000000000000000000000000000600100000000000000000000000000000000000000000000
+ok
+> # Chain 0: reads 80 at 0x1000; writes 368 at 0x2000
+> write 0 0010000000000000500000000100010000200000000000007001000002000000
+ok
+> write 0x102 03000000
+ok
+> kick 0 1
+call readdir 1
+call lookup 1 61
+done 0 336 - 1
+> # FORGET of node 2, twice looked up
+> write 0x1000 30000000020000000600000000000000020000000000000000000000000000000000000000000000
+ok
+> write 0x1028 0200000000000000
+ok
+> # Chain 0: reads 48 at 0x1000
+> write 0 00100000000000003000000000000000
+ok
+> write 0x102 04000000
+ok
+> kick 0 1
+call forget 2 2
+done 0 0 - 1
+> # READ of node 2
+> write 0x1000 500000000f0000000700000000000000020000000000000000000000000000000000000000000000
+ok
+> write 0x1028 00000000000000000000000000000000100000000000000000000000000000000000000000000000
+ok
+> # Chain 0: reads 80 at 0x1000; writes 32 at 0x2000
+> write 0 0010000000000000500000000100010000200000000000002000000002000000
+ok
+> write 0x102 05000000
+ok
+> kick 0 1
+call read 2
+done 0 21 - 1
+> read 0x2000 21
+bytes 150000000000000007000000000000004a656c6c6f
+> read 0x202 2
+bytes 0500
+status 0
+";
+
+// The transcript with a move before each command but the queue's, and before the end.
+fn with_moves(rt: &impl Abort, alloc: Global, transcript: &[u8]) -> Vec<u8> {
+    let mut moving = Vec::new(alloc);
+    let mut begun = false;
+    for line in transcript.split(|byte| *byte == b'\n') {
+        let begins = line.starts_with(b"> ") && !line.starts_with(b"> #");
+        if begun && (begins || line.starts_with(b"status ")) {
+            push(rt, &mut moving, b"> move\nmoved 56\n");
+        }
+        begun = begun || begins;
+        push(rt, &mut moving, line);
+        push(rt, &mut moving, b"\n");
+    }
+    moving
+}
+
+#[test]
+fn answers_the_same_when_it_moves_between_commands(rt: HostRuntime) {
+    check(&rt, rt.alloc(), SESSION);
+    let moving = with_moves(&rt, rt.alloc(), SESSION);
+    check(&rt, rt.alloc(), &moving);
+}
