@@ -301,7 +301,7 @@ does_balance may n some s (run.Map iova target k perm) (x ∷ told) answer after
 does_balance may n some s (run.Unmap iova k) (x ∷ told) answer after t = absurd t
 does_balance may n some s run.UnmapAll (x ∷ told) answer after t = absurd t
 does_balance may n some s (run.SetIommu on) (x ∷ told) answer after t = absurd t
-does_balance may n some s (run.ResetQueue queue l) (x ∷ told) answer after t = absurd t
+does_balance may n some s (run.ResetQueue queue size desc avail used) (x ∷ told) answer after t = absurd t
 
 performs_balance : {F : Type 0} (may : May F) (n : ℕ) → n ≢ 0 → (s : State F) (command : Command) (told : Told) (answer : Answer) (after : State F) → Performs may s command told answer after → ToldBalances n told
 performs_balance may n some s command [] (run.IsRefused why.OutOfMemory) after t = refl
