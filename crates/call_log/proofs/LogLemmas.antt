@@ -1,21 +1,20 @@
 -- from runs of the plain machine to the log of its file system
 use Rattle.std.proofs.Common.{◌≡◌, ℕ, zero, suc, Bool, true, false, List, [], ◌∷◌, ◌++◌, map, zip, length, append_assoc, append-nil, refl, sym, ap, ◌∙◌, arith, subst, Option, Some, None}
-use Rattle.std.specs.Prelude.{Result, Ok, Err, IfOk, if◌then◌else◌, slice_get, flat_map, not, nat_lt, ◌==◌}
+use Rattle.std.specs.Prelude.{Result, Ok, Err, IfOk, if◌then◌else◌, slice_get, flat_map, not, ◌==◌}
 use Rattle.std.specs.List.{list_any, list_all}
 use Rattle.vm_iotlb.specs.declared.permissions.Permissions.TheVariants.{Read, Write}
 use Rattle.vm_iotlb.specs.Table.{Table, nothing_mapped}
 use Rattle.vm_memory_core.specs.Host.{Block}
 use Rattle.vm_memory.specs.Layout.{Region, fits, overlap, is_region}
 use Rattle.vm_memory.specs.Memory.{reach, physical}
-use Rattle.fs_queue.specs.declared.layout.QueueLayout.{QueueLayout}
 use Rattle.fs_queue.specs.declared.fault.QueueError.TheVariants as stop
-use Rattle.fs_queue.specs.Queue.{Queue}
+use Rattle.fs_queue.specs.Queue.{Queue, fresh}
 use Rattle.fs_queue.specs.Taking.{Offer, Asks, CannotAsk, Refuses, Offers}
 use Rattle.fs_queue.specs.Taking as taking
 use Rattle.fuse_fs.specs.Calls.{FileCall, FileAnswer, FileRun}
 use Rattle.virtiofsd_fuse.specs.Grammar.{meaning}
 use Rattle.fuse_segments.specs.declared.error.Error.{Error}
-use Rattle.virtiofsd_fuse.specs.Serving.{May, Served, Setting, served, setting, replied}
+use Rattle.virtiofsd_fuse.specs.Serving.{May, Served, served, setting}
 use Rattle.fs_device.specs.declared.error.DeviceError.{DeviceError}
 use Rattle.fs_device.specs.declared.error.DeviceError.TheVariants as device
 use Rattle.fs_device.specs.declared.exchange.Fault.{Fault}
@@ -174,9 +173,9 @@ block_quiet : {F : Type 0} (s : State F) (base block : ℕ) (o : Option Block) �
 block_quiet s base block None = (refl, refl)
 block_quiet s base block (Some b) = insert_quiet s _
 
-reset_quiet : {F : Type 0} (s : State F) (i : ℕ) (l : QueueLayout) (o : Option Queue) → IsQuiet s (reset s i l o)
-reset_quiet s i l None = (refl, refl)
-reset_quiet s i l (Some q) = (refl, refl)
+reset_quiet : {F : Type 0} (s : State F) (i : ℕ) (anew : Queue) (o : Option Queue) → IsQuiet s (reset s i anew o)
+reset_quiet s i anew None = (refl, refl)
+reset_quiet s i anew (Some q) = (refl, refl)
 
 effect_quiet : {F : Type 0} (s : State F) (command : Command) → IsQuiet s (effect s command)
 unfolding effect
@@ -193,7 +192,7 @@ effect_quiet s (run.Unmap iova n) = (refl, refl)
 effect_quiet s run.UnmapAll = (refl, refl)
 effect_quiet s (run.SetIommu on) = (refl, refl)
 effect_quiet s (run.Kick queue most) = (refl, refl)
-effect_quiet s (run.ResetQueue queue l) = reset_quiet s queue l _
+effect_quiet s (run.ResetQueue queue size desc avail used) = reset_quiet s queue (fresh size desc avail used) _
 effect_quiet s run.Image = (refl, refl)
 effect_quiet s run.Harvest = (refl, refl)
 
@@ -224,7 +223,7 @@ affect_logged log s (run.Unmap iova n) answer after t = change_logged log s _ _ 
 affect_logged log s run.UnmapAll answer after t = change_logged log s true nothing_mapped answer after t
 affect_logged log s (run.SetIommu on) answer after t = by_effect log s (run.SetIommu on) answer after t
 affect_logged log s (run.Kick queue most) answer after t = by_effect log s (run.Kick queue most) answer after t
-affect_logged log s (run.ResetQueue queue l) answer after t = by_effect log s (run.ResetQueue queue l) answer after t
+affect_logged log s (run.ResetQueue queue size desc avail used) answer after t = by_effect log s (run.ResetQueue queue size desc avail used) answer after t
 affect_logged log s run.Image answer after t = by_effect log s run.Image answer after t
 affect_logged log s run.Harvest answer after t = by_effect log s run.Harvest answer after t
 
@@ -254,7 +253,7 @@ does_logged may log keeps s (run.Map iova target n perm) told answer after t = e
 does_logged may log keeps s (run.Unmap iova n) told answer after t = effect_logged log s (run.Unmap iova n) told answer after t
 does_logged may log keeps s run.UnmapAll told answer after t = effect_logged log s run.UnmapAll told answer after t
 does_logged may log keeps s (run.SetIommu on) told answer after t = effect_logged log s (run.SetIommu on) told answer after t
-does_logged may log keeps s (run.ResetQueue queue l) told answer after t = effect_logged log s (run.ResetQueue queue l) told answer after t
+does_logged may log keeps s (run.ResetQueue queue size desc avail used) told answer after t = effect_logged log s (run.ResetQueue queue size desc avail used) told answer after t
 does_logged may log keeps s run.Image told answer after t = effect_logged log s run.Image told answer after t
 does_logged may log keeps s run.Harvest told answer after t = effect_logged log s run.Harvest told answer after t
 

@@ -303,7 +303,7 @@ does_balance may n some s (run.Map iova target k perm) (x ∷ told) answer after
 does_balance may n some s (run.Unmap iova k) (x ∷ told) answer after t = absurd t
 does_balance may n some s run.UnmapAll (x ∷ told) answer after t = absurd t
 does_balance may n some s (run.SetIommu on) (x ∷ told) answer after t = absurd t
-does_balance may n some s (run.ResetQueue queue l) (x ∷ told) answer after t = absurd t
+does_balance may n some s (run.ResetQueue queue size desc avail used) (x ∷ told) answer after t = absurd t
 does_balance may n some s run.Image (x ∷ told) answer after t = absurd t
 does_balance may n some s run.Harvest (x ∷ told) answer after t = absurd t
 

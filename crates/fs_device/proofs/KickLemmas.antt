@@ -4,14 +4,13 @@ use Rattle.std.specs.Prelude.{slice_get}
 use Rattle.std.proofs.lemmas.Option.{slice_get-get_or}
 use Rattle.std.proofs.lemmas.Bool.Decides.{nat_tests}
 use Rattle.vm_memory.specs.Memory.{Memory}
-use Rattle.fs_queue.specs.declared.layout.QueueLayout.{QueueLayout}
 use Rattle.fs_queue.specs.declared.fault.QueueError.TheVariants as stop
 use Rattle.fs_queue.specs.Queue.{Queue}
 use Rattle.virtiofsd_fuse.specs.Serving.{May}
 use Rattle.fs_device.specs.declared.error.DeviceError.{DeviceError}
 use Rattle.fs_device.specs.declared.error.DeviceError.TheVariants as device
 use Rattle.fs_device.specs.Step.{State, Exchange, Calls, Idle, Refused, Exchanged, StepOf, Step}
-use Rattle.fs_device.specs.Run.{Turn, KickRun, Done, fresh_queue, reset}
+use Rattle.fs_device.specs.Run.{Turn, KickRun, Done, reset}
 use Rattle.fs_device.specs.CommandView.{KickLists}
 use Rattle.fs_device.proofs.StepLemmas.{Fixed, state, changed_at-set}
 
@@ -78,7 +77,7 @@ pub room_wanted : (i n most : ℕ) → i < n → 0 < most → (nat_lt i n && nat
 room_wanted i n most there some = grind (arith, nat_tests)
 
 -- a queue that is there begins anew
-pub reset_there : {F : Type 0} (f : Fixed) (m : Memory) (queues : List Queue) (s : ℕ × F) (i : ℕ) (l : QueueLayout) → i < length queues →
-    (Done, state f m (set queues i (fresh_queue l)) s) ≡ reset (state f m queues s) i l (slice_get queues i)
-reset_there f m queues s i l there =
-    rw (slice_get-get_or queues i (fresh_queue l) there) (ap (λ (qs : List Queue). (Done, state f m qs s)) (sym (changed_at-set queues i (fresh_queue l))))
+pub reset_there : {F : Type 0} (f : Fixed) (m : Memory) (queues : List Queue) (s : ℕ × F) (i : ℕ) (anew : Queue) → i < length queues →
+    (Done, state f m (set queues i anew) s) ≡ reset (state f m queues s) i anew (slice_get queues i)
+reset_there f m queues s i anew there =
+    rw (slice_get-get_or queues i anew there) (ap (λ (qs : List Queue). (Done, state f m qs s)) (sym (changed_at-set queues i anew)))

@@ -7,9 +7,8 @@ use Rattle.vm_iotlb.specs.Table.{Table, nothing_mapped}
 use Rattle.vm_memory_core.specs.Host.{Block}
 use Rattle.vm_memory.specs.Layout.{Region, fits, overlap, is_region}
 use Rattle.vm_memory.specs.Memory.{reach, physical}
-use Rattle.fs_queue.specs.declared.layout.QueueLayout.{QueueLayout}
 use Rattle.fs_queue.specs.declared.fault.QueueError.TheVariants as stop
-use Rattle.fs_queue.specs.Queue.{Queue}
+use Rattle.fs_queue.specs.Queue.{Queue, fresh}
 use Rattle.fs_queue.specs.Taking.{Offer, Asks, CannotAsk, Refuses, Offers}
 use Rattle.fs_queue.specs.Taking as taking
 use Rattle.fuse_fs.specs.Calls.{FileCall, FileAnswer, FileRun}
@@ -121,9 +120,9 @@ block_stays : {F : Type 0} (s : State F) (base block : ℕ) (o : Option Block) �
 block_stays s base block None = refl
 block_stays s base block (Some b) = insert_stays s _
 
-reset_stays : {F : Type 0} (s : State F) (i : ℕ) (l : QueueLayout) (o : Option Queue) → (reset s i l o).1.files ≡ s.files
-reset_stays s i l None = refl
-reset_stays s i l (Some q) = refl
+reset_stays : {F : Type 0} (s : State F) (i : ℕ) (anew : Queue) (o : Option Queue) → (reset s i anew o).1.files ≡ s.files
+reset_stays s i anew None = refl
+reset_stays s i anew (Some q) = refl
 
 effect_stays : {F : Type 0} (s : State F) (command : Command) → (effect s command).1.files ≡ s.files
 unfolding effect
@@ -140,7 +139,7 @@ effect_stays s (run.Unmap iova n) = refl
 effect_stays s run.UnmapAll = refl
 effect_stays s (run.SetIommu on) = refl
 effect_stays s (run.Kick queue most) = refl
-effect_stays s (run.ResetQueue queue l) = reset_stays s queue l _
+effect_stays s (run.ResetQueue queue size desc avail used) = reset_stays s queue (fresh size desc avail used) _
 effect_stays s run.Image = refl
 effect_stays s run.Harvest = refl
 
@@ -163,7 +162,7 @@ affect_stays s (run.Unmap iova n) answer after t = change_stays s _ _ answer aft
 affect_stays s run.UnmapAll answer after t = change_stays s true nothing_mapped answer after t
 affect_stays s (run.SetIommu on) answer after t = by_effect s (run.SetIommu on) answer after t
 affect_stays s (run.Kick queue most) answer after t = by_effect s (run.Kick queue most) answer after t
-affect_stays s (run.ResetQueue queue l) answer after t = by_effect s (run.ResetQueue queue l) answer after t
+affect_stays s (run.ResetQueue queue size desc avail used) answer after t = by_effect s (run.ResetQueue queue size desc avail used) answer after t
 affect_stays s run.Image answer after t = by_effect s run.Image answer after t
 affect_stays s run.Harvest answer after t = by_effect s run.Harvest answer after t
 
@@ -191,7 +190,7 @@ does_tell may s (run.Map iova target n perm) told answer after t = effect_tells 
 does_tell may s (run.Unmap iova n) told answer after t = effect_tells may s (run.Unmap iova n) told answer after t
 does_tell may s run.UnmapAll told answer after t = effect_tells may s run.UnmapAll told answer after t
 does_tell may s (run.SetIommu on) told answer after t = effect_tells may s (run.SetIommu on) told answer after t
-does_tell may s (run.ResetQueue queue l) told answer after t = effect_tells may s (run.ResetQueue queue l) told answer after t
+does_tell may s (run.ResetQueue queue size desc avail used) told answer after t = effect_tells may s (run.ResetQueue queue size desc avail used) told answer after t
 does_tell may s run.Image told answer after t = effect_tells may s run.Image told answer after t
 does_tell may s run.Harvest told answer after t = effect_tells may s run.Harvest told answer after t
 

@@ -34,7 +34,7 @@ command_of (asked.TheVariants.Unmap iova n) = Unmap iova n
 command_of asked.TheVariants.UnmapAll = UnmapAll
 command_of (asked.TheVariants.SetIommu on) = SetIommu on
 command_of (asked.TheVariants.Kick queue most) = Kick queue most
-command_of (asked.TheVariants.ResetQueue queue l) = ResetQueue queue l
+command_of (asked.TheVariants.ResetQueue queue l) = ResetQueue queue l.size l.desc l.avail l.used
 command_of asked.TheVariants.Image = Image
 command_of asked.TheVariants.Harvest = Harvest
 

@@ -11,8 +11,7 @@ use Rattle.vm_memory_core.specs.Host.{new_block, cleared}
 use Rattle.vm_memory.specs.Layout.{Region, place}
 use Rattle.vm_memory.specs.Memory.{Memory, memory_behind, memory_of, addresses, reach, stored_all}
 use Rattle.fs_queue.specs.declared.fault.QueueError.TheVariants as queue_error
-use Rattle.fs_queue.specs.declared.layout.QueueLayout.{QueueLayout}
-use Rattle.fs_queue.specs.Queue.{stopped}
+use Rattle.fs_queue.specs.Queue.{fresh, stopped}
 use Rattle.fs_queue.specs.Chain.{path, found}
 use Rattle.fs_queue.specs.Taking.{offer}
 use Rattle.fs_queue.specs.Returning.{advanced}
@@ -34,7 +33,7 @@ use Rattle.fs_device.specs.declared.refusal.Refusal.TheVariants as why
 use Rattle.fs_device.specs.Step.{State, Exchange, Exchanged, Step, after_return}
 use Rattle.host_copies.specs.Harvested.{block_pages, host_pages, harvested}
 use Rattle.fs_device.specs.Run as run
-use Rattle.fs_device.specs.Run.{Command, Answer, Turn, Affects, Run, RunTold, KickRun, effect, fresh_queue, with_ranges}
+use Rattle.fs_device.specs.Run.{Command, Answer, Turn, Affects, Run, RunTold, KickRun, effect, with_ranges}
 use Rattle.fs_device.specs.Books.{answered, sent, written, lost, accepted, nodes_listed}
 use Rattle.fs_device.specs.Examples.{blank, queue, put, descriptor_bytes, request, with_one_request, Nothing, may, device, unknown_reply, unknown_exchange, after_reply, one_step}
 
@@ -274,13 +273,13 @@ unfolding meaning reading_of meant row reply_bytes fields.field_bytes list_entri
 given_back_once = refl
 
 -- a queue that stopped begins anew
-resets : (l : QueueLayout) → effect (device far (stopped queue)) (run.ResetQueue 0 l) ≡ (run.Done, device far (fresh_queue l))
+resets : (size desc avail used : ℕ) → effect (device far (stopped queue)) (run.ResetQueue 0 size desc avail used) ≡ (run.Done, device far (fresh size desc avail used))
 unfolding effect
-resets l = refl
+resets size desc avail used = refl
 
-resets_no_missing : (l : QueueLayout) → effect (device far queue) (run.ResetQueue 1 l) ≡ (run.IsRefused why.NoSuchQueue, device far queue)
+resets_no_missing : (size desc avail used : ℕ) → effect (device far queue) (run.ResetQueue 1 size desc avail used) ≡ (run.IsRefused why.NoSuchQueue, device far queue)
 unfolding effect
-resets_no_missing l = refl
+resets_no_missing size desc avail used = refl
 
 -- ---- 32 bytes at 0, and what a guest does there
 

@@ -10,7 +10,6 @@ use Rattle.vm_memory_core.specs.Host.{Host, Block, cleared, new_block, with_bloc
 use Rattle.vm_memory_core.specs.Lending.{with_table_at}
 use Rattle.vm_memory.specs.Layout.{Region, fits, overlap, with_region, is_region, without_region}
 use Rattle.vm_memory.specs.Memory.{Memory, addresses, reach, bytes, stored_all, physical, table_of}
-use Rattle.fs_queue.specs.declared.layout.QueueLayout.{QueueLayout}
 use Rattle.fs_queue.specs.Queue.{Queue, fresh}
 use Rattle.virtiofsd_fuse.specs.Serving.{May}
 use Rattle.host_copies.specs.Harvested.{Page, harvested}
@@ -33,7 +32,7 @@ pub data Command : Type 0 where
   UnmapAll : Command
   SetIommu : Bool → Command
   Kick : (queue most : ℕ) → Command
-  ResetQueue : (queue : ℕ) → QueueLayout → Command
+  ResetQueue : (queue size desc avail used : ℕ) → Command
   Image : Command
   Harvest : Command
 
@@ -130,14 +129,10 @@ set_layout s layout =
     else if some_overlap layout then no why.Overlap s
     else (Done, with_layout s layout)
 
--- a queue of this layout from which no chain was taken
-abbrev pub fresh_queue : QueueLayout → Queue
-fresh_queue l = fresh l.size l.desc l.avail l.used
-
--- a queue begins anew
-abbrev pub reset : {F : Type 0} → State F → ℕ → QueueLayout → Option Queue → Effect F
-reset s i l None = no why.NoSuchQueue s
-reset s i l (Some q) = (Done, with_queue s i (fresh_queue l))
+-- a queue begins anew, as this one
+abbrev pub reset : {F : Type 0} → State F → ℕ → (anew : Queue) → Option Queue → Effect F
+reset s i anew None = no why.NoSuchQueue s
+reset s i anew (Some q) = (Done, with_queue s i anew)
 
 -- the table that the device's addresses go by is used, or not
 abbrev pub set_iommu : {F : Type 0} → State F → Bool → Effect F
@@ -164,7 +159,7 @@ effect s (InsertRegion base block) = insert_block s base block (slice_get s.memo
 effect s (RemoveRegion base size) = remove_region s base size
 effect s (SetLayout layout) = set_layout s layout
 effect s (SetIommu on) = set_iommu s on
-effect s (ResetQueue queue l) = reset s queue l (slice_get s.queues queue)
+effect s (ResetQueue queue size desc avail used) = reset s queue (fresh size desc avail used) (slice_get s.queues queue)
 effect s Image = image s
 effect s Harvest = harvest s
 effect s _ = (Done, s)
@@ -252,7 +247,7 @@ takes_memory s (Unmap iova n) = nat_lt 0 n
 takes_memory s UnmapAll = false
 takes_memory s (SetIommu on) = false
 takes_memory s (Kick queue most) = kick_takes_memory s queue most
-takes_memory s (ResetQueue queue l) = false
+takes_memory s (ResetQueue queue size desc avail used) = false
 takes_memory s _ = true
 
 -- a command has its effect, and nothing is behind its answer

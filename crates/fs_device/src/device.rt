@@ -40,7 +40,7 @@ impl<F> Model for Device<F> {
 ghost use Rattle.fs_device.specs.Step.{Calls, Step};
 ghost use Rattle.fs_device.specs.Begun.{Begins, Finishes, IsBegun};
 ghost use Rattle.fs_device.specs.DeviceView.{outcome_of, state_of};
-ghost use Rattle.fs_device.specs.Run.{fresh_queue};
+ghost use Rattle.fs_queue.specs.Queue.{fresh};
 ghost use Rattle.fs_device.specs.declared.error.DeviceError.TheVariants.{NoSuchQueue};
 
 impl<F: FileSystem> Device<F> {
@@ -171,7 +171,7 @@ impl<F: FileSystem> Device<F> {
     /// Begins a queue anew: its position is 0, and it isn't stopped.
     pub fn reset_queue(&mut self, queue: usize, layout: QueueLayout) -> Result<(), DeviceError>
         ensures missing { IfErr result (λ e. (e ≡ NoSuchQueue) × (slice_get self.old.queues queue ≡ None) × (self.new ≡ self.old)) }
-        ensures there { OnOk result ((queue < length self.old.queues) × (self.new ≡ record self.old { queues = set self.old.queues queue (fresh_queue layout) })) }
+        ensures there { OnOk result ((queue < length self.old.queues) × (self.new ≡ record self.old { queues = set self.old.queues queue (fresh layout.size layout.desc layout.avail layout.used) })) }
     {
         if queue < self.queues.len() {
             self.queues[queue].reset(layout);

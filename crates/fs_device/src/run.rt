@@ -87,7 +87,7 @@ impl<F: FileSystem, I: Iommu + Drop> Machine<F, I> {
     }
 
     fn reset_queue(&mut self, queue: usize, layout: QueueLayout) -> Answer
-        ensures { Performs F.may (machine_of self.old) (ResetQueue queue layout) [] (answer_of result) (machine_of self.new) }
+        ensures { Performs F.may (machine_of self.old) (ResetQueue queue layout.size layout.desc layout.avail layout.used) [] (answer_of result) (machine_of self.new) }
     {
         match self.device.reset_queue(queue, layout) {
             Ok(()) => Answer::Done,
