@@ -37,10 +37,10 @@ impl<F> Model for Device<F> {
     ghost view = { λ d. record { queues = d.queues.items; options = d.server.options.0; files = d.server.fs; limit = d.limit; page_size = d.server.page_size } };
 }
 
+ghost use Rattle.fs_queue.specs.Queue.{fresh};
 ghost use Rattle.fs_device.specs.Step.{Calls, Step};
 ghost use Rattle.fs_device.specs.Begun.{Begins, Finishes, IsBegun};
 ghost use Rattle.fs_device.specs.DeviceView.{outcome_of, state_of};
-ghost use Rattle.fs_queue.specs.Queue.{fresh};
 ghost use Rattle.fs_device.specs.declared.error.DeviceError.TheVariants.{NoSuchQueue};
 
 impl<F: FileSystem> Device<F> {

@@ -4,7 +4,6 @@ use Rattle.vm_iotlb.specs.declared.permissions.Permissions.TheVariants.{Read}
 use Rattle.vm_memory.specs.Memory.{Memory, bytes, reach}
 use Rattle.fs_queue.specs.declared.look.Look as code_look
 use Rattle.fs_queue.specs.declared.look.Look.TheVariants as finds
-use Rattle.fs_queue.specs.declared.walk.DescriptorTable as code_table
 use Rattle.fs_queue.specs.declared.walk.Verdict as code_verdict
 use Rattle.fs_queue.specs.declared.walk.Verdict.TheVariants as says
 use Rattle.fs_queue.specs.declared.walk.Walked as walked
@@ -22,10 +21,6 @@ at_position l position = resumed l.size l.desc l.avail l.used position false
 abbrev pub in_table : DescriptorTable → (index left : ℕ) → Visit
 in_table table index left = record { table = table; index = index; left = left }
 
--- the table that a value of the code is
-abbrev pub table_of : code_table.DescriptorTable → DescriptorTable
-table_of table = record { address = table.address; entries = table.entries; indirect = table.indirect }
-
 -- what was found in the available ring
 abbrev pub look_of : code_look.Look → Look
 look_of finds.Idle = Idle
@@ -35,16 +30,16 @@ look_of (finds.Refused e) = Refused e
 -- what the code says of a step
 abbrev pub verdict_of : code_verdict.Verdict → Verdict
 verdict_of (says.Joins d) = Joins d
-verdict_of (says.Leads table) = Leads (table_of table)
+verdict_of (says.Leads table) = Leads table
 verdict_of (says.Faulty fault) = Faulty fault
 verdict_of says.Stops = Stops
 
 -- a table's end is an address
-abbrev pub EndsIn64Bits : code_table.DescriptorTable → Type 0
+abbrev pub EndsIn64Bits : DescriptorTable → Type 0
 EndsIn64Bits table = table.address + 16 * table.entries < 2 ^ 64
 
 -- these are the bytes of a table, each of which can be read
-abbrev pub AreTheTable : Memory → code_table.DescriptorTable → List ℕ → Type 0
+abbrev pub AreTheTable : Memory → DescriptorTable → List ℕ → Type 0
 AreTheTable m table bs = (bs ≡ bytes m table.address (16 * table.entries)) × (reach m Read table.address (16 * table.entries) ≡ true)
 
 -- what a walk found
@@ -61,7 +56,7 @@ IfJoins (says.Faulty fault) P = Unit {0}
 IfJoins says.Stops P = Unit {0}
 
 -- of a table that a descriptor names
-abbrev pub IfLeads : code_verdict.Verdict → (code_table.DescriptorTable → Type 0) → Type 0
+abbrev pub IfLeads : code_verdict.Verdict → (DescriptorTable → Type 0) → Type 0
 IfLeads (says.Joins d) P = Unit {0}
 IfLeads (says.Leads table) P = P table
 IfLeads (says.Faulty fault) P = Unit {0}

@@ -10,6 +10,7 @@ use crate::descriptor::{Descriptor, Descriptors, read_descriptor};
 use crate::fault::ChainFault;
 use crate::layout::QueueLayout;
 use std::alloc::{AllocError, Global};
+use std::marker::Model;
 use vm_memory::GuestMemory;
 use vm_memory_core::{GuestAddress, HostMemory, NewBitmap, Permissions};
 use vm_values::ByteValued;
@@ -23,6 +24,16 @@ pub(crate) struct DescriptorTable {
     pub(crate) address: u64,
     pub(crate) entries: u32,
     pub(crate) indirect: bool,
+}
+
+impl Model for DescriptorTable {
+    ghost use Rattle.fs_queue.specs.Chain.{DescriptorTable};
+
+    ghost Value = { DescriptorTable };
+
+    ghost view = { λ t. record { address = t.address; entries = t.entries; indirect = t.indirect } };
+
+    ghost inverse = { λ t. record { address = t.address; entries = t.entries; indirect = t.indirect } };
 }
 
 /// What the rules say of a step: its descriptor joins the chain, it leads to a table, the chain is faulty, or the queue stops.
@@ -43,7 +54,7 @@ pub(crate) enum Walked {
 }
 
 ghost use Rattle.fs_queue.specs.Chain.{descriptor_at, indirect_verdict, ordinary_verdict, verdict, chain, own_table};
-ghost use Rattle.fs_queue.specs.Walking.{at_position, table_of, in_table, verdict_of, found_of, IfJoins, IfLeads, EndsIn64Bits, AreTheTable, DescriptorsFit};
+ghost use Rattle.fs_queue.specs.Walking.{at_position, in_table, verdict_of, found_of, IfJoins, IfLeads, EndsIn64Bits, AreTheTable, DescriptorsFit};
 
 // The bytes of a table, where one window has all of them. None says nothing of the table: each entry is then read by itself.
 fn table_bytes<'a, M: GuestMemory, B: NewBitmap>(
@@ -100,7 +111,7 @@ fn read_entry<M: GuestMemory, B: NewBitmap>(
 
 // What the rules say of a descriptor that names a table, found in this one.
 fn lead(table: DescriptorTable, index: u16, left: u16, descriptor: Descriptor) -> Verdict
-    ensures verdict { verdict_of result ≡ indirect_verdict (in_table (table_of table) index left) descriptor }
+    ensures verdict { verdict_of result ≡ indirect_verdict (in_table table index left) descriptor }
     ensures joins { IfJoins result (λ _. ⊥) }
     ensures leads { IfLeads result (λ t. (table.indirect ≡ false) × (t.indirect ≡ true) × EndsIn64Bits t) }
 {
@@ -123,7 +134,7 @@ fn lead(table: DescriptorTable, index: u16, left: u16, descriptor: Descriptor) -
 
 // What the rules say of an ordinary descriptor, where `left` more may join the chain.
 fn ordinary(table: DescriptorTable, index: u16, left: u16, descriptor: Descriptor) -> Verdict
-    ensures verdict { verdict_of result ≡ ordinary_verdict (in_table (table_of table) index left) descriptor }
+    ensures verdict { verdict_of result ≡ ordinary_verdict (in_table table index left) descriptor }
     ensures fits { IfJoins result (λ d. d.addr + d.len < 2 ^ 64) }
     ensures more { IfJoins result (λ _. 0 < left) }
     ensures leads { IfLeads result (λ _. ⊥) }
@@ -150,7 +161,7 @@ fn step<M: GuestMemory, B: NewBitmap>(
     requires held { M.IsHeld mem.now host.now }
     requires ends { EndsIn64Bits table }
     requires whole { IfSome whole (λ b. AreTheTable (M.memory mem.now host.now) table b.now) }
-    ensures verdict { IfOk result (λ v. verdict_of v ≡ verdict (M.memory mem.now host.now) (in_table (table_of table) index left)) }
+    ensures verdict { IfOk result (λ v. verdict_of v ≡ verdict (M.memory mem.now host.now) (in_table table index left)) }
     ensures fits { IfOk result (λ v. IfJoins v (λ d. d.addr + d.len < 2 ^ 64)) }
     ensures more { IfOk result (λ v. IfJoins v (λ _. 0 < left)) }
     ensures leads { IfOk result (λ v. IfLeads v (λ t. (table.indirect ≡ false) × (t.indirect ≡ true) × EndsIn64Bits t)) }
@@ -174,7 +185,7 @@ fn step<M: GuestMemory, B: NewBitmap>(
 
 // The queue's own table.
 fn queue_table(layout: QueueLayout) -> DescriptorTable
-    ensures table { table_of result ≡ own_table (at_position layout 0) }
+    ensures table { result ≡ own_table (at_position layout 0) }
     ensures ends { EndsIn64Bits result }
 {
     DescriptorTable {

@@ -10,5 +10,5 @@ returns-in-Some-Ok g c =
     let m = g.M.GuestMemory.memory c.args.mem.now c.args.host.now in
     let same : m.host ≡ c.args.host.now = ap (λ (x : Memory). x.host) (g.met.M.GuestMemory.over c.args.mem.now c.args.host.now c.args.host.now) in
     let there = first_window _ _ _ _ c.in-Some-Ok.window c.in-Ok.ensures.slices (c.in-Some-Ok.is ∙ ap Some c.in-Some-Ok.field-0-is) c.next.ensures.steps in
-    whole_window m c.args.table.address (16 * c.args.table.entries) c.in-Some-Ok.window.len _ c.bytes.result.now c.requires.ends (sym c.len.ensures.len ∙ c.if-len.true) there
-    (c.bytes.ensures.bytes ∙ ap (λ (h : Host). map (byte_in h) (places_of c.in-Some-Ok.window)) (sym same))
+    rw (← c.table.view_is) (whole_window m c.table.inside.address (16 * c.table.inside.entries) c.in-Some-Ok.window.len _ c.bytes.result.now (rw (← c.table.view_is) at c.requires.ends)
+    (sym c.len.ensures.len ∙ c.if-len.true) there (c.bytes.ensures.bytes ∙ ap (λ (h : Host). map (byte_in h) (places_of c.in-Some-Ok.window)) (sym same)))

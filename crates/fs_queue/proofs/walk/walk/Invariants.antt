@@ -1,13 +1,13 @@
 use Rattle.std.proofs.Common.{◌≡◌, ◌+◌, IfSome}
 use Rattle.fs_queue.specs.Chain.{chain}
-use Rattle.fs_queue.specs.Walking.{at_position, table_of, AllEndIn64Bits, AreTheTable, EndsIn64Bits}
+use Rattle.fs_queue.specs.Walking.{at_position, AllEndIn64Bits, AreTheTable, EndsIn64Bits}
 use Rattle.fs_queue.proofs.WalkLemmas.{tables_left, prepend, rest_of}
 use Rattle.fs_queue.proofs.walk.walk.Given as goal
 
 abbrev pub invariant-loop-descriptors : goal.invariant-loop-descriptors
 invariant-loop-descriptors g l = record {
   chain :
-      prepend l.descriptors.items (rest_of (g.M.GuestMemory.memory l.mem l.host) (table_of l.table) l.index l.left)
+      prepend l.descriptors.items (rest_of (g.M.GuestMemory.memory l.mem l.host) l.table l.index l.left)
       ≡ chain (g.M.GuestMemory.memory l.mem l.host) (at_position l.fn.layout 0) l.head;
   fit : AllEndIn64Bits l.descriptors.items;
   ends : EndsIn64Bits l.table;
