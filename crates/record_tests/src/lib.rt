@@ -1,8 +1,10 @@
-//! Tests of the saved record: worked bytes, damaged records, streams that fail, numbers and texts of refusals.
+//! Tests of the saved record: worked bytes, damaged records, streams that fail, refusals, devices that go on from it.
 #![tactic(auto)]
 
 #[cfg(test)]
 mod damaged;
+#[cfg(test)]
+mod devices;
 #[cfg(test)]
 mod errors;
 #[cfg(test)]
