@@ -8,7 +8,7 @@ fn an_image_with_the_harvested_pages_is_the_host(rt: HostRuntime) {
     let alloc = rt.alloc();
     let mut host = two_blocks(&rt, alloc);
     write(&rt, &mut host, 0, 0x1000, &[1, 2, 3]);
-    let mut copy = image(&mut host).expect(&rt, "memory");
+    let mut copy = image(rt.alloc(), &mut host).expect(&rt, "memory");
     expect_same_bytes(&rt, &host, &copy);
     expect_marked(&rt, alloc, &host, &[]);
     write(&rt, &mut host, 0, 0x204, &[4, 5]);
@@ -28,7 +28,7 @@ fn an_image_has_no_mark_of_the_host(rt: HostRuntime) {
     let alloc = rt.alloc();
     let mut host = two_blocks(&rt, alloc);
     write(&rt, &mut host, 0, 0xfff, &[1, 2]);
-    let copy = image(&mut host).expect(&rt, "memory");
+    let copy = image(rt.alloc(), &mut host).expect(&rt, "memory");
     expect_marked(&rt, alloc, &copy, &[]);
     write(&rt, &mut host, 0, 0x3000, &[3]);
     expect_marked(&rt, alloc, &copy, &[]);

@@ -42,7 +42,7 @@ RefusesRecord bytes BadOptions = IsBadHead bytes BadOptions
 RefusesRecord bytes ReadFault = EndsWithin bytes
 RefusesRecord bytes OutOfMemory = (options count : ℕ) × IsRecordFront bytes options count []
 
--- what a refusal says of the source: it is at its end, it failed, or neither is said
+-- what a refusal says of the source: it is at its end, it failed, or it failed no more than before
 abbrev pub LeavesSource : RestoreError → (has : Option (List ℕ)) → (failed fails : Bool) → Type 0
 LeavesSource Truncated has failed fails = IsAtEnd has × (fails ≡ failed)
 LeavesSource BadMagic has failed fails = fails ≡ failed

@@ -162,7 +162,10 @@ effect s (SetIommu on) = set_iommu s on
 effect s (ResetQueue queue size desc avail used) = reset s queue (fresh size desc avail used) (slice_get s.queues queue)
 effect s Image = image s
 effect s Harvest = harvest s
-effect s _ = (Done, s)
+effect s (Map iova target n perm) = (Done, s)
+effect s (Unmap iova n) = (Done, s)
+effect s UnmapAll = (Done, s)
+effect s (Kick queue most) = (Done, s)
 
 -- ---- what changes the table
 
@@ -240,15 +243,21 @@ abbrev pub kick_takes_memory : {F : Type 0} → State F → (queue most : ℕ) �
 kick_takes_memory s queue most = nat_lt queue (length s.queues) && nat_lt 0 most
 
 -- the commands that take memory, any of which may be refused for want of it
-abbrev pub takes_memory : {F : Type 0} → State F → Command → Bool
-takes_memory s (GuestWrite a bs) = false
-takes_memory s (Map iova target n perm) = nat_lt 0 n
-takes_memory s (Unmap iova n) = nat_lt 0 n
-takes_memory s UnmapAll = false
-takes_memory s (SetIommu on) = false
-takes_memory s (Kick queue most) = kick_takes_memory s queue most
-takes_memory s (ResetQueue queue size desc avail used) = false
-takes_memory s _ = true
+abbrev pub command_takes_memory : {F : Type 0} → State F → Command → Bool
+command_takes_memory s (GuestWrite a bs) = false
+command_takes_memory s (Map iova target n perm) = nat_lt 0 n
+command_takes_memory s (Unmap iova n) = nat_lt 0 n
+command_takes_memory s UnmapAll = false
+command_takes_memory s (SetIommu on) = false
+command_takes_memory s (Kick queue most) = kick_takes_memory s queue most
+command_takes_memory s (ResetQueue queue size desc avail used) = false
+command_takes_memory s (GuestRead a n) = true
+command_takes_memory s (NewBlock n) = true
+command_takes_memory s (InsertRegion base block) = true
+command_takes_memory s (RemoveRegion base size) = true
+command_takes_memory s (SetLayout layout) = true
+command_takes_memory s Image = true
+command_takes_memory s Harvest = true
 
 -- a command has its effect, and nothing is behind its answer
 abbrev pub HasEffect : {F : Type 0} → State F → Command → Told → Answer → State F → Type 0
@@ -263,7 +272,7 @@ Does may s command told answer after = HasEffect s command told answer after
 
 -- want of memory changes nothing
 abbrev pub LacksMemory : {F : Type 0} → State F → Command → Told → State F → Type 0
-LacksMemory s command [] after = IsTrue (takes_memory s command) × (after ≡ s)
+LacksMemory s command [] after = IsTrue (command_takes_memory s command) × (after ≡ s)
 LacksMemory s command (t ∷ ts) after = ⊥
 
 -- a command may be answered so, with this behind its answer, and leave this state

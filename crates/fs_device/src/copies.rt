@@ -13,10 +13,10 @@ use std::alloc::Global;
 use vm_memory::Iommu;
 
 impl<F: FileSystem, I: Iommu + Drop> Machine<F, I> {
-    pub(crate) fn image(&mut self) -> Answer
+    pub(crate) fn image(&mut self, alloc: Global) -> Answer
         ensures { Performs F.may (machine_of self.old) Image [] (answer_of result) (machine_of self.new) }
     {
-        match host_copies::image(&mut self.host) {
+        match host_copies::image(alloc, &mut self.host) {
             Ok(copy) => Answer::Copied(copy),
             Err(_) => Answer::Refused(Refusal::OutOfMemory),
         }

@@ -117,7 +117,7 @@ impl<F: FileSystem, I: Iommu + Drop> Machine<F, I> {
             Command::SetIommu(on) => self.set_iommu(on),
             Command::Kick { queue, most } => self.kick(alloc, queue, most),
             Command::ResetQueue { queue, layout } => self.reset_queue(queue, layout),
-            Command::Image => self.image(),
+            Command::Image => self.image(alloc),
             Command::Harvest => self.harvest(alloc),
         }
     }

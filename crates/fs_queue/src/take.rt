@@ -106,7 +106,7 @@ fn count_descriptors(descriptors: &[Descriptor], write_only: bool) -> usize
 }
 
 // Has room for a window of each descriptor of one direction, where a list may be too short for that. An error is a want of
-// memory, which a chain's taking may have at any time.
+// memory.
 #[inline]
 fn reserve_windows(
     windows: &mut Windows,

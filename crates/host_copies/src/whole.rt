@@ -4,12 +4,16 @@ ghost use Rattle.std.specs.Prelude.{◌≡◌, IfOk, OnErr, OnOk};
 ghost use Rattle.vm_memory_core.specs.Host.{cleared, shape};
 
 use crate::harvested::clear;
-use std::alloc::AllocError;
+use std::alloc::{AllocError, Global};
 use vm_memory_core::{HostMemory, PageBitmap};
 
 /// A copy of a host, in which no page of a block is marked; the host's own marks of these are cleared, so that what is
-/// marked later was written after the copy. I/O pages and tables stay. Where memory is wanting nothing changes.
-pub fn image(host: &mut HostMemory<PageBitmap>) -> Result<HostMemory<PageBitmap>, AllocError>
+/// marked later was written after the copy. I/O pages and tables stay. Where memory is wanting nothing changes. The copy
+/// has its memory from the host's own allocator, as whatever the host makes.
+pub fn image(
+    _alloc: Global,
+    host: &mut HostMemory<PageBitmap>,
+) -> Result<HostMemory<PageBitmap>, AllocError>
     ensures copy { IfOk result (λ copy. copy ≡ cleared host.old) }
     ensures cleared { OnOk result (host.new ≡ cleared host.old) }
     ensures err { OnErr result (host.new ≡ host.old) }

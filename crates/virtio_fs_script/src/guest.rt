@@ -75,8 +75,8 @@ impl<'a> GuestMachine<'a> {
         Ok(answers.pop().unwrap())
     }
 
-    /// The guest as it goes on over an image of its host, with a device that was restored from its record; and how many bytes
-    /// the record has.
+    /// The guest as it goes on over an image of its host, with a device that was restored from its record; and how many
+    /// bytes the record has. What can't be had is memory alone: a record that was just saved is one.
     pub fn moved(mut self) -> Result<(GuestMachine<'a>, usize), Halt> {
         let mut sink = Stream::new(Vec::new(self.alloc));
         if self.machine.device.save(&mut sink).is_err() {
