@@ -7,11 +7,11 @@ use Rattle.vm_memory.specs.Memory.{location}
 use Rattle.fs_queue.specs.Walking.{AllEndIn64Bits}
 use Rattle.fs_queue.specs.Windows.{access_of}
 use Rattle.fs_queue.proofs.TakeLemmas.{no_descriptor, direction_found, direction_lost, direction_other, direction_done, after-none, none_lies}
-use Rattle.fs_queue.proofs.take.hold_direction.Goals as goal
-use Rattle.fs_queue.proofs.take.hold_direction.Goals.{else-is_write_only-write_only-via-then-is_write_only-write_only+in_ok-add_windows+else-not-branch, else-is_write_only-write_only-via-else-is_write_only-write_only}
+use Rattle.fs_queue.proofs.take.add_direction.Goals as goal
+use Rattle.fs_queue.proofs.take.add_direction.Goals.{else-is_write_only-write_only-via-then-is_write_only-write_only+in_ok-add_windows+else-not-branch, else-is_write_only-write_only-via-else-is_write_only-write_only}
 
 pub loop-descriptor-init : goal.loop-descriptor-init
-loop-descriptor-init g c = rw (c.reserve_windows.ensures, c.new-windows.ensures.items) (record { found = after-none _; lie = none_lies (lengths c.args.host.now) })
+loop-descriptor-init g c = rw (c.reserve_windows.ensures, c.requires.none) (record { found = after-none _; lie = none_lies (lengths c.args.host.now) })
 
 pub add_windows-requires-clause-fits : goal.add_windows-requires-clause-fits
 unfolding AllEndIn64Bits
@@ -22,8 +22,8 @@ returns-then-not-branch-clause-found g c =
     let next = drop_more c.args.descriptors.now c.loop-descriptor.descriptor-index no_descriptor c.loop-descriptor-test.true in
     let kept = ap (λ x. beq x c.args.write_only) (sym c.is_write_only.ensures) ∙ c.if-is_write_only-write_only.true in
     let lost = rw (c.if-not-branch.true, c.access_of-access.ensures) at c.in_ok-add_windows.ensures.found in
-    sym (direction_lost (location (g.M.GuestMemory.memory c.args.mem.now c.args.host.now) (access_of c.args.write_only)) c.args.write_only c.args.descriptors.now c.loop-descriptor.descriptor-index _
-    (places c.loop-descriptor.windows.items) next kept lost) ∙ c.loop-descriptor.invariant.found
+    sym (sym (direction_lost (location (g.M.GuestMemory.memory c.args.mem.now c.args.host.now) (access_of c.args.write_only)) c.args.write_only c.args.descriptors.now c.loop-descriptor.descriptor-index _
+    (places c.loop-descriptor.windows.items) next kept lost) ∙ c.loop-descriptor.invariant.found)
 
 pub loop-descriptor-preserved : goal.loop-descriptor-preserved
 loop-descriptor-preserved g c =
@@ -47,5 +47,5 @@ loop-descriptor-preserved g c =
     ]
 
 pub returns-clause-found : goal.returns-clause-found
-returns-clause-found g c = sym (direction_done (location (g.M.GuestMemory.memory c.args.mem.now c.args.host.now) (access_of c.args.write_only)) c.args.write_only c.args.descriptors.now
-    c.loop-descriptor.descriptor-index _ c.loop-descriptor-test.false) ∙ c.loop-descriptor.invariant.found
+returns-clause-found g c = sym (sym (direction_done (location (g.M.GuestMemory.memory c.args.mem.now c.args.host.now) (access_of c.args.write_only)) c.args.write_only c.args.descriptors.now
+    c.loop-descriptor.descriptor-index _ c.loop-descriptor-test.false) ∙ c.loop-descriptor.invariant.found)
