@@ -1,6 +1,6 @@
 -- what a queue offers, by what was found on the way
-use Rattle.std.proofs.Common.{◌≡◌, ℕ, true, false, ◌+◌, ◌*◌, ◌%◌, ◌^◌, ◌<◌, ◌&&◌, not, List, refl, ap, sym, ◌∙◌, arith, Option, Some, None, Ok, Err}
-use Rattle.std.specs.Prelude.{IsTrue, is_some, if◌then◌else◌, Result, OnErr}
+use Rattle.std.proofs.Common.{◌≡◌, ℕ, true, false, ◌+◌, ◌*◌, ◌%◌, ◌^◌, ◌<◌, ◌&&◌, not, List, refl, ap, sym, ◌∙◌, arith, Option, Some, None, Err}
+use Rattle.std.specs.Prelude.{IsTrue, is_some, if◌then◌else◌}
 use Rattle.std.proofs.lemmas.Nat.{mod_below}
 use Rattle.vm_memory_core.specs.Host.{Place}
 use Rattle.vm_iotlb.specs.declared.permissions.Permissions.TheVariants.{Read, Write}
@@ -13,8 +13,8 @@ use Rattle.fs_queue.specs.Walking.{at_position}
 use Rattle.fs_queue.specs.Chain.{Found, IsChain, HasFault, StopsQueue, chain}
 use Rattle.fs_queue.specs.Look.{looked}
 use Rattle.fs_queue.specs.Look as looks
-use Rattle.fs_queue.specs.Taking.{Offer, Refuses, offer_of, on_head, on_look, offer, may_lack_memory}
-use Rattle.fs_queue.specs.Windows.{Ends, Lacks, ends_found, ends_at, used_addresses}
+use Rattle.fs_queue.specs.Taking.{Offer, Refuses, offer_of, on_head, on_look, offer, may_lack_memory, stops_queue}
+use Rattle.fs_queue.specs.Windows.{Ends, Lacks, Takes, ends_found, ends_at, used_addresses}
 use Rattle.fs_queue.specs.Windows as held
 use Rattle.fs_queue.proofs.TakeLemmas.{reach-each, reach-range, list_all-append, list_all-located}
 
@@ -77,10 +77,6 @@ pub lacks_memory : (m : Memory) (limit : ℕ) (l : QueueLayout) (position at : �
 lacks_memory m limit l position at e =
     ap (may_lack_memory m) (offer_head m limit l position at e) ∙ lack_two m _ _ _ (lack_of m limit at (chain m (at_position l position) at))
 
-pub on_err : {A E : Type 0} (r : Result A E) (P : Type 0) → P → OnErr r P
-on_err (Ok x) P p = tt
-on_err (Err e) P p = p
-
 -- the windows of the return are those of their addresses
 pub found_ends : (used flags : List Place) (o1 o2 : Option (List Place)) → held.Holds used flags ≡ ends_found o1 o2 → (o1 ≡ Some used) × (o2 ≡ Some flags)
 found_ends used flags None o2 e = absurd (cc)
@@ -98,3 +94,15 @@ offer_found m limit l position at a b f head ends found =
     offer_head m limit l position at head
     ∙ sym (ap (λ (x : Ends). on_ends x (offer_of m limit at (chain m (at_position l position) at))) ends)
     ∙ sym (ap (offer_of m limit at) found)
+
+-- a refusal that stops the queue is answered as it is offered
+pub refuses : (m : Memory) (limit : ℕ) (q : Queue) (e : QueueError) → IsTrue (stops_queue e) → offer m limit q ≡ Refuses e → Takes m limit q (Err e)
+refuses m limit q stop.OutOfMemory stops is = absurd (cc)
+refuses m limit q stop.Stopped stops is = is
+refuses m limit q stop.AvailIndexUnreachable stops is = is
+refuses m limit q stop.AvailTooFar stops is = is
+refuses m limit q stop.RingEntryUnreachable stops is = is
+refuses m limit q stop.HeadOutOfTable stops is = is
+refuses m limit q stop.UsedUnreachable stops is = is
+refuses m limit q stop.AvailFlagsUnreachable stops is = is
+refuses m limit q stop.DescriptorUnreachable stops is = is

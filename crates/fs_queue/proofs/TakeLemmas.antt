@@ -105,13 +105,6 @@ after_lost : (o : Option (List Place)) (xs ys : List ℕ) (f : Where) (old : Lis
 after_lost None xs ys f old h e = ap (after old) (located-lost xs ys f h)
 after_lost (Some ps) xs ys f old h e = absurd (cc)
 
--- a second range after a first
-pub found_after : (xs ys : List ℕ) (f : Where) (first all : List Place) → Some first ≡ located f xs → after first (located f ys) ≡ Some all → Some all ≡ located f (xs ++ ys)
-found_after xs ys f first all e found = sym (located-append xs ys f first (sym e) ∙ found)
-
-pub lost_after : (xs ys : List ℕ) (f : Where) (first : List Place) → Some first ≡ located f xs → after first (located f ys) ≡ None → None ≡ located f (xs ++ ys)
-lost_after xs ys f first e lost = sym (located-append xs ys f first (sym e) ∙ lost)
-
 pub direction_found : (f : Where) (b : Bool) (ds : List Descriptor) (i : ℕ) (d : Descriptor) (old new : List Place) → drop i ds ≡ d ∷ drop (i + 1) ds → beq (is_writable d) b ≡ true →
     after old (located f (addresses d.addr d.len)) ≡ Some new →
     after old (located f (addresses_of (of_direction b (drop i ds)))) ≡ after new (located f (addresses_of (of_direction b (drop (i + 1) ds))))

@@ -12,11 +12,9 @@ use Rattle.fs_queue.specs.declared.fault.QueueError.TheVariants as stop
 use Rattle.fs_queue.specs.declared.chain.Chain.{Chain}
 use Rattle.fs_queue.specs.declared.chain.ReturnWindows.{ReturnWindows}
 use Rattle.fs_queue.specs.declared.chain.Taken.{Taken}
-use Rattle.fs_queue.specs.declared.take.Asking.{Asking}
-use Rattle.fs_queue.specs.declared.take.Asking.TheVariants.{Nobody, Refused, Took}
 use Rattle.fs_queue.specs.Queue.{Queue, element_at, index_at}
 use Rattle.fs_queue.specs.Chain.{Descriptor, Found, IsChain, chain}
-use Rattle.fs_queue.specs.Taking.{readable, writable, Asked, Asks, CannotAsk, Idle, Refuses, Offers, offer, may_lack_memory, stops_queue, after_refusal}
+use Rattle.fs_queue.specs.Taking.{readable, writable, Asked, Asks, CannotAsk, Idle, Refuses, Offers, offer, may_lack_memory, after_refusal}
 
 -- the places of the used element and the used index, and of the available flags, or which of them has an address without a place
 pub data Ends : Type 0 where
@@ -37,10 +35,10 @@ used_addresses q = addresses (element_at q) 8 ++ addresses (index_at q) 2
 abbrev pub ends_at : Memory → Queue → Ends
 ends_at m q = ends_found (located (location m Write) (used_addresses q)) (located (location m Read) (addresses q.avail 2))
 
--- those of the windows that the code holds
-abbrev pub ends_of : Result ReturnWindows QueueError → Ends
-ends_of (Ok ends) = Holds (places ends.used.items) (places ends.flags.items)
-ends_of (Err e) = Lacks e
+-- those of the windows of a return, unless something is missing
+abbrev pub ends_of : Option QueueError → ReturnWindows → Ends
+ends_of None ends = Holds (places ends.used.items) (places ends.flags.items)
+ends_of (Some e) ends = Lacks e
 
 -- the descriptors of one direction: those that the device writes, or those that it reads
 abbrev pub of_direction : Bool → List Descriptor → List Descriptor
@@ -107,18 +105,6 @@ abbrev pub after_taking : Queue → Result (Option Taken) QueueError → Queue
 after_taking q (Ok o) = q
 after_taking q (Err e) = after_refusal q e
 
--- the same of a queue that isn't stopped, before it may be
-abbrev pub AskingAs : Memory → ℕ → Queue → Asking → Type 0
-AskingAs m limit q Nobody = offer m limit q ≡ Idle
-AskingAs m limit q (Refused e) = (offer m limit q ≡ Refuses e) × IsTrue (stops_queue e)
-AskingAs m limit q (Took t) = (asked : Asked) × (offer m limit q ≡ Offers t.head asked) × IsTaken m q asked t
-
--- the same of what was asked for
-abbrev pub AskingLiesIn : List ℕ → Asking → Type 0
-AskingLiesIn lengths Nobody = Unit {0}
-AskingLiesIn lengths (Refused e) = Unit {0}
-AskingLiesIn lengths (Took t) = TakenLiesIn lengths t
-
 -- a chain has this head, and windows of the places of these descriptors: of those that the device reads, and of those that it writes
 abbrev pub HoldsWindows : Memory → (head : ℕ) → Result Chain ChainFault → Found → Type 0
 HoldsWindows m head (Ok c) (IsChain ds) =
@@ -130,12 +116,6 @@ HoldsWindows m head _ _ = Unit {0}
 -- a chain that was taken has the windows of the chain that begins at its head
 abbrev pub HasItsWindows : Memory → Queue → Taken → Type 0
 HasItsWindows m q t = HoldsWindows m t.head t.chain (chain m q t.head)
-
--- of a chain that was taken
-abbrev pub IfTook : Asking → (Taken → Type 0) → Type 0
-IfTook Nobody P = Unit {0}
-IfTook (Refused e) P = Unit {0}
-IfTook (Took t) P = P t
 
 -- where a chain's reply goes; a faulty chain has no room
 abbrev pub chain_places : Result Chain ChainFault → List Place

@@ -1,7 +1,6 @@
 //! Reads and windows of guest memory that want all of a range.
 
-ghost use Rattle.std.specs.Prelude.{◌≡◌, ◌+◌, ◌<◌, ◌^◌, IsTrue, IfOk, IfSome, OnErr, length, Some, None, if◌then◌else◌};
-ghost use Rattle.std.specs.Option.{option_map};
+ghost use Rattle.std.specs.Prelude.{◌≡◌, ◌+◌, ◌<◌, ◌^◌, IsTrue, IfOk, OnErr, length, Some, None, if◌then◌else◌};
 ghost use Rattle.std.specs.Int.{w16, from_le_bytes};
 ghost use Rattle.vm_iotlb.specs.declared.permissions.Permissions.TheVariants.{Read};
 ghost use Rattle.vm_memory_core.specs.Host.{lengths};
@@ -80,27 +79,4 @@ pub(crate) fn add_windows<M: GuestMemory, B: NewBitmap>(
     ensures lie { AllLieIn (lengths host.now) windows.old.items → AllLieIn (lengths host.now) windows.new.items }
 {
     mem.push_windows(alloc, host, GuestAddress(addr), len, access, windows)
-}
-
-/// The windows of a range of addresses, for an access, if each has a place.
-#[inline]
-pub(crate) fn hold<M: GuestMemory, B: NewBitmap>(
-    alloc: Global,
-    host: &HostMemory<B>,
-    mem: &M,
-    addr: u64,
-    len: usize,
-    access: Permissions,
-) -> Result<Option<Windows>, AllocError>
-    requires fits { addr + len < 2 ^ 64 }
-    requires held { M.IsHeld mem.now host.now }
-    ensures found { IfOk result (λ o. option_map (λ v. places v.items) o ≡ located (location (M.memory mem.now host.now) access) (addresses addr len)) }
-    ensures lie { IfOk result (λ o. IfSome o (λ v. AllLieIn (lengths host.now) v.items)) }
-{
-    let mut windows = Windows::new(alloc);
-    if add_windows(alloc, host, mem, addr, len, access, &mut windows)? {
-        Ok(Some(windows))
-    } else {
-        Ok(None)
-    }
 }

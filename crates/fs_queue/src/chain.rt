@@ -1,9 +1,10 @@
 //! A chain that was taken from a queue.
 
-ghost use Rattle.std.specs.Prelude.{◌≡◌, ◌<◌, ◌^◌, length, MatchResult};
+ghost use Rattle.std.specs.Prelude.{◌≡◌, ◌<◌, ◌^◌, [], length, MatchResult};
 ghost use Rattle.vm_memory_core.specs.Window.{places};
 
 use crate::fault::ChainFault;
+use std::alloc::Global;
 use vm_memory_core::Windows;
 
 /// The windows of a chain: its request, and the room for its reply, each in the order of its descriptors.
@@ -48,6 +49,19 @@ pub struct Taken {
     pub(crate) head: u16,
     pub(crate) chain: Result<Chain, ChainFault>,
     pub(crate) ends: ReturnWindows,
+}
+
+impl ReturnWindows {
+    /// No windows.
+    pub(crate) fn none(alloc: Global) -> ReturnWindows
+        ensures used { result.used.items ≡ [] }
+        ensures flags { result.flags.items ≡ [] }
+    {
+        ReturnWindows {
+            used: Windows::new(alloc),
+            flags: Windows::new(alloc),
+        }
+    }
 }
 
 impl Taken {

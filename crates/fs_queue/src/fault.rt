@@ -65,6 +65,14 @@ pub enum QueueError {
 
 impl QueueError {
     ghost use Rattle.fs_queue.specs.Numbers.{queue_number};
+    ghost use Rattle.fs_queue.specs.Taking.{stops_queue};
+
+    /// Whether it stops the queue: all but those of a stopped queue and for want of memory do.
+    pub(crate) fn stops_queue(&self) -> bool
+        ensures { result ≡ stops_queue self.now }
+    {
+        !matches!(self, QueueError::Stopped | QueueError::OutOfMemory)
+    }
 
     /// The number that tells the refusal apart.
     pub fn number(&self) -> u8

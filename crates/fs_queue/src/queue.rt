@@ -10,7 +10,7 @@ use crate::access::le16_number;
 use crate::chain::{Chain, Taken};
 use crate::fault::{ChainFault, QueueError};
 use crate::layout::QueueLayout;
-use crate::take::{Asking, ask};
+use crate::take::ask;
 use crate::used::UsedUpdate;
 use std::alloc::Global;
 use std::marker::Model;
@@ -132,15 +132,11 @@ impl Queue {
         if self.stopped {
             return Err(QueueError::Stopped);
         }
-        match ask(alloc, self.layout, self.position, host, mem, limit) {
-            Err(_) => Err(QueueError::OutOfMemory),
-            Ok(Asking::Nobody) => Ok(None),
-            Ok(Asking::Took(taken)) => Ok(Some(taken)),
-            Ok(Asking::Refused(error)) => {
-                self.stopped = true;
-                Err(error)
-            }
+        let taken = ask(alloc, self.layout, self.position, host, mem, limit);
+        if let Err(error) = &taken {
+            self.stopped = error.stops_queue();
         }
+        taken
     }
 
     /// Writes the reply over the room, then the used element, then the used index, and says whether the driver wants to be

@@ -1,14 +1,16 @@
 //! What is taken of a chain: windows with its request and its room, and those of its return.
 
-ghost use Rattle.std.specs.Prelude.{◌≡◌, ◌+◌, ◌-◌, ◌<◌, ◌≤◌, ◌^◌, MatchResult, min, length, IfOk, IfErr, IfSome, OnErr, IsTrue};
-ghost use Rattle.std.specs.Option.{option_map};
+ghost use Rattle.std.specs.Prelude.{◌≡◌, ◌-◌, ◌≤◌, ◌^◌, [], length, min, IfNone, IfOk, IfSome, IsTrue, None, Some, if◌then◌else◌};
 ghost use Rattle.vm_iotlb.specs.declared.permissions.Permissions.TheVariants.{Write};
 ghost use Rattle.vm_memory_core.specs.Host.{lengths};
 ghost use Rattle.vm_memory_core.specs.Window.{places, AllLieIn};
 ghost use Rattle.vm_memory.specs.Memory.{located, location};
 ghost use Rattle.fs_queue.specs.Walking.{AllEndIn64Bits, at_position};
+ghost use Rattle.fs_queue.specs.Taking.{total_len, asked_by, stops_queue};
+ghost use Rattle.fs_queue.specs.Windows.{room_places, of_direction, access_of, addresses_of, used_addresses, ends_of, ends_at, EndsLieIn, ChainLiesIn, HoldsChain, HoldsWindows, HasItsWindows, TakenLiesIn, Takes};
+ghost use Rattle.fs_queue.specs.Chain.{IsChain};
 
-use crate::access::{add_windows, hold};
+use crate::access::add_windows;
 use crate::chain::{Chain, ReturnWindows, Taken};
 use crate::descriptor::{Descriptor, Descriptors};
 use crate::fault::{ChainFault, QueueError};
@@ -19,64 +21,64 @@ use std::alloc::{AllocError, Global};
 use vm_memory::GuestMemory;
 use vm_memory_core::{HostMemory, NewBitmap, Permissions, Windows};
 
-/// Nothing, a refusal, or a chain.
-#[derive(Drop)]
-pub(crate) enum Asking {
-    Nobody,
-    Refused(QueueError),
-    Took(Taken),
-}
-
-ghost use Rattle.fs_queue.specs.Taking.{total_len, asked_by, offer, may_lack_memory, stops_queue};
-ghost use Rattle.fs_queue.specs.Windows.{room_places, of_direction, access_of, addresses_of, used_addresses, ends_of, ends_at, EndsLieIn, ChainLiesIn, HoldsChain, AskingAs, AskingLiesIn, HoldsWindows, HasItsWindows, IfTook};
-ghost use Rattle.fs_queue.specs.Chain.{IsChain};
-
-// The windows that a return at this position writes besides the room: of the used element, then of the used index.
-fn hold_used<M: GuestMemory, B: NewBitmap>(
+// Adds to no windows those that a return at this position writes besides the room, of the used element and then of the used
+// index, or answers that one of their addresses has no place.
+fn add_used<M: GuestMemory, B: NewBitmap>(
     alloc: Global,
     layout: QueueLayout,
     host: &HostMemory<B>,
     mem: &M,
     position: u16,
-) -> Result<Option<Windows>, AllocError>
-    requires { M.IsHeld mem.now host.now }
-    ensures found { IfOk result (λ o. option_map (λ v. places v.items) o
-        ≡ located (location (M.memory mem.now host.now) Write) (used_addresses (at_position layout position))) }
-    ensures lie { IfOk result (λ o. IfSome o (λ v. AllLieIn (lengths host.now) v.items)) }
+    windows: &mut Windows,
+) -> Result<bool, AllocError>
+    requires held { M.IsHeld mem.now host.now }
+    requires none { windows.old.items ≡ [] }
+    ensures found { IfOk result (λ found. located (location (M.memory mem.now host.now) Write) (used_addresses (at_position layout position))
+        ≡ (if found then Some (places windows.new.items) else None)) }
+    ensures lie { AllLieIn (lengths host.now) windows.new.items }
 {
     let slot = position % layout.size();
     let element = layout.used() + 4 + 8 * u64::from(slot);
-    let Some(mut windows) = hold(alloc, host, mem, element, 8, Permissions::Write)? else {
-        return Ok(None);
-    };
-    let index = layout.used() + 2;
-    if add_windows(alloc, host, mem, index, 2, Permissions::Write, &mut windows)? {
-        Ok(Some(windows))
-    } else {
-        Ok(None)
+    if !add_windows(alloc, host, mem, element, 8, Permissions::Write, windows)? {
+        return Ok(false);
     }
+    let index = layout.used() + 2;
+    add_windows(alloc, host, mem, index, 2, Permissions::Write, windows)
 }
 
-// The windows that a return at this position writes and reads besides the room.
-fn hold_ends<M: GuestMemory, B: NewBitmap>(
+// Adds to no windows those that a return at this position writes and reads besides the room, or answers which of them has an
+// address without a place.
+fn add_ends<M: GuestMemory, B: NewBitmap>(
     alloc: Global,
     layout: QueueLayout,
     host: &HostMemory<B>,
     mem: &M,
     position: u16,
-) -> Result<Result<ReturnWindows, QueueError>, AllocError>
-    requires { M.IsHeld mem.now host.now }
-    ensures ends { IfOk result (λ r. ends_of r ≡ ends_at (M.memory mem.now host.now) (at_position layout position)) }
-    ensures lie { IfOk result (λ r. IfOk r (EndsLieIn (lengths host.now))) }
-    ensures stops { IfOk result (λ r. IfErr r (λ e. IsTrue (stops_queue e))) }
+    ends: &mut ReturnWindows,
+) -> Result<Option<QueueError>, AllocError>
+    requires held { M.IsHeld mem.now host.now }
+    requires used { ends.old.used.items ≡ [] }
+    requires flags { ends.old.flags.items ≡ [] }
+    ensures ends { IfOk result (λ missing. ends_of missing ends.new ≡ ends_at (M.memory mem.now host.now) (at_position layout position)) }
+    ensures lie { IfOk result (λ missing. IfNone missing (EndsLieIn (lengths host.now) ends.new)) }
+    ensures stops { IfOk result (λ missing. IfSome missing (λ e. IsTrue (stops_queue e))) }
 {
-    let Some(used) = hold_used(alloc, layout, host, mem, position)? else {
-        return Ok(Err(QueueError::UsedUnreachable));
-    };
-    let Some(flags) = hold(alloc, host, mem, layout.avail(), 2, Permissions::Read)? else {
-        return Ok(Err(QueueError::AvailFlagsUnreachable));
-    };
-    Ok(Ok(ReturnWindows { used, flags }))
+    if !add_used(alloc, layout, host, mem, position, &mut ends.used)? {
+        return Ok(Some(QueueError::UsedUnreachable));
+    }
+    let flags = layout.avail();
+    if !add_windows(
+        alloc,
+        host,
+        mem,
+        flags,
+        2,
+        Permissions::Read,
+        &mut ends.flags,
+    )? {
+        return Ok(Some(QueueError::AvailFlagsUnreachable));
+    }
+    Ok(None)
 }
 
 // The bytes of the descriptors of one direction, as far as they can be counted.
@@ -134,32 +136,33 @@ fn access_of(write_only: bool) -> Permissions
     }
 }
 
-// The windows of the descriptors of one direction, joined, if each of their addresses has a place.
-fn hold_direction<M: GuestMemory, B: NewBitmap>(
+// Adds to no windows those of the descriptors of one direction, joined, or answers that one of their addresses has no place.
+fn add_direction<M: GuestMemory, B: NewBitmap>(
     alloc: Global,
     host: &HostMemory<B>,
     mem: &M,
     descriptors: &[Descriptor],
     write_only: bool,
-) -> Result<Option<Windows>, AllocError>
+    windows: &mut Windows,
+) -> Result<bool, AllocError>
     requires fits { AllEndIn64Bits descriptors.now }
     requires held { M.IsHeld mem.now host.now }
-    ensures found { IfOk result (λ o. option_map (λ v. places v.items) o
-        ≡ located (location (M.memory mem.now host.now) (access_of write_only)) (addresses_of (of_direction write_only descriptors.now))) }
-    ensures lie { IfOk result (λ o. IfSome o (λ v. AllLieIn (lengths host.now) v.items)) }
+    requires none { windows.old.items ≡ [] }
+    ensures found { IfOk result (λ found. located (location (M.memory mem.now host.now) (access_of write_only)) (addresses_of (of_direction write_only descriptors.now))
+        ≡ (if found then Some (places windows.new.items) else None)) }
+    ensures lie { IfOk result (λ found. IsTrue found → AllLieIn (lengths host.now) windows.new.items) }
 {
-    let mut windows = Windows::new(alloc);
-    reserve_windows(&mut windows, descriptors, write_only)?;
+    reserve_windows(windows, descriptors, write_only)?;
     let access = access_of(write_only);
     for descriptor in descriptors {
         let len = descriptor.len as usize;
         if descriptor.is_write_only() == write_only
-            && !add_windows(alloc, host, mem, descriptor.addr, len, access, &mut windows)?
+            && !add_windows(alloc, host, mem, descriptor.addr, len, access, windows)?
         {
-            return Ok(None);
+            return Ok(false);
         }
     }
-    Ok(Some(windows))
+    Ok(true)
 }
 
 // The request and the room of a chain, or its fault.
@@ -183,12 +186,14 @@ fn hold_chain<M: GuestMemory, B: NewBitmap>(
     if request_len > u64::from(limit) || room_len > u64::from(limit) {
         return Ok(Err(ChainFault::OverLimit));
     }
-    let Some(readable) = hold_direction(alloc, host, mem, descriptors, false)? else {
+    let mut readable = Windows::new(alloc);
+    if !add_direction(alloc, host, mem, descriptors, false, &mut readable)? {
         return Ok(Err(ChainFault::RequestUnreachable));
-    };
-    let Some(writable) = hold_direction(alloc, host, mem, descriptors, true)? else {
+    }
+    let mut writable = Windows::new(alloc);
+    if !add_direction(alloc, host, mem, descriptors, true, &mut writable)? {
         return Ok(Err(ChainFault::RoomUnreachable));
-    };
+    }
     Ok(Ok(Chain {
         head,
         readable,
@@ -225,27 +230,35 @@ pub(crate) fn ask<M: GuestMemory, B: NewBitmap>(
     host: &HostMemory<B>,
     mem: &M,
     limit: u32,
-) -> Result<Asking, AllocError>
+) -> Result<Option<Taken>, QueueError>
     requires { M.IsHeld mem.now host.now }
-    ensures asking { IfOk result (AskingAs (M.memory mem.now host.now) limit (at_position layout position)) }
-    ensures lie { IfOk result (AskingLiesIn (lengths host.now)) }
-    ensures windows { IfOk result (λ a. IfTook a (HasItsWindows (M.memory mem.now host.now) (at_position layout position))) }
-    ensures short { IfOk result (λ a. IfTook a (λ t. room_places t.chain ≤ limit)) }
-    ensures memory { OnErr result (let m = M.memory mem.now host.now in IsTrue (may_lack_memory m (offer m limit (at_position layout position)))) }
+    ensures takes { Takes (M.memory mem.now host.now) limit (at_position layout position) result }
+    ensures lie { IfOk result (λ o. IfSome o (TakenLiesIn (lengths host.now))) }
+    ensures windows { IfOk result (λ o. IfSome o (HasItsWindows (M.memory mem.now host.now) (at_position layout position))) }
+    ensures short { IfOk result (λ o. IfSome o (λ t. room_places t.chain ≤ limit)) }
 {
-    let head = match next_head(alloc, layout, position, host, mem)? {
-        Look::Idle => return Ok(Asking::Nobody),
-        Look::Refused(error) => return Ok(Asking::Refused(error)),
-        Look::Head(head) => head,
+    let head = match next_head(alloc, layout, position, host, mem) {
+        Ok(Look::Idle) => return Ok(None),
+        Ok(Look::Refused(error)) => return Err(error),
+        Ok(Look::Head(head)) => head,
+        Err(_) => return Err(QueueError::OutOfMemory),
     };
-    let ends = match hold_ends(alloc, layout, host, mem, position)? {
-        Err(error) => return Ok(Asking::Refused(error)),
-        Ok(ends) => ends,
+    let mut ends = ReturnWindows::none(alloc);
+    match add_ends(alloc, layout, host, mem, position, &mut ends) {
+        Ok(None) => {}
+        Ok(Some(error)) => return Err(error),
+        Err(_) => return Err(QueueError::OutOfMemory),
+    }
+    let Ok(walked) = walk(alloc, layout, host, mem, head) else {
+        return Err(QueueError::OutOfMemory);
     };
-    let chain = match walk(alloc, layout, host, mem, head)? {
-        Walked::Stopped => return Ok(Asking::Refused(QueueError::DescriptorUnreachable)),
-        Walked::Faulty(fault) => Err(fault),
-        Walked::Chain(descriptors) => hold_walked(alloc, host, mem, head, descriptors, limit)?,
+    let held = match walked {
+        Walked::Stopped => return Err(QueueError::DescriptorUnreachable),
+        Walked::Faulty(fault) => Ok(Err(fault)),
+        Walked::Chain(descriptors) => hold_walked(alloc, host, mem, head, descriptors, limit),
     };
-    Ok(Asking::Took(Taken { head, chain, ends }))
+    match held {
+        Ok(chain) => Ok(Some(Taken { head, chain, ends })),
+        Err(_) => Err(QueueError::OutOfMemory),
+    }
 }

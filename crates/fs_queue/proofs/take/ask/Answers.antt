@@ -1,86 +1,73 @@
-use Rattle.std.proofs.Common.{◌∙◌, ap, sym, refl}
+use Rattle.std.proofs.Common.{◌≡◌, ◌∙◌, Err, ap, sym, refl}
 use Rattle.fs_queue.specs.Walking.{at_position}
 use Rattle.fs_queue.specs.Chain.{IsChain, HasFault, StopsQueue}
 use Rattle.fs_queue.specs.Taking.{CannotAsk, asked_by, may_lack_memory, on_look}
 use Rattle.fs_queue.specs.Windows.{HoldsEnds}
-use Rattle.fs_queue.proofs.OfferLemmas.{offer_looked, offer_lacks, offer_found, lacks_memory, on_err, found_ends}
+use Rattle.fs_queue.proofs.OfferLemmas.{offer_looked, offer_lacks, offer_found, lacks_memory, found_ends, refuses}
 use Rattle.fs_queue.proofs.take.ask.Goals as goal
-use Rattle.fs_queue.proofs.take.ask.Goals.{in-Faulty, in-Chain+in_ok-chain-in-Chain}
+use Rattle.fs_queue.proofs.take.ask.Goals.{in-Faulty, in-Chain}
 
-pub returns-in-Idle-clause-asking : goal.returns-in-Idle-clause-asking
-returns-in-Idle-clause-asking g c =
-    offer_looked _ c.args.limit _ refl ∙ sym (ap (on_look (g.M.GuestMemory.memory c.args.mem.now c.args.host.now) c.args.limit (at_position c.args.layout c.args.position))
-    (rw c.in-Idle.is at c.in_ok-next_head.ensures.look))
-
-pub returns-in-Refused-clause-asking : goal.returns-in-Refused-clause-asking
-returns-in-Refused-clause-asking g c = (
-  offer_looked _ c.args.limit _ refl ∙ sym (ap (on_look (g.M.GuestMemory.memory c.args.mem.now c.args.host.now) c.args.limit (at_position c.args.layout c.args.position))
-      (rw c.in-Refused.is at c.in_ok-next_head.ensures.look)),
-  (rw c.in-Refused.is at c.in_ok-next_head.ensures.stops),
-)
-
-pub returns-in_err-next_head-clause-memory : goal.returns-in_err-next_head-clause-memory
-returns-in_err-next_head-clause-memory g c =
+pub returns-in-Ok-Idle-clause-takes : goal.returns-in-Ok-Idle-clause-takes
+returns-in-Ok-Idle-clause-takes g c =
     let m = g.M.GuestMemory.memory c.args.mem.now c.args.host.now in
-    on_err _ _ (ap (may_lack_memory m) (offer_looked m c.args.limit (at_position c.args.layout c.args.position) refl) ∙ c.in_err-next_head.ensures.memory c.args.limit)
+    let q = at_position c.args.layout c.args.position in
+    offer_looked m c.args.limit q refl ∙ sym (ap (on_look m c.args.limit q) (rw c.in-Ok-Idle.field-0-is at c.in-Ok-Idle.ensures.look))
 
-pub returns-in_err-error-clause-memory : goal.returns-in_err-error-clause-memory
-returns-in_err-error-clause-memory g c =
-    on_err _ _ (lacks_memory (g.M.GuestMemory.memory c.args.mem.now c.args.host.now) c.args.limit c.args.layout c.args.position c.in-Head.head (rw c.in-Head.is at c.in_ok-next_head.ensures.look))
+pub returns-in-Ok-Refused-clause-takes : goal.returns-in-Ok-Refused-clause-takes
+returns-in-Ok-Refused-clause-takes g c =
+    let m = g.M.GuestMemory.memory c.args.mem.now c.args.host.now in
+    let q = at_position c.args.layout c.args.position in
+    refuses m c.args.limit q c.in-Ok-Refused.error (rw c.in-Ok-Refused.field-0-is at c.in-Ok-Refused.ensures.stops)
+    (offer_looked m c.args.limit q refl ∙ sym (ap (on_look m c.args.limit q) (rw c.in-Ok-Refused.field-0-is at c.in-Ok-Refused.ensures.look)))
 
-pub returns-in-Err-clause-asking : goal.returns-in-Err-clause-asking
-returns-in-Err-clause-asking g c = (
-  offer_lacks (g.M.GuestMemory.memory c.args.mem.now c.args.host.now) c.args.limit c.args.layout c.args.position c.in-Head.head c.in-Err.error (rw c.in-Head.is at c.in_ok-next_head.ensures.look)
-      (rw c.in-Err.is at c.in_ok-error.ensures.ends),
-  rw c.in-Err.is at c.in_ok-error.ensures.stops,
-)
+pub returns-in-Err-clause-takes : goal.returns-in-Err-clause-takes
+returns-in-Err-clause-takes g c =
+    let m = g.M.GuestMemory.memory c.args.mem.now c.args.host.now in
+    ap (may_lack_memory m) (offer_looked m c.args.limit (at_position c.args.layout c.args.position) refl) ∙ c.in-Err.ensures.memory c.args.limit
 
-pub returns-in_err-walk-clause-memory : goal.returns-in_err-walk-clause-memory
-returns-in_err-walk-clause-memory g c =
-    on_err _ _ (lacks_memory (g.M.GuestMemory.memory c.args.mem.now c.args.host.now) c.args.limit c.args.layout c.args.position c.in-Head.head (rw c.in-Head.is at c.in_ok-next_head.ensures.look))
+pub returns-in-Ok-Some-clause-takes : goal.returns-in-Ok-Some-clause-takes
+returns-in-Ok-Some-clause-takes g c =
+    let m = g.M.GuestMemory.memory c.args.mem.now c.args.host.now in
+    refuses m c.args.limit (at_position c.args.layout c.args.position) c.in-Ok-Some.error (rw c.in-Ok-Some.field-0-is at c.in-Ok-Some.ensures.stops)
+    (offer_lacks m c.args.limit c.args.layout c.args.position c.in-Ok-Head.head c.in-Ok-Some.error (rw c.in-Ok-Head.field-0-is at c.in-Ok-Head.ensures.look) (rw c.in-Ok-Some.field-0-is at c.in-Ok-Some.ensures.ends))
 
-pub returns-in-Stopped-clause-asking : goal.returns-in-Stopped-clause-asking
-returns-in-Stopped-clause-asking g c = (
-  offer_found (g.M.GuestMemory.memory c.args.mem.now c.args.host.now) c.args.limit c.args.layout c.args.position c.in-Head.head _ _ StopsQueue (rw c.in-Head.is at c.in_ok-next_head.ensures.look)
-      (rw c.in-Ok.is at c.in_ok-error.ensures.ends) (rw c.in-Stopped.is at c.in_ok-walk.ensures.chain),
-  refl,
-)
+pub returns-in-Err-add_ends-clause-takes : goal.returns-in-Err-add_ends-clause-takes
+returns-in-Err-add_ends-clause-takes g c =
+    lacks_memory (g.M.GuestMemory.memory c.args.mem.now c.args.host.now) c.args.limit c.args.layout c.args.position c.in-Ok-Head.head (rw c.in-Ok-Head.field-0-is at c.in-Ok-Head.ensures.look)
 
-pub returns-in_err-chain-in-Chain-clause-memory : goal.returns-in_err-chain-in-Chain-clause-memory
-returns-in_err-chain-in-Chain-clause-memory g c =
-    on_err _ _ (lacks_memory (g.M.GuestMemory.memory c.args.mem.now c.args.host.now) c.args.limit c.args.layout c.args.position c.in-Head.head (rw c.in-Head.is at c.in_ok-next_head.ensures.look))
+pub returns-in-Err-held-clause-takes : goal.returns-in-Err-held-clause-takes
+returns-in-Err-held-clause-takes g c =
+    lacks_memory (g.M.GuestMemory.memory c.args.mem.now c.args.host.now) c.args.limit c.args.layout c.args.position c.in-Ok-Head.head (rw c.in-Ok-Head.field-0-is at c.in-Ok-Head.ensures.look)
 
-pub returns-clause-asking : goal.returns-clause-asking
-returns-clause-asking g c =
-    let ends = rw c.in-Ok.is at c.in_ok-error.ensures.ends in
+pub returns-in-Stopped-clause-takes : goal.returns-in-Stopped-clause-takes
+returns-in-Stopped-clause-takes g c =
+    offer_found (g.M.GuestMemory.memory c.args.mem.now c.args.host.now) c.args.limit c.args.layout c.args.position c.in-Ok-Head.head _ _ StopsQueue (rw c.in-Ok-Head.field-0-is at c.in-Ok-Head.ensures.look)
+    (rw c.in-Ok-None.field-0-is at c.in-Ok-None.ensures.ends) (rw c.in-Stopped.is at c.in-Ok.ensures.chain)
+
+pub returns-in-Ok-held-clause-takes : goal.returns-in-Ok-held-clause-takes
+returns-in-Ok-held-clause-takes g c =
+    let m = g.M.GuestMemory.memory c.args.mem.now c.args.host.now in
+    let look = rw c.in-Ok-Head.field-0-is at c.in-Ok-Head.ensures.look in
+    let ends = rw c.in-Ok-None.field-0-is at c.in-Ok-None.ensures.ends in
     let both = found_ends _ _ _ _ ends in
-    let kept : HoldsEnds (g.M.GuestMemory.memory c.args.mem.now c.args.host.now) (at_position c.args.layout c.args.position) c.in-Ok.ends = record { used = both.0; flags = both.1 } in
-    elim c.match-branch-6.branch [
-      | in-Faulty w ↦ rw w.chain-is (
-        CannotAsk w.in-Faulty.fault,
-        offer_found (g.M.GuestMemory.memory c.args.mem.now c.args.host.now) c.args.limit c.args.layout c.args.position c.in-Head.head _ _ (HasFault w.in-Faulty.fault)
-            (rw c.in-Head.is at c.in_ok-next_head.ensures.look) ends (rw w.in-Faulty.is at c.in_ok-walk.ensures.chain),
-        record { ends = kept; chain = refl },
-      )
-      | in-Chain+in_ok-chain-in-Chain w ↦ rw w.chain-is (
-        asked_by (g.M.GuestMemory.memory c.args.mem.now c.args.host.now) c.args.limit w.in-Chain.descriptors.items,
-        offer_found (g.M.GuestMemory.memory c.args.mem.now c.args.host.now) c.args.limit c.args.layout c.args.position c.in-Head.head _ _ (IsChain w.in-Chain.descriptors.items)
-            (rw c.in-Head.is at c.in_ok-next_head.ensures.look) ends (rw w.in-Chain.is at c.in_ok-walk.ensures.chain),
-        record { ends = kept; chain = w.in_ok-chain-in-Chain.ensures.asked },
-      )
+    let kept : HoldsEnds m (at_position c.args.layout c.args.position) c.add_ends.new.ends = record { used = both.0; flags = both.1 } in
+    elim c.match-walked.branch [
+      | in-Faulty w ↦
+          let held = sym c.in-Ok-held.is ∙ w.held-is in
+          let is : c.in-Ok-held.chain ≡ Err w.in-Faulty.fault = cc in
+          rw is (
+            CannotAsk w.in-Faulty.fault,
+            offer_found m c.args.limit c.args.layout c.args.position c.in-Ok-Head.head _ _ (HasFault w.in-Faulty.fault) look ends (rw w.in-Faulty.is at c.in-Ok.ensures.chain),
+            record { ends = kept; chain = refl },
+          )
+      | in-Chain w ↦
+          let held = sym w.held-is ∙ c.in-Ok-held.is in (
+            asked_by m c.args.limit w.in-Chain.descriptors.items,
+            offer_found m c.args.limit c.args.layout c.args.position c.in-Ok-Head.head _ _ (IsChain w.in-Chain.descriptors.items) look ends (rw w.in-Chain.is at c.in-Ok.ensures.chain),
+            record { ends = kept; chain = rw held at w.hold_walked-held.ensures.asked },
+          )
     ]
 
-pub returns-clause-lie : goal.returns-clause-lie
-returns-clause-lie g c =
-    let lie = rw c.in-Ok.is at (c.in_ok-error.ensures.lie) in
-    elim c.match-branch-6.branch [
-      | in-Faulty w ↦ rw w.chain-is (record { ends = lie; chain = tt })
-      | in-Chain+in_ok-chain-in-Chain w ↦ rw w.chain-is (record { ends = lie; chain = w.in_ok-chain-in-Chain.ensures.lie })
-    ]
-
-pub returns-clause-windows : goal.returns-clause-windows
-returns-clause-windows g c =
-    elim c.match-branch-6.branch [
-      | in-Faulty w ↦ rw w.chain-is tt
-      | in-Chain+in_ok-chain-in-Chain w ↦ rw (w.chain-is, ← (rw w.in-Chain.is at c.in_ok-walk.ensures.chain)) w.in_ok-chain-in-Chain.ensures.windows
-    ]
+pub returns-in_default-clause-takes : goal.returns-in_default-clause-takes
+returns-in_default-clause-takes g c =
+    lacks_memory (g.M.GuestMemory.memory c.args.mem.now c.args.host.now) c.args.limit c.args.layout c.args.position c.in-Ok-Head.head (rw c.in-Ok-Head.field-0-is at c.in-Ok-Head.ensures.look)

@@ -8,11 +8,11 @@ use Rattle.fs_queue.specs.Chain.{Descriptor}
 use Rattle.fs_queue.specs.Walking.{AllEndIn64Bits}
 use Rattle.fs_queue.specs.Windows.{access_of}
 use Rattle.fs_queue.proofs.TakeLemmas.{direction_found, direction_lost, direction_other, direction_done, after-none, none_lies}
-use Rattle.fs_queue.proofs.take.hold_direction.Goals as goal
-use Rattle.fs_queue.proofs.take.hold_direction.Goals.{else-is_write_only-write_only-via-then-is_write_only-write_only+in_ok-add_windows+else-not-branch, else-is_write_only-write_only-via-else-is_write_only-write_only}
+use Rattle.fs_queue.proofs.take.add_direction.Goals as goal
+use Rattle.fs_queue.proofs.take.add_direction.Goals.{else-is_write_only-write_only-via-then-is_write_only-write_only+in_ok-add_windows+else-not-branch, else-is_write_only-write_only-via-else-is_write_only-write_only}
 
 pub loop-descriptor-init : goal.loop-descriptor-init
-loop-descriptor-init g c = rw (c.reserve_windows.ensures, c.new-windows.ensures.items) (record { found = after-none _; lie = none_lies (lengths c.args.host.now) })
+loop-descriptor-init g c = rw (c.reserve_windows.ensures, c.requires.none) (record { found = after-none _; lie = none_lies (lengths c.args.host.now) })
 
 pub add_windows-requires-clause-fits : goal.add_windows-requires-clause-fits
 unfolding AllEndIn64Bits
@@ -26,8 +26,8 @@ returns-then-not-branch-clause-found g c =
     let next = drop_item c.args.descriptors.now c.loop-descriptor.descriptor-index c.descriptor-item.result c.loop-descriptor-test.true c.descriptor-item.is in
     let kept = ap (λ x. beq x c.args.write_only) (sym c.is_write_only.ensures) ∙ c.if-is_write_only-write_only.true in
     let lost = rw (c.if-not-branch.true, c.access_of-access.ensures, ap (λ (d : Descriptor). d.addr) c.descriptor.view_is, ap (λ (d : Descriptor). d.len) c.descriptor.view_is) at c.in_ok-add_windows.ensures.found in
-    sym (direction_lost (location (g.M.GuestMemory.memory c.args.mem.now c.args.host.now) (access_of c.args.write_only)) c.args.write_only c.args.descriptors.now c.loop-descriptor.descriptor-index _
-    (places c.loop-descriptor.windows.items) next kept lost) ∙ c.loop-descriptor.invariant.found
+    sym (sym (direction_lost (location (g.M.GuestMemory.memory c.args.mem.now c.args.host.now) (access_of c.args.write_only)) c.args.write_only c.args.descriptors.now c.loop-descriptor.descriptor-index _
+    (places c.loop-descriptor.windows.items) next kept lost) ∙ c.loop-descriptor.invariant.found)
 
 pub loop-descriptor-preserved : goal.loop-descriptor-preserved
 loop-descriptor-preserved g c =
@@ -51,5 +51,5 @@ loop-descriptor-preserved g c =
     ]
 
 pub returns-clause-found : goal.returns-clause-found
-returns-clause-found g c = sym (direction_done (location (g.M.GuestMemory.memory c.args.mem.now c.args.host.now) (access_of c.args.write_only)) c.args.write_only c.args.descriptors.now
-    c.loop-descriptor.descriptor-index _ c.loop-descriptor-test.false) ∙ c.loop-descriptor.invariant.found
+returns-clause-found g c = sym (sym (direction_done (location (g.M.GuestMemory.memory c.args.mem.now c.args.host.now) (access_of c.args.write_only)) c.args.write_only c.args.descriptors.now
+    c.loop-descriptor.descriptor-index _ c.loop-descriptor-test.false) ∙ c.loop-descriptor.invariant.found)
