@@ -85,7 +85,11 @@ impl<'a> GuestMachine<'a> {
         let Answer::Copied(host) = self.perform(Command::Image)? else {
             return Err(Halt::OutOfMemory);
         };
-        let GuestMachine { alloc, log, machine } = self;
+        let GuestMachine {
+            alloc,
+            log,
+            machine,
+        } = self;
         let Machine { mem, device, .. } = machine;
         let record = sink.into_inner();
         let mut source = Stream::new(record.as_slice());
