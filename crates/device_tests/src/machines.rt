@@ -102,7 +102,7 @@ pub enum Row<'a> {
     /// None of the device's addresses is mapped any more.
     UnmapAll,
     /// The IOMMU is turned on or off.
-    Turn(bool),
+    SetIommu(bool),
 }
 
 impl Row<'_> {
@@ -134,7 +134,7 @@ impl Row<'_> {
             },
             Row::Unmap(iova, len, _) => Command::Unmap { iova, len },
             Row::UnmapAll => Command::UnmapAll,
-            Row::Turn(on) => Command::SetIommu(on),
+            Row::SetIommu(on) => Command::SetIommu(on),
         }
     }
 
@@ -152,7 +152,7 @@ impl Row<'_> {
             | Row::Reset(_, refusal)
             | Row::Map(_, _, _, _, refusal)
             | Row::Unmap(_, _, refusal) => expect_same(rt, refusal_of(answer), Some(refusal)),
-            Row::UnmapAll | Row::Turn(_) => expect_same(rt, refusal_of(answer), Some(0)),
+            Row::UnmapAll | Row::SetIommu(_) => expect_same(rt, refusal_of(answer), Some(0)),
         }
     }
 }

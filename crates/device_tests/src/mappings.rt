@@ -30,10 +30,10 @@ fn expect_mapped(rt: &impl Abort, alloc: Global, times: u16, rows: &[Row<'_>]) {
 #[test]
 fn device_goes_by_the_table_while_the_iommu_is_on(rt: HostRuntime) {
     const ROWS: &[Row<'static>] = &[
-        Row::Turn(true),
+        Row::SetIommu(true),
         Row::Kick((0, 1), (0, Some(STOPS))),
         Row::Reset(0, 0),
-        Row::Turn(false),
+        Row::SetIommu(false),
         Row::Kick((0, 1), (1, None)),
     ];
     expect_mapped(&rt, rt.alloc(), 1, ROWS);
@@ -42,7 +42,7 @@ fn device_goes_by_the_table_while_the_iommu_is_on(rt: HostRuntime) {
 #[test]
 fn guest_goes_by_physical_addresses_while_the_iommu_is_on(rt: HostRuntime) {
     const ROWS: &[Row<'static>] = &[
-        Row::Turn(true),
+        Row::SetIommu(true),
         Row::Map(0x5000, 0x6000, 0x1000, RW, 0),
         Row::Write(0x5000, &[7], 0),
         Row::Read(0x5000, &[7]),
@@ -70,7 +70,7 @@ fn mapping_is_refused_where_an_end_is_past_the_greatest_address(rt: HostRuntime)
 #[test]
 fn mapping_of_no_address_changes_nothing(rt: HostRuntime) {
     const ROWS: &[Row<'static>] = &[
-        Row::Turn(true),
+        Row::SetIommu(true),
         Row::Map(0, 0, 0, RW, 0),
         Row::Kick((0, 1), (0, Some(STOPS))),
         Row::Reset(0, 0),
@@ -84,13 +84,13 @@ fn mapping_of_no_address_changes_nothing(rt: HostRuntime) {
 #[test]
 fn nothing_is_mapped_after_all_is_unmapped(rt: HostRuntime) {
     const ROWS: &[Row<'static>] = &[
-        Row::Turn(true),
+        Row::SetIommu(true),
         Row::Map(0, 0, 0x10000, RW, 0),
         Row::Kick((0, 1), (1, None)),
         Row::UnmapAll,
         Row::Kick((0, 1), (0, Some(STOPS))),
         Row::Reset(0, 0),
-        Row::Turn(false),
+        Row::SetIommu(false),
         Row::Kick((0, 1), (1, None)),
     ];
     expect_mapped(&rt, rt.alloc(), 2, ROWS);
@@ -99,7 +99,7 @@ fn nothing_is_mapped_after_all_is_unmapped(rt: HostRuntime) {
 #[test]
 fn room_is_mapped_elsewhere_between_two_kicks(rt: HostRuntime) {
     const ROWS: &[Row<'static>] = &[
-        Row::Turn(true),
+        Row::SetIommu(true),
         Row::Map(0, 0, 0x1000, RW, 0),
         Row::Map(0x1000, 0x1000, 0x1000, R, 0),
         Row::Map(ROOM_AT, 0x3000, 0x1000, W, 0),
@@ -119,7 +119,7 @@ fn room_is_mapped_elsewhere_between_two_kicks(rt: HostRuntime) {
 fn room_is_mapped_over_the_used_ring(rt: HostRuntime) {
     const THERE: &[u8] = &[16, 0, 1, 0, 0, 0, 0, 0, 16, 0, 0, 0, 0, 0, 0, 0];
     const ROWS: &[Row<'static>] = &[
-        Row::Turn(true),
+        Row::SetIommu(true),
         Row::Map(0, 0, 0x2000, RW, 0),
         Row::Map(ROOM_AT, 0x200, 0x1000, W, 0),
         Row::Kick((0, 1), (1, None)),
@@ -131,7 +131,7 @@ fn room_is_mapped_over_the_used_ring(rt: HostRuntime) {
 #[test]
 fn room_and_request_have_one_target(rt: HostRuntime) {
     const ROWS: &[Row<'static>] = &[
-        Row::Turn(true),
+        Row::SetIommu(true),
         Row::Map(0, 0, 0x2000, RW, 0),
         Row::Map(ROOM_AT, 0x1000, 0x1000, W, 0),
         Row::Kick((0, 1), (1, None)),
@@ -162,7 +162,7 @@ fn expect_exchanged(
 #[test]
 fn room_that_is_unmapped_is_out_of_reach(rt: HostRuntime) {
     const ROWS: &[Row<'static>] = &[
-        Row::Turn(true),
+        Row::SetIommu(true),
         Row::Map(0, 0, 0x10000, RW, 0),
         Row::Unmap(ROOM_AT, 0x1000, 0),
     ];
@@ -192,7 +192,10 @@ fn expect_cut(
         let rows = [Row::Map(*iova, *target, *len, *perm, 0)];
         expect_rows(rt, alloc, &mut machine, &rows);
     }
-    let rows = [Row::Map(ROOM_AT, 0x3000, 0x1000, room, 0), Row::Turn(true)];
+    let rows = [
+        Row::Map(ROOM_AT, 0x3000, 0x1000, room, 0),
+        Row::SetIommu(true),
+    ];
     expect_rows(rt, alloc, &mut machine, &rows);
     expect_exchanged(rt, alloc, &mut machine, want);
     expect_rows(rt, alloc, &mut machine, there);
