@@ -144,7 +144,7 @@ alias 0\n\
 reset 0 4 0 0x100\n\
 region 0\n\
 unregion 0\n\
-move";
+move 0";
     check_refused(&rt, rt.alloc(), lines);
 }
 
