@@ -11,3 +11,5 @@ pub mod MeaningLemmas
 pub mod ListBooks
 pub mod BookLemmas
 pub mod TellingLemmas
+pub mod MarkLemmas
+pub mod MarkedRuns

@@ -1,4 +1,4 @@
--- Worked runs that compute: kicks, guest accesses, layouts that change, two regions, harvests and images. Pages are compared by where they begin, or are small.
+-- Worked runs that compute: kicks, guest accesses, layouts that change, two regions, harvests, images and marks. Pages are compared by where they begin, or are small.
 use Rattle.std.specs.Prelude.{◌≡◌, ℕ, ◌+◌, ◌-◌, ◌^◌, true, false, List, [], ◌∷◌, ◌++◌, map, zip, refl, Some, None, if◌then◌else◌}
 use Rattle.std.proofs.Common.{arith}
 use Rattle.std.proofs.lemmas.Bool.Decides.{nat_tests}
@@ -34,6 +34,7 @@ use Rattle.fs_device.specs.Step.{State, Exchange, Exchanged, Step, after_return}
 use Rattle.host_copies.specs.Harvested.{block_pages, host_pages, harvested}
 use Rattle.fs_device.specs.Run as run
 use Rattle.fs_device.specs.Run.{Command, Answer, Turn, Affects, Run, RunTold, KickRun, effect, with_ranges}
+use Rattle.fs_device.specs.Marks.{SameButMarks, SameEvents}
 use Rattle.fs_device.specs.Books.{answered, sent, written, lost, accepted, nodes_listed}
 use Rattle.fs_device.specs.Examples.{blank, queue, put, descriptor_bytes, request, with_one_request, Nothing, may, device, unknown_reply, unknown_exchange, after_reply, one_step}
 
@@ -557,3 +558,16 @@ answers_the_copy = refl
 harvests_nothing_of_before : answers small (guest_writes ++ run.Image ∷ []) run.Harvest ≡ run.Pages []
 unfolding effect place addresses stored_all block_pages host_pages
 harvests_nothing_of_before = refl
+
+-- ---- marks
+
+-- what was harvested differs from what was not in marks alone
+differs_in_marks : SameButMarks (comes_to small guest_writes) (comes_to small (guest_writes ++ run.Harvest ∷ []))
+unfolding effect place addresses stored_all
+differs_in_marks = refl
+
+-- so another harvest answers other pages, and no other answer differs
+differs_in_pages : SameEvents ((run.Harvest, answers small guest_writes run.Harvest) ∷ (run.GuestRead 4 4, run.Bytes (0 ∷ 7 ∷ 8 ∷ 0 ∷ [])) ∷ [])
+    ((run.Harvest, run.Pages []) ∷ (run.GuestRead 4 4, run.Bytes (0 ∷ 7 ∷ 8 ∷ 0 ∷ [])) ∷ [])
+unfolding effect
+differs_in_pages = (refl, tt, (refl, refl, tt))

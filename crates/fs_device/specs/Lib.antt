@@ -10,5 +10,6 @@ pub mod MachineView
 pub mod Books
 pub mod Telling
 pub mod Laws
+pub mod Marks
 pub mod Examples
 pub mod ExamplesOfRuns

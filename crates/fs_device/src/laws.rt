@@ -2,6 +2,7 @@
 
 ghost use Rattle.fs_device.specs.Books.{Balances};
 ghost use Rattle.fs_device.specs.Laws.{CutsDoNotMatter, OffersAreServedAlike};
+ghost use Rattle.fs_device.specs.Marks.{MarksDoNotMatter};
 ghost use Rattle.fs_device.specs.Telling.{CallsAreTold};
 
 use fuse_fs::FileSystem;
@@ -24,4 +25,10 @@ pub fn law_books<F: FileSystem>()
 /// size, room); `RunTold` says which.
 pub fn law_calls<F: FileSystem>()
     ensures { CallsAreTold F.may }
+{}
+
+/// Marks change nothing else: from states that differ in marks alone the same runs are allowed, what harvests answer and the marks
+/// apart, with the same exchanges, notices and calls, and they end in states that differ in marks alone.
+pub fn law_marks<F: FileSystem>()
+    ensures { MarksDoNotMatter F.may }
 {}

@@ -1,0 +1,48 @@
+-- Marks change nothing else: two states that differ in marks alone allow the same runs, with the same calls, exchanges and notices.
+use Rattle.std.specs.Prelude.{◌≡◌, Bool, false, List, [], ◌∷◌, map}
+use Rattle.vm_memory_core.specs.Host.{Host, unmarked}
+use Rattle.virtiofsd_fuse.specs.Serving.{May}
+use Rattle.fs_device.specs.Step.{State}
+use Rattle.fs_device.specs.Run.{Command, Answer, Done, Bytes, NewBlockIs, Served, Copied, Pages, IsRefused, Told, RunTold, with_host}
+
+-- as many pages, none of which is marked
+abbrev pub without_mark : List Bool → List Bool
+without_mark marks = map (λ _. false) marks
+
+-- the host with no page marked, neither of a block nor of a set of I/O pages
+abbrev pub without_marks : Host → Host
+without_marks h = record h { blocks = map unmarked h.blocks; io_marks = map without_mark h.io_marks }
+
+-- the state over its host with no page marked
+abbrev pub without_its_marks : {F : Type 0} → State F → State F
+without_its_marks s = with_host s (without_marks s.memory.host)
+
+-- two states that differ in marks alone
+abbrev pub SameButMarks : {F : Type 0} → State F → State F → Type 0
+SameButMarks a b = without_its_marks a ≡ without_its_marks b
+
+-- the same answer: of a harvest only that it answers pages, and of an image a copy that differs in marks alone
+abbrev pub SameAnswer : Answer → Answer → Type 0
+SameAnswer (Pages pages) (Pages others) = Unit {0}
+SameAnswer (Pages pages) answer = ⊥
+SameAnswer (Copied copy) (Copied other) = without_marks copy ≡ without_marks other
+SameAnswer (Copied copy) answer = ⊥
+SameAnswer Done answer = answer ≡ Done
+SameAnswer (Bytes bytes) answer = answer ≡ Bytes bytes
+SameAnswer (NewBlockIs number) answer = answer ≡ NewBlockIs number
+SameAnswer (Served kick) answer = answer ≡ Served kick
+SameAnswer (IsRefused why) answer = answer ≡ IsRefused why
+
+-- the same commands, each with the same answer
+abbrev pub SameEvents : List (Command × Answer) → List (Command × Answer) → Type 0
+SameEvents [] [] = Unit {0}
+SameEvents [] (other ∷ others) = ⊥
+SameEvents (event ∷ events) [] = ⊥
+SameEvents (event ∷ events) (other ∷ others) = (other.0 ≡ event.0) × SameAnswer event.1 other.1 × SameEvents events others
+
+-- from two states that differ in marks alone the same runs are allowed, what harvests answer and marks apart: the same is behind the
+-- answers, word for word, and they end in states that differ in marks alone
+abbrev pub MarksDoNotMatter : {F : Type 0} → May F → Type 0
+MarksDoNotMatter {F} may =
+    (a b after : State F) (events : List (Command × Answer)) (tolds : List Told) → SameButMarks a b → RunTold may a events tolds after →
+    (others : List (Command × Answer)) × (end : State F) × SameEvents events others × RunTold may b others tolds end × SameButMarks after end
