@@ -11,3 +11,4 @@ pub mod MeaningLemmas
 pub mod ListBooks
 pub mod BookLemmas
 pub mod TellingLemmas
+pub mod MoveLemmas

@@ -10,5 +10,7 @@ pub mod MachineView
 pub mod Books
 pub mod Telling
 pub mod Laws
+pub mod Marks
+pub mod Moving
 pub mod Examples
 pub mod ExamplesOfRuns

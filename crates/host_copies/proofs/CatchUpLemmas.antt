@@ -124,7 +124,8 @@ all_same to from q (false ∷ marks) s = all_same to from (q + 1) marks (stay_mo
 
 -- ---- blocks
 
--- a block of an image against one of a host: as long, with as many marks, one for each page; its bytes are the host's on each page that isn't marked there
+-- a block of an image against one of a host: as long, with as many marks, one for each page; its bytes are the host's
+-- on each page that isn't marked there
 pub record BlockTracks (a b : Block) : Type 0 where
   pub len : length a.bytes ≡ length b.bytes
   pub count : length a.marks ≡ length b.marks

@@ -5,11 +5,12 @@ use Rattle.std.specs.List.{AllByRecursion}
 use Rattle.std.proofs.lemmas.List.{length-map, length-set, length-take, get_or-set_same, get_or-set_other, length_push, set_past}
 use Rattle.std.proofs.lemmas.Bool.{cases_lt, cases_eq, le-leb}
 use Rattle.std.proofs.lemmas.Option.{slice_get-get_or, slice_get_past}
-use Rattle.vm_memory_core.specs.Host.{Block, Host, Place, IoAddress, byte_at, changed_at, cleared, lengths, marked, page_count, unmarked, with_byte, with_mark_by}
+use Rattle.vm_memory_core.specs.Host.{Block, Host, Shape, Place, IoAddress, byte_at, changed_at, cleared, lengths, marked, page_count, unmarked, with_byte, with_mark_by}
 use Rattle.vm_memory_core.specs.Window.{put_byte}
 use Rattle.host_copies.specs.declared.applying.ApplyError.{ApplyError}
 use Rattle.host_copies.specs.Harvested.{Page, block_pages, host_pages, harvested}
 use Rattle.host_copies.specs.Applying.{first_refused, or_later, pages_put, refused_by}
+use Rattle.host_copies.proofs.HarvestLemmas.{shape-cleared}
 use Rattle.host_copies.proofs.CatchUpLemmas.{BlockTracks, BlocksTrack, Tracks, harvest_restores, caught_up}
 
 -- ---- from the copy on
@@ -133,14 +134,35 @@ all_clear [] (b ∷ y) e = absurd (omega arith)
 all_clear (a ∷ x) [] e = absurd (omega arith)
 all_clear (a ∷ x) (b ∷ y) e = ap (λ (l : List Bool). false ∷ l) (all_clear x y (omega arith))
 
--- the blocks with the bytes of others are these, marks apart
-pub caught_up-unmarked : (xs ys : List Block) → BlocksTrack xs ys → map unmarked (caught_up xs ys) ≡ map unmarked ys
-caught_up-unmarked [] [] f = refl
-caught_up-unmarked [] (b ∷ ys) f = absurd f
-caught_up-unmarked (a ∷ xs) [] f = absurd f
-caught_up-unmarked (a ∷ xs) (b ∷ ys) f =
-    ap (λ (m : List Bool). let k : Block = record { bytes = b.bytes; marks = m } in k ∷ map unmarked (caught_up xs ys)) (all_clear a.marks b.marks f.0.count)
-    ∙ ap (λ (l : List Block). unmarked b ∷ l) (caught_up-unmarked xs ys f.1)
+unmarked_same : (xs ys : List Block) → BlocksTrack xs ys → map unmarked (caught_up xs ys) ≡ map unmarked (map unmarked ys)
+unmarked_same [] [] f = refl
+unmarked_same [] (b ∷ ys) f = absurd f
+unmarked_same (a ∷ xs) [] f = absurd f
+unmarked_same (a ∷ xs) (b ∷ ys) f =
+    ap (λ (m : List Bool). let k : Block = record { bytes = b.bytes; marks = m } in k ∷ map unmarked (caught_up xs ys))
+    (all_clear a.marks (map (λ _. false) b.marks) (f.0.count ∙ sym (length-map b.marks (λ _. false))))
+    ∙ ap (λ (l : List Block). unmarked (unmarked b) ∷ l) (unmarked_same xs ys f.1)
+
+-- with the marked pages put in, an image has the blocks of the host, marks apart
+pub harvest_unmarked : (image host : Host) → Tracks image host → map unmarked (pages_put image (harvested host)).blocks ≡ map unmarked (cleared host).blocks
+harvest_unmarked image host f = ap (λ (h : Host). map unmarked h.blocks) (harvest_restores image host f) ∙ unmarked_same image.blocks host.blocks f.blocks
+
+-- and its own tables and sets of I/O pages
+pub harvest_rest : (image host : Host) → Tracks image host →
+    ((pages_put image (harvested host)).tables ≡ host.tables) × ((pages_put image (harvested host)).io_marks ≡ host.io_marks)
+harvest_rest image host f =
+    let is = harvest_restores image host f in
+    (ap (λ (h : Host). h.tables) is ∙ f.tables, ap (λ (h : Host). h.io_marks) is ∙ f.io_marks)
+
+blocks_sized : (xs ys : List Block) → BlocksTrack xs ys → AllByRecursion IsSized ys
+blocks_sized [] [] f = tt
+blocks_sized [] (b ∷ ys) f = absurd f
+blocks_sized (a ∷ xs) [] f = absurd f
+blocks_sized (a ∷ xs) (b ∷ ys) f = (f.0.sized, blocks_sized xs ys f.1)
+
+-- a host that an image tracks has a mark for each page of a block
+pub tracks-sized : (image host : Host) → Tracks image host → AllByRecursion IsSized host.blocks
+tracks-sized image host f = blocks_sized image.blocks host.blocks f.blocks
 
 -- ---- the pages have their places
 
@@ -154,6 +176,12 @@ blocks_lengths (a ∷ xs) (b ∷ ys) f =
 -- an image has the lengths of the host
 pub tracks-lengths : (image host : Host) → Tracks image host → lengths image ≡ lengths host
 tracks-lengths image host f = blocks_lengths image.blocks host.blocks f.blocks
+
+-- the pages of a harvest leave an image its lengths
+pub harvest-lengths : (image host : Host) → Tracks image host → lengths (pages_put image (harvested host)) ≡ lengths image
+harvest-lengths image host f =
+    tracks-lengths (pages_put image (harvested host)) (cleared host) (tracks_harvest image host f)
+    ∙ ap (λ (s : Shape). s.block_lengths) (shape-cleared host) ∙ sym (tracks-lengths image host f)
 
 -- pages of which none is refused, however they are numbered
 abbrev pub HavePlaces : List ℕ → List Page → Type 0
