@@ -13,3 +13,4 @@ pub mod BookLemmas
 pub mod TellingLemmas
 pub mod MarkLemmas
 pub mod MarkedRuns
+pub mod MoveLemmas

@@ -11,5 +11,6 @@ pub mod Books
 pub mod Telling
 pub mod Laws
 pub mod Marks
+pub mod Moving
 pub mod Examples
 pub mod ExamplesOfRuns

@@ -3,6 +3,7 @@
 ghost use Rattle.fs_device.specs.Books.{Balances};
 ghost use Rattle.fs_device.specs.Laws.{CutsDoNotMatter, OffersAreServedAlike};
 ghost use Rattle.fs_device.specs.Marks.{MarksDoNotMatter};
+ghost use Rattle.fs_device.specs.Moving.{CanMoveAgain, ImageCatchesUp, PagesHavePlaces, StaleIsMarked};
 ghost use Rattle.fs_device.specs.Telling.{CallsAreTold};
 
 use fuse_fs::FileSystem;
@@ -31,4 +32,15 @@ pub fn law_calls<F: FileSystem>()
 /// apart, with the same exchanges, notices and calls, and they end in states that differ in marks alone.
 pub fn law_marks<F: FileSystem>()
     ensures { MarksDoNotMatter F.may }
+{}
+
+/// Over a run in which an image answered its copy, and which goes on with the IOMMU off, without new
+/// blocks, mappings or a second image: what differs between the copy, with the harvested pages put in,
+/// and the host lies on marked pages, at each moment; so after a last harvest they are the same, marks
+/// apart. Each harvested page has its place in the copy, and from where the run ends another may begin.
+pub fn law_move<F: FileSystem>()
+    ensures stale { StaleIsMarked F.may }
+    ensures catches_up { ImageCatchesUp F.may }
+    ensures places { PagesHavePlaces F.may }
+    ensures again { CanMoveAgain F.may }
 {}

@@ -1,2 +1,4 @@
 pub mod HarvestLemmas
 pub mod ApplyLemmas
+pub mod CatchUpLemmas
+pub mod TrackLemmas

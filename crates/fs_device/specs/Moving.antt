@@ -1,0 +1,73 @@
+-- Moving to another host: an image, what of it grows stale, and the pages that bring it up to the host again.
+use Rattle.std.specs.Prelude.{◌≡◌, ◌≢◌, ◌/◌, Bool, true, false, not, IsTrue, List, [], ◌∷◌, ◌++◌, length, Option, Some, None, slice_get, option_and_then}
+use Rattle.std.specs.List.{AllByRecursion, flat_map}
+use Rattle.vm_memory_core.specs.Host.{Host, Place, byte_at, lengths, page_count}
+use Rattle.host_copies.specs.Harvested.{Page}
+use Rattle.host_copies.specs.Applying.{first_refused, pages_put}
+use Rattle.virtiofsd_fuse.specs.Serving.{May}
+use Rattle.fs_device.specs.Step.{State}
+use Rattle.fs_device.specs.Run.{Command, NewBlock, Map, Unmap, UnmapAll, SetIommu, Image, Harvest, Answer, Copied, Pages, Run, with_host}
+use Rattle.fs_device.specs.Marks.{SameButMarks}
+
+-- a place where an image, with pages put in, differs from the host
+abbrev pub IsStale : (image : Host) → List Page → (host : Host) → Place → Type 0
+IsStale image pages host p = byte_at (pages_put image pages) p ≢ byte_at host p
+
+-- whether the page of a place is marked in its block, where there is such a page
+abbrev pub page_mark : Host → Place → Option Bool
+page_mark h p = option_and_then (λ b. slice_get b.marks (p.offset / 4096)) (slice_get h.blocks p.block)
+
+-- each block has a mark for each of its pages
+abbrev pub HasItsMarks : Host → Type 0
+HasItsMarks h = AllByRecursion (λ b. length b.marks ≡ page_count (length b.bytes)) h.blocks
+
+-- the commands that may follow an image on the way to another host: no block is made, no mapping changes, the IOMMU stays
+-- off, and no other image is made
+abbrev pub follows_image : Command → Bool
+follows_image (NewBlock n) = false
+follows_image (Map iova target n perm) = false
+follows_image (Unmap iova n) = false
+follows_image UnmapAll = false
+follows_image (SetIommu on) = not on
+follows_image Image = false
+follows_image _ = true
+
+-- the pages of an answer, which only a harvest has
+abbrev pub pages_in : Answer → List Page
+pages_in (Pages pages) = pages
+pages_in _ = []
+
+-- the pages that the harvests of a run answered, in order
+abbrev pub pages_answered : List (Command × Answer) → List Page
+pages_answered events = flat_map (λ e. pages_in e.1) events
+
+-- a run in which an image answered its copy, and then such commands followed, the IOMMU off throughout
+pub record RunsFromImage {F : Type 0} (may : May F) (s : State F) (copy : Host) (events : List (Command × Answer)) (after : State F) : Type 0 where
+  pub off : s.memory.translates ≡ false
+  pub marks : HasItsMarks s.memory.host
+  pub follow : AllByRecursion (λ e. IsTrue (follows_image e.0)) events
+  pub run : Run may s ((Image, Copied copy) ∷ events) after
+
+-- what of an image is stale, with all harvested pages put in, lies on a marked page, at each moment
+abbrev pub StaleIsMarked : {F : Type 0} → May F → Type 0
+StaleIsMarked {F} may =
+    (s after : State F) (copy : Host) (events : List (Command × Answer)) (p : Place) → RunsFromImage may s copy events after →
+    IsStale copy (pages_answered events) after.memory.host p → page_mark after.memory.host p ≡ Some true
+
+-- after a last harvest the image with all harvested pages put in, in order, is the host, marks apart
+abbrev pub ImageCatchesUp : {F : Type 0} → May F → Type 0
+ImageCatchesUp {F} may =
+    (s after : State F) (copy : Host) (events : List (Command × Answer)) (last : List Page) →
+    let all = events ++ (Harvest, Pages last) ∷ [] in
+    RunsFromImage may s copy all after → SameButMarks (with_host after (pages_put copy (pages_answered all))) after
+
+-- each harvested page has its place in the image
+abbrev pub PagesHavePlaces : {F : Type 0} → May F → Type 0
+PagesHavePlaces {F} may =
+    (s after : State F) (copy : Host) (events : List (Command × Answer)) → RunsFromImage may s copy events after → first_refused (lengths copy) 0 (pages_answered events) ≡ None
+
+-- what such a run asks of the state that it begins in, the state has that it ends in
+abbrev pub CanMoveAgain : {F : Type 0} → May F → Type 0
+CanMoveAgain {F} may =
+    (s after : State F) (copy : Host) (events : List (Command × Answer)) → RunsFromImage may s copy events after →
+    (after.memory.translates ≡ false) × HasItsMarks after.memory.host
