@@ -1,3 +1,4 @@
 pub mod Directory
 pub mod Examples
+pub mod Guest
 pub mod Reading
