@@ -1,5 +1,5 @@
 -- what a guest gets that looks at a room behind a kick
-use Rattle.std.proofs.Common.{◌≡◌, ℕ, zero, suc, ◌+◌, ◌-◌, ◌^◌, ◌≤◌, Bool, true, false, ◌&&◌, List, [], ◌∷◌, ◌++◌, length, drop, Option, Some, refl, ap, ◌∙◌, subst, arith}
+use Rattle.std.proofs.Common.{◌≡◌, ℕ, zero, suc, ◌+◌, ◌-◌, ◌^◌, ◌≤◌, true, false, List, [], ◌∷◌, ◌++◌, length, drop, Option, Some, refl, ap, ◌∙◌, subst, arith}
 use Rattle.std.specs.Prelude.{nat_lt, nat_le, is_some, slice_get, if◌then◌else◌, pos}
 use Rattle.std.specs.List.{list_all}
 use Rattle.std.specs.Int.{w16, w32, to_le_bytes}
@@ -23,8 +23,8 @@ use Rattle.fs_device.specs.Run.{Turn, Told, Command, Answer, Kicked, Kicks, Kick
 use Rattle.fs_example.specs.declared.table.ReadOnlyDirectory.{ReadOnlyDirectory}
 use Rattle.fs_example.specs.Directory.{MayAnswer}
 use Rattle.fs_example.specs.Reading.{read_reply, wanted}
-use Rattle.fs_example.specs.Guest.{laid_over, GetsFile, KickGivesFile, kick_and_look, GuestGetsTheFile}
-use Rattle.fs_example.proofs.StoreLemmas.{all_keep, room_seen}
+use Rattle.fs_example.specs.GuestGets.{laid_over, GetsFile, KickGivesFile, kick_and_look, GuestGetsTheFile}
+use Rattle.fs_example.proofs.StoreLemmas.{all_keep, both, room_seen}
 use Rattle.fs_example.proofs.HoldLemmas.{Held, end_keeps, run_holds}
 use Rattle.fs_example.proofs.ReadLemmas.{step_reads}
 
@@ -56,10 +56,6 @@ one_turn s after i (suc most) q (t ∷ u ∷ told) k (ran, shows) one = absurd (
 
 -- ---- the guest's look
 
-both : (a b : Bool) → (a && b) ≡ true → (a ≡ true) × (b ≡ true)
-both true b e = (refl, e)
-both false b e = absurd (cc)
-
 same_bytes : (xs ys : List ℕ) → run.Bytes xs ≡ run.Bytes ys → xs ≡ ys
 same_bytes xs ys e = cc
 
@@ -67,10 +63,10 @@ not_refused : (xs : List ℕ) (why : Refusal) → run.Bytes xs ≡ run.IsRefused
 not_refused xs why e = cc
 
 -- the bytes that it gets are those that stand there, each of which has a place
-looked : (s after : State ReadOnlyDirectory) (a n : ℕ) (got : List ℕ) → (run.Bytes got, after) ≡ effect s (run.GuestRead a n) →
+guest_saw : (s after : State ReadOnlyDirectory) (a n : ℕ) (got : List ℕ) → (run.Bytes got, after) ≡ effect s (run.GuestRead a n) →
     (got ≡ bytes (physical s.memory) a n) × (list_all (λ x. is_some (place s.memory.layout x)) (addresses a n) ≡ true)
 unfolding effect
-looked s after a n got e =
+guest_saw s after a n got e =
     elim (reach (physical s.memory) Read a n) as
     (λ b. reach (physical s.memory) Read a n ≡ b → (run.Bytes got, after) ≡ (if b then (run.Bytes (bytes (physical s.memory) a n), s) else run.no NoPlace s) →
     (got ≡ bytes (physical s.memory) a n) × (list_all (λ x. is_some (place s.memory.layout x)) (addresses a n) ≡ true)) [
@@ -122,7 +118,7 @@ kick_gives s mid after i most a n kicked got told held kicks look q head request
     let turn = one_turn s mid i most q told kicked ran one in
     let stored = step_reads s turn.1 i turn.0.calls (Exchanged turn.0.exchange turn.0.notice) turn.2 q head request room unique node size offset f there offered reads file in
     let is : mid.memory ≡ returned s.memory q head room reply = turn.3 ∙ stored.1 in
-    let saw = looked mid after a n got look in
+    let saw = guest_saw mid after a n got look in
     let layout : mid.memory.layout ≡ s.memory.layout = ap (λ (m : Memory). m.layout) is ∙ (all_keep (writes q head room reply) s.memory).1 in
     let places : list_all (λ x. is_some (place s.memory.layout x)) (addresses a n) ≡ true =
     subst (λ (l : List Region). list_all (λ x. is_some (place l x)) (addresses a n) ≡ true) layout saw.1 in

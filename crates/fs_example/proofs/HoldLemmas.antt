@@ -1,5 +1,5 @@
 -- the blocks hold the layout, whatever a run does
-use Rattle.std.proofs.Common.{◌≡◌, ℕ, zero, suc, Bool, true, false, ◌&&◌, List, [], ◌∷◌, ◌++◌, map, length, Option, Some, None, refl, ap, sym, ◌∙◌, subst}
+use Rattle.std.proofs.Common.{◌≡◌, ℕ, zero, suc, Bool, true, false, List, [], ◌∷◌, ◌++◌, map, length, Option, Some, None, refl, ap, sym, ◌∙◌, subst}
 use Rattle.std.specs.Prelude.{◌==◌, ◌<◌, not, if◌then◌else◌, slice_get, slice_index_or}
 use Rattle.std.specs.List.{list_all, list_any}
 use Rattle.std.proofs.Common.{arith, zip}
@@ -23,9 +23,10 @@ use Rattle.fs_device.specs.declared.error.DeviceError.TheVariants as device
 use Rattle.fs_device.specs.declared.refusal.Refusal.TheVariants as why
 use Rattle.fs_device.specs.Step.{State, Exchange, Calls, Idle, Refused, Exchanged, Exchanges, StepOf}
 use Rattle.fs_device.specs.Run as run
-use Rattle.fs_device.specs.Run.{Told, Command, Answer, Effect, KickEnds, KickRun, Kicks, Kicked, Affects, ChangesTable, HasEffect, Does, Performs, RunTold, effect, insert, insert_block, is_known, has_len, some_overlap, reset}
+use Rattle.fs_device.specs.Run.{Told, Command, Answer, Effect, KickEnds, KickRun, Kicks, Kicked, Affects, ChangesTable, HasEffect, Does, Performs, RunTold}
+use Rattle.fs_device.specs.Run.{effect, insert, insert_block, is_known, has_len, some_overlap, reset}
 use Rattle.fs_device.proofs.LayoutLemmas.{held_grown, held_with, held_without, block_there}
-use Rattle.fs_example.proofs.StoreLemmas.{all_keep}
+use Rattle.fs_example.proofs.StoreLemmas.{all_keep, both}
 
 -- a memory whose host has the blocks of its layout
 abbrev pub Held : Memory → Type 0
@@ -129,10 +130,6 @@ block_holds s base block (Some b) is held = insert_holds s (record { start = bas
 reset_holds : {F : Type 0} (s : State F) (i : ℕ) (anew : Queue) (o : Option Queue) → Held s.memory → Held (reset s i anew o).1.memory
 reset_holds s i anew None held = held
 reset_holds s i anew (Some q) held = held
-
-both : (a b : Bool) → (a && b) ≡ true → (a ≡ true) × (b ≡ true)
-both true b e = (refl, e)
-both false b e = absurd (cc)
 
 has_block : (blocks : List Block) (i n : ℕ) → has_len n (slice_get blocks i) ≡ true →
     (i < length (map (λ (b : Block). length b.bytes) blocks)) × (slice_index_or (map (λ (b : Block). length b.bytes) blocks) i 0 ≡ n)

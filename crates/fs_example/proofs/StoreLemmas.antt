@@ -1,6 +1,6 @@
 -- what stands in memory after stores, byte by byte
-use Rattle.std.proofs.Common.{◌≡◌, ℕ, zero, suc, ◌-◌, get_or, ◌<◌, Bool, true, false, ◌&&◌, List, [], ◌∷◌, ◌++◌, map, length, take, drop, set, zip, option_map, option_and_then, Option, Some, None, refl, ap, sym, ◌∙◌, subst, arith, append_assoc}
-use Rattle.std.specs.Prelude.{slice_get, slice_index_or, unwrap_or, ◌==◌, is_some, if◌then◌else◌}
+use Rattle.std.proofs.Common.{◌≡◌, ℕ, zero, suc, ◌-◌, ◌<◌, List, [], ◌∷◌, ◌++◌, zip, refl, ap, sym, ◌∙◌, subst, arith, append_assoc}
+use Rattle.std.specs.Prelude.{Bool, true, false, ◌&&◌, map, length, take, drop, get_or, set, option_map, option_and_then, Option, Some, None, slice_get, slice_index_or, unwrap_or, ◌==◌, is_some, if◌then◌else◌}
 use Rattle.std.specs.Option.{option_or}
 use Rattle.std.specs.List.{AllByRecursion, IsDistinct, list_all}
 use Rattle.std.proofs.lemmas.Bool.Decides.{nat_tests}
@@ -12,12 +12,12 @@ use Rattle.vm_memory_core.specs.Host.{Host, Block, IoAddress, Place, byte_at, ch
 use Rattle.vm_memory_core.specs.Window.{put_byte}
 use Rattle.vm_memory.specs.Layout.{Region, place, AreHeld}
 use Rattle.vm_memory.specs.Memory.{Memory, addresses, byte, bytes, location, physical, stored, stored_at, stored_all}
-use Rattle.vm_memory.proofs.Places.{stored_all-append, within_low, within_high}
-use Rattle.fs_example.specs.Guest.{laid_over, bare, device_place, is_one_byte}
+use Rattle.vm_memory.proofs.Places.{Where, stored_all-append, within_low, within_high}
+use Rattle.fs_example.specs.GuestGets.{laid_over, bare, device_place, is_one_byte}
 
 -- ---- one list
 
-both : (a b : Bool) → (a && b) ≡ true → (a ≡ true) × (b ≡ true)
+pub both : (a b : Bool) → (a && b) ≡ true → (a ≡ true) × (b ≡ true)
 both true b e = (refl, e)
 both false b e = absurd (cc)
 
@@ -71,21 +71,21 @@ mark_keeps None p h r = marks_keep h.blocks p.block r.block r.offset _
 mark_keeps (Some a) p h r = refl
 
 -- the byte at a place that may be missing
-abbrev pub look : Host → Option Place → Option ℕ
-look h place = option_and_then (byte_at h) place
+abbrev pub byte_behind : Host → Option Place → Option ℕ
+byte_behind h place = option_and_then (byte_at h) place
 
 -- it is there
 abbrev pub There : Host → Option Place → Type 0
-There h place = (y : ℕ) × (look h place ≡ Some y)
+There h place = (y : ℕ) × (byte_behind h place ≡ Some y)
 
 two_tests : (i j at offset : ℕ) → (i == j && at == offset) ≡ false → i ≡ j → at ≡ offset → ⊥
 two_tests i j at offset e same there = grind (arith, nat_tests)
 
-put_keeps : (h : Host) (p : Place) (x : ℕ) (o : Option Place) → is_one_byte o (Some p) ≡ false → look (put_byte h p x) o ≡ look h o
+put_keeps : (h : Host) (p : Place) (x : ℕ) (o : Option Place) → is_one_byte o (Some p) ≡ false → byte_behind (put_byte h p x) o ≡ byte_behind h o
 put_keeps h p x None e = refl
 put_keeps h p x (Some r) e = mark_keeps p.io p (with_byte h p x) r ∙ one_keeps h.blocks p.block r.block p.offset r.offset x (λ i at. two_tests r.block p.block r.offset p.offset e (sym i) (sym at))
 
-put_stands : (h : Host) (p : Place) (x y : ℕ) → look h (Some (bare p)) ≡ Some y → look (put_byte h p x) (Some (bare p)) ≡ Some x
+put_stands : (h : Host) (p : Place) (x y : ℕ) → byte_behind h (Some (bare p)) ≡ Some y → byte_behind (put_byte h p x) (Some (bare p)) ≡ Some x
 put_stands h p x y e = mark_keeps p.io p (with_byte h p x) (bare p) ∙ one_stands h.blocks p.block p.offset x y e
 
 -- ---- stores keep where each address is
@@ -106,14 +106,11 @@ kept m x (Some p) = same_location m (put_byte m.host p x) (with_tables m.host p 
 
 -- ---- one store
 
-abbrev pub Where : Type 0
-Where = ℕ → Option Place
-
-store_keeps : (m : Memory) (x : ℕ) (p o : Option Place) → is_one_byte o p ≡ false → look (stored_at m x p).host o ≡ look m.host o
+store_keeps : (m : Memory) (x : ℕ) (p o : Option Place) → is_one_byte o p ≡ false → byte_behind (stored_at m x p).host o ≡ byte_behind m.host o
 store_keeps m x None o e = refl
 store_keeps m x (Some p) o e = put_keeps m.host p x o e
 
-store_stands : (m : Memory) (x : ℕ) (p : Option Place) → There m.host (option_map bare p) → look (stored_at m x p).host (option_map bare p) ≡ Some x
+store_stands : (m : Memory) (x : ℕ) (p : Option Place) → There m.host (option_map bare p) → byte_behind (stored_at m x p).host (option_map bare p) ≡ Some x
 store_stands m x None (y, e) = absurd (cc)
 store_stands m x (Some p) (y, e) = put_stands m.host p x y e
 
@@ -122,7 +119,7 @@ store_stands m x (Some p) (y, e) = put_stands m.host p x y e
 abbrev pub Misses : Where → List ℕ → Option Place → Type 0
 Misses f as' o = AllByRecursion (λ a. is_one_byte o (f a) ≡ false) as'
 
-stays : (as' xs : List ℕ) (m : Memory) (f : Where) (o : Option Place) → location m Write ≡ f → Misses f as' o → look (stored_all m (zip as' xs)).host o ≡ look m.host o
+stays : (as' xs : List ℕ) (m : Memory) (f : Where) (o : Option Place) → location m Write ≡ f → Misses f as' o → byte_behind (stored_all m (zip as' xs)).host o ≡ byte_behind m.host o
 unfolding stored_all
 stays [] xs m f o e miss = refl
 stays (a ∷ as') [] m f o e miss = refl
@@ -132,7 +129,7 @@ stays (a ∷ as') (x ∷ xs) m f o e miss =
 
 -- what stands at some places
 abbrev pub seen : Host → List (Option Place) → List ℕ
-seen h os = map (λ o. unwrap_or (look h o) 0) os
+seen h os = map (λ o. unwrap_or (byte_behind h o) 0) os
 
 pub seen_stays : (os : List (Option Place)) (as' xs : List ℕ) (m : Memory) (f : Where) → location m Write ≡ f → AllByRecursion (Misses f as') os →
     seen (stored_all m (zip as' xs)).host os ≡ seen m.host os
@@ -189,11 +186,11 @@ all_there (o ∷ os) m x a f e miss ((y, is), there) =
     ((y, store_keeps m x (location m Write a) o (subst (λ (g : Where). is_one_byte o (g a) ≡ false) (sym e) miss.0.0) ∙ is), all_there os m x a f e miss.1 there)
 
 first_stands : (m : Memory) (x a : ℕ) (as' xs : List ℕ) (f : Where) → location m Write ≡ f → Misses f as' (option_map bare (f a)) → There m.host (option_map bare (f a)) →
-    look (stored_all (stored m (a, x)) (zip as' xs)).host (option_map bare (f a)) ≡ Some x
+    byte_behind (stored_all (stored m (a, x)) (zip as' xs)).host (option_map bare (f a)) ≡ Some x
 first_stands m x a as' xs f e miss there =
     let next : location (stored m (a, x)) Write ≡ f = kept m x (location m Write a) ∙ e in
     stays as' xs (stored m (a, x)) f (option_map bare (f a)) next miss
-    ∙ subst (λ (g : Where). There m.host (option_map bare (g a)) → look (stored m (a, x)).host (option_map bare (g a)) ≡ Some x) e (store_stands m x (location m Write a)) there
+    ∙ subst (λ (g : Where). There m.host (option_map bare (g a)) → byte_behind (stored m (a, x)).host (option_map bare (g a)) ≡ Some x) e (store_stands m x (location m Write a)) there
 
 module _ (f : Where) where
   -- places that are not among those behind are as they were

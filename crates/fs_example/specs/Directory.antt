@@ -1,4 +1,5 @@
--- What the read-only directory answers. The root is node 1, and the files are the nodes from 2 on, in the table's order.
+-- What the read-only directory answers. The root is node 1, and the files are the nodes from 2 on, in the table's
+-- order.
 use Rattle.std.specs.Prelude.{◌≡◌, ℕ, ◌+◌, ◌-◌, Bool, ◌==◌, nat_lt, bit_and, List, [], ◌∷◌, length, take, drop, Option, Some, None, if◌then◌else◌, slice_get}
 use Rattle.std.specs.Int.{div_ceil}
 use Rattle.std.specs.Str.{bytes_eq}
@@ -6,7 +7,8 @@ use Rattle.fuse_base.specs.declared.records.Attr.{Attr}
 use Rattle.fuse_fs.specs.declared.answers.Entry.{Entry}
 use Rattle.fuse_fs.specs.Answers.{default_stats}
 use Rattle.fuse_fs.specs.Times.{Duration}
-use Rattle.fuse_fs.specs.Calls.{FileCall, FileAnswer, Listed, Init, Destroy, Lookup, Forget, BatchForget, Getattr, Open, Opendir, Read, Readdir, Statfs, Failed, Done, HasEntry, HasAttr, Opened, Bytes, Stats, Entries, Wants}
+use Rattle.fuse_fs.specs.Calls.{FileCall, FileAnswer, Listed, Failed, Done, HasEntry, HasAttr, Opened, Bytes, Stats, Entries, Wants}
+use Rattle.fuse_fs.specs.Calls.{Init, Destroy, Lookup, Forget, BatchForget, Getattr, Open, Opendir, Read, Readdir, Statfs}
 use Rattle.fs_example.specs.declared.table.File.{File}
 use Rattle.fs_example.specs.declared.table.ReadOnlyDirectory.{ReadOnlyDirectory}
 
@@ -95,8 +97,8 @@ abbrev pub opened_at : Option File → (flags : ℕ) → FileAnswer
 opened_at None flags = Failed ENOENT
 opened_at (Some f) flags = if reads_only flags then Opened None 0 else Failed EROFS
 
--- the entries of files of which the first has this node, each with where a listing goes on behind it; regular files (8 is
--- DT_REG of dirent.h)
+-- the entries of files of which the first has this node, each with where a listing goes on behind it; regular files (8
+-- is DT_REG of dirent.h)
 abbrev pub listing_from : (first : ℕ) → List File → List Listed
 listing_from first [] = []
 listing_from first (f ∷ fs) = record { ino = first; offset = first - 1; kind = 8; name = f.name.now } ∷ listing_from (first + 1) fs

@@ -1,4 +1,4 @@
 pub mod Directory
 pub mod Examples
-pub mod Guest
+pub mod GuestGets
 pub mod Reading

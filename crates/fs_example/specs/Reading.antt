@@ -35,7 +35,7 @@ read_reply room unique bytes =
     if nat_le 16 room then (if nat_lt (room - 16) (length bytes) then error_bytes unique EIO else reply_bytes unique bytes)
     else []
 
--- where a step took a READ of a file from queue i, the reply was written over its chain's room, then what goes back with it
+-- where a step took a READ of a file from queue i, the reply was written over its chain's room, then what follows it
 abbrev pub ReadsIntoRoom : State ReadOnlyDirectory → (i : ℕ) → Outcome → State ReadOnlyDirectory → Type 0
 ReadsIntoRoom s i (Exchanged x notice) after =
     (q : Queue) (head : ℕ) (request room : List ℕ) (unique node size offset : ℕ) (f : File) →

@@ -34,7 +34,7 @@ device_place m a = option_map bare (location m Write a)
 abbrev pub return_addresses : Queue → (room : List ℕ) → List ℕ
 return_addresses q room = room ++ addresses (element_at q) 8 ++ addresses (index_at q) 2
 
--- no byte is written twice as a chain goes back: its room has each place once, and what the used ring gets lies elsewhere
+-- no byte is written twice as a chain goes back: its room has each place once, and the used ring's bytes lie elsewhere
 abbrev pub WritesApart : Memory → Queue → (room : List ℕ) → Type 0
 WritesApart m q room = IsDistinct is_one_byte (map (location m Write) (return_addresses q room))
 
@@ -48,8 +48,8 @@ laid_over new [] = []
 laid_over [] (old ∷ olds) = old ∷ olds
 laid_over (new ∷ news) (old ∷ olds) = new ∷ laid_over news olds
 
--- a guest that looks at its n bytes from a on, a room's from the k-th on, gets what stood there with the reply laid over,
--- also from its k-th byte on; so behind the header, where the room is long enough, just the bytes that it reads of the file
+-- a guest that looks at its n bytes from a on, a room's from the k-th on, gets what stood there, with the reply from
+-- its k-th byte on laid over; so behind the header, where the room is long enough, just what it reads of the file
 abbrev pub GetsFile : Memory → (room k a n : ℕ) → (unique : ℕ) → (file : List ℕ) → (got : List ℕ) → Type 0
 GetsFile m room k a n unique file got =
     (got ≡ laid_over (drop k (read_reply room unique file)) (bytes (physical m) a n))
@@ -68,8 +68,8 @@ KickGivesFile s i kicked a n got =
 abbrev pub kick_and_look : (i most : ℕ) → Kicked → (a n : ℕ) → (got : List ℕ) → List (Command × Answer)
 kick_and_look i most kicked a n got = (Kick i most, Served kicked) ∷ (GuestRead a n, run.Bytes got) ∷ []
 
--- wherever in a run the guest looks at its memory right behind a kick: the run came to a state, which the kick found, and
--- went on from it, and by this state the guest gets the file
+-- wherever in a run the guest looks at its memory right behind a kick: the run came to the state that the kick found,
+-- went on from there, and by this state the guest gets the file
 abbrev pub GuestGetsTheFile : State ReadOnlyDirectory → List (Command × Answer) → State ReadOnlyDirectory → Type 0
 GuestGetsTheFile s events after =
     (before later : List (Command × Answer)) (i most a n : ℕ) (kicked : Kicked) (got : List ℕ) → events ≡ before ++ (kick_and_look i most kicked a n got ++ later) →
