@@ -4,15 +4,17 @@ ghost use Rattle.std.specs.Prelude.{◌≡◌, length};
 
 use crate::fault::BenchFault;
 use crate::measure::{Case, Label, Meter};
+use crate::moves::COPIED;
 use std::alloc::Global;
 use std::time::Clock;
 
 // Whether bytes are copied twice, under which name, how many, and how often in one sample.
-const COPIES: [(bool, &str, usize, u16); 7] = [
+const COPIES: [(bool, &str, usize, u16); 8] = [
     (false, "copy-16", 16, 1 << 15),
     (false, "copy-4k", 0x1000, 1 << 12),
     (false, "copy-64k", 0x10000, 1 << 8),
     (false, "copy-1m", 0x100000, 1 << 4),
+    (false, "copy-64m", COPIED, 1),
     (true, "twice-4k", 0x1000, 1 << 12),
     (true, "twice-64k", 0x10000, 1 << 8),
     (true, "twice-1m", 0x100000, 1 << 4),
