@@ -14,3 +14,4 @@ pub mod Marks
 pub mod Moving
 pub mod Examples
 pub mod ExamplesOfRuns
+pub mod ExamplesOfMoves
