@@ -53,8 +53,8 @@ fn run<R: Clock + Eprint + Threads + Sync>(
     measure_regions(&mut meter, alloc)?;
     measure_kicks(&mut meter, alloc)?;
     measure_mappings(&mut meter, alloc)?;
-    measure_moves(&mut meter, alloc)?;
     measure_pages(&mut meter, rt, alloc)?;
+    measure_moves(&mut meter, alloc)?;
     Ok(meter.checksum())
 }
 

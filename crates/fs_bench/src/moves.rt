@@ -4,6 +4,7 @@ use crate::fault::BenchFault;
 use crate::files::MemoryFiles;
 use crate::kick::{LIMIT, PAGE_SIZE, RING};
 use crate::measure::{Case, Label, Meter};
+use crate::plain::measure_copy;
 use fs_device::{Device, Stream, harvest, image};
 use fs_queue::{Queue, QueueLayout};
 use std::alloc::Global;
@@ -13,8 +14,8 @@ use vm_memory_core::{HostMemory, PageBitmap};
 
 const PAGE: usize = 0x1000;
 
-/// How many bytes the memory has that is copied.
-pub(crate) const COPIED: usize = 0x4000000;
+// How many bytes the memory has that is copied.
+const COPIED: usize = 0x4000000;
 
 const QUEUES: usize = 64;
 
@@ -154,7 +155,7 @@ impl Case for Restoring {
     }
 }
 
-/// Measures harvests of one, a few and all pages, an image, and a record that is saved and restored.
+/// Measures harvests of one, a few and all pages, an image beside a plain copy, and a record that is saved and restored.
 pub(crate) fn measure_moves<R: Clock + Eprint>(
     meter: &mut Meter<'_, R>,
     alloc: Global,
@@ -167,6 +168,7 @@ pub(crate) fn measure_moves<R: Clock + Eprint>(
             &mut Harvesting { alloc, host, pages },
         )?;
     }
+    measure_copy(meter, alloc, false, label("copy-64m", COPIED, 1))?;
     let host = host(alloc)?;
     meter.measure(label("image", COPIED, 1), &mut Imaging { alloc, host })?;
     let mut saving = Saving::new(alloc)?;

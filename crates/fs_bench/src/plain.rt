@@ -4,17 +4,15 @@ ghost use Rattle.std.specs.Prelude.{◌≡◌, length};
 
 use crate::fault::BenchFault;
 use crate::measure::{Case, Label, Meter};
-use crate::moves::COPIED;
 use std::alloc::Global;
 use std::time::Clock;
 
 // Whether bytes are copied twice, under which name, how many, and how often in one sample.
-const COPIES: [(bool, &str, usize, u16); 8] = [
+const COPIES: [(bool, &str, usize, u16); 7] = [
     (false, "copy-16", 16, 1 << 15),
     (false, "copy-4k", 0x1000, 1 << 12),
     (false, "copy-64k", 0x10000, 1 << 8),
     (false, "copy-1m", 0x100000, 1 << 4),
-    (false, "copy-64m", COPIED, 1),
     (true, "twice-4k", 0x1000, 1 << 12),
     (true, "twice-64k", 0x10000, 1 << 8),
     (true, "twice-1m", 0x100000, 1 << 4),
@@ -56,19 +54,30 @@ impl Case for SliceCopy {
     }
 }
 
+/// Measures a copy of so many bytes, or a copy of a copy.
+pub(crate) fn measure_copy<R: Clock + Eprint>(
+    meter: &mut Meter<'_, R>,
+    alloc: Global,
+    twice: bool,
+    label: Label,
+) -> Result<(), BenchFault> {
+    let bytes = label.bytes;
+    let mut case = SliceCopy {
+        twice,
+        source: vec![in alloc; 7; bytes]?,
+        middle: vec![in alloc; 0; bytes]?,
+        dest: vec![in alloc; 0; bytes]?,
+    };
+    meter.measure(label, &mut case)
+}
+
 /// Measures copies of each size, and copies of copies.
 pub(crate) fn measure_copies<R: Clock + Eprint>(
     meter: &mut Meter<'_, R>,
     alloc: Global,
 ) -> Result<(), BenchFault> {
     for (twice, name, bytes, runs) in COPIES {
-        let mut case = SliceCopy {
-            twice,
-            source: vec![in alloc; 7; bytes]?,
-            middle: vec![in alloc; 0; bytes]?,
-            dest: vec![in alloc; 0; bytes]?,
-        };
-        meter.measure(label(name, bytes, runs), &mut case)?;
+        measure_copy(meter, alloc, twice, label(name, bytes, runs))?;
     }
     Ok(())
 }
