@@ -1,4 +1,4 @@
--- A worked move that computes: an image of eight bytes, a write of the guest after it, and the harvest that brings it up to the host.
+-- A worked move that computes: an image of eight bytes, a guest's write after it, and the harvest that brings it up to the host.
 use Rattle.std.specs.Prelude.{◌≡◌, ℕ, Bool, true, false, List, [], ◌∷◌, refl, Some, None}
 use Rattle.vm_memory_core.specs.Host.{Host, Place, byte_at, lengths}
 use Rattle.vm_memory.specs.Layout.{place}
