@@ -12,5 +12,6 @@ pub mod Telling
 pub mod Laws
 pub mod Marks
 pub mod Moving
+pub mod Migrating
 pub mod Examples
 pub mod ExamplesOfRuns
