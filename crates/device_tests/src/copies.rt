@@ -3,6 +3,7 @@
 use crate::machines::{Row, done, expect_rows, machine};
 use crate::stand::expect_same;
 use call_log::CallLog;
+use fs_device::laws::{law_marks, law_move};
 use fs_device::{Answer, Command, HarvestedPage, Machine, apply};
 use std::alloc::Global;
 use std::process::Abort;
@@ -54,6 +55,8 @@ fn image_with_the_pages_of_a_kick_is_the_host(rt: HostRuntime) {
     expect_same(&rt, apply(&mut copy, &pages), Ok(()));
     expect_same(&rt, first_block(&copy), first_block(&machine.host));
     expect_same(&rt, harvest_of(&rt, alloc, &mut machine).len(), 0);
+    law_marks::<CallLog>();
+    law_move::<CallLog>();
 }
 
 #[test]

@@ -203,3 +203,25 @@ fn a_run_exchanges_a_read_of_a_file(rt: HostRuntime) {
     let (exchange, _) = run.done.first().expect(&rt, "an exchange");
     expect_same(&rt, exchange.reply.as_slice(), &HELLO);
 }
+
+// What the guest gets that looks at its memory right behind the kick.
+fn looked(rt: &impl Abort, alloc: Global, addr: u64, len: usize) -> Vec<u8> {
+    let mut machine = reading(rt, alloc);
+    let kick = Command::Kick { queue: 0, most: 1 };
+    let look = Command::GuestRead { addr, len };
+    let commands = Vec::from_array(alloc, [kick, look]).expect(rt, "memory");
+    let mut answers = run_directory(alloc, &mut machine, commands).expect(rt, "memory");
+    let Some(Answer::Bytes(bytes)) = answers.pop() else {
+        panic!(rt; "bytes");
+    };
+    bytes
+}
+
+#[test]
+fn a_guest_gets_the_file_in_its_memory(rt: HostRuntime) {
+    let alloc = rt.alloc();
+    let room = looked(&rt, alloc, 0x2000, 32);
+    expect_same(&rt, room.get(..21), Some(HELLO.as_slice()));
+    expect_same(&rt, room.get(21..), Some([0; 11].as_slice()));
+    expect_same(&rt, looked(&rt, alloc, 0x2010, 5).as_slice(), b"hello");
+}

@@ -49,9 +49,11 @@ const TABLE: u64 = 0x8000;
 /// How many bytes the guest has, from address 0 on.
 pub(crate) const MEMORY: usize = 0x400000;
 
-const LIMIT: u32 = 0x101000;
+/// The longest request, and the longest room.
+pub(crate) const LIMIT: u32 = 0x101000;
 
-const PAGE_SIZE: u32 = 4096;
+/// How many bytes the guest's pages have.
+pub(crate) const PAGE_SIZE: u32 = 4096;
 
 // The splits that are measured.
 const SPLITS: [u16; 3] = [1, 2, 16];

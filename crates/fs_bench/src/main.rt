@@ -1,5 +1,5 @@
-//! Measures windows of memory, memory of many regions, whole kicks and kicks behind an IOMMU beside plain slice copies, and
-//! page marks beside bare steps on atomic words.
+//! Measures windows of memory, memory of many regions, whole kicks, kicks behind an IOMMU and what a move to
+//! another host takes beside plain slice copies, and page marks beside bare steps on atomic words.
 //!
 //! Without an argument each case runs a few times, and the checksum of what was done is printed. An argument is how many
 //! samples are taken of each case; the times are then printed on standard error.
@@ -11,6 +11,7 @@ mod kick;
 mod listing;
 mod mappings;
 mod measure;
+mod moves;
 mod pages;
 mod plain;
 mod regions;
@@ -20,6 +21,7 @@ use fault::BenchFault;
 use kick::measure_kicks;
 use mappings::measure_mappings;
 use measure::Meter;
+use moves::measure_moves;
 use pages::measure_pages;
 use plain::measure_copies;
 use regions::measure_regions;
@@ -52,6 +54,7 @@ fn run<R: Clock + Eprint + Threads + Sync>(
     measure_kicks(&mut meter, alloc)?;
     measure_mappings(&mut meter, alloc)?;
     measure_pages(&mut meter, rt, alloc)?;
+    measure_moves(&mut meter, alloc)?;
     Ok(meter.checksum())
 }
 

@@ -54,19 +54,30 @@ impl Case for SliceCopy {
     }
 }
 
+/// Measures a copy of so many bytes, or a copy of a copy.
+pub(crate) fn measure_copy<R: Clock + Eprint>(
+    meter: &mut Meter<'_, R>,
+    alloc: Global,
+    twice: bool,
+    label: Label,
+) -> Result<(), BenchFault> {
+    let bytes = label.bytes;
+    let mut case = SliceCopy {
+        twice,
+        source: vec![in alloc; 7; bytes]?,
+        middle: vec![in alloc; 0; bytes]?,
+        dest: vec![in alloc; 0; bytes]?,
+    };
+    meter.measure(label, &mut case)
+}
+
 /// Measures copies of each size, and copies of copies.
 pub(crate) fn measure_copies<R: Clock + Eprint>(
     meter: &mut Meter<'_, R>,
     alloc: Global,
 ) -> Result<(), BenchFault> {
     for (twice, name, bytes, runs) in COPIES {
-        let mut case = SliceCopy {
-            twice,
-            source: vec![in alloc; 7; bytes]?,
-            middle: vec![in alloc; 0; bytes]?,
-            dest: vec![in alloc; 0; bytes]?,
-        };
-        meter.measure(label(name, bytes, runs), &mut case)?;
+        measure_copy(meter, alloc, twice, label(name, bytes, runs))?;
     }
     Ok(())
 }

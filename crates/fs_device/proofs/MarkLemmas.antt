@@ -19,7 +19,7 @@ use Rattle.fs_queue.specs.Chain.{Descriptor, Visit, Verdict, Faulty, Stops, Foun
 use Rattle.fs_queue.specs.Chain.{next_visit, onward, path, first_visit, walk, found, after_verdict, chain}
 use Rattle.fs_queue.specs.Taking.{readable, writable, total_len, all_reach, Asked, Asks, CannotAsk, asked_by, Offer, Offers, Refuses, offer_of, on_head, on_look, offer}
 use Rattle.fs_queue.specs.Returning.{wants_notice}
-use Rattle.fs_device.specs.Marks.{without_mark, without_marks}
+use Rattle.fs_device.specs.Marks.{none_marked, without_marks}
 
 -- ---- lists
 
@@ -37,7 +37,7 @@ either_same : {X Y : Type 0} (f : X → Y) (b : Bool) (x y z : X) → f x ≡ f 
 either_same f true x y z p q = p
 either_same f false x y z p q = q
 
-marked_once : (marks : List Bool) (page : ℕ) → without_mark (slice_set marks page true) ≡ without_mark marks
+marked_once : (marks : List Bool) (page : ℕ) → none_marked (slice_set marks page true) ≡ none_marked marks
 marked_once marks page = map-set_same (λ (b : Bool). false) marks page true false refl
 
 -- ---- hosts
@@ -45,12 +45,12 @@ marked_once marks page = map-set_same (λ (b : Bool). false) marks page true fal
 marked_block : (offset : ℕ) (b : Block) → unmarked (record b { marks = marked b.marks offset }) ≡ unmarked b
 marked_block offset b = ap (λ (marks : List Bool). record b { marks = marks }) (marked_once b.marks _)
 
-marked_pages : (address : ℕ) (marks : List Bool) → without_mark (marked_at 4096 marks address) ≡ without_mark marks
-marked_pages address marks = either_same without_mark (nat_lt address (2 ^ 64)) _ marks marks (marked_once marks _) refl
+marked_pages : (address : ℕ) (marks : List Bool) → none_marked (marked_at 4096 marks address) ≡ none_marked marks
+marked_pages address marks = either_same none_marked (nat_lt address (2 ^ 64)) _ marks marks (marked_once marks _) refl
 
 marks_aside : (io : Option IoAddress) (p : Place) (h : Host) → without_marks (with_mark_by io p h) ≡ without_marks h
 marks_aside None p h = ap (λ (blocks : List Block). record (without_marks h) { blocks = blocks }) (changed_same unmarked _ h.blocks p.block (marked_block p.offset))
-marks_aside (Some a) p h = ap (λ (io_marks : List (List Bool)). record (without_marks h) { io_marks = io_marks }) (changed_same without_mark _ h.io_marks a.set (marked_pages a.address))
+marks_aside (Some a) p h = ap (λ (io_marks : List (List Bool)). record (without_marks h) { io_marks = io_marks }) (changed_same none_marked _ h.io_marks a.set (marked_pages a.address))
 
 -- a byte that is put is the byte that stands there, marks apart
 put_aside : (h : Host) (p : Place) (x : ℕ) → without_marks (put_byte h p x) ≡ with_byte (without_marks h) p x

@@ -23,9 +23,9 @@ use Rattle.fs_device.specs.declared.error.DeviceError.TheVariants as device
 use Rattle.fs_device.specs.declared.refusal.Refusal.TheVariants as why
 use Rattle.fs_device.specs.Step.{State, Exchange, Calls, Idle, Refused, Exchanged, Exchanges, StepOf}
 use Rattle.fs_device.specs.Run as run
-use Rattle.fs_device.specs.Run.{Turn, Told, Command, Answer, Effect, KickEnds, KickRun, Kicks, Kicked, HasEffect, Does, Performs, RunTold, Affects, effect, insert, insert_block, is_known, some_overlap, reset, with_host}
+use Rattle.fs_device.specs.Run.{Told, Command, Answer, Effect, KickEnds, KickRun, Kicks, Kicked, HasEffect, Does, Performs, RunTold, Affects, effect, insert, insert_block, is_known, some_overlap, reset, with_host}
 use Rattle.fs_device.specs.Marks.{without_marks, SameButMarks}
-use Rattle.fs_device.specs.Moving.{follows_image, pages_in, pages_answered, HasItsMarks, IsStale, page_mark, RunsFromImage}
+use Rattle.fs_device.specs.Moving.{follows_image, pages_of_answer, pages_answered, HasItsMarks, IsStale, page_mark, RunsFromImage}
 
 -- ---- stores
 
@@ -126,7 +126,7 @@ kicks_held may image s i most (Some q) told k after t h = kick_held may image s 
 -- the image with an answer's pages, which have their places and leave its lengths, tracks the state
 abbrev GoesOn : {F : Type 0} → Host → Effect F → Type 0
 GoesOn image (answer, after) =
-    HeldIn (pages_put image (pages_in answer)) after × HavePlaces (lengths image) (pages_in answer) × (lengths (pages_put image (pages_in answer)) ≡ lengths image)
+    HeldIn (pages_put image (pages_of_answer answer)) after × HavePlaces (lengths image) (pages_of_answer answer) × (lengths (pages_put image (pages_of_answer answer)) ≡ lengths image)
 
 -- where no page is answered
 goes : (image : Host) {on : Bool} {host : Host} → (on ≡ false) × Tracks image host →
@@ -244,7 +244,7 @@ abbrev CanFollow : List (Command × Answer) → Type 0
 CanFollow events = AllByRecursion (λ e. IsTrue (follows_image e.0)) events
 
 -- the image with all pages that a run answers, which have their places, tracks its last state
-abbrev pub Arrives : {F : Type 0} → Host → List (Command × Answer) → State F → Type 0
+abbrev Arrives : {F : Type 0} → Host → List (Command × Answer) → State F → Type 0
 Arrives image events after = HeldIn (pages_put image (pages_answered events)) after × HavePlaces (lengths image) (pages_answered events)
 
 run_goes : {F : Type 0} (may : May F) (image : Host) (s : State F) (events : List (Command × Answer)) (tolds : List Told) (after : State F) → CanFollow events → HeldIn image s →
@@ -255,9 +255,9 @@ run_goes may image s [] (told ∷ tolds) after follows h t = absurd t
 run_goes may image s (e ∷ es) [] after follows h t = absurd t
 run_goes may image s (e ∷ es) (told ∷ tolds) after follows h (mid, performs, rest) =
     let now = performs_goes may image s e.0 told e.1 mid follows.0 h performs in
-    let later = run_goes may (pages_put image (pages_in e.1)) mid es tolds after follows.1 now.0 rest in (
-      subst (λ (k : Host). HeldIn k after) (sym (pages_put-append image (pages_in e.1) (pages_answered es))) later.0,
-      places-append (lengths image) (pages_in e.1) (pages_answered es) now.1 (subst (λ (l : List ℕ). HavePlaces l (pages_answered es)) now.2 later.1),
+    let later = run_goes may (pages_put image (pages_of_answer e.1)) mid es tolds after follows.1 now.0 rest in (
+      subst (λ (k : Host). HeldIn k after) (sym (pages_put-append image (pages_of_answer e.1) (pages_answered es))) later.0,
+      places-append (lengths image) (pages_of_answer e.1) (pages_answered es) now.1 (subst (λ (l : List ℕ). HavePlaces l (pages_answered es)) now.2 later.1),
     )
 
 -- an image that answered its copy tracks the state after
@@ -344,7 +344,7 @@ last_apart may image mid after (x ∷ told) last f t = absurd t
 
 pages_in_all : (events : List (Command × Answer)) (last : List Page) → pages_answered (events ++ (run.Harvest, run.Pages last) ∷ []) ≡ pages_answered events ++ last
 pages_in_all events last =
-    flat_map-append (λ (e : Command × Answer). pages_in e.1) events ((run.Harvest, run.Pages last) ∷ [])
+    flat_map-append (λ (e : Command × Answer). pages_of_answer e.1) events ((run.Harvest, run.Pages last) ∷ [])
     ∙ ap (λ (l : List Page). pages_answered events ++ l) (append-nil last)
 
 pub image_catches_up : {F : Type 0} (may : May F) (s after : State F) (copy : Host) (events : List (Command × Answer)) (last : List Page) →

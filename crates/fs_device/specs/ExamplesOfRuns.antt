@@ -1,4 +1,5 @@
--- Worked runs that compute: kicks, guest accesses, layouts that change, two regions, harvests, images and marks. Pages are compared by where they begin, or are small.
+-- Worked runs that compute: kicks, guest accesses, layouts that change, two regions, harvests, images and marks. Pages are
+-- compared by where they begin, or are small.
 use Rattle.std.specs.Prelude.{◌≡◌, ℕ, ◌+◌, ◌-◌, ◌^◌, true, false, List, [], ◌∷◌, ◌++◌, map, zip, refl, Some, None, if◌then◌else◌}
 use Rattle.std.proofs.Common.{arith}
 use Rattle.std.proofs.lemmas.Bool.Decides.{nat_tests}

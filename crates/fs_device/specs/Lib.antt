@@ -15,3 +15,4 @@ pub mod Moving
 pub mod Migrating
 pub mod Examples
 pub mod ExamplesOfRuns
+pub mod ExamplesOfMoves

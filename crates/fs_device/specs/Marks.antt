@@ -1,4 +1,4 @@
--- Marks change nothing else: two states that differ in marks alone allow the same runs, with the same calls, exchanges and notices.
+-- Marks change nothing else: two states that differ in marks alone allow the same runs.
 use Rattle.std.specs.Prelude.{◌≡◌, Bool, false, List, [], ◌∷◌, map}
 use Rattle.vm_memory_core.specs.Host.{Host, unmarked}
 use Rattle.virtiofsd_fuse.specs.Serving.{May}
@@ -6,12 +6,12 @@ use Rattle.fs_device.specs.Step.{State}
 use Rattle.fs_device.specs.Run.{Command, Answer, Done, Bytes, NewBlockIs, Served, Copied, Pages, IsRefused, Told, RunTold, with_host}
 
 -- as many pages, none of which is marked
-abbrev pub without_mark : List Bool → List Bool
-without_mark marks = map (λ _. false) marks
+abbrev pub none_marked : List Bool → List Bool
+none_marked marks = map (λ _. false) marks
 
 -- the host with no page marked, neither of a block nor of a set of I/O pages
 abbrev pub without_marks : Host → Host
-without_marks h = record h { blocks = map unmarked h.blocks; io_marks = map without_mark h.io_marks }
+without_marks h = record h { blocks = map unmarked h.blocks; io_marks = map none_marked h.io_marks }
 
 -- the state over its host with no page marked
 abbrev pub without_its_marks : {F : Type 0} → State F → State F
@@ -40,8 +40,8 @@ SameEvents [] (other ∷ others) = ⊥
 SameEvents (event ∷ events) [] = ⊥
 SameEvents (event ∷ events) (other ∷ others) = (other.0 ≡ event.0) × SameAnswer event.1 other.1 × SameEvents events others
 
--- from two states that differ in marks alone the same runs are allowed, what harvests answer and marks apart: the same is behind the
--- answers, word for word, and they end in states that differ in marks alone
+-- from two states that differ in marks alone the same runs are allowed, what harvests answer and marks apart, with the same
+-- exchanges, notices and calls behind the answers, and they end in states that differ in marks alone
 abbrev pub MarksDoNotMatter : {F : Type 0} → May F → Type 0
 MarksDoNotMatter {F} may =
     (a b after : State F) (events : List (Command × Answer)) (tolds : List Told) → SameButMarks a b → RunTold may a events tolds after →

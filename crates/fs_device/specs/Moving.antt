@@ -33,13 +33,13 @@ follows_image Image = false
 follows_image _ = true
 
 -- the pages of an answer, which only a harvest has
-abbrev pub pages_in : Answer → List Page
-pages_in (Pages pages) = pages
-pages_in _ = []
+abbrev pub pages_of_answer : Answer → List Page
+pages_of_answer (Pages pages) = pages
+pages_of_answer _ = []
 
 -- the pages that the harvests of a run answered, in order
 abbrev pub pages_answered : List (Command × Answer) → List Page
-pages_answered events = flat_map (λ e. pages_in e.1) events
+pages_answered events = flat_map (λ e. pages_of_answer e.1) events
 
 -- a run in which an image answered its copy, and then such commands followed, the IOMMU off throughout
 pub record RunsFromImage {F : Type 0} (may : May F) (s : State F) (copy : Host) (events : List (Command × Answer)) (after : State F) : Type 0 where

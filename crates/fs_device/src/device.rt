@@ -1,6 +1,6 @@
 //! The device: its queues are served one chain a step.
 
-ghost use Rattle.std.specs.Prelude.{◌≡◌, ◌≤◌, ◌<◌, ◌^◌, List, length, set, slice_get, [], IfErr, IfOk, IfSome, None, OnErr, OnOk, option_map};
+ghost use Rattle.std.specs.Prelude.{◌≡◌, ◌≤◌, ◌<◌, ◌^◌, length, set, slice_get, IfErr, IfOk, IfSome, None, OnOk, option_map};
 ghost use Rattle.vm_memory_core.specs.Host.{lengths, shape};
 ghost use Rattle.vm_memory.specs.Memory.{Memory};
 ghost use Rattle.fs_queue.specs.Windows.{TakenLiesIn};

@@ -34,10 +34,10 @@ pub fn law_marks<F: FileSystem>()
     ensures { MarksDoNotMatter F.may }
 {}
 
-/// Over a run in which an image answered its copy, and which goes on with the IOMMU off, without new
-/// blocks, mappings or a second image: what differs between the copy, with the harvested pages put in,
-/// and the host lies on marked pages, at each moment; so after a last harvest they are the same, marks
-/// apart. Each harvested page has its place in the copy, and from where the run ends another may begin.
+/// Over a run in which an image answered its copy of a host with a mark for each page of its blocks, and which goes on with the
+/// IOMMU off, without a new block, a change of mappings or another image: what differs between the copy, with the harvested
+/// pages put in, and the host lies on marked pages, at each moment; so after a last harvest they are the same, marks apart. Each
+/// harvested page has its place in the copy, and from where the run ends another may begin.
 pub fn law_move<F: FileSystem>()
     ensures stale { StaleIsMarked F.may }
     ensures catches_up { ImageCatchesUp F.may }

@@ -44,9 +44,9 @@ reads_front f rooms off (part ∷ parts) g (mid, some, low, gives, rest) =
     ∙ ap (λ (n : ℕ). take n there) (sym (length-append part (concat parts)))
 
 -- as many as there are and are wanted
-by_length : (size : ℕ) (xs : List ℕ) (b : Bool) → nat_le size (length xs) ≡ b → take (min (length xs) size) xs ≡ take size xs
-by_length size xs true is = let low = leb-true size (length xs) is in let same : min (length xs) size ≡ size = omega (arith, low) in ap (λ (n : ℕ). take n xs) same
-by_length size xs false is =
+take_least : (size : ℕ) (xs : List ℕ) (b : Bool) → nat_le size (length xs) ≡ b → take (min (length xs) size) xs ≡ take size xs
+take_least size xs true is = let low = leb-true size (length xs) is in let same : min (length xs) size ≡ size = omega (arith, low) in ap (λ (n : ℕ). take n xs) same
+take_least size xs false is =
     let low = leb-false size (length xs) is in
     let same : min (length xs) size ≡ length xs = omega (arith, low) in
     ap (λ (n : ℕ). take n xs) same ∙ take_all (length xs) xs (omega arith) ∙ sym (take_all size xs (omega (arith, low)))
@@ -62,7 +62,7 @@ whole f rooms off size n bytes answer g t is count =
     let there = drop off f.bytes.now in
     let all : n ≡ length bytes = ended t.mid (past (length bytes) rooms) (off + length bytes) (length bytes) n answer g t.ends is in
     let front : bytes ≡ take (length bytes) there = subst (λ (l : List ℕ). l ≡ take (length l) there) t.whole (reads_front f rooms off t.parts t.mid t.reads) in
-    (all, front ∙ ap (λ (k : ℕ). take k there) (sym all ∙ count) ∙ by_length size there (nat_le size (length there)) refl)
+    (all, front ∙ ap (λ (k : ℕ). take k there) (sym all ∙ count) ∙ take_least size there (nat_le size (length there)) refl)
 
 -- ---- how much of what is wanted comes
 
@@ -145,13 +145,13 @@ module _ (f : Contents) (rooms : List ℕ) (off wanted : ℕ) (bytes : List ℕ)
 
 -- ---- what is told of it
 
-by_room : (room : ℕ) (bytes : List ℕ) (b : Bool) → nat_lt room (length bytes) ≡ b → length bytes ≤ room → call.Bytes bytes ≡ (if b then call.Failed EIO else call.Bytes bytes)
-by_room room bytes true is low = let high = ltb-true room (length bytes) is in absurd (omega (arith, high, low))
-by_room room bytes false is low = refl
+put_by_test : (room : ℕ) (bytes : List ℕ) (b : Bool) → nat_lt room (length bytes) ≡ b → length bytes ≤ room → call.Bytes bytes ≡ (if b then call.Failed EIO else call.Bytes bytes)
+put_by_test room bytes true is low = let high = ltb-true room (length bytes) is in absurd (omega (arith, high, low))
+put_by_test room bytes false is low = refl
 
 -- bytes for which there is room
 pub goes_in : (room : ℕ) (bytes : List ℕ) → length bytes ≤ room → call.Bytes bytes ≡ bytes_in room bytes
-goes_in room bytes low = by_room room bytes (nat_lt room (length bytes)) refl low
+goes_in room bytes low = put_by_test room bytes (nat_lt room (length bytes)) refl low
 
 by_want : (room : ℕ) (bytes : List ℕ) (b : Bool) → nat_lt room (length bytes) ≡ b → room < length bytes → call.Failed EIO ≡ (if b then call.Failed EIO else call.Bytes bytes)
 by_want room bytes true is high = refl

@@ -1,4 +1,6 @@
 pub mod ContentsLemmas
 pub mod ReadLemmas
 pub mod TableLemmas
-pub mod MachineLemmas
+pub mod StoreLemmas
+pub mod HoldLemmas
+pub mod GuestLemmas

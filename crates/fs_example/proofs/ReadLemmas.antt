@@ -20,12 +20,12 @@ use Rattle.fs_device.specs.Run.{Turn, Told, Command, Answer, RunTold}
 use Rattle.fs_device.specs.Telling.{calls_of, calls_told, IsMeant, IsServedBy, IsServed}
 use Rattle.fs_example.specs.declared.table.File.{File}
 use Rattle.fs_example.specs.declared.table.ReadOnlyDirectory.{ReadOnlyDirectory}
-use Rattle.fs_example.specs.Directory.{EIO, MayAnswer, answer_of, file_at, bytes_at, bytes_in}
+use Rattle.fs_example.specs.Directory.{EIO, MayAnswer, directory_answer, file_at, bytes_at, bytes_in}
 use Rattle.fs_example.specs.Reading.{read_in_room, wanted, read_reply, GivesBytes, ReadsTrue, ReadsIntoRoom, ReadingRun}
 
 -- each call has its answer
 abbrev Answered : List File → Calls → Type 0
-Answered fs calls = AllByRecursion (λ step. step.1 ≡ answer_of fs step.0) calls
+Answered fs calls = AllByRecursion (λ step. step.1 ≡ directory_answer fs step.0) calls
 
 serves_each : (before : ReadOnlyDirectory) (calls : Calls) (after : ReadOnlyDirectory) → FileRun MayAnswer before calls after → Answered before.files.now calls × (after ≡ before)
 serves_each before [] after same = (tt, same)
@@ -63,14 +63,14 @@ module _ (fs : List File) (f : File) (s : Setting) (who : Context) (unique node 
   reading = Read who node handle (s.room - 16) size offset owner flags
 
   -- the reply, by whether the bytes are too many
-  abbrev told : Bool → List ℕ
-  told long = if long then error_bytes unique EIO else reply_bytes unique (wanted f size offset)
+  abbrev reply_by : Bool → List ℕ
+  reply_by long = if long then error_bytes unique EIO else reply_bytes unique (wanted f size offset)
 
-  replies : (long : Bool) → answer_bytes unique reading (if long then Failed EIO else Bytes (wanted f size offset)) ≡ told long
+  replies : (long : Bool) → answer_bytes unique reading (if long then Failed EIO else Bytes (wanted f size offset)) ≡ reply_by long
   replies true = refl
   replies false = refl
 
-  fits : (long : Bool) → nat_lt (s.room - 16) (length (wanted f size offset)) ≡ long → 16 ≤ s.room → length (told long) ≤ s.room
+  fits : (long : Bool) → nat_lt (s.room - 16) (length (wanted f size offset)) ≡ long → 16 ≤ s.room → length (reply_by long) ≤ s.room
   fits true is place = omega (arith, length_error unique EIO, place)
   fits false is place = omega (arith, length_reply unique (wanted f size offset), ltb-false (s.room - 16) (length (wanted f size offset)) is, place)
 
@@ -80,7 +80,7 @@ module _ (fs : List File) (f : File) (s : Setting) (who : Context) (unique node 
   asked_once options false bytes = refl
 
   by_calls : (calls : Calls) → Answered fs calls → (served s (Asks (One unique reading)) (told_of calls)).calls ≡ asked_of calls → 16 ≤ s.room →
-      (served s (Asks (One unique reading)) (told_of calls)).reply ≡ told (nat_lt (s.room - 16) (length (wanted f size offset)))
+      (served s (Asks (One unique reading)) (told_of calls)).reply ≡ reply_by (nat_lt (s.room - 16) (length (wanted f size offset)))
   by_calls [] all asks place = absurd (cc)
   by_calls (step ∷ calls) all asks place =
       let bytes = answer_bytes unique reading step.1 in
@@ -88,39 +88,39 @@ module _ (fs : List File) (f : File) (s : Setting) (who : Context) (unique node 
       let list : (reading ∷ []) ≡ step.0 ∷ asked_of calls = sym (asked_once s.options (nat_lt s.room (length bytes)) bytes) ∙ asks in
       let same : step.0 ≡ reading = cc in
       let answer : step.1 ≡ bytes_in (s.room - 16) (wanted f size offset) =
-      all.0 ∙ ap (answer_of fs) same ∙ ap (λ (o : Option File). bytes_at o (s.room - 16) size offset) there in
-      let is : bytes ≡ told long = ap (answer_bytes unique reading) answer ∙ replies long in
+      all.0 ∙ ap (directory_answer fs) same ∙ ap (λ (o : Option File). bytes_at o (s.room - 16) size offset) there in
+      let is : bytes ≡ reply_by long = ap (answer_bytes unique reading) answer ∙ replies long in
       let low : length bytes ≤ s.room = subst (λ (l : List ℕ). length l ≤ s.room) (sym is) (fits long refl place) in
       whole_reply s.room (reading ∷ []) s.options bytes low ∙ is
 
-  by_room : (calls : Calls) (place : Bool) → nat_le 16 s.room ≡ place → Answered fs calls →
+  by_header : (calls : Calls) (place : Bool) → nat_le 16 s.room ≡ place → Answered fs calls →
       (served s (if place then Asks (One unique reading) else IsFault EncodeMessage) (told_of calls)).calls ≡ asked_of calls →
       (served s (if place then Asks (One unique reading) else IsFault EncodeMessage) (told_of calls)).reply
-      ≡ (if place then told (nat_lt (s.room - 16) (length (wanted f size offset))) else [])
-  by_room calls true is all asks = by_calls calls all asks (leb-true 16 s.room is)
-  by_room calls false is all asks = refl
+      ≡ (if place then reply_by (nat_lt (s.room - 16) (length (wanted f size offset))) else [])
+  by_header calls true is all asks = by_calls calls all asks (leb-true 16 s.room is)
+  by_header calls false is all asks = refl
 
   -- the reply that its answer makes
   read_served : (calls : Calls) (m : Meaning) → m ≡ read_in_room unique s.room reading → Answered fs calls → (served s m (told_of calls)).calls ≡ asked_of calls →
       (served s m (told_of calls)).reply ≡ read_reply s.room unique (wanted f size offset)
   read_served calls m is all asks =
       ap (λ (k : Meaning). (served s k (told_of calls)).reply) is
-      ∙ by_room calls (nat_le 16 s.room) refl all (subst (λ (k : Meaning). (served s k (told_of calls)).calls ≡ asked_of calls) is asks)
+      ∙ by_header calls (nat_le 16 s.room) refl all (subst (λ (k : Meaning). (served s k (told_of calls)).calls ≡ asked_of calls) is asks)
 
   -- where the room has no place for a header, that is a fault
   has_place : (calls : Calls) (place : Bool) → (served s (if place then Asks (One unique reading) else IsFault EncodeMessage) (told_of calls)).fault ≡ None → place ≡ true
   has_place calls true well = refl
   has_place calls false well = absurd (cc)
 
-  by_length : (reply : List ℕ) (place long : Bool) → place ≡ true → reply ≡ (if place then told long else []) → GivesBytes reply unique size offset f
-  by_length reply true true is made = inr made
-  by_length reply true false is made = inl made
-  by_length reply false long is made = absurd (cc)
+  gives_by : (reply : List ℕ) (place long : Bool) → place ≡ true → reply ≡ (if place then reply_by long else []) → GivesBytes reply unique size offset f
+  gives_by reply true true is made = inr made
+  gives_by reply true false is made = inl made
+  gives_by reply false long is made = absurd (cc)
 
   read_well : (calls : Calls) (m : Meaning) (reply : List ℕ) → m ≡ read_in_room unique s.room reading → (served s m (told_of calls)).fault ≡ None →
       reply ≡ read_reply s.room unique (wanted f size offset) → GivesBytes reply unique size offset f
   read_well calls m reply is well made =
-      by_length reply (nat_le 16 s.room) (nat_lt (s.room - 16) (length (wanted f size offset)))
+      gives_by reply (nat_le 16 s.room) (nat_lt (s.room - 16) (length (wanted f size offset)))
       (has_place calls (nat_le 16 s.room) (subst (λ (k : Meaning). (served s k (told_of calls)).fault ≡ None) is well)) made
 
 -- ---- steps

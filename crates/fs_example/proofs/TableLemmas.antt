@@ -1,15 +1,13 @@
 -- the table of files, entry by entry
 use Rattle.std.proofs.Common.{◌≡◌, ℕ, zero, suc, ◌+◌, ◌-◌, ◌<◌, List, [], ◌∷◌, length, drop, get_or, Some, refl, ap, sym, ◌∙◌, arith}
-use Rattle.std.specs.Prelude.{if◌then◌else◌, slice_get}
-use Rattle.std.specs.Str.{bytes_eq}
+use Rattle.std.specs.Prelude.{slice_get}
 use Rattle.std.proofs.lemmas.List.{drop-drop}
 use Rattle.std.proofs.lemmas.Option.{slice_get-get_or}
 use Rattle.fuse_fs.specs.declared.answers.Context.{Context}
 use Rattle.fuse_fs.specs.Answers.{ForgetsEach}
-use Rattle.fuse_fs.specs.Calls.{HasEntry}
 use Rattle.fs_example.specs.declared.table.File.{File}
 use Rattle.fs_example.specs.declared.table.ReadOnlyDirectory.{ReadOnlyDirectory}
-use Rattle.fs_example.specs.Directory.{entry_of, found_from, listing_from, MayAnswer}
+use Rattle.fs_example.specs.Directory.{listing_from, MayAnswer}
 
 -- ---- entries
 
@@ -36,24 +34,6 @@ first_listed at (x ∷ l) f e =
 pub entry_there : (at : ℕ) (fs : List File) (d : File) → at < length fs →
     Some (record { ino = at + 2; offset = at + 1; kind = 8; name = (get_or fs at d).name.now }) ≡ slice_get (listing_from (at + 2) (drop at fs)) 0
 entry_there at fs d low = first_listed at (drop at fs) (get_or fs at d) (first_there at fs ∙ slice_get-get_or fs at d low)
-
--- ---- names
-
-one_more : (l : List File) (name : List ℕ) (first : ℕ) (f : File) → slice_get l 0 ≡ Some f →
-    found_from l name first ≡ (if bytes_eq f.name.now name then HasEntry (entry_of first f) else found_from (drop 1 l) name (first + 1))
-one_more [] name first f e = absurd (cc)
-one_more (x ∷ l) name first f e =
-    let same : x ≡ f = cc in
-    ap (λ (y : File). if bytes_eq y.name.now name then HasEntry (entry_of first y) else found_from l name (first + 1)) same
-
--- of the files from one on
-pub found_next : (fs : List File) (name : List ℕ) (i first : ℕ) (d : File) → i < length fs →
-    found_from (drop i fs) name first
-    ≡ (if bytes_eq (get_or fs i d).name.now name then HasEntry (entry_of first (get_or fs i d)) else found_from (drop (i + 1) fs) name (first + 1))
-found_next fs name i first d low =
-    let f = get_or fs i d in
-    one_more (drop i fs) name first f (first_there i fs ∙ slice_get-get_or fs i d low)
-    ∙ ap (λ (l : List File). if bytes_eq f.name.now name then HasEntry (entry_of first f) else found_from l name (first + 1)) (drop-drop 1 i fs)
 
 -- ---- what is forgotten changes nothing
 

@@ -1,4 +1,5 @@
--- What the read-only directory answers. The root is node 1, and the files are the nodes from 2 on, in the order of the table.
+-- What the read-only directory answers. The root is node 1, and the files are the nodes from 2 on, in the table's
+-- order.
 use Rattle.std.specs.Prelude.{◌≡◌, ℕ, ◌+◌, ◌-◌, Bool, ◌==◌, nat_lt, bit_and, List, [], ◌∷◌, length, take, drop, Option, Some, None, if◌then◌else◌, slice_get}
 use Rattle.std.specs.Int.{div_ceil}
 use Rattle.std.specs.Str.{bytes_eq}
@@ -6,7 +7,8 @@ use Rattle.fuse_base.specs.declared.records.Attr.{Attr}
 use Rattle.fuse_fs.specs.declared.answers.Entry.{Entry}
 use Rattle.fuse_fs.specs.Answers.{default_stats}
 use Rattle.fuse_fs.specs.Times.{Duration}
-use Rattle.fuse_fs.specs.Calls.{FileCall, FileAnswer, Listed, Init, Destroy, Lookup, Forget, BatchForget, Getattr, Open, Opendir, Read, Readdir, Statfs, Failed, Done, HasEntry, HasAttr, Opened, Bytes, Stats, Entries, Wants}
+use Rattle.fuse_fs.specs.Calls.{FileCall, FileAnswer, Listed, Failed, Done, HasEntry, HasAttr, Opened, Bytes, Stats, Entries, Wants}
+use Rattle.fuse_fs.specs.Calls.{Init, Destroy, Lookup, Forget, BatchForget, Getattr, Open, Opendir, Read, Readdir, Statfs}
 use Rattle.fs_example.specs.declared.table.File.{File}
 use Rattle.fs_example.specs.declared.table.ReadOnlyDirectory.{ReadOnlyDirectory}
 
@@ -64,13 +66,13 @@ abbrev pub root_attr : Attr
 root_attr = attr_of 1 0 0x416d
 
 -- what a look-up that found a file answers
-abbrev pub entry_of : (node : ℕ) → File → Entry ℕ
-entry_of node f = record { inode = node; generation = 0; attr = file_attr node f; attr_timeout = second; entry_timeout = second }
+abbrev pub file_entry : (node : ℕ) → File → Entry ℕ
+file_entry node f = record { inode = node; generation = 0; attr = file_attr node f; attr_timeout = second; entry_timeout = second }
 
 -- the first file with a name, where the first of the table has this node
 abbrev pub found_from : List File → (name : List ℕ) → (first : ℕ) → FileAnswer
 found_from [] name first = Failed ENOENT
-found_from (f ∷ fs) name first = if bytes_eq f.name.now name then HasEntry (entry_of first f) else found_from fs name (first + 1)
+found_from (f ∷ fs) name first = if bytes_eq f.name.now name then HasEntry (file_entry first f) else found_from fs name (first + 1)
 
 -- the attributes of a node that may be no file
 abbrev pub attr_at : (node : ℕ) → Option File → FileAnswer
@@ -95,26 +97,27 @@ abbrev pub opened_at : Option File → (flags : ℕ) → FileAnswer
 opened_at None flags = Failed ENOENT
 opened_at (Some f) flags = if reads_only flags then Opened None 0 else Failed EROFS
 
--- the entries of files of which the first has this node, each with where a listing goes on behind it; regular files (8 is DT_REG of dirent.h)
+-- the entries of files of which the first has this node, each with where a listing goes on behind it; regular files (8
+-- is DT_REG of dirent.h)
 abbrev pub listing_from : (first : ℕ) → List File → List Listed
 listing_from first [] = []
 listing_from first (f ∷ fs) = record { ino = first; offset = first - 1; kind = 8; name = f.name.now } ∷ listing_from (first + 1) fs
 
 -- what each call is answered
-abbrev pub answer_of : List File → FileCall → FileAnswer
-answer_of fs (Init capable) = Wants 0
-answer_of fs (Lookup who parent name) = if parent == 1 then found_from fs name 2 else Failed ENOENT
-answer_of fs (Getattr who node handle) = if node == 1 then HasAttr root_attr second else attr_at node (file_at fs node)
-answer_of fs (Read who node handle room size offset owner flags) = bytes_at (file_at fs node) room size offset
-answer_of fs (Readdir who node handle size offset) = if node == 1 then Entries (listing_from (offset + 2) (drop offset fs)) else Failed ENOENT
-answer_of fs (Open who node kill flags) = opened_at (file_at fs node) flags
-answer_of fs (Opendir who node flags) = if node == 1 then Opened None 0 else Failed ENOENT
-answer_of fs (Statfs who node) = Stats default_stats
-answer_of fs (Forget who node count) = Done
-answer_of fs (BatchForget who counts) = Done
-answer_of fs Destroy = Done
-answer_of fs _ = Failed ENOSYS
+abbrev pub directory_answer : List File → FileCall → FileAnswer
+directory_answer fs (Init capable) = Wants 0
+directory_answer fs (Lookup who parent name) = if parent == 1 then found_from fs name 2 else Failed ENOENT
+directory_answer fs (Getattr who node handle) = if node == 1 then HasAttr root_attr second else attr_at node (file_at fs node)
+directory_answer fs (Read who node handle room size offset owner flags) = bytes_at (file_at fs node) room size offset
+directory_answer fs (Readdir who node handle size offset) = if node == 1 then Entries (listing_from (offset + 2) (drop offset fs)) else Failed ENOENT
+directory_answer fs (Open who node kill flags) = opened_at (file_at fs node) flags
+directory_answer fs (Opendir who node flags) = if node == 1 then Opened None 0 else Failed ENOENT
+directory_answer fs (Statfs who node) = Stats default_stats
+directory_answer fs (Forget who node count) = Done
+directory_answer fs (BatchForget who counts) = Done
+directory_answer fs Destroy = Done
+directory_answer fs _ = Failed ENOSYS
 
 -- each call has its answer, and nothing changes
 abbrev pub MayAnswer : ReadOnlyDirectory → FileCall → FileAnswer → ReadOnlyDirectory → Type 0
-MayAnswer before call answer after = (answer ≡ answer_of before.files.now call) × (after ≡ before)
+MayAnswer before call answer after = (answer ≡ directory_answer before.files.now call) × (after ≡ before)

@@ -1,7 +1,13 @@
--- A read worked out: a file with the bytes `hello`, which is node 2, and a guest that reads three bytes of it from the second on.
-use Rattle.std.specs.Prelude.{◌≡◌, ℕ, ◌-◌, ◌^◌, Bool, true, false, List, [], ◌∷◌, ◌++◌, nat_le, None, Ok, Err, refl, if◌then◌else◌}
+-- A read worked out: a file with the bytes `hello`, which is node 2, and a guest that reads three bytes of it from the
+-- second on, and then looks at its memory.
+use Rattle.std.specs.Prelude.{◌≡◌, ℕ, ◌-◌, ◌^◌, Bool, true, false, not, ◌&&◌, List, [], ◌∷◌, ◌++◌, nat_le, map, take, drop, Option, Some, None, option_map, Ok, Err, refl, if◌then◌else◌}
+use Rattle.std.specs.Option.{option_or}
+use Rattle.std.proofs.Common.{ap, sym, ◌∙◌}
+use Rattle.std.specs.List.{AllByRecursion, IsDistinct, list_all}
 use Rattle.vm_values.specs.Fields.{field_bytes}
-use Rattle.vm_memory.specs.Layout.{place}
+use Rattle.vm_iotlb.specs.Table.{is_within}
+use Rattle.vm_memory_core.specs.Host.{Place}
+use Rattle.vm_memory.specs.Layout.{Region, place}
 use Rattle.vm_memory.specs.Memory.{Memory, addresses, bytes, stored_all}
 use Rattle.fs_queue.specs.Chain.{path, found}
 use Rattle.fs_queue.specs.Taking.{Offers, offer}
@@ -14,6 +20,7 @@ use Rattle.fuse_replies.specs.WholeReplies.{error_bytes, reply_bytes}
 use Rattle.virtiofsd_fuse.specs.Examples.{nobody, zeros, le16, le32, le64, in_header_bytes}
 use Rattle.virtiofsd_fuse.specs.Grammar.{Asks, IsFault, One, ended, meaning, meant, row}
 use Rattle.fs_device.specs.Examples.{blank, descriptor_bytes, put, queue}
+use Rattle.fs_example.specs.GuestGets.{bare, device_place, is_one_byte, WritesApart, LooksAtRoom, GetsFile}
 use Rattle.fs_example.specs.Reading.{IsRead, read_reply}
 
 -- READ of 3 bytes of node 2 from offset 1
@@ -74,3 +81,82 @@ short_room = refl
 -- one without a place for a header is told nothing
 no_room : read_reply 15 2 ell ≡ []
 no_room = refl
+
+-- ---- what the guest gets
+
+-- whether no element of a list is equal to one after it
+abbrev none_again : {X : Type 0} → (X → X → Bool) → List X → Bool
+none_again same [] = true
+none_again same (x ∷ xs) = list_all (λ y. not (same x y)) xs && none_again same xs
+
+two_tests : (a b : Bool) → (a && b) ≡ true → (a ≡ true) × (b ≡ true)
+two_tests true b e = (refl, e)
+two_tests false b e = absurd (cc)
+
+negated : (b : Bool) → not b ≡ true → b ≡ false
+negated true e = absurd (cc)
+negated false e = refl
+
+each_other : {X : Type 0} (same : X → X → Bool) (x : X) (xs : List X) → list_all (λ y. not (same x y)) xs ≡ true → AllByRecursion (λ y. same x y ≡ false) xs
+each_other same x [] e = tt
+each_other same x (y ∷ xs) e =
+    let tests = two_tests _ _ e in
+    (negated (same x y) tests.0, each_other same x xs tests.1)
+
+by_test : {X : Type 0} (same : X → X → Bool) (xs : List X) → none_again same xs ≡ true → IsDistinct same xs
+unfolding IsDistinct
+by_test same [] e = tt
+by_test same (x ∷ xs) e =
+    let tests = two_tests _ _ e in
+    (each_other same x xs tests.0, by_test same xs tests.1)
+
+-- the room, the used element and the used index lie apart
+writes_apart : WritesApart (offering 32) queue (addresses 0x2000 32)
+unfolding place addresses stored_all
+writes_apart = by_test is_one_byte _ refl
+
+-- no table is used
+no_table : (offering 32).translates ≡ false
+unfolding place addresses stored_all
+no_table = refl
+
+-- a place that no table gave marks its own page
+own_page : (layout : List Region) (a : ℕ) → place layout a ≡ option_map bare (place layout a)
+unfolding place
+own_page [] a = refl
+own_page (r ∷ layout) a =
+    elim (is_within r.start r.size a) as
+    (λ b. let here : Option Place = if b then Some (record { block = r.block; offset = a - r.start; io = None }) else None in option_or here (place layout a) ≡ option_map bare (option_or here (place layout a))) [
+      | true ↦ refl
+      | false ↦ own_page layout a
+    ]
+
+own_pages : (layout : List Region) (as' : List ℕ) → map (place layout) as' ≡ map (λ a. option_map bare (place layout a)) as'
+own_pages layout [] = refl
+own_pages layout (a ∷ as') = rw (own_pages layout as') (ap (λ (o : Option Place). o ∷ map (λ b. option_map bare (place layout b)) as') (own_page layout a))
+
+-- where no table is used, a guest looks at a room by the room's own addresses
+looks_plainly : (m : Memory) (room : List ℕ) (k a n : ℕ) → m.translates ≡ false → take n (drop k room) ≡ addresses a n → LooksAtRoom m room k a n
+looks_plainly m room k a n off is =
+    own_pages m.layout (addresses a n)
+    ∙ ap (λ (l : List ℕ). map (λ b. option_map bare (place m.layout b)) l) (sym is)
+    ∙ ap (λ (t : Bool). map (device_place (record m { translates = t })) (take n (drop k room))) (sym off)
+
+-- the addresses behind the header
+behind_header : take 3 (drop 16 (addresses 0x2000 32)) ≡ addresses 0x2010 3
+unfolding addresses
+behind_header = refl
+
+-- so behind the header
+looks_behind : LooksAtRoom (offering 32) (addresses 0x2000 32) 16 0x2010 3
+looks_behind = looks_plainly (offering 32) (addresses 0x2000 32) 16 0x2010 3 no_table behind_header
+
+-- behind the header it gets the bytes alone
+gets_ell : GetsFile (offering 32) 32 16 0x2010 3 2 ell ell
+unfolding place addresses stored_all reply_bytes field_bytes
+gets_ell = (refl, λ fits behind all. refl)
+
+-- those bytes stand there
+ell_stands : bytes left 0x2010 3 ≡ ell
+unfolding place addresses stored_all reply_bytes field_bytes
+ell_stands = refl

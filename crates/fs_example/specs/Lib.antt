@@ -1,3 +1,4 @@
 pub mod Directory
 pub mod Examples
+pub mod GuestGets
 pub mod Reading

@@ -29,13 +29,13 @@ IsRead request unique node size offset =
 abbrev pub wanted : File → (size offset : ℕ) → List ℕ
 wanted f size offset = take size (drop offset f.contents.now)
 
--- the reply with these bytes; EIO where a room behind the header is too short for them; nothing where it has no place for a header
+-- the reply with these bytes; EIO where the room behind the header is too short; nothing where it has no place for one
 abbrev pub read_reply : (room unique : ℕ) → List ℕ → List ℕ
 read_reply room unique bytes =
     if nat_le 16 room then (if nat_lt (room - 16) (length bytes) then error_bytes unique EIO else reply_bytes unique bytes)
     else []
 
--- where a step took a READ of a file from queue i, the reply was written over the room of its chain, and then what goes back with it
+-- where a step took a READ of a file from queue i, the reply was written over its chain's room, then what follows it
 abbrev pub ReadsIntoRoom : State ReadOnlyDirectory → (i : ℕ) → Outcome → State ReadOnlyDirectory → Type 0
 ReadsIntoRoom s i (Exchanged x notice) after =
     (q : Queue) (head : ℕ) (request room : List ℕ) (unique node size offset : ℕ) (f : File) →

@@ -3,7 +3,7 @@
 ghost use Rattle.std.specs.Prelude.{◌≡◌, ◌<◌, ◌^◌, ◌+◌, ◌++◌, ℕ, List, length, take, drop, Ok, IfOk, option_map};
 ghost use Rattle.fuse_fs.specs.Answers.{attr_answer, data_answer, entry_answer, pair_numbers};
 ghost use Rattle.fuse_fs.specs.Calls as call;
-ghost use Rattle.fs_example.specs.Directory.{EROFS, attr_of, bytes_in, entry_of, file_at, found_from, listing_from, MayAnswer};
+ghost use Rattle.fs_example.specs.Directory.{EROFS, attr_of, bytes_in, file_entry, file_at, found_from, listing_from, MayAnswer};
 
 use crate::table::{Entries, File, ReadOnlyDirectory};
 use bitflags::Flags;
@@ -79,7 +79,7 @@ fn file_at<'a>(files: &[File<'a>], node: u64) -> Option<File<'a>>
 
 // What a look-up that found a file answers.
 fn entry(node: u64, file: &File) -> Entry<u64>
-    ensures { result ≡ entry_of node file.now }
+    ensures { result ≡ file_entry node file.now }
 {
     Entry {
         inode: node,

@@ -4,6 +4,7 @@ ghost use Rattle.std.specs.Prelude.{◌≡◌, length, map, IfOk, OnErr};
 ghost use Rattle.std.specs.List.{zip};
 ghost use Rattle.fs_device.specs.CommandView.{answer_of, command_of};
 ghost use Rattle.fs_device.specs.MachineView.{machine_of};
+ghost use Rattle.fs_example.specs.GuestGets.{GuestGetsTheFile};
 ghost use Rattle.fs_example.specs.Reading.{ReadingRun};
 
 use crate::table::ReadOnlyDirectory;
@@ -12,14 +13,16 @@ use fs_device::{Answer, Command, Machine};
 use std::alloc::{AllocError, Global};
 use vm_memory::Iommu;
 
-/// Does commands one after another, as `Machine::run`. Whatever the guest does: where an exchange without a fault reads a
-/// file, its reply has the file's bytes, or is EIO.
+/// Does commands one after another, as `Machine::run`. Whatever the guest does: where an exchange without a fault reads
+/// a file, its reply has the file's bytes, or is EIO. Where a kick takes one chain that reads a file, and the guest
+/// looks at that chain's room next, it gets the reply: behind the header, the file's bytes.
 pub fn run_directory<'a, I: Iommu + Drop>(
     alloc: Global,
     machine: &mut Machine<ReadOnlyDirectory<'a>, I>,
     commands: Vec<Command>,
 ) -> Result<Vec<Answer>, AllocError>
     ensures run { IfOk result (λ answers. ReadingRun (machine_of machine.old) (zip (map command_of commands.items) (map answer_of answers.items)) (machine_of machine.new)) }
+    ensures guest { IfOk result (λ answers. GuestGetsTheFile (machine_of machine.old) (zip (map command_of commands.items) (map answer_of answers.items)) (machine_of machine.new)) }
     ensures all { IfOk result (λ answers. length answers.items ≡ length commands.items) }
     ensures err { OnErr result (machine_of machine.new ≡ machine_of machine.old) }
 {

@@ -2,8 +2,8 @@
 
 ghost use Rattle.std.specs.Prelude.{◌≡◌, ◌<◌, ◌^◌, length};
 
-/// A file of the directory. Its name is to be one that a directory can have: not empty, without `/` and zero bytes, of at
-/// most 255 bytes, and no other file's. Nothing looks at that: a listing gives each name as it is.
+/// A file of the directory. Its name is to be one that a directory can have: not empty, without `/` and zero bytes, of
+/// at most 255 bytes, and no other file's. Nothing looks at that: a listing gives each name as it is.
 #[derive(Clone, Copy)]
 pub struct File<'a> {
     pub name: &'a [u8],

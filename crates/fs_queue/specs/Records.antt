@@ -1,14 +1,13 @@
 -- The records of a split virtqueue as the fields that spell them (VIRTIO 1.2, 2.7.5 and 2.7.8).
-use Rattle.std.specs.Prelude.{List, [], ◌∷◌}
+use Rattle.std.specs.Prelude.{ℕ, List, [], ◌∷◌}
 use Rattle.vm_values.specs.Fields.{Field}
 use Rattle.vm_values.specs.Fields as fields
 use Rattle.fs_queue.specs.Chain.{Descriptor}
-use Rattle.fs_queue.specs.declared.used.UsedUpdate.{UsedUpdate}
 
 -- struct virtq_desc (2.7.5)
 abbrev pub descriptor : Descriptor → List Field
 descriptor r = fields.q r.addr ∷ fields.d r.len ∷ fields.w r.flags ∷ fields.w r.next ∷ []
 
 -- struct virtq_used_elem, and after it the used index (2.7.8)
-abbrev pub used_update : UsedUpdate → List Field
-used_update r = fields.d r.id ∷ fields.d r.len ∷ fields.w r.index ∷ []
+abbrev pub used_update : (id len index : ℕ) → List Field
+used_update id len index = fields.d id ∷ fields.d len ∷ fields.w index ∷ []

@@ -1,6 +1,6 @@
 //! Where the driver puts a queue's three parts (VIRTIO 1.2, 2.7).
 
-ghost use Rattle.std.specs.Prelude.{◌≡◌, ◌+◌, ◌*◌, ◌<◌, ◌≤◌, ◌^◌, Ok, Err, MatchResult, None, Some, nat_le};
+ghost use Rattle.std.specs.Prelude.{◌≡◌, ◌+◌, ◌*◌, ◌<◌, ◌^◌, Ok, Err, MatchResult, None, Some, nat_le};
 ghost use Rattle.fs_queue.specs.Lawful.{layout_error};
 
 use crate::fault::QueueLayoutError;

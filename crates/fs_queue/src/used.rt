@@ -21,7 +21,7 @@ impl ByteValued for UsedUpdate {
 
     const SIZE: usize = 10;
 
-    ghost fields = { used_update };
+    ghost fields = { λ r. used_update r.id r.len r.index };
 
     fn put_bytes(&self, out: &mut [u8]) {
         put_fields!(self, out; id len index);

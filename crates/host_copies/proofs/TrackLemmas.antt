@@ -147,7 +147,7 @@ unmarked_same (a ∷ xs) (b ∷ ys) f =
 pub harvest_unmarked : (image host : Host) → Tracks image host → map unmarked (pages_put image (harvested host)).blocks ≡ map unmarked (cleared host).blocks
 harvest_unmarked image host f = ap (λ (h : Host). map unmarked h.blocks) (harvest_restores image host f) ∙ unmarked_same image.blocks host.blocks f.blocks
 
--- and its own tables and sets of I/O pages
+-- and the host's tables and sets of I/O pages
 pub harvest_rest : (image host : Host) → Tracks image host →
     ((pages_put image (harvested host)).tables ≡ host.tables) × ((pages_put image (harvested host)).io_marks ≡ host.io_marks)
 harvest_rest image host f =

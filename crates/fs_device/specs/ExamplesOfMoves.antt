@@ -1,0 +1,68 @@
+-- A worked move that computes: an image of eight bytes, a guest's write after it, and the harvest that brings it up to the host.
+use Rattle.std.specs.Prelude.{◌≡◌, ℕ, Bool, true, false, List, [], ◌∷◌, refl, Some, None}
+use Rattle.vm_memory_core.specs.Host.{Host, Place, byte_at, lengths}
+use Rattle.vm_memory.specs.Layout.{place}
+use Rattle.vm_memory.specs.Memory.{memory_of, addresses, stored_all}
+use Rattle.host_copies.specs.Harvested.{block_pages, host_pages}
+use Rattle.host_copies.specs.Applying.{first_refused, pages_put}
+use Rattle.fs_device.specs.Step.{State}
+use Rattle.fs_device.specs.Run as run
+use Rattle.fs_device.specs.Run.{Command, Answer, RunTold, effect, with_host}
+use Rattle.fs_device.specs.Examples.{queue, Nothing, may, device}
+use Rattle.fs_device.specs.Moving.{RunsFromImage, page_mark, pages_answered}
+
+-- a machine of these bytes at 0, their page marked or not
+abbrev of_eight : List ℕ → Bool → State Nothing
+of_eight bytes marked =
+    device
+    (memory_of (record { blocks = record { bytes = bytes; marks = marked ∷ [] } ∷ []; tables = []; io_marks = [] })
+    (record { start = 0; size = 8; block = 0 } ∷ []))
+    queue
+
+abbrev old_bytes : List ℕ
+old_bytes = 1 ∷ 2 ∷ 3 ∷ 4 ∷ 5 ∷ 6 ∷ 7 ∷ 8 ∷ []
+
+abbrev new_bytes : List ℕ
+new_bytes = 1 ∷ 2 ∷ 3 ∷ 4 ∷ 5 ∷ 70 ∷ 80 ∷ 8 ∷ []
+
+-- the image
+abbrev copy : Host
+copy = (of_eight old_bytes false).memory.host
+
+-- two bytes are written at 5, and the page harvested
+abbrev events : List (Command × Answer)
+events =
+    (run.GuestWrite 5 (70 ∷ 80 ∷ []), run.Done)
+    ∷ (run.Harvest, run.Pages (record { block = 0; offset = 0; bytes = new_bytes } ∷ [])) ∷ []
+
+-- what the law asks of a run is met
+moves : RunsFromImage may (of_eight old_bytes true) copy events (of_eight new_bytes false)
+unfolding RunTold effect place addresses stored_all block_pages host_pages
+moves = record {
+  off = refl;
+  marks = (refl, tt);
+  follow = (refl, (refl, tt));
+  run = ([] ∷ [] ∷ [] ∷ [], (of_eight old_bytes false, refl, (of_eight new_bytes true, refl, (of_eight new_bytes false, refl, refl))));
+}
+
+-- between the two the byte at 5 is stale, and its page marked
+abbrev at_five : Place
+at_five = record { block = 0; offset = 5; io = None }
+
+copy_is_old : byte_at copy at_five ≡ Some 6
+copy_is_old = refl
+
+host_is_new : byte_at (of_eight new_bytes true).memory.host at_five ≡ Some 70
+host_is_new = refl
+
+host_is_marked : page_mark (of_eight new_bytes true).memory.host at_five ≡ Some true
+host_is_marked = refl
+
+-- the page has its place in the image, which then is the host
+page_has_its_place : first_refused (lengths copy) 0 (pages_answered events) ≡ None
+unfolding first_refused
+page_has_its_place = refl
+
+image_is_the_host : with_host (of_eight new_bytes false) (pages_put copy (pages_answered events)) ≡ of_eight new_bytes false
+unfolding pages_put
+image_is_the_host = refl
