@@ -29,8 +29,8 @@ use Rattle.fs_device.specs.Run.{Command, Answer, Told, Performs, RunTold, Run, w
 use Rattle.fs_device.specs.DeviceParts.{DeviceParts}
 use Rattle.fs_device.specs.DeviceView.{state_of}
 use Rattle.fs_device.specs.CommandView.{answer_of, command_of}
-use Rattle.fs_device.specs.Marks.{without_mark, without_marks, MarksDoNotMatter, SameButMarks}
-use Rattle.fs_device.specs.Moving.{HasItsMarks, RunsFromImage, follows_image, pages_answered, pages_in}
+use Rattle.fs_device.specs.Marks.{none_marked, without_marks, MarksDoNotMatter, SameButMarks}
+use Rattle.fs_device.specs.Moving.{HasItsMarks, RunsFromImage, follows_image, pages_answered, pages_of_answer}
 use Rattle.fs_device.proofs.LayoutLemmas.{page_count-is}
 use Rattle.fs_device.specs.Migrating.{CouldRunHere, Stays, pages_told, until_harvest}
 
@@ -120,11 +120,11 @@ LeftTold first now whole answers i = (pages_put now (pages_told (drop i answers)
 
 -- one answer further
 told_next : (first now new whole : Host) (answers : List told.Answer) (i : ℕ) (a : told.Answer) (ps : List Page) → i < length answers → a ≡ get_or answers i a →
-    pages_in (answer_of a) ≡ ps → new ≡ pages_put now ps → shape new ≡ shape now → LeftTold first now whole answers i → LeftTold first new whole answers (i + 1)
+    pages_of_answer (answer_of a) ≡ ps → new ≡ pages_put now ps → shape new ≡ shape now → LeftTold first now whole answers i → LeftTold first new whole answers (i + 1)
 told_next first now new whole answers i a ps lt is has put same left =
     let rest = pages_told (drop (i + 1) answers) in
     let next : pages_told (drop i answers) ≡ ps ++ rest =
-    ap pages_told (drop_more answers i a lt) ∙ ap (λ (x : told.Answer). pages_in (answer_of x) ++ rest) (sym is) ∙ ap (λ (l : List Page). l ++ rest) has in
+    ap pages_told (drop_more answers i a lt) ∙ ap (λ (x : told.Answer). pages_of_answer (answer_of x) ++ rest) (sym is) ∙ ap (λ (l : List Page). l ++ rest) has in
     let kept : lengths new ≡ lengths now = ap (λ (s : Shape). s.block_lengths) same in
     let there = subst (HavePlaces (lengths now)) next left.1 in (
       ap (λ (h : Host). pages_put h rest) put ∙ sym (pages_put-append now ps rest) ∙ sym (ap (pages_put now) next) ∙ left.0,
@@ -134,18 +134,18 @@ told_next first now new whole answers i a ps lt is has put same left =
 
 -- an answer with pages, which are put in
 pub told_put : (first now new whole : Host) (answers : List told.Answer) (i : ℕ) (a : told.Answer) (pages : List HarvestedPage) (r : Result (Unit {0}) ApplyError) → i < length answers → a ≡ get_or answers i a →
-    pages_in (answer_of a) ≡ map page_view pages → r ≡ applied (first_refused (lengths now) 0 (map page_view pages)) → OnOk r (new ≡ pages_put now (map page_view pages)) → shape new ≡ shape now →
+    pages_of_answer (answer_of a) ≡ map page_view pages → r ≡ applied (first_refused (lengths now) 0 (map page_view pages)) → OnOk r (new ≡ pages_put now (map page_view pages)) → shape new ≡ shape now →
     LeftTold first now whole answers i → LeftTold first new whole answers (i + 1)
 told_put first now new whole answers i a pages r lt is has outcome ok same left =
     let ps = map page_view pages in
     let rest = pages_told (drop (i + 1) answers) in
     let next : pages_told (drop i answers) ≡ ps ++ rest =
-    ap pages_told (drop_more answers i a lt) ∙ ap (λ (x : told.Answer). pages_in (answer_of x) ++ rest) (sym is) ∙ ap (λ (l : List Page). l ++ rest) has in
+    ap pages_told (drop_more answers i a lt) ∙ ap (λ (x : told.Answer). pages_of_answer (answer_of x) ++ rest) (sym is) ∙ ap (λ (l : List Page). l ++ rest) has in
     let there = subst (HavePlaces (lengths now)) next left.1 in
     told_next first now new whole answers i a ps lt is has (put_all r _ outcome (places_front (lengths now) ps rest 0 (there 0)) ok) same left
 
 pub told_passed : (first now whole : Host) (answers : List told.Answer) (i : ℕ) (a : told.Answer) → i < length answers → a ≡ get_or answers i a →
-    pages_in (answer_of a) ≡ [] → LeftTold first now whole answers i → LeftTold first now whole answers (i + 1)
+    pages_of_answer (answer_of a) ≡ [] → LeftTold first now whole answers i → LeftTold first now whole answers (i + 1)
 unfolding pages_put
 told_passed first now whole answers i a lt is none left = told_next first now now whole answers i a [] lt is none refl refl left
 
@@ -155,10 +155,10 @@ told_all first now whole answers i ge left = sym (ap (λ (l : List told.Answer).
 
 -- ---- hosts that differ in marks alone
 
-pages_sized : (marks : List (List Bool)) → map length (map without_mark marks) ≡ map length marks
+pages_sized : (marks : List (List Bool)) → map length (map none_marked marks) ≡ map length marks
 pages_sized [] = refl
 pages_sized (m ∷ marks) =
-    ap (λ (n : ℕ). n ∷ map length (map without_mark marks)) (length-map m (λ (b : Bool). false)) ∙ ap (λ (l : List ℕ). length m ∷ l) (pages_sized marks)
+    ap (λ (n : ℕ). n ∷ map length (map none_marked marks)) (length-map m (λ (b : Bool). false)) ∙ ap (λ (l : List ℕ). length m ∷ l) (pages_sized marks)
 
 shape-without_marks : (h : Host) → shape (without_marks h) ≡ shape h
 shape-without_marks h =
@@ -198,7 +198,7 @@ all_pages [] [] last e = append-nil last
 all_pages [] (a ∷ answers) last e = absurd (omega arith)
 all_pages (c ∷ cs) [] last e = absurd (omega arith)
 all_pages (c ∷ cs) (a ∷ answers) last e =
-    ap (λ (l : List Page). pages_in (answer_of a) ++ l) (all_pages cs answers last (omega arith)) ∙ sym (append_assoc (pages_in (answer_of a)) (pages_told answers) last)
+    ap (λ (l : List Page). pages_of_answer (answer_of a) ++ l) (all_pages cs answers last (omega arith)) ∙ sym (append_assoc (pages_of_answer (answer_of a)) (pages_told answers) last)
 
 pub from_image : {F : Type 0} (may : May F) (s began mid here : State F) (copy : Host) (cs : List asked.Command) (answers : List told.Answer) (last : List Page) →
     s.memory.translates ≡ false → HasItsMarks s.memory.host → AllByRecursion (λ c. IsTrue (follows_image (command_of c))) cs →

@@ -9,11 +9,11 @@ use Rattle.fs_device.specs.Step.{State}
 use Rattle.fs_device.specs.Run.{Command, Image, Harvest, Answer, Copied, Pages, Told, Run, RunTold}
 use Rattle.fs_device.specs.CommandView.{answer_of}
 use Rattle.fs_device.specs.Marks.{SameButMarks, SameEvents}
-use Rattle.fs_device.specs.Moving.{RunsFromImage, pages_in}
+use Rattle.fs_device.specs.Moving.{RunsFromImage, pages_of_answer}
 
 -- the pages that these answers have, in order
 abbrev pub pages_told : List told.Answer → List Page
-pages_told answers = flat_map pages_in (map answer_of answers)
+pages_told answers = flat_map pages_of_answer (map answer_of answers)
 
 -- what was done here, from an image of the host to a last harvest
 abbrev pub until_harvest : List (Command × Answer) → (last : List Page) → List (Command × Answer)
