@@ -14,3 +14,4 @@ pub mod TellingLemmas
 pub mod MarkLemmas
 pub mod MarkedRuns
 pub mod MoveLemmas
+pub mod MigrateLemmas

@@ -12,6 +12,7 @@ pub mod Telling
 pub mod Laws
 pub mod Marks
 pub mod Moving
+pub mod Migrating
 pub mod Examples
 pub mod ExamplesOfRuns
 pub mod ExamplesOfMoves

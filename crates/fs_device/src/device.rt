@@ -4,6 +4,7 @@ ghost use Rattle.std.specs.Prelude.{◌≡◌, ◌≤◌, ◌<◌, ◌^◌, leng
 ghost use Rattle.vm_memory_core.specs.Host.{lengths, shape};
 ghost use Rattle.vm_memory.specs.Memory.{Memory};
 ghost use Rattle.fs_queue.specs.Windows.{TakenLiesIn};
+ghost use Rattle.device_record.specs.Record.{IsSavable};
 
 use crate::begun::Begun;
 use crate::error::DeviceError;
@@ -11,6 +12,7 @@ use crate::exchange::Exchange;
 use crate::serve::{serve, serve_taken};
 use fs_queue::{Queue, QueueError, QueueLayout};
 use fuse_fs::FileSystem;
+use fuse_wire::FsOptions;
 use std::alloc::{AllocError, Global};
 use std::marker::Model;
 use virtiofsd_fuse::Server;
@@ -83,6 +85,22 @@ impl<F: FileSystem> Device<F> {
     {
         let Device { server, .. } = self;
         server
+    }
+
+    // The same device with other options and queues, as a record has them: its server goes on with these.
+    #[tactic(auto, using(virtiofsd_fuse::proofs::Options::known_bits_are))]
+    pub(crate) fn taking_up(self, options: FsOptions, queues: Vec<Queue>) -> Device<F>
+        requires { IsSavable options.0 queues.items }
+        ensures { result ≡ record self { queues = queues.items; options = options.0 } }
+    {
+        let Device { server, limit, .. } = self;
+        let page_size = server.page_size();
+        let server = Server::resume(server.into_fs(), page_size, options);
+        Device {
+            server,
+            queues,
+            limit,
+        }
     }
 
     /// Takes the next chain of a queue and all the memory that its exchange wants of the device: its request is read, and there

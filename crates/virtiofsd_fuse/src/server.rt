@@ -97,6 +97,14 @@ impl<F: FileSystem> Server<F> {
         self.options
     }
 
+    /// How many bytes the guest's pages have.
+    pub fn page_size(&self) -> u32
+        ensures value { result ≡ self.now.page_size }
+        ensures is_one { IsTrue (is_page_size result) }
+    {
+        self.page_size
+    }
+
     /// The file system.
     pub fn fs(&self) -> &F
         ensures { result.now ≡ self.now.fs }
