@@ -7,7 +7,7 @@ use crate::measure::{Case, Label, Meter};
 use crate::plain::measure_copy;
 use fs_device::{Device, Stream, harvest, image};
 use fs_queue::{Queue, QueueLayout};
-use std::alloc::Global;
+use std::alloc::{AllocError, Global};
 use std::time::Clock;
 use virtiofsd_fuse::Server;
 use vm_memory_core::{HostMemory, PageBitmap};
@@ -87,7 +87,16 @@ impl Case for Imaging {
     }
 }
 
-// A device of many queues, as it is saved.
+// As many queues of one layout as a record can have.
+fn queues(alloc: Global, layout: QueueLayout) -> Result<Vec<Queue>, AllocError> {
+    let mut queues = Vec::with_capacity(alloc, QUEUES)?;
+    for _ in 0..QUEUES {
+        queues.push(Queue::new(layout))?;
+    }
+    Ok(queues)
+}
+
+// A device of these queues, as it is saved.
 #[derive(Drop)]
 struct Saving {
     alloc: Global,
@@ -99,9 +108,9 @@ impl Saving {
         let Ok(layout) = QueueLayout::new(RING.size, RING.desc, RING.avail, RING.used) else {
             return Err(BenchFault::Guest);
         };
-        let mut queues = Vec::with_capacity(alloc, QUEUES)?;
-        for _ in 0..QUEUES {
-            queues.push(Queue::new(layout)).unwrap();
+        let queues = queues(alloc, layout)?;
+        if queues.is_empty() || queues.len() > QUEUES {
+            return Err(BenchFault::Guest);
         }
         let server = Server::new(MemoryFiles::new(alloc)?, PAGE_SIZE);
         Ok(Saving {
