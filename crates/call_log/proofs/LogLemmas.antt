@@ -19,12 +19,12 @@ use Rattle.fs_device.specs.declared.error.DeviceError.{DeviceError}
 use Rattle.fs_device.specs.declared.error.DeviceError.TheVariants as device
 use Rattle.fs_device.specs.declared.exchange.Fault.{Fault}
 use Rattle.fs_device.specs.declared.refusal.Refusal.TheVariants as why
-use Rattle.fs_device.specs.Step.{State, Exchange, Calls, Idle, Refused, Exchanged, Exchanges, StepOf, served_fault, served_exchange}
+use Rattle.fs_device.specs.Step.{State, Exchange, Calls, Idle, Refused, Exchanged, Exchanges, StepOf, served_fault, served_exchange, EachSuits}
 use Rattle.fs_device.specs.Run as run
 use Rattle.fs_device.specs.Run.{Command, Answer, Effect, Turn, Told, shown, KickEnds, KickRun, Kicks, Kicked, Affects, ChangesTable, HasEffect, Does, Performs, RunTold, Run, effect, insert, insert_block, is_known, some_overlap, reset}
 use Rattle.call_log.specs.declared.log.LoggedCall.{LoggedCall}
-use Rattle.call_log.specs.Log.{entry_of, kept, with_calls}
-use Rattle.call_log.specs.Runs.{entries_of, EachSuits, IsAnswered, WritesDown, IsLoggedBy, AreLoggedBy, exchanges_in, Grows}
+use Rattle.call_log.specs.Log.{entries_for, kept, with_calls}
+use Rattle.call_log.specs.Runs.{entries_of, IsAnswered, WritesDown, IsLoggedBy, AreLoggedBy, exchanges_in, Grows}
 
 -- ---- logs
 
@@ -49,7 +49,7 @@ unfolding AreLoggedBy
 stayed log before after same = ([], refl, ap log same)
 
 abbrev Keeps : {F : Type 0} → May F → (F → List LoggedCall) → Type 0
-Keeps {F} may log = (before : F) (call : FileCall) (answer : FileAnswer) (after : F) → may before call answer after → log after ≡ with_calls (log before) (entry_of call)
+Keeps {F} may log = (before : F) (call : FileCall) (answer : FileAnswer) (after : F) → may before call answer after → log after ≡ with_calls (log before) (entries_for call)
 
 steps_logged : {F : Type 0} (may : May F) (log : F → List LoggedCall) → Keeps may log → (before : F) (steps : Calls) (after : F) → FileRun may before steps after →
     log after ≡ with_calls (log before) (entries_of (map (λ step. step.0) steps))
@@ -57,7 +57,7 @@ steps_logged may log keeps before [] after same = ap log same
 steps_logged may log keeps before (step ∷ steps) after (between, suits, made, rest) =
     steps_logged may log keeps between steps after rest
     ∙ ap (λ (l : List LoggedCall). with_calls l (entries_of (map (λ step. step.0) steps))) (keeps before step.0 step.1 between made)
-    ∙ sym (with_calls-append (log before) (entry_of step.0) (entries_of (map (λ step. step.0) steps)))
+    ∙ sym (with_calls-append (log before) (entries_for step.0) (entries_of (map (λ step. step.0) steps)))
 
 -- what an exchange without a fault of its chain writes down
 answered : (e : Option Error) (x : Exchange) (entries : List LoggedCall) → x.fault ≡ served_fault e → IsAnswered x entries → IsLoggedBy x entries

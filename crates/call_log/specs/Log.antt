@@ -7,13 +7,13 @@ use Rattle.call_log.specs.declared.log.LoggedCall.{LoggedCall}
 use Rattle.call_log.specs.declared.log.LoggedCall.TheVariants as log
 
 -- a call as it is written down, a list of nodes to be forgotten node by node; other calls leave nothing
-abbrev pub entry_of : FileCall → List LoggedCall
-entry_of (Init capable) = log.Init ∷ []
-entry_of (Lookup who parent name) = log.Lookup parent ∷ []
-entry_of (Forget who node count) = log.Forget node count ∷ []
-entry_of (BatchForget who counts) = map (λ node. log.Forget node.0 node.1) counts
-entry_of (Read who node handle room size offset owner flags) = log.Read node ∷ []
-entry_of _ = []
+abbrev pub entries_for : FileCall → List LoggedCall
+entries_for (Init capable) = log.Init ∷ []
+entries_for (Lookup who parent name) = log.Lookup parent ∷ []
+entries_for (Forget who node count) = log.Forget node count ∷ []
+entries_for (BatchForget who counts) = map (λ node. log.Forget node.0 node.1) counts
+entries_for (Read who node handle room size offset owner flags) = log.Read node ∷ []
+entries_for _ = []
 
 -- a log with one more call; it holds 64
 abbrev pub kept : List LoggedCall → LoggedCall → List LoggedCall
@@ -43,4 +43,4 @@ MayAnswer _ answer = answer ≡ Failed 38
 
 -- each call grows the log by itself, and has one of the answers that it may have
 abbrev pub MayLog : CallLog → FileCall → FileAnswer → CallLog → Type 0
-MayLog before call answer after = (after.calls.items ≡ with_calls before.calls.items (entry_of call)) × MayAnswer call answer
+MayLog before call answer after = (after.calls.items ≡ with_calls before.calls.items (entries_for call)) × MayAnswer call answer

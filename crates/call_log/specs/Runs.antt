@@ -5,27 +5,22 @@ use Rattle.virtiofsd_fuse.specs.Grammar.{meaning}
 use Rattle.virtiofsd_fuse.specs.Serving.{Setting, served}
 use Rattle.fs_device.specs.declared.exchange.Fault.{Fault}
 use Rattle.fs_device.specs.declared.exchange.Fault.TheVariants as fault
-use Rattle.fs_device.specs.Step.{Calls, Exchange, served_exchange}
+use Rattle.fs_device.specs.Step.{Calls, Exchange, served_exchange, calls_alone, answers_alone, EachSuits}
 use Rattle.fs_device.specs.Run.{Answer, Done, Bytes, NewBlockIs, Served, Copied, Pages, IsRefused}
 use Rattle.call_log.specs.declared.log.LoggedCall.{LoggedCall}
-use Rattle.call_log.specs.Log.{entry_of, with_calls}
+use Rattle.call_log.specs.Log.{entries_for, with_calls}
 
 -- what calls write down, one after another
 abbrev pub entries_of : List FileCall → List LoggedCall
-entries_of calls = flat_map entry_of calls
-
--- each answer is one that its call can have
-abbrev pub EachSuits : Calls → Type 0
-EachSuits [] = Unit {0}
-EachSuits (step ∷ steps) = IsTrue (suits step.0 step.1) × EachSuits steps
+entries_of calls = flat_map entries_for calls
 
 -- what a request writes down that was answered so: the calls that it asks in some setting, each by the answers before it, which make
 -- this exchange
 abbrev pub IsAnswered : Exchange → List LoggedCall → Type 0
 IsAnswered x entries = (s : Setting) × (steps : Calls) × EachSuits steps
-    × ((served s (meaning s.options x.request s.room) (map (λ step. step.1) steps)).calls ≡ map (λ step. step.0) steps)
-    × (x ≡ served_exchange x.head x.request (served s (meaning s.options x.request s.room) (map (λ step. step.1) steps)))
-    × (entries ≡ entries_of (map (λ step. step.0) steps))
+    × ((served s (meaning s.options x.request s.room) (answers_alone steps)).calls ≡ calls_alone steps)
+    × (x ≡ served_exchange x.head x.request (served s (meaning s.options x.request s.room) (answers_alone steps)))
+    × (entries ≡ entries_of (calls_alone steps))
 
 -- what an exchange with this fault writes down: a faulty chain nothing
 abbrev pub WritesDown : Option Fault → Exchange → List LoggedCall → Type 0

@@ -1,6 +1,6 @@
 //! The file system: two files that never change, and a log that grows by each call.
 
-ghost use Rattle.std.specs.Prelude.{◌≡◌, ⊤, [], ◌∷◌, option_map};
+ghost use Rattle.std.specs.Prelude.{◌≡◌, ⊤, [], option_map};
 ghost use Rattle.fuse_fs.specs.Answers.{attr_answer, pair_numbers};
 ghost use Rattle.fuse_fs.specs.Calls as call;
 ghost use Rattle.call_log.specs.Log.{MayLog, kept};
@@ -62,7 +62,8 @@ impl PositionedFile for Contents {
     }
 }
 
-/// A file system whose state is the log of its calls of five kinds: INIT, LOOKUP, FORGET, lists of nodes to forget, and READ. A look-up of `a` in node 1 may find node 2, and any may find nothing.
+/// A file system whose state is the log of its calls of five kinds: INIT, LOOKUP, FORGET, lists of nodes to forget, and
+/// READ. A look-up of `a` in node 1 may find node 2, and any may find nothing.
 #[derive(Drop)]
 pub struct CallLog {
     calls: ArrayVec<LoggedCall, MOST_CALLS>,

@@ -13,7 +13,7 @@ use Rattle.fs_queue.specs.Queue.{Queue}
 use Rattle.fs_queue.specs.declared.fault.QueueLayoutError.TheVariants.{BadSize, Misaligned, EndOverflow}
 use Rattle.device_record.specs.Fields.{head_fields, queue_fields}
 use Rattle.device_record.specs.Laws.{OneReading}
-use Rattle.device_record.specs.Record.{flag, saved, head_of, queue_bytes, IsKnown, IsSavedQueue}
+use Rattle.device_record.specs.Record.{flag, saved, head_of, queue_bytes, HasKnownBits, IsSavedQueue}
 use lib.Bits.{and_le_r}
 
 -- ---- the parts have one length each
@@ -32,10 +32,10 @@ known_options_are : known_bits fs_options ≡ 0x117fbffffff
 unfolding known_from
 known_options_are = refl
 
-options_fit : (options : ℕ) → IsKnown options → options < 2 ^ 64
+options_fit : (options : ℕ) → HasKnownBits options → options < 2 ^ 64
 options_fit options known = omega (arith, known, known_options_are, and_le_r options (known_bits fs_options))
 
-head_fits : (options count : ℕ) → IsKnown options → count ≤ 64 → AllFit (head_fields (head_of options count))
+head_fits : (options count : ℕ) → HasKnownBits options → count ≤ 64 → AllFit (head_fields (head_of options count))
 unfolding Fits
 head_fits options count known few = (omega arith, (omega arith, (omega (arith, few), (omega arith, (options_fit options known, tt)))))
 

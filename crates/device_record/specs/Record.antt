@@ -42,8 +42,8 @@ abbrev pub record_bytes : (options : ℕ) → List Queue → List ℕ
 record_bytes options queues = record_front options (length queues) queues
 
 -- no bit is set but those of options that have a name
-abbrev pub IsKnown : (options : ℕ) → Type 0
-IsKnown options = bit_and options (known_bits fs_options) ≡ options
+abbrev pub HasKnownBits : (options : ℕ) → Type 0
+HasKnownBits options = bit_and options (known_bits fs_options) ≡ options
 
 -- a queue can have this layout (VIRTIO 1.2, 2.7), and its size and its position have 16 bits
 abbrev pub IsSavedQueue : Queue → Type 0
@@ -51,7 +51,7 @@ IsSavedQueue q = (layout_error q.size q.desc q.avail q.used ≡ None) × (q.size
 
 -- what has a record: known options, and 1 to 64 queues
 abbrev pub IsSavable : (options : ℕ) → List Queue → Type 0
-IsSavable options queues = IsKnown options × (1 ≤ length queues) × (length queues ≤ 64) × All IsSavedQueue queues
+IsSavable options queues = HasKnownBits options × (1 ≤ length queues) × (length queues ≤ 64) × All IsSavedQueue queues
 
 -- the bytes are the record of these options and queues
 abbrev pub IsRecord : List ℕ → (options : ℕ) → List Queue → Type 0

@@ -4,7 +4,7 @@ use Rattle.std.specs.Io.KnownBytes.{IsAtEnd}
 use Rattle.vm_values.specs.Fields.{spelled, AllFit}
 use Rattle.fs_queue.specs.Queue.{Queue}
 use Rattle.device_record.specs.Fields.{head_fields, queue_fields}
-use Rattle.device_record.specs.Record.{record_front, IsKnown, IsSavedQueue, head_error, is_queue}
+use Rattle.device_record.specs.Record.{record_front, HasKnownBits, IsSavedQueue, head_error, is_queue}
 use Rattle.device_record.specs.declared.fields.RecordHead.{RecordHead}
 use Rattle.device_record.specs.declared.fields.SavedQueue.{SavedQueue}
 use Rattle.device_record.specs.declared.error.RestoreError.{RestoreError}
@@ -13,7 +13,7 @@ use Rattle.device_record.specs.declared.error.RestoreError.TheVariants.{Truncate
 -- the head of a record of so many queues, and the first of them
 abbrev pub IsRecordFront : List ℕ → (options count : ℕ) → List Queue → Type 0
 IsRecordFront bytes options count queues =
-    (bytes ≡ record_front options count queues) × IsKnown options × (1 ≤ count) × (count ≤ 64) × (length queues ≤ count) × All IsSavedQueue queues
+    (bytes ≡ record_front options count queues) × HasKnownBits options × (1 ≤ count) × (count ≤ 64) × (length queues ≤ count) × All IsSavedQueue queues
 
 -- it ends within the head, or within a queue behind a front
 abbrev pub EndsWithin : List ℕ → Type 0

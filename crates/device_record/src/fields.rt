@@ -1,6 +1,6 @@
 //! The parts of a record, each a table of its fields in order, by which it is written and read.
 
-ghost use Rattle.std.specs.Prelude.{◌≡◌, refl};
+ghost use Rattle.std.specs.Prelude.{refl};
 ghost use Rattle.std.proofs.Common.{rules};
 ghost use Rattle.device_record.specs.Fields.{head_fields, queue_fields};
 

@@ -3,7 +3,7 @@
 ghost use Rattle.std.specs.Prelude.{◌≡◌, ◌<◌, ◌≤◌, ℕ, List, [], Some, None, true, false, length, OnOk, IfOk, IfErr, IfSome, IfNone};
 ghost use Rattle.std.specs.Io.KnownBytes.{Consumes};
 ghost use Rattle.vm_values.specs.Fields.{spelled, AllFit};
-ghost use Rattle.device_record.specs.Record.{IsKnown, IsRecord, IsSavedQueue, head_error, head_of, saved, queue_bytes, is_queue};
+ghost use Rattle.device_record.specs.Record.{HasKnownBits, IsRecord, IsSavedQueue, head_error, head_of, saved, queue_bytes, is_queue};
 ghost use Rattle.device_record.specs.Restoring.{LeavesSource, RefusesRecord, RefusesQueue, IsRecordFront, ends_early};
 
 use crate::error::RestoreError;
@@ -50,8 +50,8 @@ fn next_value<S: RecordSource, T: ByteValued>(source: &mut S) -> Result<T, Resto
 
 // The options of a known flag set, or None where another bit is set.
 fn known(bits: u64) -> Option<FsOptions>
-    ensures some { IfSome result (λ o. (o.0 ≡ bits) × IsKnown bits) }
-    ensures none { IfNone result (¬ IsKnown bits) }
+    ensures some { IfSome result (λ o. (o.0 ≡ bits) × HasKnownBits bits) }
+    ensures none { IfNone result (¬ HasKnownBits bits) }
 {
     FsOptions::from_bits(bits)
 }
@@ -59,7 +59,7 @@ fn known(bits: u64) -> Option<FsOptions>
 impl RecordHead {
     // The options and the number of queues, or the first thing that is wrong.
     fn checked(&self) -> Result<(FsOptions, usize), RestoreError>
-        ensures ok { IfOk result (λ v. (head_error self.now ≡ None) × (self.now ≡ head_of v.0.0 v.1) × IsKnown v.0.0 × (1 ≤ v.1) × (v.1 ≤ 64)) }
+        ensures ok { IfOk result (λ v. (head_error self.now ≡ None) × (self.now ≡ head_of v.0.0 v.1) × HasKnownBits v.0.0 × (1 ≤ v.1) × (v.1 ≤ 64)) }
         ensures err { IfErr result (λ e. head_error self.now ≡ Some e) }
     {
         if self.magic != MAGIC {

@@ -1,9 +1,9 @@
 //! Putting a record into a sink.
 
-ghost use Rattle.std.specs.Prelude.{◌≡◌, ◌<◌, ◌≤◌, ◌^◌, length, OnOk};
+ghost use Rattle.std.specs.Prelude.{◌≡◌, ◌<◌, ◌≤◌, length, OnOk};
 ghost use Rattle.vm_values.specs.Fields.{spelled};
 ghost use Rattle.device_record.specs.Streams.{GoesOut};
-ghost use Rattle.device_record.specs.Record.{IsKnown, IsSavable, IsSavedQueue, head_of, saved, flag, record_bytes};
+ghost use Rattle.device_record.specs.Record.{HasKnownBits, IsSavable, IsSavedQueue, saved, record_bytes};
 
 use crate::error::WriteFault;
 use crate::fields::{RecordHead, SavedQueue};
@@ -57,14 +57,14 @@ fn saved(queue: &Queue) -> SavedQueue
     }
 }
 
-/// Puts the record of some options and of 1 to 64 queues. WriteFault where the sink answers an error or takes nothing: a
-/// part of the record went out, and not all of it.
+/// Puts the record of some options and of 1 to 64 queues. WriteFault where the sink answers an error or takes nothing:
+/// a part of the record went out, and not all of it.
 pub fn save_record<S: RecordSink>(
     sink: &mut S,
     options: FsOptions,
     queues: &[Queue],
 ) -> Result<(), WriteFault>
-    requires known { IsKnown options.0 }
+    requires known { HasKnownBits options.0 }
     requires some { 1 ≤ length queues.now }
     requires few { length queues.now ≤ 64 }
     ensures goes_out { GoesOut (record_bytes options.0 queues.now) (S.sent sink.old) (S.failed sink.old) result (S.sent sink.new) (S.failed sink.new) }

@@ -1,13 +1,10 @@
 //! Steps in two parts: an exchange is begun, and finished.
 
-use crate::stand::{REQUEST_AT, RING, ROOM_AT, Request, Stand, UNKNOWN, expect_same};
+use crate::stand::{ENOSYS_REPLY, REQUEST_AT, RING, ROOM_AT, Request, Stand, UNKNOWN, expect_same};
 use call_log::LoggedCall;
 use fs_device::{Begun, DeviceError, Exchange, Fault};
 use fs_queue::{ChainFault, QueueError};
 use std::process::Abort;
-
-// The reply to the request whose opcode is unknown.
-const ENOSYS_REPLY: [u8; 16] = [16, 0, 0, 0, 0xda, 0xff, 0xff, 0xff, 1, 0, 0, 0, 0, 0, 0, 0];
 
 // Begins an exchange of a queue.
 fn begin(stand: &mut Stand, queue: usize) -> Result<Option<Begun>, DeviceError> {

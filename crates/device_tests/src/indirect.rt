@@ -1,6 +1,6 @@
 //! Chains by tables that a descriptor names.
 
-use crate::stand::{REQUEST_AT, RING, ROOM_AT, Stand};
+use crate::stand::{ENOSYS_REPLY, REQUEST_AT, RING, ROOM_AT, Stand};
 use fs_device::Fault;
 use fs_queue::ChainFault;
 use guest_driver::Descriptor;
@@ -9,9 +9,6 @@ use guest_driver::ring::{INDIRECT, NEXT, WRITE};
 use std::alloc::Global;
 use std::process::Abort;
 use vm_memory_core::GuestAddress;
-
-// The reply to the request whose opcode is unknown.
-const ENOSYS_REPLY: [u8; 16] = [16, 0, 0, 0, 0xda, 0xff, 0xff, 0xff, 1, 0, 0, 0, 0, 0, 0, 0];
 
 // The two descriptors of a chain that is served.
 const REQUEST: Descriptor = Descriptor {
@@ -75,8 +72,8 @@ const NAMES: Descriptor = Descriptor {
     next: 0,
 };
 
-// A descriptor that names a table, and the table: in a region apart; to write, which says nothing; across two regions; over
-// the used ring; of four descriptors.
+// A descriptor that names a table, and the table: in a region apart; to write, which says nothing; across two regions;
+// over the used ring; of four descriptors.
 const SERVED: [(Descriptor, &[Descriptor]); 5] = [
     (NAMES, BOTH),
     (
@@ -161,22 +158,15 @@ const FAULTY: [(Descriptor, &[Descriptor], ChainFault); 10] = [
     ),
 ];
 
-// The request, a table where a descriptor says that it is, and a chain of that descriptor alone; no page is marked. The second
-// region begins at 0x3000.
+// The request, a table where a descriptor says that it is, and a chain of that descriptor alone; no page is marked. The
+// second region begins at 0x3000.
 fn draw(rt: &impl Abort, alloc: Global, first: Descriptor, table: &[Descriptor]) -> Stand {
     let regions = [(GuestAddress(0), 0x3000), (GuestAddress(0x3000), 0xd000)];
     let mut stand = Stand::over(rt, alloc, &regions, RING);
     stand.put(rt, REQUEST_AT, &header(40, 7, 1, 0));
-    let mut index = 0u16;
-    for entry in table {
-        stand
-            .guest
-            .descriptor_in(first.addr, index, *entry)
-            .expect(rt, "a place");
-        index = index.wrapping_add(1);
-    }
-    stand.guest.descriptor(0, first).expect(rt, "a place");
-    stand.guest.make_available(0).expect(rt, "a place");
+    stand.enter_all(rt, first.addr, table);
+    stand.enter(rt, 0, first);
+    stand.offer(rt, 0);
     stand.guest.clear_marks();
     stand
 }

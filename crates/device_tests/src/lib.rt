@@ -1,26 +1,14 @@
-//! Tests of queues, devices and machines, each drawn as what a guest leaves in its memory. Nothing else stands here.
+//! Tests of queues and devices, each drawn as what a guest leaves in its memory. Nothing else stands here.
 #![tactic(auto)]
 
 #[cfg(test)]
 mod begun;
 #[cfg(test)]
-mod copies;
-#[cfg(test)]
-mod directory;
-#[cfg(test)]
 mod faults;
-#[cfg(test)]
-mod harvests;
 #[cfg(test)]
 mod indirect;
 #[cfg(test)]
-mod layouts;
-#[cfg(test)]
 mod longest;
-#[cfg(test)]
-mod machines;
-#[cfg(test)]
-mod mappings;
 #[cfg(test)]
 mod numbers;
 #[cfg(test)]
@@ -36,4 +24,4 @@ mod stand;
 #[cfg(test)]
 mod steps;
 #[cfg(test)]
-mod translated;
+mod walks;

@@ -1,18 +1,15 @@
 //! Queues that go on at a position, and queues that begin anew.
 
-use crate::stand::{LIMIT, REQUEST_AT, RING, ROOM_AT, Stand, expect_same, layout};
-use call_log::CallLog;
-use fs_device::Device;
+use crate::stand::{LIMIT, RING, Stand, UNKNOWN, expect_same, layout};
 use fs_queue::Queue;
-use guest_driver::requests::header;
+use std::alloc::Global;
 use std::process::Abort;
-use virtiofsd_fuse::Server;
+use vm_memory_core::GuestAddress;
 
 // A stand with a chain of a request with an unknown opcode and its room, made available once.
-fn stand(rt: &impl Abort, alloc: std::alloc::Global) -> Stand {
+fn stand(rt: &impl Abort, alloc: Global) -> Stand {
     let mut stand = Stand::new(rt, alloc);
-    let request = header(40, 7, 1, 0);
-    stand.chain(rt, 0, &request, &[(REQUEST_AT, 40)], &[(ROOM_AT, 16)]);
+    stand.ask(rt, UNKNOWN, 16);
     stand
 }
 
@@ -33,13 +30,13 @@ fn expect_queue(rt: &impl Abort, queue: &Queue, position: u16, stopped: bool) {
 
 #[test]
 fn resumed_queue_goes_on_at_its_position(rt: HostRuntime) {
-    let mut stand = stand(&rt, rt.alloc());
-    stand.guest.set_available(0).expect(&rt, "a place");
-    stand.put(&rt, 0x202, &[0xff, 0xff]);
+    const REGIONS: &[(GuestAddress, usize)] = &[(GuestAddress(0), 0x10000)];
     let queue = Queue::resume(layout(&rt, RING), 65535, false);
     expect_queue(&rt, &queue, 65535, false);
-    let queues = Vec::from_array(rt.alloc(), [queue]).expect(&rt, "memory");
-    stand.device = Device::new(Server::new(CallLog::new(), 4096), queues, LIMIT);
+    let mut stand = Stand::serving(&rt, rt.alloc(), REGIONS, RING, queue);
+    stand.ask(&rt, UNKNOWN, 16);
+    stand.guest.set_available(0).expect(&rt, "a place");
+    stand.put(&rt, 0x202, &[0xff, 0xff]);
     let (_, _) = stand.exchange(&rt);
     stand.expect_used(&rt, 3, (0, 16), 0);
     expect_queue(&rt, stand.device.queue(0).expect(&rt, "a queue"), 0, false);

@@ -3,7 +3,7 @@
 use bitflags::Flags;
 use call_log::files::PATTERN;
 use call_log::{CallLog, LoggedCall};
-use fs_device::{Device, DeviceError, Exchange, Fault, Machine};
+use fs_device::{Device, DeviceError, Exchange, Fault};
 use fs_queue::{Queue, QueueLayout};
 use fuse_wire::InitInCompat;
 use guest_driver::requests::{forget, header, init, lookup, read};
@@ -12,8 +12,7 @@ use std::alloc::Global;
 use std::fmt::Debug;
 use std::process::Abort;
 use virtiofsd_fuse::Server;
-use vm_memory::{GuestMemoryMmap, IommuMemory, TableIommu};
-use vm_memory_core::{GuestAddress, HostMemory, PageBitmap};
+use vm_memory_core::GuestAddress;
 
 /// A queue of four descriptors: its table at 0, its rings at 0x100 and 0x200.
 pub const RING: Ring = Ring {
@@ -69,6 +68,9 @@ pub enum Request<'a> {
     },
 }
 
+/// The reply to a request of an opcode that no request has.
+pub const ENOSYS_REPLY: [u8; 16] = [16, 0, 0, 0, 0xda, 0xff, 0xff, 0xff, 1, 0, 0, 0, 0, 0, 0, 0];
+
 /// A request of an opcode that no request has.
 pub const UNKNOWN: Request<'static> = Request::Unknown { len: 40 };
 
@@ -110,11 +112,12 @@ pub enum Act<'a> {
     Offers(u16),
     /// A request in one piece, with a room of so many bytes, is made available; no page is marked.
     Asks(Request<'a>, u32),
-    /// A request, cut into these readable parts and followed by these writable ones, is made available by the entries from 0
-    /// on; no page is marked.
+    /// A request, cut into these readable parts and followed by these writable ones, is made available by the entries
+    /// from 0 on; no page is marked.
     Chains(Request<'a>, &'a [(u64, u32)], &'a [(u64, u32)]),
-    /// READ of so many bytes of the pattern from byte 7 on, cut into these readable parts and followed by these writable ones,
-    /// is made available by the entries from a first one on, and exchanged for its reply, which stands in the writable parts.
+    /// READ of so many bytes of the pattern from byte 7 on, cut into these readable parts and followed by these
+    /// writable ones, is made available by the entries from a first one on, and exchanged for its reply, which stands
+    /// in the writable parts.
     ReadsPattern(u16, u32, &'a [(u64, u32)], &'a [(u64, u32)]),
     /// A step finds no chain.
     Idles,
@@ -177,8 +180,18 @@ impl Stand {
         regions: &[(GuestAddress, usize)],
         ring: Ring,
     ) -> Stand {
+        Stand::serving(rt, alloc, regions, ring, Queue::new(layout(rt, ring)))
+    }
+
+    /// The same, whose device has this queue.
+    pub fn serving(
+        rt: &impl Abort,
+        alloc: Global,
+        regions: &[(GuestAddress, usize)],
+        ring: Ring,
+        queue: Queue,
+    ) -> Stand {
         let guest = Guest::new(alloc, regions, ring).expect(rt, "regions");
-        let queue = Queue::new(layout(rt, ring));
         let queues = Vec::from_array(alloc, [queue]).expect(rt, "memory");
         Stand {
             alloc,
@@ -202,13 +215,24 @@ impl Stand {
         self.guest.descriptor(index, entry).expect(rt, "a place");
     }
 
+    /// The guest writes the entries of a table that begins at an address.
+    pub fn enter_all(&mut self, rt: &impl Abort, table: u64, entries: &[Descriptor]) {
+        let mut index = 0u16;
+        for entry in entries {
+            self.guest
+                .descriptor_in(table, index, *entry)
+                .expect(rt, "a place");
+            index = index.wrapping_add(1);
+        }
+    }
+
     /// The guest makes the chain from this head available.
     pub fn offer(&mut self, rt: &impl Abort, head: u16) {
         self.guest.make_available(head).expect(rt, "a place");
     }
 
-    /// A request, cut into these readable parts and followed by these writable ones, is made available by the entries from
-    /// `head` on; no page is marked.
+    /// A request, cut into these readable parts and followed by these writable ones, is made available by the entries
+    /// from `head` on; no page is marked.
     pub fn chain(
         &mut self,
         rt: &impl Abort,
@@ -230,8 +254,8 @@ impl Stand {
         self.chain(rt, 0, &bytes, &[(REQUEST_AT, len)], &[(ROOM_AT, room)]);
     }
 
-    /// A request, cut into these readable parts and followed by these writable ones, is made available by the entries from 0 on;
-    /// no page is marked.
+    /// A request, cut into these readable parts and followed by these writable ones, is made available by the entries
+    /// from 0 on; no page is marked.
     pub fn ask_cut(
         &mut self,
         rt: &impl Abort,
@@ -438,26 +462,6 @@ impl Stand {
             self.perform(rt, act);
         }
     }
-
-    /// The machine of this guest and this device. Its IOMMU is off; no address is mapped, and no I/O page is marked.
-    pub fn into_machine(self, rt: &impl Abort) -> Machine<CallLog, TableIommu> {
-        let (mut host, backend) = self.guest.into_memory();
-        let mem = behind(rt, self.alloc, &mut host, backend);
-        assert!(rt; host.holds(&mem));
-        Machine::new(host, mem, self.device)
-    }
-}
-
-/// Memory behind an IOMMU that is off: no address is mapped, and the I/O pages are those below 0x3000.
-pub fn behind(
-    rt: &impl Abort,
-    alloc: Global,
-    host: &mut HostMemory<PageBitmap>,
-    backend: GuestMemoryMmap,
-) -> IommuMemory<GuestMemoryMmap, TableIommu> {
-    let number = host.new_table().expect(rt, "memory");
-    let set = host.new_io_bitmap(0x3000).expect(rt, "memory");
-    IommuMemory::new(alloc, backend, TableIommu::new(number), false, set)
 }
 
 /// Each act in turn, at a stand with one region from 0 to 0x10000.

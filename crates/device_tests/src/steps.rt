@@ -1,11 +1,10 @@
 //! Steps of a device: one chain is taken, served and given back.
 
-use crate::stand::{Act, REQUEST_AT, RING, ROOM_AT, Request, UNKNOWN, play, play_over};
+use crate::stand::{
+    Act, ENOSYS_REPLY, REQUEST_AT, RING, ROOM_AT, Request, UNKNOWN, play, play_over,
+};
 use guest_driver::Ring;
 use vm_memory_core::GuestAddress;
-
-// The reply to the request whose opcode is unknown.
-const ENOSYS_REPLY: [u8; 16] = [16, 0, 0, 0, 0xda, 0xff, 0xff, 0xff, 1, 0, 0, 0, 0, 0, 0, 0];
 
 #[test]
 fn unknown_opcode_is_answered_enosys(rt: HostRuntime) {

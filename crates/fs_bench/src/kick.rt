@@ -65,6 +65,38 @@ pub(crate) enum Form {
     Indirect,
 }
 
+/// What a guest asks.
+#[derive(Clone, Copy)]
+pub(crate) enum Ask {
+    /// An opcode that the server doesn't know, with a room of so many bytes.
+    Unknown(u32),
+    /// The file's attributes.
+    Getattr,
+    /// A name of one byte.
+    Lookup,
+    /// A directory of a hundred entries, each of which takes 168 bytes.
+    Readdirplus,
+    /// So many bytes from the file's start.
+    Read(u32),
+    /// So many bytes put at the file's start.
+    Write(u32),
+}
+
+// What is asked, and under which name.
+const ASKED: [(&str, Ask); 11] = [
+    ("unknown", Ask::Unknown(16)),
+    ("unknown-room-1m", Ask::Unknown(0x100000)),
+    ("getattr", Ask::Getattr),
+    ("lookup", Ask::Lookup),
+    ("readdirplus-100", Ask::Readdirplus),
+    ("read-4k", Ask::Read(0x1000)),
+    ("read-64k", Ask::Read(0x10000)),
+    ("read-1m", Ask::Read(0x100000)),
+    ("write-4k", Ask::Write(0x1000)),
+    ("write-64k", Ask::Write(0x10000)),
+    ("write-1m", Ask::Write(0x100000)),
+];
+
 /// A request, how much room its reply has, and how much of it the reply takes.
 #[derive(Drop)]
 pub(crate) struct Asked {
@@ -75,80 +107,64 @@ pub(crate) struct Asked {
 }
 
 impl Asked {
+    /// What is asked under a name.
+    pub fn new(alloc: Global, case: &'static str, ask: Ask) -> Result<Asked, AllocError> {
+        let (room, reply) = ask.lengths();
+        Ok(Asked {
+            case,
+            request: ask.request(alloc)?,
+            room,
+            reply,
+        })
+    }
+
     /// How many bytes a kick moves.
     pub fn len(&self) -> usize {
         self.request.len().saturating_add(self.reply as usize)
     }
 }
 
-/// An opcode that the server doesn't know.
-pub(crate) fn unknown(alloc: Global) -> Result<Asked, AllocError> {
-    let header = requests::header(40, 7, 1, 0);
-    Ok(Asked {
-        case: "unknown",
-        request: requests::joined(alloc, &header, &[])?,
-        room: 16,
-        reply: 16,
-    })
+impl Ask {
+    // How much room the reply has, and how much of it the reply takes.
+    fn lengths(self) -> (u32, u32) {
+        match self {
+            Ask::Unknown(room) => (room, 16),
+            Ask::Getattr => (120, 120),
+            Ask::Lookup => (144, 144),
+            Ask::Readdirplus => (0x8010, 16_816),
+            Ask::Read(size) => (size.saturating_add(16), size.saturating_add(16)),
+            Ask::Write(_) => (24, 24),
+        }
+    }
+
+    // The bytes of the request.
+    fn request(self, alloc: Global) -> Result<Vec<u8>, AllocError> {
+        match self {
+            Ask::Unknown(_) => requests::header(40, 7, 1, 0).to_vec(alloc),
+            Ask::Getattr => {
+                let header = requests::header(56, 3, 1, 2);
+                requests::with_record(alloc, &header, &GetattrIn::default())
+            }
+            Ask::Lookup => requests::lookup(alloc, 1, 1, b"a"),
+            Ask::Readdirplus => readdirplus(alloc),
+            Ask::Read(size) => requests::read(alloc, 1, 2, 0, 0, size),
+            Ask::Write(size) => write(alloc, size),
+        }
+    }
 }
 
-// The same with a room of 1 MiB.
-fn unknown_in_large_room(alloc: Global) -> Result<Asked, AllocError> {
-    Ok(Asked {
-        case: "unknown-room-1m",
-        room: 0x100000,
-        ..unknown(alloc)?
-    })
-}
-
-// GETATTR of the file.
-fn getattr(alloc: Global) -> Result<Asked, AllocError> {
-    let header = requests::header(56, 3, 1, 2);
-    Ok(Asked {
-        case: "getattr",
-        request: requests::with_record(alloc, &header, &GetattrIn::default())?,
-        room: 120,
-        reply: 120,
-    })
-}
-
-/// LOOKUP of a name of one byte.
-pub(crate) fn lookup(alloc: Global) -> Result<Asked, AllocError> {
-    Ok(Asked {
-        case: "lookup",
-        request: requests::lookup(alloc, 1, 1, b"a")?,
-        room: 144,
-        reply: 144,
-    })
-}
-
-/// READ of so many bytes from the file's start.
-pub(crate) fn read(alloc: Global, case: &'static str, size: u32) -> Result<Asked, AllocError> {
-    Ok(Asked {
-        case,
-        request: requests::read(alloc, 1, 2, 0, 0, size)?,
-        room: size.saturating_add(16),
-        reply: size.saturating_add(16),
-    })
-}
-
-// READDIRPLUS of a directory of a hundred entries, each of which takes 168 bytes.
-fn readdirplus(alloc: Global) -> Result<Asked, AllocError> {
+// READDIRPLUS of the root.
+fn readdirplus(alloc: Global) -> Result<Vec<u8>, AllocError> {
     let header = requests::header(80, 44, 1, 1);
     let record = ReadIn {
         size: 0x8000,
         ..ReadIn::default()
     };
-    Ok(Asked {
-        case: "readdirplus-100",
-        request: requests::with_record(alloc, &header, &record)?,
-        room: 0x8010,
-        reply: 16_816,
-    })
+    requests::with_record(alloc, &header, &record)
 }
 
 // WRITE of so many bytes from the file's start.
-fn write(alloc: Global, case: &'static str, size: u32) -> Result<Asked, AllocError> {
+fn write(alloc: Global, size: u32) -> Result<Vec<u8>, AllocError> {
     let header = requests::header(size.saturating_add(80), 16, 1, 2);
     let record = WriteIn {
         size,
@@ -156,12 +172,7 @@ fn write(alloc: Global, case: &'static str, size: u32) -> Result<Asked, AllocErr
     };
     let mut request = requests::with_record(alloc, &header, &record)?;
     request.resize(request.len().saturating_add(size as usize), 7)?;
-    Ok(Asked {
-        case,
-        request,
-        room: 24,
-        reply: 24,
-    })
+    Ok(request)
 }
 
 // A range of addresses cut into as many parts, the last of which has what is left over.
@@ -259,25 +270,15 @@ impl Case for Kicking {
     }
 }
 
-/// Measures kicks of a request that the server doesn't know, of GETATTR, LOOKUP, READDIRPLUS, READ and WRITE, each cut into
-/// ever more descriptors, in the queue's table (`kick`) and in one of the chain's own (`indirect`); and chains of very many.
+/// Measures kicks of a request that the server doesn't know, of GETATTR, LOOKUP, READDIRPLUS, READ and WRITE, each cut
+/// into ever more descriptors, in the queue's table (`kick`) and in one of the chain's own (`indirect`); and chains of
+/// very many.
 pub(crate) fn measure_kicks<R: Clock + Eprint>(
     meter: &mut Meter<'_, R>,
     alloc: Global,
 ) -> Result<(), BenchFault> {
-    for asked in [
-        unknown(alloc)?,
-        unknown_in_large_room(alloc)?,
-        getattr(alloc)?,
-        lookup(alloc)?,
-        readdirplus(alloc)?,
-        read(alloc, "read-4k", 0x1000)?,
-        read(alloc, "read-64k", 0x10000)?,
-        read(alloc, "read-1m", 0x100000)?,
-        write(alloc, "write-4k", 0x1000)?,
-        write(alloc, "write-64k", 0x10000)?,
-        write(alloc, "write-1m", 0x100000)?,
-    ] {
+    for (case, ask) in ASKED {
+        let asked = Asked::new(alloc, case, ask)?;
         for split in SPLITS {
             measure_kick(meter, alloc, &asked, split, Form::Direct)?;
             measure_kick(meter, alloc, &asked, split, Form::Indirect)?;
@@ -292,7 +293,7 @@ fn measure_long_chains<R: Clock + Eprint>(
     alloc: Global,
 ) -> Result<(), BenchFault> {
     for split in LONG_SPLITS {
-        let mut request = unknown(alloc)?.request;
+        let mut request = Ask::Unknown(16).request(alloc)?;
         request.resize(usize::from(split).saturating_mul(32), 0)?;
         let mut case = Kicking::long(alloc, &request, split)?;
         let label = Label {

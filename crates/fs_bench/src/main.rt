@@ -1,8 +1,8 @@
 //! Measures windows of memory, memory of many regions, whole kicks, kicks behind an IOMMU and what a move to
 //! another host takes beside plain slice copies, and page marks beside bare steps on atomic words.
 //!
-//! Without an argument each case runs a few times, and the checksum of what was done is printed. An argument is how many
-//! samples are taken of each case; the times are then printed on standard error.
+//! Without an argument each case runs a few times, and the checksum of what was done is printed. An argument is how
+//! many samples are taken of each case; the times are then printed on standard error.
 #![tactic(auto)]
 
 mod fault;

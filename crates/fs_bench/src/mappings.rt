@@ -2,22 +2,30 @@
 
 use crate::fault::BenchFault;
 use crate::files::MemoryFiles;
-use crate::kick::{Asked, Form, Kicking, MEMORY, QUEUE_SIZE, RING, lookup, read, unknown};
+use crate::kick::{Ask, Asked, Form, Kicking, MEMORY, QUEUE_SIZE, RING};
 use crate::measure::{Case, Label, Meter};
 use fs_device::{Command, Machine};
 use std::alloc::Global;
 use std::time::Clock;
 use vm_iotlb::Iotlb;
-use vm_memory::{IommuMemory, TableIommu};
+use vm_memory::{Iommu, TableIommu};
 use vm_memory_core::{GuestAddress, Permissions};
 
 const PAGE: usize = 0x1000;
 
-// The mappings that a kick needs: from an address to itself, so many bytes. One has the queue and the request, one the room.
+// The mappings that a kick needs: from an address to itself, so many bytes. One has the queue and the request, one the
+// room.
 const NEEDED: [(u64, usize); 2] = [(0, 0x40000), (0x20_0000, 0x20_0000)];
 
 // How many pages are mapped besides, of which no two join.
 const OTHERS: u64 = 14;
+
+// What is asked, and under which name.
+const ASKED: [(&str, Ask); 3] = [
+    ("unknown", Ask::Unknown(16)),
+    ("lookup", Ask::Lookup),
+    ("read-4k", Ask::Read(0x1000)),
+];
 
 // How many mappings there are, and under which name an address is looked up among them.
 const LOOK_UPS: [(&str, u64); 3] = [("look-up-1", 1), ("look-up-64", 64), ("look-up-4096", 4096)];
@@ -61,14 +69,12 @@ impl Behind {
     // The IOMMU is off or on.
     fn new(alloc: Global, asked: &Asked, on: bool) -> Result<Behind, BenchFault> {
         let Kicking { guest, device, .. } = Kicking::new(alloc, asked, 1, Form::Direct)?;
-        let (mut host, backend) = guest.into_memory();
-        let number = host.new_table()?;
-        let set = host.new_io_bitmap(MEMORY)?;
-        match host.table_mut(number) {
+        let (mut host, mut mem) = guest.into_translated(alloc, MEMORY)?;
+        match host.table_mut(mem.iommu().table()) {
             Some(table) => fill(table)?,
             None => return Err(BenchFault::Guest),
         }
-        let mem = IommuMemory::new(alloc, backend, TableIommu::new(number), on, set);
+        mem.set_iommu_enabled(on);
         if !host.holds(&mem) {
             return Err(BenchFault::Guest);
         }
@@ -197,11 +203,8 @@ pub(crate) fn measure_mappings<R: Clock + Eprint>(
     meter: &mut Meter<'_, R>,
     alloc: Global,
 ) -> Result<(), BenchFault> {
-    for asked in [
-        unknown(alloc)?,
-        lookup(alloc)?,
-        read(alloc, "read-4k", 0x1000)?,
-    ] {
+    for (case, ask) in ASKED {
+        let asked = Asked::new(alloc, case, ask)?;
         measure_behind(meter, alloc, &asked, false)?;
         measure_behind(meter, alloc, &asked, true)?;
     }

@@ -16,8 +16,8 @@ pub(crate) trait Case {
     fn run(&mut self) -> u64;
 }
 
-/// A case's name, the descriptors that its request and its room are each cut into, the bytes that one run moves, and how
-/// many runs make one sample.
+/// A case's name, the descriptors that its request and its room are each cut into, the bytes that one run moves, and
+/// how many runs make one sample.
 #[derive(Clone, Copy)]
 pub(crate) struct Label {
     pub kind: &'static str,

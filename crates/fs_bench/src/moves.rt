@@ -164,7 +164,8 @@ impl Case for Restoring {
     }
 }
 
-/// Measures harvests of one, a few and all pages, an image beside a plain copy, and a record that is saved and restored.
+/// Measures harvests of one, a few and all pages, an image beside a plain copy, and a record that is saved and
+/// restored.
 pub(crate) fn measure_moves<R: Clock + Eprint>(
     meter: &mut Meter<'_, R>,
     alloc: Global,

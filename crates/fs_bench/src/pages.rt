@@ -1,6 +1,6 @@
 //! Page marks that threads share, beside bare steps on atomic words.
 
-ghost use Rattle.std.specs.Prelude.{◌≡◌, IfOk};
+ghost use Rattle.std.specs.Prelude.{IfOk};
 ghost use Rattle.vm_atomic_bitmaps.specs.Passes.{IsPassOf};
 
 use crate::fault::BenchFault;
@@ -22,8 +22,8 @@ const PAGES: usize = 0x40000;
 // The words of those pages.
 const WORDS: usize = PAGES / 64;
 
-// How many pages each thread marks, one after another, and how often over: so often that the time until each thread has a
-// processor of its own doesn't count.
+// How many pages each thread marks, one after another, and how often over: so often that the time until each thread has
+// a processor of its own doesn't count.
 const OWN_PAGES: usize = 0x1000;
 
 const ROUNDS: usize = 0x1000;

@@ -28,8 +28,8 @@ fn label(case: &'static str, bytes: usize, runs: u16) -> Label {
     }
 }
 
-// A slice that is copied over another, or over a middle one, which is then copied over the other: the least that READ does,
-// by way of its reply.
+// A slice that is copied over another, or over a middle one, which is then copied over the other: the least that READ
+// does, by way of its reply.
 #[derive(Drop)]
 struct SliceCopy {
     twice: bool,

@@ -22,13 +22,13 @@ use Rattle.virtiofsd_fuse.specs.Serving.{May, Served, Setting, setting, served, 
 use Rattle.fuse_replies.proofs.ReplyLemmas.{length_reply, length_error}
 use Rattle.fs_device.specs.declared.error.DeviceError.{DeviceError}
 use Rattle.fs_device.specs.declared.refusal.Refusal.TheVariants as why
-use Rattle.fs_device.specs.Step.{State, Exchange, Calls, Exchanged, Exchanges, StepOf, faulty, served_fault, served_exchange}
+use Rattle.fs_device.specs.Step.{State, Exchange, Calls, Exchanged, Exchanges, StepOf, faulty, served_fault, served_exchange, EachSuits, calls_alone, answers_alone}
 use Rattle.fs_device.specs.Run as run
 use Rattle.fs_device.specs.Run.{Turn, Told, Command, Answer, KickRun, Kicks, Kicked, Does, Performs, RunTold}
 use Rattle.fs_device.specs.Books.{answered, sent, written, lost, accepted, is_lost, nodes_in, nodes_listed, opcode_in, entry_count, forget_count, forgets_meant, IsBalanced}
 use Rattle.fs_device.proofs.NodeLemmas.{drop_reply, drop_error, none_in_nothing, not_zero}
 use Rattle.fs_device.proofs.MeaningLemmas.{has_entry, no_entry, not_true, CallFits, MeaningFits, ListFits, meaning_fits}
-use Rattle.fs_device.proofs.ListBooks.{EachSuits, asked_of, told_of, entries_in, counts_in, times, entries_more, counts_more, no_step, one_step, list_balances, list_fits, plain_asks_nothing}
+use Rattle.fs_device.proofs.ListBooks.{entries_in, counts_in, times, entries_more, counts_more, no_step, one_step, list_balances, list_fits, plain_asks_nothing}
 
 -- ---- one request
 
@@ -52,7 +52,7 @@ silent : (n : ℕ) (o : Option Opcode) → times n (nodes_in o (drop 16 [])) ≡
 silent n o = ap (times n) (none_in_nothing o)
 
 -- nothing was asked, and no node is in the reply
-nothing_asked : (n : ℕ) (o : Option Opcode) (calls : Calls) (m : Meaning) (given : Served) → [] ≡ asked_of calls → times n (nodes_in o (drop 16 given.reply)) ≡ 0 →
+nothing_asked : (n : ℕ) (o : Option Opcode) (calls : Calls) (m : Meaning) (given : Served) → [] ≡ calls_alone calls → times n (nodes_in o (drop 16 given.reply)) ≡ 0 →
     Balanced n o calls (taken n calls m) given
 nothing_asked n o calls m given asks none =
     let no_loss : gone n [] given.fault ≡ 0 = either_way (is_lost (served_fault given.fault)) 0 in
@@ -106,14 +106,14 @@ module _ (n : ℕ) (some : n ≢ 0) (s : Setting) (o : Option Opcode) where
       let counted : times n (nodes_in o (drop 16 bytes)) ≡ entries_in n ((c, a) ∷ []) = (let z = fits unique a suit in omega (arith, x, z)) in
       replied_balances n o ((c, a) ∷ []) _ (options_after s.options c) (c ∷ []) bytes (nat_lt s.room (length bytes)) counted (omega (arith, y))
 
-  one_balances : (unique : ℕ) (c : FileCall) (calls : Calls) → CallFits n o c → EachSuits calls → (served s (grammar.Asks (One unique c)) (told_of calls)).calls ≡ asked_of calls →
-      Balanced n o calls (taken n calls (grammar.Asks (One unique c))) (served s (grammar.Asks (One unique c)) (told_of calls))
+  one_balances : (unique : ℕ) (c : FileCall) (calls : Calls) → CallFits n o c → EachSuits calls → (served s (grammar.Asks (One unique c)) (answers_alone calls)).calls ≡ calls_alone calls →
+      Balanced n o calls (taken n calls (grammar.Asks (One unique c))) (served s (grammar.Asks (One unique c)) (answers_alone calls))
   one_balances unique c [] fits suit asks = absurd (cc)
   one_balances unique c (step ∷ calls) fits suit asks =
       let bytes = answer_bytes unique c step.1 in
       let one = one_step c (step ∷ calls) (sym (replied_asks (nat_lt s.room (length bytes)) (c ∷ []) (options_after s.options c) bytes) ∙ asks) in
       let only : EachSuits ((c, one.0) ∷ []) = subst EachSuits one.1 suit in
-      subst (λ (l : Calls). Balanced n o l (taken n l (grammar.Asks (One unique c))) (served s (grammar.Asks (One unique c)) (told_of l))) (sym one.1) (one_given unique c one.0 fits only.0)
+      subst (λ (l : Calls). Balanced n o l (taken n l (grammar.Asks (One unique c))) (served s (grammar.Asks (One unique c)) (answers_alone l))) (sym one.1) (one_given unique c one.0 fits only.0)
 
   start_given : (unique capable readahead : ℕ) (a : FileAnswer) → ((bytes : List ℕ) → nodes_in o bytes ≡ []) → IsTrue (suits (call.Init capable) a) →
       Balanced n o ((call.Init capable, a) ∷ []) 0 (served s (grammar.Asks (Starts unique capable readahead)) (a ∷ []))
@@ -126,25 +126,25 @@ module _ (n : ℕ) (some : n ≢ 0) (s : Setting) (o : Option Opcode) where
       replied_balances n o ((call.Init capable, a) ∷ []) 0 (start_options s.options capable a) (call.Init capable ∷ []) bytes (nat_lt s.room (length bytes)) counted (omega (arith, y))
 
   start_balances : (unique capable readahead : ℕ) (calls : Calls) → ((bytes : List ℕ) → nodes_in o bytes ≡ []) → EachSuits calls →
-      (served s (grammar.Asks (Starts unique capable readahead)) (told_of calls)).calls ≡ asked_of calls → Balanced n o calls 0 (served s (grammar.Asks (Starts unique capable readahead)) (told_of calls))
+      (served s (grammar.Asks (Starts unique capable readahead)) (answers_alone calls)).calls ≡ calls_alone calls → Balanced n o calls 0 (served s (grammar.Asks (Starts unique capable readahead)) (answers_alone calls))
   start_balances unique capable readahead [] fits suit asks = absurd (cc)
   start_balances unique capable readahead (step ∷ calls) fits suit asks =
       let bytes = start_answered s.page_size unique capable readahead step.1 in
       let one = one_step (call.Init capable) (step ∷ calls) (sym (replied_asks (nat_lt s.room (length bytes)) (call.Init capable ∷ []) (start_options s.options capable step.1) bytes) ∙ asks) in
       let only : EachSuits ((call.Init capable, one.0) ∷ []) = subst EachSuits one.1 suit in
-      subst (λ (l : Calls). Balanced n o l 0 (served s (grammar.Asks (Starts unique capable readahead)) (told_of l))) (sym one.1) (start_given unique capable readahead one.0 fits only.0)
+      subst (λ (l : Calls). Balanced n o l 0 (served s (grammar.Asks (Starts unique capable readahead)) (answers_alone l))) (sym one.1) (start_given unique capable readahead one.0 fits only.0)
 
   -- a directory's entries, with the calls that come with them
   went_balances : (unique : ℕ) (l : Listing) (ds : List Listed) (steps : Calls) (nodes : Bool) → l.with_nodes ≡ nodes → ListFits s.room o nodes → EachSuits steps →
-      (list_entries l ds l.size (s.room - 16) (told_of steps)).calls ≡ asked_of steps →
-      Balanced n o ((readdir_call l, call.Entries ds) ∷ steps) 0 (list_ended s unique l (list_entries l ds l.size (s.room - 16) (told_of steps)))
+      (list_entries l ds l.size (s.room - 16) (answers_alone steps)).calls ≡ calls_alone steps →
+      Balanced n o ((readdir_call l, call.Entries ds) ∷ steps) 0 (list_ended s unique l (list_entries l ds l.size (s.room - 16) (answers_alone steps)))
   went_balances unique l ds steps true is fits suit asks =
-      let w = list_entries l ds l.size (s.room - 16) (told_of steps) in
+      let w = list_entries l ds l.size (s.room - 16) (answers_alone steps) in
       let bytes = listing_bytes unique l.with_nodes w.bytes w.error in
       let whole = listing_whole unique w.bytes w.error in
       let plain : bytes ≡ listing_bytes unique true w.bytes w.error = ap (λ (b : Bool). listing_bytes unique b w.bytes w.error) is in
       let long : length bytes ≡ 16 + length w.bytes = ap length plain ∙ whole.1 in
-      let room = list_fits l is ds l.size (s.room - 16) (told_of steps) in
+      let room = list_fits l is ds l.size (s.room - 16) (answers_alone steps) in
       let low : length bytes ≤ s.room = (let place = fits.1 in omega (arith, long, room, place)) in
       let nodes : nodes_in o (drop 16 bytes) ≡ nodes_listed (length w.bytes) w.bytes =
       ap (λ (k : Option Opcode). nodes_in k (drop 16 bytes)) fits.0 ∙ ap (λ (b : List ℕ). nodes_in (Some op.Readdirplus) (drop 16 b)) plain ∙ ap (nodes_in (Some op.Readdirplus)) whole.0 ∙ plus_nodes w.bytes in
@@ -154,9 +154,9 @@ module _ (n : ℕ) (some : n ≢ 0) (s : Setting) (o : Option Opcode) where
       let k = ap (times n) nodes in
       replied_whole n o ((readdir_call l, call.Entries ds) ∷ steps) 0 s.options (readdir_call l ∷ w.calls) bytes (nat_lt s.room (length bytes)) (le-ltb s.room (length bytes) low) (omega (arith, same, x, y, k)) refl
   went_balances unique l ds steps false is fits suit asks =
-      let w = list_entries l ds l.size (s.room - 16) (told_of steps) in
+      let w = list_entries l ds l.size (s.room - 16) (answers_alone steps) in
       let bytes = listing_bytes unique l.with_nodes w.bytes w.error in
-      let nothing = no_step steps (sym (plain_asks_nothing l is ds l.size (s.room - 16) (told_of steps)) ∙ asks) in
+      let nothing = no_step steps (sym (plain_asks_nothing l is ds l.size (s.room - 16) (answers_alone steps)) ∙ asks) in
       let x = entries_more n (readdir_call l, call.Entries ds) steps in
       let y = counts_more n (readdir_call l, call.Entries ds) steps in
       let a : entries_in n steps ≡ 0 = ap (entries_in n) nothing in
@@ -165,7 +165,7 @@ module _ (n : ℕ) (some : n ≢ 0) (s : Setting) (o : Option Opcode) where
       replied_balances n o ((readdir_call l, call.Entries ds) ∷ steps) 0 s.options (readdir_call l ∷ w.calls) bytes (nat_lt s.room (length bytes)) (omega (arith, x, a, k)) (omega (arith, y, b))
 
   -- an answer that lists nothing
-  unlisted : (l : Listing) (c : FileCall) (a : FileAnswer) (steps : Calls) (bytes : List ℕ) (long : Bool) → readdir_call l ≡ c → IsTrue (suits c a) → [] ≡ asked_of steps → nodes_in o (drop 16 bytes) ≡ [] →
+  unlisted : (l : Listing) (c : FileCall) (a : FileAnswer) (steps : Calls) (bytes : List ℕ) (long : Bool) → readdir_call l ≡ c → IsTrue (suits c a) → [] ≡ calls_alone steps → nodes_in o (drop 16 bytes) ≡ [] →
       Balanced n o ((c, a) ∷ steps) 0 (in_room long (readdir_call l ∷ []) s.options bytes)
   unlisted l c a steps bytes long is suit asks none =
       let x = entries_more n (c, a) steps in
@@ -178,10 +178,10 @@ module _ (n : ℕ) (some : n ≢ 0) (s : Setting) (o : Option Opcode) where
       replied_balances n o ((c, a) ∷ steps) 0 s.options (readdir_call l ∷ []) bytes long (omega (arith, x, z, e, k)) (omega (arith, y, v, f))
 
   list_given : (unique : ℕ) (l : Listing) (c : FileCall) (a : FileAnswer) (steps : Calls) → ListFits s.room o l.with_nodes → EachSuits ((c, a) ∷ steps) →
-      (served s (grammar.Asks (Lists unique l)) (a ∷ told_of steps)).calls ≡ c ∷ asked_of steps → Balanced n o ((c, a) ∷ steps) 0 (served s (grammar.Asks (Lists unique l)) (a ∷ told_of steps))
+      (served s (grammar.Asks (Lists unique l)) (a ∷ answers_alone steps)).calls ≡ c ∷ calls_alone steps → Balanced n o ((c, a) ∷ steps) 0 (served s (grammar.Asks (Lists unique l)) (a ∷ answers_alone steps))
   list_given unique l c (call.Failed errno) steps fits suit asks =
       let bytes = error_bytes unique errno in
-      let all : (readdir_call l ∷ []) ≡ c ∷ asked_of steps = sym (replied_asks (nat_lt s.room (length bytes)) (readdir_call l ∷ []) s.options bytes) ∙ asks in
+      let all : (readdir_call l ∷ []) ≡ c ∷ calls_alone steps = sym (replied_asks (nat_lt s.room (length bytes)) (readdir_call l ∷ []) s.options bytes) ∙ asks in
       unlisted l c (call.Failed errno) steps bytes (nat_lt s.room (length bytes)) (cc) suit.0 (cc) (ap (nodes_in o) (drop_error unique errno) ∙ none_in_nothing o)
   list_given unique l c call.Done steps fits suit asks = unlisted l c call.Done steps [] false (cc) suit.0 (cc) (none_in_nothing o)
   list_given unique l c (call.HasEntry e) steps fits suit asks = unlisted l c (call.HasEntry e) steps [] false (cc) suit.0 (cc) (none_in_nothing o)
@@ -194,31 +194,31 @@ module _ (n : ℕ) (some : n ≢ 0) (s : Setting) (o : Option Opcode) where
   list_given unique l c (call.Wrote k) steps fits suit asks = unlisted l c (call.Wrote k) steps [] false (cc) suit.0 (cc) (none_in_nothing o)
   list_given unique l c (call.Offset k) steps fits suit asks = unlisted l c (call.Offset k) steps [] false (cc) suit.0 (cc) (none_in_nothing o)
   list_given unique l c (call.Entries ds) steps fits suit asks =
-      let w = list_entries l ds l.size (s.room - 16) (told_of steps) in
+      let w = list_entries l ds l.size (s.room - 16) (answers_alone steps) in
       let bytes = listing_bytes unique l.with_nodes w.bytes w.error in
-      let all : (readdir_call l ∷ w.calls) ≡ c ∷ asked_of steps = sym (replied_asks (nat_lt s.room (length bytes)) (readdir_call l ∷ w.calls) s.options bytes) ∙ asks in
+      let all : (readdir_call l ∷ w.calls) ≡ c ∷ calls_alone steps = sym (replied_asks (nat_lt s.room (length bytes)) (readdir_call l ∷ w.calls) s.options bytes) ∙ asks in
       let same : readdir_call l ≡ c = cc in
       subst (λ (c : FileCall). Balanced n o ((c, call.Entries ds) ∷ steps) 0 (list_ended s unique l w)) same (went_balances unique l ds steps l.with_nodes refl fits suit.1 (cc))
   list_given unique l c (call.Wants options) steps fits suit asks = unlisted l c (call.Wants options) steps [] false (cc) suit.0 (cc) (none_in_nothing o)
 
-  list_all : (unique : ℕ) (l : Listing) (calls : Calls) → ListFits s.room o l.with_nodes → EachSuits calls → (served s (grammar.Asks (Lists unique l)) (told_of calls)).calls ≡ asked_of calls →
-      Balanced n o calls 0 (served s (grammar.Asks (Lists unique l)) (told_of calls))
+  list_all : (unique : ℕ) (l : Listing) (calls : Calls) → ListFits s.room o l.with_nodes → EachSuits calls → (served s (grammar.Asks (Lists unique l)) (answers_alone calls)).calls ≡ calls_alone calls →
+      Balanced n o calls 0 (served s (grammar.Asks (Lists unique l)) (answers_alone calls))
   list_all unique l [] fits suit asks = absurd (cc)
   list_all unique l (step ∷ calls) fits suit asks = list_given unique l step.0 step.1 calls fits suit asks
 
-  meaning_balances : (m : Meaning) (calls : Calls) → MeaningFits n s.room o m → EachSuits calls → (served s m (told_of calls)).calls ≡ asked_of calls →
-      Balanced n o calls (taken n calls m) (served s m (told_of calls))
-  meaning_balances (IsFault e) calls fits suit asks = nothing_asked n o calls (IsFault e) (served s (IsFault e) (told_of calls)) asks (silent n o)
+  meaning_balances : (m : Meaning) (calls : Calls) → MeaningFits n s.room o m → EachSuits calls → (served s m (answers_alone calls)).calls ≡ calls_alone calls →
+      Balanced n o calls (taken n calls m) (served s m (answers_alone calls))
+  meaning_balances (IsFault e) calls fits suit asks = nothing_asked n o calls (IsFault e) (served s (IsFault e) (answers_alone calls)) asks (silent n o)
   meaning_balances (Replies bytes) calls fits suit asks =
-      nothing_asked n o calls (Replies bytes) (served s (Replies bytes) (told_of calls)) (sym (replied_asks (nat_lt s.room (length bytes)) [] s.options bytes) ∙ asks)
+      nothing_asked n o calls (Replies bytes) (served s (Replies bytes) (answers_alone calls)) (sym (replied_asks (nat_lt s.room (length bytes)) [] s.options bytes) ∙ asks)
       (replied_nodes n o (nat_lt s.room (length bytes)) [] s.options bytes fits)
-  meaning_balances IsSilent calls fits suit asks = nothing_asked n o calls IsSilent (served s IsSilent (told_of calls)) asks (silent n o)
+  meaning_balances IsSilent calls fits suit asks = nothing_asked n o calls IsSilent (served s IsSilent (answers_alone calls)) asks (silent n o)
   meaning_balances (grammar.Asks (One unique c)) calls fits suit asks = one_balances unique c calls fits suit asks
   meaning_balances (grammar.Asks (Starts unique capable readahead)) calls fits suit asks =
-      subst (λ (k : ℕ). Balanced n o calls k (served s (grammar.Asks (Starts unique capable readahead)) (told_of calls))) (sym (either_way (length calls == 0) 0))
+      subst (λ (k : ℕ). Balanced n o calls k (served s (grammar.Asks (Starts unique capable readahead)) (answers_alone calls))) (sym (either_way (length calls == 0) 0))
       (start_balances unique capable readahead calls fits suit asks)
   meaning_balances (grammar.Asks (Lists unique l)) calls fits suit asks =
-      subst (λ (k : ℕ). Balanced n o calls k (served s (grammar.Asks (Lists unique l)) (told_of calls))) (sym (either_way (length calls == 0) 0)) (list_all unique l calls fits suit asks)
+      subst (λ (k : ℕ). Balanced n o calls k (served s (grammar.Asks (Lists unique l)) (answers_alone calls))) (sym (either_way (length calls == 0) 0)) (list_all unique l calls fits suit asks)
 
 -- ---- steps
 
@@ -244,9 +244,9 @@ exchange_balances may n some s i q (Offers head (Asks request room)) calls x not
     let set = setting s.page_size s.options (length room) in
     let m = meaning s.options request (length room) in
     let fits = meaning_fits n s.options (length room) request in
-    let asks : (served set m (told_of calls)).calls ≡ asked_of calls = ap (λ (g : Served). g.calls) (sym r.serves.gives) ∙ r.serves.asks in
+    let asks : (served set m (answers_alone calls)).calls ≡ calls_alone calls = ap (λ (g : Served). g.calls) (sym r.serves.gives) ∙ r.serves.asks in
     let bal = meaning_balances n some set (opcode_in request) m calls fits.0 (all_suit may s.files calls after.files r.serves.run) asks in
-    let given = served set m (told_of calls) in
+    let given = served set m (answers_alone calls) in
     let back : taken n calls m ≡ taken n calls (meaning 0 request 0) = ap (λ (k : ℕ). if length calls == 0 then 0 else k) fits.1 in
     let is : x ≡ served_exchange head request given = r.returns.exchange ∙ ap (served_exchange head request) r.serves.gives in
     subst (λ (y : Exchange). TurnBalances n (turn y notice calls)) (sym is) (subst (λ (k : ℕ). Balanced n (opcode_in request) calls k given) back bal)

@@ -12,7 +12,8 @@ use Rattle.fs_device.specs.declared.error.DeviceError.TheVariants as device
 use Rattle.fs_device.specs.Step.{State, Exchange, Calls, Idle, Refused, Exchanged, StepOf, Step}
 use Rattle.fs_device.specs.Run.{Turn, KickRun, Done, reset}
 use Rattle.fs_device.specs.CommandView.{KickLists}
-use Rattle.fs_device.proofs.StepLemmas.{Fixed, state, changed_at-set}
+use Rattle.fs_device.proofs.StepLemmas.{Fixed, state}
+use Rattle.vm_memory_core.proofs.Stores.{changed_at-set}
 
 -- a step that is idle makes no call
 idle_of : {F : Type 0} (may : May F) (s after : State F) (i : ℕ) (o : Option Queue) (calls : Calls) → StepOf may s i o calls Idle after → StepOf may s i o [] Idle after
@@ -80,4 +81,4 @@ room_wanted i n most there some = grind (arith, nat_tests)
 pub reset_there : {F : Type 0} (f : Fixed) (m : Memory) (queues : List Queue) (s : ℕ × F) (i : ℕ) (anew : Queue) → i < length queues →
     (Done, state f m (set queues i anew) s) ≡ reset (state f m queues s) i anew (slice_get queues i)
 reset_there f m queues s i anew there =
-    rw (slice_get-get_or queues i anew there) (ap (λ (qs : List Queue). (Done, state f m qs s)) (sym (changed_at-set queues i anew)))
+    rw (slice_get-get_or queues i anew there) (ap (λ (qs : List Queue). (Done, state f m qs s)) (sym (changed_at-set queues i (λ _. anew) anew)))

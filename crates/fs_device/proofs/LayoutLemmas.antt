@@ -5,7 +5,7 @@ use Rattle.std.specs.Result.{IfOk, OnErr}
 use Rattle.std.proofs.lemmas.List.{map-append}
 use Rattle.std.specs.Prelude.{option_map, Result, Ok, Err, replicate, ◌==◌, ◌&&◌, ◌||◌, not, nat_lt, cond, find, slice_get, slice_index_or, if◌then◌else◌}
 use Rattle.std.specs.List.{list_all, list_any}
-use Rattle.std.proofs.lemmas.Bool.{eqb-true}
+use Rattle.std.proofs.lemmas.Bool.{eqb-true, and_parts}
 use Rattle.std.proofs.lemmas.Bool.Decides.{nat_tests}
 use Rattle.vm_memory_core.specs.Host.{Block, Host, lengths, with_block}
 use Rattle.vm_memory.specs.Layout.{Region, fits, overlap, with_region, is_region, without_region, AllFrom, IsLayout, AreHeld}
@@ -16,10 +16,8 @@ use Rattle.vm_memory.specs.Making.{backing_at, region_over}
 use Rattle.fs_device.specs.declared.refusal.Refusal.TheVariants as why
 use Rattle.fs_device.specs.Step.{State}
 use Rattle.fs_device.specs.Run.{is_known, has_len, some_overlap, insert_block, insert, no}
-
--- the host's blocks with a region's
-abbrev pub HasBlock : List ℕ → Region → Type 0
-HasBlock lengths r = (r.block < length lengths) × (slice_index_or lengths r.block 0 ≡ r.size)
+use Rattle.vm_memory.proofs.ChangeLemmas.{above_all}
+use Rattle.vm_memory.proofs.LayoutLemmas.{HasBlock}
 
 -- ---- one more block
 
@@ -114,14 +112,10 @@ pub all_known : (h : Host) (l : List Region) → AreHeld (lengths h) l → list_
 all_known h [] held = refl
 all_known h (r ∷ l) held = rw (known_of h.blocks r.block r.size held.0 held.1, all_known h l held.2) refl
 
-both : (a b : Bool) → (a && b) ≡ true → (a ≡ true) × (b ≡ true)
-both true b e = (refl, e)
-both false b e = absurd (cc)
-
 all_held : (h : Host) (l : List Region) → list_all (is_known h) l ≡ true → AreHeld (lengths h) l
 all_held h [] known = tt
 all_held h (r ∷ l) known =
-    let parts = both _ _ known in
+    let parts = and_parts _ _ known in
     let here = has_of h.blocks r.block r.size parts.0 in
     (here.0, here.1, all_held h l parts.1)
 
@@ -193,13 +187,6 @@ all_fit (r ∷ l) is =
     let end : r.start + r.size ≤ 2 ^ 64 = is.1 in
     let here : fits r ≡ true = grind (arith, nat_tests) in
     rw (here, all_fit l is.3) refl
-
-above_all : (l : List Region) (r : Region) (e : ℕ) → AllFrom e l → r.start + r.size ≤ e → list_any (overlap r) l ≡ false
-above_all [] r e from h = refl
-above_all (x ∷ l) r e from h =
-    let low : e ≤ x.start = from.0 in
-    let here : overlap r x ≡ false = grind (arith, nat_tests) in
-    rw (here, above_all l r e from.1 h)
 
 pub all_apart : (l : List Region) → IsLayout l → some_overlap l ≡ false
 all_apart [] is = refl

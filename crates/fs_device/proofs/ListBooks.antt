@@ -10,22 +10,10 @@ use Rattle.fuse_fs.specs.Calls.{FileCall, FileAnswer, Listed, suits}
 use Rattle.fuse_fs.specs.Calls as call
 use Rattle.fuse_replies.specs.Entries.{Fit, GoesIn, IsFull, IsWrong, fit_of, entry_len, entry_bytes, no_node, is_dot}
 use Rattle.virtiofsd_fuse.specs.Listings.{Listing, Went, Next, placed, undo_call, with_entry, after_call, looked_up, list_entry, list_entries}
-use Rattle.fs_device.specs.Step.{Calls}
+use Rattle.fs_device.specs.Step.{Calls, EachSuits, calls_alone, answers_alone}
 use Rattle.fs_device.specs.Books.{entry_count, forget_count, nodes_listed}
 use Rattle.fs_device.proofs.NodeLemmas.{goes_in_fits, length_entry, nodes_more}
 use Rattle.fs_device.proofs.MeaningLemmas.{no_entry, not_true}
-
--- each answer is one that its call can have
-abbrev pub EachSuits : Calls → Type 0
-EachSuits [] = Unit {0}
-EachSuits (step ∷ steps) = IsTrue (suits step.0 step.1) × EachSuits steps
-
--- the calls alone, and the answers alone
-abbrev pub asked_of : Calls → List FileCall
-asked_of steps = map (λ step. step.0) steps
-
-abbrev pub told_of : Calls → List FileAnswer
-told_of steps = map (λ step. step.1) steps
 
 -- the entries of a node in the answers, and the counts of it in the calls
 abbrev pub entries_in : (node : ℕ) → Calls → ℕ
@@ -52,11 +40,11 @@ times_more : (n x : ℕ) (nodes : List ℕ) → times n (x ∷ nodes) ≡ is_nod
 times_more n x nodes = sum_by-cons (λ (k : ℕ). if k == n then 1 else 0) x nodes
 
 -- no call was made, or one
-pub no_step : (steps : Calls) → [] ≡ asked_of steps → steps ≡ []
+pub no_step : (steps : Calls) → [] ≡ calls_alone steps → steps ≡ []
 no_step [] e = refl
 no_step (step ∷ steps) e = absurd (cc)
 
-pub one_step : (c : FileCall) (steps : Calls) → (c ∷ []) ≡ asked_of steps → (a : FileAnswer) × (steps ≡ (c, a) ∷ [])
+pub one_step : (c : FileCall) (steps : Calls) → (c ∷ []) ≡ calls_alone steps → (a : FileAnswer) × (steps ≡ (c, a) ∷ [])
 one_step c [] e = absurd (cc)
 one_step c (step ∷ []) e = let same : step.0 ≡ c = cc in (step.1, ap (λ (x : FileCall). (x, step.1) ∷ []) same)
 one_step c (step ∷ other ∷ steps) e = absurd (cc)
@@ -88,7 +76,7 @@ put_in n e d next steps node name rest (suc most) fits =
     omega (arith, behind, listed)
 
 -- an entry is taken back
-taken_back : (n : ℕ) (who : Context) (x : ℕ) (steps : Calls) → EachSuits steps → (undo_call who x ∷ []) ≡ asked_of steps → (most : ℕ) →
+taken_back : (n : ℕ) (who : Context) (x : ℕ) (steps : Calls) → EachSuits steps → (undo_call who x ∷ []) ≡ calls_alone steps → (most : ℕ) →
     entries_in n steps + is_node n x ≡ times n (nodes_listed most []) + counts_in n steps
 taken_back n who x steps suit e most =
     let one = one_step (undo_call who x) steps e in
@@ -99,25 +87,25 @@ taken_back n who x steps suit e most =
     rw (nothing_listed most, one.1) (omega (arith, none, a, b))
 
 placed_balances : (n : ℕ) (who : Context) (e : Entry ℕ) (d : Listed) (fit : Fit) (next : Went) (steps : Calls) → e.inode < 2 ^ 64 → (fit ≡ GoesIn → length d.name < 2 ^ 32) → EachSuits steps →
-    (next.calls ≡ asked_of steps → Balanced n 0 steps next) → (placed fit (entry_bytes true e d) (undo_call who e.inode ∷ []) next).calls ≡ asked_of steps →
+    (next.calls ≡ calls_alone steps → Balanced n 0 steps next) → (placed fit (entry_bytes true e d) (undo_call who e.inode ∷ []) next).calls ≡ calls_alone steps →
     Balanced n (is_node n e.inode) steps (placed fit (entry_bytes true e d) (undo_call who e.inode ∷ []) next)
 placed_balances n who e d GoesIn next steps node name suit rest asks most fits = put_in n e d next steps node (name refl) (rest asks) most fits
 placed_balances n who e d IsFull next steps node name suit rest asks most fits = taken_back n who e.inode steps suit asks most
 placed_balances n who e d (IsWrong errno) next steps node name suit rest asks most fits = taken_back n who e.inode steps suit asks most
 
 entry_balances : (n : ℕ) (who : Context) (e : Entry ℕ) (d : Listed) (next : Next) (left room : ℕ) (steps : Calls) → e.inode < 2 ^ 64 → EachSuits steps →
-    ((left room : ℕ) → (next left room (told_of steps)).calls ≡ asked_of steps → Balanced n 0 steps (next left room (told_of steps))) →
-    (with_entry true d e (undo_call who e.inode ∷ []) next left room (told_of steps)).calls ≡ asked_of steps →
-    Balanced n (is_node n e.inode) steps (with_entry true d e (undo_call who e.inode ∷ []) next left room (told_of steps))
+    ((left room : ℕ) → (next left room (answers_alone steps)).calls ≡ calls_alone steps → Balanced n 0 steps (next left room (answers_alone steps))) →
+    (with_entry true d e (undo_call who e.inode ∷ []) next left room (answers_alone steps)).calls ≡ calls_alone steps →
+    Balanced n (is_node n e.inode) steps (with_entry true d e (undo_call who e.inode ∷ []) next left room (answers_alone steps))
 entry_balances n who e d next left room steps node suit rest asks =
     let len = entry_len true (length d.name) in
-    placed_balances n who e d (fit_of (length d.name) len left room) (next (left - len) (room - len) (told_of steps)) steps node
+    placed_balances n who e d (fit_of (length d.name) len left room) (next (left - len) (room - len) (answers_alone steps)) steps node
     (λ fits. (goes_in_fits (length d.name) len left room fits).0) suit (rest (left - len) (room - len)) asks
 
 -- ---- a look-up
 
 -- nothing comes after a look-up without an entry
-stopped : (n : ℕ) (c : FileCall) (a : FileAnswer) (steps : Calls) → forget_count n c ≡ 0 → entry_count n a ≡ 0 → [] ≡ asked_of steps → (most : ℕ) →
+stopped : (n : ℕ) (c : FileCall) (a : FileAnswer) (steps : Calls) → forget_count n c ≡ 0 → entry_count n a ≡ 0 → [] ≡ calls_alone steps → (most : ℕ) →
     entries_in n ((c, a) ∷ steps) + 0 ≡ times n (nodes_listed most []) + counts_in n ((c, a) ∷ steps)
 stopped n c a steps keeps none e most =
     let x = entries_more n (c, a) [] in
@@ -125,8 +113,8 @@ stopped n c a steps keeps none e most =
     rw (no_step steps e, nothing_listed most) (omega (arith, keeps, none, x, y))
 
 looked_up_balances : (n : ℕ) (l : Listing) (d : Listed) (next : Next) (left room : ℕ) (c : FileCall) (a : FileAnswer) (steps : Calls) → call.Lookup l.context l.node d.name ≡ c → IsTrue (suits c a) → EachSuits steps →
-    ((left room : ℕ) → (next left room (told_of steps)).calls ≡ asked_of steps → Balanced n 0 steps (next left room (told_of steps))) →
-    (looked_up l d next left room (a ∷ told_of steps)).calls ≡ asked_of steps → Balanced n 0 ((c, a) ∷ steps) (looked_up l d next left room (a ∷ told_of steps))
+    ((left room : ℕ) → (next left room (answers_alone steps)).calls ≡ calls_alone steps → Balanced n 0 steps (next left room (answers_alone steps))) →
+    (looked_up l d next left room (a ∷ answers_alone steps)).calls ≡ calls_alone steps → Balanced n 0 ((c, a) ∷ steps) (looked_up l d next left room (a ∷ answers_alone steps))
 looked_up_balances n l d next left room c (call.Failed errno) steps is fits suit rest asks most low = stopped n c (call.Failed errno) steps (ap (forget_count n) (sym is)) refl asks most
 looked_up_balances n l d next left room c call.Done steps is fits suit rest asks most low = stopped n c call.Done steps (ap (forget_count n) (sym is)) refl asks most
 looked_up_balances n l d next left room c (call.HasEntry e) steps is fits suit rest asks most low =
@@ -163,27 +151,27 @@ no_zero n h =
     rw other refl
 
 name_balances : (n : ℕ) (l : Listing) (d : Listed) (next : Next) (left room : ℕ) (steps : Calls) → EachSuits steps →
-    ((steps : Calls) (left room : ℕ) → EachSuits steps → (next left room (told_of steps)).calls ≡ asked_of steps → Balanced n 0 steps (next left room (told_of steps))) →
-    (after_call (call.Lookup l.context l.node d.name) (looked_up l d next left room (told_of steps))).calls ≡ asked_of steps →
-    Balanced n 0 steps (after_call (call.Lookup l.context l.node d.name) (looked_up l d next left room (told_of steps)))
+    ((steps : Calls) (left room : ℕ) → EachSuits steps → (next left room (answers_alone steps)).calls ≡ calls_alone steps → Balanced n 0 steps (next left room (answers_alone steps))) →
+    (after_call (call.Lookup l.context l.node d.name) (looked_up l d next left room (answers_alone steps))).calls ≡ calls_alone steps →
+    Balanced n 0 steps (after_call (call.Lookup l.context l.node d.name) (looked_up l d next left room (answers_alone steps)))
 name_balances n l d next left room [] suit rest asks = absurd (cc)
 name_balances n l d next left room (step ∷ steps) suit rest asks =
     looked_up_balances n l d next left room step.0 step.1 steps (cc) suit.0 suit.1 (λ left room e. rest steps left room suit.1 e) (cc)
 
 by_dot : (n : ℕ) → n ≢ 0 → (l : Listing) (d : Listed) (next : Next) (left room : ℕ) (steps : Calls) (dot : Bool) → l.with_nodes ≡ true → is_dot d.name ≡ dot → EachSuits steps →
-    ((steps : Calls) (left room : ℕ) → EachSuits steps → (next left room (told_of steps)).calls ≡ asked_of steps → Balanced n 0 steps (next left room (told_of steps))) →
-    (list_entry l d next left room (told_of steps)).calls ≡ asked_of steps → Balanced n 0 steps (list_entry l d next left room (told_of steps))
+    ((steps : Calls) (left room : ℕ) → EachSuits steps → (next left room (answers_alone steps)).calls ≡ calls_alone steps → Balanced n 0 steps (next left room (answers_alone steps))) →
+    (list_entry l d next left room (answers_alone steps)).calls ≡ calls_alone steps → Balanced n 0 steps (list_entry l d next left room (answers_alone steps))
 by_dot n some l d next left room steps true nodes dot suit rest asks =
-    let is = dot_is l d next left room (told_of steps) nodes dot in
+    let is = dot_is l d next left room (answers_alone steps) nodes dot in
     let found = entry_balances n l.context (no_node d) d next left room steps (omega arith) suit (λ left room e. rest steps left room suit e) (sym (ap (λ (w : Went). w.calls) is) ∙ asks) in
-    subst (λ (w : Went). Balanced n 0 steps w) (sym is) (subst (λ (k : ℕ). Balanced n k steps (with_entry true d (no_node d) (undo_call l.context 0 ∷ []) next left room (told_of steps))) (no_zero n some) found)
+    subst (λ (w : Went). Balanced n 0 steps w) (sym is) (subst (λ (k : ℕ). Balanced n k steps (with_entry true d (no_node d) (undo_call l.context 0 ∷ []) next left room (answers_alone steps))) (no_zero n some) found)
 by_dot n some l d next left room steps false nodes dot suit rest asks =
-    let is = name_is l d next left room (told_of steps) nodes dot in
+    let is = name_is l d next left room (answers_alone steps) nodes dot in
     subst (λ (w : Went). Balanced n 0 steps w) (sym is) (name_balances n l d next left room steps suit rest (sym (ap (λ (w : Went). w.calls) is) ∙ asks))
 
 -- what was answered for a node is what was listed and what was taken back
 pub list_balances : (n : ℕ) → n ≢ 0 → (l : Listing) → l.with_nodes ≡ true → (ds : List Listed) (steps : Calls) (left room : ℕ) → EachSuits steps →
-    (list_entries l ds left room (told_of steps)).calls ≡ asked_of steps → Balanced n 0 steps (list_entries l ds left room (told_of steps))
+    (list_entries l ds left room (answers_alone steps)).calls ≡ calls_alone steps → Balanced n 0 steps (list_entries l ds left room (answers_alone steps))
 unfolding list_entries
 list_balances n some l nodes [] steps left room suit asks most low = rw (no_step steps asks, nothing_listed most) refl
 list_balances n some l nodes (d ∷ ds) steps left room suit asks most low =

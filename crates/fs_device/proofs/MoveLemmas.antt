@@ -1,12 +1,12 @@
 -- an image tracks the machine through a run
-use Rattle.std.proofs.Common.{◌≡◌, ℕ, zero, suc, Bool, true, false, List, [], ◌∷◌, ◌++◌, map, length, Option, Some, None, refl, ap, sym, ◌∙◌, subst, append-nil}
+use Rattle.std.proofs.Common.{◌≡◌, ℕ, zero, suc, Bool, true, false, List, [], ◌∷◌, ◌++◌, length, Option, Some, None, refl, ap, sym, ◌∙◌, subst, append-nil}
 use Rattle.std.specs.Prelude.{if◌then◌else◌, slice_get, not, IfSome, IsTrue}
 use Rattle.std.specs.List.{AllByRecursion, list_any, list_all, zip}
 use Rattle.std.specs.Option.{option_or}
 use Rattle.std.proofs.lemmas.Grind.{flat_map-append}
 use Rattle.vm_iotlb.specs.declared.permissions.Permissions.TheVariants.{Read, Write}
 use Rattle.vm_iotlb.specs.Table.{is_within}
-use Rattle.vm_memory_core.specs.Host.{Host, Block, Place, cleared, lengths, unmarked}
+use Rattle.vm_memory_core.specs.Host.{Host, Block, Place, cleared, lengths}
 use Rattle.vm_memory.specs.Layout.{Region, fits, overlap, is_region, place}
 use Rattle.vm_memory.specs.Memory.{Memory, addresses, for_io, location, physical, place_behind, reach, stored, stored_all, stored_at, table_of}
 use Rattle.fs_queue.specs.declared.fault.QueueError.TheVariants as stop
@@ -16,15 +16,14 @@ use Rattle.fs_queue.specs.Taking as taking
 use Rattle.host_copies.specs.Harvested.{Page, harvested}
 use Rattle.host_copies.specs.Applying.{first_refused, pages_put}
 use Rattle.host_copies.proofs.CatchUpLemmas.{Tracks, pages_put-append}
-use Rattle.host_copies.proofs.TrackLemmas.{HavePlaces, harvest_placed, harvest_rest, harvest_unmarked, harvest-lengths, places-append, stale_marked, tracks_copy, tracks_harvest, tracks_store, tracks-sized}
+use Rattle.host_copies.proofs.TrackLemmas.{HavePlaces, harvest_is_host, harvest_placed, harvest-lengths, places-append, stale_marked, tracks_copy, tracks_harvest, tracks_store, tracks-sized}
 use Rattle.virtiofsd_fuse.specs.Serving.{May}
 use Rattle.fs_device.specs.declared.error.DeviceError.{DeviceError}
 use Rattle.fs_device.specs.declared.error.DeviceError.TheVariants as device
 use Rattle.fs_device.specs.declared.refusal.Refusal.TheVariants as why
 use Rattle.fs_device.specs.Step.{State, Exchange, Calls, Idle, Refused, Exchanged, Exchanges, StepOf}
 use Rattle.fs_device.specs.Run as run
-use Rattle.fs_device.specs.Run.{Told, Command, Answer, Effect, KickEnds, KickRun, Kicks, Kicked, HasEffect, Does, Performs, RunTold, Affects, effect, insert, insert_block, is_known, some_overlap, reset, with_host}
-use Rattle.fs_device.specs.Marks.{without_marks, SameButMarks}
+use Rattle.fs_device.specs.Run.{Told, Command, Answer, Effect, KickEnds, KickRun, Kicks, Kicked, HasEffect, Does, Performs, RunTold, Affects, effect, insert, insert_block, is_known, some_overlap, reset}
 use Rattle.fs_device.specs.Moving.{follows_image, pages_of_answer, pages_answered, HasItsMarks, IsStale, page_mark, RunsFromImage}
 
 -- ---- stores
@@ -323,24 +322,15 @@ follow_front : (events : List (Command × Answer)) (e : Command × Answer) → C
 follow_front [] e f = tt
 follow_front (x ∷ events) e f = (f.0, follow_front events e f.1)
 
-apart : (image host : Host) → Tracks image host → without_marks (pages_put image (harvested host)) ≡ without_marks (cleared host)
-apart image host f =
-    let rest = harvest_rest image host f in
-    let blocks = harvest_unmarked image host f in
-    let clear = map (λ (pages : List Bool). map (λ _. false) pages) in
-    ap (λ (l : List Block). let k : Host = record { blocks = l; tables = (pages_put image (harvested host)).tables; io_marks = clear (pages_put image (harvested host)).io_marks } in k) blocks
-    ∙ ap (λ t. let k : Host = record { blocks = map unmarked (cleared host).blocks; tables = t; io_marks = clear (pages_put image (harvested host)).io_marks } in k) rest.0
-    ∙ ap (λ (m : List (List Bool)). let k : Host = record { blocks = map unmarked (cleared host).blocks; tables = host.tables; io_marks = clear m } in k) rest.1
-
-last_apart : {F : Type 0} (may : May F) (image : Host) (mid after : State F) (told : Told) (last : List Page) → Tracks image mid.memory.host →
-    Performs may mid run.Harvest told (run.Pages last) after → without_marks (pages_put image last) ≡ without_marks after.memory.host
+last_is_host : {F : Type 0} (may : May F) (image : Host) (mid after : State F) (told : Told) (last : List Page) → Tracks image mid.memory.host →
+    Performs may mid run.Harvest told (run.Pages last) after → pages_put image last ≡ after.memory.host
 unfolding effect
-last_apart {F} may image mid after [] last f t =
+last_is_host {F} may image mid after [] last f t =
     let answer : run.Pages last ≡ run.Pages (harvested mid.memory.host) = ap (λ (p : Effect F). p.0) t in
     let is : last ≡ harvested mid.memory.host = cc in
     let host : after.memory.host ≡ cleared mid.memory.host = ap (λ (p : Effect F). p.1.memory.host) t in
-    ap (λ (l : List Page). without_marks (pages_put image l)) is ∙ apart image mid.memory.host f ∙ sym (ap without_marks host)
-last_apart may image mid after (x ∷ told) last f t = absurd t
+    ap (pages_put image) is ∙ harvest_is_host image mid.memory.host f ∙ sym host
+last_is_host may image mid after (x ∷ told) last f t = absurd t
 
 pages_in_all : (events : List (Command × Answer)) (last : List Page) → pages_answered (events ++ (run.Harvest, run.Pages last) ∷ []) ≡ pages_answered events ++ last
 pages_in_all events last =
@@ -349,12 +339,11 @@ pages_in_all events last =
 
 pub image_catches_up : {F : Type 0} (may : May F) (s after : State F) (copy : Host) (events : List (Command × Answer)) (last : List Page) →
     let all = events ++ (run.Harvest, run.Pages last) ∷ [] in
-    RunsFromImage may s copy all after → SameButMarks (with_host after (pages_put copy (pages_answered all))) after
+    RunsFromImage may s copy all after → pages_put copy (pages_answered all) ≡ after.memory.host
 image_catches_up may s after copy events last r =
     let b = from_image may s after copy (events ++ (run.Harvest, run.Pages last) ∷ []) r in
     let e = ends may b.0 after events (run.Harvest, run.Pages last) b.1 b.3 in
     let front = run_goes may copy b.0 events e.1 e.0 (follow_front events (run.Harvest, run.Pages last) r.follow) b.2 e.3 in
-    ap (with_host after)
-    (ap (λ (l : List Page). without_marks (pages_put copy l)) (pages_in_all events last)
-    ∙ ap without_marks (pages_put-append copy (pages_answered events) last)
-    ∙ last_apart may (pages_put copy (pages_answered events)) e.0 after e.2 last front.0.1 e.4)
+    ap (pages_put copy) (pages_in_all events last)
+    ∙ pages_put-append copy (pages_answered events) last
+    ∙ last_is_host may (pages_put copy (pages_answered events)) e.0 after e.2 last front.0.1 e.4

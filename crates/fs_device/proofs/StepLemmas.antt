@@ -17,11 +17,7 @@ use Rattle.fs_device.specs.declared.error.DeviceError.TheVariants as device
 use Rattle.fs_device.specs.Step.{State, Exchange, Outcome, Idle, Refused, Exchanged, Calls, Returns, Exchanges, Acts, StepOf, Step}
 use Rattle.fs_device.specs.Begun.{IsBegun}
 use Rattle.fs_device.specs.DeviceView.{request_of, ServesChain}
-
-pub changed_at-set : (l : List Queue) (i : ℕ) (q : Queue) → changed_at l i (λ _. q) ≡ set l i q
-changed_at-set [] i q = refl
-changed_at-set (x ∷ l) zero q = refl
-changed_at-set (x ∷ l) (suc i) q = ap (λ (r : List Queue). x ∷ r) (changed_at-set l i q)
+use Rattle.vm_memory_core.proofs.Stores.{changed_at-set}
 
 pub set-same : (l : List Queue) (i : ℕ) (q : Queue) → slice_get l i ≡ Some q → set l i q ≡ l
 set-same [] i q e = refl
@@ -42,7 +38,7 @@ pub unchanged : {F : Type 0} (f : Fixed) (m : Memory) (queues : List Queue) (i :
 unchanged f m queues i q q' s there same = ap (λ (l : List Queue). state f m l s) (ap (set queues i) same ∙ set-same queues i q there)
 
 moved : {F : Type 0} (f : Fixed) (m : Memory) (queues : List Queue) (i : ℕ) (q q' : Queue) (s : ℕ × F) → q' ≡ q → state f m (set queues i q') s ≡ state f m (changed_at queues i (λ _. q)) s
-moved f m queues i q q' s same = ap (λ (l : List Queue). state f m l s) (ap (set queues i) same ∙ sym (changed_at-set queues i q))
+moved f m queues i q q' s same = ap (λ (l : List Queue). state f m l s) (ap (set queues i) same ∙ sym (changed_at-set queues i (λ _. q) q))
 
 -- a step on a queue that is there
 on_queue : {F : Type 0} (may : May F) (before : State F) (i : ℕ) (q : Queue) (calls : Calls) (outcome : Outcome) (after : State F) → slice_get before.queues i ≡ Some q →
@@ -101,7 +97,7 @@ returns f m m' queues i q q' s s' room expected x options notice same agreed sto
   exchange = same;
   state =
       ap (λ (y : Memory). state f y (set queues i q') s') (stored ∙ ap (λ (y : Exchange). returned m q expected.head room y.reply) same)
-      ∙ ap (λ (l : List Queue). state f (returned m q expected.head room expected.reply) l s') (ap (set queues i) after ∙ sym (changed_at-set queues i (advanced q)))
+      ∙ ap (λ (l : List Queue). state f (returned m q expected.head room expected.reply) l s') (ap (set queues i) after ∙ sym (changed_at-set queues i (λ _. advanced q) (advanced q)))
       ∙ ap (λ (o : ℕ). state f (returned m q expected.head room expected.reply) (changed_at queues i (λ _. advanced q)) (o, s'.1)) agreed;
   told = told;
 }

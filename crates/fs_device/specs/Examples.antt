@@ -6,7 +6,7 @@ use Rattle.vm_memory.specs.Layout.{place}
 use Rattle.vm_memory.specs.Memory.{Memory, memory_of, addresses, bytes, stored_all}
 use Rattle.fs_queue.specs.declared.fault.ChainFault.TheVariants as chain_fault
 use Rattle.fs_queue.specs.declared.fault.QueueError.TheVariants as queue_error
-use Rattle.fs_queue.specs.Queue.{Queue, stopped}
+use Rattle.fs_queue.specs.Queue.{Queue, with_stop}
 use Rattle.fs_queue.specs.Chain.{path, found}
 use Rattle.fs_queue.specs.Taking.{Offer, Idle, Refuses, Offers, Asks, CannotAsk, offer}
 use Rattle.fuse_segments.specs.declared.error.Error.TheVariants as error
@@ -217,7 +217,7 @@ not_told = record {
 }
 
 -- a queue that is told of too many chains stops
-far_stops : Step may (device (put with_one_request 0x102 (le16 5)) queue) 0 [] (Refused (device_error.Queue queue_error.AvailTooFar)) (device (put with_one_request 0x102 (le16 5)) (stopped queue))
+far_stops : Step may (device (put with_one_request 0x102 (le16 5)) queue) 0 [] (Refused (device_error.Queue queue_error.AvailTooFar)) (device (put with_one_request 0x102 (le16 5)) (with_stop queue))
 unfolding offer place addresses stored_all path found
 far_stops = (refl, refl, refl)
 

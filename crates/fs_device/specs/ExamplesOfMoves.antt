@@ -7,9 +7,10 @@ use Rattle.host_copies.specs.Harvested.{block_pages, host_pages}
 use Rattle.host_copies.specs.Applying.{first_refused, pages_put}
 use Rattle.fs_device.specs.Step.{State}
 use Rattle.fs_device.specs.Run as run
-use Rattle.fs_device.specs.Run.{Command, Answer, RunTold, effect, with_host}
+use Rattle.fs_device.specs.Run.{Command, Answer, RunTold, effect}
 use Rattle.fs_device.specs.Examples.{queue, Nothing, may, device}
 use Rattle.fs_device.specs.Moving.{RunsFromImage, page_mark, pages_answered}
+use Rattle.fs_device.specs.Migrating.{IsMoved}
 
 -- a machine of these bytes at 0, their page marked or not
 abbrev of_eight : List ℕ → Bool → State Nothing
@@ -63,6 +64,24 @@ page_has_its_place : first_refused (lengths copy) 0 (pages_answered events) ≡ 
 unfolding first_refused
 page_has_its_place = refl
 
-image_is_the_host : with_host (of_eight new_bytes false) (pages_put copy (pages_answered events)) ≡ of_eight new_bytes false
+image_is_the_host : pages_put copy (pages_answered events) ≡ (of_eight new_bytes false).memory.host
 unfolding pages_put
 image_is_the_host = refl
+
+-- so the machine is moved, the write on the way and its page harvested last, and goes on there as it would have here
+is_moved : IsMoved may (of_eight old_bytes true) ((run.GuestWrite 5 (70 ∷ 80 ∷ []), run.Done) ∷ []) (of_eight new_bytes false)
+unfolding RunTold effect place addresses stored_all block_pages host_pages pages_put
+is_moved = record {
+  copy = copy;
+  last = record { block = 0; offset = 0; bytes = new_bytes } ∷ [];
+  here = of_eight new_bytes false;
+  from = record {
+    off = refl;
+    marks = (refl, tt);
+    follow = (refl, (refl, tt));
+    run = ([] ∷ [] ∷ [] ∷ [], (of_eight old_bytes false, refl, (of_eight new_bytes true, refl, (of_eight new_bytes false, refl, refl))));
+  };
+  over = refl;
+  same = refl;
+  goes_on = λ later tolds end ran. (of_eight old_bytes false, refl, (of_eight new_bytes true, refl, (of_eight new_bytes false, refl, ran)));
+}

@@ -12,7 +12,7 @@ use Rattle.vm_memory_core.specs.Host.{new_block, cleared}
 use Rattle.vm_memory.specs.Layout.{Region, place}
 use Rattle.vm_memory.specs.Memory.{Memory, memory_behind, memory_of, addresses, reach, stored_all}
 use Rattle.fs_queue.specs.declared.fault.QueueError.TheVariants as queue_error
-use Rattle.fs_queue.specs.Queue.{fresh, stopped}
+use Rattle.fs_queue.specs.Queue.{fresh, with_stop}
 use Rattle.fs_queue.specs.Chain.{path, found}
 use Rattle.fs_queue.specs.Taking.{offer}
 use Rattle.fs_queue.specs.Returning.{advanced}
@@ -62,9 +62,9 @@ far = put with_one_request 0x102 (le16 5)
 kick_stops : Run may (device far queue)
     ((run.Kick 0 9, run.Served (record { exchanges = []; refused = Some (device_error.Queue queue_error.AvailTooFar) }))
     ∷ (run.Kick 0 9, run.Served (record { exchanges = []; refused = Some (device_error.Queue queue_error.Stopped) })) ∷ [])
-    (device far (stopped queue))
+    (device far (with_stop queue))
 unfolding RunTold KickRun offer place addresses stored_all path found
-kick_stops = ([] ∷ [] ∷ [], (device far (stopped queue), ((refl, refl, refl), refl), (device far (stopped queue), ((refl, refl, refl), refl), refl)))
+kick_stops = ([] ∷ [] ∷ [], (device far (with_stop queue), ((refl, refl, refl), refl), (device far (with_stop queue), ((refl, refl, refl), refl), refl)))
 
 -- of a missing queue that is listed, whatever was asked for
 kick_of_missing : Run may (device with_one_request queue) ((run.Kick 1 0, run.Served (record { exchanges = []; refused = Some device_error.NoSuchQueue })) ∷ []) (device with_one_request queue)
@@ -104,7 +104,7 @@ no_such_head = put with_one_request 0x102 (le16 2 ++ le16 0 ++ le16 4)
 
 -- the reply was stored, and then the queue stopped
 abbrev stopped_after_one : State Nothing
-stopped_after_one = record (after_reply no_such_head queue) { queues = stopped (advanced queue) ∷ [] }
+stopped_after_one = record (after_reply no_such_head queue) { queues = with_stop (advanced queue) ∷ [] }
 
 first_before_refusal : exchanges_unknown no_such_head
 unfolding offer place addresses stored_all path found meaning reading_of meant error_bytes fields.field_bytes
@@ -275,7 +275,7 @@ unfolding meaning reading_of meant row reply_bytes fields.field_bytes list_entri
 given_back_once = refl
 
 -- a queue that stopped begins anew
-resets : (size desc avail used : ℕ) → effect (device far (stopped queue)) (run.ResetQueue 0 size desc avail used) ≡ (run.Done, device far (fresh size desc avail used))
+resets : (size desc avail used : ℕ) → effect (device far (with_stop queue)) (run.ResetQueue 0 size desc avail used) ≡ (run.Done, device far (fresh size desc avail used))
 unfolding effect
 resets size desc avail used = refl
 
@@ -399,9 +399,9 @@ nowhere = comes_to (device with_one_request queue) (run.SetLayout [] ∷ [])
 
 kick_without_memory : Run may nowhere
     ((run.Kick 0 1, run.Served (record { exchanges = []; refused = Some (device_error.Queue queue_error.AvailIndexUnreachable) })) ∷ [])
-    (record nowhere { queues = stopped queue ∷ [] })
+    (record nowhere { queues = with_stop queue ∷ [] })
 unfolding RunTold KickRun effect offer place addresses stored_all
-kick_without_memory = ([] ∷ [], (record nowhere { queues = stopped queue ∷ [] }, ((refl, refl, refl), refl), refl))
+kick_without_memory = ([] ∷ [], (record nowhere { queues = with_stop queue ∷ [] }, ((refl, refl, refl), refl), refl))
 
 -- ---- a table that changes
 
@@ -485,9 +485,9 @@ guest_goes_by_physical_addresses = refl
 -- a device that finds its queue nowhere in the table stops it
 kick_without_mapping : Run may (turned_on [])
     ((run.Kick 0 1, run.Served (record { exchanges = []; refused = Some (device_error.Queue queue_error.AvailIndexUnreachable) })) ∷ [])
-    (record (turned_on []) { queues = stopped queue ∷ [] })
+    (record (turned_on []) { queues = with_stop queue ∷ [] })
 unfolding RunTold KickRun effect offer table_kept place addresses
-kick_without_mapping = ([] ∷ [], (record (turned_on []) { queues = stopped queue ∷ [] }, ((refl, refl, refl), refl), refl))
+kick_without_mapping = ([] ∷ [], (record (turned_on []) { queues = with_stop queue ∷ [] }, ((refl, refl, refl), refl), refl))
 
 -- ---- two regions, of 0x1000 and 0xf000 bytes, and a request that lies in both
 

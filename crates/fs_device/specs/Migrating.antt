@@ -1,42 +1,51 @@
--- A machine that is moved: what runs there afterwards could have run here.
-use Rattle.std.specs.Prelude.{◌++◌, List, [], ◌∷◌, Option, Some, None, map}
+-- A machine that is moved: as it goes on there, it would have gone on here.
+use Rattle.std.specs.Prelude.{◌≡◌, ◌⊎◌, ◌++◌, List, [], ◌∷◌, length, map, zip}
 use Rattle.std.specs.List.{flat_map}
 use Rattle.host_copies.specs.Harvested.{Page}
+use Rattle.host_copies.specs.Applying.{pages_put}
 use Rattle.vm_memory_core.specs.Host.{Host}
 use Rattle.virtiofsd_fuse.specs.Serving.{May}
 use Rattle.fs_device.specs.declared.command.Answer as told
 use Rattle.fs_device.specs.Step.{State}
-use Rattle.fs_device.specs.Run.{Command, Image, Harvest, Answer, Copied, Pages, Told, Run, RunTold}
+use Rattle.fs_device.specs.Run.{Command, Image, Harvest, Answer, Copied, Pages, Told, Run, RunTold, with_host}
 use Rattle.fs_device.specs.CommandView.{answer_of}
-use Rattle.fs_device.specs.Marks.{SameButMarks, SameEvents}
-use Rattle.fs_device.specs.Moving.{RunsFromImage, pages_of_answer}
+use Rattle.fs_device.specs.Moving.{RunsFromImage, pages_answered, pages_of_answer}
 
 -- the pages that these answers have, in order
-abbrev pub pages_told : List told.Answer → List Page
-pages_told answers = flat_map pages_of_answer (map answer_of answers)
+abbrev pub pages_of_answers : List told.Answer → List Page
+pages_of_answers answers = flat_map pages_of_answer (map answer_of answers)
 
 -- what was done here, from an image of the host to a last harvest
 abbrev pub until_harvest : List (Command × Answer) → (last : List Page) → List (Command × Answer)
 until_harvest events last = events ++ (Harvest, Pages last) ∷ []
 
--- after an image, what was done here, and a last harvest, the machine that was moved there is as the one here is, marks apart
-abbrev pub IsMoved : {F : Type 0} → May F → State F → List (Command × Answer) → (there : State F) → Type 0
-IsMoved {F} may s events there =
-    (copy : Host) × (last : List Page) × (here : State F) × RunsFromImage may s copy (until_harvest events last) here × SameButMarks there here
-
--- whatever runs there could have run here, after an image, what was done here, and a last harvest: the same answers, with the same calls,
--- exchanges and notices behind them, and the same state at the end, what harvests answer and marks apart
-abbrev pub CouldRunHere : {F : Type 0} → May F → State F → List (Command × Answer) → (there : State F) → Type 0
-CouldRunHere {F} may s events there =
+-- whatever runs there could have run here, after these events with this behind their answers: the same commands with the same answers, the
+-- same calls, exchanges and notices behind them, and the same state at the end
+abbrev pub CouldRunHere : {F : Type 0} → May F → State F → List (Command × Answer) → (before : List Told) → (there : State F) → Type 0
+CouldRunHere {F} may s events before there =
     (later : List (Command × Answer)) (tolds : List Told) (end : State F) → RunTold may there later tolds end →
-    (copy : Host) × (last : List Page) × (before : List Told) × (others : List (Command × Answer)) × (here : State F) × SameEvents later others
-    × RunTold may s ((Image, Copied copy) ∷ until_harvest events last ++ others) (before ++ tolds) here × SameButMarks end here
+    RunTold may s (events ++ later) (before ++ tolds) end
 
--- the harvest that followed, if one did
-abbrev pub harvest_after : Option Answer → List (Command × Answer)
-harvest_after None = []
-harvest_after (Some answer) = (Harvest, answer) ∷ []
+-- by one run here, from an image that answered its copy over these events to a last harvest: the machine there is the one here over the
+-- copy with all harvested pages put in, in order; this is the one here, marks and all; and whatever runs there could have run here, after that run
+pub record IsMoved {F : Type 0} (may : May F) (s : State F) (events : List (Command × Answer)) (there : State F) : Type 0 where
+  pub copy : Host
+  pub last : List Page
+  pub here : State F
+  pub from : RunsFromImage may s copy (until_harvest events last) here
+  pub over : there ≡ with_host here (pages_put copy (pages_answered (until_harvest events last)))
+  pub same : there ≡ here
+  pub goes_on : CouldRunHere may s ((Image, Copied copy) ∷ until_harvest events last) from.run.0 there
 
--- the machine stayed, after an image that was made or refused, what was done, and a harvest that was made, refused or not asked for
-abbrev pub Stays : {F : Type 0} → May F → State F → List (Command × Answer) → State F → Type 0
-Stays may s events after = (image : Answer) × (harvest : Option Answer) × Run may s ((Image, image) ∷ events ++ harvest_after harvest) after
+-- no command was done: an image was made or refused, and nothing else
+abbrev pub StaysAtOnce : {F : Type 0} → May F → State F → (answers : List Answer) → State F → Type 0
+StaysAtOnce may s answers after = (answers ≡ []) × (image : Answer) × Run may s ((Image, image) ∷ []) after
+
+-- each command was done, after an image, and then a harvest was made or refused
+abbrev pub StaysAtLast : {F : Type 0} → May F → State F → List Command → (answers : List Answer) → State F → Type 0
+StaysAtLast may s commands answers after =
+    (length answers ≡ length commands) × (copy : Host) × (harvest : Answer) × Run may s ((Image, Copied copy) ∷ zip commands answers ++ (Harvest, harvest) ∷ []) after
+
+-- the machine stayed, none or all of the commands done
+abbrev pub StaysHere : {F : Type 0} → May F → State F → List Command → (answers : List Answer) → State F → Type 0
+StaysHere may s commands answers after = StaysAtOnce may s answers after ⊎ StaysAtLast may s commands answers after

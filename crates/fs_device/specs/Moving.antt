@@ -6,8 +6,7 @@ use Rattle.host_copies.specs.Harvested.{Page}
 use Rattle.host_copies.specs.Applying.{first_refused, pages_put}
 use Rattle.virtiofsd_fuse.specs.Serving.{May}
 use Rattle.fs_device.specs.Step.{State}
-use Rattle.fs_device.specs.Run.{Command, NewBlock, Map, Unmap, UnmapAll, SetIommu, Image, Harvest, Answer, Copied, Pages, Run, with_host}
-use Rattle.fs_device.specs.Marks.{SameButMarks}
+use Rattle.fs_device.specs.Run.{Command, NewBlock, Map, Unmap, UnmapAll, SetIommu, Image, Harvest, Answer, Copied, Pages, Run}
 
 -- a place where an image, with pages put in, differs from the host
 abbrev pub IsStale : (image : Host) → List Page → (host : Host) → Place → Type 0
@@ -54,12 +53,12 @@ StaleIsMarked {F} may =
     (s after : State F) (copy : Host) (events : List (Command × Answer)) (p : Place) → RunsFromImage may s copy events after →
     IsStale copy (pages_answered events) after.memory.host p → page_mark after.memory.host p ≡ Some true
 
--- after a last harvest the image with all harvested pages put in, in order, is the host, marks apart
+-- after a last harvest the image with all harvested pages put in, in order, is the host, marks and all
 abbrev pub ImageCatchesUp : {F : Type 0} → May F → Type 0
 ImageCatchesUp {F} may =
     (s after : State F) (copy : Host) (events : List (Command × Answer)) (last : List Page) →
     let all = events ++ (Harvest, Pages last) ∷ [] in
-    RunsFromImage may s copy all after → SameButMarks (with_host after (pages_put copy (pages_answered all))) after
+    RunsFromImage may s copy all after → pages_put copy (pages_answered all) ≡ after.memory.host
 
 -- each harvested page has its place in the image
 abbrev pub PagesHavePlaces : {F : Type 0} → May F → Type 0

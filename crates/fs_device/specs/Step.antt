@@ -1,5 +1,5 @@
 -- One step of the device on one queue.
-use Rattle.std.specs.Prelude.{◌≡◌, ℕ, Bool, IsTrue, List, [], length, map, Option, Some, None, slice_get}
+use Rattle.std.specs.Prelude.{◌≡◌, ℕ, Bool, IsTrue, List, [], ◌∷◌, length, map, Option, Some, None, slice_get}
 use Rattle.vm_memory_core.specs.Host.{changed_at}
 use Rattle.vm_memory.specs.Memory.{Memory}
 use Rattle.fs_queue.specs.declared.fault.ChainFault.{ChainFault}
@@ -8,7 +8,7 @@ use Rattle.fs_queue.specs.Queue.{Queue}
 use Rattle.fs_queue.specs.Taking.{Asks, CannotAsk, Offer, Refuses, Offers, offer, may_lack_memory, after_refusal}
 use Rattle.fs_queue.specs.Taking as taking
 use Rattle.fs_queue.specs.Returning.{returned, wants_notice, advanced}
-use Rattle.fuse_fs.specs.Calls.{FileCall, FileAnswer, FileRun}
+use Rattle.fuse_fs.specs.Calls.{FileCall, FileAnswer, FileRun, suits}
 use Rattle.fuse_segments.specs.declared.error.Error.{Error}
 use Rattle.virtiofsd_fuse.specs.Grammar.{meaning}
 use Rattle.virtiofsd_fuse.specs.Serving.{May, Served, served, setting}
@@ -43,6 +43,19 @@ pub data Outcome : Type 0 where
 abbrev pub Calls : Type 0
 Calls = List (FileCall × FileAnswer)
 
+-- the calls alone
+abbrev pub calls_alone : Calls → List FileCall
+calls_alone steps = map (λ step. step.0) steps
+
+-- the answers alone
+abbrev pub answers_alone : Calls → List FileAnswer
+answers_alone steps = map (λ step. step.1) steps
+
+-- each answer is one that its call can have
+abbrev pub EachSuits : Calls → Type 0
+EachSuits [] = Unit {0}
+EachSuits (step ∷ steps) = IsTrue (suits step.0 step.1) × EachSuits steps
+
 -- another queue in the place of queue i
 abbrev pub with_queue : {F : Type 0} → State F → ℕ → Queue → State F
 with_queue s i q = record s { queues = changed_at s.queues i (λ _. q) }
@@ -69,8 +82,8 @@ served_fault (Some e) = Some (fault.Served e)
 
 -- what the server does for a request: these calls, along which the file system's state moves, and what comes of their answers
 pub record ServesRequest {F : Type 0} (may : May F) (page_size options : ℕ) (request : List ℕ) (room : ℕ) (before : F) (calls : Calls) (given : Served) (after : F) : Type 0 where
-  pub gives : given ≡ served (setting page_size options room) (meaning options request room) (map (λ step. step.1) calls)
-  pub asks : given.calls ≡ map (λ step. step.0) calls
+  pub gives : given ≡ served (setting page_size options room) (meaning options request room) (answers_alone calls)
+  pub asks : given.calls ≡ calls_alone calls
   pub run : FileRun may before calls after
 
 -- a chain goes back with this exchange

@@ -6,7 +6,7 @@ use Rattle.virtiofsd_fuse.specs.Grammar.{meaning}
 use Rattle.virtiofsd_fuse.specs.Serving.{May, Setting, served}
 use Rattle.fs_device.specs.declared.exchange.Fault.{Fault}
 use Rattle.fs_device.specs.declared.exchange.Fault.TheVariants as fault
-use Rattle.fs_device.specs.Step.{State, Calls, served_exchange}
+use Rattle.fs_device.specs.Step.{State, Calls, served_exchange, calls_alone, answers_alone}
 use Rattle.fs_device.specs.Run.{Turn, Told, Command, Answer, RunTold}
 
 -- the calls of a kick, in their order
@@ -20,8 +20,8 @@ calls_told tolds = flat_map calls_of tolds
 -- in some setting the request means these calls, each by the answers before it, and they make this exchange
 abbrev pub IsMeant : Turn → Type 0
 IsMeant t = (s : Setting)
-    × ((served s (meaning s.options t.exchange.request s.room) (map (λ step. step.1) t.calls)).calls ≡ map (λ step. step.0) t.calls)
-    × (t.exchange ≡ served_exchange t.exchange.head t.exchange.request (served s (meaning s.options t.exchange.request s.room) (map (λ step. step.1) t.calls)))
+    × ((served s (meaning s.options t.exchange.request s.room) (answers_alone t.calls)).calls ≡ calls_alone t.calls)
+    × (t.exchange ≡ served_exchange t.exchange.head t.exchange.request (served s (meaning s.options t.exchange.request s.room) (answers_alone t.calls)))
 
 -- by its fault: a faulty chain makes no call
 abbrev pub IsServedBy : Option Fault → Turn → Type 0

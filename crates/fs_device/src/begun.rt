@@ -11,8 +11,9 @@ use std::alloc::{AllocError, Global};
 use virtiofsd_fuse::Writer;
 use vm_memory_core::{HostMemory, NewBitmap};
 
-/// A chain that was taken from a queue, with the bytes of its request and the room for its reply: all the memory that its
-/// exchange takes of the device. Until it is finished the queue is as it was; dropped, it leaves the chain to be begun again.
+/// A chain that was taken from a queue, with the bytes of its request and the room for its reply: all the memory that
+/// its exchange takes of the device. Until it is finished the queue is as it was; dropped, it leaves the chain to be
+/// begun again.
 #[derive(Drop)]
 pub struct Begun {
     pub(crate) queue: usize,

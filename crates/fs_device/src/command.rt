@@ -1,5 +1,9 @@
 //! What is asked of a machine, and what it answers.
 
+ghost use Rattle.std.specs.Prelude.{◌≡◌};
+ghost use Rattle.fs_device.specs.CommandView.{command_of};
+ghost use Rattle.fs_device.specs.Moving.{follows_image};
+
 use crate::queues::QueueRun;
 use crate::refusal::Refusal;
 use fs_queue::QueueLayout;
@@ -66,6 +70,31 @@ pub enum Command {
     Image,
     /// The marked pages of blocks are copied, and marked no more.
     Harvest,
+}
+
+impl Command {
+    /// Whether the command may follow an image on the way to another host (`Machine::migrate`): no block is made, no
+    /// mapping changes, the IOMMU isn't turned on, and no other image is made.
+    pub fn follows_image(&self) -> bool
+        ensures { result ≡ follows_image (command_of self.now) }
+    {
+        match self {
+            Command::NewBlock { .. }
+            | Command::Map { .. }
+            | Command::Unmap { .. }
+            | Command::UnmapAll
+            | Command::Image => false,
+            Command::SetIommu(on) => !*on,
+            Command::GuestRead { .. }
+            | Command::GuestWrite { .. }
+            | Command::InsertRegion { .. }
+            | Command::RemoveRegion { .. }
+            | Command::SetLayout(_)
+            | Command::Kick { .. }
+            | Command::ResetQueue { .. }
+            | Command::Harvest => true,
+        }
+    }
 }
 
 /// What a command comes to.

@@ -1,6 +1,6 @@
 //! What a machine copies of its host.
 
-ghost use Rattle.std.specs.Prelude.{[]};
+ghost use Rattle.std.specs.Prelude.{◌≡◌, []};
 ghost use Rattle.fs_device.specs.Run.{Harvest, Image, Performs};
 ghost use Rattle.fs_device.specs.CommandView.{answer_of};
 ghost use Rattle.fs_device.specs.MachineView.{machine_of};
@@ -14,7 +14,8 @@ use vm_memory::Iommu;
 
 impl<F: FileSystem, I: Iommu + Drop> Machine<F, I> {
     pub(crate) fn image(&mut self, alloc: Global) -> Answer
-        ensures { Performs F.may (machine_of self.old) Image [] (answer_of result) (machine_of self.new) }
+        ensures performs { Performs F.may (machine_of self.old) Image [] (answer_of result) (machine_of self.new) }
+        ensures mem { self.new.mem ≡ self.old.mem }
     {
         match host_copies::image(alloc, &mut self.host) {
             Ok(copy) => Answer::Copied(copy),
@@ -23,7 +24,8 @@ impl<F: FileSystem, I: Iommu + Drop> Machine<F, I> {
     }
 
     pub(crate) fn harvest(&mut self, alloc: Global) -> Answer
-        ensures { Performs F.may (machine_of self.old) Harvest [] (answer_of result) (machine_of self.new) }
+        ensures performs { Performs F.may (machine_of self.old) Harvest [] (answer_of result) (machine_of self.new) }
+        ensures mem { self.new.mem ≡ self.old.mem }
     {
         match host_copies::harvest(alloc, &mut self.host) {
             Ok(pages) => Answer::Pages(pages),

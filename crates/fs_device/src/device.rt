@@ -19,8 +19,8 @@ use virtiofsd_fuse::Server;
 use vm_memory::GuestMemory;
 use vm_memory_core::{HostMemory, NewBitmap};
 
-/// A server behind its queues, of which there are 1 to 64. A request or a room longer than the limit, from 0x101000 to 2^31
-/// bytes, makes a chain faulty.
+/// A server behind its queues, of which there are 1 to 64. A request or a room longer than the limit, from 0x101000 to
+/// 2^31 bytes, makes a chain faulty.
 #[derive(Drop)]
 pub struct Device<F> {
     server: Server<F>,
@@ -89,7 +89,7 @@ impl<F: FileSystem> Device<F> {
 
     // The same device with other options and queues, as a record has them: its server goes on with these.
     #[tactic(auto, using(virtiofsd_fuse::proofs::Options::known_bits_are))]
-    pub(crate) fn taking_up(self, options: FsOptions, queues: Vec<Queue>) -> Device<F>
+    pub(crate) fn resumed_with(self, options: FsOptions, queues: Vec<Queue>) -> Device<F>
         requires { IsSavable options.0 queues.items }
         ensures { result ≡ record self { queues = queues.items; options = options.0 } }
     {
@@ -103,8 +103,9 @@ impl<F: FileSystem> Device<F> {
         }
     }
 
-    /// Takes the next chain of a queue and all the memory that its exchange wants of the device: its request is read, and there
-    /// is room for its reply. Nothing where none waits. A refusal is that of a step, and the file system isn't asked.
+    /// Takes the next chain of a queue and all the memory that its exchange wants of the device: its request is read,
+    /// and there is room for its reply. Nothing where none waits. A refusal is that of a step, and the file system
+    /// isn't asked.
     #[inline]
     pub fn begin<M: GuestMemory, B: NewBitmap>(
         &mut self,
@@ -132,9 +133,10 @@ impl<F: FileSystem> Device<F> {
         }
     }
 
-    /// Has the server answer what was begun, and gives the chain back: what was exchanged, and whether the driver wants to be
-    /// told. Only memory that the server wants before it asks the file system can be lacking; then nothing changes, and the
-    /// chain may be begun again. Finish it while memory and queue are as `begin` left them: of another nothing is said.
+    /// Has the server answer what was begun, and gives the chain back: what was exchanged, and whether the driver wants
+    /// to be told. Only memory that the server wants before it asks the file system can be lacking; then nothing
+    /// changes, and the chain may be begun again. Finish it while memory and queue are as `begin` left them: of another
+    /// nothing is said.
     #[inline]
     pub fn finish<B: NewBitmap>(
         &mut self,
@@ -159,7 +161,8 @@ impl<F: FileSystem> Device<F> {
         Ok((exchange, notify))
     }
 
-    /// Serves the next chain of a queue: what was exchanged, and whether the driver wants to be told; nothing where none waits.
+    /// Serves the next chain of a queue: what was exchanged, and whether the driver wants to be told; nothing where
+    /// none waits.
     pub fn process_one<M: GuestMemory, B: NewBitmap>(
         &mut self,
         alloc: Global,

@@ -10,7 +10,8 @@ pub enum Fault {
     Served(Error),
 }
 
-/// A chain that was taken and returned: its head, the flat bytes of its request, the reply that was written, and why there is none.
+/// A chain that was taken and returned: its head, the flat bytes of its request, the reply that was written, and why
+/// there is none.
 #[derive(Debug, Drop)]
 pub struct Exchange {
     pub head: u16,

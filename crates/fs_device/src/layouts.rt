@@ -1,6 +1,6 @@
 //! What a machine does to its blocks and its layout.
 
-ghost use Rattle.std.specs.Prelude.{◌≡◌, []};
+ghost use Rattle.std.specs.Prelude.{[]};
 ghost use Rattle.fs_device.specs.Run.{Performs, NewBlock, InsertRegion, RemoveRegion, SetLayout};
 ghost use Rattle.fs_device.specs.CommandView.{answer_of};
 ghost use Rattle.fs_device.specs.MachineView.{machine_of};

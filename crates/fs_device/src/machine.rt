@@ -19,8 +19,8 @@ pub struct Machine<F, I: Iommu + Drop> {
 }
 
 impl<F: FileSystem, I: Iommu + Drop> Machine<F, I> {
-    /// A machine of a host, a layout over its blocks behind an IOMMU, and a device. The host has the IOMMU's table and its
-    /// set of I/O pages too: `HostMemory::holds` tests it.
+    /// A machine of a host, a layout over its blocks behind an IOMMU, and a device. The host has the IOMMU's table and
+    /// its set of I/O pages too: `HostMemory::holds` tests it.
     pub fn new(
         host: HostMemory<PageBitmap>,
         mem: IommuMemory<GuestMemoryMmap, I>,

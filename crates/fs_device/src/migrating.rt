@@ -1,6 +1,6 @@
 //! A machine is moved to another host.
 
-ghost use Rattle.std.specs.Prelude.{◌≡◌, ◌≤◌, ◌++◌, false, IsTrue, IfOk, IfErr, None, length, map, zip};
+ghost use Rattle.std.specs.Prelude.{◌≡◌, ◌++◌, false, IsTrue, IfOk, IfErr, None, length, map, zip};
 ghost use Rattle.std.specs.List.{AllByRecursion};
 ghost use Rattle.vm_memory_core.specs.Host.{lengths, shape};
 ghost use Rattle.host_copies.specs.Applying.{first_refused, pages_put};
@@ -9,13 +9,12 @@ ghost use Rattle.device_record.specs.Record.{IsSavable, record_bytes};
 ghost use Rattle.fs_device.specs.Run.{with_host};
 ghost use Rattle.fs_device.specs.CommandView.{answer_of, command_of};
 ghost use Rattle.fs_device.specs.MachineView.{machine_of};
-ghost use Rattle.fs_device.specs.Marks.{without_marks};
-ghost use Rattle.fs_device.specs.Moving.{HasItsMarks, follows_image};
-ghost use Rattle.fs_device.specs.Migrating.{CouldRunHere, IsMoved, Stays, pages_told};
+ghost use Rattle.fs_device.specs.Moving.{HasItsMarks, RunsFromImage, follows_image};
+ghost use Rattle.fs_device.specs.Migrating.{IsMoved, StaysHere, pages_of_answers, until_harvest};
 
 use crate::command::{Answer, Command};
 use crate::device::Device;
-use crate::laws::{law_marks, law_move};
+use crate::laws::law_move;
 use crate::machine::Machine;
 use device_record::laws::law_record;
 use device_record::{Stream, restore_record};
@@ -27,24 +26,33 @@ use std::alloc::{AllocError, Global};
 use vm_memory::Iommu;
 use vm_memory_core::{HostMemory, PageBitmap};
 
-/// A machine that was moved: as it goes on there, what its commands answered on the way, and how many bytes its device's
-/// record had.
+/// A machine that was moved: as it goes on there, what its commands answered on the way, and its device's record,
+/// version 1, from which it goes on.
 #[derive(Drop)]
 pub struct Migrated<F, I: Iommu + Drop> {
     pub machine: Machine<F, I>,
     pub answers: Vec<Answer>,
-    pub record_len: usize,
+    pub device_record: Vec<u8>,
 }
 
-/// A machine that wasn't moved, since memory was wanting. It goes on where it is; what was done has its answers.
+/// A machine that wasn't moved, since memory was wanting. It goes on where it is; what was done, none of the commands
+/// or all, has its answers. Its blocks' marks may be gone, taken by the image and by harvests.
 #[derive(Drop)]
 pub struct Stayed<F, I: Iommu + Drop> {
     pub machine: Machine<F, I>,
     pub answers: Vec<Answer>,
 }
 
+// What a run from an image brings: the copy that the image answered, the answers of the commands, and the pages of the
+// last harvest.
+struct ImageRun {
+    copy: HostMemory<PageBitmap>,
+    answers: Vec<Answer>,
+    last: Vec<HarvestedPage>,
+}
+
 // Each block of a host has a mark for each of its pages, which looking at it tells.
-fn keeps_marks(host: &HostMemory<PageBitmap>)
+fn has_its_marks(host: &HostMemory<PageBitmap>)
     ensures { HasItsMarks host.now }
 {
     for block in 0..host.block_count() {
@@ -53,9 +61,9 @@ fn keeps_marks(host: &HostMemory<PageBitmap>)
 }
 
 // Puts the pages that answers have into a copy of a host, in order.
-fn put_told(copy: &mut HostMemory<PageBitmap>, answers: &[Answer])
-    requires { first_refused (lengths copy.old) 0 (pages_told answers.now) ≡ None }
-    ensures put { copy.new ≡ pages_put copy.old (pages_told answers.now) }
+fn put_answered(copy: &mut HostMemory<PageBitmap>, answers: &[Answer])
+    requires { first_refused (lengths copy.old) 0 (pages_of_answers answers.now) ≡ None }
+    ensures put { copy.new ≡ pages_put copy.old (pages_of_answers answers.now) }
     ensures shape { shape copy.new ≡ shape copy.old }
 {
     for answer in answers {
@@ -65,12 +73,21 @@ fn put_told(copy: &mut HostMemory<PageBitmap>, answers: &[Answer])
     }
 }
 
+// Puts the pages of answers, and then those of a last harvest, into a copy of a host, in order.
+fn put_harvested(copy: &mut HostMemory<PageBitmap>, answers: &[Answer], last: &[HarvestedPage])
+    requires { first_refused (lengths copy.old) 0 (pages_of_answers answers.now ++ map page_view last.now) ≡ None }
+    ensures { copy.new ≡ pages_put copy.old (pages_of_answers answers.now ++ map page_view last.now) }
+{
+    put_answered(copy, answers);
+    let _ = apply(copy, last);
+}
+
 impl<F: FileSystem> Device<F> {
-    // The options and the queues that a device's record brings over, and how many bytes it has.
-    fn brought_over(&self, alloc: Global) -> Result<(FsOptions, Vec<Queue>, usize), AllocError>
+    // The options and the queues that a device's record brings over, and the record.
+    fn brought_over(&self, alloc: Global) -> Result<(FsOptions, Vec<Queue>, Vec<u8>), AllocError>
         ensures options { IfOk result (λ v. v.0.0 ≡ self.now.options) }
         ensures queues { IfOk result (λ v. v.1.items ≡ self.now.queues) }
-        ensures len { IfOk result (λ v. v.2 ≡ length (record_bytes self.now.options self.now.queues)) }
+        ensures bytes { IfOk result (λ v. v.2.items ≡ record_bytes self.now.options self.now.queues) }
         ensures savable { IfOk result (λ v. IsSavable v.0.0 v.1.items) }
     {
         let mut sink = Stream::new(Vec::new(alloc));
@@ -81,48 +98,89 @@ impl<F: FileSystem> Device<F> {
         let mut source = Stream::new(record.as_slice());
         law_record();
         match restore_record(alloc, &mut source) {
-            Ok((options, queues)) => Ok((options, queues, record.len())),
+            Ok((options, queues)) => Ok((options, queues, record)),
             Err(_) => Err(AllocError),
         }
     }
 }
 
 impl<F: FileSystem, I: Iommu + Drop> Machine<F, I> {
-    // The machine as it goes on over a copy of its host, into which harvested pages are put, with a device that goes on
-    // from its record; and how many bytes the record has.
-    fn over(
-        self,
+    // An image, commands and a last harvest, one after another; or the commands' answers, where memory was wanting.
+    fn run_from_image(
+        &mut self,
         alloc: Global,
-        mut copy: HostMemory<PageBitmap>,
-        answers: &[Answer],
-        last: &[HarvestedPage],
-    ) -> Result<(Machine<F, I>, usize), Machine<F, I>>
-        requires places { first_refused (lengths copy) 0 (pages_told answers.now ++ map page_view last.now) ≡ None }
-        requires caught_up { without_marks (pages_put copy (pages_told answers.now ++ map page_view last.now)) ≡ without_marks self.host }
-        ensures moved { IfOk result (λ m. machine_of m.0 ≡ with_host (machine_of self) (pages_put copy (pages_told answers.now ++ map page_view last.now))) }
-        ensures record_len { IfOk result (λ m. m.1 ≡ length (record_bytes self.device.options self.device.queues)) }
-        ensures stayed { IfErr result (λ m. machine_of m ≡ machine_of self) }
+        commands: Vec<Command>,
+    ) -> Result<ImageRun, Vec<Answer>>
+        requires off { (machine_of self.old).memory.translates ≡ false }
+        requires follow { AllByRecursion (λ c. IsTrue (follows_image (command_of c))) commands.items }
+        ensures all { IfOk result (λ r. length r.answers.items ≡ length commands.items) }
+        ensures from { IfOk result (λ r. RunsFromImage F.may (machine_of self.old) r.copy
+            (until_harvest (zip (map command_of commands.items) (map answer_of r.answers.items)) (map page_view r.last.items)) (machine_of self.new)) }
+        ensures stayed { IfErr result (λ answers. StaysHere F.may (machine_of self.old) (map command_of commands.items) (map answer_of answers.items) (machine_of self.new)) }
+        ensures off { (machine_of self.new).memory.translates ≡ false }
     {
-        let Ok((options, queues, record_len)) = self.device.brought_over(alloc) else {
-            return Err(self);
+        has_its_marks(&self.host);
+        law_move::<F>();
+        let Answer::Copied(copy) = self.image(alloc) else {
+            return Err(Vec::new(alloc));
         };
-        put_told(&mut copy, answers);
-        let _ = apply(&mut copy, last);
+        let Ok(answers) = self.run(alloc, commands) else {
+            return Err(Vec::new(alloc));
+        };
+        let Answer::Pages(last) = self.harvest(alloc) else {
+            return Err(answers);
+        };
+        Ok(ImageRun {
+            copy,
+            answers,
+            last,
+        })
+    }
+
+    // The machine as it goes on over the copy of its host that a run brought, into which the harvested pages are put,
+    // with a device that goes on from its record.
+    fn moved_onto(self, alloc: Global, run: ImageRun) -> Result<Migrated<F, I>, Stayed<F, I>>
+        requires places { first_refused (lengths run.copy) 0 (pages_of_answers run.answers.items ++ map page_view run.last.items) ≡ None }
+        requires caught_up { pages_put run.copy (pages_of_answers run.answers.items ++ map page_view run.last.items) ≡ self.host }
+        ensures moved { IfOk result (λ m. machine_of m.machine ≡ with_host (machine_of self) (pages_put run.copy (pages_of_answers run.answers.items ++ map page_view run.last.items))) }
+        ensures answers { IfOk result (λ m. m.answers ≡ run.answers) }
+        ensures bytes { IfOk result (λ m. m.device_record.items ≡ record_bytes self.device.options self.device.queues) }
+        ensures stayed { IfErr result (λ m. machine_of m.machine ≡ machine_of self) }
+        ensures still_answers { IfErr result (λ m. m.answers ≡ run.answers) }
+    {
+        let ImageRun {
+            mut copy,
+            answers,
+            last,
+        } = run;
+        let Ok((options, queues, device_record)) = self.device.brought_over(alloc) else {
+            return Err(Stayed {
+                machine: self,
+                answers,
+            });
+        };
+        put_harvested(&mut copy, &answers, &last);
         let Machine { mem, device, .. } = self;
-        let device = device.taking_up(options, queues);
+        let device = device.resumed_with(options, queues);
         let machine = Machine {
             host: copy,
             mem,
             device,
         };
-        Ok((machine, record_len))
+        Ok(Migrated {
+            machine,
+            answers,
+            device_record,
+        })
     }
 
     /// Moves the machine to another host, as a monitor would: an image of its host; then commands, which are what the
-    /// guest and the device do in the meantime and the harvests between (`Command::Harvest`); a last harvest; and there the
-    /// image with all harvested pages put in, in order, and a device that goes on from its record. The IOMMU is off, and
-    /// the commands make no block, change no mapping and make no other image. A command that is refused stops nothing.
-    /// Whatever runs there could have run here. Where memory is wanting the machine stays.
+    /// guest and the device do in the meantime and the harvests between (`Command::Harvest`); a last harvest; and there
+    /// the image with all harvested pages put in, in order, and a device that goes on from its record. The IOMMU is off
+    /// (`mem.get_iommu_enabled()`), and each command may follow an image (`Command::follows_image`). A command that is
+    /// refused stops nothing. There the machine is as here after the last harvest, marks and all, and whatever runs
+    /// there could have run here. Where memory is wanting the machine stays, with none of the commands done or with
+    /// all. Either may be moved again.
     pub fn migrate(
         mut self,
         alloc: Global,
@@ -132,38 +190,21 @@ impl<F: FileSystem, I: Iommu + Drop> Machine<F, I> {
         requires follow { AllByRecursion (λ c. IsTrue (follows_image (command_of c))) commands.items }
         ensures all { IfOk result (λ m. length m.answers.items ≡ length commands.items) }
         ensures moved { IfOk result (λ m. IsMoved F.may (machine_of self) (zip (map command_of commands.items) (map answer_of m.answers.items)) (machine_of m.machine)) }
-        ensures goes_on { IfOk result (λ m. CouldRunHere F.may (machine_of self) (zip (map command_of commands.items) (map answer_of m.answers.items)) (machine_of m.machine)) }
-        ensures record_len { IfOk result (λ m. m.record_len ≡ length (record_bytes m.machine.device.options m.machine.device.queues)) }
-        ensures stayed { IfErr result (λ m. Stays F.may (machine_of self) (zip (map command_of commands.items) (map answer_of m.answers.items)) (machine_of m.machine)) }
+        ensures bytes { IfOk result (λ m. m.device_record.items ≡ record_bytes m.machine.device.options m.machine.device.queues) }
+        ensures off { IfOk result (λ m. (machine_of m.machine).memory.translates ≡ false) }
+        ensures stayed { IfErr result (λ m. StaysHere F.may (machine_of self) (map command_of commands.items) (map answer_of m.answers.items) (machine_of m.machine)) }
+        ensures still_off { IfErr result (λ m. (machine_of m.machine).memory.translates ≡ false) }
     {
-        keeps_marks(&self.host);
-        let Answer::Copied(copy) = self.image(alloc) else {
-            return Err(Stayed {
-                machine: self,
-                answers: Vec::new(alloc),
-            });
-        };
-        let Ok(answers) = self.run(alloc, commands) else {
-            return Err(Stayed {
-                machine: self,
-                answers: Vec::new(alloc),
-            });
-        };
-        let Answer::Pages(last) = self.harvest(alloc) else {
-            return Err(Stayed {
-                machine: self,
-                answers,
-            });
+        let run = match self.run_from_image(alloc, commands) {
+            Ok(run) => run,
+            Err(answers) => {
+                return Err(Stayed {
+                    machine: self,
+                    answers,
+                });
+            }
         };
         law_move::<F>();
-        law_marks::<F>();
-        match self.over(alloc, copy, &answers, &last) {
-            Ok((machine, record_len)) => Ok(Migrated {
-                machine,
-                answers,
-                record_len,
-            }),
-            Err(machine) => Err(Stayed { machine, answers }),
-        }
+        self.moved_onto(alloc, run)
     }
 }

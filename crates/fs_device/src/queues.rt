@@ -12,8 +12,8 @@ use std::alloc::{AllocError, Global};
 use vm_memory::GuestMemory;
 use vm_memory_core::{HostMemory, NewBitmap};
 
-/// The chains that were exchanged one after another, each with whether the driver is to be told, and why none came after
-/// them, if that is a refusal.
+/// The chains that were exchanged one after another, each with whether the driver is to be told, and why none came
+/// after them, if that is a refusal.
 #[derive(Debug, Drop)]
 pub struct QueueRun {
     pub done: Vec<(Exchange, bool)>,
@@ -59,8 +59,8 @@ ghost use Rattle.fs_device.specs.DeviceView.{state_of};
 ghost use Rattle.fs_device.specs.CommandView.{ServesQueue};
 
 impl<F: FileSystem> Device<F> {
-    /// Serves the next chains of a queue one after another, until `most` are done, none waits or a step is refused. A missing
-    /// queue is refused first, whatever memory there is; 9 comes where there is no room for `most` exchanges.
+    /// Serves the next chains of a queue one after another, until `most` are done, none waits or a step is refused. A
+    /// missing queue is refused first, whatever memory there is; 9 comes where there is no room for `most` exchanges.
     #[tactic(auto, using(crate::proofs::KickLemmas::room_wanted))]
     pub fn process_queue<M: GuestMemory, B: NewBitmap>(
         &mut self,

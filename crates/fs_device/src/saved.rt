@@ -2,7 +2,7 @@
 
 ghost use Rattle.std.specs.Prelude.{◌≡◌, ◌≤◌, ◌^◌, ℕ, List, IsTrue, IfOk, IfErr, OnOk};
 ghost use Rattle.std.specs.Io.KnownBytes.{Consumes};
-ghost use Rattle.device_record.specs.Record.{IsKnown, IsRecord, IsSavable, record_bytes};
+ghost use Rattle.device_record.specs.Record.{HasKnownBits, IsRecord, IsSavable, record_bytes};
 ghost use Rattle.device_record.specs.Restoring.{RefusesRecord, LeavesSource};
 ghost use Rattle.device_record.specs.Streams.{GoesOut};
 ghost use Rattle.fuse_replies.specs.PageSizes.{is_page_size};
@@ -21,7 +21,7 @@ impl<F: FileSystem> Device<F> {
     #[tactic(auto, using(virtiofsd_fuse::proofs::Options::known_bits_are))]
     fn options(&self) -> FsOptions
         ensures value { result.0 ≡ self.now.options }
-        ensures known { IsKnown result.0 }
+        ensures known { HasKnownBits result.0 }
     {
         self.server().options()
     }
@@ -35,9 +35,9 @@ impl<F: FileSystem> Device<F> {
         save_record(sink, self.options(), &self.queues)
     }
 
-    /// A device that goes on from the record that stands next in a source, over a file system that was carried over. The
-    /// guest's pages have `page_size` bytes, a power of two from 4096 to 65536; the limit is from 0x101000 to 2^31. Each
-    /// refusal says what stands in the source, as `restore_record` does, and hands the file system back.
+    /// A device that goes on from the record that stands next in a source, over a file system that was carried over.
+    /// The guest's pages have `page_size` bytes, a power of two from 4096 to 65536; the limit is from 0x101000 to 2^31.
+    /// Each refusal says what stands in the source, as `restore_record` does, and hands the file system back.
     pub fn restore<S: RecordSource>(
         alloc: Global,
         source: &mut S,

@@ -66,8 +66,8 @@ fn answer<F: FileSystem>(
     }
 }
 
-/// Serves a chain that was taken, by its request's bytes and a writer with its room. Nothing is refused once the file system was
-/// asked.
+/// Serves a chain that was taken, by its request's bytes and a writer with its room. Nothing is refused once the file
+/// system was asked.
 pub(crate) fn serve<F: FileSystem>(
     alloc: Global,
     server: &mut Server<F>,
@@ -105,8 +105,8 @@ pub(crate) fn serve<F: FileSystem>(
     }
 }
 
-/// Fetches the request of a chain that was taken, makes room for its reply, and serves it. Nothing is refused once the file
-/// system was asked.
+/// Fetches the request of a chain that was taken, makes room for its reply, and serves it. Nothing is refused once the
+/// file system was asked.
 pub(crate) fn serve_taken<F: FileSystem, B: NewBitmap>(
     alloc: Global,
     server: &mut Server<F>,

@@ -4,13 +4,13 @@ use Rattle.std.specs.Prelude.{min, nat_le, nat_lt, if◌then◌else◌, Result}
 use Rattle.std.proofs.lemmas.Bool.{leb-true, leb-false, ltb-true, ltb-false, cases_lt}
 use Rattle.std.specs.List.{concat}
 use Rattle.std.proofs.lemmas.List.{drop-drop, take_all, length-take, length-drop}
-use Rattle.vm_values.proofs.Places.{take-add}
 use Rattle.fuse_fs.specs.Lengths.{first, past, up_to}
 use Rattle.fuse_fs.specs.Transfers.{ReadsOn, ReadsEnd, ReadsSegments}
 use Rattle.fuse_fs.proofs.Lengths.{past_none, past_part, past_whole, sum-cons, sum-past, sum-up_to}
 use Rattle.fuse_fs.specs.Calls as call
 use Rattle.fs_example.specs.Directory.{EIO, bytes_in}
 use Rattle.fs_example.specs.declared.directory.Contents.{Contents}
+use Rattle.std.proofs.Math.Seq.{take-add}
 
 -- what one read of contents gives
 abbrev pub Gives : Contents → ℕ → ℕ → Result (List ℕ) ℕ → Contents → Type 0
@@ -34,13 +34,12 @@ reads_front f rooms off (part ∷ parts) g (mid, some, low, gives, rest) =
     let there = drop off f.bytes.now in
     let is : part ≡ take (first rooms) there = cc in
     let front : part ≡ take (length part) there = is ∙ sym (own_length (first rooms) there) ∙ ap (λ (l : List ℕ). take (length l) there) (sym is) in
-    let within : length part ≤ length there = subst (λ (l : List ℕ). length l ≤ length there) (sym is) (short (first rooms) there) in
     let behind : concat parts ≡ take (length (concat parts)) (drop (length part) there) =
     reads_front mid (past (length part) rooms) (off + length part) parts g rest
     ∙ ap (λ (c : Contents). take (length (concat parts)) (drop (off + length part) c.bytes.now)) gives.1
     ∙ ap (take (length (concat parts))) (sym (drop-drop (length part) off f.bytes.now)) in
     ap (λ (l : List ℕ). l ++ concat parts) front ∙ ap (λ (l : List ℕ). take (length part) there ++ l) behind
-    ∙ sym (take-add (length part) (length (concat parts)) there within)
+    ∙ sym (take-add (length part) (length (concat parts)) there)
     ∙ ap (λ (n : ℕ). take n there) (sym (length-append part (concat parts)))
 
 -- as many as there are and are wanted

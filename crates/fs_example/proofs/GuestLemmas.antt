@@ -1,10 +1,10 @@
 -- what a guest gets that looks at a room behind a kick
-use Rattle.std.proofs.Common.{◌≡◌, ℕ, zero, suc, ◌+◌, ◌-◌, ◌^◌, ◌≤◌, true, false, List, [], ◌∷◌, ◌++◌, length, drop, Option, Some, refl, ap, ◌∙◌, subst, arith}
+use Rattle.std.proofs.Common.{◌≡◌, ℕ, zero, suc, ◌+◌, ◌-◌, ◌^◌, ◌≤◌, true, false, List, [], ◌∷◌, ◌++◌, length, take, drop, Option, Some, refl, ap, sym, ◌∙◌, subst, arith}
 use Rattle.std.specs.Prelude.{nat_lt, nat_le, is_some, slice_get, if◌then◌else◌, pos}
 use Rattle.std.specs.List.{list_all}
 use Rattle.std.specs.Int.{w16, w32, to_le_bytes}
 use Rattle.std.proofs.lemmas.Bool.Decides.{nat_tests}
-use Rattle.std.proofs.lemmas.List.{drop_at, length-map}
+use Rattle.std.proofs.lemmas.List.{drop_at, drop-drop, length-drop, length-map}
 use Rattle.vm_iotlb.specs.declared.permissions.Permissions.TheVariants.{Read}
 use Rattle.vm_values.specs.Fields.{spelled}
 use Rattle.vm_memory.specs.Layout.{Region, place}
@@ -24,9 +24,12 @@ use Rattle.fs_example.specs.declared.table.ReadOnlyDirectory.{ReadOnlyDirectory}
 use Rattle.fs_example.specs.Directory.{MayAnswer}
 use Rattle.fs_example.specs.Reading.{read_reply, wanted}
 use Rattle.fs_example.specs.GuestGets.{laid_over, GetsFile, KickGivesFile, kick_and_look, GuestGetsTheFile}
-use Rattle.fs_example.proofs.StoreLemmas.{all_keep, both, room_seen}
+use Rattle.fs_example.proofs.StoreLemmas.{all_keep, room_seen}
 use Rattle.fs_example.proofs.HoldLemmas.{Held, end_keeps, run_holds}
-use Rattle.fs_example.proofs.ReadLemmas.{step_reads}
+use Rattle.fs_example.proofs.ReadLemmas.{step_reads, serves_each}
+use Rattle.std.proofs.lemmas.Bool.{and_parts}
+use Rattle.fs_device.specs.Telling.{calls_told}
+use Rattle.fuse_fs.specs.Calls.{FileRun}
 
 -- ---- a run in two parts
 
@@ -70,7 +73,7 @@ guest_saw s after a n got e =
     elim (reach (physical s.memory) Read a n) as
     (λ b. reach (physical s.memory) Read a n ≡ b → (run.Bytes got, after) ≡ (if b then (run.Bytes (bytes (physical s.memory) a n), s) else run.no NoPlace s) →
     (got ≡ bytes (physical s.memory) a n) × (list_all (λ x. is_some (place s.memory.layout x)) (addresses a n) ≡ true)) [
-      | true ↦ λ all is. (same_bytes got _ (ap (λ (p : Effect ReadOnlyDirectory). p.0) is), (both (nat_lt (a + n) (2 ^ 64)) _ all).1)
+      | true ↦ λ all is. (same_bytes got _ (ap (λ (p : Effect ReadOnlyDirectory). p.0) is), (and_parts (nat_lt (a + n) (2 ^ 64)) _ all).1)
       | false ↦ λ none is. absurd (not_refused got NoPlace (ap (λ (p : Effect ReadOnlyDirectory). p.0) is))
     ] refl e
 
@@ -89,24 +92,30 @@ behind_header unique file =
     let sixteen : length header ≡ 16 = length_header (record { len = 16 + length file; error = pos 0; unique = unique }) in
     drop_at header file 16 (omega (arith, sixteen))
 
-laid_whole : (new old : List ℕ) → length old ≡ length new → laid_over new old ≡ new
-laid_whole [] [] e = refl
-laid_whole [] (y ∷ old) e = absurd (omega arith)
-laid_whole (x ∷ new) [] e = absurd (omega arith)
-laid_whole (x ∷ new) (y ∷ old) e = ap (λ (l : List ℕ). x ∷ l) (laid_whole new old (omega arith))
+laid_front : (new old : List ℕ) → length old ≤ length new → laid_over new old ≡ take (length old) new
+laid_front [] [] e = refl
+laid_front (x ∷ new) [] e = refl
+laid_front [] (y ∷ old) e = absurd (omega arith)
+laid_front (x ∷ new) (y ∷ old) e = ap (λ (l : List ℕ). x ∷ l) (laid_front new old (omega arith))
 
 length_bytes : (m : Memory) (a n : ℕ) → length (bytes m a n) ≡ n
 length_bytes m a n = length-map (addresses a n) (byte m) ∙ length-addresses n a
 
-file_stands : (m : Memory) (room k a n unique : ℕ) (file : List ℕ) → 16 + length file ≤ room → k ≡ 16 → n ≡ length file →
-    laid_over (drop k (read_reply room unique file)) (bytes (physical m) a n) ≡ file
-file_stands m room k a n unique file fits behind all =
+file_stands : (m : Memory) (room k a n unique : ℕ) (file : List ℕ) → 16 + length file ≤ room → 16 ≤ k → k + n ≤ 16 + length file →
+    laid_over (drop k (read_reply room unique file)) (bytes (physical m) a n) ≡ take n (drop (k - 16) file)
+file_stands m room k a n unique file fits behind within =
     let old = bytes (physical m) a n in
-    let front : drop k (read_reply room unique file) ≡ file = ap (λ (j : ℕ). drop j (read_reply room unique file)) behind ∙ ap (drop 16) (long_enough room unique file fits) ∙ behind_header unique file in
-    ap (λ (new : List ℕ). laid_over new old) front ∙ laid_whole file old (length_bytes (physical m) a n ∙ all)
+    let from : k ≡ 16 + (k - 16) = omega (arith, behind) in
+    let front : drop k (read_reply room unique file) ≡ drop (k - 16) file =
+    ap (drop k) (long_enough room unique file fits) ∙ ap (λ (j : ℕ). drop j (reply_bytes unique file)) from ∙ sym (drop-drop (k - 16) 16 (reply_bytes unique file))
+    ∙ ap (drop (k - 16)) (behind_header unique file) in
+    let count : length old ≡ n = length_bytes (physical m) a n in
+    let left : length (drop (k - 16) file) ≡ length file - (k - 16) = length-drop (k - 16) file in
+    ap (λ (new : List ℕ). laid_over new old) front ∙ laid_front (drop (k - 16) file) old (omega (arith, count, left, behind, within))
+    ∙ ap (λ (j : ℕ). take j (drop (k - 16) file)) count
 
 gets_file : (m : Memory) (room k a n unique : ℕ) (file got : List ℕ) → got ≡ laid_over (drop k (read_reply room unique file)) (bytes (physical m) a n) → GetsFile m room k a n unique file got
-gets_file m room k a n unique file got is = (is, λ fits behind all. is ∙ file_stands m room k a n unique file fits behind all)
+gets_file m room k a n unique file got is = (is, λ fits behind within. is ∙ file_stands m room k a n unique file fits behind within)
 
 -- ---- a kick, and then a look
 
@@ -137,9 +146,12 @@ both_give s after i most a n kicked got later (told ∷ (t ∷ ts) ∷ tolds) (m
 
 -- ---- runs
 
-pub run_gives : (s after : State ReadOnlyDirectory) (events : List (Command × Answer)) (tolds : List Told) → RunTold MayAnswer s events tolds after → Held s.memory → GuestGetsTheFile s events after
-run_gives s after events tolds ran held before later i most a n kicked got is =
+pub run_gives : (s after : State ReadOnlyDirectory) (events : List (Command × Answer)) (tolds : List Told) → RunTold MayAnswer s events tolds after → Held s.memory →
+    ((end : State ReadOnlyDirectory) (part : List (Command × Answer)) (told : List Told) → RunTold MayAnswer s part told end → FileRun MayAnswer s.files (calls_told told) end.files) →
+    GuestGetsTheFile s events after
+run_gives s after events tolds ran held calls before later i most a n kicked got is =
     let behind = kick_and_look i most kicked a n got ++ later in
     let cut : RunTold MayAnswer s (before ++ behind) tolds after = subst (λ (es : List (Command × Answer)). RunTold MayAnswer s es tolds after) is ran in
     let parts = split s after before behind tolds cut in
-    (parts.0, parts.1, parts.2, both_give parts.0 after i most a n kicked got later parts.2.0 parts.2.1 (run_holds MayAnswer s before parts.1.0 parts.0 parts.1.1 held))
+    let same = (serves_each s.files (calls_told parts.1.0) parts.0.files (calls parts.0 before parts.1.0 parts.1.1)).1 in
+    (parts.0, same, parts.1, parts.2, both_give parts.0 after i most a n kicked got later parts.2.0 parts.2.1 (run_holds MayAnswer s before parts.1.0 parts.0 parts.1.1 held))

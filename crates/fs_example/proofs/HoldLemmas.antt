@@ -3,7 +3,7 @@ use Rattle.std.proofs.Common.{◌≡◌, ℕ, zero, suc, Bool, true, false, List
 use Rattle.std.specs.Prelude.{◌==◌, ◌<◌, not, if◌then◌else◌, slice_get, slice_index_or}
 use Rattle.std.specs.List.{list_all, list_any}
 use Rattle.std.proofs.Common.{arith, zip}
-use Rattle.std.proofs.lemmas.Bool.{eqb-true}
+use Rattle.std.proofs.lemmas.Bool.{eqb-true, and_parts}
 use Rattle.std.proofs.lemmas.List.{map-append}
 use Rattle.vm_iotlb.specs.declared.permissions.Permissions.TheVariants.{Read, Write}
 use Rattle.vm_iotlb.specs.Table.{Table, nothing_mapped}
@@ -26,7 +26,7 @@ use Rattle.fs_device.specs.Run as run
 use Rattle.fs_device.specs.Run.{Told, Command, Answer, Effect, KickEnds, KickRun, Kicks, Kicked, Affects, ChangesTable, HasEffect, Does, Performs, RunTold}
 use Rattle.fs_device.specs.Run.{effect, insert, insert_block, is_known, has_len, some_overlap, reset}
 use Rattle.fs_device.proofs.LayoutLemmas.{held_grown, held_with, held_without, block_there}
-use Rattle.fs_example.proofs.StoreLemmas.{all_keep, both}
+use Rattle.fs_example.proofs.StoreLemmas.{all_keep}
 
 -- a memory whose host has the blocks of its layout
 abbrev pub Held : Memory → Type 0
@@ -142,7 +142,7 @@ has_block (x ∷ blocks) (suc i) n e =
 all_known : (h : Host) (l : List Region) → list_all (is_known h) l ≡ true → AreHeld (lengths h) l
 all_known h [] known = tt
 all_known h (r ∷ l) known =
-    let parts = both _ _ known in
+    let parts = and_parts _ _ known in
     let here = has_block h.blocks r.block r.size parts.0 in
     (here.0, here.1, all_known h l parts.1)
 

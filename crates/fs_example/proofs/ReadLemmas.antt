@@ -15,7 +15,7 @@ use Rattle.virtiofsd_fuse.specs.Grammar.{Meaning, Asks, One, IsFault, meaning, r
 use Rattle.virtiofsd_fuse.specs.Serving.{Setting, Served, served, setting, no_reply, replied, answer_bytes}
 use Rattle.fs_device.specs.declared.exchange.Fault.{Fault}
 use Rattle.fs_device.specs.Step as step
-use Rattle.fs_device.specs.Step.{State, Calls, Exchange, Outcome, Idle, Refused, Exchanged, Step, StepOf, Exchanges, served_fault}
+use Rattle.fs_device.specs.Step.{State, Calls, Exchange, Outcome, Idle, Refused, Exchanged, Step, StepOf, Exchanges, served_fault, calls_alone, answers_alone}
 use Rattle.fs_device.specs.Run.{Turn, Told, Command, Answer, RunTold}
 use Rattle.fs_device.specs.Telling.{calls_of, calls_told, IsMeant, IsServedBy, IsServed}
 use Rattle.fs_example.specs.declared.table.File.{File}
@@ -27,7 +27,7 @@ use Rattle.fs_example.specs.Reading.{read_in_room, wanted, read_reply, GivesByte
 abbrev Answered : List File → Calls → Type 0
 Answered fs calls = AllByRecursion (λ step. step.1 ≡ directory_answer fs step.0) calls
 
-serves_each : (before : ReadOnlyDirectory) (calls : Calls) (after : ReadOnlyDirectory) → FileRun MayAnswer before calls after → Answered before.files.now calls × (after ≡ before)
+pub serves_each : (before : ReadOnlyDirectory) (calls : Calls) (after : ReadOnlyDirectory) → FileRun MayAnswer before calls after → Answered before.files.now calls × (after ≡ before)
 serves_each before [] after same = (tt, same)
 serves_each before (step ∷ calls) after (between, suit, made, rest) =
     let others = serves_each between calls after rest in
@@ -42,12 +42,6 @@ back_of fs [] ys all = all
 back_of fs (x ∷ xs) ys (own, all) = back_of fs xs ys all
 
 -- ---- one request
-
-abbrev told_of : Calls → List FileAnswer
-told_of calls = map (λ step. step.1) calls
-
-abbrev asked_of : Calls → List FileCall
-asked_of calls = map (λ step. step.0) calls
 
 -- a reply for which there is room goes out whole
 by_fit : (room : ℕ) (calls : List FileCall) (options : ℕ) (bytes : List ℕ) (long : Bool) → nat_lt room (length bytes) ≡ long → length bytes ≤ room →
@@ -79,13 +73,13 @@ module _ (fs : List File) (f : File) (s : Setting) (who : Context) (unique node 
   asked_once options true bytes = refl
   asked_once options false bytes = refl
 
-  by_calls : (calls : Calls) → Answered fs calls → (served s (Asks (One unique reading)) (told_of calls)).calls ≡ asked_of calls → 16 ≤ s.room →
-      (served s (Asks (One unique reading)) (told_of calls)).reply ≡ reply_by (nat_lt (s.room - 16) (length (wanted f size offset)))
+  by_calls : (calls : Calls) → Answered fs calls → (served s (Asks (One unique reading)) (answers_alone calls)).calls ≡ calls_alone calls → 16 ≤ s.room →
+      (served s (Asks (One unique reading)) (answers_alone calls)).reply ≡ reply_by (nat_lt (s.room - 16) (length (wanted f size offset)))
   by_calls [] all asks place = absurd (cc)
   by_calls (step ∷ calls) all asks place =
       let bytes = answer_bytes unique reading step.1 in
       let long = nat_lt (s.room - 16) (length (wanted f size offset)) in
-      let list : (reading ∷ []) ≡ step.0 ∷ asked_of calls = sym (asked_once s.options (nat_lt s.room (length bytes)) bytes) ∙ asks in
+      let list : (reading ∷ []) ≡ step.0 ∷ calls_alone calls = sym (asked_once s.options (nat_lt s.room (length bytes)) bytes) ∙ asks in
       let same : step.0 ≡ reading = cc in
       let answer : step.1 ≡ bytes_in (s.room - 16) (wanted f size offset) =
       all.0 ∙ ap (directory_answer fs) same ∙ ap (λ (o : Option File). bytes_at o (s.room - 16) size offset) there in
@@ -94,21 +88,21 @@ module _ (fs : List File) (f : File) (s : Setting) (who : Context) (unique node 
       whole_reply s.room (reading ∷ []) s.options bytes low ∙ is
 
   by_header : (calls : Calls) (place : Bool) → nat_le 16 s.room ≡ place → Answered fs calls →
-      (served s (if place then Asks (One unique reading) else IsFault EncodeMessage) (told_of calls)).calls ≡ asked_of calls →
-      (served s (if place then Asks (One unique reading) else IsFault EncodeMessage) (told_of calls)).reply
+      (served s (if place then Asks (One unique reading) else IsFault EncodeMessage) (answers_alone calls)).calls ≡ calls_alone calls →
+      (served s (if place then Asks (One unique reading) else IsFault EncodeMessage) (answers_alone calls)).reply
       ≡ (if place then reply_by (nat_lt (s.room - 16) (length (wanted f size offset))) else [])
   by_header calls true is all asks = by_calls calls all asks (leb-true 16 s.room is)
   by_header calls false is all asks = refl
 
   -- the reply that its answer makes
-  read_served : (calls : Calls) (m : Meaning) → m ≡ read_in_room unique s.room reading → Answered fs calls → (served s m (told_of calls)).calls ≡ asked_of calls →
-      (served s m (told_of calls)).reply ≡ read_reply s.room unique (wanted f size offset)
+  read_served : (calls : Calls) (m : Meaning) → m ≡ read_in_room unique s.room reading → Answered fs calls → (served s m (answers_alone calls)).calls ≡ calls_alone calls →
+      (served s m (answers_alone calls)).reply ≡ read_reply s.room unique (wanted f size offset)
   read_served calls m is all asks =
-      ap (λ (k : Meaning). (served s k (told_of calls)).reply) is
-      ∙ by_header calls (nat_le 16 s.room) refl all (subst (λ (k : Meaning). (served s k (told_of calls)).calls ≡ asked_of calls) is asks)
+      ap (λ (k : Meaning). (served s k (answers_alone calls)).reply) is
+      ∙ by_header calls (nat_le 16 s.room) refl all (subst (λ (k : Meaning). (served s k (answers_alone calls)).calls ≡ calls_alone calls) is asks)
 
   -- where the room has no place for a header, that is a fault
-  has_place : (calls : Calls) (place : Bool) → (served s (if place then Asks (One unique reading) else IsFault EncodeMessage) (told_of calls)).fault ≡ None → place ≡ true
+  has_place : (calls : Calls) (place : Bool) → (served s (if place then Asks (One unique reading) else IsFault EncodeMessage) (answers_alone calls)).fault ≡ None → place ≡ true
   has_place calls true well = refl
   has_place calls false well = absurd (cc)
 
@@ -117,11 +111,11 @@ module _ (fs : List File) (f : File) (s : Setting) (who : Context) (unique node 
   gives_by reply true false is made = inl made
   gives_by reply false long is made = absurd (cc)
 
-  read_well : (calls : Calls) (m : Meaning) (reply : List ℕ) → m ≡ read_in_room unique s.room reading → (served s m (told_of calls)).fault ≡ None →
+  read_well : (calls : Calls) (m : Meaning) (reply : List ℕ) → m ≡ read_in_room unique s.room reading → (served s m (answers_alone calls)).fault ≡ None →
       reply ≡ read_reply s.room unique (wanted f size offset) → GivesBytes reply unique size offset f
   read_well calls m reply is well made =
       gives_by reply (nat_le 16 s.room) (nat_lt (s.room - 16) (length (wanted f size offset)))
-      (has_place calls (nat_le 16 s.room) (subst (λ (k : Meaning). (served s k (told_of calls)).fault ≡ None) is well)) made
+      (has_place calls (nat_le 16 s.room) (subst (λ (k : Meaning). (served s k (answers_alone calls)).fault ≡ None) is well)) made
 
 -- ---- steps
 
@@ -133,7 +127,7 @@ step_into_room s after i calls x notice made q head request room unique node siz
     let known = setting s.page_size s.options (length room) in
     let m = meaning s.options request (length room) in
     let each = serves_each s.files calls after.files done.serves.run in
-    let asks : (served known m (told_of calls)).calls ≡ asked_of calls = ap (λ (g : Served). g.calls) (sym done.serves.gives) ∙ done.serves.asks in
+    let asks : (served known m (answers_alone calls)).calls ≡ calls_alone calls = ap (λ (g : Served). g.calls) (sym done.serves.gives) ∙ done.serves.asks in
     let reply : done.given.reply ≡ read_reply (length room) unique (wanted f size offset) =
     ap (λ (g : Served). g.reply) done.serves.gives
     ∙ read_served s.files.files.now f known who unique node handle size offset flags owner file calls m (means s.options (length room)) each.0 asks in (
@@ -158,7 +152,7 @@ turn_true fs t serves all unique node size offset f (who, handle, flags, owner, 
     let s = meant.0 in
     let m = meaning s.options t.exchange.request s.room in
     let is : m ≡ read_in_room unique s.room (Read who node handle (s.room - 16) size offset owner flags) = means s.options s.room in
-    let given = served s m (told_of t.calls) in
+    let given = served s m (answers_alone t.calls) in
     let reply : t.exchange.reply ≡ given.reply = ap (λ (y : Exchange). y.reply) meant.2 in
     let fault : served_fault given.fault ≡ None = ap (λ (y : Exchange). y.fault) (sym meant.2) ∙ well in
     read_well fs f s who unique node handle size offset flags owner there t.calls m t.exchange.reply is (no_fault given.fault fault)

@@ -14,12 +14,9 @@ use Rattle.vm_memory.specs.Layout.{Region, place, AreHeld}
 use Rattle.vm_memory.specs.Memory.{Memory, addresses, byte, bytes, location, physical, stored, stored_at, stored_all}
 use Rattle.vm_memory.proofs.Places.{Where, stored_all-append, within_low, within_high}
 use Rattle.fs_example.specs.GuestGets.{laid_over, bare, device_place, is_one_byte}
+use Rattle.std.proofs.lemmas.Bool.{and_parts}
 
 -- ---- one list
-
-pub both : (a b : Bool) → (a && b) ≡ true → (a ≡ true) × (b ≡ true)
-both true b e = (refl, e)
-both false b e = absurd (cc)
 
 get-set_same : {X : Type 0} (xs : List X) (i : ℕ) (x y : X) → slice_get xs i ≡ Some y → slice_get (set xs i x) i ≡ Some x
 get-set_same [] i x y e = absurd (cc)
@@ -274,7 +271,7 @@ place_there h (r ∷ l) a held some =
 each_there : (h : Host) (l : List Region) (as' : List ℕ) → AreHeld (lengths h) l → list_all (λ x. is_some (place l x)) as' ≡ true → AllByRecursion (There h) (map (place l) as')
 each_there h l [] held all = tt
 each_there h l (a ∷ as') held all =
-    let parts = both (is_some (place l a)) (list_all (λ x. is_some (place l x)) as') all in
+    let parts = and_parts (is_some (place l a)) (list_all (λ x. is_some (place l x)) as') all in
     (place_there h l a held parts.0, each_there h l as' held parts.1)
 
 -- ---- what a guest sees once a chain went back

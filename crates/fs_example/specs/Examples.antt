@@ -154,7 +154,7 @@ looks_behind = looks_plainly (offering 32) (addresses 0x2000 32) 16 0x2010 3 no_
 -- behind the header it gets the bytes alone
 gets_ell : GetsFile (offering 32) 32 16 0x2010 3 2 ell ell
 unfolding place addresses stored_all reply_bytes field_bytes
-gets_ell = (refl, λ fits behind all. refl)
+gets_ell = (refl, λ fits behind within. refl)
 
 -- those bytes stand there
 ell_stands : bytes left 0x2010 3 ≡ ell

@@ -1,5 +1,5 @@
 -- What a guest gets of its own memory, once a kick read it a file.
-use Rattle.std.specs.Prelude.{◌≡◌, ◌≤◌, ℕ, ◌+◌, Bool, false, ◌==◌, ◌&&◌, List, [], ◌∷◌, ◌++◌, length, map, take, drop, Option, Some, None, option_map, slice_get}
+use Rattle.std.specs.Prelude.{◌≡◌, ◌≤◌, ℕ, ◌+◌, ◌-◌, Bool, false, ◌==◌, ◌&&◌, List, [], ◌∷◌, ◌++◌, length, map, take, drop, Option, Some, None, option_map, slice_get}
 use Rattle.std.specs.List.{IsDistinct}
 use Rattle.vm_iotlb.specs.declared.permissions.Permissions.TheVariants.{Write}
 use Rattle.vm_memory_core.specs.Host.{Place}
@@ -49,11 +49,11 @@ laid_over [] (old ∷ olds) = old ∷ olds
 laid_over (new ∷ news) (old ∷ olds) = new ∷ laid_over news olds
 
 -- a guest that looks at its n bytes from a on, a room's from the k-th on, gets what stood there, with the reply from
--- its k-th byte on laid over; so behind the header, where the room is long enough, just what it reads of the file
+-- its k-th byte on laid over; so behind the header, where the room is long enough, just the file's bytes from there on
 abbrev pub GetsFile : Memory → (room k a n : ℕ) → (unique : ℕ) → (file : List ℕ) → (got : List ℕ) → Type 0
 GetsFile m room k a n unique file got =
     (got ≡ laid_over (drop k (read_reply room unique file)) (bytes (physical m) a n))
-    × (16 + length file ≤ room → k ≡ 16 → n ≡ length file → got ≡ file)
+    × (16 + length file ≤ room → 16 ≤ k → k + n ≤ 16 + length file → got ≡ take n (drop (k - 16) file))
 
 -- a kick that found this state and took one chain, a READ of a file, gives it to the guest that then looks at the room
 abbrev pub KickGivesFile : State ReadOnlyDirectory → (i : ℕ) → Kicked → (a n : ℕ) → (got : List ℕ) → Type 0
@@ -68,10 +68,10 @@ KickGivesFile s i kicked a n got =
 abbrev pub kick_and_look : (i most : ℕ) → Kicked → (a n : ℕ) → (got : List ℕ) → List (Command × Answer)
 kick_and_look i most kicked a n got = (Kick i most, Served kicked) ∷ (GuestRead a n, run.Bytes got) ∷ []
 
--- wherever in a run the guest looks at its memory right behind a kick: the run came to the state that the kick found,
--- went on from there, and by this state the guest gets the file
+-- wherever in a run the guest looks at its memory right behind a kick: the run came to the state that the kick found, with the
+-- directory as it was, went on from there, and by this state the guest gets the file
 abbrev pub GuestGetsTheFile : State ReadOnlyDirectory → List (Command × Answer) → State ReadOnlyDirectory → Type 0
 GuestGetsTheFile s events after =
     (before later : List (Command × Answer)) (i most a n : ℕ) (kicked : Kicked) (got : List ℕ) → events ≡ before ++ (kick_and_look i most kicked a n got ++ later) →
-    (found : State ReadOnlyDirectory) × Run MayAnswer s before found × Run MayAnswer found (kick_and_look i most kicked a n got ++ later) after
+    (found : State ReadOnlyDirectory) × (found.files ≡ s.files) × Run MayAnswer s before found × Run MayAnswer found (kick_and_look i most kicked a n got ++ later) after
     × KickGivesFile found i kicked a n got

@@ -16,7 +16,8 @@ use Rattle.fs_queue.specs.Look as looks
 use Rattle.fs_queue.specs.Taking.{Offer, Refuses, offer_of, on_head, on_look, offer, may_lack_memory, stops_queue}
 use Rattle.fs_queue.specs.Windows.{Ends, Lacks, Takes, ends_found, ends_at, used_addresses}
 use Rattle.fs_queue.specs.Windows as held
-use Rattle.fs_queue.proofs.TakeLemmas.{reach-each, reach-range, list_all-append, list_all-located}
+use Rattle.fs_queue.proofs.TakeLemmas.{reach-each, reach-range, list_all-append}
+use Rattle.vm_memory.proofs.RangeLemmas.{all_located}
 
 -- a queue that isn't stopped
 pub offer_looked : (m : Memory) (limit : ℕ) (q : Queue) → q.stopped ≡ false → offer m limit q ≡ on_look m limit q (looked m q)
@@ -40,7 +41,7 @@ used_reached : (m : Memory) (q : Queue) → element_at q + 8 < 2 ^ 64 → index_
 used_reached m q fits room =
     let r1 = reach-each m Write (element_at q) 8 fits in
     let r2 = reach-each m Write (index_at q) 2 room in
-    rw (r1, r2) (list_all-append (addresses (element_at q) 8) (addresses (index_at q) 2) (location m Write) ∙ list_all-located (used_addresses q) (location m Write))
+    rw (r1, r2) (list_all-append (addresses (element_at q) 8) (addresses (index_at q) 2) (location m Write) ∙ all_located (used_addresses q) (location m Write))
 
 -- the ends of a layout's parts
 element_fits : (l : QueueLayout) (position : ℕ) → l.used + 4 + 8 * (position % l.size) + 8 < 2 ^ 64

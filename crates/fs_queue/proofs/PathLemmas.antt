@@ -9,7 +9,7 @@ use Rattle.fs_queue.specs.declared.fault.ChainFault.TheVariants.{TooLong, NextOu
 use Rattle.fs_queue.specs.Queue.{Queue}
 use Rattle.fs_queue.specs.Chain.{Descriptor, DescriptorTable, Visit, Verdict, Joins, Leads, Faulty, Stops, has_next, is_indirect, ends_in_64_bits, indirect_verdict, ordinary_verdict, verdict, verdict_at, next_visit, onward, path, first_visit, walk}
 use Rattle.fs_queue.specs.Walking.{in_table}
-use Rattle.fs_queue.specs.Paths.{entry_address, entry_of, HasEntry, PassesOrdinary, PassesTable, FollowsByNext, FollowsByTable, Follows, EachFollows, IsPath, IsFront}
+use Rattle.fs_queue.specs.Paths.{entry_address, entry_of, EntryIsThere, PassesOrdinary, PassesTable, FollowsByNext, FollowsByTable, Follows, EachFollows, IsPath, IsFront}
 use Rattle.fs_queue.proofs.WalkLemmas.{tables_left}
 use Rattle.fs_queue.proofs.BoundLemmas.{either, allowed, falls, steps_left}
 
@@ -34,7 +34,7 @@ no_overflow : (d : Descriptor) → (d.len ≡ 0) ⊎ (d.addr + d.len < 2 ^ 64) �
 no_overflow d (inl none) = rw none refl
 no_overflow d (inr ends) = rw (lt-ltb (d.addr + d.len) (2 ^ 64) ends) (and_right (nat_lt 0 d.len) false refl)
 
-next_joins : (m : Memory) (v : Visit) → HasEntry m v → PassesOrdinary v (entry_of m v) → verdict m v ≡ Joins (entry_of m v)
+next_joins : (m : Memory) (v : Visit) → EntryIsThere m v → PassesOrdinary v (entry_of m v) → verdict m v ≡ Joins (entry_of m v)
 next_joins m v there passes =
     rw (within v.index v.table.entries there.inside, there.read, passes.ordinary, not_nothing v.left passes.room, no_overflow (entry_of m v) passes.ends) refl
 
@@ -47,7 +47,7 @@ next_by_next : (m : Memory) (v w : Visit) → FollowsByNext m v w → next_visit
 next_by_next m v w f =
     ap (next_visit v) (next_joins m v f.there f.passes) ∙ rw f.more (ap Some (same_visit v w (entry_of m v) f.table f.index f.left))
 
-next_leads : (m : Memory) (v : Visit) → HasEntry m v → PassesTable v (entry_of m v) →
+next_leads : (m : Memory) (v : Visit) → EntryIsThere m v → PassesTable v (entry_of m v) →
     verdict m v ≡ Leads (record { address = (entry_of m v).addr; entries = (entry_of m v).len / 16; indirect = true })
 next_leads m v there passes =
     rw (
@@ -91,7 +91,7 @@ past : (m : Memory) (v : Visit) (b : Bool) (f : ChainFault) (x : Verdict) → (b
 past m v true f x h = goes_faulty m v f
 past m v false f x h = h refl
 
-by_next : (m : Memory) (v w : Visit) (b : Bool) → HasEntry m v → PassesOrdinary v (entry_of m v) → has_next (entry_of m v) ≡ b →
+by_next : (m : Memory) (v w : Visit) (b : Bool) → EntryIsThere m v → PassesOrdinary v (entry_of m v) → has_next (entry_of m v) ≡ b →
     (if b then Some (in_table v.table (entry_of m v).next (v.left - 1)) else None) ≡ Some w → FollowsByNext m v w
 by_next m v w false there passes is e = absurd (cc)
 by_next m v w true there passes is e =
@@ -106,11 +106,11 @@ by_next m v w true there passes is e =
       left = omega (arith, fewer, passes.room);
     }
 
-goes_joins : (m : Memory) (v : Visit) → HasEntry m v → PassesOrdinary v (entry_of m v) → Goes m v (Joins (entry_of m v))
+goes_joins : (m : Memory) (v : Visit) → EntryIsThere m v → PassesOrdinary v (entry_of m v) → Goes m v (Joins (entry_of m v))
 unfolding Goes
 goes_joins m v there passes w e = inl (by_next m v w (has_next (entry_of m v)) there passes refl e)
 
-goes_leads : (m : Memory) (v : Visit) → HasEntry m v → PassesTable v (entry_of m v) →
+goes_leads : (m : Memory) (v : Visit) → EntryIsThere m v → PassesTable v (entry_of m v) →
     Goes m v (Leads (record { address = (entry_of m v).addr; entries = (entry_of m v).len / 16; indirect = true }))
 unfolding Goes
 goes_leads m v there passes w e =
@@ -132,13 +132,13 @@ ends_or_none d false c some ends h = let none = ltb-false 0 d.len some in inl (o
 ends_or_none d true true some ends h = inr (ltb-true (d.addr + d.len) (2 ^ 64) ends)
 ends_or_none d true false some ends h = absurd (cc)
 
-goes_ordinary : (m : Memory) (v : Visit) → HasEntry m v → is_indirect (entry_of m v) ≡ false → Goes m v (ordinary_verdict v (entry_of m v))
+goes_ordinary : (m : Memory) (v : Visit) → EntryIsThere m v → is_indirect (entry_of m v) ≡ false → Goes m v (ordinary_verdict v (entry_of m v))
 goes_ordinary m v there plain =
     past m v (v.left == 0) TooLong _ (λ more.
     past m v (nat_lt 0 (entry_of m v).len && not (ends_in_64_bits (entry_of m v))) AddressOverflow _ (λ ends.
     goes_joins m v there (record { ordinary = plain; room = some_left v.left more; ends = ends_or_none (entry_of m v) _ _ refl refl ends })))
 
-goes_indirect : (m : Memory) (v : Visit) → HasEntry m v → is_indirect (entry_of m v) ≡ true → Goes m v (indirect_verdict v (entry_of m v))
+goes_indirect : (m : Memory) (v : Visit) → EntryIsThere m v → is_indirect (entry_of m v) ≡ true → Goes m v (indirect_verdict v (entry_of m v))
 goes_indirect m v there named =
     past m v (has_next (entry_of m v)) IndirectWithNext _ (λ last. past m v v.table.indirect IndirectNested _ (λ own.
     past m v ((entry_of m v).len == 0 || not ((entry_of m v).len % 16 == 0)) IndirectLength _ (λ length.

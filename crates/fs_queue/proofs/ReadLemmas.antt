@@ -17,9 +17,6 @@ use Rattle.fs_queue.specs.Records.{descriptor}
 use Rattle.fs_queue.specs.Chain.{Descriptor, descriptor_at}
 use Rattle.fs_queue.specs.Look.{IsUnmapped}
 
-below : (n : ℕ) → n < 2 ^ 64 → nat_lt n (2 ^ 64) ≡ true
-below n h = grind (arith, nat_tests)
-
 -- what a memory answers for a range that ends below 2^64
 pub checked : (m : Memory) (a n : ℕ) (r : Result Bool AllocError) → a + n < 2 ^ 64 → Checks m Read a n r → IfOk r (λ found. found ≡ reach m Read a n)
 checked m a n (Ok found) fits h = h ∙ reach-from m Read a n fits

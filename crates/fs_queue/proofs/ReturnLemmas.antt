@@ -10,7 +10,7 @@ use Rattle.vm_memory_core.specs.Host.{Host, IoAddress, Place}
 use Rattle.vm_memory_core.specs.Window.{Window, places, byte_in, put_byte, put_all}
 use Rattle.vm_memory_core.proofs.WindowLemmas.{zip-append}
 use Rattle.vm_memory.specs.Memory.{Memory, addresses, located, location, stored_at, stored_all, bytes}
-use Rattle.vm_memory.proofs.Places.{parts, length-addresses, stored_all-append, bytes-located}
+use Rattle.vm_memory.proofs.Places.{parts, length-addresses, stored_all-append, bytes-located, put_none}
 use Rattle.fs_queue.specs.declared.chain.Chain.{Chain}
 use Rattle.fs_queue.specs.declared.chain.Taken.{Taken}
 use Rattle.fs_queue.specs.declared.fault.ChainFault.{ChainFault}
@@ -39,11 +39,6 @@ all_tables (w ∷ ws) h = all_tables ws (put_byte h w.0 w.1) ∙ put_tables h w.
 
 same_location : (m : Memory) (h : Host) → h.tables ≡ m.host.tables → location (over m h) ≡ location m
 same_location m h e = ap (λ (t : List (List IotlbRange)). location (over m (record h { tables = t }))) e
-
-put_none : (ps : List Place) (h : Host) → h ≡ put_all h (zip ps [])
-unfolding put_all
-put_none [] h = refl
-put_none (p ∷ ps) h = refl
 
 stored_one : (a x : ℕ) (as' xs : List ℕ) (ps qs : List Place) (p : Place) (m : Memory) → location m Write a ≡ Some p → ps ≡ p ∷ qs →
     stored_all (over m (put_byte m.host p x)) (zip as' xs) ≡ over m (put_all (put_byte m.host p x) (zip qs xs)) →

@@ -15,26 +15,20 @@ use Rattle.vm_memory.proofs.Places.{addresses-append, bytes-located, circular-is
 use Rattle.fs_queue.specs.Records.{descriptor}
 use Rattle.fs_queue.specs.Chain.{Descriptor, descriptor_at}
 use Rattle.fs_queue.proofs.ReadLemmas.{decoded, front_bytes, back_bytes, length-bytes}
-use Rattle.fs_queue.proofs.TakeLemmas.{list_all-append, list_all-located}
-
-both : (a b : Bool) → (a && b) ≡ true → (a ≡ true) × (b ≡ true)
-both true true h = (refl, refl)
-both true false h = (refl, h)
-both false b h = absurd (cc)
-
-below : (n : ℕ) → n < 2 ^ 64 → nat_lt n (2 ^ 64) ≡ true
-below n h = grind (arith, nat_tests)
+use Rattle.fs_queue.proofs.TakeLemmas.{list_all-append, below}
+use Rattle.std.proofs.lemmas.Bool.{and_parts}
+use Rattle.vm_memory.proofs.RangeLemmas.{all_located}
 
 -- a part of a range that is reached is reached
 part_reached : (m : Memory) (a i n k : ℕ) → a + (i + (n + k)) < 2 ^ 64 → reach m Read a (i + (n + k)) ≡ true → reach m Read (a + i) n ≡ true
 part_reached m a i n k fits h =
     let p : ℕ → Bool = λ x. is_some (location m Read x) in
-    let all = both (nat_lt (a + (i + (n + k))) (2 ^ 64)) (list_all p (addresses a (i + (n + k)))) h in
+    let all = and_parts (nat_lt (a + (i + (n + k))) (2 ^ 64)) (list_all p (addresses a (i + (n + k)))) h in
     let cut : addresses a (i + (n + k)) ≡ addresses a i ++ (addresses (a + i) n ++ addresses (a + i + n) k) =
     addresses-append i (n + k) a ∙ ap (λ (l : List ℕ). addresses a i ++ l) (addresses-append n k (a + i)) in
-    let back = both (list_all p (addresses a i)) (list_all p (addresses (a + i) n ++ addresses (a + i + n) k))
+    let back = and_parts (list_all p (addresses a i)) (list_all p (addresses (a + i) n ++ addresses (a + i + n) k))
     (list_all-append (addresses a i) (addresses (a + i) n ++ addresses (a + i + n) k) (location m Read) ∙ rw cut at all.1) in
-    let front = both (list_all p (addresses (a + i) n)) (list_all p (addresses (a + i + n) k)) (list_all-append (addresses (a + i) n) (addresses (a + i + n) k) (location m Read) ∙ back.1) in
+    let front = and_parts (list_all p (addresses (a + i) n)) (list_all p (addresses (a + i + n) k)) (list_all-append (addresses (a + i) n) (addresses (a + i + n) k) (location m Read) ∙ back.1) in
     rw (below (a + i + n) (omega (arith, fits)), front.0) refl
 
 entry_of : (m : Memory) (a i k : ℕ) (bs : List ℕ) (d : Descriptor) → a + (i + (16 + k)) < 2 ^ 64 → bs ≡ bytes m a (i + (16 + k)) →
@@ -67,7 +61,7 @@ whole_window m a n len ps bs fits same at is =
     let front : take len (circular a n) ≡ addresses a n = take_all len (circular a n) (omega (arith, length-circular n a, same)) ∙ circular-is n a fits in
     let there : located (location m Read) (addresses a n) ≡ Some ps = rw front at at in (
       is ∙ sym (bytes-located (addresses a n) m ps there),
-      rw (below (a + n) fits) (list_all-located (addresses a n) (location m Read) ∙ ap is_some there),
+      rw (below (a + n) fits) (all_located (addresses a n) (location m Read) ∙ ap is_some there),
     )
 
 -- a first window has the places of the first addresses

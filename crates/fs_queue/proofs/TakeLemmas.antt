@@ -22,6 +22,7 @@ use Rattle.fs_queue.specs.Queue.{Queue, element_at, index_at}
 use Rattle.fs_queue.specs.Chain.{Descriptor, is_writable}
 use Rattle.fs_queue.specs.Windows.{of_direction, addresses_of, used_addresses}
 use Rattle.vm_memory.proofs.Places.{Where, length-addresses, located-append, after-after, bytes-located}
+use Rattle.vm_memory.proofs.RangeLemmas.{all_located}
 
 parts : (o : Option Place) (r : Option (List Place)) (ps : List Place) →
     option_and_then (λ (p : Place). option_map (λ (qs : List Place). p ∷ qs) r) o ≡ Some ps →
@@ -139,21 +140,11 @@ pub fits_filter : (p : Descriptor → Bool) (ds : List Descriptor) → AllEndIn6
 unfolding AllEndIn64Bits
 fits_filter p ds all = All-filter p (λ (d : Descriptor). d.addr + d.len < 2 ^ 64) ds all
 
-some_step : (o : Option Place) (r : Option (List Place)) (b : Bool) → b ≡ is_some r → (is_some o && b) ≡ is_some (option_and_then (λ (p : Place). option_map (λ (qs : List Place). p ∷ qs) r) o)
-some_step None r b e = refl
-some_step (Some p) None b e = e
-some_step (Some p) (Some qs) b e = e
-
-pub list_all-located : (xs : List ℕ) (f : Where) → list_all (λ a. is_some (f a)) xs ≡ is_some (located f xs)
-unfolding located
-list_all-located [] f = refl
-list_all-located (x ∷ xs) f = some_step (f x) (located f xs) (list_all (λ a. is_some (f a)) xs) (list_all-located xs f)
-
 pub list_all-append : (xs ys : List ℕ) (f : Where) → (list_all (λ a. is_some (f a)) xs && list_all (λ a. is_some (f a)) ys) ≡ list_all (λ a. is_some (f a)) (xs ++ ys)
 list_all-append [] ys f = refl
 list_all-append (x ∷ xs) ys f = and_assoc (is_some (f x)) (list_all (λ a. is_some (f a)) xs) (list_all (λ a. is_some (f a)) ys) ∙ ap (λ b. is_some (f x) && b) (list_all-append xs ys f)
 
-below : (n : ℕ) → n < 2 ^ 64 → nat_lt n (2 ^ 64) ≡ true
+pub below : (n : ℕ) → n < 2 ^ 64 → nat_lt n (2 ^ 64) ≡ true
 below n h = grind (arith, nat_tests)
 
 -- a range that ends below 2^64
@@ -161,7 +152,7 @@ pub reach-each : (m : Memory) (access : Permissions) (a n : ℕ) → a + n < 2 ^
 reach-each m access a n fits = rw (below (a + n) fits) refl
 
 pub reach-range : (m : Memory) (access : Permissions) (a n : ℕ) → a + n < 2 ^ 64 → reach m access a n ≡ is_some (located (location m access) (addresses a n))
-reach-range m access a n fits = rw (below (a + n) fits) (list_all-located (addresses a n) (location m access))
+reach-range m access a n fits = rw (below (a + n) fits) (all_located (addresses a n) (location m access))
 
 all_reach_list : (m : Memory) (access : Permissions) (ds : List Descriptor) → AllEndIn64Bits ds →
     all_reach m access ds ≡ list_all (λ a. is_some (location m access a)) (addresses_of ds)
@@ -174,7 +165,7 @@ all_reach_list m access (d ∷ ds) all =
 -- all of some descriptors are reached where their addresses have their places
 pub all_reach-located : (m : Memory) (access : Permissions) (ds : List Descriptor) → AllEndIn64Bits ds →
     all_reach m access ds ≡ is_some (located (location m access) (addresses_of ds))
-all_reach-located m access ds all = all_reach_list m access ds all ∙ list_all-located (addresses_of ds) (location m access)
+all_reach-located m access ds all = all_reach_list m access ds all ∙ all_located (addresses_of ds) (location m access)
 
 pub bytes-addresses_of : (m : Memory) (ds : List Descriptor) → flat_map (λ d. bytes m d.addr d.len) ds ≡ map (byte m) (addresses_of ds)
 bytes-addresses_of m [] = refl

@@ -14,7 +14,7 @@ abbrev pub entry_of : Memory → Visit → Descriptor
 entry_of m v = descriptor_at m (entry_address v)
 
 -- it is an entry of the step's table, and its 16 bytes can be read
-pub record HasEntry (m : Memory) (v : Visit) : Type 0 where
+pub record EntryIsThere (m : Memory) (v : Visit) : Type 0 where
   pub inside : v.index < v.table.entries
   pub read : reach m Read (entry_address v) 16 ≡ true
 
@@ -35,7 +35,7 @@ pub record PassesTable (v : Visit) (d : Descriptor) : Type 0 where
 
 -- a step by NEXT, after an ordinary one that passes: the descriptor's next in the same table, and the chain may have one fewer
 pub record FollowsByNext (m : Memory) (v w : Visit) : Type 0 where
-  pub there : HasEntry m v
+  pub there : EntryIsThere m v
   pub passes : PassesOrdinary v (entry_of m v)
   pub more : has_next (entry_of m v) ≡ true
   pub table : w.table ≡ v.table
@@ -44,7 +44,7 @@ pub record FollowsByNext (m : Memory) (v w : Visit) : Type 0 where
 
 -- a step by INDIRECT, after one that passes: entry 0 of the table that the descriptor names, which itself isn't counted
 pub record FollowsByTable (m : Memory) (v w : Visit) : Type 0 where
-  pub there : HasEntry m v
+  pub there : EntryIsThere m v
   pub passes : PassesTable v (entry_of m v)
   pub table : w.table ≡ record { address = (entry_of m v).addr; entries = (entry_of m v).len / 16; indirect = true }
   pub index : w.index ≡ 0

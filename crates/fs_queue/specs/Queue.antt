@@ -22,8 +22,8 @@ abbrev pub resumed : (size desc avail used position : ℕ) → (stopped : Bool) 
 resumed size desc avail used position stopped = record { size = size; desc = desc; avail = avail; used = used; position = position; stopped = stopped }
 
 -- a queue that hands out no chain until it is reset
-abbrev pub stopped : Queue → Queue
-stopped q = record q { stopped = true }
+abbrev pub with_stop : Queue → Queue
+with_stop q = record q { stopped = true }
 
 -- how many chains the driver has made available that were not returned
 abbrev pub waiting : Memory → Queue → ℕ

@@ -8,7 +8,7 @@ use Rattle.fs_queue.specs.declared.fault.ChainFault.{ChainFault}
 use Rattle.fs_queue.specs.declared.fault.ChainFault.TheVariants.{OverLimit, RequestUnreachable, RoomUnreachable}
 use Rattle.fs_queue.specs.declared.fault.QueueError.{QueueError}
 use Rattle.fs_queue.specs.declared.fault.QueueError.TheVariants as stop
-use Rattle.fs_queue.specs.Queue.{Queue, element_at, index_at, stopped}
+use Rattle.fs_queue.specs.Queue.{Queue, element_at, index_at, with_stop}
 use Rattle.fs_queue.specs.Chain.{Descriptor, is_writable, Found, IsChain, HasFault, StopsQueue, chain}
 use Rattle.fs_queue.specs.Look.{Look, looked}
 use Rattle.fs_queue.specs.Look as look
@@ -89,7 +89,7 @@ stops_queue _ = true
 
 -- the queue after a refusal
 abbrev pub after_refusal : Queue → QueueError → Queue
-after_refusal q e = if stops_queue e then stopped q else q
+after_refusal q e = if stops_queue e then with_stop q else q
 
 -- the addresses of what was asked to be written
 abbrev pub room_of : Asked → List ℕ

@@ -13,8 +13,8 @@ use vm_memory::GuestMemory;
 use vm_memory_core::{GuestAddress, HostMemory, NewBitmap, Permissions, Windows};
 use vm_values::{ByteValued, Le16};
 
-/// Reads a buffer full of bytes from an address on, or answers that one of them isn't there. Memory is wanting only where
-/// a translation fails.
+/// Reads a buffer full of bytes from an address on, or answers that one of them isn't there. Memory is wanting only
+/// where a translation fails.
 #[inline]
 pub(crate) fn read<M: GuestMemory, B: NewBitmap>(
     alloc: Global,

@@ -36,7 +36,8 @@ impl Chain {
     }
 }
 
-/// The windows of a used element and, after it, the used index, and those of the available flags: almost always one each.
+/// The windows of a used element and, after it, the used index, and those of the available flags: almost always one
+/// each.
 #[derive(Drop)]
 pub(crate) struct ReturnWindows {
     pub(crate) used: Windows,

@@ -113,8 +113,8 @@ impl Queue {
         self.stopped
     }
 
-    /// The chain that waits at the queue's position, with its windows. The position stays until the chain is given back.
-    /// Requests and rooms longer than `limit` make a chain faulty.
+    /// The chain that waits at the queue's position, with its windows. The position stays until the chain is given
+    /// back. Requests and rooms longer than `limit` make a chain faulty.
     pub fn take<M: GuestMemory, B: NewBitmap>(
         &mut self,
         alloc: Global,
@@ -139,8 +139,8 @@ impl Queue {
         taken
     }
 
-    /// Writes the reply over the room, then the used element, then the used index, and says whether the driver wants to be
-    /// told. The chain was taken at this position, and the reply is no longer than its room.
+    /// Writes the reply over the room, then the used element, then the used index, and says whether the driver wants to
+    /// be told. The chain was taken at this position, and the reply is no longer than its room.
     pub fn give_back<B: NewBitmap>(
         &mut self,
         host: &mut HostMemory<B>,

@@ -21,8 +21,8 @@ use std::alloc::{AllocError, Global};
 use vm_memory::GuestMemory;
 use vm_memory_core::{HostMemory, NewBitmap, Permissions, Windows};
 
-// Adds to an empty list the windows that a return at this position writes besides the room: of the used element, then of the
-// used index. Or answers that one of their addresses has no place.
+// Adds to an empty list the windows that a return at this position writes besides the room: of the used element, then
+// of the used index. Or answers that one of their addresses has no place.
 fn add_used<M: GuestMemory, B: NewBitmap>(
     alloc: Global,
     layout: QueueLayout,
@@ -46,8 +46,8 @@ fn add_used<M: GuestMemory, B: NewBitmap>(
     add_windows(alloc, host, mem, index, 2, Permissions::Write, windows)
 }
 
-// Adds to empty lists the windows that a return at this position writes and reads besides the room, or answers by a refusal
-// which of them has an address without a place.
+// Adds to empty lists the windows that a return at this position writes and reads besides the room, or answers by a
+// refusal which of them has an address without a place.
 fn add_ends<M: GuestMemory, B: NewBitmap>(
     alloc: Global,
     layout: QueueLayout,
@@ -107,8 +107,8 @@ fn count_descriptors(descriptors: &[Descriptor], write_only: bool) -> usize
     count
 }
 
-// Has room for a window of each descriptor of one direction, where a list may be too short for that. An error is a want of
-// memory.
+// Has room for a window of each descriptor of one direction, where a list may be too short for that. An error is a want
+// of memory.
 #[inline]
 fn reserve_windows(
     windows: &mut Windows,
@@ -136,7 +136,8 @@ fn access_of(write_only: bool) -> Permissions
     }
 }
 
-// Adds to an empty list the windows of the descriptors of one direction, or answers that one of their addresses has no place.
+// Adds to an empty list the windows of the descriptors of one direction, or answers that one of their addresses has no
+// place.
 fn add_direction<M: GuestMemory, B: NewBitmap>(
     alloc: Global,
     host: &HostMemory<B>,

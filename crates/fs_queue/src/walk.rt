@@ -36,7 +36,8 @@ impl Model for DescriptorTable {
     ghost inverse = { λ t. record { address = t.address; entries = t.entries; indirect = t.indirect } };
 }
 
-/// What the rules say of a step: its descriptor joins the chain, it leads to a table, the chain is faulty, or the queue stops.
+/// What the rules say of a step: its descriptor joins the chain, it leads to a table, the chain is faulty, or the queue
+/// stops.
 #[derive(Clone, Copy, Debug, PartialEq, Eq)]
 pub(crate) enum Verdict {
     Joins(Descriptor),
@@ -56,7 +57,8 @@ pub(crate) enum Walked {
 ghost use Rattle.fs_queue.specs.Chain.{descriptor_at, indirect_verdict, ordinary_verdict, verdict, chain, own_table};
 ghost use Rattle.fs_queue.specs.Walking.{at_position, in_table, verdict_of, found_of, IfJoins, IfLeads, EndsIn64Bits, AreTheTable, DescriptorsFit};
 
-// The bytes of a table, where one window has all of them. None says nothing of the table: each entry is then read by itself.
+// The bytes of a table, where one window has all of them. None says nothing of the table: each entry is then read by
+// itself.
 fn table_bytes<'a, M: GuestMemory, B: NewBitmap>(
     alloc: Global,
     host: &'a HostMemory<B>,

@@ -1,6 +1,6 @@
 //! What the host tells of a file and of a file system, and its way into the records.
 
-ghost use Rattle.std.specs.Prelude.{◌≡◌, ◌%◌, ◌^◌, Ok, Err, IfOk, IfErr};
+ghost use Rattle.std.specs.Prelude.{◌≡◌, ◌%◌, ◌^◌, Ok, IfOk, IfErr};
 ghost use Rattle.fuse_base.specs.Stats.{pattern, attr_from, kstatfs_from, host_uid, host_gid, FirstError, BothMapped};
 
 use crate::ids::{Errno, GuestGid, GuestUid, HostGid, HostUid};

@@ -1,5 +1,5 @@
-//! What a call of `FileSystem` or `SerializableFileSystem` does where a file system has nothing of its own to do, for a method
-//! to call. What a default doesn't take stays as it is: file system, writer, stream.
+//! What a call of `FileSystem` or `SerializableFileSystem` does where a file system has nothing of its own to do, for a
+//! method to call. What a default doesn't take stays as it is: file system, writer, stream.
 
 ghost use Rattle.std.specs.Prelude.{◌≡◌, Ok, Err, None, Some, option_map};
 ghost use Rattle.std.specs.Result.{result_err};

@@ -60,15 +60,16 @@ pub trait FileSystemBase {
     // From a state, a call may have this answer and leave that state.
     ghost may: { Self → FileCall → FileAnswer → Self → Type 0 };
 
-    /// The guest holds a node this many times less. Node 0 comes too: READDIRPLUS takes back an entry without a node, `.` and
-    /// `..` among them, as it does one with a node.
+    /// The guest holds a node this many times less. Node 0 comes too: READDIRPLUS takes back an entry without a node,
+    /// `.` and `..` among them, as it does one with a node.
     fn forget(&mut self, ctx: Context, inode: Self::Inode, count: u64)
         ensures may { may self.old (call.Forget ctx (Self.Inode.number inode) count) call.Done self.new };
 }
 
-/// A file system, by what it may answer. Each call's answer stands in the relation `may`, which the implementer names; what
-/// a call does where a file system has nothing of its own to do stands in `defaults`. The names of requests that the server
-/// hands in have no zero byte; those that READDIRPLUS looks up are the file system's own, as its listing gave them.
+/// A file system, by what it may answer. Each call's answer stands in the relation `may`, which the implementer names;
+/// what a call does where a file system has nothing of its own to do stands in `defaults`. The names of requests that
+/// the server hands in have no zero byte; those that READDIRPLUS looks up are the file system's own, as its listing
+/// gave them.
 pub trait FileSystem: FileSystemBase {
     type DirIter: DirectoryIterator;
 
@@ -117,7 +118,8 @@ pub trait FileSystem: FileSystemBase {
     fn readlink(&mut self, ctx: Context, inode: Self::Inode) -> Result<Vec<u8>, Errno>
         ensures may { Self.may self.old (call.Readlink ctx (Self.Inode.number inode)) (target_answer result) self.new };
 
-    /// Makes a symbolic link that leads to `linkname`. A node that is answered is held once more, here and in what follows.
+    /// Makes a symbolic link that leads to `linkname`. A node that is answered is held once more, here and in what
+    /// follows.
     fn symlink(
         &mut self,
         ctx: Context,
@@ -224,7 +226,8 @@ pub trait FileSystem: FileSystemBase {
             × Self.may self.old (call.Read ctx (Self.Inode.number inode) (Self.Handle.number handle) (W.room w.old) size offset lock_owner flags)
             (data_answer result bytes) self.new };
 
-    /// Takes bytes of a file out of a reader, and answers how many are written. A delayed write comes from the guest's cache.
+    /// Takes bytes of a file out of a reader, and answers how many are written. A delayed write comes from the guest's
+    /// cache.
     fn write<R: ZeroCopyReader>(
         &mut self,
         ctx: Context,

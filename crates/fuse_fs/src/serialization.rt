@@ -8,17 +8,18 @@ ghost use Rattle.fuse_fs.specs.Serializing.{Carries};
 use std::io::{self, Read, Write};
 use std::sync::atomic::AtomicBool;
 
-/// A file system whose state can be carried over (virtiofsd's `SerializableFileSystem`). Each call does what the implementer's
-/// relation says; what a call does where there is nothing to carry over stands in `defaults`.
+/// A file system whose state can be carried over (virtiofsd's `SerializableFileSystem`). Each call does what the
+/// implementer's relation says; what a call does where there is nothing to carry over stands in `defaults`.
 pub trait SerializableFileSystem {
     // How it may be made ready: before, after.
     ghost may_prepare: { Self → Self → Type 0 };
 
-    // How its state may go out: before, what the stream held, the kind of the error if there is one, what it holds, after.
+    // How its state may go out: before, what the stream held, the kind of the error if there is one, what it holds,
+    // after.
     ghost may_serialize: { Carries Self };
 
-    // How a state may come in: before, what the stream was to give, the kind of the error if there is one, what it is to give,
-    // after.
+    // How a state may come in: before, what the stream was to give, the kind of the error if there is one, what it is
+    // to give, after.
     ghost may_apply: { Carries Self };
 
     /// Makes ready for `serialize`; it may end early once `cancel` is set.

@@ -63,8 +63,8 @@ pub trait ZeroCopyWriter {
     // The lengths of the segments in which that room is.
     ghost rooms: { Self → List ℕ };
 
-    /// Puts in what a file has at a place: it is asked for one segment after another, until the count is done, the room is
-    /// used up, or it answers 0 or an error. Where there is room left for a place past 2^64 - 1, that is EIO.
+    /// Puts in what a file has at a place: it is asked for one segment after another, until the count is done, the room
+    /// is used up, or it answers 0 or an error. Where there is room left for a place past 2^64 - 1, that is EIO.
     fn read_from_file_at<F: PositionedFile>(
         &mut self,
         file: &mut F,
@@ -104,8 +104,8 @@ pub trait ZeroCopyReader {
     // How many bytes were read.
     ghost read: { Self → ℕ };
 
-    /// Has a file write what is left at a place: it is lent one segment after another, until the count is done, nothing is
-    /// left, or it answers 0 or an error. Where a byte is left for a place past 2^64 - 1, that is EIO.
+    /// Has a file write what is left at a place: it is lent one segment after another, until the count is done, nothing
+    /// is left, or it answers 0 or an error. Where a byte is left for a place past 2^64 - 1, that is EIO.
     fn write_to_file_at<F: PositionedFile>(
         &mut self,
         file: &mut F,

@@ -7,7 +7,7 @@ use Rattle.vm_values.specs.Fields.{field_bytes, spelled}
 use Rattle.fuse_wire.specs.Records.{out_header}
 use Rattle.fuse_wire.specs.declared.replies.OutHeader.{OutHeader}
 use Rattle.fuse_fs.specs.Calls.{FileAnswer, Failed}
-use Rattle.fuse_replies.specs.WholeReplies.{reply_bytes, error_bytes, sent, told_bytes}
+use Rattle.fuse_replies.specs.WholeReplies.{reply_bytes, error_bytes, whole_or_none, told_bytes}
 use Rattle.fuse_segments.specs.declared.error.Error.TheVariants.{EncodeMessage}
 
 pub length_header : (h : OutHeader) → length (spelled (out_header h)) ≡ 16
@@ -24,22 +24,22 @@ pub length_error : (unique errno : ℕ) → length (error_bytes unique errno) �
 unfolding error_bytes
 length_error unique errno = length_header (record { len = 16; error = neg_ℤ (pos errno); unique = unique })
 
-pub sent_long : (room : ℕ) (bytes : List ℕ) → room < length bytes → sent room bytes ≡ Err EncodeMessage
+pub sent_long : (room : ℕ) (bytes : List ℕ) → room < length bytes → whole_or_none room bytes ≡ Err EncodeMessage
 sent_long room bytes h = rw (lt-ltb room (length bytes) h) refl
 
-pub sent_fits : (room : ℕ) (bytes : List ℕ) → length bytes ≤ room → sent room bytes ≡ Ok bytes
+pub sent_fits : (room : ℕ) (bytes : List ℕ) → length bytes ≤ room → whole_or_none room bytes ≡ Ok bytes
 sent_fits room bytes h = rw (le-ltb room (length bytes) h) refl
 
-pub reply_long : (room unique : ℕ) (body : List ℕ) → room < 16 + length body → sent room (reply_bytes unique body) ≡ Err EncodeMessage
+pub reply_long : (room unique : ℕ) (body : List ℕ) → room < 16 + length body → whole_or_none room (reply_bytes unique body) ≡ Err EncodeMessage
 reply_long room unique body h = sent_long room (reply_bytes unique body) (rw (length_reply unique body) h)
 
-pub reply_fits : (room unique : ℕ) (body : List ℕ) → 16 + length body ≤ room → sent room (reply_bytes unique body) ≡ Ok (reply_bytes unique body)
+pub reply_fits : (room unique : ℕ) (body : List ℕ) → 16 + length body ≤ room → whole_or_none room (reply_bytes unique body) ≡ Ok (reply_bytes unique body)
 reply_fits room unique body h = sent_fits room (reply_bytes unique body) (rw (length_reply unique body) h)
 
-pub error_long : (room unique errno : ℕ) → room < 16 → sent room (error_bytes unique errno) ≡ Err EncodeMessage
+pub error_long : (room unique errno : ℕ) → room < 16 → whole_or_none room (error_bytes unique errno) ≡ Err EncodeMessage
 error_long room unique errno h = sent_long room (error_bytes unique errno) (rw (length_error unique errno) h)
 
-pub error_fits : (room unique errno : ℕ) → 16 ≤ room → sent room (error_bytes unique errno) ≡ Ok (error_bytes unique errno)
+pub error_fits : (room unique errno : ℕ) → 16 ≤ room → whole_or_none room (error_bytes unique errno) ≡ Ok (error_bytes unique errno)
 error_fits room unique errno h = sent_fits room (error_bytes unique errno) (rw (length_error unique errno) h)
 
 -- the reply to an answer that says an error
@@ -49,7 +49,7 @@ failure_told silent unique errno answer e = rw e refl
 -- a header, and a body behind it
 pub reply_put : (room unique len : ℕ) (w0 w1 w2 header body : List ℕ) → w0 ≡ [] → w1 ≡ w0 ++ header
     → header ≡ spelled (out_header (record { len = len; error = pos 0; unique = unique })) → len ≡ 16 + length body → w2 ≡ w1 ++ body → 16 + length body ≤ room
-    → Ok w2 ≡ sent room (reply_bytes unique body)
+    → Ok w2 ≡ whole_or_none room (reply_bytes unique body)
 unfolding reply_bytes
 reply_put room unique len w0 w1 w2 header body a b c d e h =
     let all : w2 ≡ reply_bytes unique body = rw (e, b, a, c, d) refl in

@@ -8,7 +8,7 @@ use Rattle.fuse_fs.specs.Answers.{entry_out_of}
 use Rattle.fuse_fs.specs.Replies.{attr_out_of, open_out_of, getxattr_out_of, write_out_of, lseek_out_of}
 use Rattle.fuse_fs.specs.Calls.{FileAnswer, Failed, HasEntry, HasAttr, Opened, Created, Bytes, Count, Stats, Wrote, Offset}
 use Rattle.fuse_segments.specs.declared.error.Error.{Error}
-use Rattle.fuse_segments.specs.Views.{WriterView}
+use Rattle.fuse_segments.specs.ReaderAndWriter.{WriterView}
 use Rattle.fuse_segments.specs.declared.error.Error.TheVariants.{EncodeMessage}
 
 -- struct fuse_out_header and what follows it
@@ -80,13 +80,13 @@ abbrev pub listing_bytes : ℕ → (with_nodes : Bool) → List ℕ → Option �
 listing_bytes unique with_nodes bytes error = data_reply unique (listing_answer (length bytes) with_nodes error) bytes
 
 -- a writer's answer with what it wrote, and the reply that it is to be: whole, or not at all
-abbrev pub told : Result ℕ Error → List ℕ → Result (List ℕ) Error
-told (Ok n) written = Ok written
-told (Err e) written = Err e
+abbrev pub with_written : Result ℕ Error → List ℕ → Result (List ℕ) Error
+with_written (Ok n) written = Ok written
+with_written (Err e) written = Err e
 
 -- a reply whole, or the fault that it is longer than the room
-abbrev pub sent : (room : ℕ) → List ℕ → Result (List ℕ) Error
-sent room bytes = if nat_lt room (length bytes) then Err EncodeMessage else Ok bytes
+abbrev pub whole_or_none : (room : ℕ) → List ℕ → Result (List ℕ) Error
+whole_or_none room bytes = if nat_lt room (length bytes) then Err EncodeMessage else Ok bytes
 
 -- what an answer leaves in its writer: a reply of that length, in the room that there was; after an error nothing has changed
 abbrev pub LeavesWriter : Result ℕ Error → (old new : WriterView) → Type 0

@@ -3,7 +3,7 @@
 ghost use Rattle.std.specs.Prelude.{◌≡◌, ◌<◌, ◌^◌, ◌++◌, [], length, Ok, false};
 ghost use Rattle.vm_values.specs.Fields.{spelled};
 ghost use Rattle.fuse_wire.specs.Records.{entry_out, open_out};
-ghost use Rattle.fuse_replies.specs.WholeReplies.{told, sent, told_bytes, LeavesWriter};
+ghost use Rattle.fuse_replies.specs.WholeReplies.{with_written, whole_or_none, told_bytes, LeavesWriter};
 ghost use Rattle.fuse_segments.specs.Errors.{lacks_memory};
 
 use crate::replies::{reply, reply_error, reply_record};
@@ -19,7 +19,7 @@ pub trait AsReply: Answer {
     fn reply(self, w: &mut Writer, unique: u64) -> Result<usize, Error>
         requires fresh { w.old.written ≡ [] }
         requires room { w.old.free < 2 ^ 32 }
-        ensures sent { told result w.new.written ≡ sent w.old.free (told_bytes Self.silent unique (Self.said (Ok self))) }
+        ensures sent { with_written result w.new.written ≡ whole_or_none w.old.free (told_bytes Self.silent unique (Self.said (Ok self))) }
         ensures writer { LeavesWriter result w.old w.new }
         ensures memory { lacks_memory result ≡ false };
 }
@@ -32,7 +32,7 @@ pub fn reply_answer<A: AsReply>(
 ) -> Result<usize, Error>
     requires fresh { w.old.written ≡ [] }
     requires room { w.old.free < 2 ^ 32 }
-    ensures sent { told result w.new.written ≡ sent w.old.free (told_bytes A.silent unique (A.said answer)) }
+    ensures sent { with_written result w.new.written ≡ whole_or_none w.old.free (told_bytes A.silent unique (A.said answer)) }
     ensures writer { LeavesWriter result w.old w.new }
     ensures memory { lacks_memory result ≡ false }
 {

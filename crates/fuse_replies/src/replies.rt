@@ -4,7 +4,7 @@ ghost use Rattle.std.specs.Prelude.{◌≡◌, ◌+◌, ◌<◌, ◌≤◌, ◌^
 ghost use Rattle.std.specs.Result.{ForOk};
 ghost use Rattle.vm_values.specs.Fields.{spelled};
 ghost use Rattle.fuse_wire.specs.Records.{out_header};
-ghost use Rattle.fuse_replies.specs.WholeReplies.{reply_bytes, error_bytes, data_reply, told, sent, LeavesWriter};
+ghost use Rattle.fuse_replies.specs.WholeReplies.{reply_bytes, error_bytes, data_reply, with_written, whole_or_none, LeavesWriter};
 ghost use Rattle.fuse_segments.specs.Errors.{lacks_memory};
 
 use fuse_segments::{Error, Writer};
@@ -48,7 +48,7 @@ pub fn append(w: &mut Writer, bytes: &[u8])
 pub fn reply(w: &mut Writer, unique: u64, body: &[u8]) -> Result<usize, Error>
     requires fresh { w.old.written ≡ [] }
     requires room { w.old.free < 2 ^ 32 }
-    ensures sent { told result w.new.written ≡ sent w.old.free (reply_bytes unique body.now) }
+    ensures sent { with_written result w.new.written ≡ whole_or_none w.old.free (reply_bytes unique body.now) }
     ensures writer { LeavesWriter result w.old w.new }
     ensures memory { lacks_memory result ≡ false }
 {
@@ -66,7 +66,7 @@ pub fn reply(w: &mut Writer, unique: u64, body: &[u8]) -> Result<usize, Error>
 pub fn reply_record<T: ByteValued>(w: &mut Writer, unique: u64, body: &T) -> Result<usize, Error>
     requires fresh { w.old.written ≡ [] }
     requires room { w.old.free < 2 ^ 32 }
-    ensures sent { told result w.new.written ≡ sent w.old.free (reply_bytes unique (spelled (T.fields body.now))) }
+    ensures sent { with_written result w.new.written ≡ whole_or_none w.old.free (reply_bytes unique (spelled (T.fields body.now))) }
     ensures writer { LeavesWriter result w.old w.new }
     ensures memory { lacks_memory result ≡ false }
 {
@@ -79,7 +79,7 @@ pub fn reply_record<T: ByteValued>(w: &mut Writer, unique: u64, body: &T) -> Res
 #[tactic(auto, using(crate::proofs::ReplyLemmas::error_long, crate::proofs::ReplyLemmas::error_fits))]
 pub fn reply_error(w: &mut Writer, unique: u64, error: Errno) -> Result<usize, Error>
     requires fresh { w.old.written ≡ [] }
-    ensures sent { told result w.new.written ≡ sent w.old.free (error_bytes unique error) }
+    ensures sent { with_written result w.new.written ≡ whole_or_none w.old.free (error_bytes unique error) }
     ensures writer { LeavesWriter result w.old w.new }
     ensures memory { lacks_memory result ≡ false }
 {

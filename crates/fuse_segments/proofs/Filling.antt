@@ -1,14 +1,7 @@
 -- Bytes that are put at a place, one part after another.
 use Rattle.std.proofs.Common.{◌≡◌, ℕ, ◌+◌, ◌≤◌, List, ◌++◌, length, take, drop, sym, ◌∙◌, ap, append_assoc}
 use Rattle.std.proofs.lemmas.List.{drop-drop, length-take-le, take-append-drop, take_at, drop_at}
-use Rattle.std.proofs.Math.Seq.{take-append-add}
-
-pub take-add : (a n : ℕ) (xs : List ℕ) → a ≤ length xs → take (a + n) xs ≡ take a xs ++ take n (drop a xs)
-take-add a n xs h =
-    let e : length (take a xs) ≡ a = length-take-le a xs h in
-    let t = take-append-add (take a xs) (drop a xs) n in
-    let u : take a xs ++ drop a xs ≡ xs = take-append-drop a xs in
-    cc
+use Rattle.std.proofs.Math.Seq.{take-append-add, take-add}
 
 -- what is put at a place, with what stays behind it
 pub placed : (at : ℕ) (xs ys : List ℕ) → take at xs ++ (ys ++ drop (length ys) (drop at xs)) ≡ take at xs ++ ys ++ drop (at + length ys) xs
@@ -23,5 +16,5 @@ filled_more room left done n now part hr hl e p =
     let back : drop (done + n) now ≡ drop (done + n) room =
     sym (drop-drop n done now) ∙ ap (drop n) (ap (drop done) e ∙ drop_at (take done left) (drop done room) done t) ∙ drop-drop n done room
     in
-    let mid : take (done + n) left ≡ take done left ++ part = take-add done n left hl ∙ ap (λ s. take done left ++ s) (sym p) in
+    let mid : take (done + n) left ≡ take done left ++ part = take-add done n left ∙ ap (λ s. take done left ++ s) (sym p) in
     cc

@@ -30,7 +30,7 @@ pub struct Reader<'a> {
 
 impl<'a> Model for Reader<'a> {
     ghost use Rattle.std.specs.Prelude.{◌≡◌, ◌+◌, ◌<◌, ◌^◌, [], ◌∷◌, length};
-    ghost use Rattle.fuse_segments.specs.Views.{ReaderView};
+    ghost use Rattle.fuse_segments.specs.ReaderAndWriter.{ReaderView};
     ghost use Rattle.fuse_fs.specs.Lengths.{filled};
     ghost use Rattle.fuse_segments.specs.Segments.{all_of, segment_lengths};
 
@@ -62,7 +62,8 @@ fn next_filled<'a>(segment: &'a [u8], later: &mut VecDeque<&'a [u8]>) -> &'a [u8
     current
 }
 
-// Takes the first bytes off a queue of segments, as a queue of their own; with what is left of the segment where they end.
+// Takes the first bytes off a queue of segments, as a queue of their own; with what is left of the segment where they
+// end.
 #[tactic(auto, using(crate::proofs::Cutting::nothing_past))]
 fn take_front<'a>(
     alloc: Global,
@@ -113,7 +114,8 @@ fn write_at(buf: &mut [u8], at: usize, bytes: &[u8])
 }
 
 impl<'a> Reader<'a> {
-    /// A reader of these segments, one after another. DescriptorChainOverflow where their lengths' sum doesn't fit usize.
+    /// A reader of these segments, one after another. DescriptorChainOverflow where their lengths' sum doesn't fit
+    /// usize.
     pub fn new(segments: Vec<&'a [u8]>) -> Result<Reader<'a>, Error>
         ensures ok { IfOk result (λ r. (r.left ≡ joined segments.entry.items) × (r.segments ≡ filled (segment_lengths segments.entry.items)) × (r.read ≡ 0)) }
         ensures fits { OnOk result (length (joined segments.entry.items) < 2 ^ 64) }

@@ -9,7 +9,7 @@ ghost use Rattle.vm_values.specs.Fields.{spelled, AllFit};
 ghost use Rattle.fuse_segments.specs.SegmentPlaces.{bytes_before, IsIn};
 ghost use Rattle.fuse_fs.specs.Lengths.{filled, first, past, up_to};
 ghost use Rattle.fuse_fs.specs.Transfers.{moved, with_bytes, ReadsOnce};
-ghost use Rattle.fuse_segments.specs.Views.{rooms};
+ghost use Rattle.fuse_segments.specs.ReaderAndWriter.{rooms};
 
 use crate::error::Error;
 use crate::reader::write_front;
@@ -54,7 +54,7 @@ pub struct Writer {
 impl Model for Writer {
     ghost use Rattle.std.specs.Prelude.{◌≡◌, ◌+◌, ◌-◌, ◌≤◌, sum, vec_len, vec_capacity};
     ghost use Rattle.smallvec.specs.SmallVec.{small_vec_len};
-    ghost use Rattle.fuse_segments.specs.Views.{WriterView};
+    ghost use Rattle.fuse_segments.specs.ReaderAndWriter.{WriterView};
     ghost use Rattle.fuse_fs.specs.Lengths.{filled};
     ghost use Rattle.fuse_segments.specs.SegmentPlaces.{bytes_before, IsIn};
 
@@ -354,8 +354,8 @@ impl Writer {
         Ok(())
     }
 
-    /// Splits the room that is free at a place: what stands behind it goes to a writer of its own, with no byte written.
-    /// SplitOutOfBounds where the place is past the end. A refusal changes nothing.
+    /// Splits the room that is free at a place: what stands behind it goes to a writer of its own, with no byte
+    /// written. SplitOutOfBounds where the place is past the end. A refusal changes nothing.
     pub fn split_at(&mut self, alloc: Global, offset: usize) -> Result<Writer, Error>
         ensures written { self.new.written ≡ self.old.written }
         ensures free { OnOk result ((offset ≤ self.old.free) × (self.new.free ≡ offset)) }
@@ -385,8 +385,8 @@ impl Writer {
         Ok(other)
     }
 
-    /// Joins on the first bytes of a writer that a split handed out; its other room is free again. It brings no more segments
-    /// and bytes than the split handed out.
+    /// Joins on the first bytes of a writer that a split handed out; its other room is free again. It brings no more
+    /// segments and bytes than the split handed out.
     pub fn rejoin(&mut self, other: Writer, count: usize)
         requires full { self.old.free ≡ 0 }
         requires count { count ≤ length other.written }
@@ -412,8 +412,8 @@ impl Writer {
         self.spare = 0;
     }
 
-    /// Writes what one call of a file reads into the first segment that has room, at most `count` bytes; none is made where
-    /// there is no room or `count` is 0. An error uses up nothing.
+    /// Writes what one call of a file reads into the first segment that has room, at most `count` bytes; none is made
+    /// where there is no room or `count` is 0. An error uses up nothing.
     pub fn read_from_file_at<F: PositionedFile>(
         &mut self,
         file: &mut F,

@@ -6,9 +6,9 @@ use vm_values::ByteValued;
 /// The length of a reply's header.
 pub const OUT_HEADER_LEN: usize = 16;
 
-/// What follows the header of the reply to this request, or the error number that the header tells, which is below 0; nothing
-/// where the bytes are no reply to it: they are not as many as the header says, it names another request, or an error is
-/// followed by bytes.
+/// What follows the header of the reply to this request, or the error number that the header tells, which is below 0;
+/// nothing where the bytes are no reply to it: they are not as many as the header says, it names another request, or an
+/// error is followed by bytes.
 pub fn body(reply: &[u8], unique: u64) -> Option<Result<&[u8], i32>> {
     let header = OutHeader::from_slice(reply.get(..OUT_HEADER_LEN)?)?;
     let body = reply.get(OUT_HEADER_LEN..)?;

@@ -6,7 +6,7 @@ ghost use Rattle.vm_memory.specs.Layout.{HostHolds};
 ghost use Rattle.vm_memory.specs.OneProof.{AreHeld-prop};
 
 use std::alloc::{AllocError, Global};
-use vm_memory::{FromRangesError, GuestMemoryError, GuestMemoryMmap};
+use vm_memory::{FromRangesError, GuestMemoryError, GuestMemoryMmap, IommuMemory, TableIommu};
 use vm_memory_core::{GuestAddress, HostMemory, PageBitmap};
 
 /// The flag of a descriptor after which another comes (VIRTIO 1.2, 2.7.5).
@@ -86,6 +86,25 @@ impl Guest {
         (self.host, self.mem)
     }
 
+    /// The memory behind an IOMMU that is off: no address is mapped, and the I/O pages are those below `io_end`.
+    pub fn into_translated(
+        self,
+        alloc: Global,
+        io_end: usize,
+    ) -> Result<
+        (
+            HostMemory<PageBitmap>,
+            IommuMemory<GuestMemoryMmap, TableIommu>,
+        ),
+        AllocError,
+    > {
+        let (mut host, backend) = self.into_memory();
+        let number = host.new_table()?;
+        let set = host.new_io_bitmap(io_end)?;
+        let mem = IommuMemory::new(alloc, backend, TableIommu::new(number), false, set);
+        Ok((host, mem))
+    }
+
     /// Puts bytes at an address.
     pub fn put(&mut self, addr: u64, bytes: &[u8]) -> Result<(), GuestMemoryError> {
         self.mem
@@ -150,8 +169,8 @@ impl Guest {
         self.set_available(self.offered.wrapping_add(1))
     }
 
-    /// Offers a chain of the entries from `head` on: first a request's bytes, cut into these readable parts (address and
-    /// length), then these writable ones.
+    /// Offers a chain of the entries from `head` on: first a request's bytes, cut into these readable parts (address
+    /// and length), then these writable ones.
     pub fn chain(
         &mut self,
         head: u16,
@@ -163,8 +182,8 @@ impl Guest {
         self.make_available(head)
     }
 
-    /// Offers such a chain of the entries of a table of its own, which begins at an address and is named by the entry `head`
-    /// of the descriptor table (VIRTIO 1.2, 2.7.5.3).
+    /// Offers such a chain of the entries of a table of its own, which begins at an address and is named by the entry
+    /// `head` of the descriptor table (VIRTIO 1.2, 2.7.5.3).
     pub fn indirect_chain(
         &mut self,
         head: u16,
@@ -227,8 +246,8 @@ impl Guest {
         Ok(u16::from_le_bytes(bytes))
     }
 
-    /// The element of the chain that was returned last, where all that were offered are returned (VIRTIO 1.2, 2.7.8); nothing
-    /// where one isn't. At least one is to have been offered.
+    /// The element of the chain that was returned last, where all that were offered are returned (VIRTIO 1.2, 2.7.8);
+    /// nothing where one isn't. At least one is to have been offered.
     pub fn last_used(&self) -> Result<Option<UsedElement>, GuestMemoryError> {
         if self.used_index()? != self.offered {
             return Ok(None);

@@ -1,5 +1,5 @@
 -- an image that differs from a host on marked pages alone, and catches up when those are put in
-use Rattle.std.proofs.Common.{◌≡◌, ℕ, Bool, true, false, ◌+◌, ◌*◌, ◌-◌, ◌/◌, ◌<◌, ◌≤◌, ◌++◌, suc, List, [], ◌∷◌, length, take, drop, get_or, refl, ap, sym, ◌∙◌, arith, ⊎_elim, append_assoc, length-append, length-drop}
+use Rattle.std.proofs.Common.{◌≡◌, ℕ, Bool, true, false, ◌+◌, ◌*◌, ◌-◌, ◌/◌, ◌<◌, ◌≤◌, ◌++◌, suc, List, [], ◌∷◌, length, map, take, drop, get_or, refl, ap, sym, ◌∙◌, arith, ⊎_elim, append_assoc, length-append, length-drop}
 use Rattle.std.specs.Prelude.{slice_range, if◌then◌else◌}
 use Rattle.std.proofs.lemmas.List.{ext_get_or, length-take, get_or_append_left, get_or-append_right, get_or-take, get_or-drop, length_push}
 use Rattle.std.proofs.lemmas.Bool.{cases_lt}
@@ -124,11 +124,11 @@ all_same to from q (false ∷ marks) s = all_same to from (q + 1) marks (stay_mo
 
 -- ---- blocks
 
--- a block of an image against one of a host: as long, with as many marks, one for each page; its bytes are the host's
--- on each page that isn't marked there
+-- a block of an image against one of a host: as long, with as many marks, one for each page, of which none is set; its bytes
+-- are the host's on each page that isn't marked there
 pub record BlockTracks (a b : Block) : Type 0 where
   pub len : length a.bytes ≡ length b.bytes
-  pub count : length a.marks ≡ length b.marks
+  pub clear : a.marks ≡ map (λ _. false) b.marks
   pub sized : length b.marks ≡ page_count (length b.bytes)
   pub same : (o : ℕ) → get_or b.marks (o / 4096) false ≡ false → get_or a.bytes o 0 ≡ get_or b.bytes o 0
 

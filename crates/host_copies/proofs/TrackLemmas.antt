@@ -15,31 +15,58 @@ use Rattle.host_copies.proofs.CatchUpLemmas.{BlockTracks, BlocksTrack, Tracks, h
 
 -- ---- from the copy on
 
+all_clear : (x y : List Bool) → length x ≡ length y → map (λ _. false) x ≡ map (λ _. false) y
+all_clear [] [] e = refl
+all_clear [] (b ∷ y) e = absurd (omega arith)
+all_clear (a ∷ x) [] e = absurd (omega arith)
+all_clear (a ∷ x) (b ∷ y) e = ap (λ (l : List Bool). false ∷ l) (all_clear x y (omega arith))
+
 -- a block has a mark for each of its pages
-abbrev IsSized : Block → Type 0
+abbrev pub IsSized : Block → Type 0
 IsSized b = length b.marks ≡ page_count (length b.bytes)
 
 blocks_begin : (l : List Block) → AllByRecursion IsSized l → BlocksTrack (map unmarked l) (map unmarked l)
 blocks_begin [] sized = tt
-blocks_begin (b ∷ l) sized = (record { len = refl; count = refl; sized = length-map b.marks (λ _. false) ∙ sized.0; same = λ o e. refl }, blocks_begin l sized.1)
+blocks_begin (b ∷ l) sized =
+    let n = length-map b.marks (λ _. false) in
+    (record { len = refl; clear = all_clear b.marks (map (λ _. false) b.marks) (sym n); sized = n ∙ sized.0; same = λ o e. refl }, blocks_begin l sized.1)
 
 -- an image tracks a host from when it is made
 pub tracks_copy : (h : Host) → AllByRecursion IsSized h.blocks → Tracks (cleared h) (cleared h)
 tracks_copy h sized = record { blocks = blocks_begin h.blocks sized; tables = refl; io_marks = refl }
 
-blocks_go_on : (xs ys : List Block) → BlocksTrack xs ys → BlocksTrack (caught_up xs ys) (map unmarked ys)
-blocks_go_on [] [] f = tt
-blocks_go_on [] (b ∷ ys) f = absurd f
-blocks_go_on (a ∷ xs) [] f = absurd f
-blocks_go_on (a ∷ xs) (b ∷ ys) f =
-    let n = length-map b.marks (λ _. false) in
-    (record { len = refl; count = f.0.count ∙ sym n; sized = n ∙ f.0.sized; same = λ o e. refl }, blocks_go_on xs ys f.1)
+blocks_sized : (xs ys : List Block) → BlocksTrack xs ys → AllByRecursion IsSized ys
+blocks_sized [] [] f = tt
+blocks_sized [] (b ∷ ys) f = absurd f
+blocks_sized (a ∷ xs) [] f = absurd f
+blocks_sized (a ∷ xs) (b ∷ ys) f = (f.0.sized, blocks_sized xs ys f.1)
 
--- and after a harvest, with the pages put in
+-- a host that an image tracks has a mark for each page of a block
+pub tracks-sized : (image host : Host) → Tracks image host → AllByRecursion IsSized host.blocks
+tracks-sized image host f = blocks_sized image.blocks host.blocks f.blocks
+
+-- ---- a harvest
+
+blocks_same : (xs ys : List Block) → BlocksTrack xs ys → caught_up xs ys ≡ map unmarked ys
+blocks_same [] [] f = refl
+blocks_same [] (b ∷ ys) f = absurd f
+blocks_same (a ∷ xs) [] f = absurd f
+blocks_same (a ∷ xs) (b ∷ ys) f =
+    ap (λ (m : List Bool). let k : Block = record { bytes = b.bytes; marks = m } in k ∷ caught_up xs ys) f.0.clear
+    ∙ ap (λ (l : List Block). unmarked b ∷ l) (blocks_same xs ys f.1)
+
+-- with the marked pages put in, an image is the host, marks and all, once it is harvested
+pub harvest_is_host : (image host : Host) → Tracks image host → pages_put image (harvested host) ≡ cleared host
+harvest_is_host image host f =
+    harvest_restores image host f
+    ∙ ap (λ (l : List Block). let k : Host = record { blocks = l; tables = image.tables; io_marks = image.io_marks } in k) (blocks_same image.blocks host.blocks f.blocks)
+    ∙ ap (λ t. let k : Host = record { blocks = map unmarked host.blocks; tables = t; io_marks = image.io_marks } in k) f.tables
+    ∙ ap (λ (m : List (List Bool)). let k : Host = record { blocks = map unmarked host.blocks; tables = host.tables; io_marks = m } in k) f.io_marks
+
+-- so it goes on to track it
 pub tracks_harvest : (image host : Host) → Tracks image host → Tracks (pages_put image (harvested host)) (cleared host)
 tracks_harvest image host f =
-    subst (λ (h : Host). Tracks h (cleared host)) (sym (harvest_restores image host f))
-    (record { blocks = blocks_go_on image.blocks host.blocks f.blocks; tables = f.tables; io_marks = f.io_marks })
+    subst (λ (h : Host). Tracks h (cleared host)) (sym (harvest_is_host image host f)) (tracks_copy host (tracks-sized image host f))
 
 -- ---- stores
 
@@ -64,7 +91,7 @@ block_stored a b o byte f =
     let k = length-set b.marks (o / 4096) true in
     record {
       len = f.len ∙ sym n;
-      count = f.count ∙ sym k;
+      clear = f.clear ∙ all_clear b.marks (set b.marks (o / 4096) true) (sym k);
       sized = k ∙ f.sized ∙ ap page_count (sym n);
       same = λ i e.
           let was = mark_stays b.marks (o / 4096) (i / 4096) e in
@@ -126,44 +153,6 @@ pub stale_marked : (image host : Host) (p : Place) → Tracks image host → byt
     option_and_then (λ (b : Block). slice_get b.marks (p.offset / 4096)) (slice_get host.blocks p.block) ≡ Some true
 stale_marked image host p f stale = blocks_stale image.blocks host.blocks p.block p.offset f.blocks stale
 
--- ---- marks apart
-
-all_clear : (x y : List Bool) → length x ≡ length y → map (λ _. false) x ≡ map (λ _. false) y
-all_clear [] [] e = refl
-all_clear [] (b ∷ y) e = absurd (omega arith)
-all_clear (a ∷ x) [] e = absurd (omega arith)
-all_clear (a ∷ x) (b ∷ y) e = ap (λ (l : List Bool). false ∷ l) (all_clear x y (omega arith))
-
-unmarked_same : (xs ys : List Block) → BlocksTrack xs ys → map unmarked (caught_up xs ys) ≡ map unmarked (map unmarked ys)
-unmarked_same [] [] f = refl
-unmarked_same [] (b ∷ ys) f = absurd f
-unmarked_same (a ∷ xs) [] f = absurd f
-unmarked_same (a ∷ xs) (b ∷ ys) f =
-    ap (λ (m : List Bool). let k : Block = record { bytes = b.bytes; marks = m } in k ∷ map unmarked (caught_up xs ys))
-    (all_clear a.marks (map (λ _. false) b.marks) (f.0.count ∙ sym (length-map b.marks (λ _. false))))
-    ∙ ap (λ (l : List Block). unmarked (unmarked b) ∷ l) (unmarked_same xs ys f.1)
-
--- with the marked pages put in, an image has the blocks of the host, marks apart
-pub harvest_unmarked : (image host : Host) → Tracks image host → map unmarked (pages_put image (harvested host)).blocks ≡ map unmarked (cleared host).blocks
-harvest_unmarked image host f = ap (λ (h : Host). map unmarked h.blocks) (harvest_restores image host f) ∙ unmarked_same image.blocks host.blocks f.blocks
-
--- and the host's tables and sets of I/O pages
-pub harvest_rest : (image host : Host) → Tracks image host →
-    ((pages_put image (harvested host)).tables ≡ host.tables) × ((pages_put image (harvested host)).io_marks ≡ host.io_marks)
-harvest_rest image host f =
-    let is = harvest_restores image host f in
-    (ap (λ (h : Host). h.tables) is ∙ f.tables, ap (λ (h : Host). h.io_marks) is ∙ f.io_marks)
-
-blocks_sized : (xs ys : List Block) → BlocksTrack xs ys → AllByRecursion IsSized ys
-blocks_sized [] [] f = tt
-blocks_sized [] (b ∷ ys) f = absurd f
-blocks_sized (a ∷ xs) [] f = absurd f
-blocks_sized (a ∷ xs) (b ∷ ys) f = (f.0.sized, blocks_sized xs ys f.1)
-
--- a host that an image tracks has a mark for each page of a block
-pub tracks-sized : (image host : Host) → Tracks image host → AllByRecursion IsSized host.blocks
-tracks-sized image host f = blocks_sized image.blocks host.blocks f.blocks
-
 -- ---- the pages have their places
 
 blocks_lengths : (xs ys : List Block) → BlocksTrack xs ys → map (λ (b : Block). length b.bytes) xs ≡ map (λ (b : Block). length b.bytes) ys
@@ -187,24 +176,25 @@ harvest-lengths image host f =
 abbrev pub HavePlaces : List ℕ → List Page → Type 0
 HavePlaces ls ps = (i : ℕ) → first_refused ls i ps ≡ None
 
-neither : (o later : Option ApplyError) → o ≡ None → later ≡ None → or_later o later ≡ None
-neither None later e h = h
-neither (Some x) later e h = absurd (cc)
+-- neither a page nor one of those after it is refused
+pub neither_none : (o later : Option ApplyError) → o ≡ None → later ≡ None → or_later o later ≡ None
+neither_none None later e h = h
+neither_none (Some x) later e h = absurd (cc)
+
+pub both_none : (o later : Option ApplyError) → or_later o later ≡ None → (o ≡ None) × (later ≡ None)
+both_none None later e = (refl, e)
+both_none (Some x) later e = absurd (cc)
 
 places_more : (ls : List ℕ) (p : Page) (ps : List Page) → ((i : ℕ) → refused_by (slice_get ls p.block) i p ≡ None) → HavePlaces ls ps → HavePlaces ls (p ∷ ps)
 unfolding first_refused
-places_more ls p ps here later i = neither (refused_by (slice_get ls p.block) i p) (first_refused ls (i + 1) ps) (here i) (later (i + 1))
-
-first_from : (o later : Option ApplyError) → or_later o later ≡ None → (o ≡ None) × (later ≡ None)
-first_from None later e = (refl, e)
-first_from (Some x) later e = absurd (cc)
+places_more ls p ps here later i = neither_none (refused_by (slice_get ls p.block) i p) (first_refused ls (i + 1) ps) (here i) (later (i + 1))
 
 places_joined : (ls : List ℕ) (xs ys : List Page) (i : ℕ) → first_refused ls i xs ≡ None → HavePlaces ls ys → first_refused ls i (xs ++ ys) ≡ None
 unfolding first_refused
 places_joined ls [] ys i e later = later i
 places_joined ls (p ∷ xs) ys i e later =
-    let both = first_from (refused_by (slice_get ls p.block) i p) (first_refused ls (i + 1) xs) e in
-    neither (refused_by (slice_get ls p.block) i p) (first_refused ls (i + 1) (xs ++ ys)) both.0 (places_joined ls xs ys (i + 1) both.1 later)
+    let both = both_none (refused_by (slice_get ls p.block) i p) (first_refused ls (i + 1) xs) e in
+    neither_none (refused_by (slice_get ls p.block) i p) (first_refused ls (i + 1) (xs ++ ys)) both.0 (places_joined ls xs ys (i + 1) both.1 later)
 
 -- pages that have their places after others that have theirs
 pub places-append : (ls : List ℕ) (xs ys : List Page) → HavePlaces ls xs → HavePlaces ls ys → HavePlaces ls (xs ++ ys)

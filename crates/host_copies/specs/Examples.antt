@@ -24,7 +24,7 @@ puts_in_order : pages_put four (page 0 1 (7 ∷ 8 ∷ []) ∷ page 0 2 (9 ∷ []
 unfolding pages_put
 puts_in_order = refl
 
--- an image from before the marked page was written is the host with that page put in, marks apart
+-- an image from before the marked page was written, with that page put in, is the host with its marks cleared
 catches_up : pages_put (cleared (two (0 ∷ 0 ∷ 0 ∷ 0 ∷ []) (5 ∷ 6 ∷ []))) (harvested four) ≡ cleared four
 unfolding pages_put block_pages host_pages
 catches_up = refl

@@ -70,8 +70,8 @@ fn put(host: &mut HostMemory<PageBitmap>, pages: &[HarvestedPage])
     }
 }
 
-/// Puts pages into a host, in order, and marks none. Where one has no place there nothing changes, and the refusal tells the
-/// first such page.
+/// Puts pages into a host, in order, and marks none. Where one has no place there nothing changes, and the refusal
+/// tells the first such page.
 pub fn apply(host: &mut HostMemory<PageBitmap>, pages: &[HarvestedPage]) -> Result<(), ApplyError>
     ensures outcome { result ≡ applied (first_refused (lengths host.old) 0 (map page_view pages.now)) }
     ensures ok { OnOk result (host.new ≡ pages_put host.old (map page_view pages.now)) }

@@ -3,7 +3,7 @@
 ghost use Rattle.std.specs.Prelude.{◌≡◌, ◌+◌, ◌*◌, ◌<◌, ◌++◌, map, length, OnOk, OnErr, IfOk, slice_range};
 ghost use Rattle.vm_bitmaps.specs.Pages.{pages_of};
 ghost use Rattle.vm_memory_core.specs.Host.{cleared, shape};
-ghost use Rattle.host_copies.specs.Harvested.{block_pages, host_pages, harvested};
+ghost use Rattle.host_copies.specs.Harvested.{block_pages, harvested};
 ghost use Rattle.host_copies.specs.PageView.{page_view};
 
 use std::alloc::{AllocError, Global};

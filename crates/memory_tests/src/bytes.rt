@@ -24,8 +24,8 @@ const ONE_OF_TWO: GuestMemoryError = PartialBuffer {
 // What is said of the first address behind two regions.
 const PAST: GuestMemoryError = InvalidGuestAddress(GuestAddress(0x2000));
 
-// Writing 1 to 5 from an address on, and reading five bytes there over nines: both give this answer, the bytes are these
-// then, and these stand at both ends of the first block and of the second, and at the first of the third.
+// Writing 1 to 5 from an address on, and reading five bytes there over nines: both give this answer, the bytes are
+// these then, and these stand at both ends of the first block and of the second, and at the first of the third.
 fn expect_all_of_five(
     rt: &impl Abort,
     alloc: Global,

@@ -15,7 +15,8 @@ use vm_memory_core::{
 
 type Memory = IommuMemory<GuestMemoryMmap, TableIommu>;
 
-// Each mapping's I/O address, target, length and permission: the second page is cut in two, the third may only be written.
+// Each mapping's I/O address, target, length and permission: the second page is cut in two, the third may only be
+// written.
 const MAPPED: &[(u64, u64, usize, Permissions)] = &[
     (0, 0, 0x1000, Permissions::ReadWrite),
     (0x1000, 0x1000, 0x14, Permissions::Read),
@@ -100,7 +101,8 @@ fn bytes_are_read_where_they_are_mapped(rt: HostRuntime) {
     expect_same(&rt, read, Ok(None));
 }
 
-// A byte written through the window of an address marks these pages of the set of I/O pages, and the block's page or not.
+// A byte written through the window of an address marks these pages of the set of I/O pages, and the block's page or
+// not.
 fn expect_marks(
     rt: &impl Abort,
     alloc: Global,

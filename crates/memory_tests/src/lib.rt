@@ -1,4 +1,5 @@
-//! Tests of bitmaps, host memory and guest memory: worked examples, and each public function once where memory is ample.
+//! Tests of bitmaps, host memory and guest memory: worked examples, and each public function once where memory is
+//! ample.
 #![tactic(auto)]
 
 #[cfg(test)]
@@ -25,6 +26,8 @@ mod given;
 mod io_pages;
 #[cfg(test)]
 mod iommu;
+#[cfg(test)]
+mod iommu_bytes;
 #[cfg(test)]
 mod joined;
 #[cfg(test)]

@@ -3,7 +3,8 @@
 use crate::given::expect_same;
 use vm_memory_core::Permissions::{self, No, Read, ReadWrite, Write};
 
-// Of each two: whether the first allows the second and whether it allows writing, what either allows, and what both allow.
+// Of each two: whether the first allows the second and whether it allows writing, what either allows, and what both
+// allow.
 const PAIRS: &[(
     Permissions,
     Permissions,

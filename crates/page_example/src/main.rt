@@ -1,4 +1,5 @@
-//! Threads mark dirty pages while another gathers them, as migration does: each marked page is accounted for, and no other.
+//! Threads mark dirty pages while another gathers them, as migration does: each marked page is accounted for, and no
+//! other.
 #![tactic(auto)]
 
 use page_threads::{Account, ByteRange, mark_and_gather};
@@ -7,7 +8,8 @@ use std::num::NonZeroUsize;
 use std::process::ExitCode;
 use std::thread::Threads;
 
-// Guest memory of 16 MiB in pages of 4 KiB, of which four workers write 2 MiB each, one after another and half over the next.
+// Guest memory of 16 MiB in pages of 4 KiB, of which four workers write 2 MiB each, one after another and half over the
+// next.
 const MEMORY: usize = 0x1000000;
 
 const PAGE: usize = 0x1000;

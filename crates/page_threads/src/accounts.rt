@@ -1,12 +1,12 @@
 //! Markers and a gatherer on threads of their own, and the account of every page.
 
-ghost use Rattle.std.specs.Prelude.{◌≡◌, ℕ, ◌<◌, IfOk, IfSome, length, replicate, vec_len};
+ghost use Rattle.std.specs.Prelude.{◌≡◌, ℕ, ◌<◌, IfOk, length, vec_len};
 ghost use Rattle.std.specs.Int.{div_ceil};
 ghost use Rattle.std.specs.NonZero.{non_zero_usize_get};
 ghost use Rattle.std.specs.Thread.{IsSync};
 ghost use Rattle.vm_bitmaps.specs.Pages.{pages_of};
 ghost use Rattle.vm_bitmaps.specs.Words.{page_bit};
-ghost use Rattle.vm_atomic_bitmaps.specs.Counts.{no_tally, tally_of, both_of};
+ghost use Rattle.vm_atomic_bitmaps.specs.Counts.{tally_of, both_of};
 ghost use Rattle.vm_atomic_bitmaps.specs.Steps.{Settles};
 ghost use Rattle.vm_atomic_bitmaps.specs.Passes.{IsPassOf, counting};
 ghost use Rattle.page_threads.specs.Threads.{Marking, Gathering, HaveTaken, HaveSamePart, HasHalf, IsFresh, IsTakenTo, AreWordsOf, is_in_lists, NeitherLostNorInvented};
@@ -97,8 +97,9 @@ fn settle(
     }
 }
 
-/// Each list's ranges are marked by a thread of its own, while one more gathers each word as often as there are rounds. The
-/// pages that were gathered and those that are left are then just those that the lists have; without a round none was gathered.
+/// Each list's ranges are marked by a thread of its own, while one more gathers each word as often as there are rounds.
+/// The pages that were gathered and those that are left are then just those that the lists have; without a round none
+/// was gathered.
 pub fn mark_and_gather<R: Threads + Sync>(
     rt: &R,
     alloc: Global,

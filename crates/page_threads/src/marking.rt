@@ -1,6 +1,6 @@
 //! Threads that mark ranges of bytes.
 
-ghost use Rattle.std.specs.Prelude.{◌≡◌, ◌<◌, length};
+ghost use Rattle.std.specs.Prelude.{◌≡◌, ◌<◌};
 ghost use Rattle.std.specs.Thread.{IsSync};
 ghost use Rattle.vm_atomic_bitmaps.specs.Passes.{IsPassOf, counting};
 ghost use Rattle.page_threads.specs.Threads.{Marking, HaveSamePart, is_in_ranges, is_in_lists};

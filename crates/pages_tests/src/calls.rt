@@ -1,6 +1,5 @@
 //! Each call of a shared bitmap that the worked example leaves out, by the words that it leaves.
 
-ghost use Rattle.std.specs.Prelude.{◌≡◌};
 ghost use Rattle.vm_atomic_bitmaps.specs.Passes.{IsPassOf};
 
 use crate::given::{expect_left, expect_same, read, shared};

@@ -1,6 +1,6 @@
 //! Bitmaps, and steps on one of which the pass stays its own.
 
-ghost use Rattle.std.specs.Prelude.{◌≡◌, ◌<◌};
+ghost use Rattle.std.specs.Prelude.{◌<◌};
 ghost use Rattle.vm_atomic_bitmaps.specs.Passes.{IsPassOf};
 
 use std::alloc::Global;

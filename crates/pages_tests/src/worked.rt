@@ -40,8 +40,8 @@ fn expect_shared_alike(rt: &impl Abort, alloc: Global) {
     expect_same(rt, second.as_slice(), &[0]);
 }
 
-// What two passes do: a gather of the range, then page 1 marked by the second pass and gathered by the first, whether the
-// second is told of that gather, the same again, and what is left at the end.
+// What two passes do: a gather of the range, then page 1 marked by the second pass and gathered by the first, whether
+// the second is told of that gather, the same again, and what is left at the end.
 fn expect_passes(rt: &impl Abort, alloc: Global) {
     let (bitmap, mut first) = shared(rt, alloc, 1024, 128);
     bitmap.set_addr_range(&mut first, 128, 129);

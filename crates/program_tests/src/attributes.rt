@@ -2,8 +2,8 @@
 
 use crate::transcript::check;
 
-// A second for both nodes: node 1 has mode 0o40755 and two links, node 2 has size 5, mode 0o100644 and one link, and both
-// have pages of 4096 bytes. There is no third.
+// A second for both nodes: node 1 has mode 0o40755 and two links, node 2 has size 5, mode 0o100644 and one link, and
+// both have pages of 4096 bytes. There is no third.
 const TELLS_ATTRIBUTES: &[u8] = b"\
 > queue 4 0 0x100 0x200
 ok

@@ -2,8 +2,8 @@
 
 use crate::transcript::check;
 
-// A READ shows what each WRITE leaves: bytes at the end, a gap of zeros, nothing of what the file can't hold (EFBIG), as
-// many bytes as there are, and nothing where node 1 is to be written.
+// A READ shows what each WRITE leaves: bytes at the end, a gap of zeros, nothing of what the file can't hold (EFBIG),
+// as many bytes as there are, and nothing where node 1 is to be written.
 const WRITES_THE_FILE: &[u8] = b"\
 > queue 4 0 0x100 0x200
 ok

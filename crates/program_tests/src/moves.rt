@@ -4,6 +4,40 @@ use crate::transcript::{check, push};
 use std::alloc::Global;
 use std::process::Abort;
 
+// The example of an unknown opcode, and a move at its end.
+const MOVES_LAST: &[u8] = b"\
+> queue 4 0 0x100 0x200
+ok
+> region 0 0x10000
+block 0
+> write 0x1000 28000000070000000100000000000000000000000000000000000000000000000000000000000000
+ok
+> write 0 0010000000000000280000000100010000200000000000001000000002000000
+ok
+> write 0x100 000001000000
+ok
+> harvest
+page 0 0
+page 0 1
+> kick 0 1
+done 0 16 - 1
+> read 0x2000 16
+bytes 10000000daffffff0100000000000000
+> read 0x202 10
+bytes 01000000000010000000
+> harvest
+page 0 0
+page 0 2
+> move
+moved 56
+status 0
+";
+
+#[test]
+fn unknown_opcode_and_then_a_move(rt: HostRuntime) {
+    check(&rt, rt.alloc(), MOVES_LAST);
+}
+
 // A request, a move, and the next request: its element lies behind the first one's, and no page of before is marked.
 const GOES_ON_WHERE_IT_WAS: &[u8] = b"\
 > queue 4 0 0x100 0x200
@@ -125,7 +159,7 @@ fn takes_its_mappings_along(rt: HostRuntime) {
     check(&rt, rt.alloc(), TAKES_ITS_MAPPINGS_ALONG);
 }
 
-// INIT, LOOKUP, WRITE, READDIRPLUS and FORGET, one after another, with what they ask and answer.
+// LOOKUP, WRITE, READDIRPLUS, FORGET and READ, one after another, with what they ask and answer.
 const SESSION: &[u8] = b"\
 > queue 4 0 0x100 0x200
 ok
@@ -175,6 +209,11 @@ ok
 call readdir 1
 call lookup 1 61
 done 0 336 - 1
+> # Its header, and the node of its second entry
+> read 0x2000 16
+bytes 50010000000000000500000000000000
+> read 0x20b0 8
+bytes 0200000000000000
 > # FORGET of node 2, twice looked up
 > write 0x1000 30000000020000000600000000000000020000000000000000000000000000000000000000000000
 ok
@@ -203,8 +242,9 @@ call read 2
 done 0 21 - 1
 > read 0x2000 21
 bytes 150000000000000007000000000000004a656c6c6f
-> read 0x202 2
-bytes 0500
+> # The used index and elements, of which the first was written again
+> read 0x202 34
+bytes 05000000000015000000000000001800000000000000500100000000000000000000
 status 0
 ";
 

@@ -101,8 +101,8 @@ fn prints_faults_and_refusals_of_steps(rt: HostRuntime) {
     check(&rt, rt.alloc(), PRINTS_FAULTS_AND_REFUSALS_OF_STEPS);
 }
 
-// Each number of a kick's refusal: what the queue needs in memory isn't there, an index is too far, a head too great. The
-// queue is then stopped, until it is reset.
+// Each number of a kick's refusal: what the queue needs in memory isn't there, an index is too far, a head too great.
+// The queue is then stopped, until it is reset.
 const PRINTS_EACH_REFUSAL_OF_A_STEP: &[u8] = b"\
 > queue 4 0 0x10000 0x2000
 ok

@@ -76,8 +76,8 @@ fn agrees_on_a_start(rt: HostRuntime) {
     check(&rt, rt.alloc(), AGREES_ON_A_START);
 }
 
-// The entry of the file `a`: node 2, generation 0, both timeouts 1 second, ino 2, size 5, mode 0o100644, one link, pages of
-// 4096 bytes. With one byte less room the file system is asked, and nothing is stored.
+// The entry of the file `a`: node 2, generation 0, both timeouts 1 second, ino 2, size 5, mode 0o100644, one link,
+// pages of 4096 bytes. With one byte less room the file system is asked, and nothing is stored.
 const LOOKS_UP_THE_FILE: &[u8] = b"\
 > queue 4 0 0x100 0x200
 ok

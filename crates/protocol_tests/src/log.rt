@@ -34,7 +34,8 @@ fn write_texts(log: &mut Vec<u8>, texts: &[&[u8]]) -> io::Result<()> {
     Ok(())
 }
 
-/// The calls of a file system, each behind a line end: its name, who asks (user, group, process), its numbers, and then its names and bytes.
+/// The calls of a file system, each behind a line end: its name, who asks (user, group, process), its numbers, and then
+/// its names and bytes.
 #[derive(Drop)]
 pub struct Log<'a> {
     pub lines: Vec<u8>,

@@ -110,8 +110,8 @@ pub enum Told {
     Default,
     /// A good answer.
     Good,
-    /// Another good answer: no handle, a count in place of bytes, each option that there is; but no name is found, and a
-    /// file that was read then answers EIO.
+    /// Another good answer: no handle, a count in place of bytes, each option that there is; but no name is found, and
+    /// a file that was read then answers EIO.
     Other,
     /// EIO.
     Failing,

@@ -75,8 +75,8 @@ fn lengths_that_add_up_to_too_much(rt: HostRuntime) {
     expect_same(&rt, refused, Some(Error::DescriptorChainOverflow));
 }
 
-// A writer over segments of these lengths is split where `front` ends, which fills it; the other part, with so much room, is
-// given `back`, of which the first bytes are joined to the front.
+// A writer over segments of these lengths is split where `front` ends, which fills it; the other part, with so much
+// room, is given `back`, of which the first bytes are joined to the front.
 fn joined(
     rt: &impl Abort,
     alloc: Global,

@@ -145,7 +145,8 @@ impl DirectoryIterator for RootEntries {
     }
 }
 
-/// Root 1 with the file `a`, which is node 2. Calls of the kinds that it has something of its own to do for stand in the log.
+/// Root 1 with the file `a`, which is node 2. Calls of the kinds that it has something of its own to do for stand in
+/// the log.
 #[derive(Drop)]
 pub(crate) struct LoggingFiles<'a> {
     log: &'a Cell<FirstCalls>,

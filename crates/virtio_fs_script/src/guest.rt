@@ -5,7 +5,7 @@ ghost use Rattle.std.specs.Prelude.{◌≡◌, ◌≤◌, length, IfOk};
 use crate::calls::FirstCalls;
 use crate::files::LoggingFiles;
 use crate::halt::Halt;
-use fs_device::{Answer, Command, Device, Machine, Stream};
+use fs_device::{Answer, Command, Device, Machine, Migrated};
 use fs_queue::Queue;
 use std::alloc::{AllocError, Global};
 use std::cell::Cell;
@@ -75,39 +75,32 @@ impl<'a> GuestMachine<'a> {
         Ok(answers.pop().unwrap())
     }
 
-    /// The guest as it goes on over an image of its host, with a device that was restored from its record; and how many
-    /// bytes the record has. What can't be had is memory alone: a record that was just saved is one.
-    pub fn moved(mut self) -> Result<(GuestMachine<'a>, usize), Halt> {
-        let mut sink = Stream::new(Vec::new(self.alloc));
-        if self.machine.device.save(&mut sink).is_err() {
-            return Err(Halt::OutOfMemory);
-        }
-        let Answer::Copied(host) = self.perform(Command::Image)? else {
-            return Err(Halt::OutOfMemory);
-        };
+    /// The guest as it goes on on another host; and how many bytes its device's record has. An IOMMU that is on is off
+    /// on the way. A machine that stays lacks memory.
+    pub fn moved(self) -> Result<(GuestMachine<'a>, usize), Halt> {
         let GuestMachine {
             alloc,
             log,
-            machine,
+            mut machine,
         } = self;
-        let Machine { mem, device, .. } = machine;
-        let record = sink.into_inner();
-        let mut source = Stream::new(record.as_slice());
-        let files = device.into_server().into_fs();
-        let Ok(device) = Device::restore(alloc, &mut source, files, PAGE_BYTES, LIMIT) else {
+        let is_on = machine.mem.get_iommu_enabled();
+        machine.mem.set_iommu_enabled(false);
+        let Ok(moved) = machine.migrate(alloc, Vec::new(alloc)) else {
             return Err(Halt::OutOfMemory);
         };
-        if !host.holds(&mem) {
-            return Err(Halt::OutOfMemory);
-        }
-        let machine = Machine::new(host, mem, device);
+        let Migrated {
+            mut machine,
+            device_record,
+            ..
+        } = moved;
+        machine.mem.set_iommu_enabled(is_on);
         Ok((
             GuestMachine {
                 alloc,
                 log,
                 machine,
             },
-            record.len(),
+            device_record.len(),
         ))
     }
 

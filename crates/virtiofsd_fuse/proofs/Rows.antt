@@ -16,7 +16,7 @@ use Rattle.fuse_fs.specs.Calls.{FileCall, suits, Failed}
 use Rattle.fuse_requests.specs.Reading.{Reading, ◌>>◌, Faults, Sends, and_then, within, value_of, reading_of, last_name}
 use Rattle.virtiofsd_fuse.specs.Grammar.{IsFault, Replies, Asks, One, Starts, Given, given, one, row_of, meant, meaning, record_row, name_row, bytes_row, ended}
 use Rattle.fuse_requests.specs.Fronts.{counted, flags2_of}
-use Rattle.fuse_replies.specs.WholeReplies.{error_bytes, reply_bytes, versions_bytes, told, sent, data_reply, listing_answer, listing_bytes}
+use Rattle.fuse_replies.specs.WholeReplies.{error_bytes, reply_bytes, versions_bytes, with_written, whole_or_none, data_reply, listing_answer, listing_bytes}
 use Rattle.virtiofsd_fuse.specs.Grammar.{started, known_options, read_asked, read_row, init_row, ENOMEM}
 use Rattle.virtiofsd_fuse.specs.Grammar.{at_most_a_mebibyte, listxattr_row, Lists, write_row, listing_asked, listing_row, symlink_row}
 use Rattle.fuse_calls.specs.Requests.{read_call, listxattr_call, write_call, symlink_call}
@@ -125,7 +125,7 @@ pub init_short_later : (g : Given) (bytes more : List ℕ) (r : InitInCompat) (e
 init_short_later g bytes more r e h k = rw (← h, ← k) refl
 
 -- no reply
-pub silent_told : (room : ℕ) (result : Result ℕ Error) (written : List ℕ) → result ≡ Ok 0 → written ≡ [] → told result written ≡ sent room []
+pub silent_told : (room : ℕ) (result : Result ℕ Error) (written : List ℕ) → result ≡ Ok 0 → written ≡ [] → with_written result written ≡ whole_or_none room []
 silent_told room result written e w = let room_enough : 0 ≤ room = omega arith in rw (e, w, le-ltb room 0 room_enough) refl
 
 -- a request by its header
@@ -166,7 +166,7 @@ read_suits h room left r (Ok n) bytes e k = grind (arith, nat_tests, e)
 read_suits h room left r (Err n) bytes e k = grind (arith, nat_tests, k.0, k.1)
 
 -- the reply to data that has room is sent whole
-data_sent : (room unique : ℕ) (answer : Result ℕ ℕ) (bytes : List ℕ) → 16 + length bytes ≤ room → sent room (data_reply unique answer bytes) ≡ Ok (data_reply unique answer bytes)
+data_sent : (room unique : ℕ) (answer : Result ℕ ℕ) (bytes : List ℕ) → 16 + length bytes ≤ room → whole_or_none room (data_reply unique answer bytes) ≡ Ok (data_reply unique answer bytes)
 data_sent room unique (Ok k) bytes fits = sent_fits room (reply_bytes unique bytes) (rw (length_reply unique bytes) fits)
 data_sent room unique (Err k) bytes fits =
     let enough : 16 ≤ room = omega (arith, fits) in
@@ -175,7 +175,7 @@ data_sent room unique (Err k) bytes fits =
 -- a header, and the data behind it
 pub read_told : (room unique : ℕ) (h : InHeader) (left : ℕ) (r : ReadIn) (answer : Result ℕ ℕ) (front before written bytes : List ℕ) (n : ℕ)
     → length front ≡ 16 → before ≡ front ++ bytes → 16 + length bytes ≤ room → written ≡ data_reply unique answer (drop 16 before)
-    → told (Ok n) written ≡ sent room (answer_bytes unique (read_call h left r) (data_answer answer bytes))
+    → with_written (Ok n) written ≡ whole_or_none room (answer_bytes unique (read_call h left r) (data_answer answer bytes))
 read_told room unique h left r (Ok k) front before written bytes n l e fits w =
     let back : drop 16 before ≡ bytes = rw e (drop_at front bytes 16 l) in
     ap Ok (w ∙ ap (reply_bytes unique) back) ∙ sym (sent_fits room (reply_bytes unique bytes) (rw (length_reply unique bytes) fits))
@@ -231,7 +231,7 @@ listing_asks with_nodes g r more h k l =
 -- a header, and the entries behind it
 pub listing_told : (room unique n : ℕ) (with_nodes : Bool) (front before written bytes : List ℕ) (error : Option ℕ) → length front ≡ 16 → before ≡ front ++ bytes
     → 16 + length bytes ≤ room → written ≡ listing_bytes unique with_nodes (drop 16 before) error
-    → told (Ok n) written ≡ sent room (listing_bytes unique with_nodes bytes error)
+    → with_written (Ok n) written ≡ whole_or_none room (listing_bytes unique with_nodes bytes error)
 listing_told room unique n with_nodes front before written bytes error l e fits w =
     let back : drop 16 before ≡ bytes = rw e (drop_at front bytes 16 l) in
     ap Ok (w ∙ ap (λ (b : List ℕ). listing_bytes unique with_nodes b error) back) ∙ sym (data_sent room unique (listing_answer (length bytes) with_nodes error) bytes fits)

@@ -6,7 +6,7 @@ use Rattle.fuse_fs.specs.Calls.{FileCall, FileAnswer, suits, Init, Listed, Faile
 use Rattle.fuse_fs.specs.Calls.{Wants}
 use Rattle.fuse_requests.specs.Reading.{ReadFailure, Faults, Read, Reading, and_then, value_of, within}
 use Rattle.virtiofsd_fuse.specs.Grammar.{Meaning, IsFault, Replies, IsSilent, Asks, One, Starts, refused, ended, Lists}
-use Rattle.fuse_replies.specs.WholeReplies.{error_bytes, told, sent, listing_bytes}
+use Rattle.fuse_replies.specs.WholeReplies.{error_bytes, with_written, whole_or_none, listing_bytes}
 use Rattle.virtiofsd_fuse.specs.Listings.{Listing, readdir_call}
 use Rattle.virtiofsd_fuse.specs.ListingRuns.{ListRun}
 use Rattle.virtiofsd_fuse.specs.Serving.{Served, served, Setting, Serves, Handles, served_of, replied, no_reply, answer_bytes, start_options}
@@ -16,7 +16,7 @@ use Rattle.fuse_segments.specs.Errors.{is_memory}
 use Rattle.fuse_segments.specs.declared.error.Error.{Error}
 use Rattle.fuse_segments.specs.declared.error.Error.TheVariants.{EncodeMessage}
 
-told_by : (t : Bool) (calls : List FileCall) (options : ℕ) (bytes : List ℕ) (result : Result ℕ Error) (written : List ℕ) → told result written ≡ cond t (Err EncodeMessage) (Ok bytes)
+told_by : (t : Bool) (calls : List FileCall) (options : ℕ) (bytes : List ℕ) (result : Result ℕ Error) (written : List ℕ) → with_written result written ≡ cond t (Err EncodeMessage) (Ok bytes)
     → cond t (no_reply calls options (Some EncodeMessage)) (record { calls = calls; options = options; reply = bytes; fault = None }) ≡ served_of calls options result written
 told_by true calls options bytes (Ok n) written e = absurd (cc)
 told_by true calls options bytes (Err f) written e = let same : EncodeMessage ≡ f = cc in ap (λ x. no_reply calls options (Some x)) same
@@ -25,14 +25,14 @@ told_by false calls options bytes (Err f) written e = absurd (cc)
 
 -- what was told is the whole reply, or none
 pub told_replied : (room : ℕ) (calls : List FileCall) (options : ℕ) (bytes : List ℕ) (result : Result ℕ Error) (written : List ℕ)
-    → told result written ≡ sent room bytes → replied room calls options bytes ≡ served_of calls options result written
+    → with_written result written ≡ whole_or_none room bytes → replied room calls options bytes ≡ served_of calls options result written
 told_replied room calls options bytes result written e = told_by (nat_lt room (length bytes)) calls options bytes result written e
 
 memory_by : (t : Bool) (bytes : List ℕ) (e : Error) → Err e ≡ cond t (Err EncodeMessage) (Ok bytes) → lacks_memory (Err e) ≡ false
 memory_by true bytes e h = let same : e ≡ EncodeMessage = cc in rw same refl
 memory_by false bytes e h = absurd (cc)
 
-pub told_memory : (room : ℕ) (bytes : List ℕ) (result : Result ℕ Error) (written : List ℕ) → told result written ≡ sent room bytes → lacks_memory result ≡ false
+pub told_memory : (room : ℕ) (bytes : List ℕ) (result : Result ℕ Error) (written : List ℕ) → with_written result written ≡ whole_or_none room bytes → lacks_memory result ≡ false
 told_memory room bytes (Ok n) written h = refl
 told_memory room bytes (Err e) written h = memory_by (nat_lt room (length bytes)) bytes e h
 
@@ -43,7 +43,7 @@ module _ {F : Type 0} (may : F → FileCall → FileAnswer → F → Type 0) whe
 
   -- a reply that needs no call
   pub handles_reply : (s : Setting) (m : Meaning) (bytes : List ℕ) (before : F) (result : Result ℕ Error) (written : List ℕ) → m ≡ Replies bytes
-      → told result written ≡ sent s.room bytes → Handles may s m before result written s.options before
+      → with_written result written ≡ whole_or_none s.room bytes → Handles may s m before result written s.options before
   handles_reply s m bytes before result written e h =
       rw e (handled s (Replies bytes) before result written s.options before (told_memory s.room bytes result written h)
       (record { steps = []; run = refl; gives = told_replied s.room [] s.options bytes result written h }))
@@ -71,7 +71,7 @@ module _ {F : Type 0} (may : F → FileCall → FileAnswer → F → Type 0) whe
   -- one call, and its reply
   pub handles_one : (s : Setting) (m : Meaning) (unique : ℕ) (call : FileCall) (answer : FileAnswer) (before after : F) (result : Result ℕ Error)
       (written : List ℕ) (options : ℕ) → m ≡ Asks (One unique call) → IsTrue (suits call answer) → may before call answer after
-      → options ≡ options_after s.options call → told result written ≡ sent s.room (answer_bytes unique call answer)
+      → options ≡ options_after s.options call → with_written result written ≡ whole_or_none s.room (answer_bytes unique call answer)
       → Handles may s m before result written options after
   handles_one s m unique call answer before after result written options e fits step o h =
       rw (e, o) (handled s (Asks (One unique call)) before result written (options_after s.options call) after (told_memory s.room (answer_bytes unique call answer) result written h)
@@ -86,7 +86,7 @@ module _ {F : Type 0} (may : F → FileCall → FileAnswer → F → Type 0) whe
   pub handles_start : (s : Setting) (m : Meaning) (unique capable readahead : ℕ) (answer : FileAnswer) (before after : F) (result : Result ℕ Error)
       (written : List ℕ) (options : ℕ) → m ≡ Asks (Starts unique capable readahead) → IsTrue (suits (Init capable) answer)
       → may before (Init capable) answer after → options ≡ start_options s.options capable answer
-      → told result written ≡ sent s.room (start_answered s.page_size unique capable readahead answer) → Handles may s m before result written options after
+      → with_written result written ≡ whole_or_none s.room (start_answered s.page_size unique capable readahead answer) → Handles may s m before result written options after
   handles_start s m unique capable readahead answer before after result written options e fits step o h =
       rw (e, o) (handled s (Asks (Starts unique capable readahead)) before result written (start_options s.options capable answer) after
       (told_memory s.room (start_answered s.page_size unique capable readahead answer) result written h)
@@ -101,7 +101,7 @@ module _ {F : Type 0} (may : F → FileCall → FileAnswer → F → Type 0) whe
   pub handles_list : (s : Setting) (m : Meaning) (unique : ℕ) (l : Listing) (ds : List Listed) (before between after : F) (front final : List ℕ) (error : Option ℕ)
       (result : Result ℕ Error) (written : List ℕ) (options : ℕ) → m ≡ Asks (Lists unique l) → may before (readdir_call l) (Entries ds) between
       → (went : ListRun may l ds l.size (s.room - 16) between front final error after) → options ≡ s.options
-      → told result written ≡ sent s.room (listing_bytes unique l.with_nodes went.bytes error) → Handles may s m before result written options after
+      → with_written result written ≡ whole_or_none s.room (listing_bytes unique l.with_nodes went.bytes error) → Handles may s m before result written options after
   handles_list s m unique l ds before between after front final error result written options e step went o h =
       rw (e, o) (handled s (Asks (Lists unique l)) before result written s.options after
       (told_memory s.room (listing_bytes unique l.with_nodes went.bytes error) result written h)
@@ -117,7 +117,7 @@ module _ {F : Type 0} (may : F → FileCall → FileAnswer → F → Type 0) whe
   pub handles_unlisted : (s : Setting) (m : Meaning) (unique : ℕ) (l : Listing) (errno : ℕ) (before after : F)
       (result : Result ℕ Error) (written : List ℕ) (options : ℕ) → m ≡ Asks (Lists unique l) → IsTrue (suits (readdir_call l) (Failed errno))
       → may before (readdir_call l) (Failed errno) after → options ≡ s.options
-      → told result written ≡ sent s.room (error_bytes unique errno) → Handles may s m before result written options after
+      → with_written result written ≡ whole_or_none s.room (error_bytes unique errno) → Handles may s m before result written options after
   handles_unlisted s m unique l errno before after result written options e fits step o h =
       rw (e, o) (handled s (Asks (Lists unique l)) before result written s.options after
       (told_memory s.room (error_bytes unique errno) result written h)

@@ -4,5 +4,5 @@ pub mod ExamplesOfMemory
 pub mod Grammar
 pub mod ListingRuns
 pub mod Listings
-pub mod Memory
+pub mod WantOfMemory
 pub mod Serving

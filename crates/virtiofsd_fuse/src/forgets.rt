@@ -2,7 +2,7 @@
 
 ghost use Rattle.std.specs.Prelude.{◌≡◌, ◌<◌, ◌^◌, []};
 ghost use Rattle.virtiofsd_fuse.specs.Grammar.{given, batch_forget_row, forgets_asked};
-ghost use Rattle.virtiofsd_fuse.specs.Memory.{row_owns};
+ghost use Rattle.virtiofsd_fuse.specs.WantOfMemory.{row_owns};
 ghost use Rattle.virtiofsd_fuse.specs.Serving.{RowHandles, Leaves};
 
 use crate::server::Server;

@@ -3,7 +3,7 @@
 ghost use Rattle.std.specs.Prelude.{◌≡◌, ◌<◌, ◌^◌, ◌||◌, []};
 ghost use Rattle.fuse_requests.specs.Fronts.{counted_split};
 ghost use Rattle.virtiofsd_fuse.specs.Grammar.{given, new_name_row, symlink_row};
-ghost use Rattle.virtiofsd_fuse.specs.Memory.{row_owns};
+ghost use Rattle.virtiofsd_fuse.specs.WantOfMemory.{row_owns};
 ghost use Rattle.virtiofsd_fuse.specs.Serving.{RowHandles, Leaves};
 
 use crate::server::Server;

@@ -5,7 +5,7 @@ ghost use Rattle.fuse_wire.specs.Opcodes.{opcode_of};
 ghost use Rattle.fuse_replies.specs.PageSizes.{is_page_size};
 ghost use Rattle.fuse_segments.specs.Errors.{lacks_memory};
 ghost use Rattle.virtiofsd_fuse.specs.Grammar.{given, meant, meaning, unserved_row, known_options};
-ghost use Rattle.virtiofsd_fuse.specs.Memory.{takes_memory, body_takes_memory, may_take_memory};
+ghost use Rattle.virtiofsd_fuse.specs.WantOfMemory.{takes_memory, body_takes_memory, may_take_memory};
 
 use crate::session::known;
 use bitflags::Flags;
@@ -66,8 +66,8 @@ impl<F: FileSystem> Server<F> {
         }
     }
 
-    /// A server that goes on with the options that were agreed before; bits of no option are dropped. The guest's pages have
-    /// `page_size` bytes.
+    /// A server that goes on with the options that were agreed before; bits of no option are dropped. The guest's pages
+    /// have `page_size` bytes.
     pub fn resume(fs: F, page_size: u32, options: FsOptions) -> Server<F>
         requires { IsTrue (is_page_size page_size) }
         ensures fs { result.fs ≡ fs }
@@ -210,9 +210,9 @@ impl<F: FileSystem> Server<F> {
         }
     }
 
-    /// Serves one request, which is what the reader has left: what its bytes mean, by calls of the file system that may be
-    /// answered so. Answers the reply's length; the reply stands in the writer, whose free bytes are its room. A fault leaves
-    /// the writer as it was. `OutOfMemory` comes before any call.
+    /// Serves one request, which is what the reader has left: what its bytes mean, by calls of the file system that may
+    /// be answered so. Answers the reply's length; the reply stands in the writer, whose free bytes are its room. A
+    /// fault leaves the writer as it was. `OutOfMemory` comes before any call.
     #[tactic(auto, using(crate::proofs::Left::left_length, crate::proofs::Left::left_room, crate::proofs::Left::left_same))]
     pub fn handle_message(
         &mut self,

@@ -1,6 +1,6 @@
 //! A bitmap of pages whose words threads share without a lock: each call on one word is one atomic step.
 
-ghost use Rattle.std.specs.Prelude.{◌≡◌, ℕ, ◌<◌, ◌≤◌, IfOk, IfErr, IfSome, IsSome, vec_len, replicate, slice_index, length, true};
+ghost use Rattle.std.specs.Prelude.{◌≡◌, ℕ, ◌<◌, ◌≤◌, IfOk, IfErr, IfSome, IsSome, vec_len, slice_index, length, true};
 ghost use Rattle.std.specs.Int.{div_ceil};
 ghost use Rattle.std.specs.NonZero.{non_zero_usize_get};
 ghost use Rattle.std.specs.Mem.Slots.{slots_items, slots_len, IsFull};
@@ -21,8 +21,8 @@ use std::marker::Model;
 use std::num::NonZeroUsize;
 use vm_bitmaps::page_words::zeros;
 
-/// A mark for each page of some bytes (vm-memory's `AtomicBitmap`). Threads share it by `&`, each with a pass of its own.
-/// Page p is bit p mod 64 of word p / 64.
+/// A mark for each page of some bytes (vm-memory's `AtomicBitmap`). Threads share it by `&`, each with a pass of its
+/// own. Page p is bit p mod 64 of word p / 64.
 #[derive(Drop)]
 pub struct AtomicBitmap {
     pub(crate) page_size: usize,

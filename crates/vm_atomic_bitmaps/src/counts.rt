@@ -3,8 +3,8 @@
 use atomic_table::{Join, Play, Split, TableRule};
 use std::collections::LinkedList;
 
-/// What a pass has counted of one page: whether it marked it, how often it found it clear and set it (`on`), how often it
-/// found it set and cleared it (`off`), and how often all passes did the one and the other as far as it has seen.
+/// What a pass has counted of one page: whether it marked it, how often it found it clear and set it (`on`), how often
+/// it found it set and cleared it (`off`), and how often all passes did the one and the other as far as it has seen.
 pub struct Tally {
     pub marked: bool,
     pub on: u64,

@@ -5,7 +5,7 @@ use Rattle.vm_iotlb.specs.declared.permissions.Permissions.{Permissions}
 use Rattle.vm_iotlb.specs.declared.range.IotlbRange.{IotlbRange}
 use Rattle.vm_iotlb.specs.Table.{Mapping, AreSame}
 use Rattle.vm_iotlb.specs.Ranges.{mapping_in, table_kept, AreRanges, AreCanonical}
-use Rattle.vm_iotlb.proofs.RangeLemmas.{from_after, table_before, table_in, table_out}
+use Rattle.vm_iotlb.proofs.RangeLemmas.{from_after, table_before, table_inside, table_out}
 use Rattle.vm_iotlb.proofs.RunLemmas.{together_in, apart}
 
 none_some : (m : Mapping) → ◌≡◌ {A = Option Mapping} None (Some m) → ⊥
@@ -18,7 +18,7 @@ starts_after : (r : IotlbRange) (l : List IotlbRange) (s : IotlbRange) (m : List
 starts_after r l s m are is same =
     elim (cases_lt r.start s.start) [
       | inl low ↦
-          let here = table_in r l r.start (omega arith) (omega (arith, are.0.0)) in
+          let here = table_inside r l r.start (omega arith) (omega (arith, are.0.0)) in
           let there = table_before (s ∷ m) s.start r.start is (omega arith) low in
           absurd (none_some (mapping_in r r.start) (sym there ∙ sym (same r.start) ∙ here))
       | inr high ↦ high
@@ -30,10 +30,10 @@ ends_after r l s m are is same start =
       | inl low ↦
           let up : r.start < r.end = are.0.0 in
           let last : r.end - 1 + 1 ≡ r.end = omega arith in
-          let left = table_in r l (r.end - 1) (omega arith) (omega arith) in
-          let right = table_in s m (r.end - 1) (omega arith) (omega arith) in
+          let left = table_inside r l (r.end - 1) (omega arith) (omega arith) in
+          let right = table_inside s m (r.end - 1) (omega arith) (omega arith) in
           let this : Some (mapping_in r (r.end - 1)) ≡ Some (mapping_in s (r.end - 1)) = sym left ∙ same (r.end - 1) ∙ right in
-          let next : table_kept l r.end ≡ Some (mapping_in s r.end) = sym (table_out r l r.end (omega arith)) ∙ same r.end ∙ table_in s m r.end (omega arith) low in
+          let next : table_kept l r.end ≡ Some (mapping_in s r.end) = sym (table_out r l r.end (omega arith)) ∙ same r.end ∙ table_inside s m r.end (omega arith) low in
           let off = rw (this, next) at (apart r l (r.end - 1) r.end are last refl) in
           let on = rw last at (together_in s (r.end - 1) (omega arith)) in
           absurd (true≢false (sym on ∙ off))
@@ -57,8 +57,8 @@ heads_same r l s m are is same =
     let under = ends_after r l s m are is same start in
     let over = ends_after s m r l is are back (sym start) in
     let end : r.end ≡ s.end = omega arith in
-    let left = table_in r l r.start (omega arith) (omega (arith, are.0.0)) in
-    let right = table_in s m r.start (omega arith) (omega (arith, are.0.0)) in
+    let left = table_inside r l r.start (omega arith) (omega (arith, are.0.0)) in
+    let right = table_inside s m r.start (omega arith) (omega (arith, are.0.0)) in
     let some : Some (mapping_in r r.start) ≡ Some (mapping_in s r.start) = sym left ∙ same r.start ∙ right in
     let one : mapping_in r r.start ≡ mapping_in s r.start = cc in
     let target = ap (λ (m : Mapping). m.target) one in
@@ -68,8 +68,8 @@ heads_same r l s m are is same =
 pub canonical : AreCanonical
 unfolding table_kept
 canonical [] [] are is same = refl
-canonical [] (s ∷ m) are is same = absurd (none_some (mapping_in s s.start) (same s.start ∙ table_in s m s.start (omega arith) (omega (arith, is.0.0))))
-canonical (r ∷ l) [] are is same = absurd (none_some (mapping_in r r.start) (sym (same r.start) ∙ table_in r l r.start (omega arith) (omega (arith, are.0.0))))
+canonical [] (s ∷ m) are is same = absurd (none_some (mapping_in s s.start) (same s.start ∙ table_inside s m s.start (omega arith) (omega (arith, is.0.0))))
+canonical (r ∷ l) [] are is same = absurd (none_some (mapping_in r r.start) (sym (same r.start) ∙ table_inside r l r.start (omega arith) (omega (arith, are.0.0))))
 canonical (r ∷ l) (s ∷ m) are is same =
     let heads = heads_same r l s m are is same in
     let tails = canonical l m are.2 is.2 (tails_same r l s m are is same heads.1) in

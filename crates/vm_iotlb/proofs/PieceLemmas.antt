@@ -1,8 +1,8 @@
 -- what a look-up over ranges answers
-use Rattle.std.proofs.Common.{◌≡◌, ℕ, zero, suc, true, false, ◌+◌, ◌-◌, ◌<◌, ◌≤◌, List, [], ◌∷◌, ◌++◌, append_assoc, length, map, get_or, drop, leb, refl, ap, sym, ◌∙◌, arith, Some, None, Option, inl, inr}
+use Rattle.std.proofs.Common.{◌≡◌, ℕ, zero, suc, true, false, ◌+◌, ◌-◌, ◌<◌, ◌≤◌, ◌^◌, List, [], ◌∷◌, ◌++◌, append_assoc, length, map, get_or, drop, leb, refl, ap, sym, ◌∙◌, arith, Some, None, Option, inl, inr}
 use Rattle.std.proofs.Math.Numerals.{add-one}
 use Rattle.std.proofs.Math.Seq.{drop-cons}
-use Rattle.std.specs.Prelude.{nat_lt, if◌then◌else◌, max, min}
+use Rattle.std.specs.Prelude.{nat_lt, if◌then◌else◌, max, min, MatchOption}
 use Rattle.std.specs.List.{range_with_len}
 use Rattle.std.proofs.lemmas.List.{append-nil}
 use Rattle.std.proofs.lemmas.Bool.{cases_lt, cases_Bool, and_parts, eqb-true, false≢true, lt-ltb, le-ltb, lt-leb, le-leb}
@@ -10,11 +10,12 @@ use Rattle.vm_iotlb.specs.declared.permissions.Permissions.{Permissions}
 use Rattle.vm_iotlb.specs.declared.permissions.Permissions.TheVariants.{No}
 use Rattle.vm_iotlb.specs.declared.range.IotlbRange.{IotlbRange}
 use Rattle.vm_iotlb.specs.declared.iova.IovaRange.{IovaRange}
+use Rattle.vm_iotlb.specs.declared.iova.MappedRange.{MappedRange}
 use Rattle.vm_iotlb.specs.Table.{Mapping, Table, allows}
 use Rattle.vm_iotlb.specs.Ranges.{mapping_in, table_kept, AreRanges, EndsAbove, Agree}
 use Rattle.vm_iotlb.specs.Pieces.{Cover, pieces_in}
 use Rattle.vm_iotlb.specs.AddressRuns.{may_pass, target_of, may_all, go_together, run_of, led_by, runs, missing, lacking, piece_of, pieces, addresses_joined, targets, between}
-use Rattle.vm_iotlb.proofs.RangeLemmas.{table_before, table_in}
+use Rattle.vm_iotlb.proofs.RangeLemmas.{table_before, table_inside}
 use Rattle.vm_iotlb.proofs.RunLemmas.{runs_one, runs_more, gap_run, range_run, agree_rest, missing_run, missing_skip, lacking_run, lacking_skip, lacking_gap, pieces_run, nothing_left, may_stop, may_range}
 
 -- the ranges behind one that ends at an address or above it
@@ -49,7 +50,7 @@ cover t access (r ∷ l) a e are first order agree all = λ some.
       | inl under ↦ absurd (stopped t access a e some (agree a (omega arith) some ∙ table_before (r ∷ l) r.start a are (omega arith) under) all)
       | inr high ↦ high
     ] in
-    let held : t a ≡ Some (mapping_in r a) = agree a (omega arith) some ∙ table_in r l a low first in
+    let held : t a ≡ Some (mapping_in r a) = agree a (omega arith) some ∙ table_inside r l a low first in
     let may_go : may_pass access (t a) ≡ true = may_head t access a (e - a) (omega arith) all in
     let allowed : allows r.perm access ≡ true = rw held at may_go in
     let next = may_range t access r l a (min r.end e) e agree low (omega arith) (omega arith) (omega arith) allowed in
@@ -66,7 +67,7 @@ pieces_cover t (r ∷ l) a e are cov order agree =
           let low : r.start ≤ a = held.0 in
           let high : a < r.end = held.1 in
           let run = range_run t r l a (min r.end e) e are agree low (omega arith) (omega arith) (omega arith) (λ more. omega arith) in
-          let to : t a ≡ Some (mapping_in r a) = agree a (omega arith) some ∙ table_in r l a low high in
+          let to : t a ≡ Some (mapping_in r a) = agree a (omega arith) some ∙ table_inside r l a low high in
           let tail = pieces_cover t l (min r.end e) e are.2 held.3 (omega arith) (agree_rest t r l a (min r.end e) e agree (omega arith) (λ more. omega arith)) in
           let all = pieces_run t a (min r.end e) (min r.end e - a) (e - a) (e - min r.end e) (mapping_in r a) run to in
           rw (test, tail) (sym all)
@@ -132,7 +133,7 @@ gap_part t access r l a s e are agree order start =
     elim (cases_lt a s) [
       | inl some ↦
           let none : (x : ℕ) → a ≤ x → x < s → t x ≡ None = λ x from to. agree x from (omega arith) ∙ table_before (r ∷ l) r.start x are (omega arith) (omega arith) in
-          let run = gap_run t a s e some (omega arith) none (λ more. (mapping_in r s, agree s (omega arith) more ∙ table_in r l s (omega arith) (omega (arith, are.0.0)))) in
+          let run = gap_run t a s e some (omega arith) none (λ more. (mapping_in r s, agree s (omega arith) more ∙ table_inside r l s (omega arith) (omega (arith, are.0.0)))) in
           let this = none a (omega arith) some in
           (rw (between_some a s some) (missing_run t a s (s - a) (e - a) (e - s) run this), lacking_gap t access a s (s - a) (e - a) (e - s) run this)
       | inr none ↦ let same : s ≡ a = omega arith in (rw (between_none a s none, same) refl, rw same refl)
@@ -144,13 +145,28 @@ pub range_part : (t : Table) (access : Permissions) (r : IotlbRange) (l : List I
     (allows r.perm access ≡ false → lacking t access a (e - a) ≡ between a p ++ lacking t access p (e - p))
 range_part t access r l a p e are agree some low high end =
     let run = range_run t r l a p e are agree low (omega arith) (omega arith) (omega arith) (λ more. omega arith) in
-    let this = agree a (omega arith) some ∙ table_in r l a low high in (
+    let this = agree a (omega arith) some ∙ table_inside r l a low high in (
       missing_skip t a p (p - a) (e - a) (e - p) (mapping_in r a) run this,
       λ all. lacking_skip t access a p (p - a) (e - a) (e - p) (mapping_in r a) run this all,
       λ denied. rw (between_some a p (omega arith)) (lacking_run t access a p (p - a) (e - a) (e - p) (mapping_in r a) run this denied),
     )
 
 -- ---- an iterator at its end
+
+-- some addresses have a piece
+pub no_pieces : (t : Table) (a n : ℕ) → 0 < n → pieces t a n ≡ [] → ⊥
+unfolding pieces
+no_pieces t a zero some none = absurd (omega arith)
+no_pieces t a (suc n) some none =
+    let head = runs_head t a n in
+    let same : piece_of t (run_of a head.0) ∷ map (piece_of t) head.1 ≡ [] = sym (ap (map (piece_of t)) head.2) ∙ none in
+    absurd (cc)
+
+-- the first of what an iterator has left, where something is left
+pub first_given : (r : Option MappedRange) (s t all : List MappedRange) → MatchOption r ((s ≡ []) × (t ≡ [])) (λ x. (s ≡ x ∷ t) × (x.base.0 + x.length < 2 ^ 64)) → s ≡ all → (all ≡ [] → ⊥) →
+    MatchOption r ⊥ (λ p. (rest : List MappedRange) × (all ≡ p ∷ rest))
+first_given None s t all gives is some = some (sym is ∙ gives.0)
+first_given (Some p) s t all gives is some = (t, sym is ∙ gives.0)
 
 pub none_in : (l : List IotlbRange) (a e : ℕ) → e ≤ a → pieces_in l a e ≡ []
 none_in [] a e h = refl

@@ -144,9 +144,9 @@ pub ends_fit : (l : List IotlbRange) (e : ℕ) → AreRanges l → e ≡ 2 ^ 64 
 ends_fit [] e are h = tt
 ends_fit (r ∷ l) e are h = (omega (arith, are.0.1), ends_fit l e are.2 h)
 
-pub table_in : (r : IotlbRange) (l : List IotlbRange) (a : ℕ) → r.start ≤ a → a < r.end → table_kept (r ∷ l) a ≡ Some (mapping_in r a)
+pub table_inside : (r : IotlbRange) (l : List IotlbRange) (a : ℕ) → r.start ≤ a → a < r.end → table_kept (r ∷ l) a ≡ Some (mapping_in r a)
 unfolding table_kept
-table_in r l a low high = let test : has r a ≡ true = has_in r a low high in rw test refl
+table_inside r l a low high = let test : has r a ≡ true = has_in r a low high in rw test refl
 
 pub table_out : (r : IotlbRange) (l : List IotlbRange) (a : ℕ) → r.end ≤ a → table_kept (r ∷ l) a ≡ table_kept l a
 unfolding table_kept

@@ -9,7 +9,7 @@ use Rattle.vm_iotlb.specs.declared.iova.IovaRange.{IovaRange}
 use Rattle.vm_iotlb.specs.Table.{Mapping, Table, allows}
 use Rattle.vm_iotlb.specs.Ranges.{has, mapping_in, table_kept, AreRanges, Agree}
 use Rattle.vm_iotlb.specs.AddressRuns.{may_pass, may_all, go_together, run_of, runs, missing, lacking, pieces}
-use Rattle.vm_iotlb.proofs.RangeLemmas.{has_in, table_before, table_in, table_out}
+use Rattle.vm_iotlb.proofs.RangeLemmas.{has_in, table_before, table_inside, table_out}
 
 -- ---- runs of any table
 
@@ -106,12 +106,12 @@ pub range_run : (t : Table) (r : IotlbRange) (l : List IotlbRange) (a b e : ℕ)
 range_run t r l a b e are agree low some within most whole =
     runs_step t (b - a) a b (e - a) (e - b) (omega arith) (omega arith) (omega arith)
     (λ x from to.
-    let this = agree x from (omega arith) ∙ table_in r l x (omega arith) (omega arith) in
-    let next = agree (x + 1) (omega arith) (omega arith) ∙ table_in r l (x + 1) (omega arith) (omega arith) in
+    let this = agree x from (omega arith) ∙ table_inside r l x (omega arith) (omega arith) in
+    let next = agree (x + 1) (omega arith) (omega arith) ∙ table_inside r l (x + 1) (omega arith) (omega arith) in
     rw (this, next) (together_in r x (omega arith)))
     (λ x last rest.
     let end : b ≡ r.end = whole (omega arith) in
-    let this = agree x (omega arith) (omega arith) ∙ table_in r l x (omega arith) (omega arith) in
+    let this = agree x (omega arith) (omega arith) ∙ table_inside r l x (omega arith) (omega arith) in
     let next = agree b (omega arith) (omega arith) ∙ table_out r l b (omega arith) in
     rw (this, next) (apart r l x b are last end))
 
@@ -167,4 +167,4 @@ pub may_range : (t : Table) (access : Permissions) (r : IotlbRange) (l : List Io
     may_all t access a (e - a) ≡ may_all t access b (e - b)
 may_range t access r l a b e agree low order within most all =
     may_rest t access (b - a) a b (e - a) (e - b) (omega arith) (omega arith)
-    (λ x from to. let this = agree x from (omega arith) ∙ table_in r l x (omega arith) (omega arith) in rw this all)
+    (λ x from to. let this = agree x from (omega arith) ∙ table_inside r l x (omega arith) (omega arith) in rw this all)

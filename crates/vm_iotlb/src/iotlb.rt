@@ -1,11 +1,14 @@
 //! An IOMMU's table (vm-memory's `Iotlb`).
 
-ghost use Rattle.std.specs.Prelude.{◌≡◌, ℕ, ◌≤◌, [], IfOk};
+ghost use Rattle.std.specs.Prelude.{◌≡◌, ℕ, ◌+◌, ◌<◌, ◌≤◌, ◌^◌, List, [], ◌∷◌, IfOk, MatchOption, true};
 ghost use Rattle.vm_iotlb.specs.Changes.{InvalidatesMapping, SetsMapping};
 ghost use Rattle.vm_iotlb.specs.Ranges.{AreRanges, EndsAbove, table_kept};
-ghost use Rattle.vm_iotlb.specs.AddressRuns.{LooksUp};
+ghost use Rattle.vm_iotlb.specs.AddressRuns.{LooksUp, may_all, pieces};
+ghost use Rattle.vm_iotlb.specs.declared.iova.MappedRange.{MappedRange};
+ghost use Rattle.vm_iotlb.specs.declared.permissions.Permissions.{Permissions};
 
 use crate::error::IommuError;
+use crate::iova::MappedRange;
 use crate::lookup::{IotlbIterator, LookupError, fails_among, is_covered, misses_whole};
 use crate::permissions::Permissions;
 use crate::range::{IotlbRange, with_range, without};
@@ -119,6 +122,7 @@ impl Iotlb {
     }
 
     /// What `length` I/O addresses are mapped to, if each may be accessed so. Only one that fails takes memory.
+    #[inline]
     pub fn lookup(
         &self,
         iova: GuestAddress,
@@ -141,7 +145,21 @@ impl Iotlb {
         }
     }
 
+    /// What the first of `length` I/O addresses is mapped to, with those after it that are mapped as one with it, where
+    /// each of them may be accessed.
+    #[inline]
+    pub fn first_piece(&self, iova: GuestAddress, length: usize) -> Option<MappedRange>
+        requires some { 0 < length }
+        requires ends { iova.0 + length < 2 ^ 64 }
+        requires mapped { (access : Permissions) × (may_all (table_kept self.now) access iova.0 length ≡ true) }
+        ensures { MatchOption result ⊥ (λ p. (rest : List MappedRange) × (pieces (table_kept self.now) iova.0 length ≡ p ∷ rest)) }
+    {
+        let end = iova.0 + length as u64;
+        IotlbIterator::over(self.ranges_from(iova.0), iova.0, end).next()
+    }
+
     // The ranges that end above an address.
+    #[inline]
     fn ranges_from(&self, iova: u64) -> &[IotlbRange]
         ensures ranges { AreRanges result.now }
         ensures table { (a : ℕ) → iova ≤ a → table_kept self.now a ≡ table_kept result.now a }

@@ -1,11 +1,11 @@
 //! What a look-up answers.
 
-ghost use Rattle.std.specs.Prelude.{◌≡◌, ℕ, ◌+◌, ◌-◌, ◌≤◌, ◌<◌, ◌^◌, ◌++◌, ◌∷◌, [], IfOk, OnOk, MatchOption, length};
+ghost use Rattle.std.specs.Prelude.{◌≡◌, ◌+◌, ◌^◌, ◌-◌, ◌≤◌, ◌<◌, ◌++◌, ◌∷◌, [], IfOk, OnOk, MatchOption, length};
 ghost use Rattle.std.specs.Iterator.{at_most};
 ghost use Rattle.vm_iotlb.specs.Ranges.{Agree, AreRanges, EndsAbove};
 ghost use Rattle.vm_iotlb.specs.Table.{Table};
 ghost use Rattle.vm_iotlb.specs.Pieces.{Cover, pieces_in};
-ghost use Rattle.vm_iotlb.specs.AddressRuns.{IsMissedWhole, between, lacking, may_all, missing, run_of};
+ghost use Rattle.vm_iotlb.specs.AddressRuns.{IsMissedWhole, between, lacking, may_all, missing};
 
 use crate::iova::{IovaRange, MappedRange};
 use crate::permissions::Permissions;
@@ -56,6 +56,7 @@ impl<'a> Model for IotlbIterator<'a> {
 
 impl<'a> IotlbIterator<'a> {
     // The pieces of the addresses from one up to another.
+    #[inline]
     pub(crate) fn over(ranges: &'a [IotlbRange], iova: u64, end: u64) -> IotlbIterator<'a>
         requires { Cover ranges.now iova end }
         ensures { result ≡ pieces_in ranges.now iova end }
@@ -84,10 +85,11 @@ impl<'a> Default for IotlbIterator<'a> {
 impl<'a> Iterator for IotlbIterator<'a> {
     type Item = MappedRange;
 
-    ghost next_gives = { λ s r t. MatchOption r ((s ≡ []) × (t ≡ [])) (λ x. s ≡ x ∷ t) };
+    ghost next_gives = { λ s r t. MatchOption r ((s ≡ []) × (t ≡ [])) (λ x. (s ≡ x ∷ t) × (x.base.0 + x.length < 2 ^ 64)) };
 
     ghost remaining = { λ s. at_most (length s) };
 
+    #[inline]
     fn next(&mut self) -> Option<MappedRange> {
         if self.end <= self.next {
             return None;
@@ -109,6 +111,7 @@ impl<'a> Iterator for IotlbIterator<'a> {
 }
 
 // Whether an access may go through each address from one up to another.
+#[inline]
 pub(crate) fn is_covered(ranges: &[IotlbRange], iova: u64, end: u64, access: Permissions) -> bool
     requires ranges { AreRanges ranges.now }
     requires first { EndsAbove iova ranges.now }

@@ -5,13 +5,15 @@ use Rattle.std.specs.List.{zip}
 use Rattle.std.proofs.lemmas.Bool.{cases_eq}
 use Rattle.std.proofs.lemmas.Bool.Decides.{nat_tests}
 use Rattle.vm_values.specs.declared.address.GuestAddress.{GuestAddress}
-use Rattle.vm_iotlb.specs.declared.permissions.Permissions.TheVariants.{Read}
+use Rattle.vm_iotlb.specs.declared.permissions.Permissions.{Permissions}
+use Rattle.vm_iotlb.specs.declared.permissions.Permissions.TheVariants.{Read, Write}
 use Rattle.vm_memory_core.specs.Host.{Host, Place}
 use Rattle.vm_memory_core.specs.Window.{byte_in, put_all}
 use Rattle.vm_memory_core.specs.Access.{count_of, in_full, read_over, written_over, ReadsSome, ReadsAll, WritesSome, WritesAll}
 use Rattle.vm_memory.specs.Layout.{Region, place}
 use Rattle.vm_memory.specs.Memory.{Memory, memory_of, circular, located, location, reached, byte, stored_all, transferred}
-use Rattle.vm_memory.specs.Bytes.{and_after, places_at, unless_none, reached_by}
+use Rattle.vm_memory.specs.Bytes.{MayReach, and_after, places_at, reached_by, reached_from, unless_none}
+use Rattle.vm_memory.specs.RangeAnswers.{CannotGive}
 use Rattle.vm_memory.specs.ReachedBytes.{length-places_at}
 use Rattle.vm_memory.specs.declared.error.GuestMemoryError.{GuestMemoryError}
 use Rattle.vm_memory.specs.declared.error.GuestMemoryError.TheVariants.{InvalidGuestAddress, PartialBuffer}
@@ -88,56 +90,97 @@ put_places h addr n [] bytes = elim (n == 0) as (λ b. h ≡ written_over h (if 
 put_places h addr n (p ∷ ps) bytes = refl
 
 -- what was stored
-pub stored-reached : (l : List Region) (old new : Host) (addr : GuestAddress) (n : ℕ) (xs bytes : List ℕ) → memory_of new l ≡ stored_all (memory_of old l) (zip (take (reached (place l) xs) xs) bytes) →
-    new ≡ written_over old (unless_none addr n (places_at (place l) xs)) bytes
-stored-reached l old new addr n xs bytes e =
+pub stored-placed : (l : List Region) (old new : Host) (xs bytes : List ℕ) → memory_of new l ≡ stored_all (memory_of old l) (zip (take (reached (place l) xs) xs) bytes) →
+    new ≡ put_all old (zip (places_at (place l) xs) bytes)
+stored-placed l old new xs bytes e =
     ap (λ (m : Memory). m.host) (e ∙ stored_all-zip (take (reached (place l) xs) xs) (places_at (place l) xs) bytes l old (located-reached xs (place l)))
-    ∙ put_places old addr n (places_at (place l) xs) bytes
 
-places_le : (l : List Region) (addr n : ℕ) → length (places_at (place l) (circular addr n)) ≤ n
-places_le l addr n =
-    let all = length-places_at (circular addr n) (place l) in
+places_le : (f : Where) (addr n : ℕ) → length (places_at f (circular addr n)) ≤ n
+places_le f addr n =
+    let all = length-places_at (circular addr n) f in
     let count = length-circular n addr in
     omega (arith, all, count)
 
--- ---- the four accesses
+abbrev Reaching : Type 1
+Reaching = Result (List Place) GuestMemoryError → Type 0
+
+-- ---- the four accesses to a memory
+
+pub reads_some_of : (m : Memory) (Reaches : Reaching) (addr : GuestAddress) (old new : List ℕ) (done : ℕ) (result : Result ℕ GuestMemoryError) → Reaches (reached_from m Read addr (length old)) →
+    done ≡ reached (location m Read) (circular addr.0 (length old)) → new ≡ map (byte m) (take done (circular addr.0 (length old))) ++ drop done old → result ≡ asked addr (length old) done →
+    ReadsSome Reaches m.host old new result
+reads_some_of m Reaches addr old new done result may count got is =
+    let xs : List ℕ = circular addr.0 (length old) in
+    let f : Where = location m Read in
+    record {
+      places = reached_from m Read addr (length old);
+      may = may;
+      count = is ∙ some-count addr (length old) done (places_at f xs) (count ∙ sym (count-places_at xs f)) (places_le f addr.0 (length old));
+      bytes = got ∙ ap (λ k. map (byte m) (take k xs) ++ drop k old) count ∙ read-reached m addr (length old) xs old;
+    }
+
+pub reads_all_of : (m : Memory) (Reaches : Reaching) (addr : GuestAddress) (old new : List ℕ) (done : ℕ) (result : Result (Unit {0}) GuestMemoryError) → Reaches (reached_from m Read addr (length old)) →
+    done ≡ reached (location m Read) (circular addr.0 (length old)) → new ≡ map (byte m) (take done (circular addr.0 (length old))) ++ drop done old → result ≡ transferred addr (length old) done →
+    ReadsAll Reaches (λ n k. PartialBuffer n k) m.host old new result
+reads_all_of m Reaches addr old new done result may count got is =
+    let xs : List ℕ = circular addr.0 (length old) in
+    let f : Where = location m Read in
+    record {
+      places = reached_from m Read addr (length old);
+      may = may;
+      outcome = is ∙ all-count addr (length old) done (places_at f xs) (count ∙ sym (count-places_at xs f)) (places_le f addr.0 (length old));
+      bytes = got ∙ ap (λ k. map (byte m) (take k xs) ++ drop k old) count ∙ read-reached m addr (length old) xs old;
+    }
+
+pub writes_some_of : (m : Memory) (Reaches : Reaching) (new : Host) (addr : GuestAddress) (bytes : List ℕ) (done : ℕ) (result : Result ℕ GuestMemoryError) → Reaches (reached_from m Write addr (length bytes)) →
+    done ≡ reached (location m Write) (circular addr.0 (length bytes)) → new ≡ put_all m.host (zip (places_at (location m Write) (circular addr.0 (length bytes))) bytes) → result ≡ asked addr (length bytes) done →
+    WritesSome Reaches bytes m.host new result
+writes_some_of m Reaches new addr bytes done result may count put is =
+    let xs : List ℕ = circular addr.0 (length bytes) in
+    let f : Where = location m Write in
+    record {
+      places = reached_from m Write addr (length bytes);
+      may = may;
+      count = is ∙ some-count addr (length bytes) done (places_at f xs) (count ∙ sym (count-places_at xs f)) (places_le f addr.0 (length bytes));
+      stored = put ∙ put_places m.host addr (length bytes) (places_at f xs) bytes;
+    }
+
+pub writes_all_of : (m : Memory) (Reaches : Reaching) (new : Host) (addr : GuestAddress) (bytes : List ℕ) (done : ℕ) (result : Result (Unit {0}) GuestMemoryError) →
+    Reaches (reached_from m Write addr (length bytes)) → done ≡ reached (location m Write) (circular addr.0 (length bytes)) →
+    new ≡ put_all m.host (zip (places_at (location m Write) (circular addr.0 (length bytes))) bytes) → result ≡ transferred addr (length bytes) done →
+    WritesAll Reaches (λ n k. PartialBuffer n k) bytes m.host new result
+writes_all_of m Reaches new addr bytes done result may count put is =
+    let xs : List ℕ = circular addr.0 (length bytes) in
+    let f : Where = location m Write in
+    record {
+      places = reached_from m Write addr (length bytes);
+      may = may;
+      outcome = is ∙ all-count addr (length bytes) done (places_at f xs) (count ∙ sym (count-places_at xs f)) (places_le f addr.0 (length bytes));
+      stored = put ∙ put_places m.host addr (length bytes) (places_at f xs) bytes;
+    }
+
+-- ---- the same of addresses that aren't translated
 
 pub reads_some : (l : List Region) (h : Host) (addr : GuestAddress) (old new : List ℕ) (done : ℕ) (result : Result ℕ GuestMemoryError) → done ≡ reached (place l) (circular addr.0 (length old)) →
     new ≡ map (byte (memory_of h l)) (take done (circular addr.0 (length old))) ++ drop done old → result ≡ asked addr (length old) done →
     ReadsSome (λ places. places ≡ reached_by l addr (length old)) h old new result
 reads_some l h addr old new done result count got is =
-    let xs : List ℕ = circular addr.0 (length old) in
-    record {
-      places = reached_by l addr (length old);
-      may = refl;
-      count = is ∙ some-count addr (length old) done (places_at (place l) xs) (count ∙ sym (count-places_at xs (place l))) (places_le l addr.0 (length old));
-      bytes = got ∙ ap (λ k. map (byte (memory_of h l)) (take k xs) ++ drop k old) count ∙ read-reached (memory_of h l) addr (length old) xs old;
-    }
+    reads_some_of (memory_of h l) (λ places. places ≡ reached_by l addr (length old)) addr old new done result refl count got is
 
 pub reads_all : (l : List Region) (h : Host) (addr : GuestAddress) (old new : List ℕ) (result : Result (Unit {0}) GuestMemoryError) →
     (let xs = circular addr.0 (length old) in let n = reached (place l) xs in new ≡ map (byte (memory_of h l)) (take n xs) ++ drop n old) →
     result ≡ transferred addr (length old) (reached (place l) (circular addr.0 (length old))) →
     ReadsAll (λ places. places ≡ reached_by l addr (length old)) (λ n k. PartialBuffer n k) h old new result
 reads_all l h addr old new result got is =
-    let xs : List ℕ = circular addr.0 (length old) in
-    record {
-      places = reached_by l addr (length old);
-      may = refl;
-      outcome = is ∙ all-count addr (length old) (reached (place l) xs) (places_at (place l) xs) (sym (count-places_at xs (place l))) (places_le l addr.0 (length old));
-      bytes = got ∙ read-reached (memory_of h l) addr (length old) xs old;
-    }
+    reads_all_of (memory_of h l) (λ places. places ≡ reached_by l addr (length old)) addr old new (reached (place l) (circular addr.0 (length old))) result refl refl got is
 
 pub writes_some : (l : List Region) (old new : Host) (addr : GuestAddress) (bytes : List ℕ) (done : ℕ) (result : Result ℕ GuestMemoryError) → done ≡ reached (place l) (circular addr.0 (length bytes)) →
     memory_of new l ≡ stored_all (memory_of old l) (zip (take done (circular addr.0 (length bytes))) bytes) → result ≡ asked addr (length bytes) done →
     WritesSome (λ places. places ≡ reached_by l addr (length bytes)) bytes old new result
 writes_some l old new addr bytes done result count put is =
     let xs : List ℕ = circular addr.0 (length bytes) in
-    record {
-      places = reached_by l addr (length bytes);
-      may = refl;
-      count = is ∙ some-count addr (length bytes) done (places_at (place l) xs) (count ∙ sym (count-places_at xs (place l))) (places_le l addr.0 (length bytes));
-      stored = stored-reached l old new addr (length bytes) xs bytes (put ∙ ap (λ k. stored_all (memory_of old l) (zip (take k xs) bytes)) count);
-    }
+    writes_some_of (memory_of old l) (λ places. places ≡ reached_by l addr (length bytes)) new addr bytes done result refl count
+    (stored-placed l old new xs bytes (put ∙ ap (λ k. stored_all (memory_of old l) (zip (take k xs) bytes)) count)) is
 
 pub writes_all : (l : List Region) (old new : Host) (addr : GuestAddress) (bytes : List ℕ) (result : Result (Unit {0}) GuestMemoryError) →
     (let xs = circular addr.0 (length bytes) in memory_of new l ≡ stored_all (memory_of old l) (zip (take (reached (place l) xs) xs) bytes)) →
@@ -145,9 +188,22 @@ pub writes_all : (l : List Region) (old new : Host) (addr : GuestAddress) (bytes
     WritesAll (λ places. places ≡ reached_by l addr (length bytes)) (λ n k. PartialBuffer n k) bytes old new result
 writes_all l old new addr bytes result put is =
     let xs : List ℕ = circular addr.0 (length bytes) in
-    record {
-      places = reached_by l addr (length bytes);
-      may = refl;
-      outcome = is ∙ all-count addr (length bytes) (reached (place l) xs) (places_at (place l) xs) (sym (count-places_at xs (place l))) (places_le l addr.0 (length bytes));
-      stored = stored-reached l old new addr (length bytes) xs bytes put;
-    }
+    writes_all_of (memory_of old l) (λ places. places ≡ reached_by l addr (length bytes)) new addr bytes (reached (place l) xs) result refl refl (stored-placed l old new xs bytes put) is
+
+-- ---- accesses that are refused
+
+pub refused_read : (m : Memory) (access : Permissions) (addr : GuestAddress) (old : List ℕ) (e : GuestMemoryError) → CannotGive m access addr.0 (length old) e →
+    (result : Result ℕ GuestMemoryError) → result ≡ Err e → ReadsSome (MayReach m access addr (length old)) m.host old old result
+refused_read m access addr old e cannot result is = record { places = Err e; may = inr cannot; count = is; bytes = refl }
+
+pub refused_read_slice : (m : Memory) (access : Permissions) (addr : GuestAddress) (old : List ℕ) (e : GuestMemoryError) → CannotGive m access addr.0 (length old) e →
+    (result : Result (Unit {0}) GuestMemoryError) → result ≡ Err e → ReadsAll (MayReach m access addr (length old)) (λ n k. PartialBuffer n k) m.host old old result
+refused_read_slice m access addr old e cannot result is = record { places = Err e; may = inr cannot; outcome = is; bytes = refl }
+
+pub refused_write : (m : Memory) (access : Permissions) (addr : GuestAddress) (bytes : List ℕ) (e : GuestMemoryError) → CannotGive m access addr.0 (length bytes) e →
+    (result : Result ℕ GuestMemoryError) → result ≡ Err e → WritesSome (MayReach m access addr (length bytes)) bytes m.host m.host result
+refused_write m access addr bytes e cannot result is = record { places = Err e; may = inr cannot; count = is; stored = refl }
+
+pub refused_write_slice : (m : Memory) (access : Permissions) (addr : GuestAddress) (bytes : List ℕ) (e : GuestMemoryError) → CannotGive m access addr.0 (length bytes) e →
+    (result : Result (Unit {0}) GuestMemoryError) → result ≡ Err e → WritesAll (MayReach m access addr (length bytes)) (λ n k. PartialBuffer n k) bytes m.host m.host result
+refused_write_slice m access addr bytes e cannot result is = record { places = Err e; may = inr cannot; outcome = is; stored = refl }

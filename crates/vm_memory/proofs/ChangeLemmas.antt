@@ -52,7 +52,7 @@ start_end [] i = omega arith
 start_end (r ∷ l) zero = omega arith
 start_end (r ∷ l) (suc i) = start_end l i
 
-above_all : (l : List Region) (r : Region) (e : ℕ) → AllFrom e l → r.start + r.size ≤ e → list_any (overlap r) l ≡ false
+pub above_all : (l : List Region) (r : Region) (e : ℕ) → AllFrom e l → r.start + r.size ≤ e → list_any (overlap r) l ≡ false
 above_all [] r e from h = refl
 above_all (x ∷ l) r e from h =
     let low : e ≤ x.start = from.0 in

@@ -14,9 +14,7 @@ use Rattle.vm_memory.specs.Backend.{last_of}
 use Rattle.vm_memory.specs.Collecting.{fault_between, fault_after, fault_of}
 use Rattle.vm_memory.specs.declared.error.GuestRegionCollectionError.{GuestRegionCollectionError}
 use Rattle.vm_memory.specs.declared.error.GuestRegionCollectionError.TheVariants.{MemoryRegionOverlap, UnsortedMemoryRegions}
-
-within_false : (r : Region) (a : ℕ) → (r.start ≤ a → r.start + r.size ≤ a) → is_within r.start r.size a ≡ false
-within_false r a out = grind (arith, nat_tests)
+use Rattle.vm_memory.proofs.Places.{within_false}
 
 within_lt : (r : Region) (a : ℕ) → r.start ≤ a → is_within r.start r.size a ≡ nat_lt (a - r.start) r.size
 within_lt r a low = grind (arith, nat_tests)

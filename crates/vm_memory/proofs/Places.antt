@@ -22,7 +22,7 @@ use Rattle.vm_memory.specs.Memory.{Memory, memory_of, addresses, circular, locat
 within_true : (r : Region) (a : ℕ) → r.start ≤ a → a < r.start + r.size → is_within r.start r.size a ≡ true
 within_true r a low high = grind (arith, nat_tests)
 
-within_false : (r : Region) (a : ℕ) → (r.start ≤ a → r.start + r.size ≤ a) → is_within r.start r.size a ≡ false
+pub within_false : (r : Region) (a : ℕ) → (r.start ≤ a → r.start + r.size ≤ a) → is_within r.start r.size a ≡ false
 within_false r a out = grind (arith, nat_tests)
 
 pub within_low : (r : Region) (a : ℕ) → is_within r.start r.size a ≡ true → r.start ≤ a
@@ -206,7 +206,7 @@ unfolding stored_all
 stored_all-append [] ys m = refl
 stored_all-append (x ∷ xs) ys m = stored_all-append xs ys (stored m x)
 
-put_none : (ps : List Place) (h : Host) → h ≡ put_all h (zip ps [])
+pub put_none : (ps : List Place) (h : Host) → h ≡ put_all h (zip ps [])
 unfolding put_all
 put_none [] h = refl
 put_none (p ∷ ps) h = refl

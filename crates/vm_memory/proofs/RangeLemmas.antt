@@ -100,3 +100,8 @@ pub range_on : (h : Host) (l : List Region) (number table set : ℕ) (on : Bool)
 range_on h l number table set on access a n is turned fits all =
     ap (λ (m : Memory). located (location m access) (circular a n)) (memory_on h l number table set on is turned)
     ∙ sym (mapped_on (memory_behind h l number set on) on (nat_lt (a + n) (2 ^ 64)) (may_all (table_in h number) access a n) _ turned (below (a + n) fits) all)
+
+-- ---- behind one that is off
+
+pub location_off : (h : Host) (l : List Region) (number set : ℕ) (on : Bool) (access : Permissions) → on ≡ false → location (memory_behind h l number set on) access ≡ place l
+location_off h l number set on access off = rw off refl

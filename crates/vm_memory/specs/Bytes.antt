@@ -1,9 +1,11 @@
 -- Which places an access to bytes reaches.
-use Rattle.std.specs.Prelude.{ℕ, ◌==◌, List, [], ◌∷◌, Option, Some, None, if◌then◌else◌, Result, Ok, Err}
+use Rattle.std.specs.Prelude.{◌≡◌, ℕ, ◌==◌, true, List, [], ◌∷◌, Option, Some, None, ◌⊎◌, if◌then◌else◌, Result, Ok, Err}
 use Rattle.vm_values.specs.declared.address.GuestAddress.{GuestAddress}
+use Rattle.vm_iotlb.specs.declared.permissions.Permissions.{Permissions}
 use Rattle.vm_memory_core.specs.Host.{Place}
 use Rattle.vm_memory.specs.Layout.{Region, place}
-use Rattle.vm_memory.specs.Memory.{circular}
+use Rattle.vm_memory.specs.Memory.{Memory, circular, is_mapped, location}
+use Rattle.vm_memory.specs.RangeAnswers.{CannotGive}
 use Rattle.vm_memory.specs.declared.error.GuestMemoryError.{GuestMemoryError}
 use Rattle.vm_memory.specs.declared.error.GuestMemoryError.TheVariants.{InvalidGuestAddress, InvalidBackendAddress}
 use Rattle.vm_values.specs.declared.address.MemoryRegionAddress.{MemoryRegionAddress}
@@ -29,6 +31,22 @@ unless_none addr n (p ∷ rest) = Ok (p ∷ rest)
 -- the places that n bytes from an address on reach, where 0 comes after the greatest address
 abbrev pub reached_by : List Region → GuestAddress → (n : ℕ) → Result (List Place) GuestMemoryError
 reached_by layout addr n = unless_none addr n (places_at (place layout) (circular addr.0 n))
+
+-- ---- the bytes of a memory, translated or not
+
+-- the places that n bytes from an address on reach, for an access
+abbrev pub reached_from : Memory → Permissions → GuestAddress → (n : ℕ) → Result (List Place) GuestMemoryError
+reached_from m access addr n = unless_none addr n (places_at (location m access) (circular addr.0 n))
+
+-- no places are reached, since the addresses aren't mapped throughout; memory may be wanting to say that
+abbrev pub IsNotMapped : Memory → Permissions → (a n : ℕ) → Result (List Place) GuestMemoryError → Type 0
+IsNotMapped m access a n (Ok places) = ⊥
+IsNotMapped m access a n (Err e) = CannotGive m access a n e
+
+-- an access to n bytes from an address on: where they are mapped throughout it reaches their places, and else none
+abbrev pub MayReach : Memory → Permissions → GuestAddress → (n : ℕ) → Result (List Place) GuestMemoryError → Type 0
+MayReach m access addr n places =
+    ((is_mapped m access addr.0 n ≡ true) × (places ≡ reached_from m access addr n)) ⊎ IsNotMapped m access addr.0 n places
 
 -- ---- the bytes of one region
 

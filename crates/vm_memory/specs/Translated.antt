@@ -1,9 +1,10 @@
 -- Memory behind a table: where I/O addresses are, and how long a window of them can be.
-use Rattle.std.specs.Prelude.{◌≡◌, ℕ, zero, suc, ◌+◌, ◌-◌, ◌<◌, ◌^◌, min, length, Bool, false, refl, List, [], Option, if◌then◌else◌, option_map, slice_get, map, unwrap_or}
+use Rattle.std.specs.Prelude.{◌≡◌, ℕ, zero, suc, ◌+◌, ◌-◌, ◌<◌, ◌^◌, min, length, Bool, true, false, refl, List, [], ◌∷◌, Option, if◌then◌else◌, option_map, slice_get, map, unwrap_or}
 use Rattle.std.specs.Borrow.{Bor}
 use Rattle.vm_iotlb.specs.declared.permissions.Permissions.{Permissions}
 use Rattle.vm_iotlb.specs.declared.range.IotlbRange.{IotlbRange}
-use Rattle.vm_iotlb.specs.AddressRuns.{go_together, target_of}
+use Rattle.vm_iotlb.specs.declared.iova.MappedRange.{MappedRange}
+use Rattle.vm_iotlb.specs.AddressRuns.{go_together, may_all, pieces, target_of}
 use Rattle.vm_iotlb.specs.Ranges.{table_kept}
 use Rattle.vm_iotlb.specs.Table.{Table}
 use Rattle.std.proofs.Common.{ap, arith}
@@ -25,6 +26,14 @@ run_len table a (suc n) = if go_together (table a) (table (a + 1)) then suc (run
 -- how many I/O addresses from a on a window of them has at most: it ends with what is mapped as one, and with its region
 abbrev pub translated_left : List Region → Table → ℕ → ℕ
 translated_left layout table a = min (run_len table a (2 ^ 64 - a)) (left_at layout (target_of (table a)))
+
+-- what n addresses from a on are mapped to, piece by piece: a piece, if it isn't empty, and those that follow
+abbrev pub AreLeft : Table → (a n : ℕ) → MappedRange → List MappedRange → Type 0
+AreLeft table a n piece rest = (piece.base.0 + piece.length < 2 ^ 64) × (0 < piece.length → pieces table a n ≡ piece ∷ rest) × (piece.length ≡ 0 → pieces table a n ≡ rest)
+
+-- some addresses that are mapped throughout, and what they are mapped to
+abbrev pub MappedLeft : Table → Permissions → (a n : ℕ) → MappedRange → List MappedRange → Type 0
+MappedLeft table access a n piece rest = (0 < n) × (a + n < 2 ^ 64) × (may_all table access a n ≡ true) × AreLeft table a n piece rest
 
 -- windows of I/O addresses that are still to come
 pub record TranslatedSlices : Type 0 where

@@ -67,7 +67,11 @@ impl<R: GuestMemoryRegion> Bytes<GuestAddress> for GuestRegionCollection<R> {
 }
 
 // What a transfer of at most this many bytes at an address answers, of which this many were done.
-fn some_of(addr: GuestAddress, asked: usize, completed: usize) -> Result<usize, GuestMemoryError>
+pub(crate) fn some_of(
+    addr: GuestAddress,
+    asked: usize,
+    completed: usize,
+) -> Result<usize, GuestMemoryError>
     ensures { result ≡ (if asked == 0 then Ok 0 else if completed == 0 then Err (InvalidGuestAddress addr) else Ok completed) }
 {
     if asked == 0 {

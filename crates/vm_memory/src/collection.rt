@@ -94,7 +94,8 @@ impl<R: GuestMemoryRegion> GuestRegionCollection<R> {
         }
     }
 
-    // Whether one of the regions has an address from one to another; `at` of them begin at the first address or below it.
+    // Whether one of the regions has an address from one to another; `at` of them begin at the first address or below
+    // it.
     fn collides(&self, at: usize, start: u64, last: u64) -> bool
         requires order { start ≤ last }
         requires most { at ≤ length self.now }

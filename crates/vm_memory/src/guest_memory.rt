@@ -23,8 +23,8 @@ use vm_memory_core::{GuestAddress, HostMemory, NewBitmap, VolatileSlice, put_at}
 pub type GuestMemoryMmap = GuestRegionCollection<GuestRegionMmap>;
 
 impl GuestRegionCollection<GuestRegionMmap> {
-    /// Memory of the regions that begin at these addresses and have these sizes, each over a new block. Blocks that were
-    /// made before a refusal stay in the host.
+    /// Memory of the regions that begin at these addresses and have these sizes, each over a new block. Blocks that
+    /// were made before a refusal stay in the host.
     pub fn from_ranges<B: NewBitmap>(
         alloc: Global,
         host: &mut HostMemory<B>,
@@ -106,8 +106,8 @@ impl<R: GuestMemoryRegion> GuestRegionCollection<R> {
         self.reached_len(addr.0, len) == len
     }
 
-    /// Adds the windows of `len` physical addresses from one on, joined, or answers that one of them has no place, where 0
-    /// comes after the greatest address.
+    /// Adds the windows of `len` physical addresses from one on, joined, or answers that one of them has no place,
+    /// where 0 comes after the greatest address.
     pub fn push_physical<const N: usize>(
         &self,
         addr: GuestAddress,
@@ -178,8 +178,8 @@ impl<R: GuestMemoryRegion> GuestRegionCollection<R> {
         done
     }
 
-    /// Reads a buffer full of bytes from an address on, where 0 comes after the greatest address. Where fewer are there,
-    /// these are read, and the answer says how many.
+    /// Reads a buffer full of bytes from an address on, where 0 comes after the greatest address. Where fewer are
+    /// there, these are read, and the answer says how many.
     pub fn read_slice<B: NewBitmap>(
         &self,
         host: &HostMemory<B>,
@@ -195,8 +195,8 @@ impl<R: GuestMemoryRegion> GuestRegionCollection<R> {
         outcome(addr, buffer.len(), completed)
     }
 
-    /// Writes bytes from an address on, where 0 comes after the greatest address, and marks their pages. Where fewer have a
-    /// place, these are written, and the answer says how many.
+    /// Writes bytes from an address on, where 0 comes after the greatest address, and marks their pages. Where fewer
+    /// have a place, these are written, and the answer says how many.
     pub fn write_slice<B: NewBitmap>(
         &self,
         host: &mut HostMemory<B>,
@@ -216,7 +216,11 @@ impl<R: GuestMemoryRegion> GuestRegionCollection<R> {
 }
 
 // What a transfer of this many bytes at an address answers, of which this many were done.
-fn outcome(addr: GuestAddress, expected: usize, completed: usize) -> Result<(), GuestMemoryError>
+pub(crate) fn outcome(
+    addr: GuestAddress,
+    expected: usize,
+    completed: usize,
+) -> Result<(), GuestMemoryError>
     ensures { result ≡ transferred addr expected completed }
 {
     if completed == expected {

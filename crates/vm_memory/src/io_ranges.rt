@@ -1,19 +1,22 @@
-//! Ranges of I/O addresses that are mapped throughout: what is there, reads and windows.
+//! Ranges of I/O addresses that are mapped throughout: what is there, reads, writes and windows.
 
 ghost use Rattle.std.specs.Prelude.{◌≡◌, ◌+◌, ◌<◌, ◌≤◌, ◌^◌, ℕ, List, Some, None, IfOk, IfSome, length, min, true, if◌then◌else◌};
-ghost use Rattle.vm_iotlb.specs.AddressRuns.{may_all};
-ghost use Rattle.vm_iotlb.specs.declared.permissions.Permissions.TheVariants.{Read};
-ghost use Rattle.vm_memory_core.specs.Host.{lengths};
-ghost use Rattle.vm_memory_core.specs.Window.{places, places_of, AllLieIn, LiesIn};
+ghost use Rattle.vm_iotlb.specs.AddressRuns.{may_all, pieces};
+ghost use Rattle.vm_iotlb.specs.declared.permissions.Permissions.TheVariants.{Read, Write};
+ghost use Rattle.vm_memory_core.specs.Host.{lengths, shape};
+ghost use Rattle.vm_memory_core.specs.Window.{places, places_of, AllLieIn, LiesIn, Stores};
+ghost use Rattle.vm_memory.specs.Bytes.{places_at};
 ghost use Rattle.vm_memory.specs.Layout.{AreHeld};
 ghost use Rattle.vm_memory.specs.Memory.{addresses, after, circular, io_memory, located, location, reached, read_first, table_in};
 ghost use Rattle.vm_memory.specs.Slices.{AddsLongest};
 ghost use Rattle.vm_memory.specs.Translated.{translated_left};
 
 use crate::backend::GuestMemoryBackend;
-use crate::translated::translated_window;
+use crate::translated::{PiecesLeft, translated_window};
 use std::alloc::AllocError;
-use vm_memory_core::{HostMemory, NewBitmap, Permissions, VolatileSlice, Windows, put_at};
+use vm_memory_core::{
+    HostMemory, IotlbIterator, NewBitmap, Permissions, VolatileSlice, Windows, put_at,
+};
 
 // The longest window of at most `most` bytes from an I/O address on, if what it is mapped to has a place.
 #[inline]
@@ -48,14 +51,18 @@ pub(crate) fn io_reached<M: GuestMemoryBackend, B: NewBitmap>(
     access: Permissions,
     addr: u64,
     len: usize,
+    mapped: IotlbIterator<'_>,
 ) -> usize
-    requires { (addr + len < 2 ^ 64) × (may_all (table_in h.now table) access addr len ≡ true) }
+    requires { (addr + len < 2 ^ 64) × (may_all (table_in h.now table) access addr len ≡ true) × (mapped ≡ pieces (table_in h.now table) addr len) }
     ensures { result ≡ reached (location (io_memory h.now (M.layout backend.now) table set) access) (circular addr len) }
 {
+    let _ = h;
+    let _ = table;
+    let _ = access;
+    let mut left = PiecesLeft::new(mapped);
     let mut done = 0;
     while done < len {
-        let at = addr + done as u64;
-        let Some(window) = io_window(backend, h, table, set, access, at, len - done) else {
+        let Some(window) = left.next_window(backend, set, addr + done as u64) else {
             return done;
         };
         done += window.len();
@@ -72,18 +79,22 @@ pub(crate) fn push_io<M: GuestMemoryBackend, B: NewBitmap>(
     access: Permissions,
     addr: u64,
     len: usize,
+    mapped: IotlbIterator<'_>,
     windows: &mut Windows,
 ) -> Result<bool, AllocError>
-    requires { (addr + len < 2 ^ 64) × (may_all (table_in h.now table) access addr len ≡ true) }
+    requires { (addr + len < 2 ^ 64) × (may_all (table_in h.now table) access addr len ≡ true) × (mapped ≡ pieces (table_in h.now table) addr len) }
     ensures found { IfOk result (λ found. after (places windows.old.items) (located (location (io_memory h.now (M.layout backend.now) table set) access) (circular addr len))
         ≡ (if found then Some (places windows.new.items) else None)) }
     ensures longest { AddsLongest (translated_left (M.layout backend.now) (table_in h.now table)) (circular addr len) windows.old.items windows.new.items }
     ensures held { (lengths : List ℕ) → AreHeld lengths (M.layout backend.now) → AllLieIn lengths windows.old.items → AllLieIn lengths windows.new.items }
 {
+    let _ = h;
+    let _ = table;
+    let _ = access;
+    let mut left = PiecesLeft::new(mapped);
     let mut done = 0;
     while done < len {
-        let at = addr + done as u64;
-        let Some(window) = io_window(backend, h, table, set, access, at, len - done) else {
+        let Some(window) = left.next_window(backend, set, addr + done as u64) else {
             return Ok(false);
         };
         windows.push(window)?;
@@ -100,19 +111,49 @@ pub(crate) fn read_io<M: GuestMemoryBackend, B: NewBitmap>(
     set: usize,
     buffer: &mut [u8],
     addr: u64,
+    mapped: IotlbIterator<'_>,
 ) -> usize
-    requires { (addr + length buffer.old < 2 ^ 64) × (may_all (table_in h.now table) Read addr (length buffer.old) ≡ true) × AreHeld (lengths h.now) (M.layout backend.now) }
+    requires held { AreHeld (lengths h.now) (M.layout backend.now) }
+    requires mapped { (addr + length buffer.old < 2 ^ 64) × (may_all (table_in h.now table) Read addr (length buffer.old) ≡ true)
+        × (mapped ≡ pieces (table_in h.now table) addr (length buffer.old)) }
     ensures count { result ≡ reached (location (io_memory h.now (M.layout backend.now) table set) Read) (circular addr (length buffer.old)) }
     ensures bytes { buffer.new ≡ read_first (io_memory h.now (M.layout backend.now) table set) (circular addr (length buffer.old)) result buffer.old }
 {
+    let _ = table;
+    let mut left = PiecesLeft::new(mapped);
     let mut done = 0;
     while done < buffer.len() {
-        let at = addr + done as u64;
-        let most = buffer.len() - done;
-        let Some(window) = io_window(backend, h, table, set, Permissions::Read, at, most) else {
+        let Some(window) = left.next_window(backend, set, addr + done as u64) else {
             return done;
         };
         put_at(buffer, done, h.bytes(window));
+        done += window.len();
+    }
+    done
+}
+
+// Writes as many bytes from an address on as have a place, and says how many.
+pub(crate) fn write_io<M: GuestMemoryBackend, B: NewBitmap>(
+    backend: &M,
+    h: &mut HostMemory<B>,
+    table: usize,
+    set: usize,
+    bytes: &[u8],
+    addr: u64,
+) -> usize
+    requires { (addr + length bytes.now < 2 ^ 64) × (may_all (table_in h.old table) Write addr (length bytes.now) ≡ true) × AreHeld (lengths h.old) (M.layout backend.now) }
+    ensures count { result ≡ reached (location (io_memory h.old (M.layout backend.now) table set) Write) (circular addr (length bytes.now)) }
+    ensures stored { Stores h.old h.new (places_at (location (io_memory h.old (M.layout backend.now) table set) Write) (circular addr (length bytes.now))) bytes.now }
+    ensures shape { shape h.new ≡ shape h.old }
+{
+    let mut done = 0;
+    while done < bytes.len() {
+        let at = addr + done as u64;
+        let most = bytes.len() - done;
+        let Some(window) = io_window(backend, h, table, set, Permissions::Write, at, most) else {
+            return done;
+        };
+        h.write(window, &bytes[done..][..window.len()]);
         done += window.len();
     }
     done

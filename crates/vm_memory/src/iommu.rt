@@ -18,8 +18,8 @@ pub trait Iommu {
     fn table(&self) -> usize
         ensures { result ≡ number self.now };
 
-    /// What `length` I/O addresses are mapped to, as long pieces as can be; CannotResolve with the asked range where not each
-    /// is mapped with the permission, or where its end doesn't fit. Only one that fails takes memory.
+    /// What `length` I/O addresses are mapped to, as long pieces as can be; CannotResolve with the asked range where
+    /// not each is mapped with the permission, or where its end doesn't fit. Only one that fails takes memory.
     fn translate<'a, B: NewBitmap>(
         &self,
         h: &'a HostMemory<B>,
@@ -48,10 +48,12 @@ impl TableIommu {
 impl Iommu for TableIommu {
     ghost number = { λ i. i.table };
 
+    #[inline]
     fn table(&self) -> usize {
         self.table
     }
 
+    #[inline]
     fn translate<'a, B: NewBitmap>(
         &self,
         h: &'a HostMemory<B>,

@@ -19,8 +19,8 @@ use vm_memory_core::{
     GuestAddress, HeldIn, HostMemory, IommuError, NewBitmap, Permissions, Windows,
 };
 
-/// A backend behind an IOMMU, which a device uses by I/O addresses while the IOMMU is on, and by physical ones while it is
-/// off (vm-memory's `IommuMemory`).
+/// A backend behind an IOMMU, which a device uses by I/O addresses while the IOMMU is on, and by physical ones while it
+/// is off (vm-memory's `IommuMemory`).
 #[derive(Drop)]
 pub struct IommuMemory<M: GuestMemoryBackend + Drop, I: Iommu + Drop> {
     alloc: Global,
@@ -31,7 +31,8 @@ pub struct IommuMemory<M: GuestMemoryBackend + Drop, I: Iommu + Drop> {
 }
 
 impl<M: GuestMemoryBackend + Drop, I: Iommu + Drop> IommuMemory<M, I> {
-    /// A backend behind an IOMMU that is on or off, and the number of the set of I/O pages that writes mark while it is on.
+    /// A backend behind an IOMMU that is on or off, and the number of the set of I/O pages that writes mark while it is
+    /// on.
     pub fn new(
         alloc: Global,
         backend: M,
@@ -176,8 +177,18 @@ impl<R: GuestMemoryRegion, I: Iommu + Drop> GuestMemory
         let table = self.iommu.table();
         let set = self.io_bitmap;
         match self.iommu.translate(h, addr, count, access) {
-            Ok(_) => {
-                Ok(io_reached(&self.backend, h, table, set, access, addr.0, count) == count)
+            Ok(mapped) => {
+                let reached = io_reached(
+                    &self.backend,
+                    h,
+                    table,
+                    set,
+                    access,
+                    addr.0,
+                    count,
+                    mapped,
+                );
+                Ok(reached == count)
             }
             Err(IommuError::OutOfMemory) => Err(AllocError),
             Err(_) => Ok(false),
@@ -236,7 +247,9 @@ impl<R: GuestMemoryRegion, I: Iommu + Drop> GuestMemory
         let set = self.io_bitmap;
         let asked = buffer.len();
         match self.iommu.translate(h, addr, asked, Permissions::Read) {
-            Ok(_) => Ok(read_io(&self.backend, h, table, set, buffer, addr.0) == asked),
+            Ok(mapped) => {
+                Ok(read_io(&self.backend, h, table, set, buffer, addr.0, mapped) == asked)
+            }
             Err(IommuError::OutOfMemory) => Err(AllocError),
             Err(_) => Ok(false),
         }
@@ -259,7 +272,19 @@ impl<R: GuestMemoryRegion, I: Iommu + Drop> GuestMemory
         let table = self.iommu.table();
         let set = self.io_bitmap;
         match self.iommu.translate(h, addr, count, access) {
-            Ok(_) => push_io(&self.backend, h, table, set, access, addr.0, count, windows),
+            Ok(mapped) => {
+                push_io(
+                    &self.backend,
+                    h,
+                    table,
+                    set,
+                    access,
+                    addr.0,
+                    count,
+                    mapped,
+                    windows,
+                )
+            }
             Err(IommuError::OutOfMemory) => Err(AllocError),
             Err(_) => Ok(false),
         }

@@ -41,8 +41,8 @@ impl<'a, M: GuestMemoryBackend> Model for IommuMemorySliceIterator<'a, M> {
 }
 
 impl<'a, M: GuestMemoryBackend> IommuMemorySliceIterator<'a, M> {
-    // The windows of `count` addresses from one on, which a table of the host maps throughout; writes of them mark a set of
-    // I/O pages.
+    // The windows of `count` addresses from one on, which a table of the host maps throughout; writes of them mark a
+    // set of I/O pages.
     pub(crate) fn new<B: NewBitmap>(
         backend: &'a M,
         h: &'a HostMemory<B>,

@@ -68,8 +68,9 @@ impl<'a, M: GuestMemoryBackend> GuestMemorySliceIterator for GuestMemorySlices<'
     }
 }
 
-/// Guest memory as a device reaches it (vm-memory's `GuestMemory`). Of addresses that aren't translated, 0 comes after the
-/// greatest; translated ones have to be mapped throughout. Memory is taken only where a translation fails, or a list grows.
+/// Guest memory as a device reaches it (vm-memory's `GuestMemory`). Of addresses that aren't translated, 0 comes after
+/// the greatest; translated ones have to be mapped throughout. Memory is taken only where a translation fails, or a
+/// list grows.
 pub trait GuestMemory: HeldIn {
     ghost use Rattle.vm_memory.specs.MemorySlices.{slices_of};
 
@@ -125,7 +126,8 @@ pub trait GuestMemory: HeldIn {
         ensures found { Checks (memory self.now h.now) Read addr.0 (length buffer.old) result }
         ensures bytes { Reads (memory self.now h.now) addr.0 (length buffer.old) buffer.new result };
 
-    /// Adds the windows of `count` addresses from one on, joined, for an access, or answers that one of them has no place.
+    /// Adds the windows of `count` addresses from one on, joined, for an access, or answers that one of them has no
+    /// place.
     fn push_windows<B: NewBitmap>(
         &self,
         alloc: Global,

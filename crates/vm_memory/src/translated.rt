@@ -1,19 +1,21 @@
 //! Windows of I/O addresses, by what a table maps them to.
 
-ghost use Rattle.std.specs.Prelude.{◌≡◌, ◌+◌, ◌<◌, ◌≤◌, ◌^◌, ℕ, List, Some, None, IfSome, min, true};
-ghost use Rattle.vm_iotlb.specs.AddressRuns.{may_all};
+ghost use Rattle.std.specs.Prelude.{◌≡◌, ◌+◌, ◌-◌, ◌<◌, ◌≤◌, ◌^◌, ℕ, List, ◌∷◌, Some, None, IfSome, MatchOption, min, true};
+ghost use Rattle.vm_iotlb.specs.Table.{Table};
+ghost use Rattle.vm_iotlb.specs.AddressRuns.{may_all, pieces};
+ghost use Rattle.vm_iotlb.specs.declared.permissions.Permissions.{Permissions};
 ghost use Rattle.vm_iotlb.specs.Ranges.{table_kept};
 ghost use Rattle.vm_memory_core.specs.Window.{places_of, LiesIn};
 ghost use Rattle.vm_memory.specs.Layout.{AreHeld};
 ghost use Rattle.vm_memory.specs.Memory.{addresses, located};
-ghost use Rattle.vm_memory.specs.Translated.{translated, translated_left};
+ghost use Rattle.vm_memory.specs.Translated.{translated, translated_left, AreLeft, MappedLeft};
 
 use crate::backend::GuestMemoryBackend;
 use crate::slice_iterator::window_at;
-use vm_memory_core::{GuestAddress, Iotlb, Permissions, VolatileSlice};
+use vm_memory_core::{GuestAddress, Iotlb, IotlbIterator, MappedRange, Permissions, VolatileSlice};
 
-// The longest window of at most `most` bytes from an I/O address on, if what it is mapped to has a place. Writes of it mark
-// a set of I/O pages. All `most` addresses are mapped with the permission.
+// The longest window of at most `most` bytes from an I/O address on, if what it is mapped to has a place. Writes of it
+// mark a set of I/O pages. All `most` addresses are mapped with the permission.
 #[inline]
 pub(crate) fn translated_window<M: GuestMemoryBackend>(
     backend: &M,
@@ -32,14 +34,82 @@ pub(crate) fn translated_window<M: GuestMemoryBackend>(
     ensures longest { IfSome result (λ w. w.len ≡ min most (translated_left (M.layout backend.now) (table_kept table.now) addr)) }
     ensures held { (lengths : List ℕ) → AreHeld lengths (M.layout backend.now) → IfSome result (LiesIn lengths) }
 {
-    let Ok(mut pieces) = table.lookup(GuestAddress(addr), most, access) else {
-        return None;
-    };
-    let Some(piece) = pieces.next() else {
+    let Some(piece) = table.first_piece(GuestAddress(addr), most) else {
         return None;
     };
     match window_at(backend, piece.base.0, piece.length) {
         Some(window) => Some(window.replace_bitmap(set, addr)),
         None => None,
+    }
+}
+
+// What is left of some I/O addresses, by what they are mapped to: the rest of a piece, and the pieces that follow.
+#[derive(Drop)]
+pub(crate) struct PiecesLeft<'a> {
+    piece: MappedRange,
+    rest: IotlbIterator<'a>,
+}
+
+impl<'a> PiecesLeft<'a> {
+    // All of these pieces are left.
+    #[inline]
+    pub(crate) fn new(pieces: IotlbIterator<'a>) -> PiecesLeft<'a>
+        ensures { result ≡ record { piece = record { base = record { 0 = 0 }; length = 0 }; rest = pieces.entry } }
+    {
+        let none = MappedRange {
+            base: GuestAddress(0),
+            length: 0,
+        };
+        PiecesLeft {
+            piece: none,
+            rest: pieces,
+        }
+    }
+
+    // The piece that they begin with.
+    #[inline]
+    fn first(&mut self) -> Option<MappedRange>
+        requires fits { self.old.piece.base.0 + self.old.piece.length < 2 ^ 64 }
+        ensures fits { IfSome result (λ p. p.base.0 + p.length < 2 ^ 64) }
+        ensures first { (table : Table) (a n : ℕ) → 0 < n → AreLeft table a n self.old.piece self.old.rest → MatchOption result ⊥ (λ p. pieces table a n ≡ p ∷ self.new.rest) }
+    {
+        if 0 < self.piece.length {
+            return Some(self.piece);
+        }
+        self.rest.next()
+    }
+
+    // The longest window of them, which begin with `addr`, if what it is mapped to has a place; they are what comes
+    // after it then. Writes of it mark a set of I/O pages.
+    #[inline]
+    pub(crate) fn next_window<M: GuestMemoryBackend>(
+        &mut self,
+        backend: &M,
+        set: usize,
+        addr: u64,
+    ) -> Option<VolatileSlice>
+        requires { (table : Table) × (access : Permissions) × (n : ℕ) × MappedLeft table access addr n self.old.piece self.old.rest }
+        ensures none { (table : Table) (access : Permissions) (n : ℕ) → MappedLeft table access addr n self.old.piece self.old.rest →
+            result ≡ None → translated (M.layout backend.now) table set access addr ≡ None }
+        ensures some { (table : Table) (access : Permissions) (n : ℕ) → MappedLeft table access addr n self.old.piece self.old.rest →
+            IfSome result (λ w. (0 < w.len) × (w.len ≤ n) × (addr + w.len ≤ 2 ^ 64)
+            × (located (translated (M.layout backend.now) table set access) (addresses addr w.len) ≡ Some (places_of w))) }
+        ensures longest { (table : Table) (access : Permissions) (n : ℕ) → MappedLeft table access addr n self.old.piece self.old.rest →
+            IfSome result (λ w. w.len ≡ min n (translated_left (M.layout backend.now) table addr)) }
+        ensures left { (table : Table) (access : Permissions) (n : ℕ) → MappedLeft table access addr n self.old.piece self.old.rest →
+            IfSome result (λ w. AreLeft table (addr + w.len) (n - w.len) self.new.piece self.new.rest) }
+        ensures held { (lengths : List ℕ) → AreHeld lengths (M.layout backend.now) → IfSome result (LiesIn lengths) }
+    {
+        let Some(piece) = self.first() else {
+            return None;
+        };
+        let Some(window) = window_at(backend, piece.base.0, piece.length) else {
+            return None;
+        };
+        self.piece = MappedRange {
+            base: GuestAddress(piece.base.0 + window.len() as u64),
+            length: piece.length - window.len(),
+        };
+        Some(window.replace_bitmap(set, addr))
     }
 }

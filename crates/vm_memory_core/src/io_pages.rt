@@ -35,8 +35,8 @@ impl<B: NewBitmap> IoPages<B> {
     }
 }
 
-// Marks the I/O pages of `count` bytes from an offset of a block on. A set that isn't there has none, and no address lies
-// at or past 2^64.
+// Marks the I/O pages of `count` bytes from an offset of a block on. A set that isn't there has none, and no address
+// lies at or past 2^64.
 pub(crate) fn mark_pages<B: NewBitmap>(
     sets: &mut [IoPages<B>],
     marks: IoMarks,

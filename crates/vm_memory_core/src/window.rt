@@ -20,8 +20,8 @@ pub struct VolatileSlice {
     marks: Marking,
 }
 
-/// Which pages writes of a window mark: those of its block, or I/O pages of a set of the host's, whose addresses lie so far
-/// above or below the offsets in the block. So a part of a window marks as the window does.
+/// Which pages writes of a window mark: those of its block, or I/O pages of a set of the host's, whose addresses lie so
+/// far above or below the offsets in the block. So a part of a window marks as the window does.
 #[derive(Clone, Copy, Debug, Default)]
 pub enum Marking {
     #[default]

@@ -5,23 +5,16 @@ use Rattle.std.proofs.lemmas.Grind.{flat_map-append, common_steps}
 use Rattle.std.proofs.Math.ListN.{set}
 use Rattle.std.proofs.lemmas.List.{drop-drop, take_all, take_more, take_more_set, take-append-drop, length-take-le, length-drop}
 use Rattle.std.proofs.lemmas.Slice.{take-put_mid}
-use Rattle.std.proofs.Math.Seq.{take-append-add}
+use Rattle.std.proofs.Math.Seq.{take-append-add, take-add}
 use borrow.Rule.Slice.PartMut.{put_mid}
 use Rattle.vm_values.specs.Fields.{Field, array, d, field_bytes, then_fields, spelled}
 use Rattle.vm_values.specs.Unique.{then_is, two_halves}
-
-pub take-add : (a n : ℕ) (xs : List ℕ) → a ≤ length xs → take (a + n) xs ≡ take a xs ++ take n (drop a xs)
-take-add a n xs h =
-    let e : length (take a xs) ≡ a = length-take-le a xs h in
-    let t = take-append-add (take a xs) (drop a xs) n in
-    let u : take a xs ++ drop a xs ≡ xs = take-append-drop a xs in
-    cc
 
 pub put_at : (a k n : ℕ) (old part : List ℕ) (fs : List Field) → length part ≡ n → a ≤ length old → part ≡ spelled fs → take (a + n) (put_mid a k old part) ≡ then_fields (take a old) fs
 put_at a k n old part fs l h e = take-put_mid a k old part (a + n) (omega arith) h ∙ ap (λ s. take a old ++ s) e ∙ sym (then_is (take a old) fs)
 
 pub get_at : (a k n : ℕ) (xs : List ℕ) (fs : List Field) → k ≡ n → a ≤ length xs → take k (drop a xs) ≡ spelled fs → take (a + n) xs ≡ then_fields (take a xs) fs
-get_at a k n xs fs l h e = take-add a n xs h ∙ ap (λ s. take a xs ++ s) (ap (λ m. take m (drop a xs)) (sym l) ∙ e) ∙ sym (then_is (take a xs) fs)
+get_at a k n xs fs l h e = take-add a n xs ∙ ap (λ s. take a xs ++ s) (ap (λ m. take m (drop a xs)) (sym l) ∙ e) ∙ sym (then_is (take a xs) fs)
 
 -- what stands behind two parts in a row, each of which leaves it
 pub behind_both : (m n : ℕ) (xs ys zs : List ℕ) → m ≤ n → drop n xs ≡ drop n ys → drop m ys ≡ drop m zs → drop n xs ≡ drop n zs

@@ -4,7 +4,7 @@ use Rattle.vm_iotlb.specs.declared.range.IotlbRange.{IotlbRange}
 use Rattle.vm_iotlb.specs.Table.{allows}
 use Rattle.vm_iotlb.specs.Ranges.{AreRanges, Agree, EndsAbove}
 use Rattle.vm_iotlb.specs.AddressRuns.{may_pass}
-use Rattle.vm_iotlb.proofs.RangeLemmas.{ranges_drop, table_before, table_in}
+use Rattle.vm_iotlb.proofs.RangeLemmas.{ranges_drop, table_before, table_inside}
 use Rattle.vm_iotlb.proofs.RunLemmas.{agree_rest, nothing_left, may_stop, may_range}
 use Rattle.vm_iotlb.proofs.PieceLemmas.{above_rest, covered_end, drop_more, drop_past}
 use Rattle.vm_iotlb.proofs.lookup.is_covered.Goals as goal
@@ -33,7 +33,7 @@ returns-then-not-allow c = λ table agree.
     let more = drop_more c.args.ranges.now i d (omega arith) in
     let rest : Agree table (r ∷ drop (i + 1) c.args.ranges.now) c.loop-range.next c.args.end = rw more at (c.loop-range.invariant.rest table agree) in
     let first : EndsAbove c.loop-range.next (r ∷ drop (i + 1) c.args.ranges.now) = rw more at c.loop-range.invariant.first in
-    let held = rest c.loop-range.next (omega arith) (omega arith) ∙ table_in r (drop (i + 1) c.args.ranges.now) c.loop-range.next (omega arith) first in
+    let held = rest c.loop-range.next (omega arith) (omega arith) ∙ table_inside r (drop (i + 1) c.args.ranges.now) c.loop-range.next (omega arith) first in
     let not_allowed : allows r.perm c.args.access ≡ false = sym c.if-not-allow.ensures in
     let denied : may_pass c.args.access (table c.loop-range.next) ≡ false = rw held not_allowed in
     sym (c.loop-range.invariant.all table agree ∙ may_stop table c.args.access c.loop-range.next c.args.end (omega arith) denied)

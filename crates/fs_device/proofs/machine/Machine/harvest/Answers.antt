@@ -4,4 +4,4 @@ use Rattle.fs_device.proofs.machine.Machine.harvest.Goals as goal
 
 pub returns-in-Ok : goal.returns-in-Ok
 unfolding effect
-returns-in-Ok g c = rw (c.in-Ok.ensures.pages, c.in-Ok.ensures.cleared) refl
+returns-in-Ok g c = record { performs = rw (c.in-Ok.ensures.pages, c.in-Ok.ensures.cleared) refl; mem = refl }

@@ -2,8 +2,9 @@ use Rattle.std.proofs.Common.{◌≡◌, sym, refl, subst}
 use Rattle.vm_memory_core.specs.Host.{lengths}
 use Rattle.fs_device.specs.Run.{effect}
 use Rattle.fs_device.specs.MachineView.{machine_of}
-use Rattle.fs_device.proofs.LayoutLemmas.{HasBlock, held_with, unknown, known, past_end, within, has_block}
+use Rattle.fs_device.proofs.LayoutLemmas.{held_with, unknown, known, past_end, within, has_block}
 use Rattle.fs_device.proofs.machine.Machine.insert_region.Goals as goal
+use Rattle.vm_memory.proofs.LayoutLemmas.{HasBlock}
 
 pub returns-in_default : goal.returns-in_default
 unfolding effect

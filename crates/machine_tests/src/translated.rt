@@ -1,8 +1,9 @@
 //! Chains behind an IOMMU: each address is translated by itself.
 
-use crate::stand::{REQUEST_AT, ROOM_AT, Stand, behind, expect_same};
+use crate::stand::{ROOM_AT, asking_unknown, device, expect_same};
 use fs_device::Fault;
 use fs_queue::ChainFault;
+use guest_driver::Guest;
 use guest_driver::requests::header;
 use std::alloc::Global;
 use std::process::Abort;
@@ -19,15 +20,17 @@ pub const MAPPED: &[(u64, u64, usize, Permissions)] = &[
     (0x1014, 0x6014, 0xfec, Permissions::Read),
 ];
 
-// The memory of a host behind such a table, where the room's page is the one at 0x3000, with this permission.
+// A guest's memory behind such a table, where the room's page is the one at 0x3000, with this permission.
 fn behind_mapped(
     rt: &impl Abort,
     alloc: Global,
-    host: &mut HostMemory<PageBitmap>,
-    backend: GuestMemoryMmap,
+    guest: Guest,
     room: Permissions,
-) -> IommuMemory<GuestMemoryMmap, TableIommu> {
-    let mut mem = behind(rt, alloc, host, backend);
+) -> (
+    HostMemory<PageBitmap>,
+    IommuMemory<GuestMemoryMmap, TableIommu>,
+) {
+    let (mut host, mut mem) = guest.into_translated(alloc, 0x3000).expect(rt, "memory");
     let table = host.table_mut(mem.iommu().table()).expect(rt, "a table");
     for (iova, target, length, access) in MAPPED {
         table
@@ -38,18 +41,18 @@ fn behind_mapped(
         .set_mapping(GuestAddress(ROOM_AT), GuestAddress(0x3000), 0x1000, room)
         .expect(rt, "memory");
     mem.set_iommu_enabled(true);
-    mem
+    (host, mem)
 }
 
 /// The unknown request, whose last twenty bytes are where the table has them, is available; no page is marked.
-pub fn cut_request(rt: &impl Abort, alloc: Global) -> Stand {
-    let mut stand = Stand::new(rt, alloc);
-    let request = header(40, 7, 1, 0);
-    stand.chain(rt, 0, &request, &[(REQUEST_AT, 40)], &[(ROOM_AT, 16)]);
-    stand.put(rt, 0x1014, &[0xff; 20]);
-    stand.put(rt, 0x6014, &request[20..]);
-    stand.guest.clear_marks();
-    stand
+pub fn cut_request(rt: &impl Abort, alloc: Global) -> Guest {
+    let mut guest = asking_unknown(rt, alloc);
+    guest.put(0x1014, &[0xff; 20]).expect(rt, "a place");
+    guest
+        .put(0x6014, &header(40, 7, 1, 0)[20..])
+        .expect(rt, "a place");
+    guest.clear_marks();
+    guest
 }
 
 /// Of the first three I/O pages of a set these are marked, and no page of the block is.
@@ -66,8 +69,8 @@ pub fn expect_io_marks(rt: &impl Abort, host: &HostMemory<PageBitmap>, set: usiz
     expect_same(rt, is_marked, false);
 }
 
-// A request whose last twenty bytes are elsewhere has this reply or fault. The reply stands where the room is mapped; the I/O
-// pages that are marked, of the first three, are these, and no page of the block is.
+// A request whose last twenty bytes are elsewhere has this reply or fault. The reply stands where the room is mapped;
+// the I/O pages that are marked, of the first three, are these, and no page of the block is.
 fn expect_exchanged(
     rt: &impl Abort,
     alloc: Global,
@@ -76,12 +79,9 @@ fn expect_exchanged(
     reply: &[u8],
     io: [bool; 3],
 ) {
-    let mut stand = cut_request(rt, alloc);
-    let (mut host, backend) = stand.guest.into_memory();
-    let mem = behind_mapped(rt, alloc, &mut host, backend, room);
+    let (mut host, mem) = behind_mapped(rt, alloc, cut_request(rt, alloc), room);
     assert!(rt; host.holds(&mem));
-    let (exchange, notify) = stand
-        .device
+    let (exchange, notify) = device(rt, alloc)
         .process_one(alloc, &mut host, &mem, 0)
         .expect(rt, "no refusal")
         .expect(rt, "a chain that waits");

@@ -1,14 +1,13 @@
 //! Machines whose device goes by a table that changes.
 
 use crate::machines::{Row, done, expect_rows, machine};
-use crate::stand::{ROOM_AT, Request, Stand, expect_same};
+use crate::stand::{LogMachine, ROOM_AT, asking, expect_same, machine_of};
 use crate::translated::{ENOSYS_REPLY, MAPPED, cut_request, expect_io_marks};
-use call_log::CallLog;
-use fs_device::{Answer, Command, DeviceError, Fault, Machine};
+use fs_device::{Answer, Command, DeviceError, Fault};
 use fs_queue::{ChainFault, QueueError};
+use guest_driver::requests::lookup;
 use std::alloc::Global;
 use std::process::Abort;
-use vm_memory::TableIommu;
 use vm_memory_core::Permissions;
 
 const LAST: u64 = 0xffff_ffff_ffff_ffff;
@@ -145,7 +144,7 @@ fn room_and_request_have_one_target(rt: HostRuntime) {
 fn expect_exchanged(
     rt: &impl Abort,
     alloc: Global,
-    machine: &mut Machine<CallLog, TableIommu>,
+    machine: &mut LogMachine,
     want: (usize, Option<Fault>),
 ) {
     let command = Command::Kick { queue: 0, most: 1 };
@@ -166,9 +165,9 @@ fn room_that_is_unmapped_is_out_of_reach(rt: HostRuntime) {
         Row::Map(0, 0, 0x10000, RW, 0),
         Row::Unmap(ROOM_AT, 0x1000, 0),
     ];
-    let mut stand = Stand::new(&rt, rt.alloc());
-    stand.ask(&rt, Request::Lookup { name: b"a" }, 144);
-    let mut machine = stand.into_machine(&rt);
+    let request = lookup(rt.alloc(), 5, 1, b"a").expect(&rt, "memory");
+    let guest = asking(&rt, rt.alloc(), &request, 144);
+    let mut machine = machine_of(&rt, rt.alloc(), guest);
     expect_rows(&rt, rt.alloc(), &mut machine, ROWS);
     let unreachable = Fault::Chain(ChainFault::RoomUnreachable);
     expect_exchanged(&rt, rt.alloc(), &mut machine, (0, Some(unreachable)));
@@ -177,8 +176,8 @@ fn room_that_is_unmapped_is_out_of_reach(rt: HostRuntime) {
     expect_same(&rt, machine.device.server().fs().calls(), &[]);
 }
 
-// The cut request is exchanged with a reply so long or this fault where the room is mapped with this permission; these bytes
-// stand where it is mapped, in the element and in the index, and of the first three I/O pages these are marked.
+// The cut request is exchanged with a reply so long or this fault where the room is mapped with this permission; these
+// bytes stand where it is mapped, in the element and in the index, and of the first three I/O pages these are marked.
 fn expect_cut(
     rt: &impl Abort,
     alloc: Global,
@@ -187,7 +186,7 @@ fn expect_cut(
     there: &[Row<'_>],
     io: [bool; 3],
 ) {
-    let mut machine = cut_request(rt, alloc).into_machine(rt);
+    let mut machine = machine_of(rt, alloc, cut_request(rt, alloc));
     for (iova, target, len, perm) in MAPPED {
         let rows = [Row::Map(*iova, *target, *len, *perm, 0)];
         expect_rows(rt, alloc, &mut machine, &rows);

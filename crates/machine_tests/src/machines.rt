@@ -1,29 +1,24 @@
 //! Runs of a machine: guest accesses, kicks and resets.
 
-use crate::stand::{RING, Request, Stand, UNKNOWN, expect_same, layout};
-use call_log::{CallLog, LoggedCall, run_logged};
-use fs_device::{Answer, Command, DeviceError, Machine};
+use crate::stand::{LogMachine, RING, asking_unknown, expect_same, layout, machine_of};
+use call_log::{LoggedCall, run_logged};
+use fs_device::{Answer, Command, DeviceError};
+use guest_driver::requests::forget;
 use std::alloc::Global;
 use std::process::Abort;
-use vm_memory::{GuestMemoryBackend, TableIommu};
+use vm_memory::GuestMemoryBackend;
 use vm_memory_core::Permissions;
 
 /// A machine whose guest has made the chain of an unknown request available so often; no page is marked.
-pub fn machine(rt: &impl Abort, alloc: Global, times: u16) -> Machine<CallLog, TableIommu> {
-    let mut stand = Stand::new(rt, alloc);
-    stand.ask(rt, UNKNOWN, 16);
-    stand.guest.set_available(times).expect(rt, "a place");
-    stand.guest.clear_marks();
-    stand.into_machine(rt)
+pub fn machine(rt: &impl Abort, alloc: Global, times: u16) -> LogMachine {
+    let mut guest = asking_unknown(rt, alloc);
+    guest.set_available(times).expect(rt, "a place");
+    guest.clear_marks();
+    machine_of(rt, alloc, guest)
 }
 
 /// What one command comes to.
-pub fn done(
-    rt: &impl Abort,
-    alloc: Global,
-    machine: &mut Machine<CallLog, TableIommu>,
-    command: Command,
-) -> Answer {
+pub fn done(rt: &impl Abort, alloc: Global, machine: &mut LogMachine, command: Command) -> Answer {
     let commands = Vec::from_array(alloc, [command]).expect(rt, "memory");
     let mut answers = machine.run(alloc, commands).expect(rt, "memory");
     answers.pop().expect(rt, "an answer")
@@ -33,7 +28,7 @@ pub fn done(
 pub fn expect_refusal(
     rt: &impl Abort,
     alloc: Global,
-    machine: &mut Machine<CallLog, TableIommu>,
+    machine: &mut LogMachine,
     command: Command,
     number: u8,
 ) {
@@ -95,7 +90,8 @@ pub enum Row<'a> {
     NoRead(u64, usize, u8),
     /// A queue is reset to the layout of `RING`, and the refusal.
     Reset(usize, u8),
-    /// The device's addresses from one on are mapped to those from a target on, so many, with a permission, and the refusal.
+    /// The device's addresses from one on are mapped to those from a target on, so many, with a permission, and the
+    /// refusal.
     Map(u64, u64, usize, Permissions, u8),
     /// The device's addresses from one on, so many, are mapped no more, and the refusal.
     Unmap(u64, usize, u8),
@@ -158,12 +154,7 @@ impl Row<'_> {
 }
 
 /// The command of each row in turn comes to what the row says.
-pub fn expect_rows(
-    rt: &impl Abort,
-    alloc: Global,
-    machine: &mut Machine<CallLog, TableIommu>,
-    rows: &[Row<'_>],
-) {
+pub fn expect_rows(rt: &impl Abort, alloc: Global, machine: &mut LogMachine, rows: &[Row<'_>]) {
     for row in rows {
         let command = row.command(rt, alloc);
         let answer = done(rt, alloc, machine, command);
@@ -171,7 +162,8 @@ pub fn expect_rows(
     }
 }
 
-/// The same of a machine whose guest has asked so often; the host has so many blocks then, and the layout so many regions.
+/// The same of a machine whose guest has asked so often; the host has so many blocks then, and the layout so many
+/// regions.
 pub fn expect_run(
     rt: &impl Abort,
     alloc: Global,
@@ -203,7 +195,7 @@ fn kick_serves_at_most_so_many(rt: HostRuntime) {
 
 // The commands of a whole exchange: the guest writes a FORGET over the request and asks again, kicks twice and reads.
 fn exchange_commands(rt: &impl Abort, alloc: Global) -> Vec<Command> {
-    let request = Request::Forget { node: 5, count: 3 }.bytes(rt, alloc);
+    let request = forget(alloc, 2, 5, 3).expect(rt, "memory");
     let again = [2, 0].to_vec(alloc).expect(rt, "memory");
     let commands = [
         Command::Kick { queue: 0, most: 9 },

@@ -1,16 +1,13 @@
 //! A machine's image, and the pages that make it the machine's host again.
 
 use crate::machines::{Row, done, expect_rows, machine};
-use crate::stand::expect_same;
+use crate::stand::{LogMachine, expect_same};
 use call_log::CallLog;
 use fs_device::laws::{law_marks, law_move};
-use fs_device::{Answer, Command, HarvestedPage, Machine, apply};
+use fs_device::{Answer, Command, HarvestedPage, apply};
 use std::alloc::Global;
 use std::process::Abort;
-use vm_memory::TableIommu;
 use vm_memory_core::{HostMemory, PageBitmap};
-
-type LogMachine = Machine<CallLog, TableIommu>;
 
 // A copy of the machine's host.
 fn image_of(rt: &impl Abort, alloc: Global, machine: &mut LogMachine) -> HostMemory<PageBitmap> {

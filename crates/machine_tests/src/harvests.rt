@@ -4,8 +4,9 @@ ghost use Rattle.std.specs.Prelude.{◌≡◌};
 ghost use Rattle.vm_memory_core.specs.Host.{shape};
 
 use crate::machines::{Row, expect_rows, machine};
-use crate::stand::{RING, Stand, expect_same};
+use crate::stand::{RING, expect_same};
 use fs_device::{HarvestedPage, harvest};
+use guest_driver::Guest;
 use std::alloc::Global;
 use std::process::Abort;
 use vm_memory_core::{GuestAddress, HostMemory, PageBitmap};
@@ -57,9 +58,9 @@ fn pages_of_an_exchange_are_harvested_once(rt: HostRuntime) {
 #[test]
 fn last_page_of_a_block_may_be_short(rt: HostRuntime) {
     let regions = [(GuestAddress(0), 0x1002), (GuestAddress(0x2000), 3)];
-    let mut stand = Stand::over(&rt, rt.alloc(), &regions, RING);
-    stand.put(&rt, 0x1001, &[9]);
-    stand.put(&rt, 0x2000, &[1, 2, 3]);
+    let mut guest = Guest::new(rt.alloc(), &regions, RING).expect(&rt, "regions");
+    guest.put(0x1001, &[9]).expect(&rt, "a place");
+    guest.put(0x2000, &[1, 2, 3]).expect(&rt, "a place");
     let pages = [(0, 0x1000, 2), (1, 0, 3)];
-    expect_pages(&rt, rt.alloc(), &mut stand.guest.host, &pages);
+    expect_pages(&rt, rt.alloc(), &mut guest.host, &pages);
 }

@@ -1,18 +1,23 @@
 //! The example's directory, as a guest reads it.
 
-use crate::stand::{RING, behind, expect_same, layout};
 use fs_device::{Answer, Command, Device, Machine};
 use fs_example::{File, Monitor, MonitorError, ReadOnlyDirectory, read_file, run_directory};
-use fs_queue::Queue;
+use fs_queue::{Queue, QueueLayout};
 use fuse_wire::{Opcode, OpenIn, ReadIn};
-use guest_driver::Guest;
 use guest_driver::replies::body;
 use guest_driver::requests::{header, read, with_record};
+use guest_driver::{Guest, Ring};
 use std::alloc::Global;
+use std::fmt::Debug;
 use std::process::Abort;
 use virtiofsd_fuse::Server;
 use vm_memory::TableIommu;
-use vm_memory_core::GuestAddress;
+use vm_memory_core::{GuestAddress, Permissions};
+
+// What was found is what is wanted. One generic assertion for all tests: each assertion of its own costs a proof.
+fn expect_same<T: PartialEq + Debug + Drop>(rt: &impl Abort, found: T, want: T) {
+    assert_eq!(rt; found, want);
+}
 
 // A file that takes two reads and a bit.
 const LONG: &[u8] = &[7; 0x2010];
@@ -32,8 +37,8 @@ const FILES: [File<'static>; 3] = [
     },
 ];
 
-// The first entry of the listing (struct fuse_dirent): node 2, the place behind it, one byte of name, a regular file; and
-// the name, up to a multiple of 8.
+// The first entry of the listing (struct fuse_dirent): node 2, the place behind it, one byte of name, a regular file;
+// and the name, up to a multiple of 8.
 const FIRST_ENTRY: [u8; 32] = [
     2, 0, 0, 0, 0, 0, 0, 0, 1, 0, 0, 0, 0, 0, 0, 0, 1, 0, 0, 0, 8, 0, 0, 0, b'a', 0, 0, 0, 0, 0, 0,
     0,
@@ -169,6 +174,23 @@ fn a_guest_lists_the_names(rt: HostRuntime) {
     expect_same(&rt, reply.get(16..48), Some(FIRST_ENTRY.as_slice()));
 }
 
+// A queue of four descriptors: its table at 0, its rings at 0x100 and 0x200.
+const RING: Ring = Ring {
+    size: 4,
+    desc: 0,
+    avail: 0x100,
+    used: 0x200,
+};
+
+// A device over the directory, whose one queue is the ring.
+fn device(rt: &impl Abort, alloc: Global) -> Device<ReadOnlyDirectory<'static>> {
+    let layout = QueueLayout::new(RING.size, RING.desc, RING.avail, RING.used);
+    let queue = Queue::new(layout.expect(rt, "a layout"));
+    let queues = Vec::from_array(alloc, [queue]).expect(rt, "memory");
+    let server = Server::new(ReadOnlyDirectory::new(&FILES), 4096);
+    Device::new(server, queues, 0x101000)
+}
+
 // A machine over the directory, whose guest reads the first five bytes of node 2.
 fn reading(rt: &impl Abort, alloc: Global) -> Machine<ReadOnlyDirectory<'static>, TableIommu> {
     let regions = [(GuestAddress(0), 0x10000)];
@@ -176,13 +198,9 @@ fn reading(rt: &impl Abort, alloc: Global) -> Machine<ReadOnlyDirectory<'static>
     let request = read(alloc, 1, 2, 0, 0, 5).expect(rt, "memory");
     let chained = guest.chain(0, &request, &[(0x1000, 80)], &[(0x2000, 32)]);
     chained.expect(rt, "a place");
-    let server = Server::new(ReadOnlyDirectory::new(&FILES), 4096);
-    let queues = Vec::from_array(alloc, [Queue::new(layout(rt, RING))]).expect(rt, "memory");
-    let device = Device::new(server, queues, 0x101000);
-    let (mut host, backend) = guest.into_memory();
-    let mem = behind(rt, alloc, &mut host, backend);
+    let (host, mem) = guest.into_translated(alloc, 0x3000).expect(rt, "memory");
     assert!(rt; host.holds(&mem));
-    Machine::new(host, mem, device)
+    Machine::new(host, mem, device(rt, alloc))
 }
 
 // The reply of 21 bytes: its header (struct fuse_out_header), and the file's bytes.
@@ -224,4 +242,37 @@ fn a_guest_gets_the_file_in_its_memory(rt: HostRuntime) {
     expect_same(&rt, room.get(..21), Some(HELLO.as_slice()));
     expect_same(&rt, room.get(21..), Some([0; 11].as_slice()));
     expect_same(&rt, looked(&rt, alloc, 0x2010, 5).as_slice(), b"hello");
+}
+
+// A mapping of addresses that the device may read and write.
+fn map(iova: u64, target: u64, len: usize) -> Command {
+    Command::Map {
+        iova,
+        target,
+        len,
+        perm: Permissions::ReadWrite,
+    }
+}
+
+// The room is mapped to the page at 0x4000, and all that lies before it to itself.
+#[test]
+fn a_guest_behind_an_iommu_gets_the_file_where_its_room_is_mapped_to(rt: HostRuntime) {
+    let alloc = rt.alloc();
+    let mut machine = reading(&rt, alloc);
+    let commands = [
+        map(0, 0, 0x2000),
+        map(0x2000, 0x4000, 0x1000),
+        Command::SetIommu(true),
+        Command::Kick { queue: 0, most: 1 },
+        Command::GuestRead {
+            addr: 0x4000,
+            len: 21,
+        },
+    ];
+    let commands = Vec::from_array(alloc, commands).expect(&rt, "memory");
+    let mut answers = run_directory(alloc, &mut machine, commands).expect(&rt, "memory");
+    let Some(Answer::Bytes(bytes)) = answers.pop() else {
+        panic!(rt; "bytes");
+    };
+    expect_same(&rt, bytes.as_slice(), HELLO.as_slice());
 }
