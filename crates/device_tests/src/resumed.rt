@@ -1,10 +1,19 @@
-//! Queues that go on at a position, and queues that begin anew.
+//! Queues that go on at a position, those of a restored device too, and queues that begin anew.
 
-use crate::stand::{LIMIT, RING, Stand, UNKNOWN, expect_same, layout};
+use crate::stand::{Act, ENOSYS_REPLY, LIMIT, RING, ROOM_AT, Stand, UNKNOWN, expect_same, layout};
+use call_log::CallLog;
+use fs_device::{Device, Stream};
 use fs_queue::Queue;
 use std::alloc::Global;
 use std::process::Abort;
 use vm_memory_core::GuestAddress;
+
+const REGIONS: &[(GuestAddress, usize)] = &[(GuestAddress(0), 0x10000)];
+
+// The record of a device without options, and of its one queue: of size 4, at position 65535, its table at 0, its rings
+// at 0x100 and 0x200.
+const RECORD: &[u8] = b"VFSD\x01\0\0\0\x01\0\0\0\0\0\0\0\0\0\0\0\0\0\0\0\
+\x04\0\xff\xff\0\0\0\0\0\0\0\0\0\0\0\0\0\x01\0\0\0\0\0\0\0\x02\0\0\0\0\0\0";
 
 // A stand with a chain of a request with an unknown opcode and its room, made available once.
 fn stand(rt: &impl Abort, alloc: Global) -> Stand {
@@ -30,7 +39,6 @@ fn expect_queue(rt: &impl Abort, queue: &Queue, position: u16, stopped: bool) {
 
 #[test]
 fn resumed_queue_goes_on_at_its_position(rt: HostRuntime) {
-    const REGIONS: &[(GuestAddress, usize)] = &[(GuestAddress(0), 0x10000)];
     let queue = Queue::resume(layout(&rt, RING), 65535, false);
     expect_queue(&rt, &queue, 65535, false);
     let mut stand = Stand::serving(&rt, rt.alloc(), REGIONS, RING, queue);
@@ -39,6 +47,28 @@ fn resumed_queue_goes_on_at_its_position(rt: HostRuntime) {
     stand.put(&rt, 0x202, &[0xff, 0xff]);
     let (_, _) = stand.exchange(&rt);
     stand.expect_used(&rt, 3, (0, 16), 0);
+    expect_queue(&rt, stand.device.queue(0).expect(&rt, "a queue"), 0, false);
+}
+
+#[test]
+fn restored_queue_goes_on_at_its_position(rt: HostRuntime) {
+    // The available ring: flags 0, index 0, and no head but in slot 3; the used index, which the device doesn't read.
+    const ACTS: &[Act<'static>] = &[
+        Act::Position(65535),
+        Act::Asks(UNKNOWN, 16),
+        Act::Puts(0x100, &[0, 0, 0, 0, 4, 0, 4, 0, 4, 0, 0, 0]),
+        Act::Puts(0x202, &[0xff, 0xff]),
+        Act::Replies(&ENOSYS_REPLY),
+        Act::Has(ROOM_AT, &ENOSYS_REPLY),
+        Act::Has(0x202, &[0, 0]),
+        Act::Has(0x21c, &[0, 0, 0, 0, 16, 0, 0, 0]),
+        Act::Idles,
+    ];
+    let mut source = Stream::new(RECORD);
+    let restored = Device::restore(rt.alloc(), &mut source, CallLog::new(), 4096, LIMIT);
+    let device = restored.ok().expect(&rt, "a device");
+    let mut stand = Stand::with_device(&rt, rt.alloc(), REGIONS, RING, device);
+    stand.play(&rt, ACTS);
     expect_queue(&rt, stand.device.queue(0).expect(&rt, "a queue"), 0, false);
 }
 

@@ -191,12 +191,23 @@ impl Stand {
         ring: Ring,
         queue: Queue,
     ) -> Stand {
-        let guest = Guest::new(alloc, regions, ring).expect(rt, "regions");
         let queues = Vec::from_array(alloc, [queue]).expect(rt, "memory");
+        let device = Device::new(Server::new(CallLog::new(), 4096), queues, LIMIT);
+        Stand::with_device(rt, alloc, regions, ring, device)
+    }
+
+    /// The same, with this device.
+    pub fn with_device(
+        rt: &impl Abort,
+        alloc: Global,
+        regions: &[(GuestAddress, usize)],
+        ring: Ring,
+        device: Device<CallLog>,
+    ) -> Stand {
         Stand {
             alloc,
-            guest,
-            device: Device::new(Server::new(CallLog::new(), 4096), queues, LIMIT),
+            guest: Guest::new(alloc, regions, ring).expect(rt, "regions"),
+            device,
         }
     }
 

@@ -264,9 +264,112 @@ fn with_moves(rt: &impl Abort, alloc: Global, transcript: &[u8]) -> Vec<u8> {
     moving
 }
 
+// The transcript is what its script prints, as it stands and with moves.
+fn check_moving(rt: &impl Abort, alloc: Global, transcript: &[u8]) {
+    check(rt, alloc, transcript);
+    let moving = with_moves(rt, alloc, transcript);
+    check(rt, alloc, &moving);
+}
+
 #[test]
 fn answers_the_same_when_it_moves_between_commands(rt: HostRuntime) {
-    check(&rt, rt.alloc(), SESSION);
-    let moving = with_moves(&rt, rt.alloc(), SESSION);
-    check(&rt, rt.alloc(), &moving);
+    check_moving(&rt, rt.alloc(), SESSION);
+}
+
+// INIT agrees that a name may have a group behind it. So MKDIR's is read, and refused where its header is wrong; with a
+// good one the file system is asked, which has no MKDIR.
+const GROUPS_AGREED: &[u8] = b"\
+> queue 4 0 0x100 0x200
+ok
+> region 0 0x10000
+block 0
+> # INIT 7.38 with bits 30, INIT_EXT, and 34, CREATE_SUPP_GROUP
+> write 0x1000 680000001a0000000100000000000000000000000000000000000000000000000000000000000000
+ok
+> write 0x1028 0700000026000000000002000000004004000000
+ok
+> # Chain 0: reads 104 at 0x1000; writes 80 at 0x2000
+> write 0 0010000000000000680000000100010000200000000000005000000002000000
+ok
+> write 0x100 000001000000
+ok
+> kick 0 1
+call init
+done 0 80 - 1
+> # Both are agreed: 0x40000000 stands at 0x201c, and 4, of the upper half, at 0x2030
+> read 0x2000 40
+bytes 5000000000000000010000000000000007000000260000000000020000000040fffffdbf00001000
+> read 0x2028 12
+bytes 010000000001000004000000
+> # MKDIR of `d` in the root, and behind the name group 1000, whose header says 7 bytes in place of 16
+> write 0x1000 42000000090000000200000000000000010000000000000000000000000000000000000000000000
+ok
+> write 0x1028 ed010000000000006400070000002000000001000000e8030000
+ok
+> # Chain 0: reads 66 at 0x1000; writes 144 at 0x2000
+> write 0 0010000000000000420000000100010000200000000000009000000002000000
+ok
+> write 0x102 02000000
+ok
+> kick 0 1
+done 0 0 InvalidHeaderLength 1
+> # 17 bytes, of which 16 are there
+> write 0x1032 11
+ok
+> write 0x102 03000000
+ok
+> kick 0 1
+done 0 0 DecodeMessage 1
+> # 16 bytes
+> write 0x1032 10
+ok
+> write 0x102 04000000
+ok
+> kick 0 1
+done 0 16 - 1
+> read 0x2000 16
+bytes 10000000daffffff0200000000000000
+> # The used index and elements
+> read 0x202 34
+bytes 04000000000050000000000000000000000000000000000000000000000010000000
+status 0
+";
+
+// Without INIT nothing is agreed: what stands behind the name isn't looked at, and the file system is asked.
+const GROUPS_NOT_AGREED: &[u8] = b"\
+> queue 4 0 0x100 0x200
+ok
+> region 0 0x10000
+block 0
+> # MKDIR of `d` in the root, and behind the name group 1000, whose header says 7 bytes in place of 16
+> write 0x1000 42000000090000000200000000000000010000000000000000000000000000000000000000000000
+ok
+> write 0x1028 ed010000000000006400070000002000000001000000e8030000
+ok
+> # Chain 0: reads 66 at 0x1000; writes 144 at 0x2000
+> write 0 0010000000000000420000000100010000200000000000009000000002000000
+ok
+> write 0x100 000001000000
+ok
+> kick 0 1
+done 0 16 - 1
+> read 0x2000 16
+bytes 10000000daffffff0200000000000000
+> # 17 bytes, of which 16 are there
+> write 0x1032 11
+ok
+> write 0x102 02000000
+ok
+> kick 0 1
+done 0 16 - 1
+> # The used index and elements
+> read 0x202 18
+bytes 020000000000100000000000000010000000
+status 0
+";
+
+#[test]
+fn takes_its_options_along(rt: HostRuntime) {
+    check_moving(&rt, rt.alloc(), GROUPS_AGREED);
+    check_moving(&rt, rt.alloc(), GROUPS_NOT_AGREED);
 }
