@@ -1,11 +1,8 @@
 //! Requests that make a node, also with extensions, and what comes of them.
 
-use crate::rows::{ASKER, Change, End, Row, UNIQUE, expect_options, expect_rows};
+use crate::rows::{ASKER, Change, ENTRY_OUT, End, Row, UNIQUE, expect_options, expect_rows};
 use crate::toy::Told;
 use virtiofsd_fuse::Error;
-
-const ENTRY_OUT: &str =
-    "0200000000000000 0300000000000000 1400000000000000 1600000000000000 15000000 17000000 0200000000000000 0500000000000000 0600000000000000 0700000000000000 0800000000000000 0900000000000000 0a000000 0b000000 0c000000 a4810000 0d000000 0e000000 0f000000 10000000 11000000 12000000";
 
 // The rest of what INIT is answered.
 const ZEROS: &str = "00000000000000000000000000000000000000000000000000000000";

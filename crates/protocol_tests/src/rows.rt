@@ -56,6 +56,12 @@ pub const ASKER: &str = "8877665544332211 0500000000000000 0a000000 0b000000 0c0
 /// The unique number of each request.
 pub const UNIQUE: &str = "8877665544332211";
 
+/// What is told of a node that was looked up: its number and generation, how long both are valid, its attributes.
+pub const ENTRY_OUT: &str =
+    "0200000000000000 0300000000000000 1400000000000000 1600000000000000 15000000 17000000 \
+    0200000000000000 0500000000000000 0600000000000000 0700000000000000 0800000000000000 0900000000000000 \
+    0a000000 0b000000 0c000000 a4810000 0d000000 0e000000 0f000000 10000000 11000000 12000000";
+
 /// The reply that has no bytes behind its header.
 pub const EMPTY: Digits = &["10000000 00000000", UNIQUE];
 
