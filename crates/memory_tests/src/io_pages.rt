@@ -4,7 +4,7 @@ use crate::given::{Host, eight, expect_eight, expect_same};
 use std::alloc::Global;
 use std::process::Abort;
 use vm_memory::{Iommu, TableIommu};
-use vm_memory_core::{Bitmap, GuestAddress, HostMemory, IommuError, Permissions, VolatileSlice};
+use vm_memory_core::{Bitmap, GuestAddress, HostMemory, Permissions, VolatileSlice};
 
 // A host with a block of the bytes 1 to 8, and a set of I/O pages for the addresses below 0x3000.
 fn with_io_pages(rt: &impl Abort, alloc: Global) -> Host {
@@ -89,49 +89,6 @@ fn io_pages_are_cleared(rt: HostRuntime) {
     expect_same(&rt, marks(&h), Some(([false; 3], false)));
 }
 
-// The pieces that a table translates a read of eight bytes to, where there are at most two.
-fn pieces(h: &Host, table: usize, iova: u64) -> Result<[(u64, usize); 2], IommuError> {
-    let mut found = [(0, 0); 2];
-    let iommu = TableIommu::new(table);
-    for (place, piece) in found.iter_mut().zip(iommu.translate(
-        h,
-        GuestAddress(iova),
-        8,
-        Permissions::Read,
-    )?) {
-        *place = (piece.base.0, piece.length);
-    }
-    Ok(found)
-}
-
-#[test]
-fn example_9_is_translated_in_two_pieces(rt: HostRuntime) {
-    let mut h: Host = HostMemory::new(rt.alloc());
-    expect_same(
-        &rt,
-        (h.new_table().ok(), h.new_table().ok()),
-        (Some(0), Some(1)),
-    );
-    let table = h.table_mut(1).expect(&rt, "a table");
-    let rows = [(0x1000, 0x1000, 0x14), (0x1014, 0x6014, 0xfec)];
-    for (iova, target, length) in rows {
-        let mapped = table.set_mapping(
-            GuestAddress(iova),
-            GuestAddress(target),
-            length,
-            Permissions::Read,
-        );
-        expect_same(&rt, mapped, Ok(()));
-    }
-    expect_same(&rt, pieces(&h, 1, 0x1010), Ok([(0x1010, 4), (0x6014, 4)]));
-    expect_same(&rt, pieces(&h, 1, 0x1000), Ok([(0x1000, 8), (0, 0)]));
-    expect_same(
-        &rt,
-        (h.table(2).is_none(), h.table_mut(2).is_none()),
-        (true, true),
-    );
-}
-
 // Translations that are refused, by the number of the error.
 fn refused(h: &Host, table: usize, iova: u64, length: usize) -> Option<u8> {
     let iommu = TableIommu::new(table);
@@ -157,4 +114,9 @@ fn what_is_not_mapped_is_not_translated(rt: HostRuntime) {
         [Some(1), None],
     );
     expect_same(&rt, refused(&h, 0, u64::MAX, 1), Some(1));
+    expect_same(
+        &rt,
+        (h.table(1).is_none(), h.table_mut(1).is_none()),
+        (true, true),
+    );
 }

@@ -1,22 +1,18 @@
 //! Bytes of memory behind an IOMMU by their address.
 
-use crate::given::{Host, expect_same};
+use crate::behind::{MappingRow, Memory, behind, expect_marks};
+use crate::given::{Host, TWO, expect_same};
 use std::alloc::Global;
 use std::process::Abort;
 use vm_memory::GuestMemoryError::{self, InvalidGuestAddress, PartialBuffer};
-use vm_memory::{GuestMemoryMmap, IommuMemory, TableIommu};
 use vm_memory_core::Permissions::{Read, ReadWrite, Write};
-use vm_memory_core::{
-    Bitmap, Bytes, GuestAddress, HostMemory, IommuError, IovaRange, PageBitmap, Permissions,
-};
-
-type Memory = IommuMemory<GuestMemoryMmap, TableIommu>;
+use vm_memory_core::{Bitmap, Bytes, GuestAddress, IommuError, IovaRange, PageBitmap};
 
 type MemoryResult<T> = Result<T, GuestMemoryError>;
 
-// Each mapping's I/O address, target, length and permission: the second page is cut in two, the third may only be
-// written, the fourth only be read, and the last four of the rest have no place.
-const MAPPED: &[(u64, u64, usize, Permissions)] = &[
+// The second page is cut in two, the third may only be written, the fourth only be read, and the last four of the rest
+// have no place.
+const MAPPED: &[MappingRow] = &[
     (0, 0, 0x1000, ReadWrite),
     (0x1000, 0x1000, 0x14, ReadWrite),
     (0x1014, 0x6014, 0xfec, ReadWrite),
@@ -35,25 +31,9 @@ const FOUR_OF_EIGHT: GuestMemoryError = PartialBuffer {
     completed: 4,
 };
 
-// A host with 64 KiB from address 0 on, behind such a table that is on or off, and with a set of three I/O pages.
-fn behind(rt: &impl Abort, alloc: Global, on: bool) -> (Host, Memory) {
-    let mut host: Host = HostMemory::new(alloc);
-    let ranges = [(GuestAddress(0), 0x10000)];
-    let backend = GuestMemoryMmap::from_ranges(alloc, &mut host, &ranges).expect(rt, "memory");
-    let number = host.new_table().expect(rt, "memory");
-    let set = host.new_io_bitmap(0x3000).expect(rt, "memory");
-    let table = host.table_mut(number).expect(rt, "a table");
-    for (iova, target, length, access) in MAPPED {
-        let mapped = table.set_mapping(
-            GuestAddress(*iova),
-            GuestAddress(*target),
-            *length,
-            *access,
-        );
-        expect_same(rt, mapped, Ok(()));
-    }
-    let memory = IommuMemory::new(alloc, backend, TableIommu::new(number), on, set);
-    (host, memory)
+// A host with 64 KiB from address 0 on, and their memory behind this table, which is on or off.
+fn cut(rt: &impl Abort, alloc: Global, on: bool) -> (Host, Memory) {
+    behind(rt, alloc, &[(GuestAddress(0), 0x10000)], MAPPED, on)
 }
 
 // What eight bytes at an address are refused with that aren't mapped throughout.
@@ -96,45 +76,59 @@ fn expect_some(
     expect_same(rt, (written, read, bytes), want);
 }
 
-// The four bytes at an offset of the block.
-fn expect_stored(rt: &impl Abort, host: &Host, offset: usize, want: [u8; 4]) {
+// The four bytes at an offset of a block.
+fn expect_in_block(rt: &impl Abort, host: &Host, block: usize, offset: usize, want: [u8; 4]) {
     let mut bytes = [9; 4];
-    let there = host.read_block(0, offset, &mut bytes);
+    let there = host.read_block(block, offset, &mut bytes);
     expect_same(rt, (there, bytes), (true, want));
 }
 
-// Which I/O pages are marked, and whether any page of the block is.
-fn expect_marks(rt: &impl Abort, host: &Host, io: [bool; 3], block: bool) {
-    let pages = host.io_bitmap(0).expect(rt, "a set");
-    let marked = [0, 0x1000, 0x2000].map(|addr| pages.dirty_at(addr));
-    let pages = host.bitmap(0).expect(rt, "a bitmap");
-    let any = (0..16).any(|page| pages.dirty_at(page * 0x1000));
-    expect_same(rt, (marked, any), (io, block));
+// The same of the first block.
+fn expect_stored(rt: &impl Abort, host: &Host, offset: usize, want: [u8; 4]) {
+    expect_in_block(rt, host, 0, offset, want);
 }
 
 #[test]
 fn bytes_move_where_they_are_mapped(rt: HostRuntime) {
     let all = (Ok(()), Ok(()), ONE_TO_EIGHT);
-    let (mut host, mem) = behind(&rt, rt.alloc(), true);
+    let (mut host, mem) = cut(&rt, rt.alloc(), true);
     expect_whole(&rt, &mut host, &mem, 0x1010, all);
     expect_stored(&rt, &host, 0x1010, [1, 2, 3, 4]);
     expect_stored(&rt, &host, 0x1014, [0; 4]);
     expect_stored(&rt, &host, 0x6014, [5, 6, 7, 8]);
-    expect_marks(&rt, &host, [false, true, false], false);
-    let (mut host, mem) = behind(&rt, rt.alloc(), true);
+    expect_marks(&rt, &host, [false, true, false], None);
+    let (mut host, mem) = cut(&rt, rt.alloc(), true);
     expect_some(&rt, &mut host, &mem, 0xffc, (Ok(8), Ok(8), ONE_TO_EIGHT));
     expect_stored(&rt, &host, 0x1000, [5, 6, 7, 8]);
-    expect_marks(&rt, &host, [true, true, false], false);
+    expect_marks(&rt, &host, [true, true, false], None);
+}
+
+#[test]
+fn bytes_of_one_piece_over_two_regions_move_whole(rt: HostRuntime) {
+    let rows = [(0x1000, 0, 0x2000, ReadWrite)];
+    let (mut host, mem) = behind(&rt, rt.alloc(), TWO, &rows, true);
+    let all = (Ok(()), Ok(()), ONE_TO_EIGHT);
+    expect_whole(&rt, &mut host, &mem, 0x1ffc, all);
+    expect_in_block(&rt, &host, 0, 0xffc, [1, 2, 3, 4]);
+    expect_in_block(&rt, &host, 1, 0, [5, 6, 7, 8]);
+    expect_marks(&rt, &host, [false, true, true], None);
+    let second = host.bitmap(1).expect(&rt, "a bitmap");
+    expect_same(&rt, second.dirty_at(0), false);
+    let (mut host, mem) = behind(&rt, rt.alloc(), TWO, &rows, true);
+    expect_some(&rt, &mut host, &mem, 0x1ffe, (Ok(8), Ok(8), ONE_TO_EIGHT));
+    expect_in_block(&rt, &host, 0, 0xffc, [0, 0, 1, 2]);
+    expect_in_block(&rt, &host, 1, 0, [3, 4, 5, 6]);
+    expect_in_block(&rt, &host, 1, 4, [7, 8, 0, 0]);
 }
 
 #[test]
 fn bytes_move_by_physical_addresses_while_the_iommu_is_off(rt: HostRuntime) {
     let all = (Ok(()), Ok(()), ONE_TO_EIGHT);
-    let (mut host, mem) = behind(&rt, rt.alloc(), false);
+    let (mut host, mem) = cut(&rt, rt.alloc(), false);
     expect_whole(&rt, &mut host, &mem, 0x1010, all);
     expect_stored(&rt, &host, 0x1014, [5, 6, 7, 8]);
     expect_stored(&rt, &host, 0x6014, [0; 4]);
-    expect_marks(&rt, &host, [false; 3], true);
+    expect_marks(&rt, &host, [false; 3], Some(1));
     expect_some(&rt, &mut host, &mem, 0xfffc, (Ok(4), Ok(4), ONE_TO_FOUR));
     let none = Err(InvalidGuestAddress(GuestAddress(0x10000)));
     expect_some(&rt, &mut host, &mem, 0x10000, (none, none, [9; 8]));
@@ -142,7 +136,7 @@ fn bytes_move_by_physical_addresses_while_the_iommu_is_off(rt: HostRuntime) {
 
 #[test]
 fn what_is_not_mapped_throughout_moves_no_byte(rt: HostRuntime) {
-    let (mut host, mem) = behind(&rt, rt.alloc(), true);
+    let (mut host, mem) = cut(&rt, rt.alloc(), true);
     for addr in [0x3ffc, 0x7fff, 0xffff_ffff_ffff_fffc] {
         let none = Err(unmapped(addr));
         expect_whole(&rt, &mut host, &mem, addr, (none, none, [9; 8]));
@@ -152,23 +146,23 @@ fn what_is_not_mapped_throughout_moves_no_byte(rt: HostRuntime) {
     let none = Err(unmapped(0x2ffc));
     expect_whole(&rt, &mut host, &mem, 0x2ffc, (none, none, [9; 8]));
     expect_stored(&rt, &host, 0x3ffc, [0; 4]);
-    expect_marks(&rt, &host, [false; 3], false);
+    expect_marks(&rt, &host, [false; 3], None);
 }
 
 #[test]
 fn each_access_has_its_permission(rt: HostRuntime) {
-    let (mut host, mem) = behind(&rt, rt.alloc(), true);
+    let (mut host, mem) = cut(&rt, rt.alloc(), true);
     let denied = Err(unmapped(0x2000));
     expect_whole(&rt, &mut host, &mem, 0x2000, (Ok(()), denied, [9; 8]));
     expect_stored(&rt, &host, 0x3000, [1, 2, 3, 4]);
     let denied = Err(unmapped(0x3000));
     expect_some(&rt, &mut host, &mem, 0x3000, (denied, Ok(8), [0; 8]));
-    expect_marks(&rt, &host, [false, false, true], false);
+    expect_marks(&rt, &host, [false, false, true], None);
 }
 
 #[test]
 fn bytes_end_at_an_address_that_is_mapped_to_none(rt: HostRuntime) {
-    let (mut host, mem) = behind(&rt, rt.alloc(), true);
+    let (mut host, mem) = cut(&rt, rt.alloc(), true);
     let partial = Err(FOUR_OF_EIGHT);
     expect_whole(
         &rt,
@@ -202,7 +196,7 @@ fn expect_none(rt: &impl Abort, host: &mut Host, mem: &Memory, addr: u64) {
 
 #[test]
 fn no_bytes_are_none(rt: HostRuntime) {
-    let (mut host, mem) = behind(&rt, rt.alloc(), true);
+    let (mut host, mem) = cut(&rt, rt.alloc(), true);
     for addr in [0x1010, 0x7000, u64::MAX] {
         expect_none(&rt, &mut host, &mem, addr);
     }
@@ -210,7 +204,7 @@ fn no_bytes_are_none(rt: HostRuntime) {
 
 #[test]
 fn values_move_where_they_are_mapped(rt: HostRuntime) {
-    let (mut host, mem) = behind(&rt, rt.alloc(), true);
+    let (mut host, mem) = cut(&rt, rt.alloc(), true);
     assert!(&rt; host.holds(&mem));
     let cut = GuestAddress(0x1012);
     let written = mem.write_obj::<u32, PageBitmap>(&mut host, 0x0403_0201, cut);

@@ -7,6 +7,8 @@ mod accesses;
 #[cfg(test)]
 mod addresses;
 #[cfg(test)]
+mod behind;
+#[cfg(test)]
 mod bitmaps;
 #[cfg(test)]
 mod blocks;
