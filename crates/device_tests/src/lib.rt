@@ -8,6 +8,8 @@ mod faults;
 #[cfg(test)]
 mod indirect;
 #[cfg(test)]
+mod lent;
+#[cfg(test)]
 mod longest;
 #[cfg(test)]
 mod numbers;

@@ -9,7 +9,7 @@ ghost use Rattle.fs_queue.specs.Windows.{HoldsChain, TakenLiesIn, room_places};
 use fs_queue::Taken;
 use std::alloc::{AllocError, Global};
 use virtiofsd_fuse::Writer;
-use vm_memory_core::{HostMemory, NewBitmap};
+use vm_memory_core::HostBlocks;
 
 /// A chain that was taken from a queue, with the bytes of its request and the room for its reply: all the memory that
 /// its exchange takes of the device. Until it is finished the queue is as it was; dropped, it leaves the chain to be
@@ -28,13 +28,13 @@ pub struct Begun {
 ghost use Rattle.fs_device.specs.DeviceView.{request_of};
 
 /// The bytes of a chain's request. A faulty chain has none, and takes no memory.
-pub(crate) fn fetch_request<B: NewBitmap>(
+pub(crate) fn fetch_request<H: HostBlocks>(
     alloc: Global,
-    host: &HostMemory<B>,
+    host: &H,
     taken: &Taken,
 ) -> Result<Vec<u8>, AllocError>
-    requires { TakenLiesIn (lengths host.now) taken.now }
-    ensures { (m : Memory) (asked : Asked) → m.host ≡ host.now → HoldsChain m asked taken.now.chain → IfOk result (λ request. request.items ≡ request_of asked) }
+    requires { TakenLiesIn (lengths (H.host host.now)) taken.now }
+    ensures { (m : Memory) (asked : Asked) → m.host ≡ H.host host.now → HoldsChain m asked taken.now.chain → IfOk result (λ request. request.items ≡ request_of asked) }
 {
     match taken.chain() {
         Ok(chain) => host.fetch_windows(alloc, &chain.readable, chain.request_len()),
@@ -60,17 +60,17 @@ pub(crate) fn make_room(alloc: Global, taken: &Taken) -> Result<Writer, AllocErr
 impl Begun {
     /// The exchange of a chain that was taken from a queue, by that queue's number.
     #[inline]
-    pub(crate) fn of<B: NewBitmap>(
+    pub(crate) fn of<H: HostBlocks>(
         alloc: Global,
-        host: &HostMemory<B>,
+        host: &H,
         queue: usize,
         taken: Taken,
     ) -> Result<Begun, AllocError>
-        requires lies { TakenLiesIn (lengths host.now) taken }
+        requires lies { TakenLiesIn (lengths (H.host host.now)) taken }
         requires short { room_places taken.chain < 2 ^ 32 }
         ensures queue { IfOk result (λ begun. begun.queue ≡ queue) }
         ensures taken { IfOk result (λ begun. begun.taken ≡ taken) }
-        ensures request { (m : Memory) (asked : Asked) → m.host ≡ host.now → HoldsChain m asked taken.chain → IfOk result (λ begun. begun.request.items ≡ request_of asked) }
+        ensures request { (m : Memory) (asked : Asked) → m.host ≡ H.host host.now → HoldsChain m asked taken.chain → IfOk result (λ begun. begun.request.items ≡ request_of asked) }
     {
         let request = fetch_request(alloc, host, &taken)?;
         let room = make_room(alloc, &taken)?;

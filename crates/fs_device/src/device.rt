@@ -17,7 +17,7 @@ use std::alloc::{AllocError, Global};
 use std::marker::Model;
 use virtiofsd_fuse::Server;
 use vm_memory::GuestMemory;
-use vm_memory_core::{HostMemory, NewBitmap};
+use vm_memory_core::HostBlocks;
 
 /// A server behind its queues, of which there are 1 to 64. A request or a room longer than the limit, from 0x101000 to
 /// 2^31 bytes, makes a chain faulty.
@@ -107,16 +107,16 @@ impl<F: FileSystem> Device<F> {
     /// and there is room for its reply. Nothing where none waits. A refusal is that of a step, and the file system
     /// isn't asked.
     #[inline]
-    pub fn begin<M: GuestMemory, B: NewBitmap>(
+    pub fn begin<M: GuestMemory, H: HostBlocks>(
         &mut self,
         alloc: Global,
-        host: &HostMemory<B>,
+        host: &H,
         mem: &M,
         queue: usize,
     ) -> Result<Option<Begun>, DeviceError>
-        requires { M.IsHeld mem.now host.now }
-        ensures begins { Begins F.may (state_of (M.memory mem.now host.now) self.old) queue result (state_of (M.memory mem.now host.now) self.new) }
-        ensures lies { IfOk result (λ o. IfSome o (λ begun. TakenLiesIn (lengths host.now) begun.taken)) }
+        requires { M.IsHeld mem.now (H.host host.now) }
+        ensures begins { Begins F.may (state_of (M.memory mem.now (H.host host.now)) self.old) queue result (state_of (M.memory mem.now (H.host host.now)) self.new) }
+        ensures lies { IfOk result (λ o. IfSome o (λ begun. TakenLiesIn (lengths (H.host host.now)) begun.taken)) }
         ensures there { IfOk result (λ o. IfSome o (λ begun. begun.queue < length self.new.queues)) }
     {
         if queue >= self.queues.len() {
@@ -138,17 +138,18 @@ impl<F: FileSystem> Device<F> {
     /// changes, and the chain may be begun again. Finish it while memory and queue are as `begin` left them: of another
     /// nothing is said.
     #[inline]
-    pub fn finish<B: NewBitmap>(
+    pub fn finish<H: HostBlocks>(
         &mut self,
         alloc: Global,
-        host: &mut HostMemory<B>,
+        host: &mut H,
         begun: Begun,
     ) -> Result<(Exchange, bool), AllocError>
-        requires lies { TakenLiesIn (lengths host.old) begun.taken }
+        requires lies { TakenLiesIn (lengths (H.host host.old)) begun.taken }
         requires there { begun.queue < length self.old.queues }
-        ensures finishes { (m : Memory) → m.host ≡ host.old → IsBegun (state_of m self.old) begun →
-            Finishes F.may (state_of m self.old) begun.queue result (state_of (record m { host = host.new }) self.new) }
-        ensures shape { shape host.new ≡ shape host.old }
+        ensures finishes { (m : Memory) → m.host ≡ H.host host.old → IsBegun (state_of m self.old) begun →
+            Finishes F.may (state_of m self.old) begun.queue result (state_of (record m { host = H.host host.new }) self.new) }
+        ensures shape { shape (H.host host.new) ≡ shape (H.host host.old) }
+        ensures loan { H.IsSameLoan host.old host.new }
     {
         let Begun {
             queue,
@@ -163,16 +164,17 @@ impl<F: FileSystem> Device<F> {
 
     /// Serves the next chain of a queue: what was exchanged, and whether the driver wants to be told; nothing where
     /// none waits.
-    pub fn process_one<M: GuestMemory, B: NewBitmap>(
+    pub fn process_one<M: GuestMemory, H: HostBlocks>(
         &mut self,
         alloc: Global,
-        host: &mut HostMemory<B>,
+        host: &mut H,
         mem: &M,
         queue: usize,
     ) -> Result<Option<(Exchange, bool)>, DeviceError>
-        requires { M.IsHeld mem.now host.old }
-        ensures step { (calls : Calls) × Step F.may (state_of (M.memory mem.now host.old) self.old) queue calls (outcome_of result) (state_of (M.memory mem.now host.new) self.new) }
-        ensures shape { shape host.new ≡ shape host.old }
+        requires { M.IsHeld mem.now (H.host host.old) }
+        ensures step { (calls : Calls) × Step F.may (state_of (M.memory mem.now (H.host host.old)) self.old) queue calls (outcome_of result) (state_of (M.memory mem.now (H.host host.new)) self.new) }
+        ensures shape { shape (H.host host.new) ≡ shape (H.host host.old) }
+        ensures loan { H.IsSameLoan host.old host.new }
     {
         if queue >= self.queues.len() {
             return Err(DeviceError::NoSuchQueue);

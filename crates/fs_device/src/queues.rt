@@ -10,7 +10,7 @@ use fs_queue::QueueError;
 use fuse_fs::FileSystem;
 use std::alloc::{AllocError, Global};
 use vm_memory::GuestMemory;
-use vm_memory_core::{HostMemory, NewBitmap};
+use vm_memory_core::HostBlocks;
 
 /// The chains that were exchanged one after another, each with whether the driver is to be told, and why none came
 /// after them, if that is a refusal.
@@ -62,17 +62,18 @@ impl<F: FileSystem> Device<F> {
     /// Serves the next chains of a queue one after another, until `most` are done, none waits or a step is refused. A
     /// missing queue is refused first, whatever memory there is; 9 comes where there is no room for `most` exchanges.
     #[tactic(auto, using(crate::proofs::KickLemmas::room_wanted))]
-    pub fn process_queue<M: GuestMemory, B: NewBitmap>(
+    pub fn process_queue<M: GuestMemory, H: HostBlocks>(
         &mut self,
         alloc: Global,
-        host: &mut HostMemory<B>,
+        host: &mut H,
         mem: &M,
         queue: usize,
         most: u16,
     ) -> Result<QueueRun, DeviceError>
-        requires { M.IsHeld mem.now host.old }
-        ensures run { ServesQueue F.may (state_of (M.memory mem.now host.old) self.old) queue most result (state_of (M.memory mem.now host.new) self.new) }
-        ensures shape { shape host.new ≡ shape host.old }
+        requires { M.IsHeld mem.now (H.host host.old) }
+        ensures run { ServesQueue F.may (state_of (M.memory mem.now (H.host host.old)) self.old) queue most result (state_of (M.memory mem.now (H.host host.new)) self.new) }
+        ensures shape { shape (H.host host.new) ≡ shape (H.host host.old) }
+        ensures loan { H.IsSameLoan host.old host.new }
     {
         if queue >= self.queues.len() {
             return Err(DeviceError::NoSuchQueue);

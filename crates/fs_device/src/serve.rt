@@ -13,7 +13,7 @@ use fs_queue::Taken;
 use fuse_fs::FileSystem;
 use std::alloc::{AllocError, Global};
 use virtiofsd_fuse::{Error, Reader, Server, Writer};
-use vm_memory_core::{HostMemory, NewBitmap};
+use vm_memory_core::HostBlocks;
 
 /// A reply, or why there is none.
 #[derive(Drop)]
@@ -107,15 +107,15 @@ pub(crate) fn serve<F: FileSystem>(
 
 /// Fetches the request of a chain that was taken, makes room for its reply, and serves it. Nothing is refused once the
 /// file system was asked.
-pub(crate) fn serve_taken<F: FileSystem, B: NewBitmap>(
+pub(crate) fn serve_taken<F: FileSystem, H: HostBlocks>(
     alloc: Global,
     server: &mut Server<F>,
-    host: &HostMemory<B>,
+    host: &H,
     taken: &Taken,
 ) -> Result<Exchange, AllocError>
-    requires lies { TakenLiesIn (lengths host.now) taken.now }
+    requires lies { TakenLiesIn (lengths (H.host host.now)) taken.now }
     requires short { room_places taken.now.chain < 2 ^ 32 }
-    ensures exchange { (m : Memory) (q : Queue) (asked : Asked) → m.host ≡ host.now → IsTaken m q asked taken.now →
+    ensures exchange { (m : Memory) (q : Queue) (asked : Asked) → m.host ≡ H.host host.now → IsTaken m q asked taken.now →
         IfOk result (λ e. (calls : Calls) × ServesChain F.may server.old.page_size (server_state server.old) taken.now.head asked calls (exchange_of e) (server_state server.new)) }
     ensures fits { IfOk result (λ e. length e.reply.items ≤ room_places taken.now.chain) }
     ensures head { IfOk result (λ e. e.head ≡ taken.now.head) }

@@ -10,24 +10,24 @@ ghost use Rattle.fs_queue.specs.Look.{IsUnmapped};
 
 use std::alloc::{AllocError, Global};
 use vm_memory::GuestMemory;
-use vm_memory_core::{GuestAddress, HostMemory, NewBitmap, Permissions, Windows};
+use vm_memory_core::{GuestAddress, HostBlocks, Permissions, Windows};
 use vm_values::{ByteValued, Le16};
 
 /// Reads a buffer full of bytes from an address on, or answers that one of them isn't there. Memory is wanting only
 /// where a translation fails.
 #[inline]
-pub(crate) fn read<M: GuestMemory, B: NewBitmap>(
+pub(crate) fn read<M: GuestMemory, H: HostBlocks>(
     alloc: Global,
-    host: &HostMemory<B>,
+    host: &H,
     mem: &M,
     addr: u64,
     buffer: &mut [u8],
 ) -> Result<bool, AllocError>
     requires fits { addr + length buffer.old < 2 ^ 64 }
-    requires held { M.IsHeld mem.now host.now }
-    ensures found { IfOk result (λ found. found ≡ reach (M.memory mem.now host.now) Read addr (length buffer.old)) }
-    ensures bytes { IfOk result (λ found. IsTrue found → buffer.new ≡ bytes (M.memory mem.now host.now) addr (length buffer.old)) }
-    ensures unmapped { OnErr result (IsUnmapped (M.memory mem.now host.now) addr (length buffer.old)) }
+    requires held { M.IsHeld mem.now (H.host host.now) }
+    ensures found { IfOk result (λ found. found ≡ reach (M.memory mem.now (H.host host.now)) Read addr (length buffer.old)) }
+    ensures bytes { IfOk result (λ found. IsTrue found → buffer.new ≡ bytes (M.memory mem.now (H.host host.now)) addr (length buffer.old)) }
+    ensures unmapped { OnErr result (IsUnmapped (M.memory mem.now (H.host host.now)) addr (length buffer.old)) }
 {
     mem.read_range(alloc, host, GuestAddress(addr), buffer)
 }
@@ -41,17 +41,17 @@ pub(crate) fn le16_number(bytes: &[u8; 2]) -> u16
 }
 
 /// The little-endian number in two bytes at an address.
-pub(crate) fn read_u16<M: GuestMemory, B: NewBitmap>(
+pub(crate) fn read_u16<M: GuestMemory, H: HostBlocks>(
     alloc: Global,
-    host: &HostMemory<B>,
+    host: &H,
     mem: &M,
     addr: u64,
 ) -> Result<Option<u16>, AllocError>
     requires fits { addr + 2 < 2 ^ 64 }
-    requires held { M.IsHeld mem.now host.now }
-    ensures number { let m = M.memory mem.now host.now in
+    requires held { M.IsHeld mem.now (H.host host.now) }
+    ensures number { let m = M.memory mem.now (H.host host.now) in
         IfOk result (λ o. o ≡ (if reach m Read addr 2 then Some (number m w16 addr) else None)) }
-    ensures unmapped { OnErr result (IsUnmapped (M.memory mem.now host.now) addr 2) }
+    ensures unmapped { OnErr result (IsUnmapped (M.memory mem.now (H.host host.now)) addr 2) }
 {
     let mut bytes = [0u8; 2];
     if read(alloc, host, mem, addr, &mut bytes)? {
@@ -63,9 +63,9 @@ pub(crate) fn read_u16<M: GuestMemory, B: NewBitmap>(
 
 /// Adds the windows of a range of addresses, for an access, or answers that one of them has no place.
 #[inline]
-pub(crate) fn add_windows<M: GuestMemory, B: NewBitmap>(
+pub(crate) fn add_windows<M: GuestMemory, H: HostBlocks>(
     alloc: Global,
-    host: &HostMemory<B>,
+    host: &H,
     mem: &M,
     addr: u64,
     len: usize,
@@ -73,10 +73,10 @@ pub(crate) fn add_windows<M: GuestMemory, B: NewBitmap>(
     windows: &mut Windows,
 ) -> Result<bool, AllocError>
     requires fits { addr + len < 2 ^ 64 }
-    requires held { M.IsHeld mem.now host.now }
-    ensures found { IfOk result (λ found. after (places windows.old.items) (located (location (M.memory mem.now host.now) access) (addresses addr len))
+    requires held { M.IsHeld mem.now (H.host host.now) }
+    ensures found { IfOk result (λ found. after (places windows.old.items) (located (location (M.memory mem.now (H.host host.now)) access) (addresses addr len))
         ≡ (if found then Some (places windows.new.items) else None)) }
-    ensures lie { AllLieIn (lengths host.now) windows.old.items → AllLieIn (lengths host.now) windows.new.items }
+    ensures lie { AllLieIn (lengths (H.host host.now)) windows.old.items → AllLieIn (lengths (H.host host.now)) windows.new.items }
 {
     mem.push_windows(alloc, host, GuestAddress(addr), len, access, windows)
 }

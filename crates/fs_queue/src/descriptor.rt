@@ -12,7 +12,7 @@ use smallvec::SmallVec;
 use std::alloc::{AllocError, Global};
 use std::marker::Model;
 use vm_memory::GuestMemory;
-use vm_memory_core::{HostMemory, NewBitmap};
+use vm_memory_core::HostBlocks;
 use vm_values::{ByteValued, get_fields, put_fields};
 
 /// An entry of a descriptor table: le64 addr, le32 len, le16 flags, le16 next, 16 bytes in all (VIRTIO 1.2, 2.7.5).
@@ -87,15 +87,15 @@ impl ByteValued for Descriptor {
 }
 
 /// The entry of a descriptor table at an address, or None where it can't be read.
-pub(crate) fn read_descriptor<M: GuestMemory, B: NewBitmap>(
+pub(crate) fn read_descriptor<M: GuestMemory, H: HostBlocks>(
     alloc: Global,
-    host: &HostMemory<B>,
+    host: &H,
     mem: &M,
     addr: u64,
 ) -> Result<Option<Descriptor>, AllocError>
     requires fits { addr + 16 < 2 ^ 64 }
-    requires held { M.IsHeld mem.now host.now }
-    ensures { let m = M.memory mem.now host.now in IfOk result (λ o. o ≡ (if reach m Read addr 16 then Some (descriptor_at m addr) else None)) }
+    requires held { M.IsHeld mem.now (H.host host.now) }
+    ensures { let m = M.memory mem.now (H.host host.now) in IfOk result (λ o. o ≡ (if reach m Read addr 16 then Some (descriptor_at m addr) else None)) }
 {
     let mut bytes = [0u8; 16];
     if read(alloc, host, mem, addr, &mut bytes)? {

@@ -7,7 +7,7 @@ use crate::fault::QueueError;
 use crate::layout::QueueLayout;
 use std::alloc::{AllocError, Global};
 use vm_memory::GuestMemory;
-use vm_memory_core::{HostMemory, NewBitmap};
+use vm_memory_core::HostBlocks;
 
 /// Nothing, the head of a chain, or why there is none.
 #[derive(Clone, Copy, Debug, PartialEq, Eq)]
@@ -22,17 +22,17 @@ ghost use Rattle.fs_queue.specs.Look.{looked, IfRefused};
 ghost use Rattle.fs_queue.specs.Taking.{may_lack_memory, on_look, stops_queue};
 
 /// What waits at a position of a queue that isn't stopped. Memory is wanting only where a translation fails.
-pub(crate) fn next_head<M: GuestMemory, B: NewBitmap>(
+pub(crate) fn next_head<M: GuestMemory, H: HostBlocks>(
     alloc: Global,
     layout: QueueLayout,
     position: u16,
-    host: &HostMemory<B>,
+    host: &H,
     mem: &M,
 ) -> Result<Look, AllocError>
-    requires { M.IsHeld mem.now host.now }
-    ensures look { IfOk result (λ l. look_of l ≡ looked (M.memory mem.now host.now) (at_position layout position)) }
+    requires { M.IsHeld mem.now (H.host host.now) }
+    ensures look { IfOk result (λ l. look_of l ≡ looked (M.memory mem.now (H.host host.now)) (at_position layout position)) }
     ensures stops { IfOk result (λ l. IfRefused (look_of l) (λ e. IsTrue (stops_queue e))) }
-    ensures memory { OnErr result ((limit : ℕ) → let m = M.memory mem.now host.now in let q = at_position layout position in
+    ensures memory { OnErr result ((limit : ℕ) → let m = M.memory mem.now (H.host host.now) in let q = at_position layout position in
         IsTrue (may_lack_memory m (on_look m limit q (looked m q)))) }
 {
     let Some(index) = read_u16(alloc, host, mem, layout.avail() + 2)? else {

@@ -15,7 +15,7 @@ use crate::used::UsedUpdate;
 use std::alloc::Global;
 use std::marker::Model;
 use vm_memory::GuestMemory;
-use vm_memory_core::{HostMemory, NewBitmap};
+use vm_memory_core::HostBlocks;
 
 // The available flag by which the driver wants no notice (VIRTIO 1.2, 2.7.7).
 const NO_INTERRUPT: u16 = 1;
@@ -43,15 +43,12 @@ ghost use Rattle.fs_queue.specs.Windows.{Takes, after_taking, IsTaken, TakenLies
 
 // Writes the reply over the room of a chain.
 #[tactic(auto, unfolding(vm_memory_core::specs::Window::put_all))]
-fn write_reply<B: NewBitmap>(
-    host: &mut HostMemory<B>,
-    chain: &Result<Chain, ChainFault>,
-    reply: &[u8],
-)
-    requires lies { ChainLiesIn (lengths host.old) chain.now }
+fn write_reply<H: HostBlocks>(host: &mut H, chain: &Result<Chain, ChainFault>, reply: &[u8])
+    requires lies { ChainLiesIn (lengths (H.host host.old)) chain.now }
     requires fits { length reply.now ≤ room_places chain.now }
-    ensures stored { host.new ≡ put_all host.old (zip (chain_places chain.now) reply.now) }
-    ensures shape { shape host.new ≡ shape host.old }
+    ensures stored { H.host host.new ≡ put_all (H.host host.old) (zip (chain_places chain.now) reply.now) }
+    ensures shape { shape (H.host host.new) ≡ shape (H.host host.old) }
+    ensures loan { H.IsSameLoan host.old host.new }
 {
     match chain {
         Ok(chain) => host.write_windows(&chain.writable, reply),
@@ -115,18 +112,18 @@ impl Queue {
 
     /// The chain that waits at the queue's position, with its windows. The position stays until the chain is given
     /// back. Requests and rooms longer than `limit` make a chain faulty.
-    pub fn take<M: GuestMemory, B: NewBitmap>(
+    pub fn take<M: GuestMemory, H: HostBlocks>(
         &mut self,
         alloc: Global,
-        host: &HostMemory<B>,
+        host: &H,
         mem: &M,
         limit: u32,
     ) -> Result<Option<Taken>, QueueError>
-        requires { M.IsHeld mem.now host.now }
-        ensures takes { Takes (M.memory mem.now host.now) limit self.old result }
-        ensures windows { IfOk result (λ o. IfSome o (HasItsWindows (M.memory mem.now host.now) self.old)) }
+        requires { M.IsHeld mem.now (H.host host.now) }
+        ensures takes { Takes (M.memory mem.now (H.host host.now)) limit self.old result }
+        ensures windows { IfOk result (λ o. IfSome o (HasItsWindows (M.memory mem.now (H.host host.now)) self.old)) }
         ensures queue { self.new ≡ after_taking self.old result }
-        ensures lie { IfOk result (λ o. IfSome o (TakenLiesIn (lengths host.now))) }
+        ensures lie { IfOk result (λ o. IfSome o (TakenLiesIn (lengths (H.host host.now)))) }
         ensures short { IfOk result (λ o. IfSome o (λ t. room_places t.chain ≤ limit)) }
     {
         if self.stopped {
@@ -141,20 +138,16 @@ impl Queue {
 
     /// Writes the reply over the room, then the used element, then the used index, and says whether the driver wants to
     /// be told. The chain was taken at this position, and the reply is no longer than its room.
-    pub fn give_back<B: NewBitmap>(
-        &mut self,
-        host: &mut HostMemory<B>,
-        taken: Taken,
-        reply: &[u8],
-    ) -> bool
-        requires lies { TakenLiesIn (lengths host.old) taken }
+    pub fn give_back<H: HostBlocks>(&mut self, host: &mut H, taken: Taken, reply: &[u8]) -> bool
+        requires lies { TakenLiesIn (lengths (H.host host.old)) taken }
         requires fits { length reply.now ≤ room_places taken.chain }
-        ensures stored { (m : Memory) (asked : Asked) → m.host ≡ host.old → IsTaken m self.old asked taken →
-            record m { host = host.new } ≡ returned m self.old taken.head (room_of asked) reply.now }
-        ensures told { (m : Memory) (asked : Asked) → m.host ≡ host.old → IsTaken m self.old asked taken →
-            result ≡ wants_notice (record m { host = host.new }) self.old }
+        ensures stored { (m : Memory) (asked : Asked) → m.host ≡ H.host host.old → IsTaken m self.old asked taken →
+            record m { host = H.host host.new } ≡ returned m self.old taken.head (room_of asked) reply.now }
+        ensures told { (m : Memory) (asked : Asked) → m.host ≡ H.host host.old → IsTaken m self.old asked taken →
+            result ≡ wants_notice (record m { host = H.host host.new }) self.old }
         ensures queue { self.new ≡ advanced self.old }
-        ensures shape { shape host.new ≡ shape host.old }
+        ensures shape { shape (H.host host.new) ≡ shape (H.host host.old) }
+        ensures loan { H.IsSameLoan host.old host.new }
     {
         write_reply(host, &taken.chain, reply);
         self.position = self.position.wrapping_add(1);

@@ -19,23 +19,23 @@ use crate::look::{Look, next_head};
 use crate::walk::{Walked, walk};
 use std::alloc::{AllocError, Global};
 use vm_memory::GuestMemory;
-use vm_memory_core::{HostMemory, NewBitmap, Permissions, Windows};
+use vm_memory_core::{HostBlocks, Permissions, Windows};
 
 // Adds to an empty list the windows that a return at this position writes besides the room: of the used element, then
 // of the used index. Or answers that one of their addresses has no place.
-fn add_used<M: GuestMemory, B: NewBitmap>(
+fn add_used<M: GuestMemory, H: HostBlocks>(
     alloc: Global,
     layout: QueueLayout,
-    host: &HostMemory<B>,
+    host: &H,
     mem: &M,
     position: u16,
     windows: &mut Windows,
 ) -> Result<bool, AllocError>
-    requires held { M.IsHeld mem.now host.now }
+    requires held { M.IsHeld mem.now (H.host host.now) }
     requires none { windows.old.items ≡ [] }
-    ensures found { IfOk result (λ found. located (location (M.memory mem.now host.now) Write) (used_addresses (at_position layout position))
+    ensures found { IfOk result (λ found. located (location (M.memory mem.now (H.host host.now)) Write) (used_addresses (at_position layout position))
         ≡ (if found then Some (places windows.new.items) else None)) }
-    ensures lie { AllLieIn (lengths host.now) windows.new.items }
+    ensures lie { AllLieIn (lengths (H.host host.now)) windows.new.items }
 {
     let slot = position % layout.size();
     let element = layout.used() + 4 + 8 * u64::from(slot);
@@ -48,19 +48,19 @@ fn add_used<M: GuestMemory, B: NewBitmap>(
 
 // Adds to empty lists the windows that a return at this position writes and reads besides the room, or answers by a
 // refusal which of them has an address without a place.
-fn add_ends<M: GuestMemory, B: NewBitmap>(
+fn add_ends<M: GuestMemory, H: HostBlocks>(
     alloc: Global,
     layout: QueueLayout,
-    host: &HostMemory<B>,
+    host: &H,
     mem: &M,
     position: u16,
     ends: &mut ReturnWindows,
 ) -> Result<Option<QueueError>, AllocError>
-    requires held { M.IsHeld mem.now host.now }
+    requires held { M.IsHeld mem.now (H.host host.now) }
     requires used { ends.old.used.items ≡ [] }
     requires flags { ends.old.flags.items ≡ [] }
-    ensures ends { IfOk result (λ missing. ends_of missing ends.new ≡ ends_at (M.memory mem.now host.now) (at_position layout position)) }
-    ensures lie { IfOk result (λ missing. IfNone missing (EndsLieIn (lengths host.now) ends.new)) }
+    ensures ends { IfOk result (λ missing. ends_of missing ends.new ≡ ends_at (M.memory mem.now (H.host host.now)) (at_position layout position)) }
+    ensures lie { IfOk result (λ missing. IfNone missing (EndsLieIn (lengths (H.host host.now)) ends.new)) }
     ensures stops { IfOk result (λ missing. IfSome missing (λ e. IsTrue (stops_queue e))) }
 {
     if !add_used(alloc, layout, host, mem, position, &mut ends.used)? {
@@ -138,20 +138,20 @@ fn access_of(write_only: bool) -> Permissions
 
 // Adds to an empty list the windows of the descriptors of one direction, or answers that one of their addresses has no
 // place.
-fn add_direction<M: GuestMemory, B: NewBitmap>(
+fn add_direction<M: GuestMemory, H: HostBlocks>(
     alloc: Global,
-    host: &HostMemory<B>,
+    host: &H,
     mem: &M,
     descriptors: &[Descriptor],
     write_only: bool,
     windows: &mut Windows,
 ) -> Result<bool, AllocError>
     requires fits { AllEndIn64Bits descriptors.now }
-    requires held { M.IsHeld mem.now host.now }
+    requires held { M.IsHeld mem.now (H.host host.now) }
     requires none { windows.old.items ≡ [] }
-    ensures found { IfOk result (λ found. located (location (M.memory mem.now host.now) (access_of write_only)) (addresses_of (of_direction write_only descriptors.now))
+    ensures found { IfOk result (λ found. located (location (M.memory mem.now (H.host host.now)) (access_of write_only)) (addresses_of (of_direction write_only descriptors.now))
         ≡ (if found then Some (places windows.new.items) else None)) }
-    ensures lie { IfOk result (λ found. IsTrue found → AllLieIn (lengths host.now) windows.new.items) }
+    ensures lie { IfOk result (λ found. IsTrue found → AllLieIn (lengths (H.host host.now)) windows.new.items) }
 {
     reserve_windows(windows, descriptors, write_only)?;
     let access = access_of(write_only);
@@ -167,19 +167,19 @@ fn add_direction<M: GuestMemory, B: NewBitmap>(
 }
 
 // The request and the room of a chain, or its fault.
-fn hold_chain<M: GuestMemory, B: NewBitmap>(
+fn hold_chain<M: GuestMemory, H: HostBlocks>(
     alloc: Global,
-    host: &HostMemory<B>,
+    host: &H,
     mem: &M,
     head: u16,
     descriptors: &[Descriptor],
     limit: u32,
 ) -> Result<Result<Chain, ChainFault>, AllocError>
     requires fits { AllEndIn64Bits descriptors.now }
-    requires held { M.IsHeld mem.now host.now }
-    ensures asked { let m = M.memory mem.now host.now in IfOk result (HoldsChain m (asked_by m limit descriptors.now)) }
-    ensures lie { IfOk result (ChainLiesIn (lengths host.now)) }
-    ensures windows { IfOk result (λ c. HoldsWindows (M.memory mem.now host.now) head c (IsChain descriptors.now)) }
+    requires held { M.IsHeld mem.now (H.host host.now) }
+    ensures asked { let m = M.memory mem.now (H.host host.now) in IfOk result (HoldsChain m (asked_by m limit descriptors.now)) }
+    ensures lie { IfOk result (ChainLiesIn (lengths (H.host host.now))) }
+    ensures windows { IfOk result (λ c. HoldsWindows (M.memory mem.now (H.host host.now)) head c (IsChain descriptors.now)) }
     ensures short { IfOk result (λ c. room_places c ≤ limit) }
 {
     let request_len = count_bytes(descriptors, false);
@@ -205,37 +205,37 @@ fn hold_chain<M: GuestMemory, B: NewBitmap>(
 }
 
 // The same of descriptors that a walk collected, whose memory goes with them.
-fn hold_walked<M: GuestMemory, B: NewBitmap>(
+fn hold_walked<M: GuestMemory, H: HostBlocks>(
     alloc: Global,
-    host: &HostMemory<B>,
+    host: &H,
     mem: &M,
     head: u16,
     descriptors: Descriptors,
     limit: u32,
 ) -> Result<Result<Chain, ChainFault>, AllocError>
     requires fits { AllEndIn64Bits descriptors.items }
-    requires held { M.IsHeld mem.now host.now }
-    ensures asked { let m = M.memory mem.now host.now in IfOk result (HoldsChain m (asked_by m limit descriptors.items)) }
-    ensures lie { IfOk result (ChainLiesIn (lengths host.now)) }
-    ensures windows { IfOk result (λ c. HoldsWindows (M.memory mem.now host.now) head c (IsChain descriptors.items)) }
+    requires held { M.IsHeld mem.now (H.host host.now) }
+    ensures asked { let m = M.memory mem.now (H.host host.now) in IfOk result (HoldsChain m (asked_by m limit descriptors.items)) }
+    ensures lie { IfOk result (ChainLiesIn (lengths (H.host host.now))) }
+    ensures windows { IfOk result (λ c. HoldsWindows (M.memory mem.now (H.host host.now)) head c (IsChain descriptors.items)) }
     ensures short { IfOk result (λ c. room_places c ≤ limit) }
 {
     hold_chain(alloc, host, mem, head, &descriptors, limit)
 }
 
 /// What a queue that isn't stopped answers, at a position, when a chain is asked for.
-pub(crate) fn ask<M: GuestMemory, B: NewBitmap>(
+pub(crate) fn ask<M: GuestMemory, H: HostBlocks>(
     alloc: Global,
     layout: QueueLayout,
     position: u16,
-    host: &HostMemory<B>,
+    host: &H,
     mem: &M,
     limit: u32,
 ) -> Result<Option<Taken>, QueueError>
-    requires { M.IsHeld mem.now host.now }
-    ensures takes { Takes (M.memory mem.now host.now) limit (at_position layout position) result }
-    ensures lie { IfOk result (λ o. IfSome o (TakenLiesIn (lengths host.now))) }
-    ensures windows { IfOk result (λ o. IfSome o (HasItsWindows (M.memory mem.now host.now) (at_position layout position))) }
+    requires { M.IsHeld mem.now (H.host host.now) }
+    ensures takes { Takes (M.memory mem.now (H.host host.now)) limit (at_position layout position) result }
+    ensures lie { IfOk result (λ o. IfSome o (TakenLiesIn (lengths (H.host host.now)))) }
+    ensures windows { IfOk result (λ o. IfSome o (HasItsWindows (M.memory mem.now (H.host host.now)) (at_position layout position))) }
     ensures short { IfOk result (λ o. IfSome o (λ t. room_places t.chain ≤ limit)) }
 {
     let head = match next_head(alloc, layout, position, host, mem) {

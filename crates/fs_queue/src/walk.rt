@@ -12,7 +12,7 @@ use crate::layout::QueueLayout;
 use std::alloc::{AllocError, Global};
 use std::marker::Model;
 use vm_memory::GuestMemory;
-use vm_memory_core::{GuestAddress, HostMemory, NewBitmap, Permissions};
+use vm_memory_core::{GuestAddress, HostBlocks, Permissions};
 use vm_values::ByteValued;
 
 // How many bytes an entry of a table has.
@@ -59,15 +59,15 @@ ghost use Rattle.fs_queue.specs.Walking.{at_position, in_table, verdict_of, foun
 
 // The bytes of a table, where one window has all of them. None says nothing of the table: each entry is then read by
 // itself.
-fn table_bytes<'a, M: GuestMemory, B: NewBitmap>(
+fn table_bytes<'a, M: GuestMemory, H: HostBlocks>(
     alloc: Global,
-    host: &'a HostMemory<B>,
+    host: &'a H,
     mem: &M,
     table: DescriptorTable,
 ) -> Option<&'a [u8]>
-    requires held { M.IsHeld mem.now host.now }
+    requires held { M.IsHeld mem.now (H.host host.now) }
     requires ends { EndsIn64Bits table }
-    ensures { IfSome result (λ b. AreTheTable (M.memory mem.now host.now) table b.now) }
+    ensures { IfSome result (λ b. AreTheTable (M.memory mem.now (H.host host.now)) table b.now) }
 {
     let len = ENTRY as usize * table.entries as usize;
     let start = GuestAddress(table.address);
@@ -90,19 +90,19 @@ fn entry_at(bytes: &[u8], index: u16) -> Descriptor
 }
 
 // An entry of a table, whose bytes are at hand or are read.
-fn read_entry<M: GuestMemory, B: NewBitmap>(
+fn read_entry<M: GuestMemory, H: HostBlocks>(
     alloc: Global,
-    host: &HostMemory<B>,
+    host: &H,
     mem: &M,
     table: DescriptorTable,
     whole: Option<&[u8]>,
     index: u16,
 ) -> Result<Option<Descriptor>, AllocError>
-    requires held { M.IsHeld mem.now host.now }
+    requires held { M.IsHeld mem.now (H.host host.now) }
     requires ends { EndsIn64Bits table }
     requires index { index < table.entries }
-    requires whole { IfSome whole (λ b. AreTheTable (M.memory mem.now host.now) table b.now) }
-    ensures { let m = M.memory mem.now host.now in let a = table.address + 16 * index in
+    requires whole { IfSome whole (λ b. AreTheTable (M.memory mem.now (H.host host.now)) table b.now) }
+    ensures { let m = M.memory mem.now (H.host host.now) in let a = table.address + 16 * index in
         IfOk result (λ o. o ≡ (if reach m Read a 16 then Some (descriptor_at m a) else None)) }
 {
     match whole {
@@ -151,19 +151,19 @@ fn ordinary(table: DescriptorTable, index: u16, left: u16, descriptor: Descripto
 }
 
 // What the rules say of an entry of a table, where `left` more descriptors may join the chain.
-fn step<M: GuestMemory, B: NewBitmap>(
+fn step<M: GuestMemory, H: HostBlocks>(
     alloc: Global,
-    host: &HostMemory<B>,
+    host: &H,
     mem: &M,
     table: DescriptorTable,
     whole: Option<&[u8]>,
     index: u16,
     left: u16,
 ) -> Result<Verdict, AllocError>
-    requires held { M.IsHeld mem.now host.now }
+    requires held { M.IsHeld mem.now (H.host host.now) }
     requires ends { EndsIn64Bits table }
-    requires whole { IfSome whole (λ b. AreTheTable (M.memory mem.now host.now) table b.now) }
-    ensures verdict { IfOk result (λ v. verdict_of v ≡ verdict (M.memory mem.now host.now) (in_table table index left)) }
+    requires whole { IfSome whole (λ b. AreTheTable (M.memory mem.now (H.host host.now)) table b.now) }
+    ensures verdict { IfOk result (λ v. verdict_of v ≡ verdict (M.memory mem.now (H.host host.now)) (in_table table index left)) }
     ensures fits { IfOk result (λ v. IfJoins v (λ d. d.addr + d.len < 2 ^ 64)) }
     ensures more { IfOk result (λ v. IfJoins v (λ _. 0 < left)) }
     ensures leads { IfOk result (λ v. IfLeads v (λ t. (table.indirect ≡ false) × (t.indirect ≡ true) × EndsIn64Bits t)) }
@@ -198,15 +198,15 @@ fn queue_table(layout: QueueLayout) -> DescriptorTable
 }
 
 /// The chain that begins at an entry of the queue's table.
-pub(crate) fn walk<M: GuestMemory, B: NewBitmap>(
+pub(crate) fn walk<M: GuestMemory, H: HostBlocks>(
     alloc: Global,
     layout: QueueLayout,
-    host: &HostMemory<B>,
+    host: &H,
     mem: &M,
     head: u16,
 ) -> Result<Walked, AllocError>
-    requires { M.IsHeld mem.now host.now }
-    ensures chain { IfOk result (λ w. found_of w ≡ chain (M.memory mem.now host.now) (at_position layout 0) head) }
+    requires { M.IsHeld mem.now (H.host host.now) }
+    ensures chain { IfOk result (λ w. found_of w ≡ chain (M.memory mem.now (H.host host.now)) (at_position layout 0) head) }
     ensures fit { IfOk result DescriptorsFit }
 {
     let mut descriptors = Descriptors::new(alloc);

@@ -33,6 +33,8 @@ mod iommu_bytes;
 #[cfg(test)]
 mod joined;
 #[cfg(test)]
+mod lent;
+#[cfg(test)]
 mod permissions;
 #[cfg(test)]
 mod ranges;

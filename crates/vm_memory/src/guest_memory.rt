@@ -17,7 +17,7 @@ use crate::slice_iterator::window_at;
 use smallvec::SmallVec;
 use std::alloc::{AllocError, Global};
 use std::sync::Arc;
-use vm_memory_core::{GuestAddress, HostMemory, NewBitmap, VolatileSlice, put_at};
+use vm_memory_core::{GuestAddress, HostBlocks, HostMemory, NewBitmap, VolatileSlice, put_at};
 
 /// A guest's physical memory over blocks of the host (vm-memory's `GuestMemoryMmap`).
 pub type GuestMemoryMmap = GuestRegionCollection<GuestRegionMmap>;
@@ -131,15 +131,10 @@ impl<R: GuestMemoryRegion> GuestRegionCollection<R> {
     }
 
     // Reads as many bytes from an address on as are there, and says how many.
-    pub(crate) fn read_some<B: NewBitmap>(
-        &self,
-        host: &HostMemory<B>,
-        buffer: &mut [u8],
-        addr: u64,
-    ) -> usize
-        requires { HostHolds host.now self.now }
+    pub(crate) fn read_some<H: HostBlocks>(&self, host: &H, buffer: &mut [u8], addr: u64) -> usize
+        requires { HostHolds (H.host host.now) self.now }
         ensures count { result ≡ reached (place self.now) (circular addr (length buffer.old)) }
-        ensures bytes { buffer.new ≡ read_first (memory_of host.now self.now) (circular addr (length buffer.old)) result buffer.old }
+        ensures bytes { buffer.new ≡ read_first (memory_of (H.host host.now) self.now) (circular addr (length buffer.old)) result buffer.old }
     {
         let mut done = 0;
         while done < buffer.len() {

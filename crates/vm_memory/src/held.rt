@@ -6,14 +6,14 @@ ghost use Rattle.vm_memory.specs.Layout.{AreHeld, IsLayout};
 
 use crate::collection::GuestRegionCollection;
 use crate::region::GuestMemoryRegion;
-use vm_memory_core::{HeldIn, HostMemory, MemoryRegionAddress, NewBitmap};
+use vm_memory_core::{HeldIn, HostBlocks, MemoryRegionAddress};
 
 impl<R: GuestMemoryRegion> HeldIn for GuestRegionCollection<R> {
     ghost IsHeld = { λ m h. AreHeld (lengths h) m };
 
     ghost IsSound = { IsLayout };
 
-    fn is_held<B: NewBitmap>(&self, h: &HostMemory<B>) -> bool {
+    fn is_held<H: HostBlocks>(&self, h: &H) -> bool {
         for at in 0..self.count() {
             if !has_block(h, self.region(at)) {
                 return false;
@@ -24,9 +24,9 @@ impl<R: GuestMemoryRegion> HeldIn for GuestRegionCollection<R> {
 }
 
 // Whether a host has the block of a region, with its length.
-fn has_block<B: NewBitmap, R: GuestMemoryRegion>(h: &HostMemory<B>, region: &R) -> bool
-    ensures { IsTrue result ↔ (((R.region region.now).block < length (lengths h.now))
-        × (slice_index_or (lengths h.now) (R.region region.now).block 0 ≡ (R.region region.now).size)) }
+fn has_block<H: HostBlocks, R: GuestMemoryRegion>(h: &H, region: &R) -> bool
+    ensures { IsTrue result ↔ (((R.region region.now).block < length (lengths (H.host h.now)))
+        × (slice_index_or (lengths (H.host h.now)) (R.region region.now).block 0 ≡ (R.region region.now).size)) }
 {
     let size = region.len();
     match region.get_host_address(MemoryRegionAddress(0)) {

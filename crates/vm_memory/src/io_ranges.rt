@@ -15,7 +15,7 @@ use crate::backend::GuestMemoryBackend;
 use crate::translated::{PiecesLeft, translated_window};
 use std::alloc::AllocError;
 use vm_memory_core::{
-    HostMemory, IotlbIterator, NewBitmap, Permissions, VolatileSlice, Windows, put_at,
+    HostBlocks, HostMemory, IotlbIterator, NewBitmap, Permissions, VolatileSlice, Windows, put_at,
 };
 
 // The longest window of at most `most` bytes from an I/O address on, if what it is mapped to has a place.
@@ -43,9 +43,9 @@ pub(crate) fn io_window<M: GuestMemoryBackend, B: NewBitmap>(
 }
 
 // How many of `len` addresses from one on have a place.
-pub(crate) fn io_reached<M: GuestMemoryBackend, B: NewBitmap>(
+pub(crate) fn io_reached<M: GuestMemoryBackend, H: HostBlocks>(
     backend: &M,
-    h: &HostMemory<B>,
+    h: &H,
     table: usize,
     set: usize,
     access: Permissions,
@@ -53,8 +53,8 @@ pub(crate) fn io_reached<M: GuestMemoryBackend, B: NewBitmap>(
     len: usize,
     mapped: IotlbIterator<'_>,
 ) -> usize
-    requires { (addr + len < 2 ^ 64) × (may_all (table_in h.now table) access addr len ≡ true) × (mapped ≡ pieces (table_in h.now table) addr len) }
-    ensures { result ≡ reached (location (io_memory h.now (M.layout backend.now) table set) access) (circular addr len) }
+    requires { (addr + len < 2 ^ 64) × (may_all (table_in (H.host h.now) table) access addr len ≡ true) × (mapped ≡ pieces (table_in (H.host h.now) table) addr len) }
+    ensures { result ≡ reached (location (io_memory (H.host h.now) (M.layout backend.now) table set) access) (circular addr len) }
 {
     let _ = h;
     let _ = table;
@@ -71,9 +71,9 @@ pub(crate) fn io_reached<M: GuestMemoryBackend, B: NewBitmap>(
 }
 
 // Adds the windows of `len` addresses from one on, joined, or answers that one of them has no place.
-pub(crate) fn push_io<M: GuestMemoryBackend, B: NewBitmap>(
+pub(crate) fn push_io<M: GuestMemoryBackend, H: HostBlocks>(
     backend: &M,
-    h: &HostMemory<B>,
+    h: &H,
     table: usize,
     set: usize,
     access: Permissions,
@@ -82,10 +82,10 @@ pub(crate) fn push_io<M: GuestMemoryBackend, B: NewBitmap>(
     mapped: IotlbIterator<'_>,
     windows: &mut Windows,
 ) -> Result<bool, AllocError>
-    requires { (addr + len < 2 ^ 64) × (may_all (table_in h.now table) access addr len ≡ true) × (mapped ≡ pieces (table_in h.now table) addr len) }
-    ensures found { IfOk result (λ found. after (places windows.old.items) (located (location (io_memory h.now (M.layout backend.now) table set) access) (circular addr len))
+    requires { (addr + len < 2 ^ 64) × (may_all (table_in (H.host h.now) table) access addr len ≡ true) × (mapped ≡ pieces (table_in (H.host h.now) table) addr len) }
+    ensures found { IfOk result (λ found. after (places windows.old.items) (located (location (io_memory (H.host h.now) (M.layout backend.now) table set) access) (circular addr len))
         ≡ (if found then Some (places windows.new.items) else None)) }
-    ensures longest { AddsLongest (translated_left (M.layout backend.now) (table_in h.now table)) (circular addr len) windows.old.items windows.new.items }
+    ensures longest { AddsLongest (translated_left (M.layout backend.now) (table_in (H.host h.now) table)) (circular addr len) windows.old.items windows.new.items }
     ensures held { (lengths : List ℕ) → AreHeld lengths (M.layout backend.now) → AllLieIn lengths windows.old.items → AllLieIn lengths windows.new.items }
 {
     let _ = h;
@@ -104,20 +104,20 @@ pub(crate) fn push_io<M: GuestMemoryBackend, B: NewBitmap>(
 }
 
 // Reads as many bytes from an address on as are there, and says how many.
-pub(crate) fn read_io<M: GuestMemoryBackend, B: NewBitmap>(
+pub(crate) fn read_io<M: GuestMemoryBackend, H: HostBlocks>(
     backend: &M,
-    h: &HostMemory<B>,
+    h: &H,
     table: usize,
     set: usize,
     buffer: &mut [u8],
     addr: u64,
     mapped: IotlbIterator<'_>,
 ) -> usize
-    requires held { AreHeld (lengths h.now) (M.layout backend.now) }
-    requires mapped { (addr + length buffer.old < 2 ^ 64) × (may_all (table_in h.now table) Read addr (length buffer.old) ≡ true)
-        × (mapped ≡ pieces (table_in h.now table) addr (length buffer.old)) }
-    ensures count { result ≡ reached (location (io_memory h.now (M.layout backend.now) table set) Read) (circular addr (length buffer.old)) }
-    ensures bytes { buffer.new ≡ read_first (io_memory h.now (M.layout backend.now) table set) (circular addr (length buffer.old)) result buffer.old }
+    requires held { AreHeld (lengths (H.host h.now)) (M.layout backend.now) }
+    requires mapped { (addr + length buffer.old < 2 ^ 64) × (may_all (table_in (H.host h.now) table) Read addr (length buffer.old) ≡ true)
+        × (mapped ≡ pieces (table_in (H.host h.now) table) addr (length buffer.old)) }
+    ensures count { result ≡ reached (location (io_memory (H.host h.now) (M.layout backend.now) table set) Read) (circular addr (length buffer.old)) }
+    ensures bytes { buffer.new ≡ read_first (io_memory (H.host h.now) (M.layout backend.now) table set) (circular addr (length buffer.old)) result buffer.old }
 {
     let _ = table;
     let mut left = PiecesLeft::new(mapped);

@@ -5,8 +5,7 @@ ghost use Rattle.vm_memory.specs.Memory.{table_in};
 ghost use Rattle.vm_memory.specs.Translating.{Translates};
 
 use vm_memory_core::{
-    GuestAddress, HostMemory, IommuError, IotlbIterator, IovaRange, LookupError, NewBitmap,
-    Permissions,
+    GuestAddress, HostBlocks, IommuError, IotlbIterator, IovaRange, LookupError, Permissions,
 };
 
 /// What translates I/O addresses: a table of the host, by its number (vm-memory's `Iommu`).
@@ -20,14 +19,14 @@ pub trait Iommu {
 
     /// What `length` I/O addresses are mapped to, as long pieces as can be; CannotResolve with the asked range where
     /// not each is mapped with the permission, or where its end doesn't fit. Only one that fails takes memory.
-    fn translate<'a, B: NewBitmap>(
+    fn translate<'a, H: HostBlocks>(
         &self,
-        h: &'a HostMemory<B>,
+        h: &'a H,
         iova: GuestAddress,
         length: usize,
         access: Permissions,
     ) -> Result<IotlbIterator<'a>, IommuError>
-        ensures { Translates (table_in h.now (number self.now)) iova.0 length access result };
+        ensures { Translates (table_in (H.host h.now) (number self.now)) iova.0 length access result };
 }
 
 /// The plain `Iommu`: all that it knows is the number of its table. A table that isn't there maps nothing.
@@ -54,9 +53,9 @@ impl Iommu for TableIommu {
     }
 
     #[inline]
-    fn translate<'a, B: NewBitmap>(
+    fn translate<'a, H: HostBlocks>(
         &self,
-        h: &'a HostMemory<B>,
+        h: &'a H,
         iova: GuestAddress,
         length: usize,
         access: Permissions,

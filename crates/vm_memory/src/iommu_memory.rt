@@ -15,9 +15,7 @@ use crate::memory::{GuestMemory, GuestMemorySlices};
 use crate::region::GuestMemoryRegion;
 use crate::slice_iterator::GuestMemoryBackendSliceIterator;
 use std::alloc::{AllocError, Global};
-use vm_memory_core::{
-    GuestAddress, HeldIn, HostMemory, IommuError, NewBitmap, Permissions, Windows,
-};
+use vm_memory_core::{GuestAddress, HeldIn, HostBlocks, IommuError, Permissions, Windows};
 
 /// A backend behind an IOMMU, which a device uses by I/O addresses while the IOMMU is on, and by physical ones while it
 /// is off (vm-memory's `IommuMemory`).
@@ -117,20 +115,10 @@ impl<M: GuestMemoryBackend + Drop, I: Iommu + Clone> IommuMemory<M, I> {
 }
 
 // Whether a host has a table of this number.
-fn has_table<B: NewBitmap>(h: &HostMemory<B>, number: usize) -> bool
-    ensures { IsTrue result ↔ (number < length h.now.tables) }
+fn has_table<H: HostBlocks>(h: &H, number: usize) -> bool
+    ensures { IsTrue result ↔ (number < length (H.host h.now).tables) }
 {
     match h.table(number) {
-        Some(_) => true,
-        None => false,
-    }
-}
-
-// Whether a host has a set of I/O pages of this number.
-fn has_io_bitmap<B: NewBitmap>(h: &HostMemory<B>, set: usize) -> bool
-    ensures { IsTrue result ↔ (set < length h.now.io_marks) }
-{
-    match h.io_bitmap(set) {
         Some(_) => true,
         None => false,
     }
@@ -141,10 +129,10 @@ impl<R: GuestMemoryRegion, I: Iommu + Drop> HeldIn for IommuMemory<GuestRegionCo
 
     ghost IsSound = { λ m. IsLayout m.backend };
 
-    fn is_held<B: NewBitmap>(&self, h: &HostMemory<B>) -> bool {
+    fn is_held<H: HostBlocks>(&self, h: &H) -> bool {
         let backend = self.backend.is_held(h);
         let table = has_table(h, self.iommu.table());
-        let io_bitmap = has_io_bitmap(h, self.io_bitmap);
+        let io_bitmap = h.has_io_bitmap(self.io_bitmap);
         backend && table && io_bitmap
     }
 }
@@ -163,10 +151,10 @@ impl<R: GuestMemoryRegion, I: Iommu + Drop> GuestMemory
 
     ghost by_shape = { λ m h g same held. holds-same m.backend (I.number m.iommu) m.io_bitmap h g same held };
 
-    fn check_range<B: NewBitmap>(
+    fn check_range<H: HostBlocks>(
         &self,
         alloc: Global,
-        h: &HostMemory<B>,
+        h: &H,
         addr: GuestAddress,
         count: usize,
         access: Permissions,
@@ -195,10 +183,10 @@ impl<R: GuestMemoryRegion, I: Iommu + Drop> GuestMemory
         }
     }
 
-    fn get_slices<'a, B: NewBitmap>(
+    fn get_slices<'a, H: HostBlocks>(
         &'a self,
         alloc: Global,
-        h: &'a HostMemory<B>,
+        h: &'a H,
         addr: GuestAddress,
         count: usize,
         access: Permissions,
@@ -233,10 +221,10 @@ impl<R: GuestMemoryRegion, I: Iommu + Drop> GuestMemory
         }
     }
 
-    fn read_range<B: NewBitmap>(
+    fn read_range<H: HostBlocks>(
         &self,
         alloc: Global,
-        h: &HostMemory<B>,
+        h: &H,
         addr: GuestAddress,
         buffer: &mut [u8],
     ) -> Result<bool, AllocError> {
@@ -255,10 +243,10 @@ impl<R: GuestMemoryRegion, I: Iommu + Drop> GuestMemory
         }
     }
 
-    fn push_windows<B: NewBitmap>(
+    fn push_windows<H: HostBlocks>(
         &self,
         alloc: Global,
-        h: &HostMemory<B>,
+        h: &H,
         addr: GuestAddress,
         count: usize,
         access: Permissions,

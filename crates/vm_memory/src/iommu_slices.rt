@@ -12,7 +12,7 @@ use crate::error::GuestMemoryError;
 use crate::slices::GuestMemorySliceIterator;
 use crate::translated::translated_window;
 use std::marker::Model;
-use vm_memory_core::{GuestAddress, HostMemory, Iotlb, NewBitmap, Permissions, VolatileSlice};
+use vm_memory_core::{GuestAddress, HostBlocks, Iotlb, Permissions, VolatileSlice};
 
 /// The windows of I/O addresses that follow one another and are mapped throughout, up to the first that is mapped to an
 /// address without a place, whose error ends them (vm-memory's `IommuMemorySliceIterator`).
@@ -43,9 +43,9 @@ impl<'a, M: GuestMemoryBackend> Model for IommuMemorySliceIterator<'a, M> {
 impl<'a, M: GuestMemoryBackend> IommuMemorySliceIterator<'a, M> {
     // The windows of `count` addresses from one on, which a table of the host maps throughout; writes of them mark a
     // set of I/O pages.
-    pub(crate) fn new<B: NewBitmap>(
+    pub(crate) fn new<H: HostBlocks>(
         backend: &'a M,
-        h: &'a HostMemory<B>,
+        h: &'a H,
         table: usize,
         set: usize,
         access: Permissions,
@@ -53,8 +53,8 @@ impl<'a, M: GuestMemoryBackend> IommuMemorySliceIterator<'a, M> {
         count: usize,
     ) -> IommuMemorySliceIterator<'a, M>
         requires ends { addr.0 + count < 2 ^ 64 }
-        requires mapped { may_all (table_in h.now table) access addr.0 count ≡ true }
-        ensures { result ≡ record { layout = M.layout backend.now; ranges = ranges_in h.now table; set = set; access = access; left = circular addr.0 count } }
+        requires mapped { may_all (table_in (H.host h.now) table) access addr.0 count ≡ true }
+        ensures { result ≡ record { layout = M.layout backend.now; ranges = ranges_in (H.host h.now) table; set = set; access = access; left = circular addr.0 count } }
     {
         IommuMemorySliceIterator {
             backend,

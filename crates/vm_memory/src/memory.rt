@@ -20,9 +20,7 @@ use crate::region::GuestMemoryRegion;
 use crate::slice_iterator::GuestMemoryBackendSliceIterator;
 use crate::slices::GuestMemorySliceIterator;
 use std::alloc::{AllocError, Global};
-use vm_memory_core::{
-    GuestAddress, HeldIn, HostMemory, NewBitmap, Permissions, VolatileSlice, Windows,
-};
+use vm_memory_core::{GuestAddress, HeldIn, HostBlocks, Permissions, VolatileSlice, Windows};
 
 /// Windows of a range of guest memory, one after another. It stands for the unnamed type that vm-memory's `get_slices`
 /// answers.
@@ -84,63 +82,63 @@ pub trait GuestMemory: HeldIn {
     ghost longest: { Self → Host → Permissions → ℕ → ℕ };
 
     /// Whether each of `count` addresses from one on has a place, for an access.
-    fn check_range<B: NewBitmap>(
+    fn check_range<H: HostBlocks>(
         &self,
         alloc: Global,
-        h: &HostMemory<B>,
+        h: &H,
         addr: GuestAddress,
         count: usize,
         access: Permissions,
     ) -> Result<bool, AllocError>
-        ensures { Checks (memory self.now h.now) access addr.0 count result };
+        ensures { Checks (memory self.now (H.host h.now)) access addr.0 count result };
 
     /// The windows of `count` addresses from one on, for an access.
-    fn get_slices<'a, B: NewBitmap>(
+    fn get_slices<'a, H: HostBlocks>(
         &'a self,
         alloc: Global,
-        h: &'a HostMemory<B>,
+        h: &'a H,
         addr: GuestAddress,
         count: usize,
         access: Permissions,
     ) -> Result<GuestMemorySlices<'a, Self::PhysicalMemory>, GuestMemoryError>
         ensures slices { IfOk result (λ s. slices_of s
-            ≡ slices_from (location (memory self.now h.now) access) (longest self.now h.now access) addr.0 count) }
+            ≡ slices_from (location (memory self.now (H.host h.now)) access) (longest self.now (H.host h.now) access) addr.0 count) }
         ensures joined { IfOk result (λ s. (items : List (Result Window GuestMemoryError)) → Drains (λ s r t. Gives (slices_of s) r (slices_of t)) s items
-            → AreAllOf (slices_from (location (memory self.now h.now) access) (longest self.now h.now access) addr.0 count) items) }
-        ensures mapped { IfOk result (λ s. is_mapped (memory self.now h.now) access addr.0 count ≡ true) }
-        ensures refused { IfErr result (CannotGive (memory self.now h.now) access addr.0 count) };
+            → AreAllOf (slices_from (location (memory self.now (H.host h.now)) access) (longest self.now (H.host h.now) access) addr.0 count) items) }
+        ensures mapped { IfOk result (λ s. is_mapped (memory self.now (H.host h.now)) access addr.0 count ≡ true) }
+        ensures refused { IfErr result (CannotGive (memory self.now (H.host h.now)) access addr.0 count) };
 
     /// The memory by physical addresses, if these are the addresses that a device uses.
     fn physical_memory(&self) -> Option<&Self::PhysicalMemory>
         ensures { (h : Host) → option_map (λ m. Self.PhysicalMemory.layout m.now) result ≡ physical_layout (memory self.now h) };
 
     /// Reads a buffer full of bytes from an address on, or answers that one of them isn't there.
-    fn read_range<B: NewBitmap>(
+    fn read_range<H: HostBlocks>(
         &self,
         alloc: Global,
-        h: &HostMemory<B>,
+        h: &H,
         addr: GuestAddress,
         buffer: &mut [u8],
     ) -> Result<bool, AllocError>
-        requires { Self.IsHeld self.now h.now }
-        ensures found { Checks (memory self.now h.now) Read addr.0 (length buffer.old) result }
-        ensures bytes { Reads (memory self.now h.now) addr.0 (length buffer.old) buffer.new result };
+        requires { Self.IsHeld self.now (H.host h.now) }
+        ensures found { Checks (memory self.now (H.host h.now)) Read addr.0 (length buffer.old) result }
+        ensures bytes { Reads (memory self.now (H.host h.now)) addr.0 (length buffer.old) buffer.new result };
 
     /// Adds the windows of `count` addresses from one on, joined, for an access, or answers that one of them has no
     /// place.
-    fn push_windows<B: NewBitmap>(
+    fn push_windows<H: HostBlocks>(
         &self,
         alloc: Global,
-        h: &HostMemory<B>,
+        h: &H,
         addr: GuestAddress,
         count: usize,
         access: Permissions,
         windows: &mut Windows,
     ) -> Result<bool, AllocError>
-        ensures found { IfOk result (λ found. after (places windows.old.items) (places_from (memory self.now h.now) access addr.0 count)
+        ensures found { IfOk result (λ found. after (places windows.old.items) (places_from (memory self.now (H.host h.now)) access addr.0 count)
             ≡ (if found then Some (places windows.new.items) else None)) }
-        ensures longest { AddsLongest (longest self.now h.now access) (circular addr.0 count) windows.old.items windows.new.items }
-        ensures held { Self.IsHeld self.now h.now → AllLieIn (lengths h.now) windows.old.items → AllLieIn (lengths h.now) windows.new.items };
+        ensures longest { AddsLongest (longest self.now (H.host h.now) access) (circular addr.0 count) windows.old.items windows.new.items }
+        ensures held { Self.IsHeld self.now (H.host h.now) → AllLieIn (lengths (H.host h.now)) windows.old.items → AllLieIn (lengths (H.host h.now)) windows.new.items };
 
     // what a device sees depends on the host by its bytes, tables and marks alone
     ghost over: { (m : Self) (h g : Host) → memory m g ≡ record (memory m h) { host = g } };
@@ -167,10 +165,10 @@ impl<R: GuestMemoryRegion> GuestMemory for GuestRegionCollection<R> {
     ghost by_shape = { λ m h g same held. held-same m h g same held };
 
     #[inline]
-    fn check_range<B: NewBitmap>(
+    fn check_range<H: HostBlocks>(
         &self,
         alloc: Global,
-        h: &HostMemory<B>,
+        h: &H,
         addr: GuestAddress,
         count: usize,
         access: Permissions,
@@ -181,10 +179,10 @@ impl<R: GuestMemoryRegion> GuestMemory for GuestRegionCollection<R> {
         Ok(self.has_range(addr, count))
     }
 
-    fn get_slices<'a, B: NewBitmap>(
+    fn get_slices<'a, H: HostBlocks>(
         &'a self,
         alloc: Global,
-        h: &'a HostMemory<B>,
+        h: &'a H,
         addr: GuestAddress,
         count: usize,
         access: Permissions,
@@ -201,10 +199,10 @@ impl<R: GuestMemoryRegion> GuestMemory for GuestRegionCollection<R> {
     }
 
     #[inline]
-    fn read_range<B: NewBitmap>(
+    fn read_range<H: HostBlocks>(
         &self,
         alloc: Global,
-        h: &HostMemory<B>,
+        h: &H,
         addr: GuestAddress,
         buffer: &mut [u8],
     ) -> Result<bool, AllocError> {
@@ -215,10 +213,10 @@ impl<R: GuestMemoryRegion> GuestMemory for GuestRegionCollection<R> {
     }
 
     #[inline]
-    fn push_windows<B: NewBitmap>(
+    fn push_windows<H: HostBlocks>(
         &self,
         alloc: Global,
-        h: &HostMemory<B>,
+        h: &H,
         addr: GuestAddress,
         count: usize,
         access: Permissions,

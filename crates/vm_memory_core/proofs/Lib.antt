@@ -1,3 +1,4 @@
 pub mod Stores
 pub mod WindowLemmas
 pub mod ValueLemmas
+pub mod LentLemmas

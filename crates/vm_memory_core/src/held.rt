@@ -4,6 +4,7 @@ ghost use Rattle.std.specs.Prelude.{IsTrue, ◌↔◌};
 ghost use Rattle.vm_memory_core.specs.Host.{Host};
 
 use crate::host::HostMemory;
+use crate::host_blocks::HostBlocks;
 use vm_bitmaps::NewBitmap;
 
 /// What names things of a host: blocks with their lengths, as a layout does, a table and a set of I/O pages.
@@ -15,8 +16,8 @@ pub trait HeldIn {
     ghost IsSound: { Self → Type 0 };
 
     /// Whether a host has all that it names. `HostMemory::holds` asks it.
-    fn is_held<B: NewBitmap>(&self, h: &HostMemory<B>) -> bool
-        ensures held { IsTrue result ↔ IsHeld self.now h.now }
+    fn is_held<H: HostBlocks>(&self, h: &H) -> bool
+        ensures held { IsTrue result ↔ IsHeld self.now (H.host h.now) }
         ensures sound { IsSound self.now };
 }
 

@@ -9,7 +9,8 @@ use std::alloc::{AllocError, Global};
 use std::marker::Model;
 use vm_bitmaps::{Bitmap, NewBitmap, PageBitmap};
 
-/// The dirty pages of the I/O addresses from 0 on, of 4096 bytes each. Clauses see its marks.
+/// The dirty pages of the addresses from 0 on, of 4096 bytes each: I/O addresses, or those in a part of memory that is
+/// lent. Clauses see its marks.
 #[derive(Drop)]
 pub struct IoPages<B: NewBitmap> {
     bitmap: B,
@@ -26,8 +27,8 @@ impl<B: NewBitmap> Model for IoPages<B> {
 }
 
 impl<B: NewBitmap> IoPages<B> {
-    // No page of the addresses below a number is marked.
-    pub(crate) fn with_len(alloc: Global, byte_size: usize) -> Result<IoPages<B>, AllocError>
+    /// No page of the addresses below a number is marked.
+    pub fn with_len(alloc: Global, byte_size: usize) -> Result<IoPages<B>, AllocError>
         ensures { IfOk result (λ p. p ≡ replicate (B.count byte_size) false) }
     {
         let bitmap = B::with_len(alloc, byte_size)?;

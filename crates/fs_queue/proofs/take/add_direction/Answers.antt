@@ -12,7 +12,7 @@ use Rattle.fs_queue.proofs.take.add_direction.Goals as goal
 use Rattle.fs_queue.proofs.take.add_direction.Goals.{else-is_write_only-write_only-via-then-is_write_only-write_only+in_ok-add_windows+else-not-branch, else-is_write_only-write_only-via-else-is_write_only-write_only}
 
 pub loop-descriptor-init : goal.loop-descriptor-init
-loop-descriptor-init g c = rw (c.reserve_windows.ensures, c.requires.none) (record { found = after-none _; lie = none_lies (lengths c.args.host.now) })
+loop-descriptor-init g c = rw (c.reserve_windows.ensures, c.requires.none) (record { found = after-none _; lie = none_lies (lengths (g.H.HostBlocks.host c.args.host.now)) })
 
 pub add_windows-requires-clause-fits : goal.add_windows-requires-clause-fits
 unfolding AllEndIn64Bits
@@ -26,7 +26,7 @@ returns-then-not-branch-clause-found g c =
     let next = drop_item c.args.descriptors.now c.loop-descriptor.descriptor-index c.descriptor-item.result c.loop-descriptor-test.true c.descriptor-item.is in
     let kept = ap (λ x. beq x c.args.write_only) (sym c.is_write_only.ensures) ∙ c.if-is_write_only-write_only.true in
     let lost = rw (c.if-not-branch.true, c.access_of-access.ensures, ap (λ (d : Descriptor). d.addr) c.descriptor.view_is, ap (λ (d : Descriptor). d.len) c.descriptor.view_is) at c.in_ok-add_windows.ensures.found in
-    sym (sym (direction_lost (location (g.M.GuestMemory.memory c.args.mem.now c.args.host.now) (access_of c.args.write_only)) c.args.write_only c.args.descriptors.now c.loop-descriptor.descriptor-index _
+    sym (sym (direction_lost (location (g.M.GuestMemory.memory c.args.mem.now (g.H.HostBlocks.host c.args.host.now)) (access_of c.args.write_only)) c.args.write_only c.args.descriptors.now c.loop-descriptor.descriptor-index _
     (places c.loop-descriptor.windows.items) next kept lost) ∙ c.loop-descriptor.invariant.found)
 
 pub loop-descriptor-preserved : goal.loop-descriptor-preserved
@@ -37,19 +37,19 @@ loop-descriptor-preserved g c =
           let kept = ap (λ x. beq x c.args.write_only) (sym c.is_write_only.ensures) ∙ w.if-is_write_only-write_only.true in
           let found = rw (w.if-not-branch.false, c.access_of-access.ensures, ap (λ (d : Descriptor). d.addr) c.descriptor.view_is, ap (λ (d : Descriptor). d.len) c.descriptor.view_is) at w.in_ok-add_windows.ensures.found in
           rw w.windows-is (record {
-            found = sym (direction_found (location (g.M.GuestMemory.memory c.args.mem.now c.args.host.now) (access_of c.args.write_only)) c.args.write_only c.args.descriptors.now
+            found = sym (direction_found (location (g.M.GuestMemory.memory c.args.mem.now (g.H.HostBlocks.host c.args.host.now)) (access_of c.args.write_only)) c.args.write_only c.args.descriptors.now
                 c.loop-descriptor.descriptor-index _ (places c.loop-descriptor.windows.items) _ next kept found) ∙ c.loop-descriptor.invariant.found;
             lie = w.add_windows.ensures.lie c.loop-descriptor.invariant.lie;
           })
       | else-is_write_only-write_only-via-else-is_write_only-write_only w ↦
           let other = ap (λ x. beq x c.args.write_only) (sym c.is_write_only.ensures) ∙ w.if-is_write_only-write_only.false in
           rw w.windows-is (record {
-            found = sym (direction_other (location (g.M.GuestMemory.memory c.args.mem.now c.args.host.now) (access_of c.args.write_only)) c.args.write_only c.args.descriptors.now
+            found = sym (direction_other (location (g.M.GuestMemory.memory c.args.mem.now (g.H.HostBlocks.host c.args.host.now)) (access_of c.args.write_only)) c.args.write_only c.args.descriptors.now
                 c.loop-descriptor.descriptor-index _ (places c.loop-descriptor.windows.items) next other) ∙ c.loop-descriptor.invariant.found;
             lie = c.loop-descriptor.invariant.lie;
           })
     ]
 
 pub returns-clause-found : goal.returns-clause-found
-returns-clause-found g c = sym (sym (direction_done (location (g.M.GuestMemory.memory c.args.mem.now c.args.host.now) (access_of c.args.write_only)) c.args.write_only c.args.descriptors.now
+returns-clause-found g c = sym (sym (direction_done (location (g.M.GuestMemory.memory c.args.mem.now (g.H.HostBlocks.host c.args.host.now)) (access_of c.args.write_only)) c.args.write_only c.args.descriptors.now
     c.loop-descriptor.descriptor-index _ c.loop-descriptor-test.false) ∙ c.loop-descriptor.invariant.found)

@@ -7,11 +7,11 @@ use Rattle.fs_queue.proofs.take.add_ends.Goals as goal
 
 pub returns-clause-lie : goal.returns-clause-lie
 returns-clause-lie g c =
-    let m = g.M.GuestMemory.memory c.args.mem.now c.args.host.now in
+    let m = g.M.GuestMemory.memory c.args.mem.now (g.H.HostBlocks.host c.args.host.now) in
     let flags = after_empty (located (location m Read) (addresses c.avail-flags.result 2)) _ (rw (c.requires.flags, c.if-not-branch-2.false) at c.in_ok-add_windows.ensures.found) in
     record {
       used = c.add_used.ensures.lie;
-      flags = c.add_windows.ensures.lie (rw c.requires.flags (none_lies (lengths c.args.host.now)));
+      flags = c.add_windows.ensures.lie (rw c.requires.flags (none_lies (lengths (g.H.HostBlocks.host c.args.host.now))));
       used_len = length-used m (at_position c.args.layout c.args.position) _ (rw c.if-not-branch.false at c.in_ok-add_used.ensures.found);
       flags_len = length-range 2 c.avail-flags.result (location m Read) _ flags;
     }

@@ -9,44 +9,44 @@ use Rattle.fs_queue.proofs.take.ask.Goals.{in-Faulty, in-Chain}
 
 pub returns-in-Ok-Idle-clause-takes : goal.returns-in-Ok-Idle-clause-takes
 returns-in-Ok-Idle-clause-takes g c =
-    let m = g.M.GuestMemory.memory c.args.mem.now c.args.host.now in
+    let m = g.M.GuestMemory.memory c.args.mem.now (g.H.HostBlocks.host c.args.host.now) in
     let q = at_position c.args.layout c.args.position in
     offer_looked m c.args.limit q refl ∙ sym (ap (on_look m c.args.limit q) (rw c.in-Ok-Idle.field-0-is at c.in-Ok-Idle.ensures.look))
 
 pub returns-in-Ok-Refused-clause-takes : goal.returns-in-Ok-Refused-clause-takes
 returns-in-Ok-Refused-clause-takes g c =
-    let m = g.M.GuestMemory.memory c.args.mem.now c.args.host.now in
+    let m = g.M.GuestMemory.memory c.args.mem.now (g.H.HostBlocks.host c.args.host.now) in
     let q = at_position c.args.layout c.args.position in
     refuses m c.args.limit q c.in-Ok-Refused.error (rw c.in-Ok-Refused.field-0-is at c.in-Ok-Refused.ensures.stops)
     (offer_looked m c.args.limit q refl ∙ sym (ap (on_look m c.args.limit q) (rw c.in-Ok-Refused.field-0-is at c.in-Ok-Refused.ensures.look)))
 
 pub returns-in-Err-clause-takes : goal.returns-in-Err-clause-takes
 returns-in-Err-clause-takes g c =
-    let m = g.M.GuestMemory.memory c.args.mem.now c.args.host.now in
+    let m = g.M.GuestMemory.memory c.args.mem.now (g.H.HostBlocks.host c.args.host.now) in
     ap (may_lack_memory m) (offer_looked m c.args.limit (at_position c.args.layout c.args.position) refl) ∙ c.in-Err.ensures.memory c.args.limit
 
 pub returns-in-Ok-Some-clause-takes : goal.returns-in-Ok-Some-clause-takes
 returns-in-Ok-Some-clause-takes g c =
-    let m = g.M.GuestMemory.memory c.args.mem.now c.args.host.now in
+    let m = g.M.GuestMemory.memory c.args.mem.now (g.H.HostBlocks.host c.args.host.now) in
     refuses m c.args.limit (at_position c.args.layout c.args.position) c.in-Ok-Some.error (rw c.in-Ok-Some.field-0-is at c.in-Ok-Some.ensures.stops)
     (offer_lacks m c.args.limit c.args.layout c.args.position c.in-Ok-Head.head c.in-Ok-Some.error (rw c.in-Ok-Head.field-0-is at c.in-Ok-Head.ensures.look) (rw c.in-Ok-Some.field-0-is at c.in-Ok-Some.ensures.ends))
 
 pub returns-in-Err-add_ends-clause-takes : goal.returns-in-Err-add_ends-clause-takes
 returns-in-Err-add_ends-clause-takes g c =
-    lacks_memory (g.M.GuestMemory.memory c.args.mem.now c.args.host.now) c.args.limit c.args.layout c.args.position c.in-Ok-Head.head (rw c.in-Ok-Head.field-0-is at c.in-Ok-Head.ensures.look)
+    lacks_memory (g.M.GuestMemory.memory c.args.mem.now (g.H.HostBlocks.host c.args.host.now)) c.args.limit c.args.layout c.args.position c.in-Ok-Head.head (rw c.in-Ok-Head.field-0-is at c.in-Ok-Head.ensures.look)
 
 pub returns-in-Err-held-clause-takes : goal.returns-in-Err-held-clause-takes
 returns-in-Err-held-clause-takes g c =
-    lacks_memory (g.M.GuestMemory.memory c.args.mem.now c.args.host.now) c.args.limit c.args.layout c.args.position c.in-Ok-Head.head (rw c.in-Ok-Head.field-0-is at c.in-Ok-Head.ensures.look)
+    lacks_memory (g.M.GuestMemory.memory c.args.mem.now (g.H.HostBlocks.host c.args.host.now)) c.args.limit c.args.layout c.args.position c.in-Ok-Head.head (rw c.in-Ok-Head.field-0-is at c.in-Ok-Head.ensures.look)
 
 pub returns-in-Stopped-clause-takes : goal.returns-in-Stopped-clause-takes
 returns-in-Stopped-clause-takes g c =
-    offer_found (g.M.GuestMemory.memory c.args.mem.now c.args.host.now) c.args.limit c.args.layout c.args.position c.in-Ok-Head.head _ _ StopsQueue (rw c.in-Ok-Head.field-0-is at c.in-Ok-Head.ensures.look)
+    offer_found (g.M.GuestMemory.memory c.args.mem.now (g.H.HostBlocks.host c.args.host.now)) c.args.limit c.args.layout c.args.position c.in-Ok-Head.head _ _ StopsQueue (rw c.in-Ok-Head.field-0-is at c.in-Ok-Head.ensures.look)
     (rw c.in-Ok-None.field-0-is at c.in-Ok-None.ensures.ends) (rw c.in-Stopped.is at c.in-Ok.ensures.chain)
 
 pub returns-in-Ok-held-clause-takes : goal.returns-in-Ok-held-clause-takes
 returns-in-Ok-held-clause-takes g c =
-    let m = g.M.GuestMemory.memory c.args.mem.now c.args.host.now in
+    let m = g.M.GuestMemory.memory c.args.mem.now (g.H.HostBlocks.host c.args.host.now) in
     let look = rw c.in-Ok-Head.field-0-is at c.in-Ok-Head.ensures.look in
     let ends = rw c.in-Ok-None.field-0-is at c.in-Ok-None.ensures.ends in
     let both = found_ends _ _ _ _ ends in
@@ -70,4 +70,4 @@ returns-in-Ok-held-clause-takes g c =
 
 pub returns-in_default-clause-takes : goal.returns-in_default-clause-takes
 returns-in_default-clause-takes g c =
-    lacks_memory (g.M.GuestMemory.memory c.args.mem.now c.args.host.now) c.args.limit c.args.layout c.args.position c.in-Ok-Head.head (rw c.in-Ok-Head.field-0-is at c.in-Ok-Head.ensures.look)
+    lacks_memory (g.M.GuestMemory.memory c.args.mem.now (g.H.HostBlocks.host c.args.host.now)) c.args.limit c.args.layout c.args.position c.in-Ok-Head.head (rw c.in-Ok-Head.field-0-is at c.in-Ok-Head.ensures.look)

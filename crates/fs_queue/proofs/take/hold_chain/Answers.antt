@@ -9,21 +9,21 @@ pub returns-then-not-branch-clause-asked : goal.returns-then-not-branch-clause-a
 returns-then-not-branch-clause-asked g c =
     let a : total_len (readable c.args.descriptors.now) ≤ c.args.limit = omega arith in
     let b : total_len (writable c.args.descriptors.now) ≤ c.args.limit = omega arith in
-    rw (asks_nothing_read (g.M.GuestMemory.memory c.args.mem.now c.args.host.now) c.args.limit c.args.descriptors.now c.requires.fits a b (sym (rw c.if-not-branch.true at c.in_ok-add_direction.ensures.found)))
+    rw (asks_nothing_read (g.M.GuestMemory.memory c.args.mem.now (g.H.HostBlocks.host c.args.host.now)) c.args.limit c.args.descriptors.now c.requires.fits a b (sym (rw c.if-not-branch.true at c.in_ok-add_direction.ensures.found)))
 
 pub returns-then-not-branch-2-clause-asked : goal.returns-then-not-branch-2-clause-asked
 returns-then-not-branch-2-clause-asked g c =
     let a : total_len (readable c.args.descriptors.now) ≤ c.args.limit = omega arith in
     let b : total_len (writable c.args.descriptors.now) ≤ c.args.limit = omega arith in
-    rw (asks_nothing_written (g.M.GuestMemory.memory c.args.mem.now c.args.host.now) c.args.limit c.args.descriptors.now _ c.requires.fits a b (sym (rw c.if-not-branch.false at c.in_ok-add_direction.ensures.found))
+    rw (asks_nothing_written (g.M.GuestMemory.memory c.args.mem.now (g.H.HostBlocks.host c.args.host.now)) c.args.limit c.args.descriptors.now _ c.requires.fits a b (sym (rw c.if-not-branch.false at c.in_ok-add_direction.ensures.found))
     (sym (rw c.if-not-branch-2.true at c.in_ok-add_direction-2.ensures.found)))
 
 pub invariant_of-result : goal.invariant_of-result
 invariant_of-result g c =
     let a : total_len (readable c.args.descriptors.now) ≤ c.args.limit = omega arith in
     let b : total_len (writable c.args.descriptors.now) ≤ c.args.limit = omega arith in
-    let r = length-direction (location (g.M.GuestMemory.memory c.args.mem.now c.args.host.now) Read) (readable c.args.descriptors.now) _ (sym (rw c.if-not-branch.false at c.in_ok-add_direction.ensures.found)) in
-    let w = length-direction (location (g.M.GuestMemory.memory c.args.mem.now c.args.host.now) Write) (writable c.args.descriptors.now) _ (sym (rw c.if-not-branch-2.false at c.in_ok-add_direction-2.ensures.found)) in
+    let r = length-direction (location (g.M.GuestMemory.memory c.args.mem.now (g.H.HostBlocks.host c.args.host.now)) Read) (readable c.args.descriptors.now) _ (sym (rw c.if-not-branch.false at c.in_ok-add_direction.ensures.found)) in
+    let w = length-direction (location (g.M.GuestMemory.memory c.args.mem.now (g.H.HostBlocks.host c.args.host.now)) Write) (writable c.args.descriptors.now) _ (sym (rw c.if-not-branch-2.false at c.in_ok-add_direction-2.ensures.found)) in
     record { request_counted = omega arith; room_counted = omega arith; short = omega (arith, b, w) }
 
 pub returns-clause-asked : goal.returns-clause-asked
@@ -31,7 +31,7 @@ returns-clause-asked g c =
     let a : total_len (readable c.args.descriptors.now) ≤ c.args.limit = omega arith in
     let b : total_len (writable c.args.descriptors.now) ≤ c.args.limit = omega arith in
     let room = sym (rw c.if-not-branch-2.false at c.in_ok-add_direction-2.ensures.found) in
-    rw (asks (g.M.GuestMemory.memory c.args.mem.now c.args.host.now) c.args.limit c.args.descriptors.now _ _ c.requires.fits a b (sym (rw c.if-not-branch.false at c.in_ok-add_direction.ensures.found)) room) (refl, sym room)
+    rw (asks (g.M.GuestMemory.memory c.args.mem.now (g.H.HostBlocks.host c.args.host.now)) c.args.limit c.args.descriptors.now _ _ c.requires.fits a b (sym (rw c.if-not-branch.false at c.in_ok-add_direction.ensures.found)) room) (refl, sym room)
 
 pub returns-clause-lie : goal.returns-clause-lie
 returns-clause-lie g c = (c.in_ok-add_direction.ensures.lie c.if-not-branch.false, c.in_ok-add_direction-2.ensures.lie c.if-not-branch-2.false)

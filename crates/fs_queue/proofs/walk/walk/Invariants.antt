@@ -7,11 +7,11 @@ use Rattle.fs_queue.proofs.walk.walk.Given as goal
 abbrev pub invariant-loop-descriptors : goal.invariant-loop-descriptors
 invariant-loop-descriptors g l = record {
   chain :
-      prepend l.descriptors.items (rest_of (g.M.GuestMemory.memory l.mem l.host) l.table l.index l.left)
-      ≡ chain (g.M.GuestMemory.memory l.mem l.host) (at_position l.fn.layout 0) l.head;
+      prepend l.descriptors.items (rest_of (g.M.GuestMemory.memory l.mem (g.H.HostBlocks.host l.host)) l.table l.index l.left)
+      ≡ chain (g.M.GuestMemory.memory l.mem (g.H.HostBlocks.host l.host)) (at_position l.fn.layout 0) l.head;
   fit : AllEndIn64Bits l.descriptors.items;
   ends : EndsIn64Bits l.table;
-  whole : IfSome l.whole (λ b. AreTheTable (g.M.GuestMemory.memory l.mem l.host) l.table b.now);
+  whole : IfSome l.whole (λ b. AreTheTable (g.M.GuestMemory.memory l.mem (g.H.HostBlocks.host l.host)) l.table b.now);
 }
 
 abbrev pub decreases-loop-descriptors : goal.decreases-loop-descriptors

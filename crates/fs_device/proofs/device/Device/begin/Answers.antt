@@ -21,8 +21,8 @@ returns-in-Err-clause-begins g c =
 
 pub returns-clause-begins : goal.returns-clause-begins
 returns-clause-begins g c =
-    let m = g.M.GuestMemory.memory c.args.mem.now c.args.host.now in
-    let host : m.host ≡ c.args.host.now = ap (λ (x : Memory). x.host) (g.met.M.GuestMemory.over c.args.mem.now c.args.host.now c.args.host.now) in
+    let m = g.M.GuestMemory.memory c.args.mem.now (g.H.HostBlocks.host c.args.host.now) in
+    let host : m.host ≡ (g.H.HostBlocks.host c.args.host.now) = ap (λ (x : Memory). x.host) (g.met.M.GuestMemory.over c.args.mem.now (g.H.HostBlocks.host c.args.host.now) (g.H.HostBlocks.host c.args.host.now)) in
     let there = slice_get_read c.self.inside.queues.items (vec_len c.self.inside.queues) c.args.queue _ c.self.inside.queues.ok.0 (omega arith) c.index_mut.ensures.value in
     let fixed : Fixed = record { limit = c.self.inside.limit; page_size = c.self.inside.server.page_size } in
     let takes = rw c.in-Ok-Some.field-0-is at c.in-Ok-Some.ensures.takes in

@@ -14,3 +14,6 @@ returns-clause-finishes g c m host is =
     let served = c.in_ok-exchange.ensures.exchange m begun.queue begun.asked begun.taken begun.request in
     rw (← c.self.view_is, c.serve.ensures.page_size) (finishes g.F.FileSystemBase.may fixed m _ queues c.index_mut.result.now c.give_back-notify.new.self (c.self.inside.server.options.0, c.self.inside.server.fs) _ _ c.give_back-notify.result c.args.begun begun there served
     (λ taken. rw c.deref.ensures.value at c.give_back-notify.ensures.stored m begun.asked host taken) (λ taken. c.give_back-notify.ensures.told m begun.asked host taken) c.give_back-notify.ensures.queue)
+
+pub returns-in_err-exchange-clause-loan : goal.returns-in_err-exchange-clause-loan
+returns-in_err-exchange-clause-loan g c = g.met.H.HostBlocks.reflexive c.args.host.now

@@ -15,7 +15,7 @@ returns-in-Ok-None-clause-step g c =
     let there = slice_get_read c.self.inside.queues.items (vec_len c.self.inside.queues) c.args.queue _ c.self.inside.queues.ok.0 (omega arith) c.index_mut.ensures.value in
     let fixed : Fixed = record { limit = c.self.inside.limit; page_size = c.self.inside.server.page_size } in (
       [],
-      rw (← c.self.view_is) (idles g.F.FileSystemBase.may fixed (g.M.GuestMemory.memory c.args.mem.now c.args.host.now) c.self.inside.queues.items c.args.queue c.index_mut.result.now c.take.new.self (c.self.inside.server.options.0, c.self.inside.server.fs) there
+      rw (← c.self.view_is) (idles g.F.FileSystemBase.may fixed (g.M.GuestMemory.memory c.args.mem.now (g.H.HostBlocks.host c.args.host.now)) c.self.inside.queues.items c.args.queue c.index_mut.result.now c.take.new.self (c.self.inside.server.options.0, c.self.inside.server.fs) there
           (rw c.in-Ok-None.field-0-is at c.in-Ok-None.ensures.takes) c.in-Ok-None.ensures.queue),
     )
 
@@ -24,13 +24,13 @@ returns-in-Err-clause-step g c =
     let there = slice_get_read c.self.inside.queues.items (vec_len c.self.inside.queues) c.args.queue _ c.self.inside.queues.ok.0 (omega arith) c.index_mut.ensures.value in
     let fixed : Fixed = record { limit = c.self.inside.limit; page_size = c.self.inside.server.page_size } in (
       [],
-      rw (← c.self.view_is) (refuses g.F.FileSystemBase.may fixed (g.M.GuestMemory.memory c.args.mem.now c.args.host.now) c.self.inside.queues.items c.args.queue c.index_mut.result.now c.take.new.self (c.self.inside.server.options.0, c.self.inside.server.fs) c.in-Err.error there
+      rw (← c.self.view_is) (refuses g.F.FileSystemBase.may fixed (g.M.GuestMemory.memory c.args.mem.now (g.H.HostBlocks.host c.args.host.now)) c.self.inside.queues.items c.args.queue c.index_mut.result.now c.take.new.self (c.self.inside.server.options.0, c.self.inside.server.fs) c.in-Err.error there
           c.in-Err.ensures.takes c.in-Err.ensures.queue),
     )
 
 pub returns-in_default-clause-step : goal.returns-in_default-clause-step
 returns-in_default-clause-step g c =
-    let m = g.M.GuestMemory.memory c.args.mem.now c.args.host.now in
+    let m = g.M.GuestMemory.memory c.args.mem.now (g.H.HostBlocks.host c.args.host.now) in
     let there = slice_get_read c.self.inside.queues.items (vec_len c.self.inside.queues) c.args.queue _ c.self.inside.queues.ok.0 (omega arith) c.index_mut.ensures.value in
     let fixed : Fixed = record { limit = c.self.inside.limit; page_size = c.self.inside.server.page_size } in
     let takes = rw c.in-Ok-Some.field-0-is at c.in-Ok-Some.ensures.takes in
@@ -42,9 +42,9 @@ returns-in_default-clause-step g c =
 
 pub returns-clause-step : goal.returns-clause-step
 returns-clause-step g c =
-    let m = g.M.GuestMemory.memory c.args.mem.now c.args.host.now in
-    let host : m.host ≡ c.args.host.now = ap (λ (x : Memory). x.host) (g.met.M.GuestMemory.over c.args.mem.now c.args.host.now c.args.host.now) in
-    let over = g.met.M.GuestMemory.over c.args.mem.now c.args.host.now c.give_back-notify.new.host in
+    let m = g.M.GuestMemory.memory c.args.mem.now (g.H.HostBlocks.host c.args.host.now) in
+    let host : m.host ≡ (g.H.HostBlocks.host c.args.host.now) = ap (λ (x : Memory). x.host) (g.met.M.GuestMemory.over c.args.mem.now (g.H.HostBlocks.host c.args.host.now) (g.H.HostBlocks.host c.args.host.now)) in
+    let over = g.met.M.GuestMemory.over c.args.mem.now (g.H.HostBlocks.host c.args.host.now) (g.H.HostBlocks.host c.give_back-notify.new.host) in
     let queues = c.self.inside.queues.items in
     let there = slice_get_read queues (vec_len c.self.inside.queues) c.args.queue _ c.self.inside.queues.ok.0 (omega arith) c.index_mut.ensures.value in
     let fixed : Fixed = record { limit = c.self.inside.limit; page_size = c.self.inside.server.page_size } in
@@ -54,3 +54,15 @@ returns-clause-step g c =
     rw (← c.self.view_is, over, c.serve_taken.ensures.page_size) (exchanges g.F.FileSystemBase.may fixed m _ queues (set queues c.args.queue c.take.new.self) c.args.queue c.index_mut.result.now c.index_mut-2.result.now
     c.give_back-notify.new.self (c.self.inside.server.options.0, c.self.inside.server.fs) _ c.in-Ok-Some.taken takes _ c.give_back-notify.result there kept at (c.in-Ok.ensures.exchange m c.index_mut.result.now takes.0 host takes.2)
     (λ taken. rw c.deref.ensures.value at c.give_back-notify.ensures.stored m takes.0 host taken) (λ taken. c.give_back-notify.ensures.told m takes.0 host taken) c.give_back-notify.ensures.queue)
+
+pub returns-then-queue-len-clause-loan : goal.returns-then-queue-len-clause-loan
+returns-then-queue-len-clause-loan g c = g.met.H.HostBlocks.reflexive c.args.host.now
+
+pub returns-in-Ok-None-clause-loan : goal.returns-in-Ok-None-clause-loan
+returns-in-Ok-None-clause-loan g c = g.met.H.HostBlocks.reflexive c.args.host.now
+
+pub returns-in-Err-clause-loan : goal.returns-in-Err-clause-loan
+returns-in-Err-clause-loan g c = g.met.H.HostBlocks.reflexive c.args.host.now
+
+pub returns-in_default-clause-loan : goal.returns-in_default-clause-loan
+returns-in_default-clause-loan g c = g.met.H.HostBlocks.reflexive c.args.host.now

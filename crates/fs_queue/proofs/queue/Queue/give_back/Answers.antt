@@ -8,6 +8,10 @@ returns-clause-stored g c m asked host taken =
 
 pub returns-clause-told : goal.returns-clause-told
 returns-clause-told g c m asked host taken =
-    told_is m c.write_windows.new.self c.args.self.now asked c.args.taken _ _ _
+    told_is m (g.H.HostBlocks.host c.write_windows.new.self) c.args.self.now asked c.args.taken _ _ _
     (kept_tables m _ _ _ _ _ host c.write_reply.ensures.stored c.write_windows.ensures.stored)
     taken c.deref-2.ensures c.read_windows.ensures c.le16_number.ensures
+
+pub returns-clause-loan : goal.returns-clause-loan
+returns-clause-loan g c =
+    g.met.H.HostBlocks.composes c.args.host.now c.write_reply.new.host c.write_windows.new.self c.write_reply.ensures.loan c.write_windows.ensures.loan

@@ -16,7 +16,7 @@ returns-in-Ok-clause-joined g c items drained =
     let all = subst (λ (s : TranslatedSlices). AreAllOf (slices_translated s) items) c.new.ensures (all_of_drained (λ s. slices_of s) (Iommu c.new.result) items drained) in
     rw c.if-not-self.false (subst (λ (t : ℕ). AreAllOf (slices_translated (record {
       layout = c.args.self.now.backend;
-      ranges = ranges_in c.args.h.now t;
+      ranges = ranges_in (g.H.HostBlocks.host c.args.h.now) t;
       set = c.args.self.now.io_bitmap;
       access = c.args.access;
       left = circular c.args.addr.0 c.args.count;

@@ -2,7 +2,7 @@ use Rattle.std.proofs.Common.{arith, ◌∙◌}
 use Rattle.std.proofs.lemmas.List.{drop_all}
 use Rattle.vm_memory_core.specs.Window.{put_all}
 use Rattle.vm_memory_core.proofs.WindowLemmas.{drop_item, places_step, length-places_step}
-use Rattle.vm_memory_core.proofs.host.HostMemory.write_windows.Goals as goal
+use Rattle.vm_memory_core.proofs.host_blocks.HostBlocks.write_windows.Goals as goal
 
 pub loop-window-preserved : goal.loop-window-preserved
 loop-window-preserved g c =
@@ -11,8 +11,9 @@ loop-window-preserved g c =
     record {
       within = omega arith;
       fits = omega arith;
+      same_loan = g.met.Self.HostBlocks.composes c.args.self.now c.loop-window.self c.write.new.self c.loop-window.invariant.same_loan c.write.ensures.loan;
       same_shape = c.write.ensures.shape ∙ c.loop-window.invariant.same_shape;
-      stored = places_step c.args.windows.now c.loop-window.window-index c.min-count.result c.loop-window.done c.window-item.result c.args.bytes.now c.loop-window.self c.write.new.self next
+      stored = places_step c.args.windows.now c.loop-window.window-index c.min-count.result c.loop-window.done c.window-item.result c.args.bytes.now (g.Self.HostBlocks.host c.loop-window.self) (g.Self.HostBlocks.host c.write.new.self) next
           (omega arith) c.write.ensures.stored ∙ c.loop-window.invariant.stored;
     }
 

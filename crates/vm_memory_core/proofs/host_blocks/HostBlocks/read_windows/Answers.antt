@@ -2,7 +2,7 @@ use Rattle.std.proofs.Common.{◌≡◌, ◌+◌, length, take, drop, ◌∙◌,
 use Rattle.std.proofs.lemmas.List.{drop_all, take_all}
 use Rattle.vm_memory_core.specs.Window.{places}
 use Rattle.vm_memory_core.proofs.WindowLemmas.{drop_item, bytes_step, bytes_done, length-places_step, take-put}
-use Rattle.vm_memory_core.proofs.host.HostMemory.read_windows.Goals as goal
+use Rattle.vm_memory_core.proofs.host_blocks.HostBlocks.read_windows.Goals as goal
 
 pub put_at-requires : goal.put_at-requires
 put_at-requires g c =
@@ -18,7 +18,7 @@ loop-window-preserved g c =
     ∙ take-put c.loop-window.buffer c.bytes.result.now c.loop-window.done _ (omega arith) (omega arith) in
     record {
       fits = omega arith;
-      got = bytes_step c.args.self.now c.args.windows.now c.loop-window.window-index _ (take c.loop-window.done c.loop-window.buffer) c.bytes.result.now _ next c.bytes.ensures.bytes more
+      got = bytes_step (g.Self.HostBlocks.host c.args.self.now) c.args.windows.now c.loop-window.window-index _ (take c.loop-window.done c.loop-window.buffer) c.bytes.result.now _ next c.bytes.ensures.bytes more
           ∙ c.loop-window.invariant.got;
     }
 
@@ -27,4 +27,4 @@ returns g c =
     let none = drop_all c.loop-window.window-index c.args.windows.now c.loop-window-test.false in
     let count : length (places (drop c.loop-window.window-index c.args.windows.now)) ≡ 0 = rw none in
     let all = take_all c.loop-window.done c.loop-window.buffer (omega arith) in
-    sym all ∙ bytes_done c.args.self.now c.args.windows.now c.loop-window.window-index _ c.loop-window-test.false ∙ c.loop-window.invariant.got
+    sym all ∙ bytes_done (g.Self.HostBlocks.host c.args.self.now) c.args.windows.now c.loop-window.window-index _ c.loop-window-test.false ∙ c.loop-window.invariant.got

@@ -1,0 +1,105 @@
+//! Memory that is lent for a call, and host memory of any kind.
+
+use crate::given::{eight, expect_same};
+use std::alloc::Global;
+use std::process::Abort;
+use vm_memory_core::{Bitmap, HostBlocks, IoPages, LentMemory, PageBitmap, VolatileSlice};
+
+// The pages of a part, none of which is marked.
+fn clear(rt: &impl Abort, alloc: Global, byte_size: usize) -> IoPages<PageBitmap> {
+    IoPages::with_len(alloc, byte_size).expect(rt, "memory")
+}
+
+// Two parts that are lent.
+fn lent<'a>(
+    rt: &impl Abort,
+    alloc: Global,
+    low: &'a mut [u8],
+    high: &'a mut [u8],
+) -> LentMemory<'a, PageBitmap> {
+    let low_pages = clear(rt, alloc, low.len());
+    let high_pages = clear(rt, alloc, high.len());
+    LentMemory {
+        low,
+        high,
+        low_pages,
+        high_pages,
+    }
+}
+
+// Bytes are written at the front of a window, which has then these.
+fn expect_stored<H: HostBlocks>(
+    rt: &impl Abort,
+    h: &mut H,
+    window: VolatileSlice,
+    bytes: &[u8],
+    want: &[u8],
+) {
+    assert!(rt; h.has(&window) && bytes.len() <= window.len());
+    h.write(window, bytes);
+    expect_same(rt, h.bytes(window), want);
+}
+
+#[test]
+fn lent_parts_are_two_blocks_and_nothing_else(rt: HostRuntime) {
+    let (mut low, mut high) = ([0; 4], [0; 2]);
+    let h = lent(&rt, rt.alloc(), &mut low, &mut high);
+    let lengths = [h.block_len(0), h.block_len(1), h.block_len(2)];
+    expect_same(&rt, lengths, [Some(4), Some(2), None]);
+    expect_same(
+        &rt,
+        (h.table(0).is_none(), h.has_io_bitmap(0)),
+        (true, false),
+    );
+}
+
+#[test]
+fn window_lies_in_a_lent_part_that_has_all_of_it(rt: HostRuntime) {
+    let (mut low, mut high) = ([0; 4], [0; 2]);
+    let h = lent(&rt, rt.alloc(), &mut low, &mut high);
+    let has = [
+        h.has(&VolatileSlice::new(0, 1, 3)),
+        h.has(&VolatileSlice::new(0, 1, 4)),
+        h.has(&VolatileSlice::new(1, 0, 2)),
+        h.has(&VolatileSlice::new(1, 1, 2)),
+        h.has(&VolatileSlice::new(2, 0, 0)),
+    ];
+    expect_same(&rt, has, [true, false, true, false, false]);
+}
+
+#[test]
+fn store_to_lent_memory_stands_in_its_part_and_marks_its_page(rt: HostRuntime) {
+    let (mut low, mut high) = ([1, 2, 3, 4], [0; 0x1008]);
+    let mut h = lent(&rt, rt.alloc(), &mut low, &mut high);
+    let window = VolatileSlice::new(1, 0x1001, 4);
+    expect_stored(&rt, &mut h, window, &[21, 22, 23], &[21, 22, 23, 0]);
+    let marked = [
+        h.low_pages.dirty_at(0),
+        h.high_pages.dirty_at(0),
+        h.high_pages.dirty_at(0x1000),
+    ];
+    expect_same(&rt, marked, [false, false, true]);
+    drop(h);
+    expect_same(
+        &rt,
+        (low, high.get(0x1000..0x1005)),
+        ([1, 2, 3, 4], Some([0, 21, 22, 23, 0].as_slice())),
+    );
+}
+
+#[test]
+fn window_that_marks_io_pages_marks_none_of_a_lent_part(rt: HostRuntime) {
+    let (mut low, mut high) = ([1, 2, 3, 4], [5, 6]);
+    let mut h = lent(&rt, rt.alloc(), &mut low, &mut high);
+    let window = VolatileSlice::new(0, 1, 2).replace_bitmap(0, 0);
+    expect_stored(&rt, &mut h, window, &[21], &[21, 3]);
+    expect_same(&rt, h.low_pages.dirty_at(0), false);
+    drop(h);
+    expect_same(&rt, (low, high), ([1, 21, 3, 4], [5, 6]));
+}
+
+#[test]
+fn store_goes_by_host_memory_of_any_kind(rt: HostRuntime) {
+    let mut h = eight(&rt, rt.alloc());
+    expect_stored(&rt, &mut h, VolatileSlice::new(0, 5, 3), &[21], &[21, 7, 8]);
+}

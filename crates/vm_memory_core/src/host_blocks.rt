@@ -1,0 +1,151 @@
+//! Host memory of any kind, as queues and devices use it.
+
+ghost use Rattle.std.specs.Prelude.{◌≡◌, ◌↔◌, ◌<◌, ◌≤◌, IfOk, IsTrue, length, map, option_map, slice_get};
+ghost use Rattle.vm_memory_core.specs.Host.{Host, lengths, shape};
+ghost use Rattle.vm_memory_core.specs.Window.{AllLieIn, LiesIn, Stores, byte_in, places, places_of};
+
+use crate::copy::put_at;
+use crate::host::HostMemory;
+use crate::window::VolatileSlice;
+use std::alloc::{AllocError, Global};
+use vm_bitmaps::NewBitmap;
+use vm_iotlb::Iotlb;
+
+/// Blocks of bytes with their dirty pages, and what devices behind an IOMMU go by: a `HostMemory`, which owns them, or
+/// memory that is lent for a call.
+pub trait HostBlocks {
+    // what the memory holds
+    ghost host: { Self → Host };
+
+    // whether the memory still stands where it stood: behind the same references, if it is lent
+    ghost IsSameLoan: { Self → Self → Type 0 };
+
+    /// How many bytes a block has.
+    fn block_len(&self, block: usize) -> Option<usize>
+        ensures { result ≡ option_map (λ b. length b.bytes) (slice_get (host self.now).blocks block) };
+
+    /// The bytes of a window.
+    fn bytes(&self, window: VolatileSlice) -> &[u8]
+        requires { LiesIn (lengths (host self.now)) window }
+        ensures bytes { result.now ≡ map (byte_in (host self.now)) (places_of window) }
+        ensures len { length result.now ≡ window.len };
+
+    /// Writes bytes at the first places of a window, and marks their pages.
+    fn write(&mut self, window: VolatileSlice, bytes: &[u8])
+        requires lies { LiesIn (lengths (host self.old)) window }
+        requires fits { length bytes.now ≤ window.len }
+        ensures stored { Stores (host self.old) (host self.new) (places_of window) bytes.now }
+        ensures shape { shape (host self.new) ≡ shape (host self.old) }
+        ensures loan { IsSameLoan self.old self.new };
+
+    /// A table of an IOMMU.
+    fn table(&self, table: usize) -> Option<&Iotlb>
+        ensures { option_map (λ t. t.now) result ≡ slice_get (host self.now).tables table };
+
+    /// Whether there is a set of dirty I/O pages of this number.
+    fn has_io_bitmap(&self, set: usize) -> bool
+        ensures { IsTrue result ↔ (set < length (host self.now).io_marks) };
+
+    /// Whether this memory has all of a window.
+    final fn has(&self, window: &VolatileSlice) -> bool
+        ensures { IsTrue result ↔ LiesIn (lengths (host self.now)) window.now }
+    {
+        match self.block_len(window.block()) {
+            Some(size) => {
+                window.block_offset() <= size && window.len() <= size - window.block_offset()
+            }
+            None => false,
+        }
+    }
+
+    /// Writes bytes at the first places of the windows, joined, and marks their pages.
+    #[tactic(auto, unfolding(crate::specs::Window::AllLieIn))]
+    final fn write_windows(&mut self, windows: &[VolatileSlice], bytes: &[u8])
+        requires lie { AllLieIn (lengths (host self.old)) windows.now }
+        requires fits { length bytes.now ≤ length (places windows.now) }
+        ensures stored { Stores (host self.old) (host self.new) (places windows.now) bytes.now }
+        ensures shape { shape (host self.new) ≡ shape (host self.old) }
+        ensures loan { IsSameLoan self.old self.new }
+    {
+        let mut done = 0;
+        for window in windows {
+            let count = window.len().min(bytes.len() - done);
+            self.write(*window, &bytes[done..][..count]);
+            done += count;
+        }
+    }
+
+    /// Reads the windows, joined, into a buffer that they fill.
+    #[tactic(auto, unfolding(crate::specs::Window::AllLieIn))]
+    final fn read_windows(&self, windows: &[VolatileSlice], buffer: &mut [u8])
+        requires lie { AllLieIn (lengths (host self.now)) windows.now }
+        requires fits { length buffer.old ≡ length (places windows.now) }
+        ensures { buffer.new ≡ map (byte_in (host self.now)) (places windows.now) }
+    {
+        let mut done = 0;
+        for window in windows {
+            put_at(buffer, done, self.bytes(*window));
+            done += window.len();
+        }
+    }
+
+    /// The bytes of the windows, joined; there are about `capacity` of them.
+    #[tactic(auto, unfolding(crate::specs::Window::AllLieIn))]
+    final fn fetch_windows(
+        &self,
+        alloc: Global,
+        windows: &[VolatileSlice],
+        capacity: usize,
+    ) -> Result<Vec<u8>, AllocError>
+        requires { AllLieIn (lengths (host self.now)) windows.now }
+        ensures { IfOk result (λ v. v.items ≡ map (byte_in (host self.now)) (places windows.now)) }
+    {
+        let mut bytes = Vec::with_capacity(alloc, capacity)?;
+        for window in windows {
+            bytes.extend_from_slice(self.bytes(*window))?;
+        }
+        Ok(bytes)
+    }
+
+    // memory stands where it stands
+    ghost reflexive: { (m : Self) → IsSameLoan m m };
+
+    // what stays twice has stayed
+    ghost composes: { (a b c : Self) → IsSameLoan a b → IsSameLoan b c → IsSameLoan a c };
+}
+
+/// It owns its blocks, which no call gives away.
+impl<B: NewBitmap> HostBlocks for HostMemory<B> {
+    ghost use Rattle.std.specs.Prelude.{⊤};
+
+    ghost host = { λ h. h };
+
+    ghost IsSameLoan = { λ old new. ⊤ };
+
+    ghost reflexive = { λ m. tt };
+
+    ghost composes = { λ a b c first second. tt };
+
+    fn block_len(&self, block: usize) -> Option<usize> {
+        HostMemory::block_len(self, block)
+    }
+
+    fn bytes(&self, window: VolatileSlice) -> &[u8] {
+        HostMemory::bytes(self, window)
+    }
+
+    fn write(&mut self, window: VolatileSlice, bytes: &[u8]) {
+        HostMemory::write(self, window, bytes);
+    }
+
+    fn table(&self, table: usize) -> Option<&Iotlb> {
+        HostMemory::table(self, table)
+    }
+
+    fn has_io_bitmap(&self, set: usize) -> bool {
+        match self.io_bitmap(set) {
+            Some(_) => true,
+            None => false,
+        }
+    }
+}

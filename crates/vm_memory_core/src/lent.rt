@@ -1,0 +1,98 @@
+//! Memory that a monitor lends to a device for a call.
+
+ghost use Rattle.std.specs.Prelude.{◌≡◌, ◌+◌, ◌<◌, ◌≤◌, ◌^◌, ◌++◌, length, take, drop};
+ghost use Rattle.vm_memory_core.specs.Putting.{marked_if};
+
+use crate::copy::put_at;
+use crate::host_blocks::HostBlocks;
+use crate::io_pages::IoPages;
+use crate::window::VolatileSlice;
+use vm_bitmaps::{Bitmap, NewBitmap};
+use vm_iotlb::Iotlb;
+
+/// Memory that a monitor owns and lends for a call, in two parts, of which each may be empty: they are blocks 0 and 1,
+/// each with its dirty pages. There is no table of an IOMMU and no set of I/O pages. Clauses see both references, so
+/// that who lent the parts knows what stands in them afterwards.
+#[derive(Drop)]
+pub struct LentMemory<'a, B: NewBitmap> {
+    pub low: &'a mut [u8],
+    pub high: &'a mut [u8],
+    pub low_pages: IoPages<B>,
+    pub high_pages: IoPages<B>,
+}
+
+// Some bytes of a part.
+fn bytes_of(part: &[u8], offset: usize, len: usize) -> &[u8]
+    requires { offset + len ≤ length part.now }
+    ensures { result.now ≡ take len (drop offset part.now) }
+{
+    &part[offset..][..len]
+}
+
+// Writes bytes of a part, and marks their pages if `mark`.
+fn write_part<B: NewBitmap>(
+    part: &mut [u8],
+    pages: &mut IoPages<B>,
+    offset: usize,
+    bytes: &[u8],
+    mark: bool,
+)
+    requires { offset + length bytes.now ≤ length part.old }
+    ensures stored { part.new ≡ take offset part.old ++ bytes.now ++ drop (offset + length bytes.now) part.old }
+    ensures marked { pages.new ≡ marked_if mark pages.old offset (length bytes.now) }
+    ensures fits { offset + length bytes.now < 2 ^ 64 }
+{
+    put_at(part, offset, bytes);
+    if mark {
+        pages.mark_dirty(offset, bytes.len());
+    }
+}
+
+impl<'a, B: NewBitmap> HostBlocks for LentMemory<'a, B> {
+    ghost use Rattle.std.specs.Prelude.{refl};
+    ghost use Rattle.std.proofs.Common.{◌∙◌};
+    ghost use Rattle.vm_memory_core.specs.Host.{of_two};
+
+    ghost host = { λ m. of_two (record { bytes = m.low.now; marks = m.low_pages }) (record { bytes = m.high.now; marks = m.high_pages }) };
+
+    ghost IsSameLoan = { λ old new. (new.low.ghost_name ≡ old.low.ghost_name) × (new.high.ghost_name ≡ old.high.ghost_name) };
+
+    ghost reflexive = { λ m. (refl, refl) };
+
+    ghost composes = { λ a b c first second. (second.0 ∙ first.0, second.1 ∙ first.1) };
+
+    fn block_len(&self, block: usize) -> Option<usize> {
+        match block {
+            0 => Some(self.low.len()),
+            1 => Some(self.high.len()),
+            _ => None,
+        }
+    }
+
+    fn bytes(&self, window: VolatileSlice) -> &[u8] {
+        let offset = window.block_offset();
+        if window.block() == 0 {
+            bytes_of(&*self.low, offset, window.len())
+        } else {
+            bytes_of(&*self.high, offset, window.len())
+        }
+    }
+
+    fn write(&mut self, window: VolatileSlice, bytes: &[u8]) {
+        let offset = window.block_offset();
+        let mark = window.io().is_none();
+        if window.block() == 0 {
+            write_part(&mut *self.low, &mut self.low_pages, offset, bytes, mark);
+        } else {
+            write_part(&mut *self.high, &mut self.high_pages, offset, bytes, mark);
+        }
+    }
+
+    fn table(&self, _table: usize) -> Option<&Iotlb> {
+        None
+    }
+
+    fn has_io_bitmap(&self, _set: usize) -> bool {
+        false
+    }
+}
