@@ -9,7 +9,8 @@ use Rattle.vm_iotlb.specs.declared.iova.MappedRange.{MappedRange}
 use Rattle.vm_iotlb.specs.Table.{Mapping, Table, allows}
 use Rattle.vm_iotlb.specs.AddressRuns.{go_together, led_by, may_all, may_pass, piece_of, pieces, run_of, runs, target_of}
 use Rattle.vm_memory_core.specs.Host.{Place}
-use Rattle.vm_memory_core.specs.Window.{Window, io_address, io_from, places_of, span}
+use Rattle.vm_memory_core.specs.Window.{Window, io_from, places_of, with_io}
+use Rattle.vm_memory_core.proofs.WindowLemmas.{places_replaced}
 use Rattle.vm_memory_core.specs.declared.window.IoMarks.{IoMarks}
 use Rattle.vm_memory.specs.Layout.{Region, left_at, place}
 use Rattle.vm_memory.specs.Memory.{addresses, for_io, located, place_behind}
@@ -217,10 +218,6 @@ run_place (suc n) a table access l all (suc j) below =
 
 -- ---- places that mark I/O pages
 
-abbrev pub with_io : (set a : ℕ) → List Place → List Place
-with_io set a [] = []
-with_io set a (q ∷ qs) = record q { io = Some (record { set = set; address = a }) } ∷ with_io set (a + 1) qs
-
 -- addresses whose places are those of others, each marking its own I/O page
 located_io : (n a t : ℕ) (f p : Where) (set : ℕ) (ps : List Place) → ((k : ℕ) → k < n → f (a + k) ≡ for_io set (a + k) (p (t + k))) → located p (addresses t n) ≡ Some ps →
     located f (addresses a n) ≡ Some (with_io set a ps)
@@ -240,29 +237,6 @@ located_io (suc n) a t f p set ps each e =
     let here : located f (addresses a (suc n)) ≡ Some (with_io set a (s.0 ∷ s.1)) = rw (marked, more) refl in
     here ∙ ap (λ (l : List Place). Some (with_io set a l)) (sym s.4)
 
-from_address : (o a k : ℕ) (set : ℕ) → io_address (o + k) (Some (io_from set a o)) ≡ Some (record { set = set; address = a + k })
-from_address o a k set =
-    elim (nat_le o a) as (λ b. nat_le o a ≡ b → io_address (o + k) (Some (if b then record { set = set; base = a - o; from = 0 } else record { set = set; base = 0; from = o - a })) ≡ Some
-    (record { set = set; address = a + k })) [
-      | true ↦ λ le. let low : o ≤ a = grind (arith, nat_tests) in let same : a - o + (o + k - 0) ≡ a + k = omega arith in ap (λ x. Some (record { set = set; address = x })) same
-      | false ↦ λ gt. let high : a < o = grind (arith, nat_tests) in let same : 0 + (o + k - (o - a)) ≡ a + k = omega arith in ap (λ x. Some (record { set = set; address = x })) same
-    ] refl
-
-span_io : (n b o a k set : ℕ) (io : Option IoMarks) → span b (o + k) (Some (io_from set a o)) n ≡ with_io set (a + k) (span b (o + k) io n)
-unfolding span
-span_io zero b o a k set io = refl
-span_io (suc n) b o a k set io =
-    let at : o + k + 1 ≡ o + (k + 1) = omega arith in
-    let to : a + k + 1 ≡ a + (k + 1) = omega arith in
-    let more = span_io n b o a (k + 1) set io in
-    rw (from_address o a k set, at, to) (ap (λ (ps : List Place). record { block = b; offset = o + k; io = Some (record { set = set; address = a + k }) } ∷ ps) more)
-
-pub replaced : (w : Window) (set a : ℕ) → with_io set a (places_of w) ≡ places_of (record w { io = Some (io_from set a w.offset) })
-replaced w set a =
-    let o : w.offset + 0 ≡ w.offset = omega arith in
-    let x : a + 0 ≡ a = omega arith in
-    sym (rw (o, x) at (span_io w.len w.block w.offset a 0 set w.io))
-
 -- a window of what addresses are mapped to is one of these addresses
 pub window_translated : (n a len : ℕ) (table : Table) (access : Permissions) (l : List Region) (set : ℕ) (w : Window) → may_all table access a n ≡ true → len ≤ run_len table a n → w.len ≡ len →
     located (place l) (addresses (target_of (table a)) len) ≡ Some (places_of w) →
@@ -270,7 +244,7 @@ pub window_translated : (n a len : ℕ) (table : Table) (access : Permissions) (
 window_translated n a len table access l set w all le is there =
     located_io len a (target_of (table a)) (translated l table set access) (place l) set (places_of w)
     (λ k below. ap (for_io set (a + k)) (run_place n a table access l all k (omega arith))) there
-    ∙ ap Some (replaced w set a)
+    ∙ ap Some (places_replaced w set a)
 
 -- the first address, where it is mapped to one without a place
 pub first_lost : (n a : ℕ) (table : Table) (access : Permissions) (l : List Region) (set : ℕ) → 0 < n → may_all table access a n ≡ true → place l (target_of (table a)) ≡ None →

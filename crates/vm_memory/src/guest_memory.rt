@@ -1,6 +1,6 @@
 //! Guest memory by address: what is there, reads and writes (vm-memory's `GuestMemoryMmap`).
 
-ghost use Rattle.std.specs.Prelude.{◌≡◌, ◌+◌, ◌^◌, ◌<◌, ◌≤◌, ℕ, List, None, Some, Ok, IfSome, IfOk, length, min, if◌then◌else◌};
+ghost use Rattle.std.specs.Prelude.{◌≡◌, ◌+◌, ◌^◌, ◌<◌, ◌≤◌, ℕ, List, None, Some, Ok, IfSome, IfOk, OnErr, length, min, if◌then◌else◌};
 ghost use Rattle.std.specs.List.{list_all};
 ghost use Rattle.std.specs.Option.{is_some};
 ghost use Rattle.vm_memory_core.specs.Host.{shape};
@@ -118,6 +118,7 @@ impl<R: GuestMemoryRegion> GuestRegionCollection<R> {
             after (places windows.old.items) (located (place self.now) (circular addr.0 len)) ≡ (if found then Some (places windows.new.items) else None)) }
         ensures longest { AddsLongest (left_at self.now) (circular addr.0 len) windows.old.items windows.new.items }
         ensures held { (lengths : List ℕ) → AreHeld lengths self.now → AllLieIn lengths windows.old.items → AllLieIn lengths windows.new.items }
+        ensures lacking { OnErr result (windows.old.capacity ≤ length windows.new.items) }
     {
         let mut done = 0;
         while done < len {

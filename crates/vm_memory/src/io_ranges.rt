@@ -1,6 +1,6 @@
 //! Ranges of I/O addresses that are mapped throughout: what is there, reads, writes and windows.
 
-ghost use Rattle.std.specs.Prelude.{◌≡◌, ◌+◌, ◌<◌, ◌≤◌, ◌^◌, ℕ, List, Some, None, IfOk, IfSome, length, min, true, if◌then◌else◌};
+ghost use Rattle.std.specs.Prelude.{◌≡◌, ◌+◌, ◌<◌, ◌≤◌, ◌^◌, ℕ, List, Some, None, IfOk, IfSome, OnErr, length, min, true, if◌then◌else◌};
 ghost use Rattle.vm_iotlb.specs.AddressRuns.{may_all, pieces};
 ghost use Rattle.vm_iotlb.specs.declared.permissions.Permissions.TheVariants.{Read, Write};
 ghost use Rattle.vm_memory_core.specs.Host.{lengths, shape};
@@ -87,6 +87,7 @@ pub(crate) fn push_io<M: GuestMemoryBackend, H: HostBlocks>(
         ≡ (if found then Some (places windows.new.items) else None)) }
     ensures longest { AddsLongest (translated_left (M.layout backend.now) (table_in (H.host h.now) table)) (circular addr len) windows.old.items windows.new.items }
     ensures held { (lengths : List ℕ) → AreHeld lengths (M.layout backend.now) → AllLieIn lengths windows.old.items → AllLieIn lengths windows.new.items }
+    ensures lacking { OnErr result (windows.old.capacity ≤ length windows.new.items) }
 {
     let _ = h;
     let _ = table;

@@ -1,13 +1,13 @@
 //! Laws of the definitions: each function's clause is a law.
 
-ghost use Rattle.std.specs.Prelude.{◌≡◌, IfOk};
+ghost use Rattle.std.specs.Prelude.{◌≡◌, MatchResult};
 
 use crate::iommu::TableIommu;
 use std::alloc::AllocError;
 
 /// A clone of a `TableIommu` translates by the same table, and none lacks memory.
 pub fn law_clone(iommu: &TableIommu) -> Result<TableIommu, AllocError>
-    ensures { IfOk result (λ other. other.table ≡ iommu.now.table) }
+    ensures { MatchResult result (λ other. other.table ≡ iommu.now.table) (λ _. ⊥) }
 {
     iommu.clone()
 }

@@ -1,6 +1,6 @@
 //! Guest memory as a device reaches it (vm-memory's `GuestMemory`).
 
-ghost use Rattle.std.specs.Prelude.{◌≡◌, ℕ, List, length, false, true, Some, None, option_map, if◌then◌else◌, IfOk, IfErr, Result, refl};
+ghost use Rattle.std.specs.Prelude.{◌≡◌, ◌≤◌, ◌⊎◌, ℕ, List, length, false, true, Some, None, option_map, if◌then◌else◌, IfOk, IfErr, OnErr, Result, refl};
 ghost use Rattle.std.specs.Iterator.{at_most, Drains};
 ghost use Rattle.vm_memory_core.specs.Host.{Host, lengths, shape};
 ghost use Rattle.vm_memory_core.specs.Window.{Window, places, AllLieIn};
@@ -125,7 +125,7 @@ pub trait GuestMemory: HeldIn {
         ensures bytes { Reads (memory self.now (H.host h.now)) addr.0 (length buffer.old) buffer.new result };
 
     /// Adds the windows of `count` addresses from one on, joined, for an access, or answers that one of them has no
-    /// place.
+    /// place. Memory is wanting only where a translation fails, or where the list has no room left.
     fn push_windows<H: HostBlocks>(
         &self,
         alloc: Global,
@@ -138,7 +138,8 @@ pub trait GuestMemory: HeldIn {
         ensures found { IfOk result (λ found. after (places windows.old.items) (places_from (memory self.now (H.host h.now)) access addr.0 count)
             ≡ (if found then Some (places windows.new.items) else None)) }
         ensures longest { AddsLongest (longest self.now (H.host h.now) access) (circular addr.0 count) windows.old.items windows.new.items }
-        ensures held { Self.IsHeld self.now (H.host h.now) → AllLieIn (lengths (H.host h.now)) windows.old.items → AllLieIn (lengths (H.host h.now)) windows.new.items };
+        ensures held { Self.IsHeld self.now (H.host h.now) → AllLieIn (lengths (H.host h.now)) windows.old.items → AllLieIn (lengths (H.host h.now)) windows.new.items }
+        ensures lacking { OnErr result ((is_mapped (memory self.now (H.host h.now)) access addr.0 count ≡ false) ⊎ (windows.old.capacity ≤ length windows.new.items)) };
 
     // what a device sees depends on the host by its bytes, tables and marks alone
     ghost over: { (m : Self) (h g : Host) → memory m g ≡ record (memory m h) { host = g } };

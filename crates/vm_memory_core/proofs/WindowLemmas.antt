@@ -1,11 +1,13 @@
 -- stores through several windows are one list of stores
-use Rattle.std.proofs.Common.{◌≡◌, ℕ, ◌+◌, ◌-◌, ◌<◌, ◌≤◌, List, [], ◌∷◌, ◌++◌, length, map, append_assoc, append-nil, get_or, take, drop, refl, ap, sym, ◌∙◌, arith, zero, suc, min, Option, length-append, length-drop}
+use Rattle.std.proofs.Common.{◌≡◌, ℕ, ◌+◌, ◌-◌, ◌<◌, ◌≤◌, List, [], ◌∷◌, ◌++◌, length, map, append_assoc, append-nil, get_or, take, drop, refl, ap, sym, ◌∙◌, arith, zero, suc, min, Bool, true, false, Option, Some, length-append, length-drop}
+use Rattle.std.specs.Prelude.{if◌then◌else◌, nat_le}
+use Rattle.std.proofs.lemmas.Bool.Decides.{nat_tests}
 use Rattle.std.specs.List.{zip}
 use Rattle.vm_memory_core.specs.Parts.{part_of}
 use Rattle.std.proofs.lemmas.List.{length-map, drop_more, drop-drop, take_rest, drop_all, map-append, length-take-le, take_at}
 use Rattle.vm_memory_core.specs.Host.{Host, Place}
 use Rattle.vm_memory_core.specs.declared.window.IoMarks.{IoMarks}
-use Rattle.vm_memory_core.specs.Window.{Window, io_address, span, places, places_of, byte_in, put_byte, put_all}
+use Rattle.vm_memory_core.specs.Window.{Window, io_address, io_from, span, with_io, places, places_of, byte_in, put_byte, put_all}
 
 pub length-span : (n block offset : ℕ) (io : Option IoMarks) → length (span block offset io n) ≡ n
 unfolding span
@@ -113,3 +115,28 @@ zip-take_right [] b n e = refl
 zip-take_right (x ∷ a) b zero e = absurd (omega arith)
 zip-take_right (x ∷ a) [] (suc n) e = refl
 zip-take_right {X} {Y} (x ∷ a) (y ∷ b) (suc n) e = ap (λ (l : List (X × Y)). (x, y) ∷ l) (zip-take_right a b n (omega arith))
+
+-- ---- windows of I/O addresses
+
+from_address : (o a k : ℕ) (set : ℕ) → io_address (o + k) (Some (io_from set a o)) ≡ Some (record { set = set; address = a + k })
+from_address o a k set =
+    elim (nat_le o a) as (λ b. nat_le o a ≡ b → io_address (o + k) (Some (if b then record { set = set; base = a - o; from = 0 } else record { set = set; base = 0; from = o - a })) ≡ Some
+    (record { set = set; address = a + k })) [
+      | true ↦ λ le. let low : o ≤ a = grind (arith, nat_tests) in let same : a - o + (o + k - 0) ≡ a + k = omega arith in ap (λ x. Some (record { set = set; address = x })) same
+      | false ↦ λ gt. let high : a < o = grind (arith, nat_tests) in let same : 0 + (o + k - (o - a)) ≡ a + k = omega arith in ap (λ x. Some (record { set = set; address = x })) same
+    ] refl
+
+span_io : (n b o a k set : ℕ) (io : Option IoMarks) → span b (o + k) (Some (io_from set a o)) n ≡ with_io set (a + k) (span b (o + k) io n)
+unfolding span
+span_io zero b o a k set io = refl
+span_io (suc n) b o a k set io =
+    let at : o + k + 1 ≡ o + (k + 1) = omega arith in
+    let to : a + k + 1 ≡ a + (k + 1) = omega arith in
+    let more = span_io n b o a (k + 1) set io in
+    rw (from_address o a k set, at, to) (ap (λ (ps : List Place). record { block = b; offset = o + k; io = Some (record { set = set; address = a + k }) } ∷ ps) more)
+
+pub places_replaced : (w : Window) (set a : ℕ) → with_io set a (places_of w) ≡ places_of (record w { io = Some (io_from set a w.offset) })
+places_replaced w set a =
+    let o : w.offset + 0 ≡ w.offset = omega arith in
+    let x : a + 0 ≡ a = omega arith in
+    sym (rw (o, x) at (span_io w.len w.block w.offset a 0 set w.io))

@@ -74,6 +74,11 @@ span block offset io (suc n) = record { block = block; offset = offset; io = io_
 abbrev pub places_of : Window → List Place
 places_of w = span w.block w.offset w.io w.len
 
+-- these places, of which writes mark the I/O pages of addresses that follow one another, from one on
+abbrev pub with_io : (set address : ℕ) → List Place → List Place
+with_io set address [] = []
+with_io set address (place ∷ more) = record place { io = Some (record { set = set; address = address }) } ∷ with_io set (address + 1) more
+
 -- the places of some windows, one after another
 abbrev pub places : List Window → List Place
 places ws = flat_map places_of ws

@@ -2,7 +2,7 @@
 
 ghost use Rattle.std.specs.Prelude.{IfOk, IfSome, None, Some, ◌≡◌, ◌==◌, ◌+◌, ◌<◌, ◌≤◌, ◌^◌};
 ghost use Rattle.std.specs.Option.{is_none};
-ghost use Rattle.vm_memory_core.specs.Window.{io_from};
+ghost use Rattle.vm_memory_core.specs.Window.{io_from, places_of, with_io};
 ghost use Rattle.vm_memory_core.specs.Parts.{halves_of, part_of, reached_part, rest_of, sub_window};
 
 use crate::error::{VolatileMemoryError, compute_offset};
@@ -78,7 +78,8 @@ impl VolatileSlice {
     /// The same bytes, of which writes mark I/O pages: those of a set of the host's, where its first byte has the I/O
     /// address `base` (vm-memory's `VolatileSlice::replace_bitmap`).
     pub fn replace_bitmap(&self, io: usize, base: u64) -> VolatileSlice
-        ensures { result ≡ record self.now { io = Some (io_from io base self.now.offset) } }
+        ensures window { result ≡ record self.now { io = Some (io_from io base self.now.offset) } }
+        ensures places { places_of result ≡ with_io io base (places_of self.now) }
     {
         let offset = self.offset as u64;
         if offset <= base {

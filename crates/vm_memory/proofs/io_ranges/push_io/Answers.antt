@@ -16,6 +16,7 @@ loop-done-init g c = record {
   found = ap (λ as'. after (places c.args.windows.now.items) (located (location (io_memory (g.H.HostBlocks.host c.args.h.now) (g.M.GuestMemoryBackend.layout c.args.backend.now) c.args.table c.args.set) c.args.access)
       as')) (circular_all c.args.addr c.args.len);
   longest = ([], sym (append-nil c.args.windows.now.items), tt, sym (circular_all c.args.addr c.args.len));
+  room = omega arith;
   held = λ lengths held all. all;
 }
 
@@ -57,6 +58,7 @@ loop-done-preserved g c =
       longest = longest_step (translated_left (g.M.GuestMemoryBackend.layout c.args.backend.now) (table_in (g.H.HostBlocks.host c.args.h.now) c.args.table)) c.args.addr c.loop-done.done c.args.len
           (c.args.addr + c.loop-done.done) c.args.windows.now.items c.loop-done.windows.items c.push.new.self.items c.in-Some.window c.loop-done.invariant.longest (omega (arith, c.requires.0))
           some.0 longest c.in_ok-push.ensures.ok;
+      room = omega (arith, c.loop-done.invariant.room, c.push.ensures.capacity);
       held = λ lengths held old.
           rw c.in_ok-push.ensures.ok (All-push (LiesIn lengths) _ _ (c.loop-done.invariant.held lengths held old) (c.in-Some.ensures.held lengths held));
     })

@@ -17,6 +17,7 @@ invariant-loop-done g l = record {
   longest :
       (added : List Window) × (l.windows.items ≡ l.initial.windows.items ++ added) × AreLongest (translated_left (g.M.GuestMemoryBackend.layout l.backend) (table_in (g.H.HostBlocks.host l.h) l.table)) (circular l.addr l.len) added
       × (left_after (circular l.addr l.len) added ≡ circular (l.addr + l.done) (l.len - l.done));
+  room : l.initial.windows.capacity ≤ l.windows.capacity;
   held : (lengths : List ℕ) → AreHeld lengths (g.M.GuestMemoryBackend.layout l.backend) → AllLieIn lengths l.initial.windows.items → AllLieIn lengths l.windows.items;
 }
 

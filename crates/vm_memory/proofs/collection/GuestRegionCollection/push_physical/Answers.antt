@@ -13,6 +13,7 @@ loop-done-init g c = record {
   within = omega arith;
   found = ap (λ as'. after (places c.args.windows.now.items) (located (place c.args.self.now) as')) (circular_all c.args.addr.0 c.args.len);
   longest = ([], sym (append-nil c.args.windows.now.items), tt, sym (circular_all c.args.addr.0 c.args.len));
+  room = omega arith;
   held = λ lengths held all. all;
 }
 
@@ -43,6 +44,7 @@ loop-done-preserved g c =
           c.in-Some.ensures.some.2 le c.in-Some.ensures.some.3 more ∙ c.loop-done.invariant.found;
       longest = longest_step (left_at c.args.self.now) c.args.addr.0 c.loop-done.done c.args.len _ c.args.windows.now.items c.loop-done.windows.items c.push.new.self.items c.in-Some.window
           c.loop-done.invariant.longest refl c.in-Some.ensures.some.0 c.in-Some.ensures.longest c.in_ok-push.ensures.ok;
+      room = omega (arith, c.loop-done.invariant.room, c.push.ensures.capacity);
       held = λ lengths held old.
           rw c.in_ok-push.ensures.ok (All-push (LiesIn lengths) _ _ (c.loop-done.invariant.held lengths held old) (c.in-Some.ensures.held lengths held));
     })
