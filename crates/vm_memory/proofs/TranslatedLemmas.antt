@@ -1,8 +1,7 @@
 -- windows of I/O addresses
 use Rattle.std.proofs.Common.{◌≡◌, ℕ, Bool, true, false, zero, suc, ◌+◌, ◌-◌, ◌^◌, ◌<◌, ◌≤◌, ◌&&◌, eqb, min, List, [], ◌∷◌, map, refl, ap, sym, subst, ◌∙◌, arith, Option, Some, None}
-use Rattle.std.specs.Prelude.{if◌then◌else◌, nat_le, unwrap_or, MatchOption}
+use Rattle.std.specs.Prelude.{if◌then◌else◌, unwrap_or, MatchOption}
 use Rattle.std.proofs.lemmas.Bool.{eqb-true}
-use Rattle.std.proofs.lemmas.Bool.Decides.{nat_tests}
 use Rattle.vm_iotlb.specs.declared.permissions.Permissions.{Permissions}
 use Rattle.vm_iotlb.specs.declared.iova.IovaRange.{IovaRange}
 use Rattle.vm_iotlb.specs.declared.iova.MappedRange.{MappedRange}
@@ -11,7 +10,6 @@ use Rattle.vm_iotlb.specs.AddressRuns.{go_together, led_by, may_all, may_pass, p
 use Rattle.vm_memory_core.specs.Host.{Place}
 use Rattle.vm_memory_core.specs.Window.{Window, io_from, places_of, with_io}
 use Rattle.vm_memory_core.proofs.WindowLemmas.{places_replaced}
-use Rattle.vm_memory_core.specs.declared.window.IoMarks.{IoMarks}
 use Rattle.vm_memory.specs.Layout.{Region, left_at, place}
 use Rattle.vm_memory.specs.Memory.{addresses, for_io, located, place_behind}
 use Rattle.vm_memory.specs.Translated.{run_len, translated, translated_left, AreLeft, MappedLeft}

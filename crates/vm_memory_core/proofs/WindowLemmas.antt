@@ -1,5 +1,5 @@
 -- stores through several windows are one list of stores
-use Rattle.std.proofs.Common.{◌≡◌, ℕ, ◌+◌, ◌-◌, ◌<◌, ◌≤◌, List, [], ◌∷◌, ◌++◌, length, map, append_assoc, append-nil, get_or, take, drop, refl, ap, sym, ◌∙◌, arith, zero, suc, min, Bool, true, false, Option, Some, length-append, length-drop}
+use Rattle.std.proofs.Common.{◌≡◌, ℕ, ◌+◌, ◌-◌, ◌<◌, ◌≤◌, List, [], ◌∷◌, ◌++◌, length, map, append_assoc, append-nil, get_or, take, drop, refl, ap, sym, ◌∙◌, arith, zero, suc, min, true, false, Option, Some, length-append, length-drop}
 use Rattle.std.specs.Prelude.{if◌then◌else◌, nat_le}
 use Rattle.std.proofs.lemmas.Bool.Decides.{nat_tests}
 use Rattle.std.specs.List.{zip}
@@ -140,3 +140,16 @@ places_replaced w set a =
     let o : w.offset + 0 ≡ w.offset = omega arith in
     let x : a + 0 ≡ a = omega arith in
     sym (rw (o, x) at (span_io w.len w.block w.offset a 0 set w.io))
+
+-- where the addresses lie above the offsets, and where they lie below them
+pub places_above : (b o n set a : ℕ) (io : Option IoMarks) → o ≤ a → span b o (Some (record { set = set; base = a - o; from = 0 })) n ≡ with_io set a (span b o io n)
+places_above b o n set a io le =
+    let yes : nat_le o a ≡ true = grind (arith, nat_tests) in
+    let same : io_from set a o ≡ record { set = set; base = a - o; from = 0 } = rw yes refl in
+    ap (λ (m : IoMarks). span b o (Some m) n) (sym same) ∙ sym (places_replaced (record { block = b; offset = o; len = n; io = io }) set a)
+
+pub places_below : (b o n set a : ℕ) (io : Option IoMarks) → a < o → span b o (Some (record { set = set; base = 0; from = o - a })) n ≡ with_io set a (span b o io n)
+places_below b o n set a io lt =
+    let no : nat_le o a ≡ false = grind (arith, nat_tests) in
+    let same : io_from set a o ≡ record { set = set; base = 0; from = o - a } = rw no refl in
+    ap (λ (m : IoMarks). span b o (Some m) n) (sym same) ∙ sym (places_replaced (record { block = b; offset = o; len = n; io = io }) set a)

@@ -21,7 +21,7 @@ returns-in-Some-window_at-clause-some g c =
     let w = c.in-Some-window_at.window in
     let some = c.in-Some-window_at.ensures.some in
     let there = subst (λ (t : ℕ). located (place (g.M.GuestMemoryBackend.layout c.args.backend.now)) (addresses t w.len) ≡ Some (places_of w)) first.0 some.3 in
-    rw c.replace_bitmap.ensures (
+    rw c.replace_bitmap.ensures.window (
       some.0,
       omega (arith, some.1, first.1, most),
       omega (arith, some.1, first.1, most, c.requires.ends),
@@ -35,7 +35,7 @@ returns-in-Some-window_at-clause-longest g c =
     let layout = g.M.GuestMemoryBackend.layout c.args.backend.now in
     let first = first_piece c.args.most c.args.addr table c.in-Some.piece _ c.requires.some c.in-Some.ensures.1 in
     let len = c.in-Some-window_at.ensures.longest in
-    rw c.replace_bitmap.ensures (translated_len c.args.most c.args.addr c.in-Some-window_at.window.len (left_at layout c.in-Some.piece.base.0) table layout (omega (arith, c.requires.ends))
+    rw c.replace_bitmap.ensures.window (translated_len c.args.most c.args.addr c.in-Some-window_at.window.len (left_at layout c.in-Some.piece.base.0) table layout (omega (arith, c.requires.ends))
     (ap (left_at layout) first.0) (omega (arith, len, first.1)))
 
 pub returns-in-None-clause-none : goal.returns-in-None-clause-none

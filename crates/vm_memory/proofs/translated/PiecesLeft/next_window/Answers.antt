@@ -29,7 +29,7 @@ returns-clause-some g c table access n ready =
     let w = c.in-Some-window_at.window in
     let some = c.in-Some-window_at.ensures.some in
     let there = subst (λ (t : ℕ). located (place (g.M.GuestMemoryBackend.layout c.args.backend.now)) (addresses t w.len) ≡ Some (places_of w)) piece.0 some.3 in
-    rw c.replace_bitmap.ensures (
+    rw c.replace_bitmap.ensures.window (
       some.0,
       omega (arith, some.1, piece.1, most),
       omega (arith, some.1, piece.1, most, ready.1),
@@ -42,7 +42,7 @@ returns-clause-longest g c table access n ready =
     let first = c.in-Some.ensures.first table c.args.addr n ready.0 ready.3 in
     let piece = first_piece n c.args.addr table c.in-Some.piece _ ready.0 first in
     let len = c.in-Some-window_at.ensures.longest in
-    rw c.replace_bitmap.ensures (translated_len n c.args.addr c.in-Some-window_at.window.len (left_at layout c.in-Some.piece.base.0) table layout (omega (arith, ready.1))
+    rw c.replace_bitmap.ensures.window (translated_len n c.args.addr c.in-Some-window_at.window.len (left_at layout c.in-Some.piece.base.0) table layout (omega (arith, ready.1))
     (ap (left_at layout) piece.0) (omega (arith, len, piece.1)))
 
 pub returns-clause-left : goal.returns-clause-left
@@ -51,5 +51,5 @@ returns-clause-left g c table access n ready =
     let piece = first_piece n c.args.addr table c.in-Some.piece _ ready.0 first in
     let most = run_len-most n c.args.addr table in
     let some = c.in-Some-window_at.ensures.some in
-    rw (c.replace_bitmap.ensures, c.len.ensures.len, c.len-2.ensures.len) (pieces_left c.in-Some-window_at.window.len n c.args.addr table access c.in-Some.piece c.first.new.self.rest
+    rw (c.replace_bitmap.ensures.window, c.len.ensures.len, c.len-2.ensures.len) (pieces_left c.in-Some-window_at.window.len n c.args.addr table access c.in-Some.piece c.first.new.self.rest
     (omega (arith, some.1, piece.1, most)) some.1 (omega (arith, some.0, some.1)) c.in-Some.ensures.fits ready.2 first)
