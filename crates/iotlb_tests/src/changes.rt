@@ -1,10 +1,14 @@
 //! Mappings that come, go, meet and overlap.
 
-use crate::given::{MappingRow, expect_found, table};
+ghost use Rattle.std.specs.Prelude.{◌≡◌, IsTrue};
+ghost use Rattle.vm_iotlb.specs.Ranges.{table_kept};
+ghost use Rattle.vm_iotlb.specs.Table.{AreSame};
+
+use crate::given::{MappingRow, expect_found, expect_same, table};
 use std::alloc::Global;
 use std::process::Abort;
+use vm_iotlb::Iotlb;
 use vm_iotlb::Permissions::{self, Read, ReadWrite, Write};
-use vm_iotlb::laws::law_canonical;
 use vm_values::GuestAddress;
 
 // A look-up for reading from 0 up to 0x30 answers this after some mappings.
@@ -26,7 +30,31 @@ fn neighbours_are_one_where_they_go_on(rt: HostRuntime) {
         let mappings = [first, last, (0x10, *target, 0x10, *perm)];
         expect_after(&rt, rt.alloc(), &mappings, want);
     }
-    law_canonical();
+}
+
+// The same mapping is made in two tables: what did the same before is equal afterwards.
+fn map_in_both(one: &mut Iotlb, other: &mut Iotlb, mapping: MappingRow) -> bool
+    ensures { IsTrue result → AreSame (table_kept one.old) (table_kept other.old) → one.new ≡ other.new }
+{
+    let (iova, target, length, perm) = mapping;
+    let (iova, target) = (GuestAddress(iova), GuestAddress(target));
+    let done = one.set_mapping(iova, target, length, perm).is_ok();
+    let both = done && other.set_mapping(iova, target, length, perm).is_ok();
+    one.law_canonical(other);
+    both
+}
+
+#[test]
+fn tables_that_do_the_same_are_equal(rt: HostRuntime) {
+    let first = (0x0, 0x100, 0x10, Read);
+    let last = (0x20, 0x120, 0x10, Read);
+    let mut one = table(&rt, rt.alloc(), &[first, last]);
+    let mut other = table(&rt, rt.alloc(), &[last, first]);
+    let done = map_in_both(&mut one, &mut other, (0x10, 0x110, 0x10, Read));
+    expect_same(&rt, done, true);
+    for table in [&one, &other] {
+        expect_found(&rt, rt.alloc(), table, 0, 0x30, Read, "at 100+30");
+    }
 }
 
 #[test]

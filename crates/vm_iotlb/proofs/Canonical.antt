@@ -4,7 +4,7 @@ use Rattle.std.proofs.lemmas.Bool.{cases_lt, true≢false}
 use Rattle.vm_iotlb.specs.declared.permissions.Permissions.{Permissions}
 use Rattle.vm_iotlb.specs.declared.range.IotlbRange.{IotlbRange}
 use Rattle.vm_iotlb.specs.Table.{Mapping, AreSame}
-use Rattle.vm_iotlb.specs.Ranges.{mapping_in, table_kept, AreRanges, AreCanonical}
+use Rattle.vm_iotlb.specs.Ranges.{mapping_in, table_kept, AreRanges}
 use Rattle.vm_iotlb.proofs.RangeLemmas.{from_after, table_before, table_inside, table_out}
 use Rattle.vm_iotlb.proofs.RunLemmas.{together_in, apart}
 
@@ -65,7 +65,7 @@ heads_same r l s m are is same =
     let perm = ap (λ (m : Mapping). m.perm) one in
     (fields_same r.start s.start r.end s.end r.target s.target r.perm s.perm start end (omega arith) perm, end)
 
-pub canonical : AreCanonical
+pub canonical : (one other : List IotlbRange) → AreRanges one → AreRanges other → AreSame (table_kept one) (table_kept other) → one ≡ other
 unfolding table_kept
 canonical [] [] are is same = refl
 canonical [] (s ∷ m) are is same = absurd (none_some (mapping_in s s.start) (same s.start ∙ table_inside s m s.start (omega arith) (omega (arith, is.0.0))))

@@ -1,7 +1,7 @@
 -- Which table a list of ranges keeps. Clauses speak of the table alone; the ranges are how it is kept.
 use Rattle.std.specs.Prelude.{◌≡◌, ℕ, ◌+◌, ◌-◌, ◌<◌, ◌≤◌, ◌^◌, Bool, ◌&&◌, nat_le, nat_lt, List, [], ◌∷◌, Option, Some, None, if◌then◌else◌}
 use Rattle.vm_iotlb.specs.declared.range.IotlbRange.{IotlbRange}
-use Rattle.vm_iotlb.specs.Table.{Mapping, Table, AreSame}
+use Rattle.vm_iotlb.specs.Table.{Mapping, Table}
 
 -- whether a range has an address
 abbrev pub has : IotlbRange → ℕ → Bool
@@ -37,10 +37,6 @@ PrecedesAll r (s ∷ rest) = Precedes r s
 abbrev pub AreRanges : List IotlbRange → Type 0
 AreRanges [] = Unit {0}
 AreRanges (r ∷ rs) = IsRange r × PrecedesAll r rs × AreRanges rs
-
--- lists of ranges that keep the same table are the same
-abbrev pub AreCanonical : Type 0
-AreCanonical = (one other : List IotlbRange) → AreRanges one → AreRanges other → AreSame (table_kept one) (table_kept other) → one ≡ other
 
 -- no range ends above an address
 abbrev pub EndBy : ℕ → List IotlbRange → Type 0

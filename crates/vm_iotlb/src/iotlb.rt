@@ -4,6 +4,7 @@ ghost use Rattle.std.specs.Prelude.{◌≡◌, ℕ, ◌+◌, ◌<◌, ◌≤◌,
 ghost use Rattle.vm_iotlb.specs.Changes.{InvalidatesMapping, SetsMapping};
 ghost use Rattle.vm_iotlb.specs.Ranges.{AreRanges, EndsAbove, table_kept};
 ghost use Rattle.vm_iotlb.specs.AddressRuns.{LooksUp, may_all, pieces};
+ghost use Rattle.vm_iotlb.specs.Table.{AreSame};
 ghost use Rattle.vm_iotlb.specs.declared.iova.MappedRange.{MappedRange};
 ghost use Rattle.vm_iotlb.specs.declared.permissions.Permissions.{Permissions};
 
@@ -167,5 +168,16 @@ impl Iotlb {
     {
         let ended = self.ranges.partition_point(|range| range.end <= iova);
         &self.ranges[ended..]
+    }
+
+    /// Tables that do the same to each address are the same, range by range: this is a law, and the call does nothing.
+    pub fn law_canonical(&self, other: &Iotlb)
+        ensures { AreSame (table_kept self.now) (table_kept other.now) → self.now ≡ other.now }
+    {
+        let Iotlb { ranges: _mine, .. } = self;
+        let Iotlb {
+            ranges: _others,
+            ..
+        } = other;
     }
 }

@@ -4,7 +4,6 @@
 mod error;
 mod iotlb;
 mod iova;
-pub mod laws;
 mod lookup;
 mod permissions;
 mod range;
