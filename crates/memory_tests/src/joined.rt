@@ -7,7 +7,7 @@ ghost use Rattle.vm_memory_core.specs.Window.{places, AllLieIn};
 use crate::given::{Host, eight, expect_eight, expect_same};
 use std::alloc::Global;
 use std::process::Abort;
-use vm_memory_core::VolatileSlice;
+use vm_memory_core::{HostBlocks, VolatileSlice};
 
 // The bytes of windows, fetched and read to a buffer.
 fn expect_joined(rt: &impl Abort, alloc: Global, h: &Host, windows: &[VolatileSlice], want: [u8; 4])

@@ -1,16 +1,23 @@
 //! Memory that is lent for a call, and host memory of any kind.
 
+ghost use Rattle.std.specs.Prelude.{◌≡◌, length};
+
 use crate::given::{eight, expect_same};
 use std::alloc::Global;
 use std::process::Abort;
-use vm_memory_core::{Bitmap, HostBlocks, IoPages, LentMemory, PageBitmap, VolatileSlice};
+use vm_memory::MmapRegion;
+use vm_memory_core::{
+    Bitmap, HostBlocks, IoPages, LentMemory, NewBitmap, PageBitmap, VolatileSlice,
+};
 
-// The pages of a part, none of which is marked.
-fn clear(rt: &impl Abort, alloc: Global, byte_size: usize) -> IoPages<PageBitmap> {
+// The pages of a block of so many bytes, none of which is marked.
+fn clear<B: NewBitmap>(rt: &impl Abort, alloc: Global, byte_size: usize) -> IoPages<B>
+    ensures { length result ≡ B.count byte_size }
+{
     IoPages::with_len(alloc, byte_size).expect(rt, "memory")
 }
 
-// Two parts that are lent.
+// Two slices that are lent.
 fn lent<'a>(
     rt: &impl Abort,
     alloc: Global,
@@ -27,6 +34,16 @@ fn lent<'a>(
     }
 }
 
+// The end of a loan.
+fn end_loan(h: LentMemory<'_, PageBitmap>) {
+    let LentMemory {
+        low: _low,
+        high: _high,
+        low_pages: _low_pages,
+        high_pages: _high_pages,
+    } = h;
+}
+
 // Bytes are written at the front of a window, which has then these.
 fn expect_stored<H: HostBlocks>(
     rt: &impl Abort,
@@ -41,20 +58,21 @@ fn expect_stored<H: HostBlocks>(
 }
 
 #[test]
-fn lent_parts_are_two_blocks_and_nothing_else(rt: HostRuntime) {
+fn lent_slices_are_two_blocks_and_nothing_else(rt: HostRuntime) {
     let (mut low, mut high) = ([0; 4], [0; 2]);
     let h = lent(&rt, rt.alloc(), &mut low, &mut high);
     let lengths = [h.block_len(0), h.block_len(1), h.block_len(2)];
     expect_same(&rt, lengths, [Some(4), Some(2), None]);
     expect_same(
         &rt,
-        (h.table(0).is_none(), h.has_io_bitmap(0)),
-        (true, false),
+        [h.table(0).is_some(), h.has_table(0), h.has_io_bitmap(0)],
+        [false, false, false],
     );
+    end_loan(h);
 }
 
 #[test]
-fn window_lies_in_a_lent_part_that_has_all_of_it(rt: HostRuntime) {
+fn window_lies_in_a_lent_slice_that_has_all_of_it(rt: HostRuntime) {
     let (mut low, mut high) = ([0; 4], [0; 2]);
     let h = lent(&rt, rt.alloc(), &mut low, &mut high);
     let has = [
@@ -65,10 +83,11 @@ fn window_lies_in_a_lent_part_that_has_all_of_it(rt: HostRuntime) {
         h.has(&VolatileSlice::new(2, 0, 0)),
     ];
     expect_same(&rt, has, [true, false, true, false, false]);
+    end_loan(h);
 }
 
 #[test]
-fn store_to_lent_memory_stands_in_its_part_and_marks_its_page(rt: HostRuntime) {
+fn store_to_lent_memory_stands_in_its_slice_and_marks_its_page(rt: HostRuntime) {
     let (mut low, mut high) = ([1, 2, 3, 4], [0; 0x1008]);
     let mut h = lent(&rt, rt.alloc(), &mut low, &mut high);
     let window = VolatileSlice::new(1, 0x1001, 4);
@@ -79,7 +98,7 @@ fn store_to_lent_memory_stands_in_its_part_and_marks_its_page(rt: HostRuntime) {
         h.high_pages.dirty_at(0x1000),
     ];
     expect_same(&rt, marked, [false, false, true]);
-    drop(h);
+    end_loan(h);
     expect_same(
         &rt,
         (low, high.get(0x1000..0x1005)),
@@ -88,13 +107,13 @@ fn store_to_lent_memory_stands_in_its_part_and_marks_its_page(rt: HostRuntime) {
 }
 
 #[test]
-fn window_that_marks_io_pages_marks_none_of_a_lent_part(rt: HostRuntime) {
+fn window_that_marks_io_pages_marks_none_of_a_lent_slice(rt: HostRuntime) {
     let (mut low, mut high) = ([1, 2, 3, 4], [5, 6]);
     let mut h = lent(&rt, rt.alloc(), &mut low, &mut high);
     let window = VolatileSlice::new(0, 1, 2).replace_bitmap(0, 0);
     expect_stored(&rt, &mut h, window, &[21], &[21, 3]);
     expect_same(&rt, h.low_pages.dirty_at(0), false);
-    drop(h);
+    end_loan(h);
     expect_same(&rt, (low, high), ([1, 21, 3, 4], [5, 6]));
 }
 
@@ -102,4 +121,16 @@ fn window_that_marks_io_pages_marks_none_of_a_lent_part(rt: HostRuntime) {
 fn store_goes_by_host_memory_of_any_kind(rt: HostRuntime) {
     let mut h = eight(&rt, rt.alloc());
     expect_stored(&rt, &mut h, VolatileSlice::new(0, 5, 3), &[21], &[21, 7, 8]);
+}
+
+#[test]
+fn region_stands_over_a_lent_block_that_has_a_byte(rt: HostRuntime) {
+    let (mut low, mut high) = ([0; 4], [0; 0]);
+    let h = lent(&rt, rt.alloc(), &mut low, &mut high);
+    let found = MmapRegion::over_block(&h, 0).expect(&rt, "a block");
+    expect_same(&rt, (found.block(), found.size()), (0, 4));
+    let empty = MmapRegion::over_block(&h, 1).is_none();
+    let missing = MmapRegion::over_block(&h, 2).is_none();
+    expect_same(&rt, (empty, missing), (true, true));
+    end_loan(h);
 }

@@ -32,6 +32,15 @@ abbrev pub backing_at : Host → ℕ → Option Backing
 backing_at h b =
     option_map (λ block. record { size = length block.bytes; block = b }) (slice_get h.blocks b)
 
+-- what has at least one byte
+abbrev not_empty : Option Backing → Option Backing
+not_empty None = None
+not_empty (Some m) = if nat_lt 0 m.size then Some m else None
+
+-- a block of the host with its length, if it has at least one byte
+abbrev pub backing_over : Host → ℕ → Option Backing
+backing_over h b = not_empty (backing_at h b)
+
 -- the region over a block from an address on, if its last address fits 64 bits
 abbrev pub region_over : Backing → (base : ℕ) → Option Region
 region_over m base = if nat_le (base + m.size) (2 ^ 64) then Some (record { start = base; size = m.size; block = m.block }) else None

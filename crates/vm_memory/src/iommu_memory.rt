@@ -114,16 +114,6 @@ impl<M: GuestMemoryBackend + Drop, I: Iommu + Clone> IommuMemory<M, I> {
     }
 }
 
-// Whether a host has a table of this number.
-fn has_table<H: HostBlocks>(h: &H, number: usize) -> bool
-    ensures { IsTrue result ↔ (number < length (H.host h.now).tables) }
-{
-    match h.table(number) {
-        Some(_) => true,
-        None => false,
-    }
-}
-
 impl<R: GuestMemoryRegion, I: Iommu + Drop> HeldIn for IommuMemory<GuestRegionCollection<R>, I> {
     ghost IsHeld = { λ m h. HoldsBehind h m.backend (I.number m.iommu) m.io_bitmap };
 
@@ -131,7 +121,7 @@ impl<R: GuestMemoryRegion, I: Iommu + Drop> HeldIn for IommuMemory<GuestRegionCo
 
     fn is_held<H: HostBlocks>(&self, h: &H) -> bool {
         let backend = self.backend.is_held(h);
-        let table = has_table(h, self.iommu.table());
+        let table = h.has_table(self.iommu.table());
         let io_bitmap = h.has_io_bitmap(self.io_bitmap);
         backend && table && io_bitmap
     }

@@ -1,12 +1,12 @@
 //! A block of the host that stands behind a region (vm-memory's `MmapRegion`).
 
 ghost use Rattle.std.specs.Prelude.{◌≡◌, ◌<◌, ◌^◌};
-ghost use Rattle.vm_memory.specs.Making.{IsMapped, backing_at};
+ghost use Rattle.vm_memory.specs.Making.{IsMapped, backing_at, backing_over};
 
 use crate::error::MmapRegionError;
 use std::alloc::Global;
 use std::marker::Model;
-use vm_memory_core::{HostMemory, NewBitmap};
+use vm_memory_core::{HostBlocks, HostMemory, NewBitmap};
 
 /// All bytes of a block of host memory, at least one.
 #[derive(Clone, Copy, Debug)]
@@ -52,6 +52,17 @@ impl MmapRegion {
         ensures { result ≡ backing_at h.now b }
     {
         match h.block_len(b) {
+            Some(size) => Some(MmapRegion { size, block: b }),
+            None => None,
+        }
+    }
+
+    /// A block of host memory of any kind, if it has at least one byte; None where it has none, or isn't there.
+    pub fn over_block<H: HostBlocks>(h: &H, b: usize) -> Option<MmapRegion>
+        ensures { result ≡ backing_over (H.host h.now) b }
+    {
+        match h.block_len(b) {
+            Some(0) => None,
             Some(size) => Some(MmapRegion { size, block: b }),
             None => None,
         }

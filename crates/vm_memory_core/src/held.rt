@@ -15,7 +15,7 @@ pub trait HeldIn {
     // what is so of each value of the type, whatever the host
     ghost IsSound: { Self → Type 0 };
 
-    /// Whether a host has all that it names. `HostMemory::holds` asks it.
+    /// Whether a host of any kind has all that it names. `HostMemory::holds` asks it.
     fn is_held<H: HostBlocks>(&self, h: &H) -> bool
         ensures held { IsTrue result ↔ IsHeld self.now (H.host h.now) }
         ensures sound { IsSound self.now };

@@ -17,10 +17,11 @@ pub trait HostBlocks {
     // what the memory holds
     ghost host: { Self → Host };
 
-    // whether the memory still stands where it stood: behind the same references, if it is lent
+    // whether the memory still stands where it stood: behind the same references, if it is lent. Each implementer says
+    // what that is; memory that is owned says nothing by it
     ghost IsSameLoan: { Self → Self → Type 0 };
 
-    /// How many bytes a block has.
+    /// How many bytes a block has; None where there is no such block.
     fn block_len(&self, block: usize) -> Option<usize>
         ensures { result ≡ option_map (λ b. length b.bytes) (slice_get (host self.now).blocks block) };
 
@@ -38,13 +39,23 @@ pub trait HostBlocks {
         ensures shape { shape (host self.new) ≡ shape (host self.old) }
         ensures loan { IsSameLoan self.old self.new };
 
-    /// A table of an IOMMU.
+    /// The table of an IOMMU with this number; None where there is none.
     fn table(&self, table: usize) -> Option<&Iotlb>
         ensures { option_map (λ t. t.now) result ≡ slice_get (host self.now).tables table };
 
     /// Whether there is a set of dirty I/O pages of this number.
     fn has_io_bitmap(&self, set: usize) -> bool
         ensures { IsTrue result ↔ (set < length (host self.now).io_marks) };
+
+    /// Whether there is a table of this number.
+    final fn has_table(&self, table: usize) -> bool
+        ensures { IsTrue result ↔ (table < length (host self.now).tables) }
+    {
+        match self.table(table) {
+            Some(_) => true,
+            None => false,
+        }
+    }
 
     /// Whether this memory has all of a window.
     final fn has(&self, window: &VolatileSlice) -> bool
@@ -89,7 +100,7 @@ pub trait HostBlocks {
         }
     }
 
-    /// The bytes of the windows, joined; there are about `capacity` of them.
+    /// The bytes of the windows, joined; there are about `capacity` of them. An error is a want of memory.
     #[tactic(auto, unfolding(crate::specs::Window::AllLieIn))]
     final fn fetch_windows(
         &self,

@@ -10,39 +10,46 @@ use crate::window::VolatileSlice;
 use vm_bitmaps::{Bitmap, NewBitmap};
 use vm_iotlb::Iotlb;
 
-/// Memory that a monitor owns and lends for a call, in two parts, of which each may be empty: they are blocks 0 and 1,
-/// each with its dirty pages. There is no table of an IOMMU and no set of I/O pages. Clauses see both references, so
-/// that who lent the parts knows what stands in them afterwards.
-#[derive(Drop)]
+/// Memory that a monitor owns and lends for a call, in two slices, of which each may be empty. There is no table of an
+/// IOMMU and no set of I/O pages. Clauses see both references. It isn't dropped but taken apart by a pattern: so who
+/// lent the slices knows what stands in them afterwards.
 pub struct LentMemory<'a, B: NewBitmap> {
+    /// Block 0.
     pub low: &'a mut [u8],
+    /// Block 1.
     pub high: &'a mut [u8],
+    /// The dirty pages of block 0, of 4096 bytes each, as many as `B` counts for its length.
     pub low_pages: IoPages<B>,
+    /// The dirty pages of block 1.
     pub high_pages: IoPages<B>,
+    pub ghost low_covered: { length low_pages ≡ B.count (length low.now) },
+    pub ghost high_covered: { length high_pages ≡ B.count (length high.now) },
 }
 
-// Some bytes of a part.
-fn bytes_of(part: &[u8], offset: usize, len: usize) -> &[u8]
-    requires { offset + len ≤ length part.now }
-    ensures { result.now ≡ take len (drop offset part.now) }
+// Some bytes of a block.
+fn bytes_of(block: &[u8], offset: usize, len: usize) -> &[u8]
+    requires { offset + len ≤ length block.now }
+    ensures { result.now ≡ take len (drop offset block.now) }
 {
-    &part[offset..][..len]
+    &block[offset..][..len]
 }
 
-// Writes bytes of a part, and marks their pages if `mark`.
-fn write_part<B: NewBitmap>(
-    part: &mut [u8],
+// Writes bytes of a block, and marks their pages if `mark`.
+fn write_block<B: NewBitmap>(
+    block: &mut [u8],
     pages: &mut IoPages<B>,
     offset: usize,
     bytes: &[u8],
     mark: bool,
 )
-    requires { offset + length bytes.now ≤ length part.old }
-    ensures stored { part.new ≡ take offset part.old ++ bytes.now ++ drop (offset + length bytes.now) part.old }
+    requires { offset + length bytes.now ≤ length block.old }
+    ensures stored { block.new ≡ take offset block.old ++ bytes.now ++ drop (offset + length bytes.now) block.old }
     ensures marked { pages.new ≡ marked_if mark pages.old offset (length bytes.now) }
     ensures fits { offset + length bytes.now < 2 ^ 64 }
+    ensures len { length block.new ≡ length block.old }
+    ensures pages { length pages.new ≡ length pages.old }
 {
-    put_at(part, offset, bytes);
+    put_at(block, offset, bytes);
     if mark {
         pages.mark_dirty(offset, bytes.len());
     }
@@ -82,9 +89,9 @@ impl<'a, B: NewBitmap> HostBlocks for LentMemory<'a, B> {
         let offset = window.block_offset();
         let mark = window.io().is_none();
         if window.block() == 0 {
-            write_part(&mut *self.low, &mut self.low_pages, offset, bytes, mark);
+            write_block(&mut *self.low, &mut self.low_pages, offset, bytes, mark);
         } else {
-            write_part(&mut *self.high, &mut self.high_pages, offset, bytes, mark);
+            write_block(&mut *self.high, &mut self.high_pages, offset, bytes, mark);
         }
     }
 

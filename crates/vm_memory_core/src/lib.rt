@@ -14,7 +14,6 @@ mod lent;
 mod memory;
 mod unmarked;
 mod window;
-mod windows;
 
 pub use access::Bytes;
 pub use copy::put_at;
@@ -35,4 +34,4 @@ pub use vm_values::{
     Address, AddressValue, Be16, Be32, Be64, ByteValued, GuestAddress, GuestUsize, Le16, Le32,
     Le64, MemoryRegionAddress,
 };
-pub use window::{VolatileSlice, Windows};
+pub use window::{IoMarks, VolatileSlice, Windows};

@@ -110,8 +110,8 @@ impl VolatileSlice {
         }
     }
 
-    // The I/O pages that writes of it mark.
-    pub(crate) fn io(&self) -> Option<IoMarks>
+    /// The I/O pages that writes of it mark; None where they mark those of its block.
+    pub fn io(&self) -> Option<IoMarks>
         ensures value { result ≡ self.now.io }
         ensures from { IfSome result (λ m. m.from ≤ self.now.offset) }
     {
