@@ -9,21 +9,22 @@ use crate::table::ReadOnlyDirectory;
 use fs_device::{Device, DeviceError, Exchange};
 use std::alloc::Global;
 use vm_memory::GuestMemory;
-use vm_memory_core::{HostMemory, NewBitmap};
+use vm_memory_core::HostBlocks;
 
 /// Serves the next chain of a queue, as `Device::process_one`. Where that is a READ of a file, the reply with the
 /// file's bytes is written over the chain's room; EIO, where it is too short for them; or nothing, where it has no
 /// place for a header; and then the used element and the used index.
-pub fn step_directory<'a, M: GuestMemory, B: NewBitmap>(
+pub fn step_directory<'a, M: GuestMemory, H: HostBlocks>(
     alloc: Global,
     device: &mut Device<ReadOnlyDirectory<'a>>,
-    host: &mut HostMemory<B>,
+    host: &mut H,
     mem: &M,
     queue: usize,
 ) -> Result<Option<(Exchange, bool)>, DeviceError>
-    requires { M.IsHeld mem.now host.old }
-    ensures step { ReadingStep (state_of (M.memory mem.now host.old) device.old) queue (outcome_of result) (state_of (M.memory mem.now host.new) device.new) }
-    ensures shape { shape host.new ≡ shape host.old }
+    requires { M.IsHeld mem.now (H.host host.old) }
+    ensures step { ReadingStep (state_of (M.memory mem.now (H.host host.old)) device.old) queue (outcome_of result) (state_of (M.memory mem.now (H.host host.new)) device.new) }
+    ensures shape { shape (H.host host.new) ≡ shape (H.host host.old) }
+    ensures loan { H.IsSameLoan host.old host.new }
 {
     device.process_one(alloc, host, mem, queue)
 }
