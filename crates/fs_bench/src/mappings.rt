@@ -27,6 +27,9 @@ const ASKED: [(&str, Ask); 3] = [
     ("read-4k", Ask::Read(0x1000)),
 ];
 
+// How many neighbours that join map all that the guest has, and under which name 1 MiB is read through them.
+const JOINED: [(&str, usize); 2] = [("read-1m-1-mapping", 1), ("read-1m-256-joined", 256)];
+
 // How many mappings there are, and under which name an address is looked up among them.
 const LOOK_UPS: [(&str, u64); 3] = [("look-up-1", 1), ("look-up-64", 64), ("look-up-4096", 4096)];
 
@@ -40,19 +43,45 @@ fn map_page(table: &mut Iotlb, number: u64) -> Result<(), BenchFault> {
     }
 }
 
-// Sixteen mappings.
-fn fill(table: &mut Iotlb) -> Result<(), BenchFault> {
-    for (addr, len) in NEEDED {
-        let addr = GuestAddress(addr);
-        if table
-            .set_mapping(addr, addr, len, Permissions::ReadWrite)
-            .is_err()
-        {
-            return Err(BenchFault::OutOfMemory);
+// So many bytes from an address on are mapped to themselves.
+fn map_same(table: &mut Iotlb, addr: u64, len: usize) -> Result<(), BenchFault> {
+    let addr = GuestAddress(addr);
+    match table.set_mapping(addr, addr, len, Permissions::ReadWrite) {
+        Ok(()) => Ok(()),
+        Err(_) => Err(BenchFault::OutOfMemory),
+    }
+}
+
+// What is mapped: sixteen ranges, or all that the guest has by so many neighbours, which join.
+#[derive(Clone, Copy)]
+enum Mapped {
+    Sixteen,
+    Joined(usize),
+}
+
+impl Mapped {
+    fn fill(self, table: &mut Iotlb) -> Result<(), BenchFault> {
+        match self {
+            Mapped::Sixteen => fill_sixteen(table),
+            Mapped::Joined(count) => fill_joined(table, count),
         }
+    }
+}
+
+fn fill_sixteen(table: &mut Iotlb) -> Result<(), BenchFault> {
+    for (addr, len) in NEEDED {
+        map_same(table, addr, len)?;
     }
     for number in 0..OTHERS {
         map_page(table, number)?;
+    }
+    Ok(())
+}
+
+fn fill_joined(table: &mut Iotlb, count: usize) -> Result<(), BenchFault> {
+    let len = MEMORY / count.max(1);
+    for number in 0..count {
+        map_same(table, number.wrapping_mul(len) as u64, len)?;
     }
     Ok(())
 }
@@ -67,11 +96,11 @@ struct Behind {
 
 impl Behind {
     // The IOMMU is off or on.
-    fn new(alloc: Global, asked: &Asked, on: bool) -> Result<Behind, BenchFault> {
+    fn new(alloc: Global, asked: &Asked, mapped: Mapped, on: bool) -> Result<Behind, BenchFault> {
         let Kicking { guest, device, .. } = Kicking::new(alloc, asked, 1, Form::Direct)?;
         let (mut host, mut mem) = guest.into_translated(alloc, MEMORY)?;
         match host.table_mut(mem.iommu().table()) {
-            Some(table) => fill(table)?,
+            Some(table) => mapped.fill(table)?,
             None => return Err(BenchFault::Guest),
         }
         mem.set_iommu_enabled(on);
@@ -166,15 +195,17 @@ fn measure_behind<R: Clock + Eprint>(
     meter: &mut Meter<'_, R>,
     alloc: Global,
     asked: &Asked,
+    mapped: Mapped,
     on: bool,
 ) -> Result<(), BenchFault> {
-    let mut case = Behind::new(alloc, asked, on)?;
+    let mut case = Behind::new(alloc, asked, mapped, on)?;
+    let bytes = asked.len();
     let label = Label {
         kind: if on { "iommu-on" } else { "iommu-off" },
         case: asked.case,
         split: 1,
-        bytes: asked.len(),
-        runs: QUEUE_SIZE,
+        bytes,
+        runs: if bytes > 0x3000 { 16 } else { QUEUE_SIZE },
     };
     meter.measure(label, &mut case)
 }
@@ -198,15 +229,20 @@ fn measure_look_ups<R: Clock + Eprint>(
     Ok(())
 }
 
-/// Measures kicks of a device whose IOMMU is off, or on with 16 mappings, and look-ups among ever more mappings.
+/// Measures kicks of a device whose IOMMU is off, or on with 16 mappings, READ of 1 MiB through one mapping and through
+/// neighbours that join, and look-ups among ever more mappings.
 pub(crate) fn measure_mappings<R: Clock + Eprint>(
     meter: &mut Meter<'_, R>,
     alloc: Global,
 ) -> Result<(), BenchFault> {
     for (case, ask) in ASKED {
         let asked = Asked::new(alloc, case, ask)?;
-        measure_behind(meter, alloc, &asked, false)?;
-        measure_behind(meter, alloc, &asked, true)?;
+        measure_behind(meter, alloc, &asked, Mapped::Sixteen, false)?;
+        measure_behind(meter, alloc, &asked, Mapped::Sixteen, true)?;
+    }
+    for (case, count) in JOINED {
+        let asked = Asked::new(alloc, case, Ask::Read(0x10_0000))?;
+        measure_behind(meter, alloc, &asked, Mapped::Joined(count), true)?;
     }
     measure_look_ups(meter, alloc)
 }
