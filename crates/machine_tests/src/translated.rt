@@ -65,8 +65,18 @@ pub fn expect_io_marks(rt: &impl Abort, host: &HostMemory<PageBitmap>, set: usiz
     ];
     expect_same(rt, marked, io);
     let block = host.bitmap(0).expect(rt, "a bitmap");
-    let is_marked = block.dirty_at(0) || block.dirty_at(0x2000) || block.dirty_at(0x3000);
-    expect_same(rt, is_marked, false);
+    for page in 0..16 {
+        expect_same(rt, block.dirty_at(page * 0x1000), false);
+    }
+}
+
+// The used index is 1, and its element says chain 0 and so many bytes, less than 256.
+fn expect_used(rt: &impl Abort, host: &HostMemory<PageBitmap>, reply_len: usize) {
+    let mut used = [0; 10];
+    expect_same(rt, host.read_block(0, 0x202, &mut used), true);
+    expect_same(rt, usize::from(used[6]), reply_len);
+    used[6] = 0;
+    expect_same(rt, used, [1, 0, 0, 0, 0, 0, 0, 0, 0, 0]);
 }
 
 // A request whose last twenty bytes are elsewhere has this reply or fault. The reply stands where the room is mapped;
@@ -91,6 +101,7 @@ fn expect_exchanged(
     let mut there = [0; 16];
     expect_same(rt, host.read_block(0, 0x3000, &mut there), true);
     expect_same(rt, &there[..reply.len().min(16)], reply);
+    expect_used(rt, &host, reply.len());
     expect_io_marks(rt, &host, mem.bitmap(), io);
 }
 
