@@ -17,12 +17,12 @@ struct SlowReader<'a> {
 }
 
 impl<'a> Read for SlowReader<'a> {
-    fn read(&mut self, buf: &mut [u8]) -> io::Result<usize> {
+    fn read(&mut self, buffer: &mut [u8]) -> io::Result<usize> {
         if self.calls == 0 {
             return Err(io::Error::from(ErrorKind::Interrupted));
         }
         self.calls -= 1;
-        match (self.bytes.split_first(), buf.first_mut()) {
+        match (self.bytes.split_first(), buffer.first_mut()) {
             (Some((byte, rest)), Some(place)) => {
                 *place = *byte;
                 self.bytes = rest;
