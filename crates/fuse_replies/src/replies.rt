@@ -16,7 +16,7 @@ use vm_values::ByteValued;
 pub const OUT_HEADER_LEN: usize = 16;
 
 /// The bytes of a reply's header.
-pub fn header_bytes(len: u32, error: i32, unique: u64) -> [u8; OUT_HEADER_LEN]
+pub(crate) fn header_bytes(len: u32, error: i32, unique: u64) -> [u8; OUT_HEADER_LEN]
     ensures { result ≡ spelled (out_header (record { len = len; error = error; unique = unique })) }
 {
     let mut bytes = [0u8; OUT_HEADER_LEN];
@@ -27,7 +27,7 @@ pub fn header_bytes(len: u32, error: i32, unique: u64) -> [u8; OUT_HEADER_LEN]
 
 /// The bytes of an error's reply.
 #[tactic(auto, unfolding(crate::specs::WholeReplies::error_bytes))]
-pub fn error_reply(unique: u64, error: Errno) -> [u8; OUT_HEADER_LEN]
+pub(crate) fn error_reply(unique: u64, error: Errno) -> [u8; OUT_HEADER_LEN]
     ensures { result ≡ error_bytes unique error }
 {
     header_bytes(16, -(error.raw() as i32), unique)
@@ -63,7 +63,11 @@ pub fn reply(w: &mut Writer, unique: u64, body: &[u8]) -> Result<usize, Error>
 }
 
 /// Writes a good reply that is one record.
-pub fn reply_record<T: ByteValued>(w: &mut Writer, unique: u64, body: &T) -> Result<usize, Error>
+pub(crate) fn reply_record<T: ByteValued>(
+    w: &mut Writer,
+    unique: u64,
+    body: &T,
+) -> Result<usize, Error>
     requires fresh { w.old.written ≡ [] }
     requires room { w.old.free < 2 ^ 32 }
     ensures sent { with_written result w.new.written ≡ whole_or_none w.old.free (reply_bytes unique (spelled (T.fields body.now))) }

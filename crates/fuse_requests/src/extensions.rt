@@ -295,7 +295,10 @@ fn lacks_context(options: FsOptions, was_sent: bool) -> bool
 
 /// The extensions that these bytes are, where they stand; none where no kind of them is agreed.
 #[tactic(auto, using(crate::proofs::ExtraLemmas::extra_ignored))]
-pub fn received_extensions<'a>(options: FsOptions, bytes: &'a [u8]) -> Result<Received<'a>, Error>
+pub(crate) fn received_extensions<'a>(
+    options: FsOptions,
+    bytes: &'a [u8],
+) -> Result<Received<'a>, Error>
     ensures reads { outcome (λ r. parts_of (sent_of r)) result ≡ extra_in options.0 bytes.now }
     ensures fault { IfErr result (λ e. is_memory e ≡ false) }
 {

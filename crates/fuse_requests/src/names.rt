@@ -100,7 +100,7 @@ pub fn read_with_bytes<'a, T: InRecord>(
 
 /// The name up to the first zero byte, and the bytes after it.
 #[tactic(auto, using(crate::proofs::NameLemmas::at_split, crate::proofs::NameLemmas::at_none))]
-pub fn first_name(bytes: &[u8]) -> Option<(&[u8], &[u8])>
+pub(crate) fn first_name(bytes: &[u8]) -> Option<(&[u8], &[u8])>
     ensures some { IfSome result (λ p. at_zero bytes.now ≡ Some (p.0.now, p.1.now)) }
     ensures none { IfNone result (at_zero bytes.now ≡ None) }
 {
@@ -163,7 +163,7 @@ pub fn name_and_value(bytes: &[u8], size: u32) -> Result<(&[u8], &[u8]), Error>
 
 /// A name in front, whether it ends with its zero byte, and the bytes after it.
 #[derive(Clone, Copy)]
-pub struct FrontName<'a> {
+pub(crate) struct FrontName<'a> {
     pub name: &'a [u8],
     pub ends: bool,
     pub rest: &'a [u8],
@@ -171,7 +171,7 @@ pub struct FrontName<'a> {
 
 /// The name up to the first zero byte, or of all bytes where there is none.
 #[tactic(auto, using(crate::proofs::NameLemmas::front_empty, crate::proofs::NameLemmas::front_ended, crate::proofs::NameLemmas::front_endless))]
-pub fn front_name(bytes: &[u8]) -> Result<FrontName<'_>, Error>
+pub(crate) fn front_name(bytes: &[u8]) -> Result<FrontName<'_>, Error>
     ensures reads { IfOk result (λ x. Ok ((x.name.now, x.ends), x.rest.now) ≡ front_name bytes.now) }
     ensures fault { IfErr result (λ e. (Err (Faults e) ≡ front_name bytes.now) × (is_memory e ≡ false)) }
 {
