@@ -83,11 +83,11 @@ no_node d =
     }
 
 -- what comes of one entry: what is left of the size after it, or the end of the list, by an error if there is one
-abbrev pub Outcome : Type 0
-Outcome = Result ℕ (Option ℕ)
+abbrev pub AfterEntry : Type 0
+AfterEntry = Result ℕ (Option ℕ)
 
--- the outcome of an entry of this length
-abbrev pub outcome_of : Fit → (left len : ℕ) → Outcome
-outcome_of GoesIn left len = Ok (left - len)
-outcome_of IsFull left len = Err None
-outcome_of (IsWrong errno) left len = Err (Some errno)
+-- what comes of an entry of this length
+abbrev pub after_entry : Fit → (left len : ℕ) → AfterEntry
+after_entry GoesIn left len = Ok (left - len)
+after_entry IsFull left len = Err None
+after_entry (IsWrong errno) left len = Err (Some errno)

@@ -5,7 +5,7 @@ ghost use Rattle.vm_values.specs.Fields.{spelled};
 ghost use Rattle.fuse_wire.specs.Records.{dirent};
 ghost use Rattle.fuse_fs.specs.Replies.{dirent_of};
 ghost use Rattle.fuse_fs.specs.Answers.{listed, numbered};
-ghost use Rattle.fuse_replies.specs.Entries.{dirent_len, dirent_bytes, node_bytes, fit_of, is_dot, no_node, outcome_of};
+ghost use Rattle.fuse_replies.specs.Entries.{dirent_len, dirent_bytes, node_bytes, fit_of, is_dot, no_node, after_entry};
 ghost use Rattle.fuse_replies.specs.WholeReplies.{listing_bytes, listing_answer};
 
 use crate::replies::{OUT_HEADER_LEN, append, reply_data};
@@ -74,7 +74,7 @@ pub fn put_entry(
     left: usize,
 ) -> Result<usize, Option<Errno>>
     requires { length node.now ≤ 128 }
-    ensures outcome { result ≡ outcome_of (fit_of (length entry.now.name.now) (length node.now + dirent_len (length entry.now.name.now)) left w.old.free)
+    ensures outcome { result ≡ after_entry (fit_of (length entry.now.name.now) (length node.now + dirent_len (length entry.now.name.now)) left w.old.free)
         left (length node.now + dirent_len (length entry.now.name.now)) }
     ensures written { OnOk result (w.new.written ≡ w.old.written ++ (node.now ++ dirent_bytes (listed entry.now))) }
     ensures free { OnOk result (w.new.free + (length node.now + dirent_len (length entry.now.name.now)) ≡ w.old.free) }

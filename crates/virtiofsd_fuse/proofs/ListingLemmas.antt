@@ -4,7 +4,7 @@ use Rattle.std.specs.Prelude.{IsTrue, OnOk, OnErr, slice_get}
 use Rattle.fuse_fs.specs.declared.answers.Entry.{Entry}
 use Rattle.fuse_fs.specs.Calls.{FileCall, FileAnswer, FileRun, Listed, Lookup, HasEntry, Failed, suits}
 use Rattle.virtiofsd_fuse.specs.Listings.{Listing, Went, Next, undo_call, after_call, with_entry, list_entries}
-use Rattle.fuse_replies.specs.Entries.{Fit, GoesIn, IsFull, IsWrong, entry_len, entry_bytes, fit_of, is_dot, no_node, Outcome, outcome_of}
+use Rattle.fuse_replies.specs.Entries.{Fit, GoesIn, IsFull, IsWrong, entry_len, entry_bytes, fit_of, is_dot, no_node, AfterEntry, after_entry}
 use Rattle.virtiofsd_fuse.specs.ListingRuns.{ListRun, EntryRun}
 use Rattle.virtiofsd_fuse.specs.Serving.{May}
 
@@ -17,7 +17,7 @@ pub none_of : (ds : List Listed) → None ≡ slice_get ds 0 → ds ≡ []
 none_of [] e = refl
 none_of (x ∷ xs) e = absurd (cc)
 
-pub on_error : {P Q : Type 0} → (o : Outcome) → (P → Q) → OnErr o P → OnErr o Q
+pub on_error : {P Q : Type 0} → (o : AfterEntry) → (P → Q) → OnErr o P → OnErr o Q
 on_error (Ok n) f p = tt
 on_error (Err e) f p = f p
 
@@ -56,7 +56,7 @@ is_wrong : (b : Bool) (d : Listed) (e : Entry ℕ) (undo calls : List FileCall) 
 is_wrong b d e undo calls next left room errno answers h k = rw (h, k) refl
 
 -- one entry is put in, whatever entries come after it, or it ends the list
-abbrev pub PlacedOne : {F : Type 0} → May F → Bool → Listed → Entry ℕ → List FileCall → (left room : ℕ) → F → List ℕ → Outcome → (room : ℕ) → F → List ℕ → Type 0
+abbrev pub PlacedOne : {F : Type 0} → May F → Bool → Listed → Entry ℕ → List FileCall → (left room : ℕ) → F → List ℕ → AfterEntry → (room : ℕ) → F → List ℕ → Type 0
 PlacedOne {F} may b d e undo left room before written (Ok left_after) room_after after written_after =
     (l : Listing) (ds : List Listed) (final : List ℕ) (error : Option ℕ) (end : F)
     → ListRun may l ds left_after room_after after written_after final error end → PlacedRun may b d e undo (list_entries l ds) left room before written final error end
@@ -67,11 +67,11 @@ PlacedOne may b d e undo left room before written (Err error) room_after after w
 abbrev pub Undone : {F : Type 0} → May F → List FileCall → F → F → Type 0
 Undone may undo before after = (steps : List (FileCall × FileAnswer)) × (map (λ step. step.0) steps ≡ undo) × FileRun may before steps after
 
-pub nothing_undone : {F : Type 0} (may : May F) (o : Outcome) (f : F) → OnErr o (Undone may [] f f)
+pub nothing_undone : {F : Type 0} (may : May F) (o : AfterEntry) (f : F) → OnErr o (Undone may [] f f)
 nothing_undone may (Ok n) f = tt
 nothing_undone may (Err e) f = ([], refl, refl)
 
-pub nothing_done : {F : Type 0} (o : Outcome) (f : F) → OnOk o (f ≡ f)
+pub nothing_done : {F : Type 0} (o : AfterEntry) (f : F) → OnOk o (f ≡ f)
 nothing_done (Ok n) f = refl
 nothing_done (Err e) f = tt
 
@@ -82,12 +82,12 @@ module _ {F : Type 0} (may : F → FileCall → FileAnswer → F → Type 0) whe
 
   placed_by : (b : Bool) (d : Listed) (e : Entry ℕ) (undo : List FileCall) (left room room_after : ℕ) (f f_after : F) (written written_after : List ℕ) (t : Fit)
       → fit_of (length d.name) (entry_len b (length d.name)) left room ≡ t
-      → OnOk (outcome_of t left (entry_len b (length d.name))) (written_after ≡ written ++ entry_bytes b e d)
-      → OnOk (outcome_of t left (entry_len b (length d.name))) (room_after + entry_len b (length d.name) ≡ room)
-      → OnOk (outcome_of t left (entry_len b (length d.name))) (f_after ≡ f)
-      → OnErr (outcome_of t left (entry_len b (length d.name))) (written_after ≡ written)
-      → OnErr (outcome_of t left (entry_len b (length d.name))) (Undone may undo f f_after)
-      → PlacedOne may b d e undo left room f written (outcome_of t left (entry_len b (length d.name))) room_after f_after written_after
+      → OnOk (after_entry t left (entry_len b (length d.name))) (written_after ≡ written ++ entry_bytes b e d)
+      → OnOk (after_entry t left (entry_len b (length d.name))) (room_after + entry_len b (length d.name) ≡ room)
+      → OnOk (after_entry t left (entry_len b (length d.name))) (f_after ≡ f)
+      → OnErr (after_entry t left (entry_len b (length d.name))) (written_after ≡ written)
+      → OnErr (after_entry t left (entry_len b (length d.name))) (Undone may undo f f_after)
+      → PlacedOne may b d e undo left room f written (after_entry t left (entry_len b (length d.name))) room_after f_after written_after
   placed_by b d e undo left room room_after f f_after written written_after GoesIn h w r k s u = λ l ds final error end rest.
       let place : room_after ≡ room - entry_len b (length d.name) = omega (arith, r) in
       record {
@@ -115,18 +115,18 @@ module _ {F : Type 0} (may : F → FileCall → FileAnswer → F → Type 0) whe
         all = s ∙ sym (append-nil written);
       }
 
-  pub placed_one : (b : Bool) (d : Listed) (e : Entry ℕ) (undo : List FileCall) (left room room_after : ℕ) (f f_after : F) (written written_after : List ℕ) (o : Outcome)
-      → o ≡ outcome_of (fit_of (length d.name) (entry_len b (length d.name)) left room) left (entry_len b (length d.name))
+  pub placed_one : (b : Bool) (d : Listed) (e : Entry ℕ) (undo : List FileCall) (left room room_after : ℕ) (f f_after : F) (written written_after : List ℕ) (o : AfterEntry)
+      → o ≡ after_entry (fit_of (length d.name) (entry_len b (length d.name)) left room) left (entry_len b (length d.name))
       → OnOk o (written_after ≡ written ++ entry_bytes b e d) → OnOk o (room_after + entry_len b (length d.name) ≡ room) → OnOk o (f_after ≡ f)
       → OnErr o (written_after ≡ written) → OnErr o (Undone may undo f f_after) → PlacedOne may b d e undo left room f written o room_after f_after written_after
   placed_one b d e undo left room room_after f f_after written written_after o is w r k s u =
-      subst (λ (x : Outcome). PlacedOne may b d e undo left room f written x room_after f_after written_after) (sym is)
+      subst (λ (x : AfterEntry). PlacedOne may b d e undo left room f written x room_after f_after written_after) (sym is)
       (placed_by b d e undo left room room_after f f_after written written_after (fit_of (length d.name) (entry_len b (length d.name)) left room) refl
-      (subst (λ (x : Outcome). OnOk x (written_after ≡ written ++ entry_bytes b e d)) is w)
-      (subst (λ (x : Outcome). OnOk x (room_after + entry_len b (length d.name) ≡ room)) is r)
-      (subst (λ (x : Outcome). OnOk x (f_after ≡ f)) is k)
-      (subst (λ (x : Outcome). OnErr x (written_after ≡ written)) is s)
-      (subst (λ (x : Outcome). OnErr x (Undone may undo f f_after)) is u))
+      (subst (λ (x : AfterEntry). OnOk x (written_after ≡ written ++ entry_bytes b e d)) is w)
+      (subst (λ (x : AfterEntry). OnOk x (room_after + entry_len b (length d.name) ≡ room)) is r)
+      (subst (λ (x : AfterEntry). OnOk x (f_after ≡ f)) is k)
+      (subst (λ (x : AfterEntry). OnErr x (written_after ≡ written)) is s)
+      (subst (λ (x : AfterEntry). OnErr x (Undone may undo f f_after)) is u))
 
   -- an entry without its node
   from_plain : (l : Listing) (d : Listed) (ds : List Listed) (left room : ℕ) (f end : F) (written final : List ℕ) (error : Option ℕ) → l.with_nodes ≡ false
@@ -135,7 +135,7 @@ module _ {F : Type 0} (may : F → FileCall → FileAnswer → F → Type 0) whe
   from_plain l d ds left room f end written final error plain p =
       record { steps = p.steps; run = p.run; bytes = p.bytes; gives = rw plain p.gives; all = p.all }
 
-  pub plain_run : (l : Listing) (d : Listed) (left room room_after : ℕ) (f f_after : F) (written written_after : List ℕ) (o : Outcome) → l.with_nodes ≡ false
+  pub plain_run : (l : Listing) (d : Listed) (left room room_after : ℕ) (f f_after : F) (written written_after : List ℕ) (o : AfterEntry) → l.with_nodes ≡ false
       → PlacedOne may false d (no_node d) [] left room f written o room_after f_after written_after → EntryRun may l d left room f written o room_after f_after written_after
   plain_run l d left room room_after f f_after written written_after (Ok left_after) plain p = λ ds final error end rest. from_plain l d ds left room f end written final error plain (p l ds final error end rest)
   plain_run l d left room room_after f f_after written written_after (Err error) plain p = λ ds. from_plain l d ds left room f f_after written written_after error plain (p l ds)
@@ -148,7 +148,7 @@ module _ {F : Type 0} (may : F → FileCall → FileAnswer → F → Type 0) whe
   from_dot l d ds left room f end written final error nodes dot p =
       record { steps = p.steps; run = p.run; bytes = p.bytes; gives = rw (nodes, dot) p.gives; all = p.all }
 
-  pub dot_run : (l : Listing) (d : Listed) (left room room_after : ℕ) (f f_after : F) (written written_after : List ℕ) (o : Outcome) → l.with_nodes ≡ true → is_dot d.name ≡ true
+  pub dot_run : (l : Listing) (d : Listed) (left room room_after : ℕ) (f f_after : F) (written written_after : List ℕ) (o : AfterEntry) → l.with_nodes ≡ true → is_dot d.name ≡ true
       → PlacedOne may true d (no_node d) (undo_call l.context 0 ∷ []) left room f written o room_after f_after written_after
       → EntryRun may l d left room f written o room_after f_after written_after
   dot_run l d left room room_after f f_after written written_after (Ok left_after) nodes dot p = λ ds final error end rest. from_dot l d ds left room f end written final error nodes dot (p l ds final error end rest)
@@ -169,7 +169,7 @@ module _ {F : Type 0} (may : F → FileCall → FileAnswer → F → Type 0) whe
         all = p.all;
       }
 
-  pub found_run : (l : Listing) (d : Listed) (e : Entry ℕ) (left room room_after : ℕ) (f between f_after : F) (written written_after : List ℕ) (o : Outcome) → l.with_nodes ≡ true → is_dot d.name ≡ false
+  pub found_run : (l : Listing) (d : Listed) (e : Entry ℕ) (left room room_after : ℕ) (f between f_after : F) (written written_after : List ℕ) (o : AfterEntry) → l.with_nodes ≡ true → is_dot d.name ≡ false
       → IsTrue (suits (Lookup l.context l.node d.name) (HasEntry e)) → may f (Lookup l.context l.node d.name) (HasEntry e) between
       → PlacedOne may true d e (undo_call l.context e.inode ∷ []) left room between written o room_after f_after written_after
       → EntryRun may l d left room f written o room_after f_after written_after

@@ -4,7 +4,7 @@ ghost use Rattle.std.specs.Prelude.{◌≡◌, ◌+◌, ◌<◌, ◌^◌, Bool, 
 ghost use Rattle.fuse_in.specs.declared.files.ReadIn.{ReadIn};
 ghost use Rattle.fuse_fs.specs.Answers.{listed, numbered, context_of, listed_answer};
 ghost use Rattle.fuse_fs.specs.Calls.{Done};
-ghost use Rattle.fuse_replies.specs.Entries.{dirent_bytes, node_bytes, entry_len, fit_of, is_dot, outcome_of};
+ghost use Rattle.fuse_replies.specs.Entries.{dirent_bytes, node_bytes, entry_len, fit_of, is_dot, after_entry};
 ghost use Rattle.virtiofsd_fuse.specs.Listings.{listing_of, readdir_call, undo_call};
 ghost use Rattle.virtiofsd_fuse.specs.ListingRuns.{ListRun, EntryRun};
 ghost use Rattle.virtiofsd_fuse.specs.Grammar.{listing_row, listing_asked};
@@ -51,7 +51,7 @@ impl<F: FileSystem> Server<F> {
         left: usize,
         w: &mut Writer,
     ) -> Result<usize, Option<Errno>>
-        ensures outcome { result ≡ outcome_of (fit_of (length entry.now.name.now) (entry_len true (length entry.now.name.now)) left w.old.free)
+        ensures outcome { result ≡ after_entry (fit_of (length entry.now.name.now) (entry_len true (length entry.now.name.now)) left w.old.free)
             left (entry_len true (length entry.now.name.now)) }
         ensures written { OnOk result (w.new.written ≡ w.old.written ++ (node_bytes (numbered F.Inode.number node) ++ dirent_bytes (listed entry.now))) }
         ensures free { OnOk result (w.new.free + entry_len true (length entry.now.name.now) ≡ w.old.free) }
