@@ -1,7 +1,7 @@
 -- Bytes that are put at a place, one part after another.
 use Rattle.std.proofs.Common.{◌≡◌, ℕ, ◌+◌, ◌≤◌, List, ◌++◌, length, take, drop, sym, ◌∙◌, ap, append_assoc}
-use Rattle.std.proofs.lemmas.List.{drop-drop, length-take-le, take-append-drop, take_at, drop_at}
-use Rattle.std.proofs.Math.Seq.{take-append-add, take-add}
+use Rattle.std.proofs.lemmas.List.{drop-drop, length-take-le, take_at, drop_at}
+use Rattle.std.proofs.Math.Seq.{take-add}
 
 -- what is put at a place, with what stays behind it
 pub placed : (at : ℕ) (xs ys : List ℕ) → take at xs ++ (ys ++ drop (length ys) (drop at xs)) ≡ take at xs ++ ys ++ drop (at + length ys) xs

@@ -1,22 +1,18 @@
 -- What a row leaves, by how it ended.
-use Rattle.std.proofs.Common.{◌≡◌, ℕ, ◌+◌, ◌*◌, ◌≤◌, ◌^◌, Bool, true, false, not, List, length, Some, Result, Ok, Err, refl, sym, ap, ◌∙◌, arith}
-use Rattle.std.specs.Prelude.{IfOk, OnOk, OnErr, ◌||◌, nat_le, is_none}
-use Rattle.std.proofs.lemmas.Bool.Decides.{nat_tests}
+use Rattle.std.proofs.Common.{◌≡◌, ℕ, ◌+◌, Bool, true, false, not, List, length, Result, Ok, Err, ap, ◌∙◌}
+use Rattle.std.specs.Prelude.{IfOk, OnOk, OnErr, ◌||◌, is_none}
 use Rattle.fuse_in.specs.declared.session.InHeader.{InHeader}
 use Rattle.fuse_in.specs.Records.{in_header}
-use Rattle.fuse_wire.specs.declared.opcodes.Opcode.{Opcode}
-use Rattle.fuse_wire.specs.Opcodes.{opcode_of}
 use Rattle.fuse_fs.specs.Lengths.{past}
 use Rattle.fuse_fs.specs.Calls.{FileCall, Extra}
 use Rattle.fuse_segments.specs.Errors.{is_memory}
 use Rattle.fuse_segments.specs.declared.error.Error.{Error}
 use Rattle.fuse_segments.specs.ReaderAndWriter.{ReaderView, WriterView}
-use Rattle.fuse_requests.specs.Reading.{Read, Faults, Sends, and_then, many, reading_of}
-use Rattle.fuse_requests.specs.Fronts.{forget_pair, has_pairs}
-use Rattle.fuse_calls.specs.Requests.{batch_forget_call, has_security, owns_memory}
+use Rattle.fuse_requests.specs.Reading.{reading_of}
+use Rattle.fuse_calls.specs.Requests.{has_security, owns_memory}
 use Rattle.fuse_replies.specs.WholeReplies.{LeavesWriter}
-use Rattle.virtiofsd_fuse.specs.Grammar.{Meaning, Asks, One, Given, given, ended, forgets_asked}
-use Rattle.virtiofsd_fuse.specs.WantOfMemory.{meaning_owns, row_owns, takes_memory, body_takes_memory, may_take_memory}
+use Rattle.virtiofsd_fuse.specs.Grammar.{Meaning, Asks, One, given}
+use Rattle.virtiofsd_fuse.specs.WantOfMemory.{meaning_owns, body_takes_memory, may_take_memory}
 
 pub left_length : (result : Result ℕ Error) (old new : WriterView) → LeavesWriter result old new → IfOk result (λ n. n ≡ length new.written)
 left_length (Ok n) old new h = h.0
