@@ -9,7 +9,7 @@ use Rattle.vm_atomic_bitmaps.specs.Passes.{ByMark, Changes}
 use Rattle.vm_atomic_bitmaps.proofs.PassTotals.{length-each_tally, at_each, at_past}
 use Rattle.vm_atomic_bitmaps.proofs.PassParts.{at_clear_of}
 use Rattle.page_threads.specs.declared.marking.ByteRange.{ByteRange}
-use Rattle.page_threads.specs.Threads.{is_in_ranges, is_in_lists, Marking}
+use Rattle.page_threads.specs.Threads.{is_in_ranges, is_in_lists, MarksJust}
 
 or_false : (a : Bool) → a || false ≡ a
 or_false true = refl
@@ -28,8 +28,8 @@ abbrev TakesNone : (t u : Tally) → Type 0
 TakesNone t u = (u.off ≡ t.off) × (u.seen ≡ t.seen) × (t.held ≤ u.held)
 
 -- one range
-pub marking_of : (v : PageCounts) (hit : ℕ → Bool) (old new : List Tally) → Changes (ByMark v) hit old new → Marking hit old new
-marking_of v hit old new c = record {
+pub marks_just : (v : PageCounts) (hit : ℕ → Bool) (old new : List Tally) → Changes (ByMark v) hit old new → MarksJust hit old new
+marks_just v hit old new c = record {
   count = c.count;
   off = λ p. (each p).0;
   marked = λ p within. by_hit p within (hit p) refl;
@@ -64,7 +64,7 @@ pub record Left (rest whole : ℕ → Bool) (old cur : List Tally) : Type 0 wher
   pub held : (p : ℕ) → (tally_of old p).held ≤ (tally_of cur p).held
   pub ahead : (p : ℕ) → p < length old → whole p ≡ true → rest p ≡ false → (tally_of cur p).seen < (tally_of cur p).held
 
-pub left_more : (rest hit rest' whole : ℕ → Bool) (old cur new : List Tally) → Left rest whole old cur → ((p : ℕ) → rest p ≡ hit p || rest' p) → Marking hit cur new → Left rest' whole old new
+pub left_more : (rest hit rest' whole : ℕ → Bool) (old cur new : List Tally) → Left rest whole old cur → ((p : ℕ) → rest p ≡ hit p || rest' p) → MarksJust hit cur new → Left rest' whole old new
 left_more rest hit rest' whole old cur new l split m = record {
   count = m.count ∙ l.count;
   off = λ p. m.off p ∙ l.off p;
@@ -99,7 +99,7 @@ or_left false b e n = e
 
 -- two halves, of which the second has met the first, marked side by side and joined
 pub both_halves : (left right whole : ℕ → Bool) (v met a b : PageCounts) → ((p : ℕ) → whole p ≡ left p || right p) → met.pages ≡ met_with v.pages (new_half v).pages
-    → Marking left v.pages a.pages → Marking right met.pages b.pages → Marking whole v.pages (both_passes a b).pages
+    → MarksJust left v.pages a.pages → MarksJust right met.pages b.pages → MarksJust whole v.pages (both_passes a b).pages
 both_halves left right whole v met a b split is l r = record {
   count = length-each_tally (λ p t. both_of t (tally_of b.pages p)) 0 a.pages ∙ l.count;
   off = λ p. (each p).0;

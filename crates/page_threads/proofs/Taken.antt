@@ -11,7 +11,7 @@ use Rattle.vm_atomic_bitmaps.specs.Passes.{ChangesRun}
 use Rattle.vm_atomic_bitmaps.proofs.PassTotals.{at_past}
 use Rattle.vm_atomic_bitmaps.proofs.AllowedSteps.{bit_here, bit_else, bit_was}
 use Rattle.vm_atomic_bitmaps.proofs.PageRuns.{gathers_word, zero_bits}
-use Rattle.page_threads.specs.Threads.{Marking, Gathering, HaveTaken, IsTakenTo}
+use Rattle.page_threads.specs.Threads.{MarksJust, Gathering, HaveTaken, IsTakenTo}
 use Rattle.page_threads.proofs.Marks.{either_marked}
 
 -- a word that is gathered
@@ -106,7 +106,7 @@ none_gathered l words k fresh is p =
 
 -- what was gathered and what is left is what was marked
 pub accounted : (hit : ℕ → Bool) (a a' g g' : List Tally) (words left : List ℕ) (p : ℕ) → p < length a → p < length g → ((k : ℕ) → tally_of a k ≡ no_tally) → ((k : ℕ) → tally_of g k ≡ no_tally)
-    → Marking hit a a' → Gathering g g' → HaveTaken g' words → Settles (both_of (tally_of a' p) (tally_of g' p)) (page_bit left p) → max (page_bit words p) (page_bit left p) ≡ bit_of (hit p)
+    → MarksJust hit a a' → Gathering g g' → HaveTaken g' words → Settles (both_of (tally_of a' p) (tally_of g' p)) (page_bit left p) → max (page_bit words p) (page_bit left p) ≡ bit_of (hit p)
 accounted hit a a' g g' words left p in_a in_g fresh_a fresh_g m n taken settled = by_hit (hit p) refl
   where
     off : (tally_of a' p).off ≡ 0

@@ -20,7 +20,7 @@ is_in_lists size len [] p = false
 is_in_lists size len (v ∷ vs) p = is_in_ranges size len v.items p || is_in_lists size len vs p
 
 -- just the pages that are hit were marked besides, and none was taken: of each that is hit more marks than clears are known of
-pub record Marking (hit : ℕ → Bool) (old new : List Tally) : Type 0 where
+pub record MarksJust (hit : ℕ → Bool) (old new : List Tally) : Type 0 where
   pub count : length new ≡ length old
   pub off : (p : ℕ) → (tally_of new p).off ≡ (tally_of old p).off
   pub marked : (p : ℕ) → p < length old → (tally_of new p).marked ≡ (tally_of old p).marked || hit p

@@ -9,7 +9,7 @@ ghost use Rattle.vm_bitmaps.specs.Words.{page_bit};
 ghost use Rattle.vm_atomic_bitmaps.specs.Counts.{tally_of, both_of};
 ghost use Rattle.vm_atomic_bitmaps.specs.Steps.{Settles};
 ghost use Rattle.vm_atomic_bitmaps.specs.Passes.{IsPassOf, counting};
-ghost use Rattle.page_threads.specs.Threads.{Marking, Gathering, HaveTaken, HaveSamePart, HasHalf, IsFresh, IsTakenTo, AreWordsOf, is_in_lists, NeitherLostNorInvented};
+ghost use Rattle.page_threads.specs.Threads.{MarksJust, Gathering, HaveTaken, HaveSamePart, HasHalf, IsFresh, IsTakenTo, AreWordsOf, is_in_lists, NeitherLostNorInvented};
 
 use crate::gathering::gather_into;
 use crate::marking::{ByteRange, mark_lists};
@@ -58,7 +58,7 @@ fn mark_beside<R: Threads + Sync>(
     requires room { vec_len words ≡ div_ceil bitmap.now.len 64 }
     requires taken { HaveTaken gatherer.counts.pages words.items }
     ensures marker { IsPassOf bitmap.now result.0 }
-    ensures marked { Marking (is_in_lists bitmap.now.page_size bitmap.now.len lists.now) marker.counts.pages result.0.counts.pages }
+    ensures marked { MarksJust (is_in_lists bitmap.now.page_size bitmap.now.len lists.now) marker.counts.pages result.0.counts.pages }
     ensures part { HaveSamePart marker.counts result.0.counts }
     ensures gatherer { IsPassOf bitmap.now result.1.0 }
     ensures pass { result.1.0 ≡ counting gatherer result.1.0.counts.pages }

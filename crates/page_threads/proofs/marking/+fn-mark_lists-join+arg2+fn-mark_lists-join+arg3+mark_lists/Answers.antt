@@ -2,7 +2,7 @@ use Rattle.std.proofs.Common.{◌≡◌, ℕ, ap, sym, subst, ◌∙◌, rules}
 use Rattle.vm_atomic_bitmaps.specs.declared.counts.PageCounts.{PageCounts}
 use Rattle.vm_atomic_bitmaps.specs.Counts.{kept_half, new_half, both_passes, met_with, with_pages}
 use Rattle.vm_atomic_bitmaps.specs.Passes.{Pass}
-use Rattle.page_threads.specs.Threads.{Marking, HaveSamePart, is_in_lists}
+use Rattle.page_threads.specs.Threads.{MarksJust, HaveSamePart, is_in_lists}
 use Rattle.page_threads.proofs.Marks.{both_halves, in_lists-append}
 use Rattle.page_threads.proofs.Halves.{joined_part}
 use Rattle.page_threads.proofs.marking.+fn-mark_lists-join+arg2+fn-mark_lists-join+arg3+mark_lists.Goals as goal
@@ -23,9 +23,9 @@ returns-clause-pages g t c =
     ap (λ (p : Pass). p.counts) c.meet_pass.ensures.pass ∙ (λ i. with_pages (new i).counts (met_with (kept i).pages (new i).counts.pages)) in
     let joint : c.join_pass.new.pass.counts ≡ both_passes a b = ap (λ (p : Pass). p.counts) c.join_pass.ensures.pass in
     let split = λ (p : ℕ). ap (λ l. is_in_lists size len l p) c.split_at.ensures.by_index.0 ∙ in_lists-append size len left right p in
-    let first_marks : Marking (is_in_lists size len left) v.pages a.pages =
-    subst (λ (w : PageCounts). Marking (is_in_lists size len left) w.pages a.pages) told c.join-first.ensures.first.1.0 in
-    subst (λ (w : PageCounts). Marking (is_in_lists size len c.args.lists.now) v.pages w.pages) (sym joint)
+    let first_marks : MarksJust (is_in_lists size len left) v.pages a.pages =
+    subst (λ (w : PageCounts). MarksJust (is_in_lists size len left) w.pages a.pages) told c.join-first.ensures.first.1.0 in
+    subst (λ (w : PageCounts). MarksJust (is_in_lists size len c.args.lists.now) v.pages w.pages) (sym joint)
     (both_halves (is_in_lists size len left) (is_in_lists size len right) (is_in_lists size len c.args.lists.now) v c.meet_pass.new.pass.counts a b split (ap (λ (w : PageCounts). w.pages) met)
     first_marks c.join-first.ensures.second.1.0)
 

@@ -3,7 +3,7 @@ use Rattle.std.proofs.lemmas.List.{at_drop_more}
 use Rattle.vm_atomic_bitmaps.specs.Passes.{Pass, counting, marks_page}
 use Rattle.page_threads.specs.declared.marking.ByteRange.{ByteRange}
 use Rattle.page_threads.specs.Threads.{is_in_ranges}
-use Rattle.page_threads.proofs.Marks.{left_more, marking_of}
+use Rattle.page_threads.proofs.Marks.{left_more, marks_just}
 use Rattle.page_threads.proofs.marking.mark_ranges.Goals as goal
 
 pub loop-range-preserved : goal.loop-range-preserved
@@ -24,5 +24,5 @@ loop-range-preserved c =
           left_more (is_in_ranges size len (drop k ranges)) hit (is_in_ranges size len (drop (k + 1) ranges)) (is_in_ranges size len ranges)
           c.args.pass.now.counts.pages before.counts.pages after.counts.pages c.loop-range.invariant.pages
           (λ p. at_drop_more (λ (l : List ByteRange). is_in_ranges size len l p) ranges k none c.loop-range-test.true)
-          (marking_of before.counts hit before.counts.pages after.counts.pages c.set_addr_range.ensures.pages);
+          (marks_just before.counts hit before.counts.pages after.counts.pages c.set_addr_range.ensures.pages);
     }
