@@ -106,9 +106,9 @@ impl<R: GuestMemoryRegion> GuestRegionCollection<R> {
         self.reached_len(addr.0, len) == len
     }
 
-    /// Adds the windows of `len` physical addresses from one on, joined, or answers that one of them has no place,
-    /// where 0 comes after the greatest address.
-    pub fn push_physical<const N: usize>(
+    // Adds the windows of `len` physical addresses from one on, joined, or answers that one of them has no place, where
+    // 0 comes after the greatest address.
+    pub(crate) fn push_physical<const N: usize>(
         &self,
         addr: GuestAddress,
         len: usize,
