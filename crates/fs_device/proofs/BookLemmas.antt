@@ -231,7 +231,8 @@ turn x notice calls = record { exchange = x; notice = notice; calls = calls }
 faulty_balances : (n head : ℕ) (why : ChainFault) (notice : Bool) → TurnBalances n (turn (faulty head why) notice [])
 faulty_balances n head why notice = let none = silent n (opcode_in []) in omega (arith, none)
 
-all_suit : {F : Type 0} (may : May F) (before : F) (steps : Calls) (after : F) → FileRun may before steps after → EachSuits steps
+-- the answers of a run of a file system suit
+pub all_suit : {F : Type 0} (may : May F) (before : F) (steps : Calls) (after : F) → FileRun may before steps after → EachSuits steps
 all_suit may before [] after same = tt
 all_suit may before (step ∷ steps) after (between, suit, made, rest) = (suit, all_suit may between steps after rest)
 

@@ -166,11 +166,11 @@ between may s began mid after image harvest events imaged (tolds, did) harvested
 abbrev CanFollow : List asked.Command → Type 0
 CanFollow cs = AllByRecursion (λ c. IsTrue (follows_image (command_of c))) cs
 
--- what commands were answered
-abbrev answered : List asked.Command → List told.Answer → List (Command × Answer)
-answered cs answers = zip (map command_of cs) (map answer_of answers)
+-- commands, each with what it was answered
+abbrev with_answers : List asked.Command → List told.Answer → List (Command × Answer)
+with_answers cs answers = zip (map command_of cs) (map answer_of answers)
 
-all_follow : (cs : List asked.Command) (answers : List told.Answer) → CanFollow cs → AllByRecursion (λ (e : Command × Answer). IsTrue (follows_image e.0)) (answered cs answers)
+all_follow : (cs : List asked.Command) (answers : List told.Answer) → CanFollow cs → AllByRecursion (λ (e : Command × Answer). IsTrue (follows_image e.0)) (with_answers cs answers)
 all_follow [] answers f = tt
 all_follow (c ∷ cs) [] f = tt
 all_follow (c ∷ cs) (a ∷ answers) f = (f.0, all_follow cs answers f.1)
@@ -182,27 +182,27 @@ harvest_follows (e ∷ events) last f = (f.0, harvest_follows events last f.1)
 
 pub is_run_from_image : {F : Type 0} (may : May F) (s began mid here : State F) (copy : Host) (cs : List asked.Command) (answers : List told.Answer) (last : List Page) →
     s.memory.translates ≡ false → HasItsMarks s.memory.host → CanFollow cs →
-    Performs may s run.Image [] (run.Copied copy) began → Run may began (answered cs answers) mid → Performs may mid run.Harvest [] (run.Pages last) here →
-    RunsFromImage may s copy (until_harvest (answered cs answers) last) here
+    Performs may s run.Image [] (run.Copied copy) began → Run may began (with_answers cs answers) mid → Performs may mid run.Harvest [] (run.Pages last) here →
+    RunsFromImage may s copy (until_harvest (with_answers cs answers) last) here
 is_run_from_image may s began mid here copy cs answers last off marks follow imaged did harvested = record {
   off = off;
   marks = marks;
-  follow = harvest_follows (answered cs answers) last (all_follow cs answers follow);
-  run = between may s began mid here (run.Copied copy) (run.Pages last) (answered cs answers) imaged did harvested;
+  follow = harvest_follows (with_answers cs answers) last (all_follow cs answers follow);
+  run = between may s began mid here (run.Copied copy) (run.Pages last) (with_answers cs answers) imaged did harvested;
 }
 
 -- the IOMMU stays off
 pub stays_off : {F : Type 0} (may : May F) (s began mid : State F) (copy : Host) (cs : List asked.Command) (answers : List told.Answer) → CanMoveAgain may →
     s.memory.translates ≡ false → HasItsMarks s.memory.host → CanFollow cs →
-    Performs may s run.Image [] (run.Copied copy) began → Run may began (answered cs answers) mid → mid.memory.translates ≡ false
+    Performs may s run.Image [] (run.Copied copy) began → Run may began (with_answers cs answers) mid → mid.memory.translates ≡ false
 stays_off may s began mid copy cs answers law off marks follow imaged (tolds, did) =
-    let from : RunsFromImage may s copy (answered cs answers) mid = record {
+    let from : RunsFromImage may s copy (with_answers cs answers) mid = record {
       off = off;
       marks = marks;
       follow = all_follow cs answers follow;
       run = ([] ∷ tolds, one_before may s began mid (run.Image, run.Copied copy) _ _ imaged did);
     } in
-    (law s mid copy (answered cs answers) from).0
+    (law s mid copy (with_answers cs answers) from).0
 
 -- ---- a machine that stays
 
@@ -216,15 +216,15 @@ stays_at_once may s after image cs answers empty performs = inl (no_answer answe
 
 -- all was done, and a last harvest made or refused
 pub stays_at_last : {F : Type 0} (may : May F) (s began mid after : State F) (copy : Host) (harvest : Answer) (cs : List asked.Command) (answers : List told.Answer) → length answers ≡ length cs →
-    Performs may s run.Image [] (run.Copied copy) began → Run may began (answered cs answers) mid → Performs may mid run.Harvest [] harvest after →
+    Performs may s run.Image [] (run.Copied copy) began → Run may began (with_answers cs answers) mid → Performs may mid run.Harvest [] harvest after →
     StaysHere may s (map command_of cs) (map answer_of answers) after
 stays_at_last may s began mid after copy harvest cs answers count imaged did harvested =
     let many = length-map answers answer_of ∙ count ∙ sym (length-map cs command_of) in
-    inr (many, copy, harvest, between may s began mid after (run.Copied copy) harvest (answered cs answers) imaged did harvested)
+    inr (many, copy, harvest, between may s began mid after (run.Copied copy) harvest (with_answers cs answers) imaged did harvested)
 
 -- all was done, and a last harvest made
 pub stays_after : {F : Type 0} (may : May F) (s here : State F) (copy : Host) (cs : List asked.Command) (answers : List told.Answer) (last : List Page) → length answers ≡ length cs →
-    RunsFromImage may s copy (until_harvest (answered cs answers) last) here → StaysHere may s (map command_of cs) (map answer_of answers) here
+    RunsFromImage may s copy (until_harvest (with_answers cs answers) last) here → StaysHere may s (map command_of cs) (map answer_of answers) here
 stays_after may s here copy cs answers last count from =
     let many = length-map answers answer_of ∙ count ∙ sym (length-map cs command_of) in
     inr (many, copy, run.Pages last, from.run)
@@ -261,7 +261,7 @@ put_whole copy one two xs ys r put same places outcome ok =
     put_all r _ outcome none ok ∙ ap (λ (h : Host). pages_put h ys) put ∙ sym (pages_put-append copy xs ys)
 
 -- the pages of answers and of a last harvest are those that the run answered
-pub all_pages : (cs : List asked.Command) (answers : List told.Answer) (last : List Page) → length answers ≡ length cs → pages_answered (until_harvest (answered cs answers) last) ≡ pages_of_answers answers ++ last
+pub all_pages : (cs : List asked.Command) (answers : List told.Answer) (last : List Page) → length answers ≡ length cs → pages_answered (until_harvest (with_answers cs answers) last) ≡ pages_of_answers answers ++ last
 all_pages [] [] last e = append-nil last
 all_pages [] (a ∷ answers) last e = absurd (omega arith)
 all_pages (c ∷ cs) [] last e = absurd (omega arith)

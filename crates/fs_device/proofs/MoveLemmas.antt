@@ -29,8 +29,8 @@ use Rattle.fs_device.specs.Moving.{follows_image, pages_of_answer, pages_answere
 -- ---- stores
 
 -- no table is used, and what of an image differs lies on a marked page
-abbrev Held : Host → Memory → Type 0
-Held image m = (m.translates ≡ false) × Tracks image m.host
+abbrev TracksOn : Host → Memory → Type 0
+TracksOn image m = (m.translates ≡ false) × Tracks image m.host
 
 -- a write there marks the page of the place itself
 abbrev IsPlain : Option Place → Type 0
@@ -45,17 +45,17 @@ unfolding place
 plain_place [] a = tt
 plain_place (r ∷ layout) a = plain_or (is_within r.start r.size a) _ (place layout a) refl (plain_place layout a)
 
-placed_held : (image : Host) (m : Memory) (byte : ℕ) (o : Option Place) → IsPlain o → Held image m → Held image (stored_at m byte o)
+placed_held : (image : Host) (m : Memory) (byte : ℕ) (o : Option Place) → IsPlain o → TracksOn image m → TracksOn image (stored_at m byte o)
 placed_held image m byte None plain h = h
 placed_held image m byte (Some p) plain h = (h.0, tracks_store image m.host p byte plain h.1)
 
-store_held : (image : Host) (m : Memory) (write : ℕ × ℕ) → Held image m → Held image (stored m write)
+store_held : (image : Host) (m : Memory) (write : ℕ × ℕ) → TracksOn image m → TracksOn image (stored m write)
 store_held image m write h =
     let here : location m Write write.0 ≡ place m.layout write.0 =
     ap (λ (b : Bool). if b then for_io m.io_pages write.0 (place_behind m.layout Write (table_of m write.0)) else place m.layout write.0) h.0 in
-    subst (λ (o : Option Place). Held image (stored_at m write.1 o)) (sym here) (placed_held image m write.1 (place m.layout write.0) (plain_place m.layout write.0) h)
+    subst (λ (o : Option Place). TracksOn image (stored_at m write.1 o)) (sym here) (placed_held image m write.1 (place m.layout write.0) (plain_place m.layout write.0) h)
 
-stores_held : (image : Host) (m : Memory) (ws : List (ℕ × ℕ)) → Held image m → Held image (stored_all m ws)
+stores_held : (image : Host) (m : Memory) (ws : List (ℕ × ℕ)) → TracksOn image m → TracksOn image (stored_all m ws)
 unfolding stored_all
 stores_held image m [] h = h
 stores_held image m (w ∷ ws) h = stores_held image (stored m w) ws (store_held image m w h)
@@ -63,7 +63,7 @@ stores_held image m (w ∷ ws) h = stores_held image (stored m w) ws (store_held
 -- ---- steps
 
 abbrev HeldIn : {F : Type 0} → Host → State F → Type 0
-HeldIn image s = Held image s.memory
+HeldIn image s = TracksOn image s.memory
 
 exchange_held : {F : Type 0} (may : May F) (image : Host) (s : State F) (i : ℕ) (q : Queue) (o : Offer) (calls : Calls) (x : Exchange) (notice : Bool) (after : State F) →
     Exchanges may s i q o calls x notice after → HeldIn image s → HeldIn image after

@@ -88,7 +88,7 @@ refused_stays may s i (Some q) calls (device.Queue stop.DescriptorUnreachable) a
 
 -- ---- kicks
 
-end_stays : {F : Type 0} (may : May F) (s : State F) (i most : ℕ) (refused : Option DeviceError) (after : State F) → KickEnds may s i most refused after → after.files ≡ s.files
+pub end_stays : {F : Type 0} (may : May F) (s : State F) (i most : ℕ) (refused : Option DeviceError) (after : State F) → KickEnds may s i most refused after → after.files ≡ s.files
 end_stays may s i zero None after same = ap (λ s. s.files) same
 end_stays may s i zero (Some e) after t = absurd t
 end_stays may s i (suc most) None after t = idle_stays may s i (slice_get s.queues i) [] after t

@@ -262,12 +262,12 @@ abbrev list_answers : List files.FileAnswer
 list_answers = files.Entries (record { ino = 1; offset = 1; kind = 4; name = 46 ∷ [] } ∷ listed_a ∷ []) ∷ files.HasEntry entry_of_a ∷ files.Done ∷ []
 
 -- what is served for it
-abbrev listed : Served
-listed = served (setting 4096 0 176) (meaning 0 list_two 176) list_answers
+abbrev as_listed : Served
+as_listed = served (setting 4096 0 176) (meaning 0 list_two 176) list_answers
 
 -- its exchange, whose reply has the entry of `.` alone
 abbrev listed_turn : Turn
-listed_turn = record { exchange = record { head = 0; request = list_two; reply = listed.reply; fault = None }; notice = true; calls = zip listed.calls list_answers }
+listed_turn = record { exchange = record { head = 0; request = list_two; reply = as_listed.reply; fault = None }; notice = true; calls = zip as_listed.calls list_answers }
 
 -- the node was answered once and taken back once
 given_back_once : accounts listed_turn ≡ 1 ∷ 1 ∷ 0 ∷ 0 ∷ 0 ∷ []
