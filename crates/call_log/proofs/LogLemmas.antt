@@ -7,7 +7,6 @@ use Rattle.vm_iotlb.specs.Table.{Table, nothing_mapped}
 use Rattle.vm_memory_core.specs.Host.{Block}
 use Rattle.vm_memory.specs.Layout.{Region, fits, overlap, is_region}
 use Rattle.vm_memory.specs.Memory.{reach, physical}
-use Rattle.fs_queue.specs.declared.fault.QueueError.TheVariants as stop
 use Rattle.fs_queue.specs.Queue.{Queue, fresh}
 use Rattle.fs_queue.specs.Taking.{Offer, Asks, CannotAsk, Refuses, Offers}
 use Rattle.fs_queue.specs.Taking as taking
@@ -16,12 +15,13 @@ use Rattle.virtiofsd_fuse.specs.Grammar.{meaning}
 use Rattle.fuse_segments.specs.declared.error.Error.{Error}
 use Rattle.virtiofsd_fuse.specs.Serving.{May, Served, served, setting}
 use Rattle.fs_device.specs.declared.error.DeviceError.{DeviceError}
-use Rattle.fs_device.specs.declared.error.DeviceError.TheVariants as device
 use Rattle.fs_device.specs.declared.exchange.Fault.{Fault}
 use Rattle.fs_device.specs.declared.refusal.Refusal.TheVariants as why
-use Rattle.fs_device.specs.Step.{State, Exchange, Calls, Idle, Refused, Exchanged, Exchanges, StepOf, served_fault, served_exchange, EachSuits}
+use Rattle.fs_device.specs.Step.{State, Exchange, Calls, Exchanged, Exchanges, StepOf, served_fault, served_exchange}
 use Rattle.fs_device.specs.Run as run
-use Rattle.fs_device.specs.Run.{Command, Answer, Effect, Turn, Told, shown, KickEnds, KickRun, Kicks, Kicked, Affects, ChangesTable, HasEffect, Does, Performs, RunTold, Run, effect, insert, insert_block, is_known, some_overlap, reset}
+use Rattle.fs_device.specs.Run.{Command, Answer, Effect, Turn, Told, shown, KickRun, Kicks, Kicked, Affects, ChangesTable, HasEffect, Does, Performs, RunTold, Run, effect, insert, insert_block, is_known, some_overlap, reset}
+use Rattle.fs_device.proofs.BookLemmas.{all_suit}
+use Rattle.fs_device.proofs.TellingLemmas.{end_stays}
 use Rattle.call_log.specs.declared.log.LoggedCall.{LoggedCall}
 use Rattle.call_log.specs.Log.{entries_for, kept, with_calls}
 use Rattle.call_log.specs.Runs.{entries_of, IsAnswered, WritesDown, IsLoggedBy, AreLoggedBy, exchanges_in, Grows}
@@ -60,14 +60,9 @@ steps_logged may log keeps before (step ∷ steps) after (between, suits, made, 
     ∙ sym (with_calls-append (log before) (entries_for step.0) (entries_of (map (λ step. step.0) steps)))
 
 -- what an exchange without a fault of its chain writes down
-answered : (e : Option Error) (x : Exchange) (entries : List LoggedCall) → x.fault ≡ served_fault e → IsAnswered x entries → IsLoggedBy x entries
-answered None x entries same is = subst (λ (f : Option Fault). WritesDown f x entries) (sym same) is
-answered (Some e) x entries same is = subst (λ (f : Option Fault). WritesDown f x entries) (sym same) is
-
--- the answers of a run of a file system suit
-all_suit : {F : Type 0} (may : May F) (before : F) (steps : Calls) (after : F) → FileRun may before steps after → EachSuits steps
-all_suit may before [] after same = tt
-all_suit may before (step ∷ steps) after (between, suits, made, rest) = (suits, all_suit may between steps after rest)
+logs_answered : (e : Option Error) (x : Exchange) (entries : List LoggedCall) → x.fault ≡ served_fault e → IsAnswered x entries → IsLoggedBy x entries
+logs_answered None x entries same is = subst (λ (f : Option Fault). WritesDown f x entries) (sym same) is
+logs_answered (Some e) x entries same is = subst (λ (f : Option Fault). WritesDown f x entries) (sym same) is
 
 -- ---- steps
 
@@ -92,7 +87,7 @@ taken_logged may log keeps s i q (Offers head (Asks request room)) calls x notic
     (subst (λ (bytes : List ℕ). x ≡ served_exchange head bytes (served set (meaning s.options bytes (length room)) answers)) (sym same) told) in
     let fault : x.fault ≡ served_fault r.given.fault = ap (λ (e : Exchange). e.fault) r.returns.exchange in (
       entries,
-      (entries, [], answered r.given.fault x entries fault (set, calls, all_suit may s.files calls after.files r.serves.run, own, is, refl), refl, sym (append-nil entries)),
+      (entries, [], logs_answered r.given.fault x entries fault (set, calls, all_suit may s.files calls after.files r.serves.run, own, is, refl), refl, sym (append-nil entries)),
       steps_logged may log keeps s.files calls after.files r.serves.run,
     )
 taken_logged may log keeps s i q taking.Idle calls x notice after r = absurd r
@@ -103,30 +98,7 @@ exchange_logged : {F : Type 0} (may : May F) (log : F → List LoggedCall) → K
 exchange_logged may log keeps s i None calls x notice after t = absurd (cc)
 exchange_logged may log keeps s i (Some q) calls x notice after t = taken_logged may log keeps s i q _ calls x notice after t
 
-idle_stays : {F : Type 0} (may : May F) (s : State F) (i : ℕ) (o : Option Queue) (calls : Calls) (after : State F) → StepOf may s i o calls Idle after → after.files ≡ s.files
-idle_stays may s i None calls after t = ap (λ s. s.files) t.1.same
-idle_stays may s i (Some q) calls after t = ap (λ s. s.files) t.1.same
-
-refused_stays : {F : Type 0} (may : May F) (s : State F) (i : ℕ) (o : Option Queue) (calls : Calls) (e : DeviceError) (after : State F) → StepOf may s i o calls (Refused e) after → after.files ≡ s.files
-refused_stays may s i None calls e after t = ap (λ s. s.files) t.1.same
-refused_stays may s i (Some q) calls device.NoSuchQueue after t = absurd t
-refused_stays may s i (Some q) calls (device.Queue stop.OutOfMemory) after t = ap (λ s. s.files) t.1.same
-refused_stays may s i (Some q) calls (device.Queue stop.Stopped) after t = ap (λ s. s.files) t.2
-refused_stays may s i (Some q) calls (device.Queue stop.AvailIndexUnreachable) after t = ap (λ s. s.files) t.2
-refused_stays may s i (Some q) calls (device.Queue stop.AvailTooFar) after t = ap (λ s. s.files) t.2
-refused_stays may s i (Some q) calls (device.Queue stop.RingEntryUnreachable) after t = ap (λ s. s.files) t.2
-refused_stays may s i (Some q) calls (device.Queue stop.HeadOutOfTable) after t = ap (λ s. s.files) t.2
-refused_stays may s i (Some q) calls (device.Queue stop.UsedUnreachable) after t = ap (λ s. s.files) t.2
-refused_stays may s i (Some q) calls (device.Queue stop.AvailFlagsUnreachable) after t = ap (λ s. s.files) t.2
-refused_stays may s i (Some q) calls (device.Queue stop.DescriptorUnreachable) after t = ap (λ s. s.files) t.2
-
 -- ---- kicks
-
-end_stays : {F : Type 0} (may : May F) (s : State F) (i most : ℕ) (refused : Option DeviceError) (after : State F) → KickEnds may s i most refused after → after.files ≡ s.files
-end_stays may s i zero None after same = ap (λ s. s.files) same
-end_stays may s i zero (Some e) after t = absurd t
-end_stays may s i (suc most) None after t = idle_stays may s i (slice_get s.queues i) [] after t
-end_stays may s i (suc most) (Some e) after t = refused_stays may s i (slice_get s.queues i) [] e after t
 
 -- what grew in two turns
 joined_growth : {F : Type 0} (log : F → List LoggedCall) (a b c : F) (xs ys : List Exchange) → Grew log a xs b → Grew log b ys c → Grew log a (xs ++ ys) c

@@ -26,21 +26,21 @@ with_calls calls (call ∷ more) = with_calls (kept calls call) more
 
 -- what a call may be answered: a look-up finds node 2, or nothing (ENOENT); nothing is wanted of `init`; what isn't served
 -- has its default, which mostly is that there is no such call (ENOSYS)
-abbrev pub MayAnswer : FileCall → FileAnswer → Type 0
-MayAnswer (Init capable) (Wants options) = options ≡ 0
-MayAnswer (Init capable) _ = ⊥
-MayAnswer (Lookup who parent name) (HasEntry entry) = entry.inode ≡ 2
-MayAnswer (Lookup who parent name) (Failed errno) = errno ≡ 2
-MayAnswer (Lookup who parent name) _ = ⊥
-MayAnswer (Read who node handle room size offset owner flags) _ = Unit {0}
-MayAnswer (Forget who node count) answer = answer ≡ Done
-MayAnswer (BatchForget who counts) answer = answer ≡ Done
-MayAnswer Destroy answer = answer ≡ Done
-MayAnswer (Open who node kill flags) answer = answer ≡ Opened None 0
-MayAnswer (Opendir who node flags) answer = answer ≡ Opened None 0
-MayAnswer (Statfs who node) answer = answer ≡ Stats default_stats
-MayAnswer _ answer = answer ≡ Failed 38
+abbrev pub MayAnswerLogged : FileCall → FileAnswer → Type 0
+MayAnswerLogged (Init capable) (Wants options) = options ≡ 0
+MayAnswerLogged (Init capable) _ = ⊥
+MayAnswerLogged (Lookup who parent name) (HasEntry entry) = entry.inode ≡ 2
+MayAnswerLogged (Lookup who parent name) (Failed errno) = errno ≡ 2
+MayAnswerLogged (Lookup who parent name) _ = ⊥
+MayAnswerLogged (Read who node handle room size offset owner flags) _ = Unit {0}
+MayAnswerLogged (Forget who node count) answer = answer ≡ Done
+MayAnswerLogged (BatchForget who counts) answer = answer ≡ Done
+MayAnswerLogged Destroy answer = answer ≡ Done
+MayAnswerLogged (Open who node kill flags) answer = answer ≡ Opened None 0
+MayAnswerLogged (Opendir who node flags) answer = answer ≡ Opened None 0
+MayAnswerLogged (Statfs who node) answer = answer ≡ Stats default_stats
+MayAnswerLogged _ answer = answer ≡ Failed 38
 
 -- each call grows the log by itself, and has one of the answers that it may have
 abbrev pub MayLog : CallLog → FileCall → FileAnswer → CallLog → Type 0
-MayLog before call answer after = (after.calls.items ≡ with_calls before.calls.items (entries_for call)) × MayAnswer call answer
+MayLog before call answer after = (after.calls.items ≡ with_calls before.calls.items (entries_for call)) × MayAnswerLogged call answer

@@ -1,6 +1,6 @@
 -- What a whole run writes down: the calls of INIT, LOOKUP, FORGET, BATCH_FORGET and READ that the exchanged requests mean.
-use Rattle.std.specs.Prelude.{◌≡◌, IsTrue, List, [], ◌∷◌, ◌++◌, map, flat_map, Option, Some, None}
-use Rattle.fuse_fs.specs.Calls.{FileCall, suits}
+use Rattle.std.specs.Prelude.{◌≡◌, List, [], ◌∷◌, ◌++◌, map, flat_map, Option, Some, None}
+use Rattle.fuse_fs.specs.Calls.{FileCall}
 use Rattle.virtiofsd_fuse.specs.Grammar.{meaning}
 use Rattle.virtiofsd_fuse.specs.Serving.{Setting, served}
 use Rattle.fs_device.specs.declared.exchange.Fault.{Fault}

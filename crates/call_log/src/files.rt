@@ -24,7 +24,7 @@ pub const PATTERN: u64 = 3;
 
 // The bytes of a file: those of `hello`, or the pattern.
 #[derive(Drop)]
-struct Contents {
+struct FileContents {
     node: u64,
 }
 
@@ -33,7 +33,7 @@ fn pattern(at: u64) -> u8 {
     (at % 251) as u8
 }
 
-impl PositionedFile for Contents {
+impl PositionedFile for FileContents {
     ghost read_gives = { λ f n off r g. ⊤ };
 
     ghost write_gives = { λ f bytes off flags r g. ⊤ };
@@ -143,7 +143,7 @@ impl FileSystem for CallLog {
         _flags: u32,
     ) -> Result<usize, Errno> {
         self.note(LoggedCall::Read { node: inode });
-        w.read_from_file_at(&mut Contents { node: inode }, size as usize, offset)
+        w.read_from_file_at(&mut FileContents { node: inode }, size as usize, offset)
     }
 
     fn destroy(&mut self) {
