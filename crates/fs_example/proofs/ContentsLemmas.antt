@@ -8,7 +8,8 @@ use Rattle.fuse_fs.specs.Lengths.{first, past, up_to}
 use Rattle.fuse_fs.specs.Transfers.{ReadsOn, ReadsEnd, ReadsSegments}
 use Rattle.fuse_fs.proofs.Lengths.{past_none, past_part, past_whole, sum-cons, sum-past, sum-up_to}
 use Rattle.fuse_fs.specs.Calls as call
-use Rattle.fs_example.specs.Directory.{EIO, bytes_in}
+use Rattle.fuse_replies.specs.Entries.{EIO}
+use Rattle.fs_example.specs.Directory.{bytes_in}
 use Rattle.fs_example.specs.declared.directory.Contents.{Contents}
 use Rattle.std.proofs.Math.Seq.{take-add}
 
@@ -20,11 +21,6 @@ own_length : (n : ℕ) (xs : List ℕ) → take (length (take n xs)) xs ≡ take
 own_length zero xs = refl
 own_length (suc n) [] = refl
 own_length (suc n) (x ∷ xs) = ap (λ (l : List ℕ). x ∷ l) (own_length n xs)
-
-short : (n : ℕ) (xs : List ℕ) → length (take n xs) ≤ length xs
-short zero xs = omega arith
-short (suc n) [] = omega arith
-short (suc n) (x ∷ xs) = let ih = short n xs in omega (arith, ih)
 
 -- all parts together are the front of what stands there
 pub reads_front : (f : Contents) (rooms : List ℕ) (off : ℕ) (parts : List (List ℕ)) (g : Contents) → ReadsOn Gives f rooms off parts g →

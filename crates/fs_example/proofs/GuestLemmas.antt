@@ -19,13 +19,13 @@ use Rattle.fs_device.specs.declared.refusal.Refusal.{Refusal}
 use Rattle.fs_device.specs.declared.refusal.Refusal.TheVariants.{NoPlace}
 use Rattle.fs_device.specs.Step.{State, Exchanged, Step}
 use Rattle.fs_device.specs.Run as run
-use Rattle.fs_device.specs.Run.{Turn, Told, Command, Answer, Kicked, Kicks, KickRun, Performs, Run, RunTold, Effect, effect, shown}
+use Rattle.fs_device.specs.Run.{Turn, Told, Command, Answer, Kicked, Kicks, KickRun, Run, RunTold, Effect, effect}
 use Rattle.fs_example.specs.declared.table.ReadOnlyDirectory.{ReadOnlyDirectory}
 use Rattle.fs_example.specs.Directory.{MayAnswer}
 use Rattle.fs_example.specs.Reading.{read_reply, wanted}
 use Rattle.fs_example.specs.GuestGets.{laid_over, GetsFile, KickGivesFile, kick_and_look, GuestGetsTheFile}
 use Rattle.fs_example.proofs.StoreLemmas.{all_keep, room_seen}
-use Rattle.fs_example.proofs.HoldLemmas.{Held, end_keeps, run_holds}
+use Rattle.fs_example.proofs.HoldLemmas.{HoldsItsBlocks, end_keeps, run_holds}
 use Rattle.fs_example.proofs.ReadLemmas.{step_reads, serves_each}
 use Rattle.std.proofs.lemmas.Bool.{and_parts}
 use Rattle.fs_device.specs.Telling.{calls_told}
@@ -119,7 +119,7 @@ gets_file m room k a n unique file got is = (is, λ fits behind within. is ∙ f
 
 -- ---- a kick, and then a look
 
-kick_gives : (s mid after : State ReadOnlyDirectory) (i most a n : ℕ) (kicked : Kicked) (got : List ℕ) (told : Told) → Held s.memory →
+kick_gives : (s mid after : State ReadOnlyDirectory) (i most a n : ℕ) (kicked : Kicked) (got : List ℕ) (told : Told) → HoldsItsBlocks s.memory →
     Kicks MayAnswer s i most (slice_get s.queues i) told kicked mid → (run.Bytes got, after) ≡ effect mid (run.GuestRead a n) → KickGivesFile s i kicked a n got
 kick_gives s mid after i most a n kicked got told held kicks look q head request room unique node size offset k f one there offered reads file apart looks =
     let reply = read_reply (length room) unique (wanted f size offset) in
@@ -137,7 +137,7 @@ kick_gives s mid after i most a n kicked got told held kicks look q head request
     held places apart looks)
 
 both_give : (s after : State ReadOnlyDirectory) (i most a n : ℕ) (kicked : Kicked) (got : List ℕ) (later : List (Command × Answer)) (tolds : List Told) →
-    RunTold MayAnswer s (kick_and_look i most kicked a n got ++ later) tolds after → Held s.memory → KickGivesFile s i kicked a n got
+    RunTold MayAnswer s (kick_and_look i most kicked a n got ++ later) tolds after → HoldsItsBlocks s.memory → KickGivesFile s i kicked a n got
 unfolding RunTold
 both_give s after i most a n kicked got later [] t held = absurd t
 both_give s after i most a n kicked got later (told ∷ []) (mid, kicks, rest) held = absurd rest
@@ -146,7 +146,7 @@ both_give s after i most a n kicked got later (told ∷ (t ∷ ts) ∷ tolds) (m
 
 -- ---- runs
 
-pub run_gives : (s after : State ReadOnlyDirectory) (events : List (Command × Answer)) (tolds : List Told) → RunTold MayAnswer s events tolds after → Held s.memory →
+pub run_gives : (s after : State ReadOnlyDirectory) (events : List (Command × Answer)) (tolds : List Told) → RunTold MayAnswer s events tolds after → HoldsItsBlocks s.memory →
     ((end : State ReadOnlyDirectory) (part : List (Command × Answer)) (told : List Told) → RunTold MayAnswer s part told end → FileRun MayAnswer s.files (calls_told told) end.files) →
     GuestGetsTheFile s events after
 run_gives s after events tolds ran held calls before later i most a n kicked got is =

@@ -29,15 +29,15 @@ use Rattle.fs_device.proofs.LayoutLemmas.{held_grown, held_with, held_without, b
 use Rattle.fs_example.proofs.StoreLemmas.{all_keep}
 
 -- a memory whose host has the blocks of its layout
-abbrev pub Held : Memory → Type 0
-Held m = HostHolds m.host m.layout
+abbrev pub HoldsItsBlocks : Memory → Type 0
+HoldsItsBlocks m = HostHolds m.host m.layout
 
-held_by : (m n : Memory) → lengths n.host ≡ lengths m.host → n.layout ≡ m.layout → Held m → Held n
+held_by : (m n : Memory) → lengths n.host ≡ lengths m.host → n.layout ≡ m.layout → HoldsItsBlocks m → HoldsItsBlocks n
 held_by m n blocks layout held =
     subst (λ (l : List Region). AreHeld (lengths n.host) l) (sym layout) (subst (λ (ns : List ℕ). AreHeld ns m.layout) (sym blocks) held)
 
-held_same : (m n : Memory) → n ≡ m → Held m → Held n
-held_same m n same held = subst Held (sym same) held
+held_same : (m n : Memory) → n ≡ m → HoldsItsBlocks m → HoldsItsBlocks n
+held_same m n same held = subst HoldsItsBlocks (sym same) held
 
 -- ---- stores
 
@@ -51,13 +51,13 @@ unfolding stored_all
 stored_lengths [] m = refl
 stored_lengths (w ∷ ws) m = stored_lengths ws (stored m w) ∙ one_length m w.1 (location m Write w.0)
 
-stores_hold : (ws : List (ℕ × ℕ)) (m n : Memory) → n ≡ stored_all m ws → Held m → Held n
+stores_hold : (ws : List (ℕ × ℕ)) (m n : Memory) → n ≡ stored_all m ws → HoldsItsBlocks m → HoldsItsBlocks n
 stores_hold ws m n is held = held_same (stored_all m ws) n is (held_by m (stored_all m ws) (stored_lengths ws m) (all_keep ws m).1 held)
 
 -- ---- steps
 
 exchange_holds : {F : Type 0} (may : May F) (s : State F) (i : ℕ) (q : Queue) (o : Offer) (calls : Calls) (x : Exchange) (notice : Bool) (after : State F) →
-    Exchanges may s i q o calls x notice after → Held s.memory → Held after.memory
+    Exchanges may s i q o calls x notice after → HoldsItsBlocks s.memory → HoldsItsBlocks after.memory
 exchange_holds {F} may s i q (Offers head (CannotAsk fault)) calls x notice after r held =
     stores_hold (writes q head [] []) s.memory after.memory (ap (λ (t : State F). t.memory) r.returns.state) held
 exchange_holds {F} may s i q (Offers head (Asks request room)) calls x notice after r held =
@@ -66,7 +66,7 @@ exchange_holds may s i q taking.Idle calls x notice after r held = absurd r
 exchange_holds may s i q (Refuses e) calls x notice after r held = absurd r
 
 step_holds : {F : Type 0} (may : May F) (s : State F) (i : ℕ) (o : Option Queue) (calls : Calls) (x : Exchange) (notice : Bool) (after : State F) →
-    StepOf may s i o calls (Exchanged x notice) after → Held s.memory → Held after.memory
+    StepOf may s i o calls (Exchanged x notice) after → HoldsItsBlocks s.memory → HoldsItsBlocks after.memory
 step_holds may s i None calls x notice after t held = absurd (cc)
 step_holds may s i (Some q) calls x notice after t held = exchange_holds may s i q _ calls x notice after t held
 
@@ -97,37 +97,37 @@ end_keeps may s i zero (Some e) after t = absurd t
 end_keeps may s i (suc most) None after t = idle_keeps may s i (slice_get s.queues i) [] after t
 end_keeps may s i (suc most) (Some e) after t = refused_keeps may s i (slice_get s.queues i) [] e after t
 
-kick_holds : {F : Type 0} (may : May F) (s : State F) (i most : ℕ) (told : Told) (refused : Option DeviceError) (after : State F) → KickRun may s i most told refused after → Held s.memory → Held after.memory
+kick_holds : {F : Type 0} (may : May F) (s : State F) (i most : ℕ) (told : Told) (refused : Option DeviceError) (after : State F) → KickRun may s i most told refused after → HoldsItsBlocks s.memory → HoldsItsBlocks after.memory
 unfolding KickRun
 kick_holds may s i most [] refused after t held = held_same s.memory after.memory (end_keeps may s i most refused after t) held
 kick_holds may s i zero (x ∷ told) refused after t held = absurd t
 kick_holds may s i (suc most) (x ∷ told) refused after (mid, step, rest) held =
     kick_holds may mid i most told refused after rest (step_holds may s i (slice_get s.queues i) x.calls x.exchange x.notice mid step held)
 
-kicks_hold : {F : Type 0} (may : May F) (s : State F) (i most : ℕ) (o : Option Queue) (told : Told) (k : Kicked) (after : State F) → Kicks may s i most o told k after → Held s.memory → Held after.memory
+kicks_hold : {F : Type 0} (may : May F) (s : State F) (i most : ℕ) (o : Option Queue) (told : Told) (k : Kicked) (after : State F) → Kicks may s i most o told k after → HoldsItsBlocks s.memory → HoldsItsBlocks after.memory
 kicks_hold may s i most None told k after t held = held_same s.memory after.memory (ap (λ s. s.memory) t.0) held
 kicks_hold may s i most (Some q) told k after t held = kick_holds may s i most told k.refused after t.0 held
 
 -- ---- the other commands
 
-whichever : {F : Type 0} (b : Bool) (x y : Effect F) → Held x.1.memory → Held y.1.memory → Held (if b then x else y).1.memory
+whichever : {F : Type 0} (b : Bool) (x y : Effect F) → HoldsItsBlocks x.1.memory → HoldsItsBlocks y.1.memory → HoldsItsBlocks (if b then x else y).1.memory
 whichever true x y p q = p
 whichever false x y p q = q
 
 -- where the test says no, the second has what it needs
-unless : {F : Type 0} (b : Bool) (x y : Effect F) → Held x.1.memory → (b ≡ false → Held y.1.memory) → Held (if b then x else y).1.memory
+unless : {F : Type 0} (b : Bool) (x y : Effect F) → HoldsItsBlocks x.1.memory → (b ≡ false → HoldsItsBlocks y.1.memory) → HoldsItsBlocks (if b then x else y).1.memory
 unless true x y p q = p
 unless false x y p q = q refl
 
-insert_holds : {F : Type 0} (s : State F) (r : Region) → (r.block < length (lengths s.memory.host)) × (slice_index_or (lengths s.memory.host) r.block 0 ≡ r.size) → Held s.memory → Held (insert s r).1.memory
+insert_holds : {F : Type 0} (s : State F) (r : Region) → (r.block < length (lengths s.memory.host)) × (slice_index_or (lengths s.memory.host) r.block 0 ≡ r.size) → HoldsItsBlocks s.memory → HoldsItsBlocks (insert s r).1.memory
 insert_holds s r there held =
     whichever (not (fits r)) _ _ held (whichever (list_any (overlap r) s.memory.layout) _ _ held (held_with (lengths s.memory.host) r s.memory.layout there held))
 
-block_holds : {F : Type 0} (s : State F) (base block : ℕ) (o : Option Block) → slice_get s.memory.host.blocks block ≡ o → Held s.memory → Held (insert_block s base block o).1.memory
+block_holds : {F : Type 0} (s : State F) (base block : ℕ) (o : Option Block) → slice_get s.memory.host.blocks block ≡ o → HoldsItsBlocks s.memory → HoldsItsBlocks (insert_block s base block o).1.memory
 block_holds s base block None is held = held
 block_holds s base block (Some b) is held = insert_holds s (record { start = base; size = length b.bytes; block = block }) (block_there s.memory.host.blocks block b is) held
 
-reset_holds : {F : Type 0} (s : State F) (i : ℕ) (anew : Queue) (o : Option Queue) → Held s.memory → Held (reset s i anew o).1.memory
+reset_holds : {F : Type 0} (s : State F) (i : ℕ) (anew : Queue) (o : Option Queue) → HoldsItsBlocks s.memory → HoldsItsBlocks (reset s i anew o).1.memory
 reset_holds s i anew None held = held
 reset_holds s i anew (Some q) held = held
 
@@ -154,14 +154,14 @@ unmarked_lengths : (blocks : List Block) → map (λ (b : Block). length b.bytes
 unmarked_lengths [] = refl
 unmarked_lengths (b ∷ blocks) = ap (λ (l : List ℕ). length b.bytes ∷ l) (unmarked_lengths blocks)
 
-clear_holds : (m : Memory) → Held m → HostHolds (record m.host { blocks = map unmarked m.host.blocks }) m.layout
+clear_holds : (m : Memory) → HoldsItsBlocks m → HostHolds (record m.host { blocks = map unmarked m.host.blocks }) m.layout
 clear_holds m held = subst (λ (ns : List ℕ). AreHeld ns m.layout) (sym (unmarked_lengths m.host.blocks)) held
 
-grown_holds : (m : Memory) (b : Block) → Held m → HostHolds (record m.host { blocks = m.host.blocks ++ b ∷ [] }) m.layout
+grown_holds : (m : Memory) (b : Block) → HoldsItsBlocks m → HostHolds (record m.host { blocks = m.host.blocks ++ b ∷ [] }) m.layout
 grown_holds m b held =
     subst (λ (ns : List ℕ). AreHeld ns m.layout) (sym (map-append (λ (c : Block). length c.bytes) m.host.blocks (b ∷ []))) (held_grown (lengths m.host) (length b.bytes ∷ []) m.layout held)
 
-effect_holds : {F : Type 0} (s : State F) (command : Command) → Held s.memory → Held (effect s command).1.memory
+effect_holds : {F : Type 0} (s : State F) (command : Command) → HoldsItsBlocks s.memory → HoldsItsBlocks (effect s command).1.memory
 unfolding effect
 effect_holds s (run.GuestRead a n) held = whichever (reach (physical s.memory) Read a n) _ _ held held
 effect_holds s (run.GuestWrite a bs) held =
@@ -184,14 +184,14 @@ effect_holds s (run.ResetQueue queue size desc avail used) held = reset_holds s 
 effect_holds s run.Image held = clear_holds s.memory held
 effect_holds s run.Harvest held = clear_holds s.memory held
 
-change_holds : {F : Type 0} (s : State F) (fit : Bool) (table : Table) (answer : Answer) (after : State F) → ChangesTable s fit table answer after → Held s.memory → Held after.memory
-change_holds {F} s true table answer after t held = subst (λ (r : State F). Held r.memory) (sym t.1.3) held
-change_holds {F} s false table answer after t held = subst (λ (p : Effect F). Held p.1.memory) (sym t) held
+change_holds : {F : Type 0} (s : State F) (fit : Bool) (table : Table) (answer : Answer) (after : State F) → ChangesTable s fit table answer after → HoldsItsBlocks s.memory → HoldsItsBlocks after.memory
+change_holds {F} s true table answer after t held = subst (λ (r : State F). HoldsItsBlocks r.memory) (sym t.1.3) held
+change_holds {F} s false table answer after t held = subst (λ (p : Effect F). HoldsItsBlocks p.1.memory) (sym t) held
 
-by_effect : {F : Type 0} (s : State F) (command : Command) (answer : Answer) (after : State F) → (answer, after) ≡ effect s command → Held s.memory → Held after.memory
-by_effect {F} s command answer after t held = subst (λ (p : Effect F). Held p.1.memory) (sym t) (effect_holds s command held)
+by_effect : {F : Type 0} (s : State F) (command : Command) (answer : Answer) (after : State F) → (answer, after) ≡ effect s command → HoldsItsBlocks s.memory → HoldsItsBlocks after.memory
+by_effect {F} s command answer after t held = subst (λ (p : Effect F). HoldsItsBlocks p.1.memory) (sym t) (effect_holds s command held)
 
-affect_holds : {F : Type 0} (s : State F) (command : Command) (answer : Answer) (after : State F) → Affects s command answer after → Held s.memory → Held after.memory
+affect_holds : {F : Type 0} (s : State F) (command : Command) (answer : Answer) (after : State F) → Affects s command answer after → HoldsItsBlocks s.memory → HoldsItsBlocks after.memory
 affect_holds s (run.GuestRead a n) answer after t held = by_effect s (run.GuestRead a n) answer after t held
 affect_holds s (run.GuestWrite a bs) answer after t held = by_effect s (run.GuestWrite a bs) answer after t held
 affect_holds s (run.NewBlock n) answer after t held = by_effect s (run.NewBlock n) answer after t held
@@ -207,13 +207,13 @@ affect_holds s (run.ResetQueue queue size desc avail used) answer after t held =
 affect_holds s run.Image answer after t held = by_effect s run.Image answer after t held
 affect_holds s run.Harvest answer after t held = by_effect s run.Harvest answer after t held
 
-told_holds : {F : Type 0} (s : State F) (command : Command) (told : Told) (answer : Answer) (after : State F) → HasEffect s command told answer after → Held s.memory → Held after.memory
+told_holds : {F : Type 0} (s : State F) (command : Command) (told : Told) (answer : Answer) (after : State F) → HasEffect s command told answer after → HoldsItsBlocks s.memory → HoldsItsBlocks after.memory
 told_holds s command [] answer after t held = affect_holds s command answer after t held
 told_holds s command (x ∷ told) answer after t held = absurd t
 
 -- ---- runs
 
-does_hold : {F : Type 0} (may : May F) (s : State F) (command : Command) (told : Told) (answer : Answer) (after : State F) → Does may s command told answer after → Held s.memory → Held after.memory
+does_hold : {F : Type 0} (may : May F) (s : State F) (command : Command) (told : Told) (answer : Answer) (after : State F) → Does may s command told answer after → HoldsItsBlocks s.memory → HoldsItsBlocks after.memory
 does_hold may s (run.Kick i most) told (run.Served k) after t held = kicks_hold may s i most (slice_get s.queues i) told k after t held
 does_hold may s (run.Kick i most) told run.Done after t held = absurd t
 does_hold may s (run.Kick i most) told (run.Bytes bytes) after t held = absurd t
@@ -235,7 +235,7 @@ does_hold may s (run.ResetQueue queue size desc avail used) told answer after t 
 does_hold may s run.Image told answer after t held = told_holds s run.Image told answer after t held
 does_hold may s run.Harvest told answer after t held = told_holds s run.Harvest told answer after t held
 
-performs_hold : {F : Type 0} (may : May F) (s : State F) (command : Command) (told : Told) (answer : Answer) (after : State F) → Performs may s command told answer after → Held s.memory → Held after.memory
+performs_hold : {F : Type 0} (may : May F) (s : State F) (command : Command) (told : Told) (answer : Answer) (after : State F) → Performs may s command told answer after → HoldsItsBlocks s.memory → HoldsItsBlocks after.memory
 performs_hold may s command [] (run.IsRefused why.OutOfMemory) after t held = held_same s.memory after.memory (ap (λ s. s.memory) t.1) held
 performs_hold may s command (x ∷ told) (run.IsRefused why.OutOfMemory) after t held = absurd t
 performs_hold may s command told (run.IsRefused why.NoPlace) after t held = does_hold may s command told _ after t held
@@ -254,7 +254,7 @@ performs_hold may s command told (run.Copied host) after t held = does_hold may 
 performs_hold may s command told (run.Pages pages) after t held = does_hold may s command told _ after t held
 
 -- a run keeps it so
-pub run_holds : {F : Type 0} (may : May F) (s : State F) (events : List (Command × Answer)) (tolds : List Told) (after : State F) → RunTold may s events tolds after → Held s.memory → Held after.memory
+pub run_holds : {F : Type 0} (may : May F) (s : State F) (events : List (Command × Answer)) (tolds : List Told) (after : State F) → RunTold may s events tolds after → HoldsItsBlocks s.memory → HoldsItsBlocks after.memory
 unfolding RunTold
 run_holds may s [] [] after t held = held_same s.memory after.memory (ap (λ s. s.memory) t) held
 run_holds may s [] (told ∷ tolds) after t held = absurd t

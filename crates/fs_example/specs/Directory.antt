@@ -9,24 +9,19 @@ use Rattle.fuse_fs.specs.Answers.{default_stats}
 use Rattle.fuse_fs.specs.Times.{Duration}
 use Rattle.fuse_fs.specs.Calls.{FileCall, FileAnswer, Listed, Failed, Done, HasEntry, HasAttr, Opened, Bytes, Stats, Entries, Wants}
 use Rattle.fuse_fs.specs.Calls.{Init, Destroy, Lookup, Forget, BatchForget, Getattr, Open, Opendir, Read, Readdir, Statfs}
+use Rattle.fuse_replies.specs.Entries.{EIO}
+use Rattle.virtiofsd_fuse.specs.Grammar.{ENOSYS}
 use Rattle.fs_example.specs.declared.table.File.{File}
 use Rattle.fs_example.specs.declared.table.ReadOnlyDirectory.{ReadOnlyDirectory}
 
--- error numbers of Linux: nothing has this name or number
+-- error numbers of Linux, besides EIO (the room is too short for the bytes) and ENOSYS (the call is not served): nothing has
+-- this name or number
 abbrev pub ENOENT : ℕ
 ENOENT = 2
-
--- the room is too short for the bytes
-abbrev pub EIO : ℕ
-EIO = 5
 
 -- the directory is not for writing
 abbrev pub EROFS : ℕ
 EROFS = 30
-
--- the call is not served
-abbrev pub ENOSYS : ℕ
-ENOSYS = 38
 
 -- the file that a node is
 abbrev pub file_at : List File → (node : ℕ) → Option File

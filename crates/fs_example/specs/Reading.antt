@@ -13,7 +13,7 @@ use Rattle.fs_device.specs.Step.{State, Outcome, Idle, Refused, Exchanged, Calls
 use Rattle.fs_device.specs.Run.{Turn, Told, Command, Answer, RunTold}
 use Rattle.fs_example.specs.declared.table.File.{File}
 use Rattle.fs_example.specs.declared.table.ReadOnlyDirectory.{ReadOnlyDirectory}
-use Rattle.fs_example.specs.Directory.{EIO, file_at, MayAnswer}
+use Rattle.fs_example.specs.Directory.{file_at, MayAnswer}
 
 -- what a READ means: a fault, where its room has no place for the header of the reply
 abbrev pub read_in_room : (unique room : ℕ) → FileCall → Meaning
