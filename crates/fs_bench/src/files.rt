@@ -3,7 +3,7 @@
 ghost use Rattle.std.specs.Prelude.{⊤};
 
 use crate::fault::BenchFault;
-use crate::listing::Listing;
+use crate::listing::ListedEntries;
 use bitflags::Flags;
 use fuse_fs::{
     Context, Entry, Extensions, FileSystem, FileSystemBase, GetxattrReply, ListxattrReply,
@@ -103,7 +103,7 @@ impl FileSystemBase for MemoryFiles {
 }
 
 impl FileSystem for MemoryFiles {
-    type DirIter = Listing;
+    type DirIter = ListedEntries;
 
     fn init(&mut self, _capable: FsOptions) -> Result<FsOptions, Errno> {
         Ok(FsOptions::from_bits_retain(0))
@@ -379,8 +379,8 @@ impl FileSystem for MemoryFiles {
         _handle: u64,
         _size: u32,
         _offset: u64,
-    ) -> Result<Listing, Errno> {
-        Ok(Listing::new())
+    ) -> Result<ListedEntries, Errno> {
+        Ok(ListedEntries::new())
     }
 
     fn fsyncdir(

@@ -9,18 +9,18 @@ const ENTRIES: u64 = 100;
 
 /// The entries of the directory, each of which is node 2.
 #[derive(Drop)]
-pub(crate) struct Listing {
+pub(crate) struct ListedEntries {
     left: u64,
 }
 
-impl Listing {
+impl ListedEntries {
     /// All of them.
-    pub fn new() -> Listing {
-        Listing { left: ENTRIES }
+    pub fn new() -> ListedEntries {
+        ListedEntries { left: ENTRIES }
     }
 }
 
-impl DirectoryIterator for Listing {
+impl DirectoryIterator for ListedEntries {
     ghost rest = { λ l. listing l.left };
 
     fn next(&mut self) -> Option<DirEntry<'_>> {

@@ -1,6 +1,6 @@
 use Rattle.std.proofs.Common.{refl, arith}
 use Rattle.fs_bench.proofs.ListingLemmas.{none_left, one_less}
-use Rattle.fs_bench.proofs.listing.ListingDirectoryIterator.next.Goals as goal
+use Rattle.fs_bench.proofs.listing.ListedEntriesDirectoryIterator.next.Goals as goal
 
 -- src/listing.rt:28:13
 pub returns-then-self-eq0 : goal.returns-then-self-eq0
