@@ -7,7 +7,7 @@ use std::alloc::{AllocError, Global};
 use vm_values::ByteValued;
 
 /// The length of a request's header.
-pub const IN_HEADER_LEN: usize = 40;
+pub(crate) const IN_HEADER_LEN: usize = 40;
 
 /// A request's header, from user, group and process 0. `len` may be any, true or not, and `opcode` of no request.
 pub fn header(len: u32, opcode: u32, unique: u64, nodeid: u64) -> [u8; IN_HEADER_LEN] {
