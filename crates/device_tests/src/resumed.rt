@@ -1,7 +1,9 @@
-//! Queues that go on at a position, those of a restored device too, and queues that begin anew.
+//! Queues that go on at a position, those of a restored device too, and queues that begin anew; and a device that ends.
 
-use crate::stand::{Act, ENOSYS_REPLY, LIMIT, RING, ROOM_AT, Stand, UNKNOWN, expect_same, layout};
-use call_log::CallLog;
+use crate::stand::{
+    Act, ENOSYS_REPLY, LIMIT, RING, ROOM_AT, Request, Stand, UNKNOWN, expect_same, layout,
+};
+use call_log::{CallLog, LoggedCall};
 use fs_device::{Device, Stream};
 use fs_queue::Queue;
 use std::alloc::Global;
@@ -98,4 +100,17 @@ fn reset_queue_begins_at_its_first_slot(rt: HostRuntime) {
     stand.expect_position(&rt, 0);
     let (_, _) = stand.exchange(&rt);
     stand.expect_used(&rt, 0, (0, 16), 1);
+}
+
+#[test]
+fn server_is_handed_back_with_its_file_system(rt: HostRuntime) {
+    const ACTS: &[Act<'static>] = &[
+        Act::Asks(Request::Forget { node: 5, count: 3 }, 16),
+        Act::Replies(&[]),
+    ];
+    let mut stand = Stand::new(&rt, rt.alloc());
+    stand.play(&rt, ACTS);
+    let files = stand.device.into_server().into_fs();
+    let calls: &[LoggedCall] = &[LoggedCall::Forget { node: 5, count: 3 }];
+    expect_same(&rt, files.calls(), calls);
 }

@@ -2,6 +2,7 @@
 
 use crate::given::{Host, eight, expect_eight, expect_same, parts};
 use vm_memory_core::{Bitmap, HostMemory, VolatileSlice};
+use vm_values::{Be32, ByteValued};
 
 // The marks of three pages.
 fn marks(h: &Host) -> Option<[bool; 3]> {
@@ -32,6 +33,14 @@ fn a_value_over_two_pages_marks_both(rt: HostRuntime) {
         (ends, marks(&h)),
         ((Some(1), Some(4)), Some([true, true, false])),
     );
+}
+
+#[test]
+fn values_are_had_of_their_bytes(rt: HostRuntime) {
+    const BYTES: &[u8] = &[1, 2, 3, 0x80];
+    expect_same(&rt, u32::get_bytes(BYTES), 0x8003_0201);
+    expect_same(&rt, i32::get_bytes(BYTES), -0x7ffc_fdff);
+    expect_same(&rt, Be32::get_bytes(BYTES).to_native(), 0x0102_0380);
 }
 
 #[test]

@@ -191,6 +191,26 @@ fn another_backend_keeps_table_and_io_pages(rt: HostRuntime) {
     expect_same(&rt, host.holds(&replaced), true);
 }
 
+#[test]
+fn a_backend_is_put_behind_the_same_iommu(rt: HostRuntime) {
+    let (mut host, mut mem) = cut(&rt, rt.alloc());
+    let ranges = [(GuestAddress(0), 0x2000)];
+    let backend = GuestMemoryMmap::from_ranges(rt.alloc(), &mut host, &ranges);
+    mem.set_backend(backend.expect(&rt, "memory"));
+    expect_same(&rt, (mem.iommu().table(), mem.bitmap()), (TABLE, IO_PAGES));
+    expect_same(&rt, mem.get_iommu_enabled(), true);
+    // 0x1010 is mapped to 0x1010, in the region's block, and 0x1014 to 0x6014, where no region is.
+    let want = [
+        (None, Some(Ok((1, 0x1010, 4)))),
+        (None, None),
+        (None, None),
+    ];
+    let found = items(&mem, rt.alloc(), &host, 0x1010, 4);
+    expect_same(&rt, found, Ok(want));
+    let there = mem.check_range(rt.alloc(), &host, GuestAddress(0x1010), 8, Read);
+    expect_same(&rt, there, Ok(false));
+}
+
 // Whether a host with the block, and so many tables and sets, holds memory that names its table 1 and its set 2.
 fn is_held(rt: &impl Abort, alloc: Global, tables: usize, sets: usize) -> bool {
     let mut host: Host = HostMemory::new(alloc);
