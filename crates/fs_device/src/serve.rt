@@ -34,6 +34,7 @@ fn is_memory(error: Error) -> bool
 }
 
 // Has the server answer a request into a writer's room; nothing where memory was wanting, and then nothing changed.
+#[inline(always)]
 fn answer<F: FileSystem>(
     alloc: Global,
     server: &mut Server<F>,
@@ -68,6 +69,7 @@ fn answer<F: FileSystem>(
 
 /// Serves a chain that was taken, by its request's bytes and a writer with its room. Nothing is refused once the file
 /// system was asked.
+#[inline(always)]
 pub(crate) fn serve<F: FileSystem>(
     alloc: Global,
     server: &mut Server<F>,
@@ -107,6 +109,7 @@ pub(crate) fn serve<F: FileSystem>(
 
 /// Fetches the request of a chain that was taken, makes room for its reply, and serves it. Nothing is refused once the
 /// file system was asked.
+#[inline(always)]
 pub(crate) fn serve_taken<F: FileSystem, H: HostBlocks>(
     alloc: Global,
     server: &mut Server<F>,

@@ -15,7 +15,7 @@ use vm_values::{ByteValued, Le16};
 
 /// Reads a buffer full of bytes from an address on, or answers that one of them isn't there. Memory is wanting only
 /// where a translation fails.
-#[inline]
+#[inline(always)]
 pub(crate) fn read<M: GuestMemory, H: HostBlocks>(
     alloc: Global,
     host: &H,
@@ -62,7 +62,7 @@ pub(crate) fn read_u16<M: GuestMemory, H: HostBlocks>(
 }
 
 /// Adds the windows of a range of addresses, for an access, or answers that one of them has no place.
-#[inline]
+#[inline(always)]
 pub(crate) fn add_windows<M: GuestMemory, H: HostBlocks>(
     alloc: Global,
     host: &H,

@@ -43,6 +43,7 @@ ghost use Rattle.fs_queue.specs.Windows.{Takes, after_taking, IsTaken, TakenLies
 
 // Writes the reply over the room of a chain.
 #[tactic(auto, unfolding(vm_memory_core::specs::Window::put_all))]
+#[inline(always)]
 fn write_reply<H: HostBlocks>(host: &mut H, chain: &Result<Chain, ChainFault>, reply: &[u8])
     requires lies { ChainLiesIn (lengths (H.host host.old)) chain.now }
     requires fits { length reply.now ≤ room_places chain.now }
@@ -112,6 +113,7 @@ impl Queue {
 
     /// The chain that waits at the queue's position, with its windows. The position stays until the chain is given
     /// back. Requests and rooms longer than `limit` make a chain faulty.
+    #[inline(always)]
     pub fn take<M: GuestMemory, H: HostBlocks>(
         &mut self,
         alloc: Global,
@@ -138,6 +140,7 @@ impl Queue {
 
     /// Writes the reply over the room, then the used element, then the used index, and says whether the driver wants to
     /// be told. The chain was taken at this position, and the reply is no longer than its room.
+    #[inline(always)]
     pub fn give_back<H: HostBlocks>(&mut self, host: &mut H, taken: Taken, reply: &[u8]) -> bool
         requires lies { TakenLiesIn (lengths (H.host host.old)) taken }
         requires fits { length reply.now ≤ room_places taken.chain }

@@ -23,6 +23,7 @@ use vm_memory_core::{HostBlocks, Permissions, Windows};
 
 // Adds to an empty list the windows that a return at this position writes besides the room: of the used element, then
 // of the used index. Or answers that one of their addresses has no place.
+#[inline(always)]
 fn add_used<M: GuestMemory, H: HostBlocks>(
     alloc: Global,
     layout: QueueLayout,
@@ -48,6 +49,7 @@ fn add_used<M: GuestMemory, H: HostBlocks>(
 
 // Adds to empty lists the windows that a return at this position writes and reads besides the room, or answers by a
 // refusal which of them has an address without a place.
+#[inline(always)]
 fn add_ends<M: GuestMemory, H: HostBlocks>(
     alloc: Global,
     layout: QueueLayout,
@@ -109,7 +111,7 @@ fn count_descriptors(descriptors: &[Descriptor], write_only: bool) -> usize
 
 // Has room for a window of each descriptor of one direction, where a list may be too short for that. An error is a want
 // of memory.
-#[inline]
+#[inline(always)]
 fn reserve_windows(
     windows: &mut Windows,
     descriptors: &[Descriptor],
@@ -138,6 +140,7 @@ fn access_of(write_only: bool) -> Permissions
 
 // Adds to an empty list the windows of the descriptors of one direction, or answers that one of their addresses has no
 // place.
+#[inline(always)]
 fn add_direction<M: GuestMemory, H: HostBlocks>(
     alloc: Global,
     host: &H,
@@ -167,6 +170,7 @@ fn add_direction<M: GuestMemory, H: HostBlocks>(
 }
 
 // The request and the room of a chain, or its fault.
+#[inline(always)]
 fn hold_chain<M: GuestMemory, H: HostBlocks>(
     alloc: Global,
     host: &H,
@@ -205,6 +209,7 @@ fn hold_chain<M: GuestMemory, H: HostBlocks>(
 }
 
 // The same of descriptors that a walk collected, whose memory goes with them.
+#[inline(always)]
 fn hold_walked<M: GuestMemory, H: HostBlocks>(
     alloc: Global,
     host: &H,
@@ -224,6 +229,7 @@ fn hold_walked<M: GuestMemory, H: HostBlocks>(
 }
 
 /// What a queue that isn't stopped answers, at a position, when a chain is asked for.
+#[inline(always)]
 pub(crate) fn ask<M: GuestMemory, H: HostBlocks>(
     alloc: Global,
     layout: QueueLayout,

@@ -59,6 +59,7 @@ ghost use Rattle.fs_queue.specs.Walking.{at_position, in_table, verdict_of, foun
 
 // The bytes of a table, where one window has all of them. None says nothing of the table: each entry is then read by
 // itself.
+#[inline(always)]
 fn table_bytes<'a, M: GuestMemory, H: HostBlocks>(
     alloc: Global,
     host: &'a H,
@@ -90,6 +91,7 @@ fn entry_at(bytes: &[u8], index: u16) -> Descriptor
 }
 
 // An entry of a table, whose bytes are at hand or are read.
+#[inline(always)]
 fn read_entry<M: GuestMemory, H: HostBlocks>(
     alloc: Global,
     host: &H,
@@ -151,6 +153,7 @@ fn ordinary(table: DescriptorTable, index: u16, left: u16, descriptor: Descripto
 }
 
 // What the rules say of an entry of a table, where `left` more descriptors may join the chain.
+#[inline(always)]
 fn step<M: GuestMemory, H: HostBlocks>(
     alloc: Global,
     host: &H,
@@ -198,6 +201,7 @@ fn queue_table(layout: QueueLayout) -> DescriptorTable
 }
 
 /// The chain that begins at an entry of the queue's table.
+#[inline(always)]
 pub(crate) fn walk<M: GuestMemory, H: HostBlocks>(
     alloc: Global,
     layout: QueueLayout,

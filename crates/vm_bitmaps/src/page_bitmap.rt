@@ -208,6 +208,7 @@ impl Bitmap for PageBitmap {
 
     ghost keeps_same = { λ b. refl };
 
+    #[inline(always)]
     fn mark_dirty(&mut self, offset: usize, len: usize) {
         self.write_range(offset, len, true);
     }

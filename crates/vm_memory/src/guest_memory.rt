@@ -108,6 +108,7 @@ impl<R: GuestMemoryRegion> GuestRegionCollection<R> {
 
     // Adds the windows of `len` physical addresses from one on, joined, or answers that one of them has no place, where
     // 0 comes after the greatest address.
+    #[inline(always)]
     pub(crate) fn push_physical<const N: usize>(
         &self,
         addr: GuestAddress,
@@ -132,6 +133,7 @@ impl<R: GuestMemoryRegion> GuestRegionCollection<R> {
     }
 
     // Reads as many bytes from an address on as are there, and says how many.
+    #[inline(always)]
     pub(crate) fn read_some<H: HostBlocks>(&self, host: &H, buffer: &mut [u8], addr: u64) -> usize
         requires { HostHolds (H.host host.now) self.now }
         ensures count { result ≡ reached (place self.now) (circular addr (length buffer.old)) }

@@ -41,6 +41,7 @@ impl<'a, M: GuestMemoryBackend> Iterator for GuestMemorySlices<'a, M> {
 
     ghost remaining = { λ s. at_most (length (slices_of s).left) };
 
+    #[inline(always)]
     fn next(&mut self) -> Option<Result<VolatileSlice, GuestMemoryError>> {
         match self {
             GuestMemorySlices::Backend(slices) => slices.next(),
@@ -199,7 +200,7 @@ impl<R: GuestMemoryRegion> GuestMemory for GuestRegionCollection<R> {
         Some(self)
     }
 
-    #[inline]
+    #[inline(always)]
     fn read_range<H: HostBlocks>(
         &self,
         alloc: Global,
@@ -213,7 +214,7 @@ impl<R: GuestMemoryRegion> GuestMemory for GuestRegionCollection<R> {
         Ok(completed == asked)
     }
 
-    #[inline]
+    #[inline(always)]
     fn push_windows<H: HostBlocks>(
         &self,
         alloc: Global,

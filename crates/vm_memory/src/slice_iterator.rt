@@ -56,6 +56,7 @@ impl<'a, M: GuestMemoryBackend> Iterator for GuestMemoryBackendSliceIterator<'a,
 
     ghost remaining = { λ s. at_most (length s.left) };
 
+    #[inline(always)]
     fn next(&mut self) -> Option<Result<VolatileSlice, GuestMemoryError>> {
         if self.count == 0 {
             return None;
@@ -95,7 +96,7 @@ impl<'a, M: GuestMemoryBackend> GuestMemorySliceIterator
 }
 
 // The longest window of at most `most` bytes from an address on, if the address has a place.
-#[inline]
+#[inline(always)]
 pub(crate) fn window_at<M: GuestMemoryBackend>(
     memory: &M,
     addr: u64,

@@ -153,6 +153,7 @@ impl<B: NewBitmap> HostMemory<B> {
     }
 
     /// Writes bytes at the first places of a window, and marks their pages.
+    #[inline(always)]
     pub fn write(&mut self, window: VolatileSlice, bytes: &[u8])
         requires lies { LiesIn (lengths self.old) window }
         requires fits { length bytes.now ≤ window.len }

@@ -71,6 +71,7 @@ pub trait HostBlocks {
 
     /// Writes bytes at the first places of the windows, joined, and marks their pages.
     #[tactic(auto, unfolding(crate::specs::Window::AllLieIn))]
+    #[inline(always)]
     final fn write_windows(&mut self, windows: &[VolatileSlice], bytes: &[u8])
         requires lie { AllLieIn (lengths (host self.old)) windows.now }
         requires fits { length bytes.now ≤ length (places windows.now) }
