@@ -200,11 +200,7 @@ fn a_backend_is_put_behind_the_same_iommu(rt: HostRuntime) {
     expect_same(&rt, (mem.iommu().table(), mem.bitmap()), (TABLE, IO_PAGES));
     expect_same(&rt, mem.get_iommu_enabled(), true);
     // 0x1010 is mapped to 0x1010, in the region's block, and 0x1014 to 0x6014, where no region is.
-    let want = [
-        (None, Some(Ok((1, 0x1010, 4)))),
-        (None, None),
-        (None, None),
-    ];
+    let want = [(None, Some(Ok((1, 0x1010, 4)))), (None, None), (None, None)];
     let found = items(&mem, rt.alloc(), &host, 0x1010, 4);
     expect_same(&rt, found, Ok(want));
     let there = mem.check_range(rt.alloc(), &host, GuestAddress(0x1010), 8, Read);
