@@ -8,6 +8,7 @@ use Rattle.fs_queue.specs.Returning.{returned}
 use Rattle.fuse_fs.specs.declared.answers.Context.{Context}
 use Rattle.fuse_fs.specs.Calls.{FileCall, Read}
 use Rattle.fuse_segments.specs.declared.error.Error.TheVariants.{EncodeMessage}
+use Rattle.fuse_replies.specs.Entries.{EIO}
 use Rattle.virtiofsd_fuse.specs.Grammar.{Meaning, IsFault, Asks, One, meaning, reply_bytes, error_bytes}
 use Rattle.fs_device.specs.Step.{State, Outcome, Idle, Refused, Exchanged, Calls, Step}
 use Rattle.fs_device.specs.Run.{Turn, Told, Command, Answer, RunTold}
