@@ -28,6 +28,7 @@ pub struct Begun {
 ghost use Rattle.fs_device.specs.DeviceView.{request_of};
 
 /// The bytes of a chain's request. A faulty chain has none, and takes no memory.
+#[inline(always)]
 pub(crate) fn fetch_request<H: HostBlocks>(
     alloc: Global,
     host: &H,

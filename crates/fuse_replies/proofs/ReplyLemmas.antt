@@ -36,12 +36,6 @@ reply_long room unique body h = sent_long room (reply_bytes unique body) (rw (le
 pub reply_fits : (room unique : ℕ) (body : List ℕ) → 16 + length body ≤ room → whole_or_none room (reply_bytes unique body) ≡ Ok (reply_bytes unique body)
 reply_fits room unique body h = sent_fits room (reply_bytes unique body) (rw (length_reply unique body) h)
 
-pub error_long : (room unique errno : ℕ) → room < 16 → whole_or_none room (error_bytes unique errno) ≡ Err EncodeMessage
-error_long room unique errno h = sent_long room (error_bytes unique errno) (rw (length_error unique errno) h)
-
-pub error_fits : (room unique errno : ℕ) → 16 ≤ room → whole_or_none room (error_bytes unique errno) ≡ Ok (error_bytes unique errno)
-error_fits room unique errno h = sent_fits room (error_bytes unique errno) (rw (length_error unique errno) h)
-
 -- the reply to an answer that says an error
 pub failure_told : (silent : Bool) (unique errno : ℕ) (answer : FileAnswer) → answer ≡ Failed errno → told_bytes silent unique answer ≡ error_bytes unique errno
 failure_told silent unique errno answer e = rw e refl
@@ -54,6 +48,12 @@ unfolding reply_bytes
 reply_put room unique len w0 w1 w2 header body a b c d e h =
     let all : w2 ≡ reply_bytes unique body = rw (e, b, a, c, d) refl in
     ap Ok all ∙ sym (reply_fits room unique body h)
+
+-- a header and a record behind it
+pub record_put : (unique len : ℕ) (front back body : List ℕ) → front ≡ spelled (out_header (record { len = len; error = pos 0; unique = unique })) → back ≡ body → len ≡ 16 + length body
+    → front ++ back ≡ reply_bytes unique body
+unfolding reply_bytes
+record_put unique len front back body a b c = rw (a, b, c) refl
 
 -- a header, over the front of what was written
 pub data_put : (unique len n : ℕ) (w0 w1 header : List ℕ) → header ≡ spelled (out_header (record { len = len; error = pos 0; unique = unique }))

@@ -25,6 +25,7 @@ pub trait AsReply: Answer {
 }
 
 /// Replies with an answer.
+#[inline(always)]
 pub fn reply_answer<A: AsReply>(
     w: &mut Writer,
     unique: u64,

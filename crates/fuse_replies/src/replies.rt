@@ -34,6 +34,7 @@ pub(crate) fn error_reply(unique: u64, error: Errno) -> [u8; OUT_HEADER_LEN]
 }
 
 /// Writes these bytes, which have room.
+#[inline(always)]
 pub fn append(w: &mut Writer, bytes: &[u8])
     requires { length bytes.now ≤ w.old.free }
     ensures written { w.new.written ≡ w.old.written ++ bytes.now }
@@ -45,6 +46,7 @@ pub fn append(w: &mut Writer, bytes: &[u8])
 
 /// Writes a good reply.
 #[tactic(auto, using(crate::proofs::ReplyLemmas::reply_long, crate::proofs::ReplyLemmas::reply_fits))]
+#[inline(always)]
 pub fn reply(w: &mut Writer, unique: u64, body: &[u8]) -> Result<usize, Error>
     requires fresh { w.old.written ≡ [] }
     requires room { w.old.free < 2 ^ 32 }
@@ -62,7 +64,43 @@ pub fn reply(w: &mut Writer, unique: u64, body: &[u8]) -> Result<usize, Error>
     Ok(len)
 }
 
+// Writes a reply that is whole, where it has room.
+#[inline(always)]
+#[tactic(auto, using(crate::proofs::ReplyLemmas::sent_long, crate::proofs::ReplyLemmas::sent_fits))]
+fn send(w: &mut Writer, reply: &[u8]) -> Result<usize, Error>
+    requires fresh { w.old.written ≡ [] }
+    ensures sent { with_written result w.new.written ≡ whole_or_none w.old.free reply.now }
+    ensures writer { LeavesWriter result w.old w.new }
+    ensures memory { lacks_memory result ≡ false }
+{
+    if w.available_bytes() < reply.len() {
+        return Err(Error::EncodeMessage);
+    }
+    append(w, reply);
+    Ok(reply.len())
+}
+
+// The longest reply that is one record: a header, and the longest record.
+const RECORD_REPLY_LEN: usize = OUT_HEADER_LEN + 256;
+
+// Puts a good reply that is one record over these bytes.
+fn put_reply<T: ByteValued>(out: &mut [u8], unique: u64, body: &T)
+    requires { length out.old ≡ 16 + T.SIZE }
+    ensures { out.new ≡ reply_bytes unique (spelled (T.fields body.now)) }
+{
+    let len = out.len() as u32;
+    let (front, back) = out.split_at_mut(OUT_HEADER_LEN);
+    let header = OutHeader {
+        len,
+        error: 0,
+        unique,
+    };
+    header.put_bytes(front);
+    body.put_bytes(back);
+}
+
 /// Writes a good reply that is one record.
+#[inline(always)]
 pub(crate) fn reply_record<T: ByteValued>(
     w: &mut Writer,
     unique: u64,
@@ -74,27 +112,24 @@ pub(crate) fn reply_record<T: ByteValued>(
     ensures writer { LeavesWriter result w.old w.new }
     ensures memory { lacks_memory result ≡ false }
 {
-    let mut buffer = [0; 256];
-    body.put_bytes(&mut buffer[..T::SIZE]);
-    reply(w, unique, &buffer[..T::SIZE])
+    let len = OUT_HEADER_LEN + T::SIZE;
+    let mut buffer = [0; RECORD_REPLY_LEN];
+    put_reply(&mut buffer[..len], unique, body);
+    send(w, &buffer[..len])
 }
 
 /// Writes an error.
-#[tactic(auto, using(crate::proofs::ReplyLemmas::error_long, crate::proofs::ReplyLemmas::error_fits))]
 pub fn reply_error(w: &mut Writer, unique: u64, error: Errno) -> Result<usize, Error>
     requires fresh { w.old.written ≡ [] }
     ensures sent { with_written result w.new.written ≡ whole_or_none w.old.free (error_bytes unique error) }
     ensures writer { LeavesWriter result w.old w.new }
     ensures memory { lacks_memory result ≡ false }
 {
-    if w.available_bytes() < OUT_HEADER_LEN {
-        return Err(Error::EncodeMessage);
-    }
-    append(w, &error_reply(unique, error));
-    Ok(OUT_HEADER_LEN)
+    send(w, &error_reply(unique, error))
 }
 
 /// Puts a header before the bytes that stand behind its place, or an error in place of all of it.
+#[inline(always)]
 pub fn reply_data(w: &mut Writer, unique: u64, answer: Result<usize, Errno>) -> usize
     requires behind { 16 ≤ length w.old.written }
     requires count { ForOk answer (λ n. 16 + n ≡ length w.old.written) }

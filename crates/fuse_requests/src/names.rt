@@ -38,6 +38,7 @@ fn read_owned(alloc: Global, r: &mut Reader<'_>, n: usize) -> Result<Vec<u8>, Er
 }
 
 // The next bytes, where they stand if they stand in one segment.
+#[inline(always)]
 fn read_bytes<'a>(alloc: Global, r: &mut Reader<'a>, n: usize) -> Result<RequestBytes<'a>, Error>
     requires { n ≤ length r.old.left }
     ensures ok { IfOk result (λ b. (r.old.left ≡ cow_slice_items b ++ r.new.left) × (length (cow_slice_items b) ≡ n)) }
@@ -50,6 +51,7 @@ fn read_bytes<'a>(alloc: Global, r: &mut Reader<'a>, n: usize) -> Result<Request
 }
 
 /// As many bytes as the header's length leaves after `fixed` bytes of record.
+#[inline(always)]
 pub fn read_counted<'a>(
     alloc: Global,
     len: u32,

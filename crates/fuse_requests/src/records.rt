@@ -12,6 +12,7 @@ use fuse_segments::{Error, Reader};
 const INIT_EXT: u32 = 1 << 30;
 
 /// A record; a short rest can't be decoded.
+#[inline(always)]
 pub fn read_record<T: InRecord>(r: &mut Reader<'_>) -> Result<T, Error>
     ensures reads { read_result result r.new.left ≡ reading_of T.shape r.old.left }
     ensures fault { IfErr result (λ e. e ≡ Error.DecodeMessage) }

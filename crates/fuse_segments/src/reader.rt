@@ -204,6 +204,7 @@ impl<'a> Reader<'a> {
     }
 
     /// The next bytes where they stand, if the first segment has as many; else nothing is read.
+    #[inline(always)]
     pub fn read_in_place(&mut self, n: usize) -> Option<&'a [u8]>
         ensures some { IfSome result (λ b. (self.old.left ≡ b.now ++ self.new.left) × (length b.now ≡ n) × (n ≤ first self.old.segments)) }
         ensures segments { OnSome result (self.new.segments ≡ past n self.old.segments) }
@@ -239,6 +240,7 @@ impl<'a> Reader<'a> {
     }
 
     /// The value that the next bytes spell. Where there are too few, they are used up, and the end is unexpected.
+    #[inline(always)]
     pub fn read_obj<T: ByteValued>(&mut self) -> Result<T, Error>
         ensures ok { IfOk result (λ x. (self.old.left ≡ spelled (T.fields x) ++ self.new.left) × AllFit (T.fields x)
             × (self.new.read ≡ self.old.read + T.SIZE)) }

@@ -78,6 +78,7 @@ impl Model for Writer {
 }
 
 // The place so many bytes behind another one.
+#[inline(always)]
 fn behind(segments: &[usize], from: SegmentPlace, n: usize) -> SegmentPlace
     requires segment { from.segment ≤ length segments.now }
     requires fits { from.used + n < 2 ^ 64 }
@@ -167,6 +168,7 @@ fn cut_off(segments: &mut Lengths, place: SegmentPlace)
 }
 
 // Appends what one read of a file gives.
+#[inline(always)]
 fn append_once<F: PositionedFile>(
     bytes: &mut Vec<u8>,
     file: &mut F,
@@ -285,6 +287,7 @@ impl Writer {
     }
 
     /// Writes over the first bytes that were written.
+    #[inline(always)]
     pub fn put_front(&mut self, front: &[u8])
         requires { length front.now ≤ length self.old.written }
         ensures written { self.new.written ≡ front.now ++ drop (length front.now) self.old.written }
@@ -309,6 +312,7 @@ impl Writer {
     }
 
     // The room of the first segment that has some.
+    #[inline(always)]
     fn first_room(&self) -> usize
         ensures first { result ≡ first (rooms self.now) }
         ensures within { result ≤ self.now.free }
@@ -322,6 +326,7 @@ impl Writer {
     }
 
     // Writes the first bytes of these that there is room for; answers how many.
+    #[inline(always)]
     fn put(&mut self, more: &[u8]) -> usize
         ensures count { result ≡ min (length more.now) self.old.free }
         ensures written { self.new.written ≡ self.old.written ++ take result more.now }
@@ -414,6 +419,7 @@ impl Writer {
 
     /// Writes what one call of a file reads into the first segment that has room, at most `count` bytes; none is made
     /// where there is no room or `count` is 0. An error uses up nothing.
+    #[inline(always)]
     pub fn read_from_file_at<F: PositionedFile>(
         &mut self,
         file: &mut F,
@@ -452,6 +458,7 @@ impl Write for Writer {
         Ok(self.put(buf))
     }
 
+    #[inline(always)]
     fn write_all(&mut self, buf: &[u8]) -> io::Result<()>
         ensures bytes { OnOk result (Appends (Some self.old.written) (Some self.new.written) buf.now) }
         ensures free { OnOk result (self.new.free + length buf.now ≡ self.old.free) }

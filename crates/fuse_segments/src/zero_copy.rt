@@ -61,6 +61,7 @@ impl ZeroCopyWriter for ZcWriter {
 
     ghost rooms = { λ z. rooms z.writer };
 
+    #[inline(always)]
     fn read_from_file_at<F: PositionedFile>(
         &mut self,
         file: &mut F,

@@ -32,6 +32,7 @@ fn owner_of(request: &ReadIn) -> Option<u64>
 
 impl<F: FileSystem> Server<F> {
     // Asks for bytes of a file.
+    #[inline(always)]
     fn ask_read(
         &mut self,
         head: &InHeader,
@@ -61,6 +62,7 @@ impl<F: FileSystem> Server<F> {
     }
 
     // READ, by its record: the data goes behind the header's place in the reply.
+    #[inline(always)]
     fn read_data(
         &mut self,
         alloc: Global,
@@ -87,6 +89,7 @@ impl<F: FileSystem> Server<F> {
     }
 
     /// READ: bytes of a file.
+    #[inline(always)]
     pub(crate) fn read(
         &mut self,
         alloc: Global,

@@ -60,6 +60,7 @@ impl<F: FileSystem> Server<F> {
     }
 
     /// Serves a request that is one name.
+    #[inline(always)]
     pub(crate) fn name_request<R: NameRequest<F>>(
         &mut self,
         alloc: Global,

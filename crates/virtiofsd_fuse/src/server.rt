@@ -123,6 +123,7 @@ impl<F: FileSystem> Server<F> {
 
     // Serves a request by its opcode.
     #[tactic(auto, unfolding(crate::specs::Grammar::row))]
+    #[inline(always)]
     fn dispatch(
         &mut self,
         alloc: Global,
@@ -189,6 +190,7 @@ impl<F: FileSystem> Server<F> {
     }
 
     // Serves a request whose header was read.
+    #[inline(always)]
     fn serve(
         &mut self,
         alloc: Global,
@@ -214,6 +216,7 @@ impl<F: FileSystem> Server<F> {
     /// be answered so. Answers the reply's length; the reply stands in the writer, whose free bytes are its room. A
     /// fault leaves the writer as it was. `OutOfMemory` comes before any call.
     #[tactic(auto, using(crate::proofs::Left::left_length, crate::proofs::Left::left_room, crate::proofs::Left::left_same))]
+    #[inline(always)]
     pub fn handle_message(
         &mut self,
         alloc: Global,

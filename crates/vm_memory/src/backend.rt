@@ -151,7 +151,7 @@ impl<R: GuestMemoryRegion> GuestMemoryBackend for GuestRegionCollection<R> {
         self.count()
     }
 
-    #[inline]
+    #[inline(always)]
     fn find_region(&self, addr: GuestAddress) -> Option<&R> {
         self.find(addr.0)
     }

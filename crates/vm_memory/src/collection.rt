@@ -214,7 +214,7 @@ impl<R: GuestMemoryRegion> GuestRegionCollection<R> {
     }
 
     // How many regions begin at an address or below it.
-    #[inline]
+    #[inline(always)]
     fn begun(&self, addr: u64) -> usize
         ensures most { result ≤ length self.now }
         ensures below { 0 < result → start_at self.now (result - 1) ≤ addr }
@@ -235,7 +235,7 @@ impl<R: GuestMemoryRegion> GuestRegionCollection<R> {
     }
 
     // The region that has an address.
-    #[inline]
+    #[inline(always)]
     pub(crate) fn find(&self, addr: u64) -> Option<&R>
         ensures found { option_map (λ r. R.region r.now) result ≡ region_at self.now addr }
         ensures layout { IsLayout self.now }

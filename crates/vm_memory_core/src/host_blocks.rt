@@ -103,6 +103,7 @@ pub trait HostBlocks {
 
     /// The bytes of the windows, joined; there are about `capacity` of them. An error is a want of memory.
     #[tactic(auto, unfolding(crate::specs::Window::AllLieIn))]
+    #[inline(always)]
     final fn fetch_windows(
         &self,
         alloc: Global,
@@ -146,6 +147,7 @@ impl<B: NewBitmap> HostBlocks for HostMemory<B> {
         HostMemory::bytes(self, window)
     }
 
+    #[inline(always)]
     fn write(&mut self, window: VolatileSlice, bytes: &[u8]) {
         HostMemory::write(self, window, bytes);
     }
