@@ -3,12 +3,12 @@ use Rattle.std.proofs.Common.{◌≡◌, ℕ, zero, suc, Bool, true, false, ◌+
 use Rattle.std.specs.declared.alloc.AllocError.{AllocError}
 use Rattle.std.specs.Result.{IfOk, OnErr}
 use Rattle.std.proofs.lemmas.List.{map-append}
-use Rattle.std.specs.Prelude.{option_map, Result, Ok, Err, replicate, ◌==◌, ◌&&◌, ◌||◌, not, nat_lt, cond, find, slice_get, slice_index_or, if◌then◌else◌}
+use Rattle.std.specs.Prelude.{option_map, Result, Ok, Err, replicate, ◌==◌, ◌||◌, not, nat_lt, cond, find, slice_get, slice_index_or, if◌then◌else◌}
 use Rattle.std.specs.List.{list_all, list_any}
 use Rattle.std.proofs.lemmas.Bool.{eqb-true, and_parts}
 use Rattle.std.proofs.lemmas.Bool.Decides.{nat_tests}
 use Rattle.vm_memory_core.specs.Host.{Block, Host, lengths, with_block}
-use Rattle.vm_memory.specs.Layout.{Region, fits, overlap, with_region, is_region, without_region, AllFrom, IsLayout, AreHeld}
+use Rattle.vm_memory.specs.Layout.{Region, fits, with_region, is_region, without_region, IsLayout, AreHeld}
 use Rattle.vm_bitmaps.specs.Pages.{pages_of}
 use Rattle.vm_memory_core.specs.Host.{page_count}
 use Rattle.vm_memory.specs.Layout.{Backing}

@@ -1,6 +1,6 @@
 -- runs from states that differ in marks alone
 use Rattle.std.proofs.Common.{◌≡◌, ℕ, zero, suc, Bool, true, false, List, [], ◌∷◌, map, length, zip, Option, Some, None, refl, ap, sym, ◌∙◌, subst}
-use Rattle.std.specs.Prelude.{◌==◌, ◌&&◌, IsTrue, if◌then◌else◌, slice_get, option_map, unwrap_or, not}
+use Rattle.std.specs.Prelude.{◌+◌, ◌*◌, ◌==◌, ◌&&◌, IsTrue, if◌then◌else◌, slice_get, option_map, unwrap_or, not}
 use Rattle.std.specs.List.{list_all, list_any}
 use Rattle.std.proofs.lemmas.List.{length-map, map-append}
 use Rattle.std.proofs.lemmas.Option.{slice_get-map}
@@ -11,9 +11,9 @@ use Rattle.vm_iotlb.specs.Table.{Table, mapped, unmapped, nothing_mapped}
 use Rattle.vm_memory_core.specs.Host.{Host, Block, unmarked, cleared, with_block, new_block}
 use Rattle.vm_memory_core.specs.Lending.{with_table_at}
 use Rattle.vm_memory.specs.Layout.{Region, fits, overlap, is_region, with_region, without_region}
-use Rattle.vm_memory.specs.Memory.{Memory, addresses, reach, physical, table_in, table_of}
+use Rattle.vm_memory.specs.Memory.{Memory, addresses, is_mapped, reach, physical, table_in, table_of}
 use Rattle.fs_queue.specs.declared.fault.QueueError.TheVariants as stop
-use Rattle.fs_queue.specs.Queue.{Queue, fresh}
+use Rattle.fs_queue.specs.Queue.{Queue, fresh, slot}
 use Rattle.fs_queue.specs.Returning.{writes}
 use Rattle.fs_queue.specs.Taking.{Offer, Asks, CannotAsk, Refuses, Offers, offer, may_lack_memory, after_refusal}
 use Rattle.fs_queue.specs.Taking as taking
@@ -43,9 +43,10 @@ over_host {F} s t P same each = subst P (same_rest s t same) (each t.memory.host
 
 -- ---- steps
 
-lacks_alike : (m : Memory) (h : Host) (o : Offer) → may_lack_memory m o ≡ may_lack_memory (record m { host = h }) o
-lacks_alike m h (Refuses stop.AvailIndexUnreachable) = refl
-lacks_alike m h _ = refl
+lacks_alike : (m : Memory) (h : Host) → without_marks m.host ≡ without_marks h → (q : Queue) (o : Offer) → may_lack_memory m q o ≡ may_lack_memory (record m { host = h }) q o
+lacks_alike m h same q (Refuses stop.AvailIndexUnreachable) = ap (λ (k : Host). not (is_mapped (record m { host = k }) Read (q.avail + 2) 2)) same
+lacks_alike m h same q (Refuses stop.RingEntryUnreachable) = ap (λ (k : Host). not (is_mapped (record m { host = k }) Read (q.avail + 4 + 2 * slot q) 2)) same
+lacks_alike m h same q _ = refl
 
 module _ {F : Type 0} (s : State F) (h : Host) (same : without_marks s.memory.host ≡ without_marks h) where
   same_state : SameButMarks s (with_host s h)
@@ -96,7 +97,7 @@ module _ {F : Type 0} (may : May F) (s : State F) (h : Host) (same : without_mar
   act_alike i q o calls (Exchanged x notice) after t = exchange_alike i q o calls x notice after t
   act_alike i q o calls (Refused device.NoSuchQueue) after t = absurd t
   act_alike i q o calls (Refused (device.Queue stop.OutOfMemory)) after t =
-      (with_host s h, (subst IsTrue (lacks_alike s.memory h o) t.0, record { same = refl; no_call = t.1.no_call }), unchanged_alike s h same after t.1.same)
+      (with_host s h, (subst IsTrue (lacks_alike s.memory h same q o) t.0, record { same = refl; no_call = t.1.no_call }), unchanged_alike s h same after t.1.same)
   act_alike i q o calls (Refused (device.Queue e)) after t =
       let stopped = with_queue s i (after_refusal q e) in (with_host stopped h, (t.0, t.1, refl), ap without_its_marks t.2 ∙ ap (with_host stopped) same)
 

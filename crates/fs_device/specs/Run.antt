@@ -251,11 +251,11 @@ command_takes_memory s UnmapAll = false
 command_takes_memory s (SetIommu on) = false
 command_takes_memory s (Kick queue most) = kick_takes_memory s queue most
 command_takes_memory s (ResetQueue queue size desc avail used) = false
+command_takes_memory s (SetLayout layout) = false
 command_takes_memory s (GuestRead a n) = true
 command_takes_memory s (NewBlock n) = true
 command_takes_memory s (InsertRegion base block) = true
 command_takes_memory s (RemoveRegion base size) = true
-command_takes_memory s (SetLayout layout) = true
 command_takes_memory s Image = true
 command_takes_memory s Harvest = true
 

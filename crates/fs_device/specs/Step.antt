@@ -122,7 +122,7 @@ Exchanges may before i q (Refuses e) calls x notice after = ⊥
 -- what may happen at an offer: a step may be refused for want of memory, and then nothing changes and no call is made
 abbrev pub Acts : {F : Type 0} → May F → State F → ℕ → Queue → Offer → Calls → Outcome → State F → Type 0
 Acts may before i q offered calls Idle after = (offered ≡ taking.Idle) × Unchanged before calls after
-Acts may before i q offered calls (Refused (device.Queue stop.OutOfMemory)) after = IsTrue (may_lack_memory before.memory offered) × Unchanged before calls after
+Acts may before i q offered calls (Refused (device.Queue stop.OutOfMemory)) after = IsTrue (may_lack_memory before.memory q offered) × Unchanged before calls after
 Acts may before i q offered calls (Refused (device.Queue e)) after = (offered ≡ Refuses e) × (calls ≡ []) × (after ≡ with_queue before i (after_refusal q e))
 Acts may before i q offered calls (Refused device.NoSuchQueue) after = ⊥
 Acts may before i q offered calls (Exchanged x notice) after = Exchanges may before i q offered calls x notice after

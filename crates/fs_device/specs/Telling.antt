@@ -1,5 +1,5 @@
 -- What a run tells of its file calls: in their order they are a run of the file system, and each exchange is what its request means in some setting.
-use Rattle.std.specs.Prelude.{◌≡◌, List, [], map, flat_map, Option, Some, None}
+use Rattle.std.specs.Prelude.{◌≡◌, List, [], flat_map, Option, Some, None}
 use Rattle.std.specs.List.{AllByRecursion}
 use Rattle.fuse_fs.specs.Calls.{FileRun}
 use Rattle.virtiofsd_fuse.specs.Grammar.{meaning}

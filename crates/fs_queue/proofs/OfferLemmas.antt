@@ -62,21 +62,22 @@ pub offer_head : (m : Memory) (limit : ℕ) (l : QueueLayout) (position at : ℕ
 offer_head m limit l position at e =
     offer_looked m limit (at_position l position) refl ∙ sym (ap (on_look m limit (at_position l position)) e) ∙ on_head-ends m limit l position at
 
-lack_of : (m : Memory) (limit h : ℕ) (f : Found) → may_lack_memory m (offer_of m limit h f) ≡ true
-lack_of m limit h (IsChain ds) = refl
-lack_of m limit h (HasFault fault) = refl
-lack_of m limit h StopsQueue = refl
+lack_of : (m : Memory) (q : Queue) (limit h : ℕ) (f : Found) → may_lack_memory m q (offer_of m limit h f) ≡ true
+lack_of m q limit h (IsChain ds) = refl
+lack_of m q limit h (HasFault fault) = refl
+lack_of m q limit h StopsQueue = refl
 
-lack_two : (m : Memory) (used flags : Option (List Place)) (rest : Offer) → may_lack_memory m rest ≡ true → may_lack_memory m (on_ends (ends_found used flags) rest) ≡ true
-lack_two m None flags rest e = refl
-lack_two m (Some used) None rest e = refl
-lack_two m (Some used) (Some flags) rest e = e
+lack_two : (m : Memory) (q : Queue) (used flags : Option (List Place)) (rest : Offer) → may_lack_memory m q rest ≡ true → may_lack_memory m q (on_ends (ends_found used flags) rest) ≡ true
+lack_two m q None flags rest e = refl
+lack_two m q (Some used) None rest e = refl
+lack_two m q (Some used) (Some flags) rest e = e
 
 -- once a head was found memory may be wanting
 pub lacks_memory : (m : Memory) (limit : ℕ) (l : QueueLayout) (position at : ℕ) → looks.Head at ≡ looked m (at_position l position) →
-    IsTrue (may_lack_memory m (offer m limit (at_position l position)))
+    IsTrue (may_lack_memory m (at_position l position) (offer m limit (at_position l position)))
 lacks_memory m limit l position at e =
-    ap (may_lack_memory m) (offer_head m limit l position at e) ∙ lack_two m _ _ _ (lack_of m limit at (chain m (at_position l position) at))
+    let q = at_position l position in
+    ap (may_lack_memory m q) (offer_head m limit l position at e) ∙ lack_two m q _ _ _ (lack_of m q limit at (chain m q at))
 
 -- the windows of the return are those of their addresses
 pub found_ends : (used flags : List Place) (o1 o2 : Option (List Place)) → held.Holds used flags ≡ ends_found o1 o2 → (o1 ≡ Some used) × (o2 ≡ Some flags)

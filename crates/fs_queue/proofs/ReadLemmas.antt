@@ -1,9 +1,8 @@
 -- reads of ranges, by the addresses that were reached
-use Rattle.std.proofs.Common.{◌≡◌, ℕ, Bool, true, false, ◌+◌, ◌^◌, ◌<◌, nat_lt, List, [], ◌∷◌, ◌++◌, length, map, take, drop, refl, ap, sym, ◌∙◌, arith, Ok, Err, None}
+use Rattle.std.proofs.Common.{◌≡◌, ℕ, Bool, ◌+◌, ◌^◌, ◌<◌, List, [], ◌∷◌, ◌++◌, length, map, take, drop, ap, sym, ◌∙◌, Ok, Err, None}
 use Rattle.std.specs.Prelude.{is_some, IsTrue, IfOk, OnErr, Result, if◌then◌else◌}
 use Rattle.std.specs.declared.alloc.AllocError.{AllocError}
 use Rattle.std.specs.Int.{w16, w32, w64, from_le_bytes, to_le_bytes}
-use Rattle.std.proofs.lemmas.Bool.Decides.{nat_tests}
 use Rattle.std.proofs.lemmas.Nat.{from_le_bytes-to_le_bytes_2, from_le_bytes-to_le_bytes_4, from_le_bytes-to_le_bytes_8}
 use Rattle.std.proofs.lemmas.List.{take_at, drop_at, map-append, length-map}
 use Rattle.vm_values.specs.Fields.{AllFit, spelled}
@@ -26,15 +25,11 @@ pub have_read : (m : Memory) (a n : ℕ) (new : List ℕ) (r : Result Bool Alloc
 have_read m a n new (Ok found) fits h = λ all. h all ∙ ap (map (byte m)) (circular-is n a fits)
 have_read m a n new (Err e) fits h = tt
 
-switched_on : (on x : Bool) → (if on then x else true) ≡ false → on ≡ true
-switched_on true x e = refl
-switched_on false x e = absurd (cc)
-
 -- memory is wanting only where a range can't be translated
 pub wanting : (m : Memory) (a n : ℕ) (r : Result Bool AllocError) → a + n < 2 ^ 64 → Checks m Read a n r → OnErr r (IsUnmapped m a n)
 wanting m a n (Ok found) fits h = tt
 wanting m a n (Err e) fits h = (
-  switched_on m.translates _ h,
+  h,
   sym (reach-from m Read a n fits) ∙ ap (λ b. is_some (if b then located (location m Read) (circular a n) else None)) h,
 )
 

@@ -1,14 +1,14 @@
 -- What a queue offers: a chain's request and room, or why there is none.
-use Rattle.std.specs.Prelude.{ℕ, Bool, true, false, not, ◌&&◌, ◌||◌, nat_lt, List, [], if◌then◌else◌, sum_by, filter, flat_map}
+use Rattle.std.specs.Prelude.{ℕ, ◌+◌, ◌*◌, Bool, true, false, not, ◌&&◌, ◌||◌, nat_lt, List, [], if◌then◌else◌, sum_by, filter, flat_map}
 use Rattle.std.specs.List.{list_all}
 use Rattle.vm_iotlb.specs.declared.permissions.Permissions.{Permissions}
 use Rattle.vm_iotlb.specs.declared.permissions.Permissions.TheVariants.{Read, Write}
-use Rattle.vm_memory.specs.Memory.{Memory, reach, bytes, addresses}
+use Rattle.vm_memory.specs.Memory.{Memory, is_mapped, reach, bytes, addresses}
 use Rattle.fs_queue.specs.declared.fault.ChainFault.{ChainFault}
 use Rattle.fs_queue.specs.declared.fault.ChainFault.TheVariants.{OverLimit, RequestUnreachable, RoomUnreachable}
 use Rattle.fs_queue.specs.declared.fault.QueueError.{QueueError}
 use Rattle.fs_queue.specs.declared.fault.QueueError.TheVariants as stop
-use Rattle.fs_queue.specs.Queue.{Queue, element_at, index_at, with_stop}
+use Rattle.fs_queue.specs.Queue.{Queue, element_at, index_at, slot, with_stop}
 use Rattle.fs_queue.specs.Chain.{Descriptor, is_writable, Found, IsChain, HasFault, StopsQueue, chain}
 use Rattle.fs_queue.specs.Look.{Look, looked}
 use Rattle.fs_queue.specs.Look as look
@@ -71,15 +71,15 @@ on_look m limit q (look.Head head) = on_head m limit q head
 unfoldable pub offer : Memory → ℕ → Queue → Offer
 offer m limit q = if q.stopped then Refuses stop.Stopped else on_look m limit q (looked m q)
 
--- whether a step may be refused for want of memory: not where the queue is stopped, nor before a head is found unless the ring is behind an IOMMU and can't be read
-abbrev pub may_lack_memory : Memory → Offer → Bool
-may_lack_memory m Idle = false
-may_lack_memory m (Refuses stop.Stopped) = false
-may_lack_memory m (Refuses stop.AvailIndexUnreachable) = m.translates
-may_lack_memory m (Refuses stop.AvailTooFar) = false
-may_lack_memory m (Refuses stop.RingEntryUnreachable) = m.translates
-may_lack_memory m (Refuses stop.HeadOutOfTable) = false
-may_lack_memory m _ = true
+-- whether a step may be refused for want of memory: not where the queue is stopped, nor before a head is found unless what is read of the ring isn't mapped throughout
+abbrev pub may_lack_memory : Memory → Queue → Offer → Bool
+may_lack_memory m q Idle = false
+may_lack_memory m q (Refuses stop.Stopped) = false
+may_lack_memory m q (Refuses stop.AvailIndexUnreachable) = not (is_mapped m Read (q.avail + 2) 2)
+may_lack_memory m q (Refuses stop.AvailTooFar) = false
+may_lack_memory m q (Refuses stop.RingEntryUnreachable) = not (is_mapped m Read (q.avail + 4 + 2 * slot q) 2)
+may_lack_memory m q (Refuses stop.HeadOutOfTable) = false
+may_lack_memory m q _ = true
 
 -- whether a refusal stops the queue: all but those of a stopped queue and for want of memory do
 abbrev pub stops_queue : QueueError → Bool

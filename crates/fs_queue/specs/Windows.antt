@@ -97,8 +97,14 @@ room_places (Err fault) = 0
 abbrev pub Takes : Memory → ℕ → Queue → Result (Option Taken) QueueError → Type 0
 Takes m limit q (Ok None) = offer m limit q ≡ Idle
 Takes m limit q (Ok (Some t)) = (asked : Asked) × (offer m limit q ≡ Offers t.head asked) × IsTaken m q asked t
-Takes m limit q (Err stop.OutOfMemory) = IsTrue (may_lack_memory m (offer m limit q))
+Takes m limit q (Err stop.OutOfMemory) = IsTrue (may_lack_memory m q (offer m limit q))
 Takes m limit q (Err e) = offer m limit q ≡ Refuses e
+
+-- what is answered by whether a chain was taken, and what was taken then
+abbrev pub taken_if : Taken → Result Bool QueueError → Result (Option Taken) QueueError
+taken_if t (Ok true) = Ok (Some t)
+taken_if t (Ok false) = Ok None
+taken_if t (Err e) = Err e
 
 -- a stopped queue stays as it was, and so does one that lacked memory; each other refusal stops it
 abbrev pub after_taking : Queue → Result (Option Taken) QueueError → Queue

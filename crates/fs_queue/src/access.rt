@@ -41,6 +41,7 @@ pub(crate) fn le16_number(bytes: &[u8; 2]) -> u16
 }
 
 /// The little-endian number in two bytes at an address.
+#[inline(always)]
 pub(crate) fn read_u16<M: GuestMemory, H: HostBlocks>(
     alloc: Global,
     host: &H,

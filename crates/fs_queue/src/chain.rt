@@ -66,6 +66,18 @@ impl ReturnWindows {
 }
 
 impl Taken {
+    // A place for a chain, without windows yet.
+    pub(crate) fn none(alloc: Global) -> Taken
+        ensures used { result.ends.used.items ≡ [] }
+        ensures flags { result.ends.flags.items ≡ [] }
+    {
+        Taken {
+            head: 0,
+            chain: Err(ChainFault::OverLimit),
+            ends: ReturnWindows::none(alloc),
+        }
+    }
+
     /// The chain's head: its first descriptor's index in the queue's table.
     pub fn head(&self) -> u16
         ensures { result ≡ self.now.head }

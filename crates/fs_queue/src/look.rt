@@ -22,6 +22,7 @@ ghost use Rattle.fs_queue.specs.Look.{looked, IfRefused};
 ghost use Rattle.fs_queue.specs.Taking.{may_lack_memory, on_look, stops_queue};
 
 /// What waits at a position of a queue that isn't stopped. Memory is wanting only where a translation fails.
+#[inline(always)]
 pub(crate) fn next_head<M: GuestMemory, H: HostBlocks>(
     alloc: Global,
     layout: QueueLayout,
@@ -33,7 +34,7 @@ pub(crate) fn next_head<M: GuestMemory, H: HostBlocks>(
     ensures look { IfOk result (λ l. look_of l ≡ looked (M.memory mem.now (H.host host.now)) (at_position layout position)) }
     ensures stops { IfOk result (λ l. IfRefused (look_of l) (λ e. IsTrue (stops_queue e))) }
     ensures memory { OnErr result ((limit : ℕ) → let m = M.memory mem.now (H.host host.now) in let q = at_position layout position in
-        IsTrue (may_lack_memory m (on_look m limit q (looked m q)))) }
+        IsTrue (may_lack_memory m q (on_look m limit q (looked m q)))) }
 {
     let Some(index) = read_u16(alloc, host, mem, layout.avail() + 2)? else {
         return Ok(Look::Refused(QueueError::AvailIndexUnreachable));

@@ -131,11 +131,15 @@ impl Queue {
         if self.stopped {
             return Err(QueueError::Stopped);
         }
-        let taken = ask(alloc, self.layout, self.position, host, mem, limit);
-        if let Err(error) = &taken {
-            self.stopped = error.stops_queue();
+        let mut taken = Taken::none(alloc);
+        match ask(alloc, self.layout, self.position, host, mem, limit, &mut taken) {
+            Ok(true) => Ok(Some(taken)),
+            Ok(false) => Ok(None),
+            Err(error) => {
+                self.stopped = error.stops_queue();
+                Err(error)
+            }
         }
-        taken
     }
 
     /// Writes the reply over the room, then the used element, then the used index, and says whether the driver wants to

@@ -7,7 +7,7 @@ ghost use Rattle.vm_memory_core.specs.Window.{places, AllLieIn};
 ghost use Rattle.vm_memory.specs.Memory.{located, location};
 ghost use Rattle.fs_queue.specs.Walking.{AllEndIn64Bits, at_position};
 ghost use Rattle.fs_queue.specs.Taking.{total_len, asked_by, stops_queue};
-ghost use Rattle.fs_queue.specs.Windows.{room_places, of_direction, access_of, addresses_of, used_addresses, ends_of, ends_at, EndsLieIn, ChainLiesIn, HoldsChain, HoldsWindows, HasItsWindows, TakenLiesIn, Takes};
+ghost use Rattle.fs_queue.specs.Windows.{room_places, of_direction, access_of, addresses_of, used_addresses, ends_of, ends_at, EndsLieIn, ChainLiesIn, HoldsChain, HoldsWindows, HasItsWindows, TakenLiesIn, Takes, taken_if};
 ghost use Rattle.fs_queue.specs.Chain.{IsChain};
 
 use crate::access::add_windows;
@@ -109,8 +109,8 @@ fn count_descriptors(descriptors: &[Descriptor], write_only: bool) -> usize
     count
 }
 
-// Has room for a window of each descriptor of one direction, where a list may be too short for that. An error is a want
-// of memory.
+// Has room for a window of each descriptor of one direction, where a list is likely too short for that. An error is a
+// want of memory.
 #[inline(always)]
 fn reserve_windows(
     windows: &mut Windows,
@@ -119,7 +119,7 @@ fn reserve_windows(
 ) -> Result<(), AllocError>
     ensures { windows.new.items ≡ windows.old.items }
 {
-    if descriptors.len() > 2 {
+    if descriptors.len() > 4 {
         windows.reserve(count_descriptors(descriptors, write_only))
     } else {
         Ok(())
@@ -228,7 +228,8 @@ fn hold_walked<M: GuestMemory, H: HostBlocks>(
     hold_chain(alloc, host, mem, head, &descriptors, limit)
 }
 
-/// What a queue that isn't stopped answers, at a position, when a chain is asked for.
+/// Takes the chain that waits at a position of a queue that isn't stopped into a place without windows; false where
+/// none waits. After that and after a refusal nothing is said of what the place holds.
 #[inline(always)]
 pub(crate) fn ask<M: GuestMemory, H: HostBlocks>(
     alloc: Global,
@@ -237,21 +238,23 @@ pub(crate) fn ask<M: GuestMemory, H: HostBlocks>(
     host: &H,
     mem: &M,
     limit: u32,
-) -> Result<Option<Taken>, QueueError>
-    requires { M.IsHeld mem.now (H.host host.now) }
-    ensures takes { Takes (M.memory mem.now (H.host host.now)) limit (at_position layout position) result }
-    ensures lie { IfOk result (λ o. IfSome o (TakenLiesIn (lengths (H.host host.now)))) }
-    ensures windows { IfOk result (λ o. IfSome o (HasItsWindows (M.memory mem.now (H.host host.now)) (at_position layout position))) }
-    ensures short { IfOk result (λ o. IfSome o (λ t. room_places t.chain ≤ limit)) }
+    taken: &mut Taken,
+) -> Result<bool, QueueError>
+    requires held { M.IsHeld mem.now (H.host host.now) }
+    requires used { taken.old.ends.used.items ≡ [] }
+    requires flags { taken.old.ends.flags.items ≡ [] }
+    ensures takes { Takes (M.memory mem.now (H.host host.now)) limit (at_position layout position) (taken_if taken.new result) }
+    ensures lie { IfOk (taken_if taken.new result) (λ o. IfSome o (TakenLiesIn (lengths (H.host host.now)))) }
+    ensures windows { IfOk (taken_if taken.new result) (λ o. IfSome o (HasItsWindows (M.memory mem.now (H.host host.now)) (at_position layout position))) }
+    ensures short { IfOk (taken_if taken.new result) (λ o. IfSome o (λ t. room_places t.chain ≤ limit)) }
 {
     let head = match next_head(alloc, layout, position, host, mem) {
-        Ok(Look::Idle) => return Ok(None),
+        Ok(Look::Idle) => return Ok(false),
         Ok(Look::Refused(error)) => return Err(error),
         Ok(Look::Head(head)) => head,
         Err(_) => return Err(QueueError::OutOfMemory),
     };
-    let mut ends = ReturnWindows::none(alloc);
-    match add_ends(alloc, layout, host, mem, position, &mut ends) {
+    match add_ends(alloc, layout, host, mem, position, &mut taken.ends) {
         Ok(None) => {}
         Ok(Some(error)) => return Err(error),
         Err(_) => return Err(QueueError::OutOfMemory),
@@ -265,7 +268,11 @@ pub(crate) fn ask<M: GuestMemory, H: HostBlocks>(
         Walked::Chain(descriptors) => hold_walked(alloc, host, mem, head, descriptors, limit),
     };
     match held {
-        Ok(chain) => Ok(Some(Taken { head, chain, ends })),
+        Ok(chain) => {
+            taken.head = head;
+            taken.chain = chain;
+            Ok(true)
+        }
         Err(_) => Err(QueueError::OutOfMemory),
     }
 }

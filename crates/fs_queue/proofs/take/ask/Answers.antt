@@ -23,7 +23,7 @@ returns-in-Ok-Refused-clause-takes g c =
 pub returns-in-Err-clause-takes : goal.returns-in-Err-clause-takes
 returns-in-Err-clause-takes g c =
     let m = g.M.GuestMemory.memory c.args.mem.now (g.H.HostBlocks.host c.args.host.now) in
-    ap (may_lack_memory m) (offer_looked m c.args.limit (at_position c.args.layout c.args.position) refl) ∙ c.in-Err.ensures.memory c.args.limit
+    ap (may_lack_memory m (at_position c.args.layout c.args.position)) (offer_looked m c.args.limit (at_position c.args.layout c.args.position) refl) ∙ c.in-Err.ensures.memory c.args.limit
 
 pub returns-in-Ok-Some-clause-takes : goal.returns-in-Ok-Some-clause-takes
 returns-in-Ok-Some-clause-takes g c =
