@@ -132,7 +132,15 @@ impl Queue {
             return Err(QueueError::Stopped);
         }
         let mut taken = Taken::none(alloc);
-        match ask(alloc, self.layout, self.position, host, mem, limit, &mut taken) {
+        match ask(
+            alloc,
+            self.layout,
+            self.position,
+            host,
+            mem,
+            limit,
+            &mut taken,
+        ) {
             Ok(true) => Ok(Some(taken)),
             Ok(false) => Ok(None),
             Err(error) => {
