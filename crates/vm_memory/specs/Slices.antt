@@ -1,11 +1,16 @@
 -- Windows of some addresses of guest memory, one after another.
-use Rattle.std.specs.Prelude.{◌≡◌, ℕ, suc, ◌<◌, List, [], ◌∷◌, ◌++◌, length, map, min, take, drop, Option, Some, None, if◌then◌else◌, is_some, Result, Ok, Err}
+use Rattle.std.specs.Prelude.{◌≡◌, ℕ, suc, ◌+◌, ◌^◌, ◌<◌, ◌≤◌, List, [], ◌∷◌, ◌++◌, length, map, min, take, drop, Option, Some, None, if◌then◌else◌, is_some, Result, Ok, Err}
 use Rattle.vm_memory_core.specs.Host.{Place}
 use Rattle.vm_memory_core.specs.Window.{Window, places, places_of}
 use Rattle.vm_memory.specs.Layout.{Region, left_at, place}
-use Rattle.vm_memory.specs.Memory.{circular, located, reached}
+use Rattle.vm_memory.specs.Memory.{addresses, circular, located, reached}
 use Rattle.vm_memory.specs.declared.error.GuestMemoryError.{GuestMemoryError}
 use Rattle.vm_memory.specs.declared.error.GuestMemoryError.TheVariants.{InvalidGuestAddress}
+
+-- a window that isn't empty, of the places of at most so many addresses from one on; none of them is past the greatest
+abbrev pub IsWindowAt : (ℕ → Option Place) → (addr most : ℕ) → Window → Type 0
+IsWindowAt where_is addr most w =
+    (0 < w.len) × (w.len ≤ most) × (addr + w.len ≤ 2 ^ 64) × (located where_is (addresses addr w.len) ≡ Some (places_of w))
 
 -- where an address is, how many addresses from one on a window has at most, and the addresses whose windows are still to come
 pub record Slices : Type 0 where

@@ -27,6 +27,10 @@ run_len table a (suc n) = if go_together (table a) (table (a + 1)) then suc (run
 abbrev pub translated_left : List Region → Table → ℕ → ℕ
 translated_left layout table a = min (run_len table a (2 ^ 64 - a)) (left_at layout (target_of (table a)))
 
+-- n addresses from a on that end below 2^64 and are mapped with a permission, and the pieces that they are mapped to
+abbrev pub AreMapped : Table → Permissions → (a n : ℕ) → List MappedRange → Type 0
+AreMapped table access a n mapped = (a + n < 2 ^ 64) × (may_all table access a n ≡ true) × (mapped ≡ pieces table a n)
+
 -- what n addresses from a on are mapped to, piece by piece: a piece, if it isn't empty, and those that follow
 abbrev pub AreLeft : Table → (a n : ℕ) → MappedRange → List MappedRange → Type 0
 AreLeft table a n piece rest = (piece.base.0 + piece.length < 2 ^ 64) × (0 < piece.length → pieces table a n ≡ piece ∷ rest) × (piece.length ≡ 0 → pieces table a n ≡ rest)

@@ -1,14 +1,14 @@
 //! Guest memory by address: what is there, reads and writes (vm-memory's `GuestMemoryMmap`).
 
-ghost use Rattle.std.specs.Prelude.{◌≡◌, ◌+◌, ◌^◌, ◌<◌, ◌≤◌, ℕ, List, None, Some, Ok, IfSome, IfOk, OnErr, length, min, if◌then◌else◌};
+ghost use Rattle.std.specs.Prelude.{◌≡◌, ◌<◌, ◌≤◌, ℕ, List, None, Some, Ok, IfSome, IfOk, OnErr, length, min, if◌then◌else◌};
 ghost use Rattle.std.specs.List.{list_all};
 ghost use Rattle.std.specs.Option.{is_some};
 ghost use Rattle.vm_memory_core.specs.Host.{shape};
-ghost use Rattle.vm_memory_core.specs.Window.{places, places_of, LiesIn, AllLieIn};
+ghost use Rattle.vm_memory_core.specs.Window.{places, LiesIn, AllLieIn};
 ghost use Rattle.vm_memory.specs.Layout.{left_at, place, AreHeld, HostHolds};
 ghost use Rattle.vm_memory.specs.Making.{shared_regions, AreRegionsMade, IsMadeOf};
-ghost use Rattle.vm_memory.specs.Memory.{memory_of, addresses, circular, located, reached, after, read_first, stored_first, transferred};
-ghost use Rattle.vm_memory.specs.Slices.{AddsLongest};
+ghost use Rattle.vm_memory.specs.Memory.{memory_of, circular, located, reached, after, read_first, stored_first, transferred};
+ghost use Rattle.vm_memory.specs.Slices.{AddsLongest, IsWindowAt};
 
 use crate::collection::GuestRegionCollection;
 use crate::error::{FromRangesError, GuestMemoryError};
@@ -77,8 +77,7 @@ impl<R: GuestMemoryRegion> GuestRegionCollection<R> {
     fn window_at(&self, addr: u64, most: usize) -> Option<VolatileSlice>
         requires { 0 < most }
         ensures none { result ≡ None → place self.now addr ≡ None }
-        ensures some { IfSome result (λ w. (0 < w.len) × (w.len ≤ most) × (addr + w.len ≤ 2 ^ 64)
-            × (located (place self.now) (addresses addr w.len) ≡ Some (places_of w))) }
+        ensures some { IfSome result (IsWindowAt (place self.now) addr most) }
         ensures longest { IfSome result (λ w. w.len ≡ min most (left_at self.now addr)) }
         ensures held { (lengths : List ℕ) → AreHeld lengths self.now → IfSome result (LiesIn lengths) }
     {
@@ -108,7 +107,6 @@ impl<R: GuestMemoryRegion> GuestRegionCollection<R> {
 
     // Adds the windows of `len` physical addresses from one on, joined, or answers that one of them has no place, where
     // 0 comes after the greatest address.
-    #[inline(always)]
     pub(crate) fn push_physical<const N: usize>(
         &self,
         addr: GuestAddress,
@@ -133,7 +131,6 @@ impl<R: GuestMemoryRegion> GuestRegionCollection<R> {
     }
 
     // Reads as many bytes from an address on as are there, and says how many.
-    #[inline(always)]
     pub(crate) fn read_some<H: HostBlocks>(&self, host: &H, buffer: &mut [u8], addr: u64) -> usize
         requires { HostHolds (H.host host.now) self.now }
         ensures count { result ≡ reached (place self.now) (circular addr (length buffer.old)) }

@@ -1,15 +1,15 @@
 //! Ranges of I/O addresses that are mapped throughout: what is there, reads, writes and windows.
 
 ghost use Rattle.std.specs.Prelude.{◌≡◌, ◌+◌, ◌<◌, ◌≤◌, ◌^◌, ℕ, List, Some, None, IfOk, IfSome, OnErr, length, min, true, if◌then◌else◌};
-ghost use Rattle.vm_iotlb.specs.AddressRuns.{may_all, pieces};
+ghost use Rattle.vm_iotlb.specs.AddressRuns.{may_all};
 ghost use Rattle.vm_iotlb.specs.declared.permissions.Permissions.TheVariants.{Read, Write};
 ghost use Rattle.vm_memory_core.specs.Host.{lengths, shape};
-ghost use Rattle.vm_memory_core.specs.Window.{places, places_of, AllLieIn, LiesIn, Stores};
+ghost use Rattle.vm_memory_core.specs.Window.{places, AllLieIn, LiesIn, Stores};
 ghost use Rattle.vm_memory.specs.Bytes.{places_at};
 ghost use Rattle.vm_memory.specs.Layout.{AreHeld};
-ghost use Rattle.vm_memory.specs.Memory.{addresses, after, circular, io_memory, located, location, reached, read_first, table_in};
-ghost use Rattle.vm_memory.specs.Slices.{AddsLongest};
-ghost use Rattle.vm_memory.specs.Translated.{translated_left};
+ghost use Rattle.vm_memory.specs.Memory.{after, circular, io_memory, located, location, reached, read_first, table_in};
+ghost use Rattle.vm_memory.specs.Slices.{AddsLongest, IsWindowAt};
+ghost use Rattle.vm_memory.specs.Translated.{AreMapped, translated_left};
 
 use crate::backend::GuestMemoryBackend;
 use crate::translated::{PiecesLeft, translated_window};
@@ -31,8 +31,7 @@ pub(crate) fn io_window<M: GuestMemoryBackend, B: NewBitmap>(
 ) -> Option<VolatileSlice>
     requires { (0 < most) × (addr + most < 2 ^ 64) × (may_all (table_in h.now table) access addr most ≡ true) }
     ensures none { result ≡ None → location (io_memory h.now (M.layout backend.now) table set) access addr ≡ None }
-    ensures some { IfSome result (λ w. (0 < w.len) × (w.len ≤ most) × (addr + w.len ≤ 2 ^ 64)
-        × (located (location (io_memory h.now (M.layout backend.now) table set) access) (addresses addr w.len) ≡ Some (places_of w))) }
+    ensures some { IfSome result (IsWindowAt (location (io_memory h.now (M.layout backend.now) table set) access) addr most) }
     ensures longest { IfSome result (λ w. w.len ≡ min most (translated_left (M.layout backend.now) (table_in h.now table) addr)) }
     ensures held { (lengths : List ℕ) → AreHeld lengths (M.layout backend.now) → IfSome result (LiesIn lengths) }
 {
@@ -53,7 +52,7 @@ pub(crate) fn io_reached<M: GuestMemoryBackend, H: HostBlocks>(
     len: usize,
     mapped: IotlbIterator<'_>,
 ) -> usize
-    requires { (addr + len < 2 ^ 64) × (may_all (table_in (H.host h.now) table) access addr len ≡ true) × (mapped ≡ pieces (table_in (H.host h.now) table) addr len) }
+    requires { AreMapped (table_in (H.host h.now) table) access addr len mapped }
     ensures { result ≡ reached (location (io_memory (H.host h.now) (M.layout backend.now) table set) access) (circular addr len) }
 {
     let _ = h;
@@ -82,7 +81,7 @@ pub(crate) fn push_io<M: GuestMemoryBackend, H: HostBlocks>(
     mapped: IotlbIterator<'_>,
     windows: &mut Windows,
 ) -> Result<bool, AllocError>
-    requires { (addr + len < 2 ^ 64) × (may_all (table_in (H.host h.now) table) access addr len ≡ true) × (mapped ≡ pieces (table_in (H.host h.now) table) addr len) }
+    requires { AreMapped (table_in (H.host h.now) table) access addr len mapped }
     ensures found { IfOk result (λ found. after (places windows.old.items) (located (location (io_memory (H.host h.now) (M.layout backend.now) table set) access) (circular addr len))
         ≡ (if found then Some (places windows.new.items) else None)) }
     ensures longest { AddsLongest (translated_left (M.layout backend.now) (table_in (H.host h.now) table)) (circular addr len) windows.old.items windows.new.items }
@@ -115,8 +114,7 @@ pub(crate) fn read_io<M: GuestMemoryBackend, H: HostBlocks>(
     mapped: IotlbIterator<'_>,
 ) -> usize
     requires held { AreHeld (lengths (H.host h.now)) (M.layout backend.now) }
-    requires mapped { (addr + length buffer.old < 2 ^ 64) × (may_all (table_in (H.host h.now) table) Read addr (length buffer.old) ≡ true)
-        × (mapped ≡ pieces (table_in (H.host h.now) table) addr (length buffer.old)) }
+    requires mapped { AreMapped (table_in (H.host h.now) table) Read addr (length buffer.old) mapped }
     ensures count { result ≡ reached (location (io_memory (H.host h.now) (M.layout backend.now) table set) Read) (circular addr (length buffer.old)) }
     ensures bytes { buffer.new ≡ read_first (io_memory (H.host h.now) (M.layout backend.now) table set) (circular addr (length buffer.old)) result buffer.old }
 {

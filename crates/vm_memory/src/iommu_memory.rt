@@ -1,6 +1,6 @@
 //! Guest memory behind an IOMMU (vm-memory's `IommuMemory`).
 
-ghost use Rattle.std.specs.Prelude.{◌≡◌, ◌<◌, ◌↔◌, IfOk, IsTrue, length, refl};
+ghost use Rattle.std.specs.Prelude.{◌≡◌, ◌<◌, ◌↔◌, IfOk, refl};
 ghost use Rattle.vm_memory.specs.Layout.{IsLayout};
 ghost use Rattle.vm_memory.specs.Memory.{memory_behind};
 ghost use Rattle.vm_memory.specs.Translated.{HoldsBehind, holds-same, left_behind, left-off};

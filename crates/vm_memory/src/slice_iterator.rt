@@ -1,11 +1,11 @@
 //! Windows of a range of physical addresses (vm-memory's `GuestMemoryBackendSliceIterator`).
 
-ghost use Rattle.std.specs.Prelude.{◌≡◌, ◌+◌, ◌<◌, ◌≤◌, ◌^◌, ℕ, List, length, min, Some, None, IfSome};
+ghost use Rattle.std.specs.Prelude.{◌≡◌, ◌<◌, ℕ, List, length, min, None, IfSome};
 ghost use Rattle.std.specs.Iterator.{at_most};
-ghost use Rattle.vm_memory_core.specs.Window.{places_of, LiesIn};
+ghost use Rattle.vm_memory_core.specs.Window.{LiesIn};
 ghost use Rattle.vm_memory.specs.Layout.{left_at, place, AreHeld};
-ghost use Rattle.vm_memory.specs.Memory.{addresses, circular, located};
-ghost use Rattle.vm_memory.specs.Slices.{slices_in, Gives};
+ghost use Rattle.vm_memory.specs.Memory.{circular};
+ghost use Rattle.vm_memory.specs.Slices.{slices_in, Gives, IsWindowAt};
 
 use crate::backend::GuestMemoryBackend;
 use crate::error::GuestMemoryError;
@@ -104,8 +104,7 @@ pub(crate) fn window_at<M: GuestMemoryBackend>(
 ) -> Option<VolatileSlice>
     requires { 0 < most }
     ensures none { result ≡ None → place (M.layout memory.now) addr ≡ None }
-    ensures some { IfSome result (λ w. (0 < w.len) × (w.len ≤ most) × (addr + w.len ≤ 2 ^ 64)
-        × (located (place (M.layout memory.now)) (addresses addr w.len) ≡ Some (places_of w))) }
+    ensures some { IfSome result (IsWindowAt (place (M.layout memory.now)) addr most) }
     ensures longest { IfSome result (λ w. w.len ≡ min most (left_at (M.layout memory.now) addr)) }
     ensures held { (lengths : List ℕ) → AreHeld lengths (M.layout memory.now) → IfSome result (LiesIn lengths) }
 {

@@ -1,13 +1,13 @@
 //! Windows of I/O addresses, by what a table maps them to.
 
-ghost use Rattle.std.specs.Prelude.{◌≡◌, ◌+◌, ◌-◌, ◌<◌, ◌≤◌, ◌^◌, ℕ, List, ◌∷◌, Some, None, IfSome, MatchOption, min, true};
+ghost use Rattle.std.specs.Prelude.{◌≡◌, ◌+◌, ◌-◌, ◌<◌, ◌^◌, ℕ, List, ◌∷◌, None, IfSome, MatchOption, min, true};
 ghost use Rattle.vm_iotlb.specs.Table.{Table};
 ghost use Rattle.vm_iotlb.specs.AddressRuns.{may_all, pieces};
 ghost use Rattle.vm_iotlb.specs.declared.permissions.Permissions.{Permissions};
 ghost use Rattle.vm_iotlb.specs.Ranges.{table_kept};
-ghost use Rattle.vm_memory_core.specs.Window.{places_of, LiesIn};
+ghost use Rattle.vm_memory_core.specs.Window.{LiesIn};
 ghost use Rattle.vm_memory.specs.Layout.{AreHeld};
-ghost use Rattle.vm_memory.specs.Memory.{addresses, located};
+ghost use Rattle.vm_memory.specs.Slices.{IsWindowAt};
 ghost use Rattle.vm_memory.specs.Translated.{translated, translated_left, AreLeft, MappedLeft};
 
 use crate::backend::GuestMemoryBackend;
@@ -29,8 +29,7 @@ pub(crate) fn translated_window<M: GuestMemoryBackend>(
     requires ends { addr + most < 2 ^ 64 }
     requires mapped { may_all (table_kept table.now) access addr most ≡ true }
     ensures none { result ≡ None → translated (M.layout backend.now) (table_kept table.now) set access addr ≡ None }
-    ensures some { IfSome result (λ w. (0 < w.len) × (w.len ≤ most) × (addr + w.len ≤ 2 ^ 64)
-        × (located (translated (M.layout backend.now) (table_kept table.now) set access) (addresses addr w.len) ≡ Some (places_of w))) }
+    ensures some { IfSome result (IsWindowAt (translated (M.layout backend.now) (table_kept table.now) set access) addr most) }
     ensures longest { IfSome result (λ w. w.len ≡ min most (translated_left (M.layout backend.now) (table_kept table.now) addr)) }
     ensures held { (lengths : List ℕ) → AreHeld lengths (M.layout backend.now) → IfSome result (LiesIn lengths) }
 {
@@ -92,8 +91,7 @@ impl<'a> PiecesLeft<'a> {
         ensures none { (table : Table) (access : Permissions) (n : ℕ) → MappedLeft table access addr n self.old.piece self.old.rest →
             result ≡ None → translated (M.layout backend.now) table set access addr ≡ None }
         ensures some { (table : Table) (access : Permissions) (n : ℕ) → MappedLeft table access addr n self.old.piece self.old.rest →
-            IfSome result (λ w. (0 < w.len) × (w.len ≤ n) × (addr + w.len ≤ 2 ^ 64)
-            × (located (translated (M.layout backend.now) table set access) (addresses addr w.len) ≡ Some (places_of w))) }
+            IfSome result (IsWindowAt (translated (M.layout backend.now) table set access) addr n) }
         ensures longest { (table : Table) (access : Permissions) (n : ℕ) → MappedLeft table access addr n self.old.piece self.old.rest →
             IfSome result (λ w. w.len ≡ min n (translated_left (M.layout backend.now) table addr)) }
         ensures left { (table : Table) (access : Permissions) (n : ℕ) → MappedLeft table access addr n self.old.piece self.old.rest →
