@@ -12,7 +12,7 @@ use Rattle.vm_memory_core.specs.Window.{put_byte}
 use Rattle.vm_memory.specs.Memory.{Memory, location, addresses, reach, byte, stored_at, stored, stored_all}
 use Rattle.fs_queue.specs.declared.fault.ChainFault.TheVariants.{OverLimit, RequestUnreachable, RoomUnreachable, NextOutOfTable, TableUnreachable}
 use Rattle.fs_queue.specs.declared.fault.QueueError.TheVariants as stop
-use Rattle.fs_queue.specs.Queue.{Queue, has_bit, slot, element_at, index_at}
+use Rattle.fs_queue.specs.Queue.{Queue, has_bit, avail_index_at, ring_entry_at, element_at, index_at}
 use Rattle.fs_queue.specs.Look.{Look, looked}
 use Rattle.fs_queue.specs.Look as look
 use Rattle.fs_queue.specs.Chain.{Descriptor, Visit, Verdict, Faulty, Stops, Found, IsChain, HasFault, StopsQueue, descriptor_at, is_indirect, indirect_verdict, ordinary_verdict, verdict}
@@ -158,17 +158,17 @@ look_kept m limit q (look.Refused e) = refl
 look_kept m limit q (look.Head head) = head_kept m limit q head
 
 abbrev waiting_by : (ℕ → ℕ) → Queue → ℕ
-waiting_by f q = (number_by f w16 (q.avail + 2) + (2 ^ 16 - q.position)) % 2 ^ 16
+waiting_by f q = (number_by f w16 (avail_index_at q) + (2 ^ 16 - q.position)) % 2 ^ 16
 
 abbrev head_by : (ℕ → ℕ) → Queue → ℕ
-head_by f q = number_by f w16 (q.avail + 4 + 2 * slot q)
+head_by f q = number_by f w16 (ring_entry_at q)
 
 abbrev looked_by : Memory → Queue → (ℕ → ℕ) → Look
 looked_by m q f =
-    if not (reach m Read (q.avail + 2) 2) then look.Refused stop.AvailIndexUnreachable
+    if not (reach m Read (avail_index_at q) 2) then look.Refused stop.AvailIndexUnreachable
     else if waiting_by f q == 0 then look.Idle
     else if nat_lt q.size (waiting_by f q) then look.Refused stop.AvailTooFar
-    else if not (reach m Read (q.avail + 4 + 2 * slot q) 2) then look.Refused stop.RingEntryUnreachable
+    else if not (reach m Read (ring_entry_at q) 2) then look.Refused stop.RingEntryUnreachable
     else if nat_le q.size (head_by f q) then look.Refused stop.HeadOutOfTable
     else look.Head (head_by f q)
 

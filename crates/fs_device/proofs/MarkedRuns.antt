@@ -13,7 +13,7 @@ use Rattle.vm_memory_core.specs.Lending.{with_table_at}
 use Rattle.vm_memory.specs.Layout.{Region, fits, overlap, is_region, with_region, without_region}
 use Rattle.vm_memory.specs.Memory.{Memory, addresses, is_mapped, reach, physical, table_in, table_of}
 use Rattle.fs_queue.specs.declared.fault.QueueError.TheVariants as stop
-use Rattle.fs_queue.specs.Queue.{Queue, fresh, slot}
+use Rattle.fs_queue.specs.Queue.{Queue, fresh, avail_index_at, ring_entry_at}
 use Rattle.fs_queue.specs.Returning.{writes}
 use Rattle.fs_queue.specs.Taking.{Offer, Asks, CannotAsk, Refuses, Offers, offer, may_lack_memory, after_refusal}
 use Rattle.fs_queue.specs.Taking as taking
@@ -44,8 +44,8 @@ over_host {F} s t P same each = subst P (same_rest s t same) (each t.memory.host
 -- ---- steps
 
 lacks_alike : (m : Memory) (h : Host) → without_marks m.host ≡ without_marks h → (q : Queue) (o : Offer) → may_lack_memory m q o ≡ may_lack_memory (record m { host = h }) q o
-lacks_alike m h same q (Refuses stop.AvailIndexUnreachable) = ap (λ (k : Host). not (is_mapped (record m { host = k }) Read (q.avail + 2) 2)) same
-lacks_alike m h same q (Refuses stop.RingEntryUnreachable) = ap (λ (k : Host). not (is_mapped (record m { host = k }) Read (q.avail + 4 + 2 * slot q) 2)) same
+lacks_alike m h same q (Refuses stop.AvailIndexUnreachable) = ap (λ (k : Host). not (is_mapped (record m { host = k }) Read (avail_index_at q) 2)) same
+lacks_alike m h same q (Refuses stop.RingEntryUnreachable) = ap (λ (k : Host). not (is_mapped (record m { host = k }) Read (ring_entry_at q) 2)) same
 lacks_alike m h same q _ = refl
 
 module _ {F : Type 0} (s : State F) (h : Host) (same : without_marks s.memory.host ≡ without_marks h) where

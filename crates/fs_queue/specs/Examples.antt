@@ -1,15 +1,17 @@
--- Worked offers that compute, behind an IOMMU: a queue of one descriptor, which stands at 0, its rings at 0x10 and 0x18, a room of 4 bytes at 0x28.
-use Rattle.std.specs.Prelude.{◌≡◌, ℕ, ◌+◌, false, List, [], ◌∷◌, refl}
+-- Worked offers that compute, behind an IOMMU: a queue of one descriptor with a room of 4 bytes at 0x28.
+use Rattle.std.specs.Prelude.{◌≡◌, ℕ, ◌+◌, Bool, true, false, List, [], ◌∷◌, refl}
 use Rattle.vm_iotlb.specs.declared.permissions.Permissions.{Permissions}
 use Rattle.vm_iotlb.specs.declared.permissions.Permissions.TheVariants.{Read, Write, ReadWrite}
 use Rattle.vm_iotlb.specs.declared.range.IotlbRange.{IotlbRange}
+use Rattle.vm_iotlb.specs.AddressRuns.{may_all}
 use Rattle.vm_iotlb.specs.Ranges.{table_kept}
 use Rattle.vm_memory.specs.Layout.{place}
 use Rattle.vm_memory.specs.Memory.{Memory, addresses, io_memory}
 use Rattle.fs_queue.specs.declared.fault.ChainFault.TheVariants.{RoomUnreachable}
 use Rattle.fs_queue.specs.declared.fault.QueueError.TheVariants as stop
 use Rattle.fs_queue.specs.Chain.{path, found}
-use Rattle.fs_queue.specs.Taking.{Offer, Refuses, Offers, Asks, CannotAsk, offer}
+use Rattle.fs_queue.specs.Queue.{Queue}
+use Rattle.fs_queue.specs.Taking.{Offer, Refuses, Offers, Asks, CannotAsk, offer, may_lack_memory}
 
 -- a descriptor of the room, then the available ring with head 0 at position 0, then the used ring and the room
 abbrev block_bytes : List ℕ
@@ -29,9 +31,17 @@ memory ranges =
     io_memory (record { blocks = record { bytes = block_bytes; marks = false ∷ [] } ∷ []; tables = ranges ∷ []; io_marks = [] })
     (record { start = 0x100; size = 0x2c; block = 0 } ∷ []) 0 0
 
+-- its descriptor stands at 0, its rings at 0x10 and 0x18
+abbrev queue : Queue
+queue = record { size = 1; desc = 0; avail = 0x10; used = 0x18; position = 0; stopped = false }
+
 -- what the queue offers there
 abbrev gives : List IotlbRange → Offer
-gives ranges = offer (memory ranges) 0x1000 (record { size = 1; desc = 0; avail = 0x10; used = 0x18; position = 0; stopped = false })
+gives ranges = offer (memory ranges) 0x1000 queue
+
+-- whether taking what it offers may be refused for want of memory
+abbrev may_lack : List IotlbRange → Bool
+may_lack ranges = may_lack_memory (memory ranges) queue (gives ranges)
 
 -- all may be read and written
 room_offered : gives (range 0 0x2c ReadWrite ∷ []) ≡ Offers 0 (Asks [] (addresses 0x28 4))
@@ -42,6 +52,25 @@ room_offered = refl
 entry_unmapped : gives (range 0 0x14 ReadWrite ∷ []) ≡ Refuses stop.RingEntryUnreachable
 unfolding offer place addresses table_kept path found
 entry_unmapped = refl
+
+-- why it isn't takes memory to say
+entry_unmapped_takes : may_lack (range 0 0x14 ReadWrite ∷ []) ≡ true
+unfolding offer place addresses table_kept path found may_all
+entry_unmapped_takes = refl
+
+-- the ring's entry is mapped to where no region is
+abbrev entry_elsewhere : List IotlbRange
+entry_elsewhere = range 0 0x14 ReadWrite ∷ record { start = 0x14; end = 0x16; target = 0x400; perm = Read } ∷ []
+
+-- so it can't be read either
+entry_nowhere : gives entry_elsewhere ≡ Refuses stop.RingEntryUnreachable
+unfolding offer place addresses table_kept path found
+entry_nowhere = refl
+
+-- but nothing is wanted to say so
+entry_nowhere_takes : may_lack entry_elsewhere ≡ false
+unfolding offer place addresses table_kept path found may_all
+entry_nowhere_takes = refl
 
 -- the used ring may only be read
 used_not_written : gives (range 0 0x18 ReadWrite ∷ range 0x18 0x28 Read ∷ range 0x28 0x2c ReadWrite ∷ []) ≡ Refuses stop.UsedUnreachable

@@ -1,10 +1,10 @@
 -- What a queue that isn't stopped finds in its available ring (VIRTIO 1.2, 2.7.6 and 2.7.13 from the device's side).
-use Rattle.std.specs.Prelude.{◌≡◌, ℕ, ◌+◌, ◌*◌, false, not, nat_le, nat_lt, ◌==◌, if◌then◌else◌}
+use Rattle.std.specs.Prelude.{◌≡◌, ℕ, false, not, nat_le, nat_lt, ◌==◌, if◌then◌else◌}
 use Rattle.vm_iotlb.specs.declared.permissions.Permissions.TheVariants.{Read}
 use Rattle.vm_memory.specs.Memory.{Memory, is_mapped, reach}
 use Rattle.fs_queue.specs.declared.fault.QueueError.{QueueError}
 use Rattle.fs_queue.specs.declared.fault.QueueError.TheVariants.{AvailIndexUnreachable, AvailTooFar, RingEntryUnreachable, HeadOutOfTable}
-use Rattle.fs_queue.specs.Queue.{Queue, waiting, slot, head}
+use Rattle.fs_queue.specs.Queue.{Queue, avail_index_at, waiting, ring_entry_at, head}
 
 -- what waits in the available ring: nothing, the head of a chain, or a refusal
 pub data Look : Type 0 where
@@ -15,10 +15,10 @@ pub data Look : Type 0 where
 -- the head that waits, nothing, or the first refusal that applies
 abbrev pub looked : Memory → Queue → Look
 looked m q =
-    if not (reach m Read (q.avail + 2) 2) then Refused AvailIndexUnreachable
+    if not (reach m Read (avail_index_at q) 2) then Refused AvailIndexUnreachable
     else if waiting m q == 0 then Idle
     else if nat_lt q.size (waiting m q) then Refused AvailTooFar
-    else if not (reach m Read (q.avail + 4 + 2 * slot q) 2) then Refused RingEntryUnreachable
+    else if not (reach m Read (ring_entry_at q) 2) then Refused RingEntryUnreachable
     else if nat_le q.size (head m q) then Refused HeadOutOfTable
     else Head (head m q)
 

@@ -25,17 +25,25 @@ resumed size desc avail used position stopped = record { size = size; desc = des
 abbrev pub with_stop : Queue → Queue
 with_stop q = record q { stopped = true }
 
+-- the available index follows the available flags
+abbrev pub avail_index_at : Queue → ℕ
+avail_index_at q = q.avail + 2
+
 -- how many chains the driver has made available that were not returned
 abbrev pub waiting : Memory → Queue → ℕ
-waiting m q = (number m w16 (q.avail + 2) + (2 ^ 16 - q.position)) % 2 ^ 16
+waiting m q = (number m w16 (avail_index_at q) + (2 ^ 16 - q.position)) % 2 ^ 16
 
 -- the entry of a ring that a position means
 abbrev pub slot : Queue → ℕ
 slot q = q.position % q.size
 
+-- where the available ring has it
+abbrev pub ring_entry_at : Queue → ℕ
+ring_entry_at q = q.avail + 4 + 2 * slot q
+
 -- the head of the next chain
 abbrev pub head : Memory → Queue → ℕ
-head m q = number m w16 (q.avail + 4 + 2 * slot q)
+head m q = number m w16 (ring_entry_at q)
 
 -- where the used element and the used index are (VIRTIO 1.2, 2.7.8)
 abbrev pub element_at : Queue → ℕ

@@ -1,5 +1,5 @@
 -- What a queue offers: a chain's request and room, or why there is none.
-use Rattle.std.specs.Prelude.{ℕ, ◌+◌, ◌*◌, Bool, true, false, not, ◌&&◌, ◌||◌, nat_lt, List, [], if◌then◌else◌, sum_by, filter, flat_map}
+use Rattle.std.specs.Prelude.{ℕ, Bool, true, false, not, ◌&&◌, ◌||◌, nat_lt, List, [], if◌then◌else◌, sum_by, filter, flat_map}
 use Rattle.std.specs.List.{list_all}
 use Rattle.vm_iotlb.specs.declared.permissions.Permissions.{Permissions}
 use Rattle.vm_iotlb.specs.declared.permissions.Permissions.TheVariants.{Read, Write}
@@ -8,7 +8,7 @@ use Rattle.fs_queue.specs.declared.fault.ChainFault.{ChainFault}
 use Rattle.fs_queue.specs.declared.fault.ChainFault.TheVariants.{OverLimit, RequestUnreachable, RoomUnreachable}
 use Rattle.fs_queue.specs.declared.fault.QueueError.{QueueError}
 use Rattle.fs_queue.specs.declared.fault.QueueError.TheVariants as stop
-use Rattle.fs_queue.specs.Queue.{Queue, element_at, index_at, slot, with_stop}
+use Rattle.fs_queue.specs.Queue.{Queue, avail_index_at, ring_entry_at, element_at, index_at, with_stop}
 use Rattle.fs_queue.specs.Chain.{Descriptor, is_writable, Found, IsChain, HasFault, StopsQueue, chain}
 use Rattle.fs_queue.specs.Look.{Look, looked}
 use Rattle.fs_queue.specs.Look as look
@@ -75,9 +75,9 @@ offer m limit q = if q.stopped then Refuses stop.Stopped else on_look m limit q 
 abbrev pub may_lack_memory : Memory → Queue → Offer → Bool
 may_lack_memory m q Idle = false
 may_lack_memory m q (Refuses stop.Stopped) = false
-may_lack_memory m q (Refuses stop.AvailIndexUnreachable) = not (is_mapped m Read (q.avail + 2) 2)
+may_lack_memory m q (Refuses stop.AvailIndexUnreachable) = not (is_mapped m Read (avail_index_at q) 2)
 may_lack_memory m q (Refuses stop.AvailTooFar) = false
-may_lack_memory m q (Refuses stop.RingEntryUnreachable) = not (is_mapped m Read (q.avail + 4 + 2 * slot q) 2)
+may_lack_memory m q (Refuses stop.RingEntryUnreachable) = not (is_mapped m Read (ring_entry_at q) 2)
 may_lack_memory m q (Refuses stop.HeadOutOfTable) = false
 may_lack_memory m q _ = true
 

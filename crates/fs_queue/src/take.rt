@@ -1,6 +1,6 @@
 //! What is taken of a chain: windows with its request and its room, and those of its return.
 
-ghost use Rattle.std.specs.Prelude.{◌≡◌, ◌-◌, ◌≤◌, ◌^◌, [], length, min, IfNone, IfOk, IfSome, IsTrue, None, Some, if◌then◌else◌};
+ghost use Rattle.std.specs.Prelude.{◌≡◌, ◌-◌, ◌≤◌, ◌^◌, [], length, min, IfNone, IfOk, IfSome, IsTrue, OnOk, None, Some, if◌then◌else◌};
 ghost use Rattle.vm_iotlb.specs.declared.permissions.Permissions.TheVariants.{Write};
 ghost use Rattle.vm_memory_core.specs.Host.{lengths};
 ghost use Rattle.vm_memory_core.specs.Window.{places, AllLieIn};
@@ -169,7 +169,7 @@ fn add_direction<M: GuestMemory, H: HostBlocks>(
     Ok(true)
 }
 
-// The request and the room of a chain, or its fault.
+// Puts the request and the room of a chain in a place, or its fault.
 #[inline(always)]
 fn hold_chain<M: GuestMemory, H: HostBlocks>(
     alloc: Global,
@@ -178,34 +178,40 @@ fn hold_chain<M: GuestMemory, H: HostBlocks>(
     head: u16,
     descriptors: &[Descriptor],
     limit: u32,
-) -> Result<Result<Chain, ChainFault>, AllocError>
+    chain: &mut Result<Chain, ChainFault>,
+) -> Result<(), AllocError>
     requires fits { AllEndIn64Bits descriptors.now }
     requires held { M.IsHeld mem.now (H.host host.now) }
-    ensures asked { let m = M.memory mem.now (H.host host.now) in IfOk result (HoldsChain m (asked_by m limit descriptors.now)) }
-    ensures lie { IfOk result (ChainLiesIn (lengths (H.host host.now))) }
-    ensures windows { IfOk result (λ c. HoldsWindows (M.memory mem.now (H.host host.now)) head c (IsChain descriptors.now)) }
-    ensures short { IfOk result (λ c. room_places c ≤ limit) }
+    ensures asked { let m = M.memory mem.now (H.host host.now) in OnOk result (HoldsChain m (asked_by m limit descriptors.now) chain.new) }
+    ensures lie { OnOk result (ChainLiesIn (lengths (H.host host.now)) chain.new) }
+    ensures windows { OnOk result (HoldsWindows (M.memory mem.now (H.host host.now)) head chain.new (IsChain descriptors.now)) }
+    ensures short { OnOk result (room_places chain.new ≤ limit) }
 {
     let request_len = count_bytes(descriptors, false);
     let room_len = count_bytes(descriptors, true);
     if request_len > u64::from(limit) || room_len > u64::from(limit) {
-        return Ok(Err(ChainFault::OverLimit));
+        *chain = Err(ChainFault::OverLimit);
+        return Ok(());
     }
     let mut readable = Windows::new(alloc);
     if !add_direction(alloc, host, mem, descriptors, false, &mut readable)? {
-        return Ok(Err(ChainFault::RequestUnreachable));
+        *chain = Err(ChainFault::RequestUnreachable);
+        return Ok(());
     }
     let mut writable = Windows::new(alloc);
     if !add_direction(alloc, host, mem, descriptors, true, &mut writable)? {
-        return Ok(Err(ChainFault::RoomUnreachable));
+        *chain = Err(ChainFault::RoomUnreachable);
+        return Ok(());
     }
-    Ok(Ok(Chain {
+    let held = Chain {
         head,
         readable,
         writable,
         request_len: request_len as usize,
         room_len: room_len as usize,
-    }))
+    };
+    *chain = Ok(held);
+    Ok(())
 }
 
 // The same of descriptors that a walk collected, whose memory goes with them.
@@ -217,15 +223,16 @@ fn hold_walked<M: GuestMemory, H: HostBlocks>(
     head: u16,
     descriptors: Descriptors,
     limit: u32,
-) -> Result<Result<Chain, ChainFault>, AllocError>
+    chain: &mut Result<Chain, ChainFault>,
+) -> Result<(), AllocError>
     requires fits { AllEndIn64Bits descriptors.items }
     requires held { M.IsHeld mem.now (H.host host.now) }
-    ensures asked { let m = M.memory mem.now (H.host host.now) in IfOk result (HoldsChain m (asked_by m limit descriptors.items)) }
-    ensures lie { IfOk result (ChainLiesIn (lengths (H.host host.now))) }
-    ensures windows { IfOk result (λ c. HoldsWindows (M.memory mem.now (H.host host.now)) head c (IsChain descriptors.items)) }
-    ensures short { IfOk result (λ c. room_places c ≤ limit) }
+    ensures asked { let m = M.memory mem.now (H.host host.now) in OnOk result (HoldsChain m (asked_by m limit descriptors.items) chain.new) }
+    ensures lie { OnOk result (ChainLiesIn (lengths (H.host host.now)) chain.new) }
+    ensures windows { OnOk result (HoldsWindows (M.memory mem.now (H.host host.now)) head chain.new (IsChain descriptors.items)) }
+    ensures short { OnOk result (room_places chain.new ≤ limit) }
 {
-    hold_chain(alloc, host, mem, head, &descriptors, limit)
+    hold_chain(alloc, host, mem, head, &descriptors, limit, chain)
 }
 
 /// Takes the chain that waits at a position of a queue that isn't stopped into a place without windows; false where
@@ -264,13 +271,23 @@ pub(crate) fn ask<M: GuestMemory, H: HostBlocks>(
     };
     let held = match walked {
         Walked::Stopped => return Err(QueueError::DescriptorUnreachable),
-        Walked::Faulty(fault) => Ok(Err(fault)),
-        Walked::Chain(descriptors) => hold_walked(alloc, host, mem, head, descriptors, limit),
+        Walked::Faulty(fault) => {
+            taken.chain = Err(fault);
+            Ok(())
+        }
+        Walked::Chain(descriptors) => hold_walked(
+            alloc,
+            host,
+            mem,
+            head,
+            descriptors,
+            limit,
+            &mut taken.chain,
+        ),
     };
     match held {
-        Ok(chain) => {
+        Ok(()) => {
             taken.head = head;
-            taken.chain = chain;
             Ok(true)
         }
         Err(_) => Err(QueueError::OutOfMemory),

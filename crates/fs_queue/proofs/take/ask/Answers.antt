@@ -1,4 +1,4 @@
-use Rattle.std.proofs.Common.{◌≡◌, ◌∙◌, Err, ap, sym, refl}
+use Rattle.std.proofs.Common.{◌≡◌, ◌∙◌, ap, sym, refl}
 use Rattle.fs_queue.specs.Walking.{at_position}
 use Rattle.fs_queue.specs.Chain.{IsChain, HasFault, StopsQueue}
 use Rattle.fs_queue.specs.Taking.{CannotAsk, asked_by, may_lack_memory, on_look}
@@ -53,15 +53,14 @@ returns-in-Ok-held-clause-takes g c =
     let kept : HoldsEnds m (at_position c.args.layout c.args.position) c.add_ends.new.ends = record { used = both.0; flags = both.1 } in
     elim c.match-walked.branch [
       | in-Faulty w ↦
-          let held = sym c.in-Ok-held.is ∙ w.held-is in
-          let is : c.in-Ok-held.chain ≡ Err w.in-Faulty.fault = cc in
-          rw is (
+          rw w.taken-is (
             CannotAsk w.in-Faulty.fault,
             offer_found m c.args.limit c.args.layout c.args.position c.in-Ok-Head.head _ _ (HasFault w.in-Faulty.fault) look ends (rw w.in-Faulty.is at c.in-Ok.ensures.chain),
             record { ends = kept; chain = refl },
           )
       | in-Chain w ↦
-          let held = sym w.held-is ∙ c.in-Ok-held.is in (
+          let held = sym w.held-is ∙ c.in-Ok-held.is in
+          rw w.taken-is (
             asked_by m c.args.limit w.in-Chain.descriptors.items,
             offer_found m c.args.limit c.args.layout c.args.position c.in-Ok-Head.head _ _ (IsChain w.in-Chain.descriptors.items) look ends (rw w.in-Chain.is at c.in-Ok.ensures.chain),
             record { ends = kept; chain = rw held at w.hold_walked-held.ensures.asked },

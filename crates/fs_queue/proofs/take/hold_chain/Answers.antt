@@ -18,8 +18,8 @@ returns-then-not-branch-2-clause-asked g c =
     rw (asks_nothing_written (g.M.GuestMemory.memory c.args.mem.now (g.H.HostBlocks.host c.args.host.now)) c.args.limit c.args.descriptors.now _ c.requires.fits a b (sym (rw c.if-not-branch.false at c.in_ok-add_direction.ensures.found))
     (sym (rw c.if-not-branch-2.true at c.in_ok-add_direction-2.ensures.found)))
 
-pub invariant_of-result : goal.invariant_of-result
-invariant_of-result g c =
+pub invariant_of-held : goal.invariant_of-held
+invariant_of-held g c =
     let a : total_len (readable c.args.descriptors.now) ≤ c.args.limit = omega arith in
     let b : total_len (writable c.args.descriptors.now) ≤ c.args.limit = omega arith in
     let r = length-direction (location (g.M.GuestMemory.memory c.args.mem.now (g.H.HostBlocks.host c.args.host.now)) Read) (readable c.args.descriptors.now) _ (sym (rw c.if-not-branch.false at c.in_ok-add_direction.ensures.found)) in
