@@ -14,9 +14,9 @@ bytes_answer (Ok n) buf = Ok (take n buf)
 bytes_answer (Err e) buf = Err e
 
 -- what it answered, with the bytes that came
-abbrev pub with_bytes : Result ℕ ℕ → List ℕ → Result (List ℕ) ℕ
-with_bytes (Ok n) bytes = Ok bytes
-with_bytes (Err e) bytes = Err e
+abbrev pub read_answer : Result ℕ ℕ → List ℕ → Result (List ℕ) ℕ
+read_answer (Ok n) bytes = Ok bytes
+read_answer (Err e) bytes = Err e
 
 -- what one read of a file may answer: before, how many bytes are asked for, the place, the answer, after
 abbrev pub MayRead : Type 0 → Type 1
@@ -30,7 +30,7 @@ MayWrite F = F → List ℕ → ℕ → Option ℕ → Result ℕ ℕ → F → 
 abbrev pub ReadsOnce : {F : Type 0} → MayRead F → F → (most off : ℕ) → List ℕ → Result ℕ ℕ → F → Type 0
 ReadsOnce may f most off bytes answer g =
     (moved answer ≡ length bytes)
-    × (((most ≡ 0) × (answer ≡ Ok 0) × (g ≡ f)) ⊎ ((0 < most) × (length bytes ≤ most) × may f most off (with_bytes answer bytes) g))
+    × (((most ≡ 0) × (answer ≡ Ok 0) × (g ≡ f)) ⊎ ((0 < most) × (length bytes ≤ most) × may f most off (read_answer answer bytes) g))
 
 -- reads one after another, none of them empty, give these parts: each is asked for all of the first segment that still has room
 abbrev pub ReadsOn : {F : Type 0} → MayRead F → F → (rooms : List ℕ) → (off : ℕ) → List (List ℕ) → F → Type 0

@@ -107,7 +107,6 @@ pub(crate) fn reply_record<T: ByteValued>(
     body: &T,
 ) -> Result<usize, Error>
     requires fresh { w.old.written ≡ [] }
-    requires room { w.old.free < 2 ^ 32 }
     ensures sent { with_written result w.new.written ≡ whole_or_none w.old.free (reply_bytes unique (spelled (T.fields body.now))) }
     ensures writer { LeavesWriter result w.old w.new }
     ensures memory { lacks_memory result ≡ false }

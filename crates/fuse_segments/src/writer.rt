@@ -8,7 +8,7 @@ ghost use Rattle.std.specs.IoError.{error_kind};
 ghost use Rattle.vm_values.specs.Fields.{spelled, AllFit};
 ghost use Rattle.fuse_segments.specs.SegmentPlaces.{bytes_before, IsIn};
 ghost use Rattle.fuse_fs.specs.Lengths.{filled, first, past, up_to};
-ghost use Rattle.fuse_fs.specs.Transfers.{moved, with_bytes, ReadsOnce};
+ghost use Rattle.fuse_fs.specs.Transfers.{moved, read_answer, ReadsOnce};
 ghost use Rattle.fuse_segments.specs.ReaderAndWriter.{rooms};
 
 use crate::error::Error;
@@ -177,7 +177,7 @@ fn append_once<F: PositionedFile>(
 ) -> Result<usize, Errno>
     requires { vec_len bytes.old + most ≤ vec_capacity bytes.old }
     ensures part { (part : List ℕ) × (bytes.new.items ≡ bytes.old.items ++ part) × (moved result ≡ length part) × (length part ≤ most)
-        × F.read_gives file.old most off (with_bytes result part) file.new }
+        × F.read_gives file.old most off (read_answer result part) file.new }
     ensures len { vec_len bytes.new ≡ vec_len bytes.old + moved result }
     ensures most { moved result ≤ most }
     ensures capacity { vec_capacity bytes.old ≤ vec_capacity bytes.new }
