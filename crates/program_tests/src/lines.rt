@@ -54,10 +54,12 @@ status 1
 > region 0 0
 > region 0 1
 > region 1 1
+> unregion 1 1
 ok
 refused 2
 block 0
 block 1
+ok
 status 0
 
 > map 0 0 1 r

@@ -111,6 +111,24 @@ fn has_a_record_of_its_queues(rt: HostRuntime) {
     check(&rt, rt.alloc(), HAS_A_RECORD_OF_ITS_QUEUES);
 }
 
+// A device whose one queue stopped moves too, and the queue stays stopped.
+const MOVES_A_STOPPED_QUEUE: &[u8] = b"\
+> queue 4 0x20000 0x20100 0x20200
+ok
+> kick 0 1
+refused 2
+> move
+moved 56
+> kick 0 1
+refused 1
+status 0
+";
+
+#[test]
+fn moves_a_stopped_queue(rt: HostRuntime) {
+    check(&rt, rt.alloc(), MOVES_A_STOPPED_QUEUE);
+}
+
 // The table of the IOMMU goes along, and whether it is on; so does a queue that stopped.
 const TAKES_ITS_MAPPINGS_ALONG: &[u8] = b"\
 > queue 4 0 0x100 0x200
