@@ -44,9 +44,18 @@ pub left_same : (old new : Host) (number : ℕ) (ranges : List IotlbRange) → r
 left_same old new number ranges same is =
     is ∙ ap (with_table_at old number) same ∙ ap (λ (l : List (List IotlbRange)). record old { tables = l }) (set-same old.tables number)
 
--- memory is wanted for some address alone
-pub wanted : (n : ℕ) → 0 < n → nat_lt 0 n ≡ true
+wanted : (n : ℕ) → 0 < n → nat_lt 0 n ≡ true
 wanted n h = grind (arith, nat_tests)
+
+ends : (a n : ℕ) → a + n < 2 ^ 64 → ends_fit a n ≡ true
+ends a n h = grind (arith, nat_tests)
+
+-- memory is wanted for some addresses alone, where their end fits
+pub wanted_to_unmap : (a n : ℕ) → a + n < 2 ^ 64 → 0 < n → (nat_lt 0 n && ends_fit a n) ≡ true
+wanted_to_unmap a n fits some = rw (wanted n some) (ends a n fits)
+
+pub wanted_to_map : (a b n : ℕ) → a + n < 2 ^ 64 → b + n < 2 ^ 64 → 0 < n → (nat_lt 0 n && (ends_fit a n && ends_fit b n)) ≡ true
+wanted_to_map a b n fits target some = rw (wanted n some) (rw (ends a n fits) (ends b n target))
 
 -- ---- what a host holds
 

@@ -25,7 +25,7 @@ use Rattle.fs_device.specs.declared.refusal.Refusal.TheVariants as why
 use Rattle.fs_device.specs.Step.{State, Exchange, Calls, Outcome, Idle, Refused, Exchanged, Exchanges, Acts, StepOf, Step, Returns, after_return, faulty, served_exchange, with_queue}
 use Rattle.fs_device.specs.Run as run
 use Rattle.fs_device.specs.Run.{Told, Command, Answer, Effect, KickEnds, KickRun, Kicks, Kicked, Affects, ChangesTable, HasEffect, Does, Performs, LacksMemory, RunTold, effect}
-use Rattle.fs_device.specs.Run.{guest_read, guest_write, make_block, insert, insert_block, remove_region, set_layout, is_known, has_len, some_overlap, reset, with_host, with_layout, with_ranges, command_takes_memory, ends_fit, no}
+use Rattle.fs_device.specs.Run.{guest_read, guest_write, make_block, insert, insert_block, remove_region, set_layout, is_known, has_len, some_overlap, reset, with_host, with_layout, with_ranges, block_fits, command_takes_memory, ends_fit, no}
 use Rattle.fs_device.specs.Marks.{without_marks, without_its_marks, SameButMarks, SameAnswer, SameEvents}
 use Rattle.fs_device.proofs.MarkLemmas.{unmarked_memory, stores_aside, bytes_same, offers_same, notices_same}
 
@@ -265,11 +265,18 @@ same_answer _ = refl
 answered_so : {F : Type 0} (Can : Answer → State F → Type 0) (answer : Answer) (after : State F) → Matched (Can answer) after → AnsweredAlike Can answer after
 answered_so Can answer after m = (answer, m.0, same_answer answer, m.1, m.2)
 
-takes_alike : {F : Type 0} (s : State F) (h : Host) (command : Command) → command_takes_memory s command ≡ command_takes_memory (with_host s h) command
-takes_alike s h (run.Kick i most) = refl
-takes_alike s h _ = refl
+fits_alike : (base block : ℕ) (o p : Option Block) → option_map unmarked o ≡ option_map unmarked p → block_fits base block o ≡ block_fits base block p
+fits_alike base block None None is = refl
+fits_alike base block None (Some c) is = absurd (cc)
+fits_alike base block (Some b) None is = absurd (cc)
+fits_alike base block (Some b) (Some c) is =
+    ap (λ (n : ℕ). fits (record { start = base; size = n; block = block })) (ap (λ (o : Option Block). unwrap_or (option_map (λ b. length b.bytes) o) 0) is)
 
 module _ {F : Type 0} (s : State F) (h : Host) (same : without_marks s.memory.host ≡ without_marks h) where
+  takes_alike : (command : Command) → command_takes_memory s command ≡ command_takes_memory (with_host s h) command
+  takes_alike (run.InsertRegion base block) = fits_alike base block _ _ (there_alike s h same block)
+  takes_alike _ = refl
+
   change_alike : (fit : Bool) (table : Table) (answer : Answer) (after : State F) → ChangesTable s fit table answer after → Matched (λ end. ChangesTable (with_host s h) fit table answer end) after
   change_alike true table answer after t =
       let moved = ap (λ (k : Host). with_host s (with_table_at k s.memory.table t.1.0)) same in
@@ -305,7 +312,7 @@ module _ {F : Type 0} (s : State F) (h : Host) (same : without_marks s.memory.ho
   has_effect_alike command (x ∷ told) answer after t = absurd t
 
   lack_alike : (command : Command) (told : Told) (after : State F) → LacksMemory s command told after → Matched (λ end. LacksMemory (with_host s h) command told end) after
-  lack_alike command [] after t = (with_host s h, (subst IsTrue (takes_alike s h command) t.0, refl), unchanged_alike s h same after t.1)
+  lack_alike command [] after t = (with_host s h, (subst IsTrue (takes_alike command) t.0, refl), unchanged_alike s h same after t.1)
   lack_alike command (x ∷ told) after t = absurd t
 
 -- an answer that isn't want of memory

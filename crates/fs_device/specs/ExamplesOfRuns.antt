@@ -343,6 +343,15 @@ inserts_nothing_past_it : answers small (run.NewBlock 2 ∷ []) (run.InsertRegio
 unfolding effect
 inserts_nothing_past_it = refl
 
+-- a command that is refused anyway takes no memory
+takes_none_to_refuse : map (run.command_takes_memory small) (run.GuestRead 32 1 ∷ run.NewBlock 0 ∷ run.InsertRegion 0x20000 7 ∷ run.InsertRegion (2 ^ 64 - 31) 0 ∷ run.Unmap (2 ^ 64 - 1) 1 ∷ []) ≡ false ∷ false ∷ false ∷ false ∷ false ∷ []
+unfolding place addresses
+takes_none_to_refuse = refl
+
+takes_some_to_do : map (run.command_takes_memory small) (run.GuestRead 31 1 ∷ run.NewBlock 1 ∷ run.InsertRegion (2 ^ 64 - 32) 0 ∷ run.Unmap (2 ^ 64 - 2) 1 ∷ []) ≡ true ∷ true ∷ true ∷ true ∷ []
+unfolding place addresses
+takes_some_to_do = refl
+
 inserts_no_overlap : answers small (run.NewBlock 2 ∷ []) (run.InsertRegion 31 1) ≡ run.IsRefused why.Overlap
 unfolding effect
 inserts_no_overlap = refl

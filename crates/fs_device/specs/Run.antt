@@ -242,19 +242,24 @@ Kicks may s i most (Some q) told k after = KickRun may s i most told k.refused a
 abbrev pub kick_takes_memory : {F : Type 0} → State F → (queue most : ℕ) → Bool
 kick_takes_memory s queue most = nat_lt queue (length s.queues) && nat_lt 0 most
 
--- the commands that take memory, any of which may be refused for want of it
+-- whether the region from an address on that is all of a block, if there is one, has a last address that fits
+abbrev pub block_fits : (base block : ℕ) → Option Block → Bool
+block_fits base block None = false
+block_fits base block (Some b) = fits (record { start = base; size = length b.bytes; block = block })
+
+-- whether a command takes memory, and so may be refused for want of it: a read, a block and a change of mappings only where they aren't refused anyway, a region only where its block is there and its last address fits
 abbrev pub command_takes_memory : {F : Type 0} → State F → Command → Bool
 command_takes_memory s (GuestWrite a bs) = false
-command_takes_memory s (Map iova target n perm) = nat_lt 0 n
-command_takes_memory s (Unmap iova n) = nat_lt 0 n
+command_takes_memory s (Map iova target n perm) = nat_lt 0 n && (ends_fit iova n && ends_fit target n)
+command_takes_memory s (Unmap iova n) = nat_lt 0 n && ends_fit iova n
 command_takes_memory s UnmapAll = false
 command_takes_memory s (SetIommu on) = false
 command_takes_memory s (Kick queue most) = kick_takes_memory s queue most
 command_takes_memory s (ResetQueue queue size desc avail used) = false
 command_takes_memory s (SetLayout layout) = false
-command_takes_memory s (GuestRead a n) = true
-command_takes_memory s (NewBlock n) = true
-command_takes_memory s (InsertRegion base block) = true
+command_takes_memory s (GuestRead a n) = reach (physical s.memory) Read a n
+command_takes_memory s (NewBlock n) = nat_lt 0 n
+command_takes_memory s (InsertRegion base block) = block_fits base block (slice_get s.memory.host.blocks block)
 command_takes_memory s (RemoveRegion base size) = true
 command_takes_memory s Image = true
 command_takes_memory s Harvest = true
