@@ -8,6 +8,8 @@ mod errors;
 #[cfg(test)]
 mod given;
 #[cfg(test)]
+mod harvests;
+#[cfg(test)]
 mod images;
 #[cfg(test)]
 mod pages;

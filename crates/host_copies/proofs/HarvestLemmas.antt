@@ -1,40 +1,76 @@
 -- the marked pages, one page and one block further
-use Rattle.std.proofs.Common.{◌≡◌, ℕ, Bool, true, false, ◌+◌, ◌*◌, ◌<◌, ◌≤◌, ◌++◌, zero, suc, List, [], ◌∷◌, length, map, take, drop, get_or, refl, ap, sym, ◌∙◌, arith, append_assoc, append-nil, add-one, Option, Some, None}
-use Rattle.std.specs.Prelude.{slice_get, slice_range, unwrap_or, if◌then◌else◌}
+use Rattle.std.proofs.Common.{◌≡◌, ℕ, Bool, true, false, ◌+◌, ◌-◌, ◌<◌, ◌≤◌, inl, inr, ◌++◌, zero, suc, List, [], ◌∷◌, length, map, take, drop, get_or, refl, ap, sym, ◌∙◌, arith, append_assoc, append-nil, add-one, Option, Some, None}
+use Rattle.std.specs.Prelude.{slice_get, unwrap_or, if◌then◌else◌}
 use Rattle.std.specs.Option.{option_map}
-use Rattle.std.proofs.lemmas.List.{drop_more, drop_all}
-use Rattle.std.proofs.lemmas.Option.{slice_get-get_or}
+use Rattle.std.proofs.lemmas.Bool.{cases_lt}
+use Rattle.std.proofs.lemmas.List.{drop_more, drop_all, get_or_past}
+use Rattle.std.proofs.lemmas.Option.{slice_get-get_or, unwrap_or-slice_get}
+use Rattle.vm_bitmaps.specs.Pages.{IsNextMarked, mark_of}
 use Rattle.vm_memory_core.specs.Host.{Block, Host, Shape, changed_at, cleared, shape, unmarked, with_blocks}
-use Rattle.host_copies.specs.Harvested.{Page, block_pages, host_pages}
-
-abbrev pub page_at : (block : ℕ) → List ℕ → (page : ℕ) → Page
-page_at block bytes page = record { block = block; offset = page * 4096; bytes = slice_range bytes (page * 4096) (page * 4096 + 4096) }
+use Rattle.host_copies.specs.Harvested.{Page, block_pages, host_pages, page_copied}
 
 mark_is : (marks : List Bool) (p : ℕ) → p < length marks → unwrap_or (slice_get marks p) false ≡ get_or marks p false
 mark_is marks p h = ap (λ (o : Option Bool). unwrap_or o false) (slice_get-get_or marks p false h)
 
 pages_next : (block : ℕ) (bytes : List ℕ) (p : ℕ) (marks : List Bool) (m : Bool) → p < length marks → unwrap_or (slice_get marks p) false ≡ m →
-    block_pages block bytes p (drop p marks) ≡ (if m then page_at block bytes p ∷ [] else []) ++ block_pages block bytes (p + 1) (drop (p + 1) marks)
+    block_pages block bytes p (drop p marks) ≡ (if m then page_copied block bytes p ∷ [] else []) ++ block_pages block bytes (p + 1) (drop (p + 1) marks)
 unfolding block_pages
 pages_next block bytes p marks m h e =
     let next = drop_more marks p false h in
     let here : get_or marks p false ≡ m = sym (mark_is marks p h) ∙ e in
     rw (next, here)
 
-pub page_marked : (block : ℕ) (bytes : List ℕ) (p : ℕ) (marks : List Bool) (old : List Page) (x : Page) (whole : List Page) → p < length marks → unwrap_or (slice_get marks p) false ≡ true →
-    x ≡ page_at block bytes p → old ++ block_pages block bytes p (drop p marks) ≡ whole → (old ++ x ∷ []) ++ block_pages block bytes (p + 1) (drop (p + 1) marks) ≡ whole
+page_marked : (block : ℕ) (bytes : List ℕ) (p : ℕ) (marks : List Bool) (old : List Page) (x : Page) (whole : List Page) → p < length marks → unwrap_or (slice_get marks p) false ≡ true →
+    x ≡ page_copied block bytes p → old ++ block_pages block bytes p (drop p marks) ≡ whole → (old ++ x ∷ []) ++ block_pages block bytes (p + 1) (drop (p + 1) marks) ≡ whole
 page_marked block bytes p marks old x whole h e is all =
     append_assoc old (x ∷ []) (block_pages block bytes (p + 1) (drop (p + 1) marks))
     ∙ ap (λ (y : Page). old ++ (y ∷ [] ++ block_pages block bytes (p + 1) (drop (p + 1) marks))) is
     ∙ sym (ap (λ (r : List Page). old ++ r) (pages_next block bytes p marks true h e)) ∙ all
 
-pub page_unmarked : (block : ℕ) (bytes : List ℕ) (p : ℕ) (marks : List Bool) (old whole : List Page) → p < length marks → unwrap_or (slice_get marks p) false ≡ false →
-    old ++ block_pages block bytes p (drop p marks) ≡ whole → old ++ block_pages block bytes (p + 1) (drop (p + 1) marks) ≡ whole
-page_unmarked block bytes p marks old whole h e all = sym (ap (λ (r : List Page). old ++ r) (pages_next block bytes p marks false h e)) ∙ all
-
-pub pages_done : (block : ℕ) (bytes : List ℕ) (p : ℕ) (marks : List Bool) (old whole : List Page) → length marks ≤ p → old ++ block_pages block bytes p (drop p marks) ≡ whole → old ≡ whole
+pages_done : (block : ℕ) (bytes : List ℕ) (p : ℕ) (marks : List Bool) (old whole : List Page) → length marks ≤ p → old ++ block_pages block bytes p (drop p marks) ≡ whole → old ≡ whole
 unfolding block_pages
 pages_done block bytes p marks old whole h all = sym (append-nil old) ∙ ap (λ (r : List Page). old ++ r) (sym (ap (block_pages block bytes p) (drop_all p marks h))) ∙ all
+
+-- pages that aren't marked are passed over
+pages_skipped : (n block : ℕ) (bytes : List ℕ) (p : ℕ) (marks : List Bool) → p + n ≤ length marks → ((q : ℕ) → p ≤ q → q < p + n → mark_of marks q ≡ false) →
+    block_pages block bytes p (drop p marks) ≡ block_pages block bytes (p + n) (drop (p + n) marks)
+pages_skipped zero block bytes p marks within none =
+    let same : p ≡ p + zero = omega arith in
+    ap (λ k. block_pages block bytes k (drop k marks)) same
+pages_skipped (suc n) block bytes p marks within none =
+    let same : p + 1 + n ≡ p + suc n = omega arith in
+    pages_next block bytes p marks false (omega arith) (none p (omega arith) (omega arith))
+    ∙ pages_skipped n block bytes (p + 1) marks (omega arith) (λ q low high. none q (omega arith) (omega arith))
+    ∙ ap (λ k. block_pages block bytes k (drop k marks)) same
+
+skipped_to : (block : ℕ) (bytes : List ℕ) (from page : ℕ) (marks : List Bool) (old whole : List Page) → from ≤ page → page ≤ length marks →
+    ((q : ℕ) → from ≤ q → q < page → mark_of marks q ≡ false) → old ++ block_pages block bytes from (drop from marks) ≡ whole → old ++ block_pages block bytes page (drop page marks) ≡ whole
+skipped_to block bytes from page marks old whole order within none all =
+    let same : from + (page - from) ≡ page = omega arith in
+    let past = pages_skipped (page - from) block bytes from marks (omega arith) (λ q low high. none q low (omega arith)) in
+    sym (ap (λ (r : List Page). old ++ r) (past ∙ ap (λ k. block_pages block bytes k (drop k marks)) same)) ∙ all
+
+-- a page that is marked is one of the pages
+pub marked_inside : (marks : List Bool) (p : ℕ) → mark_of marks p ≡ true → p < length marks
+marked_inside marks p marked = elim (cases_lt p (length marks)) [
+  | inl l ↦ l
+  | inr g ↦ let none : mark_of marks p ≡ false = unwrap_or-slice_get marks p false ∙ get_or_past marks p false g in absurd (cc)
+]
+
+-- the next marked page is added
+pub next_added : (block : ℕ) (bytes : List ℕ) (from page : ℕ) (marks : List Bool) (old : List Page) (x : Page) (whole : List Page) → IsNextMarked marks from (Some page) →
+    x ≡ page_copied block bytes page → old ++ block_pages block bytes from (drop from marks) ≡ whole → (old ++ x ∷ []) ++ block_pages block bytes (page + 1) (drop (page + 1) marks) ≡ whole
+next_added block bytes from page marks old x whole next is all =
+    let inside = marked_inside marks page next.1 in
+    page_marked block bytes page marks old x whole inside next.1 is (skipped_to block bytes from page marks old whole next.0 (omega arith) next.2 all)
+
+-- no marked page is left
+pub none_left : (block : ℕ) (bytes : List ℕ) (from : ℕ) (marks : List Bool) (old whole : List Page) → IsNextMarked marks from None →
+    old ++ block_pages block bytes from (drop from marks) ≡ whole → old ≡ whole
+none_left block bytes from marks old whole none all = elim (cases_lt (length marks) from) [
+  | inl past ↦ pages_done block bytes from marks old whole (omega arith) all
+  | inr within ↦ pages_done block bytes (length marks) marks old whole (omega arith) (skipped_to block bytes from (length marks) marks old whole within (omega arith) (λ q low high. none q low) all)
+]
 
 abbrev pub no_block : Block
 no_block = record { bytes = []; marks = [] }

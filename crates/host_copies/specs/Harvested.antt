@@ -8,12 +8,15 @@ pub record Page : Type 0 where
   pub offset : ℕ
   pub bytes : List ℕ
 
+-- a copy of a page of a block, which may end with the block
+abbrev pub page_copied : (block : ℕ) → (bytes : List ℕ) → (page : ℕ) → Page
+page_copied block bytes page = record { block = block; offset = page * 4096; bytes = slice_range bytes (page * 4096) (page * 4096 + 4096) }
+
 -- the pages of a block that are marked, with their bytes; the last may be short
 unfoldable pub block_pages : (block : ℕ) → (bytes : List ℕ) → (page : ℕ) → List Bool → List Page
 block_pages block bytes page [] = []
 block_pages block bytes page (marked ∷ marks) =
-    (if marked then record { block = block; offset = page * 4096; bytes = slice_range bytes (page * 4096) (page * 4096 + 4096) } ∷ [] else [])
-    ++ block_pages block bytes (page + 1) marks
+    (if marked then page_copied block bytes page ∷ [] else []) ++ block_pages block bytes (page + 1) marks
 
 -- those of all blocks, numbered from n on
 unfoldable pub host_pages : ℕ → List Block → List Page

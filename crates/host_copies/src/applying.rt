@@ -14,6 +14,7 @@ use vm_memory_core::{HostMemory, PageBitmap};
 pub enum ApplyError {
     #[error("page {0} is of a block that is not there")]
     UnknownBlock(usize),
+    /// The page has a byte past the end of its block.
     #[error("page {0} does not lie in its block")]
     OutOfRange(usize),
 }
@@ -70,8 +71,8 @@ fn put(host: &mut HostMemory<PageBitmap>, pages: &[HarvestedPage])
     }
 }
 
-/// Puts pages into a host, in order, and marks none. Where one has no place there nothing changes, and the refusal
-/// tells the first such page.
+/// Puts pages into a host, in order, and marks none. Where one has no place there nothing changes, and the refusal,
+/// UnknownBlock or OutOfRange, tells the first such page.
 pub fn apply(host: &mut HostMemory<PageBitmap>, pages: &[HarvestedPage]) -> Result<(), ApplyError>
     ensures outcome { result ≡ applied (first_refused (lengths host.old) 0 (map page_view pages.now)) }
     ensures ok { OnOk result (host.new ≡ pages_put host.old (map page_view pages.now)) }

@@ -1,19 +1,22 @@
 //! Copies of the marked pages of a host.
 
-ghost use Rattle.std.specs.Prelude.{◌≡◌, ◌+◌, ◌*◌, ◌<◌, ◌++◌, map, length, OnOk, OnErr, IfOk, slice_range};
+ghost use Rattle.std.specs.Prelude.{◌≡◌, ◌*◌, ◌<◌, ◌++◌, map, length, OnOk, OnErr, IfOk};
 ghost use Rattle.vm_bitmaps.specs.Pages.{pages_of};
 ghost use Rattle.vm_memory_core.specs.Host.{cleared, shape};
-ghost use Rattle.host_copies.specs.Harvested.{block_pages, harvested};
+ghost use Rattle.host_copies.specs.Harvested.{block_pages, harvested, page_copied};
 ghost use Rattle.host_copies.specs.PageView.{page_view};
 
 use std::alloc::{AllocError, Global};
 use vm_memory_core::{HostMemory, PageBitmap};
 
-/// A page that was marked, with its bytes; the last of a block may be short. `offset` is where it begins in its block.
+/// A page that was marked, with its bytes.
 #[derive(Debug, Drop)]
 pub struct HarvestedPage {
+    /// The number of its block.
     pub block: usize,
+    /// Where it begins in its block, in bytes: a multiple of 4096 in a page that was harvested.
     pub offset: usize,
+    /// Its 4096 bytes; the last page of a block may have fewer.
     pub bytes: Vec<u8>,
 }
 
@@ -28,7 +31,7 @@ fn copy_page(
     page: usize,
 ) -> Result<HarvestedPage, AllocError>
     requires { page * 4096 < length bytes.now }
-    ensures { IfOk result (λ p. page_view p ≡ record { block = block; offset = page * 4096; bytes = slice_range bytes.now (page * 4096) (page * 4096 + 4096) }) }
+    ensures { IfOk result (λ p. page_view p ≡ page_copied block bytes.now page) }
 {
     let offset = page * PAGE_SIZE;
     let rest = &bytes[offset..];
@@ -52,10 +55,10 @@ fn harvest_block(
     requires { length bitmap.now.marks ≡ pages_of 4096 (length bytes.now) }
     ensures { OnOk result (map page_view pages.new.items ≡ map page_view pages.old.items ++ block_pages block bytes.now 0 bitmap.now.marks) }
 {
-    for page in 0..bitmap.len() {
-        if bitmap.is_bit_set(page) {
-            pages.push(copy_page(alloc, block, bytes, page)?)?;
-        }
+    let mut from = 0;
+    while let Some(page) = bitmap.next_marked(from) {
+        pages.push(copy_page(alloc, block, bytes, page)?)?;
+        from = page + 1;
     }
     Ok(())
 }

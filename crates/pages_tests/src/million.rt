@@ -1,7 +1,7 @@
 //! A million marks of two threads, which a third gathers: each page is accounted for.
 
 use crate::given::{expect_same, page_size};
-use page_threads::{ByteRange, mark_and_gather};
+use page_marks_demo::{ByteRange, mark_and_gather};
 use std::alloc::Global;
 use std::process::Abort;
 use std::thread::Threads;

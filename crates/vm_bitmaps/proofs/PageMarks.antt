@@ -70,7 +70,7 @@ run_words v top s n o c last old new h some below has e run =
     (λ p l high. get_or-marks_of n new p false (omega arith) ∙ ap (λ b. eqb b 1) (run.above p (omega arith)) ∙ sym (get_or-marks_of n old p false (omega arith)))
 
 -- words of zeros
-get_or-zeros : (k i : ℕ) → get_or {A = ℕ} (replicate k 0) i 0 ≡ 0
+pub get_or-zeros : (k i : ℕ) → get_or {A = ℕ} (replicate k 0) i 0 ≡ 0
 get_or-zeros k i = elim (cases_lt i k) [
   | inl l ↦ get_or-replicate k i 0 0 l
   | inr g ↦ get_or_past (replicate k 0) i 0 (omega (arith, length-replicate {A = ℕ} k 0))

@@ -1,4 +1,5 @@
 pub mod Pages
 pub mod Words
+pub mod Summary
 pub mod Keeps
 pub mod OffsetBitmap

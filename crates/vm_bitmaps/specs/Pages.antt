@@ -1,5 +1,6 @@
 -- The dirty pages of a range of bytes: a truth value for each page (vm-memory, bitmap).
-use Rattle.std.specs.Prelude.{ℕ, zero, suc, ◌+◌, ◌*◌, ◌/◌, ◌^◌, Bool, true, false, nat_lt, if◌then◌else◌, List, length, map, replicate, slice_set, slice_get, unwrap_or}
+use Rattle.std.specs.Prelude.{◌≡◌, ℕ, zero, suc, ◌+◌, ◌*◌, ◌/◌, ◌^◌, ◌<◌, ◌≤◌, Bool, true, false, nat_lt, if◌then◌else◌}
+use Rattle.std.specs.Prelude.{List, length, map, replicate, Option, Some, None, slice_set, slice_get, unwrap_or}
 use Rattle.std.specs.Int.{div_ceil}
 use Rattle.std.specs.List.{range_with_len}
 
@@ -42,6 +43,11 @@ cleared_range size marks offset (suc n) = cleared_range size (cleared_at size ma
 -- whether the page p is marked: a page past the end is not
 abbrev pub mark_of : List Bool → (p : ℕ) → Bool
 mark_of marks p = unwrap_or (slice_get marks p) false
+
+-- the first marked page from one on, if there is one
+abbrev pub IsNextMarked : List Bool → (from : ℕ) → Option ℕ → Type 0
+IsNextMarked marks from None = (p : ℕ) → from ≤ p → mark_of marks p ≡ false
+IsNextMarked marks from (Some p) = (from ≤ p) × (mark_of marks p ≡ true) × ((q : ℕ) → from ≤ q → q < p → mark_of marks q ≡ false)
 
 -- whether the page of a byte is marked
 abbrev pub is_marked : (size : ℕ) → List Bool → (offset : ℕ) → Bool

@@ -6,7 +6,7 @@ ghost use Rattle.vm_bitmaps.specs.Keeps.{KeepsIf, KeepsIf-same};
 
 use std::alloc::{AllocError, Global};
 
-/// The dirty pages of a range of bytes.
+/// The dirty pages of a range of bytes; offsets and lengths count bytes (vm-memory's `Bitmap`).
 pub trait Bitmap {
     // the bytes of a page, where in the pages the range begins, and the pages' marks
     ghost page_size: { Self → ℕ };
@@ -33,7 +33,7 @@ pub trait Bitmap {
     ghost keeps_same: { (b : Self) → Keeps b b };
 }
 
-/// A bitmap that can be made for any length, with pages of 4096 bytes.
+/// A bitmap that can be made for any length, with pages of 4096 bytes (vm-memory's `NewBitmap`).
 pub trait NewBitmap: Bitmap + Drop {
     // how many marks the bitmap of some bytes has
     ghost count: { ℕ → ℕ };

@@ -5,6 +5,7 @@ mod bitmap;
 mod offset_bitmap;
 pub mod page_bitmap;
 pub mod page_words;
+mod summary;
 
 pub use bitmap::{Bitmap, NewBitmap};
 pub use offset_bitmap::{BaseSlice, RefSlice};

@@ -5,14 +5,14 @@ ghost use Rattle.vm_bitmaps.specs.OffsetBitmap.{sliced_of, begin_of};
 
 use crate::bitmap::Bitmap;
 
-/// The bytes of a bitmap from an offset on.
+/// The bytes of a bitmap from an offset on (vm-memory's `BaseSlice`).
 #[derive(Drop)]
 pub struct BaseSlice<B> {
     inner: B,
     offset: usize,
 }
 
-/// The bytes of a bitmap from an offset on, behind a reference to it.
+/// The bytes of a bitmap from an offset on, behind a reference to it (vm-memory's `RefSlice`).
 pub type RefSlice<'a, B> = BaseSlice<&'a mut B>;
 
 impl<B> BaseSlice<B> {

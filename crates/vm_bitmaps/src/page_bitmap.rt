@@ -5,7 +5,8 @@ ghost use Rattle.std.specs.Int.{div_ceil};
 ghost use Rattle.std.specs.NonZero.{non_zero_usize_get};
 
 use crate::bitmap::{Bitmap, NewBitmap};
-use crate::page_words::{clear, write_run, zeros, zeros_like};
+use crate::page_words::{zeros, zeros_like};
+use crate::summary::{clear_run, clear_words, mark_run, next_page};
 use std::alloc::{AllocError, Global};
 use std::marker::Model;
 use std::mem;
@@ -19,12 +20,14 @@ pub struct PageBitmap {
     byte_size: usize,
     len: usize,
     words: Vec<u64>,
+    summary: Vec<u64>,
 }
 
 impl Model for PageBitmap {
     ghost use Rattle.std.specs.Prelude.{◌<◌, ◌≡◌};
     ghost use Rattle.vm_bitmaps.specs.Pages.{PageSet, pages_of};
     ghost use Rattle.vm_bitmaps.specs.Words.{marks_of, IsClean};
+    ghost use Rattle.vm_bitmaps.specs.Summary.{IsSummary};
 
     ghost Value = { PageSet };
 
@@ -34,7 +37,8 @@ impl Model for PageBitmap {
       marks = marks_of b.len b.words.items;
     } };
 
-    ghost invariant = { λ b. (0 < b.page_size) × (b.len ≡ pages_of b.page_size b.byte_size) × IsClean b.len b.words.items };
+    ghost invariant = { λ b. (0 < b.page_size) × (b.len ≡ pages_of b.page_size b.byte_size) × IsClean b.len b.words.items
+        × IsSummary b.words.items b.summary.items };
 }
 
 /// The page of the byte at `addr`. Pages of 4096 bytes, as those of guest memory, need no division.
@@ -61,7 +65,7 @@ pub fn last_page(page_size: usize, start: usize, len: usize) -> usize
 }
 
 impl PageBitmap {
-    ghost use Rattle.vm_bitmaps.specs.Pages.{clear_set, cleared_range, is_marked, mark_of, marked_range, pages_of, words_of};
+    ghost use Rattle.vm_bitmaps.specs.Pages.{IsNextMarked, clear_set, cleared_range, is_marked, mark_of, marked_range, pages_of, words_of};
     ghost use Rattle.vm_bitmaps.specs.Words.{page_bit, bit_of};
 
     // Clear marks for `byte_size` bytes.
@@ -70,11 +74,13 @@ impl PageBitmap {
         ensures { IfOk result (λ b. b ≡ clear_set page_size byte_size) }
     {
         let len = byte_size.div_ceil(page_size);
+        let count = len.div_ceil(64);
         Ok(PageBitmap {
             page_size,
             byte_size,
             len,
-            words: zeros(alloc, len.div_ceil(64))?,
+            words: zeros(alloc, count)?,
+            summary: zeros(alloc, count.div_ceil(64))?,
         })
     }
 
@@ -94,6 +100,7 @@ impl PageBitmap {
             byte_size: self.byte_size,
             len: self.len,
             words: Vec::from_slice(*self.words.allocator(), &self.words)?,
+            summary: Vec::from_slice(*self.summary.allocator(), &self.summary)?,
         })
     }
 
@@ -135,6 +142,16 @@ impl PageBitmap {
         self.is_bit_set(page_of(self.page_size, addr))
     }
 
+    /// The first marked page from the page number `from` on. Words without a mark are passed over 64 at a time.
+    pub fn next_marked(&self, from: usize) -> Option<usize>
+        ensures { IsNextMarked self.now.marks from result }
+    {
+        if from >= self.len {
+            return None;
+        }
+        next_page(&self.words, &self.summary, from)
+    }
+
     // Writes the marks of the pages of `len` bytes from `start` on.
     #[inline]
     fn write_range(&mut self, start: usize, len: usize, mark: bool)
@@ -152,7 +169,11 @@ impl PageBitmap {
             return;
         }
         let last = last_page(self.page_size, start, len).min(self.len - 1);
-        write_run(&mut self.words, first, last, mark);
+        if mark {
+            mark_run(&mut self.words, &mut self.summary, first, last);
+        } else {
+            clear_run(&mut self.words, &mut self.summary, first, last);
+        }
     }
 
     /// Marks the pages of `len` bytes from `start` on. Bytes past the end are ignored (vm-memory's
@@ -179,7 +200,7 @@ impl PageBitmap {
     pub fn reset(&mut self)
         ensures { self.new ≡ clear_set self.old.page_size self.old.byte_size }
     {
-        clear(&mut self.words);
+        clear_words(&mut self.words, &mut self.summary);
     }
 
     /// The marks as words of 64 pages, which are all cleared. Page p is bit p mod 64 of word p / 64
@@ -193,6 +214,7 @@ impl PageBitmap {
         ensures err { OnErr result (self.new ≡ self.old) }
     {
         let fresh = zeros_like(&self.words)?;
+        self.summary.fill(0);
         Ok(mem::replace(&mut self.words, fresh))
     }
 }

@@ -21,13 +21,6 @@ pub(crate) fn zeros_like(words: &Vec<u64>) -> Result<Vec<u64>, AllocError>
     zeros(*words.allocator(), words.len())
 }
 
-// Makes each word 0.
-pub(crate) fn clear(words: &mut [u64])
-    ensures { words.new ≡ replicate (length words.old) 0 }
-{
-    words.fill(0);
-}
-
 /// The bits of a word from `from` up to `to`.
 #[inline]
 pub fn mask(from: usize, to: usize) -> u64
@@ -51,7 +44,7 @@ fn written(word: u64, from: usize, to: usize, mark: bool) -> u64
 
 // Writes the bits from `from` up to `to` of one word.
 #[inline]
-fn write_in_word(words: &mut [u64], index: usize, from: usize, to: usize, mark: bool)
+pub(crate) fn write_in_word(words: &mut [u64], index: usize, from: usize, to: usize, mark: bool)
     requires inside { index < length words.old }
     requires ordered { from < to }
     requires within { to ≤ 64 }
@@ -83,7 +76,9 @@ fn write_whole_words(words: &mut [u64], from: usize, to: usize, mark: bool)
 pub(crate) fn write_run(words: &mut [u64], first: usize, last: usize, mark: bool)
     requires ordered { first ≤ last }
     requires within { last < 64 * length words.old }
-    ensures { WritesRun words.old words.new first (last + 1) mark }
+    ensures run { WritesRun words.old words.new first (last + 1) mark }
+    ensures old_fits { (w : ℕ) → slice_index words.old w < 2 ^ 64 }
+    ensures fits { (w : ℕ) → slice_index words.new w < 2 ^ 64 }
 {
     let head = first / 64;
     let tail = last / 64;

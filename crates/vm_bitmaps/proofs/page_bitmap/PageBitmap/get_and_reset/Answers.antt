@@ -2,6 +2,7 @@ use Rattle.std.proofs.Common.{◌≡◌, ap, ◌∙◌, length, replicate}
 use Rattle.vm_bitmaps.specs.Pages.{words_of, mark_of}
 use Rattle.vm_bitmaps.specs.Words.{page_bit, bit_of}
 use Rattle.vm_bitmaps.proofs.PageMarks.{clean_zeros, words_of-is, length-words_of, page_bit-is, cleared_set}
+use Rattle.vm_bitmaps.proofs.SummaryLemmas.{zeros_summary}
 use Rattle.vm_bitmaps.proofs.page_bitmap.PageBitmap.get_and_reset.Goals as goal
 
 -- the words after the write
@@ -10,7 +11,12 @@ words_are c = ap (λ v. v.items) c.replace.ensures.after ∙ c.in_ok-fresh.ensur
 
 pub invariant_of-self : goal.invariant_of-self
 invariant_of-self c =
-    rw (words_are c) (c.self.invariant.0, c.self.invariant.1, clean_zeros _ _ c.self.invariant.2.count)
+    rw (words_are c, c.fill.ensures.items (λ y e. e)) (
+      c.self.invariant.0,
+      c.self.invariant.1,
+      clean_zeros _ _ c.self.invariant.2.count,
+      zeros_summary _ _ (c.self.inside.summary.ok.0 ∙ c.self.invariant.3.count),
+    )
 
 pub returns-clause-words : goal.returns-clause-words
 returns-clause-words c =
