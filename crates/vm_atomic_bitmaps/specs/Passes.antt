@@ -1,5 +1,5 @@
 -- What callers see of a bitmap that threads share, and of its passes.
-use Rattle.std.specs.Prelude.{◌≡◌, ℕ, ◌<◌, ◌≤◌, ◌/◌, ◌%◌, Bool, true, false, not, List, length, replicate}
+use Rattle.std.specs.Prelude.{◌≡◌, ℕ, ◌+◌, ◌*◌, ◌<◌, ◌≤◌, ◌/◌, ◌%◌, min, max, Bool, true, false, not, List, length, replicate}
 use Rattle.std.specs.Int.{bit_at}
 use Rattle.atomic_table.specs.Seated.{TableId}
 use Rattle.vm_bitmaps.specs.Pages.{marked_range, cleared_range, mark_of}
@@ -59,6 +59,10 @@ pub record ChangesRun (Change : ℕ → Tally → Tally → Type 0) (old new : L
   pub inside : (p : ℕ) → first ≤ p → p < end → p < length old → Change p (tally_of old p) (tally_of new p)
   pub below : (p : ℕ) → p < first → tally_of new p ≡ tally_of old p
   pub above : (p : ℕ) → end ≤ p → tally_of new p ≡ tally_of old p
+
+-- the tallies of those pages from first to last that lie in a word have changed so, and the others are as they were
+abbrev pub ChangesInWord : (ℕ → Tally → Tally → Type 0) → (old new : List Tally) → (word first last : ℕ) → Type 0
+ChangesInWord Change old new word first last = ChangesRun Change old new (max first (64 * word)) (min (last + 1) (64 * word + 64))
 
 -- whether page p is one of those that the exact bitmap, with len pages, marks for n bytes from start on
 abbrev pub marks_page : (size len start n p : ℕ) → Bool

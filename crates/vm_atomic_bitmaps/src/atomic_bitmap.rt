@@ -66,7 +66,8 @@ fn copy_words(closed: &Closed<(), Global>, words: &mut [u64])
 }
 
 impl AtomicBitmap {
-    /// A clear bitmap for `byte_size` bytes in pages of `page_size` bytes, with its first pass, which has every part.
+    /// A clear bitmap for `byte_size` bytes in pages of `page_size` bytes, with its first pass, which has every part
+    /// (vm-memory's `AtomicBitmap::new`).
     pub fn new(
         alloc: Global,
         byte_size: usize,
@@ -91,7 +92,7 @@ impl AtomicBitmap {
         Ok((bitmap, BitmapPass { seat }))
     }
 
-    /// The number of pages: the bytes over the bytes of a page, rounded up.
+    /// The number of pages: the bytes over the bytes of a page, rounded up (vm-memory's `AtomicBitmap::len`).
     pub fn len(&self) -> usize
         ensures len { result ≡ self.now.len }
         ensures pages { result ≡ pages_of self.now.page_size self.now.byte_size }
@@ -99,7 +100,7 @@ impl AtomicBitmap {
         self.len
     }
 
-    /// The number of bytes.
+    /// The number of bytes (vm-memory's `AtomicBitmap::byte_size`).
     pub fn byte_size(&self) -> usize
         ensures { result ≡ self.now.byte_size }
     {
@@ -141,7 +142,7 @@ impl AtomicBitmap {
             .fetch_and::<Clear>(&mut pass.seat, word, !mask)
     }
 
-    /// Takes the marks of a word, in one step: the word is 0 afterwards.
+    /// Takes the marks of a word, in one step, a swap: the word is 0 afterwards. Bit b is page 64 * word + b.
     #[inline]
     pub fn gather(&self, pass: &mut BitmapPass, word: usize) -> u64
         requires own { IsPassOf self.now pass.old }
@@ -154,7 +155,8 @@ impl AtomicBitmap {
         self.table.shared.swap::<Gather>(&mut pass.seat, word, 0)
     }
 
-    /// Reads a word, in one step. The pass has then seen each of its pages set or cleared as often as its bit tells.
+    /// Reads a word, in one step, a load. Bit b is page 64 * word + b. The pass has then seen each of its pages set or
+    /// cleared as often as its bit tells.
     #[inline]
     pub fn word(&self, pass: &mut BitmapPass, word: usize) -> u64
         requires own { IsPassOf self.now pass.old }
@@ -206,7 +208,8 @@ impl AtomicBitmap {
         true
     }
 
-    /// Ends the sharing, and answers the words. Where there is no memory the bitmap and the pass come back.
+    /// Ends the sharing, and answers the words: page p is bit p mod 64 of word p / 64. Where there is no memory the
+    /// bitmap and the pass come back.
     pub fn close(
         self,
         alloc: Global,

@@ -4,7 +4,8 @@ ghost use Rattle.std.specs.Prelude.{◌≡◌, ℕ, ◌+◌, ◌*◌, ◌<◌, �
 ghost use Rattle.std.specs.Int.{div_ceil};
 ghost use Rattle.vm_bitmaps.specs.Words.{page_bit, bit_of};
 ghost use Rattle.vm_atomic_bitmaps.specs.Steps.{SettlesWord, SettlesAll, NoneBeyond};
-ghost use Rattle.vm_atomic_bitmaps.specs.Passes.{IsPassOf, counting, ByMark, ByClearing, ByGathering, HasRead, Changes, ChangesRun, marks_page, clears_page};
+ghost use Rattle.vm_atomic_bitmaps.specs.Passes.{IsPassOf, counting, marks_page, clears_page};
+ghost use Rattle.vm_atomic_bitmaps.specs.Passes.{ByMark, ByClearing, ByGathering, HasRead, Changes, ChangesInWord, ChangesRun};
 
 use crate::atomic_bitmap::AtomicBitmap;
 use crate::bitmap_pass::BitmapPass;
@@ -37,7 +38,7 @@ impl AtomicBitmap {
         requires to { word ≤ last / 64 }
         requires within { last < self.now.len }
         ensures pass { pass.new ≡ counting pass.old pass.new.counts.pages }
-        ensures pages { ChangesRun (ByMark pass.old.counts) pass.old.counts.pages pass.new.counts.pages (max first (64 * word)) (min (last + 1) (64 * word + 64)) }
+        ensures pages { ChangesInWord (ByMark pass.old.counts) pass.old.counts.pages pass.new.counts.pages word first last }
     {
         let (from, to) = bits_in_word(word, first, last);
         self.mark_word(pass, word, mask(from, to));
@@ -68,7 +69,7 @@ impl AtomicBitmap {
         requires to { word ≤ last / 64 }
         requires within { last < self.now.len }
         ensures pass { pass.new ≡ counting pass.old pass.new.counts.pages }
-        ensures pages { ChangesRun (ByClearing pass.old.counts) pass.old.counts.pages pass.new.counts.pages (max first (64 * word)) (min (last + 1) (64 * word + 64)) }
+        ensures pages { ChangesInWord (ByClearing pass.old.counts) pass.old.counts.pages pass.new.counts.pages word first last }
     {
         let (from, to) = bits_in_word(word, first, last);
         self.clear_word(pass, word, mask(from, to));
@@ -90,7 +91,7 @@ impl AtomicBitmap {
         }
     }
 
-    /// Marks a page. One past the end is ignored.
+    /// Marks a page. One past the end is ignored (vm-memory's `AtomicBitmap::set_bit`).
     #[inline]
     pub fn set_bit(&self, pass: &mut BitmapPass, index: usize)
         requires { IsPassOf self.now pass.old }
@@ -103,7 +104,7 @@ impl AtomicBitmap {
         }
     }
 
-    /// Clears a page. One past the end is ignored.
+    /// Clears a page. One past the end is ignored (vm-memory's `AtomicBitmap::reset_bit`).
     #[inline]
     pub fn reset_bit(&self, pass: &mut BitmapPass, index: usize)
         requires { IsPassOf self.now pass.old }
@@ -116,12 +117,14 @@ impl AtomicBitmap {
         }
     }
 
-    /// Marks the pages of `len` bytes from `start` on, in one step for each word. Bytes past the end are ignored.
+    /// Marks the pages of `len` bytes from `start` on, in one step for each word. Bytes past the end are ignored
+    /// (vm-memory's `AtomicBitmap::set_addr_range`).
     #[inline]
     pub fn set_addr_range(&self, pass: &mut BitmapPass, start: usize, len: usize)
         requires { IsPassOf self.now pass.old }
         ensures pass { pass.new ≡ counting pass.old pass.new.counts.pages }
-        ensures pages { Changes (ByMark pass.old.counts) (marks_page self.now.page_size self.now.len start len) pass.old.counts.pages pass.new.counts.pages }
+        ensures pages { Changes (ByMark pass.old.counts) (marks_page self.now.page_size self.now.len start len)
+            pass.old.counts.pages pass.new.counts.pages }
         ensures own { IsPassOf self.now pass.new }
     {
         if len == 0 {
@@ -135,12 +138,14 @@ impl AtomicBitmap {
         self.mark_run(pass, first, last);
     }
 
-    /// Clears the pages of `len` bytes from `start` on, in one step for each word. Bytes past the end are ignored.
+    /// Clears the pages of `len` bytes from `start` on, in one step for each word. Bytes past the end are ignored
+    /// (vm-memory's `AtomicBitmap::reset_addr_range`).
     #[inline]
     pub fn reset_addr_range(&self, pass: &mut BitmapPass, start: usize, len: usize)
         requires { IsPassOf self.now pass.old }
         ensures pass { pass.new ≡ counting pass.old pass.new.counts.pages }
-        ensures pages { Changes (ByClearing pass.old.counts) (clears_page self.now.page_size self.now.len start len) pass.old.counts.pages pass.new.counts.pages }
+        ensures pages { Changes (ByClearing pass.old.counts) (clears_page self.now.page_size self.now.len start len)
+            pass.old.counts.pages pass.new.counts.pages }
         ensures own { IsPassOf self.now pass.new }
     {
         if len == 0 {
@@ -166,7 +171,8 @@ impl AtomicBitmap {
         (word >> (index % 64)) & 1 == 1
     }
 
-    /// Whether a page is marked, by one read of its word. One past the end is not, and no word is read.
+    /// Whether a page is marked, by one read of its word. One past the end is not, and no word is read (vm-memory's
+    /// `AtomicBitmap::is_bit_set`).
     #[inline]
     pub fn is_bit_set(&self, pass: &mut BitmapPass, index: usize) -> bool
         requires { IsPassOf self.now pass.old }
@@ -177,7 +183,7 @@ impl AtomicBitmap {
         index < self.len && self.reads_set(pass, index)
     }
 
-    /// Whether the page of the byte at `addr` is marked.
+    /// Whether the page of the byte at `addr` is marked (vm-memory's `AtomicBitmap::is_addr_set`).
     #[inline]
     pub fn is_addr_set(&self, pass: &mut BitmapPass, addr: usize) -> bool
         requires { IsPassOf self.now pass.old }
@@ -219,7 +225,8 @@ impl AtomicBitmap {
         }
     }
 
-    /// Takes all marks, in one step for each word. Where there is no memory nothing is taken.
+    /// Takes all marks, in one step for each word: page p is bit p mod 64 of word p / 64. Where there is no memory
+    /// nothing is taken (vm-memory's `AtomicBitmap::get_and_reset`).
     pub fn get_and_reset(
         &self,
         alloc: Global,
@@ -252,7 +259,7 @@ impl AtomicBitmap {
         }
     }
 
-    /// Clears all marks, in one step for each word.
+    /// Clears all marks, in one step for each word (vm-memory's `AtomicBitmap::reset`).
     pub fn reset(&self, pass: &mut BitmapPass)
         requires { IsPassOf self.now pass.old }
         ensures pass { pass.new ≡ counting pass.old pass.new.counts.pages }
