@@ -24,7 +24,7 @@ pub enum IommuError {
 impl IommuError {
     ghost use Rattle.vm_iotlb.specs.Numbers.{iommu_error_number};
 
-    /// The number that tells the error apart, from 1 to 4.
+    /// The number that tells the error apart.
     pub fn number(&self) -> u8
         ensures { result ≡ iommu_error_number self.now }
     {

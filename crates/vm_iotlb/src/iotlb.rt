@@ -17,8 +17,8 @@ use std::alloc::{AllocError, Global};
 use std::marker::Model;
 use vm_values::GuestAddress;
 
-/// What each I/O address is mapped to, and what may be done there. Clauses see its ranges, and say by `table_kept`
-/// what it does to each address.
+/// What each I/O address is mapped to, and what may be done there (vm-memory's `Iotlb`). Lengths count bytes. Clauses
+/// see its ranges, and say by `table_kept` what it does to each address.
 #[derive(Drop)]
 pub struct Iotlb {
     alloc: Global,
@@ -38,7 +38,7 @@ impl Model for Iotlb {
 }
 
 impl Iotlb {
-    /// No address is mapped.
+    /// No address is mapped (vm-memory's `Iotlb::new`).
     pub fn new(alloc: Global) -> Iotlb
         ensures { result ≡ [] }
     {
@@ -58,7 +58,8 @@ impl Iotlb {
         })
     }
 
-    /// Maps `length` I/O addresses to those from a target on, whatever they had before.
+    /// Maps `length` I/O addresses to those from a target on, whatever they had before (vm-memory's
+    /// `Iotlb::set_mapping`). Refused with IommuMisconfigured or OutOfMemory.
     pub fn set_mapping(
         &mut self,
         iova: GuestAddress,
@@ -92,7 +93,8 @@ impl Iotlb {
         }
     }
 
-    /// Takes the mapping of `length` I/O addresses out.
+    /// Takes the mapping of `length` I/O addresses out (vm-memory's `Iotlb::invalidate_mapping`). Refused with
+    /// IommuMisconfigured or OutOfMemory: taking the middle of a range out leaves two.
     pub fn invalidate_mapping(
         &mut self,
         iova: GuestAddress,
@@ -115,14 +117,15 @@ impl Iotlb {
         }
     }
 
-    /// Takes each mapping out.
+    /// Takes each mapping out (vm-memory's `Iotlb::invalidate_all`).
     pub fn invalidate_all(&mut self)
         ensures { self.new ≡ [] }
     {
         self.ranges.clear();
     }
 
-    /// What `length` I/O addresses are mapped to, if each may be accessed so. Only one that fails takes memory.
+    /// What `length` I/O addresses are mapped to, if each may be accessed so (vm-memory's `Iotlb::lookup`). Only one
+    /// that fails takes memory: LookupError::Fails, or OutOfMemory where there is none to say it.
     #[inline]
     pub fn lookup(
         &self,

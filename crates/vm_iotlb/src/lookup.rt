@@ -24,7 +24,7 @@ pub struct IotlbFails {
     pub access_fails: Vec<IovaRange>,
 }
 
-/// Why a look-up gave nothing.
+/// Why a look-up gave nothing: `Iotlb::lookup`.
 #[derive(Debug, Drop, Error)]
 pub enum LookupError {
     /// Not each address is mapped with the permission.

@@ -8,9 +8,13 @@ use std::ops::{BitAnd, BitOr};
 /// What may be done at an address, or what an access asks for (vm-memory's `Permissions`).
 #[derive(Clone, Copy, Debug, PartialEq, Eq)]
 pub enum Permissions {
+    /// Neither reading nor writing.
     No,
+    /// Reading alone.
     Read,
+    /// Writing alone.
     Write,
+    /// Both.
     ReadWrite,
 }
 

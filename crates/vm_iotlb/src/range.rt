@@ -1,8 +1,8 @@
 //! The ranges that a table is kept as.
 
-ghost use Rattle.std.specs.Prelude.{◌≡◌, ℕ, ◌-◌, ◌<◌, ◌≤◌, ◌&&◌, max, min, nat_le, nat_lt, None, Some, if◌then◌else◌, IfOk, OnOk};
+ghost use Rattle.std.specs.Prelude.{◌≡◌, ℕ, ◌≤◌, ◌&&◌, max, min, nat_le, nat_lt, None, if◌then◌else◌, IfOk, OnOk};
 ghost use Rattle.std.specs.Bool.{OnFalse, OnTrue};
-ghost use Rattle.vm_iotlb.specs.Ranges.{AreRanges, EndBy, GoesOnIn, IsRange, has, mapping_in, table_kept};
+ghost use Rattle.vm_iotlb.specs.Ranges.{AddsPart, AddsParts, AddsRange, AreRanges, EndBy, GoesOnIn, IsRange, table_kept};
 
 use crate::permissions::Permissions;
 use std::alloc::{AllocError, Global};
@@ -36,7 +36,7 @@ fn push_range(ranges: &mut Vec<IotlbRange>, range: IotlbRange) -> Result<(), All
     requires ends { EndBy range.start ranges.old.items }
     ensures ranges { OnOk result (AreRanges ranges.new.items) }
     ensures ends { OnOk result (EndBy range.end ranges.new.items) }
-    ensures table { OnOk result ((a : ℕ) → table_kept ranges.new.items a ≡ (if has range a then Some (mapping_in range a) else table_kept ranges.old.items a)) }
+    ensures table { OnOk result (AddsRange range ranges.old.items ranges.new.items) }
 {
     let Some(last) = ranges.pop() else {
         ranges.push(range)?;
@@ -66,7 +66,7 @@ fn push_part(
     requires ends { EndBy (max range.now.start from) ranges.old.items }
     ensures ranges { OnOk result (AreRanges ranges.new.items) }
     ensures ends { OnOk result ((e : ℕ) → EndBy e ranges.old.items → min range.now.end to ≤ e → EndBy e ranges.new.items) }
-    ensures table { OnOk result ((a : ℕ) → table_kept ranges.new.items a ≡ (if has range.now a && (nat_le from a && nat_lt a to) then Some (mapping_in range.now a) else table_kept ranges.old.items a)) }
+    ensures table { OnOk result (AddsPart range.now from to ranges.old.items ranges.new.items) }
 {
     let start = range.start.max(from);
     let end = range.end.min(to);
@@ -95,7 +95,7 @@ fn push_parts(
     requires order { from ≤ to }
     ensures ranges { OnOk result (AreRanges ranges.new.items) }
     ensures ends { OnOk result (EndBy to ranges.new.items) }
-    ensures table { OnOk result ((a : ℕ) → table_kept ranges.new.items a ≡ (if nat_le from a && nat_lt a to then table_kept others.now a else table_kept ranges.old.items a)) }
+    ensures table { OnOk result (AddsParts others.now from to ranges.old.items ranges.new.items) }
 {
     for range in others {
         push_part(ranges, range, from, to)?;
@@ -112,7 +112,7 @@ pub(crate) fn with_range(
     requires ranges { AreRanges ranges.now }
     requires range { IsRange range }
     ensures ranges { IfOk result (λ v. AreRanges v.items) }
-    ensures table { IfOk result (λ v. (a : ℕ) → table_kept v.items a ≡ (if has range a then Some (mapping_in range a) else table_kept ranges.now a)) }
+    ensures table { IfOk result (λ v. AddsRange range ranges.now v.items) }
 {
     let mut all = Vec::with_capacity(alloc, ranges.len().saturating_add(2))?;
     push_parts(&mut all, ranges, 0, range.start)?;

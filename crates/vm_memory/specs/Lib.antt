@@ -10,6 +10,7 @@ pub mod Numbers
 pub mod Making
 pub mod Slices
 pub mod Translated
+pub mod Behind
 pub mod MemorySlices
 pub mod RangeAnswers
 pub mod OneProof

@@ -100,6 +100,10 @@ memory_behind h layout table set on = record { host = h; layout = layout; table 
 abbrev pub io_memory : Host → List Region → (table set : ℕ) → Memory
 io_memory h layout table set = memory_behind h layout table set true
 
+-- where an I/O address is by a table of a host, for an access; a write there marks a set of I/O pages
+abbrev pub io_location : Host → List Region → (table set : ℕ) → Permissions → ℕ → Option Place
+io_location h layout table set access = location (io_memory h layout table set) access
+
 -- the places of some addresses, if each has one
 unfoldable pub located : (ℕ → Option Place) → List ℕ → Option (List Place)
 located where_is [] = Some []

@@ -1,9 +1,9 @@
 -- Windows of some addresses of guest memory, one after another.
-use Rattle.std.specs.Prelude.{◌≡◌, ℕ, suc, ◌+◌, ◌^◌, ◌<◌, ◌≤◌, List, [], ◌∷◌, ◌++◌, length, map, min, take, drop, Option, Some, None, if◌then◌else◌, is_some, Result, Ok, Err}
+use Rattle.std.specs.Prelude.{◌≡◌, ℕ, suc, ◌+◌, ◌^◌, ◌<◌, ◌≤◌, Bool, IfOk, List, [], ◌∷◌, ◌++◌, length, map, min, take, drop, Option, Some, None, if◌then◌else◌, is_some, Result, Ok, Err}
 use Rattle.vm_memory_core.specs.Host.{Place}
-use Rattle.vm_memory_core.specs.Window.{Window, places, places_of}
+use Rattle.vm_memory_core.specs.Window.{AllLieIn, Window, places, places_of}
 use Rattle.vm_memory.specs.Layout.{Region, left_at, place}
-use Rattle.vm_memory.specs.Memory.{addresses, circular, located, reached}
+use Rattle.vm_memory.specs.Memory.{addresses, after, circular, located, reached}
 use Rattle.vm_memory.specs.declared.error.GuestMemoryError.{GuestMemoryError}
 use Rattle.vm_memory.specs.declared.error.GuestMemoryError.TheVariants.{InvalidGuestAddress}
 
@@ -49,6 +49,14 @@ next_len longest (a ∷ rest) = min (suc (length rest)) (longest a)
 abbrev pub AreLongest : (ℕ → ℕ) → List ℕ → List Window → Type 0
 AreLongest longest left [] = Unit {0}
 AreLongest longest left (w ∷ rest) = (0 < w.len) × (w.len ≡ next_len longest left) × AreLongest longest (drop w.len left) rest
+
+-- windows are joined to others: the places of all, if there are places to join, and else the answer is no
+abbrev pub Joins : {E : Type 0} → (old new : List Window) → Option (List Place) → Result Bool E → Type 0
+Joins old new found result = IfOk result (λ all. after (places old) found ≡ (if all then Some (places new) else None))
+
+-- windows that were added lie in blocks of some lengths, if those before them do
+abbrev pub StayIn : List ℕ → (old new : List Window) → Type 0
+StayIn lengths old new = AllLieIn lengths old → AllLieIn lengths new
 
 -- such windows were added to others
 abbrev pub AddsLongest : (ℕ → ℕ) → List ℕ → (old new : List Window) → Type 0

@@ -114,7 +114,8 @@ pub trait GuestMemoryBackend {
         }
     }
 
-    /// The window of `count` bytes from an address on, if its region has them.
+    /// The window of `count` bytes from an address on, if its region has them: else InvalidGuestAddress where no region
+    /// has the address, or InvalidBackendAddress.
     #[inline]
     final fn get_slice(
         &self,
@@ -129,7 +130,8 @@ pub trait GuestMemoryBackend {
         }
     }
 
-    /// Where the byte at an address is in the host.
+    /// Where the byte at an address is in the host, or InvalidGuestAddress (vm-memory's
+    /// `GuestMemoryBackend::get_host_address`).
     #[inline]
     final fn get_host_address(&self, addr: GuestAddress) -> Result<HostAddress, GuestMemoryError>
         ensures { result ≡ host_address_at (layout self.now) addr }

@@ -14,7 +14,8 @@ use crate::error::GuestMemoryError;
 use crate::region::{GuestMemoryRegion, GuestRegionMmap};
 use vm_memory_core::{Bytes, GuestAddress, HostMemory, MemoryRegionAddress, NewBitmap};
 
-/// A guest's bytes by their address, where 0 comes after the greatest.
+/// A guest's bytes by their address, where 0 comes after the greatest. Where not all are there the errors are
+/// InvalidGuestAddress, if none is, and PartialBuffer.
 impl<R: GuestMemoryRegion> Bytes<GuestAddress> for GuestRegionCollection<R> {
     type E = GuestMemoryError;
 
@@ -88,7 +89,8 @@ pub trait GuestMemoryRegionBytes: GuestMemoryRegion + Bytes<MemoryRegionAddress>
 
 impl GuestMemoryRegionBytes for GuestRegionMmap {}
 
-/// A region's bytes by their offset from its first address.
+/// A region's bytes by their offset from its first address: InvalidBackendAddress where the first isn't there,
+/// PartialBuffer where only some are.
 impl Bytes<MemoryRegionAddress> for GuestRegionMmap {
     type E = GuestMemoryError;
 

@@ -14,7 +14,8 @@ use std::marker::Model;
 use std::sync::Arc;
 use vm_memory_core::{GuestAddress, GuestUsize};
 
-/// The regions of a guest's physical memory, by ascending address. Collections share their regions.
+/// The regions of a guest's physical memory, by ascending address (vm-memory's `GuestRegionCollection`). Collections
+/// share their regions.
 #[derive(Drop)]
 pub struct GuestRegionCollection<R: GuestMemoryRegion> {
     alloc: Global,
@@ -43,7 +44,8 @@ impl<R: GuestMemoryRegion> GuestRegionCollection<R> {
         }
     }
 
-    /// Some regions, which have to ascend and to have no address in common.
+    /// Some regions, which have to ascend and to have no address in common: else NoMemoryRegion, UnsortedMemoryRegions
+    /// or MemoryRegionOverlap, or OutOfMemory (vm-memory's `GuestRegionCollection::from_regions`).
     pub fn from_regions(
         alloc: Global,
         regions: Vec<R>,
@@ -56,7 +58,8 @@ impl<R: GuestMemoryRegion> GuestRegionCollection<R> {
         }
     }
 
-    /// Some regions that others may share, which have to ascend and to have no address in common.
+    /// The same of regions that others may share; no memory is taken (vm-memory's
+    /// `GuestRegionCollection::from_arc_regions`).
     pub fn from_arc_regions(
         alloc: Global,
         regions: Vec<Arc<R>>,
@@ -69,7 +72,8 @@ impl<R: GuestMemoryRegion> GuestRegionCollection<R> {
         }
     }
 
-    /// The regions and one more, where it has no address in common with any that is there.
+    /// The regions and one more, where it has no address in common with any that is there: else MemoryRegionOverlap, or
+    /// OutOfMemory (vm-memory's `GuestRegionCollection::insert_region`).
     pub fn insert_region(
         &self,
         region: Arc<R>,
@@ -133,7 +137,8 @@ impl<R: GuestMemoryRegion> GuestRegionCollection<R> {
         self.region(at).start_addr().0 <= addr
     }
 
-    /// The regions without the one that begins at an address and has a size, and that one.
+    /// The regions without the one that begins at an address and has a size in bytes, and that one: else
+    /// NoMemoryRegion, or OutOfMemory (vm-memory's `GuestRegionCollection::remove_region`).
     pub fn remove_region(
         &self,
         base: GuestAddress,

@@ -9,6 +9,7 @@ use vm_values::GuestAddress;
 /// Why no block was made for a region (vm-memory's `MmapRegionError`).
 #[derive(Clone, Copy, Debug, PartialEq, Eq, Error)]
 pub enum MmapRegionError {
+    /// No byte was asked for.
     #[error("a region has at least one byte")]
     Mmap,
     #[error("out of memory")]
@@ -32,10 +33,13 @@ impl MmapRegionError {
 /// Why regions are no layout, or a layout could not change (vm-memory's `GuestRegionCollectionError`).
 #[derive(Clone, Copy, Debug, PartialEq, Eq, Error)]
 pub enum GuestRegionCollectionError {
+    /// No region was given, or none begins at the address and has the size.
     #[error("there is no such region, or none at all")]
     NoMemoryRegion,
+    /// A region begins where another, which begins no later, hasn't ended.
     #[error("two regions have an address in common")]
     MemoryRegionOverlap,
+    /// A region begins below the one before it.
     #[error("the regions do not ascend")]
     UnsortedMemoryRegions,
     #[error("out of memory")]
@@ -61,10 +65,13 @@ impl GuestRegionCollectionError {
 /// Why ranges give no guest memory (vm-memory's `FromRangesError`).
 #[derive(Clone, Copy, Debug, PartialEq, Eq, Error)]
 pub enum FromRangesError {
+    /// The regions are no layout.
     #[error("{0}")]
     Collection(GuestRegionCollectionError),
+    /// A range has no address.
     #[error("{0}")]
     MmapRegion(MmapRegionError),
+    /// A range doesn't end by 2^64.
     #[error("a region's last address is past the greatest")]
     InvalidGuestRegion,
     #[error("out of memory")]
@@ -90,8 +97,10 @@ impl FromRangesError {
 /// Why guest memory is not read or written (vm-memory's `GuestMemoryError`).
 #[derive(Clone, Copy, Debug, PartialEq, Eq, Error)]
 pub enum GuestMemoryError {
+    /// The first address that was asked for has no place.
     #[error("no region has the address {}", .0.0)]
     InvalidGuestAddress(GuestAddress),
+    /// Of the bytes that were asked for only some, at least one, were there: these were read or written.
     #[error("{completed} of {expected} bytes were there")]
     PartialBuffer { expected: usize, completed: usize },
     /// The bytes that were asked for run past their region.
@@ -113,7 +122,7 @@ pub enum GuestMemoryError {
 impl GuestMemoryError {
     ghost use Rattle.vm_memory.specs.Numbers.{memory_number};
 
-    /// The number that tells the error apart, from 1 to 7.
+    /// The number that tells the error apart.
     pub fn number(&self) -> u8
         ensures { result ≡ memory_number self.now }
     {

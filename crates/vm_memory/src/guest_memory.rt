@@ -1,14 +1,14 @@
 //! Guest memory by address: what is there, reads and writes (vm-memory's `GuestMemoryMmap`).
 
-ghost use Rattle.std.specs.Prelude.{◌≡◌, ◌<◌, ◌≤◌, ℕ, List, None, Some, Ok, IfSome, IfOk, OnErr, length, min, if◌then◌else◌};
+ghost use Rattle.std.specs.Prelude.{◌≡◌, ◌<◌, ◌≤◌, ℕ, List, None, IfSome, IfOk, OnErr, length, min};
 ghost use Rattle.std.specs.List.{list_all};
 ghost use Rattle.std.specs.Option.{is_some};
 ghost use Rattle.vm_memory_core.specs.Host.{shape};
-ghost use Rattle.vm_memory_core.specs.Window.{places, LiesIn, AllLieIn};
+ghost use Rattle.vm_memory_core.specs.Window.{LiesIn};
 ghost use Rattle.vm_memory.specs.Layout.{left_at, place, AreHeld, HostHolds};
 ghost use Rattle.vm_memory.specs.Making.{shared_regions, AreRegionsMade, IsMadeOf};
-ghost use Rattle.vm_memory.specs.Memory.{memory_of, circular, located, reached, after, read_first, stored_first, transferred};
-ghost use Rattle.vm_memory.specs.Slices.{AddsLongest, IsWindowAt};
+ghost use Rattle.vm_memory.specs.Memory.{memory_of, circular, located, reached, read_first, stored_first, transferred};
+ghost use Rattle.vm_memory.specs.Slices.{AddsLongest, IsWindowAt, Joins, StayIn};
 
 use crate::collection::GuestRegionCollection;
 use crate::error::{FromRangesError, GuestMemoryError};
@@ -23,8 +23,9 @@ use vm_memory_core::{GuestAddress, HostBlocks, HostMemory, NewBitmap, VolatileSl
 pub type GuestMemoryMmap = GuestRegionCollection<GuestRegionMmap>;
 
 impl GuestRegionCollection<GuestRegionMmap> {
-    /// Memory of the regions that begin at these addresses and have these sizes, each over a new block. Blocks that
-    /// were made before a refusal stay in the host.
+    /// Memory of the regions that begin at these addresses and have these sizes, each over a new block (vm-memory's
+    /// `GuestMemoryMmap::from_ranges`). Blocks that were made before a refusal stay in the host: MmapRegion,
+    /// InvalidGuestRegion, Collection or OutOfMemory.
     pub fn from_ranges<B: NewBitmap>(
         alloc: Global,
         host: &mut HostMemory<B>,
@@ -113,10 +114,9 @@ impl<R: GuestMemoryRegion> GuestRegionCollection<R> {
         len: usize,
         windows: &mut SmallVec<VolatileSlice, N>,
     ) -> Result<bool, AllocError>
-        ensures found { IfOk result (λ found.
-            after (places windows.old.items) (located (place self.now) (circular addr.0 len)) ≡ (if found then Some (places windows.new.items) else None)) }
+        ensures found { Joins windows.old.items windows.new.items (located (place self.now) (circular addr.0 len)) result }
         ensures longest { AddsLongest (left_at self.now) (circular addr.0 len) windows.old.items windows.new.items }
-        ensures held { (lengths : List ℕ) → AreHeld lengths self.now → AllLieIn lengths windows.old.items → AllLieIn lengths windows.new.items }
+        ensures held { (lengths : List ℕ) → AreHeld lengths self.now → StayIn lengths windows.old.items windows.new.items }
         ensures lacking { OnErr result (windows.old.capacity ≤ length windows.new.items) }
     {
         let mut done = 0;
@@ -174,7 +174,7 @@ impl<R: GuestMemoryRegion> GuestRegionCollection<R> {
     }
 
     /// Reads a buffer full of bytes from an address on, where 0 comes after the greatest address. Where fewer are
-    /// there, these are read, and the answer says how many.
+    /// there, these are read: PartialBuffer, or InvalidGuestAddress where none is (vm-memory's `Bytes::read_slice`).
     pub fn read_slice<B: NewBitmap>(
         &self,
         host: &HostMemory<B>,
@@ -191,7 +191,8 @@ impl<R: GuestMemoryRegion> GuestRegionCollection<R> {
     }
 
     /// Writes bytes from an address on, where 0 comes after the greatest address, and marks their pages. Where fewer
-    /// have a place, these are written, and the answer says how many.
+    /// have a place, these are written: PartialBuffer, or InvalidGuestAddress where none has (vm-memory's
+    /// `Bytes::write_slice`).
     pub fn write_slice<B: NewBitmap>(
         &self,
         host: &mut HostMemory<B>,

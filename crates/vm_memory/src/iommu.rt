@@ -17,8 +17,9 @@ pub trait Iommu {
     fn table(&self) -> usize
         ensures { result ≡ number self.now };
 
-    /// What `length` I/O addresses are mapped to, as long pieces as can be; CannotResolve with the asked range where
-    /// not each is mapped with the permission, or where its end doesn't fit. Only one that fails takes memory.
+    /// What `length` I/O addresses are mapped to, as long pieces as can be (vm-memory's `Iommu::translate`);
+    /// CannotResolve with the asked range where not each is mapped with the permission, or where its end doesn't fit.
+    /// Only one that fails takes memory, and answers OutOfMemory where there is none.
     fn translate<'a, H: HostBlocks>(
         &self,
         h: &'a H,
@@ -29,7 +30,7 @@ pub trait Iommu {
         ensures { Translates (table_in (H.host h.now) (number self.now)) iova.0 length access result };
 }
 
-/// The plain `Iommu`: all that it knows is the number of its table. A table that isn't there maps nothing.
+/// The plain `Iommu`: all that it knows is the number of its table in the host. A table that isn't there maps nothing.
 #[derive(Clone, Copy, Debug, PartialEq, Eq)]
 pub struct TableIommu {
     table: usize,

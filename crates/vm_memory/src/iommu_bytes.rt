@@ -7,10 +7,10 @@ ghost use Rattle.vm_memory_core.specs.Host.{shape};
 ghost use Rattle.vm_memory_core.specs.Window.{Stores};
 ghost use Rattle.vm_memory.specs.Bytes.{MayReach, places_at};
 ghost use Rattle.vm_memory.specs.Layout.{HostHolds};
-ghost use Rattle.vm_memory.specs.Memory.{circular, is_mapped, location, memory_behind, reached, read_first, table_in};
+ghost use Rattle.vm_memory.specs.Memory.{circular, is_mapped, location, reached, read_first, table_in};
+ghost use Rattle.vm_memory.specs.Behind.{HoldsThrough, seen_through};
 ghost use Rattle.vm_memory.specs.RangeAnswers.{CannotGive};
 ghost use Rattle.vm_memory.specs.ReachedBytes.{length-may_reach};
-ghost use Rattle.vm_memory.specs.Translated.{HoldsBehind};
 ghost use Rattle.vm_memory.specs.declared.error.GuestMemoryError.TheVariants.{PartialBuffer};
 
 use crate::bytes::some_of;
@@ -35,10 +35,8 @@ impl<R: GuestMemoryRegion, I: Iommu + Drop> IommuMemory<GuestRegionCollection<R>
         access: Permissions,
     ) -> Result<IotlbIterator<'a>, GuestMemoryError>
         ensures pieces { IfOk result (λ all. self.now.use_iommu ≡ true → all ≡ pieces (table_in h.now (I.number self.now.iommu)) addr.0 count) }
-        ensures mapped { let m = memory_behind h.now self.now.backend (I.number self.now.iommu) self.now.io_bitmap self.now.use_iommu in
-            IfOk result (λ _. is_mapped m access addr.0 count ≡ true) }
-        ensures refused { let m = memory_behind h.now self.now.backend (I.number self.now.iommu) self.now.io_bitmap self.now.use_iommu in
-            IfErr result (CannotGive m access addr.0 count) }
+        ensures mapped { IfOk result (λ _. is_mapped (seen_through I.number self.now h.now) access addr.0 count ≡ true) }
+        ensures refused { IfErr result (CannotGive (seen_through I.number self.now h.now) access addr.0 count) }
     {
         if !self.get_iommu_enabled() {
             return Ok(IotlbIterator::default());
@@ -58,10 +56,8 @@ impl<R: GuestMemoryRegion, I: Iommu + Drop> IommuMemory<GuestRegionCollection<R>
         count: usize,
         access: Permissions,
     ) -> Result<(), GuestMemoryError>
-        ensures mapped { let m = memory_behind h.now self.now.backend (I.number self.now.iommu) self.now.io_bitmap self.now.use_iommu in
-            IfOk result (λ _. is_mapped m access addr.0 count ≡ true) }
-        ensures refused { let m = memory_behind h.now self.now.backend (I.number self.now.iommu) self.now.io_bitmap self.now.use_iommu in
-            IfErr result (CannotGive m access addr.0 count) }
+        ensures mapped { IfOk result (λ _. is_mapped (seen_through I.number self.now h.now) access addr.0 count ≡ true) }
+        ensures refused { IfErr result (CannotGive (seen_through I.number self.now h.now) access addr.0 count) }
     {
         match self.translate(h, addr, count, access) {
             Ok(_) => Ok(()),
@@ -79,12 +75,9 @@ impl<R: GuestMemoryRegion, I: Iommu + Drop> IommuMemory<GuestRegionCollection<R>
     ) -> usize
         requires pieces { self.now.use_iommu ≡ true → mapped ≡ pieces (table_in h.now (I.number self.now.iommu)) addr.0 (length buffer.old) }
         requires held { HostHolds h.now self.now.backend }
-        requires mapped { let m = memory_behind h.now self.now.backend (I.number self.now.iommu) self.now.io_bitmap self.now.use_iommu in
-            is_mapped m Read addr.0 (length buffer.old) ≡ true }
-        ensures count { let m = memory_behind h.now self.now.backend (I.number self.now.iommu) self.now.io_bitmap self.now.use_iommu in
-            result ≡ reached (location m Read) (circular addr.0 (length buffer.old)) }
-        ensures bytes { let m = memory_behind h.now self.now.backend (I.number self.now.iommu) self.now.io_bitmap self.now.use_iommu in
-            buffer.new ≡ read_first m (circular addr.0 (length buffer.old)) result buffer.old }
+        requires mapped { is_mapped (seen_through I.number self.now h.now) Read addr.0 (length buffer.old) ≡ true }
+        ensures count { result ≡ reached (location (seen_through I.number self.now h.now) Read) (circular addr.0 (length buffer.old)) }
+        ensures bytes { buffer.new ≡ read_first (seen_through I.number self.now h.now) (circular addr.0 (length buffer.old)) result buffer.old }
     {
         let backend = self.get_backend();
         if self.get_iommu_enabled() {
@@ -110,13 +103,10 @@ impl<R: GuestMemoryRegion, I: Iommu + Drop> IommuMemory<GuestRegionCollection<R>
         addr: GuestAddress,
     ) -> usize
         requires held { HostHolds h.old self.now.backend }
-        requires mapped { let m = memory_behind h.old self.now.backend (I.number self.now.iommu) self.now.io_bitmap self.now.use_iommu in
-            is_mapped m Write addr.0 (length bytes.now) ≡ true }
-        ensures count { let m = memory_behind h.old self.now.backend (I.number self.now.iommu) self.now.io_bitmap self.now.use_iommu in
-            result ≡ reached (location m Write) (circular addr.0 (length bytes.now)) }
-        ensures stored { let m = memory_behind h.old self.now.backend (I.number self.now.iommu) self.now.io_bitmap self.now.use_iommu in
-            Stores h.old h.new (places_at (location m Write)
-            (circular addr.0 (length bytes.now))) bytes.now }
+        requires mapped { is_mapped (seen_through I.number self.now h.old) Write addr.0 (length bytes.now) ≡ true }
+        ensures count { result ≡ reached (location (seen_through I.number self.now h.old) Write) (circular addr.0 (length bytes.now)) }
+        ensures stored { let m = seen_through I.number self.now h.old in
+            Stores h.old h.new (places_at (location m Write) (circular addr.0 (length bytes.now))) bytes.now }
         ensures shape { shape h.new ≡ shape h.old }
     {
         let backend = self.get_backend();
@@ -141,13 +131,13 @@ impl<R: GuestMemoryRegion, I: Iommu + Drop> Bytes<GuestAddress>
     for IommuMemory<GuestRegionCollection<R>, I> {
     type E = GuestMemoryError;
 
-    ghost IsHeld = { λ m h. HoldsBehind h m.backend (I.number m.iommu) m.io_bitmap };
+    ghost IsHeld = { λ m h. HoldsThrough I.number m h };
 
-    ghost Reaches = { λ m h a n p places. MayReach (memory_behind h m.backend (I.number m.iommu) m.io_bitmap m.use_iommu) p a n places };
+    ghost Reaches = { λ m h a n p places. MayReach (seen_through I.number m h) p a n places };
 
     ghost partial = { λ n k. PartialBuffer n k };
 
-    ghost at_most = { λ m h a n p places may. length-may_reach (memory_behind h m.backend (I.number m.iommu) m.io_bitmap m.use_iommu) p a n places may };
+    ghost at_most = { λ m h a n p places may. length-may_reach (seen_through I.number m h) p a n places may };
 
     fn read<B: NewBitmap>(
         &self,

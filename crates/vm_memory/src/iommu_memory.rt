@@ -2,8 +2,8 @@
 
 ghost use Rattle.std.specs.Prelude.{◌≡◌, ◌<◌, ◌↔◌, IfOk, refl};
 ghost use Rattle.vm_memory.specs.Layout.{IsLayout};
-ghost use Rattle.vm_memory.specs.Memory.{memory_behind};
-ghost use Rattle.vm_memory.specs.Translated.{HoldsBehind, holds-same, left_behind, left-off};
+ghost use Rattle.vm_memory.specs.Behind.{HoldsThrough, seen_through};
+ghost use Rattle.vm_memory.specs.Translated.{holds-same, left_behind, left-off};
 
 use crate::backend::GuestMemoryBackend;
 use crate::collection::GuestRegionCollection;
@@ -52,7 +52,8 @@ impl<M: GuestMemoryBackend + Drop, I: Iommu + Drop> IommuMemory<M, I> {
         }
     }
 
-    /// The number of the set of I/O pages that writes mark while the IOMMU is on.
+    /// The number of the set of I/O pages, of 4096 addresses each, that writes mark while the IOMMU is on (vm-memory's
+    /// `IommuMemory::bitmap`).
     pub fn bitmap(&self) -> usize
         ensures { result ≡ self.now.io_bitmap }
     {
@@ -115,7 +116,7 @@ impl<M: GuestMemoryBackend + Drop, I: Iommu + Clone> IommuMemory<M, I> {
 }
 
 impl<R: GuestMemoryRegion, I: Iommu + Drop> HeldIn for IommuMemory<GuestRegionCollection<R>, I> {
-    ghost IsHeld = { λ m h. HoldsBehind h m.backend (I.number m.iommu) m.io_bitmap };
+    ghost IsHeld = { λ m h. HoldsThrough I.number m h };
 
     ghost IsSound = { λ m. IsLayout m.backend };
 
@@ -131,7 +132,7 @@ impl<R: GuestMemoryRegion, I: Iommu + Drop> GuestMemory
     for IommuMemory<GuestRegionCollection<R>, I> {
     type PhysicalMemory = GuestRegionCollection<R>;
 
-    ghost memory = { λ m h. memory_behind h m.backend (I.number m.iommu) m.io_bitmap m.use_iommu };
+    ghost memory = { λ m h. seen_through I.number m h };
 
     ghost longest = { λ m h access a. left_behind m.use_iommu h m.backend (I.number m.iommu) a };
 
@@ -175,13 +176,12 @@ impl<R: GuestMemoryRegion, I: Iommu + Drop> GuestMemory
 
     fn get_slices<'a, H: HostBlocks>(
         &'a self,
-        alloc: Global,
+        _alloc: Global,
         h: &'a H,
         addr: GuestAddress,
         count: usize,
         access: Permissions,
     ) -> Result<GuestMemorySlices<'a, GuestRegionCollection<R>>, GuestMemoryError> {
-        let _ = alloc;
         if !self.use_iommu {
             let slices = GuestMemoryBackendSliceIterator::new(&self.backend, addr, count);
             return Ok(GuestMemorySlices::Backend(slices));

@@ -35,7 +35,13 @@ impl<'a, M: GuestMemoryBackend> Model for IommuMemorySliceIterator<'a, M> {
 
     ghost Value = { TranslatedSlices };
 
-    ghost view = { λ i. record { layout = M.layout i.backend.now; ranges = ranges_of i.table; set = i.set; access = i.access; left = circular i.addr i.count } };
+    ghost view = { λ i. record {
+      layout = M.layout i.backend.now;
+      ranges = ranges_of i.table;
+      set = i.set;
+      access = i.access;
+      left = circular i.addr i.count;
+    } };
 
     ghost invariant = { λ i. (i.addr + i.count < 2 ^ 64) × (may_all (table_kept (ranges_of i.table)) i.access i.addr i.count ≡ true) };
 }
@@ -54,7 +60,13 @@ impl<'a, M: GuestMemoryBackend> IommuMemorySliceIterator<'a, M> {
     ) -> IommuMemorySliceIterator<'a, M>
         requires ends { addr.0 + count < 2 ^ 64 }
         requires mapped { may_all (table_in (H.host h.now) table) access addr.0 count ≡ true }
-        ensures { result ≡ record { layout = M.layout backend.now; ranges = ranges_in (H.host h.now) table; set = set; access = access; left = circular addr.0 count } }
+        ensures { result ≡ record {
+          layout = M.layout backend.now;
+          ranges = ranges_in (H.host h.now) table;
+          set = set;
+          access = access;
+          left = circular addr.0 count;
+        } }
     {
         IommuMemorySliceIterator {
             backend,

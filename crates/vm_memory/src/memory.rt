@@ -1,16 +1,16 @@
 //! Guest memory as a device reaches it (vm-memory's `GuestMemory`).
 
-ghost use Rattle.std.specs.Prelude.{◌≡◌, ◌≤◌, ◌⊎◌, ℕ, List, length, false, true, Some, None, option_map, if◌then◌else◌, IfOk, IfErr, OnErr, Result, refl};
+ghost use Rattle.std.specs.Prelude.{◌≡◌, ◌≤◌, ◌⊎◌, ℕ, List, length, false, true, option_map, IfOk, IfErr, OnErr, Result, refl};
 ghost use Rattle.std.specs.Iterator.{at_most, Drains};
 ghost use Rattle.vm_memory_core.specs.Host.{Host, lengths, shape};
-ghost use Rattle.vm_memory_core.specs.Window.{Window, places, AllLieIn};
+ghost use Rattle.vm_memory_core.specs.Window.{Window};
 ghost use Rattle.vm_iotlb.specs.declared.permissions.Permissions.{Permissions};
 ghost use Rattle.vm_iotlb.specs.declared.permissions.Permissions.TheVariants.{Read};
 ghost use Rattle.vm_memory.specs.Layout.{left_at, held-same};
-ghost use Rattle.vm_memory.specs.Memory.{Memory, after, circular, is_mapped, location, memory_of, physical_layout, places_from};
+ghost use Rattle.vm_memory.specs.Memory.{Memory, circular, is_mapped, location, memory_of, physical_layout, places_from};
 ghost use Rattle.vm_memory.specs.RangeAnswers.{CannotGive, Checks, Reads};
 ghost use Rattle.vm_memory.specs.declared.error.GuestMemoryError.{GuestMemoryError};
-ghost use Rattle.vm_memory.specs.Slices.{AddsLongest, AreAllOf, Gives, slices_from};
+ghost use Rattle.vm_memory.specs.Slices.{AddsLongest, AreAllOf, Gives, Joins, StayIn, slices_from};
 
 use crate::backend::GuestMemoryBackend;
 use crate::collection::GuestRegionCollection;
@@ -82,7 +82,8 @@ pub trait GuestMemory: HeldIn {
     // how many addresses from one on a window has at most, for an access
     ghost longest: { Self → Host → Permissions → ℕ → ℕ };
 
-    /// Whether each of `count` addresses from one on has a place, for an access.
+    /// Whether each of `count` addresses from one on has a place, for an access (vm-memory's
+    /// `GuestMemory::check_range`).
     fn check_range<H: HostBlocks>(
         &self,
         alloc: Global,
@@ -93,7 +94,8 @@ pub trait GuestMemory: HeldIn {
     ) -> Result<bool, AllocError>
         ensures { Checks (memory self.now (H.host h.now)) access addr.0 count result };
 
-    /// The windows of `count` addresses from one on, for an access.
+    /// The windows of `count` addresses from one on, for an access (vm-memory's `GuestMemory::get_slices`); IommuError
+    /// of CannotResolve where they aren't mapped throughout, or OutOfMemory.
     fn get_slices<'a, H: HostBlocks>(
         &'a self,
         alloc: Global,
@@ -109,7 +111,8 @@ pub trait GuestMemory: HeldIn {
         ensures mapped { IfOk result (λ s. is_mapped (memory self.now (H.host h.now)) access addr.0 count ≡ true) }
         ensures refused { IfErr result (CannotGive (memory self.now (H.host h.now)) access addr.0 count) };
 
-    /// The memory by physical addresses, if these are the addresses that a device uses.
+    /// The memory by physical addresses, if these are the addresses that a device uses (vm-memory's
+    /// `GuestMemory::physical_memory`).
     fn physical_memory(&self) -> Option<&Self::PhysicalMemory>
         ensures { (h : Host) → option_map (λ m. Self.PhysicalMemory.layout m.now) result ≡ physical_layout (memory self.now h) };
 
@@ -136,11 +139,12 @@ pub trait GuestMemory: HeldIn {
         access: Permissions,
         windows: &mut Windows,
     ) -> Result<bool, AllocError>
-        ensures found { IfOk result (λ found. after (places windows.old.items) (places_from (memory self.now (H.host h.now)) access addr.0 count)
-            ≡ (if found then Some (places windows.new.items) else None)) }
+        ensures found { let found = places_from (memory self.now (H.host h.now)) access addr.0 count in
+            Joins windows.old.items windows.new.items found result }
         ensures longest { AddsLongest (longest self.now (H.host h.now) access) (circular addr.0 count) windows.old.items windows.new.items }
-        ensures held { Self.IsHeld self.now (H.host h.now) → AllLieIn (lengths (H.host h.now)) windows.old.items → AllLieIn (lengths (H.host h.now)) windows.new.items }
-        ensures lacking { OnErr result ((is_mapped (memory self.now (H.host h.now)) access addr.0 count ≡ false) ⊎ (windows.old.capacity ≤ length windows.new.items)) };
+        ensures held { Self.IsHeld self.now (H.host h.now) → StayIn (lengths (H.host h.now)) windows.old.items windows.new.items }
+        ensures lacking { OnErr result ((is_mapped (memory self.now (H.host h.now)) access addr.0 count ≡ false)
+            ⊎ (windows.old.capacity ≤ length windows.new.items)) };
 
     // what a device sees depends on the host by its bytes, tables and marks alone
     ghost over: { (m : Self) (h g : Host) → memory m g ≡ record (memory m h) { host = g } };
@@ -169,29 +173,23 @@ impl<R: GuestMemoryRegion> GuestMemory for GuestRegionCollection<R> {
     #[inline]
     fn check_range<H: HostBlocks>(
         &self,
-        alloc: Global,
-        h: &H,
+        _alloc: Global,
+        _h: &H,
         addr: GuestAddress,
         count: usize,
-        access: Permissions,
+        _access: Permissions,
     ) -> Result<bool, AllocError> {
-        let _ = alloc;
-        let _ = h;
-        let _ = access;
         Ok(self.has_range(addr, count))
     }
 
     fn get_slices<'a, H: HostBlocks>(
         &'a self,
-        alloc: Global,
-        h: &'a H,
+        _alloc: Global,
+        _h: &'a H,
         addr: GuestAddress,
         count: usize,
-        access: Permissions,
+        _access: Permissions,
     ) -> Result<GuestMemorySlices<'a, GuestRegionCollection<R>>, GuestMemoryError> {
-        let _ = alloc;
-        let _ = h;
-        let _ = access;
         let slices = GuestMemoryBackendSliceIterator::new(self, addr, count);
         Ok(GuestMemorySlices::Backend(slices))
     }
@@ -203,12 +201,11 @@ impl<R: GuestMemoryRegion> GuestMemory for GuestRegionCollection<R> {
     #[inline(always)]
     fn read_range<H: HostBlocks>(
         &self,
-        alloc: Global,
+        _alloc: Global,
         h: &H,
         addr: GuestAddress,
         buffer: &mut [u8],
     ) -> Result<bool, AllocError> {
-        let _ = alloc;
         let asked = buffer.len();
         let completed = self.read_some(h, buffer, addr.0);
         Ok(completed == asked)
@@ -217,16 +214,13 @@ impl<R: GuestMemoryRegion> GuestMemory for GuestRegionCollection<R> {
     #[inline(always)]
     fn push_windows<H: HostBlocks>(
         &self,
-        alloc: Global,
-        h: &H,
+        _alloc: Global,
+        _h: &H,
         addr: GuestAddress,
         count: usize,
-        access: Permissions,
+        _access: Permissions,
         windows: &mut Windows,
     ) -> Result<bool, AllocError> {
-        let _ = alloc;
-        let _ = h;
-        let _ = access;
         self.push_physical(addr, count, windows)
     }
 }

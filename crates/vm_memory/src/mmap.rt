@@ -8,7 +8,7 @@ use std::alloc::Global;
 use std::marker::Model;
 use vm_memory_core::{HostBlocks, HostMemory, NewBitmap};
 
-/// All bytes of a block of host memory, at least one.
+/// All bytes of a block of host memory, at least one (vm-memory's `MmapRegion`).
 #[derive(Clone, Copy, Debug)]
 pub struct MmapRegion {
     size: usize,
@@ -29,15 +29,14 @@ impl Model for MmapRegion {
 }
 
 impl MmapRegion {
-    /// A new block of `size` zeros, none of whose pages is marked.
+    /// A new block of `size` zero bytes, none of whose pages is marked; Mmap where it would have none, or OutOfMemory.
     pub fn new<B: NewBitmap>(
-        alloc: Global,
+        _alloc: Global,
         h: &mut HostMemory<B>,
         size: usize,
     ) -> Result<MmapRegion, MmapRegionError>
         ensures { IsMapped B.count h.old h.new size result }
     {
-        let _ = alloc;
         if size == 0 {
             return Err(MmapRegionError::Mmap);
         }
@@ -77,7 +76,7 @@ impl MmapRegion {
         self.size
     }
 
-    /// The number of its block.
+    /// The number of its block in the host.
     pub fn block(&self) -> usize
         ensures { result ≡ self.now.block }
     {

@@ -40,7 +40,8 @@ pub trait GuestMemoryRegion: Drop {
         ensures start { result.0 ≡ (region self.now).start }
         ensures lawful { IsLawful (region self.now) };
 
-    /// The window of `count` bytes from an offset on, where it has them.
+    /// The window of `count` bytes from an offset on, or InvalidBackendAddress (vm-memory's
+    /// `GuestMemoryRegion::get_slice`).
     fn get_slice(
         &self,
         offset: MemoryRegionAddress,
@@ -114,7 +115,8 @@ pub trait GuestMemoryRegion: Drop {
         self.get_slice(MemoryRegionAddress(0), self.len() as usize)
     }
 
-    /// Where the byte at an offset is in the host.
+    /// Where the byte at an offset is in the host, or InvalidBackendAddress (vm-memory's
+    /// `GuestMemoryRegion::get_host_address`).
     #[inline]
     final fn get_host_address(
         &self,
@@ -132,7 +134,7 @@ pub trait GuestMemoryRegion: Drop {
     }
 }
 
-/// Addresses from `start` on, which are the bytes of a block from its first on.
+/// Addresses from one on, which are the bytes of a block from its first on (vm-memory's `GuestRegionMmap`).
 #[derive(Clone, Copy, Debug)]
 pub struct GuestRegionMmap {
     start: u64,
@@ -168,8 +170,9 @@ impl GuestRegionMmap {
         })
     }
 
-    /// The region of `size` addresses from one on, over a new block; the block stays in the host where the last
-    /// address does not fit.
+    /// The region of `size` addresses from one on, over a new block (vm-memory's `GuestRegionMmap::from_range`): else
+    /// MmapRegion where it would have none, OutOfMemory, or InvalidGuestRegion where the last address does not fit 64
+    /// bits; the block stays in the host then.
     pub fn from_range<B: NewBitmap>(
         alloc: Global,
         h: &mut HostMemory<B>,

@@ -42,7 +42,7 @@ pub trait GuestMemorySliceIterator: Iterator<Item = Result<VolatileSlice, GuestM
     }
 }
 
-/// Windows up to the first address without a place.
+/// Windows up to the first address without a place: what `stop_on_error` answers.
 #[derive(Drop)]
 pub struct SlicesBeforeError<I: GuestMemorySliceIterator> {
     slices: I,

@@ -70,7 +70,8 @@ impl<'a> PiecesLeft<'a> {
     fn first(&mut self) -> Option<MappedRange>
         requires fits { self.old.piece.base.0 + self.old.piece.length < 2 ^ 64 }
         ensures fits { IfSome result (λ p. p.base.0 + p.length < 2 ^ 64) }
-        ensures first { (table : Table) (a n : ℕ) → 0 < n → AreLeft table a n self.old.piece self.old.rest → MatchOption result ⊥ (λ p. pieces table a n ≡ p ∷ self.new.rest) }
+        ensures first { (table : Table) (a n : ℕ) → 0 < n → AreLeft table a n self.old.piece self.old.rest →
+            MatchOption result ⊥ (λ p. pieces table a n ≡ p ∷ self.new.rest) }
     {
         if 0 < self.piece.length {
             return Some(self.piece);

@@ -1,9 +1,9 @@
 -- A store in its two parts: bytes in one block, whose pages are marked unless I/O pages are, and those I/O pages.
-use Rattle.std.specs.Prelude.{ℕ, ◌+◌, ◌-◌, Bool, List, ◌++◌, length, take, drop, Option, None, Some, if◌then◌else◌}
+use Rattle.std.specs.Prelude.{ℕ, ◌+◌, ◌-◌, Bool, List, ◌++◌, length, map, take, drop, Option, None, Some, if◌then◌else◌}
 use Rattle.std.specs.Option.{is_none}
 use Rattle.vm_bitmaps.specs.Pages.{marked_range}
 use Rattle.vm_memory_core.specs.Host.{Block, Host, changed_at, with_blocks}
-use Rattle.vm_memory_core.specs.Window.{Window}
+use Rattle.vm_memory_core.specs.Window.{Window, byte_in, places_of}
 use Rattle.vm_memory_core.specs.declared.window.IoMarks.{IoMarks}
 
 -- the pages of n bytes marked, or not
@@ -18,6 +18,10 @@ block_put mark offset bytes b =
 -- the host with bytes at the front of a window, marked in its block unless the window marks I/O pages
 abbrev pub put_in_block : Host → Window → List ℕ → Host
 put_in_block h w bytes = with_blocks h (changed_at h.blocks w.block (block_put (is_none w.io) w.offset bytes))
+
+-- the host with the bytes of one window copied into another, marked in its block unless the window marks I/O pages
+abbrev pub copied_in_block : Host → (source dest : Window) → Host
+copied_in_block h source dest = put_in_block h dest (map (byte_in h) (places_of source))
 
 -- the host with the I/O pages of n bytes from an offset on marked
 abbrev pub io_marked_by : Option IoMarks → Host → (offset n : ℕ) → Host

@@ -32,7 +32,7 @@ pub trait Bytes<A> {
     // what refuses an access to so many bytes of which only some are there
     ghost partial: { ℕ → ℕ → Self.E };
 
-    /// Reads as many bytes as are there, at most as many as the buffer has: how many.
+    /// Reads as many bytes as are there, at most as many as the buffer has: how many (vm-memory's `Bytes::read`).
     fn read<B: NewBitmap>(
         &self,
         h: &HostMemory<B>,
@@ -42,7 +42,7 @@ pub trait Bytes<A> {
         requires { IsHeld self.now h.now }
         ensures { ReadsSome (Reaches self.now h.now addr (length buf.old) Permissions.Read) h.now buf.old buf.new result };
 
-    /// Writes as many bytes as are there, and marks their pages: how many.
+    /// Writes as many bytes as are there, and marks their pages: how many (vm-memory's `Bytes::write`).
     fn write<B: NewBitmap>(
         &self,
         h: &mut HostMemory<B>,
@@ -54,7 +54,7 @@ pub trait Bytes<A> {
         ensures held { IsHeld self.now h.new }
         ensures shape { shape h.new ≡ shape h.old };
 
-    /// Fills a buffer. Where only some bytes are there, these are read.
+    /// Fills a buffer. Where only some bytes are there, these are read (vm-memory's `Bytes::read_slice`).
     fn read_slice<B: NewBitmap>(
         &self,
         h: &HostMemory<B>,
@@ -64,7 +64,8 @@ pub trait Bytes<A> {
         requires { IsHeld self.now h.now }
         ensures { ReadsAll (Reaches self.now h.now addr (length buf.old) Permissions.Read) partial h.now buf.old buf.new result };
 
-    /// Writes all of a buffer, and marks the pages. Where only some bytes are there, these are written.
+    /// Writes all of a buffer, and marks the pages. Where only some bytes are there, these are written (vm-memory's
+    /// `Bytes::write_slice`).
     fn write_slice<B: NewBitmap>(
         &self,
         h: &mut HostMemory<B>,
@@ -77,7 +78,7 @@ pub trait Bytes<A> {
         ensures held { IsHeld self.now h.new }
         ensures shape { shape h.new ≡ shape h.old };
 
-    /// The value that the bytes from an address on spell.
+    /// The value that the bytes from an address on spell (vm-memory's `Bytes::read_obj`).
     final fn read_obj<T: ByteValued, B: NewBitmap>(
         &self,
         h: &HostMemory<B>,
@@ -95,7 +96,7 @@ pub trait Bytes<A> {
     }
 
     /// Writes a value's bytes from an address on, and marks their pages. Where only some bytes are there, these
-    /// are written.
+    /// are written (vm-memory's `Bytes::write_obj`).
     final fn write_obj<T: ByteValued, B: NewBitmap>(
         &self,
         h: &mut HostMemory<B>,
@@ -117,7 +118,8 @@ pub trait Bytes<A> {
     ghost at_most: { (m : Self) (h : Host) (a : A) (n : ℕ) (p : Permissions) (places : List Place) → Reaches m h a n p (Ok places) → length places ≤ n };
 }
 
-/// A window's bytes, addressed from its start.
+/// A window's bytes, addressed from its start. An access that begins past its end is refused with OutOfBounds, one that
+/// is asked to do all and can't with PartialBuffer.
 impl Bytes<usize> for VolatileSlice {
     type E = VolatileMemoryError;
 

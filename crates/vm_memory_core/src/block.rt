@@ -3,8 +3,8 @@
 ghost use Rattle.std.specs.Prelude.{◌≡◌, ◌≢◌, ◌+◌, ◌<◌, ◌≤◌, ◌^◌, ◌*◌, ◌++◌, IfOk, length, map, take, drop};
 ghost use Rattle.vm_memory_core.specs.Host.{Block, Host, with_blocks};
 ghost use Rattle.vm_memory_core.specs.Parts.{spelled_all};
-ghost use Rattle.vm_memory_core.specs.Putting.{marked_if, put_in_block};
-ghost use Rattle.vm_memory_core.specs.Window.{places_of, LiesIn, byte_in};
+ghost use Rattle.vm_memory_core.specs.Putting.{copied_in_block, marked_if};
+ghost use Rattle.vm_memory_core.specs.Window.{LiesIn};
 
 use crate::copy::{put_at, put_values};
 use crate::window::VolatileSlice;
@@ -131,7 +131,7 @@ pub(crate) fn copy_across<B: NewBitmap>(
     requires dest { LiesIn (map (λ b. length b.bytes) blocks.old) dest }
     requires len { source.len ≡ dest.len }
     requires other { source.block ≢ dest.block }
-    ensures { (h : Host) → with_blocks h blocks.new ≡ put_in_block (with_blocks h blocks.old) dest (map (byte_in (with_blocks h blocks.old)) (places_of source)) }
+    ensures { (h : Host) → with_blocks h blocks.new ≡ copied_in_block (with_blocks h blocks.old) source dest }
 {
     if source.block() < dest.block() {
         let (low, high) = blocks.split_at_mut(dest.block());

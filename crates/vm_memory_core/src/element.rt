@@ -195,7 +195,7 @@ impl<T: ByteValued> VolatileArrayRef<T> {
 }
 
 impl VolatileSlice {
-    /// The place of a value, from an offset on (vm-memory's `VolatileSlice::get_ref`).
+    /// The place of a value, from an offset on, or OutOfBounds or Overflow (vm-memory's `VolatileSlice::get_ref`).
     pub fn get_ref<T: ByteValued>(
         &self,
         offset: usize,
@@ -211,7 +211,8 @@ impl VolatileSlice {
         }
     }
 
-    /// The places of `n` values, from an offset on (vm-memory's `VolatileSlice::get_array_ref`).
+    /// The places of `n` values, from an offset on, or TooBig, OutOfBounds or Overflow (vm-memory's
+    /// `VolatileSlice::get_array_ref`).
     pub fn get_array_ref<T: ByteValued>(
         &self,
         offset: usize,

@@ -29,7 +29,7 @@ pub enum VolatileMemoryError {
 impl VolatileMemoryError {
     ghost use Rattle.vm_memory_core.specs.Numbers.{volatile_memory_number};
 
-    /// The number that tells the error apart, from 1 on.
+    /// The number that tells the error apart.
     pub fn number(&self) -> u8
         ensures { result ≡ volatile_memory_number self.now }
     {
@@ -43,7 +43,7 @@ impl VolatileMemoryError {
     }
 }
 
-/// The sum of a place and an offset, in bytes (vm-memory's `compute_offset`).
+/// The sum of a place and an offset, in bytes, or Overflow (vm-memory's `compute_offset`).
 pub fn compute_offset(base: usize, offset: usize) -> Result<usize, VolatileMemoryError>
     ensures { result ≡ end_of base offset }
 {

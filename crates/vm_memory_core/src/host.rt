@@ -1,10 +1,11 @@
 //! Memory as numbered blocks, each with its dirty pages, with the tables of IOMMUs and their dirty pages beside them.
 
-ghost use Rattle.std.specs.Prelude.{[], IfOk, IfSome, IsSome, IsTrue, None, OnErr, false, ◌≡◌, ◌↔◌, ◌<◌, ◌≤◌, ◌*◌, length, map, replicate, slice_get, option_map};
+ghost use Rattle.std.specs.Prelude.{[], IfOk, IfSome, IsSome, IsTrue, None, OnErr, false, ◌≡◌, ◌↔◌, ◌<◌, ◌≤◌, ◌*◌};
+ghost use Rattle.std.specs.Prelude.{length, map, replicate, slice_get, option_map};
 ghost use Rattle.std.specs.Borrow.{sem};
 ghost use Rattle.vm_memory_core.specs.Host.{byte_at, lengths, shape, with_block, with_io_pages, with_table};
 ghost use Rattle.vm_memory_core.specs.Parts.{spelled_all};
-ghost use Rattle.vm_memory_core.specs.Putting.{io_marked, put_in_block};
+ghost use Rattle.vm_memory_core.specs.Putting.{copied_in_block, io_marked};
 ghost use Rattle.vm_memory_core.specs.Window.{places_of, LiesIn, Stores, byte_in};
 
 use crate::block::{Block, cloned_blocks, copy_across};
@@ -88,14 +89,14 @@ impl<B: NewBitmap> HostMemory<B> {
         Ok(number)
     }
 
-    /// A table.
+    /// The table of this number; None where there is none.
     pub fn table(&self, table: usize) -> Option<&Iotlb>
         ensures { option_map (λ t. t.now) result ≡ slice_get self.now.tables table }
     {
         self.tables.get(table)
     }
 
-    /// A table, to be changed.
+    /// The table of this number, to be changed; None where there is none.
     pub fn table_mut(&mut self, table: usize) -> Option<&mut Iotlb>
         ensures* writes_back { sem 𝓛 (LendsTable B.row B.NewBitmap self.entry table result) }
         ensures value { option_map (λ t. t.now) result ≡ slice_get self.old.tables table }
@@ -103,14 +104,14 @@ impl<B: NewBitmap> HostMemory<B> {
         self.tables.get_mut(table)
     }
 
-    /// A set of dirty I/O pages.
+    /// The set of dirty I/O pages of this number, of 4096 addresses each; None where there is none.
     pub fn io_bitmap(&self, set: usize) -> Option<&IoPages<B>>
         ensures { option_map (λ p. p.now) result ≡ slice_get self.now.io_marks set }
     {
         self.io_pages.get(set)
     }
 
-    /// A set of dirty I/O pages, to be changed.
+    /// The set of dirty I/O pages of this number, to be changed; None where there is none.
     pub fn io_bitmap_mut(&mut self, set: usize) -> Option<&mut IoPages<B>>
         ensures* writes_back { sem 𝓛 (LendsIoPages B.row B.NewBitmap self.entry set result) }
         ensures value { option_map (λ p. p.now) result ≡ slice_get self.old.io_marks set }
@@ -125,7 +126,7 @@ impl<B: NewBitmap> HostMemory<B> {
         self.blocks.len()
     }
 
-    /// How many bytes a block has, which are never none.
+    /// How many bytes a block has, which are never none; None where there is no such block.
     pub fn block_len(&self, block: usize) -> Option<usize>
         ensures len { result ≡ option_map (λ b. length b.bytes) (slice_get self.now.blocks block) }
         ensures some { IfSome result (λ len. 0 < len) }
@@ -136,7 +137,7 @@ impl<B: NewBitmap> HostMemory<B> {
         }
     }
 
-    /// The byte at an offset of a block.
+    /// The byte at an offset of a block; None where there is none.
     pub fn byte_at(&self, block: usize, offset: usize) -> Option<u8>
         ensures { result ≡ byte_at self.now (record { block = block; offset = offset; io = None }) }
     {
@@ -194,7 +195,7 @@ impl<B: NewBitmap> HostMemory<B> {
         requires source { LiesIn (lengths self.old) source }
         requires dest { LiesIn (lengths self.old) dest }
         requires len { source.len ≡ dest.len }
-        ensures { self.new ≡ put_in_block self.old dest (map (byte_in self.old) (places_of source)) }
+        ensures { self.new ≡ copied_in_block self.old source dest }
     {
         if source.block() == dest.block() {
             let block = &mut self.blocks[dest.block()];
@@ -221,7 +222,7 @@ impl<B: NewBitmap> HostMemory<B> {
         self.mark_io(dest, dest.len());
     }
 
-    /// The dirty pages of a block, of 4096 bytes each.
+    /// The dirty pages of a block, of 4096 bytes each; None where there is no such block.
     pub fn bitmap(&self, block: usize) -> Option<&B>
         ensures size { IfSome result (λ b. B.page_size b.now ≡ 4096) }
         ensures base { IfSome result (λ b. B.base b.now ≡ 0) }
@@ -233,7 +234,7 @@ impl<B: NewBitmap> HostMemory<B> {
         }
     }
 
-    /// The bytes of a block, and its dirty pages.
+    /// The bytes of a block, and its dirty pages; None where there is no such block.
     pub fn bytes_and_bitmap(&self, block: usize) -> Option<(&[u8], &B)>
         ensures bytes { option_map (λ p. p.0.now) result ≡ option_map (λ b. b.bytes) (slice_get self.now.blocks block) }
         ensures marks { option_map (λ p. B.marks p.1.now) result ≡ option_map (λ b. b.marks) (slice_get self.now.blocks block) }

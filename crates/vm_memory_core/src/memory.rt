@@ -18,7 +18,7 @@ pub trait VolatileMemory {
     fn len(&self) -> usize
         ensures { result ≡ (window self.now).len };
 
-    /// Its `count` bytes from an offset on.
+    /// Its `count` bytes from an offset on, or OutOfBounds or Overflow (vm-memory's `VolatileMemory::get_slice`).
     fn get_slice(&self, offset: usize, count: usize) -> Result<VolatileSlice, VolatileMemoryError>
         ensures { result ≡ sub_window (window self.now) offset count };
 
@@ -33,7 +33,7 @@ pub trait VolatileMemory {
         self.len() == 0
     }
 
-    /// The place of a value, from an offset on.
+    /// The place of a value, from an offset on, or OutOfBounds or Overflow (vm-memory's `VolatileMemory::get_ref`).
     final fn get_ref<T: ByteValued>(
         &self,
         offset: usize,
@@ -43,7 +43,8 @@ pub trait VolatileMemory {
         self.as_volatile_slice().get_ref(offset)
     }
 
-    /// The places of `n` values, from an offset on.
+    /// The places of `n` values, from an offset on, or TooBig, OutOfBounds or Overflow (vm-memory's
+    /// `VolatileMemory::get_array_ref`).
     final fn get_array_ref<T: ByteValued>(
         &self,
         offset: usize,
@@ -54,7 +55,8 @@ pub trait VolatileMemory {
         self.as_volatile_slice().get_array_ref(offset, n)
     }
 
-    /// The end of `offset` bytes from `base` on, where it does not lie past the end.
+    /// The end of `offset` bytes from `base` on, or OutOfBounds or Overflow (vm-memory's
+    /// `VolatileMemory::compute_end_offset`).
     final fn compute_end_offset(
         &self,
         base: usize,

@@ -9,7 +9,8 @@ use crate::error::{VolatileMemoryError, compute_offset};
 use smallvec::SmallVec;
 use std::marker::Model;
 
-/// Some bytes of a block of host memory. It is a plain value: calls that touch bytes are lent the host.
+/// Some bytes of a block of host memory (vm-memory's `VolatileSlice`). It is a plain value: calls that touch bytes are
+/// lent the host.
 #[derive(Clone, Copy, Debug, Default)]
 pub struct VolatileSlice {
     block: usize,
@@ -24,9 +25,12 @@ pub struct VolatileSlice {
 /// far above or below the offsets in the block. So a part of a window marks as the window does.
 #[derive(Clone, Copy, Debug, Default)]
 pub enum Marking {
+    /// The pages of its block, of 4096 bytes each.
     #[default]
     InBlock,
+    /// I/O pages: an I/O address is an offset in the block and so much more.
     IoAbove,
+    /// I/O pages: an I/O address is an offset in the block and so much less.
     IoBelow,
 }
 
@@ -34,8 +38,11 @@ pub enum Marking {
 /// `from` of the block has the I/O address `base`.
 #[derive(Clone, Copy, Debug)]
 pub struct IoMarks {
+    /// The number of the set.
     pub set: usize,
+    /// An I/O address.
     pub base: u64,
+    /// The offset of its byte in the block.
     pub from: usize,
 }
 
@@ -159,7 +166,7 @@ impl VolatileSlice {
         self.len == 0
     }
 
-    /// What follows its first `count` bytes (vm-memory's `VolatileSlice::offset`).
+    /// What follows its first `count` bytes, or OutOfBounds (vm-memory's `VolatileSlice::offset`).
     pub fn offset(&self, count: usize) -> Result<VolatileSlice, VolatileMemoryError>
         ensures { result ≡ rest_of self.now count }
     {
@@ -169,7 +176,8 @@ impl VolatileSlice {
         Ok(self.part(count, self.len - count))
     }
 
-    /// Its `count` bytes from an offset on (vm-memory's `VolatileSlice::subslice`).
+    /// Its `count` bytes from an offset on; OutOfBounds, or Overflow where their end doesn't fit 64 bits (vm-memory's
+    /// `VolatileSlice::subslice`).
     pub fn subslice(
         &self,
         offset: usize,
@@ -184,7 +192,7 @@ impl VolatileSlice {
         }
     }
 
-    /// Its first `mid` bytes, and what follows them (vm-memory's `VolatileSlice::split_at`).
+    /// Its first `mid` bytes, and what follows them, or OutOfBounds (vm-memory's `VolatileSlice::split_at`).
     pub fn split_at(
         &self,
         mid: usize,

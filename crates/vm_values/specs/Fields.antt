@@ -74,3 +74,7 @@ spelled fs = then_fields [] fs
 abbrev pub AllFit : List Field → Type 0
 AllFit [] = Unit {0}
 AllFit (f ∷ fs) = Fits f × AllFit fs
+
+-- values whose fields fit and are spelled alike are the same
+abbrev pub HasOneReading : {X : Type 0} → (X → List Field) → Type 0
+HasOneReading {X} fields = (x y : X) → AllFit (fields x) → AllFit (fields y) → spelled (fields x) ≡ spelled (fields y) → x ≡ y

@@ -5,10 +5,10 @@ ghost use Rattle.std.specs.Int.RustNames.{bit_and, bit_or};
 
 use std::ops::{BitAnd, BitOr};
 
-/// A length or an offset in guest memory.
+/// A length or an offset in guest memory, in bytes (vm-memory's `GuestUsize`).
 pub type GuestUsize = u64;
 
-/// The numbers of a kind of address.
+/// The numbers of a kind of address (vm-memory's `AddressValue`).
 pub trait AddressValue {
     /// The type of an address's number.
     type V;
@@ -25,7 +25,7 @@ pub trait AddressValue {
         ensures { number result ≡ 1 };
 }
 
-/// An address of 64 bits.
+/// An address of 64 bits, each that of a byte (vm-memory's `Address`).
 pub trait Address: AddressValue
     + Copy
     + Default
@@ -184,7 +184,7 @@ impl Address for GuestAddress {
     }
 }
 
-/// An offset into a region of guest memory (vm-memory's `MemoryRegionAddress`).
+/// An offset into a region of guest memory, in bytes (vm-memory's `MemoryRegionAddress`).
 #[derive(Clone, Copy, Debug, Default, PartialEq, Eq, PartialOrd, Ord)]
 pub struct MemoryRegionAddress(pub u64);
 

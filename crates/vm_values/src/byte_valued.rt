@@ -4,12 +4,13 @@ ghost use Rattle.std.specs.Prelude.{◌≡◌, ℕ, ◌+◌, ◌*◌, ◌≤◌,
 ghost use Rattle.std.specs.Int.{w8, w16, w32, w64, w128};
 ghost use Rattle.std.specs.Io.KnownBytes.{Appends, Consumes};
 ghost use Rattle.std.proofs.Common.{rules};
-ghost use Rattle.vm_values.specs.Fields.{Field, unsigned, signed, spelled, AllFit, zero_field};
+ghost use Rattle.vm_values.specs.Fields.{Field, unsigned, signed, spelled, AllFit, HasOneReading, zero_field};
 ghost use Rattle.vm_values.specs.Unique.{fields_once};
 
 use std::io::{self, Read, Write};
 
-/// A value that is spelled by `SIZE` bytes (vm-memory's `ByteValued`).
+/// A value that is spelled by `SIZE` bytes (vm-memory's `ByteValued`). Rust's integers are spelled with the lowest byte
+/// first, signed ones in two's complement; a record is spelled by its fields, one after another without a gap.
 pub trait ByteValued: Copy {
     ghost SIZE: { ℕ };
 
@@ -39,7 +40,8 @@ pub trait ByteValued: Copy {
         Self::get_bytes(&zeros[..Self::SIZE])
     }
 
-    /// The value that these bytes spell, where there are `SIZE` of them.
+    /// The value that these bytes spell, where there are `SIZE` of them (vm-memory's `ByteValued::from_slice`, by
+    /// value).
     final fn from_slice(bytes: &[u8]) -> Option<Self>
         ensures whole { IsSome result ↔ (length bytes.now ≡ SIZE) }
         ensures bytes { IfSome result (λ x. (bytes.now ≡ spelled (fields x)) × AllFit (fields x)) }
@@ -51,7 +53,8 @@ pub trait ByteValued: Copy {
         }
     }
 
-    /// Writes the value's bytes to a stream; an error is the stream's.
+    /// Writes the value's bytes to a stream; an error is the stream's, and some of the bytes may have gone out then
+    /// (vm-memory's `ByteValued::write_all_to`).
     final fn write_all_to<W: Write>(&self, w: &mut W) -> io::Result<()>
         ensures bytes { OnOk result (Appends (W.contents w.old) (W.contents w.new) (spelled (fields self.now))) }
     {
@@ -60,7 +63,8 @@ pub trait ByteValued: Copy {
         w.write_all(&buffer[..Self::SIZE])
     }
 
-    /// The value that a stream's next bytes spell; an error is the stream's.
+    /// The value that a stream's next bytes spell; an error is the stream's, and some of the bytes may be taken then
+    /// (vm-memory's `ByteValued::read_exact_from`).
     final fn read_exact_from<R: Read>(r: &mut R) -> io::Result<Self>
         ensures bytes { IfOk result (λ x. Consumes (R.remaining r.old) (R.remaining r.new) (spelled (fields x)) × AllFit (fields x)) }
     {
@@ -72,7 +76,7 @@ pub trait ByteValued: Copy {
     // Values have fields of one zero_field, fields tell values apart, and a value has at most 256 bytes.
     ghost lawful: { ((x y : Self) → map zero_field (fields x) ≡ map zero_field (fields y)) × ((x y : Self) → fields x ≡ fields y → x ≡ y) × (SIZE ≤ 256) };
 
-    ghost one_reading: { (x y : Self) → AllFit (fields x) → AllFit (fields y) → spelled (fields x) ≡ spelled (fields y) → x ≡ y } = { λ x y p r e. lawful.1 x y (fields_once (fields x) (fields y) (lawful.0 x y) p r e) };
+    ghost one_reading: { HasOneReading fields } = { λ x y p r e. lawful.1 x y (fields_once (fields x) (fields y) (lawful.0 x y) p r e) };
 }
 
 impl ByteValued for u8 {

@@ -7,7 +7,8 @@ ghost use Rattle.vm_values.specs.Fields.{w, d, q, big_endian};
 
 use crate::byte_valued::ByteValued;
 
-/// A number of two bytes, the lowest first; the field is the number itself.
+/// A number of two bytes, the lowest first; the field is the number itself (vm-memory's `Le16`; VIRTIO
+/// 1.2, 1.4: le16).
 #[derive(Clone, Copy, Debug, Default, PartialEq, Eq)]
 pub struct Le16(pub u16);
 
@@ -62,7 +63,8 @@ impl ByteValued for Le16 {
     ghost lawful = { (λ x y. refl, λ x y h. Prim.search rules, Prim.search rules) };
 }
 
-/// A number of two bytes, the highest first; the field is the number itself.
+/// A number of two bytes, the highest first; the field is the number itself (vm-memory's `Be16`; VIRTIO
+/// 1.2, 1.4: be16).
 #[derive(Clone, Copy, Debug, Default, PartialEq, Eq)]
 pub struct Be16(pub u16);
 
@@ -119,7 +121,8 @@ impl ByteValued for Be16 {
     ghost lawful = { (λ x y. refl, λ x y h. Prim.search rules, Prim.search rules) };
 }
 
-/// A number of four bytes, the lowest first; the field is the number itself.
+/// A number of four bytes, the lowest first; the field is the number itself (vm-memory's `Le32`; VIRTIO
+/// 1.2, 1.4: le32).
 #[derive(Clone, Copy, Debug, Default, PartialEq, Eq)]
 pub struct Le32(pub u32);
 
@@ -174,7 +177,8 @@ impl ByteValued for Le32 {
     ghost lawful = { (λ x y. refl, λ x y h. Prim.search rules, Prim.search rules) };
 }
 
-/// A number of four bytes, the highest first; the field is the number itself.
+/// A number of four bytes, the highest first; the field is the number itself (vm-memory's `Be32`; VIRTIO
+/// 1.2, 1.4: be32).
 #[derive(Clone, Copy, Debug, Default, PartialEq, Eq)]
 pub struct Be32(pub u32);
 
@@ -231,7 +235,8 @@ impl ByteValued for Be32 {
     ghost lawful = { (λ x y. refl, λ x y h. Prim.search rules, Prim.search rules) };
 }
 
-/// A number of eight bytes, the lowest first; the field is the number itself.
+/// A number of eight bytes, the lowest first; the field is the number itself (vm-memory's `Le64`; VIRTIO
+/// 1.2, 1.4: le64).
 #[derive(Clone, Copy, Debug, Default, PartialEq, Eq)]
 pub struct Le64(pub u64);
 
@@ -286,7 +291,8 @@ impl ByteValued for Le64 {
     ghost lawful = { (λ x y. refl, λ x y h. Prim.search rules, Prim.search rules) };
 }
 
-/// A number of eight bytes, the highest first; the field is the number itself.
+/// A number of eight bytes, the highest first; the field is the number itself (vm-memory's `Be64`; VIRTIO
+/// 1.2, 1.4: be64).
 #[derive(Clone, Copy, Debug, Default, PartialEq, Eq)]
 pub struct Be64(pub u64);
 
