@@ -11,26 +11,26 @@ use Rattle.fs_queue.specs.declared.fault.QueueError.TheVariants as stop
 use Rattle.fs_queue.specs.Queue.{Queue, element_at, index_at}
 use Rattle.fs_queue.specs.Walking.{at_position}
 use Rattle.fs_queue.specs.Chain.{Found, IsChain, HasFault, StopsQueue, chain}
-use Rattle.fs_queue.specs.Look.{looked}
-use Rattle.fs_queue.specs.Look as looks
-use Rattle.fs_queue.specs.Taking.{Offer, Refuses, offer_of, on_head, on_look, offer, may_lack_memory, stops_queue}
-use Rattle.fs_queue.specs.Windows.{Ends, Lacks, Takes, ends_found, ends_at, used_addresses}
+use Rattle.fs_queue.specs.NextAvail.{next_avail}
+use Rattle.fs_queue.specs.NextAvail as avail
+use Rattle.fs_queue.specs.Taking.{Offer, Refuses, offer_of, on_head, on_next_avail, offer, may_lack_memory, stops_queue}
+use Rattle.fs_queue.specs.Windows.{ReturnPlaces, Lacks, Takes, return_places_found, return_places_at, used_addresses}
 use Rattle.fs_queue.specs.Windows as held
 use Rattle.fs_queue.proofs.TakeLemmas.{reach-each, reach-range, list_all-append}
 use Rattle.vm_memory.proofs.RangeLemmas.{all_located}
 
 -- a queue that isn't stopped
-pub offer_looked : (m : Memory) (limit : ℕ) (q : Queue) → q.stopped ≡ false → offer m limit q ≡ on_look m limit q (looked m q)
+pub offer_next_avail : (m : Memory) (limit : ℕ) (q : Queue) → q.stopped ≡ false → offer m limit q ≡ on_next_avail m limit q (next_avail m q)
 unfolding offer
-offer_looked m limit q on = rw on refl
+offer_next_avail m limit q on = rw on refl
 
-abbrev pub on_ends : Ends → Offer → Offer
-on_ends (held.Holds used flags) rest = rest
-on_ends (Lacks e) rest = Refuses e
+abbrev pub on_return_places : ReturnPlaces → Offer → Offer
+on_return_places (held.Holds used flags) rest = rest
+on_return_places (Lacks e) rest = Refuses e
 
 two : (used flags : Option (List Place)) (rest : Offer) →
     (if not (is_some used) then Refuses stop.UsedUnreachable else if not (is_some flags) then Refuses stop.AvailFlagsUnreachable else rest)
-    ≡ on_ends (ends_found used flags) rest
+    ≡ on_return_places (return_places_found used flags) rest
 two None flags rest = refl
 two (Some used) None rest = refl
 two (Some used) (Some flags) rest = refl
@@ -43,58 +43,58 @@ used_reached m q fits room =
     let r2 = reach-each m Write (index_at q) 2 room in
     rw (r1, r2) (list_all-append (addresses (element_at q) 8) (addresses (index_at q) 2) (location m Write) ∙ all_located (used_addresses q) (location m Write))
 
--- the ends of a layout's parts
+-- where a layout's parts end
 element_fits : (l : QueueLayout) (position : ℕ) → l.used + 4 + 8 * (position % l.size) + 8 < 2 ^ 64
 element_fits l position =
     let below = mod_below position l.size l.sized in
     omega (arith, l.used_ring)
 
-pub on_head-ends : (m : Memory) (limit : ℕ) (l : QueueLayout) (position at : ℕ) →
-    on_head m limit (at_position l position) at ≡ on_ends (ends_at m (at_position l position)) (offer_of m limit at (chain m (at_position l position) at))
-on_head-ends m limit l position at =
+pub on_head-return_places : (m : Memory) (limit : ℕ) (l : QueueLayout) (position at : ℕ) →
+    on_head m limit (at_position l position) at ≡ on_return_places (return_places_at m (at_position l position)) (offer_of m limit at (chain m (at_position l position) at))
+on_head-return_places m limit l position at =
     let r1 = used_reached m (at_position l position) (element_fits l position) (omega (arith, l.used_ring)) in
     let r2 = reach-range m Read l.avail 2 (omega (arith, l.available)) in
     rw (r1, r2) (two (located (location m Write) (used_addresses (at_position l position))) (located (location m Read) (addresses l.avail 2)) _)
 
 -- a head was found, and then the windows of the return
-pub offer_head : (m : Memory) (limit : ℕ) (l : QueueLayout) (position at : ℕ) → looks.Head at ≡ looked m (at_position l position) →
-    offer m limit (at_position l position) ≡ on_ends (ends_at m (at_position l position)) (offer_of m limit at (chain m (at_position l position) at))
+pub offer_head : (m : Memory) (limit : ℕ) (l : QueueLayout) (position at : ℕ) → avail.Head at ≡ next_avail m (at_position l position) →
+    offer m limit (at_position l position) ≡ on_return_places (return_places_at m (at_position l position)) (offer_of m limit at (chain m (at_position l position) at))
 offer_head m limit l position at e =
-    offer_looked m limit (at_position l position) refl ∙ sym (ap (on_look m limit (at_position l position)) e) ∙ on_head-ends m limit l position at
+    offer_next_avail m limit (at_position l position) refl ∙ sym (ap (on_next_avail m limit (at_position l position)) e) ∙ on_head-return_places m limit l position at
 
 lack_of : (m : Memory) (q : Queue) (limit h : ℕ) (f : Found) → may_lack_memory m q (offer_of m limit h f) ≡ true
 lack_of m q limit h (IsChain ds) = refl
 lack_of m q limit h (HasFault fault) = refl
 lack_of m q limit h StopsQueue = refl
 
-lack_two : (m : Memory) (q : Queue) (used flags : Option (List Place)) (rest : Offer) → may_lack_memory m q rest ≡ true → may_lack_memory m q (on_ends (ends_found used flags) rest) ≡ true
+lack_two : (m : Memory) (q : Queue) (used flags : Option (List Place)) (rest : Offer) → may_lack_memory m q rest ≡ true → may_lack_memory m q (on_return_places (return_places_found used flags) rest) ≡ true
 lack_two m q None flags rest e = refl
 lack_two m q (Some used) None rest e = refl
 lack_two m q (Some used) (Some flags) rest e = e
 
 -- once a head was found memory may be wanting
-pub lacks_memory : (m : Memory) (limit : ℕ) (l : QueueLayout) (position at : ℕ) → looks.Head at ≡ looked m (at_position l position) →
+pub lacks_memory : (m : Memory) (limit : ℕ) (l : QueueLayout) (position at : ℕ) → avail.Head at ≡ next_avail m (at_position l position) →
     IsTrue (may_lack_memory m (at_position l position) (offer m limit (at_position l position)))
 lacks_memory m limit l position at e =
     let q = at_position l position in
     ap (may_lack_memory m q) (offer_head m limit l position at e) ∙ lack_two m q _ _ _ (lack_of m q limit at (chain m q at))
 
 -- the windows of the return are those of their addresses
-pub found_ends : (used flags : List Place) (o1 o2 : Option (List Place)) → held.Holds used flags ≡ ends_found o1 o2 → (o1 ≡ Some used) × (o2 ≡ Some flags)
-found_ends used flags None o2 e = absurd (cc)
-found_ends used flags (Some a) None e = absurd (cc)
-found_ends used flags (Some a) (Some b) e = (cc, cc)
+pub found_return_places : (used flags : List Place) (o1 o2 : Option (List Place)) → held.Holds used flags ≡ return_places_found o1 o2 → (o1 ≡ Some used) × (o2 ≡ Some flags)
+found_return_places used flags None o2 e = absurd (cc)
+found_return_places used flags (Some a) None e = absurd (cc)
+found_return_places used flags (Some a) (Some b) e = (cc, cc)
 
-pub offer_lacks : (m : Memory) (limit : ℕ) (l : QueueLayout) (position at : ℕ) (e : QueueError) → looks.Head at ≡ looked m (at_position l position) →
-    Lacks e ≡ ends_at m (at_position l position) → offer m limit (at_position l position) ≡ Refuses e
-offer_lacks m limit l position at e head ends =
-    offer_head m limit l position at head ∙ sym (ap (λ (x : Ends). on_ends x (offer_of m limit at (chain m (at_position l position) at))) ends)
+pub offer_lacks : (m : Memory) (limit : ℕ) (l : QueueLayout) (position at : ℕ) (e : QueueError) → avail.Head at ≡ next_avail m (at_position l position) →
+    Lacks e ≡ return_places_at m (at_position l position) → offer m limit (at_position l position) ≡ Refuses e
+offer_lacks m limit l position at e head places =
+    offer_head m limit l position at head ∙ sym (ap (λ (x : ReturnPlaces). on_return_places x (offer_of m limit at (chain m (at_position l position) at))) places)
 
-pub offer_found : (m : Memory) (limit : ℕ) (l : QueueLayout) (position at : ℕ) (a b : List Place) (f : Found) → looks.Head at ≡ looked m (at_position l position) →
-    held.Holds a b ≡ ends_at m (at_position l position) → f ≡ chain m (at_position l position) at → offer m limit (at_position l position) ≡ offer_of m limit at f
-offer_found m limit l position at a b f head ends found =
+pub offer_found : (m : Memory) (limit : ℕ) (l : QueueLayout) (position at : ℕ) (a b : List Place) (f : Found) → avail.Head at ≡ next_avail m (at_position l position) →
+    held.Holds a b ≡ return_places_at m (at_position l position) → f ≡ chain m (at_position l position) at → offer m limit (at_position l position) ≡ offer_of m limit at f
+offer_found m limit l position at a b f head places found =
     offer_head m limit l position at head
-    ∙ sym (ap (λ (x : Ends). on_ends x (offer_of m limit at (chain m (at_position l position) at))) ends)
+    ∙ sym (ap (λ (x : ReturnPlaces). on_return_places x (offer_of m limit at (chain m (at_position l position) at))) places)
     ∙ sym (ap (offer_of m limit at) found)
 
 -- a refusal that stops the queue is answered as it is offered

@@ -14,7 +14,7 @@ use Rattle.vm_memory.proofs.Places.{circular-is, length-addresses, addresses-app
 use Rattle.vm_memory.proofs.RangeLemmas.{reach-from}
 use Rattle.fs_queue.specs.Records.{descriptor}
 use Rattle.fs_queue.specs.Chain.{Descriptor, descriptor_at}
-use Rattle.fs_queue.specs.Look.{IsUnmapped}
+use Rattle.fs_queue.specs.NextAvail.{IsUnmapped}
 
 -- what a memory answers for a range that ends below 2^64
 pub checked : (m : Memory) (a n : ℕ) (r : Result Bool AllocError) → a + n < 2 ^ 64 → Checks m Read a n r → IfOk r (λ found. found ≡ reach m Read a n)

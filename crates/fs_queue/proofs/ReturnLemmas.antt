@@ -15,7 +15,7 @@ use Rattle.fs_queue.specs.declared.chain.Chain.{Chain}
 use Rattle.fs_queue.specs.declared.chain.Taken.{Taken}
 use Rattle.fs_queue.specs.declared.fault.ChainFault.{ChainFault}
 use Rattle.fs_queue.specs.Queue.{Queue, element_at, index_at}
-use Rattle.fs_queue.specs.Taking.{Asked, Asks, CannotAsk, room_of}
+use Rattle.fs_queue.specs.Taking.{RequestAndRoom, IsRequest, CannotFetch, room_of}
 use Rattle.fs_queue.specs.Returning.{next_position, returned, wants_notice}
 use Rattle.fs_queue.specs.Windows.{HoldsChain, IsTaken, chain_places, used_addresses}
 
@@ -60,13 +60,13 @@ stored_located (a ∷ as') ps (x ∷ xs) m e =
 
 -- ---- the stores of a return
 
-room_stored : (m : Memory) (reply : List ℕ) (asked : Asked) (chain : Result Chain ChainFault) → HoldsChain m asked chain →
-    stored_all m (zip (room_of asked) reply) ≡ over m (put_all m.host (zip (chain_places chain) reply))
+room_stored : (m : Memory) (reply : List ℕ) (fetched : RequestAndRoom) (chain : Result Chain ChainFault) → HoldsChain m fetched chain →
+    stored_all m (zip (room_of fetched) reply) ≡ over m (put_all m.host (zip (chain_places chain) reply))
 unfolding stored_all put_all
-room_stored m reply (Asks request room) (Ok c) held = stored_located room (places c.writable.items) reply m held.1
-room_stored m reply (Asks request room) (Err fault) held = absurd held
-room_stored m reply (CannotAsk why) (Ok c) held = absurd held
-room_stored m reply (CannotAsk why) (Err fault) held = refl
+room_stored m reply (IsRequest request room) (Ok c) held = stored_located room (places c.writable.items) reply m held.1
+room_stored m reply (IsRequest request room) (Err fault) held = absurd held
+room_stored m reply (CannotFetch why) (Ok c) held = absurd held
+room_stored m reply (CannotFetch why) (Err fault) held = refl
 
 -- a store through windows that were held before
 stored_held : (m : Memory) (h h' : Host) (as' xs : List ℕ) (ws vs : List Window) → h.tables ≡ m.host.tables → located (location m Write) as' ≡ Some (places vs) →
@@ -82,19 +82,19 @@ zip_used a b x y e =
     ∙ ap (λ (l : List ℕ). zip a l ++ zip b (drop (length x) (x ++ y))) (take_at x y (length x) refl)
     ∙ ap (λ (l : List ℕ). zip a x ++ zip b l) (drop_at x y (length x) refl)
 
-pub returned_is : (m : Memory) (h0 h1 h2 : Host) (q : Queue) (asked : Asked) (t : Taken) (reply bytes : List ℕ) (ws : List Window) → m.host ≡ h0 → IsTaken m q asked t →
+pub returned_is : (m : Memory) (h0 h1 h2 : Host) (q : Queue) (fetched : RequestAndRoom) (t : Taken) (reply bytes : List ℕ) (ws : List Window) → m.host ≡ h0 → IsTaken m q fetched t →
     h1 ≡ put_all h0 (zip (chain_places t.chain) reply) →
-    ws ≡ t.ends.used.items → bytes ≡ to_le_bytes w32 t.head ++ to_le_bytes w32 (length reply) ++ to_le_bytes w16 (next_position q) → h2 ≡ put_all h1 (zip (places ws) bytes) →
-    over m h2 ≡ returned m q t.head (room_of asked) reply
-returned_is m h0 h1 h2 q asked t reply bytes ws host taken a e1 e2 b =
-    let room : List (ℕ × ℕ) = zip (room_of asked) reply in
+    ws ≡ t.return_windows.used.items → bytes ≡ to_le_bytes w32 t.head ++ to_le_bytes w32 (length reply) ++ to_le_bytes w16 (next_position q) → h2 ≡ put_all h1 (zip (places ws) bytes) →
+    over m h2 ≡ returned m q t.head (room_of fetched) reply
+returned_is m h0 h1 h2 q fetched t reply bytes ws host taken a e1 e2 b =
+    let room : List (ℕ × ℕ) = zip (room_of fetched) reply in
     let element : List ℕ = to_le_bytes w32 t.head ++ to_le_bytes w32 (length reply) in
     let index : List ℕ = to_le_bytes w16 (next_position q) in
     let at_used : List (ℕ × ℕ) = zip (used_addresses q) bytes in
     let stored : h1 ≡ put_all m.host (zip (chain_places t.chain) reply) = a ∙ ap (λ (h : Host). put_all h (zip (chain_places t.chain) reply)) (sym host) in
     let t1 : h1.tables ≡ m.host.tables = ap (λ (h : Host). h.tables) stored ∙ all_tables (zip (chain_places t.chain) reply) m.host in
-    let first : stored_all m room ≡ over m h1 = room_stored m reply asked t.chain taken.chain ∙ ap (over m) (sym stored) in
-    let second : stored_all (over m h1) at_used ≡ over m h2 = stored_held m h1 h2 (used_addresses q) bytes ws t.ends.used.items t1 taken.ends.used e1 b in
+    let first : stored_all m room ≡ over m h1 = room_stored m reply fetched t.chain taken.chain ∙ ap (over m) (sym stored) in
+    let second : stored_all (over m h1) at_used ≡ over m h2 = stored_held m h1 h2 (used_addresses q) bytes ws t.return_windows.used.items t1 taken.return_windows.used e1 b in
     let cut : at_used ≡ zip (addresses (element_at q) 8) element ++ zip (addresses (index_at q) 2) index =
     ap (zip (used_addresses q)) e2 ∙ zip_used (addresses (element_at q) 8) (addresses (index_at q) 2) element index (length-addresses 8 (element_at q)) in
     let joined : room ++ zip (addresses (element_at q) 8) element ++ zip (addresses (index_at q) 2) index ≡ room ++ at_used =
@@ -107,11 +107,11 @@ not_not : (b : Bool) → b ≡ not (not b)
 not_not true = refl
 not_not false = refl
 
-pub told_is : (m : Memory) (h2 : Host) (q : Queue) (asked : Asked) (t : Taken) (n : ℕ) (flags : List ℕ) (fs : List Window) → h2.tables ≡ m.host.tables → IsTaken m q asked t →
-    fs ≡ t.ends.flags.items → flags ≡ map (byte_in h2) (places fs) → n ≡ from_le_bytes w16 flags → eqb (bit_and n 1) 0 ≡ wants_notice (over m h2) q
-told_is m h2 q asked t n flags fs kept taken e f is =
+pub told_is : (m : Memory) (h2 : Host) (q : Queue) (fetched : RequestAndRoom) (t : Taken) (n : ℕ) (flags : List ℕ) (fs : List Window) → h2.tables ≡ m.host.tables → IsTaken m q fetched t →
+    fs ≡ t.return_windows.flags.items → flags ≡ map (byte_in h2) (places fs) → n ≡ from_le_bytes w16 flags → eqb (bit_and n 1) 0 ≡ wants_notice (over m h2) q
+told_is m h2 q fetched t n flags fs kept taken e f is =
     let read : bytes (over m h2) q.avail 2 ≡ flags =
-    bytes-located (addresses q.avail 2) (over m h2) (places t.ends.flags.items) (ap (λ g. located (g Read) (addresses q.avail 2)) (same_location m h2 kept) ∙ taken.ends.flags)
+    bytes-located (addresses q.avail 2) (over m h2) (places t.return_windows.flags.items) (ap (λ g. located (g Read) (addresses q.avail 2)) (same_location m h2 kept) ∙ taken.return_windows.flags)
     ∙ ap (λ (ws : List Window). map (byte_in h2) (places ws)) (sym e) ∙ sym f in
     ap (λ k. eqb (bit_and k 1) 0) (is ∙ ap (from_le_bytes w16) (sym read)) ∙ not_not _
 

@@ -17,7 +17,7 @@ use Rattle.vm_memory_core.specs.Window.{byte_in}
 use Rattle.vm_memory.specs.Memory.{Memory, addresses, located, location, after, reach, byte, bytes}
 use Rattle.fs_queue.specs.declared.fault.ChainFault.TheVariants.{RequestUnreachable, RoomUnreachable}
 use Rattle.fs_queue.specs.Walking.{AllEndIn64Bits}
-use Rattle.fs_queue.specs.Taking.{readable, writable, total_len, all_reach, asked_by, Asks, CannotAsk}
+use Rattle.fs_queue.specs.Taking.{readable, writable, total_len, all_reach, request_and_room, IsRequest, CannotFetch}
 use Rattle.fs_queue.specs.Queue.{Queue, element_at, index_at}
 use Rattle.fs_queue.specs.Chain.{Descriptor, is_writable}
 use Rattle.fs_queue.specs.Windows.{of_direction, addresses_of, used_addresses}
@@ -134,7 +134,7 @@ pub after-none : (o : Option (List Place)) → after [] o ≡ o
 after-none None = refl
 after-none (Some ps) = refl
 
--- ---- what a chain asks
+-- ---- the request and the room of a chain
 
 pub fits_filter : (p : Descriptor → Bool) (ds : List Descriptor) → AllEndIn64Bits ds → AllEndIn64Bits (filter p ds)
 unfolding AllEndIn64Bits
@@ -185,28 +185,28 @@ not_above n limit h = grind (arith, nat_tests)
 within_limit : (limit a b : ℕ) → a ≤ limit → b ≤ limit → (nat_lt limit a || nat_lt limit b) ≡ false
 within_limit limit a b h k = rw (not_above a limit h, not_above b limit k)
 
-pub asks_nothing_read : (m : Memory) (limit : ℕ) (ds : List Descriptor) → AllEndIn64Bits ds → total_len (readable ds) ≤ limit → total_len (writable ds) ≤ limit →
-    None ≡ located (location m Read) (addresses_of (readable ds)) → asked_by m limit ds ≡ CannotAsk RequestUnreachable
-asks_nothing_read m limit ds all a b lost =
+pub request_unreachable : (m : Memory) (limit : ℕ) (ds : List Descriptor) → AllEndIn64Bits ds → total_len (readable ds) ≤ limit → total_len (writable ds) ≤ limit →
+    None ≡ located (location m Read) (addresses_of (readable ds)) → request_and_room m limit ds ≡ CannotFetch RequestUnreachable
+request_unreachable m limit ds all a b lost =
     let r : all_reach m Read (readable ds) ≡ false = all_reach-located m Read (readable ds) (fits_filter (λ d. not (is_writable d)) ds all) ∙ ap is_some (sym lost) in
     rw (within_limit limit (total_len (readable ds)) (total_len (writable ds)) a b, r)
 
-pub asks_nothing_written : (m : Memory) (limit : ℕ) (ds : List Descriptor) (ps : List Place) → AllEndIn64Bits ds → total_len (readable ds) ≤ limit → total_len (writable ds) ≤ limit →
-    Some ps ≡ located (location m Read) (addresses_of (readable ds)) → None ≡ located (location m Write) (addresses_of (writable ds)) → asked_by m limit ds ≡ CannotAsk RoomUnreachable
-asks_nothing_written m limit ds ps all a b found lost =
+pub room_unreachable : (m : Memory) (limit : ℕ) (ds : List Descriptor) (ps : List Place) → AllEndIn64Bits ds → total_len (readable ds) ≤ limit → total_len (writable ds) ≤ limit →
+    Some ps ≡ located (location m Read) (addresses_of (readable ds)) → None ≡ located (location m Write) (addresses_of (writable ds)) → request_and_room m limit ds ≡ CannotFetch RoomUnreachable
+room_unreachable m limit ds ps all a b found lost =
     let r : all_reach m Read (readable ds) ≡ true = all_reach-located m Read (readable ds) (fits_filter (λ d. not (is_writable d)) ds all) ∙ ap is_some (sym found) in
     let w : all_reach m Write (writable ds) ≡ false = all_reach-located m Write (writable ds) (fits_filter is_writable ds all) ∙ ap is_some (sym lost) in
     rw (within_limit limit (total_len (readable ds)) (total_len (writable ds)) a b, r, w)
 
-pub asks : (m : Memory) (limit : ℕ) (ds : List Descriptor) (ps qs : List Place) → AllEndIn64Bits ds → total_len (readable ds) ≤ limit → total_len (writable ds) ≤ limit →
+pub fetched_all : (m : Memory) (limit : ℕ) (ds : List Descriptor) (ps qs : List Place) → AllEndIn64Bits ds → total_len (readable ds) ≤ limit → total_len (writable ds) ≤ limit →
     Some ps ≡ located (location m Read) (addresses_of (readable ds)) → Some qs ≡ located (location m Write) (addresses_of (writable ds)) →
-    asked_by m limit ds ≡ Asks (map (byte_in m.host) ps) (addresses_of (writable ds))
-asks m limit ds ps qs all a b found room =
+    request_and_room m limit ds ≡ IsRequest (map (byte_in m.host) ps) (addresses_of (writable ds))
+fetched_all m limit ds ps qs all a b found room =
     let r : all_reach m Read (readable ds) ≡ true = all_reach-located m Read (readable ds) (fits_filter (λ d. not (is_writable d)) ds all) ∙ ap is_some (sym found) in
     let w : all_reach m Write (writable ds) ≡ true = all_reach-located m Write (writable ds) (fits_filter is_writable ds all) ∙ ap is_some (sym room) in
     let request : flat_map (λ d. bytes m d.addr d.len) (readable ds) ≡ map (byte_in m.host) ps =
     bytes-addresses_of m (readable ds) ∙ bytes-located (addresses_of (readable ds)) m ps (sym found) in
-    rw (within_limit limit (total_len (readable ds)) (total_len (writable ds)) a b, r, w) (ap (λ (x : List ℕ). Asks x (addresses_of (writable ds))) request)
+    rw (within_limit limit (total_len (readable ds)) (total_len (writable ds)) a b, r, w) (ap (λ (x : List ℕ). IsRequest x (addresses_of (writable ds))) request)
 
 -- how many places a direction has
 pub length-direction : (f : Where) (ds : List Descriptor) (ps : List Place) → Some ps ≡ located f (addresses_of ds) → length ps ≡ total_len ds

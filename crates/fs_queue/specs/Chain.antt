@@ -1,5 +1,5 @@
 -- The chain of descriptors that begins at a head (VIRTIO 1.2, 2.7.5 and 2.7.5.3).
-use Rattle.std.specs.Prelude.{ℕ, zero, suc, ◌+◌, ◌-◌, ◌*◌, ◌/◌, ◌%◌, ◌^◌, Bool, true, false, not, ◌&&◌, ◌||◌, nat_le, nat_lt, ◌==◌, List, [], ◌∷◌, Option, Some, None, if◌then◌else◌}
+use Rattle.std.specs.Prelude.{ℕ, zero, suc, ◌+◌, ◌*◌, ◌/◌, ◌%◌, ◌^◌, Bool, true, false, not, ◌&&◌, ◌||◌, nat_le, nat_lt, ◌==◌, List, [], ◌∷◌, Option, Some, None, if◌then◌else◌}
 use Rattle.std.specs.Int.{w16, w32, w64}
 use Rattle.vm_iotlb.specs.declared.permissions.Permissions.TheVariants.{Read}
 use Rattle.vm_memory.specs.Memory.{Memory, number, reach}
@@ -36,56 +36,56 @@ pub record DescriptorTable : Type 0 where
   pub entries : ℕ
   pub indirect : Bool
 
--- a step of a walk: an entry of a table, and how many descriptors the chain may still have
+-- a step of a walk: an entry of a table, and how many ordinary descriptors the walk passed before it
 pub record Visit : Type 0 where
   pub table : DescriptorTable
   pub index : ℕ
-  pub left : ℕ
+  pub earlier : ℕ
 
--- what the rules say of a step: its descriptor joins the chain, it leads to a table, the chain is faulty, or the queue stops
-pub data Verdict : Type 0 where
-  Joins : Descriptor → Verdict
-  Leads : DescriptorTable → Verdict
-  Faulty : ChainFault → Verdict
-  Stops : Verdict
+-- what a step comes to: an ordinary descriptor, which joins the chain, a table to be read on from, a faulty chain, or a stop of the queue
+pub data WalkStep : Type 0 where
+  Ordinary : Descriptor → WalkStep
+  Table : DescriptorTable → WalkStep
+  Faulty : ChainFault → WalkStep
+  Stops : WalkStep
 
 -- its end is an address
 abbrev pub ends_in_64_bits : Descriptor → Bool
 ends_in_64_bits d = nat_lt (d.addr + d.len) (2 ^ 64)
 
 -- a descriptor that names a table, which is read from its entry 0 on (2.7.5.3 and 2.7.5.3.2). It isn't counted, and its WRITE says nothing
-abbrev pub indirect_verdict : Visit → Descriptor → Verdict
-indirect_verdict v d =
+abbrev pub indirect_step : Visit → Descriptor → WalkStep
+indirect_step v d =
     if has_next d then Faulty IndirectWithNext
     else if v.table.indirect then Faulty IndirectNested
     else if d.len == 0 || not (d.len % 16 == 0) then Faulty IndirectLength
     else if not (ends_in_64_bits d) then Faulty AddressOverflow
-    else Leads (record { address = d.addr; entries = d.len / 16; indirect = true })
+    else Table (record { address = d.addr; entries = d.len / 16; indirect = true })
 
--- any other
-abbrev pub ordinary_verdict : Visit → Descriptor → Verdict
-ordinary_verdict v d =
-    if v.left == 0 then Faulty TooLong
+-- any other, in the chain of a queue of this size, which has no more descriptors than that (2.7.5.3.1)
+abbrev pub ordinary_step : (size : ℕ) → Visit → Descriptor → WalkStep
+ordinary_step size v d =
+    if v.earlier == size then Faulty TooLong
     else if nat_lt 0 d.len && not (ends_in_64_bits d) then Faulty AddressOverflow
-    else Joins d
+    else Ordinary d
 
--- what the rules say of a step whose entry is at an address
-abbrev pub verdict_at : Memory → Visit → ℕ → Verdict
-verdict_at m v a =
+-- what a step comes to whose entry is at an address, in the chain of a queue of this size
+abbrev pub walk_step_at : Memory → (size : ℕ) → Visit → ℕ → WalkStep
+walk_step_at m size v a =
     if not (reach m Read a 16) then (if v.table.indirect then Faulty TableUnreachable else Stops)
-    else if is_indirect (descriptor_at m a) then indirect_verdict v (descriptor_at m a)
-    else ordinary_verdict v (descriptor_at m a)
+    else if is_indirect (descriptor_at m a) then indirect_step v (descriptor_at m a)
+    else ordinary_step size v (descriptor_at m a)
 
--- what the rules say of a step
-abbrev pub verdict : Memory → Visit → Verdict
-verdict m v =
+-- what a step comes to, in the chain of a queue of this size
+abbrev pub walk_step : Memory → (size : ℕ) → Visit → WalkStep
+walk_step m size v =
     if nat_le v.table.entries v.index then Faulty NextOutOfTable
-    else verdict_at m v (v.table.address + 16 * v.index)
+    else walk_step_at m size v (v.table.address + 16 * v.index)
 
--- the step that a verdict leads to, if any
-abbrev pub next_visit : Visit → Verdict → Option Visit
-next_visit v (Joins d) = if has_next d then Some (record { table = v.table; index = d.next; left = v.left - 1 }) else None
-next_visit v (Leads table) = Some (record { table = table; index = 0; left = v.left })
+-- the step after one, if any
+abbrev pub next_visit : Visit → WalkStep → Option Visit
+next_visit v (Ordinary d) = if has_next d then Some (record { table = v.table; index = d.next; earlier = v.earlier + 1 }) else None
+next_visit v (Table table) = Some (record { table = table; index = 0; earlier = v.earlier })
 next_visit v (Faulty fault) = None
 next_visit v Stops = None
 
@@ -94,10 +94,10 @@ abbrev pub onward : (Visit → List Visit) → Option Visit → List Visit
 onward next None = []
 onward next (Some v) = next v
 
--- the steps from one on, at most n of them
-unfoldable pub path : Memory → ℕ → Visit → List Visit
-path m zero v = []
-path m (suc n) v = v ∷ onward (path m n) (next_visit v (verdict m v))
+-- the steps from one on, at most n of them, in the chain of a queue of this size
+unfoldable pub path : Memory → (size n : ℕ) → Visit → List Visit
+path m size zero v = []
+path m size (suc n) v = v ∷ onward (path m size n) (next_visit v (walk_step m size v))
 
 -- the queue's own table
 abbrev pub own_table : Queue → DescriptorTable
@@ -105,11 +105,11 @@ own_table q = record { address = q.desc; entries = q.size; indirect = false }
 
 -- the first step of the walk from a head
 abbrev pub first_visit : Queue → ℕ → Visit
-first_visit q head = record { table = own_table q; index = head; left = q.size }
+first_visit q head = record { table = own_table q; index = head; earlier = 0 }
 
 -- the walk from a head. It has at most size + 2 steps, and none that the rules lead to is left out (Laws)
 abbrev pub walk : Memory → Queue → ℕ → List Visit
-walk m q head = path m (q.size + 2) (first_visit q head)
+walk m q head = path m q.size (q.size + 2) (first_visit q head)
 
 -- what a walk finds
 pub data Found : Type 0 where
@@ -123,18 +123,18 @@ with_front d (IsChain ds) = IsChain (d ∷ ds)
 with_front d (HasFault fault) = HasFault fault
 with_front d StopsQueue = StopsQueue
 
--- what a step's verdict and the rest come to
-abbrev pub after_verdict : Verdict → Found → Found
-after_verdict (Joins d) rest = with_front d rest
-after_verdict (Leads table) rest = rest
-after_verdict (Faulty fault) rest = HasFault fault
-after_verdict Stops rest = StopsQueue
+-- what a step and the rest come to
+abbrev pub after_walk_step : WalkStep → Found → Found
+after_walk_step (Ordinary d) rest = with_front d rest
+after_walk_step (Table table) rest = rest
+after_walk_step (Faulty fault) rest = HasFault fault
+after_walk_step Stops rest = StopsQueue
 
--- the descriptors that joined, if each step passes; otherwise what the last step has
-unfoldable pub found : Memory → List Visit → Found
-found m [] = IsChain []
-found m (v ∷ vs) = after_verdict (verdict m v) (found m vs)
+-- the ordinary descriptors of some steps, if each passes; otherwise what the last step has
+unfoldable pub found : Memory → (size : ℕ) → List Visit → Found
+found m size [] = IsChain []
+found m size (v ∷ vs) = after_walk_step (walk_step m size v) (found m size vs)
 
 -- what the walk from a head finds
 abbrev pub chain : Memory → Queue → ℕ → Found
-chain m q head = found m (walk m q head)
+chain m q head = found m q.size (walk m q head)

@@ -11,7 +11,7 @@ use Rattle.fs_queue.specs.declared.fault.ChainFault.TheVariants.{RoomUnreachable
 use Rattle.fs_queue.specs.declared.fault.QueueError.TheVariants as stop
 use Rattle.fs_queue.specs.Chain.{path, found}
 use Rattle.fs_queue.specs.Queue.{Queue}
-use Rattle.fs_queue.specs.Taking.{Offer, Refuses, Offers, Asks, CannotAsk, offer, may_lack_memory}
+use Rattle.fs_queue.specs.Taking.{Offer, Refuses, Offers, IsRequest, CannotFetch, offer, may_lack_memory}
 
 -- a descriptor of the room, then the available ring with head 0 at position 0, then the used ring and the room
 abbrev block_bytes : List ℕ
@@ -44,7 +44,7 @@ abbrev may_lack : List IotlbRange → Bool
 may_lack ranges = may_lack_memory (memory ranges) queue (gives ranges)
 
 -- all may be read and written
-room_offered : gives (range 0 0x2c ReadWrite ∷ []) ≡ Offers 0 (Asks [] (addresses 0x28 4))
+room_offered : gives (range 0 0x2c ReadWrite ∷ []) ≡ Offers 0 (IsRequest [] (addresses 0x28 4))
 unfolding offer place addresses table_kept path found
 room_offered = refl
 
@@ -83,11 +83,11 @@ unfolding offer place addresses table_kept path found
 flags_unmapped = refl
 
 -- the room may only be read
-room_not_written : gives (range 0 0x28 ReadWrite ∷ range 0x28 0x2c Read ∷ []) ≡ Offers 0 (CannotAsk RoomUnreachable)
+room_not_written : gives (range 0 0x28 ReadWrite ∷ range 0x28 0x2c Read ∷ []) ≡ Offers 0 (CannotFetch RoomUnreachable)
 unfolding offer place addresses table_kept path found
 room_not_written = refl
 
 -- it need not be read, nor need the used ring
-room_written : gives (range 0 0x18 Read ∷ range 0x18 0x2c Write ∷ []) ≡ Offers 0 (Asks [] (addresses 0x28 4))
+room_written : gives (range 0 0x18 Read ∷ range 0x18 0x2c Write ∷ []) ≡ Offers 0 (IsRequest [] (addresses 0x28 4))
 unfolding offer place addresses table_kept path found
 room_written = refl

@@ -4,7 +4,7 @@ pub mod Lawful
 pub mod Queue
 pub mod Chain
 pub mod Walking
-pub mod Look
+pub mod NextAvail
 pub mod Taking
 pub mod Returning
 pub mod Windows

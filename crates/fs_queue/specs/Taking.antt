@@ -10,8 +10,8 @@ use Rattle.fs_queue.specs.declared.fault.QueueError.{QueueError}
 use Rattle.fs_queue.specs.declared.fault.QueueError.TheVariants as stop
 use Rattle.fs_queue.specs.Queue.{Queue, avail_index_at, ring_entry_at, element_at, index_at, with_stop}
 use Rattle.fs_queue.specs.Chain.{Descriptor, is_writable, Found, IsChain, HasFault, StopsQueue, chain}
-use Rattle.fs_queue.specs.Look.{Look, looked}
-use Rattle.fs_queue.specs.Look as look
+use Rattle.fs_queue.specs.NextAvail.{NextAvail, next_avail}
+use Rattle.fs_queue.specs.NextAvail as avail
 
 -- the entries that the device reads, in their order
 abbrev pub readable : List Descriptor → List Descriptor
@@ -29,29 +29,29 @@ total_len ds = sum_by (λ d. d.len) ds
 abbrev pub all_reach : Memory → Permissions → List Descriptor → Bool
 all_reach m access ds = list_all (λ d. reach m access d.addr d.len) ds
 
--- what a chain asks: the flat bytes of its request, and the addresses of its room
-pub data Asked : Type 0 where
-  Asks : (request : List ℕ) (room : List ℕ) → Asked
-  CannotAsk : ChainFault → Asked
+-- what is fetched of a chain: the flat bytes of its request, and the addresses of its room; or why they can't be
+pub data RequestAndRoom : Type 0 where
+  IsRequest : (request : List ℕ) (room : List ℕ) → RequestAndRoom
+  CannotFetch : ChainFault → RequestAndRoom
 
--- what the descriptors of a chain ask: too much, what can't be read, what can't be written, in this order, or a request and a room
-abbrev pub asked_by : Memory → ℕ → List Descriptor → Asked
-asked_by m limit ds =
-    if nat_lt limit (total_len (readable ds)) || nat_lt limit (total_len (writable ds)) then CannotAsk OverLimit
-    else if not (all_reach m Read (readable ds)) then CannotAsk RequestUnreachable
-    else if not (all_reach m Write (writable ds)) then CannotAsk RoomUnreachable
-    else Asks (flat_map (λ d. bytes m d.addr d.len) (readable ds)) (flat_map (λ d. addresses d.addr d.len) (writable ds))
+-- what is fetched by the descriptors of a chain: too much, what can't be read, what can't be written, in this order, or a request and a room
+abbrev pub request_and_room : Memory → ℕ → List Descriptor → RequestAndRoom
+request_and_room m limit ds =
+    if nat_lt limit (total_len (readable ds)) || nat_lt limit (total_len (writable ds)) then CannotFetch OverLimit
+    else if not (all_reach m Read (readable ds)) then CannotFetch RequestUnreachable
+    else if not (all_reach m Write (writable ds)) then CannotFetch RoomUnreachable
+    else IsRequest (flat_map (λ d. bytes m d.addr d.len) (readable ds)) (flat_map (λ d. addresses d.addr d.len) (writable ds))
 
--- what a queue offers: nothing, or a chain's head with what it asks, or a refusal
+-- what a queue offers: nothing, a refusal, or a chain's head with its request and room
 pub data Offer : Type 0 where
   Idle : Offer
   Refuses : QueueError → Offer
-  Offers : (head : ℕ) → Asked → Offer
+  Offers : (head : ℕ) → RequestAndRoom → Offer
 
 -- what is offered by what the walk from a head finds
 abbrev pub offer_of : Memory → ℕ → ℕ → Found → Offer
-offer_of m limit head (IsChain ds) = Offers head (asked_by m limit ds)
-offer_of m limit head (HasFault fault) = Offers head (CannotAsk fault)
+offer_of m limit head (IsChain ds) = Offers head (request_and_room m limit ds)
+offer_of m limit head (HasFault fault) = Offers head (CannotFetch fault)
 offer_of m limit head StopsQueue = Refuses stop.DescriptorUnreachable
 
 -- what is offered once a head waits, by the places of what a return writes and reads (2.7.8 and 2.7.7)
@@ -62,14 +62,14 @@ on_head m limit q head =
     else offer_of m limit head (chain m q head)
 
 -- what is offered by what the available ring holds
-abbrev pub on_look : Memory → ℕ → Queue → Look → Offer
-on_look m limit q look.Idle = Idle
-on_look m limit q (look.Refused e) = Refuses e
-on_look m limit q (look.Head head) = on_head m limit q head
+abbrev pub on_next_avail : Memory → ℕ → Queue → NextAvail → Offer
+on_next_avail m limit q avail.Idle = Idle
+on_next_avail m limit q (avail.Refused e) = Refuses e
+on_next_avail m limit q (avail.Head head) = on_head m limit q head
 
 -- the next offer (2.7.13 from the device's side), with the first refusal that applies
 unfoldable pub offer : Memory → ℕ → Queue → Offer
-offer m limit q = if q.stopped then Refuses stop.Stopped else on_look m limit q (looked m q)
+offer m limit q = if q.stopped then Refuses stop.Stopped else on_next_avail m limit q (next_avail m q)
 
 -- whether a step may be refused for want of memory: not where the queue is stopped, nor before a head is found unless what is read of the ring isn't mapped throughout
 abbrev pub may_lack_memory : Memory → Queue → Offer → Bool
@@ -91,7 +91,7 @@ stops_queue _ = true
 abbrev pub after_refusal : Queue → QueueError → Queue
 after_refusal q e = if stops_queue e then with_stop q else q
 
--- the addresses of what was asked to be written
-abbrev pub room_of : Asked → List ℕ
-room_of (Asks request room) = room
-room_of (CannotAsk why) = []
+-- the addresses of the room of what was fetched
+abbrev pub room_of : RequestAndRoom → List ℕ
+room_of (IsRequest request room) = room
+room_of (CannotFetch why) = []

@@ -14,31 +14,31 @@ use Rattle.fs_queue.specs.declared.chain.ReturnWindows.{ReturnWindows}
 use Rattle.fs_queue.specs.declared.chain.Taken.{Taken}
 use Rattle.fs_queue.specs.Queue.{Queue, element_at, index_at}
 use Rattle.fs_queue.specs.Chain.{Descriptor, Found, IsChain, chain}
-use Rattle.fs_queue.specs.Taking.{readable, writable, Asked, Asks, CannotAsk, Idle, Refuses, Offers, offer, may_lack_memory, after_refusal}
+use Rattle.fs_queue.specs.Taking.{readable, writable, RequestAndRoom, IsRequest, CannotFetch, Idle, Refuses, Offers, offer, may_lack_memory, after_refusal}
 
--- the places of the used element and the used index, and of the available flags, or which of them has an address without a place
-pub data Ends : Type 0 where
-  Holds : (used flags : List Place) → Ends
-  Lacks : QueueError → Ends
+-- the places of the used element and the used index, and of the available flags (2.7.8 and 2.7.7), or which of them has an address without a place
+pub data ReturnPlaces : Type 0 where
+  Holds : (used flags : List Place) → ReturnPlaces
+  Lacks : QueueError → ReturnPlaces
 
 -- of two lists of places, the first that is missing decides
-abbrev pub ends_found : (used flags : Option (List Place)) → Ends
-ends_found None flags = Lacks stop.UsedUnreachable
-ends_found (Some used) None = Lacks stop.AvailFlagsUnreachable
-ends_found (Some used) (Some flags) = Holds used flags
+abbrev pub return_places_found : (used flags : Option (List Place)) → ReturnPlaces
+return_places_found None flags = Lacks stop.UsedUnreachable
+return_places_found (Some used) None = Lacks stop.AvailFlagsUnreachable
+return_places_found (Some used) (Some flags) = Holds used flags
 
 -- the addresses of the used element, then those of the used index
 abbrev pub used_addresses : Queue → List ℕ
 used_addresses q = addresses (element_at q) 8 ++ addresses (index_at q) 2
 
 -- those of a queue: the element and the index to be written, the flags to be read
-abbrev pub ends_at : Memory → Queue → Ends
-ends_at m q = ends_found (located (location m Write) (used_addresses q)) (located (location m Read) (addresses q.avail 2))
+abbrev pub return_places_at : Memory → Queue → ReturnPlaces
+return_places_at m q = return_places_found (located (location m Write) (used_addresses q)) (located (location m Read) (addresses q.avail 2))
 
 -- those of the windows of a return, unless something is missing
-abbrev pub ends_of : Option QueueError → ReturnWindows → Ends
-ends_of None ends = Holds (places ends.used.items) (places ends.flags.items)
-ends_of (Some e) ends = Lacks e
+abbrev pub return_places_of : Option QueueError → ReturnWindows → ReturnPlaces
+return_places_of None windows = Holds (places windows.used.items) (places windows.flags.items)
+return_places_of (Some e) windows = Lacks e
 
 -- the descriptors of one direction: those that the device writes, or those that it reads
 abbrev pub of_direction : Bool → List Descriptor → List Descriptor
@@ -55,21 +55,21 @@ abbrev pub addresses_of : List Descriptor → List ℕ
 addresses_of ds = flat_map (λ d. addresses d.addr d.len) ds
 
 -- windows of these places, for writing: of the used element and then the used index; for reading: of the available flags
-pub record HoldsEnds (m : Memory) (q : Queue) (ends : ReturnWindows) : Type 0 where
-  pub used : located (location m Write) (used_addresses q) ≡ Some (places ends.used.items)
-  pub flags : located (location m Read) (addresses q.avail 2) ≡ Some (places ends.flags.items)
+pub record HoldsReturnWindows (m : Memory) (q : Queue) (windows : ReturnWindows) : Type 0 where
+  pub used : located (location m Write) (used_addresses q) ≡ Some (places windows.used.items)
+  pub flags : located (location m Read) (addresses q.avail 2) ≡ Some (places windows.flags.items)
 
 -- windows with the request's bytes and the room's places, or the fault
-abbrev pub HoldsChain : Memory → Asked → Result Chain ChainFault → Type 0
-HoldsChain m (Asks request room) (Ok c) =
+abbrev pub HoldsChain : Memory → RequestAndRoom → Result Chain ChainFault → Type 0
+HoldsChain m (IsRequest request room) (Ok c) =
     (request ≡ map (byte_in m.host) (places c.readable.items)) × (located (location m Write) room ≡ Some (places c.writable.items))
-HoldsChain m (CannotAsk why) (Err fault) = fault ≡ why
+HoldsChain m (CannotFetch why) (Err fault) = fault ≡ why
 HoldsChain m _ _ = ⊥
 
 -- a chain was taken from a queue that offered this
-pub record IsTaken (m : Memory) (q : Queue) (asked : Asked) (t : Taken) : Type 0 where
-  pub ends : HoldsEnds m q t.ends
-  pub chain : HoldsChain m asked t.chain
+pub record IsTaken (m : Memory) (q : Queue) (fetched : RequestAndRoom) (t : Taken) : Type 0 where
+  pub return_windows : HoldsReturnWindows m q t.return_windows
+  pub chain : HoldsChain m fetched t.chain
 
 -- the windows lie in blocks of these lengths
 abbrev pub ChainLiesIn : List ℕ → Result Chain ChainFault → Type 0
@@ -77,15 +77,15 @@ ChainLiesIn lengths (Ok c) = AllLieIn lengths c.readable.items × AllLieIn lengt
 ChainLiesIn lengths (Err fault) = Unit {0}
 
 -- so do those of a return, with the lengths of what is written and read there
-pub record EndsLieIn (lengths : List ℕ) (ends : ReturnWindows) : Type 0 where
-  pub used : AllLieIn lengths ends.used.items
-  pub flags : AllLieIn lengths ends.flags.items
-  pub used_len : length (places ends.used.items) ≡ 10
-  pub flags_len : length (places ends.flags.items) ≡ 2
+pub record ReturnWindowsLieIn (lengths : List ℕ) (windows : ReturnWindows) : Type 0 where
+  pub used : AllLieIn lengths windows.used.items
+  pub flags : AllLieIn lengths windows.flags.items
+  pub used_len : length (places windows.used.items) ≡ 10
+  pub flags_len : length (places windows.flags.items) ≡ 2
 
 -- so do all windows of a chain that was taken
 pub record TakenLiesIn (lengths : List ℕ) (t : Taken) : Type 0 where
-  pub ends : EndsLieIn lengths t.ends
+  pub return_windows : ReturnWindowsLieIn lengths t.return_windows
   pub chain : ChainLiesIn lengths t.chain
 
 -- how many bytes of reply a chain has room for
@@ -96,7 +96,7 @@ room_places (Err fault) = 0
 -- what taking answers: nothing waits, a chain as it was offered, or a refusal; want of memory only where it may come
 abbrev pub Takes : Memory → ℕ → Queue → Result (Option Taken) QueueError → Type 0
 Takes m limit q (Ok None) = offer m limit q ≡ Idle
-Takes m limit q (Ok (Some t)) = (asked : Asked) × (offer m limit q ≡ Offers t.head asked) × IsTaken m q asked t
+Takes m limit q (Ok (Some t)) = (fetched : RequestAndRoom) × (offer m limit q ≡ Offers t.head fetched) × IsTaken m q fetched t
 Takes m limit q (Err stop.OutOfMemory) = IsTrue (may_lack_memory m q (offer m limit q))
 Takes m limit q (Err e) = offer m limit q ≡ Refuses e
 

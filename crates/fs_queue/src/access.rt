@@ -6,15 +6,15 @@ ghost use Rattle.vm_iotlb.specs.declared.permissions.Permissions.TheVariants.{Re
 ghost use Rattle.vm_memory_core.specs.Host.{lengths};
 ghost use Rattle.vm_memory_core.specs.Window.{places, AllLieIn};
 ghost use Rattle.vm_memory.specs.Memory.{addresses, after, bytes, located, location, number, reach};
-ghost use Rattle.fs_queue.specs.Look.{IsUnmapped};
+ghost use Rattle.fs_queue.specs.NextAvail.{IsUnmapped};
 
 use std::alloc::{AllocError, Global};
 use vm_memory::GuestMemory;
 use vm_memory_core::{GuestAddress, HostBlocks, Permissions, Windows};
 use vm_values::{ByteValued, Le16};
 
-/// Reads a buffer full of bytes from an address on, or answers that one of them isn't there. Memory is wanting only
-/// where a translation fails.
+/// Reads a buffer full of bytes from an address on, or answers false where one of them isn't there. Memory is wanting
+/// only where a translation fails.
 #[inline(always)]
 pub(crate) fn read<M: GuestMemory, H: HostBlocks>(
     alloc: Global,
@@ -32,7 +32,7 @@ pub(crate) fn read<M: GuestMemory, H: HostBlocks>(
     mem.read_range(alloc, host, GuestAddress(addr), buffer)
 }
 
-// The little-endian number that two bytes spell.
+// The number that two bytes spell as le16.
 #[tactic(auto, using(crate::proofs::ReadLemmas::spelled_number))]
 pub(crate) fn le16_number(bytes: &[u8; 2]) -> u16
     ensures { result ≡ from_le_bytes w16 bytes.now }
@@ -40,7 +40,8 @@ pub(crate) fn le16_number(bytes: &[u8; 2]) -> u16
     Le16::get_bytes(bytes).to_native()
 }
 
-/// The little-endian number in two bytes at an address.
+/// The le16 at an address, or None where one of its two bytes isn't there. Memory is wanting only where a translation
+/// fails.
 #[inline(always)]
 pub(crate) fn read_u16<M: GuestMemory, H: HostBlocks>(
     alloc: Global,
@@ -62,7 +63,8 @@ pub(crate) fn read_u16<M: GuestMemory, H: HostBlocks>(
     }
 }
 
-/// Adds the windows of a range of addresses, for an access, or answers that one of them has no place.
+/// Adds the windows of `len` addresses from `addr` on, for an access, or answers false where one of them has no place.
+/// An error is want of memory.
 #[inline(always)]
 pub(crate) fn add_windows<M: GuestMemory, H: HostBlocks>(
     alloc: Global,
@@ -75,7 +77,8 @@ pub(crate) fn add_windows<M: GuestMemory, H: HostBlocks>(
 ) -> Result<bool, AllocError>
     requires fits { addr + len < 2 ^ 64 }
     requires held { M.IsHeld mem.now (H.host host.now) }
-    ensures found { IfOk result (λ found. after (places windows.old.items) (located (location (M.memory mem.now (H.host host.now)) access) (addresses addr len))
+    ensures found { let m = M.memory mem.now (H.host host.now) in
+        IfOk result (λ found. after (places windows.old.items) (located (location m access) (addresses addr len))
         ≡ (if found then Some (places windows.new.items) else None)) }
     ensures lie { AllLieIn (lengths (H.host host.now)) windows.old.items → AllLieIn (lengths (H.host host.now)) windows.new.items }
 {

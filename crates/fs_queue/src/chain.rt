@@ -7,7 +7,9 @@ use crate::fault::ChainFault;
 use std::alloc::Global;
 use vm_memory_core::Windows;
 
-/// The windows of a chain: its request, and the room for its reply, each in the order of its descriptors.
+/// A chain (VIRTIO 1.2, 2.7.5): the windows of its request, which the device reads, and of the room for its reply,
+/// which it writes, each in the order of its descriptors, however these are mixed. The head is its first descriptor's
+/// index in the queue's table.
 #[derive(Drop)]
 pub struct Chain {
     pub head: u16,
@@ -36,45 +38,41 @@ impl Chain {
     }
 }
 
-/// The windows of a used element and, after it, the used index, and those of the available flags: almost always one
-/// each.
+/// The windows of a used element, 8 bytes, and, after it, of the used index, 2 bytes, and those of the available flags,
+/// 2 bytes: almost always one each.
 #[derive(Drop)]
 pub(crate) struct ReturnWindows {
     pub(crate) used: Windows,
     pub(crate) flags: Windows,
 }
 
-/// A chain that was taken and not yet given back, or its fault.
+/// A chain that was taken and not yet given back, or its fault, with the windows of its return.
 #[derive(Drop)]
 pub struct Taken {
     pub(crate) head: u16,
     pub(crate) chain: Result<Chain, ChainFault>,
-    pub(crate) ends: ReturnWindows,
-}
-
-impl ReturnWindows {
-    /// No windows.
-    pub(crate) fn none(alloc: Global) -> ReturnWindows
-        ensures used { result.used.items ≡ [] }
-        ensures flags { result.flags.items ≡ [] }
-    {
-        ReturnWindows {
-            used: Windows::new(alloc),
-            flags: Windows::new(alloc),
-        }
-    }
+    pub(crate) return_windows: ReturnWindows,
 }
 
 impl Taken {
-    // A place for a chain, without windows yet.
-    pub(crate) fn none(alloc: Global) -> Taken
-        ensures used { result.ends.used.items ≡ [] }
-        ensures flags { result.ends.flags.items ≡ [] }
+    // A place for what is taken: a chain without bytes, and no windows for its return.
+    pub(crate) fn empty(alloc: Global) -> Taken
+        ensures used { result.return_windows.used.items ≡ [] }
+        ensures flags { result.return_windows.flags.items ≡ [] }
     {
         Taken {
             head: 0,
-            chain: Err(ChainFault::OverLimit),
-            ends: ReturnWindows::none(alloc),
+            chain: Ok(Chain {
+                head: 0,
+                readable: Windows::new(alloc),
+                writable: Windows::new(alloc),
+                request_len: 0,
+                room_len: 0,
+            }),
+            return_windows: ReturnWindows {
+                used: Windows::new(alloc),
+                flags: Windows::new(alloc),
+            },
         }
     }
 

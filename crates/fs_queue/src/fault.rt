@@ -4,7 +4,8 @@ ghost use Rattle.std.specs.Prelude.{◌≡◌};
 
 use thiserror::Error;
 
-/// Why a chain is returned without being served.
+/// Why a chain is returned without being served: it breaks a rule of VIRTIO 1.2, 2.7.5 or 2.7.5.3, is longer than the
+/// device takes, or names memory that isn't there. Numbered from 1 to 10.
 #[derive(Clone, Copy, Debug, PartialEq, Eq, Error)]
 pub enum ChainFault {
     #[error("more descriptors than the queue has")]
@@ -40,7 +41,7 @@ impl ChainFault {
     }
 }
 
-/// Why a queue hands out no chain. All but the first and the last stop it until it is reset.
+/// Why a queue hands out no chain. All but `Stopped` and `OutOfMemory` stop it until it is reset. Numbered from 1 to 9.
 #[derive(Clone, Copy, Debug, PartialEq, Eq, Error)]
 pub enum QueueError {
     #[error("the queue is stopped")]
@@ -67,7 +68,7 @@ impl QueueError {
     ghost use Rattle.fs_queue.specs.Numbers.{queue_number};
     ghost use Rattle.fs_queue.specs.Taking.{stops_queue};
 
-    /// Whether it stops the queue: all but those of a stopped queue and for want of memory do.
+    /// Whether it stops the queue: all but `Stopped` and `OutOfMemory` do.
     pub(crate) fn stops_queue(&self) -> bool
         ensures { result ≡ stops_queue self.now }
     {
@@ -82,7 +83,7 @@ impl QueueError {
     }
 }
 
-/// Why a queue can't have a layout.
+/// Why a queue can't have a layout (VIRTIO 1.2, 2.7). Numbered from 1 to 3.
 #[derive(Clone, Copy, Debug, PartialEq, Eq, Error)]
 pub enum QueueLayoutError {
     #[error("the size is no power of two from 1 to 32768")]

@@ -5,7 +5,8 @@ ghost use Rattle.fs_queue.specs.Lawful.{layout_error};
 
 use crate::fault::QueueLayoutError;
 
-/// A queue's size and the addresses of its descriptor table, available ring and used ring.
+/// A queue's size and the guest addresses of its descriptor table (16 bytes for each descriptor), available ring (6
+/// bytes, and 2 for each descriptor) and used ring (6 bytes, and 8 for each descriptor).
 #[derive(Clone, Copy, Debug)]
 pub struct QueueLayout {
     size: u16,
@@ -27,7 +28,9 @@ fn ends_past(addr: u64, len: u64) -> bool
 }
 
 impl QueueLayout {
-    /// The layout of a queue of `size` descriptors, a power of two up to 32768, whose parts begin at these addresses.
+    /// The layout of a queue of `size` descriptors, whose parts begin at these addresses. Refused, in this order:
+    /// `BadSize` where the size is no power of two, `Misaligned` where the table, the available ring or the used ring
+    /// isn't aligned to 16, 2 and 4 bytes, `EndOverflow` where one of them ends past 2^64 - 1.
     pub fn new(size: u16, desc: u64, avail: u64, used: u64) -> Result<QueueLayout, QueueLayoutError>
         ensures { MatchResult result
             (λ l. (layout_error size desc avail used ≡ None) × (l.size ≡ size) × (l.desc ≡ desc) × (l.avail ≡ avail) × (l.used ≡ used))
@@ -54,7 +57,7 @@ impl QueueLayout {
         })
     }
 
-    /// How many descriptors the table has.
+    /// How many descriptors the table has: a power of two from 1 to 32768.
     pub fn size(&self) -> u16
         ensures { result ≡ self.now.size }
     {

@@ -7,7 +7,7 @@ mod descriptor;
 mod fault;
 pub mod laws;
 mod layout;
-mod look;
+mod next_avail;
 mod queue;
 mod take;
 mod used;

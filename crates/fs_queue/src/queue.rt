@@ -10,7 +10,7 @@ use crate::access::le16_number;
 use crate::chain::{Chain, Taken};
 use crate::fault::{ChainFault, QueueError};
 use crate::layout::QueueLayout;
-use crate::take::ask;
+use crate::take::take_into;
 use crate::used::UsedUpdate;
 use std::alloc::Global;
 use std::marker::Model;
@@ -20,7 +20,8 @@ use vm_memory_core::HostBlocks;
 // The available flag by which the driver wants no notice (VIRTIO 1.2, 2.7.7).
 const NO_INTERRUPT: u16 = 1;
 
-/// A queue: where its parts are, how many chains were returned, modulo 2^16, and whether it stopped.
+/// A split virtqueue from the device's side: where its parts are, how many chains were returned, modulo 2^16 (its
+/// position), and whether it stopped.
 #[derive(Debug, Drop)]
 pub struct Queue {
     layout: QueueLayout,
@@ -33,11 +34,18 @@ impl Model for Queue {
 
     ghost Value = { Queue };
 
-    ghost view = { λ q. record { size = q.layout.size; desc = q.layout.desc; avail = q.layout.avail; used = q.layout.used; position = q.position; stopped = q.stopped } };
+    ghost view = { λ q. record {
+      size = q.layout.size;
+      desc = q.layout.desc;
+      avail = q.layout.avail;
+      used = q.layout.used;
+      position = q.position;
+      stopped = q.stopped;
+    } };
 }
 
 ghost use Rattle.fs_queue.specs.Queue.{fresh, resumed};
-ghost use Rattle.fs_queue.specs.Taking.{Asked, room_of};
+ghost use Rattle.fs_queue.specs.Taking.{RequestAndRoom, room_of};
 ghost use Rattle.fs_queue.specs.Returning.{returned, wants_notice, advanced};
 ghost use Rattle.fs_queue.specs.Windows.{Takes, after_taking, IsTaken, TakenLiesIn, ChainLiesIn, room_places, chain_places, HasItsWindows};
 
@@ -111,8 +119,11 @@ impl Queue {
         self.stopped
     }
 
-    /// The chain that waits at the queue's position, with its windows. The position stays until the chain is given
-    /// back. Requests and rooms longer than `limit` make a chain faulty.
+    /// The chain that waits at the queue's position, with its windows (VIRTIO 1.2, 2.7.13 from the device's side). The
+    /// position stays until the chain is given back. A request or a room of more than `limit` bytes makes a chain
+    /// faulty. Refused, in this order: `Stopped`, `AvailIndexUnreachable`, then, where something waits, `AvailTooFar`,
+    /// `RingEntryUnreachable`, `HeadOutOfTable`, `UsedUnreachable`, `AvailFlagsUnreachable`, `DescriptorUnreachable`.
+    /// Want of memory is `OutOfMemory`. All of them but `Stopped` and `OutOfMemory` stop the queue.
     #[inline(always)]
     pub fn take<M: GuestMemory, H: HostBlocks>(
         &mut self,
@@ -131,8 +142,8 @@ impl Queue {
         if self.stopped {
             return Err(QueueError::Stopped);
         }
-        let mut taken = Taken::none(alloc);
-        match ask(
+        let mut taken = Taken::empty(alloc);
+        match take_into(
             alloc,
             self.layout,
             self.position,
@@ -150,15 +161,17 @@ impl Queue {
         }
     }
 
-    /// Writes the reply over the room, then the used element, then the used index, and says whether the driver wants to
-    /// be told. The chain was taken at this position, and the reply is no longer than its room.
+    /// Writes the reply over the room, then the used element (le32 head, le32 length of the reply in bytes), then the
+    /// le16 used index (VIRTIO 1.2, 2.7.8), and says whether the driver wants to be told: bit 0 of the available flags,
+    /// read last, is clear (2.7.7). The chain was taken at this position, and the reply is no longer than its room,
+    /// which is empty for a fault.
     #[inline(always)]
     pub fn give_back<H: HostBlocks>(&mut self, host: &mut H, taken: Taken, reply: &[u8]) -> bool
         requires lies { TakenLiesIn (lengths (H.host host.old)) taken }
         requires fits { length reply.now ≤ room_places taken.chain }
-        ensures stored { (m : Memory) (asked : Asked) → m.host ≡ H.host host.old → IsTaken m self.old asked taken →
-            record m { host = H.host host.new } ≡ returned m self.old taken.head (room_of asked) reply.now }
-        ensures told { (m : Memory) (asked : Asked) → m.host ≡ H.host host.old → IsTaken m self.old asked taken →
+        ensures stored { (m : Memory) (fetched : RequestAndRoom) → m.host ≡ H.host host.old → IsTaken m self.old fetched taken →
+            record m { host = H.host host.new } ≡ returned m self.old taken.head (room_of fetched) reply.now }
+        ensures told { (m : Memory) (fetched : RequestAndRoom) → m.host ≡ H.host host.old → IsTaken m self.old fetched taken →
             result ≡ wants_notice (record m { host = H.host host.new }) self.old }
         ensures queue { self.new ≡ advanced self.old }
         ensures shape { shape (H.host host.new) ≡ shape (H.host host.old) }
@@ -171,9 +184,9 @@ impl Queue {
             len: reply.len() as u32,
             index: self.position,
         };
-        host.write_windows(&taken.ends.used, &update.to_bytes());
+        host.write_windows(&taken.return_windows.used, &update.to_bytes());
         let mut flags = [0u8; 2];
-        host.read_windows(&taken.ends.flags, &mut flags);
+        host.read_windows(&taken.return_windows.flags, &mut flags);
         le16_number(&flags) & NO_INTERRUPT == 0
     }
 }

@@ -1,13 +1,17 @@
-//! What is taken of a chain: windows with its request and its room, and those of its return.
+//! What is taken of a chain: windows with its request and its room, and those of its return (VIRTIO 1.2, 2.7.5 to
+//! 2.7.8).
 
-ghost use Rattle.std.specs.Prelude.{◌≡◌, ◌-◌, ◌≤◌, ◌^◌, [], length, min, IfNone, IfOk, IfSome, IsTrue, OnOk, None, Some, if◌then◌else◌};
+ghost use Rattle.std.specs.Prelude.{◌≡◌, ◌-◌, ◌≤◌, ◌^◌, [], length, min, None, Some, if◌then◌else◌};
+ghost use Rattle.std.specs.Prelude.{IfNone, IfOk, IfSome, IsTrue, OnOk};
 ghost use Rattle.vm_iotlb.specs.declared.permissions.Permissions.TheVariants.{Write};
 ghost use Rattle.vm_memory_core.specs.Host.{lengths};
 ghost use Rattle.vm_memory_core.specs.Window.{places, AllLieIn};
 ghost use Rattle.vm_memory.specs.Memory.{located, location};
 ghost use Rattle.fs_queue.specs.Walking.{AllEndIn64Bits, at_position};
-ghost use Rattle.fs_queue.specs.Taking.{total_len, asked_by, stops_queue};
-ghost use Rattle.fs_queue.specs.Windows.{room_places, of_direction, access_of, addresses_of, used_addresses, ends_of, ends_at, EndsLieIn, ChainLiesIn, HoldsChain, HoldsWindows, HasItsWindows, TakenLiesIn, Takes, taken_if};
+ghost use Rattle.fs_queue.specs.Taking.{total_len, request_and_room, stops_queue};
+ghost use Rattle.fs_queue.specs.Windows.{of_direction, access_of, addresses_of, used_addresses, return_places_of};
+ghost use Rattle.fs_queue.specs.Windows.{return_places_at, room_places, ReturnWindowsLieIn, ChainLiesIn, TakenLiesIn};
+ghost use Rattle.fs_queue.specs.Windows.{HoldsChain, HoldsWindows, HasItsWindows, Takes, taken_if};
 ghost use Rattle.fs_queue.specs.Chain.{IsChain};
 
 use crate::access::add_windows;
@@ -15,14 +19,14 @@ use crate::chain::{Chain, ReturnWindows, Taken};
 use crate::descriptor::{Descriptor, Descriptors};
 use crate::fault::{ChainFault, QueueError};
 use crate::layout::QueueLayout;
-use crate::look::{Look, next_head};
+use crate::next_avail::{NextAvail, next_head};
 use crate::walk::{Walked, walk};
 use std::alloc::{AllocError, Global};
 use vm_memory::GuestMemory;
 use vm_memory_core::{HostBlocks, Permissions, Windows};
 
-// Adds to an empty list the windows that a return at this position writes besides the room: of the used element, then
-// of the used index. Or answers that one of their addresses has no place.
+// Adds to an empty list the windows that a return at this position writes besides the room: of the used element, 8
+// bytes, then of the used index, 2 bytes. Or answers false where one of their addresses has no place.
 #[inline(always)]
 fn add_used<M: GuestMemory, H: HostBlocks>(
     alloc: Global,
@@ -47,25 +51,26 @@ fn add_used<M: GuestMemory, H: HostBlocks>(
     add_windows(alloc, host, mem, index, 2, Permissions::Write, windows)
 }
 
-// Adds to empty lists the windows that a return at this position writes and reads besides the room, or answers by a
-// refusal which of them has an address without a place.
+// Adds to empty lists the windows that a return at this position writes and reads besides the room, or answers which of
+// them has an address without a place: `UsedUnreachable` or `AvailFlagsUnreachable`.
 #[inline(always)]
-fn add_ends<M: GuestMemory, H: HostBlocks>(
+fn add_return_windows<M: GuestMemory, H: HostBlocks>(
     alloc: Global,
     layout: QueueLayout,
     host: &H,
     mem: &M,
     position: u16,
-    ends: &mut ReturnWindows,
+    windows: &mut ReturnWindows,
 ) -> Result<Option<QueueError>, AllocError>
     requires held { M.IsHeld mem.now (H.host host.now) }
-    requires used { ends.old.used.items ≡ [] }
-    requires flags { ends.old.flags.items ≡ [] }
-    ensures ends { IfOk result (λ missing. ends_of missing ends.new ≡ ends_at (M.memory mem.now (H.host host.now)) (at_position layout position)) }
-    ensures lie { IfOk result (λ missing. IfNone missing (EndsLieIn (lengths (H.host host.now)) ends.new)) }
+    requires used { windows.old.used.items ≡ [] }
+    requires flags { windows.old.flags.items ≡ [] }
+    ensures places { let m = M.memory mem.now (H.host host.now) in
+        IfOk result (λ missing. return_places_of missing windows.new ≡ return_places_at m (at_position layout position)) }
+    ensures lie { IfOk result (λ missing. IfNone missing (ReturnWindowsLieIn (lengths (H.host host.now)) windows.new)) }
     ensures stops { IfOk result (λ missing. IfSome missing (λ e. IsTrue (stops_queue e))) }
 {
-    if !add_used(alloc, layout, host, mem, position, &mut ends.used)? {
+    if !add_used(alloc, layout, host, mem, position, &mut windows.used)? {
         return Ok(Some(QueueError::UsedUnreachable));
     }
     let flags = layout.avail();
@@ -76,14 +81,14 @@ fn add_ends<M: GuestMemory, H: HostBlocks>(
         flags,
         2,
         Permissions::Read,
-        &mut ends.flags,
+        &mut windows.flags,
     )? {
         return Ok(Some(QueueError::AvailFlagsUnreachable));
     }
     Ok(None)
 }
 
-// The bytes of the descriptors of one direction, as far as they can be counted.
+// How many bytes the descriptors of one direction have, or 2^64 - 1 where there are more.
 fn count_bytes(descriptors: &[Descriptor], write_only: bool) -> u64
     ensures { result ≡ min (total_len (of_direction write_only descriptors.now)) (2 ^ 64 - 1) }
 {
@@ -109,8 +114,8 @@ fn count_descriptors(descriptors: &[Descriptor], write_only: bool) -> usize
     count
 }
 
-// Has room for a window of each descriptor of one direction, where a list is likely too short for that. An error is a
-// want of memory.
+// Makes a list long enough for a window of each descriptor of one direction, where it is likely too short for that. An
+// error is want of memory.
 #[inline(always)]
 fn reserve_windows(
     windows: &mut Windows,
@@ -138,8 +143,8 @@ fn access_of(write_only: bool) -> Permissions
     }
 }
 
-// Adds to an empty list the windows of the descriptors of one direction, or answers that one of their addresses has no
-// place.
+// Adds to an empty list the windows of the descriptors of one direction, in their order, or answers false where one of
+// their addresses has no place.
 #[inline(always)]
 fn add_direction<M: GuestMemory, H: HostBlocks>(
     alloc: Global,
@@ -152,7 +157,8 @@ fn add_direction<M: GuestMemory, H: HostBlocks>(
     requires fits { AllEndIn64Bits descriptors.now }
     requires held { M.IsHeld mem.now (H.host host.now) }
     requires none { windows.old.items ≡ [] }
-    ensures found { IfOk result (λ found. located (location (M.memory mem.now (H.host host.now)) (access_of write_only)) (addresses_of (of_direction write_only descriptors.now))
+    ensures found { let m = M.memory mem.now (H.host host.now) in
+        IfOk result (λ found. located (location m (access_of write_only)) (addresses_of (of_direction write_only descriptors.now))
         ≡ (if found then Some (places windows.new.items) else None)) }
     ensures lie { IfOk result (λ found. IsTrue found → AllLieIn (lengths (H.host host.now)) windows.new.items) }
 {
@@ -169,7 +175,8 @@ fn add_direction<M: GuestMemory, H: HostBlocks>(
     Ok(true)
 }
 
-// Puts the request and the room of a chain in a place, or its fault.
+// Puts the request and the room of a chain in a place, or its fault: `OverLimit` where one of them has more than
+// `limit` bytes, then `RequestUnreachable`, then `RoomUnreachable`. An error is want of memory.
 #[inline(always)]
 fn hold_chain<M: GuestMemory, H: HostBlocks>(
     alloc: Global,
@@ -182,7 +189,7 @@ fn hold_chain<M: GuestMemory, H: HostBlocks>(
 ) -> Result<(), AllocError>
     requires fits { AllEndIn64Bits descriptors.now }
     requires held { M.IsHeld mem.now (H.host host.now) }
-    ensures asked { let m = M.memory mem.now (H.host host.now) in OnOk result (HoldsChain m (asked_by m limit descriptors.now) chain.new) }
+    ensures fetched { let m = M.memory mem.now (H.host host.now) in OnOk result (HoldsChain m (request_and_room m limit descriptors.now) chain.new) }
     ensures lie { OnOk result (ChainLiesIn (lengths (H.host host.now)) chain.new) }
     ensures windows { OnOk result (HoldsWindows (M.memory mem.now (H.host host.now)) head chain.new (IsChain descriptors.now)) }
     ensures short { OnOk result (room_places chain.new ≤ limit) }
@@ -214,7 +221,7 @@ fn hold_chain<M: GuestMemory, H: HostBlocks>(
     Ok(())
 }
 
-// The same of descriptors that a walk collected, whose memory goes with them.
+// The same of descriptors that a walk collected, whose memory is given back.
 #[inline(always)]
 fn hold_walked<M: GuestMemory, H: HostBlocks>(
     alloc: Global,
@@ -227,7 +234,7 @@ fn hold_walked<M: GuestMemory, H: HostBlocks>(
 ) -> Result<(), AllocError>
     requires fits { AllEndIn64Bits descriptors.items }
     requires held { M.IsHeld mem.now (H.host host.now) }
-    ensures asked { let m = M.memory mem.now (H.host host.now) in OnOk result (HoldsChain m (asked_by m limit descriptors.items) chain.new) }
+    ensures fetched { let m = M.memory mem.now (H.host host.now) in OnOk result (HoldsChain m (request_and_room m limit descriptors.items) chain.new) }
     ensures lie { OnOk result (ChainLiesIn (lengths (H.host host.now)) chain.new) }
     ensures windows { OnOk result (HoldsWindows (M.memory mem.now (H.host host.now)) head chain.new (IsChain descriptors.items)) }
     ensures short { OnOk result (room_places chain.new ≤ limit) }
@@ -235,10 +242,10 @@ fn hold_walked<M: GuestMemory, H: HostBlocks>(
     hold_chain(alloc, host, mem, head, &descriptors, limit, chain)
 }
 
-/// Takes the chain that waits at a position of a queue that isn't stopped into a place without windows; false where
-/// none waits. After that and after a refusal nothing is said of what the place holds.
+/// Takes the chain that waits at a position of a queue that isn't stopped into a place whose lists of return windows
+/// are empty; false where none waits. The errors are those of `Queue::take` but `Stopped`, in the same order.
 #[inline(always)]
-pub(crate) fn ask<M: GuestMemory, H: HostBlocks>(
+pub(crate) fn take_into<M: GuestMemory, H: HostBlocks>(
     alloc: Global,
     layout: QueueLayout,
     position: u16,
@@ -248,20 +255,27 @@ pub(crate) fn ask<M: GuestMemory, H: HostBlocks>(
     taken: &mut Taken,
 ) -> Result<bool, QueueError>
     requires held { M.IsHeld mem.now (H.host host.now) }
-    requires used { taken.old.ends.used.items ≡ [] }
-    requires flags { taken.old.ends.flags.items ≡ [] }
+    requires used { taken.old.return_windows.used.items ≡ [] }
+    requires flags { taken.old.return_windows.flags.items ≡ [] }
     ensures takes { Takes (M.memory mem.now (H.host host.now)) limit (at_position layout position) (taken_if taken.new result) }
     ensures lie { IfOk (taken_if taken.new result) (λ o. IfSome o (TakenLiesIn (lengths (H.host host.now)))) }
     ensures windows { IfOk (taken_if taken.new result) (λ o. IfSome o (HasItsWindows (M.memory mem.now (H.host host.now)) (at_position layout position))) }
     ensures short { IfOk (taken_if taken.new result) (λ o. IfSome o (λ t. room_places t.chain ≤ limit)) }
 {
     let head = match next_head(alloc, layout, position, host, mem) {
-        Ok(Look::Idle) => return Ok(false),
-        Ok(Look::Refused(error)) => return Err(error),
-        Ok(Look::Head(head)) => head,
+        Ok(NextAvail::Idle) => return Ok(false),
+        Ok(NextAvail::Refused(error)) => return Err(error),
+        Ok(NextAvail::Head(head)) => head,
         Err(_) => return Err(QueueError::OutOfMemory),
     };
-    match add_ends(alloc, layout, host, mem, position, &mut taken.ends) {
+    match add_return_windows(
+        alloc,
+        layout,
+        host,
+        mem,
+        position,
+        &mut taken.return_windows,
+    ) {
         Ok(None) => {}
         Ok(Some(error)) => return Err(error),
         Err(_) => return Err(QueueError::OutOfMemory),

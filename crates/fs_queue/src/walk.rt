@@ -1,6 +1,7 @@
 //! The walk through a chain of descriptors (VIRTIO 1.2, 2.7.5).
 
-ghost use Rattle.std.specs.Prelude.{◌≡◌, ◌+◌, ◌*◌, ◌<◌, ◌^◌, ◌≤◌, IfOk, IfSome, Some, None, if◌then◌else◌, false, true, length, take, drop};
+ghost use Rattle.std.specs.Prelude.{◌≡◌, ◌+◌, ◌*◌, ◌<◌, ◌^◌, ◌≤◌, IfOk, IfSome, Some, None};
+ghost use Rattle.std.specs.Prelude.{if◌then◌else◌, false, true, length, take, drop};
 ghost use Rattle.vm_values.specs.Fields.{AllFit, spelled};
 ghost use Rattle.vm_iotlb.specs.declared.permissions.Permissions.TheVariants.{Read};
 ghost use Rattle.vm_memory.specs.Memory.{reach};
@@ -36,17 +37,17 @@ impl Model for DescriptorTable {
     ghost inverse = { λ t. record { address = t.address; entries = t.entries; indirect = t.indirect } };
 }
 
-/// What the rules say of a step: its descriptor joins the chain, it leads to a table, the chain is faulty, or the queue
-/// stops.
+/// What a step comes to: an ordinary descriptor, which joins the chain, a table to be read on from, a faulty chain, or
+/// a stop of the queue.
 #[derive(Clone, Copy, Debug, PartialEq, Eq)]
-pub(crate) enum Verdict {
-    Joins(Descriptor),
-    Leads(DescriptorTable),
+pub(crate) enum WalkStep {
+    Ordinary(Descriptor),
+    Table(DescriptorTable),
     Faulty(ChainFault),
     Stops,
 }
 
-/// What a walk comes to: the chain's descriptors in order, a fault of the chain, or a stop of the queue.
+/// What a walk comes to: the ordinary descriptors of the chain in order, its fault, or a stop of the queue.
 #[derive(Drop)]
 pub(crate) enum Walked {
     Chain(Descriptors),
@@ -54,8 +55,8 @@ pub(crate) enum Walked {
     Stopped,
 }
 
-ghost use Rattle.fs_queue.specs.Chain.{descriptor_at, indirect_verdict, ordinary_verdict, verdict, chain, own_table};
-ghost use Rattle.fs_queue.specs.Walking.{at_position, in_table, verdict_of, found_of, IfJoins, IfLeads, EndsIn64Bits, AreTheTable, DescriptorsFit};
+ghost use Rattle.fs_queue.specs.Chain.{descriptor_at, indirect_step, ordinary_step, walk_step, chain, own_table};
+ghost use Rattle.fs_queue.specs.Walking.{at_position, in_table, walk_step_of, found_of, IfOrdinary, IfTable, EndsIn64Bits, AreTheTable, DescriptorsFit};
 
 // The bytes of a table, where one window has all of them. None says nothing of the table: each entry is then read by
 // itself.
@@ -113,22 +114,27 @@ fn read_entry<M: GuestMemory, H: HostBlocks>(
     }
 }
 
-// What the rules say of a descriptor that names a table, found in this one.
-fn lead(table: DescriptorTable, index: u16, left: u16, descriptor: Descriptor) -> Verdict
-    ensures verdict { verdict_of result ≡ indirect_verdict (in_table table index left) descriptor }
-    ensures joins { IfJoins result (λ _. ⊥) }
-    ensures leads { IfLeads result (λ t. (table.indirect ≡ false) × (t.indirect ≡ true) × EndsIn64Bits t) }
+// What a step comes to at a descriptor that names a table, found in this one after `earlier` ordinary ones.
+fn indirect_step(
+    table: DescriptorTable,
+    index: u16,
+    earlier: u16,
+    descriptor: Descriptor,
+) -> WalkStep
+    ensures step { walk_step_of result ≡ indirect_step (in_table table index earlier) descriptor }
+    ensures indirect { IfOrdinary result (λ _. ⊥) }
+    ensures table { IfTable result (λ t. (table.indirect ≡ false) × (t.indirect ≡ true) × EndsIn64Bits t) }
 {
     if descriptor.has_next() {
-        Verdict::Faulty(ChainFault::IndirectWithNext)
+        WalkStep::Faulty(ChainFault::IndirectWithNext)
     } else if table.indirect {
-        Verdict::Faulty(ChainFault::IndirectNested)
+        WalkStep::Faulty(ChainFault::IndirectNested)
     } else if descriptor.len == 0 || descriptor.len % ENTRY != 0 {
-        Verdict::Faulty(ChainFault::IndirectLength)
+        WalkStep::Faulty(ChainFault::IndirectLength)
     } else if descriptor.addr > u64::MAX - u64::from(descriptor.len) {
-        Verdict::Faulty(ChainFault::AddressOverflow)
+        WalkStep::Faulty(ChainFault::AddressOverflow)
     } else {
-        Verdict::Leads(DescriptorTable {
+        WalkStep::Table(DescriptorTable {
             address: descriptor.addr,
             entries: descriptor.len / ENTRY,
             indirect: true,
@@ -136,55 +142,63 @@ fn lead(table: DescriptorTable, index: u16, left: u16, descriptor: Descriptor) -
     }
 }
 
-// What the rules say of an ordinary descriptor, where `left` more may join the chain.
-fn ordinary(table: DescriptorTable, index: u16, left: u16, descriptor: Descriptor) -> Verdict
-    ensures verdict { verdict_of result ≡ ordinary_verdict (in_table table index left) descriptor }
-    ensures fits { IfJoins result (λ d. d.addr + d.len < 2 ^ 64) }
-    ensures more { IfJoins result (λ _. 0 < left) }
-    ensures leads { IfLeads result (λ _. ⊥) }
+// What a step comes to at an ordinary descriptor, after `earlier` others in the chain of a queue of this size.
+fn ordinary_step(
+    size: u16,
+    table: DescriptorTable,
+    index: u16,
+    earlier: u16,
+    descriptor: Descriptor,
+) -> WalkStep
+    ensures step { walk_step_of result ≡ ordinary_step size (in_table table index earlier) descriptor }
+    ensures fits { IfOrdinary result (λ d. d.addr + d.len < 2 ^ 64) }
+    ensures room { IfOrdinary result (λ _. earlier ≡ size → ⊥) }
+    ensures ordinary { IfTable result (λ _. ⊥) }
 {
-    if left == 0 {
-        Verdict::Faulty(ChainFault::TooLong)
+    if earlier == size {
+        WalkStep::Faulty(ChainFault::TooLong)
     } else if descriptor.len > 0 && descriptor.addr > u64::MAX - u64::from(descriptor.len) {
-        Verdict::Faulty(ChainFault::AddressOverflow)
+        WalkStep::Faulty(ChainFault::AddressOverflow)
     } else {
-        Verdict::Joins(descriptor)
+        WalkStep::Ordinary(descriptor)
     }
 }
 
-// What the rules say of an entry of a table, where `left` more descriptors may join the chain.
+// What a step comes to at an entry of a table, after `earlier` ordinary descriptors in the chain of a queue of this
+// size.
 #[inline(always)]
-fn step<M: GuestMemory, H: HostBlocks>(
+fn walk_step<M: GuestMemory, H: HostBlocks>(
     alloc: Global,
     host: &H,
     mem: &M,
+    size: u16,
     table: DescriptorTable,
     whole: Option<&[u8]>,
     index: u16,
-    left: u16,
-) -> Result<Verdict, AllocError>
+    earlier: u16,
+) -> Result<WalkStep, AllocError>
     requires held { M.IsHeld mem.now (H.host host.now) }
     requires ends { EndsIn64Bits table }
     requires whole { IfSome whole (λ b. AreTheTable (M.memory mem.now (H.host host.now)) table b.now) }
-    ensures verdict { IfOk result (λ v. verdict_of v ≡ verdict (M.memory mem.now (H.host host.now)) (in_table table index left)) }
-    ensures fits { IfOk result (λ v. IfJoins v (λ d. d.addr + d.len < 2 ^ 64)) }
-    ensures more { IfOk result (λ v. IfJoins v (λ _. 0 < left)) }
-    ensures leads { IfOk result (λ v. IfLeads v (λ t. (table.indirect ≡ false) × (t.indirect ≡ true) × EndsIn64Bits t)) }
+    ensures step { IfOk result (λ s. walk_step_of s ≡ walk_step (M.memory mem.now (H.host host.now)) size (in_table table index earlier)) }
+    ensures fits { IfOk result (λ s. IfOrdinary s (λ d. d.addr + d.len < 2 ^ 64)) }
+    ensures room { IfOk result (λ s. IfOrdinary s (λ _. earlier ≡ size → ⊥)) }
+    ensures table { IfOk result (λ s. IfTable s (λ t. (table.indirect ≡ false) × (t.indirect ≡ true) × EndsIn64Bits t)) }
 {
     if u32::from(index) >= table.entries {
-        return Ok(Verdict::Faulty(ChainFault::NextOutOfTable));
+        return Ok(WalkStep::Faulty(ChainFault::NextOutOfTable));
     }
     let Some(descriptor) = read_entry(alloc, host, mem, table, whole, index)? else {
         return Ok(if table.indirect {
-            Verdict::Faulty(ChainFault::TableUnreachable)
+            WalkStep::Faulty(ChainFault::TableUnreachable)
         } else {
-            Verdict::Stops
+            WalkStep::Stops
         });
     };
     if descriptor.refers_to_indirect_table() {
-        Ok(lead(table, index, left, descriptor))
+        Ok(indirect_step(table, index, earlier, descriptor))
     } else {
-        Ok(ordinary(table, index, left, descriptor))
+        Ok(ordinary_step(size, table, index, earlier, descriptor))
     }
 }
 
@@ -200,7 +214,8 @@ fn queue_table(layout: QueueLayout) -> DescriptorTable
     }
 }
 
-/// The chain that begins at an entry of the queue's table.
+/// The chain that begins at an entry of the queue's table (VIRTIO 1.2, 2.7.5 and 2.7.5.3). An error is want of memory,
+/// for a chain of more than eight descriptors or where a translation fails.
 #[inline(always)]
 pub(crate) fn walk<M: GuestMemory, H: HostBlocks>(
     alloc: Global,
@@ -217,23 +232,24 @@ pub(crate) fn walk<M: GuestMemory, H: HostBlocks>(
     let mut table = queue_table(layout);
     let mut whole = table_bytes(alloc, host, mem, table);
     let mut index = head;
-    let mut left = layout.size();
+    let size = layout.size();
+    let mut earlier = 0;
     loop {
-        match step(alloc, host, mem, table, whole, index, left)? {
-            Verdict::Stops => return Ok(Walked::Stopped),
-            Verdict::Faulty(fault) => return Ok(Walked::Faulty(fault)),
-            Verdict::Leads(named) => {
+        match walk_step(alloc, host, mem, size, table, whole, index, earlier)? {
+            WalkStep::Stops => return Ok(Walked::Stopped),
+            WalkStep::Faulty(fault) => return Ok(Walked::Faulty(fault)),
+            WalkStep::Table(named) => {
                 table = named;
                 whole = table_bytes(alloc, host, mem, named);
                 index = 0;
             }
-            Verdict::Joins(descriptor) => {
+            WalkStep::Ordinary(descriptor) => {
                 descriptors.push(descriptor)?;
                 if !descriptor.has_next() {
                     return Ok(Walked::Chain(descriptors));
                 }
                 index = descriptor.next;
-                left -= 1;
+                earlier += 1;
             }
         }
     }

@@ -6,15 +6,15 @@ use Rattle.fs_queue.specs.declared.fault.QueueError.{QueueError}
 use Rattle.fs_queue.specs.declared.fault.QueueError.TheVariants.{AvailIndexUnreachable, AvailTooFar, RingEntryUnreachable, HeadOutOfTable}
 use Rattle.fs_queue.specs.Queue.{Queue, avail_index_at, waiting, ring_entry_at, head}
 
--- what waits in the available ring: nothing, the head of a chain, or a refusal
-pub data Look : Type 0 where
-  Idle : Look
-  Head : (head : ℕ) → Look
-  Refused : QueueError → Look
+-- what waits in the available ring: nothing, the head of a chain, or why there is none
+pub data NextAvail : Type 0 where
+  Idle : NextAvail
+  Head : (head : ℕ) → NextAvail
+  Refused : QueueError → NextAvail
 
 -- the head that waits, nothing, or the first refusal that applies
-abbrev pub looked : Memory → Queue → Look
-looked m q =
+abbrev pub next_avail : Memory → Queue → NextAvail
+next_avail m q =
     if not (reach m Read (avail_index_at q) 2) then Refused AvailIndexUnreachable
     else if waiting m q == 0 then Idle
     else if nat_lt q.size (waiting m q) then Refused AvailTooFar
@@ -27,7 +27,7 @@ abbrev pub IsUnmapped : Memory → (a n : ℕ) → Type 0
 IsUnmapped m a n = (is_mapped m Read a n ≡ false) × (reach m Read a n ≡ false)
 
 -- of a refusal
-abbrev pub IfRefused : Look → (QueueError → Type 0) → Type 0
+abbrev pub IfRefused : NextAvail → (QueueError → Type 0) → Type 0
 IfRefused Idle P = Unit {0}
 IfRefused (Head h) P = Unit {0}
 IfRefused (Refused e) P = P e

@@ -3,7 +3,7 @@ use Rattle.vm_memory_core.specs.Host.{lengths}
 use Rattle.vm_memory.specs.Memory.{addresses, located, location}
 use Rattle.fs_queue.specs.Walking.{at_position}
 use Rattle.fs_queue.proofs.TakeLemmas.{after_empty, length-range, length-used, none_lies}
-use Rattle.fs_queue.proofs.take.add_ends.Goals as goal
+use Rattle.fs_queue.proofs.take.add_return_windows.Goals as goal
 
 pub returns-clause-lie : goal.returns-clause-lie
 returns-clause-lie g c =
