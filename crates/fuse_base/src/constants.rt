@@ -1,15 +1,15 @@
-//! Numbers of the protocol (linux/fuse.h).
+//! Numbers of the protocol (linux/fuse.h, where all but those of FATTR_ begin with FUSE_).
 
-/// The major version that is spoken.
+/// The major version that is spoken (FUSE_KERNEL_VERSION).
 pub const KERNEL_VERSION: u32 = 7;
 
-/// The minor version that is spoken.
+/// The minor version that is spoken (FUSE_KERNEL_MINOR_VERSION).
 pub const KERNEL_MINOR_VERSION: u32 = 38;
 
-/// The lowest minor version of a guest that is served.
+/// The lowest minor version of a guest that is served (virtiofsd's `MIN_KERNEL_MINOR_VERSION`).
 pub const MIN_KERNEL_MINOR_VERSION: u32 = 27;
 
-/// The node of the root.
+/// The number of the root's node (FUSE_ROOT_ID).
 pub const ROOT_ID: u64 = 1;
 
 /// In `SetattrIn::valid`: `fh` is meant.
@@ -45,7 +45,7 @@ pub const READ_LOCKOWNER: u32 = 2;
 /// In `PollIn::flags`: ask for a notice.
 pub const POLL_SCHEDULE_NOTIFY: u32 = 1;
 
-/// The smallest buffer that a request is read into.
+/// The smallest buffer that a request is read into, in bytes.
 pub const FUSE_MIN_READ_BUFFER: u32 = 8192;
 
 /// In `FsyncIn::fsync_flags`: the data alone.

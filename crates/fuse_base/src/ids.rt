@@ -8,7 +8,7 @@ use std::marker::Model;
 use thiserror::Error;
 use vm_values::ByteValued;
 
-/// A user number as the guest has it.
+/// A user number as the guest has it: 4 bytes, the lowest first.
 #[derive(Clone, Copy, Debug, Default, PartialEq, Eq)]
 pub struct GuestUid(pub u32);
 
@@ -39,7 +39,7 @@ impl ByteValued for GuestUid {
     ghost lawful = { (λ x y. refl, λ x y h. Prim.search rules, Prim.search rules) };
 }
 
-/// A group number as the guest has it.
+/// A group number as the guest has it: 4 bytes, the lowest first.
 #[derive(Clone, Copy, Debug, Default, PartialEq, Eq)]
 pub struct GuestGid(pub u32);
 

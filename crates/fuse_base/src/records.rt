@@ -1,4 +1,4 @@
-//! Records that both directions use.
+//! Records that both directions use (linux/fuse.h); their numbers have the lowest byte first.
 
 ghost use Rattle.std.specs.Prelude.{refl};
 ghost use Rattle.std.proofs.Common.{rules};
@@ -7,7 +7,8 @@ ghost use Rattle.fuse_base.specs.Records.{attr, kstatfs, file_lock};
 use crate::ids::{GuestGid, GuestUid};
 use vm_values::{ByteValued, get_fields, put_fields};
 
-/// `struct fuse_attr`: 88 bytes.
+/// `struct fuse_attr`: 88 bytes. `size` counts bytes, and `blocks` units of 512 bytes; a time is seconds since 1970 and
+/// nanoseconds.
 #[derive(Clone, Copy, Debug, Default, PartialEq)]
 pub struct Attr {
     pub ino: u64,
@@ -52,7 +53,7 @@ impl ByteValued for Attr {
     ghost lawful = { (λ x y. refl, λ x y h. Prim.search rules, Prim.search rules) };
 }
 
-/// `struct fuse_kstatfs`: 80 bytes.
+/// `struct fuse_kstatfs`: 80 bytes. `blocks`, `bfree` and `bavail` count units of `frsize` bytes.
 #[derive(Clone, Copy, Debug, Default, PartialEq)]
 pub struct Kstatfs {
     pub blocks: u64,
@@ -87,7 +88,7 @@ impl ByteValued for Kstatfs {
     ghost lawful = { (λ x y. refl, λ x y h. Prim.search rules, Prim.search rules) };
 }
 
-/// `struct fuse_file_lock`: 24 bytes.
+/// `struct fuse_file_lock`: 24 bytes. `start` and `end` are the first byte and the last, `type_` is fcntl's.
 #[derive(Clone, Copy, Debug, Default, PartialEq)]
 pub struct FileLock {
     pub start: u64,

@@ -6,7 +6,8 @@ ghost use Rattle.fuse_base.specs.Stats.{pattern, attr_from, kstatfs_from, host_u
 use crate::ids::{Errno, GuestGid, GuestUid, HostGid, HostUid};
 use crate::records::{Attr, Kstatfs};
 
-/// What the host tells of a file.
+/// What the host tells of a file (`struct stat` of sys/stat.h): `st_size` counts bytes, and `st_blocks` units of 512
+/// bytes; a time is seconds since 1970 and nanoseconds.
 #[derive(Clone, Copy, Debug, Default, PartialEq)]
 pub struct Stat {
     pub st_ino: u64,
@@ -26,7 +27,7 @@ pub struct Stat {
     pub st_gid: u32,
 }
 
-/// What the host tells of a file system.
+/// What the host tells of a file system (`struct statvfs` of sys/statvfs.h): blocks count units of `f_frsize` bytes.
 #[derive(Clone, Copy, Debug, Default, PartialEq)]
 pub struct StatVfs {
     pub f_blocks: u64,

@@ -25,7 +25,7 @@ use Rattle.fuse_in.specs.declared.nodes.SetattrIn.{SetattrIn}
 use Rattle.fuse_in.specs.declared.files.WriteIn.{WriteIn}
 use Rattle.fuse_fs.specs.Answers.{context_of}
 use Rattle.fuse_fs.specs.Calls.{FileCall, Access, CopyFileRange, Fallocate, Flush, Forget, Fsync, Fsyncdir, Getattr, Lookup, Lseek, Open, Opendir, Readlink, Release}
-use Rattle.fuse_fs.specs.Calls.{Releasedir, Removexattr, Rmdir, Setattr, Statfs, Syncfs, Unlink, Read, Link, Rename, Setxattr, Getxattr, Listxattr, BatchForget, Write, Extra}
+use Rattle.fuse_fs.specs.Calls.{Releasedir, Removexattr, Rmdir, Setattr, Statfs, Syncfs, Unlink, Read, Readdir, Link, Rename, Setxattr, Getxattr, Listxattr, BatchForget, Write, Extra}
 use Rattle.fuse_fs.specs.Calls.{Symlink, Mknod, Mkdir, Create, NewLink, Destroy, Getlk, Setlk, Setlkw, Bmap, Ioctl, Poll, NotifyReply}
 
 -- a number that counts only where its flag is set
@@ -43,6 +43,10 @@ forget_call h r = Forget (context_of h) h.nodeid r.nlookup
 -- READ: `lock_owner` counts only with FUSE_READ_LOCKOWNER (bit 1 of `read_flags`)
 abbrev pub read_call : InHeader → (room : ℕ) → ReadIn → FileCall
 read_call h room r = Read (context_of h) h.nodeid r.fh room r.size r.offset (if_set (has_bit r.read_flags 1) r.lock_owner) r.flags
+
+-- READDIR and READDIRPLUS
+abbrev pub directory_call : InHeader → ReadIn → FileCall
+directory_call h r = Readdir (context_of h) h.nodeid r.fh r.size r.offset
 
 -- BATCH_FORGET: nodes, each with how many of the counts that the client holds on it
 abbrev pub batch_forget_call : InHeader → List (ℕ × ℕ) → FileCall

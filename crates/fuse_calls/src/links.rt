@@ -18,7 +18,7 @@ impl<F: FileSystem> RecordNameRequest<F> for Link {
 
     ghost call = { link_call };
 
-    fn ask(
+    fn make_call(
         fs: &mut F,
         head: &InHeader,
         request: &LinkIn,
@@ -40,7 +40,7 @@ impl<F: FileSystem> TwoPartsRequest<F> for Rename {
 
     ghost call = { rename_call };
 
-    fn ask(
+    fn make_call(
         fs: &mut F,
         head: &InHeader,
         request: &RenameIn,
@@ -71,7 +71,7 @@ impl<F: FileSystem> TwoPartsRequest<F> for Rename2 {
 
     ghost call = { rename2_call };
 
-    fn ask(
+    fn make_call(
         fs: &mut F,
         head: &InHeader,
         request: &Rename2In,

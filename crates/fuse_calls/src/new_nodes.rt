@@ -24,7 +24,7 @@ impl<F: FileSystem> NewNameRequest<F> for Mknod {
 
     ghost owns = { λ h r x. refl };
 
-    fn ask(
+    fn make_call(
         fs: &mut F,
         head: &InHeader,
         request: &MknodIn,
@@ -55,7 +55,7 @@ impl<F: FileSystem> NewNameRequest<F> for Mkdir {
 
     ghost owns = { λ h r x. refl };
 
-    fn ask(
+    fn make_call(
         fs: &mut F,
         head: &InHeader,
         request: &MkdirIn,
@@ -85,7 +85,7 @@ impl<F: FileSystem> NewNameRequest<F> for Create {
 
     ghost owns = { λ h r x. refl };
 
-    fn ask(
+    fn make_call(
         fs: &mut F,
         head: &InHeader,
         request: &CreateIn,
@@ -105,16 +105,18 @@ impl<F: FileSystem> NewNameRequest<F> for Create {
     }
 }
 
-/// Asks for a symbolic link.
-pub fn ask_symlink<F: FileSystem>(
+/// SYMLINK: a symbolic link is made, which leads to `link`.
+pub fn make_symlink_call<F: FileSystem>(
     fs: &mut F,
     head: &InHeader,
     link: &[u8],
     name: &[u8],
     extensions: Extensions,
 ) -> Result<Entry<F::Inode>, Errno>
-    ensures may { F.may fs.old (symlink_call head.now (record { name = name.now; link = link.now; extra = extra_of extensions })) (entry_answer F.Inode.number result) fs.new }
-    ensures suits { IsTrue (suits (symlink_call head.now (record { name = name.now; link = link.now; extra = extra_of extensions })) (entry_answer F.Inode.number result)) }
+    ensures may { F.may fs.old (symlink_call head.now (record { name = name.now; link = link.now; extra = extra_of extensions }))
+        (entry_answer F.Inode.number result) fs.new }
+    ensures suits { IsTrue
+        (suits (symlink_call head.now (record { name = name.now; link = link.now; extra = extra_of extensions })) (entry_answer F.Inode.number result)) }
 {
     let parent = F::Inode::numbered(head.nodeid);
     let context = Context::from(*head);

@@ -1,6 +1,8 @@
 //! Requests about names and nodes.
 
-ghost use Rattle.fuse_calls.specs.Requests.{lookup_call, forget_call, getattr_call, setattr_call, readlink_call, unlink_call, rmdir_call, statfs_call, removexattr_call, access_call, syncfs_call, if_set, known_setattr};
+ghost use Rattle.fuse_calls.specs.Requests.{lookup_call, forget_call, getattr_call, setattr_call, readlink_call};
+ghost use Rattle.fuse_calls.specs.Requests.{unlink_call, rmdir_call, statfs_call, removexattr_call, access_call};
+ghost use Rattle.fuse_calls.specs.Requests.{syncfs_call, if_set, known_setattr};
 ghost use Rattle.std.specs.Prelude.{◌≡◌, bit_and, option_map};
 
 use crate::received::{received, received_entry};
@@ -19,7 +21,7 @@ impl<F: FileSystem> NameRequest<F> for Lookup {
 
     ghost call = { lookup_call };
 
-    fn ask(fs: &mut F, head: &InHeader, name: &[u8]) -> Result<Entry<F::Inode>, Errno> {
+    fn make_call(fs: &mut F, head: &InHeader, name: &[u8]) -> Result<Entry<F::Inode>, Errno> {
         let parent = F::Inode::numbered(head.nodeid);
         received_entry(fs.lookup(Context::from(*head), parent, name))
     }
@@ -35,7 +37,7 @@ impl<F: FileSystem> RecordRequest<F> for Forget {
 
     ghost call = { forget_call };
 
-    fn ask(fs: &mut F, head: &InHeader, request: &ForgetIn) -> Result<Silence, Errno> {
+    fn make_call(fs: &mut F, head: &InHeader, request: &ForgetIn) -> Result<Silence, Errno> {
         let inode = F::Inode::numbered(head.nodeid);
         fs.forget(Context::from(*head), inode, request.nlookup);
         Ok(Silence)
@@ -59,7 +61,11 @@ impl<F: FileSystem> RecordRequest<F> for Getattr {
 
     ghost call = { getattr_call };
 
-    fn ask(fs: &mut F, head: &InHeader, request: &GetattrIn) -> Result<(Attr, Timeout), Errno> {
+    fn make_call(
+        fs: &mut F,
+        head: &InHeader,
+        request: &GetattrIn,
+    ) -> Result<(Attr, Timeout), Errno> {
         let handle = handle_if(request.flags & GETATTR_FH != 0, request.fh);
         received(fs.getattr(
             Context::from(*head),
@@ -87,7 +93,11 @@ impl<F: FileSystem> RecordRequest<F> for Setattr {
 
     ghost call = { setattr_call };
 
-    fn ask(fs: &mut F, head: &InHeader, request: &SetattrIn) -> Result<(Attr, Timeout), Errno> {
+    fn make_call(
+        fs: &mut F,
+        head: &InHeader,
+        request: &SetattrIn,
+    ) -> Result<(Attr, Timeout), Errno> {
         let handle = handle_if(request.valid & FATTR_FH != 0, request.fh);
         received(fs.setattr(
             Context::from(*head),
@@ -107,7 +117,7 @@ impl<F: FileSystem> PlainRequest<F> for Readlink {
 
     ghost call = { readlink_call };
 
-    fn ask(fs: &mut F, head: &InHeader) -> Result<Vec<u8>, Errno> {
+    fn make_call(fs: &mut F, head: &InHeader) -> Result<Vec<u8>, Errno> {
         received(fs.readlink(Context::from(*head), F::Inode::numbered(head.nodeid)))
     }
 }
@@ -120,7 +130,7 @@ impl<F: FileSystem> NameRequest<F> for Unlink {
 
     ghost call = { unlink_call };
 
-    fn ask(fs: &mut F, head: &InHeader, name: &[u8]) -> Result<(), Errno> {
+    fn make_call(fs: &mut F, head: &InHeader, name: &[u8]) -> Result<(), Errno> {
         received(fs.unlink(Context::from(*head), F::Inode::numbered(head.nodeid), name))
     }
 }
@@ -133,7 +143,7 @@ impl<F: FileSystem> NameRequest<F> for Rmdir {
 
     ghost call = { rmdir_call };
 
-    fn ask(fs: &mut F, head: &InHeader, name: &[u8]) -> Result<(), Errno> {
+    fn make_call(fs: &mut F, head: &InHeader, name: &[u8]) -> Result<(), Errno> {
         received(fs.rmdir(Context::from(*head), F::Inode::numbered(head.nodeid), name))
     }
 }
@@ -146,7 +156,7 @@ impl<F: FileSystem> PlainRequest<F> for Statfs {
 
     ghost call = { statfs_call };
 
-    fn ask(fs: &mut F, head: &InHeader) -> Result<StatVfs, Errno> {
+    fn make_call(fs: &mut F, head: &InHeader) -> Result<StatVfs, Errno> {
         received(fs.statfs(Context::from(*head), F::Inode::numbered(head.nodeid)))
     }
 }
@@ -159,7 +169,7 @@ impl<F: FileSystem> NameRequest<F> for Removexattr {
 
     ghost call = { removexattr_call };
 
-    fn ask(fs: &mut F, head: &InHeader, name: &[u8]) -> Result<(), Errno> {
+    fn make_call(fs: &mut F, head: &InHeader, name: &[u8]) -> Result<(), Errno> {
         received(fs.removexattr(Context::from(*head), F::Inode::numbered(head.nodeid), name))
     }
 }
@@ -174,7 +184,7 @@ impl<F: FileSystem> RecordRequest<F> for Access {
 
     ghost call = { access_call };
 
-    fn ask(fs: &mut F, head: &InHeader, request: &AccessIn) -> Result<(), Errno> {
+    fn make_call(fs: &mut F, head: &InHeader, request: &AccessIn) -> Result<(), Errno> {
         received(fs.access(
             Context::from(*head),
             F::Inode::numbered(head.nodeid),
@@ -191,7 +201,7 @@ impl<F: FileSystem> PlainRequest<F> for Syncfs {
 
     ghost call = { syncfs_call };
 
-    fn ask(fs: &mut F, head: &InHeader) -> Result<(), Errno> {
+    fn make_call(fs: &mut F, head: &InHeader) -> Result<(), Errno> {
         received(fs.syncfs(Context::from(*head), F::Inode::numbered(head.nodeid)))
     }
 }

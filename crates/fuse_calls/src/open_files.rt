@@ -1,11 +1,13 @@
 //! Requests on open files and directories that are one record.
 
-ghost use Rattle.fuse_calls.specs.Requests.{open_call, release_call, fsync_call, fsyncdir_call, flush_call, opendir_call, releasedir_call, fallocate_call, lseek_call, copy_file_range_call, if_set};
+ghost use Rattle.fuse_calls.specs.Requests.{open_call, release_call, fsync_call, fsyncdir_call, flush_call};
+ghost use Rattle.fuse_calls.specs.Requests.{opendir_call, releasedir_call, fallocate_call, lseek_call};
+ghost use Rattle.fuse_calls.specs.Requests.{copy_file_range_call, if_set};
 ghost use Rattle.std.specs.Prelude.{◌≡◌, ◌||◌};
 ghost use Rattle.vm_values.specs.Bits.{has_bit};
 
 use crate::received::{received, received_count, received_offset, received_opened};
-use crate::requests::RecordRequest;
+use crate::requests::{RecordRequest, owner_if};
 use fuse_fs::{Context, FileNumber, FileSystem};
 use fuse_in::{
     CopyfilerangeIn, FallocateIn, FlushIn, FsyncIn, InHeader, LseekIn, OpenIn, ReleaseIn,
@@ -19,13 +21,9 @@ use fuse_wire::{Errno, OpenOptions};
 fn releasing_owner(request: &ReleaseIn) -> Option<u64>
     ensures { result ≡ if_set (has_bit request.now.release_flags 0 || has_bit request.now.release_flags 1) request.now.lock_owner }
 {
-    if request.release_flags & RELEASE_FLUSH != 0
-        || request.release_flags & RELEASE_FLOCK_UNLOCK != 0
-    {
-        Some(request.lock_owner)
-    } else {
-        None
-    }
+    let told = request.release_flags & RELEASE_FLUSH != 0
+        || request.release_flags & RELEASE_FLOCK_UNLOCK != 0;
+    owner_if(told, request.lock_owner)
 }
 
 /// OPEN: a file is opened.
@@ -38,7 +36,7 @@ impl<F: FileSystem> RecordRequest<F> for Open {
 
     ghost call = { open_call };
 
-    fn ask(
+    fn make_call(
         fs: &mut F,
         head: &InHeader,
         request: &OpenIn,
@@ -63,7 +61,7 @@ impl<F: FileSystem> RecordRequest<F> for Release {
 
     ghost call = { release_call };
 
-    fn ask(fs: &mut F, head: &InHeader, request: &ReleaseIn) -> Result<(), Errno> {
+    fn make_call(fs: &mut F, head: &InHeader, request: &ReleaseIn) -> Result<(), Errno> {
         let flush = request.release_flags & RELEASE_FLUSH != 0;
         let unlock = request.release_flags & RELEASE_FLOCK_UNLOCK != 0;
         received(fs.release(
@@ -88,7 +86,7 @@ impl<F: FileSystem> RecordRequest<F> for Fsync {
 
     ghost call = { fsync_call };
 
-    fn ask(fs: &mut F, head: &InHeader, request: &FsyncIn) -> Result<(), Errno> {
+    fn make_call(fs: &mut F, head: &InHeader, request: &FsyncIn) -> Result<(), Errno> {
         let data_only = request.fsync_flags & FSYNC_FDATASYNC != 0;
         received(fs.fsync(
             Context::from(*head),
@@ -109,7 +107,7 @@ impl<F: FileSystem> RecordRequest<F> for Fsyncdir {
 
     ghost call = { fsyncdir_call };
 
-    fn ask(fs: &mut F, head: &InHeader, request: &FsyncIn) -> Result<(), Errno> {
+    fn make_call(fs: &mut F, head: &InHeader, request: &FsyncIn) -> Result<(), Errno> {
         let data_only = request.fsync_flags & FSYNC_FDATASYNC != 0;
         received(fs.fsyncdir(
             Context::from(*head),
@@ -130,7 +128,7 @@ impl<F: FileSystem> RecordRequest<F> for Flush {
 
     ghost call = { flush_call };
 
-    fn ask(fs: &mut F, head: &InHeader, request: &FlushIn) -> Result<(), Errno> {
+    fn make_call(fs: &mut F, head: &InHeader, request: &FlushIn) -> Result<(), Errno> {
         received(fs.flush(
             Context::from(*head),
             F::Inode::numbered(head.nodeid),
@@ -150,7 +148,7 @@ impl<F: FileSystem> RecordRequest<F> for Opendir {
 
     ghost call = { opendir_call };
 
-    fn ask(
+    fn make_call(
         fs: &mut F,
         head: &InHeader,
         request: &OpenIn,
@@ -173,7 +171,7 @@ impl<F: FileSystem> RecordRequest<F> for Releasedir {
 
     ghost call = { releasedir_call };
 
-    fn ask(fs: &mut F, head: &InHeader, request: &ReleaseIn) -> Result<(), Errno> {
+    fn make_call(fs: &mut F, head: &InHeader, request: &ReleaseIn) -> Result<(), Errno> {
         received(fs.releasedir(
             Context::from(*head),
             F::Inode::numbered(head.nodeid),
@@ -193,7 +191,7 @@ impl<F: FileSystem> RecordRequest<F> for Fallocate {
 
     ghost call = { fallocate_call };
 
-    fn ask(fs: &mut F, head: &InHeader, request: &FallocateIn) -> Result<(), Errno> {
+    fn make_call(fs: &mut F, head: &InHeader, request: &FallocateIn) -> Result<(), Errno> {
         received(fs.fallocate(
             Context::from(*head),
             F::Inode::numbered(head.nodeid),
@@ -215,7 +213,7 @@ impl<F: FileSystem> RecordRequest<F> for Lseek {
 
     ghost call = { lseek_call };
 
-    fn ask(fs: &mut F, head: &InHeader, request: &LseekIn) -> Result<u64, Errno> {
+    fn make_call(fs: &mut F, head: &InHeader, request: &LseekIn) -> Result<u64, Errno> {
         received_offset(fs.lseek(
             Context::from(*head),
             F::Inode::numbered(head.nodeid),
@@ -236,7 +234,7 @@ impl<F: FileSystem> RecordRequest<F> for CopyFileRange {
 
     ghost call = { copy_file_range_call };
 
-    fn ask(fs: &mut F, head: &InHeader, request: &CopyfilerangeIn) -> Result<u32, Errno> {
+    fn make_call(fs: &mut F, head: &InHeader, request: &CopyfilerangeIn) -> Result<u32, Errno> {
         received_count(fs.copyfilerange(
             Context::from(*head),
             F::Inode::numbered(head.nodeid),

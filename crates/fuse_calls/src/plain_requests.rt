@@ -16,7 +16,7 @@ impl<F: FileSystem> PlainRequest<F> for Getlk {
 
     ghost call = { λ h. call.Getlk };
 
-    fn ask(fs: &mut F, head: &InHeader) -> Result<Silence, Errno> {
+    fn make_call(fs: &mut F, head: &InHeader) -> Result<Silence, Errno> {
         silent(fs.getlk())
     }
 }
@@ -29,7 +29,7 @@ impl<F: FileSystem> PlainRequest<F> for Setlk {
 
     ghost call = { λ h. call.Setlk };
 
-    fn ask(fs: &mut F, head: &InHeader) -> Result<Silence, Errno> {
+    fn make_call(fs: &mut F, head: &InHeader) -> Result<Silence, Errno> {
         silent(fs.setlk())
     }
 }
@@ -42,7 +42,7 @@ impl<F: FileSystem> PlainRequest<F> for Setlkw {
 
     ghost call = { λ h. call.Setlkw };
 
-    fn ask(fs: &mut F, head: &InHeader) -> Result<Silence, Errno> {
+    fn make_call(fs: &mut F, head: &InHeader) -> Result<Silence, Errno> {
         silent(fs.setlkw())
     }
 }
@@ -55,7 +55,7 @@ impl<F: FileSystem> PlainRequest<F> for Bmap {
 
     ghost call = { λ h. call.Bmap };
 
-    fn ask(fs: &mut F, head: &InHeader) -> Result<Silence, Errno> {
+    fn make_call(fs: &mut F, head: &InHeader) -> Result<Silence, Errno> {
         silent(fs.bmap())
     }
 }
@@ -68,7 +68,7 @@ impl<F: FileSystem> PlainRequest<F> for Ioctl {
 
     ghost call = { λ h. call.Ioctl };
 
-    fn ask(fs: &mut F, head: &InHeader) -> Result<Silence, Errno> {
+    fn make_call(fs: &mut F, head: &InHeader) -> Result<Silence, Errno> {
         silent(fs.ioctl())
     }
 }
@@ -81,7 +81,7 @@ impl<F: FileSystem> PlainRequest<F> for Poll {
 
     ghost call = { λ h. call.Poll };
 
-    fn ask(fs: &mut F, head: &InHeader) -> Result<Silence, Errno> {
+    fn make_call(fs: &mut F, head: &InHeader) -> Result<Silence, Errno> {
         silent(fs.poll())
     }
 }
@@ -94,7 +94,7 @@ impl<F: FileSystem> PlainRequest<F> for NotifyReply {
 
     ghost call = { λ h. call.NotifyReply };
 
-    fn ask(fs: &mut F, head: &InHeader) -> Result<Silence, Errno> {
+    fn make_call(fs: &mut F, head: &InHeader) -> Result<Silence, Errno> {
         silent(fs.notify_reply())
     }
 }
@@ -107,7 +107,7 @@ impl<F: FileSystem> PlainRequest<F> for TmpFile {
 
     ghost call = { λ h. call.TmpFile };
 
-    fn ask(fs: &mut F, head: &InHeader) -> Result<(), Errno> {
+    fn make_call(fs: &mut F, head: &InHeader) -> Result<(), Errno> {
         received(Err(fs.tmpfile()))
     }
 }

@@ -1,14 +1,21 @@
-//! Requests by their shape: what each asks of a file system.
+//! Requests by their shape: the call that each of them makes.
 
 ghost use Rattle.std.specs.Prelude.{◌≡◌, ℕ, List, IsTrue};
 ghost use Rattle.fuse_in.specs.declared.session.InHeader.{InHeader};
 ghost use Rattle.fuse_fs.specs.Answers.{extra_of};
 ghost use Rattle.fuse_fs.specs.Calls.{FileCall, Extra, suits};
-ghost use Rattle.fuse_calls.specs.Requests.{has_security, is_silent, options_after, owns_memory};
+ghost use Rattle.fuse_calls.specs.Requests.{has_security, if_set, is_silent, options_after, owns_memory};
 
 use fuse_fs::{Answer, Extensions, FileSystem};
 use fuse_in::{InHeader, InRecord};
 use fuse_wire::Errno;
+
+// Who holds a lock, where it is told.
+pub(crate) fn owner_if(told: bool, owner: u64) -> Option<u64>
+    ensures { result ≡ if_set told owner }
+{
+    if told { Some(owner) } else { None }
+}
 
 /// A request that is one record.
 pub trait RecordRequest<F: FileSystem> {
@@ -16,11 +23,11 @@ pub trait RecordRequest<F: FileSystem> {
 
     type Answer: Answer;
 
-    // The call that it asks.
+    // The call that it makes.
     ghost call: { InHeader → Self.Record → FileCall };
 
-    /// Asks the file system.
-    fn ask(fs: &mut F, head: &InHeader, request: &Self::Record) -> Result<Self::Answer, Errno>
+    /// Makes the call, and hands its answer on.
+    fn make_call(fs: &mut F, head: &InHeader, request: &Self::Record) -> Result<Self::Answer, Errno>
         ensures may { F.may fs.old (call head.now request.now) (Self.Answer.said result) fs.new }
         ensures suits { IsTrue (suits (call head.now request.now) (Self.Answer.said result)) }
         ensures silent { is_silent (call head.now request.now) ≡ Self.Answer.silent }
@@ -31,11 +38,11 @@ pub trait RecordRequest<F: FileSystem> {
 pub trait PlainRequest<F: FileSystem> {
     type Answer: Answer;
 
-    // The call that it asks.
+    // The call that it makes.
     ghost call: { InHeader → FileCall };
 
-    /// Asks the file system.
-    fn ask(fs: &mut F, head: &InHeader) -> Result<Self::Answer, Errno>
+    /// Makes the call, and hands its answer on.
+    fn make_call(fs: &mut F, head: &InHeader) -> Result<Self::Answer, Errno>
         ensures may { F.may fs.old (call head.now) (Self.Answer.said result) fs.new }
         ensures suits { IsTrue (suits (call head.now) (Self.Answer.said result)) }
         ensures silent { is_silent (call head.now) ≡ Self.Answer.silent }
@@ -46,11 +53,11 @@ pub trait PlainRequest<F: FileSystem> {
 pub trait NameRequest<F: FileSystem> {
     type Answer: Answer;
 
-    // The call that it asks.
+    // The call that it makes.
     ghost call: { InHeader → List ℕ → FileCall };
 
-    /// Asks the file system.
-    fn ask(fs: &mut F, head: &InHeader, name: &[u8]) -> Result<Self::Answer, Errno>
+    /// Makes the call, and hands its answer on.
+    fn make_call(fs: &mut F, head: &InHeader, name: &[u8]) -> Result<Self::Answer, Errno>
         ensures may { F.may fs.old (call head.now name.now) (Self.Answer.said result) fs.new }
         ensures suits { IsTrue (suits (call head.now name.now) (Self.Answer.said result)) }
         ensures silent { is_silent (call head.now name.now) ≡ Self.Answer.silent }
@@ -63,11 +70,11 @@ pub trait RecordNameRequest<F: FileSystem> {
 
     type Answer: Answer;
 
-    // The call that it asks.
+    // The call that it makes.
     ghost call: { InHeader → Self.Record → List ℕ → FileCall };
 
-    /// Asks the file system.
-    fn ask(
+    /// Makes the call, and hands its answer on.
+    fn make_call(
         fs: &mut F,
         head: &InHeader,
         request: &Self::Record,
@@ -85,11 +92,11 @@ pub trait TwoPartsRequest<F: FileSystem> {
 
     type Answer: Answer;
 
-    // The call that it asks.
+    // The call that it makes.
     ghost call: { InHeader → Self.Record → List ℕ × List ℕ → FileCall };
 
-    /// Asks the file system.
-    fn ask(
+    /// Makes the call, and hands its answer on.
+    fn make_call(
         fs: &mut F,
         head: &InHeader,
         request: &Self::Record,
@@ -108,14 +115,14 @@ pub trait NewNameRequest<F: FileSystem> {
 
     type Answer: Answer;
 
-    // The call that it asks.
+    // The call that it makes.
     ghost call: { InHeader → Self.Record → List ℕ × Extra → FileCall };
 
     // It is handed memory of its own only for a context.
     ghost owns: { (h : InHeader) (r : Self.Record) (x : List ℕ × Extra) → owns_memory (call h r x) ≡ has_security x.1 };
 
-    /// Asks the file system.
-    fn ask(
+    /// Makes the call, and hands its answer on.
+    fn make_call(
         fs: &mut F,
         head: &InHeader,
         request: &Self::Record,

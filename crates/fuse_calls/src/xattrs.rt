@@ -20,7 +20,7 @@ impl<F: FileSystem> RecordNameRequest<F> for Getxattr {
 
     ghost call = { getxattr_call };
 
-    fn ask(
+    fn make_call(
         fs: &mut F,
         head: &InHeader,
         request: &GetxattrIn,
@@ -41,7 +41,11 @@ impl<F: FileSystem> RecordRequest<F> for Listxattr {
 
     ghost call = { listxattr_call };
 
-    fn ask(fs: &mut F, head: &InHeader, request: &GetxattrIn) -> Result<ListxattrReply, Errno> {
+    fn make_call(
+        fs: &mut F,
+        head: &InHeader,
+        request: &GetxattrIn,
+    ) -> Result<ListxattrReply, Errno> {
         let inode = F::Inode::numbered(head.nodeid);
         received_names(fs.listxattr(Context::from(*head), inode, request.size))
     }
@@ -65,7 +69,7 @@ impl<F: FileSystem> TwoPartsRequest<F> for Setxattr {
 
     ghost call = { setxattr_call };
 
-    fn ask(
+    fn make_call(
         fs: &mut F,
         head: &InHeader,
         request: &SetxattrIn,

@@ -55,7 +55,7 @@ impl Timeout {
     }
 }
 
-/// What a name stands for. Node 0 is a name that is known not to be there.
+/// What a name stands for (virtiofsd's `Entry`). Node 0 is a name that is known not to be there.
 #[derive(Drop)]
 pub struct Entry<I> {
     pub inode: I,
@@ -84,7 +84,7 @@ pub enum ListxattrReply {
     Count(u32),
 }
 
-/// Who asks: the guest's process, and in whose name it runs.
+/// Who asks (virtiofsd's `Context`): the guest's process, and in whose name it runs.
 #[derive(Clone, Copy, Debug)]
 pub struct Context {
     pub uid: GuestUid,

@@ -38,7 +38,7 @@ impl SecContext {
     }
 }
 
-/// What a client tells beside a request that makes a node, where both sides agreed on it.
+/// What a client tells beside a request that makes a node, where both sides agreed on it (virtiofsd's `Extensions`).
 #[derive(Debug, Default, Drop)]
 pub struct Extensions {
     pub secctx: Option<SecContext>,

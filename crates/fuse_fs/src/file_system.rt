@@ -3,7 +3,10 @@
 ghost use Rattle.std.specs.Prelude.{◌≡◌, ℕ, ◌^◌, ◌+◌, ◌<◌, List, ◌++◌, length, Result, IfOk, Option, option_map};
 ghost use Rattle.fuse_fs.specs.Calls.{FileCall, FileAnswer};
 ghost use Rattle.fuse_fs.specs.Calls as call;
-ghost use Rattle.fuse_fs.specs.Answers.{options_answer, entry_answer, data_answer, done_answer, attr_answer, target_answer, opened_answer, created_answer, written_answer, stats_answer, value_answer, names_answer, listed_answer, offset_answer, extra_of, pair_numbers};
+ghost use Rattle.fuse_fs.specs.Answers.{options_answer, entry_answer, data_answer, done_answer, attr_answer};
+ghost use Rattle.fuse_fs.specs.Answers.{target_answer, opened_answer, created_answer, written_answer, stats_answer};
+ghost use Rattle.fuse_fs.specs.Answers.{value_answer, names_answer, listed_answer, offset_answer};
+ghost use Rattle.fuse_fs.specs.Answers.{extra_of, pair_numbers};
 
 use crate::answers::{Context, Entry, GetxattrReply, ListxattrReply, Timeout};
 use crate::directory::DirectoryIterator;
@@ -112,7 +115,8 @@ pub trait FileSystem: FileSystemBase {
         handle: Option<Self::Handle>,
         valid: SetattrValid,
     ) -> Result<(Attr, Timeout), Errno>
-        ensures may { Self.may self.old (call.Setattr ctx (Self.Inode.number inode) attr (option_map Self.Handle.number handle) valid.0) (attr_answer result) self.new };
+        ensures may { Self.may self.old (call.Setattr ctx (Self.Inode.number inode) attr (option_map Self.Handle.number handle) valid.0)
+            (attr_answer result) self.new };
 
     /// What a symbolic link leads to.
     fn readlink(&mut self, ctx: Context, inode: Self::Inode) -> Result<Vec<u8>, Errno>
@@ -128,7 +132,8 @@ pub trait FileSystem: FileSystemBase {
         name: &[u8],
         extensions: Extensions,
     ) -> Result<Entry<Self::Inode>, Errno>
-        ensures may { Self.may self.old (call.Symlink ctx linkname.now (Self.Inode.number parent) name.now (extra_of extensions)) (entry_answer Self.Inode.number result) self.new };
+        ensures may { Self.may self.old (call.Symlink ctx linkname.now (Self.Inode.number parent) name.now (extra_of extensions))
+            (entry_answer Self.Inode.number result) self.new };
 
     /// Makes a file of a kind (`mknod(2)`).
     fn mknod(
@@ -141,7 +146,8 @@ pub trait FileSystem: FileSystemBase {
         umask: u32,
         extensions: Extensions,
     ) -> Result<Entry<Self::Inode>, Errno>
-        ensures may { Self.may self.old (call.Mknod ctx (Self.Inode.number parent) name.now mode rdev umask (extra_of extensions)) (entry_answer Self.Inode.number result) self.new };
+        ensures may { Self.may self.old (call.Mknod ctx (Self.Inode.number parent) name.now mode rdev umask (extra_of extensions))
+            (entry_answer Self.Inode.number result) self.new };
 
     /// Makes a directory.
     fn mkdir(
@@ -153,7 +159,8 @@ pub trait FileSystem: FileSystemBase {
         umask: u32,
         extensions: Extensions,
     ) -> Result<Entry<Self::Inode>, Errno>
-        ensures may { Self.may self.old (call.Mkdir ctx (Self.Inode.number parent) name.now mode umask (extra_of extensions)) (entry_answer Self.Inode.number result) self.new };
+        ensures may { Self.may self.old (call.Mkdir ctx (Self.Inode.number parent) name.now mode umask (extra_of extensions))
+            (entry_answer Self.Inode.number result) self.new };
 
     /// Takes away a name that is no directory's.
     fn unlink(&mut self, ctx: Context, parent: Self::Inode, name: &[u8]) -> Result<(), Errno>
@@ -173,7 +180,8 @@ pub trait FileSystem: FileSystemBase {
         newname: &[u8],
         flags: u32,
     ) -> Result<(), Errno>
-        ensures may { Self.may self.old (call.Rename ctx (Self.Inode.number olddir) oldname.now (Self.Inode.number newdir) newname.now flags) (done_answer result) self.new };
+        ensures may { Self.may self.old (call.Rename ctx (Self.Inode.number olddir) oldname.now (Self.Inode.number newdir) newname.now flags)
+            (done_answer result) self.new };
 
     /// Gives a node one more name.
     fn link(
@@ -183,7 +191,8 @@ pub trait FileSystem: FileSystemBase {
         newparent: Self::Inode,
         newname: &[u8],
     ) -> Result<Entry<Self::Inode>, Errno>
-        ensures may { Self.may self.old (call.Link ctx (Self.Inode.number inode) (Self.Inode.number newparent) newname.now) (entry_answer Self.Inode.number result) self.new };
+        ensures may { Self.may self.old (call.Link ctx (Self.Inode.number inode) (Self.Inode.number newparent) newname.now)
+            (entry_answer Self.Inode.number result) self.new };
 
     /// Opens a file (`open(2)`, which has the flags). Without a handle its calls get 0.
     fn open(
@@ -207,7 +216,8 @@ pub trait FileSystem: FileSystemBase {
         umask: u32,
         extensions: Extensions,
     ) -> Result<(Entry<Self::Inode>, Option<Self::Handle>, OpenOptions), Errno>
-        ensures may { Self.may self.old (call.Create ctx (Self.Inode.number parent) name.now mode kill_priv flags umask (extra_of extensions)) (created_answer Self.Inode.number Self.Handle.number result) self.new };
+        ensures may { Self.may self.old (call.Create ctx (Self.Inode.number parent) name.now mode kill_priv flags umask (extra_of extensions))
+            (created_answer Self.Inode.number Self.Handle.number result) self.new };
 
     /// Puts bytes of a file into a writer, and answers how many: an `Ok(n)` put in exactly n.
     fn read<W: ZeroCopyWriter>(
@@ -241,7 +251,8 @@ pub trait FileSystem: FileSystemBase {
         kill_priv: bool,
         flags: u32,
     ) -> Result<u32, Errno>
-        ensures may { Self.may self.old (call.Write ctx (Self.Inode.number inode) (Self.Handle.number handle) (R.left r.old) size offset lock_owner delayed_write kill_priv flags) (written_answer result) self.new };
+        ensures may { Self.may self.old (call.Write ctx (Self.Inode.number inode) (Self.Handle.number handle) (R.left r.old) size offset
+            lock_owner delayed_write kill_priv flags) (written_answer result) self.new };
 
     /// A descriptor of an open file was closed; there may be more.
     fn flush(
@@ -273,7 +284,8 @@ pub trait FileSystem: FileSystemBase {
         offset: u64,
         length: u64,
     ) -> Result<(), Errno>
-        ensures may { Self.may self.old (call.Fallocate ctx (Self.Inode.number inode) (Self.Handle.number handle) mode offset length) (done_answer result) self.new };
+        ensures may { Self.may self.old (call.Fallocate ctx (Self.Inode.number inode) (Self.Handle.number handle) mode offset length)
+            (done_answer result) self.new };
 
     /// The last descriptor of an open file was closed.
     fn release(
@@ -286,7 +298,8 @@ pub trait FileSystem: FileSystemBase {
         flock_release: bool,
         lock_owner: Option<u64>,
     ) -> Result<(), Errno>
-        ensures may { Self.may self.old (call.Release ctx (Self.Inode.number inode) flags (Self.Handle.number handle) flush flock_release lock_owner) (done_answer result) self.new };
+        ensures may { Self.may self.old (call.Release ctx (Self.Inode.number inode) flags (Self.Handle.number handle) flush flock_release lock_owner)
+            (done_answer result) self.new };
 
     /// What the file system holds and has room for.
     fn statfs(&mut self, ctx: Context, inode: Self::Inode) -> Result<StatVfs, Errno>
@@ -345,7 +358,8 @@ pub trait FileSystem: FileSystemBase {
         size: u32,
         offset: u64,
     ) -> Result<Self::DirIter, Errno>
-        ensures may { Self.may self.old (call.Readdir ctx (Self.Inode.number inode) (Self.Handle.number handle) size offset) (listed_answer Self.DirIter.rest result) self.new };
+        ensures may { Self.may self.old (call.Readdir ctx (Self.Inode.number inode) (Self.Handle.number handle) size offset)
+            (listed_answer Self.DirIter.rest result) self.new };
 
     /// Has what was done to a directory stand on its medium; with `datasync` the data alone.
     fn fsyncdir(

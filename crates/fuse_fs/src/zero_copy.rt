@@ -1,6 +1,7 @@
 //! Files that are read and written at a place, and what they fill.
 
-ghost use Rattle.std.specs.Prelude.{◌≡◌, ℕ, ◌+◌, ◌≤◌, List, ◌++◌, length, take, drop, Result, Ok, Err, IfOk, IfErr, Option, option_map, vec_len, vec_capacity, sum};
+ghost use Rattle.std.specs.Prelude.{◌≡◌, ℕ, ◌+◌, ◌≤◌, List, ◌++◌, length, take, drop, Result, Ok, Err, IfOk, IfErr};
+ghost use Rattle.std.specs.Prelude.{Option, option_map, vec_len, vec_capacity, sum};
 ghost use Rattle.fuse_fs.specs.Lengths.{past, up_to};
 ghost use Rattle.fuse_fs.specs.Transfers.{bytes_answer, ReadsSegments, Spends};
 

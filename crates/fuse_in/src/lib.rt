@@ -1,4 +1,4 @@
-//! The records of FUSE requests.
+//! The records of FUSE requests (linux/fuse.h); their numbers have the lowest byte first.
 #![tactic(auto)]
 
 mod devices;

@@ -24,7 +24,8 @@ pub trait AsReply: Answer {
         ensures memory { lacks_memory result ≡ false };
 }
 
-/// Replies with an answer.
+/// Replies with an answer: header and record, or the error, whole or not at all. Answers the reply's length in bytes, 0
+/// where there is none, and `EncodeMessage` where it has no room.
 #[inline(always)]
 pub fn reply_answer<A: AsReply>(
     w: &mut Writer,

@@ -38,7 +38,7 @@ fn dirent_head(entry: &DirEntry<'_>) -> [u8; DIRENT_LEN]
     bytes
 }
 
-/// `struct fuse_entry_out`.
+/// A node as `struct fuse_entry_out`, 128 bytes.
 #[tactic(auto, unfolding(crate::specs::Entries::node_bytes))]
 pub fn node_bytes<I: FileNumber>(node: Entry<I>) -> [u8; 128]
     ensures { result ≡ node_bytes (numbered I.number node) }

@@ -11,7 +11,7 @@ use fuse_wire::constants::{KERNEL_MINOR_VERSION, KERNEL_VERSION};
 use fuse_wire::{FsOptions, InitOut};
 use vm_values::ByteValued;
 
-/// The longest write, and the longest request but a page.
+/// The longest write, in bytes (1 MiB): the longest request but a page.
 pub const MAX_BUFFER_SIZE: u32 = 1 << 20;
 
 // How many pages the longest write takes.
@@ -32,7 +32,7 @@ fn init_bytes(reply: &InitOut) -> [u8; 64]
     bytes
 }
 
-/// The answer to a client of a later version.
+/// The answer to a client of a later version: `struct fuse_init_out`, of which only the versions say something.
 #[tactic(auto, unfolding(crate::specs::WholeReplies::versions_bytes))]
 pub fn versions() -> [u8; 64]
     ensures { result ≡ versions_bytes }
@@ -53,7 +53,7 @@ pub fn versions() -> [u8; 64]
     })
 }
 
-/// The answer to a client of this version.
+/// The answer to a client of this version: `struct fuse_init_out`.
 #[tactic(auto, unfolding(crate::specs::WholeReplies::started_bytes))]
 pub fn start_bytes(page_size: u32, readahead: u32, options: FsOptions) -> [u8; 64]
     requires { IsTrue (is_page_size page_size) }

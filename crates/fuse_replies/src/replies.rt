@@ -12,7 +12,7 @@ use fuse_wire::{Errno, OutHeader};
 use std::io::Write;
 use vm_values::ByteValued;
 
-/// The length of a reply's header, `struct fuse_out_header`.
+/// The length of a reply's header in bytes, `struct fuse_out_header`.
 pub const OUT_HEADER_LEN: usize = 16;
 
 /// The bytes of a reply's header.
@@ -44,7 +44,8 @@ pub fn append(w: &mut Writer, bytes: &[u8])
     w.write_all(bytes).unwrap();
 }
 
-/// Writes a good reply.
+/// Writes a good reply, whole or not at all: header and body. Answers its length in bytes, or `EncodeMessage` where it
+/// has no room.
 #[tactic(auto, using(crate::proofs::ReplyLemmas::reply_long, crate::proofs::ReplyLemmas::reply_fits))]
 #[inline(always)]
 pub fn reply(w: &mut Writer, unique: u64, body: &[u8]) -> Result<usize, Error>
@@ -117,7 +118,8 @@ pub(crate) fn reply_record<T: ByteValued>(
     send(w, &buffer[..len])
 }
 
-/// Writes an error.
+/// Writes an error: a header with the error's number made negative. Answers 16, or `EncodeMessage` where it has no
+/// room.
 pub fn reply_error(w: &mut Writer, unique: u64, error: Errno) -> Result<usize, Error>
     requires fresh { w.old.written ≡ [] }
     ensures sent { with_written result w.new.written ≡ whole_or_none w.old.free (error_bytes unique error) }

@@ -290,3 +290,17 @@ link_unlinked options bytes name left ends f h l = rw (← h, ← l) refl
 pub link_unnamed : (options : ℕ) (bytes : List ℕ) (f : Error) → Err (Faults f) ≡ front_name bytes → value_of (new_link options bytes) ≡ Err (Faults f)
 unfolding new_link
 link_unnamed options bytes f h = rw (← h) refl
+
+-- ---- what each function is proved by, case by case
+
+pub ruleset label_cases = (label_empty, label_nothing, label_unnamed, label_cut, label_whole, label_short)
+
+pub ruleset one_group_cases = (group_short, group_many, group_cut, group_whole)
+
+pub ruleset security_cases = (security_refused, security_empty, security_given, security_fault)
+
+pub ruleset extension_cases = (extension_short, extension_small, extension_cut, extension_given, extension_fault)
+
+pub ruleset new_name_cases = (new_given, new_endless, new_refused, new_unnamed)
+
+pub ruleset new_link_cases = (link_given, link_endless, link_refused, link_unlinked, link_unnamed)

@@ -3,7 +3,9 @@
 ghost use Rattle.std.specs.Prelude.{◌≡◌, ◌+◌, ◌<◌, ◌&&◌, ◌||◌, not, nat_le, length, is_none, Ok, Err, IfOk, IfErr, false};
 ghost use Rattle.fuse_fs.specs.Answers.{extra_of, security_of};
 ghost use Rattle.fuse_requests.specs.Reading.{Faults, outcome, reading_of, value_of};
-ghost use Rattle.fuse_requests.specs.Extras.{takes_security, takes_group, label_of, sent_of, parts_of, nothing_sent, security_context, one_group, part, extension, extensions, extra_in, security_part, group_part};
+ghost use Rattle.fuse_requests.specs.Extras.{takes_security, takes_group, label_of, sent_of, parts_of, nothing_sent};
+ghost use Rattle.fuse_requests.specs.Extras.{security_context, one_group, part, extension, extensions, extra_in};
+ghost use Rattle.fuse_requests.specs.Extras.{security_part, group_part};
 ghost use Rattle.fuse_segments.specs.Errors.{is_memory};
 
 use crate::names::first_name;
@@ -76,7 +78,7 @@ fn front_record<T: InRecord>(bytes: &[u8]) -> Result<WithRest<'_, T>, Error>
 }
 
 // A label of `size` bytes behind its name.
-#[tactic(auto, using(crate::proofs::ExtraLemmas::label_empty, crate::proofs::ExtraLemmas::label_nothing, crate::proofs::ExtraLemmas::label_unnamed, crate::proofs::ExtraLemmas::label_cut, crate::proofs::ExtraLemmas::label_whole, crate::proofs::ExtraLemmas::label_short))]
+#[tactic(auto, using(crate::proofs::ExtraLemmas::label_cases))]
 fn security_context(bytes: &[u8]) -> Result<Label<'_>, Error>
     ensures reads { outcome label_of result ≡ value_of (security_context bytes.now) }
     ensures fault { IfErr result (λ e. is_memory e ≡ false) }
@@ -108,7 +110,7 @@ fn security_context(bytes: &[u8]) -> Result<Label<'_>, Error>
 }
 
 // One group.
-#[tactic(auto, using(crate::proofs::ExtraLemmas::group_short, crate::proofs::ExtraLemmas::group_many, crate::proofs::ExtraLemmas::group_cut, crate::proofs::ExtraLemmas::group_whole))]
+#[tactic(auto, using(crate::proofs::ExtraLemmas::one_group_cases))]
 fn one_group(bytes: &[u8]) -> Result<u32, Error>
     ensures reads { outcome (λ n. n) result ≡ value_of (one_group bytes.now) }
     ensures fault { IfErr result (λ e. is_memory e ≡ false) }
@@ -143,7 +145,7 @@ fn may_be_group(options: FsOptions, sup_gid: Option<u32>) -> bool
 }
 
 // What has come with a context, of which kind 0 is empty.
-#[tactic(auto, using(crate::proofs::ExtraLemmas::security_refused, crate::proofs::ExtraLemmas::security_empty, crate::proofs::ExtraLemmas::security_given, crate::proofs::ExtraLemmas::security_fault))]
+#[tactic(auto, using(crate::proofs::ExtraLemmas::security_cases))]
 fn security_part<'a>(
     options: FsOptions,
     received: Received<'a>,
@@ -222,7 +224,7 @@ fn part<'a>(
 const EXT_HEADER_LEN: u32 = 8;
 
 // What has come with one more extension.
-#[tactic(auto, using(crate::proofs::ExtraLemmas::extension_short, crate::proofs::ExtraLemmas::extension_small, crate::proofs::ExtraLemmas::extension_cut, crate::proofs::ExtraLemmas::extension_given, crate::proofs::ExtraLemmas::extension_fault))]
+#[tactic(auto, using(crate::proofs::ExtraLemmas::extension_cases))]
 fn extension<'a>(
     options: FsOptions,
     received: Received<'a>,
@@ -293,7 +295,9 @@ fn lacks_context(options: FsOptions, was_sent: bool) -> bool
     takes_security(options) && !was_sent
 }
 
-/// The extensions that these bytes are, where they stand; none where no kind of them is agreed.
+/// The extensions that these bytes are (`struct fuse_ext_header` and what follows it, again and again), where they
+/// stand; none where no kind of them is agreed. `InvalidHeaderLength`, `DecodeMessage` or `MissingParameter` where they
+/// are malformed, `MissingExtension` where a security context was agreed and none is sent.
 #[tactic(auto, using(crate::proofs::ExtraLemmas::extra_ignored))]
 pub(crate) fn received_extensions<'a>(
     options: FsOptions,
@@ -341,7 +345,7 @@ fn owned_label(alloc: Global, label: Label<'_>) -> Result<SecContext, Error>
     Ok(SecContext { name, secctx })
 }
 
-/// What has come as a file system gets it: a label in memory of its own.
+/// What has come as a file system gets it: a label in memory of its own. The error is `OutOfMemory`.
 pub fn owned_extensions(alloc: Global, received: Received<'_>) -> Result<Extensions, Error>
     ensures ok { IfOk result (λ ext. extra_of ext ≡ parts_of (sent_of received.entry)) }
     ensures err { IfErr result (λ e. (e ≡ Error.OutOfMemory) × (is_none (parts_of (sent_of received.entry)).security ≡ false)) }

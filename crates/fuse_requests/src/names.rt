@@ -1,6 +1,7 @@
 //! Names in requests.
 
-ghost use Rattle.std.specs.Prelude.{◌≡◌, ◌-◌, ◌<◌, ◌≤◌, position, ◌==◌, length, ◌++◌, Ok, Err, Some, None, IfOk, IfErr, IfSome, IfNone, false};
+ghost use Rattle.std.specs.Prelude.{◌≡◌, ◌-◌, ◌<◌, ◌≤◌, position, ◌==◌, length, ◌++◌, Ok, Err, Some, None, IfOk, IfErr};
+ghost use Rattle.std.specs.Prelude.{IfSome, IfNone, false};
 ghost use Rattle.std.specs.Cow.{cow_slice_items};
 ghost use Rattle.fuse_fs.specs.Lengths.{first, past};
 ghost use Rattle.fuse_requests.specs.Reading.{Faults, value_of, at_zero, last_name, two_names, name_and_value, front_name};
@@ -50,7 +51,7 @@ fn read_bytes<'a>(alloc: Global, r: &mut Reader<'a>, n: usize) -> Result<Request
     Ok(CowSlice::Owned(read_owned(alloc, r, n)?))
 }
 
-/// As many bytes as the header's length leaves after `fixed` bytes of record.
+/// As many bytes as the header's length leaves after the header, 40 bytes, and `fixed` bytes of record.
 #[inline(always)]
 pub fn read_counted<'a>(
     alloc: Global,
@@ -112,7 +113,7 @@ pub(crate) fn first_name(bytes: &[u8]) -> Option<(&[u8], &[u8])>
     }
 }
 
-/// The name that these bytes are: they end with their only zero byte.
+/// The name that these bytes are, which end with their only zero byte; else `InvalidCString`.
 #[tactic(auto, using(crate::proofs::NameLemmas::named, crate::proofs::NameLemmas::unnamed, crate::proofs::NameLemmas::endless))]
 pub fn last_name(bytes: &[u8]) -> Result<&[u8], Error>
     ensures ok { IfOk result (λ name. Ok name.now ≡ value_of (last_name bytes.now)) }
@@ -130,7 +131,8 @@ pub fn last_name(bytes: &[u8]) -> Result<&[u8], Error>
     }
 }
 
-/// The two names that these bytes are.
+/// The two names that these bytes are, each with a zero byte behind it: `MissingParameter` where the first isn't ended,
+/// `InvalidCString` where the second isn't, or more follows.
 #[tactic(auto, using(crate::proofs::NameLemmas::both_named, crate::proofs::NameLemmas::second_unnamed, crate::proofs::NameLemmas::first_missing))]
 pub fn two_names(bytes: &[u8]) -> Result<(&[u8], &[u8]), Error>
     ensures ok { IfOk result (λ p. Ok (p.0.now, p.1.now) ≡ value_of (two_names bytes.now)) }
@@ -145,7 +147,8 @@ pub fn two_names(bytes: &[u8]) -> Result<(&[u8], &[u8]), Error>
     }
 }
 
-/// The name and the value that these bytes are, of which the value has this size.
+/// The name and, behind its zero byte, the value that these bytes are. `MissingParameter` where the name isn't ended;
+/// the value has `size` bytes, else `InvalidXattrSize` tells both lengths.
 #[tactic(auto, using(crate::proofs::NameLemmas::valued, crate::proofs::NameLemmas::value_sized, crate::proofs::NameLemmas::value_unnamed))]
 pub fn name_and_value(bytes: &[u8], size: u32) -> Result<(&[u8], &[u8]), Error>
     ensures ok { IfOk result (λ p. Ok (p.0.now, p.1.now) ≡ value_of (name_and_value size bytes.now)) }

@@ -25,8 +25,8 @@ pub struct LinkParts<'a> {
     pub received: Received<'a>,
 }
 
-/// What these bytes say of a node that is made.
-#[tactic(auto, using(crate::proofs::ExtraLemmas::new_given, crate::proofs::ExtraLemmas::new_endless, crate::proofs::ExtraLemmas::new_refused, crate::proofs::ExtraLemmas::new_unnamed))]
+/// What these bytes say of a node that is made: its name, a zero byte, and extensions where they are agreed.
+#[tactic(auto, using(crate::proofs::ExtraLemmas::new_name_cases))]
 pub fn new_name<'a>(options: FsOptions, bytes: &'a [u8]) -> Result<NewName<'a>, Error>
     ensures reads { IfOk result (λ x. Ok (x.name.now, parts_of (sent_of x.received)) ≡ value_of (new_name options.0 bytes.now)) }
     ensures fault { IfErr result (λ e. (Err (Faults e) ≡ value_of (new_name options.0 bytes.now)) × (is_memory e ≡ false)) }
@@ -56,10 +56,12 @@ fn both_end(first: bool, second: bool) -> bool
     first && second
 }
 
-/// What these bytes say of a symbolic link that is made.
-#[tactic(auto, using(crate::proofs::ExtraLemmas::link_given, crate::proofs::ExtraLemmas::link_endless, crate::proofs::ExtraLemmas::link_refused, crate::proofs::ExtraLemmas::link_unlinked, crate::proofs::ExtraLemmas::link_unnamed))]
+/// What these bytes say of a symbolic link that is made: its name and what it leads to, each with a zero byte behind
+/// it, and extensions where they are agreed.
+#[tactic(auto, using(crate::proofs::ExtraLemmas::new_link_cases))]
 pub fn new_link<'a>(options: FsOptions, bytes: &'a [u8]) -> Result<LinkParts<'a>, Error>
-    ensures reads { IfOk result (λ x. Ok (record { name = x.name.now; link = x.link.now; extra = parts_of (sent_of x.received) }) ≡ value_of (new_link options.0 bytes.now)) }
+    ensures reads { IfOk result
+        (λ x. Ok (record { name = x.name.now; link = x.link.now; extra = parts_of (sent_of x.received) }) ≡ value_of (new_link options.0 bytes.now)) }
     ensures fault { IfErr result (λ e. (Err (Faults e) ≡ value_of (new_link options.0 bytes.now)) × (is_memory e ≡ false)) }
 {
     match front_name(bytes) {

@@ -5,7 +5,7 @@ ghost use Rattle.std.specs.Prelude.{◌≡◌};
 use std::io;
 use thiserror::Error as ThisError;
 
-/// Why a message was not served.
+/// Why a message was not served, numbered from 1 to 13 (virtiofsd's `Error`).
 #[derive(Clone, Copy, Debug, PartialEq, Eq, ThisError)]
 pub enum Error {
     #[error("the request can't be decoded")]

@@ -11,7 +11,7 @@ pub use reader::Reader;
 pub use writer::Writer;
 pub use zero_copy::{ZcReader, ZcWriter};
 
-/// What a descriptor is for.
+/// What a descriptor is for: the device reads its bytes, or writes them (VIRTIO 1.2, 2.7.5).
 #[derive(Clone, Copy, Debug, PartialEq, Eq)]
 pub enum DescriptorType {
     Readable,

@@ -1,6 +1,7 @@
 //! What a request is read from (virtiofsd's `Reader`).
 
-ghost use Rattle.std.specs.Prelude.{◌≡◌, ◌+◌, ◌<◌, ◌≤◌, ◌^◌, min, sum, [], ◌∷◌, ◌++◌, length, take, drop, cond, nat_le, Some, IsOk, IfOk, OnOk, IfErr, OnErr, IfSome, OnSome, IfNone, option_map};
+ghost use Rattle.std.specs.Prelude.{◌≡◌, ◌+◌, ◌<◌, ◌≤◌, ◌^◌, min, sum, [], ◌∷◌, ◌++◌, length, take, drop, cond, nat_le};
+ghost use Rattle.std.specs.Prelude.{Some, IsOk, IfOk, OnOk, IfErr, OnErr, IfSome, OnSome, IfNone, option_map};
 ghost use Rattle.std.specs.Io.{ReadsAtMost};
 ghost use Rattle.std.specs.Io.KnownBytes.{Consumes, ReadConsumes};
 ghost use Rattle.std.specs.IoError.{error_kind};
@@ -74,7 +75,8 @@ fn take_front<'a>(
     ensures front { IfOk result (λ p. joined p.0.items ≡ take offset (joined queue.old.items)) }
     ensures rest { IfOk result (λ p. all_of p.1.now queue.new.items ≡ drop offset (joined queue.old.items)) }
     ensures before { IfOk result (λ p. filled (segment_lengths p.0.items) ≡ up_to offset (filled (segment_lengths queue.old.items))) }
-    ensures behind { IfOk result (λ p. filled (length p.1.now ∷ segment_lengths queue.new.items) ≡ past offset (filled (segment_lengths queue.old.items))) }
+    ensures behind { IfOk result
+        (λ p. filled (length p.1.now ∷ segment_lengths queue.new.items) ≡ past offset (filled (segment_lengths queue.old.items))) }
     ensures err { IfErr result (λ e. (e ≡ Error.OutOfMemory) × (queue.new ≡ queue.old)) }
 {
     let Ok(mut front) = VecDeque::with_capacity(alloc, queue.len()) else {
@@ -114,10 +116,11 @@ fn write_at(buf: &mut [u8], at: usize, bytes: &[u8])
 }
 
 impl<'a> Reader<'a> {
-    /// A reader of these segments, one after another. DescriptorChainOverflow where their lengths' sum doesn't fit
+    /// A reader of these segments, one after another. `DescriptorChainOverflow` where their lengths' sum doesn't fit
     /// usize.
     pub fn new(segments: Vec<&'a [u8]>) -> Result<Reader<'a>, Error>
-        ensures ok { IfOk result (λ r. (r.left ≡ joined segments.entry.items) × (r.segments ≡ filled (segment_lengths segments.entry.items)) × (r.read ≡ 0)) }
+        ensures ok { IfOk result
+            (λ r. (r.left ≡ joined segments.entry.items) × (r.segments ≡ filled (segment_lengths segments.entry.items)) × (r.read ≡ 0)) }
         ensures fits { OnOk result (length (joined segments.entry.items) < 2 ^ 64) }
         ensures err { IfErr result (λ e. (e ≡ Error.DescriptorChainOverflow) × (2 ^ 64 ≤ length (joined segments.entry.items))) }
     {
@@ -239,7 +242,8 @@ impl<'a> Reader<'a> {
         count
     }
 
-    /// The value that the next bytes spell. Where there are too few, they are used up, and the end is unexpected.
+    /// The value that the next bytes spell. Where there are too few, they are used up, and that is `IoError` of kind
+    /// `UnexpectedEof`.
     #[inline(always)]
     pub fn read_obj<T: ByteValued>(&mut self) -> Result<T, Error>
         ensures ok { IfOk result (λ x. (self.old.left ≡ spelled (T.fields x) ++ self.new.left) × AllFit (T.fields x)
@@ -291,7 +295,7 @@ impl<'a> Reader<'a> {
     }
 
     /// Splits what is left at a place: what stands behind it goes to a reader of its own, with no byte read.
-    /// SplitOutOfBounds where the place is past the end. A refusal changes nothing.
+    /// `SplitOutOfBounds` where the place is past the end. A refusal changes nothing.
     #[tactic(auto, using(crate::proofs::Cutting::take_past, crate::proofs::Cutting::drop_past))]
     pub fn split_at(&mut self, alloc: Global, offset: usize) -> Result<Reader<'a>, Error>
         ensures left { OnOk result ((offset ≤ length self.old.left) × (self.new.left ≡ take offset self.old.left)) }

@@ -1,6 +1,8 @@
 //! What a reply is written to (virtiofsd's `Writer`).
 
-ghost use Rattle.std.specs.Prelude.{◌≡◌, ℕ, ◌+◌, ◌<◌, ◌≤◌, ◌^◌, min, sum, List, [], ◌∷◌, ◌++◌, length, take, drop, cond, nat_lt, nat_le, Some, IsOk, IfOk, OnOk, IfErr, IfSome, IfNone, vec_len, vec_capacity};
+ghost use Rattle.std.specs.Prelude.{◌≡◌, ℕ, ◌+◌, ◌<◌, ◌≤◌, ◌^◌, min, sum, List, [], ◌∷◌, ◌++◌, length, take, drop};
+ghost use Rattle.std.specs.Prelude.{cond, nat_lt, nat_le, Some, IsOk, IfOk, OnOk, IfErr, IfSome, IfNone, vec_len};
+ghost use Rattle.std.specs.Prelude.{vec_capacity};
 ghost use Rattle.smallvec.specs.SmallVec.{small_vec_len, HasRoomFor};
 ghost use Rattle.std.specs.Io.{WritesAtMost};
 ghost use Rattle.std.specs.Io.KnownBytes.{Appends, WriteAppends, Keeps};
@@ -189,7 +191,7 @@ fn append_once<F: PositionedFile>(
 }
 
 impl Writer {
-    /// A writer with segments of these lengths. DescriptorChainOverflow where their sum doesn't fit usize.
+    /// A writer with segments of these lengths. `DescriptorChainOverflow` where their sum doesn't fit usize.
     pub fn new(alloc: Global, lengths: &[usize]) -> Result<Writer, Error>
         ensures written { IfOk result (λ w. w.written ≡ []) }
         ensures room { IfOk result (λ w. (w.free ≡ sum lengths.now) × (w.segments ≡ filled lengths.now)) }
@@ -341,7 +343,8 @@ impl Writer {
         n
     }
 
-    /// Writes the value's bytes. Where they have no room, what there is is used up, and nothing more can be written.
+    /// Writes the value's bytes. Where they have no room, what there is is used up, nothing more can be written, and
+    /// that is `IoError` of kind `WriteZero`.
     pub fn write_obj<T: ByteValued>(&mut self, value: T) -> Result<(), Error>
         ensures fits { AllFit (T.fields value) }
         ensures ok { OnOk result ((self.new.written ≡ self.old.written ++ spelled (T.fields value)) × (self.new.free + T.SIZE ≡ self.old.free)) }
@@ -360,7 +363,7 @@ impl Writer {
     }
 
     /// Splits the room that is free at a place: what stands behind it goes to a writer of its own, with no byte
-    /// written. SplitOutOfBounds where the place is past the end. A refusal changes nothing.
+    /// written. `SplitOutOfBounds` where the place is past the end. A refusal changes nothing.
     pub fn split_at(&mut self, alloc: Global, offset: usize) -> Result<Writer, Error>
         ensures written { self.new.written ≡ self.old.written }
         ensures free { OnOk result ((offset ≤ self.old.free) × (self.new.free ≡ offset)) }

@@ -68,7 +68,8 @@ impl ZeroCopyWriter for ZcWriter {
         count: usize,
         off: u64,
     ) -> Result<usize, Errno>
-        ensures puts { (bytes : List ℕ) × (self.new.writer.written ≡ self.old.writer.written ++ bytes) × (self.old.writer.free ≡ self.new.writer.free + length bytes)
+        ensures puts { (bytes : List ℕ) × (self.new.writer.written ≡ self.old.writer.written ++ bytes)
+            × (self.old.writer.free ≡ self.new.writer.free + length bytes)
             × (rooms self.new.writer ≡ past (length bytes) (rooms self.old.writer)) × (sum (rooms self.old.writer) ≡ self.old.writer.free)
             × ReadsSegments F.read_gives file.old (up_to count (rooms self.old.writer)) off bytes result file.new }
         ensures segments { self.new.writer.segments ≡ self.old.writer.segments }

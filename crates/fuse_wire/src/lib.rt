@@ -1,4 +1,4 @@
-//! The records and numbers of the FUSE protocol, version 7.38.
+//! The records and numbers of the FUSE protocol, version 7.38 (linux/fuse.h); numbers have the lowest byte first.
 #![tactic(auto)]
 
 mod notices;

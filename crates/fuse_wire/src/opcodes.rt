@@ -88,7 +88,7 @@ impl Opcode {
 }
 
 impl NotifyOpcode {
-    /// Its number, from 1 to 7.
+    /// Its number in a notice's header, where an error stands in a reply's.
     pub fn number(self) -> u32
         ensures { result ≡ notice_number self }
     {

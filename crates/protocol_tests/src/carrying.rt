@@ -8,12 +8,11 @@ use crate::log::Log;
 use crate::recorder::Recorder;
 use crate::toy::Told;
 use bitflags::Flags;
-use fuse_fs::{SerializableFileSystem, defaults};
 use fuse_wire::FsOptions;
 use std::cell::Cell;
 use std::io::{self, ErrorKind, Read, Write};
 use std::sync::atomic::{AtomicBool, Ordering};
-use virtiofsd_fuse::Server;
+use virtiofsd_fuse::{SerializableFileSystem, Server, defaults};
 
 /// What a file system has that is carried over: three bytes, once it was made ready and nobody cancelled that.
 #[derive(Drop)]

@@ -4,14 +4,14 @@ use crate::given::expect_same;
 use crate::log::Log;
 use crate::recorder::Recorder;
 use crate::toy::Told;
-use fuse_fs::{
-    Context, DirectoryIterator, Extensions, FileSystem, FileSystemBase, NoEntries, SecContext,
-    defaults,
-};
 use fuse_wire::{Errno, GuestGid, GuestUid, StatVfs};
 use std::alloc::Global;
 use std::cell::Cell;
 use std::process::Abort;
+use virtiofsd_fuse::{
+    Context, DirectoryIterator, Extensions, FileSystem, FileSystemBase, NoEntries, SecContext,
+    defaults,
+};
 
 const ROOT: Context = Context {
     uid: GuestUid(0),

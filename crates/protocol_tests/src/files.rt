@@ -2,8 +2,8 @@
 
 use crate::given::expect_same;
 use crate::toy::{Copied, Hello};
-use fuse_fs::{Context, Entry, FileNumber, PositionedFile, Timeout, WritevFlags};
 use fuse_wire::{Attr, EntryOut, GuestGid, GuestUid, InHeader};
+use virtiofsd_fuse::{Context, Entry, FileNumber, PositionedFile, Timeout, WritevFlags};
 
 // What a number is after it was made into a value, by the bound alone.
 fn there_and_back<N: FileNumber>(n: u64) -> u64 {

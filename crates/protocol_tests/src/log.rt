@@ -3,12 +3,12 @@
 ghost use Rattle.std.specs.Prelude.{⊤};
 
 use crate::toy::Told;
-use fuse_fs::{Context, Extensions, PositionedFile, WritevFlags};
 use fuse_wire::Errno;
 use std::alloc::Global;
 use std::cell::Cell;
 use std::io;
 use std::io::Write;
+use virtiofsd_fuse::{Context, Extensions, PositionedFile, WritevFlags};
 
 /// Stands for a number that isn't there; it is written as `-`.
 pub const NONE: u64 = u64::MAX;

@@ -5,12 +5,12 @@ ghost use Rattle.std.specs.Prelude.{⊤};
 use crate::log::{Log, NONE};
 use crate::toy::{Entries, Hello, Told};
 use bitflags::Flags;
-use fuse_fs::{
-    Context, Entry, Extensions, FileSystem, FileSystemBase, GetxattrReply, ListxattrReply, Timeout,
-    ZeroCopyReader, ZeroCopyWriter, defaults,
-};
 use fuse_wire::{
     Attr, Errno, FsOptions, OpenOptions, SetattrIn, SetattrValid, SetxattrFlags, StatVfs,
+};
+use virtiofsd_fuse::{
+    Context, Entry, Extensions, FileSystem, FileSystemBase, GetxattrReply, ListxattrReply, Timeout,
+    ZeroCopyReader, ZeroCopyWriter, defaults,
 };
 
 /// It writes down each call, and keeps something that no call needs.

@@ -4,8 +4,8 @@ ghost use Rattle.std.specs.Prelude.{⊤, drop};
 ghost use Rattle.protocol_tests.specs.Entries.{listed_entries};
 
 use bitflags::Flags;
-use fuse_fs::{DirEntry, DirectoryIterator, Entry, PositionedFile, Timeout, WritevFlags};
 use fuse_wire::{Attr, Errno, GuestGid, GuestUid, OpenOptions, StatVfs};
+use virtiofsd_fuse::{DirEntry, DirectoryIterator, Entry, PositionedFile, Timeout, WritevFlags};
 
 /// The bytes of `hello`, read by a buffer.
 #[derive(Drop)]

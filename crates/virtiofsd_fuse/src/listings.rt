@@ -1,20 +1,20 @@
 //! READDIR and READDIRPLUS: entries of a directory go straight into the reply.
 
-ghost use Rattle.std.specs.Prelude.{◌≡◌, ◌+◌, ◌<◌, ◌^◌, Bool, true, false, List, ℕ, [], ◌++◌, length, IfErr, OnOk, OnErr};
+ghost use Rattle.std.specs.Prelude.{◌≡◌, ◌+◌, ◌<◌, ◌^◌, Bool, true, false, List, ℕ, [], ◌++◌, length, OnOk, OnErr};
 ghost use Rattle.fuse_in.specs.declared.files.ReadIn.{ReadIn};
-ghost use Rattle.fuse_fs.specs.Answers.{listed, numbered, context_of, listed_answer};
+ghost use Rattle.fuse_fs.specs.Answers.{listed, numbered, context_of};
 ghost use Rattle.fuse_fs.specs.Calls.{Done};
 ghost use Rattle.fuse_replies.specs.Entries.{dirent_bytes, node_bytes, entry_len, fit_of, is_dot, after_entry};
-ghost use Rattle.virtiofsd_fuse.specs.Listings.{listing_of, readdir_call, undo_call};
+ghost use Rattle.virtiofsd_fuse.specs.Listings.{listing_of, undo_call};
 ghost use Rattle.virtiofsd_fuse.specs.ListingRuns.{ListRun, EntryRun};
 ghost use Rattle.virtiofsd_fuse.specs.Grammar.{listing_row, listing_asked};
 ghost use Rattle.virtiofsd_fuse.specs.Serving.{RowHandles, Leaves};
 
 use crate::server::Server;
+use fuse_calls::directories::make_readdir_call;
 use fuse_calls::nodes::Lookup;
-use fuse_calls::received::received;
 use fuse_calls::requests::NameRequest;
-use fuse_fs::{Context, DirEntry, DirectoryIterator, Entry, FileNumber, FileSystem};
+use fuse_fs::{Context, DirEntry, DirectoryIterator, Entry, FileSystem};
 use fuse_in::{InHeader, ReadIn};
 use fuse_replies::entries::{is_dot, no_node, node_bytes, put_entry, reply_listing};
 use fuse_replies::init::MAX_BUFFER_SIZE;
@@ -24,24 +24,6 @@ use fuse_segments::{Error, Reader, Writer};
 use fuse_wire::Errno;
 
 impl<F: FileSystem> Server<F> {
-    // Asks for the entries of a directory.
-    fn ask_readdir(&mut self, head: &InHeader, request: &ReadIn) -> Result<F::DirIter, Errno>
-        ensures may { (with_nodes : Bool) → F.may self.old.fs (readdir_call (listing_of with_nodes head.now request.now)) (listed_answer F.DirIter.rest result) self.new.fs }
-        ensures errno { IfErr result (λ e. (0 < e) × (e < 4096)) }
-        ensures options { self.new.options ≡ self.old.options }
-        ensures page_size { self.new.page_size ≡ self.old.page_size }
-    {
-        received(
-            self.fs.readdir(
-                Context::from(*head),
-                F::Inode::numbered(head.nodeid),
-                F::Handle::numbered(request.fh),
-                request.size,
-                request.offset,
-            ),
-        )
-    }
-
     // Puts an entry with its node in; where it doesn't go in, the node is taken back.
     fn put_node(
         &mut self,
@@ -81,12 +63,13 @@ impl<F: FileSystem> Server<F> {
         w: &mut Writer,
     ) -> Result<usize, Option<Errno>>
         requires { is_dot entry.now.name.now ≡ false }
-        ensures run { (request : ReadIn) → EntryRun F.may (listing_of true head.now request) (listed entry.now) left w.old.free self.old.fs w.old.written result w.new.free self.new.fs w.new.written }
+        ensures run { (request : ReadIn) → EntryRun F.may (listing_of true head.now request)
+            (listed entry.now) left w.old.free self.old.fs w.old.written result w.new.free self.new.fs w.new.written }
         ensures room { length w.new.written + w.new.free ≡ length w.old.written + w.old.free }
         ensures options { self.new.options ≡ self.old.options }
         ensures page_size { self.new.page_size ≡ self.old.page_size }
     {
-        match Lookup::ask(&mut self.fs, head, entry.name) {
+        match Lookup::make_call(&mut self.fs, head, entry.name) {
             Ok(node) => self.put_node(head, node, entry, left, w),
             Err(error) => Err(Some(error)),
         }
@@ -101,7 +84,8 @@ impl<F: FileSystem> Server<F> {
         left: usize,
         w: &mut Writer,
     ) -> Result<usize, Option<Errno>>
-        ensures run { (request : ReadIn) → EntryRun F.may (listing_of with_nodes head.now request) (listed entry.now) left w.old.free self.old.fs w.old.written result w.new.free self.new.fs w.new.written }
+        ensures run { (request : ReadIn) → EntryRun F.may (listing_of with_nodes head.now request)
+            (listed entry.now) left w.old.free self.old.fs w.old.written result w.new.free self.new.fs w.new.written }
         ensures room { length w.new.written + w.new.free ≡ length w.old.written + w.old.free }
         ensures options { self.new.options ≡ self.old.options }
         ensures page_size { self.new.page_size ≡ self.old.page_size }
@@ -124,7 +108,8 @@ impl<F: FileSystem> Server<F> {
         size: usize,
         w: &mut Writer,
     ) -> Option<Errno>
-        ensures run { (request : ReadIn) → ListRun F.may (listing_of with_nodes head.now request) (F.DirIter.rest entries) size w.old.free self.old.fs w.old.written w.new.written result self.new.fs }
+        ensures run { (request : ReadIn) → ListRun F.may (listing_of with_nodes head.now request)
+            (F.DirIter.rest entries) size w.old.free self.old.fs w.old.written w.new.written result self.new.fs }
         ensures room { length w.new.written + w.new.free ≡ length w.old.written + w.old.free }
         ensures options { self.new.options ≡ self.old.options }
         ensures page_size { self.new.page_size ≡ self.old.page_size }
@@ -150,7 +135,8 @@ impl<F: FileSystem> Server<F> {
     ) -> Result<usize, Error>
         requires fresh { w.old.written ≡ [] }
         requires room { w.old.free < 2 ^ 32 }
-        ensures handles { (more : List ℕ) → RowHandles F.may self.old w.old.free head.now (listing_asked with_nodes request.now) more result w.new.written self.new }
+        ensures handles { (more : List ℕ) → RowHandles F.may self.old w.old.free head.now
+            (listing_asked with_nodes request.now) more result w.new.written self.new }
         ensures rest { Leaves false result w.old w.new self.old self.new }
     {
         let room = w.available_bytes();
@@ -163,7 +149,7 @@ impl<F: FileSystem> Server<F> {
         if room < OUT_HEADER_LEN {
             return Err(Error::EncodeMessage);
         }
-        match self.ask_readdir(head, request) {
+        match make_readdir_call(&mut self.fs, head, request) {
             Ok(entries) => {
                 append(w, &[0; OUT_HEADER_LEN]);
                 let error = self.list_entries(head, entries, with_nodes, request.size as usize, w);

@@ -7,7 +7,7 @@ ghost use Rattle.virtiofsd_fuse.specs.WantOfMemory.{row_owns};
 ghost use Rattle.virtiofsd_fuse.specs.Serving.{RowHandles, Leaves};
 
 use crate::server::Server;
-use fuse_calls::new_nodes::ask_symlink;
+use fuse_calls::new_nodes::make_symlink_call;
 use fuse_calls::requests::NewNameRequest;
 use fuse_fs::FileSystem;
 use fuse_in::InHeader;
@@ -31,7 +31,8 @@ impl<F: FileSystem> Server<F> {
         R::Answer: AsReply,
         requires fresh { w.old.written ≡ [] }
         requires room { w.old.free < 2 ^ 32 }
-        ensures handles { RowHandles F.may self.old w.old.free head.now (new_name_row R.Record.shape R.Record.SIZE R.call) r.old.left result w.new.written self.new }
+        ensures handles { RowHandles F.may self.old w.old.free head.now
+            (new_name_row R.Record.shape R.Record.SIZE R.call) r.old.left result w.new.written self.new }
         ensures rest { Leaves (row_owns (given head.now self.old.options.0 w.old.free) (new_name_row R.Record.shape R.Record.SIZE R.call) r.old.left
             || counted_split head.now.len R.Record.SIZE r.old.segments) result w.old w.new self.old self.new }
     {
@@ -39,7 +40,7 @@ impl<F: FileSystem> Server<F> {
             Ok(front) => match new_name(self.options, &front.bytes) {
                 Ok(new) => match owned_extensions(alloc, new.received) {
                     Ok(extensions) => {
-                        let answer = R::ask(
+                        let answer = R::make_call(
                             &mut self.fs,
                             head,
                             &front.record,
@@ -67,13 +68,14 @@ impl<F: FileSystem> Server<F> {
         requires fresh { w.old.written ≡ [] }
         requires room { w.old.free < 2 ^ 32 }
         ensures handles { RowHandles F.may self.old w.old.free head.now symlink_row r.old.left result w.new.written self.new }
-        ensures rest { Leaves (row_owns (given head.now self.old.options.0 w.old.free) symlink_row r.old.left || counted_split head.now.len 0 r.old.segments) result w.old w.new self.old self.new }
+        ensures rest { Leaves (row_owns (given head.now self.old.options.0 w.old.free) symlink_row r.old.left || counted_split head.now.len 0 r.old.segments)
+            result w.old w.new self.old self.new }
     {
         match read_counted(alloc, head.len, 0, r) {
             Ok(bytes) => match new_link(self.options, &bytes) {
                 Ok(parts) => match owned_extensions(alloc, parts.received) {
                     Ok(extensions) => {
-                        let answer = ask_symlink(
+                        let answer = make_symlink_call(
                             &mut self.fs,
                             head,
                             parts.link,

@@ -1,4 +1,4 @@
-//! Requests of one shape: they are read, they ask one call, and the client is told its answer.
+//! Requests of one shape: they are read, they make one call, and the client is told its answer.
 
 ghost use Rattle.std.specs.Prelude.{◌≡◌, ◌<◌, ◌^◌, [], false};
 ghost use Rattle.fuse_requests.specs.Fronts.{counted_split};
@@ -34,7 +34,7 @@ impl<F: FileSystem> Server<F> {
     {
         match read_record(r) {
             Ok(request) => {
-                let answer = R::ask(&mut self.fs, head, &request);
+                let answer = R::make_call(&mut self.fs, head, &request);
                 reply_answer(w, head.unique, answer)
             }
             Err(error) => Err(error),
@@ -55,7 +55,7 @@ impl<F: FileSystem> Server<F> {
         ensures handles { RowHandles F.may self.old w.old.free head.now (plain_row R.call) r.now.left result w.new.written self.new }
         ensures rest { Leaves false result w.old w.new self.old self.new }
     {
-        let answer = R::ask(&mut self.fs, head);
+        let answer = R::make_call(&mut self.fs, head);
         reply_answer(w, head.unique, answer)
     }
 
@@ -78,7 +78,7 @@ impl<F: FileSystem> Server<F> {
         match read_counted(alloc, head.len, 0, r) {
             Ok(bytes) => match last_name(&bytes) {
                 Ok(name) => {
-                    let answer = R::ask(&mut self.fs, head, name);
+                    let answer = R::make_call(&mut self.fs, head, name);
                     reply_answer(w, head.unique, answer)
                 }
                 Err(error) => Err(error),
@@ -99,13 +99,14 @@ impl<F: FileSystem> Server<F> {
         R::Answer: AsReply,
         requires fresh { w.old.written ≡ [] }
         requires room { w.old.free < 2 ^ 32 }
-        ensures handles { RowHandles F.may self.old w.old.free head.now (record_name_row R.Record.shape R.Record.SIZE R.call) r.old.left result w.new.written self.new }
+        ensures handles { RowHandles F.may self.old w.old.free head.now
+            (record_name_row R.Record.shape R.Record.SIZE R.call) r.old.left result w.new.written self.new }
         ensures rest { Leaves (counted_split head.now.len R.Record.SIZE r.old.segments) result w.old w.new self.old self.new }
     {
         match read_with_bytes::<R::Record>(alloc, head.len, r) {
             Ok(front) => match last_name(&front.bytes) {
                 Ok(name) => {
-                    let answer = R::ask(&mut self.fs, head, &front.record, name);
+                    let answer = R::make_call(&mut self.fs, head, &front.record, name);
                     reply_answer(w, head.unique, answer)
                 }
                 Err(error) => Err(error),
@@ -126,13 +127,14 @@ impl<F: FileSystem> Server<F> {
         R::Answer: AsReply,
         requires fresh { w.old.written ≡ [] }
         requires room { w.old.free < 2 ^ 32 }
-        ensures handles { RowHandles F.may self.old w.old.free head.now (two_names_row R.Record.shape R.Record.SIZE R.call) r.old.left result w.new.written self.new }
+        ensures handles { RowHandles F.may self.old w.old.free head.now
+            (two_names_row R.Record.shape R.Record.SIZE R.call) r.old.left result w.new.written self.new }
         ensures rest { Leaves (counted_split head.now.len R.Record.SIZE r.old.segments) result w.old w.new self.old self.new }
     {
         match read_with_bytes::<R::Record>(alloc, head.len, r) {
             Ok(front) => match two_names(&front.bytes) {
                 Ok((old, new)) => {
-                    let answer = R::ask(&mut self.fs, head, &front.record, old, new);
+                    let answer = R::make_call(&mut self.fs, head, &front.record, old, new);
                     reply_answer(w, head.unique, answer)
                 }
                 Err(error) => Err(error),

@@ -135,7 +135,8 @@ impl<F: FileSystem> Server<F> {
         requires fresh { w.old.written ≡ [] }
         requires room { w.old.free < 2 ^ 32 }
         ensures handles { OpcodeHandles F.may self.old w.old.free head.now opcode r.old.left result w.new.written self.new }
-        ensures rest { Leaves (takes_memory (given head.now self.old.options.0 w.old.free) opcode r.old.segments r.old.left) result w.old w.new self.old self.new }
+        ensures rest { Leaves (takes_memory (given head.now self.old.options.0 w.old.free) opcode r.old.segments r.old.left)
+            result w.old w.new self.old self.new }
     {
         match opcode {
             Opcode::Lookup => self.name_request::<Lookup>(alloc, head, r, w),
@@ -200,8 +201,10 @@ impl<F: FileSystem> Server<F> {
     ) -> Result<usize, Error>
         requires fresh { w.old.written ≡ [] }
         requires room { w.old.free < 2 ^ 32 }
-        ensures handles { ServerHandles F.may self.old w.old.free (meant (given head.now self.old.options.0 w.old.free) r.old.left) result w.new.written self.new }
-        ensures rest { Leaves (body_takes_memory (given head.now self.old.options.0 w.old.free) r.old.segments r.old.left) result w.old w.new self.old self.new }
+        ensures handles { ServerHandles F.may self.old w.old.free
+            (meant (given head.now self.old.options.0 w.old.free) r.old.left) result w.new.written self.new }
+        ensures rest { Leaves (body_takes_memory (given head.now self.old.options.0 w.old.free) r.old.segments r.old.left)
+            result w.old w.new self.old self.new }
     {
         if head.len > MAX_REQUEST_LEN {
             return reply_error(w, head.unique, Errno::ENOMEM);

@@ -1,14 +1,13 @@
 //! The start of a conversation.
 
-ghost use Rattle.std.specs.Prelude.{◌≡◌, ℕ, ◌<◌, ◌^◌, List, [], IsTrue, bit_and, Ok, false};
-ghost use Rattle.fuse_fs.specs.Answers.{options_answer};
-ghost use Rattle.fuse_fs.specs.Calls.{suits, Init, Destroy, Done};
+ghost use Rattle.std.specs.Prelude.{◌≡◌, ℕ, ◌<◌, ◌^◌, List, [], bit_and, Ok, false};
+ghost use Rattle.fuse_fs.specs.Calls.{Destroy, Done};
 ghost use Rattle.virtiofsd_fuse.specs.Grammar.{plain_row, silent_row, init_row, started, known_options};
 ghost use Rattle.virtiofsd_fuse.specs.Serving.{RowHandles, Leaves, agreed};
 
 use crate::server::Server;
 use bitflags::Flags;
-use fuse_calls::received::received;
+use fuse_calls::session::make_init_call;
 use fuse_fs::FileSystem;
 use fuse_in::{InHeader, InitInCompat};
 use fuse_replies::init::{start_bytes, versions};
@@ -38,22 +37,6 @@ fn agree(capable: FsOptions, wanted: FsOptions) -> FsOptions
 }
 
 impl<F: FileSystem> Server<F> {
-    // Asks what the file system wants.
-    fn ask_init(&mut self, capable: FsOptions) -> Result<FsOptions, Errno>
-        ensures may { F.may self.old.fs (Init capable.0) (options_answer result) self.new.fs }
-        ensures suits { IsTrue (suits (Init capable.0) (options_answer result)) }
-        ensures page_size { self.new.page_size ≡ self.old.page_size }
-        ensures options { self.new.options ≡ self.old.options }
-    {
-        match received(self.fs.init(capable)) {
-            Ok(wanted) => {
-                let _bits = wanted.bits();
-                Ok(wanted)
-            }
-            Err(error) => Err(error),
-        }
-    }
-
     // INIT, by its records: the versions first, and then what both sides can.
     fn start(
         &mut self,
@@ -78,7 +61,7 @@ impl<F: FileSystem> Server<F> {
             return reply_error(w, head.unique, Errno::EPROTO);
         }
         let capable = known(flags2 as u64 * 0x1_0000_0000 + request.flags as u64);
-        match self.ask_init(capable) {
+        match make_init_call(&mut self.fs, capable) {
             Ok(wanted) => {
                 let options = agree(capable, wanted);
                 self.options = options;
@@ -110,7 +93,7 @@ impl<F: FileSystem> Server<F> {
         }
     }
 
-    /// INTERRUPT: nothing is asked, and there is no reply.
+    /// INTERRUPT: no call is made, and there is no reply.
     pub(crate) fn interrupt(
         &mut self,
         head: &InHeader,

@@ -41,7 +41,7 @@ impl<F: FileSystem> Server<F> {
                 }
                 match last_name(&front.bytes) {
                     Ok(name) => {
-                        let answer = Getxattr::ask(&mut self.fs, head, &front.record, name);
+                        let answer = Getxattr::make_call(&mut self.fs, head, &front.record, name);
                         reply_answer(w, head.unique, answer)
                     }
                     Err(error) => Err(error),
@@ -68,7 +68,7 @@ impl<F: FileSystem> Server<F> {
                 if request.size > MAX_BUFFER_SIZE {
                     return reply_error(w, head.unique, Errno::ENOMEM);
                 }
-                let answer = Listxattr::ask(&mut self.fs, head, &request);
+                let answer = Listxattr::make_call(&mut self.fs, head, &request);
                 reply_answer(w, head.unique, answer)
             }
             Err(error) => Err(error),
@@ -91,7 +91,13 @@ impl<F: FileSystem> Server<F> {
         match read_setxattr(alloc, self.options, head.len, r) {
             Ok(front) => match name_and_value(&front.bytes, front.record.size) {
                 Ok((name, value)) => {
-                    let answer = Setxattr::ask(&mut self.fs, head, &front.record, name, value);
+                    let answer = Setxattr::make_call(
+                        &mut self.fs,
+                        head,
+                        &front.record,
+                        name,
+                        value,
+                    );
                     reply_answer(w, head.unique, answer)
                 }
                 Err(error) => Err(error),

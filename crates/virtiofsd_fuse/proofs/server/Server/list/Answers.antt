@@ -1,4 +1,4 @@
-use Rattle.std.proofs.Common.{◌≡◌, ℕ, ◌-◌, Ok, length, refl, ap, ◌∙◌, arith, subst}
+use Rattle.std.proofs.Common.{◌≡◌, ℕ, ◌-◌, Ok, length, refl, ap, arith, subst}
 use Rattle.fuse_base.specs.Options.{FsOptions}
 use Rattle.virtiofsd_fuse.specs.Grammar.{given}
 use Rattle.virtiofsd_fuse.specs.Listings.{listing_of}
@@ -40,14 +40,14 @@ returns-in-Ok-clause-handles g c = λ more.
     let place = c.append.ensures.free in
     let front : length c.append.new.w.written ≡ 16 = rw (c.append.ensures.written, c.requires.fresh) refl in
     let left : c.append.new.w.free ≡ c.args.w.now.free - 16 = omega (arith, place) in
-    let went = subst (λ (n : ℕ). ListRun g.F.FileSystemBase.may l (g.F.DirIter.DirectoryIterator.rest c.in-Ok.entries) c.args.request.now.size n c.ask_readdir.new.self.fs
+    let went = subst (λ (n : ℕ). ListRun g.F.FileSystemBase.may l (g.F.DirIter.DirectoryIterator.rest c.in-Ok.entries) c.args.request.now.size n c.make_readdir_call.new.fs
     c.append.new.w.written c.list_entries-error.new.w.written c.list_entries-error.result c.list_entries-error.new.self.fs) left (c.list_entries-error.ensures.run c.args.request.now) in
     handles_list g.F.FileSystemBase.may (setting c.args.self.now.page_size c.args.self.now.options.0 c.args.w.now.free) _ c.args.head.now.unique l
-    (g.F.DirIter.DirectoryIterator.rest c.in-Ok.entries) c.args.self.now.fs c.ask_readdir.new.self.fs _ _ _ c.list_entries-error.result (Ok c.reply_listing.result) _ _
+    (g.F.DirIter.DirectoryIterator.rest c.in-Ok.entries) c.args.self.now.fs c.make_readdir_call.new.fs _ _ _ c.list_entries-error.result (Ok c.reply_listing.result) _ _
     (listing_asks c.args.with_nodes (given c.args.head.now c.args.self.now.options.0 c.args.w.now.free) c.args.request.now more c.if-request-gt-MAX_BUFFER_SIZE.false
     (omega (arith, room, c.if-room-request.false)) (omega (arith, room, c.if-room-lt-OUT_HEADER_LEN.false)))
-    (c.in-Ok.ensures.may c.args.with_nodes) went
-    (ap (λ (o : FsOptions). o.0) (c.list_entries-error.ensures.options ∙ c.in-Ok.ensures.options))
+    c.in-Ok.ensures.may went
+    (ap (λ (o : FsOptions). o.0) c.list_entries-error.ensures.options)
     (listing_told c.args.w.now.free c.args.head.now.unique c.reply_listing.result c.args.with_nodes c.append.new.w.written c.list_entries-error.new.w.written _ went.bytes
     c.list_entries-error.result front went.all
     (entries_fit c.append.new.w.written c.list_entries-error.new.w.written went.bytes c.append.new.w.free c.list_entries-error.new.w.free c.args.w.now.free front went.all
@@ -62,5 +62,5 @@ returns-in-Err-clause-handles g c = λ more.
     c.in-Err.error _ _ _ _ _
     (listing_asks c.args.with_nodes (given c.args.head.now c.args.self.now.options.0 c.args.w.now.free) c.args.request.now more c.if-request-gt-MAX_BUFFER_SIZE.false
     (omega (arith, room, c.if-room-request.false)) (omega (arith, room, c.if-room-lt-OUT_HEADER_LEN.false)))
-    (listing_suits l c.in-Err.error c.in-Err.ensures.errno) (c.in-Err.ensures.may c.args.with_nodes)
-    (ap (λ (o : FsOptions). o.0) c.in-Err.ensures.options) c.reply_error-in-Err.ensures.sent
+    (listing_suits l c.in-Err.error c.in-Err.ensures.errno) c.in-Err.ensures.may
+    refl c.reply_error-in-Err.ensures.sent

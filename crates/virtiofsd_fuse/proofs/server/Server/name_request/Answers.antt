@@ -11,8 +11,8 @@ returns-in-Ok-last_name-clause-handles g c =
     handles_one g.F.FileSystemBase.may _ _ _ _ _ _ _ _ _ _
     (name_read h g.R.NameRequest.call _ _ c.in-Ok.ensures.bytes
     ∙ ap (ask_of c.args.head.now.unique (g.R.NameRequest.call c.args.head.now)) (sym (rw c.deref.ensures.value at c.in-Ok-last_name.ensures.ok)))
-    c.ask-answer.ensures.suits c.ask-answer.ensures.may (sym (c.ask-answer.ensures.options _))
-    (rw c.ask-answer.ensures.silent c.reply_answer.ensures.sent)
+    c.make_call-answer.ensures.suits c.make_call-answer.ensures.may (sym (c.make_call-answer.ensures.options _))
+    (rw c.make_call-answer.ensures.silent c.reply_answer.ensures.sent)
 
 pub returns-in-Ok-clause-handles : goal.returns-in-Ok-clause-handles
 returns-in-Ok-clause-handles g c =

@@ -1,5 +1,4 @@
-use Rattle.std.proofs.Common.{sym, ap, ◌∙◌}
-use Rattle.fuse_base.specs.Options.{FsOptions}
+use Rattle.std.proofs.Common.{refl, sym, ap, ◌∙◌}
 use Rattle.fuse_fs.specs.Calls.{Wants, Failed}
 use Rattle.virtiofsd_fuse.specs.Grammar.{Asks, Starts, given}
 use Rattle.virtiofsd_fuse.specs.Serving.{setting}
@@ -43,7 +42,7 @@ returns-in-Ok-clause-handles g c = λ more.
     c.if-request-lt-MIN_KERNEL_MINOR_VERSION.false
     ∙ ap (λ k. Asks (Starts c.args.head.now.unique k c.args.request.now.max_readahead)) (sym c.known-capable.ensures.options))
     c.in-Ok.ensures.suits c.in-Ok.ensures.may c.agree-options.ensures.options
-    (rw (c.start_bytes-bytes.ensures, c.ask_init.ensures.page_size, c.agree-options.ensures.options) at c.reply-in-Ok.ensures.sent)
+    (rw (c.start_bytes-bytes.ensures, c.agree-options.ensures.options) at c.reply-in-Ok.ensures.sent)
 
 pub returns-in-Err-clause-handles : goal.returns-in-Err-clause-handles
 returns-in-Err-clause-handles g c = λ more.
@@ -53,5 +52,5 @@ returns-in-Err-clause-handles g c = λ more.
     (start_asks h c.args.request.now c.args.flags2 more c.if-request-lt-KERNEL_VERSION.false c.if-request-gt-KERNEL_VERSION.false
     c.if-request-lt-MIN_KERNEL_MINOR_VERSION.false
     ∙ ap (λ k. Asks (Starts c.args.head.now.unique k c.args.request.now.max_readahead)) (sym c.known-capable.ensures.options))
-    c.in-Err.ensures.suits c.in-Err.ensures.may (ap (λ (o : FsOptions). o.0) c.ask_init.ensures.options)
+    c.in-Err.ensures.suits c.in-Err.ensures.may refl
     c.reply_error-in-Err.ensures.sent

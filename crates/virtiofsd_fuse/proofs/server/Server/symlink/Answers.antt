@@ -15,7 +15,7 @@ returns-in-Ok-owned_extensions-clause-handles g c =
     handles_one g.F.FileSystemBase.may _ _ _ _ _ _ _ _ _ _
     (symlink_read h _ _ c.in-Ok.ensures.bytes
     ∙ ap (ask_of c.args.head.now.unique (symlink_call c.args.head.now)) (sym (rw (c.deref.ensures.value, ← c.in-Ok-owned_extensions.ensures.ok) at c.in-Ok-new_link.ensures.reads)))
-    c.ask_symlink-answer.ensures.suits c.ask_symlink-answer.ensures.may refl c.reply_answer.ensures.sent
+    c.make_symlink_call-answer.ensures.suits c.make_symlink_call-answer.ensures.may refl c.reply_answer.ensures.sent
 
 pub returns-in-Ok-new_link-clause-handles : goal.returns-in-Ok-new_link-clause-handles
 returns-in-Ok-new_link-clause-handles g c =

@@ -1,5 +1,4 @@
-use Rattle.std.proofs.Common.{ap}
-use Rattle.fuse_base.specs.Options.{FsOptions}
+use Rattle.std.proofs.Common.{refl}
 use Rattle.fuse_fs.specs.Answers.{written_answer}
 use Rattle.virtiofsd_fuse.specs.Grammar.{given}
 use Rattle.fuse_calls.specs.Requests.{write_call}
@@ -12,11 +11,11 @@ pub returns-in-Ok-clause-handles : goal.returns-in-Ok-clause-handles
 returns-in-Ok-clause-handles g c =
     let left = c.replace-reader.ensures.value in
     handles_one g.F.FileSystemBase.may (setting c.args.self.now.page_size c.args.self.now.options.0 c.args.w.now.free) _ c.args.head.now.unique
-    (write_call c.args.head.now c.in-Ok.request c.replace-reader.result.left) (written_answer c.ask_write-answer.result) _ _ _ _ _
+    (write_call c.args.head.now c.in-Ok.request c.replace-reader.result.left) (written_answer c.make_write_call-answer.result) _ _ _ _ _
     (rw left (write_asks (given c.args.head.now c.args.self.now.options.0 c.args.w.now.free) _ _ _ c.in-Ok.ensures.reads))
-    (write_suits c.args.head.now c.in-Ok.request c.replace-reader.result.left c.ask_write-answer.result c.ask_write-answer.ensures.errno c.ask_write-answer.ensures.count)
-    c.ask_write-answer.ensures.may
-    (ap (λ (o : FsOptions). o.0) c.ask_write-answer.ensures.options)
+    (write_suits c.args.head.now c.in-Ok.request c.replace-reader.result.left c.make_write_call-answer.result c.make_write_call-answer.ensures.errno c.make_write_call-answer.ensures.count)
+    c.make_write_call-answer.ensures.may
+    refl
     c.reply_answer.ensures.sent
 
 pub returns-in-Err-clause-handles : goal.returns-in-Err-clause-handles

@@ -1,0 +1,38 @@
+//! READ: what is read of an open file.
+
+ghost use Rattle.std.specs.Prelude.{◌≡◌, ℕ, ◌+◌, ◌<◌, List, ◌++◌, length, IfOk, IfErr};
+ghost use Rattle.fuse_fs.specs.Answers.{data_answer};
+ghost use Rattle.fuse_calls.specs.Requests.{read_call};
+
+use crate::received::received;
+use crate::requests::owner_if;
+use fuse_fs::{Context, FileNumber, FileSystem, ZeroCopyWriter};
+use fuse_in::{InHeader, ReadIn};
+use fuse_wire::Errno;
+use fuse_wire::constants::READ_LOCKOWNER;
+
+/// READ (`struct fuse_read_in`): bytes of a file go into a writer. Answers how many.
+#[inline(always)]
+pub fn make_read_call<F: FileSystem, W: ZeroCopyWriter>(
+    fs: &mut F,
+    head: &InHeader,
+    request: &ReadIn,
+    into: &mut W,
+) -> Result<usize, Errno>
+    ensures read { (bytes : List ℕ) × (W.put into.new ≡ W.put into.old ++ bytes)
+        × (W.room into.old ≡ W.room into.new + length bytes) × IfOk result (λ n. n ≡ length bytes)
+        × F.may fs.old (read_call head.now (W.room into.old) request.now) (data_answer result bytes) fs.new }
+    ensures room { length (W.put into.new) + W.room into.new ≡ length (W.put into.old) + W.room into.old }
+    ensures errno { IfErr result (λ e. (0 < e) × (e < 4096)) }
+{
+    received(fs.read(
+        Context::from(*head),
+        F::Inode::numbered(head.nodeid),
+        F::Handle::numbered(request.fh),
+        into,
+        request.size,
+        request.offset,
+        owner_if(request.read_flags & READ_LOCKOWNER != 0, request.lock_owner),
+        request.flags,
+    ))
+}

@@ -1,0 +1,24 @@
+//! INIT: the start of a conversation.
+
+ghost use Rattle.std.specs.Prelude.{IsTrue};
+ghost use Rattle.fuse_fs.specs.Answers.{options_answer};
+ghost use Rattle.fuse_fs.specs.Calls.{suits, Init};
+
+use crate::received::received;
+use bitflags::Flags;
+use fuse_fs::FileSystem;
+use fuse_wire::{Errno, FsOptions};
+
+/// INIT (`struct fuse_init_in`): of the options that both sides can, those that the file system wants.
+pub fn make_init_call<F: FileSystem>(fs: &mut F, capable: FsOptions) -> Result<FsOptions, Errno>
+    ensures may { F.may fs.old (Init capable.0) (options_answer result) fs.new }
+    ensures suits { IsTrue (suits (Init capable.0) (options_answer result)) }
+{
+    match received(fs.init(capable)) {
+        Ok(wanted) => {
+            let _bits = wanted.bits();
+            Ok(wanted)
+        }
+        Err(error) => Err(error),
+    }
+}
