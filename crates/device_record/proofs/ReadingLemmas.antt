@@ -11,16 +11,20 @@ use Rattle.vm_values.specs.Unique.{halves, fields_once}
 use Rattle.fs_queue.specs.Lawful.{layout_error}
 use Rattle.fs_queue.specs.Queue.{Queue}
 use Rattle.fs_queue.specs.declared.fault.QueueLayoutError.TheVariants.{BadSize, Misaligned, EndOverflow}
-use Rattle.device_record.specs.Fields.{head_fields, queue_fields}
+use Rattle.device_record.specs.Fields.{head_fields, queue_fields, limit_fields}
 use Rattle.device_record.specs.Laws.{OneReading}
-use Rattle.device_record.specs.Record.{flag, saved, head_of, queue_bytes, HasKnownBits, IsSavedQueue}
+use Rattle.device_record.specs.Record.{Version, First, Second, version_number, page_size_word, HasItsBits, flag, saved, head_of, queue_bytes, end_bytes, record_bytes, HasKnownBits, IsSavedQueue}
 use lib.Bits.{and_le_r}
 
 -- ---- the parts have one length each
 
-head_length : (options count : ℕ) → length (spelled (head_fields (head_of options count))) ≡ 24
+head_length : (v : Version) (options count : ℕ) → length (spelled (head_fields (head_of v options count))) ≡ 24
 unfolding field_bytes
-head_length options count = refl
+head_length v options count = refl
+
+limit_length : (limit : ℕ) → length (spelled (limit_fields limit)) ≡ 8
+unfolding field_bytes
+limit_length limit = refl
 
 queue_length : (q : Queue) → length (queue_bytes q) ≡ 32
 unfolding field_bytes
@@ -35,9 +39,21 @@ known_options_are = refl
 options_fit : (options : ℕ) → HasKnownBits options → options < 2 ^ 64
 options_fit options known = omega (arith, known, known_options_are, and_le_r options (known_bits fs_options))
 
-head_fits : (options count : ℕ) → HasKnownBits options → count ≤ 64 → AllFit (head_fields (head_of options count))
+version_fits : (v : Version) → version_number v < 2 ^ 32
+version_fits First = omega arith
+version_fits (Second page_size limit) = omega arith
+
+page_size_fits : (v : Version) → HasItsBits v → page_size_word v < 2 ^ 32
+page_size_fits First h = omega arith
+page_size_fits (Second page_size limit) h = h.0
+
+head_fits : (v : Version) (options count : ℕ) → HasItsBits v → HasKnownBits options → count ≤ 64 → AllFit (head_fields (head_of v options count))
 unfolding Fits
-head_fits options count known few = (omega arith, (omega arith, (omega (arith, few), (omega arith, (options_fit options known, tt)))))
+head_fits v options count bits known few = (omega arith, (version_fits v, (omega (arith, few), (page_size_fits v bits, (options_fit options known, tt)))))
+
+limit_fits : (limit : ℕ) → limit < 2 ^ 64 → AllFit (limit_fields limit)
+unfolding Fits
+limit_fits limit h = (h, tt)
 
 no_overflow : (size misaligned ends : Bool)
     → (if size then Some BadSize else if misaligned then Some Misaligned else if ends then Some EndOverflow else None) ≡ None → ends ≡ false
@@ -112,19 +128,44 @@ queues_once (x ∷ xs) (y ∷ ys) s t l p q e =
     let others = queues_once xs ys s t (omega (arith, l)) (lawful_others x xs p) (lawful_others y ys q) cut.1 in
     (λ i. one i ∷ others.0 i, others.1)
 
+-- ---- what stands behind the queues
+
+same_limit : (a b : ℕ) → limit_fields a ≡ limit_fields b → a ≡ b
+same_limit a b h = cc
+
+ends_once : (v v' : Version) (s t : List ℕ) → HasItsBits v → HasItsBits v' → version_number v ≡ version_number v' → page_size_word v ≡ page_size_word v'
+    → end_bytes v ++ s ≡ end_bytes v' ++ t → (v ≡ v') × (s ≡ t)
+ends_once First First s t b b' number size e = (refl, e)
+ends_once First (Second page_size limit) s t b b' number size e = absurd (omega (arith, number))
+ends_once (Second page_size limit) First s t b b' number size e = absurd (omega (arith, number))
+ends_once (Second page_size limit) (Second page_size' limit') s t b b' number size e =
+    let cut = halves (spelled (limit_fields limit)) (spelled (limit_fields limit')) s t (limit_length limit ∙ sym (limit_length limit')) e in
+    let fields = fields_once (limit_fields limit) (limit_fields limit') refl (limit_fits limit b.1) (limit_fits limit' b'.1) cut.0 in
+    let same : limit ≡ limit' = same_limit limit limit' fields in
+    (λ i. Second (size i) (same i), cut.1)
+
 -- ---- a record
 
+parted : (v : Version) (options : ℕ) (queues : List Queue) (rest : List ℕ) → record_bytes v options queues ++ rest
+    ≡ spelled (head_fields (head_of v options (length queues))) ++ (flat_map queue_bytes queues ++ (end_bytes v ++ rest))
+parted v options queues rest =
+    let head = spelled (head_fields (head_of v options (length queues))) in
+    append_assoc (head ++ flat_map queue_bytes queues) (end_bytes v) rest ∙ append_assoc head (flat_map queue_bytes queues) (end_bytes v ++ rest)
+
 pub one_reading : OneReading
-one_reading options options' queues queues' bytes bytes' rest rest' first second same =
-    let head = spelled (head_fields (head_of options (length queues))) in
-    let head' = spelled (head_fields (head_of options' (length queues'))) in
-    let apart : head ++ (flat_map queue_bytes queues ++ rest) ≡ head' ++ (flat_map queue_bytes queues' ++ rest') =
-    sym (append_assoc head (flat_map queue_bytes queues) rest) ∙ ap (λ l. l ++ rest) (sym first.0) ∙ same ∙ ap (λ l. l ++ rest') second.0 ∙ append_assoc head' (flat_map queue_bytes queues') rest' in
-    let cut = halves head head' (flat_map queue_bytes queues ++ rest) (flat_map queue_bytes queues' ++ rest')
-    (head_length options (length queues) ∙ sym (head_length options' (length queues'))) apart in
-    let fields = fields_once (head_fields (head_of options (length queues))) (head_fields (head_of options' (length queues'))) refl
-    (head_fits options (length queues) first.1.0 first.1.2) (head_fits options' (length queues') second.1.0 second.1.2) cut.0 in
+one_reading v v' options options' queues queues' bytes bytes' rest rest' first second same =
+    let head = spelled (head_fields (head_of v options (length queues))) in
+    let head' = spelled (head_fields (head_of v' options' (length queues'))) in
+    let apart : head ++ (flat_map queue_bytes queues ++ (end_bytes v ++ rest)) ≡ head' ++ (flat_map queue_bytes queues' ++ (end_bytes v' ++ rest')) =
+    sym (parted v options queues rest) ∙ ap (λ l. l ++ rest) (sym first.0) ∙ same ∙ ap (λ l. l ++ rest') second.0 ∙ parted v' options' queues' rest' in
+    let cut = halves head head' (flat_map queue_bytes queues ++ (end_bytes v ++ rest)) (flat_map queue_bytes queues' ++ (end_bytes v' ++ rest'))
+    (head_length v options (length queues) ∙ sym (head_length v' options' (length queues'))) apart in
+    let fields = fields_once (head_fields (head_of v options (length queues))) (head_fields (head_of v' options' (length queues'))) refl
+    (head_fits v options (length queues) first.1 first.2.0 first.2.2) (head_fits v' options' (length queues') second.1 second.2.0 second.2.2) cut.0 in
+    let number : version_number v ≡ version_number v' = cc in
+    let size : page_size_word v ≡ page_size_word v' = cc in
     let agreed : options ≡ options' = cc in
     let count : length queues ≡ length queues' = cc in
-    let others = queues_once queues queues' rest rest' count first.1.3 second.1.3 cut.1 in
-    (agreed, others.0, others.1)
+    let others = queues_once queues queues' (end_bytes v ++ rest) (end_bytes v' ++ rest') count first.2.3 second.2.3 cut.1 in
+    let ends = ends_once v v' rest rest' first.1 second.1 number size others.1 in
+    (ends.0, agreed, others.0, ends.1)

@@ -4,7 +4,7 @@ use Rattle.std.proofs.lemmas.List.{length-drop}
 use Rattle.std.proofs.lemmas.Slice.{take-put_mid_below}
 use Rattle.std.specs.Io.KnownBytes.{Appends, Consumes, Keeps}
 use Rattle.std.proofs.KnownBytes.{Appends-trans, Consumes-trans, Consumes-kept}
-use Rattle.std.specs.Prelude.{IsErr}
+use Rattle.std.specs.Prelude.{IsErr, OnOk}
 use Rattle.device_record.specs.Streams.{GoesOut}
 use borrow.Rule.Slice.PartMut.{put_mid, post_of}
 use lib.Seq.{take-add, take-append-le}
@@ -70,3 +70,20 @@ pub goes_out_less : {E : Type 0} (bytes : List ℕ) (had has : Option (List ℕ)
     → (x y : List ℕ) × (bytes ≡ x ++ y) × (0 < length y) × Appends had has x → fails ≡ true → GoesOut bytes had failed result has fails
 goes_out_less bytes had has failed fails (Ok u) wrong part now = absurd (let h : false ≡ true = wrong in cc)
 goes_out_less bytes had has failed fails (Err e) wrong part now = (part.0, part.1, part.2, part.3, part.4, now)
+
+-- the last piece goes out, or a part of it, behind those before it
+pub goes_out_last : {E : Type 0} (whole done one : List ℕ) (a b c : Option (List ℕ)) (failed before fails : Bool) (result : Result Unit E) → whole ≡ done ++ one → Appends a b done
+    → before ≡ failed → GoesOut one b before result c fails → GoesOut whole a failed result c fails
+goes_out_last whole done one a b c failed before fails (Ok u) all front same last = (subst (Appends a c) (sym all) (Appends-trans a b c done one front last.0), last.1 ∙ same)
+goes_out_last whole done one a b c failed before fails (Err e) all front same last = (
+  done ++ last.0,
+  last.1,
+  all ∙ ap (λ l. done ++ l) last.2 ∙ sym (append_assoc done last.0 last.1),
+  last.3,
+  Appends-trans a b c done last.0 front last.4,
+  last.5,
+)
+
+pub on_ok : {X E P : Type 0} (result : Result X E) → P → OnOk result P
+on_ok (Ok x) p = p
+on_ok (Err e) p = tt

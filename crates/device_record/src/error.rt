@@ -9,14 +9,14 @@ use thiserror::Error;
 #[error("the record can't be written")]
 pub struct WriteFault;
 
-/// Why nothing is restored.
+/// Why nothing is restored; `restore_record` says in which order it finds them.
 #[derive(Clone, Copy, Debug, PartialEq, Eq, Error)]
 pub enum RestoreError {
     #[error("the record ends early")]
     Truncated,
     #[error("the record doesn't begin with VFSD")]
     BadMagic,
-    #[error("the record has a version other than 1")]
+    #[error("the record has a version other than 1 and 2")]
     BadVersion,
     #[error("the record has no queue, or more than 64")]
     BadCount,
@@ -31,12 +31,15 @@ pub enum RestoreError {
     ReadFault,
     #[error("out of memory")]
     OutOfMemory,
+    /// In version 2, the record's page size or limit isn't the one that was handed in.
+    #[error("the record's page size or limit is another one")]
+    Mismatch,
 }
 
 impl RestoreError {
     ghost use Rattle.device_record.specs.Numbers.{restore_error_number};
 
-    /// The number that tells the refusal apart, from 1 to 9.
+    /// The number that tells the refusal apart.
     pub fn number(&self) -> u8
         ensures { result ≡ restore_error_number self.now }
     {
@@ -50,6 +53,7 @@ impl RestoreError {
             RestoreError::BadOptions => 7,
             RestoreError::ReadFault => 8,
             RestoreError::OutOfMemory => 9,
+            RestoreError::Mismatch => 10,
         }
     }
 }

@@ -6,13 +6,20 @@ ghost use Rattle.device_record.specs.Fields.{head_fields, queue_fields};
 
 use vm_values::{ByteValued, get_fields, put_fields};
 
-/// What a record begins with: 24 bytes.
+/// The versions of a record: the second has page size and limit too.
+#[derive(Clone, Copy, Debug, PartialEq, Eq)]
+pub(crate) enum RecordVersion {
+    First,
+    Second,
+}
+
+/// What a record begins with: 24 bytes, each field with its lowest byte first. The page size is 0 in version 1.
 #[derive(Clone, Copy, Debug, PartialEq, Eq)]
 pub(crate) struct RecordHead {
     pub(crate) magic: u32,
     pub(crate) version: u32,
     pub(crate) count: u32,
-    pub(crate) reserved: u32,
+    pub(crate) page_size: u32,
     pub(crate) options: u64,
 }
 
@@ -24,11 +31,11 @@ impl ByteValued for RecordHead {
     ghost fields = { head_fields };
 
     fn put_bytes(&self, out: &mut [u8]) {
-        put_fields!(self, out; magic version count reserved options);
+        put_fields!(self, out; magic version count page_size options);
     }
 
     fn get_bytes(bytes: &[u8]) -> Self {
-        get_fields!(RecordHead, bytes; magic version count reserved options)
+        get_fields!(RecordHead, bytes; magic version count page_size options)
     }
 
     ghost lawful = { (λ x y. refl, λ x y h. Prim.search rules, Prim.search rules) };

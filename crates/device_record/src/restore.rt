@@ -1,14 +1,15 @@
 //! Reading a record from a source.
 
-ghost use Rattle.std.specs.Prelude.{◌≡◌, ◌<◌, ◌≤◌, ℕ, List, [], Some, None, true, false, length, OnOk, IfOk, IfErr, IfSome, IfNone};
+ghost use Rattle.std.specs.Prelude.{◌≡◌, ◌==◌, ◌||◌, ◌<◌, ◌≤◌, ℕ, List, [], Some, None, true, false, length, OnOk, IfOk, IfErr, IfSome, IfNone};
 ghost use Rattle.std.specs.Io.KnownBytes.{Consumes};
 ghost use Rattle.vm_values.specs.Fields.{spelled, AllFit};
-ghost use Rattle.device_record.specs.Record.{HasKnownBits, IsRecord, IsSavedQueue, head_error, head_of, saved, queue_bytes, is_queue};
-ghost use Rattle.device_record.specs.Restoring.{LeavesSource, RefusesRecord, RefusesQueue, IsRecordFront, ends_early};
+ghost use Rattle.device_record.specs.Record.{HasKnownBits, IsRecordFor, IsSavedQueue, end_bytes, head_error, head_of, saved, queue_bytes};
+ghost use Rattle.device_record.specs.Record.{is_queue, version_number};
+ghost use Rattle.device_record.specs.Restoring.{LeavesSource, RefusesEnd, RefusesRecord, RefusesQueue, IsRecordFront, ends_early, told_by};
 
 use crate::error::RestoreError;
-use crate::fields::{RecordHead, SavedQueue};
-use crate::save::{MAGIC, VERSION};
+use crate::fields::{RecordHead, RecordVersion, SavedQueue};
+use crate::save::MAGIC;
 use crate::source::RecordSource;
 use bitflags::Flags;
 use fs_queue::{Queue, QueueLayout};
@@ -56,26 +57,55 @@ fn known(bits: u64) -> Option<FsOptions>
     FsOptions::from_bits(bits)
 }
 
+// What a head says of the record: its version, its options, and how many queues it has.
+#[derive(Clone, Copy)]
+struct CheckedHead {
+    version: RecordVersion,
+    options: FsOptions,
+    count: usize,
+}
+
 impl RecordHead {
-    // The options and the number of queues, or the first thing that is wrong.
-    fn checked(&self) -> Result<(FsOptions, usize), RestoreError>
-        ensures ok { IfOk result (λ v. (head_error self.now ≡ None) × (self.now ≡ head_of v.0.0 v.1) × HasKnownBits v.0.0 × (1 ≤ v.1) × (v.1 ≤ 64)) }
-        ensures err { IfErr result (λ e. head_error self.now ≡ Some e) }
+    // The record's version, or None where it is no known one.
+    fn record_version(&self) -> Option<RecordVersion>
+        ensures some { IfSome result (λ v. self.now.version ≡ version_number (told_by v 0 0)) }
+        ensures none { IfNone result ((self.now.version == 1 || self.now.version == 2) ≡ false) }
+    {
+        match self.version {
+            1 => Some(RecordVersion::First),
+            2 => Some(RecordVersion::Second),
+            _ => None,
+        }
+    }
+
+    // What the head says where the guest's pages have this size, or the first thing that is wrong.
+    fn checked(&self, page_size: u32) -> Result<CheckedHead, RestoreError>
+        ensures ok { IfOk result (λ h. (head_error page_size self.now ≡ None) × (self.now ≡ head_of (told_by h.version page_size 0) h.options.0 h.count)
+            × HasKnownBits h.options.0 × (1 ≤ h.count) × (h.count ≤ 64)) }
+        ensures err { IfErr result (λ e. head_error page_size self.now ≡ Some e) }
     {
         if self.magic != MAGIC {
             return Err(RestoreError::BadMagic);
         }
-        if self.version != VERSION {
+        let Some(version) = self.record_version() else {
             return Err(RestoreError::BadVersion);
-        }
+        };
         if self.count == 0 || self.count > MAX_QUEUES {
             return Err(RestoreError::BadCount);
         }
-        if self.reserved != 0 {
-            return Err(RestoreError::BadReserved);
+        match version {
+            RecordVersion::First if self.page_size != 0 => return Err(RestoreError::BadReserved),
+            RecordVersion::Second if self.page_size != page_size => {
+                return Err(RestoreError::Mismatch);
+            }
+            _ => {}
         }
         match known(self.options) {
-            Some(options) => Ok((options, self.count as usize)),
+            Some(options) => Ok(CheckedHead {
+                version,
+                options,
+                count: self.count as usize,
+            }),
             None => Err(RestoreError::BadOptions),
         }
     }
@@ -99,15 +129,15 @@ impl SavedQueue {
     }
 }
 
-// The options and the number of queues that the next 24 bytes have, or why these aren't the head of a record.
-fn read_head<S: RecordSource>(source: &mut S) -> Result<(FsOptions, usize), RestoreError>
-    ensures ok { IfOk result (λ v. (taken : List ℕ) × Consumes (S.left source.old) (S.left source.new) taken × IsRecordFront taken v.0.0 v.1 []
-        × (S.failed source.new ≡ S.failed source.old)) }
-    ensures err { IfErr result (λ e. (taken : List ℕ) × Consumes (S.left source.old) (S.left source.new) taken × RefusesRecord taken e
-        × LeavesSource e (S.left source.new) (S.failed source.old) (S.failed source.new)) }
+// What the next 24 bytes say, or why these aren't the head of a record that goes with this page size.
+fn read_head<S: RecordSource>(source: &mut S, page_size: u32) -> Result<CheckedHead, RestoreError>
+    ensures ok { IfOk result (λ h. (taken : List ℕ) × Consumes (S.left source.old) (S.left source.new) taken
+        × IsRecordFront taken (told_by h.version page_size 0) h.options.0 h.count [] × (S.failed source.new ≡ S.failed source.old)) }
+    ensures err { (limit : ℕ) → IfErr result (λ e. (taken : List ℕ) × Consumes (S.left source.old) (S.left source.new) taken
+        × RefusesRecord taken page_size limit e × LeavesSource e (S.left source.new) (S.failed source.old) (S.failed source.new)) }
 {
     let head: RecordHead = next_value(source)?;
-    head.checked()
+    head.checked(page_size)
 }
 
 // The queue that the next 32 bytes have, or why they are none: BadQueue of this number where they are there.
@@ -121,28 +151,60 @@ fn read_queue<S: RecordSource>(source: &mut S, index: usize) -> Result<Queue, Re
     saved.queue().ok_or(RestoreError::BadQueue(index))
 }
 
-/// The options and the queues of the record that stands next in a source; no byte behind the record is taken. A refusal
-/// says what stands there instead: Truncated or ReadFault where the head's 24 bytes can't be had, then BadMagic,
-/// BadVersion, BadCount, BadReserved, BadOptions and OutOfMemory, and then for each queue Truncated or ReadFault where
-/// its 32 bytes can't be had, and BadQueue.
+// Reads what stands behind the queues: in version 2 the limit, which is this one; Mismatch where it is another.
+fn read_end<S: RecordSource>(
+    source: &mut S,
+    version: RecordVersion,
+    limit: u32,
+) -> Result<(), RestoreError>
+    ensures ok { OnOk result (Consumes (S.left source.old) (S.left source.new) (end_bytes (told_by version 0 limit))
+        × (S.failed source.new ≡ S.failed source.old)) }
+    ensures err { IfErr result (λ e. (taken : List ℕ) × Consumes (S.left source.old) (S.left source.new) taken × RefusesEnd taken version limit e
+        × LeavesSource e (S.left source.new) (S.failed source.old) (S.failed source.new)) }
+{
+    match version {
+        RecordVersion::First => Ok(()),
+        RecordVersion::Second => {
+            let told: u64 = next_value(source)?;
+            if told == u64::from(limit) {
+                Ok(())
+            } else {
+                Err(RestoreError::Mismatch)
+            }
+        }
+    }
+}
+
+/// The options and the queues of the record that stands next in a source; no byte behind the record is taken. Version 1
+/// tells no page size and no limit; version 2 tells both, and they have to be these: the bytes of a guest's page, and
+/// the greatest length of a request and of a room, in bytes. A refusal says what stands there instead: Truncated or
+/// ReadFault where the head's 24 bytes can't be had, then BadMagic, BadVersion, BadCount, BadReserved (version 1) or
+/// Mismatch (version 2), BadOptions and OutOfMemory; then for each queue Truncated or ReadFault where its 32 bytes can't
+/// be had, and BadQueue; and last, in version 2, Truncated or ReadFault where the limit's 8 bytes can't be had, and
+/// Mismatch.
 pub fn restore_record<S: RecordSource>(
     alloc: Global,
     source: &mut S,
+    page_size: u32,
+    limit: u32,
 ) -> Result<(FsOptions, Vec<Queue>), RestoreError>
-    ensures ok { IfOk result (λ v. (taken : List ℕ) × Consumes (S.left source.old) (S.left source.new) taken × IsRecord taken v.0.0 v.1.items
-        × (S.failed source.new ≡ S.failed source.old)) }
-    ensures err { IfErr result (λ e. (taken : List ℕ) × Consumes (S.left source.old) (S.left source.new) taken × RefusesRecord taken e
-        × LeavesSource e (S.left source.new) (S.failed source.old) (S.failed source.new)) }
+    ensures ok { IfOk result (λ v. (taken : List ℕ) × Consumes (S.left source.old) (S.left source.new) taken
+        × IsRecordFor taken page_size limit v.0.0 v.1.items × (S.failed source.new ≡ S.failed source.old)) }
+    ensures err { IfErr result (λ e. (taken : List ℕ) × Consumes (S.left source.old) (S.left source.new) taken
+        × RefusesRecord taken page_size limit e × LeavesSource e (S.left source.new) (S.failed source.old) (S.failed source.new)) }
 {
-    let (options, count) = read_head(source)?;
-    let Ok(mut queues) = Vec::with_capacity(alloc, count) else {
+    let head = read_head(source, page_size)?;
+    let Ok(mut queues) = Vec::with_capacity(alloc, head.count) else {
         return Err(RestoreError::OutOfMemory);
     };
-    for index in 0..count {
+    for index in 0..head.count {
         match read_queue(source, index) {
             Ok(queue) => queues.push(queue).unwrap(),
             Err(error) => return Err(error),
         }
     }
-    Ok((options, queues))
+    match read_end(source, head.version, limit) {
+        Ok(()) => Ok((head.options, queues)),
+        Err(error) => Err(error),
+    }
 }

@@ -3,7 +3,7 @@
 ghost use Rattle.std.specs.Prelude.{◌≡◌, ◌<◌, ◌≤◌, length, OnOk};
 ghost use Rattle.vm_values.specs.Fields.{spelled};
 ghost use Rattle.device_record.specs.Streams.{GoesOut};
-ghost use Rattle.device_record.specs.Record.{HasKnownBits, IsSavable, IsSavedQueue, saved, record_bytes};
+ghost use Rattle.device_record.specs.Record.{HasKnownBits, IsSavable, Second, IsSavedQueue, saved, record_bytes};
 
 use crate::error::WriteFault;
 use crate::fields::{RecordHead, SavedQueue};
@@ -16,7 +16,8 @@ use vm_values::ByteValued;
 /// "VFSD", its bytes read as a number.
 pub(crate) const MAGIC: u32 = 0x4453_4656;
 
-pub(crate) const VERSION: u32 = 1;
+// The version that is saved.
+const VERSION: u32 = 2;
 
 // Puts all of a slice.
 fn put_slice<S: RecordSink>(sink: &mut S, bytes: &[u8]) -> Result<(), WriteFault>
@@ -57,29 +58,33 @@ fn saved(queue: &Queue) -> SavedQueue
     }
 }
 
-/// Puts the record of some options and of 1 to 64 queues. WriteFault where the sink answers an error or takes nothing:
-/// a part of the record went out, and not all of it.
+/// Puts the record, of version 2, of some options and of 1 to 64 queues, with the bytes of a guest's page and the limit
+/// of requests and of rooms in bytes: a head of 24 bytes, 32 for each queue, and 8. WriteFault where the sink answers an
+/// error or takes nothing: a part of the record went out, and not all of it.
 pub fn save_record<S: RecordSink>(
     sink: &mut S,
     options: FsOptions,
     queues: &[Queue],
+    page_size: u32,
+    limit: u32,
 ) -> Result<(), WriteFault>
     requires known { HasKnownBits options.0 }
     requires some { 1 ≤ length queues.now }
     requires few { length queues.now ≤ 64 }
-    ensures goes_out { GoesOut (record_bytes options.0 queues.now) (S.sent sink.old) (S.failed sink.old) result (S.sent sink.new) (S.failed sink.new) }
+    ensures goes_out { GoesOut (record_bytes (Second page_size limit) options.0 queues.now) (S.sent sink.old) (S.failed sink.old) result
+        (S.sent sink.new) (S.failed sink.new) }
     ensures savable { OnOk result (IsSavable options.0 queues.now) }
 {
     let head = RecordHead {
         magic: MAGIC,
         version: VERSION,
         count: queues.len() as u32,
-        reserved: 0,
+        page_size,
         options: options.bits(),
     };
     put_value(sink, &head)?;
     for queue in queues {
         put_value(sink, &saved(queue))?;
     }
-    Ok(())
+    put_value(sink, &u64::from(limit))
 }

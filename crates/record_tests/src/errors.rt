@@ -15,7 +15,7 @@ fn refusals_have_numbers_and_texts(rt: HostRuntime) {
         (
             RestoreError::BadVersion,
             3,
-            "the record has a version other than 1",
+            "the record has a version other than 1 and 2",
         ),
         (
             RestoreError::BadCount,
@@ -39,6 +39,11 @@ fn refusals_have_numbers_and_texts(rt: HostRuntime) {
         ),
         (RestoreError::ReadFault, 8, "the record can't be read"),
         (RestoreError::OutOfMemory, 9, "out of memory"),
+        (
+            RestoreError::Mismatch,
+            10,
+            "the record's page size or limit is another one",
+        ),
     ];
     for (error, number, want) in CASES {
         let text = format!(in rt.alloc(); "{error}").expect(&rt, "memory");

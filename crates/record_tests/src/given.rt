@@ -8,11 +8,21 @@ use std::alloc::Global;
 use std::fmt::{Debug, Write};
 use std::process::Abort;
 
-/// A queue of 4 whose table is at 0, its rings at 0x100 and 0x200, of which one chain was returned.
-pub const RECORD: &[u8] =
+/// The bytes of a guest's page.
+pub const PAGE_SIZE: u32 = 4096;
+
+/// The longest request and room.
+pub const LIMIT: u32 = 0x101000;
+
+/// In version 1, a queue of 4 whose table is at 0, its rings at 0x100 and 0x200, of which one chain was returned.
+pub const FIRST: &[u8] =
     b"VFSD\x01\0\0\0\x01\0\0\0\0\0\0\0\0\0\0\0\0\0\0\0\x04\0\x01\0\0\0\0\0\0\0\0\0\0\0\0\0\0\x01\0\0\0\0\0\0\0\x02\0\0\0\0\0\0";
 
-/// What is restored from it.
+/// The same in version 2, with page size and limit.
+pub const SECOND: &[u8] =
+    b"VFSD\x02\0\0\0\x01\0\0\0\0\x10\0\0\0\0\0\0\0\0\0\0\x04\0\x01\0\0\0\0\0\0\0\0\0\0\0\0\0\0\x01\0\0\0\0\0\0\0\x02\0\0\0\0\0\0\0\x10\x10\0\0\0\0\0";
+
+/// What is restored from either.
 pub const RESTORED: &str = "options 0; queue 4 1 false 0 100 200";
 
 /// What was found is what is wanted. One generic assertion for all tests: each assertion of its own costs a proof.
@@ -20,9 +30,9 @@ pub fn expect_same<T: PartialEq + Debug + Drop>(rt: &impl Abort, found: T, want:
     assert_eq!(rt; found, want);
 }
 
-/// The record with some of its bytes changed.
-pub fn changed(rt: &impl Abort, alloc: Global, changes: &[(usize, u8)]) -> Vec<u8> {
-    let mut bytes = Vec::from_slice(alloc, RECORD).expect(rt, "memory");
+/// A record with some of its bytes changed.
+pub fn changed(rt: &impl Abort, alloc: Global, record: &[u8], changes: &[(usize, u8)]) -> Vec<u8> {
+    let mut bytes = Vec::from_slice(alloc, record).expect(rt, "memory");
     for (place, byte) in changes {
         if let Some(there) = bytes.get_mut(*place) {
             *there = *byte;
@@ -53,7 +63,7 @@ fn write_values(rt: &impl Abort, text: &mut String, options: FsOptions, queues: 
 /// What a source's next bytes are restored to, or the refusal.
 pub fn restored<S: RecordSource>(rt: &impl Abort, alloc: Global, source: &mut S) -> String {
     let mut text = String::new(alloc);
-    match restore_record(alloc, source) {
+    match restore_record(alloc, source, PAGE_SIZE, LIMIT) {
         Ok((options, queues)) => write_values(rt, &mut text, options, &queues),
         Err(error) => write!(text, "{error:?}").expect(rt, "memory"),
     }

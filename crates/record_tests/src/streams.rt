@@ -1,6 +1,6 @@
 //! Readers and writers that go byte by byte, and fail at each of their calls.
 
-use crate::given::{RECORD, RESTORED, expect_same, restored};
+use crate::given::{LIMIT, PAGE_SIZE, RESTORED, SECOND, expect_same, restored};
 use bitflags::Flags;
 use device_record::{Stream, WriteFault, save_record};
 use fs_queue::{Queue, QueueLayout};
@@ -59,13 +59,13 @@ impl Write for SlowWriter {
 
 #[test]
 fn a_reader_fails_at_each_call(rt: HostRuntime) {
-    for calls in 0..57usize {
+    for calls in 0..65usize {
         let mut source = Stream::new(SlowReader {
-            bytes: RECORD,
+            bytes: SECOND,
             calls,
         });
         let text = restored(&rt, rt.alloc(), &mut source);
-        let want = if calls < 56 { "ReadFault" } else { RESTORED };
+        let want = if calls < 64 { "ReadFault" } else { RESTORED };
         expect_same(&rt, (calls, text.as_str()), (calls, want));
     }
 }
@@ -84,20 +84,26 @@ fn written(
         calls,
         fails,
     });
-    let result = save_record(&mut sink, FsOptions::from_bits_retain(0), &queues);
+    let result = save_record(
+        &mut sink,
+        FsOptions::from_bits_retain(0),
+        &queues,
+        PAGE_SIZE,
+        LIMIT,
+    );
     (result, sink.into_inner().taken)
 }
 
 #[test]
 fn a_writer_fails_at_each_call(rt: HostRuntime) {
-    for calls in 0..57usize {
+    for calls in 0..65usize {
         for fails in [false, true] {
             let (result, taken) = written(&rt, rt.alloc(), calls, fails);
-            let want = if calls < 56 { Err(WriteFault) } else { Ok(()) };
+            let want = if calls < 64 { Err(WriteFault) } else { Ok(()) };
             expect_same(
                 &rt,
                 (result, taken.as_slice()),
-                (want, &RECORD[..calls.min(56)]),
+                (want, &SECOND[..calls.min(64)]),
             );
         }
     }
