@@ -1,2 +1,3 @@
 pub mod ForgetLemmas
 pub mod LogLemmas
+pub mod StepLemmas

@@ -1,6 +1,6 @@
 -- from runs of the plain machine to the log of its file system
 use Rattle.std.proofs.Common.{◌≡◌, ℕ, zero, suc, Bool, true, false, List, [], ◌∷◌, ◌++◌, map, zip, length, append_assoc, append-nil, refl, sym, ap, ◌∙◌, arith, subst, Option, Some, None}
-use Rattle.std.specs.Prelude.{Result, Ok, Err, IfOk, if◌then◌else◌, slice_get, flat_map, not, ◌==◌}
+use Rattle.std.specs.Prelude.{Result, Ok, Err, IfOk, if◌then◌else◌, slice_get, flat_map, not, IfSome, ◌==◌}
 use Rattle.std.specs.List.{list_any, list_all}
 use Rattle.vm_iotlb.specs.declared.permissions.Permissions.TheVariants.{Read, Write}
 use Rattle.vm_iotlb.specs.Table.{Table, nothing_mapped}
@@ -8,7 +8,7 @@ use Rattle.vm_memory_core.specs.Host.{Block}
 use Rattle.vm_memory.specs.Layout.{Region, fits, overlap, is_region}
 use Rattle.vm_memory.specs.Memory.{reach, physical}
 use Rattle.fs_queue.specs.Queue.{Queue, fresh}
-use Rattle.fs_queue.specs.Taking.{Offer, Asks, CannotAsk, Refuses, Offers}
+use Rattle.fs_queue.specs.Taking.{Offer, IsRequest, CannotFetch, Refuses, Offers}
 use Rattle.fs_queue.specs.Taking as taking
 use Rattle.fuse_fs.specs.Calls.{FileCall, FileAnswer, FileRun}
 use Rattle.virtiofsd_fuse.specs.Grammar.{meaning}
@@ -19,7 +19,7 @@ use Rattle.fs_device.specs.declared.exchange.Fault.{Fault}
 use Rattle.fs_device.specs.declared.refusal.Refusal.TheVariants as why
 use Rattle.fs_device.specs.Step.{State, Exchange, Calls, Exchanged, Exchanges, StepOf, served_fault, served_exchange}
 use Rattle.fs_device.specs.Run as run
-use Rattle.fs_device.specs.Run.{Command, Answer, Effect, Turn, Told, shown, KickRun, Kicks, Kicked, Affects, ChangesTable, HasEffect, Does, Performs, RunTold, Run, effect, insert, insert_block, is_known, some_overlap, reset}
+use Rattle.fs_device.specs.Run.{Command, Answer, Effect, Turn, Told, shown, KickRun, Kicks, Kicked, Affects, ChangesTable, HasEffect, Does, IsDecided, Performs, RunTold, Run, effect, insert, insert_block, is_known, some_overlap, reset}
 use Rattle.fs_device.proofs.BookLemmas.{all_suit}
 use Rattle.fs_device.proofs.TellingLemmas.{end_stays}
 use Rattle.call_log.specs.declared.log.LoggedCall.{LoggedCall}
@@ -69,10 +69,10 @@ logs_answered (Some e) x entries same is = subst (λ (f : Option Fault). WritesD
 taken_logged : {F : Type 0} (may : May F) (log : F → List LoggedCall) → Keeps may log → (s : State F) (i : ℕ) (q : Queue) (o : Offer) (calls : Calls) (x : Exchange) (notice : Bool) (after : State F) →
     Exchanges may s i q o calls x notice after → Grew log s.files (x ∷ []) after.files
 unfolding AreLoggedBy
-taken_logged may log keeps s i q (Offers head (CannotAsk fault)) calls x notice after r =
+taken_logged may log keeps s i q (Offers head (CannotFetch fault)) calls x notice after r =
     let own : IsLoggedBy x [] = subst (λ (f : Option Fault). WritesDown f x []) (sym (ap (λ (e : Exchange). e.fault) r.returns.exchange)) refl in
     ([], ([], [], own, refl, refl), ap log r.files)
-taken_logged may log keeps s i q (Offers head (Asks request room)) calls x notice after r =
+taken_logged may log keeps s i q (Offers head (IsRequest request room)) calls x notice after r =
     let entries = entries_of (map (λ (step : FileCall × FileAnswer). step.0) calls) in
     let answers = map (λ (step : FileCall × FileAnswer). step.1) calls in
     let set = setting s.page_size s.options (length room) in
@@ -149,7 +149,7 @@ reset_quiet : {F : Type 0} (s : State F) (i : ℕ) (anew : Queue) (o : Option Qu
 reset_quiet s i anew None = (refl, refl)
 reset_quiet s i anew (Some q) = (refl, refl)
 
-effect_quiet : {F : Type 0} (s : State F) (command : Command) → IsQuiet s (effect s command)
+effect_quiet : {F : Type 0} (s : State F) (command : Command) → IfSome (effect s command) (IsQuiet s)
 unfolding effect
 effect_quiet s (run.GuestRead a n) = whichever s (reach (physical s.memory) Read a n) _ _ (refl, refl) (refl, refl)
 effect_quiet s (run.GuestWrite a bs) = whichever s (reach (physical s.memory) Write a (length bs)) _ _ (refl, refl) (refl, refl)
@@ -159,11 +159,11 @@ effect_quiet s (run.RemoveRegion base size) = whichever s (list_any (is_region b
 effect_quiet s (run.SetLayout layout) =
     whichever s (not (list_all (is_known s.memory.host) layout)) _ _ (refl, refl)
     (whichever s (not (list_all fits layout)) _ _ (refl, refl) (whichever s (some_overlap layout) _ _ (refl, refl) (refl, refl)))
-effect_quiet s (run.Map iova target n perm) = (refl, refl)
-effect_quiet s (run.Unmap iova n) = (refl, refl)
-effect_quiet s run.UnmapAll = (refl, refl)
+effect_quiet s (run.Map iova target n perm) = tt
+effect_quiet s (run.Unmap iova n) = tt
+effect_quiet s run.UnmapAll = tt
 effect_quiet s (run.SetIommu on) = (refl, refl)
-effect_quiet s (run.Kick queue most) = (refl, refl)
+effect_quiet s (run.Kick queue most) = tt
 effect_quiet s (run.ResetQueue queue size desc avail used) = reset_quiet s queue (fresh size desc avail used) _
 effect_quiet s run.Image = (refl, refl)
 effect_quiet s run.Harvest = (refl, refl)
@@ -173,8 +173,14 @@ quiet_logged {F} log s e answer after quiet is =
     let none : exchanges_in answer ≡ [] = ap (λ (p : Effect F). exchanges_in p.0) is ∙ quiet.1 in
     rw none (stayed log s.files after.files (ap (λ (p : Effect F). p.1.files) is ∙ quiet.0))
 
-by_effect : {F : Type 0} (log : F → List LoggedCall) (s : State F) (command : Command) (answer : Answer) (after : State F) → (answer, after) ≡ effect s command → Grew log s.files (exchanges_in answer) after.files
-by_effect log s command answer after t = quiet_logged log s (effect s command) answer after (effect_quiet s command) t
+decided_logged : {F : Type 0} (log : F → List LoggedCall) (s : State F) (o : Option (Effect F)) (answer : Answer) (after : State F) → IfSome o (IsQuiet s) → IsDecided o answer after →
+    Grew log s.files (exchanges_in answer) after.files
+decided_logged log s None answer after quiet t = absurd t
+decided_logged log s (Some e) answer after quiet t = quiet_logged log s e answer after quiet t
+
+by_effect : {F : Type 0} (log : F → List LoggedCall) (s : State F) (command : Command) (answer : Answer) (after : State F) → IsDecided (effect s command) answer after →
+    Grew log s.files (exchanges_in answer) after.files
+by_effect log s command answer after t = decided_logged log s (effect s command) answer after (effect_quiet s command) t
 
 change_logged : {F : Type 0} (log : F → List LoggedCall) (s : State F) (fit : Bool) (table : Table) (answer : Answer) (after : State F) → ChangesTable s fit table answer after →
     Grew log s.files (exchanges_in answer) after.files
@@ -194,7 +200,7 @@ affect_logged log s (run.Map iova target n perm) answer after t = change_logged 
 affect_logged log s (run.Unmap iova n) answer after t = change_logged log s _ _ answer after t
 affect_logged log s run.UnmapAll answer after t = change_logged log s true nothing_mapped answer after t
 affect_logged log s (run.SetIommu on) answer after t = by_effect log s (run.SetIommu on) answer after t
-affect_logged log s (run.Kick queue most) answer after t = by_effect log s (run.Kick queue most) answer after t
+affect_logged log s (run.Kick queue most) answer after t = absurd t
 affect_logged log s (run.ResetQueue queue size desc avail used) answer after t = by_effect log s (run.ResetQueue queue size desc avail used) answer after t
 affect_logged log s run.Image answer after t = by_effect log s run.Image answer after t
 affect_logged log s run.Harvest answer after t = by_effect log s run.Harvest answer after t

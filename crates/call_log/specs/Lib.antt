@@ -1,2 +1,3 @@
 pub mod Log
 pub mod Runs
+pub mod Steps

@@ -8,12 +8,12 @@ ghost use Rattle.call_log.specs.Log.{MayLog, kept};
 use crate::log::{LoggedCall, MOST_CALLS};
 use arrayvec::ArrayVec;
 use bitflags::Flags;
-use fuse_fs::{
-    Context, Entry, Extensions, FileSystem, FileSystemBase, GetxattrReply, ListxattrReply,
-    NoEntries, PositionedFile, Timeout, WritevFlags, ZeroCopyReader, ZeroCopyWriter, defaults,
-};
 use fuse_wire::{
     Attr, Errno, FsOptions, OpenOptions, SetattrIn, SetattrValid, SetxattrFlags, StatVfs,
+};
+use virtiofsd_fuse::{
+    Context, Entry, Extensions, FileSystem, FileSystemBase, GetxattrReply, ListxattrReply,
+    NoEntries, PositionedFile, Timeout, WritevFlags, ZeroCopyReader, ZeroCopyWriter, defaults,
 };
 
 /// The node of the file `a`, which is `hello`.

@@ -4,7 +4,9 @@
 pub mod files;
 mod log;
 mod run;
+mod step;
 
 pub use files::CallLog;
 pub use log::LoggedCall;
 pub use run::run_logged;
+pub use step::used_length;

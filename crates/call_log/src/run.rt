@@ -24,10 +24,12 @@ pub fn run_logged<I: Iommu + Drop>(
     machine: &mut Machine<CallLog, I>,
     commands: Vec<Command>,
 ) -> Result<Vec<Answer>, AllocError>
-    ensures run { IfOk result (λ answers. Run MayLog (machine_of machine.old) (zip (map command_of commands.items) (map answer_of answers.items)) (machine_of machine.new)) }
+    ensures run { IfOk result (λ answers. Run MayLog (machine_of machine.old) (zip (map command_of commands.items) (map answer_of answers.items))
+        (machine_of machine.new)) }
     ensures all { IfOk result (λ answers. length answers.items ≡ length commands.items) }
     ensures log { IfOk result (λ answers. Grows machine.old.device.files.calls.items (map answer_of answers.items) machine.new.device.files.calls.items) }
-    ensures books { IfOk result (λ answers. BalancedRun MayLog (machine_of machine.old) (zip (map command_of commands.items) (map answer_of answers.items)) (machine_of machine.new)) }
+    ensures books { IfOk result (λ answers. BalancedRun MayLog (machine_of machine.old) (zip (map command_of commands.items) (map answer_of answers.items))
+        (machine_of machine.new)) }
     ensures err { OnErr result (machine_of machine.new ≡ machine_of machine.old) }
 {
     law_books::<CallLog>();

@@ -3,20 +3,20 @@
 use crate::stand::{Act, LIMIT, REQUEST_AT, ROOM_AT, Stand, UNKNOWN, play};
 use fs_device::Fault;
 use fs_queue::ChainFault;
-use guest_driver::Descriptor;
+use guest_driver::DriverDescriptor;
 use guest_driver::ring::{INDIRECT, NEXT, WRITE};
 use std::alloc::Global;
 use std::process::Abort;
 
 // The two descriptors of a chain that is served.
-const REQUEST: Descriptor = Descriptor {
+const REQUEST: DriverDescriptor = DriverDescriptor {
     addr: REQUEST_AT,
     len: 40,
     flags: NEXT,
     next: 1,
 };
 
-const ROOM: Descriptor = Descriptor {
+const ROOM: DriverDescriptor = DriverDescriptor {
     addr: ROOM_AT,
     len: 16,
     flags: WRITE,
@@ -24,7 +24,7 @@ const ROOM: Descriptor = Descriptor {
 };
 
 // A table of two descriptors.
-const TABLE: Descriptor = Descriptor {
+const TABLE: DriverDescriptor = DriverDescriptor {
     addr: 0x20000,
     len: 32,
     flags: INDIRECT,
@@ -32,23 +32,27 @@ const TABLE: Descriptor = Descriptor {
 };
 
 // What stands in the first two entries of the table, and the fault of the chain.
-const FAULTY: &[(Descriptor, Descriptor, ChainFault)] = &[
-    (Descriptor { next: 0, ..REQUEST }, ROOM, ChainFault::TooLong),
+const FAULTY: &[(DriverDescriptor, DriverDescriptor, ChainFault)] = &[
+    (
+        DriverDescriptor { next: 0, ..REQUEST },
+        ROOM,
+        ChainFault::TooLong,
+    ),
     (
         REQUEST,
-        Descriptor {
+        DriverDescriptor {
             flags: WRITE | NEXT,
             ..ROOM
         },
         ChainFault::TooLong,
     ),
     (
-        Descriptor { next: 4, ..REQUEST },
+        DriverDescriptor { next: 4, ..REQUEST },
         ROOM,
         ChainFault::NextOutOfTable,
     ),
     (
-        Descriptor {
+        DriverDescriptor {
             addr: 0xffff_ffff_ffff_fff8,
             len: 8,
             ..REQUEST
@@ -58,7 +62,7 @@ const FAULTY: &[(Descriptor, Descriptor, ChainFault)] = &[
     ),
     (TABLE, ROOM, ChainFault::TableUnreachable),
     (
-        Descriptor {
+        DriverDescriptor {
             len: LIMIT + 1,
             ..REQUEST
         },
@@ -67,7 +71,7 @@ const FAULTY: &[(Descriptor, Descriptor, ChainFault)] = &[
     ),
     (
         REQUEST,
-        Descriptor {
+        DriverDescriptor {
             addr: 0x20000,
             len: LIMIT + 1,
             ..ROOM
@@ -75,7 +79,7 @@ const FAULTY: &[(Descriptor, Descriptor, ChainFault)] = &[
         ChainFault::OverLimit,
     ),
     (
-        Descriptor {
+        DriverDescriptor {
             addr: 0xfff0,
             ..REQUEST
         },
@@ -84,7 +88,7 @@ const FAULTY: &[(Descriptor, Descriptor, ChainFault)] = &[
     ),
     (
         REQUEST,
-        Descriptor {
+        DriverDescriptor {
             addr: 0xfff8,
             ..ROOM
         },
@@ -92,7 +96,7 @@ const FAULTY: &[(Descriptor, Descriptor, ChainFault)] = &[
     ),
     (
         REQUEST,
-        Descriptor {
+        DriverDescriptor {
             addr: 0x20000,
             ..ROOM
         },
@@ -104,8 +108,8 @@ const FAULTY: &[(Descriptor, Descriptor, ChainFault)] = &[
 fn expect_faulty(
     rt: &impl Abort,
     alloc: Global,
-    first: Descriptor,
-    second: Descriptor,
+    first: DriverDescriptor,
+    second: DriverDescriptor,
     fault: ChainFault,
 ) {
     const UNSERVED: &[Act<'static>] = &[
@@ -130,7 +134,7 @@ fn faulty_chain_goes_back_with_nothing_and_asks_nothing(rt: HostRuntime) {
 }
 
 // No bytes, at an address that is in no region.
-const EMPTY: Descriptor = Descriptor {
+const EMPTY: DriverDescriptor = DriverDescriptor {
     addr: 0xffff_ffff_ffff_ffff,
     len: 0,
     flags: NEXT,

@@ -3,7 +3,7 @@
 use crate::stand::{ENOSYS_REPLY, REQUEST_AT, RING, ROOM_AT, Stand};
 use fs_device::Fault;
 use fs_queue::ChainFault;
-use guest_driver::Descriptor;
+use guest_driver::DriverDescriptor;
 use guest_driver::requests::header;
 use guest_driver::ring::{INDIRECT, NEXT, WRITE};
 use std::alloc::Global;
@@ -11,14 +11,14 @@ use std::process::Abort;
 use vm_memory_core::GuestAddress;
 
 // The two descriptors of a chain that is served.
-const REQUEST: Descriptor = Descriptor {
+const REQUEST: DriverDescriptor = DriverDescriptor {
     addr: REQUEST_AT,
     len: 40,
     flags: NEXT,
     next: 1,
 };
 
-const ROOM: Descriptor = Descriptor {
+const ROOM: DriverDescriptor = DriverDescriptor {
     addr: ROOM_AT,
     len: 16,
     flags: WRITE,
@@ -26,33 +26,33 @@ const ROOM: Descriptor = Descriptor {
 };
 
 // They as a table.
-const BOTH: &[Descriptor] = &[REQUEST, ROOM];
+const BOTH: &[DriverDescriptor] = &[REQUEST, ROOM];
 
 // The request's first part, and what follows it where the table has more than these two.
-const FRONT: Descriptor = Descriptor { len: 33, ..REQUEST };
+const FRONT: DriverDescriptor = DriverDescriptor { len: 33, ..REQUEST };
 
-const BACK: Descriptor = Descriptor {
+const BACK: DriverDescriptor = DriverDescriptor {
     addr: 0x1021,
     len: 7,
     flags: NEXT,
     next: 2,
 };
 
-const ROOM_FRONT: Descriptor = Descriptor {
+const ROOM_FRONT: DriverDescriptor = DriverDescriptor {
     addr: ROOM_AT,
     len: 3,
     flags: WRITE | NEXT,
     next: 3,
 };
 
-const NOTHING: Descriptor = Descriptor {
+const NOTHING: DriverDescriptor = DriverDescriptor {
     addr: ROOM_AT,
     len: 0,
     flags: WRITE | NEXT,
     next: 4,
 };
 
-const ROOM_BACK: Descriptor = Descriptor {
+const ROOM_BACK: DriverDescriptor = DriverDescriptor {
     addr: 0x2003,
     len: 13,
     flags: WRITE,
@@ -60,12 +60,12 @@ const ROOM_BACK: Descriptor = Descriptor {
 };
 
 // Four descriptors in a chain, and five.
-const FOUR: &[Descriptor] = &[FRONT, BACK, ROOM_FRONT, ROOM_BACK];
+const FOUR: &[DriverDescriptor] = &[FRONT, BACK, ROOM_FRONT, ROOM_BACK];
 
-const FIVE: &[Descriptor] = &[FRONT, BACK, ROOM_FRONT, NOTHING, ROOM_BACK];
+const FIVE: &[DriverDescriptor] = &[FRONT, BACK, ROOM_FRONT, NOTHING, ROOM_BACK];
 
 // The descriptor that names a table.
-const NAMES: Descriptor = Descriptor {
+const NAMES: DriverDescriptor = DriverDescriptor {
     addr: 0x3000,
     len: 32,
     flags: INDIRECT,
@@ -74,47 +74,51 @@ const NAMES: Descriptor = Descriptor {
 
 // A descriptor that names a table, and the table: in a region apart; to write, which says nothing; across two regions;
 // over the used ring; of four descriptors.
-const SERVED: [(Descriptor, &[Descriptor]); 5] = [
+const SERVED: [(DriverDescriptor, &[DriverDescriptor]); 5] = [
     (NAMES, BOTH),
     (
-        Descriptor {
+        DriverDescriptor {
             flags: INDIRECT | WRITE,
             ..NAMES
         },
         BOTH,
     ),
     (
-        Descriptor {
+        DriverDescriptor {
             addr: 0x2ff8,
             ..NAMES
         },
         BOTH,
     ),
     (
-        Descriptor {
+        DriverDescriptor {
             addr: RING.used,
             ..NAMES
         },
         BOTH,
     ),
-    (Descriptor { len: 64, ..NAMES }, FOUR),
+    (DriverDescriptor { len: 64, ..NAMES }, FOUR),
 ];
 
 // The same with the fault of the chain.
-const FAULTY: [(Descriptor, &[Descriptor], ChainFault); 10] = [
-    (Descriptor { len: 80, ..NAMES }, FIVE, ChainFault::TooLong),
+const FAULTY: [(DriverDescriptor, &[DriverDescriptor], ChainFault); 10] = [
     (
-        NAMES,
-        &[Descriptor { next: 0, ..REQUEST }, ROOM],
+        DriverDescriptor { len: 80, ..NAMES },
+        FIVE,
         ChainFault::TooLong,
     ),
     (
         NAMES,
-        &[Descriptor { next: 2, ..REQUEST }, ROOM],
+        &[DriverDescriptor { next: 0, ..REQUEST }, ROOM],
+        ChainFault::TooLong,
+    ),
+    (
+        NAMES,
+        &[DriverDescriptor { next: 2, ..REQUEST }, ROOM],
         ChainFault::NextOutOfTable,
     ),
     (
-        Descriptor {
+        DriverDescriptor {
             addr: 0xffff_ffff_ffff_ffe0,
             ..NAMES
         },
@@ -122,7 +126,7 @@ const FAULTY: [(Descriptor, &[Descriptor], ChainFault); 10] = [
         ChainFault::AddressOverflow,
     ),
     (
-        Descriptor {
+        DriverDescriptor {
             flags: INDIRECT | NEXT,
             ..NAMES
         },
@@ -131,17 +135,17 @@ const FAULTY: [(Descriptor, &[Descriptor], ChainFault); 10] = [
     ),
     (NAMES, &[NAMES], ChainFault::IndirectNested),
     (
-        Descriptor { len: 40, ..NAMES },
+        DriverDescriptor { len: 40, ..NAMES },
         BOTH,
         ChainFault::IndirectLength,
     ),
     (
-        Descriptor { len: 0, ..NAMES },
+        DriverDescriptor { len: 0, ..NAMES },
         BOTH,
         ChainFault::IndirectLength,
     ),
     (
-        Descriptor {
+        DriverDescriptor {
             addr: 0x20000,
             ..NAMES
         },
@@ -149,7 +153,7 @@ const FAULTY: [(Descriptor, &[Descriptor], ChainFault); 10] = [
         ChainFault::TableUnreachable,
     ),
     (
-        Descriptor {
+        DriverDescriptor {
             addr: 0xfff0,
             ..NAMES
         },
@@ -160,7 +164,12 @@ const FAULTY: [(Descriptor, &[Descriptor], ChainFault); 10] = [
 
 // The request, a table where a descriptor says that it is, and a chain of that descriptor alone; no page is marked. The
 // second region begins at 0x3000.
-fn draw(rt: &impl Abort, alloc: Global, first: Descriptor, table: &[Descriptor]) -> Stand {
+fn draw(
+    rt: &impl Abort,
+    alloc: Global,
+    first: DriverDescriptor,
+    table: &[DriverDescriptor],
+) -> Stand {
     let regions = [(GuestAddress(0), 0x3000), (GuestAddress(0x3000), 0xd000)];
     let mut stand = Stand::over(rt, alloc, &regions, RING);
     stand.put(rt, REQUEST_AT, &header(40, 7, 1, 0));

@@ -10,11 +10,10 @@ use crate::stand::{ENOSYS_REPLY, LIMIT, REQUEST_AT, RING, ROOM_AT, UNKNOWN, expe
 use call_log::CallLog;
 use fs_device::{Device, DeviceError, Exchange};
 use fs_queue::Queue;
-use fuse_fs::FileSystem;
 use guest_driver::Guest;
 use std::alloc::Global;
 use std::process::Abort;
-use virtiofsd_fuse::Server;
+use virtiofsd_fuse::{FileSystem, Server};
 use vm_memory::{GuestMemoryMmap, GuestRegionMmap, MmapRegion};
 use vm_memory_core::{Bitmap, GuestAddress, HeldIn, IoPages, LentMemory, NewBitmap, PageBitmap};
 
@@ -207,11 +206,13 @@ fn begun_step_over_lent_slices_is_finished(rt: HostRuntime) {
     let mem = regions_over(&rt, alloc, &host);
     assert!(rt; mem.is_held(&host));
     let mut device = one_queue(&rt, alloc);
-    let begun = device
+    let pending = device
         .begin(alloc, &host, &mem, 0)
         .expect(&rt, "no refusal")
         .expect(&rt, "a chain that waits");
-    let (_, notify) = device.finish(alloc, &mut host, begun).expect(&rt, "memory");
+    let (_, notify) = device
+        .finish(alloc, &mut host, pending)
+        .expect(&rt, "memory");
     end_loan(host);
     expect_same(&rt, notify, true);
     expect_same(&rt, high.get(0x1000..0x1010), Some(ENOSYS_REPLY.as_slice()));

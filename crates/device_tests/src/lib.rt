@@ -2,8 +2,6 @@
 #![tactic(auto)]
 
 #[cfg(test)]
-mod begun;
-#[cfg(test)]
 mod faults;
 #[cfg(test)]
 mod indirect;
@@ -13,6 +11,8 @@ mod lent;
 mod longest;
 #[cfg(test)]
 mod numbers;
+#[cfg(test)]
+mod pending_request;
 #[cfg(test)]
 mod queues;
 #[cfg(test)]

@@ -7,7 +7,7 @@ use fs_device::{Device, DeviceError, Exchange, Fault};
 use fs_queue::{Queue, QueueLayout};
 use fuse_wire::InitInCompat;
 use guest_driver::requests::{forget, header, init, lookup, read};
-use guest_driver::{Descriptor, Guest, Ring};
+use guest_driver::{DriverDescriptor, Guest, Ring};
 use std::alloc::Global;
 use std::fmt::Debug;
 use std::process::Abort;
@@ -107,7 +107,7 @@ pub enum Act<'a> {
     /// The guest puts bytes at an address.
     Puts(u64, &'a [u8]),
     /// The guest writes an entry of its table.
-    Enters(u16, Descriptor),
+    Enters(u16, DriverDescriptor),
     /// The guest makes the chain from this head available.
     Offers(u16),
     /// A request in one piece, with a room of so many bytes, is made available; no page is marked.
@@ -222,12 +222,12 @@ impl Stand {
     }
 
     /// The guest writes an entry of its table.
-    pub fn enter(&mut self, rt: &impl Abort, index: u16, entry: Descriptor) {
+    pub fn enter(&mut self, rt: &impl Abort, index: u16, entry: DriverDescriptor) {
         self.guest.descriptor(index, entry).expect(rt, "a place");
     }
 
     /// The guest writes the entries of a table that begins at an address.
-    pub fn enter_all(&mut self, rt: &impl Abort, table: u64, entries: &[Descriptor]) {
+    pub fn enter_all(&mut self, rt: &impl Abort, table: u64, entries: &[DriverDescriptor]) {
         let mut index = 0u16;
         for entry in entries {
             self.guest

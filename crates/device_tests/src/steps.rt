@@ -1,9 +1,12 @@
 //! Steps of a device: one chain is taken, served and given back.
 
 use crate::stand::{
-    Act, ENOSYS_REPLY, REQUEST_AT, RING, ROOM_AT, Request, UNKNOWN, play, play_over,
+    Act, ENOSYS_REPLY, REQUEST_AT, RING, ROOM_AT, Request, Stand, UNKNOWN, expect_same, play,
+    play_over,
 };
+use call_log::used_length;
 use guest_driver::Ring;
+use std::process::Abort;
 use vm_memory_core::GuestAddress;
 
 #[test]
@@ -173,4 +176,35 @@ fn reply_over_two_regions_marks_the_pages_of_both(rt: HostRuntime) {
         Act::Marked(&[(0, 0), (0, 4), (0, 5), (1, 0), (1, 1)]),
     ];
     play_over(&rt, rt.alloc(), REGIONS, RING, ACTS);
+}
+
+// A step of the first queue: the used length that the driver finds.
+fn length_told(rt: &impl Abort, stand: &mut Stand) -> Option<usize> {
+    used_length(
+        stand.alloc,
+        &mut stand.device,
+        &mut stand.guest.host,
+        &stand.guest.mem,
+        0,
+    )
+    .expect(rt, "no refusal")
+}
+
+#[test]
+fn used_length_is_that_of_the_reply(rt: HostRuntime) {
+    let mut stand = Stand::new(&rt, rt.alloc());
+    expect_same(&rt, length_told(&rt, &mut stand), None);
+    stand.ask(&rt, UNKNOWN, 16);
+    expect_same(&rt, length_told(&rt, &mut stand), Some(16));
+    stand.expect_used(&rt, 0, (0, 16), 1);
+}
+
+#[test]
+fn used_length_is_0_where_there_is_no_reply(rt: HostRuntime) {
+    let mut stand = Stand::new(&rt, rt.alloc());
+    let request = Request::Forget { node: 5, count: 3 };
+    stand.ask_cut(&rt, request, &[(REQUEST_AT, 48)], &[]);
+    expect_same(&rt, length_told(&rt, &mut stand), Some(0));
+    stand.expect_used(&rt, 0, (0, 0), 1);
+    stand.expect_marked(&rt, &[(0, 0)]);
 }

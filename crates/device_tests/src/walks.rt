@@ -3,21 +3,21 @@
 use crate::stand::{ENOSYS_REPLY, REQUEST_AT, RING, ROOM_AT, Stand};
 use fs_device::Fault;
 use fs_queue::ChainFault;
-use guest_driver::Descriptor;
+use guest_driver::DriverDescriptor;
 use guest_driver::requests::header;
 use guest_driver::ring::{INDIRECT, NEXT, WRITE};
 use std::alloc::Global;
 use std::process::Abort;
 
 // The two descriptors of a chain that is served.
-const REQUEST: Descriptor = Descriptor {
+const REQUEST: DriverDescriptor = DriverDescriptor {
     addr: REQUEST_AT,
     len: 40,
     flags: NEXT,
     next: 1,
 };
 
-const ROOM: Descriptor = Descriptor {
+const ROOM: DriverDescriptor = DriverDescriptor {
     addr: ROOM_AT,
     len: 16,
     flags: WRITE,
@@ -25,50 +25,50 @@ const ROOM: Descriptor = Descriptor {
 };
 
 // The request's first part, and what follows it where a table has the rest.
-const FRONT: Descriptor = Descriptor { len: 33, ..REQUEST };
+const FRONT: DriverDescriptor = DriverDescriptor { len: 33, ..REQUEST };
 
-const BACK: Descriptor = Descriptor {
+const BACK: DriverDescriptor = DriverDescriptor {
     addr: 0x1021,
     len: 7,
     ..REQUEST
 };
 
-const ROOM_FRONT: Descriptor = Descriptor {
+const ROOM_FRONT: DriverDescriptor = DriverDescriptor {
     len: 3,
     flags: WRITE | NEXT,
     next: 2,
     ..ROOM
 };
 
-const NOTHING: Descriptor = Descriptor {
+const NOTHING: DriverDescriptor = DriverDescriptor {
     len: 0,
     flags: WRITE | NEXT,
     next: 3,
     ..ROOM
 };
 
-const ROOM_BACK: Descriptor = Descriptor {
+const ROOM_BACK: DriverDescriptor = DriverDescriptor {
     addr: 0x2003,
     len: 13,
     ..ROOM
 };
 
 // The descriptor that names a table, and such tables.
-const NAMES: Descriptor = Descriptor {
+const NAMES: DriverDescriptor = DriverDescriptor {
     addr: 0x3000,
     len: 48,
     flags: INDIRECT,
     next: 0,
 };
 
-const BOTH: &[Descriptor] = &[REQUEST, ROOM];
+const BOTH: &[DriverDescriptor] = &[REQUEST, ROOM];
 
-const THREE: &[Descriptor] = &[BACK, ROOM_FRONT, ROOM_BACK];
+const THREE: &[DriverDescriptor] = &[BACK, ROOM_FRONT, ROOM_BACK];
 
-const FOUR: &[Descriptor] = &[BACK, ROOM_FRONT, NOTHING, ROOM_BACK];
+const FOUR: &[DriverDescriptor] = &[BACK, ROOM_FRONT, NOTHING, ROOM_BACK];
 
 // No address is as great as its end.
-const PAST_ADDRESSES: Descriptor = Descriptor {
+const PAST_ADDRESSES: DriverDescriptor = DriverDescriptor {
     addr: 0xffff_ffff_ffff_fff8,
     len: 8,
     ..ROOM
@@ -83,15 +83,15 @@ const OTHER_FLAGS: u16 = 0xfff8;
 // The first entries of the queue's table, where another begins, and its first entries: three of a table count on from
 // the one before it; flags that no descriptor has say nothing; nor do a table's entries that no other names, which are
 // in no region.
-const SERVED: &[(&[Descriptor], u64, &[Descriptor])] = &[
+const SERVED: &[(&[DriverDescriptor], u64, &[DriverDescriptor])] = &[
     (&[FRONT, NAMES], 0x3000, THREE),
     (
         &[
-            Descriptor {
+            DriverDescriptor {
                 flags: OTHER_FLAGS | NEXT,
                 ..REQUEST
             },
-            Descriptor {
+            DriverDescriptor {
                 flags: OTHER_FLAGS | WRITE,
                 ..ROOM
             },
@@ -100,7 +100,7 @@ const SERVED: &[(&[Descriptor], u64, &[Descriptor])] = &[
         &[],
     ),
     (
-        &[Descriptor {
+        &[DriverDescriptor {
             flags: OTHER_FLAGS | INDIRECT,
             ..NAMES
         }],
@@ -108,7 +108,7 @@ const SERVED: &[(&[Descriptor], u64, &[Descriptor])] = &[
         BOTH,
     ),
     (
-        &[Descriptor {
+        &[DriverDescriptor {
             addr: 0xffe0,
             len: 64,
             ..NAMES
@@ -119,20 +119,20 @@ const SERVED: &[(&[Descriptor], u64, &[Descriptor])] = &[
 ];
 
 // The same with the fault of the chain: by what counts and by sums.
-const FAULTY: &[(&[Descriptor], u64, &[Descriptor], ChainFault)] = &[
+const FAULTY: &[(&[DriverDescriptor], u64, &[DriverDescriptor], ChainFault)] = &[
     (
-        &[FRONT, Descriptor { len: 64, ..NAMES }],
+        &[FRONT, DriverDescriptor { len: 64, ..NAMES }],
         0x3000,
         FOUR,
         ChainFault::TooLong,
     ),
     (
         &[
-            Descriptor {
+            DriverDescriptor {
                 len: LONG,
                 ..REQUEST
             },
-            Descriptor {
+            DriverDescriptor {
                 len: 0x1001,
                 next: 2,
                 ..REQUEST
@@ -146,11 +146,11 @@ const FAULTY: &[(&[Descriptor], u64, &[Descriptor], ChainFault)] = &[
     (
         &[
             REQUEST,
-            Descriptor {
+            DriverDescriptor {
                 len: LONG,
                 ..ROOM_FRONT
             },
-            Descriptor {
+            DriverDescriptor {
                 len: 0x1001,
                 ..ROOM
             },
@@ -160,7 +160,7 @@ const FAULTY: &[(&[Descriptor], u64, &[Descriptor], ChainFault)] = &[
         ChainFault::OverLimit,
     ),
     (
-        &[REQUEST, Descriptor { len: 40, ..NAMES }],
+        &[REQUEST, DriverDescriptor { len: 40, ..NAMES }],
         0x3000,
         BOTH,
         ChainFault::IndirectLength,
@@ -168,15 +168,15 @@ const FAULTY: &[(&[Descriptor], u64, &[Descriptor], ChainFault)] = &[
 ];
 
 // And where a second fault would follow: which comes first.
-const FIRST: &[(&[Descriptor], u64, &[Descriptor], ChainFault)] = &[
+const FIRST: &[(&[DriverDescriptor], u64, &[DriverDescriptor], ChainFault)] = &[
     (
-        &[FRONT, Descriptor { len: 64, ..NAMES }],
+        &[FRONT, DriverDescriptor { len: 64, ..NAMES }],
         0x3000,
         &[BACK, ROOM_FRONT, NOTHING, PAST_ADDRESSES],
         ChainFault::TooLong,
     ),
     (
-        &[Descriptor {
+        &[DriverDescriptor {
             flags: INDIRECT | NEXT,
             len: 40,
             ..NAMES
@@ -188,7 +188,7 @@ const FIRST: &[(&[Descriptor], u64, &[Descriptor], ChainFault)] = &[
     (
         &[NAMES],
         0x3000,
-        &[Descriptor {
+        &[DriverDescriptor {
             flags: INDIRECT | NEXT,
             ..NAMES
         }],
@@ -197,11 +197,11 @@ const FIRST: &[(&[Descriptor], u64, &[Descriptor], ChainFault)] = &[
     (
         &[NAMES],
         0x3000,
-        &[Descriptor { len: 40, ..NAMES }],
+        &[DriverDescriptor { len: 40, ..NAMES }],
         ChainFault::IndirectNested,
     ),
     (
-        &[Descriptor {
+        &[DriverDescriptor {
             addr: 0xffff_ffff_ffff_fff0,
             len: 40,
             ..NAMES
@@ -212,16 +212,16 @@ const FIRST: &[(&[Descriptor], u64, &[Descriptor], ChainFault)] = &[
     ),
     (
         &[
-            Descriptor {
+            DriverDescriptor {
                 len: LONG,
                 ..REQUEST
             },
-            Descriptor {
+            DriverDescriptor {
                 len: 0x1000,
                 next: 2,
                 ..REQUEST
             },
-            Descriptor {
+            DriverDescriptor {
                 addr: 0x20000,
                 ..ROOM
             },
@@ -233,11 +233,11 @@ const FIRST: &[(&[Descriptor], u64, &[Descriptor], ChainFault)] = &[
     (
         &[
             REQUEST,
-            Descriptor {
+            DriverDescriptor {
                 len: LONG,
                 ..ROOM_FRONT
             },
-            Descriptor {
+            DriverDescriptor {
                 len: 0x1000,
                 ..ROOM
             },
@@ -253,9 +253,9 @@ const FIRST: &[(&[Descriptor], u64, &[Descriptor], ChainFault)] = &[
 fn draw(
     rt: &impl Abort,
     alloc: Global,
-    direct: &[Descriptor],
+    direct: &[DriverDescriptor],
     at: u64,
-    table: &[Descriptor],
+    table: &[DriverDescriptor],
 ) -> Stand {
     let mut stand = Stand::new(rt, alloc);
     stand.put(rt, REQUEST_AT, &header(40, 7, 1, 0));
@@ -270,7 +270,7 @@ fn draw(
 fn expect_faulty(
     rt: &impl Abort,
     alloc: Global,
-    rows: &[(&[Descriptor], u64, &[Descriptor], ChainFault)],
+    rows: &[(&[DriverDescriptor], u64, &[DriverDescriptor], ChainFault)],
 ) {
     for (direct, at, table, fault) in rows {
         let mut stand = draw(rt, alloc, direct, *at, table);

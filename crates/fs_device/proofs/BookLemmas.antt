@@ -13,7 +13,7 @@ use Rattle.fuse_replies.specs.WholeReplies.{error_bytes, listing_bytes}
 use Rattle.fuse_calls.specs.Requests.{options_after}
 use Rattle.fs_queue.specs.declared.fault.ChainFault.{ChainFault}
 use Rattle.fs_queue.specs.Queue.{Queue}
-use Rattle.fs_queue.specs.Taking.{Offer, Asks, CannotAsk, Refuses, Offers}
+use Rattle.fs_queue.specs.Taking.{Offer, IsRequest, CannotFetch, Refuses, Offers}
 use Rattle.fs_queue.specs.Taking as taking
 use Rattle.virtiofsd_fuse.specs.Grammar.{Meaning, IsFault, Replies, IsSilent, One, Starts, Lists, meaning}
 use Rattle.virtiofsd_fuse.specs.Grammar as grammar
@@ -60,26 +60,26 @@ nothing_asked n o calls m given asks none =
 
 -- a reply goes in whole, or is lost
 abbrev in_room : Bool → List FileCall → (options : ℕ) → List ℕ → Served
-in_room long asked options bytes = if long then no_reply asked options (Some EncodeMessage) else record { calls = asked; options = options; reply = bytes; fault = None }
+in_room long fetched options bytes = if long then no_reply fetched options (Some EncodeMessage) else record { calls = fetched; options = options; reply = bytes; fault = None }
 
-replied_asks : (long : Bool) (asked : List FileCall) (options : ℕ) (bytes : List ℕ) → (in_room long asked options bytes).calls ≡ asked
-replied_asks true asked options bytes = refl
-replied_asks false asked options bytes = refl
+replied_asks : (long : Bool) (fetched : List FileCall) (options : ℕ) (bytes : List ℕ) → (in_room long fetched options bytes).calls ≡ fetched
+replied_asks true fetched options bytes = refl
+replied_asks false fetched options bytes = refl
 
-replied_nodes : (n : ℕ) (o : Option Opcode) (long : Bool) (asked : List FileCall) (options : ℕ) (bytes : List ℕ) → nodes_in o (drop 16 bytes) ≡ [] →
-    times n (nodes_in o (drop 16 (in_room long asked options bytes).reply)) ≡ 0
-replied_nodes n o true asked options bytes none = silent n o
-replied_nodes n o false asked options bytes none = ap (times n) none
+replied_nodes : (n : ℕ) (o : Option Opcode) (long : Bool) (fetched : List FileCall) (options : ℕ) (bytes : List ℕ) → nodes_in o (drop 16 bytes) ≡ [] →
+    times n (nodes_in o (drop 16 (in_room long fetched options bytes).reply)) ≡ 0
+replied_nodes n o true fetched options bytes none = silent n o
+replied_nodes n o false fetched options bytes none = ap (times n) none
 
-replied_balances : (n : ℕ) (o : Option Opcode) (calls : Calls) (back options : ℕ) (asked : List FileCall) (bytes : List ℕ) (long : Bool) →
-    times n (nodes_in o (drop 16 bytes)) ≡ entries_in n calls → back ≡ counts_in n calls → Balanced n o calls back (in_room long asked options bytes)
-replied_balances n o calls back options asked bytes true same keeps = let none = silent n o in omega (arith, none, keeps)
-replied_balances n o calls back options asked bytes false same keeps = omega (arith, same, keeps)
+replied_balances : (n : ℕ) (o : Option Opcode) (calls : Calls) (back options : ℕ) (fetched : List FileCall) (bytes : List ℕ) (long : Bool) →
+    times n (nodes_in o (drop 16 bytes)) ≡ entries_in n calls → back ≡ counts_in n calls → Balanced n o calls back (in_room long fetched options bytes)
+replied_balances n o calls back options fetched bytes true same keeps = let none = silent n o in omega (arith, none, keeps)
+replied_balances n o calls back options fetched bytes false same keeps = omega (arith, same, keeps)
 
-replied_whole : (n : ℕ) (o : Option Opcode) (calls : Calls) (back options : ℕ) (asked : List FileCall) (bytes : List ℕ) (long : Bool) → long ≡ false →
-    entries_in n calls ≡ times n (nodes_in o (drop 16 bytes)) + counts_in n calls → back ≡ 0 → Balanced n o calls back (in_room long asked options bytes)
-replied_whole n o calls back options asked bytes true fits same none = not_true (sym fits)
-replied_whole n o calls back options asked bytes false fits same none = omega (arith, same, none)
+replied_whole : (n : ℕ) (o : Option Opcode) (calls : Calls) (back options : ℕ) (fetched : List FileCall) (bytes : List ℕ) (long : Bool) → long ≡ false →
+    entries_in n calls ≡ times n (nodes_in o (drop 16 bytes)) + counts_in n calls → back ≡ 0 → Balanced n o calls back (in_room long fetched options bytes)
+replied_whole n o calls back options fetched bytes true fits same none = not_true (sym fits)
+replied_whole n o calls back options fetched bytes false fits same none = omega (arith, same, none)
 
 -- ---- listings
 
@@ -238,10 +238,10 @@ all_suit may before (step ∷ steps) after (between, suit, made, rest) = (suit, 
 
 exchange_balances : {F : Type 0} (may : May F) (n : ℕ) → n ≢ 0 → (s : State F) (i : ℕ) (q : Queue) (o : Offer) (calls : Calls) (x : Exchange) (notice : Bool) (after : State F) →
     Exchanges may s i q o calls x notice after → TurnBalances n (turn x notice calls)
-exchange_balances may n some s i q (Offers head (CannotAsk fault)) calls x notice after r =
+exchange_balances may n some s i q (Offers head (CannotFetch fault)) calls x notice after r =
     subst (λ (l : Calls). TurnBalances n (turn x notice l)) (sym r.no_call)
     (subst (λ (y : Exchange). TurnBalances n (turn y notice [])) (sym r.returns.exchange) (faulty_balances n head fault notice))
-exchange_balances may n some s i q (Offers head (Asks request room)) calls x notice after r =
+exchange_balances may n some s i q (Offers head (IsRequest request room)) calls x notice after r =
     let set = setting s.page_size s.options (length room) in
     let m = meaning s.options request (length room) in
     let fits = meaning_fits n s.options (length room) request in

@@ -1,4 +1,4 @@
--- what a chain asks, by its joined bytes and its lengths
+-- the request and the room of a chain, by its joined bytes and its lengths
 use Rattle.std.proofs.Common.{◌≡◌, ℕ, Bool, true, false, ◌||◌, not, nat_lt, List, length, ap, sym, ◌∙◌, subst}
 use Rattle.std.specs.Prelude.{if◌then◌else◌}
 use Rattle.vm_iotlb.specs.declared.permissions.Permissions.TheVariants.{Read, Write}
@@ -6,32 +6,32 @@ use Rattle.vm_memory.specs.Memory.{Memory}
 use Rattle.fs_queue.specs.Chain.{Descriptor}
 use Rattle.fs_queue.specs.declared.fault.ChainFault.{ChainFault}
 use Rattle.fs_queue.specs.declared.fault.ChainFault.TheVariants.{OverLimit, RequestUnreachable, RoomUnreachable}
-use Rattle.fs_queue.specs.Taking.{readable, writable, total_len, all_reach, Asks, CannotAsk, asked_by}
+use Rattle.fs_queue.specs.Taking.{readable, writable, total_len, all_reach, IsRequest, CannotFetch, request_and_room}
 use Rattle.fs_queue.specs.Windows.{addresses_of}
 use Rattle.fs_queue.proofs.TakeLemmas.{length-addresses_of}
-use Rattle.fs_queue.proofs.OfferedLemmas.{offered_asks}
+use Rattle.fs_queue.proofs.OfferedLemmas.{offered_fetches}
 use Rattle.virtiofsd_fuse.specs.Serving.{May}
 use Rattle.fs_device.specs.Laws.{joined_request, CutsDoNotMatter, OffersAreServedAlike}
 use Rattle.fs_device.specs.Step.{ServesRequest}
 
 three : (a b c : Bool) (x y z : ChainFault) (request room bytes places : List ℕ) →
-    (if a then CannotAsk x else if b then CannotAsk y else if c then CannotAsk z else Asks bytes places) ≡ Asks request room → (request ≡ bytes) × (room ≡ places)
+    (if a then CannotFetch x else if b then CannotFetch y else if c then CannotFetch z else IsRequest bytes places) ≡ IsRequest request room → (request ≡ bytes) × (room ≡ places)
 three true b c x y z request room bytes places e = absurd (cc)
 three false true c x y z request room bytes places e = absurd (cc)
 three false false true x y z request room bytes places e = absurd (cc)
 three false false false x y z request room bytes places e = (cc, cc)
 
-asks_joined : (m : Memory) (limit : ℕ) (ds : List Descriptor) (request room : List ℕ) → asked_by m limit ds ≡ Asks request room → (request ≡ joined_request m ds) × (room ≡ addresses_of (writable ds))
+asks_joined : (m : Memory) (limit : ℕ) (ds : List Descriptor) (request room : List ℕ) → request_and_room m limit ds ≡ IsRequest request room → (request ≡ joined_request m ds) × (room ≡ addresses_of (writable ds))
 asks_joined m limit ds request room e =
     three (nat_lt limit (total_len (readable ds)) || nat_lt limit (total_len (writable ds))) (not (all_reach m Read (readable ds))) (not (all_reach m Write (writable ds)))
     OverLimit RequestUnreachable RoomUnreachable request room (joined_request m ds) (addresses_of (writable ds)) e
 
 -- the request of a chain that can be served is its joined bytes
-request_joined : (m : Memory) (limit : ℕ) (ds : List Descriptor) (request room : List ℕ) → asked_by m limit ds ≡ Asks request room → request ≡ joined_request m ds
+request_joined : (m : Memory) (limit : ℕ) (ds : List Descriptor) (request room : List ℕ) → request_and_room m limit ds ≡ IsRequest request room → request ≡ joined_request m ds
 request_joined m limit ds request room e = (asks_joined m limit ds request room e).0
 
 -- and its room has as many places as the lengths come to
-room_counted : (m : Memory) (limit : ℕ) (ds : List Descriptor) (request room : List ℕ) → asked_by m limit ds ≡ Asks request room → length room ≡ total_len (writable ds)
+room_counted : (m : Memory) (limit : ℕ) (ds : List Descriptor) (request room : List ℕ) → request_and_room m limit ds ≡ IsRequest request room → length room ≡ total_len (writable ds)
 room_counted m limit ds request room e = ap length (asks_joined m limit ds request room e).1 ∙ length-addresses_of (writable ds)
 
 -- any two lists of descriptors
@@ -50,5 +50,5 @@ cuts may m n limit other ds es request room request' room' asks asks' bytes leng
 -- the chains that two queues offer
 pub offers : {F : Type 0} (may : May F) → OffersAreServedAlike may
 offers may m n limit other q p ds es request room request' room' one two =
-    cuts may m n limit other ds es request room request' room' (offered_asks m limit q one.head ds request room one.walked one.offered)
-    (offered_asks n other p two.head es request' room' two.walked two.offered)
+    cuts may m n limit other ds es request room request' room' (offered_fetches m limit q one.head ds request room one.walked one.offered)
+    (offered_fetches n other p two.head es request' room' two.walked two.offered)

@@ -8,10 +8,14 @@ pub mod MappingLemmas
 pub mod CutLemmas
 pub mod NodeLemmas
 pub mod MeaningLemmas
+pub mod HeaderLemmas
+pub mod UsedLemmas
 pub mod ListBooks
 pub mod BookLemmas
 pub mod TellingLemmas
 pub mod MarkLemmas
 pub mod MarkedRuns
 pub mod MoveLemmas
+pub mod PageLemmas
+pub mod PageRuns
 pub mod MigrateLemmas

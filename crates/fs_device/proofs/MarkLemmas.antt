@@ -13,11 +13,11 @@ use Rattle.vm_memory.specs.Memory.{Memory, location, addresses, reach, byte, sto
 use Rattle.fs_queue.specs.declared.fault.ChainFault.TheVariants.{OverLimit, RequestUnreachable, RoomUnreachable, NextOutOfTable, TableUnreachable}
 use Rattle.fs_queue.specs.declared.fault.QueueError.TheVariants as stop
 use Rattle.fs_queue.specs.Queue.{Queue, has_bit, avail_index_at, ring_entry_at, element_at, index_at}
-use Rattle.fs_queue.specs.Look.{Look, looked}
-use Rattle.fs_queue.specs.Look as look
-use Rattle.fs_queue.specs.Chain.{Descriptor, Visit, Verdict, Faulty, Stops, Found, IsChain, HasFault, StopsQueue, descriptor_at, is_indirect, indirect_verdict, ordinary_verdict, verdict}
-use Rattle.fs_queue.specs.Chain.{next_visit, onward, path, first_visit, walk, found, after_verdict, chain}
-use Rattle.fs_queue.specs.Taking.{readable, writable, total_len, all_reach, Asked, Asks, CannotAsk, asked_by, Offer, Offers, Refuses, offer_of, on_head, on_look, offer}
+use Rattle.fs_queue.specs.NextAvail.{NextAvail, next_avail}
+use Rattle.fs_queue.specs.NextAvail as avail
+use Rattle.fs_queue.specs.Chain.{Descriptor, Visit, WalkStep, Faulty, Stops, Found, IsChain, HasFault, StopsQueue, descriptor_at, is_indirect, indirect_step, ordinary_step, walk_step}
+use Rattle.fs_queue.specs.Chain.{next_visit, onward, path, first_visit, walk, found, after_walk_step, chain}
+use Rattle.fs_queue.specs.Taking.{readable, writable, total_len, all_reach, RequestAndRoom, IsRequest, CannotFetch, request_and_room, Offer, Offers, Refuses, offer_of, on_head, on_next_avail, offer}
 use Rattle.fs_queue.specs.Returning.{wants_notice}
 use Rattle.fs_device.specs.Marks.{none_marked, without_marks}
 
@@ -101,41 +101,43 @@ descriptor_by f a = record { addr = number_by f w64 a; len = number_by f w32 (a 
 descriptor_kept : (m : Memory) (a : ℕ) → descriptor_at (unmarked_memory m) a ≡ descriptor_at m a
 descriptor_kept m a = ap (λ (f : ℕ → ℕ). descriptor_by f a) (bytes_kept m)
 
-abbrev verdict_by : (reached : Bool) → Visit → Descriptor → Verdict
-verdict_by reached v d =
+abbrev walk_step_by : (size : ℕ) (reached : Bool) → Visit → Descriptor → WalkStep
+walk_step_by size reached v d =
     if nat_le v.table.entries v.index then Faulty NextOutOfTable
     else if not reached then (if v.table.indirect then Faulty TableUnreachable else Stops)
-    else if is_indirect d then indirect_verdict v d
-    else ordinary_verdict v d
+    else if is_indirect d then indirect_step v d
+    else ordinary_step size v d
 
-verdict_kept : (m : Memory) (v : Visit) → verdict (unmarked_memory m) v ≡ verdict m v
-verdict_kept m v = ap (verdict_by (reach m Read (v.table.address + 16 * v.index) 16) v) (descriptor_kept m (v.table.address + 16 * v.index))
+walk_step_kept : (m : Memory) (size : ℕ) (v : Visit) → walk_step (unmarked_memory m) size v ≡ walk_step m size v
+walk_step_kept m size v = ap (walk_step_by size (reach m Read (v.table.address + 16 * v.index) 16) v) (descriptor_kept m (v.table.address + 16 * v.index))
 
-path_kept : (m : Memory) (n : ℕ) (v : Visit) → path (unmarked_memory m) n v ≡ path m n v
+path_kept : (m : Memory) (size n : ℕ) (v : Visit) → path (unmarked_memory m) size n v ≡ path m size n v
 unfolding path
-path_kept m zero v = refl
-path_kept m (suc n) v =
-    ap (λ (w : Verdict). v ∷ onward (path (unmarked_memory m) n) (next_visit v w)) (verdict_kept m v)
-    ∙ ap (λ (f : Visit → List Visit). v ∷ onward f (next_visit v (verdict m v))) (fun_ext (path_kept m n))
+path_kept m size zero v = refl
+path_kept m size (suc n) v =
+    ap (λ (w : WalkStep). v ∷ onward (path (unmarked_memory m) size n) (next_visit v w)) (walk_step_kept m size v)
+    ∙ ap (λ (f : Visit → List Visit). v ∷ onward f (next_visit v (walk_step m size v))) (fun_ext (path_kept m size n))
 
-found_kept : (m : Memory) (vs : List Visit) → found (unmarked_memory m) vs ≡ found m vs
+found_kept : (m : Memory) (size : ℕ) (vs : List Visit) → found (unmarked_memory m) size vs ≡ found m size vs
 unfolding found
-found_kept m [] = refl
-found_kept m (v ∷ vs) = ap (λ (w : Verdict). after_verdict w (found (unmarked_memory m) vs)) (verdict_kept m v) ∙ ap (after_verdict (verdict m v)) (found_kept m vs)
+found_kept m size [] = refl
+found_kept m size (v ∷ vs) =
+    ap (λ (w : WalkStep). after_walk_step w (found (unmarked_memory m) size vs)) (walk_step_kept m size v)
+    ∙ ap (after_walk_step (walk_step m size v)) (found_kept m size vs)
 
 chain_kept : (m : Memory) (q : Queue) (head : ℕ) → chain (unmarked_memory m) q head ≡ chain m q head
-chain_kept m q head = ap (found (unmarked_memory m)) (path_kept m (q.size + 2) (first_visit q head)) ∙ found_kept m (walk m q head)
+chain_kept m q head = ap (found (unmarked_memory m) q.size) (path_kept m q.size (q.size + 2) (first_visit q head)) ∙ found_kept m q.size (walk m q head)
 
 -- ---- offers
 
-abbrev asked_with : Memory → ℕ → List Descriptor → (ℕ → ℕ) → Asked
+abbrev asked_with : Memory → ℕ → List Descriptor → (ℕ → ℕ) → RequestAndRoom
 asked_with m limit ds f =
-    if nat_lt limit (total_len (readable ds)) || nat_lt limit (total_len (writable ds)) then CannotAsk OverLimit
-    else if not (all_reach m Read (readable ds)) then CannotAsk RequestUnreachable
-    else if not (all_reach m Write (writable ds)) then CannotAsk RoomUnreachable
-    else Asks (flat_map (λ d. map f (addresses d.addr d.len)) (readable ds)) (flat_map (λ d. addresses d.addr d.len) (writable ds))
+    if nat_lt limit (total_len (readable ds)) || nat_lt limit (total_len (writable ds)) then CannotFetch OverLimit
+    else if not (all_reach m Read (readable ds)) then CannotFetch RequestUnreachable
+    else if not (all_reach m Write (writable ds)) then CannotFetch RoomUnreachable
+    else IsRequest (flat_map (λ d. map f (addresses d.addr d.len)) (readable ds)) (flat_map (λ d. addresses d.addr d.len) (writable ds))
 
-asked_kept : (m : Memory) (limit : ℕ) (ds : List Descriptor) → asked_by (unmarked_memory m) limit ds ≡ asked_by m limit ds
+asked_kept : (m : Memory) (limit : ℕ) (ds : List Descriptor) → request_and_room (unmarked_memory m) limit ds ≡ request_and_room m limit ds
 asked_kept m limit ds = ap (asked_with m limit ds) (bytes_kept m)
 
 found_offered : (m : Memory) (limit head : ℕ) (o : Found) → offer_of (unmarked_memory m) limit head o ≡ offer_of m limit head o
@@ -143,19 +145,19 @@ found_offered m limit head (IsChain ds) = ap (Offers head) (asked_kept m limit d
 found_offered m limit head (HasFault fault) = refl
 found_offered m limit head StopsQueue = refl
 
-abbrev after_ends : Memory → Queue → Offer → Offer
-after_ends m q o =
+abbrev after_return_places : Memory → Queue → Offer → Offer
+after_return_places m q o =
     if not (reach m Write (element_at q) 8 && reach m Write (index_at q) 2) then Refuses stop.UsedUnreachable
     else if not (reach m Read q.avail 2) then Refuses stop.AvailFlagsUnreachable
     else o
 
 head_kept : (m : Memory) (limit : ℕ) (q : Queue) (head : ℕ) → on_head (unmarked_memory m) limit q head ≡ on_head m limit q head
-head_kept m limit q head = ap (after_ends m q) (ap (offer_of (unmarked_memory m) limit head) (chain_kept m q head) ∙ found_offered m limit head (chain m q head))
+head_kept m limit q head = ap (after_return_places m q) (ap (offer_of (unmarked_memory m) limit head) (chain_kept m q head) ∙ found_offered m limit head (chain m q head))
 
-look_kept : (m : Memory) (limit : ℕ) (q : Queue) (l : Look) → on_look (unmarked_memory m) limit q l ≡ on_look m limit q l
-look_kept m limit q look.Idle = refl
-look_kept m limit q (look.Refused e) = refl
-look_kept m limit q (look.Head head) = head_kept m limit q head
+on_next_avail_kept : (m : Memory) (limit : ℕ) (q : Queue) (l : NextAvail) → on_next_avail (unmarked_memory m) limit q l ≡ on_next_avail m limit q l
+on_next_avail_kept m limit q avail.Idle = refl
+on_next_avail_kept m limit q (avail.Refused e) = refl
+on_next_avail_kept m limit q (avail.Head head) = head_kept m limit q head
 
 abbrev waiting_by : (ℕ → ℕ) → Queue → ℕ
 waiting_by f q = (number_by f w16 (avail_index_at q) + (2 ^ 16 - q.position)) % 2 ^ 16
@@ -163,23 +165,23 @@ waiting_by f q = (number_by f w16 (avail_index_at q) + (2 ^ 16 - q.position)) % 
 abbrev head_by : (ℕ → ℕ) → Queue → ℕ
 head_by f q = number_by f w16 (ring_entry_at q)
 
-abbrev looked_by : Memory → Queue → (ℕ → ℕ) → Look
-looked_by m q f =
-    if not (reach m Read (avail_index_at q) 2) then look.Refused stop.AvailIndexUnreachable
-    else if waiting_by f q == 0 then look.Idle
-    else if nat_lt q.size (waiting_by f q) then look.Refused stop.AvailTooFar
-    else if not (reach m Read (ring_entry_at q) 2) then look.Refused stop.RingEntryUnreachable
-    else if nat_le q.size (head_by f q) then look.Refused stop.HeadOutOfTable
-    else look.Head (head_by f q)
+abbrev next_avail_by : Memory → Queue → (ℕ → ℕ) → NextAvail
+next_avail_by m q f =
+    if not (reach m Read (avail_index_at q) 2) then avail.Refused stop.AvailIndexUnreachable
+    else if waiting_by f q == 0 then avail.Idle
+    else if nat_lt q.size (waiting_by f q) then avail.Refused stop.AvailTooFar
+    else if not (reach m Read (ring_entry_at q) 2) then avail.Refused stop.RingEntryUnreachable
+    else if nat_le q.size (head_by f q) then avail.Refused stop.HeadOutOfTable
+    else avail.Head (head_by f q)
 
-looked_kept : (m : Memory) (q : Queue) → looked (unmarked_memory m) q ≡ looked m q
-looked_kept m q = ap (looked_by m q) (bytes_kept m)
+next_avail_kept : (m : Memory) (q : Queue) → next_avail (unmarked_memory m) q ≡ next_avail m q
+next_avail_kept m q = ap (next_avail_by m q) (bytes_kept m)
 
 offer_kept : (m : Memory) (limit : ℕ) (q : Queue) → offer (unmarked_memory m) limit q ≡ offer m limit q
 unfolding offer
 offer_kept m limit q =
-    ap (λ (l : Look). if q.stopped then Refuses stop.Stopped else on_look (unmarked_memory m) limit q l) (looked_kept m q)
-    ∙ ap (λ (o : Offer). if q.stopped then Refuses stop.Stopped else o) (look_kept m limit q (looked m q))
+    ap (λ (l : NextAvail). if q.stopped then Refuses stop.Stopped else on_next_avail (unmarked_memory m) limit q l) (next_avail_kept m q)
+    ∙ ap (λ (o : Offer). if q.stopped then Refuses stop.Stopped else o) (on_next_avail_kept m limit q (next_avail m q))
 
 wants_kept : (m : Memory) (q : Queue) → wants_notice (unmarked_memory m) q ≡ wants_notice m q
 wants_kept m q = ap (λ (f : ℕ → ℕ). not (has_bit (number_by f w16 q.avail) 0)) (bytes_kept m)

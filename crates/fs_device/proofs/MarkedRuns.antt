@@ -15,7 +15,7 @@ use Rattle.vm_memory.specs.Memory.{Memory, addresses, is_mapped, reach, physical
 use Rattle.fs_queue.specs.declared.fault.QueueError.TheVariants as stop
 use Rattle.fs_queue.specs.Queue.{Queue, fresh, avail_index_at, ring_entry_at}
 use Rattle.fs_queue.specs.Returning.{writes}
-use Rattle.fs_queue.specs.Taking.{Offer, Asks, CannotAsk, Refuses, Offers, offer, may_lack_memory, after_refusal}
+use Rattle.fs_queue.specs.Taking.{Offer, IsRequest, CannotFetch, Refuses, Offers, offer, may_lack_memory, after_refusal}
 use Rattle.fs_queue.specs.Taking as taking
 use Rattle.virtiofsd_fuse.specs.Serving.{May}
 use Rattle.fs_device.specs.declared.error.DeviceError.{DeviceError}
@@ -24,8 +24,8 @@ use Rattle.fs_device.specs.declared.refusal.Refusal.{Refusal}
 use Rattle.fs_device.specs.declared.refusal.Refusal.TheVariants as why
 use Rattle.fs_device.specs.Step.{State, Exchange, Calls, Outcome, Idle, Refused, Exchanged, Exchanges, Acts, StepOf, Step, Returns, after_return, faulty, served_exchange, with_queue}
 use Rattle.fs_device.specs.Run as run
-use Rattle.fs_device.specs.Run.{Told, Command, Answer, Effect, KickEnds, KickRun, Kicks, Kicked, Affects, ChangesTable, HasEffect, Does, Performs, LacksMemory, RunTold, effect}
-use Rattle.fs_device.specs.Run.{guest_read, guest_write, make_block, insert, insert_block, remove_region, set_layout, is_known, has_len, some_overlap, reset, with_host, with_layout, with_ranges, block_fits, command_takes_memory, ends_fit, no}
+use Rattle.fs_device.specs.Run.{Told, Command, Answer, Effect, KickEnds, KickRun, Kicks, Kicked, Affects, ChangesTable, HasEffect, Does, IsDecided, Performs, LacksMemory, RunTold, effect}
+use Rattle.fs_device.specs.Run.{guest_read, guest_write, make_block, insert, insert_block, remove_region, set_layout, is_known, has_len, some_overlap, reset, with_host, with_layout, with_ranges, region_fits, command_takes_memory, ends_fit, no}
 use Rattle.fs_device.specs.Marks.{without_marks, without_its_marks, SameButMarks, SameAnswer, SameEvents}
 use Rattle.fs_device.proofs.MarkLemmas.{unmarked_memory, stores_aside, bytes_same, offers_same, notices_same}
 
@@ -77,12 +77,12 @@ module _ {F : Type 0} (s : State F) (h : Host) (same : without_marks s.memory.ho
 module _ {F : Type 0} (may : May F) (s : State F) (h : Host) (same : without_marks s.memory.host ≡ without_marks h) where
   exchange_alike : (i : ℕ) (q : Queue) (o : Offer) (calls : Calls) (x : Exchange) (notice : Bool) (after : State F) → Exchanges may s i q o calls x notice after →
       Matched (λ end. Exchanges may (with_host s h) i q o calls x notice end) after
-  exchange_alike i q (Offers head (CannotAsk fault)) calls x notice after r = (
+  exchange_alike i q (Offers head (CannotFetch fault)) calls x notice after r = (
     after_return (with_host s h) i q head [] [] s.options after.files,
     record { no_call = r.no_call; files = r.files; returns = returns_alike s h same i q [] (faulty head fault) s.options x notice after r.returns },
     return_alike s h same i q [] (faulty head fault) s.options x notice after r.returns,
   )
-  exchange_alike i q (Offers head (Asks request room)) calls x notice after r =
+  exchange_alike i q (Offers head (IsRequest request room)) calls x notice after r =
       let expected = served_exchange head request r.given in (
         after_return (with_host s h) i q head room expected.reply r.given.options after.files,
         record { given = r.given; serves = r.serves; returns = returns_alike s h same i q room expected r.given.options x notice after r.returns },
@@ -146,6 +146,13 @@ module _ {F : Type 0} (may : May F) where
 record EffectAlike {F : Type 0} (x y : Effect F) : Type 0 where
   answer : SameAnswer x.0 y.0
   state : SameButMarks x.1 y.1
+
+-- so are what is decided of a command and what is decided of it over the other host; one isn't decided where the other isn't
+abbrev DecidedAlike : {F : Type 0} → Option (Effect F) → Option (Effect F) → Type 0
+DecidedAlike None None = Unit {0}
+DecidedAlike None (Some y) = ⊥
+DecidedAlike (Some x) None = ⊥
+DecidedAlike (Some x) (Some y) = EffectAlike x y
 
 either_alike : {F : Type 0} (b : Bool) (x y z w : Effect F) → EffectAlike x z → EffectAlike y w → EffectAlike (if b then x else y) (if b then z else w)
 either_alike true x y z w p q = p
@@ -234,7 +241,7 @@ module _ {F : Type 0} (s : State F) (h : Host) (same : without_marks s.memory.ho
   cleared_alike : without_marks (cleared s.memory.host) ≡ without_marks (cleared h)
   cleared_alike = cleared_aside s.memory.host ∙ same ∙ sym (cleared_aside h)
 
-  effect_alike : (command : Command) → EffectAlike (effect s command) (effect (with_host s h) command)
+  effect_alike : (command : Command) → DecidedAlike (effect s command) (effect (with_host s h) command)
   unfolding effect
   effect_alike (run.GuestRead a n) = read_alike a n
   effect_alike (run.GuestWrite a bs) = write_alike a bs
@@ -246,10 +253,10 @@ module _ {F : Type 0} (s : State F) (h : Host) (same : without_marks s.memory.ho
   effect_alike (run.ResetQueue queue size desc avail used) = reset_alike queue (fresh size desc avail used) _
   effect_alike run.Image = record { answer = cleared_alike; state = ap (with_host s) cleared_alike }
   effect_alike run.Harvest = record { answer = tt; state = ap (with_host s) cleared_alike }
-  effect_alike (run.Map iova target n perm) = done_alike _ _ (same_state s h same)
-  effect_alike (run.Unmap iova n) = done_alike _ _ (same_state s h same)
-  effect_alike run.UnmapAll = done_alike _ _ (same_state s h same)
-  effect_alike (run.Kick queue most) = done_alike _ _ (same_state s h same)
+  effect_alike (run.Map iova target n perm) = tt
+  effect_alike (run.Unmap iova n) = tt
+  effect_alike run.UnmapAll = tt
+  effect_alike (run.Kick queue most) = tt
 
 -- ---- commands
 
@@ -265,7 +272,7 @@ same_answer _ = refl
 answered_so : {F : Type 0} (Can : Answer → State F → Type 0) (answer : Answer) (after : State F) → Matched (Can answer) after → AnsweredAlike Can answer after
 answered_so Can answer after m = (answer, m.0, same_answer answer, m.1, m.2)
 
-fits_alike : (base block : ℕ) (o p : Option Block) → option_map unmarked o ≡ option_map unmarked p → block_fits base block o ≡ block_fits base block p
+fits_alike : (base block : ℕ) (o p : Option Block) → option_map unmarked o ≡ option_map unmarked p → region_fits base block o ≡ region_fits base block p
 fits_alike base block None None is = refl
 fits_alike base block None (Some c) is = absurd (cc)
 fits_alike base block (Some b) None is = absurd (cc)
@@ -293,17 +300,21 @@ module _ {F : Type 0} (s : State F) (h : Host) (same : without_marks s.memory.ho
   change_of fit to answer after t =
       subst (λ (old : Table). Matched (λ end. ChangesTable (with_host s h) fit (to old) answer end) after) table_alike (change_alike fit (to (table_of s.memory)) answer after t)
 
-  answered_by_effect : (command : Command) (answer : Answer) (after : State F) → (answer, after) ≡ effect s command →
-      AnsweredAlike (λ other end. (other, end) ≡ effect (with_host s h) command) answer after
-  answered_by_effect command answer after t =
-      let alike = effect_alike s h same command in
-      let new = effect (with_host s h) command in
+  decided_alike : (old new : Option (Effect F)) (answer : Answer) (after : State F) → DecidedAlike old new → IsDecided old answer after → AnsweredAlike (λ other end. IsDecided new other end) answer after
+  decided_alike None new answer after alike t = absurd t
+  decided_alike (Some old) None answer after alike t = absurd alike
+  decided_alike (Some old) (Some new) answer after alike t =
       (new.0, new.1, subst (λ (a : Answer). SameAnswer a new.0) (sym (ap (λ (x : Effect F). x.0) t)) alike.answer, refl, ap (λ (x : Effect F). without_its_marks x.1) t ∙ alike.state)
+
+  answered_by_effect : (command : Command) (answer : Answer) (after : State F) → IsDecided (effect s command) answer after →
+      AnsweredAlike (λ other end. IsDecided (effect (with_host s h) command) other end) answer after
+  answered_by_effect command answer after t = decided_alike (effect s command) (effect (with_host s h) command) answer after (effect_alike s h same command) t
 
   affect_alike : (command : Command) (answer : Answer) (after : State F) → Affects s command answer after → AnsweredAlike (λ other end. Affects (with_host s h) command other end) answer after
   affect_alike (run.Map iova target n perm) answer after t = answered_so _ answer after (change_of (ends_fit iova n && ends_fit target n) (mapped iova target n perm) answer after t)
   affect_alike (run.Unmap iova n) answer after t = answered_so _ answer after (change_of (ends_fit iova n) (unmapped iova n) answer after t)
   affect_alike run.UnmapAll answer after t = answered_so _ answer after (change_alike true nothing_mapped answer after t)
+  affect_alike (run.Kick i most) answer after t = absurd t
   affect_alike command answer after t = answered_by_effect command answer after t
 
   has_effect_alike : (command : Command) (told : Told) (answer : Answer) (after : State F) → HasEffect s command told answer after →

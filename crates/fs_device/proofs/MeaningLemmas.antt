@@ -231,39 +231,39 @@ module _ (n : ℕ) (g : Given) (o : Opcode) where
   then_ends r f good = after_part (Quiet n g.room o) g.header.unique r f bad good
 
   -- a call that fits, and takes no count back
-  abbrev Asked : FileCall → Type 0
-  Asked c = CallFits n (Some o) c × (forget_count n c ≡ 0)
+  abbrev RequestAndRoom : FileCall → Type 0
+  RequestAndRoom c = CallFits n (Some o) c × (forget_count n c ≡ 0)
 
-  record_ends : {R : Type 0} (s : Shape R) (c : InHeader → R → FileCall) (bytes : List ℕ) → ((r : R) → Asked (c g.header r)) → Ends (grammar.record_row s c g bytes)
+  record_ends : {R : Type 0} (s : Shape R) (c : InHeader → R → FileCall) (bytes : List ℕ) → ((r : R) → RequestAndRoom (c g.header r)) → Ends (grammar.record_row s c g bytes)
   record_ends s c bytes good = then_ends (reading_of s bytes) (λ r. one g (c g.header r)) (λ r more. good r)
 
-  name_ends : (c : InHeader → List ℕ → FileCall) (bytes : List ℕ) → ((name : List ℕ) → Asked (c g.header name)) → Ends (grammar.name_row c g bytes)
+  name_ends : (c : InHeader → List ℕ → FileCall) (bytes : List ℕ) → ((name : List ℕ) → RequestAndRoom (c g.header name)) → Ends (grammar.name_row c g bytes)
   name_ends c bytes good =
       then_ends (fronts.counted g.header.len 0 bytes) (λ inner. within inner last_name >>= λ name. one g (c g.header name)) (λ inner more.
       then_ends (within inner last_name more) (λ name. one g (c g.header name)) (λ name rest. good name))
 
   bytes_ends : {R A : Type 0} (front : Given → Reading (R × List ℕ)) (parts : Given → R → Reading A) (c : InHeader → R → A → FileCall) (bytes : List ℕ) →
-      ((r : R) (x : A) → Asked (c g.header r x)) → Ends (grammar.bytes_row front parts c g bytes)
+      ((r : R) (x : A) → RequestAndRoom (c g.header r x)) → Ends (grammar.bytes_row front parts c g bytes)
   bytes_ends front parts c bytes good =
       then_ends (front g bytes) (λ x. within x.1 (parts g x.0) >>= λ y. one g (c g.header x.0 y)) (λ x more.
       then_ends (within x.1 (parts g x.0) more) (λ y. one g (c g.header x.0 y)) (λ y rest. good x.0 y))
 
-  symlink_ends : (bytes : List ℕ) → ((x : NewLink) → Asked (request.symlink_call g.header x)) → Ends (grammar.symlink_row g bytes)
+  symlink_ends : (bytes : List ℕ) → ((x : NewLink) → RequestAndRoom (request.symlink_call g.header x)) → Ends (grammar.symlink_row g bytes)
   symlink_ends bytes good =
       then_ends (fronts.counted g.header.len 0 bytes) (λ inner. within inner (new_link g.options) >>= λ x. one g (request.symlink_call g.header x)) (λ inner more.
       then_ends (within inner (new_link g.options) more) (λ x. one g (request.symlink_call g.header x)) (λ x rest. good x))
 
-  listxattr_ends : (bytes : List ℕ) → ((r : GetxattrIn) → Asked (request.listxattr_call g.header r)) → Ends (grammar.listxattr_row g bytes)
+  listxattr_ends : (bytes : List ℕ) → ((r : GetxattrIn) → RequestAndRoom (request.listxattr_call g.header r)) → Ends (grammar.listxattr_row g bytes)
   listxattr_ends bytes good =
       then_ends (reading_of inputs.getxattr_in bytes) (λ r. grammar.at_most_a_mebibyte r.size >> one g (request.listxattr_call g.header r)) (λ r more.
       then_ends (grammar.at_most_a_mebibyte r.size more) (λ x. one g (request.listxattr_call g.header r)) (λ x rest. good r))
 
-  read_ends : (bytes : List ℕ) → ((r : ReadIn) → Asked (request.read_call g.header (g.room - 16) r)) → Ends (grammar.read_row g bytes)
+  read_ends : (bytes : List ℕ) → ((r : ReadIn) → RequestAndRoom (request.read_call g.header (g.room - 16) r)) → Ends (grammar.read_row g bytes)
   read_ends bytes good =
       then_ends (reading_of inputs.read_in bytes) (λ r. grammar.read_asked g r) (λ r more.
       then_ends (needs (nat_le 16 g.room) (Faults EncodeMessage) more) (λ x. one g (request.read_call g.header (g.room - 16) r)) (λ x rest. good r))
 
-  write_ends : (bytes : List ℕ) → ((r : WriteIn) (payload : List ℕ) → Asked (request.write_call g.header r payload)) → Ends (grammar.write_row g bytes)
+  write_ends : (bytes : List ℕ) → ((r : WriteIn) (payload : List ℕ) → RequestAndRoom (request.write_call g.header r payload)) → Ends (grammar.write_row g bytes)
   write_ends bytes good =
       then_ends (reading_of inputs.write_in bytes) (λ r. rest >>= λ payload. one g (request.write_call g.header r payload)) (λ r more. good r more)
 

@@ -1,5 +1,5 @@
 -- a machine that is moved
-use Rattle.std.proofs.Common.{◌≡◌, ℕ, ◌+◌, ◌≤◌, ◌<◌, Bool, true, false, List, [], ◌∷◌, ◌++◌, map, length, drop, get_or, Option, Some, None, Ok, Err, inl, inr, refl, ap, sym, ◌∙◌, subst, append_assoc, append-nil, arith}
+use Rattle.std.proofs.Common.{◌≡◌, ◌^◌, ℕ, ◌+◌, ◌≤◌, ◌<◌, Bool, true, false, List, [], ◌∷◌, ◌++◌, map, length, drop, get_or, Option, Some, None, Ok, Err, inl, inr, refl, ap, sym, ◌∙◌, subst, append_assoc, append-nil, arith}
 use Rattle.std.specs.Prelude.{if◌then◌else◌, slice_get, option_map, nat_le, Result, is_err, IfErr, IfOk, IfSome, IsTrue, OnOk}
 use Rattle.std.specs.List.{AllByRecursion, zip}
 use Rattle.std.proofs.lemmas.List.{drop_all, drop_more, length-map}
@@ -17,11 +17,12 @@ use Rattle.host_copies.proofs.HarvestLemmas.{no_block}
 use Rattle.host_copies.proofs.TrackLemmas.{HavePlaces, IsSized, both_none, neither_none}
 use Rattle.fs_queue.specs.Queue.{Queue}
 use Rattle.device_record.specs.Laws.{OneReading}
-use Rattle.device_record.specs.Record.{IsRecord, IsSavable, record_bytes}
+use Rattle.device_record.specs.Record.{Second, IsRecordFor, IsSavable}
+use Rattle.fs_device.specs.DeviceParts.{DeviceParts, device_bytes}
 use Rattle.device_record.specs.Streams.{GoesOut}
 use Rattle.virtiofsd_fuse.specs.Serving.{May}
 use Rattle.fs_device.specs.declared.command.Answer as told
-use Rattle.fs_device.specs.declared.command.Command as asked
+use Rattle.fs_device.specs.declared.command.Command as fetched
 use Rattle.fs_device.specs.Step.{State}
 use Rattle.fs_device.specs.Run as run
 use Rattle.fs_device.specs.Run.{Command, Answer, Told, Performs, RunTold, Run, with_host}
@@ -163,14 +164,14 @@ between may s began mid after image harvest events imaged (tolds, did) harvested
     ([] ∷ (tolds ++ [] ∷ []), one_before may s began after (run.Image, image) _ _ imaged all)
 
 -- each command may follow an image
-abbrev CanFollow : List asked.Command → Type 0
+abbrev CanFollow : List fetched.Command → Type 0
 CanFollow cs = AllByRecursion (λ c. IsTrue (follows_image (command_of c))) cs
 
 -- commands, each with what it was answered
-abbrev with_answers : List asked.Command → List told.Answer → List (Command × Answer)
+abbrev with_answers : List fetched.Command → List told.Answer → List (Command × Answer)
 with_answers cs answers = zip (map command_of cs) (map answer_of answers)
 
-all_follow : (cs : List asked.Command) (answers : List told.Answer) → CanFollow cs → AllByRecursion (λ (e : Command × Answer). IsTrue (follows_image e.0)) (with_answers cs answers)
+all_follow : (cs : List fetched.Command) (answers : List told.Answer) → CanFollow cs → AllByRecursion (λ (e : Command × Answer). IsTrue (follows_image e.0)) (with_answers cs answers)
 all_follow [] answers f = tt
 all_follow (c ∷ cs) [] f = tt
 all_follow (c ∷ cs) (a ∷ answers) f = (f.0, all_follow cs answers f.1)
@@ -180,7 +181,7 @@ harvest_follows : (events : List (Command × Answer)) (last : List Page) → All
 harvest_follows [] last f = (refl, tt)
 harvest_follows (e ∷ events) last f = (f.0, harvest_follows events last f.1)
 
-pub is_run_from_image : {F : Type 0} (may : May F) (s began mid here : State F) (copy : Host) (cs : List asked.Command) (answers : List told.Answer) (last : List Page) →
+pub is_run_from_image : {F : Type 0} (may : May F) (s began mid here : State F) (copy : Host) (cs : List fetched.Command) (answers : List told.Answer) (last : List Page) →
     s.memory.translates ≡ false → HasItsMarks s.memory.host → CanFollow cs →
     Performs may s run.Image [] (run.Copied copy) began → Run may began (with_answers cs answers) mid → Performs may mid run.Harvest [] (run.Pages last) here →
     RunsFromImage may s copy (until_harvest (with_answers cs answers) last) here
@@ -192,7 +193,7 @@ is_run_from_image may s began mid here copy cs answers last off marks follow ima
 }
 
 -- the IOMMU stays off
-pub stays_off : {F : Type 0} (may : May F) (s began mid : State F) (copy : Host) (cs : List asked.Command) (answers : List told.Answer) → CanMoveAgain may →
+pub stays_off : {F : Type 0} (may : May F) (s began mid : State F) (copy : Host) (cs : List fetched.Command) (answers : List told.Answer) → CanMoveAgain may →
     s.memory.translates ≡ false → HasItsMarks s.memory.host → CanFollow cs →
     Performs may s run.Image [] (run.Copied copy) began → Run may began (with_answers cs answers) mid → mid.memory.translates ≡ false
 stays_off may s began mid copy cs answers law off marks follow imaged (tolds, did) =
@@ -210,12 +211,12 @@ no_answer : (answers : List told.Answer) → answers ≡ [] → map answer_of an
 no_answer answers e = ap (map answer_of) e
 
 -- an image was made or refused, and nothing more was done
-pub stays_at_once : {F : Type 0} (may : May F) (s after : State F) (image : Answer) (cs : List asked.Command) (answers : List told.Answer) → answers ≡ [] → Performs may s run.Image [] image after →
+pub stays_at_once : {F : Type 0} (may : May F) (s after : State F) (image : Answer) (cs : List fetched.Command) (answers : List told.Answer) → answers ≡ [] → Performs may s run.Image [] image after →
     StaysHere may s (map command_of cs) (map answer_of answers) after
 stays_at_once may s after image cs answers empty performs = inl (no_answer answers empty, image, ([] ∷ [], one_command may s after (run.Image, image) performs))
 
 -- all was done, and a last harvest made or refused
-pub stays_at_last : {F : Type 0} (may : May F) (s began mid after : State F) (copy : Host) (harvest : Answer) (cs : List asked.Command) (answers : List told.Answer) → length answers ≡ length cs →
+pub stays_at_last : {F : Type 0} (may : May F) (s began mid after : State F) (copy : Host) (harvest : Answer) (cs : List fetched.Command) (answers : List told.Answer) → length answers ≡ length cs →
     Performs may s run.Image [] (run.Copied copy) began → Run may began (with_answers cs answers) mid → Performs may mid run.Harvest [] harvest after →
     StaysHere may s (map command_of cs) (map answer_of answers) after
 stays_at_last may s began mid after copy harvest cs answers count imaged did harvested =
@@ -223,7 +224,7 @@ stays_at_last may s began mid after copy harvest cs answers count imaged did har
     inr (many, copy, harvest, between may s began mid after (run.Copied copy) harvest (with_answers cs answers) imaged did harvested)
 
 -- all was done, and a last harvest made
-pub stays_after : {F : Type 0} (may : May F) (s here : State F) (copy : Host) (cs : List asked.Command) (answers : List told.Answer) (last : List Page) → length answers ≡ length cs →
+pub stays_after : {F : Type 0} (may : May F) (s here : State F) (copy : Host) (cs : List fetched.Command) (answers : List told.Answer) (last : List Page) → length answers ≡ length cs →
     RunsFromImage may s copy (until_harvest (with_answers cs answers) last) here → StaysHere may s (map command_of cs) (map answer_of answers) here
 stays_after may s here copy cs answers last count from =
     let many = length-map answers answer_of ∙ count ∙ sym (length-map cs command_of) in
@@ -240,15 +241,15 @@ both_err (Err e) f p q = f e p q
 -- ---- records
 
 -- what was saved and read back is what was saved
-pub brought : {E : Type 0} (r : Result (Unit {0}) E) (options options' : ℕ) (queues queues' : List Queue) (had has left rest taken : List ℕ) (failed fails : Bool) → OneReading → is_err r ≡ false → had ≡ [] →
-    GoesOut (record_bytes options queues) (Some had) failed r (Some has) fails → OnOk r (IsSavable options queues) → left ≡ has → left ≡ taken ++ rest → IsRecord taken options' queues' →
-    (options' ≡ options) × (queues' ≡ queues)
-brought (Err x) options options' queues queues' had has left rest taken failed fails law ok none out savable same read is = absurd (cc)
-brought (Ok u) options options' queues queues' had has left rest taken failed fails law ok none out savable same read is =
-    let bytes = record_bytes options queues in
+pub brought : {F E : Type 0} (r : Result (Unit {0}) E) (d : DeviceParts F) (page_size limit options : ℕ) (queues : List Queue) (had has left rest taken : List ℕ) (failed fails : Bool)
+    → OneReading → is_err r ≡ false → had ≡ [] → GoesOut (device_bytes d) (Some had) failed r (Some has) fails → OnOk r (IsSavable d.options d.queues) → d.page_size < 2 ^ 32 → d.limit < 2 ^ 64
+    → left ≡ has → left ≡ taken ++ rest → IsRecordFor taken page_size limit options queues → (options ≡ d.options) × (queues ≡ d.queues)
+brought (Err x) d page_size limit options queues had has left rest taken failed fails law ok none out savable small low same read is = absurd (cc)
+brought (Ok u) d page_size limit options queues had has left rest taken failed fails law ok none out savable small low same read is =
+    let bytes = device_bytes d in
     let all : has ≡ bytes = out.0 ∙ ap (λ (l : List ℕ). l ++ bytes) none in
-    let one = law options' options queues' queues taken bytes rest [] is (refl, savable) (sym read ∙ same ∙ all ∙ sym (append-nil bytes)) in
-    (one.0, one.1)
+    let one = law is.0 (Second d.page_size d.limit) options d.options queues d.queues taken bytes rest [] is.2 (refl, (small, low), savable) (sym read ∙ same ∙ all ∙ sym (append-nil bytes)) in
+    (one.1, one.2)
 
 -- ---- the machine there
 
@@ -261,7 +262,7 @@ put_whole copy one two xs ys r put same places outcome ok =
     put_all r _ outcome none ok ∙ ap (λ (h : Host). pages_put h ys) put ∙ sym (pages_put-append copy xs ys)
 
 -- the pages of answers and of a last harvest are those that the run answered
-pub all_pages : (cs : List asked.Command) (answers : List told.Answer) (last : List Page) → length answers ≡ length cs → pages_answered (until_harvest (with_answers cs answers) last) ≡ pages_of_answers answers ++ last
+pub all_pages : (cs : List fetched.Command) (answers : List told.Answer) (last : List Page) → length answers ≡ length cs → pages_answered (until_harvest (with_answers cs answers) last) ≡ pages_of_answers answers ++ last
 all_pages [] [] last e = append-nil last
 all_pages [] (a ∷ answers) last e = absurd (omega arith)
 all_pages (c ∷ cs) [] last e = absurd (omega arith)

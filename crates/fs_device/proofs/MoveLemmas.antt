@@ -11,12 +11,13 @@ use Rattle.vm_memory.specs.Layout.{Region, fits, overlap, is_region, place}
 use Rattle.vm_memory.specs.Memory.{Memory, addresses, for_io, location, physical, place_behind, reach, stored, stored_all, stored_at, table_of}
 use Rattle.fs_queue.specs.declared.fault.QueueError.TheVariants as stop
 use Rattle.fs_queue.specs.Queue.{Queue, fresh}
-use Rattle.fs_queue.specs.Taking.{Offer, Asks, CannotAsk, Refuses, Offers}
+use Rattle.fs_queue.specs.Taking.{Offer, IsRequest, CannotFetch, Refuses, Offers}
 use Rattle.fs_queue.specs.Taking as taking
 use Rattle.host_copies.specs.Harvested.{Page, harvested}
 use Rattle.host_copies.specs.Applying.{first_refused, pages_put}
 use Rattle.host_copies.proofs.CatchUpLemmas.{Tracks, pages_put-append}
 use Rattle.host_copies.proofs.TrackLemmas.{HavePlaces, harvest_is_host, harvest_placed, harvest-lengths, places-append, stale_marked, tracks_copy, tracks_harvest, tracks_store, tracks-sized}
+use Rattle.device_record.proofs.ReadingLemmas.{one_reading}
 use Rattle.virtiofsd_fuse.specs.Serving.{May}
 use Rattle.fs_device.specs.declared.error.DeviceError.{DeviceError}
 use Rattle.fs_device.specs.declared.error.DeviceError.TheVariants as device
@@ -24,7 +25,7 @@ use Rattle.fs_device.specs.declared.refusal.Refusal.TheVariants as why
 use Rattle.fs_device.specs.Step.{State, Exchange, Calls, Idle, Refused, Exchanged, Exchanges, StepOf}
 use Rattle.fs_device.specs.Run as run
 use Rattle.fs_device.specs.Run.{Told, Command, Answer, Effect, KickEnds, KickRun, Kicks, Kicked, HasEffect, Does, Performs, RunTold, Affects, effect, insert, insert_block, is_known, some_overlap, reset}
-use Rattle.fs_device.specs.Moving.{follows_image, pages_of_answer, pages_answered, HasItsMarks, IsStale, page_mark, RunsFromImage}
+use Rattle.fs_device.specs.Moving.{follows_image, made_over, pages_of_answer, pages_answered, HasItsMarks, IsStale, MovedIsLast, page_mark, RunsFromImage}
 
 -- ---- stores
 
@@ -33,14 +34,14 @@ abbrev TracksOn : Host → Memory → Type 0
 TracksOn image m = (m.translates ≡ false) × Tracks image m.host
 
 -- a write there marks the page of the place itself
-abbrev IsPlain : Option Place → Type 0
+abbrev pub IsPlain : Option Place → Type 0
 IsPlain o = IfSome o (λ p. p.io ≡ None)
 
 plain_or : (b : Bool) (p : Place) (o : Option Place) → p.io ≡ None → IsPlain o → IsPlain (option_or (if b then Some p else None) o)
 plain_or true p o here later = here
 plain_or false p o here later = later
 
-plain_place : (layout : List Region) (a : ℕ) → IsPlain (place layout a)
+pub plain_place : (layout : List Region) (a : ℕ) → IsPlain (place layout a)
 unfolding place
 plain_place [] a = tt
 plain_place (r ∷ layout) a = plain_or (is_within r.start r.size a) _ (place layout a) refl (plain_place layout a)
@@ -67,9 +68,9 @@ HeldIn image s = TracksOn image s.memory
 
 exchange_held : {F : Type 0} (may : May F) (image : Host) (s : State F) (i : ℕ) (q : Queue) (o : Offer) (calls : Calls) (x : Exchange) (notice : Bool) (after : State F) →
     Exchanges may s i q o calls x notice after → HeldIn image s → HeldIn image after
-exchange_held may image s i q (Offers head (CannotAsk fault)) calls x notice after r h =
+exchange_held may image s i q (Offers head (CannotFetch fault)) calls x notice after r h =
     subst (HeldIn image) (sym r.returns.state) (stores_held image s.memory _ h)
-exchange_held may image s i q (Offers head (Asks request room)) calls x notice after r h =
+exchange_held may image s i q (Offers head (IsRequest request room)) calls x notice after r h =
     subst (HeldIn image) (sym r.returns.state) (stores_held image s.memory _ h)
 exchange_held may image s i q taking.Idle calls x notice after r h = absurd r
 exchange_held may image s i q (Refuses e) calls x notice after r h = absurd r
@@ -148,46 +149,43 @@ reset_goes : {F : Type 0} (image : Host) (s : State F) (i : ℕ) (anew : Queue) 
 reset_goes image s i anew None h = goes image h
 reset_goes image s i anew (Some q) h = goes image h
 
-switch_goes : {F : Type 0} (image : Host) (s : State F) (on : Bool) → IsTrue (not on) → HeldIn image s → GoesOn image (effect s (run.SetIommu on))
-unfolding effect
+switch_goes : {F : Type 0} (image : Host) (s : State F) (on : Bool) → IsTrue (not on) → HeldIn image s → GoesOn image (run.set_iommu s on)
 switch_goes image s true follows h = absurd (cc)
 switch_goes image s false follows h = goes image (refl, h.1)
 
-harvest_goes : {F : Type 0} (image : Host) (s : State F) → HeldIn image s → GoesOn image (effect s run.Harvest)
-unfolding effect
+harvest_goes : {F : Type 0} (image : Host) (s : State F) → HeldIn image s → GoesOn image (run.harvest s)
 harvest_goes image s h =
     ((h.0, tracks_harvest image s.memory.host h.1), harvest_placed image s.memory.host h.1, harvest-lengths image s.memory.host h.1)
 
-by_effect : {F : Type 0} (image : Host) (s : State F) (command : Command) (answer : Answer) (after : State F) → (answer, after) ≡ effect s command →
-    GoesOn image (effect s command) → GoesOn image (answer, after)
-by_effect image s command answer after t h = subst (GoesOn image) (sym t) h
+by_effect : {F : Type 0} (image : Host) (e : Effect F) (answer : Answer) (after : State F) → (answer, after) ≡ e → GoesOn image e → GoesOn image (answer, after)
+by_effect image e answer after t h = subst (GoesOn image) (sym t) h
 
 affect_goes : {F : Type 0} (image : Host) (s : State F) (command : Command) (answer : Answer) (after : State F) → IsTrue (follows_image command) → HeldIn image s →
     Affects s command answer after → GoesOn image (answer, after)
 unfolding effect
 affect_goes image s (run.GuestRead a n) answer after follows h t =
-    by_effect image s (run.GuestRead a n) answer after t (whichever image (reach (physical s.memory) Read a n) _ _ (goes image h) (goes image h))
+    by_effect image (run.guest_read s a n) answer after t (whichever image (reach (physical s.memory) Read a n) _ _ (goes image h) (goes image h))
 affect_goes image s (run.GuestWrite a bs) answer after follows h t =
     let written = stores_held image (physical s.memory) (zip (addresses a (length bs)) bs) (refl, h.1) in
-    by_effect image s (run.GuestWrite a bs) answer after t (whichever image (reach (physical s.memory) Write a (length bs)) _ _ (goes image (h.0, written.1)) (goes image h))
+    by_effect image (run.guest_write s a bs) answer after t (whichever image (reach (physical s.memory) Write a (length bs)) _ _ (goes image (h.0, written.1)) (goes image h))
 affect_goes image s (run.NewBlock n) answer after follows h t = absurd (cc)
 affect_goes image s (run.InsertRegion base block) answer after follows h t =
-    by_effect image s (run.InsertRegion base block) answer after t (block_goes image s base block (slice_get s.memory.host.blocks block) h)
+    by_effect image (insert_block s base block (slice_get s.memory.host.blocks block)) answer after t (block_goes image s base block (slice_get s.memory.host.blocks block) h)
 affect_goes image s (run.RemoveRegion base size) answer after follows h t =
-    by_effect image s (run.RemoveRegion base size) answer after t (whichever image (list_any (is_region base size) s.memory.layout) _ _ (goes image h) (goes image h))
+    by_effect image (run.remove_region s base size) answer after t (whichever image (list_any (is_region base size) s.memory.layout) _ _ (goes image h) (goes image h))
 affect_goes image s (run.SetLayout layout) answer after follows h t =
-    by_effect image s (run.SetLayout layout) answer after t
+    by_effect image (run.set_layout s layout) answer after t
     (whichever image (not (list_all (is_known s.memory.host) layout)) _ _ (goes image h)
     (whichever image (not (list_all fits layout)) _ _ (goes image h) (whichever image (some_overlap layout) _ _ (goes image h) (goes image h))))
 affect_goes image s (run.Map iova target n perm) answer after follows h t = absurd (cc)
 affect_goes image s (run.Unmap iova n) answer after follows h t = absurd (cc)
 affect_goes image s run.UnmapAll answer after follows h t = absurd (cc)
-affect_goes image s (run.SetIommu on) answer after follows h t = by_effect image s (run.SetIommu on) answer after t (switch_goes image s on follows h)
-affect_goes image s (run.Kick queue most) answer after follows h t = by_effect image s (run.Kick queue most) answer after t (goes image h)
+affect_goes image s (run.SetIommu on) answer after follows h t = by_effect image (run.set_iommu s on) answer after t (switch_goes image s on follows h)
+affect_goes image s (run.Kick queue most) answer after follows h t = absurd t
 affect_goes image s (run.ResetQueue queue size desc avail used) answer after follows h t =
-    by_effect image s (run.ResetQueue queue size desc avail used) answer after t (reset_goes image s queue (fresh size desc avail used) (slice_get s.queues queue) h)
+    by_effect image (reset s queue (fresh size desc avail used) (slice_get s.queues queue)) answer after t (reset_goes image s queue (fresh size desc avail used) (slice_get s.queues queue) h)
 affect_goes image s run.Image answer after follows h t = absurd (cc)
-affect_goes image s run.Harvest answer after follows h t = by_effect image s run.Harvest answer after t (harvest_goes image s h)
+affect_goes image s run.Harvest answer after follows h t = by_effect image (run.harvest s) answer after t (harvest_goes image s h)
 
 effect_goes : {F : Type 0} (image : Host) (s : State F) (command : Command) (told : Told) (answer : Answer) (after : State F) → IsTrue (follows_image command) → HeldIn image s →
     HasEffect s command told answer after → GoesOn image (answer, after)
@@ -347,3 +345,13 @@ image_catches_up may s after copy events last r =
     ap (pages_put copy) (pages_in_all events last)
     ∙ pages_put-append copy (pages_answered events) last
     ∙ last_is_host may (pages_put copy (pages_answered events)) e.0 after e.2 last front.0.1 e.4
+
+-- ---- the state over the image
+
+pub moved_is_last : {F : Type 0} (may : May F) → MovedIsLast may
+moved_is_last {F} may s after copy events last v v' bytes options queues r here there =
+    let one = one_reading v v' after.options options after.queues queues bytes bytes [] [] here there refl in
+    let host = image_catches_up may s after copy events last r in
+    ap (λ (h : Host). made_over h options queues after) host
+    ∙ ap (λ (o : ℕ). made_over after.memory.host o queues after) (sym one.1)
+    ∙ ap (λ (l : List Queue). made_over after.memory.host after.options l after) (sym one.2)

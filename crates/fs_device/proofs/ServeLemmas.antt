@@ -4,7 +4,7 @@ use Rattle.vm_memory_core.specs.Window.{places}
 use Rattle.vm_iotlb.specs.declared.permissions.Permissions.TheVariants.{Write}
 use Rattle.vm_memory.specs.Memory.{Memory, location}
 use Rattle.fs_queue.specs.declared.chain.Chain.{Chain}
-use Rattle.fs_queue.specs.Taking.{Asked, Asks, CannotAsk}
+use Rattle.fs_queue.specs.Taking.{RequestAndRoom, IsRequest, CannotFetch}
 use Rattle.fs_queue.specs.Windows.{HoldsChain}
 use Rattle.fs_queue.proofs.TakeLemmas.{length-located}
 use Rattle.fuse_segments.specs.declared.error.Error.{Error}
@@ -35,12 +35,12 @@ abbrev exchange : (head : ℕ) → (request reply : List ℕ) → Option Fault �
 exchange head request reply fault = record { head = head; request = request; reply = reply; fault = fault }
 
 -- the code's exchange is the one that the chain's request and room ask for
-pub served_chain : {F : Type 0} (may : May F) (page : ℕ) (old new : ℕ × F) (m : Memory) (asked : Asked) (c : Chain) (head at : ℕ) (request : List ℕ) (fault : Option Fault) (reply : List ℕ) (calls : Calls) →
-    HoldsChain m asked (Ok c) → at ≡ head → request ≡ request_of asked →
+pub served_chain : {F : Type 0} (may : May F) (page : ℕ) (old new : ℕ × F) (m : Memory) (fetched : RequestAndRoom) (c : Chain) (head at : ℕ) (request : List ℕ) (fault : Option Fault) (reply : List ℕ) (calls : Calls) →
+    HoldsChain m fetched (Ok c) → at ≡ head → request ≡ request_of fetched →
     AnswersRequest may page old request (length (places c.writable.items)) calls reply fault new →
-    ServesChain may page old head asked calls (exchange at request reply fault) new
-served_chain may page old new m (CannotAsk why) c head at request fault reply calls held a e r = absurd held
-served_chain {F} may page old new m (Asks bytes room) c head at request fault reply calls held a same r =
+    ServesChain may page old head fetched calls (exchange at request reply fault) new
+served_chain may page old new m (CannotFetch why) c head at request fault reply calls held a e r = absurd held
+served_chain {F} may page old new m (IsRequest bytes room) c head at request fault reply calls held a same r =
     let count : length (places c.writable.items) ≡ length room = length-located room (location m Write) (places c.writable.items) held.1 in
     let serves = subst (λ (n : ℕ). ServesRequest may page old.0 bytes n old.1 calls r.0 new.1) count
     (subst (λ (x : List ℕ). ServesRequest may page old.0 x (length (places c.writable.items)) old.1 calls r.0 new.1) same r.1) in (

@@ -7,15 +7,15 @@ use Rattle.fs_queue.specs.declared.chain.Taken.{Taken}
 use Rattle.fs_queue.specs.declared.fault.QueueError.{QueueError}
 use Rattle.fs_queue.specs.declared.fault.QueueError.TheVariants as stop
 use Rattle.fs_queue.specs.Queue.{Queue}
-use Rattle.fs_queue.specs.Taking.{Asked, Asks, CannotAsk, Offer, Offers, offer, may_lack_memory, after_refusal, room_of}
+use Rattle.fs_queue.specs.Taking.{RequestAndRoom, IsRequest, CannotFetch, Offer, Offers, offer, may_lack_memory, after_refusal, room_of}
 use Rattle.fs_queue.specs.Taking as taking
 use Rattle.fs_queue.specs.Returning.{returned, wants_notice, advanced}
 use Rattle.fs_queue.specs.Windows.{Takes, IsTaken, HoldsChain}
 use Rattle.virtiofsd_fuse.specs.Serving.{May}
-use Rattle.fs_device.specs.declared.begun.Begun.{Begun}
+use Rattle.fs_device.specs.declared.pending_request.PendingRequest.{PendingRequest}
 use Rattle.fs_device.specs.declared.error.DeviceError.TheVariants as device
 use Rattle.fs_device.specs.Step.{State, Exchange, Outcome, Idle, Refused, Exchanged, Calls, Returns, Exchanges, Acts, StepOf, Step}
-use Rattle.fs_device.specs.Begun.{IsBegun}
+use Rattle.fs_device.specs.PendingRequest.{IsPending}
 use Rattle.fs_device.specs.DeviceView.{request_of, ServesChain}
 use Rattle.vm_memory_core.proofs.Stores.{changed_at-set}
 
@@ -55,9 +55,9 @@ pub idles : {F : Type 0} (may : May F) (f : Fixed) (m : Memory) (queues : List Q
 idles may f m queues i q q' s there idle same = on_queue may (state f m queues s) i q [] Idle _ there (idle, record { same = unchanged f m queues i q q' s there same; no_call = refl })
 
 -- memory is wanting once a chain is offered
-pub lacks : {F : Type 0} (may : May F) (before after : State F) (i : ℕ) (q : Queue) (head : ℕ) (asked : Asked) → slice_get before.queues i ≡ Some q → offer before.memory before.limit q ≡ Offers head asked →
+pub lacks : {F : Type 0} (may : May F) (before after : State F) (i : ℕ) (q : Queue) (head : ℕ) (fetched : RequestAndRoom) → slice_get before.queues i ≡ Some q → offer before.memory before.limit q ≡ Offers head fetched →
     after ≡ before → Step may before i [] (Refused (device.Queue stop.OutOfMemory)) after
-lacks may before after i q head asked there offered same =
+lacks may before after i q head fetched there offered same =
     on_queue may before i q [] (Refused (device.Queue stop.OutOfMemory)) after there (ap (may_lack_memory before.memory q) offered, record { same = same; no_call = refl })
 
 refused : {F : Type 0} (may : May F) (f : Fixed) (m : Memory) (queues : List Queue) (i : ℕ) (q q' : Queue) (s : ℕ × F) (e : QueueError) → Takes m f.limit q (Err e) → slice_get queues i ≡ Some q →
@@ -79,11 +79,11 @@ refuses may f m queues i q q' s e there t after =
     on_queue may (state f m queues s) i q [] (Refused (device.Queue e)) _ there (refused may f m queues i q q' s e t there after)
 
 -- a chain was taken, and its request was read
-pub is_begun : {F : Type 0} (f : Fixed) (m : Memory) (queues : List Queue) (q : Queue) (s : ℕ × F) (t : Taken) (b : Begun) → slice_get queues b.queue ≡ Some q → Takes m f.limit q (Ok (Some t)) → b.taken ≡ t →
-    ((asked : Asked) → HoldsChain m asked t.chain → b.request.items ≡ request_of asked) → IsBegun (state f m queues s) b
-is_begun f m queues q s t b there takes is request = record {
+pub is_pending : {F : Type 0} (f : Fixed) (m : Memory) (queues : List Queue) (q : Queue) (s : ℕ × F) (t : Taken) (b : PendingRequest) → slice_get queues b.queue ≡ Some q → Takes m f.limit q (Ok (Some t)) → b.taken ≡ t →
+    ((fetched : RequestAndRoom) → HoldsChain m fetched t.chain → b.request.items ≡ request_of fetched) → IsPending (state f m queues s) b
+is_pending f m queues q s t b there takes is request = record {
   queue = q;
-  asked = takes.0;
+  fetched = takes.0;
   there = there;
   offered = takes.1 ∙ ap (λ (x : Taken). Offers x.head takes.0) (sym is);
   taken = subst (IsTaken m q takes.0) (sym is) takes.2;
@@ -102,43 +102,43 @@ returns f m m' queues i q q' s s' room expected x options notice same agreed sto
   told = told;
 }
 
-goes_back : {F : Type 0} (may : May F) (f : Fixed) (m m' : Memory) (queues : List Queue) (i : ℕ) (q q' : Queue) (s s' : ℕ × F) (head : ℕ) (x : Exchange) (notice : Bool) (asked : Asked) (calls : Calls) →
-    ServesChain may f.page_size s head asked calls x s' → m' ≡ returned m q head (room_of asked) x.reply → notice ≡ wants_notice m' q → q' ≡ advanced q →
-    Exchanges may (state f m queues s) i q (Offers head asked) calls x notice (state f m' (set queues i q') s')
-goes_back may f m m' queues i q q' s s' head x notice (CannotAsk why) calls served stored told after = record {
+goes_back : {F : Type 0} (may : May F) (f : Fixed) (m m' : Memory) (queues : List Queue) (i : ℕ) (q q' : Queue) (s s' : ℕ × F) (head : ℕ) (x : Exchange) (notice : Bool) (fetched : RequestAndRoom) (calls : Calls) →
+    ServesChain may f.page_size s head fetched calls x s' → m' ≡ returned m q head (room_of fetched) x.reply → notice ≡ wants_notice m' q → q' ≡ advanced q →
+    Exchanges may (state f m queues s) i q (Offers head fetched) calls x notice (state f m' (set queues i q') s')
+goes_back may f m m' queues i q q' s s' head x notice (CannotFetch why) calls served stored told after = record {
   no_call = served.1;
   files = ap (λ p. p.1) served.2;
   returns = returns f m m' queues i q q' s s' [] _ x s.0 notice served.0 (ap (λ p. p.0) served.2) stored told after;
 }
-goes_back may f m m' queues i q q' s s' head x notice (Asks request room) calls served stored told after = record {
+goes_back may f m m' queues i q q' s s' head x notice (IsRequest request room) calls served stored told after = record {
   given = served.0;
   serves = served.1;
   returns = returns f m m' queues i q q' s s' room _ x _ notice served.2 served.3 stored told after;
 }
 
 -- a chain that was offered is served and given back
-pub exchanged : {F : Type 0} (may : May F) (f : Fixed) (m m' : Memory) (queues : List Queue) (i : ℕ) (q q' : Queue) (s s' : ℕ × F) (head : ℕ) (asked : Asked) (x : Exchange) (notice : Bool) →
-    slice_get queues i ≡ Some q → offer m f.limit q ≡ Offers head asked → (calls : Calls) × ServesChain may f.page_size s head asked calls x s' →
-    m' ≡ returned m q head (room_of asked) x.reply → notice ≡ wants_notice m' q → q' ≡ advanced q →
+pub exchanged : {F : Type 0} (may : May F) (f : Fixed) (m m' : Memory) (queues : List Queue) (i : ℕ) (q q' : Queue) (s s' : ℕ × F) (head : ℕ) (fetched : RequestAndRoom) (x : Exchange) (notice : Bool) →
+    slice_get queues i ≡ Some q → offer m f.limit q ≡ Offers head fetched → (calls : Calls) × ServesChain may f.page_size s head fetched calls x s' →
+    m' ≡ returned m q head (room_of fetched) x.reply → notice ≡ wants_notice m' q → q' ≡ advanced q →
     (calls : Calls) × Step may (state f m queues s) i calls (Exchanged x notice) (state f m' (set queues i q') s')
-exchanged may f m m' queues i q q' s s' head asked x notice there offered served stored told after = (
+exchanged may f m m' queues i q q' s s' head fetched x notice there offered served stored told after = (
   served.0,
   on_queue may (state f m queues s) i q served.0 (Exchanged x notice) _ there
       (subst (λ (o : Offer). Exchanges may (state f m queues s) i q o served.0 x notice (state f m' (set queues i q') s')) (sym offered)
-      (goes_back may f m m' queues i q q' s s' head x notice asked served.0 served.1 stored told after)),
+      (goes_back may f m m' queues i q q' s s' head x notice fetched served.0 served.1 stored told after)),
 )
 
 -- so is one that was begun
-pub finishes : {F : Type 0} (may : May F) (f : Fixed) (m m' : Memory) (queues : List Queue) (q q' : Queue) (s s' : ℕ × F) (x : Exchange) (notice : Bool) (b : Begun) (is : IsBegun (state f m queues s) b) →
-    slice_get queues b.queue ≡ Some q → (calls : Calls) × ServesChain may f.page_size s b.taken.head is.asked calls x s' →
-    (IsTaken m q is.asked b.taken → m' ≡ returned m q b.taken.head (room_of is.asked) x.reply) → (IsTaken m q is.asked b.taken → notice ≡ wants_notice m' q) → q' ≡ advanced q →
+pub finishes : {F : Type 0} (may : May F) (f : Fixed) (m m' : Memory) (queues : List Queue) (q q' : Queue) (s s' : ℕ × F) (x : Exchange) (notice : Bool) (b : PendingRequest) (is : IsPending (state f m queues s) b) →
+    slice_get queues b.queue ≡ Some q → (calls : Calls) × ServesChain may f.page_size s b.taken.head is.fetched calls x s' →
+    (IsTaken m q is.fetched b.taken → m' ≡ returned m q b.taken.head (room_of is.fetched) x.reply) → (IsTaken m q is.fetched b.taken → notice ≡ wants_notice m' q) → q' ≡ advanced q →
     (calls : Calls) × Step may (state f m queues s) b.queue calls (Exchanged x notice) (state f m' (set queues b.queue q') s')
 finishes may f m m' queues q q' s s' x notice b is there served stored told after =
     let both : Some is.queue ≡ Some q = sym is.there ∙ there in
     let same : is.queue ≡ q = cc in
-    let taken : IsTaken m q is.asked b.taken = subst (λ (p : Queue). IsTaken m p is.asked b.taken) same is.taken in
-    let offered : offer m f.limit q ≡ Offers b.taken.head is.asked = sym (ap (offer m f.limit) same) ∙ is.offered in
-    exchanged may f m m' queues b.queue q q' s s' b.taken.head is.asked x notice there offered served (stored taken) (told taken) after
+    let taken : IsTaken m q is.fetched b.taken = subst (λ (p : Queue). IsTaken m p is.fetched b.taken) same is.taken in
+    let offered : offer m f.limit q ≡ Offers b.taken.head is.fetched = sym (ap (offer m f.limit) same) ∙ is.offered in
+    exchanged may f m m' queues b.queue q q' s s' b.taken.head is.fetched x notice there offered served (stored taken) (told taken) after
 
 -- and one that was taken, by which the queues stayed as they were
 pub exchanges : {F : Type 0} (may : May F) (f : Fixed) (m m' : Memory) (queues between : List Queue) (i : ℕ) (q p q' : Queue) (s s' : ℕ × F) (t : Taken) (takes : Takes m f.limit q (Ok (Some t))) (x : Exchange) (notice : Bool) →

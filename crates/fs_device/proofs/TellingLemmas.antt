@@ -1,6 +1,6 @@
 -- the file calls of a told run
 use Rattle.std.proofs.Common.{◌≡◌, ℕ, zero, suc, Bool, true, false, List, [], ◌∷◌, ◌++◌, map, length, Option, Some, None, refl, ap, sym, ◌∙◌, subst}
-use Rattle.std.specs.Prelude.{if◌then◌else◌, slice_get, not, ◌==◌}
+use Rattle.std.specs.Prelude.{if◌then◌else◌, slice_get, not, IfSome, ◌==◌}
 use Rattle.std.specs.List.{AllByRecursion, list_any, list_all}
 use Rattle.vm_iotlb.specs.declared.permissions.Permissions.TheVariants.{Read, Write}
 use Rattle.vm_iotlb.specs.Table.{Table, nothing_mapped}
@@ -9,7 +9,7 @@ use Rattle.vm_memory.specs.Layout.{Region, fits, overlap, is_region}
 use Rattle.vm_memory.specs.Memory.{reach, physical}
 use Rattle.fs_queue.specs.declared.fault.QueueError.TheVariants as stop
 use Rattle.fs_queue.specs.Queue.{Queue, fresh}
-use Rattle.fs_queue.specs.Taking.{Offer, Asks, CannotAsk, Refuses, Offers}
+use Rattle.fs_queue.specs.Taking.{Offer, IsRequest, CannotFetch, Refuses, Offers}
 use Rattle.fs_queue.specs.Taking as taking
 use Rattle.fuse_fs.specs.Calls.{FileCall, FileAnswer, FileRun}
 use Rattle.fuse_segments.specs.declared.error.Error.{Error}
@@ -21,7 +21,7 @@ use Rattle.fs_device.specs.declared.exchange.Fault.{Fault}
 use Rattle.fs_device.specs.declared.refusal.Refusal.TheVariants as why
 use Rattle.fs_device.specs.Step.{State, Exchange, Calls, Idle, Refused, Exchanged, Exchanges, StepOf, served_fault, served_exchange}
 use Rattle.fs_device.specs.Run as run
-use Rattle.fs_device.specs.Run.{Turn, Told, Command, Answer, Effect, KickEnds, KickRun, Kicks, Kicked, Affects, ChangesTable, HasEffect, Does, Performs, RunTold, effect, insert, insert_block, is_known, some_overlap, reset}
+use Rattle.fs_device.specs.Run.{Turn, Told, Command, Answer, Effect, KickEnds, KickRun, Kicks, Kicked, Affects, ChangesTable, HasEffect, Does, IsDecided, Performs, RunTold, effect, insert, insert_block, is_known, some_overlap, reset}
 use Rattle.fs_device.specs.Telling.{calls_of, calls_told, IsMeant, IsServedBy, IsServed}
 
 -- what exchanges tell: their calls lead from one state of the file system to another
@@ -43,11 +43,11 @@ turn x notice calls = record { exchange = x; notice = notice; calls = calls }
 
 exchange_tells : {F : Type 0} (may : May F) (s : State F) (i : ℕ) (q : Queue) (o : Offer) (calls : Calls) (x : Exchange) (notice : Bool) (after : State F) →
     Exchanges may s i q o calls x notice after → FileRun may s.files calls after.files × IsServed (turn x notice calls)
-exchange_tells may s i q (Offers head (CannotAsk fault)) calls x notice after r = (
+exchange_tells may s i q (Offers head (CannotFetch fault)) calls x notice after r = (
   subst (λ (l : Calls). FileRun may s.files l after.files) (sym r.no_call) r.files,
   subst (λ (f : Option Fault). IsServedBy f (turn x notice calls)) (sym (ap (λ (e : Exchange). e.fault) r.returns.exchange)) r.no_call,
 )
-exchange_tells may s i q (Offers head (Asks request room)) calls x notice after r =
+exchange_tells may s i q (Offers head (IsRequest request room)) calls x notice after r =
     let answers = map (λ (step : FileCall × FileAnswer). step.1) calls in
     let set = setting s.page_size s.options (length room) in
     let same_head : x.head ≡ head = ap (λ (e : Exchange). e.head) r.returns.exchange in
@@ -124,7 +124,7 @@ reset_stays : {F : Type 0} (s : State F) (i : ℕ) (anew : Queue) (o : Option Qu
 reset_stays s i anew None = refl
 reset_stays s i anew (Some q) = refl
 
-effect_stays : {F : Type 0} (s : State F) (command : Command) → (effect s command).1.files ≡ s.files
+effect_stays : {F : Type 0} (s : State F) (command : Command) → IfSome (effect s command) (λ e. e.1.files ≡ s.files)
 unfolding effect
 effect_stays s (run.GuestRead a n) = whichever s (reach (physical s.memory) Read a n) _ _ refl refl
 effect_stays s (run.GuestWrite a bs) = whichever s (reach (physical s.memory) Write a (length bs)) _ _ refl refl
@@ -134,11 +134,11 @@ effect_stays s (run.RemoveRegion base size) = whichever s (list_any (is_region b
 effect_stays s (run.SetLayout layout) =
     whichever s (not (list_all (is_known s.memory.host) layout)) _ _ refl
     (whichever s (not (list_all fits layout)) _ _ refl (whichever s (some_overlap layout) _ _ refl refl))
-effect_stays s (run.Map iova target n perm) = refl
-effect_stays s (run.Unmap iova n) = refl
-effect_stays s run.UnmapAll = refl
+effect_stays s (run.Map iova target n perm) = tt
+effect_stays s (run.Unmap iova n) = tt
+effect_stays s run.UnmapAll = tt
 effect_stays s (run.SetIommu on) = refl
-effect_stays s (run.Kick queue most) = refl
+effect_stays s (run.Kick queue most) = tt
 effect_stays s (run.ResetQueue queue size desc avail used) = reset_stays s queue (fresh size desc avail used) _
 effect_stays s run.Image = refl
 effect_stays s run.Harvest = refl
@@ -147,8 +147,12 @@ change_stays : {F : Type 0} (s : State F) (fit : Bool) (table : Table) (answer :
 change_stays s true table answer after t = ap (λ s. s.files) t.1.3
 change_stays {F} s false table answer after t = ap (λ (p : Effect F). p.1.files) t
 
-by_effect : {F : Type 0} (s : State F) (command : Command) (answer : Answer) (after : State F) → (answer, after) ≡ effect s command → after.files ≡ s.files
-by_effect {F} s command answer after t = ap (λ (p : Effect F). p.1.files) t ∙ effect_stays s command
+decided_stays : {F : Type 0} (s : State F) (o : Option (Effect F)) (answer : Answer) (after : State F) → IfSome o (λ e. e.1.files ≡ s.files) → IsDecided o answer after → after.files ≡ s.files
+decided_stays s None answer after stays t = absurd t
+decided_stays {F} s (Some e) answer after stays t = ap (λ (p : Effect F). p.1.files) t ∙ stays
+
+by_effect : {F : Type 0} (s : State F) (command : Command) (answer : Answer) (after : State F) → IsDecided (effect s command) answer after → after.files ≡ s.files
+by_effect s command answer after t = decided_stays s (effect s command) answer after (effect_stays s command) t
 
 affect_stays : {F : Type 0} (s : State F) (command : Command) (answer : Answer) (after : State F) → Affects s command answer after → after.files ≡ s.files
 affect_stays s (run.GuestRead a n) answer after t = by_effect s (run.GuestRead a n) answer after t
@@ -161,7 +165,7 @@ affect_stays s (run.Map iova target n perm) answer after t = change_stays s _ _ 
 affect_stays s (run.Unmap iova n) answer after t = change_stays s _ _ answer after t
 affect_stays s run.UnmapAll answer after t = change_stays s true nothing_mapped answer after t
 affect_stays s (run.SetIommu on) answer after t = by_effect s (run.SetIommu on) answer after t
-affect_stays s (run.Kick queue most) answer after t = by_effect s (run.Kick queue most) answer after t
+affect_stays s (run.Kick queue most) answer after t = absurd t
 affect_stays s (run.ResetQueue queue size desc avail used) answer after t = by_effect s (run.ResetQueue queue size desc avail used) answer after t
 affect_stays s run.Image answer after t = by_effect s run.Image answer after t
 affect_stays s run.Harvest answer after t = by_effect s run.Harvest answer after t

@@ -6,7 +6,7 @@ use Rattle.virtiofsd_fuse.specs.Serving.{May}
 use Rattle.fs_device.specs.declared.error.DeviceError.{DeviceError}
 use Rattle.fs_device.specs.declared.error.DeviceError.TheVariants as device
 use Rattle.fs_device.specs.declared.exchange.Exchange as code
-use Rattle.fs_device.specs.declared.command.Command as asked
+use Rattle.fs_device.specs.declared.command.Command as fetched
 use Rattle.fs_device.specs.declared.command.Answer as told
 use Rattle.fs_device.specs.declared.queues.QueueRun.{QueueRun}
 use Rattle.fs_device.specs.Step.{State, Exchange}
@@ -22,21 +22,21 @@ abbrev pub kicked_of : QueueRun → Kicked
 kicked_of run = record { exchanges = map exchanged_of run.done.items; refused = run.refused }
 
 -- a command
-abbrev pub command_of : asked.Command → Command
-command_of (asked.TheVariants.GuestRead a n) = GuestRead a n
-command_of (asked.TheVariants.GuestWrite a bs) = GuestWrite a bs.items
-command_of (asked.TheVariants.NewBlock n) = NewBlock n
-command_of (asked.TheVariants.InsertRegion base block) = InsertRegion base block
-command_of (asked.TheVariants.RemoveRegion base size) = RemoveRegion base size
-command_of (asked.TheVariants.SetLayout layout) = SetLayout layout
-command_of (asked.TheVariants.Map iova target n perm) = Map iova target n perm
-command_of (asked.TheVariants.Unmap iova n) = Unmap iova n
-command_of asked.TheVariants.UnmapAll = UnmapAll
-command_of (asked.TheVariants.SetIommu on) = SetIommu on
-command_of (asked.TheVariants.Kick queue most) = Kick queue most
-command_of (asked.TheVariants.ResetQueue queue l) = ResetQueue queue l.size l.desc l.avail l.used
-command_of asked.TheVariants.Image = Image
-command_of asked.TheVariants.Harvest = Harvest
+abbrev pub command_of : fetched.Command → Command
+command_of (fetched.TheVariants.GuestRead a n) = GuestRead a n
+command_of (fetched.TheVariants.GuestWrite a bs) = GuestWrite a bs.items
+command_of (fetched.TheVariants.NewBlock n) = NewBlock n
+command_of (fetched.TheVariants.InsertRegion base block) = InsertRegion base block
+command_of (fetched.TheVariants.RemoveRegion base size) = RemoveRegion base size
+command_of (fetched.TheVariants.SetLayout layout) = SetLayout layout
+command_of (fetched.TheVariants.Map iova target n perm) = Map iova target n perm
+command_of (fetched.TheVariants.Unmap iova n) = Unmap iova n
+command_of fetched.TheVariants.UnmapAll = UnmapAll
+command_of (fetched.TheVariants.SetIommu on) = SetIommu on
+command_of (fetched.TheVariants.Kick queue most) = Kick queue most
+command_of (fetched.TheVariants.ResetQueue queue l) = ResetQueue queue l.size l.desc l.avail l.used
+command_of fetched.TheVariants.Image = Image
+command_of fetched.TheVariants.Harvest = Harvest
 
 -- its answer
 abbrev pub answer_of : told.Answer → Answer

@@ -1,7 +1,7 @@
 -- A device and what it answers, as the plain machine has them.
 use Rattle.std.specs.Prelude.{◌≡◌, ℕ, Bool, List, [], length, Option, Some, None, Result, Ok, Err}
 use Rattle.vm_memory.specs.Memory.{Memory}
-use Rattle.fs_queue.specs.Taking.{Asked, Asks, CannotAsk}
+use Rattle.fs_queue.specs.Taking.{RequestAndRoom, IsRequest, CannotFetch}
 use Rattle.virtiofsd_fuse.specs.declared.server.Server.{Server}
 use Rattle.virtiofsd_fuse.specs.Serving.{May, Served}
 use Rattle.fs_device.specs.declared.error.DeviceError.{DeviceError}
@@ -29,14 +29,14 @@ abbrev pub server_state : {F : Type 0} → Server F → ℕ × F
 server_state server = (server.options.0, server.fs)
 
 -- the request's bytes; a faulty chain has none
-abbrev pub request_of : Asked → List ℕ
-request_of (Asks request room) = request
-request_of (CannotAsk why) = []
+abbrev pub request_of : RequestAndRoom → List ℕ
+request_of (IsRequest request room) = request
+request_of (CannotFetch why) = []
 
 -- serving a chain that was offered so: a faulty one makes no call
-abbrev pub ServesChain : {F : Type 0} → May F → (page_size : ℕ) → ℕ × F → (head : ℕ) → Asked → Calls → Exchange → ℕ × F → Type 0
-ServesChain may page_size old head (CannotAsk why) calls x new = (x ≡ faulty head why) × (calls ≡ []) × (new ≡ old)
-ServesChain may page_size old head (Asks request room) calls x new =
+abbrev pub ServesChain : {F : Type 0} → May F → (page_size : ℕ) → ℕ × F → (head : ℕ) → RequestAndRoom → Calls → Exchange → ℕ × F → Type 0
+ServesChain may page_size old head (CannotFetch why) calls x new = (x ≡ faulty head why) × (calls ≡ []) × (new ≡ old)
+ServesChain may page_size old head (IsRequest request room) calls x new =
     (given : Served) × ServesRequest may page_size old.0 request (length room) old.1 calls given new.1 × (x ≡ served_exchange head request given) × (new.0 ≡ given.options)
 
 -- from these options and this file system a request is answered by this reply or fault, after these calls

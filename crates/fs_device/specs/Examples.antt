@@ -8,7 +8,7 @@ use Rattle.fs_queue.specs.declared.fault.ChainFault.TheVariants as chain_fault
 use Rattle.fs_queue.specs.declared.fault.QueueError.TheVariants as queue_error
 use Rattle.fs_queue.specs.Queue.{Queue, with_stop}
 use Rattle.fs_queue.specs.Chain.{path, found}
-use Rattle.fs_queue.specs.Taking.{Offer, Idle, Refuses, Offers, Asks, CannotAsk, offer}
+use Rattle.fs_queue.specs.Taking.{Offer, Idle, Refuses, Offers, IsRequest, CannotFetch, offer}
 use Rattle.fuse_segments.specs.declared.error.Error.TheVariants as error
 use Rattle.vm_values.specs.Fields as fields
 use Rattle.fuse_requests.specs.Reading.{reading_of}
@@ -56,16 +56,16 @@ unfolding offer place addresses stored_all path found
 nothing_waits = refl
 
 -- 40 bytes of request, 16 bytes of room
-one_request : gives with_one_request ≡ Offers 0 (Asks request (addresses 0x2000 16))
+one_request : gives with_one_request ≡ Offers 0 (IsRequest request (addresses 0x2000 16))
 unfolding offer place addresses stored_all path found
 one_request = refl
 
 -- a descriptor that leads to itself
-too_long : gives (put with_one_request 0 (descriptor_bytes 0x1000 40 1 0)) ≡ Offers 0 (CannotAsk chain_fault.TooLong)
+too_long : gives (put with_one_request 0 (descriptor_bytes 0x1000 40 1 0)) ≡ Offers 0 (CannotFetch chain_fault.TooLong)
 unfolding offer place addresses stored_all path found
 too_long = refl
 
-next_past_table : gives (put with_one_request 0 (descriptor_bytes 0x1000 40 1 4)) ≡ Offers 0 (CannotAsk chain_fault.NextOutOfTable)
+next_past_table : gives (put with_one_request 0 (descriptor_bytes 0x1000 40 1 4)) ≡ Offers 0 (CannotFetch chain_fault.NextOutOfTable)
 unfolding offer place addresses stored_all path found
 next_past_table = refl
 
@@ -77,19 +77,19 @@ head_past_table : gives (put with_one_request 0x104 (le16 4)) ≡ Refuses queue_
 unfolding offer place addresses stored_all path found
 head_past_table = refl
 
-past_64_bits : gives (put with_one_request 0 (descriptor_bytes 0xfffffffffffffff8 8 1 1)) ≡ Offers 0 (CannotAsk chain_fault.AddressOverflow)
+past_64_bits : gives (put with_one_request 0 (descriptor_bytes 0xfffffffffffffff8 8 1 1)) ≡ Offers 0 (CannotFetch chain_fault.AddressOverflow)
 unfolding offer place addresses stored_all path found
 past_64_bits = refl
 
-over_limit : gives (put with_one_request 0 (descriptor_bytes 0x1000 0x101001 1 1)) ≡ Offers 0 (CannotAsk chain_fault.OverLimit)
+over_limit : gives (put with_one_request 0 (descriptor_bytes 0x1000 0x101001 1 1)) ≡ Offers 0 (CannotFetch chain_fault.OverLimit)
 unfolding offer place addresses stored_all path found
 over_limit = refl
 
-request_far_away : gives (put with_one_request 0 (descriptor_bytes 0xfff0 40 1 1)) ≡ Offers 0 (CannotAsk chain_fault.RequestUnreachable)
+request_far_away : gives (put with_one_request 0 (descriptor_bytes 0xfff0 40 1 1)) ≡ Offers 0 (CannotFetch chain_fault.RequestUnreachable)
 unfolding offer place addresses stored_all path found
 request_far_away = refl
 
-room_far_away : gives (put with_one_request 16 (descriptor_bytes 0x20000 16 2 0)) ≡ Offers 0 (CannotAsk chain_fault.RoomUnreachable)
+room_far_away : gives (put with_one_request 16 (descriptor_bytes 0x20000 16 2 0)) ≡ Offers 0 (CannotFetch chain_fault.RoomUnreachable)
 unfolding offer place addresses stored_all path found
 room_far_away = refl
 
@@ -102,50 +102,50 @@ with_descriptors =
     put a 0 (descriptor_bytes 0x3000 32 4 0)
 
 -- the same request and room
-by_table : gives with_descriptors ≡ Offers 0 (Asks request (addresses 0x2000 16))
+by_table : gives with_descriptors ≡ Offers 0 (IsRequest request (addresses 0x2000 16))
 unfolding offer place addresses stored_all path found
 by_table = refl
 
 -- that the descriptor is one to write says nothing
-by_table_to_write : gives (put with_descriptors 0 (descriptor_bytes 0x3000 32 6 0)) ≡ Offers 0 (Asks request (addresses 0x2000 16))
+by_table_to_write : gives (put with_descriptors 0 (descriptor_bytes 0x3000 32 6 0)) ≡ Offers 0 (IsRequest request (addresses 0x2000 16))
 unfolding offer place addresses stored_all path found
 by_table_to_write = refl
 
 -- descriptors of the queue come first, and the one that names the table is the last of these
-after_own : gives (put (put with_descriptors 0 (descriptor_bytes 0x1000 40 1 1 ++ descriptor_bytes 0x3010 16 4 0)) 0x3010 (descriptor_bytes 0x2000 16 2 0)) ≡ Offers 0 (Asks request (addresses 0x2000 16))
+after_own : gives (put (put with_descriptors 0 (descriptor_bytes 0x1000 40 1 1 ++ descriptor_bytes 0x3010 16 4 0)) 0x3010 (descriptor_bytes 0x2000 16 2 0)) ≡ Offers 0 (IsRequest request (addresses 0x2000 16))
 unfolding offer place addresses stored_all path found
 after_own = refl
 
-table_with_next : gives (put with_descriptors 0 (descriptor_bytes 0x3000 32 5 1)) ≡ Offers 0 (CannotAsk chain_fault.IndirectWithNext)
+table_with_next : gives (put with_descriptors 0 (descriptor_bytes 0x3000 32 5 1)) ≡ Offers 0 (CannotFetch chain_fault.IndirectWithNext)
 unfolding offer place addresses stored_all path found
 table_with_next = refl
 
-table_in_table : gives (put with_descriptors 0x3000 (descriptor_bytes 0x3000 32 4 0)) ≡ Offers 0 (CannotAsk chain_fault.IndirectNested)
+table_in_table : gives (put with_descriptors 0x3000 (descriptor_bytes 0x3000 32 4 0)) ≡ Offers 0 (CannotFetch chain_fault.IndirectNested)
 unfolding offer place addresses stored_all path found
 table_in_table = refl
 
-table_of_no_entry : gives (put with_descriptors 0 (descriptor_bytes 0x3000 0 4 0)) ≡ Offers 0 (CannotAsk chain_fault.IndirectLength)
+table_of_no_entry : gives (put with_descriptors 0 (descriptor_bytes 0x3000 0 4 0)) ≡ Offers 0 (CannotFetch chain_fault.IndirectLength)
 unfolding offer place addresses stored_all path found
 table_of_no_entry = refl
 
-table_of_half_entries : gives (put with_descriptors 0 (descriptor_bytes 0x3000 40 4 0)) ≡ Offers 0 (CannotAsk chain_fault.IndirectLength)
+table_of_half_entries : gives (put with_descriptors 0 (descriptor_bytes 0x3000 40 4 0)) ≡ Offers 0 (CannotFetch chain_fault.IndirectLength)
 unfolding offer place addresses stored_all path found
 table_of_half_entries = refl
 
-table_past_64_bits : gives (put with_descriptors 0 (descriptor_bytes 0xfffffffffffffff0 16 4 0)) ≡ Offers 0 (CannotAsk chain_fault.AddressOverflow)
+table_past_64_bits : gives (put with_descriptors 0 (descriptor_bytes 0xfffffffffffffff0 16 4 0)) ≡ Offers 0 (CannotFetch chain_fault.AddressOverflow)
 unfolding offer place addresses stored_all path found
 table_past_64_bits = refl
 
-table_far_away : gives (put with_descriptors 0 (descriptor_bytes 0x20000 32 4 0)) ≡ Offers 0 (CannotAsk chain_fault.TableUnreachable)
+table_far_away : gives (put with_descriptors 0 (descriptor_bytes 0x20000 32 4 0)) ≡ Offers 0 (CannotFetch chain_fault.TableUnreachable)
 unfolding offer place addresses stored_all path found
 table_far_away = refl
 
-next_past_named_table : gives (put with_descriptors 0x3000 (descriptor_bytes 0x1000 40 1 2)) ≡ Offers 0 (CannotAsk chain_fault.NextOutOfTable)
+next_past_named_table : gives (put with_descriptors 0x3000 (descriptor_bytes 0x1000 40 1 2)) ≡ Offers 0 (CannotFetch chain_fault.NextOutOfTable)
 unfolding offer place addresses stored_all path found
 next_past_named_table = refl
 
 -- a descriptor of a table that leads to itself
-loop_in_table : gives (put with_descriptors 0x3000 (descriptor_bytes 0x1000 40 1 0)) ≡ Offers 0 (CannotAsk chain_fault.TooLong)
+loop_in_table : gives (put with_descriptors 0x3000 (descriptor_bytes 0x1000 40 1 0)) ≡ Offers 0 (CannotFetch chain_fault.TooLong)
 unfolding offer place addresses stored_all path found
 loop_in_table = refl
 

@@ -1,6 +1,6 @@
 -- Worked runs that compute: kicks, guest accesses, layouts that change, two regions, harvests, images and marks. Pages are
 -- compared by where they begin, or are small.
-use Rattle.std.specs.Prelude.{◌≡◌, ℕ, ◌+◌, ◌-◌, ◌^◌, true, false, List, [], ◌∷◌, ◌++◌, map, zip, refl, Some, None, if◌then◌else◌}
+use Rattle.std.specs.Prelude.{◌≡◌, ℕ, ◌+◌, ◌-◌, ◌^◌, true, false, List, [], ◌∷◌, ◌++◌, map, zip, refl, Option, Some, None, if◌then◌else◌, option_map, unwrap_or}
 use Rattle.std.proofs.Common.{arith}
 use Rattle.std.proofs.lemmas.Bool.Decides.{nat_tests}
 use Rattle.vm_iotlb.specs.declared.permissions.Permissions.{Permissions}
@@ -65,6 +65,15 @@ kick_stops : Run may (device far queue)
     (device far (with_stop queue))
 unfolding RunTold KickRun offer place addresses stored_all path found
 kick_stops = ([] ∷ [] ∷ [], (device far (with_stop queue), ((refl, refl, refl), refl), (device far (with_stop queue), ((refl, refl, refl), refl), refl)))
+
+-- a kick has no other effect than its exchanges: it isn't done by doing nothing
+no_kick_does_nothing : Affects (device with_one_request queue) (run.Kick 0 9) run.Done (device with_one_request queue) → ⊥
+no_kick_does_nothing done = done
+
+-- nor are it and a change of mappings decided with the other commands
+decides_no_kick : effect (device with_one_request queue) (run.Kick 0 9) ≡ None
+unfolding effect
+decides_no_kick = refl
 
 -- of a missing queue that is listed, whatever was asked for
 kick_of_missing : Run may (device with_one_request queue) ((run.Kick 1 0, run.Served (record { exchanges = []; refused = Some device_error.NoSuchQueue })) ∷ []) (device with_one_request queue)
@@ -275,11 +284,11 @@ unfolding meaning reading_of meant row reply_bytes fields.field_bytes list_entri
 given_back_once = refl
 
 -- a queue that stopped begins anew
-resets : (size desc avail used : ℕ) → effect (device far (with_stop queue)) (run.ResetQueue 0 size desc avail used) ≡ (run.Done, device far (fresh size desc avail used))
+resets : (size desc avail used : ℕ) → effect (device far (with_stop queue)) (run.ResetQueue 0 size desc avail used) ≡ Some (run.Done, device far (fresh size desc avail used))
 unfolding effect
 resets size desc avail used = refl
 
-resets_no_missing : (size desc avail used : ℕ) → effect (device far queue) (run.ResetQueue 1 size desc avail used) ≡ (run.IsRefused why.NoSuchQueue, device far queue)
+resets_no_missing : (size desc avail used : ℕ) → effect (device far queue) (run.ResetQueue 1 size desc avail used) ≡ Some (run.IsRefused why.NoSuchQueue, device far queue)
 unfolding effect
 resets_no_missing size desc avail used = refl
 
@@ -292,89 +301,90 @@ small = device (memory_of (record { blocks = new_block 32 ∷ []; tables = []; i
 -- what commands come to that each do one thing
 abbrev comes_to : State Nothing → List Command → State Nothing
 comes_to s [] = s
-comes_to s (command ∷ commands) = comes_to (effect s command).1 commands
+comes_to s (command ∷ commands) = comes_to (unwrap_or (option_map (λ e. e.1) (effect s command)) s) commands
 
 -- what the last command is answered, after others
-abbrev answers : State Nothing → List Command → Command → Answer
-answers s commands last = (effect (comes_to s commands) last).0
+abbrev answers : State Nothing → List Command → Command → Option Answer
+answers s commands last = option_map (λ e. e.0) (effect (comes_to s commands) last)
 
 -- two bytes are written at 5
 abbrev guest_writes : List Command
 guest_writes = run.GuestWrite 5 (7 ∷ 8 ∷ []) ∷ []
 
-reads_what_was_written : answers small guest_writes (run.GuestRead 4 4) ≡ run.Bytes (0 ∷ 7 ∷ 8 ∷ 0 ∷ [])
+reads_what_was_written : answers small guest_writes (run.GuestRead 4 4) ≡ Some (run.Bytes (0 ∷ 7 ∷ 8 ∷ 0 ∷ []))
 unfolding effect place addresses stored_all
 reads_what_was_written = refl
 
-reads_nothing_past_the_end : answers small [] (run.GuestRead 32 1) ≡ run.IsRefused why.NoPlace
+reads_nothing_past_the_end : answers small [] (run.GuestRead 32 1) ≡ Some (run.IsRefused why.NoPlace)
 unfolding effect place addresses
 reads_nothing_past_the_end = refl
 
 -- one of its addresses has no place: no byte is written
-writes_whole_or_not_at_all : effect small (run.GuestWrite 31 (7 ∷ 8 ∷ [])) ≡ (run.IsRefused why.NoPlace, small)
+writes_whole_or_not_at_all : effect small (run.GuestWrite 31 (7 ∷ 8 ∷ [])) ≡ Some (run.IsRefused why.NoPlace, small)
 unfolding effect place addresses
 writes_whole_or_not_at_all = refl
 
 -- of no byte at all, anywhere
-reads_none : answers small [] (run.GuestRead 0x10000 0) ≡ run.Bytes []
+reads_none : answers small [] (run.GuestRead 0x10000 0) ≡ Some (run.Bytes [])
 unfolding effect addresses
 reads_none = refl
 
 -- ---- layouts that change
 
-makes_no_empty_block : effect small (run.NewBlock 0) ≡ (run.IsRefused why.EmptyBlock, small)
+makes_no_empty_block : effect small (run.NewBlock 0) ≡ Some (run.IsRefused why.EmptyBlock, small)
 unfolding effect
 makes_no_empty_block = refl
 
-numbers_blocks : answers small (run.NewBlock 2 ∷ []) (run.NewBlock 1) ≡ run.NewBlockIs 2
+numbers_blocks : answers small (run.NewBlock 2 ∷ []) (run.NewBlock 1) ≡ Some (run.NewBlockIs 2)
 unfolding effect
 numbers_blocks = refl
 
-inserts_no_unknown_block : answers small [] (run.InsertRegion 0x20000 7) ≡ run.IsRefused why.UnknownBlock
+inserts_no_unknown_block : answers small [] (run.InsertRegion 0x20000 7) ≡ Some (run.IsRefused why.UnknownBlock)
 unfolding effect
 inserts_no_unknown_block = refl
 
 -- at the very end of the addresses one byte fits, two don't
-inserts_last_byte : answers small (run.NewBlock 1 ∷ []) (run.InsertRegion (2 ^ 64 - 1) 1) ≡ run.Done
+inserts_last_byte : answers small (run.NewBlock 1 ∷ []) (run.InsertRegion (2 ^ 64 - 1) 1) ≡ Some run.Done
 unfolding effect
 inserts_last_byte = refl
 
-inserts_nothing_past_it : answers small (run.NewBlock 2 ∷ []) (run.InsertRegion (2 ^ 64 - 1) 1) ≡ run.IsRefused why.BadRegion
+inserts_nothing_past_it : answers small (run.NewBlock 2 ∷ []) (run.InsertRegion (2 ^ 64 - 1) 1) ≡ Some (run.IsRefused why.BadRegion)
 unfolding effect
 inserts_nothing_past_it = refl
 
--- a command that is refused anyway takes no memory
+-- a command that is refused anyway takes no memory: no place, an empty block, no such block, and ends past the greatest address
 takes_none_to_refuse : map (run.command_takes_memory small) (run.GuestRead 32 1 ∷ run.NewBlock 0 ∷ run.InsertRegion 0x20000 7 ∷ run.InsertRegion (2 ^ 64 - 31) 0 ∷ run.Unmap (2 ^ 64 - 1) 1 ∷ []) ≡ false ∷ false ∷ false ∷ false ∷ false ∷ []
 unfolding place addresses
 takes_none_to_refuse = refl
 
+-- the same commands take some where they may be done
 takes_some_to_do : map (run.command_takes_memory small) (run.GuestRead 31 1 ∷ run.NewBlock 1 ∷ run.InsertRegion (2 ^ 64 - 32) 0 ∷ run.Unmap (2 ^ 64 - 2) 1 ∷ []) ≡ true ∷ true ∷ true ∷ true ∷ []
 unfolding place addresses
 takes_some_to_do = refl
 
-inserts_no_overlap : answers small (run.NewBlock 2 ∷ []) (run.InsertRegion 31 1) ≡ run.IsRefused why.Overlap
+inserts_no_overlap : answers small (run.NewBlock 2 ∷ []) (run.InsertRegion 31 1) ≡ Some (run.IsRefused why.Overlap)
 unfolding effect
 inserts_no_overlap = refl
 
 -- a block that lies there twice has one set of bytes
-sees_one_block_twice : answers small (run.InsertRegion 64 0 ∷ run.GuestWrite 65 (7 ∷ []) ∷ []) (run.GuestRead 0 3) ≡ run.Bytes (0 ∷ 7 ∷ 0 ∷ [])
+sees_one_block_twice : answers small (run.InsertRegion 64 0 ∷ run.GuestWrite 65 (7 ∷ []) ∷ []) (run.GuestRead 0 3) ≡ Some (run.Bytes (0 ∷ 7 ∷ 0 ∷ []))
 unfolding effect place addresses stored_all
 sees_one_block_twice = refl
 
-removes_once : answers small (run.RemoveRegion 0 32 ∷ []) (run.RemoveRegion 0 32) ≡ run.IsRefused why.NoRegion
+removes_once : answers small (run.RemoveRegion 0 32 ∷ []) (run.RemoveRegion 0 32) ≡ Some (run.IsRefused why.NoRegion)
 unfolding effect
 removes_once = refl
 
-removes_all_of_a_region : answers small [] (run.RemoveRegion 0 31) ≡ run.IsRefused why.NoRegion
+removes_all_of_a_region : answers small [] (run.RemoveRegion 0 31) ≡ Some (run.IsRefused why.NoRegion)
 unfolding effect
 removes_all_of_a_region = refl
 
 -- what was removed has no place, and its block keeps its bytes
-keeps_the_block : answers small (run.GuestWrite 5 (7 ∷ []) ∷ run.RemoveRegion 0 32 ∷ run.InsertRegion 64 0 ∷ []) (run.GuestRead 69 1) ≡ run.Bytes (7 ∷ [])
+keeps_the_block : answers small (run.GuestWrite 5 (7 ∷ []) ∷ run.RemoveRegion 0 32 ∷ run.InsertRegion 64 0 ∷ []) (run.GuestRead 69 1) ≡ Some (run.Bytes (7 ∷ []))
 unfolding effect place addresses stored_all
 keeps_the_block = refl
 
-has_no_place_then : answers small (run.RemoveRegion 0 32 ∷ []) (run.GuestRead 0 1) ≡ run.IsRefused why.NoPlace
+has_no_place_then : answers small (run.RemoveRegion 0 32 ∷ []) (run.GuestRead 0 1) ≡ Some (run.IsRefused why.NoPlace)
 unfolding effect place addresses
 has_no_place_then = refl
 
@@ -382,23 +392,23 @@ has_no_place_then = refl
 abbrev region : ℕ → ℕ → Region
 region start size = record { start = start; size = size; block = 0 }
 
-sets_no_unknown_block : answers small [] (run.SetLayout (record { start = 0; size = 32; block = 1 } ∷ [])) ≡ run.IsRefused why.UnknownBlock
+sets_no_unknown_block : answers small [] (run.SetLayout (record { start = 0; size = 32; block = 1 } ∷ [])) ≡ Some (run.IsRefused why.UnknownBlock)
 unfolding effect
 sets_no_unknown_block = refl
 
-sets_no_other_length : answers small [] (run.SetLayout (region 0 31 ∷ [])) ≡ run.IsRefused why.UnknownBlock
+sets_no_other_length : answers small [] (run.SetLayout (region 0 31 ∷ [])) ≡ Some (run.IsRefused why.UnknownBlock)
 unfolding effect
 sets_no_other_length = refl
 
-sets_nothing_past_the_end : answers small [] (run.SetLayout (region (2 ^ 64 - 31) 32 ∷ [])) ≡ run.IsRefused why.BadRegion
+sets_nothing_past_the_end : answers small [] (run.SetLayout (region (2 ^ 64 - 31) 32 ∷ [])) ≡ Some (run.IsRefused why.BadRegion)
 unfolding effect
 sets_nothing_past_the_end = refl
 
-sets_no_overlap : answers small [] (run.SetLayout (region 0 32 ∷ region 31 32 ∷ [])) ≡ run.IsRefused why.Overlap
+sets_no_overlap : answers small [] (run.SetLayout (region 0 32 ∷ region 31 32 ∷ [])) ≡ Some (run.IsRefused why.Overlap)
 unfolding effect
 sets_no_overlap = refl
 
-sets_the_same_block_twice : answers small (run.SetLayout (region 0 32 ∷ region 32 32 ∷ []) ∷ run.GuestWrite 5 (7 ∷ []) ∷ []) (run.GuestRead 37 1) ≡ run.Bytes (7 ∷ [])
+sets_the_same_block_twice : answers small (run.SetLayout (region 0 32 ∷ region 32 32 ∷ []) ∷ run.GuestWrite 5 (7 ∷ []) ∷ []) (run.GuestRead 37 1) ≡ Some (run.Bytes (7 ∷ []))
 unfolding effect place addresses stored_all
 sets_the_same_block_twice = refl
 
@@ -471,7 +481,7 @@ unmaps_all = (refl, ([], tt, (λ a. refl), refl))
 abbrev turned_on : List IotlbRange → State Nothing
 turned_on ranges = comes_to (with_ranges behind ranges) (run.SetIommu true ∷ [])
 
-turns_on : effect behind (run.SetIommu true) ≡ (run.Done, record behind { memory = record behind.memory { translates = true } })
+turns_on : effect behind (run.SetIommu true) ≡ Some (run.Done, record behind { memory = record behind.memory { translates = true } })
 unfolding effect
 turns_on = refl
 
@@ -487,7 +497,7 @@ reaches_no_more : reach (turned_on sixteen).memory Write 0x1000 17 ≡ false
 unfolding effect table_kept place addresses
 reaches_no_more = refl
 
-guest_goes_by_physical_addresses : answers (turned_on sixteen) guest_writes (run.GuestRead 4 4) ≡ run.Bytes (0 ∷ 7 ∷ 8 ∷ 0 ∷ [])
+guest_goes_by_physical_addresses : answers (turned_on sixteen) guest_writes (run.GuestRead 4 4) ≡ Some (run.Bytes (0 ∷ 7 ∷ 8 ∷ 0 ∷ []))
 unfolding effect place addresses stored_all
 guest_goes_by_physical_addresses = refl
 
@@ -550,22 +560,22 @@ harvests_no_read : harvested (comes_to small (run.GuestRead 0 32 ∷ [])).memory
 unfolding effect place addresses stored_all block_pages host_pages
 harvests_no_read = refl
 
-answers_the_pages : answers small guest_writes run.Harvest ≡ run.Pages (record { block = 0; offset = 0; bytes = zeros 5 ++ 7 ∷ 8 ∷ zeros 25 } ∷ [])
+answers_the_pages : answers small guest_writes run.Harvest ≡ Some (run.Pages (record { block = 0; offset = 0; bytes = zeros 5 ++ 7 ∷ 8 ∷ zeros 25 } ∷ []))
 unfolding effect place addresses stored_all block_pages host_pages
 answers_the_pages = refl
 
-answers_them_once : answers small (guest_writes ++ run.Harvest ∷ []) run.Harvest ≡ run.Pages []
+answers_them_once : answers small (guest_writes ++ run.Harvest ∷ []) run.Harvest ≡ Some (run.Pages [])
 unfolding effect place addresses stored_all block_pages host_pages
 answers_them_once = refl
 
 -- ---- images
 
 -- the copy has the bytes, and nothing is harvested of what was written before it
-answers_the_copy : answers small guest_writes run.Image ≡ run.Copied (cleared (comes_to small guest_writes).memory.host)
+answers_the_copy : answers small guest_writes run.Image ≡ Some (run.Copied (cleared (comes_to small guest_writes).memory.host))
 unfolding effect place addresses stored_all
 answers_the_copy = refl
 
-harvests_nothing_of_before : answers small (guest_writes ++ run.Image ∷ []) run.Harvest ≡ run.Pages []
+harvests_nothing_of_before : answers small (guest_writes ++ run.Image ∷ []) run.Harvest ≡ Some (run.Pages [])
 unfolding effect place addresses stored_all block_pages host_pages
 harvests_nothing_of_before = refl
 
@@ -577,7 +587,7 @@ unfolding effect place addresses stored_all
 differs_in_marks = refl
 
 -- so another harvest answers other pages, and no other answer differs
-differs_in_pages : SameEvents ((run.Harvest, answers small guest_writes run.Harvest) ∷ (run.GuestRead 4 4, run.Bytes (0 ∷ 7 ∷ 8 ∷ 0 ∷ [])) ∷ [])
+differs_in_pages : SameEvents ((run.Harvest, run.Pages (harvested (comes_to small guest_writes).memory.host)) ∷ (run.GuestRead 4 4, run.Bytes (0 ∷ 7 ∷ 8 ∷ 0 ∷ [])) ∷ [])
     ((run.Harvest, run.Pages []) ∷ (run.GuestRead 4 4, run.Bytes (0 ∷ 7 ∷ 8 ∷ 0 ∷ [])) ∷ [])
 unfolding effect
 differs_in_pages = (refl, tt, (refl, refl, tt))

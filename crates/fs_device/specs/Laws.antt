@@ -3,7 +3,7 @@ use Rattle.std.specs.Prelude.{◌≡◌, ◌↔◌, ℕ, List, length, flat_map}
 use Rattle.vm_memory.specs.Memory.{Memory, bytes}
 use Rattle.fs_queue.specs.Queue.{Queue}
 use Rattle.fs_queue.specs.Chain.{Descriptor, IsChain, chain}
-use Rattle.fs_queue.specs.Taking.{readable, writable, total_len, Asks, asked_by, Offers, offer}
+use Rattle.fs_queue.specs.Taking.{readable, writable, total_len, IsRequest, request_and_room, Offers, offer}
 use Rattle.virtiofsd_fuse.specs.Serving.{May, Served}
 use Rattle.fs_device.specs.Step.{Calls, ServesRequest}
 
@@ -15,7 +15,7 @@ joined_request m ds = flat_map (λ d. bytes m d.addr d.len) (readable ds)
 abbrev pub CutsDoNotMatter : {F : Type 0} → May F → Type 0
 CutsDoNotMatter {F} may =
     (m n : Memory) (limit other : ℕ) (ds es : List Descriptor) (request room request' room' : List ℕ) →
-    asked_by m limit ds ≡ Asks request room → asked_by n other es ≡ Asks request' room' →
+    request_and_room m limit ds ≡ IsRequest request room → request_and_room n other es ≡ IsRequest request' room' →
     joined_request m ds ≡ joined_request n es → total_len (writable ds) ≡ total_len (writable es) →
     (page_size options : ℕ) (before after : F) (calls : Calls) (given : Served) →
     ServesRequest may page_size options request (length room) before calls given after
@@ -25,7 +25,7 @@ CutsDoNotMatter {F} may =
 pub record OffersChain (m : Memory) (limit : ℕ) (q : Queue) (ds : List Descriptor) (request room : List ℕ) : Type 0 where
   pub head : ℕ
   pub walked : chain m q head ≡ IsChain ds
-  pub offered : offer m limit q ≡ Offers head (Asks request room)
+  pub offered : offer m limit q ≡ Offers head (IsRequest request room)
 
 -- so are two chains that two queues offer, each of its own memory
 abbrev pub OffersAreServedAlike : {F : Type 0} → May F → Type 0

@@ -1,7 +1,7 @@
 pub mod DeviceParts
 pub mod Step
 pub mod DeviceView
-pub mod Begun
+pub mod PendingRequest
 pub mod Refusing
 pub mod Run
 pub mod CommandView
@@ -10,9 +10,12 @@ pub mod MachineView
 pub mod Books
 pub mod Telling
 pub mod Laws
+pub mod UsedLength
+pub mod MarkedPages
 pub mod Marks
 pub mod Moving
 pub mod Migrating
 pub mod Examples
 pub mod ExamplesOfRuns
 pub mod ExamplesOfMoves
+pub mod ExamplesOfMarks

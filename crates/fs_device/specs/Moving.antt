@@ -1,7 +1,10 @@
 -- Moving to another host: an image, what of it grows stale, and the pages that bring it up to the host again.
-use Rattle.std.specs.Prelude.{◌≡◌, ◌≢◌, ◌/◌, Bool, true, false, not, IsTrue, List, [], ◌∷◌, ◌++◌, length, Option, Some, None, slice_get, option_and_then}
+use Rattle.std.specs.Prelude.{◌≡◌, ◌≢◌, ℕ, ◌/◌, Bool, true, false, not, IsTrue, List, [], ◌∷◌, ◌++◌, length, Option, Some, None, slice_get, option_and_then}
 use Rattle.std.specs.List.{AllByRecursion, flat_map}
 use Rattle.vm_memory_core.specs.Host.{Host, Place, byte_at, lengths, page_count}
+use Rattle.vm_memory.specs.Memory.{memory_behind}
+use Rattle.fs_queue.specs.Queue.{Queue}
+use Rattle.device_record.specs.Record.{Version, IsRecord}
 use Rattle.host_copies.specs.Harvested.{Page}
 use Rattle.host_copies.specs.Applying.{first_refused, pages_put}
 use Rattle.virtiofsd_fuse.specs.Serving.{May}
@@ -64,6 +67,29 @@ ImageCatchesUp {F} may =
 abbrev pub PagesHavePlaces : {F : Type 0} → May F → Type 0
 PagesHavePlaces {F} may =
     (s after : State F) (copy : Host) (events : List (Command × Answer)) → RunsFromImage may s copy events after → first_refused (lengths copy) 0 (pages_answered events) ≡ None
+
+-- the state that is made of a host, and of the options and queues of a record, with the layout, the IOMMU, the limit, the page size and the
+-- file system of a state
+abbrev pub made_over : {F : Type 0} → Host → (options : ℕ) → List Queue → State F → State F
+made_over host options queues s =
+    record {
+      memory = memory_behind host s.memory.layout s.memory.table s.memory.io_pages s.memory.translates;
+      queues = queues;
+      options = options;
+      files = s.files;
+      limit = s.limit;
+      page_size = s.page_size;
+    }
+
+-- after a last harvest, the state that is made of the image with all harvested pages put in, in order, and of what stands in the last
+-- state's record, with its layout, limit, page size and file system, is that last state, marks and all
+abbrev pub MovedIsLast : {F : Type 0} → May F → Type 0
+MovedIsLast {F} may =
+    (s after : State F) (copy : Host) (events : List (Command × Answer)) (last : List Page) (v v' : Version) (bytes : List ℕ) (options : ℕ)
+    (queues : List Queue) →
+    let all = events ++ (Harvest, Pages last) ∷ [] in
+    RunsFromImage may s copy all after → IsRecord bytes v after.options after.queues → IsRecord bytes v' options queues →
+    made_over (pages_put copy (pages_answered all)) options queues after ≡ after
 
 -- what such a run asks of the state that it begins in, the state has that it ends in
 abbrev pub CanMoveAgain : {F : Type 0} → May F → Type 0

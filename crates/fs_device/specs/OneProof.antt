@@ -7,5 +7,5 @@ use Rattle.vm_memory.specs.OneProof.{AreHeld-prop}
 use Rattle.vm_memory.specs.Translated.{HoldsBehind}
 use mathlib.Core.HLevel.{×₃_prop}
 
-pub HoldsBehind-prop : (h : Host) (layout : List Region) (number set : ℕ) → IsProp (HoldsBehind h layout number set)
-HoldsBehind-prop h layout number set = ×₃_prop (AreHeld-prop (lengths h) layout) le_prop le_prop
+pub holds-prop : (h : Host) (layout : List Region) (number set : ℕ) → IsProp (HoldsBehind h layout number set)
+holds-prop h layout number set = ×₃_prop (AreHeld-prop (lengths h) layout) le_prop le_prop

@@ -150,22 +150,27 @@ image s = (Copied (cleared s.memory.host), with_marks_cleared s)
 abbrev pub harvest : {F : Type 0} → State F → Effect F
 harvest s = (Pages (harvested s.memory.host), with_marks_cleared s)
 
--- what a command answers, and the state that it leaves; of a kick, and of what changes the table, this says nothing
-unfoldable pub effect : {F : Type 0} → State F → Command → Effect F
-effect s (GuestRead a n) = guest_read s a n
-effect s (GuestWrite a bs) = guest_write s a bs
-effect s (NewBlock n) = make_block s n
-effect s (InsertRegion base block) = insert_block s base block (slice_get s.memory.host.blocks block)
-effect s (RemoveRegion base size) = remove_region s base size
-effect s (SetLayout layout) = set_layout s layout
-effect s (SetIommu on) = set_iommu s on
-effect s (ResetQueue queue size desc avail used) = reset s queue (fresh size desc avail used) (slice_get s.queues queue)
-effect s Image = image s
-effect s Harvest = harvest s
-effect s (Map iova target n perm) = (Done, s)
-effect s (Unmap iova n) = (Done, s)
-effect s UnmapAll = (Done, s)
-effect s (Kick queue most) = (Done, s)
+-- what a command answers, and the state that it leaves; a kick, and what changes the table, aren't decided here
+unfoldable pub effect : {F : Type 0} → State F → Command → Option (Effect F)
+effect s (GuestRead a n) = Some (guest_read s a n)
+effect s (GuestWrite a bs) = Some (guest_write s a bs)
+effect s (NewBlock n) = Some (make_block s n)
+effect s (InsertRegion base block) = Some (insert_block s base block (slice_get s.memory.host.blocks block))
+effect s (RemoveRegion base size) = Some (remove_region s base size)
+effect s (SetLayout layout) = Some (set_layout s layout)
+effect s (SetIommu on) = Some (set_iommu s on)
+effect s (ResetQueue queue size desc avail used) = Some (reset s queue (fresh size desc avail used) (slice_get s.queues queue))
+effect s Image = Some (image s)
+effect s Harvest = Some (harvest s)
+effect s (Map iova target n perm) = None
+effect s (Unmap iova n) = None
+effect s UnmapAll = None
+effect s (Kick queue most) = None
+
+-- what was decided is answered, and the state is left so; else nothing is
+abbrev pub IsDecided : {F : Type 0} → Option (Effect F) → Answer → State F → Type 0
+IsDecided None answer after = ⊥
+IsDecided (Some decided) answer after = (answer, after) ≡ decided
 
 -- ---- what changes the table
 
@@ -194,12 +199,13 @@ Maps s iova target n perm answer after = ChangesTable s (ends_fit iova n && ends
 abbrev pub Unmaps : {F : Type 0} → State F → (iova n : ℕ) → Answer → State F → Type 0
 Unmaps s iova n answer after = ChangesTable s (ends_fit iova n) (unmapped iova n (table_of s.memory)) answer after
 
--- what a command that isn't a kick may answer, and the state that it leaves then
+-- what a command that isn't a kick may answer, and the state that it leaves then; a kick has its exchanges (`Kicks`), and nothing by this
 abbrev pub Affects : {F : Type 0} → State F → Command → Answer → State F → Type 0
 Affects s (Map iova target n perm) answer after = Maps s iova target n perm answer after
 Affects s (Unmap iova n) answer after = Unmaps s iova n answer after
 Affects s UnmapAll answer after = ChangesTable s true nothing_mapped answer after
-Affects s command answer after = (answer, after) ≡ effect s command
+Affects s (Kick queue most) answer after = ⊥
+Affects s command answer after = IsDecided (effect s command) answer after
 
 -- ---- kicks
 
@@ -242,10 +248,10 @@ Kicks may s i most (Some q) told k after = KickRun may s i most told k.refused a
 abbrev pub kick_takes_memory : {F : Type 0} → State F → (queue most : ℕ) → Bool
 kick_takes_memory s queue most = nat_lt queue (length s.queues) && nat_lt 0 most
 
--- whether the region from an address on that is all of a block, if there is one, has a last address that fits
-abbrev pub block_fits : (base block : ℕ) → Option Block → Bool
-block_fits base block None = false
-block_fits base block (Some b) = fits (record { start = base; size = length b.bytes; block = block })
+-- whether a block is there, and the region from an address on that is all of it has a last address that fits
+abbrev pub region_fits : (base block : ℕ) → Option Block → Bool
+region_fits base block None = false
+region_fits base block (Some b) = fits (record { start = base; size = length b.bytes; block = block })
 
 -- whether a command takes memory, and so may be refused for want of it: a read, a block and a change of mappings only where they aren't refused anyway, a region only where its block is there and its last address fits
 abbrev pub command_takes_memory : {F : Type 0} → State F → Command → Bool
@@ -259,7 +265,7 @@ command_takes_memory s (ResetQueue queue size desc avail used) = false
 command_takes_memory s (SetLayout layout) = false
 command_takes_memory s (GuestRead a n) = reach (physical s.memory) Read a n
 command_takes_memory s (NewBlock n) = nat_lt 0 n
-command_takes_memory s (InsertRegion base block) = block_fits base block (slice_get s.memory.host.blocks block)
+command_takes_memory s (InsertRegion base block) = region_fits base block (slice_get s.memory.host.blocks block)
 command_takes_memory s (RemoveRegion base size) = true
 command_takes_memory s Image = true
 command_takes_memory s Harvest = true

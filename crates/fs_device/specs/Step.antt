@@ -5,7 +5,7 @@ use Rattle.vm_memory.specs.Memory.{Memory}
 use Rattle.fs_queue.specs.declared.fault.ChainFault.{ChainFault}
 use Rattle.fs_queue.specs.declared.fault.QueueError.TheVariants as stop
 use Rattle.fs_queue.specs.Queue.{Queue}
-use Rattle.fs_queue.specs.Taking.{Asks, CannotAsk, Offer, Refuses, Offers, offer, may_lack_memory, after_refusal}
+use Rattle.fs_queue.specs.Taking.{IsRequest, CannotFetch, Offer, Refuses, Offers, offer, may_lack_memory, after_refusal}
 use Rattle.fs_queue.specs.Taking as taking
 use Rattle.fs_queue.specs.Returning.{returned, wants_notice, advanced}
 use Rattle.fuse_fs.specs.Calls.{FileCall, FileAnswer, FileRun, suits}
@@ -114,8 +114,8 @@ pub record Answers {F : Type 0} (may : May F) (before : State F) (i : ℕ) (q : 
 
 -- a chain that was offered is exchanged
 abbrev pub Exchanges : {F : Type 0} → May F → State F → ℕ → Queue → Offer → Calls → Exchange → Bool → State F → Type 0
-Exchanges may before i q (Offers head (CannotAsk why)) calls x notice after = ReturnsFaulty before i q head why calls x notice after
-Exchanges may before i q (Offers head (Asks request room)) calls x notice after = Answers may before i q head request room calls x notice after
+Exchanges may before i q (Offers head (CannotFetch why)) calls x notice after = ReturnsFaulty before i q head why calls x notice after
+Exchanges may before i q (Offers head (IsRequest request room)) calls x notice after = Answers may before i q head request room calls x notice after
 Exchanges may before i q taking.Idle calls x notice after = ⊥
 Exchanges may before i q (Refuses e) calls x notice after = ⊥
 

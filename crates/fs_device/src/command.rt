@@ -97,7 +97,8 @@ impl Command {
     }
 }
 
-/// What a command comes to.
+/// What a command comes to: `Bytes` answers a `GuestRead`, `Block` a `NewBlock`, `Served` a `Kick`, `Copied` an `Image`
+/// and `Pages` a `Harvest`; others are `Done`. Each may be `Refused`.
 #[derive(Debug, Drop)]
 pub enum Answer {
     Done,

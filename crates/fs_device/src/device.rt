@@ -6,9 +6,9 @@ ghost use Rattle.vm_memory.specs.Memory.{Memory};
 ghost use Rattle.fs_queue.specs.Windows.{TakenLiesIn};
 ghost use Rattle.device_record.specs.Record.{IsSavable};
 
-use crate::begun::Begun;
 use crate::error::DeviceError;
 use crate::exchange::Exchange;
+use crate::pending_request::PendingRequest;
 use crate::serve::{serve, serve_taken};
 use fs_queue::{Queue, QueueError, QueueLayout};
 use fuse_fs::FileSystem;
@@ -19,8 +19,8 @@ use virtiofsd_fuse::Server;
 use vm_memory::GuestMemory;
 use vm_memory_core::HostBlocks;
 
-/// A server behind its queues, of which there are 1 to 64. A request or a room longer than the limit, from 0x101000 to
-/// 2^31 bytes, makes a chain faulty.
+/// A virtio-fs device (VIRTIO 1.2, 5.11): a server behind its queues, of which there are 1 to 64, numbered from 0. A
+/// request or a room longer than the limit, from 0x101000 to 2^31 bytes, makes a chain faulty (`ChainFault::OverLimit`).
 #[derive(Drop)]
 pub struct Device<F> {
     server: Server<F>,
@@ -36,17 +36,23 @@ impl<F> Model for Device<F> {
 
     ghost Value = { DeviceParts F };
 
-    ghost view = { λ d. record { queues = d.queues.items; options = d.server.options.0; files = d.server.fs; limit = d.limit; page_size = d.server.page_size } };
+    ghost view = { λ d. record {
+      queues = d.queues.items;
+      options = d.server.options.0;
+      files = d.server.fs;
+      limit = d.limit;
+      page_size = d.server.page_size;
+    } };
 }
 
 ghost use Rattle.fs_queue.specs.Queue.{fresh};
 ghost use Rattle.fs_device.specs.Step.{Calls, Step};
-ghost use Rattle.fs_device.specs.Begun.{Begins, Finishes, IsBegun};
+ghost use Rattle.fs_device.specs.PendingRequest.{Begins, Finishes, IsPending};
 ghost use Rattle.fs_device.specs.DeviceView.{outcome_of, state_of};
 ghost use Rattle.fs_device.specs.declared.error.DeviceError.TheVariants.{NoSuchQueue};
 
 impl<F: FileSystem> Device<F> {
-    /// A device.
+    /// A device of a server and its queues, each as it was made or resumed; the limit is in bytes.
     pub fn new(server: Server<F>, queues: Vec<Queue>, limit: u32) -> Device<F>
         requires some { 1 ≤ length queues.items }
         requires few { length queues.items ≤ 64 }
@@ -61,20 +67,27 @@ impl<F: FileSystem> Device<F> {
         }
     }
 
-    /// A queue.
+    /// A queue by its number, from 0; none where there is no such queue.
     pub fn queue(&self, queue: usize) -> Option<&Queue>
         ensures { option_map (λ q. q.now) result ≡ slice_get self.now.queues queue }
     {
         self.queues.get(queue)
     }
 
-    /// The server.
+    /// The server, with the options that were agreed and the file system.
     pub fn server(&self) -> &Server<F>
         ensures files { result.now.fs ≡ self.now.files }
         ensures options { result.now.options.0 ≡ self.now.options }
         ensures page_size { result.now.page_size ≡ self.now.page_size }
     {
         &self.server
+    }
+
+    /// The greatest length of a request and of a room, in bytes.
+    pub fn limit(&self) -> u32
+        ensures { result ≡ self.now.limit }
+    {
+        self.limit
     }
 
     /// The server, without its queues.
@@ -104,8 +117,8 @@ impl<F: FileSystem> Device<F> {
     }
 
     /// Takes the next chain of a queue and all the memory that its exchange wants of the device: its request is read,
-    /// and there is room for its reply. Nothing where none waits. A refusal is that of a step, and the file system
-    /// isn't asked.
+    /// and there is room for its reply. None where no chain waits. The file system isn't asked. `NoSuchQueue` and
+    /// `QueueError::OutOfMemory` change nothing, nor does `Stopped`; every other `QueueError` stops the queue.
     #[inline]
     pub fn begin<M: GuestMemory, H: HostBlocks>(
         &mut self,
@@ -113,11 +126,12 @@ impl<F: FileSystem> Device<F> {
         host: &H,
         mem: &M,
         queue: usize,
-    ) -> Result<Option<Begun>, DeviceError>
+    ) -> Result<Option<PendingRequest>, DeviceError>
         requires { M.IsHeld mem.now (H.host host.now) }
-        ensures begins { Begins F.may (state_of (M.memory mem.now (H.host host.now)) self.old) queue result (state_of (M.memory mem.now (H.host host.now)) self.new) }
-        ensures lies { IfOk result (λ o. IfSome o (λ begun. TakenLiesIn (lengths (H.host host.now)) begun.taken)) }
-        ensures there { IfOk result (λ o. IfSome o (λ begun. begun.queue < length self.new.queues)) }
+        ensures begins { Begins F.may (state_of (M.memory mem.now (H.host host.now)) self.old) queue result
+            (state_of (M.memory mem.now (H.host host.now)) self.new) }
+        ensures lies { IfOk result (λ o. IfSome o (λ pending. TakenLiesIn (lengths (H.host host.now)) pending.taken)) }
+        ensures there { IfOk result (λ o. IfSome o (λ pending. pending.queue < length self.new.queues)) }
     {
         if queue >= self.queues.len() {
             return Err(DeviceError::NoSuchQueue);
@@ -127,43 +141,44 @@ impl<F: FileSystem> Device<F> {
             Ok(None) => return Ok(None),
             Err(error) => return Err(DeviceError::Queue(error)),
         };
-        match Begun::of(alloc, host, queue, taken) {
-            Ok(begun) => Ok(Some(begun)),
+        match PendingRequest::of(alloc, host, queue, taken) {
+            Ok(pending) => Ok(Some(pending)),
             Err(_) => Err(DeviceError::Queue(QueueError::OutOfMemory)),
         }
     }
 
-    /// Has the server answer what was begun, and gives the chain back: what was exchanged, and whether the driver wants
-    /// to be told. Only memory that the server wants before it asks the file system can be lacking; then nothing
-    /// changes, and the chain may be begun again. Finish it while memory and queue are as `begin` left them: of another
-    /// nothing is said.
+    /// Has the server answer what was begun, and gives the chain back (VIRTIO 1.2, 2.7.8): what was exchanged, and
+    /// whether the driver wants to be told (2.7.7). Only memory that the server wants before it asks the file system can
+    /// be lacking (`AllocError`); then nothing changes, and the chain may be begun again. Finish it while memory and queue
+    /// are as `begin` left them: of another nothing is said.
     #[inline]
     pub fn finish<H: HostBlocks>(
         &mut self,
         alloc: Global,
         host: &mut H,
-        begun: Begun,
+        pending: PendingRequest,
     ) -> Result<(Exchange, bool), AllocError>
-        requires lies { TakenLiesIn (lengths (H.host host.old)) begun.taken }
-        requires there { begun.queue < length self.old.queues }
-        ensures finishes { (m : Memory) → m.host ≡ H.host host.old → IsBegun (state_of m self.old) begun →
-            Finishes F.may (state_of m self.old) begun.queue result (state_of (record m { host = H.host host.new }) self.new) }
+        requires lies { TakenLiesIn (lengths (H.host host.old)) pending.taken }
+        requires there { pending.queue < length self.old.queues }
+        ensures finishes { (m : Memory) → m.host ≡ H.host host.old → IsPending (state_of m self.old) pending →
+            Finishes F.may (state_of m self.old) pending.queue result (state_of (record m { host = H.host host.new }) self.new) }
         ensures shape { shape (H.host host.new) ≡ shape (H.host host.old) }
         ensures loan { H.IsSameLoan host.old host.new }
     {
-        let Begun {
+        let PendingRequest {
             queue,
             taken,
             request,
             room,
-        } = begun;
+        } = pending;
         let exchange = serve(alloc, &mut self.server, &taken, request, room)?;
         let notify = self.queues[queue].give_back(host, taken, &exchange.reply);
         Ok((exchange, notify))
     }
 
-    /// Serves the next chain of a queue: what was exchanged, and whether the driver wants to be told; nothing where
-    /// none waits.
+    /// Serves the next chain of a queue, by its number from 0: what was exchanged, and whether the driver wants to be
+    /// told (VIRTIO 1.2, 2.7.7); None where no chain waits. `NoSuchQueue` and `QueueError::OutOfMemory` change nothing,
+    /// nor does `Stopped`; every other `QueueError` stops the queue, and the file system isn't asked.
     pub fn process_one<M: GuestMemory, H: HostBlocks>(
         &mut self,
         alloc: Global,
@@ -172,7 +187,8 @@ impl<F: FileSystem> Device<F> {
         queue: usize,
     ) -> Result<Option<(Exchange, bool)>, DeviceError>
         requires { M.IsHeld mem.now (H.host host.old) }
-        ensures step { (calls : Calls) × Step F.may (state_of (M.memory mem.now (H.host host.old)) self.old) queue calls (outcome_of result) (state_of (M.memory mem.now (H.host host.new)) self.new) }
+        ensures step { (calls : Calls) × Step F.may (state_of (M.memory mem.now (H.host host.old)) self.old) queue calls (outcome_of result)
+            (state_of (M.memory mem.now (H.host host.new)) self.new) }
         ensures shape { shape (H.host host.new) ≡ shape (H.host host.old) }
         ensures loan { H.IsSameLoan host.old host.new }
     {
@@ -191,10 +207,12 @@ impl<F: FileSystem> Device<F> {
         Ok(Some((exchange, notify)))
     }
 
-    /// Begins a queue anew: its position is 0, and it isn't stopped.
+    /// Begins a queue anew, as a driver's reset does (VIRTIO 1.2, 2.6.1): its position is 0, and it isn't stopped.
+    /// `NoSuchQueue` where it is missing.
     pub fn reset_queue(&mut self, queue: usize, layout: QueueLayout) -> Result<(), DeviceError>
         ensures missing { IfErr result (λ e. (e ≡ NoSuchQueue) × (slice_get self.old.queues queue ≡ None) × (self.new ≡ self.old)) }
-        ensures there { OnOk result ((queue < length self.old.queues) × (self.new ≡ record self.old { queues = set self.old.queues queue (fresh layout.size layout.desc layout.avail layout.used) })) }
+        ensures there { OnOk result ((queue < length self.old.queues)
+            × (self.new ≡ record self.old { queues = set self.old.queues queue (fresh layout.size layout.desc layout.avail layout.used) })) }
     {
         if queue < self.queues.len() {
             self.queues[queue].reset(layout);

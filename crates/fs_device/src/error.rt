@@ -5,7 +5,8 @@ ghost use Rattle.std.specs.Prelude.{◌≡◌};
 use fs_queue::QueueError;
 use thiserror::Error;
 
-/// Why a step is refused: 1 to 9 are the queue's, 10 is a missing queue.
+/// Why a step is refused: by its queue (`QueueError`, of which `OutOfMemory` comes from the device too), or since that
+/// queue is missing.
 #[derive(Clone, Copy, Debug, PartialEq, Eq, Error)]
 pub enum DeviceError {
     #[error("{0}")]
@@ -17,7 +18,7 @@ pub enum DeviceError {
 impl DeviceError {
     ghost use Rattle.fs_device.specs.Refusing.{refusal_number};
 
-    /// The number that tells the refusal apart: 1 to 9 are the queue's, 10 is a missing queue.
+    /// The number that tells the refusal apart: a queue's own, from 1 to 9, and 10 for `NoSuchQueue`.
     pub fn number(&self) -> u8
         ensures { result ≡ refusal_number self.now }
     {

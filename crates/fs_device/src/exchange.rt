@@ -3,15 +3,18 @@
 use fs_queue::ChainFault;
 use virtiofsd_fuse::Error;
 
-/// Why a chain was returned without a reply.
+/// Why a chain was returned without a reply: the chain is faulty (VIRTIO 1.2, 2.7), or the server has a fault of its
+/// request (virtiofsd's `Error`).
 #[derive(Clone, Copy, Debug, PartialEq, Eq)]
 pub enum Fault {
     Chain(ChainFault),
     Served(Error),
 }
 
-/// A chain that was taken and returned: its head, the flat bytes of its request, the reply that was written, and why
-/// there is none.
+/// A chain that was taken and returned (VIRTIO 1.2, 2.7): the index of its head in the descriptor table, the bytes of its
+/// request (linux/fuse.h, from `fuse_in_header` on; none of a faulty chain), the bytes of the reply that was written (from
+/// `fuse_out_header` on), whose number is the used length, and why there is none. A request without a reply, such as
+/// FORGET, has none without a fault.
 #[derive(Debug, Drop)]
 pub struct Exchange {
     pub head: u16,

@@ -1,12 +1,15 @@
-//! Laws of the definitions, each the contract of a function that does nothing.
+//! Laws of the definitions, each the contract of a function that does nothing, or only looks at what it is given.
 
 ghost use Rattle.fs_device.specs.Books.{Balances};
 ghost use Rattle.fs_device.specs.Laws.{CutsDoNotMatter, OffersAreServedAlike};
 ghost use Rattle.fs_device.specs.Marks.{MarksDoNotMatter};
-ghost use Rattle.fs_device.specs.Moving.{CanMoveAgain, ImageCatchesUp, PagesHavePlaces, StaleIsMarked};
+ghost use Rattle.fs_device.specs.MarkedPages.{CommandsMark, StepsMark, WritesMark};
+ghost use Rattle.fs_device.specs.Moving.{CanMoveAgain, HasItsMarks, ImageCatchesUp, MovedIsLast, PagesHavePlaces, StaleIsMarked};
 ghost use Rattle.fs_device.specs.Telling.{CallsAreTold};
+ghost use Rattle.fs_device.specs.UsedLength.{LengthsAreTold};
 
 use fuse_fs::FileSystem;
+use vm_memory_core::{HostMemory, PageBitmap};
 
 /// However a request and its room are cut into descriptors, the file system may be asked the same, and the reply is the
 /// same: of any two lists of descriptors, and so of the chains that two queues offer, direct or by tables.
@@ -34,13 +37,44 @@ pub fn law_marks<F: FileSystem>()
     ensures { MarksDoNotMatter F.may }
 {}
 
+/// What an exchange writes (VIRTIO 1.2, 2.7.8): a used length above 0 is the length in the reply's header (linux/fuse.h,
+/// `fuse_out_header.len`) and the number of reply bytes that were written; where it is 0, nothing is written but the
+/// used element and the used index.
+pub fn law_used_length<F: FileSystem>()
+    ensures { LengthsAreTold F.may }
+{}
+
+/// Which pages, of 4096 bytes, are marked besides those that were: with the IOMMU off the page of each written place in
+/// its block, with it on the page of each written address in the device's set of I/O pages, but for those past the
+/// set's end; and no others. So it is of any writes, of a step that exchanges a chain, and of each command of a run: a
+/// guest's write marks as with the IOMMU off, a kick as its steps do, an image and a harvest clear the marks of blocks,
+/// and all others keep what is marked.
+pub fn law_marked_pages<F: FileSystem>()
+    ensures writes { WritesMark }
+    ensures steps { StepsMark F.may }
+    ensures commands { CommandsMark F.may }
+{}
+
 /// Over a run in which an image answered its copy of a host with a mark for each page of its blocks, and which goes on
 /// with the IOMMU off, without a new block, a change of mappings or another image: what differs between the copy, with
 /// the harvested pages put in, and the host lies on marked pages, at each moment; so after a last harvest they are the
-/// same, marks and all. Each harvested page has its place in the copy, and from where the run ends another may begin.
+/// same, marks and all, and so is the state over the copy, with the options and queues of the device's record. Each
+/// harvested page has its place in the copy, and from where the run ends another may begin. `law_host_marks` tells that
+/// a host has its marks.
 pub fn law_move<F: FileSystem>()
     ensures stale { StaleIsMarked F.may }
     ensures catches_up { ImageCatchesUp F.may }
+    ensures last { MovedIsLast F.may }
     ensures places { PagesHavePlaces F.may }
     ensures again { CanMoveAgain F.may }
 {}
+
+/// Each block of a host has a mark for each of its pages, as a run from an image asks of the host that it begins with
+/// (`law_move`): it looks at each block.
+pub fn law_host_marks(host: &HostMemory<PageBitmap>)
+    ensures { HasItsMarks host.now }
+{
+    for block in 0..host.block_count() {
+        let _ = host.bytes_and_bitmap(block);
+    }
+}

@@ -1,7 +1,6 @@
 //! A virtio-fs device.
 #![tactic(auto)]
 
-mod begun;
 mod command;
 mod copies;
 mod device;
@@ -12,13 +11,13 @@ mod layouts;
 mod machine;
 mod mappings;
 mod migrating;
+mod pending_request;
 mod queues;
 mod refusal;
 mod run;
 mod saved;
 mod serve;
 
-pub use begun::Begun;
 pub use command::{Answer, Command};
 pub use device::Device;
 pub use device_record::{RecordSink, RecordSource, RestoreError, Stream, WriteFault};
@@ -27,5 +26,6 @@ pub use exchange::{Exchange, Fault};
 pub use host_copies::{ApplyError, HarvestedPage, apply, harvest, image};
 pub use machine::Machine;
 pub use migrating::{Migrated, Stayed};
+pub use pending_request::PendingRequest;
 pub use queues::QueueRun;
 pub use refusal::Refusal;

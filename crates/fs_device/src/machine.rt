@@ -2,20 +2,20 @@
 
 ghost use Rattle.std.specs.Prelude.{◌≡◌};
 ghost use Rattle.vm_memory.specs.Translated.{HoldsBehind};
-ghost use Rattle.fs_device.specs.OneProof.{HoldsBehind-prop};
+ghost use Rattle.fs_device.specs.OneProof.{holds-prop};
 
 use crate::device::Device;
 use fuse_fs::FileSystem;
 use vm_memory::{GuestMemoryMmap, Iommu, IommuMemory};
 use vm_memory_core::{HostMemory, PageBitmap};
 
-/// A guest's memory, the IOMMU before it, and its device. Each event is one command.
+/// A guest's memory, the IOMMU before it, and its device. Each event is one `Command`.
 #[derive(Drop)]
 pub struct Machine<F, I: Iommu + Drop> {
     pub host: HostMemory<PageBitmap>,
     pub mem: IommuMemory<GuestMemoryMmap, I>,
     pub device: Device<F>,
-    pub ghost held: { HoldsBehind host mem.backend (I.number mem.iommu) mem.io_bitmap } by { HoldsBehind-prop host mem.backend (I.number mem.iommu) mem.io_bitmap },
+    pub ghost held: { HoldsBehind host mem.backend (I.number mem.iommu) mem.io_bitmap } by { holds-prop host mem.backend (I.number mem.iommu) mem.io_bitmap },
 }
 
 impl<F: FileSystem, I: Iommu + Drop> Machine<F, I> {

@@ -5,16 +5,17 @@ ghost use Rattle.std.specs.List.{AllByRecursion};
 ghost use Rattle.vm_memory_core.specs.Host.{lengths, shape};
 ghost use Rattle.host_copies.specs.Applying.{first_refused, pages_put};
 ghost use Rattle.host_copies.specs.PageView.{page_view};
-ghost use Rattle.device_record.specs.Record.{IsSavable, record_bytes};
+ghost use Rattle.device_record.specs.Record.{IsSavable};
+ghost use Rattle.fs_device.specs.DeviceParts.{device_bytes};
 ghost use Rattle.fs_device.specs.Run.{with_host};
 ghost use Rattle.fs_device.specs.CommandView.{answer_of, command_of};
 ghost use Rattle.fs_device.specs.MachineView.{machine_of};
-ghost use Rattle.fs_device.specs.Moving.{HasItsMarks, RunsFromImage, follows_image};
+ghost use Rattle.fs_device.specs.Moving.{RunsFromImage, follows_image};
 ghost use Rattle.fs_device.specs.Migrating.{IsMoved, StaysHere, pages_of_answers, until_harvest};
 
 use crate::command::{Answer, Command};
 use crate::device::Device;
-use crate::laws::law_move;
+use crate::laws::{law_host_marks, law_move};
 use crate::machine::Machine;
 use device_record::laws::law_record;
 use device_record::{Stream, restore_record};
@@ -27,7 +28,7 @@ use vm_memory::Iommu;
 use vm_memory_core::{HostMemory, PageBitmap};
 
 /// A machine that was moved: as it goes on there, what its commands answered on the way, and its device's record,
-/// version 1, from which it goes on.
+/// version 2, from which it goes on.
 #[derive(Drop)]
 pub struct Migrated<F, I: Iommu + Drop> {
     pub machine: Machine<F, I>,
@@ -49,15 +50,6 @@ struct ImageRun {
     copy: HostMemory<PageBitmap>,
     answers: Vec<Answer>,
     last: Vec<HarvestedPage>,
-}
-
-// Each block of a host has a mark for each of its pages, which looking at it tells.
-fn has_its_marks(host: &HostMemory<PageBitmap>)
-    ensures { HasItsMarks host.now }
-{
-    for block in 0..host.block_count() {
-        let _ = host.bytes_and_bitmap(block);
-    }
 }
 
 // Puts the pages that answers have into a copy of a host, in order.
@@ -87,7 +79,7 @@ impl<F: FileSystem> Device<F> {
     fn brought_over(&self, alloc: Global) -> Result<(FsOptions, Vec<Queue>, Vec<u8>), AllocError>
         ensures options { IfOk result (λ v. v.0.0 ≡ self.now.options) }
         ensures queues { IfOk result (λ v. v.1.items ≡ self.now.queues) }
-        ensures bytes { IfOk result (λ v. v.2.items ≡ record_bytes self.now.options self.now.queues) }
+        ensures bytes { IfOk result (λ v. v.2.items ≡ device_bytes self.now) }
         ensures savable { IfOk result (λ v. IsSavable v.0.0 v.1.items) }
     {
         let mut sink = Stream::new(Vec::new(alloc));
@@ -97,7 +89,7 @@ impl<F: FileSystem> Device<F> {
         let record: Vec<u8> = sink.into_inner();
         let mut source = Stream::new(record.as_slice());
         law_record();
-        match restore_record(alloc, &mut source) {
+        match restore_record(alloc, &mut source, self.server().page_size(), self.limit()) {
             Ok((options, queues)) => Ok((options, queues, record)),
             Err(_) => Err(AllocError),
         }
@@ -116,10 +108,11 @@ impl<F: FileSystem, I: Iommu + Drop> Machine<F, I> {
         ensures all { IfOk result (λ r. length r.answers.items ≡ length commands.items) }
         ensures from { IfOk result (λ r. RunsFromImage F.may (machine_of self.old) r.copy
             (until_harvest (zip (map command_of commands.items) (map answer_of r.answers.items)) (map page_view r.last.items)) (machine_of self.new)) }
-        ensures stayed { IfErr result (λ answers. StaysHere F.may (machine_of self.old) (map command_of commands.items) (map answer_of answers.items) (machine_of self.new)) }
+        ensures stayed { IfErr result (λ answers. StaysHere F.may (machine_of self.old) (map command_of commands.items) (map answer_of answers.items)
+            (machine_of self.new)) }
         ensures off { (machine_of self.new).memory.translates ≡ false }
     {
-        has_its_marks(&self.host);
+        law_host_marks(&self.host);
         law_move::<F>();
         let Answer::Copied(copy) = self.image(alloc) else {
             return Err(Vec::new(alloc));
@@ -142,9 +135,10 @@ impl<F: FileSystem, I: Iommu + Drop> Machine<F, I> {
     fn moved_onto(self, alloc: Global, run: ImageRun) -> Result<Migrated<F, I>, Stayed<F, I>>
         requires places { first_refused (lengths run.copy) 0 (pages_of_answers run.answers.items ++ map page_view run.last.items) ≡ None }
         requires caught_up { pages_put run.copy (pages_of_answers run.answers.items ++ map page_view run.last.items) ≡ self.host }
-        ensures moved { IfOk result (λ m. machine_of m.machine ≡ with_host (machine_of self) (pages_put run.copy (pages_of_answers run.answers.items ++ map page_view run.last.items))) }
+        ensures moved { IfOk result (λ m. machine_of m.machine
+            ≡ with_host (machine_of self) (pages_put run.copy (pages_of_answers run.answers.items ++ map page_view run.last.items))) }
         ensures answers { IfOk result (λ m. m.answers ≡ run.answers) }
-        ensures bytes { IfOk result (λ m. m.device_record.items ≡ record_bytes self.device.options self.device.queues) }
+        ensures bytes { IfOk result (λ m. m.device_record.items ≡ device_bytes self.device) }
         ensures stayed { IfErr result (λ m. machine_of m.machine ≡ machine_of self) }
         ensures still_answers { IfErr result (λ m. m.answers ≡ run.answers) }
     {
@@ -189,10 +183,12 @@ impl<F: FileSystem, I: Iommu + Drop> Machine<F, I> {
         requires off { (machine_of self).memory.translates ≡ false }
         requires follow { AllByRecursion (λ c. IsTrue (follows_image (command_of c))) commands.items }
         ensures all { IfOk result (λ m. length m.answers.items ≡ length commands.items) }
-        ensures moved { IfOk result (λ m. IsMoved F.may (machine_of self) (zip (map command_of commands.items) (map answer_of m.answers.items)) (machine_of m.machine)) }
-        ensures bytes { IfOk result (λ m. m.device_record.items ≡ record_bytes m.machine.device.options m.machine.device.queues) }
+        ensures moved { IfOk result (λ m. IsMoved F.may (machine_of self) (zip (map command_of commands.items) (map answer_of m.answers.items))
+            (machine_of m.machine)) }
+        ensures bytes { IfOk result (λ m. m.device_record.items ≡ device_bytes m.machine.device) }
         ensures off { IfOk result (λ m. (machine_of m.machine).memory.translates ≡ false) }
-        ensures stayed { IfErr result (λ m. StaysHere F.may (machine_of self) (map command_of commands.items) (map answer_of m.answers.items) (machine_of m.machine)) }
+        ensures stayed { IfErr result (λ m. StaysHere F.may (machine_of self) (map command_of commands.items) (map answer_of m.answers.items)
+            (machine_of m.machine)) }
         ensures still_off { IfErr result (λ m. (machine_of m.machine).memory.translates ≡ false) }
     {
         let run = match self.run_from_image(alloc, commands) {

@@ -59,8 +59,9 @@ ghost use Rattle.fs_device.specs.DeviceView.{state_of};
 ghost use Rattle.fs_device.specs.CommandView.{ServesQueue};
 
 impl<F: FileSystem> Device<F> {
-    /// Serves the next chains of a queue one after another, until `most` are done, none waits or a step is refused. A
-    /// missing queue is refused first, whatever memory there is; 9 comes where there is no room for `most` exchanges.
+    /// Serves the next chains of a queue, by its number from 0, one after another, until `most` are done, none waits or a
+    /// step is refused, which `QueueRun` tells. `NoSuchQueue` comes first, whatever memory there is;
+    /// `QueueError::OutOfMemory` where there is no memory for a list of `most` exchanges, and then nothing was done.
     #[tactic(auto, using(crate::proofs::KickLemmas::room_wanted))]
     pub fn process_queue<M: GuestMemory, H: HostBlocks>(
         &mut self,
@@ -71,7 +72,8 @@ impl<F: FileSystem> Device<F> {
         most: u16,
     ) -> Result<QueueRun, DeviceError>
         requires { M.IsHeld mem.now (H.host host.old) }
-        ensures run { ServesQueue F.may (state_of (M.memory mem.now (H.host host.old)) self.old) queue most result (state_of (M.memory mem.now (H.host host.new)) self.new) }
+        ensures run { ServesQueue F.may (state_of (M.memory mem.now (H.host host.old)) self.old) queue most result
+            (state_of (M.memory mem.now (H.host host.new)) self.new) }
         ensures shape { shape (H.host host.new) ≡ shape (H.host host.old) }
         ensures loan { H.IsSameLoan host.old host.new }
     {

@@ -87,7 +87,8 @@ impl<F: FileSystem, I: Iommu + Drop> Machine<F, I> {
     }
 
     fn reset_queue(&mut self, queue: usize, layout: QueueLayout) -> Answer
-        ensures { Performs F.may (machine_of self.old) (ResetQueue queue layout.size layout.desc layout.avail layout.used) [] (answer_of result) (machine_of self.new) }
+        ensures { Performs F.may (machine_of self.old) (ResetQueue queue layout.size layout.desc layout.avail layout.used) [] (answer_of result)
+            (machine_of self.new) }
     {
         match self.device.reset_queue(queue, layout) {
             Ok(()) => Answer::Done,
@@ -122,9 +123,11 @@ impl<F: FileSystem, I: Iommu + Drop> Machine<F, I> {
         }
     }
 
-    /// Does commands one after another, and answers each. Room for the answers is made before anything is done.
+    /// Does commands one after another, and answers each, in order. Room for the answers is made before anything is done:
+    /// `AllocError` where there is none, and then nothing changed. A command that is refused stops nothing.
     pub fn run(&mut self, alloc: Global, commands: Vec<Command>) -> Result<Vec<Answer>, AllocError>
-        ensures run { IfOk result (λ answers. Run F.may (machine_of self.old) (zip (map command_of commands.items) (map answer_of answers.items)) (machine_of self.new)) }
+        ensures run { IfOk result (λ answers. Run F.may (machine_of self.old) (zip (map command_of commands.items) (map answer_of answers.items))
+            (machine_of self.new)) }
         ensures all { IfOk result (λ answers. length answers.items ≡ length commands.items) }
         ensures err { OnErr result (machine_of self.new ≡ machine_of self.old) }
     {

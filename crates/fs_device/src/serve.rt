@@ -4,10 +4,9 @@ ghost use Rattle.std.specs.Prelude.{◌≡◌, ◌≤◌, ◌<◌, ◌^◌, [], 
 ghost use Rattle.vm_memory_core.specs.Host.{lengths};
 ghost use Rattle.vm_memory.specs.Memory.{Memory};
 ghost use Rattle.fs_queue.specs.Queue.{Queue};
-ghost use Rattle.fs_queue.specs.Taking.{Asked};
-ghost use Rattle.fs_queue.specs.Windows.{IsTaken, TakenLiesIn, room_places};
+ghost use Rattle.fs_queue.specs.Taking.{RequestAndRoom};
+ghost use Rattle.fs_queue.specs.Windows.{HoldsChain, IsTaken, TakenLiesIn, room_places};
 
-use crate::begun::{fetch_request, make_room};
 use crate::exchange::{Exchange, Fault};
 use fs_queue::Taken;
 use fuse_fs::FileSystem;
@@ -26,6 +25,38 @@ ghost use Rattle.virtiofsd_fuse.specs.Serving.{is_memory};
 ghost use Rattle.fs_device.specs.Step.{Calls};
 ghost use Rattle.fs_device.specs.DeviceView.{exchange_of, request_of, ServesChain, AnswersRequest, server_state};
 
+/// The bytes of a chain's request. A faulty chain has none, and takes no memory.
+#[inline(always)]
+pub(crate) fn fetch_request<H: HostBlocks>(
+    alloc: Global,
+    host: &H,
+    taken: &Taken,
+) -> Result<Vec<u8>, AllocError>
+    requires { TakenLiesIn (lengths (H.host host.now)) taken.now }
+    ensures { (m : Memory) (fetched : RequestAndRoom) → m.host ≡ H.host host.now → HoldsChain m fetched taken.now.chain →
+        IfOk result (λ request. request.items ≡ request_of fetched) }
+{
+    match taken.chain() {
+        Ok(chain) => host.fetch_windows(alloc, &chain.readable, chain.request_len()),
+        Err(_) => Ok(Vec::new(alloc)),
+    }
+}
+
+/// A writer with a chain's room. A faulty chain has none, and takes no memory.
+pub(crate) fn make_room(alloc: Global, taken: &Taken) -> Result<Writer, AllocError>
+    ensures unwritten { IfOk result (λ room. room.written ≡ []) }
+    ensures counted { IfOk result (λ room. room.free ≡ room_places taken.now.chain) }
+{
+    let chain = match taken.chain() {
+        Ok(chain) => chain,
+        Err(_) => return Ok(Writer::empty(alloc)),
+    };
+    match Writer::of_length(alloc, chain.room_len()) {
+        Ok(room) => Ok(room),
+        Err(_) => Err(AllocError),
+    }
+}
+
 // Whether memory was wanting.
 fn is_memory(error: Error) -> bool
     ensures { result ≡ is_memory error }
@@ -43,7 +74,8 @@ fn answer<F: FileSystem>(
 ) -> Option<Reply>
     requires unwritten { room.written ≡ [] }
     requires short { room.free < 2 ^ 32 }
-    ensures some { IfSome result (λ r. (calls : Calls) × AnswersRequest F.may server.old.page_size (server_state server.old) request.now room.free calls r.bytes.items r.fault (server_state server.new)) }
+    ensures some { IfSome result (λ r. (calls : Calls) × AnswersRequest F.may server.old.page_size (server_state server.old) request.now room.free calls
+        r.bytes.items r.fault (server_state server.new)) }
     ensures fits { IfSome result (λ r. length r.bytes.items ≤ room.free) }
     ensures none { IfNone result ((server.new.options.0 ≡ server.old.options.0) × (server.new.fs ≡ server.old.fs)) }
     ensures page_size { server.new.page_size ≡ server.old.page_size }
@@ -80,8 +112,9 @@ pub(crate) fn serve<F: FileSystem>(
     requires unwritten { room.written ≡ [] }
     requires counted { room.free ≡ room_places taken.now.chain }
     requires short { room_places taken.now.chain < 2 ^ 32 }
-    ensures exchange { (m : Memory) (q : Queue) (asked : Asked) → IsTaken m q asked taken.now → request.items ≡ request_of asked →
-        IfOk result (λ e. (calls : Calls) × ServesChain F.may server.old.page_size (server_state server.old) taken.now.head asked calls (exchange_of e) (server_state server.new)) }
+    ensures exchange { (m : Memory) (q : Queue) (fetched : RequestAndRoom) → IsTaken m q fetched taken.now → request.items ≡ request_of fetched →
+        IfOk result (λ e. (calls : Calls) × ServesChain F.may server.old.page_size (server_state server.old) taken.now.head fetched calls
+        (exchange_of e) (server_state server.new)) }
     ensures fits { IfOk result (λ e. length e.reply.items ≤ room_places taken.now.chain) }
     ensures head { IfOk result (λ e. e.head ≡ taken.now.head) }
     ensures err { OnErr result ((server.new.options.0 ≡ server.old.options.0) × (server.new.fs ≡ server.old.fs)) }
@@ -118,8 +151,9 @@ pub(crate) fn serve_taken<F: FileSystem, H: HostBlocks>(
 ) -> Result<Exchange, AllocError>
     requires lies { TakenLiesIn (lengths (H.host host.now)) taken.now }
     requires short { room_places taken.now.chain < 2 ^ 32 }
-    ensures exchange { (m : Memory) (q : Queue) (asked : Asked) → m.host ≡ H.host host.now → IsTaken m q asked taken.now →
-        IfOk result (λ e. (calls : Calls) × ServesChain F.may server.old.page_size (server_state server.old) taken.now.head asked calls (exchange_of e) (server_state server.new)) }
+    ensures exchange { (m : Memory) (q : Queue) (fetched : RequestAndRoom) → m.host ≡ H.host host.now → IsTaken m q fetched taken.now →
+        IfOk result (λ e. (calls : Calls) × ServesChain F.may server.old.page_size (server_state server.old) taken.now.head fetched calls
+        (exchange_of e) (server_state server.new)) }
     ensures fits { IfOk result (λ e. length e.reply.items ≤ room_places taken.now.chain) }
     ensures head { IfOk result (λ e. e.head ≡ taken.now.head) }
     ensures err { OnErr result ((server.new.options.0 ≡ server.old.options.0) × (server.new.fs ≡ server.old.fs)) }

@@ -33,7 +33,7 @@ fn moved(
         answers,
         device_record,
     } = moved;
-    expect_same(rt, device_record.len(), 56);
+    expect_same(rt, device_record.len(), 64);
     (machine, answers)
 }
 

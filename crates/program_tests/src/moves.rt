@@ -29,7 +29,7 @@ bytes 01000000000010000000
 page 0 0
 page 0 2
 > move
-moved 56
+moved 64
 status 0
 ";
 
@@ -56,7 +56,7 @@ ok
 > kick 0 1
 done 0 16 - 1
 > move
-moved 56
+moved 64
 > harvest
 none
 > read 0x2000 16
@@ -98,9 +98,9 @@ ok
 > queue 8 0x1000 0x1100 0x1200
 ok
 > move
-moved 88
+moved 96
 > move
-moved 88
+moved 96
 > queue 4 0 0x100 0x200
 line 5: not a command
 status 1
@@ -118,7 +118,7 @@ ok
 > kick 0 1
 refused 2
 > move
-moved 56
+moved 64
 > kick 0 1
 refused 1
 status 0
@@ -152,7 +152,7 @@ ok
 > kick 1 1
 refused 2
 > move
-moved 88
+moved 96
 > kick 1 1
 refused 1
 > kick 0 1
@@ -164,7 +164,7 @@ none
 > unmap 0x2000 0x1000
 ok
 > move
-moved 88
+moved 96
 > write 0x102 02000000
 ok
 > kick 0 1
@@ -273,7 +273,7 @@ fn with_moves(rt: &impl Abort, alloc: Global, transcript: &[u8]) -> Vec<u8> {
     for line in transcript.split(|byte| *byte == b'\n') {
         let begins = line.starts_with(b"> ") && !line.starts_with(b"> #");
         if begun && (begins || line.starts_with(b"status ")) {
-            push(rt, &mut moving, b"> move\nmoved 56\n");
+            push(rt, &mut moving, b"> move\nmoved 64\n");
         }
         begun = begun || begins;
         push(rt, &mut moving, line);

@@ -5,15 +5,15 @@ ghost use Rattle.virtio_fs_script.specs.Root.{root_entries};
 
 use crate::calls::{Call, FirstCalls};
 use bitflags::Flags;
-use fuse_fs::{
-    Context, DirEntry, DirectoryIterator, Entry, Extensions, FileSystem, FileSystemBase,
-    GetxattrReply, ListxattrReply, PositionedFile, Timeout, WritevFlags, ZeroCopyReader,
-    ZeroCopyWriter, defaults,
-};
 use fuse_wire::{
     Attr, Errno, FsOptions, OpenOptions, SetattrIn, SetattrValid, SetxattrFlags, StatVfs,
 };
 use std::cell::Cell;
+use virtiofsd_fuse::{
+    Context, DirEntry, DirectoryIterator, Entry, Extensions, FileSystem, FileSystemBase,
+    GetxattrReply, ListxattrReply, PositionedFile, Timeout, WritevFlags, ZeroCopyReader,
+    ZeroCopyWriter, defaults,
+};
 
 // The root's node.
 const ROOT: u64 = 1;

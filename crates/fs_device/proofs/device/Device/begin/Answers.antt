@@ -1,7 +1,7 @@
 use Rattle.std.proofs.Common.{◌≡◌, ap, vec_len, arith}
 use Rattle.std.proofs.lemmas.Option.{slice_get_read}
 use Rattle.vm_memory.specs.Memory.{Memory}
-use Rattle.fs_device.proofs.StepLemmas.{Fixed, idles, refuses, lacks, is_begun, unchanged}
+use Rattle.fs_device.proofs.StepLemmas.{Fixed, idles, refuses, lacks, is_pending, unchanged}
 use Rattle.fs_device.proofs.device.Device.begin.Goals as goal
 use Rattle.fs_device.proofs.device.Device.begin.Goals.{in-Ok, in-Err-of}
 
@@ -30,8 +30,8 @@ returns-clause-begins g c =
     elim c.match-of.branch [
       | in-Ok w ↦ rw (← c.self.view_is, w.result-is) (
         w.in-Ok.ensures.queue,
-        is_begun fixed m c.self.inside.queues.items c.index_mut.result.now (c.self.inside.server.options.0, c.self.inside.server.fs) c.in-Ok-Some.taken w.in-Ok.begun (rw w.in-Ok.ensures.queue there) takes w.in-Ok.ensures.taken
-            (λ asked held. w.in-Ok.ensures.request m asked host held),
+        is_pending fixed m c.self.inside.queues.items c.index_mut.result.now (c.self.inside.server.options.0, c.self.inside.server.fs) c.in-Ok-Some.taken w.in-Ok.pending (rw w.in-Ok.ensures.queue there) takes w.in-Ok.ensures.taken
+            (λ fetched held. w.in-Ok.ensures.request m fetched host held),
         same,
       )
       | in-Err-of w ↦ rw (← c.self.view_is, w.result-is) (lacks g.F.FileSystemBase.may _ _ c.args.queue c.index_mut.result.now c.in-Ok-Some.taken.head takes.0 there takes.1 same)

@@ -37,17 +37,17 @@ returns-in_default-harvest g c =
           c.in-Copied.ensures.performs c.in-Ok.ensures.run c.harvest.ensures.performs;
       off =
           ap (λ m. m.use_iommu) c.harvest.ensures.mem
-          ∙ stays_off may (machine_of c.args.self.now) began mid c.in-Copied.copy c.args.commands.items answers c.law_move.ensures.again c.requires.off c.has_its_marks.ensures c.requires.follow
+          ∙ stays_off may (machine_of c.args.self.now) began mid c.in-Copied.copy c.args.commands.items answers c.law_move.ensures.again c.requires.off c.law_host_marks.ensures c.requires.follow
           c.in-Copied.ensures.performs c.in-Ok.ensures.run;
     }
 
 pub returns-clause-from : goal.returns-clause-from
 returns-clause-from g c =
     is_run_from_image g.F.FileSystemBase.may (machine_of c.args.self.now) (machine_of c.image.new.self) (machine_of c.run.new.self) (machine_of c.harvest.new.self) c.in-Copied.copy c.args.commands.items
-    c.in-Ok.answers.items (map page_view c.in-Pages.last.items) c.requires.off c.has_its_marks.ensures c.requires.follow c.in-Copied.ensures.performs c.in-Ok.ensures.run c.in-Pages.ensures.performs
+    c.in-Ok.answers.items (map page_view c.in-Pages.last.items) c.requires.off c.law_host_marks.ensures c.requires.follow c.in-Copied.ensures.performs c.in-Ok.ensures.run c.in-Pages.ensures.performs
 
 pub returns-clause-off : goal.returns-clause-off
 returns-clause-off g c =
     ap (λ m. m.use_iommu) c.harvest.ensures.mem
     ∙ stays_off g.F.FileSystemBase.may (machine_of c.args.self.now) (machine_of c.image.new.self) (machine_of c.run.new.self) c.in-Copied.copy c.args.commands.items c.in-Ok.answers.items
-    c.law_move.ensures.again c.requires.off c.has_its_marks.ensures c.requires.follow c.in-Copied.ensures.performs c.in-Ok.ensures.run
+    c.law_move.ensures.again c.requires.off c.law_host_marks.ensures c.requires.follow c.in-Copied.ensures.performs c.in-Ok.ensures.run

@@ -1,6 +1,6 @@
 use Rattle.std.proofs.Common.{arith}
 use Rattle.fs_device.proofs.MigrateLemmas.{sized_all, sized_next}
-use Rattle.fs_device.proofs.migrating.has_its_marks.Goals as goal
+use Rattle.fs_device.proofs.laws.law_host_marks.Goals as goal
 
 pub loop-block-preserved : goal.loop-block-preserved
 loop-block-preserved c =

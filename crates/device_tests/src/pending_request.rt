@@ -2,12 +2,12 @@
 
 use crate::stand::{ENOSYS_REPLY, REQUEST_AT, RING, ROOM_AT, Request, Stand, UNKNOWN, expect_same};
 use call_log::LoggedCall;
-use fs_device::{Begun, DeviceError, Exchange, Fault};
+use fs_device::{DeviceError, Exchange, Fault, PendingRequest};
 use fs_queue::{ChainFault, QueueError};
 use std::process::Abort;
 
 // Begins an exchange of a queue.
-fn begin(stand: &mut Stand, queue: usize) -> Result<Option<Begun>, DeviceError> {
+fn begin(stand: &mut Stand, queue: usize) -> Result<Option<PendingRequest>, DeviceError> {
     stand
         .device
         .begin(stand.alloc, &stand.guest.host, &stand.guest.mem, queue)
@@ -22,7 +22,7 @@ fn expect_untouched(rt: &impl Abort, stand: &Stand) {
 
 // The first exchange of a queue in two parts, between which nothing is written.
 fn exchange(rt: &impl Abort, stand: &mut Stand) -> (Exchange, bool) {
-    let begun = stand
+    let pending = stand
         .device
         .begin(stand.alloc, &stand.guest.host, &stand.guest.mem, 0)
         .expect(rt, "no refusal")
@@ -30,7 +30,7 @@ fn exchange(rt: &impl Abort, stand: &mut Stand) -> (Exchange, bool) {
     expect_untouched(rt, stand);
     stand
         .device
-        .finish(stand.alloc, &mut stand.guest.host, begun)
+        .finish(stand.alloc, &mut stand.guest.host, pending)
         .expect(rt, "memory")
 }
 

@@ -1,0 +1,38 @@
+//! A step of a device whose file system logs its calls.
+
+ghost use Rattle.std.specs.Prelude.{◌≡◌, IfOk, IfSome};
+ghost use Rattle.vm_memory_core.specs.Host.{shape};
+ghost use Rattle.fs_device.specs.DeviceView.{state_of};
+ghost use Rattle.call_log.specs.Steps.{LeavesUsedLength};
+
+use crate::files::CallLog;
+use fs_device::laws::law_used_length;
+use fs_device::{Device, DeviceError};
+use std::alloc::Global;
+use vm_memory::GuestMemory;
+use vm_memory_core::HostBlocks;
+
+/// Serves the next chain of a queue, by its number from 0, as `Device::process_one`, with that call's refusals, and
+/// tells the used length that the driver finds, in bytes (VIRTIO 1.2, 2.7.8): above 0 it is the length in the reply's
+/// header (linux/fuse.h, `fuse_out_header.len`) and the number of bytes written over the chain's room; where it is 0 no
+/// byte of the room was written. None where no chain waits.
+pub fn used_length<M: GuestMemory, H: HostBlocks>(
+    alloc: Global,
+    device: &mut Device<CallLog>,
+    host: &mut H,
+    mem: &M,
+    queue: usize,
+) -> Result<Option<usize>, DeviceError>
+    requires { M.IsHeld mem.now (H.host host.old) }
+    ensures told { IfOk result (λ o. IfSome o (λ n. LeavesUsedLength (state_of (M.memory mem.now (H.host host.old)) device.old) queue n
+        (M.memory mem.now (H.host host.new)))) }
+    ensures shape { shape (H.host host.new) ≡ shape (H.host host.old) }
+    ensures loan { H.IsSameLoan host.old host.new }
+{
+    law_used_length::<CallLog>();
+    match device.process_one(alloc, host, mem, queue) {
+        Ok(Some(exchanged)) => Ok(Some(exchanged.0.reply.len())),
+        Ok(None) => Ok(None),
+        Err(error) => Err(error),
+    }
+}

@@ -1,0 +1,282 @@
+-- which pages stores mark
+use Rattle.std.proofs.Common.{◌≡◌, ℕ, zero, suc, ◌^◌, ◌/◌, Bool, true, false, ◌||◌, ◌&&◌, not, nat_lt, List, [], ◌∷◌, ◌++◌, map, set, Option, Some, None, refl, ap, sym, ◌∙◌, subst, ⊎_elim}
+use Rattle.std.specs.Prelude.{if◌then◌else◌, ◌==◌, ◌≢◌, slice_get, slice_set, option_map, option_and_then, is_some, IfSome}
+use Rattle.std.specs.List.{list_any}
+use Rattle.std.proofs.lemmas.Bool.{cases_eq, eq-eqb, ne_eqb}
+use Rattle.std.proofs.lemmas.List.Folds.{list_any-append}
+use Rattle.vm_iotlb.specs.declared.range.IotlbRange.{IotlbRange}
+use Rattle.vm_iotlb.specs.declared.permissions.Permissions.TheVariants.{Write}
+use Rattle.vm_memory_core.specs.Host.{Host, Block, Place, IoAddress, changed_at, with_byte, with_mark_by}
+use Rattle.vm_memory_core.specs.Window.{put_byte}
+use Rattle.vm_memory.specs.Layout.{place}
+use Rattle.vm_memory.specs.Memory.{Memory, for_io, location, place_behind, stored, stored_all, stored_at, table_of}
+use Rattle.fs_queue.specs.Queue.{Queue}
+use Rattle.fs_queue.specs.Taking.{RequestAndRoom, Offers, offer, room_of}
+use Rattle.fs_queue.specs.Returning.{writes}
+use Rattle.virtiofsd_fuse.specs.Serving.{May}
+use Rattle.fs_device.specs.Step.{State, Exchange, Exchanged, Calls, Step}
+use Rattle.fs_device.specs.MarkedPages.{block_mark, io_mark, is_in_page, marks_block, marks_io, marked_by, returned_addresses, Marks, StepsMark, WritesMark}
+use Rattle.fs_device.proofs.MoveLemmas.{IsPlain, plain_place}
+use Rattle.fs_device.proofs.UsedLemmas.{exchange_returns, step_offers}
+
+-- ---- lists
+
+changed_here : {X : Type 0} (l : List X) (i : ℕ) (f : X → X) → slice_get (changed_at l i f) i ≡ option_map f (slice_get l i)
+changed_here [] i f = refl
+changed_here (x ∷ l) zero f = refl
+changed_here (x ∷ l) (suc i) f = changed_here l i f
+
+changed_there : {X : Type 0} (l : List X) (i j : ℕ) (f : X → X) → i ≢ j → slice_get (changed_at l i f) j ≡ slice_get l j
+changed_there [] i j f apart = refl
+changed_there (x ∷ l) zero zero f apart = absurd (apart refl)
+changed_there (x ∷ l) zero (suc j) f apart = refl
+changed_there (x ∷ l) (suc i) zero f apart = refl
+changed_there (x ∷ l) (suc i) (suc j) f apart = changed_there l i j f (λ e. apart (ap suc e))
+
+set_here : (l : List Bool) (i : ℕ) → slice_get (slice_set l i true) i ≡ option_map (λ was. true) (slice_get l i)
+set_here [] i = refl
+set_here (x ∷ l) zero = refl
+set_here (x ∷ l) (suc i) = set_here l i
+
+set_there : (l : List Bool) (i j : ℕ) → i ≢ j → slice_get (slice_set l i true) j ≡ slice_get l j
+set_there [] i j apart = refl
+set_there (x ∷ l) zero zero apart = absurd (apart refl)
+set_there (x ∷ l) zero (suc j) apart = refl
+set_there (x ∷ l) (suc i) zero apart = refl
+set_there (x ∷ l) (suc i) (suc j) apart = set_there l i j (λ e. apart (ap suc e))
+
+-- ---- a mark, as it was or set
+
+-- after one write, which marks the page or doesn't
+abbrev or_set : Bool → Option Bool → Option Bool
+or_set here old = option_map (λ was. was || here) old
+
+or_true : (b : Bool) → true ≡ (b || true)
+or_true true = refl
+or_true false = refl
+
+or_false : (b : Bool) → b ≡ (b || false)
+or_false true = refl
+or_false false = refl
+
+or_more : (a b c : Bool) → ((a || b) || c) ≡ (a || (b || c))
+or_more true b c = refl
+or_more false b c = refl
+
+is_set : (o : Option Bool) → option_map (λ was. true) o ≡ or_set true o
+is_set None = refl
+is_set (Some b) = ap Some (or_true b)
+
+stays : (o : Option Bool) → o ≡ or_set false o
+stays None = refl
+stays (Some b) = ap Some (or_false b)
+
+more_set : (a b : Bool) (o : Option Bool) → or_set b (or_set a o) ≡ or_set (a || b) o
+more_set a b None = refl
+more_set a b (Some c) = ap Some (or_more c a b)
+
+-- the page k is set, and this is looked at
+page_set : (marks : List Bool) (k page : ℕ) → slice_get (slice_set marks k true) page ≡ or_set (k == page) (slice_get marks page)
+page_set marks k page =
+    ⊎_elim
+    (λ (e : k ≡ page).
+    ap (λ (j : ℕ). slice_get (slice_set marks j true) page) e ∙ set_here marks page ∙ is_set (slice_get marks page) ∙ ap (λ (b : Bool). or_set b (slice_get marks page)) (sym (eq-eqb k page e)))
+    (λ (apart : k ≢ page). set_there marks k page apart ∙ stays (slice_get marks page) ∙ ap (λ (b : Bool). or_set b (slice_get marks page)) (sym (ne_eqb k page apart)))
+    (cases_eq k page)
+
+-- ---- a block's page
+
+-- the mark of a page of what may be a block
+abbrev page_in : ℕ → Option Block → Option Bool
+page_in page o = option_and_then (λ b. slice_get b.marks page) o
+
+page_marked : (k page : ℕ) (o : Option Block) → page_in page (option_map (λ (b : Block). record b { marks = slice_set b.marks k true }) o) ≡ or_set (k == page) (page_in page o)
+page_marked k page None = refl
+page_marked k page (Some b) = page_set b.marks k page
+
+byte_marks_none : (o : Option Block) (offset byte page : ℕ) → page_in page (option_map (λ (b : Block). record b { bytes = slice_set b.bytes offset byte }) o) ≡ page_in page o
+byte_marks_none None offset byte page = refl
+byte_marks_none (Some b) offset byte page = refl
+
+-- a byte that is put marks no page by itself
+byte_put : (h : Host) (p : Place) (byte block page : ℕ) → block_mark (with_byte h p byte) block page ≡ block_mark h block page
+byte_put h p byte block page =
+    ⊎_elim
+    (λ (e : p.block ≡ block).
+    ap (page_in page)
+    (ap (λ (j : ℕ). slice_get (changed_at h.blocks p.block (λ b. record b { bytes = slice_set b.bytes p.offset byte })) j) (sym e) ∙ changed_here h.blocks p.block _)
+    ∙ byte_marks_none (slice_get h.blocks p.block) p.offset byte page ∙ ap (λ (j : ℕ). page_in page (slice_get h.blocks j)) e)
+    (λ (apart : p.block ≢ block). ap (page_in page) (changed_there h.blocks p.block block _ apart))
+    (cases_eq p.block block)
+
+and_set : (a b : Bool) (o : Option Bool) → a ≡ true → or_set b o ≡ or_set (a && b) o
+and_set true b o e = refl
+and_set false b o e = absurd (cc)
+
+and_unset : (a b : Bool) (o : Option Bool) → a ≡ false → o ≡ or_set (a && b) o
+and_unset true b o e = absurd (cc)
+and_unset false b o e = stays o
+
+-- the page of a place is marked, and this is looked at
+block_marked : (h : Host) (p : Place) (block page : ℕ) → block_mark (with_mark_by None p h) block page ≡ or_set (is_in_page block page (Some p)) (block_mark h block page)
+block_marked h p block page =
+    ⊎_elim
+    (λ (e : p.block ≡ block).
+    ap (page_in page) (ap (λ (j : ℕ). slice_get (changed_at h.blocks p.block (λ b. record b { marks = slice_set b.marks (p.offset / 4096) true })) j) (sym e) ∙ changed_here h.blocks p.block _)
+    ∙ page_marked (p.offset / 4096) page (slice_get h.blocks p.block)
+    ∙ ap (λ (j : ℕ). or_set (p.offset / 4096 == page) (page_in page (slice_get h.blocks j))) e
+    ∙ and_set (p.block == block) (p.offset / 4096 == page) (block_mark h block page) (eq-eqb p.block block e))
+    (λ (apart : p.block ≢ block).
+    ap (page_in page) (changed_there h.blocks p.block block _ apart) ∙ and_unset (p.block == block) (p.offset / 4096 == page) (block_mark h block page) (ne_eqb p.block block apart))
+    (cases_eq p.block block)
+
+-- ---- an I/O page
+
+-- the mark of a page of what may be a set
+abbrev io_page_in : ℕ → Option (List Bool) → Option Bool
+io_page_in page o = option_and_then (λ marks. slice_get marks page) o
+
+-- where the address is one
+page_if : (fits : Bool) (marks : List Bool) (k page : ℕ) → slice_get (if fits then slice_set marks k true else marks) page ≡ or_set (fits && (k == page)) (slice_get marks page)
+page_if true marks k page = page_set marks k page
+page_if false marks k page = stays (slice_get marks page)
+
+io_page_marked : (fits : Bool) (k page : ℕ) (o : Option (List Bool)) → io_page_in page (option_map (λ marks. if fits then slice_set marks k true else marks) o) ≡ or_set (fits && (k == page)) (io_page_in page o)
+io_page_marked fits k page None = refl
+io_page_marked fits k page (Some marks) = page_if fits marks k page
+
+-- the page of an I/O address is marked, and this is looked at
+io_marked : (h : Host) (a : IoAddress) (p : Place) (set page : ℕ) →
+    io_mark (with_mark_by (Some a) p h) set page ≡ or_set ((a.set == set) && (nat_lt a.address (2 ^ 64) && (a.address / 4096 == page))) (io_mark h set page)
+io_marked h a p set page =
+    let here = nat_lt a.address (2 ^ 64) && (a.address / 4096 == page) in
+    ⊎_elim
+    (λ (e : a.set ≡ set).
+    ap (io_page_in page)
+    (ap (λ (j : ℕ). slice_get (changed_at h.io_marks a.set (λ marks. if nat_lt a.address (2 ^ 64) then slice_set marks (a.address / 4096) true else marks)) j) (sym e) ∙ changed_here h.io_marks a.set _)
+    ∙ io_page_marked (nat_lt a.address (2 ^ 64)) (a.address / 4096) page (slice_get h.io_marks a.set)
+    ∙ ap (λ (j : ℕ). or_set here (io_page_in page (slice_get h.io_marks j))) e
+    ∙ and_set (a.set == set) here (io_mark h set page) (eq-eqb a.set set e))
+    (λ (apart : a.set ≢ set). ap (io_page_in page) (changed_there h.io_marks a.set set _ apart) ∙ and_unset (a.set == set) here (io_mark h set page) (ne_eqb a.set set apart))
+    (cases_eq a.set set)
+
+-- ---- one store
+
+-- with the IOMMU off, at a place whose own page is marked
+plain_block : (h : Host) (p : Place) (byte block page : ℕ) → p.io ≡ None → block_mark (put_byte h p byte) block page ≡ or_set (is_in_page block page (Some p)) (block_mark h block page)
+plain_block h p byte block page plain =
+    ap (λ (io : Option IoAddress). block_mark (with_mark_by io p (with_byte h p byte)) block page) plain
+    ∙ block_marked (with_byte h p byte) p block page
+    ∙ ap (or_set (is_in_page block page (Some p))) (byte_put h p byte block page)
+
+plain_io : (h : Host) (p : Place) (byte set page : ℕ) → p.io ≡ None → io_mark (put_byte h p byte) set page ≡ io_mark h set page
+plain_io h p byte set page plain = ap (λ (io : Option IoAddress). io_mark (with_mark_by io p (with_byte h p byte)) set page) plain
+
+off_block : (m : Memory) (byte : ℕ) (o : Option Place) (block page : ℕ) → IsPlain o → block_mark (stored_at m byte o).host block page ≡ or_set (is_in_page block page o) (block_mark m.host block page)
+off_block m byte None block page plain = stays (block_mark m.host block page)
+off_block m byte (Some p) block page plain = plain_block m.host p byte block page plain
+
+off_io : (m : Memory) (byte : ℕ) (o : Option Place) (set page : ℕ) → IsPlain o → io_mark (stored_at m byte o).host set page ≡ or_set false (io_mark m.host set page)
+off_io m byte None set page plain = stays (io_mark m.host set page)
+off_io m byte (Some p) set page plain = plain_io m.host p byte set page plain ∙ stays (io_mark m.host set page)
+
+-- with the IOMMU on, at a place whose I/O page is marked
+on_block : (m : Memory) (byte address : ℕ) (o : Option Place) (block page : ℕ) →
+    block_mark (stored_at m byte (for_io m.io_pages address o)).host block page ≡ or_set false (block_mark m.host block page)
+on_block m byte address None block page = stays (block_mark m.host block page)
+on_block m byte address (Some p) block page = byte_put m.host p byte block page ∙ stays (block_mark m.host block page)
+
+and_none : (a : Bool) → (a && false) ≡ false
+and_none true = refl
+and_none false = refl
+
+on_io : (m : Memory) (byte address : ℕ) (o : Option Place) (set page : ℕ) →
+    io_mark (stored_at m byte (for_io m.io_pages address o)).host set page
+    ≡ or_set ((m.io_pages == set) && (is_some (for_io m.io_pages address o) && (nat_lt address (2 ^ 64) && (address / 4096 == page)))) (io_mark m.host set page)
+on_io m byte address None set page = stays (io_mark m.host set page) ∙ ap (λ (b : Bool). or_set b (io_mark m.host set page)) (sym (and_none (m.io_pages == set)))
+on_io m byte address (Some p) set page = io_marked (with_byte m.host p byte) (record { set = m.io_pages; address = address }) p set page
+
+-- either way
+one_block : (m : Memory) (write : ℕ × ℕ) (block page : ℕ) (on : Bool) → m.translates ≡ on →
+    block_mark (stored_at m write.1 (if on then for_io m.io_pages write.0 (place_behind m.layout Write (table_of m write.0)) else place m.layout write.0)).host block page
+    ≡ or_set (not on && is_in_page block page (place m.layout write.0)) (block_mark m.host block page)
+one_block m write block page true is = on_block m write.1 write.0 (place_behind m.layout Write (table_of m write.0)) block page
+one_block m write block page false is = off_block m write.1 (place m.layout write.0) block page (plain_place m.layout write.0)
+
+one_io : (m : Memory) (write : ℕ × ℕ) (set page : ℕ) (on : Bool) → m.translates ≡ on →
+    let there = if on then for_io m.io_pages write.0 (place_behind m.layout Write (table_of m write.0)) else place m.layout write.0 in
+    io_mark (stored_at m write.1 there).host set page
+    ≡ or_set (on && ((m.io_pages == set) && (is_some there && (nat_lt write.0 (2 ^ 64) && (write.0 / 4096 == page))))) (io_mark m.host set page)
+one_io m write set page true is = on_io m write.1 write.0 (place_behind m.layout Write (table_of m write.0)) set page
+one_io m write set page false is = off_io m write.1 (place m.layout write.0) set page (plain_place m.layout write.0)
+
+-- ---- stores in order
+
+-- all of a memory that decides what a write marks: its blocks and marks left out
+abbrev pub ways : Memory → Memory
+ways m = record m { host = record m.host { blocks = []; io_marks = [] } }
+
+tables_stay : (io : Option IoAddress) (p : Place) (h : Host) → (with_mark_by io p h).tables ≡ h.tables
+tables_stay None p h = refl
+tables_stay (Some a) p h = refl
+
+way_stays : (m : Memory) (byte : ℕ) (o : Option Place) → ways (stored_at m byte o) ≡ ways m
+way_stays m byte None = refl
+way_stays m byte (Some p) = ap (λ (tables : List (List IotlbRange)). record m { host = record m.host { blocks = []; tables = tables; io_marks = [] } }) (tables_stay p.io p (with_byte m.host p byte))
+
+pub ways_stay : (m : Memory) (ws : List (ℕ × ℕ)) → ways (stored_all m ws) ≡ ways m
+unfolding stored_all
+ways_stay m [] = refl
+ways_stay m (w ∷ ws) = ways_stay (stored m w) ws ∙ way_stays m w.1 (location m Write w.0)
+
+-- nothing is written
+pub none_written : (m : Memory) → Marks m [] m.host
+none_written m = record { blocks = λ block page. stays (block_mark m.host block page); io_sets = λ set page. stays (io_mark m.host set page) }
+
+pub writes_mark : WritesMark
+unfolding stored_all
+writes_mark m [] = none_written m
+writes_mark m (w ∷ ws) =
+    let next = stored m w in
+    let rest = writes_mark next ws in
+    let same : ways next ≡ ways m = way_stays m w.1 (location m Write w.0) in
+    let later = map (λ (w : ℕ × ℕ). w.0) ws in record {
+      blocks = λ block page.
+          rest.blocks block page
+          ∙ ap (λ (k : Memory). marked_by (marks_block k block page) later (block_mark next.host block page)) same
+          ∙ ap (marked_by (marks_block m block page) later) (one_block m w block page m.translates refl)
+          ∙ more_set (marks_block m block page w.0) (list_any (marks_block m block page) later) (block_mark m.host block page);
+      io_sets = λ set page.
+          rest.io_sets set page
+          ∙ ap (λ (k : Memory). marked_by (marks_io k set page) later (io_mark next.host set page)) same
+          ∙ ap (marked_by (marks_io m set page) later) (one_io m w set page m.translates refl)
+          ∙ more_set (marks_io m set page w.0) (list_any (marks_io m set page) later) (io_mark m.host set page);
+    }
+
+-- what is written later marks besides
+pub marks_join : (m n : Memory) (xs ys : List ℕ) (after : Host) → ways n ≡ ways m → Marks m xs n.host → Marks n ys after → Marks m (xs ++ ys) after
+marks_join m n xs ys after same first later = record {
+  blocks = λ block page.
+      later.blocks block page
+      ∙ ap (λ (k : Memory). marked_by (marks_block k block page) ys (block_mark n.host block page)) same
+      ∙ ap (marked_by (marks_block m block page) ys) (first.blocks block page)
+      ∙ more_set (list_any (marks_block m block page) xs) (list_any (marks_block m block page) ys) (block_mark m.host block page)
+      ∙ ap (λ (b : Bool). or_set b (block_mark m.host block page)) (sym (list_any-append (marks_block m block page) xs ys));
+  io_sets = λ set page.
+      later.io_sets set page
+      ∙ ap (λ (k : Memory). marked_by (marks_io k set page) ys (io_mark n.host set page)) same
+      ∙ ap (marked_by (marks_io m set page) ys) (first.io_sets set page)
+      ∙ more_set (list_any (marks_io m set page) xs) (list_any (marks_io m set page) ys) (io_mark m.host set page)
+      ∙ ap (λ (b : Bool). or_set b (io_mark m.host set page)) (sym (list_any-append (marks_io m set page) xs ys));
+}
+
+-- ---- steps
+
+pub steps_mark : {F : Type 0} (may : May F) → StepsMark may
+steps_mark may s after i calls x notice step =
+    let found = step_offers may s after i calls x notice step in
+    let o = found.0 in
+    let is = exchange_returns may s i o.queue x.head o.fetched calls x notice after found.1 in (
+      o,
+      subst (λ (m : Memory). Marks s.memory (returned_addresses o.queue x.head (room_of o.fetched) x.reply) m.host) (sym is) (writes_mark s.memory (writes o.queue x.head (room_of o.fetched) x.reply)),
+    )

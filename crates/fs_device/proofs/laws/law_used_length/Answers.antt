@@ -1,0 +1,5 @@
+use Rattle.fs_device.proofs.UsedLemmas.{lengths_are_told}
+use Rattle.fs_device.proofs.laws.law_used_length.Goals as goal
+
+pub returns : goal.returns
+returns g c s after i calls x notice step = lengths_are_told g.F.FileSystemBase.may s after i calls x notice step

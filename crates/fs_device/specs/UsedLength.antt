@@ -1,0 +1,43 @@
+-- What the length in a used element says (VIRTIO 1.2, 2.7.8).
+use Rattle.std.specs.Prelude.{◌≡◌, ℕ, ◌<◌, Bool, List, ◌++◌, zip, length, take, Some, slice_get}
+use Rattle.std.specs.Int.{w16, w32, to_le_bytes}
+use Rattle.vm_memory.specs.Memory.{Memory, addresses, stored_all}
+use Rattle.fs_queue.specs.Queue.{Queue, element_at, index_at}
+use Rattle.fs_queue.specs.Returning.{next_position}
+use Rattle.fs_queue.specs.Taking.{RequestAndRoom, Offers, offer, room_of}
+use Rattle.virtiofsd_fuse.specs.Serving.{May}
+use Rattle.fs_device.specs.Step.{State, Exchange, Exchanged, Calls, Step}
+
+-- the length in a reply's header: its first le32 (linux/fuse.h, struct fuse_out_header)
+abbrev pub header_length : (reply : List ℕ) → List ℕ
+header_length reply = take 4 reply
+
+-- what a reply writes: its bytes, one at each address of the room from the first on
+abbrev pub reply_writes : (room reply : List ℕ) → List (ℕ × ℕ)
+reply_writes room reply = zip room reply
+
+-- what is written besides: the used element, which is le32 head and le32 used length, and then le16 used index
+abbrev pub ring_writes : Queue → (head used_length : ℕ) → List (ℕ × ℕ)
+ring_writes q head used_length =
+    zip (addresses (element_at q) 8) (to_le_bytes w32 head ++ to_le_bytes w32 used_length) ++ zip (addresses (index_at q) 2) (to_le_bytes w16 (next_position q))
+
+-- a used length above 0 is the length in the reply's header, as le32, and the number of reply bytes written; where it is 0, the used
+-- element and the used index alone are written
+pub record TellsLength (before : Memory) (q : Queue) (head : ℕ) (room reply : List ℕ) (used_length : ℕ) (after : Memory) : Type 0 where
+  pub written : after ≡ stored_all before (reply_writes room reply ++ ring_writes q head used_length)
+  pub count : length (reply_writes room reply) ≡ used_length
+  pub header : 0 < used_length → header_length reply ≡ to_le_bytes w32 used_length
+  pub nothing : used_length ≡ 0 → after ≡ stored_all before (ring_writes q head 0)
+
+-- the queue that a step exchanges a chain of, and what that chain asks, which its queue offers in the state before
+pub record IsOffered {F : Type 0} (s : State F) (i : ℕ) (x : Exchange) : Type 0 where
+  pub queue : Queue
+  pub fetched : RequestAndRoom
+  pub there : slice_get s.queues i ≡ Some queue
+  pub offered : offer s.memory s.limit queue ≡ Offers x.head fetched
+
+-- so it is of each exchange, where the used length is that of its reply
+abbrev pub LengthsAreTold : {F : Type 0} → May F → Type 0
+LengthsAreTold {F} may =
+    (s after : State F) (i : ℕ) (calls : Calls) (x : Exchange) (notice : Bool) → Step may s i calls (Exchanged x notice) after →
+    (o : IsOffered s i x) × TellsLength s.memory o.queue x.head (room_of o.fetched) x.reply (length x.reply) after.memory
