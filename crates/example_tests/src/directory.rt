@@ -1,11 +1,12 @@
 //! The example's directory, as a guest reads it.
 
 use fs_device::{Answer, Command, Device, Machine};
-use fs_example::{File, Monitor, MonitorError, ReadOnlyDirectory, read_file, run_directory};
+use fs_example::{File, FileTable, Monitor, MonitorError, read_file, run_directory};
 use fs_queue::{Queue, QueueLayout};
-use fuse_wire::{Opcode, OpenIn, ReadIn};
+use fuse_read_only::ReadOnly;
+use fuse_wire::{InitInCompat, InitOut, Opcode, OpenIn, ReadIn};
 use guest_driver::replies::body;
-use guest_driver::requests::{header, read, with_record};
+use guest_driver::requests::{header, init, read, with_record};
 use guest_driver::{Guest, Ring};
 use std::alloc::Global;
 use std::fmt::Debug;
@@ -13,6 +14,7 @@ use std::process::Abort;
 use virtiofsd_fuse::Server;
 use vm_memory::TableIommu;
 use vm_memory_core::{GuestAddress, Permissions};
+use vm_values::ByteValued;
 
 // What was found is what is wanted. One generic assertion for all tests: each assertion of its own costs a proof.
 fn expect_same<T: PartialEq + Debug + Drop>(rt: &impl Abort, found: T, want: T) {
@@ -131,6 +133,54 @@ fn a_file_is_opened_for_reading_alone(rt: HostRuntime) {
     }
 }
 
+// A request whose record is all zeros.
+fn blank(rt: &impl Abort, alloc: Global, opcode: Opcode, len: u32, unique: u64) -> Vec<u8> {
+    let mut request = Vec::new(alloc);
+    let head = header(len, opcode as u32, unique, 2);
+    request.extend_from_slice(&head).expect(rt, "memory");
+    request.resize(len as usize, 0).expect(rt, "memory");
+    request
+}
+
+// RELEASE is the directory's own; the others have the defaults: a struct fuse_statfs_out, and ENOSYS.
+#[test]
+fn a_call_that_the_directory_has_not_has_the_default(rt: HostRuntime) {
+    let alloc = rt.alloc();
+    let mut monitor = Monitor::new(alloc, &FILES).expect(&rt, "a monitor");
+    for (unique, opcode, len, want) in [
+        (1, Opcode::Release, 64, Ok(0)),
+        (2, Opcode::Statfs, 40, Ok(80)),
+        (3, Opcode::Access, 48, Err(-38)),
+        (4, Opcode::Readlink, 40, Err(-38)),
+    ] {
+        let request = blank(&rt, alloc, opcode, len, unique);
+        let told = said(&rt, &mut monitor, &request, unique);
+        expect_same(&rt, told, want);
+    }
+}
+
+// FUSE_DO_READDIRPLUS (linux/fuse.h).
+const DO_READDIRPLUS: u32 = 1 << 13;
+
+#[test]
+fn a_listing_with_attributes_is_wanted_where_the_guest_can(rt: HostRuntime) {
+    let alloc = rt.alloc();
+    let mut monitor = Monitor::new(alloc, &FILES).expect(&rt, "a monitor");
+    for flags in [DO_READDIRPLUS, 0] {
+        let record = InitInCompat {
+            major: 7,
+            minor: 38,
+            max_readahead: 0,
+            flags,
+        };
+        let request = init(alloc, 1, &record).expect(&rt, "memory");
+        let reply = monitor.ask(&request).expect(&rt, "a reply");
+        let answer = InitOut::from_slice(reply.get(16..).expect(&rt, "a record"));
+        let agreed = answer.expect(&rt, "a record").flags;
+        expect_same(&rt, agreed & DO_READDIRPLUS, flags);
+    }
+}
+
 #[test]
 fn a_request_that_has_no_place_is_refused(rt: HostRuntime) {
     let alloc = rt.alloc();
@@ -183,16 +233,16 @@ const RING: Ring = Ring {
 };
 
 // A device over the directory, whose one queue is the ring.
-fn device(rt: &impl Abort, alloc: Global) -> Device<ReadOnlyDirectory<'static>> {
+fn device(rt: &impl Abort, alloc: Global) -> Device<ReadOnly<FileTable<'static>>> {
     let layout = QueueLayout::new(RING.size, RING.desc, RING.avail, RING.used);
     let queue = Queue::new(layout.expect(rt, "a layout"));
     let queues = Vec::from_array(alloc, [queue]).expect(rt, "memory");
-    let server = Server::new(ReadOnlyDirectory::new(&FILES), 4096);
+    let server = Server::new(ReadOnly(FileTable::new(&FILES)), 4096);
     Device::new(server, queues, 0x101000)
 }
 
 // A machine over the directory, whose guest reads the first five bytes of node 2.
-fn reading(rt: &impl Abort, alloc: Global) -> Machine<ReadOnlyDirectory<'static>, TableIommu> {
+fn reading(rt: &impl Abort, alloc: Global) -> Machine<ReadOnly<FileTable<'static>>, TableIommu> {
     let regions = [(GuestAddress(0), 0x10000)];
     let mut guest = Guest::new(alloc, &regions, RING).expect(rt, "memory");
     let request = read(alloc, 1, 2, 0, 0, 5).expect(rt, "memory");

@@ -5,14 +5,14 @@ ghost use Rattle.std.specs.Prelude.{⊤};
 use crate::fault::BenchFault;
 use crate::listing::ListedEntries;
 use bitflags::Flags;
-use fuse_fs::{
-    Context, Entry, Extensions, FileSystem, FileSystemBase, GetxattrReply, ListxattrReply,
-    PositionedFile, Timeout, WritevFlags, ZeroCopyReader, ZeroCopyWriter, defaults,
-};
 use fuse_wire::{
     Attr, Errno, FsOptions, OpenOptions, SetattrIn, SetattrValid, SetxattrFlags, StatVfs,
 };
 use std::alloc::Global;
+use virtiofsd_fuse::{
+    Context, Entry, Extensions, FileSystem, FileSystemBase, GetxattrReply, ListxattrReply,
+    PositionedFile, Timeout, WritevFlags, ZeroCopyReader, ZeroCopyWriter, defaults,
+};
 
 // How many bytes the file has.
 const FILE_LEN: usize = 0x100000;

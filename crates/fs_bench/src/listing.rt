@@ -2,7 +2,7 @@
 
 ghost use Rattle.fs_bench.specs.Listing.{listing};
 
-use fuse_fs::{DirEntry, DirectoryIterator};
+use virtiofsd_fuse::{DirEntry, DirectoryIterator};
 
 // How many entries the directory has.
 const ENTRIES: u64 = 100;

@@ -19,9 +19,8 @@ use Rattle.fs_device.specs.declared.refusal.Refusal.{Refusal}
 use Rattle.fs_device.specs.declared.refusal.Refusal.TheVariants.{NoPlace}
 use Rattle.fs_device.specs.Step.{State, Exchanged, Step}
 use Rattle.fs_device.specs.Run as run
-use Rattle.fs_device.specs.Run.{Turn, Told, Command, Answer, Kicked, Kicks, KickRun, Run, RunTold, Effect, effect}
-use Rattle.fs_example.specs.declared.table.ReadOnlyDirectory.{ReadOnlyDirectory}
-use Rattle.fs_example.specs.Directory.{MayAnswer}
+use Rattle.fs_device.specs.Run.{Turn, Told, Command, Answer, Kicked, Kicks, KickRun, Run, RunTold, Effect, IsDecided, effect}
+use Rattle.fs_example.specs.Directory.{Directory, DirectoryAnswers}
 use Rattle.fs_example.specs.Reading.{read_reply, wanted}
 use Rattle.fs_example.specs.GuestGets.{laid_over, GetsFile, KickGivesFile, kick_and_look, GuestGetsTheFile}
 use Rattle.fs_example.proofs.StoreLemmas.{all_keep, room_seen}
@@ -33,10 +32,10 @@ use Rattle.fuse_fs.specs.Calls.{FileRun}
 
 -- ---- a run in two parts
 
-abbrev Split : State ReadOnlyDirectory → (before behind : List (Command × Answer)) → State ReadOnlyDirectory → Type 0
-Split s before behind after = (found : State ReadOnlyDirectory) × Run MayAnswer s before found × Run MayAnswer found behind after
+abbrev Split : State Directory → (before behind : List (Command × Answer)) → State Directory → Type 0
+Split s before behind after = (found : State Directory) × Run DirectoryAnswers s before found × Run DirectoryAnswers found behind after
 
-split : (s after : State ReadOnlyDirectory) (before behind : List (Command × Answer)) (tolds : List Told) → RunTold MayAnswer s (before ++ behind) tolds after → Split s before behind after
+split : (s after : State Directory) (before behind : List (Command × Answer)) (tolds : List Told) → RunTold DirectoryAnswers s (before ++ behind) tolds after → Split s before behind after
 unfolding RunTold
 split s after [] behind tolds t = (s, ([], refl), (tolds, t))
 split s after (e ∷ es) behind [] t = absurd t
@@ -47,14 +46,14 @@ split s after (e ∷ es) behind (told ∷ tolds) (mid, performs, rest) =
 -- ---- a kick of one chain
 
 -- one exchange, which left this memory
-abbrev OneExchange : State ReadOnlyDirectory → (i : ℕ) → State ReadOnlyDirectory → Type 0
-OneExchange s i after = (t : Turn) × (mid : State ReadOnlyDirectory) × Step MayAnswer s i t.calls (Exchanged t.exchange t.notice) mid × (after.memory ≡ mid.memory)
+abbrev OneExchange : State Directory → (i : ℕ) → State Directory → Type 0
+OneExchange s i after = (t : Turn) × (mid : State Directory) × Step DirectoryAnswers s i t.calls (Exchanged t.exchange t.notice) mid × (after.memory ≡ mid.memory)
 
-one_turn : (s after : State ReadOnlyDirectory) (i most : ℕ) (q : Queue) (told : Told) (k : Kicked) → Kicks MayAnswer s i most (Some q) told k after → length k.exchanges ≡ 1 → OneExchange s i after
+one_turn : (s after : State Directory) (i most : ℕ) (q : Queue) (told : Told) (k : Kicked) → Kicks DirectoryAnswers s i most (Some q) told k after → length k.exchanges ≡ 1 → OneExchange s i after
 unfolding KickRun
 one_turn s after i most q [] k (ran, shows) one = absurd (omega (arith, one, ap length shows))
 one_turn s after i zero q (t ∷ told) k (ran, shows) one = absurd ran
-one_turn s after i (suc most) q (t ∷ []) k ((mid, step, ends), shows) one = (t, mid, step, end_keeps MayAnswer mid i most k.refused after ends)
+one_turn s after i (suc most) q (t ∷ []) k ((mid, step, ends), shows) one = (t, mid, step, end_keeps DirectoryAnswers mid i most k.refused after ends)
 one_turn s after i (suc most) q (t ∷ u ∷ told) k (ran, shows) one = absurd (omega (arith, one, ap length shows))
 
 -- ---- the guest's look
@@ -66,15 +65,15 @@ not_refused : (xs : List ℕ) (why : Refusal) → run.Bytes xs ≡ run.IsRefused
 not_refused xs why e = cc
 
 -- the bytes that it gets are those that stand there, each of which has a place
-guest_saw : (s after : State ReadOnlyDirectory) (a n : ℕ) (got : List ℕ) → (run.Bytes got, after) ≡ effect s (run.GuestRead a n) →
+guest_saw : (s after : State Directory) (a n : ℕ) (got : List ℕ) → IsDecided (effect s (run.GuestRead a n)) (run.Bytes got) after →
     (got ≡ bytes (physical s.memory) a n) × (list_all (λ x. is_some (place s.memory.layout x)) (addresses a n) ≡ true)
 unfolding effect
 guest_saw s after a n got e =
     elim (reach (physical s.memory) Read a n) as
     (λ b. reach (physical s.memory) Read a n ≡ b → (run.Bytes got, after) ≡ (if b then (run.Bytes (bytes (physical s.memory) a n), s) else run.no NoPlace s) →
     (got ≡ bytes (physical s.memory) a n) × (list_all (λ x. is_some (place s.memory.layout x)) (addresses a n) ≡ true)) [
-      | true ↦ λ all is. (same_bytes got _ (ap (λ (p : Effect ReadOnlyDirectory). p.0) is), (and_parts (nat_lt (a + n) (2 ^ 64)) _ all).1)
-      | false ↦ λ none is. absurd (not_refused got NoPlace (ap (λ (p : Effect ReadOnlyDirectory). p.0) is))
+      | true ↦ λ all is. (same_bytes got _ (ap (λ (p : Effect Directory). p.0) is), (and_parts (nat_lt (a + n) (2 ^ 64)) _ all).1)
+      | false ↦ λ none is. absurd (not_refused got NoPlace (ap (λ (p : Effect Directory). p.0) is))
     ] refl e
 
 -- ---- the file's bytes
@@ -119,11 +118,11 @@ gets_file m room k a n unique file got is = (is, λ fits behind within. is ∙ f
 
 -- ---- a kick, and then a look
 
-kick_gives : (s mid after : State ReadOnlyDirectory) (i most a n : ℕ) (kicked : Kicked) (got : List ℕ) (told : Told) → HoldsItsBlocks s.memory →
-    Kicks MayAnswer s i most (slice_get s.queues i) told kicked mid → (run.Bytes got, after) ≡ effect mid (run.GuestRead a n) → KickGivesFile s i kicked a n got
+kick_gives : (s mid after : State Directory) (i most a n : ℕ) (kicked : Kicked) (got : List ℕ) (told : Told) → HoldsItsBlocks s.memory →
+    Kicks DirectoryAnswers s i most (slice_get s.queues i) told kicked mid → IsDecided (effect mid (run.GuestRead a n)) (run.Bytes got) after → KickGivesFile s i kicked a n got
 kick_gives s mid after i most a n kicked got told held kicks look q head request room unique node size offset k f one there offered reads file apart looks =
     let reply = read_reply (length room) unique (wanted f size offset) in
-    let ran : Kicks MayAnswer s i most (Some q) told kicked mid = subst (λ (o : Option Queue). Kicks MayAnswer s i most o told kicked mid) there kicks in
+    let ran : Kicks DirectoryAnswers s i most (Some q) told kicked mid = subst (λ (o : Option Queue). Kicks DirectoryAnswers s i most o told kicked mid) there kicks in
     let turn = one_turn s mid i most q told kicked ran one in
     let stored = step_reads s turn.1 i turn.0.calls (Exchanged turn.0.exchange turn.0.notice) turn.2 q head request room unique node size offset f there offered reads file in
     let is : mid.memory ≡ returned s.memory q head room reply = turn.3 ∙ stored.1 in
@@ -136,8 +135,8 @@ kick_gives s mid after i most a n kicked got told held kicks look q head request
     ∙ room_seen s.memory room reply (addresses (element_at q) 8) (to_le_bytes w32 head ++ to_le_bytes w32 (length reply)) (addresses (index_at q) 2) (to_le_bytes w16 (next_position q)) a n k
     held places apart looks)
 
-both_give : (s after : State ReadOnlyDirectory) (i most a n : ℕ) (kicked : Kicked) (got : List ℕ) (later : List (Command × Answer)) (tolds : List Told) →
-    RunTold MayAnswer s (kick_and_look i most kicked a n got ++ later) tolds after → HoldsItsBlocks s.memory → KickGivesFile s i kicked a n got
+both_give : (s after : State Directory) (i most a n : ℕ) (kicked : Kicked) (got : List ℕ) (later : List (Command × Answer)) (tolds : List Told) →
+    RunTold DirectoryAnswers s (kick_and_look i most kicked a n got ++ later) tolds after → HoldsItsBlocks s.memory → KickGivesFile s i kicked a n got
 unfolding RunTold
 both_give s after i most a n kicked got later [] t held = absurd t
 both_give s after i most a n kicked got later (told ∷ []) (mid, kicks, rest) held = absurd rest
@@ -146,12 +145,12 @@ both_give s after i most a n kicked got later (told ∷ (t ∷ ts) ∷ tolds) (m
 
 -- ---- runs
 
-pub run_gives : (s after : State ReadOnlyDirectory) (events : List (Command × Answer)) (tolds : List Told) → RunTold MayAnswer s events tolds after → HoldsItsBlocks s.memory →
-    ((end : State ReadOnlyDirectory) (part : List (Command × Answer)) (told : List Told) → RunTold MayAnswer s part told end → FileRun MayAnswer s.files (calls_told told) end.files) →
+pub run_gives : (s after : State Directory) (events : List (Command × Answer)) (tolds : List Told) → RunTold DirectoryAnswers s events tolds after → HoldsItsBlocks s.memory →
+    ((end : State Directory) (part : List (Command × Answer)) (told : List Told) → RunTold DirectoryAnswers s part told end → FileRun DirectoryAnswers s.files (calls_told told) end.files) →
     GuestGetsTheFile s events after
 run_gives s after events tolds ran held calls before later i most a n kicked got is =
     let behind = kick_and_look i most kicked a n got ++ later in
-    let cut : RunTold MayAnswer s (before ++ behind) tolds after = subst (λ (es : List (Command × Answer)). RunTold MayAnswer s es tolds after) is ran in
+    let cut : RunTold DirectoryAnswers s (before ++ behind) tolds after = subst (λ (es : List (Command × Answer)). RunTold DirectoryAnswers s es tolds after) is ran in
     let parts = split s after before behind tolds cut in
     let same = (serves_each s.files (calls_told parts.1.0) parts.0.files (calls parts.0 before parts.1.0 parts.1.1)).1 in
-    (parts.0, same, parts.1, parts.2, both_give parts.0 after i most a n kicked got later parts.2.0 parts.2.1 (run_holds MayAnswer s before parts.1.0 parts.0 parts.1.1 held))
+    (parts.0, same, parts.1, parts.2, both_give parts.0 after i most a n kicked got later parts.2.0 parts.2.1 (run_holds DirectoryAnswers s before parts.1.0 parts.0 parts.1.1 held))

@@ -1,6 +1,6 @@
 -- the blocks hold the layout, whatever a run does
 use Rattle.std.proofs.Common.{◌≡◌, ℕ, zero, suc, Bool, true, false, List, [], ◌∷◌, ◌++◌, map, length, Option, Some, None, refl, ap, sym, ◌∙◌, subst}
-use Rattle.std.specs.Prelude.{◌==◌, ◌<◌, not, if◌then◌else◌, slice_get, slice_index_or}
+use Rattle.std.specs.Prelude.{◌==◌, ◌<◌, not, IfSome, if◌then◌else◌, slice_get, slice_index_or}
 use Rattle.std.specs.List.{list_all, list_any}
 use Rattle.std.proofs.Common.{arith, zip}
 use Rattle.std.proofs.lemmas.Bool.{eqb-true, and_parts}
@@ -14,7 +14,7 @@ use Rattle.vm_memory.specs.Layout.{Region, AreHeld, HostHolds, fits, overlap, is
 use Rattle.vm_memory.specs.Memory.{Memory, addresses, location, physical, reach, stored, stored_at, stored_all}
 use Rattle.fs_queue.specs.declared.fault.QueueError.TheVariants as stop
 use Rattle.fs_queue.specs.Queue.{Queue, fresh}
-use Rattle.fs_queue.specs.Taking.{Offer, Asks, CannotAsk, Refuses, Offers}
+use Rattle.fs_queue.specs.Taking.{Offer, IsRequest, CannotFetch, Refuses, Offers}
 use Rattle.fs_queue.specs.Taking as taking
 use Rattle.fs_queue.specs.Returning.{writes}
 use Rattle.virtiofsd_fuse.specs.Serving.{May}
@@ -24,7 +24,7 @@ use Rattle.fs_device.specs.declared.refusal.Refusal.TheVariants as why
 use Rattle.fs_device.specs.Step.{State, Exchange, Calls, Idle, Refused, Exchanged, Exchanges, StepOf}
 use Rattle.fs_device.specs.Run as run
 use Rattle.fs_device.specs.Run.{Told, Command, Answer, Effect, KickEnds, KickRun, Kicks, Kicked, Affects, ChangesTable, HasEffect, Does, Performs, RunTold}
-use Rattle.fs_device.specs.Run.{effect, insert, insert_block, is_known, has_len, some_overlap, reset}
+use Rattle.fs_device.specs.Run.{effect, IsDecided, insert, insert_block, is_known, has_len, some_overlap, reset}
 use Rattle.fs_device.proofs.LayoutLemmas.{held_grown, held_with, held_without, block_there}
 use Rattle.fs_example.proofs.StoreLemmas.{all_keep}
 
@@ -58,9 +58,9 @@ stores_hold ws m n is held = held_same (stored_all m ws) n is (held_by m (stored
 
 exchange_holds : {F : Type 0} (may : May F) (s : State F) (i : ℕ) (q : Queue) (o : Offer) (calls : Calls) (x : Exchange) (notice : Bool) (after : State F) →
     Exchanges may s i q o calls x notice after → HoldsItsBlocks s.memory → HoldsItsBlocks after.memory
-exchange_holds {F} may s i q (Offers head (CannotAsk fault)) calls x notice after r held =
+exchange_holds {F} may s i q (Offers head (CannotFetch fault)) calls x notice after r held =
     stores_hold (writes q head [] []) s.memory after.memory (ap (λ (t : State F). t.memory) r.returns.state) held
-exchange_holds {F} may s i q (Offers head (Asks request room)) calls x notice after r held =
+exchange_holds {F} may s i q (Offers head (IsRequest request room)) calls x notice after r held =
     stores_hold (writes q head room r.given.reply) s.memory after.memory (ap (λ (t : State F). t.memory) r.returns.state) held
 exchange_holds may s i q taking.Idle calls x notice after r held = absurd r
 exchange_holds may s i q (Refuses e) calls x notice after r held = absurd r
@@ -161,7 +161,7 @@ grown_holds : (m : Memory) (b : Block) → HoldsItsBlocks m → HostHolds (recor
 grown_holds m b held =
     subst (λ (ns : List ℕ). AreHeld ns m.layout) (sym (map-append (λ (c : Block). length c.bytes) m.host.blocks (b ∷ []))) (held_grown (lengths m.host) (length b.bytes ∷ []) m.layout held)
 
-effect_holds : {F : Type 0} (s : State F) (command : Command) → HoldsItsBlocks s.memory → HoldsItsBlocks (effect s command).1.memory
+effect_holds : {F : Type 0} (s : State F) (command : Command) → HoldsItsBlocks s.memory → IfSome (effect s command) (λ e. HoldsItsBlocks e.1.memory)
 unfolding effect
 effect_holds s (run.GuestRead a n) held = whichever (reach (physical s.memory) Read a n) _ _ held held
 effect_holds s (run.GuestWrite a bs) held =
@@ -175,11 +175,11 @@ effect_holds s (run.SetLayout layout) held =
     unless (not (list_all (is_known s.memory.host) layout)) _ _ held (λ known.
     whichever (not (list_all fits layout)) _ _ held
     (whichever (some_overlap layout) _ _ held (all_known s.memory.host layout (not_false (list_all (is_known s.memory.host) layout) known))))
-effect_holds s (run.Map iova target n perm) held = held
-effect_holds s (run.Unmap iova n) held = held
-effect_holds s run.UnmapAll held = held
+effect_holds s (run.Map iova target n perm) held = tt
+effect_holds s (run.Unmap iova n) held = tt
+effect_holds s run.UnmapAll held = tt
 effect_holds s (run.SetIommu on) held = held
-effect_holds s (run.Kick queue most) held = held
+effect_holds s (run.Kick queue most) held = tt
 effect_holds s (run.ResetQueue queue size desc avail used) held = reset_holds s queue (fresh size desc avail used) _ held
 effect_holds s run.Image held = clear_holds s.memory held
 effect_holds s run.Harvest held = clear_holds s.memory held
@@ -188,8 +188,12 @@ change_holds : {F : Type 0} (s : State F) (fit : Bool) (table : Table) (answer :
 change_holds {F} s true table answer after t held = subst (λ (r : State F). HoldsItsBlocks r.memory) (sym t.1.3) held
 change_holds {F} s false table answer after t held = subst (λ (p : Effect F). HoldsItsBlocks p.1.memory) (sym t) held
 
-by_effect : {F : Type 0} (s : State F) (command : Command) (answer : Answer) (after : State F) → (answer, after) ≡ effect s command → HoldsItsBlocks s.memory → HoldsItsBlocks after.memory
-by_effect {F} s command answer after t held = subst (λ (p : Effect F). HoldsItsBlocks p.1.memory) (sym t) (effect_holds s command held)
+decided_holds : {F : Type 0} (o : Option (Effect F)) (answer : Answer) (after : State F) → IfSome o (λ e. HoldsItsBlocks e.1.memory) → IsDecided o answer after → HoldsItsBlocks after.memory
+decided_holds None answer after held t = absurd t
+decided_holds {F} (Some e) answer after held t = subst (λ (p : Effect F). HoldsItsBlocks p.1.memory) (sym t) held
+
+by_effect : {F : Type 0} (s : State F) (command : Command) (answer : Answer) (after : State F) → IsDecided (effect s command) answer after → HoldsItsBlocks s.memory → HoldsItsBlocks after.memory
+by_effect s command answer after t held = decided_holds (effect s command) answer after (effect_holds s command held) t
 
 affect_holds : {F : Type 0} (s : State F) (command : Command) (answer : Answer) (after : State F) → Affects s command answer after → HoldsItsBlocks s.memory → HoldsItsBlocks after.memory
 affect_holds s (run.GuestRead a n) answer after t held = by_effect s (run.GuestRead a n) answer after t held
@@ -202,7 +206,7 @@ affect_holds s (run.Map iova target n perm) answer after t held = change_holds s
 affect_holds s (run.Unmap iova n) answer after t held = change_holds s _ _ answer after t held
 affect_holds s run.UnmapAll answer after t held = change_holds s true nothing_mapped answer after t held
 affect_holds s (run.SetIommu on) answer after t held = by_effect s (run.SetIommu on) answer after t held
-affect_holds s (run.Kick queue most) answer after t held = by_effect s (run.Kick queue most) answer after t held
+affect_holds s (run.Kick queue most) answer after t held = absurd t
 affect_holds s (run.ResetQueue queue size desc avail used) answer after t held = by_effect s (run.ResetQueue queue size desc avail used) answer after t held
 affect_holds s run.Image answer after t held = by_effect s run.Image answer after t held
 affect_holds s run.Harvest answer after t held = by_effect s run.Harvest answer after t held

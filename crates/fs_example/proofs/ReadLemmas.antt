@@ -7,11 +7,12 @@ use Rattle.fs_queue.specs.Queue.{Queue}
 use Rattle.fs_queue.specs.Taking.{Offer}
 use Rattle.fs_queue.specs.Returning.{returned}
 use Rattle.fuse_fs.specs.declared.answers.Context.{Context}
-use Rattle.fuse_fs.specs.Calls.{FileCall, FileRun, Failed, Bytes, Read}
+use Rattle.fuse_fs.specs.Calls.{FileCall, FileAnswer, FileRun, Failed, Bytes, Read}
 use Rattle.fuse_segments.specs.declared.error.Error.{Error}
 use Rattle.fuse_segments.specs.declared.error.Error.TheVariants.{EncodeMessage}
 use Rattle.fuse_replies.specs.Entries.{EIO}
 use Rattle.fuse_replies.proofs.ReplyLemmas.{length_reply, length_error}
+use Rattle.fuse_read_only.specs.ReadOnly.{ByOwn, is_own, default_answer}
 use Rattle.virtiofsd_fuse.specs.Grammar.{Meaning, Asks, One, IsFault, meaning, reply_bytes, error_bytes}
 use Rattle.virtiofsd_fuse.specs.Serving.{Setting, Served, served, setting, no_reply, replied, answer_bytes}
 use Rattle.fs_device.specs.declared.exchange.Fault.{Fault}
@@ -20,19 +21,34 @@ use Rattle.fs_device.specs.Step.{State, Calls, Exchange, Outcome, Idle, Refused,
 use Rattle.fs_device.specs.Run.{Turn, Told, Command, Answer, RunTold}
 use Rattle.fs_device.specs.Telling.{calls_of, calls_told, IsMeant, IsServedBy, IsServed}
 use Rattle.fs_example.specs.declared.table.File.{File}
-use Rattle.fs_example.specs.declared.table.ReadOnlyDirectory.{ReadOnlyDirectory}
-use Rattle.fs_example.specs.Directory.{MayAnswer, directory_answer, file_at, bytes_at, bytes_in}
+use Rattle.fs_example.specs.declared.table.FileTable.{FileTable}
+use Rattle.fs_example.specs.Directory.{Directory, MayAnswer, DirectoryAnswers, directory_answer, file_at, bytes_at, bytes_in}
 use Rattle.fs_example.specs.Reading.{read_in_room, wanted, read_reply, GivesBytes, ReadsTrue, ReadsIntoRoom, ReadingRun}
+
+-- what each call is answered, its own and the others
+abbrev whole_answer : List File → FileCall → FileAnswer
+whole_answer fs call = if is_own call then directory_answer fs call else default_answer call
 
 -- each call has its answer
 abbrev Answered : List File → Calls → Type 0
-Answered fs calls = AllByRecursion (λ step. step.1 ≡ directory_answer fs step.0) calls
+Answered fs calls = AllByRecursion (λ step. step.1 ≡ whole_answer fs step.0) calls
 
-pub serves_each : (before : ReadOnlyDirectory) (calls : Calls) (after : ReadOnlyDirectory) → FileRun MayAnswer before calls after → Answered before.files.now calls × (after ≡ before)
+by_own : (own : Bool) (before after : Directory) (call : FileCall) (answer : FileAnswer) →
+    ByOwn own (MayAnswer before.0 call answer after.0) ((answer ≡ default_answer call) × (after ≡ before)) →
+    (answer ≡ (if own then directory_answer before.0.files.now call else default_answer call)) × (after ≡ before)
+by_own true before after call answer made = (made.0, ap (λ (t : FileTable). record { 0 = t }) made.1)
+by_own false before after call answer made = made
+
+one_answer : (before after : Directory) (call : FileCall) (answer : FileAnswer) → DirectoryAnswers before call answer after →
+    (answer ≡ whole_answer before.0.files.now call) × (after ≡ before)
+one_answer before after call answer made = by_own (is_own call) before after call answer made
+
+pub serves_each : (before : Directory) (calls : Calls) (after : Directory) → FileRun DirectoryAnswers before calls after → Answered before.0.files.now calls × (after ≡ before)
 serves_each before [] after same = (tt, same)
 serves_each before (step ∷ calls) after (between, suit, made, rest) =
     let others = serves_each between calls after rest in
-    ((made.0, subst (λ (d : ReadOnlyDirectory). Answered d.files.now calls) made.1 others.0), others.1 ∙ made.1)
+    let own = one_answer before between step.0 step.1 made in
+    ((own.0, subst (λ (d : Directory). Answered d.0.files.now calls) own.1 others.0), others.1 ∙ own.1)
 
 front_of : (fs : List File) (xs ys : Calls) → Answered fs (xs ++ ys) → Answered fs xs
 front_of fs [] ys all = tt
@@ -83,7 +99,7 @@ module _ (fs : List File) (f : File) (s : Setting) (who : Context) (unique node 
       let list : (reading ∷ []) ≡ step.0 ∷ calls_alone calls = sym (asked_once s.options (nat_lt s.room (length bytes)) bytes) ∙ asks in
       let same : step.0 ≡ reading = cc in
       let answer : step.1 ≡ bytes_in (s.room - 16) (wanted f size offset) =
-      all.0 ∙ ap (directory_answer fs) same ∙ ap (λ (o : Option File). bytes_at o (s.room - 16) size offset) there in
+      all.0 ∙ ap (whole_answer fs) same ∙ ap (λ (o : Option File). bytes_at o (s.room - 16) size offset) there in
       let is : bytes ≡ reply_by long = ap (answer_bytes unique reading) answer ∙ replies long in
       let low : length bytes ≤ s.room = subst (λ (l : List ℕ). length l ≤ s.room) (sym is) (fits long refl place) in
       whole_reply s.room (reading ∷ []) s.options bytes low ∙ is
@@ -120,23 +136,23 @@ module _ (fs : List File) (f : File) (s : Setting) (who : Context) (unique node 
 
 -- ---- steps
 
-step_into_room : (s after : State ReadOnlyDirectory) (i : ℕ) (calls : Calls) (x : Exchange) (notice : Bool) → Step MayAnswer s i calls (Exchanged x notice) after →
+step_into_room : (s after : State Directory) (i : ℕ) (calls : Calls) (x : Exchange) (notice : Bool) → Step DirectoryAnswers s i calls (Exchanged x notice) after →
     ReadsIntoRoom s i (Exchanged x notice) after
 step_into_room s after i calls x notice made q head request room unique node size offset f there offered (who, handle, flags, owner, means) file =
-    let found : StepOf MayAnswer s i (Some q) calls (Exchanged x notice) after = subst (λ (o : Option Queue). StepOf MayAnswer s i o calls (Exchanged x notice) after) there made in
-    let done : step.Answers MayAnswer s i q head request room calls x notice after = subst (λ (o : Offer). Exchanges MayAnswer s i q o calls x notice after) offered found in
+    let found : StepOf DirectoryAnswers s i (Some q) calls (Exchanged x notice) after = subst (λ (o : Option Queue). StepOf DirectoryAnswers s i o calls (Exchanged x notice) after) there made in
+    let done : step.Answers DirectoryAnswers s i q head request room calls x notice after = subst (λ (o : Offer). Exchanges DirectoryAnswers s i q o calls x notice after) offered found in
     let known = setting s.page_size s.options (length room) in
     let m = meaning s.options request (length room) in
     let each = serves_each s.files calls after.files done.serves.run in
     let asks : (served known m (answers_alone calls)).calls ≡ calls_alone calls = ap (λ (g : Served). g.calls) (sym done.serves.gives) ∙ done.serves.asks in
     let reply : done.given.reply ≡ read_reply (length room) unique (wanted f size offset) =
     ap (λ (g : Served). g.reply) done.serves.gives
-    ∙ read_served s.files.files.now f known who unique node handle size offset flags owner file calls m (means s.options (length room)) each.0 asks in (
+    ∙ read_served s.files.0.files.now f known who unique node handle size offset flags owner file calls m (means s.options (length room)) each.0 asks in (
       ap (λ (y : Exchange). y.reply) done.returns.exchange ∙ reply,
-      ap (λ (t : State ReadOnlyDirectory). t.memory) done.returns.state ∙ ap (returned s.memory q head room) reply,
+      ap (λ (t : State Directory). t.memory) done.returns.state ∙ ap (returned s.memory q head room) reply,
     )
 
-pub step_reads : (s after : State ReadOnlyDirectory) (i : ℕ) (calls : Calls) (outcome : Outcome) → Step MayAnswer s i calls outcome after → ReadsIntoRoom s i outcome after
+pub step_reads : (s after : State Directory) (i : ℕ) (calls : Calls) (outcome : Outcome) → Step DirectoryAnswers s i calls outcome after → ReadsIntoRoom s i outcome after
 step_reads s after i calls Idle made = tt
 step_reads s after i calls (Refused e) made = tt
 step_reads s after i calls (Exchanged x notice) made = step_into_room s after i calls x notice made
@@ -170,8 +186,8 @@ all_true fs [] serves all = tt
 all_true fs (told ∷ tolds) (own, serves) all =
     (kick_true fs told own (front_of fs (calls_of told) (calls_told tolds) all), all_true fs tolds serves (back_of fs (calls_of told) (calls_told tolds) all))
 
-pub run_reads : (s after : State ReadOnlyDirectory) (events : List (Command × Answer)) (tolds : List Told) → RunTold MayAnswer s events tolds after →
-    FileRun MayAnswer s.files (calls_told tolds) after.files × AllByRecursion (AllByRecursion IsServed) tolds → ReadingRun s events after
+pub run_reads : (s after : State Directory) (events : List (Command × Answer)) (tolds : List Told) → RunTold DirectoryAnswers s events tolds after →
+    FileRun DirectoryAnswers s.files (calls_told tolds) after.files × AllByRecursion (AllByRecursion IsServed) tolds → ReadingRun s events after
 run_reads s after events tolds ran tells =
     let each = serves_each s.files (calls_told tolds) after.files tells.0 in
-    (tolds, ran, all_true s.files.files.now tolds tells.1 each.0, each.1)
+    (tolds, ran, all_true s.files.0.files.now tolds tells.1 each.0, each.1)

@@ -3,11 +3,8 @@ use Rattle.std.proofs.Common.{◌≡◌, ℕ, zero, suc, ◌+◌, ◌-◌, ◌<�
 use Rattle.std.specs.Prelude.{slice_get}
 use Rattle.std.proofs.lemmas.List.{drop-drop}
 use Rattle.std.proofs.lemmas.Option.{slice_get-get_or}
-use Rattle.fuse_fs.specs.declared.answers.Context.{Context}
-use Rattle.fuse_fs.specs.Answers.{ForgetsEach}
 use Rattle.fs_example.specs.declared.table.File.{File}
-use Rattle.fs_example.specs.declared.table.ReadOnlyDirectory.{ReadOnlyDirectory}
-use Rattle.fs_example.specs.Directory.{listing_from, MayAnswer}
+use Rattle.fs_example.specs.Directory.{listing_from}
 
 -- ---- entries
 
@@ -34,9 +31,3 @@ first_listed at (x ∷ l) f e =
 pub entry_there : (at : ℕ) (fs : List File) (d : File) → at < length fs →
     Some (record { ino = at + 2; offset = at + 1; kind = 8; name = (get_or fs at d).name.now }) ≡ slice_get (listing_from (at + 2) (drop at fs)) 0
 entry_there at fs d low = first_listed at (drop at fs) (get_or fs at d) (first_there at fs ∙ slice_get-get_or fs at d low)
-
--- ---- what is forgotten changes nothing
-
-pub forgets_nothing : (before : ReadOnlyDirectory) (who : Context) (counts : List (ℕ × ℕ)) (after : ReadOnlyDirectory) → ForgetsEach MayAnswer before who counts after → after ≡ before
-forgets_nothing before who [] after same = same
-forgets_nothing before who (node ∷ counts) after (between, made, rest) = forgets_nothing between who counts after rest ∙ made.1

@@ -1,21 +1,21 @@
--- What the read-only directory answers. The root is node 1, and the files are the nodes from 2 on, in the table's
+-- What the directory answers. The root is node 1, and the files are the nodes from 2 on, in the table's
 -- order.
-use Rattle.std.specs.Prelude.{◌≡◌, ℕ, ◌+◌, ◌-◌, Bool, ◌==◌, nat_lt, bit_and, List, [], ◌∷◌, length, take, drop, Option, Some, None, if◌then◌else◌, slice_get}
+use Rattle.std.specs.Prelude.{◌≡◌, ℕ, ◌+◌, ◌-◌, Bool, ◌==◌, nat_lt, bit_and, ◌^◌, List, [], ◌∷◌, length, take, drop, Option, Some, None, if◌then◌else◌, slice_get}
 use Rattle.std.specs.Int.{div_ceil}
 use Rattle.std.specs.Str.{bytes_eq}
 use Rattle.fuse_base.specs.declared.records.Attr.{Attr}
 use Rattle.fuse_fs.specs.declared.answers.Entry.{Entry}
-use Rattle.fuse_fs.specs.Answers.{default_stats}
 use Rattle.fuse_fs.specs.Times.{Duration}
-use Rattle.fuse_fs.specs.Calls.{FileCall, FileAnswer, Listed, Failed, Done, HasEntry, HasAttr, Opened, Bytes, Stats, Entries, Wants}
-use Rattle.fuse_fs.specs.Calls.{Init, Destroy, Lookup, Forget, BatchForget, Getattr, Open, Opendir, Read, Readdir, Statfs}
+use Rattle.fuse_fs.specs.Calls.{FileCall, FileAnswer, Listed, Failed, Done, HasEntry, HasAttr, Opened, Bytes, Entries, Wants}
+use Rattle.fuse_fs.specs.Calls.{Init, Lookup, Getattr, Open, Opendir, Read, Readdir, Release}
 use Rattle.fuse_replies.specs.Entries.{EIO}
-use Rattle.virtiofsd_fuse.specs.Grammar.{ENOSYS}
+use Rattle.fuse_read_only.specs.declared.adapter.ReadOnly.{ReadOnly}
+use Rattle.fuse_read_only.specs.ReadOnly as read_only
+use Rattle.fuse_read_only.specs.ReadOnly.{default_answer}
 use Rattle.fs_example.specs.declared.table.File.{File}
-use Rattle.fs_example.specs.declared.table.ReadOnlyDirectory.{ReadOnlyDirectory}
+use Rattle.fs_example.specs.declared.table.FileTable.{FileTable}
 
--- error numbers of Linux, besides EIO (the room is too short for the bytes) and ENOSYS (the call is not served): nothing has
--- this name or number
+-- error numbers of Linux, besides EIO (the room is too short for the bytes): nothing has this name or number
 abbrev pub ENOENT : ℕ
 ENOENT = 2
 
@@ -98,21 +98,30 @@ abbrev pub listing_from : (first : ℕ) → List File → List Listed
 listing_from first [] = []
 listing_from first (f ∷ fs) = record { ino = first; offset = first - 1; kind = 8; name = f.name.now } ∷ listing_from (first + 1) fs
 
--- what each call is answered
+-- of the guest's options the directory wants DO_READDIRPLUS (bit 13 in linux/fuse.h)
+abbrev pub wanted_options : (capable : ℕ) → ℕ
+wanted_options capable = bit_and capable (2 ^ 13)
+
+-- what each call of a file system that is read is answered
 abbrev pub directory_answer : List File → FileCall → FileAnswer
-directory_answer fs (Init capable) = Wants 0
+directory_answer fs (Init capable) = Wants (wanted_options capable)
 directory_answer fs (Lookup who parent name) = if parent == 1 then found_from fs name 2 else Failed ENOENT
 directory_answer fs (Getattr who node handle) = if node == 1 then HasAttr root_attr second else attr_at node (file_at fs node)
-directory_answer fs (Read who node handle room size offset owner flags) = bytes_at (file_at fs node) room size offset
-directory_answer fs (Readdir who node handle size offset) = if node == 1 then Entries (listing_from (offset + 2) (drop offset fs)) else Failed ENOENT
 directory_answer fs (Open who node kill flags) = opened_at (file_at fs node) flags
+directory_answer fs (Read who node handle room size offset owner flags) = bytes_at (file_at fs node) room size offset
+directory_answer fs (Release who node flags handle flush unlock owner) = Done
 directory_answer fs (Opendir who node flags) = if node == 1 then Opened None 0 else Failed ENOENT
-directory_answer fs (Statfs who node) = Stats default_stats
-directory_answer fs (Forget who node count) = Done
-directory_answer fs (BatchForget who counts) = Done
-directory_answer fs Destroy = Done
-directory_answer fs _ = Failed ENOSYS
+directory_answer fs (Readdir who node handle size offset) = if node == 1 then Entries (listing_from (offset + 2) (drop offset fs)) else Failed ENOENT
+directory_answer fs call = default_answer call
 
 -- each call has its answer, and nothing changes
-abbrev pub MayAnswer : ReadOnlyDirectory → FileCall → FileAnswer → ReadOnlyDirectory → Type 0
+abbrev pub MayAnswer : FileTable → FileCall → FileAnswer → FileTable → Type 0
 MayAnswer before call answer after = (answer ≡ directory_answer before.files.now call) × (after ≡ before)
+
+-- the directory as a file system of all calls
+abbrev pub Directory : Type 0
+Directory = ReadOnly FileTable
+
+-- which has the defaults for those that are no calls of a file system that is read
+abbrev pub DirectoryAnswers : Directory → FileCall → FileAnswer → Directory → Type 0
+DirectoryAnswers = read_only.MayAnswer MayAnswer

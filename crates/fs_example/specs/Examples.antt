@@ -51,7 +51,7 @@ offering room =
     put b 0x100 (le16 0 ++ le16 1 ++ le16 0)
 
 -- it is offered
-offered : offer (offering 32) 0x101000 queue ≡ Offers 0 (taking.Asks request (addresses 0x2000 32))
+offered : offer (offering 32) 0x101000 queue ≡ Offers 0 (taking.IsRequest request (addresses 0x2000 32))
 unfolding offer place addresses stored_all path found
 offered = refl
 

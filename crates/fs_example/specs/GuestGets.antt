@@ -12,8 +12,7 @@ use Rattle.fs_device.specs.Step.{State}
 use Rattle.fs_device.specs.Run as run
 use Rattle.fs_device.specs.Run.{Command, Answer, Kicked, Kick, Served, GuestRead, Run}
 use Rattle.fs_example.specs.declared.table.File.{File}
-use Rattle.fs_example.specs.declared.table.ReadOnlyDirectory.{ReadOnlyDirectory}
-use Rattle.fs_example.specs.Directory.{MayAnswer, file_at}
+use Rattle.fs_example.specs.Directory.{Directory, DirectoryAnswers, file_at}
 use Rattle.fs_example.specs.Reading.{IsRead, read_reply, wanted}
 
 -- the place of a byte, whatever page a write of it marks
@@ -56,11 +55,11 @@ GetsFile m room k a n unique file got =
     × (16 + length file ≤ room → 16 ≤ k → k + n ≤ 16 + length file → got ≡ take n (drop (k - 16) file))
 
 -- a kick that found this state and took one chain, a READ of a file, gives it to the guest that then looks at the room
-abbrev pub KickGivesFile : State ReadOnlyDirectory → (i : ℕ) → Kicked → (a n : ℕ) → (got : List ℕ) → Type 0
+abbrev pub KickGivesFile : State Directory → (i : ℕ) → Kicked → (a n : ℕ) → (got : List ℕ) → Type 0
 KickGivesFile s i kicked a n got =
     (q : Queue) (head : ℕ) (request room : List ℕ) (unique node size offset k : ℕ) (f : File) →
-    length kicked.exchanges ≡ 1 → slice_get s.queues i ≡ Some q → offer s.memory s.limit q ≡ Offers head (taking.Asks request room) →
-    IsRead request unique node size offset → file_at s.files.files.now node ≡ Some f →
+    length kicked.exchanges ≡ 1 → slice_get s.queues i ≡ Some q → offer s.memory s.limit q ≡ Offers head (taking.IsRequest request room) →
+    IsRead request unique node size offset → file_at s.files.0.files.now node ≡ Some f →
     WritesApart s.memory q room → LooksAtRoom s.memory room k a n →
     GetsFile s.memory (length room) k a n unique (wanted f size offset) got
 
@@ -70,8 +69,8 @@ kick_and_look i most kicked a n got = (Kick i most, Served kicked) ∷ (GuestRea
 
 -- wherever in a run the guest looks at its memory right behind a kick: the run came to the state that the kick found, with the
 -- directory as it was, went on from there, and by this state the guest gets the file
-abbrev pub GuestGetsTheFile : State ReadOnlyDirectory → List (Command × Answer) → State ReadOnlyDirectory → Type 0
+abbrev pub GuestGetsTheFile : State Directory → List (Command × Answer) → State Directory → Type 0
 GuestGetsTheFile s events after =
     (before later : List (Command × Answer)) (i most a n : ℕ) (kicked : Kicked) (got : List ℕ) → events ≡ before ++ (kick_and_look i most kicked a n got ++ later) →
-    (found : State ReadOnlyDirectory) × (found.files ≡ s.files) × Run MayAnswer s before found × Run MayAnswer found (kick_and_look i most kicked a n got ++ later) after
+    (found : State Directory) × (found.files ≡ s.files) × Run DirectoryAnswers s before found × Run DirectoryAnswers found (kick_and_look i most kicked a n got ++ later) after
     × KickGivesFile found i kicked a n got

@@ -1,4 +1,6 @@
+pub mod Asking
 pub mod Directory
+pub mod Driver
 pub mod Examples
 pub mod GuestGets
 pub mod Reading

@@ -13,8 +13,7 @@ use Rattle.virtiofsd_fuse.specs.Grammar.{Meaning, IsFault, Asks, One, meaning, r
 use Rattle.fs_device.specs.Step.{State, Outcome, Idle, Refused, Exchanged, Calls, Step}
 use Rattle.fs_device.specs.Run.{Turn, Told, Command, Answer, RunTold}
 use Rattle.fs_example.specs.declared.table.File.{File}
-use Rattle.fs_example.specs.declared.table.ReadOnlyDirectory.{ReadOnlyDirectory}
-use Rattle.fs_example.specs.Directory.{file_at, MayAnswer}
+use Rattle.fs_example.specs.Directory.{Directory, file_at, DirectoryAnswers}
 
 -- what a READ means: a fault, where its room has no place for the header of the reply
 abbrev pub read_in_room : (unique room : ℕ) → FileCall → Meaning
@@ -37,19 +36,19 @@ read_reply room unique bytes =
     else []
 
 -- where a step took a READ of a file from queue i, the reply was written over its chain's room, then what follows it
-abbrev pub ReadsIntoRoom : State ReadOnlyDirectory → (i : ℕ) → Outcome → State ReadOnlyDirectory → Type 0
+abbrev pub ReadsIntoRoom : State Directory → (i : ℕ) → Outcome → State Directory → Type 0
 ReadsIntoRoom s i (Exchanged x notice) after =
     (q : Queue) (head : ℕ) (request room : List ℕ) (unique node size offset : ℕ) (f : File) →
-    slice_get s.queues i ≡ Some q → offer s.memory s.limit q ≡ Offers head (taking.Asks request room) →
-    IsRead request unique node size offset → file_at s.files.files.now node ≡ Some f →
+    slice_get s.queues i ≡ Some q → offer s.memory s.limit q ≡ Offers head (taking.IsRequest request room) →
+    IsRead request unique node size offset → file_at s.files.0.files.now node ≡ Some f →
     (x.reply ≡ read_reply (length room) unique (wanted f size offset))
     × (after.memory ≡ returned s.memory q head room (read_reply (length room) unique (wanted f size offset)))
 ReadsIntoRoom s i Idle after = Unit {0}
 ReadsIntoRoom s i (Refused e) after = Unit {0}
 
 -- a step of a device over the directory
-abbrev pub ReadingStep : State ReadOnlyDirectory → (i : ℕ) → Outcome → State ReadOnlyDirectory → Type 0
-ReadingStep s i outcome after = (calls : Calls) × Step MayAnswer s i calls outcome after × ReadsIntoRoom s i outcome after
+abbrev pub ReadingStep : State Directory → (i : ℕ) → Outcome → State Directory → Type 0
+ReadingStep s i outcome after = (calls : Calls) × Step DirectoryAnswers s i calls outcome after × ReadsIntoRoom s i outcome after
 
 -- the good reply with the bytes of the file from there on, at most so many; or EIO
 abbrev pub GivesBytes : (reply : List ℕ) → (unique size offset : ℕ) → File → Type 0
@@ -62,7 +61,7 @@ ReadsTrue fs t =
     t.exchange.fault ≡ None → GivesBytes t.exchange.reply unique size offset f
 
 -- a run in which each exchange reads so; the directory is as it was
-abbrev pub ReadingRun : State ReadOnlyDirectory → List (Command × Answer) → State ReadOnlyDirectory → Type 0
+abbrev pub ReadingRun : State Directory → List (Command × Answer) → State Directory → Type 0
 ReadingRun s events after =
-    (tolds : List Told) × RunTold MayAnswer s events tolds after
-    × AllByRecursion (AllByRecursion (ReadsTrue s.files.files.now)) tolds × (after.files ≡ s.files)
+    (tolds : List Told) × RunTold DirectoryAnswers s events tolds after
+    × AllByRecursion (AllByRecursion (ReadsTrue s.files.0.files.now)) tolds × (after.files ≡ s.files)

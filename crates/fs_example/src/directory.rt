@@ -1,20 +1,15 @@
 //! A read-only directory, as a file system.
 
-ghost use Rattle.std.specs.Prelude.{◌≡◌, ◌<◌, ◌^◌, ◌+◌, ◌++◌, ℕ, List, length, take, drop, Ok, IfOk, option_map};
-ghost use Rattle.fuse_fs.specs.Answers.{attr_answer, data_answer, entry_answer, pair_numbers};
-ghost use Rattle.fuse_fs.specs.Calls as call;
+ghost use Rattle.std.specs.Prelude.{◌≡◌, ◌<◌, ◌^◌, ◌+◌, ◌++◌, ℕ, List, length, take, drop, Ok, IfOk};
+ghost use Rattle.fuse_fs.specs.Answers.{data_answer, entry_answer};
 ghost use Rattle.fs_example.specs.Directory.{EROFS, attr_of, bytes_in, file_entry, file_at, found_from, listing_from, MayAnswer};
 
-use crate::table::{Entries, File, ReadOnlyDirectory};
-use bitflags::Flags;
-use fuse_fs::{
-    Context, DirEntry, DirectoryIterator, Entry, Extensions, FileSystem, FileSystemBase,
-    GetxattrReply, ListxattrReply, PositionedFile, Timeout, WritevFlags, ZeroCopyReader,
+use crate::table::{Entries, File, FileTable};
+use fuse_read_only::ReadOnlyFileSystem;
+use fuse_wire::{Attr, Errno, FsOptions, GuestGid, GuestUid, OpenOptions};
+use virtiofsd_fuse::{
+    Context, DirEntry, DirectoryIterator, Entry, PositionedFile, Timeout, WritevFlags,
     ZeroCopyWriter, defaults,
-};
-use fuse_wire::{
-    Attr, Errno, FsOptions, GuestGid, GuestUid, OpenOptions, SetattrIn, SetattrValid,
-    SetxattrFlags, StatVfs,
 };
 
 // The node of the root.
@@ -132,6 +127,13 @@ impl<'a> PositionedFile for Contents<'a> {
         Ok(count)
     }
 
+    fn append_at(&mut self, out: &mut Vec<u8>, most: usize, off: u64) -> Result<usize, Errno> {
+        let rest = rest(self.bytes, off);
+        let count = rest.len().min(most);
+        out.extend_from_slice(&rest[..count]).unwrap();
+        Ok(count)
+    }
+
     fn write_at(
         &mut self,
         _buf: &[u8],
@@ -177,21 +179,13 @@ impl<'a> DirectoryIterator for Entries<'a> {
     }
 }
 
-impl<'a> FileSystemBase for ReadOnlyDirectory<'a> {
-    type Inode = u64;
-
-    type Handle = u64;
+impl<'a> ReadOnlyFileSystem for FileTable<'a> {
+    type DirIter = Entries<'a>;
 
     ghost may = { MayAnswer };
 
-    fn forget(&mut self, _ctx: Context, _inode: u64, _count: u64) {}
-}
-
-impl<'a> FileSystem for ReadOnlyDirectory<'a> {
-    type DirIter = Entries<'a>;
-
-    fn init(&mut self, _capable: FsOptions) -> Result<FsOptions, Errno> {
-        defaults::init()
+    fn init(&mut self, capable: FsOptions) -> Result<FsOptions, Errno> {
+        Ok(capable & FsOptions::DO_READDIRPLUS)
     }
 
     fn lookup(&mut self, _ctx: Context, parent: u64, name: &[u8]) -> Result<Entry<u64>, Errno> {
@@ -206,15 +200,27 @@ impl<'a> FileSystem for ReadOnlyDirectory<'a> {
         _ctx: Context,
         inode: u64,
         _handle: Option<u64>,
-    ) -> Result<(Attr, Timeout), Errno>
-        ensures may { MayAnswer self.old (call.Getattr _ctx inode (option_map (λ n. n) _handle)) (attr_answer result) self.new }
-    {
+    ) -> Result<(Attr, Timeout), Errno> {
         if inode == ROOT {
             return Ok((attr(ROOT, 0, 0o40_555), second()));
         }
         match file_at(self.files, inode) {
             Some(file) => Ok((attr(inode, file.contents.len() as u64, 0o100_444), second())),
             None => Err(Errno::ENOENT),
+        }
+    }
+
+    fn open(
+        &mut self,
+        _ctx: Context,
+        inode: u64,
+        _kill_priv: bool,
+        flags: u32,
+    ) -> Result<(Option<u64>, OpenOptions), Errno> {
+        match file_at(self.files, inode) {
+            None => Err(Errno::ENOENT),
+            Some(_) if flags & O_ACCMODE != O_RDONLY => Err(read_only()),
+            Some(_) => defaults::open(),
         }
     }
 
@@ -235,6 +241,31 @@ impl<'a> FileSystem for ReadOnlyDirectory<'a> {
         }
     }
 
+    fn release(
+        &mut self,
+        _ctx: Context,
+        _inode: u64,
+        _flags: u32,
+        _handle: u64,
+        _flush: bool,
+        _flock_release: bool,
+        _lock_owner: Option<u64>,
+    ) -> Result<(), Errno> {
+        Ok(())
+    }
+
+    fn opendir(
+        &mut self,
+        _ctx: Context,
+        inode: u64,
+        _flags: u32,
+    ) -> Result<(Option<u64>, OpenOptions), Errno> {
+        if inode != ROOT {
+            return Err(Errno::ENOENT);
+        }
+        defaults::opendir()
+    }
+
     fn readdir(
         &mut self,
         _ctx: Context,
@@ -250,324 +281,5 @@ impl<'a> FileSystem for ReadOnlyDirectory<'a> {
             files: self.files,
             at: offset,
         })
-    }
-
-    fn batch_forget(&mut self, ctx: Context, requests: Vec<(u64, u64)>)
-        ensures may { MayAnswer self.old (call.BatchForget ctx (pair_numbers (λ n. n) requests.items)) call.Done self.new }
-    {
-        defaults::batch_forget(self, ctx, requests);
-    }
-
-    fn destroy(&mut self) {
-        defaults::destroy(self);
-    }
-
-    fn setattr(
-        &mut self,
-        _ctx: Context,
-        _inode: u64,
-        _attr: SetattrIn,
-        _handle: Option<u64>,
-        _valid: SetattrValid,
-    ) -> Result<(Attr, Timeout), Errno>
-        ensures may { MayAnswer self.old (call.Setattr _ctx _inode _attr (option_map (λ n. n) _handle) _valid.0) (attr_answer result) self.new }
-    {
-        defaults::setattr()
-    }
-
-    fn readlink(&mut self, _ctx: Context, _inode: u64) -> Result<Vec<u8>, Errno> {
-        defaults::readlink()
-    }
-
-    fn symlink(
-        &mut self,
-        _ctx: Context,
-        _linkname: &[u8],
-        _parent: u64,
-        _name: &[u8],
-        _extensions: Extensions,
-    ) -> Result<Entry<u64>, Errno> {
-        defaults::symlink()
-    }
-
-    fn mknod(
-        &mut self,
-        _ctx: Context,
-        _parent: u64,
-        _name: &[u8],
-        _mode: u32,
-        _rdev: u32,
-        _umask: u32,
-        _extensions: Extensions,
-    ) -> Result<Entry<u64>, Errno> {
-        defaults::mknod()
-    }
-
-    fn mkdir(
-        &mut self,
-        _ctx: Context,
-        _parent: u64,
-        _name: &[u8],
-        _mode: u32,
-        _umask: u32,
-        _extensions: Extensions,
-    ) -> Result<Entry<u64>, Errno> {
-        defaults::mkdir()
-    }
-
-    fn unlink(&mut self, _ctx: Context, _parent: u64, _name: &[u8]) -> Result<(), Errno> {
-        defaults::unlink()
-    }
-
-    fn rmdir(&mut self, _ctx: Context, _parent: u64, _name: &[u8]) -> Result<(), Errno> {
-        defaults::rmdir()
-    }
-
-    fn rename(
-        &mut self,
-        _ctx: Context,
-        _olddir: u64,
-        _oldname: &[u8],
-        _newdir: u64,
-        _newname: &[u8],
-        _flags: u32,
-    ) -> Result<(), Errno> {
-        defaults::rename()
-    }
-
-    fn link(
-        &mut self,
-        _ctx: Context,
-        _inode: u64,
-        _newparent: u64,
-        _newname: &[u8],
-    ) -> Result<Entry<u64>, Errno> {
-        defaults::link()
-    }
-
-    fn open(
-        &mut self,
-        _ctx: Context,
-        inode: u64,
-        _kill_priv: bool,
-        flags: u32,
-    ) -> Result<(Option<u64>, OpenOptions), Errno> {
-        match file_at(self.files, inode) {
-            None => Err(Errno::ENOENT),
-            Some(_) if flags & O_ACCMODE != O_RDONLY => Err(read_only()),
-            Some(_) => defaults::open(),
-        }
-    }
-
-    fn create(
-        &mut self,
-        _ctx: Context,
-        _parent: u64,
-        _name: &[u8],
-        _mode: u32,
-        _kill_priv: bool,
-        _flags: u32,
-        _umask: u32,
-        _extensions: Extensions,
-    ) -> Result<(Entry<u64>, Option<u64>, OpenOptions), Errno> {
-        defaults::create()
-    }
-
-    fn write<R: ZeroCopyReader>(
-        &mut self,
-        _ctx: Context,
-        _inode: u64,
-        _handle: u64,
-        _r: &mut R,
-        _size: u32,
-        _offset: u64,
-        _lock_owner: Option<u64>,
-        _delayed_write: bool,
-        _kill_priv: bool,
-        _flags: u32,
-    ) -> Result<u32, Errno> {
-        defaults::write()
-    }
-
-    fn flush(
-        &mut self,
-        _ctx: Context,
-        _inode: u64,
-        _handle: u64,
-        _lock_owner: u64,
-    ) -> Result<(), Errno> {
-        defaults::flush()
-    }
-
-    fn fsync(
-        &mut self,
-        _ctx: Context,
-        _inode: u64,
-        _datasync: bool,
-        _handle: u64,
-    ) -> Result<(), Errno> {
-        defaults::fsync()
-    }
-
-    fn fallocate(
-        &mut self,
-        _ctx: Context,
-        _inode: u64,
-        _handle: u64,
-        _mode: u32,
-        _offset: u64,
-        _length: u64,
-    ) -> Result<(), Errno> {
-        defaults::fallocate()
-    }
-
-    fn release(
-        &mut self,
-        _ctx: Context,
-        _inode: u64,
-        _flags: u32,
-        _handle: u64,
-        _flush: bool,
-        _flock_release: bool,
-        _lock_owner: Option<u64>,
-    ) -> Result<(), Errno> {
-        defaults::release()
-    }
-
-    fn statfs(&mut self, _ctx: Context, _inode: u64) -> Result<StatVfs, Errno> {
-        defaults::statfs()
-    }
-
-    fn setxattr(
-        &mut self,
-        _ctx: Context,
-        _inode: u64,
-        _name: &[u8],
-        _value: &[u8],
-        _flags: u32,
-        _extra_flags: SetxattrFlags,
-    ) -> Result<(), Errno> {
-        defaults::setxattr()
-    }
-
-    fn getxattr(
-        &mut self,
-        _ctx: Context,
-        _inode: u64,
-        _name: &[u8],
-        _size: u32,
-    ) -> Result<GetxattrReply, Errno> {
-        defaults::getxattr()
-    }
-
-    fn listxattr(
-        &mut self,
-        _ctx: Context,
-        _inode: u64,
-        _size: u32,
-    ) -> Result<ListxattrReply, Errno> {
-        defaults::listxattr()
-    }
-
-    fn removexattr(&mut self, _ctx: Context, _inode: u64, _name: &[u8]) -> Result<(), Errno> {
-        defaults::removexattr()
-    }
-
-    fn opendir(
-        &mut self,
-        _ctx: Context,
-        inode: u64,
-        _flags: u32,
-    ) -> Result<(Option<u64>, OpenOptions), Errno> {
-        if inode != ROOT {
-            return Err(Errno::ENOENT);
-        }
-        defaults::opendir()
-    }
-
-    fn fsyncdir(
-        &mut self,
-        _ctx: Context,
-        _inode: u64,
-        _datasync: bool,
-        _handle: u64,
-    ) -> Result<(), Errno> {
-        defaults::fsyncdir()
-    }
-
-    fn releasedir(
-        &mut self,
-        _ctx: Context,
-        _inode: u64,
-        _flags: u32,
-        _handle: u64,
-    ) -> Result<(), Errno> {
-        defaults::releasedir()
-    }
-
-    fn access(&mut self, _ctx: Context, _inode: u64, _mask: u32) -> Result<(), Errno> {
-        defaults::access()
-    }
-
-    fn lseek(
-        &mut self,
-        _ctx: Context,
-        _inode: u64,
-        _handle: u64,
-        _offset: u64,
-        _whence: u32,
-    ) -> Result<u64, Errno> {
-        defaults::lseek()
-    }
-
-    fn copyfilerange(
-        &mut self,
-        _ctx: Context,
-        _inode_in: u64,
-        _handle_in: u64,
-        _offset_in: u64,
-        _inode_out: u64,
-        _handle_out: u64,
-        _offset_out: u64,
-        _len: u64,
-        _flags: u64,
-    ) -> Result<u32, Errno> {
-        defaults::copyfilerange()
-    }
-
-    fn syncfs(&mut self, _ctx: Context, _inode: u64) -> Result<(), Errno> {
-        defaults::syncfs()
-    }
-
-    fn getlk(&mut self) -> Result<(), Errno> {
-        defaults::getlk()
-    }
-
-    fn setlk(&mut self) -> Result<(), Errno> {
-        defaults::setlk()
-    }
-
-    fn setlkw(&mut self) -> Result<(), Errno> {
-        defaults::setlkw()
-    }
-
-    fn ioctl(&mut self) -> Result<(), Errno> {
-        defaults::ioctl()
-    }
-
-    fn bmap(&mut self) -> Result<(), Errno> {
-        defaults::bmap()
-    }
-
-    fn poll(&mut self) -> Result<(), Errno> {
-        defaults::poll()
-    }
-
-    fn notify_reply(&mut self) -> Result<(), Errno> {
-        defaults::notify_reply()
-    }
-
-    fn tmpfile(&mut self) -> Errno {
-        defaults::tmpfile()
     }
 }

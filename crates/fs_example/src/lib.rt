@@ -3,13 +3,16 @@
 //! tells it; and a monitor that has a guest read one file.
 #![tactic(auto)]
 
+mod asking;
 mod directory;
+pub mod driver;
 mod monitor;
 mod run;
 mod step;
 mod table;
 
-pub use monitor::{Monitor, MonitorError, read_file};
+pub use asking::read_file;
+pub use monitor::{Monitor, MonitorError};
 pub use run::run_directory;
 pub use step::step_directory;
-pub use table::{Entries, File, ReadOnlyDirectory};
+pub use table::{Entries, File, FileTable};

@@ -7,9 +7,10 @@ ghost use Rattle.fs_device.specs.MachineView.{machine_of};
 ghost use Rattle.fs_example.specs.GuestGets.{GuestGetsTheFile};
 ghost use Rattle.fs_example.specs.Reading.{ReadingRun};
 
-use crate::table::ReadOnlyDirectory;
+use crate::table::FileTable;
 use fs_device::laws::law_calls;
 use fs_device::{Answer, Command, Machine};
+use fuse_read_only::ReadOnly;
 use std::alloc::{AllocError, Global};
 use vm_memory::Iommu;
 
@@ -19,14 +20,16 @@ use vm_memory::Iommu;
 /// reply laid over: behind the header, where the room is long enough, the file's bytes.
 pub fn run_directory<'a, I: Iommu + Drop>(
     alloc: Global,
-    machine: &mut Machine<ReadOnlyDirectory<'a>, I>,
+    machine: &mut Machine<ReadOnly<FileTable<'a>>, I>,
     commands: Vec<Command>,
 ) -> Result<Vec<Answer>, AllocError>
-    ensures run { IfOk result (λ answers. ReadingRun (machine_of machine.old) (zip (map command_of commands.items) (map answer_of answers.items)) (machine_of machine.new)) }
-    ensures guest { IfOk result (λ answers. GuestGetsTheFile (machine_of machine.old) (zip (map command_of commands.items) (map answer_of answers.items)) (machine_of machine.new)) }
+    ensures run { IfOk result (λ answers. ReadingRun (machine_of machine.old)
+        (zip (map command_of commands.items) (map answer_of answers.items)) (machine_of machine.new)) }
+    ensures guest { IfOk result (λ answers. GuestGetsTheFile (machine_of machine.old)
+        (zip (map command_of commands.items) (map answer_of answers.items)) (machine_of machine.new)) }
     ensures all { IfOk result (λ answers. length answers.items ≡ length commands.items) }
     ensures err { OnErr result (machine_of machine.new ≡ machine_of machine.old) }
 {
-    law_calls::<ReadOnlyDirectory<'a>>();
+    law_calls::<ReadOnly<FileTable<'a>>>();
     machine.run(alloc, commands)
 }

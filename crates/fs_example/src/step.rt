@@ -5,8 +5,9 @@ ghost use Rattle.vm_memory_core.specs.Host.{shape};
 ghost use Rattle.fs_device.specs.DeviceView.{outcome_of, state_of};
 ghost use Rattle.fs_example.specs.Reading.{ReadingStep};
 
-use crate::table::ReadOnlyDirectory;
+use crate::table::FileTable;
 use fs_device::{Device, DeviceError, Exchange};
+use fuse_read_only::ReadOnly;
 use std::alloc::Global;
 use vm_memory::GuestMemory;
 use vm_memory_core::HostBlocks;
@@ -16,13 +17,14 @@ use vm_memory_core::HostBlocks;
 /// place for a header; and then the used element and the used index.
 pub fn step_directory<'a, M: GuestMemory, H: HostBlocks>(
     alloc: Global,
-    device: &mut Device<ReadOnlyDirectory<'a>>,
+    device: &mut Device<ReadOnly<FileTable<'a>>>,
     host: &mut H,
     mem: &M,
     queue: usize,
 ) -> Result<Option<(Exchange, bool)>, DeviceError>
     requires { M.IsHeld mem.now (H.host host.old) }
-    ensures step { ReadingStep (state_of (M.memory mem.now (H.host host.old)) device.old) queue (outcome_of result) (state_of (M.memory mem.now (H.host host.new)) device.new) }
+    ensures step { ReadingStep (state_of (M.memory mem.now (H.host host.old)) device.old) queue (outcome_of result)
+        (state_of (M.memory mem.now (H.host host.new)) device.new) }
     ensures shape { shape (H.host host.new) ≡ shape (H.host host.old) }
     ensures loan { H.IsSameLoan host.old host.new }
 {

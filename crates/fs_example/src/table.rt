@@ -10,10 +10,10 @@ pub struct File<'a> {
     pub contents: &'a [u8],
 }
 
-/// A directory that never changes. The root is node 1, and its files are the nodes from 2 on, in the
-/// order of the table.
+/// The files of a directory that never changes. The root is node 1, and the files are the nodes from 2 on, in the order
+/// of the table.
 #[derive(Drop)]
-pub struct ReadOnlyDirectory<'a> {
+pub struct FileTable<'a> {
     pub files: &'a [File<'a>],
     ghost few: { length files.now < 2 ^ 32 },
 }
@@ -26,12 +26,12 @@ pub struct Entries<'a> {
     ghost few: { length files.now < 2 ^ 32 },
 }
 
-impl<'a> ReadOnlyDirectory<'a> {
-    /// The directory of these files. Of two with one name only the first is found.
-    pub fn new(files: &'a [File<'a>]) -> ReadOnlyDirectory<'a>
+impl<'a> FileTable<'a> {
+    /// The table of these files. Of two with one name only the first is found.
+    pub fn new(files: &'a [File<'a>]) -> FileTable<'a>
         requires { length files.now < 2 ^ 32 }
         ensures { result.files.now ≡ files.now }
     {
-        ReadOnlyDirectory { files }
+        FileTable { files }
     }
 }

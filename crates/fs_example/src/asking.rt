@@ -1,0 +1,124 @@
+//! What a monitor does: one request after another.
+
+ghost use Rattle.std.specs.Prelude.{◌≡◌, ◌+◌, ◌%◌, ◌<◌, ◌^◌, length, drop, IfOk};
+ghost use Rattle.vm_memory_core.specs.Host.{shape};
+ghost use Rattle.fs_device.specs.Step.{State};
+ghost use Rattle.fs_example.specs.Asking.{IsAsked, ReadsFile, chains_of, layout_of, machine_of_monitor};
+ghost use Rattle.fs_example.specs.Directory.{Directory};
+
+use crate::driver::{AVAIL, DESC, QUEUE_SIZE, ROOM_LEN, USED, offer, reply};
+use crate::monitor::{Monitor, MonitorError};
+use crate::step::step_directory;
+use crate::table::{File, FileTable};
+use fs_device::Device;
+use fs_queue::{Queue, QueueLayout};
+use fuse_read_only::ReadOnly;
+use fuse_wire::EntryOut;
+use guest_driver::replies::body;
+use guest_driver::requests::{lookup, read};
+use std::alloc::Global;
+use virtiofsd_fuse::Server;
+use vm_memory::GuestMemoryMmap;
+use vm_memory_core::{GuestAddress, HostMemory};
+use vm_values::ByteValued;
+
+// The least limit that a device may have: so many bytes has the longest request (a WRITE of 1 MiB, with its headers) or
+// reply.
+const LEAST_LIMIT: u32 = 0x101000;
+
+// The size of a guest's page.
+const PAGE_SIZE: u32 = 4096;
+
+// How many bytes are read at once: the room without a reply's header.
+const PIECE: u32 = ROOM_LEN - 16;
+
+// The longest name (NAME_MAX in linux/limits.h).
+const NAME_MAX: usize = 255;
+
+impl<'a> Monitor<'a> {
+    /// A guest with 64 KiB from 0 on, and a device of one queue.
+    pub fn new(alloc: Global, files: &'a [File<'a>]) -> Result<Monitor<'a>, MonitorError>
+        requires { length files.now < 2 ^ 32 }
+        ensures { IfOk result (λ monitor. (machine_of_monitor monitor).files.0.files.now ≡ files.now) }
+    {
+        let mut host = HostMemory::new(alloc);
+        let mem = GuestMemoryMmap::from_ranges(alloc, &mut host, &[(GuestAddress(0), 0x10000)])?;
+        let mut queues = Vec::with_capacity(alloc, 1)?;
+        let layout = QueueLayout::new(QUEUE_SIZE, DESC, AVAIL, USED)?;
+        queues.push(Queue::new(layout)).unwrap();
+        let server = Server::new(ReadOnly(FileTable::new(files)), PAGE_SIZE);
+        let device = Device::new(server, queues, LEAST_LIMIT);
+        Ok(Monitor {
+            alloc,
+            host,
+            mem,
+            device,
+            offered: 0,
+        })
+    }
+
+    /// The guest offers a request as its next chain, the device takes a step, and the guest reads the reply from its
+    /// memory, as long as the used ring says. `NoReply`: the device has not returned this chain, or with more bytes than
+    /// its room has. A request longer than 52 KiB has no place in memory (`Place`). After `Device` the monitor is of no
+    /// more use: its chain still waits.
+    pub fn ask(&mut self, request: &[u8]) -> Result<Vec<u8>, MonitorError>
+        ensures asked { IfOk result (λ reply.
+            IsAsked (machine_of_monitor self.old) ((chains_of self.old + 1) % 2 ^ 16) request.now reply.items (machine_of_monitor self.new)) }
+        ensures chain { IfOk result (λ _. chains_of self.new ≡ (chains_of self.old + 1) % 2 ^ 16) }
+        ensures layout { layout_of self.new ≡ layout_of self.old }
+        ensures shape { shape (machine_of_monitor self.new).memory.host ≡ shape (machine_of_monitor self.old).memory.host }
+    {
+        let chain = self.offered.wrapping_add(1);
+        offer(&mut self.host, &self.mem, chain, request)?;
+        self.offered = chain;
+        step_directory(self.alloc, &mut self.device, &mut self.host, &self.mem, 0)?;
+        match reply(self.alloc, &self.host, &self.mem, chain)? {
+            Some(reply) => Ok(reply),
+            None => Err(MonitorError::NoReply),
+        }
+    }
+
+    /// Has the guest look a name up, and read its file piece by piece until there is no more. A name that no file has is
+    /// `Failed(-2)` (ENOENT).
+    pub fn read_file(&mut self, name: &[u8]) -> Result<Vec<u8>, MonitorError>
+        ensures { IfOk result (λ contents. ReadsFile (machine_of_monitor self.old) contents.items (machine_of_monitor self.new)) }
+    {
+        if name.len() > NAME_MAX {
+            return Err(MonitorError::LongName);
+        }
+        let found = self.ask(&lookup(self.alloc, 1, 1, name)?)?;
+        let entry = EntryOut::from_slice(told(&found, 1)?).ok_or(MonitorError::NoReply)?;
+        let mut contents = Vec::new(self.alloc);
+        for unique in 2..u64::MAX {
+            let offset = contents.len() as u64;
+            let reply = self.ask(&read(self.alloc, unique, entry.nodeid, 0, offset, PIECE)?)?;
+            let piece = told(&reply, unique)?;
+            if piece.is_empty() {
+                return Ok(contents);
+            }
+            contents.extend_from_slice(piece)?;
+        }
+        Err(MonitorError::NoReply)
+    }
+}
+
+// What follows the header of the reply to a request, unless that tells an error.
+fn told(reply: &[u8], unique: u64) -> Result<&[u8], MonitorError>
+    ensures { IfOk result (λ bytes. bytes.now ≡ drop 16 reply.now) }
+{
+    match body(reply, unique) {
+        Some(Ok(body)) => Ok(body),
+        Some(Err(error)) => Err(MonitorError::Failed(error)),
+        None => Err(MonitorError::NoReply),
+    }
+}
+
+/// Reads one of the files by its name, as a guest of a new monitor does.
+pub fn read_file(alloc: Global, files: &[File], name: &[u8]) -> Result<Vec<u8>, MonitorError>
+    requires { length files.now < 2 ^ 32 }
+    ensures { IfOk result (λ contents. (before after : State Directory)
+        × (before.files.0.files.now ≡ files.now) × ReadsFile before contents.items after) }
+{
+    let mut monitor = Monitor::new(alloc, files)?;
+    monitor.read_file(name)
+}

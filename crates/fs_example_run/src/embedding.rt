@@ -1,0 +1,60 @@
+//! The device in a monitor.
+
+ghost use Rattle.std.specs.Prelude.{◌≡◌};
+ghost use Rattle.vm_memory_core.specs.Host.{shape};
+ghost use Rattle.vm_memory.specs.Layout.{HostHolds};
+
+use fs_device::Device;
+use fs_example::driver::{AVAIL, DESC, QUEUE_SIZE, USED};
+use fs_queue::{Queue, QueueLayout};
+use std::alloc::Global;
+use virtiofsd_fuse::{FileSystem, Server};
+use vm_memory::GuestMemoryMmap;
+use vm_memory_core::{GuestAddress, HostMemory, PageBitmap};
+
+// What a monitor lends to its guest, and to the device.
+pub type Host = HostMemory<PageBitmap>;
+
+// The least limit that a device may have: how many bytes the longest request or reply has.
+const LEAST_LIMIT: u32 = 0x101000;
+
+// The size of a guest's page.
+const PAGE_SIZE: u32 = 4096;
+
+// What runs the guest: a monitor's vCPUs.
+pub trait Vcpu {
+    // Runs the guest until it notifies a queue, and answers which; nothing once it has ended.
+    fn run(&mut self, host: &mut Host, mem: &GuestMemoryMmap) -> anyhow::Result<Option<usize>>
+        requires { HostHolds host.old mem.now }
+        ensures { shape host.new ≡ shape host.old };
+
+    // Tells the guest that the device gave a chain of the queue back.
+    fn interrupt(&mut self, queue: usize);
+}
+
+// The whole embedding: 64 KiB of memory from 0 on, a device with one queue over a file system, and a step for each chain
+// that waits once the guest notified.
+pub fn serve_guest<F: FileSystem + Drop, V: Vcpu>(
+    alloc: Global,
+    files: F,
+    vcpu: &mut V,
+) -> anyhow::Result<()> {
+    let mut host = Host::new(alloc);
+    let mem = GuestMemoryMmap::from_ranges(alloc, &mut host, &[(GuestAddress(0), 0x10000)])?;
+    let layout = QueueLayout::new(QUEUE_SIZE, DESC, AVAIL, USED)?;
+    let queues = Vec::from_array(alloc, [Queue::new(layout)])?;
+    let mut device = Device::new(Server::new(files, PAGE_SIZE), queues, LEAST_LIMIT);
+    for _ in 0..u64::MAX {
+        let Some(queue) = vcpu.run(&mut host, &mem)? else {
+            break;
+        };
+        for _ in 0..QUEUE_SIZE {
+            match device.process_one(alloc, &mut host, &mem, queue)? {
+                Some((_, true)) => vcpu.interrupt(queue),
+                Some((_, false)) => {}
+                None => break,
+            }
+        }
+    }
+    Ok(())
+}

@@ -1,0 +1,98 @@
+//! A guest that mounts, looks a file up and reads it.
+
+ghost use Rattle.std.specs.Prelude.{◌≡◌, ◌≤◌, length};
+ghost use Rattle.vm_memory_core.specs.Host.{shape};
+ghost use Rattle.vm_memory.specs.Layout.{HostHolds};
+
+use crate::embedding::{Host, Vcpu};
+use anyhow::{Context, bail};
+use fs_example::driver::{ROOM_LEN, offer, reply};
+use fuse_wire::{EntryOut, InitInCompat};
+use guest_driver::replies::{OUT_HEADER_LEN, body};
+use guest_driver::requests::{init, lookup, read};
+use std::alloc::Global;
+use vm_memory::GuestMemoryMmap;
+use vm_values::ByteValued;
+
+// The protocol's version that the guest speaks.
+const VERSION: InitInCompat = InitInCompat {
+    major: 7,
+    minor: 38,
+    max_readahead: 0x20000,
+    flags: 0,
+};
+
+// A guest, by how many requests it offered and how often it was interrupted; and what it read, in the end.
+#[derive(Drop)]
+pub struct Reader<'a> {
+    alloc: Global,
+    name: &'a [u8],
+    offered: u16,
+    pub interrupts: u16,
+    pub contents: Vec<u8>,
+    // The longest name (NAME_MAX in linux/limits.h).
+    ghost short: { length name.now ≤ 255 },
+}
+
+impl<'a> Reader<'a> {
+    // A guest that is going to read the file of this name.
+    pub fn new(alloc: Global, name: &'a [u8]) -> Reader<'a>
+        requires { length name.now ≤ 255 }
+    {
+        Reader {
+            alloc,
+            name,
+            offered: 0,
+            interrupts: 0,
+            contents: Vec::new(alloc),
+        }
+    }
+
+    // What the guest has in its memory behind the header of the last reply, if that is a good one.
+    fn received(&self, host: &Host, mem: &GuestMemoryMmap) -> anyhow::Result<Vec<u8>>
+        requires { HostHolds host.now mem.now }
+    {
+        let reply = reply(self.alloc, host, mem, self.offered)?.context("no reply")?;
+        match body(&reply, u64::from(self.offered)) {
+            Some(Ok(bytes)) => Ok(bytes.to_vec(self.alloc)?),
+            Some(Err(error)) => bail!("the device answers error {error}"),
+            None => bail!("the reply is to another request"),
+        }
+    }
+}
+
+impl<'a> Vcpu for Reader<'a> {
+    fn run(&mut self, host: &mut Host, mem: &GuestMemoryMmap) -> anyhow::Result<Option<usize>> {
+        let alloc = self.alloc;
+        let request = match self.offered {
+            0 => init(alloc, 1, &VERSION)?,
+            1 => {
+                self.received(host, mem)?;
+                lookup(alloc, 2, 1, self.name)?
+            }
+            2 => {
+                let found = self.received(host, mem)?;
+                let entry = EntryOut::from_slice(&found).context("a short entry")?;
+                read(
+                    alloc,
+                    3,
+                    entry.nodeid,
+                    0,
+                    0,
+                    ROOM_LEN - OUT_HEADER_LEN as u32,
+                )?
+            }
+            _ => {
+                self.contents = self.received(host, mem)?;
+                return Ok(None);
+            }
+        };
+        self.offered = self.offered.wrapping_add(1);
+        offer(host, mem, self.offered, &request)?;
+        Ok(Some(0))
+    }
+
+    fn interrupt(&mut self, _queue: usize) {
+        self.interrupts = self.interrupts.wrapping_add(1);
+    }
+}

@@ -1,0 +1,34 @@
+//! A guest mounts a file system that this program has, looks a file up and reads it; what it then has in its memory is
+//! printed.
+#![tactic(auto)]
+
+mod embedding;
+mod guest;
+
+use crate::embedding::serve_guest;
+use crate::guest::Reader;
+use fs_example::{File, FileTable};
+use fuse_read_only::ReadOnly;
+
+const FILES: [File<'static>; 2] = [
+    File {
+        name: b"hello.txt",
+        contents: b"Hello, guest!\n",
+    },
+    File {
+        name: b"empty.txt",
+        contents: b"",
+    },
+];
+
+fn main(rt: HostRuntime) -> anyhow::Result<()> {
+    let mut guest = Reader::new(rt.alloc(), b"hello.txt");
+    let files = ReadOnly(FileTable::new(&FILES));
+    serve_guest(rt.alloc(), files, &mut guest)?;
+    println!(rt;
+        "The guest was interrupted {} times, and has in its memory:",
+        guest.interrupts
+    )?;
+    print!(rt; "{}", String::from_utf8_lossy(rt.alloc(), &guest.contents)?)?;
+    Ok(())
+}
