@@ -5,4 +5,4 @@ pub mod replies;
 pub mod requests;
 pub mod ring;
 
-pub use ring::{Descriptor, Guest, Ring, UsedElement};
+pub use ring::{DriverDescriptor, Guest, Ring, UsedElement};

@@ -1,5 +1,7 @@
 //! What the flat bytes of FUSE replies say.
 
+ghost use Rattle.std.specs.Prelude.{◌≡◌, drop, IfOk, IfSome};
+
 use fuse_wire::OutHeader;
 use vm_values::ByteValued;
 
@@ -9,9 +11,11 @@ pub const OUT_HEADER_LEN: usize = 16;
 /// What follows the header of the reply to this request, or the error number that the header tells, which is below 0;
 /// nothing where the bytes are no reply to it: they are not as many as the header says, it names another request, or an
 /// error is followed by bytes.
-pub fn body(reply: &[u8], unique: u64) -> Option<Result<&[u8], i32>> {
-    let header = OutHeader::from_slice(reply.get(..OUT_HEADER_LEN)?)?;
-    let body = reply.get(OUT_HEADER_LEN..)?;
+pub fn body(reply: &[u8], unique: u64) -> Option<Result<&[u8], i32>>
+    ensures { IfSome result (λ told. IfOk told (λ body. body.now ≡ drop 16 reply.now)) }
+{
+    let (header, body) = reply.split_at_checked(OUT_HEADER_LEN)?;
+    let header = OutHeader::from_slice(header)?;
     if header.len as usize != reply.len() || header.unique != unique {
         return None;
     }

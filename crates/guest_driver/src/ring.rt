@@ -18,9 +18,10 @@ pub const WRITE: u16 = 2;
 /// The flag of a descriptor whose bytes are a table of descriptors.
 pub const INDIRECT: u16 = 4;
 
-/// An entry of a descriptor table: le64 addr, le32 len, le16 flags, le16 next (VIRTIO 1.2, 2.7.5).
+/// A descriptor as a driver puts it into a table: le64 addr, le32 len, le16 flags, le16 next (VIRTIO 1.2, 2.7.5). It is
+/// spelled here once more, so that the device does not read what it wrote itself.
 #[derive(Clone, Copy, Debug, Default, PartialEq, Eq)]
-pub struct Descriptor {
+pub struct DriverDescriptor {
     pub addr: u64,
     pub len: u32,
     pub flags: u16,
@@ -134,7 +135,7 @@ impl Guest {
     pub fn descriptor(
         &mut self,
         index: u16,
-        descriptor: Descriptor,
+        descriptor: DriverDescriptor,
     ) -> Result<(), GuestMemoryError> {
         let table = self.ring.desc;
         self.descriptor_in(table, index, descriptor)
@@ -145,7 +146,7 @@ impl Guest {
         &mut self,
         table: u64,
         index: u16,
-        descriptor: Descriptor,
+        descriptor: DriverDescriptor,
     ) -> Result<(), GuestMemoryError> {
         let at = table.wrapping_add(16 * u64::from(index));
         self.put(at, &descriptor.addr.to_le_bytes())?;
@@ -194,7 +195,7 @@ impl Guest {
     ) -> Result<(), GuestMemoryError> {
         self.chain_in(table, 0, request, readable, writable)?;
         let entries = readable.len().saturating_add(writable.len());
-        let names_table = Descriptor {
+        let names_table = DriverDescriptor {
             addr: table,
             len: u32::try_from(entries.saturating_mul(16)).unwrap_or(u32::MAX),
             flags: INDIRECT,
@@ -278,16 +279,16 @@ impl Guest {
 }
 
 // The entry at an index of a chain, after which `left` more come, each at the next index.
-fn linked(addr: u64, len: u32, flags: u16, index: u16, left: usize) -> Descriptor {
+fn linked(addr: u64, len: u32, flags: u16, index: u16, left: usize) -> DriverDescriptor {
     if left == 0 {
-        Descriptor {
+        DriverDescriptor {
             addr,
             len,
             flags,
             next: 0,
         }
     } else {
-        Descriptor {
+        DriverDescriptor {
             addr,
             len,
             flags: flags | NEXT,
