@@ -19,8 +19,12 @@ use virtiofsd_fuse::Server;
 use vm_memory::GuestMemory;
 use vm_memory_core::HostBlocks;
 
+/// The least limit that a device may have, in bytes: the longest request that its server takes, which is a WRITE of 1 MiB
+/// with a page for its headers.
+pub const LEAST_LIMIT: u32 = 0x101000;
+
 /// A virtio-fs device (VIRTIO 1.2, 5.11): a server behind its queues, of which there are 1 to 64, numbered from 0. A
-/// request or a room longer than the limit, from 0x101000 to 2^31 bytes, makes a chain faulty (`ChainFault::OverLimit`).
+/// request or a room longer than the limit, from `LEAST_LIMIT` to 2^31 bytes, makes a chain faulty (`ChainFault::OverLimit`).
 #[derive(Drop)]
 pub struct Device<F> {
     server: Server<F>,

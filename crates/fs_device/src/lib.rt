@@ -19,7 +19,7 @@ mod saved;
 mod serve;
 
 pub use command::{Answer, Command};
-pub use device::Device;
+pub use device::{Device, LEAST_LIMIT};
 pub use device_record::{RecordSink, RecordSource, RestoreError, Stream, WriteFault};
 pub use error::DeviceError;
 pub use exchange::{Exchange, Fault};

@@ -4,9 +4,9 @@ ghost use Rattle.std.specs.Prelude.{◌≡◌};
 ghost use Rattle.vm_memory_core.specs.Host.{shape};
 ghost use Rattle.vm_memory.specs.Layout.{HostHolds};
 
-use fs_device::Device;
+use fs_device::{Device, DeviceError, LEAST_LIMIT};
 use fs_example::driver::{AVAIL, DESC, QUEUE_SIZE, USED};
-use fs_queue::{Queue, QueueLayout};
+use fs_queue::{Queue, QueueError, QueueLayout};
 use std::alloc::Global;
 use virtiofsd_fuse::{FileSystem, Server};
 use vm_memory::GuestMemoryMmap;
@@ -14,9 +14,6 @@ use vm_memory_core::{GuestAddress, HostMemory, PageBitmap};
 
 // What a monitor lends to its guest, and to the device.
 pub type Host = HostMemory<PageBitmap>;
-
-// The least limit that a device may have: how many bytes the longest request or reply has.
-const LEAST_LIMIT: u32 = 0x101000;
 
 // The size of a guest's page.
 const PAGE_SIZE: u32 = 4096;
@@ -28,12 +25,15 @@ pub trait Vcpu {
         requires { HostHolds host.old mem.now }
         ensures { shape host.new ≡ shape host.old };
 
-    // Tells the guest that the device gave a chain of the queue back.
+    // Tells the guest that the device gave a chain of the queue back (VIRTIO 1.2, 2.7.7).
     fn interrupt(&mut self, queue: usize);
+
+    // Tells the guest that the queue stopped, and with it the device, until it is reset (VIRTIO 1.2, 2.1.2).
+    fn needs_reset(&mut self, queue: usize);
 }
 
 // The whole embedding: 64 KiB of memory from 0 on, a device with one queue over a file system, and a step for each chain
-// that waits once the guest notified.
+// that waits once the guest notified. No refusal ends it: where memory is wanting the chain still waits for a later step.
 pub fn serve_guest<F: FileSystem + Drop, V: Vcpu>(
     alloc: Global,
     files: F,
@@ -49,10 +49,15 @@ pub fn serve_guest<F: FileSystem + Drop, V: Vcpu>(
             break;
         };
         for _ in 0..QUEUE_SIZE {
-            match device.process_one(alloc, &mut host, &mem, queue)? {
-                Some((_, true)) => vcpu.interrupt(queue),
-                Some((_, false)) => {}
-                None => break,
+            match device.process_one(alloc, &mut host, &mem, queue) {
+                Ok(Some((_, true))) => vcpu.interrupt(queue),
+                Ok(Some((_, false))) => {}
+                Ok(None) | Err(DeviceError::NoSuchQueue) => break,
+                Err(DeviceError::Queue(QueueError::OutOfMemory)) => break,
+                Err(DeviceError::Queue(_)) => {
+                    vcpu.needs_reset(queue);
+                    break;
+                }
             }
         }
     }

@@ -1,4 +1,4 @@
-//! A guest that mounts, looks a file up and reads it.
+//! A guest that mounts, looks a file up and reads it, and then breaks its ring.
 
 ghost use Rattle.std.specs.Prelude.{◌≡◌, ◌≤◌, length};
 ghost use Rattle.vm_memory_core.specs.Host.{shape};
@@ -6,7 +6,7 @@ ghost use Rattle.vm_memory.specs.Layout.{HostHolds};
 
 use crate::embedding::{Host, Vcpu};
 use anyhow::{Context, bail};
-use fs_example::driver::{ROOM_LEN, offer, reply};
+use fs_example::driver::{QUEUE_SIZE, ROOM_LEN, offer, reply};
 use fuse_wire::{EntryOut, InitInCompat};
 use guest_driver::replies::{OUT_HEADER_LEN, body};
 use guest_driver::requests::{init, lookup, read};
@@ -22,13 +22,15 @@ const VERSION: InitInCompat = InitInCompat {
     flags: 0,
 };
 
-// A guest, by how many requests it offered and how often it was interrupted; and what it read, in the end.
+// A guest, by how many requests it offered, how often it was interrupted and how often told that a queue stopped; and what
+// it read, in the end.
 #[derive(Drop)]
 pub struct Reader<'a> {
     alloc: Global,
     name: &'a [u8],
     offered: u16,
     pub interrupts: u16,
+    pub resets_needed: u16,
     pub contents: Vec<u8>,
     // The longest name (NAME_MAX in linux/limits.h).
     ghost short: { length name.now ≤ 255 },
@@ -44,6 +46,7 @@ impl<'a> Reader<'a> {
             name,
             offered: 0,
             interrupts: 0,
+            resets_needed: 0,
             contents: Vec::new(alloc),
         }
     }
@@ -82,10 +85,13 @@ impl<'a> Vcpu for Reader<'a> {
                     ROOM_LEN - OUT_HEADER_LEN as u32,
                 )?
             }
-            _ => {
+            3 => {
                 self.contents = self.received(host, mem)?;
-                return Ok(None);
+                // More chains than the queue has entries: its index is out of the device's reach.
+                self.offered = self.offered.wrapping_add(QUEUE_SIZE);
+                self.contents.clone()?
             }
+            _ => return Ok(None),
         };
         self.offered = self.offered.wrapping_add(1);
         offer(host, mem, self.offered, &request)?;
@@ -94,5 +100,9 @@ impl<'a> Vcpu for Reader<'a> {
 
     fn interrupt(&mut self, _queue: usize) {
         self.interrupts = self.interrupts.wrapping_add(1);
+    }
+
+    fn needs_reset(&mut self, _queue: usize) {
+        self.resets_needed = self.resets_needed.wrapping_add(1);
     }
 }

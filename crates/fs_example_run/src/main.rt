@@ -1,5 +1,5 @@
 //! A guest mounts a file system that this program has, looks a file up and reads it; what it then has in its memory is
-//! printed.
+//! printed. At last it breaks its ring, which stops its queue and nothing else.
 #![tactic(auto)]
 
 mod embedding;
@@ -30,5 +30,9 @@ fn main(rt: HostRuntime) -> anyhow::Result<()> {
         guest.interrupts
     )?;
     print!(rt; "{}", String::from_utf8_lossy(rt.alloc(), &guest.contents)?)?;
+    println!(rt;
+        "Then it broke its ring, and was told {} time that the device needs a reset.",
+        guest.resets_needed
+    )?;
     Ok(())
 }
