@@ -1,7 +1,7 @@
 -- What a file system that is read answers to all calls: to its own by its relation, and to each other by the default.
-use Rattle.std.specs.Prelude.{◌≡◌, ℕ, Bool, true, false, None}
+use Rattle.std.specs.Prelude.{◌≡◌, ℕ, Bool, true, false}
 use Rattle.fuse_fs.specs.Answers.{default_stats}
-use Rattle.fuse_fs.specs.Calls.{FileCall, FileAnswer, Failed, Done, Opened, Stats, Wants}
+use Rattle.fuse_fs.specs.Calls.{FileCall, FileAnswer, Failed, Done, Stats}
 use Rattle.fuse_fs.specs.Calls.{Init, Destroy, Lookup, Forget, BatchForget, Getattr, Open, Read, Release, Opendir, Readdir, Statfs}
 use Rattle.fuse_read_only.specs.declared.adapter.ReadOnly.{ReadOnly}
 
@@ -21,12 +21,8 @@ is_own (Opendir who node flags) = true
 is_own (Readdir who node handle size offset) = true
 is_own _ = false
 
--- the answer to a call for which a file system has nothing of its own to do: no option is wanted, files are opened without
--- a handle, nothing is counted, and what can't fail is done; all else is no call that it has
+-- the answer to each other call: nothing is counted, and what can't fail is done; all else is no call that it has
 abbrev pub default_answer : FileCall → FileAnswer
-default_answer (Init capable) = Wants 0
-default_answer (Open who node kill flags) = Opened None 0
-default_answer (Opendir who node flags) = Opened None 0
 default_answer (Statfs who node) = Stats default_stats
 default_answer (Forget who node count) = Done
 default_answer (BatchForget who counts) = Done
