@@ -7,3 +7,4 @@ pub mod OfferedLemmas
 pub mod ReturnLemmas
 pub mod BoundLemmas
 pub mod PathLemmas
+pub mod FoundLemmas

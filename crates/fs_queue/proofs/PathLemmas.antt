@@ -15,7 +15,7 @@ use Rattle.fs_queue.proofs.BoundLemmas.{either, allowed, falls, steps_left}
 
 -- ---- what follows is the walk's next step
 
-not_nothing : (n : ℕ) → 0 < n → (n == 0) ≡ false
+pub not_nothing : (n : ℕ) → 0 < n → (n == 0) ≡ false
 not_nothing n h = some (n == 0) refl
   where
     some : (b : Bool) → (n == 0) ≡ b → b ≡ false
@@ -29,7 +29,7 @@ within n k h = inside (nat_le k n) refl
     inside false e = refl
     inside true e = let over = leb-true k n e in absurd (omega (arith, over, h))
 
-fewer : (n k : ℕ) → n < k → (n == k) ≡ false
+pub fewer : (n k : ℕ) → n < k → (n == k) ≡ false
 fewer n k h = other (n == k) refl
   where
     other : (b : Bool) → (n == k) ≡ b → b ≡ false
@@ -41,7 +41,7 @@ no_overflow : (d : Descriptor) → (d.len ≡ 0) ⊎ (d.addr + d.len < 2 ^ 64) �
 no_overflow d (inl none) = rw none refl
 no_overflow d (inr ends) = rw (lt-ltb (d.addr + d.len) (2 ^ 64) ends) (and_right (nat_lt 0 d.len) false refl)
 
-next_ordinary : (m : Memory) (q : Queue) (v : Visit) → EntryIsThere m v → PassesOrdinary q v (entry_of m v) → walk_step m q.size v ≡ Ordinary (entry_of m v)
+pub next_ordinary : (m : Memory) (q : Queue) (v : Visit) → EntryIsThere m v → PassesOrdinary q v (entry_of m v) → walk_step m q.size v ≡ Ordinary (entry_of m v)
 next_ordinary m q v there passes =
     rw (
       within v.index v.table.entries there.inside,
@@ -61,7 +61,7 @@ next_by_next : (m : Memory) (q : Queue) (v w : Visit) → FollowsByNext m q v w 
 next_by_next m q v w f =
     ap (next_visit v) (next_ordinary m q v f.there f.passes) ∙ rw f.more (ap Some (same_visit v w (entry_of m v) f.table f.index f.earlier))
 
-next_table : (m : Memory) (size : ℕ) (v : Visit) → EntryIsThere m v → PassesTable v (entry_of m v) →
+pub next_table : (m : Memory) (size : ℕ) (v : Visit) → EntryIsThere m v → PassesTable v (entry_of m v) →
     walk_step m size v ≡ Table (record { address = (entry_of m v).addr; entries = (entry_of m v).len / 16; indirect = true })
 next_table m size v there passes =
     rw (
@@ -136,17 +136,17 @@ goes_table m q v there passes w e =
       earlier = sym (ap (λ (u : Visit). u.earlier) same);
     })
 
-some_bytes : (n : ℕ) → (n == 0) ≡ false → 0 < n
+pub some_bytes : (n : ℕ) → (n == 0) ≡ false → 0 < n
 some_bytes zero h = absurd (cc)
 some_bytes (suc n) h = omega arith
 
-ends_or_none : (d : Descriptor) (b c : Bool) → nat_lt 0 d.len ≡ b → ends_in_64_bits d ≡ c → (b && not c) ≡ false → (d.len ≡ 0) ⊎ (d.addr + d.len < 2 ^ 64)
+pub ends_or_none : (d : Descriptor) (b c : Bool) → nat_lt 0 d.len ≡ b → ends_in_64_bits d ≡ c → (b && not c) ≡ false → (d.len ≡ 0) ⊎ (d.addr + d.len < 2 ^ 64)
 ends_or_none d false c some ends h = let none = ltb-false 0 d.len some in inl (omega (arith, none))
 ends_or_none d true true some ends h = inr (ltb-true (d.addr + d.len) (2 ^ 64) ends)
 ends_or_none d true false some ends h = absurd (cc)
 
 -- no more than the size, and not as many, are fewer
-room_left : (n size : ℕ) → n ≤ size → (n == size) ≡ false → n < size
+pub room_left : (n size : ℕ) → n ≤ size → (n == size) ≡ false → n < size
 room_left n size le h = let other = eqb-false n size h in omega (arith, le, other)
 
 goes_ordinary : (m : Memory) (q : Queue) (v : Visit) → v.earlier ≤ q.size → EntryIsThere m v → is_indirect (entry_of m v) ≡ false →
@@ -183,12 +183,12 @@ goes : (m : Memory) (q : Queue) (v : Visit) → v.earlier ≤ q.size → Goes m 
 goes m q v few = past m q v (nat_le v.table.entries v.index) NextOutOfTable _ (λ inside. goes_at m q v few (leb-false v.table.entries v.index inside))
 
 -- the next step of the walk comes after this one
-next_follows : (m : Memory) (q : Queue) (v w : Visit) → v.earlier ≤ q.size → next_visit v (walk_step m q.size v) ≡ Some w → Follows m q v w
+pub next_follows : (m : Memory) (q : Queue) (v w : Visit) → v.earlier ≤ q.size → next_visit v (walk_step m q.size v) ≡ Some w → Follows m q v w
 unfolding Goes
 next_follows m q v w few e = goes m q v few w e
 
 -- no more descriptors come before a step that follows than the queue has
-still_few : (m : Memory) (q : Queue) (v w : Visit) → v.earlier ≤ q.size → Follows m q v w → w.earlier ≤ q.size
+pub still_few : (m : Memory) (q : Queue) (v w : Visit) → v.earlier ≤ q.size → Follows m q v w → w.earlier ≤ q.size
 still_few m q v w few (inl f) =
     let one = f.earlier in
     let room = f.passes.room in

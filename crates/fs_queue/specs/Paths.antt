@@ -1,9 +1,11 @@
 -- Paths in the standard's words (VIRTIO 1.2, 2.7.5 and 2.7.5.3): a relation, beside the walk of Chain, which computes.
-use Rattle.std.specs.Prelude.{◌≡◌, ◌⊎◌, ℕ, ◌+◌, ◌*◌, ◌/◌, ◌%◌, ◌^◌, ◌<◌, true, false, List, [], ◌∷◌, ◌++◌}
+use Rattle.std.specs.Prelude.{◌≡◌, ◌↔◌, ◌⊎◌, ℕ, ◌+◌, ◌*◌, ◌/◌, ◌%◌, ◌^◌, ◌<◌, ◌≤◌, true, false, not, List, [], ◌∷◌, ◌++◌, map, filter, All}
 use Rattle.vm_iotlb.specs.declared.permissions.Permissions.TheVariants.{Read}
 use Rattle.vm_memory.specs.Memory.{Memory, reach}
+use Rattle.fs_queue.specs.declared.fault.ChainFault.{ChainFault}
+use Rattle.fs_queue.specs.declared.fault.ChainFault.TheVariants.{TooLong, NextOutOfTable, AddressOverflow, IndirectWithNext, IndirectNested, IndirectLength, TableUnreachable, OverLimit, RequestUnreachable, RoomUnreachable}
 use Rattle.fs_queue.specs.Queue.{Queue}
-use Rattle.fs_queue.specs.Chain.{Descriptor, Visit, descriptor_at, has_next, is_indirect, first_visit, walk}
+use Rattle.fs_queue.specs.Chain.{Descriptor, Visit, descriptor_at, has_next, is_indirect, first_visit, walk, Found, IsChain, HasFault, StopsQueue, chain}
 
 -- where the entry of a step is
 abbrev pub entry_address : Visit → ℕ
@@ -79,3 +81,86 @@ PathsAreFronts = (m : Memory) (q : Queue) (head : ℕ) (vs : List Visit) → IsP
 -- no step comes after a walk's last
 abbrev pub NothingFollows : Type 0
 NothingFollows = (m : Memory) (q : Queue) (head : ℕ) (front : List Visit) (last next : Visit) → walk m q head ≡ front ++ last ∷ [] → Follows m q last next → ⊥
+
+-- a step passes, also a path's last: its entry is there, and is an ordinary descriptor that passes or one that names a table and passes
+pub record Passes (m : Memory) (q : Queue) (v : Visit) : Type 0 where
+  pub there : EntryIsThere m v
+  pub passes : PassesOrdinary q v (entry_of m v) ⊎ PassesTable v (entry_of m v)
+
+-- its entry is one of the step's table, but not each of its 16 bytes can be read
+pub record EntryIsUnreadable (m : Memory) (v : Visit) : Type 0 where
+  pub inside : v.index < v.table.entries
+  pub unread : reach m Read (entry_address v) 16 ≡ false
+
+-- the step is at an ordinary descriptor
+pub record IsOrdinary (m : Memory) (v : Visit) : Type 0 where
+  pub there : EntryIsThere m v
+  pub ordinary : is_indirect (entry_of m v) ≡ false
+
+-- the step is at a descriptor that names a table
+pub record NamesTable (m : Memory) (v : Visit) : Type 0 where
+  pub there : EntryIsThere m v
+  pub indirect : is_indirect (entry_of m v) ≡ true
+
+-- nor has that descriptor a NEXT, which it may not (2.7.5.3.1)
+pub record NamesTableLast (m : Memory) (v : Visit) : Type 0 where
+  pub names : NamesTable m v
+  pub last : has_next (entry_of m v) ≡ false
+
+-- nor does it stand in such a table itself, in which it may not (2.7.5.3.1)
+pub record NamesTableFromOwn (m : Memory) (v : Visit) : Type 0 where
+  pub names : NamesTableLast m v
+  pub own : v.table.indirect ≡ false
+
+-- the table that it names is one entry or more, but ends past 2^64 - 1
+pub record TableOverflows (m : Memory) (v : Visit) : Type 0 where
+  pub names : NamesTableFromOwn m v
+  pub some : 0 < (entry_of m v).len
+  pub whole : (entry_of m v).len % 16 ≡ 0
+  pub past : 2 ^ 64 ≤ (entry_of m v).addr + (entry_of m v).len
+
+-- an ordinary descriptor that the chain has room for has bytes, and they end past 2^64 - 1
+pub record OrdinaryOverflows (m : Memory) (q : Queue) (v : Visit) : Type 0 where
+  pub ordinary : IsOrdinary m v
+  pub room : v.earlier < q.size
+  pub some : 0 < (entry_of m v).len
+  pub past : 2 ^ 64 ≤ (entry_of m v).addr + (entry_of m v).len
+
+-- the fault of a step is the first rule that it breaks (2.7.5 and 2.7.5.3.1). A chain has no more ordinary descriptors than the queue has entries, whether one follows or not
+abbrev pub StepHasFault : Memory → Queue → Visit → ChainFault → Type 0
+StepHasFault m q v NextOutOfTable = v.table.entries ≤ v.index
+StepHasFault m q v TableUnreachable = EntryIsUnreadable m v × (v.table.indirect ≡ true)
+StepHasFault m q v IndirectWithNext = NamesTable m v × (has_next (entry_of m v) ≡ true)
+StepHasFault m q v IndirectNested = NamesTableLast m v × (v.table.indirect ≡ true)
+StepHasFault m q v IndirectLength = NamesTableFromOwn m v × (((entry_of m v).len ≡ 0) ⊎ (0 < (entry_of m v).len % 16))
+StepHasFault m q v AddressOverflow = TableOverflows m v ⊎ OrdinaryOverflows m q v
+StepHasFault m q v TooLong = IsOrdinary m v × (v.earlier ≡ q.size)
+StepHasFault m q v OverLimit = ⊥
+StepHasFault m q v RequestUnreachable = ⊥
+StepHasFault m q v RoomUnreachable = ⊥
+
+-- a step stops the queue: an entry of the queue's own table can't be read
+abbrev pub StepStops : Memory → Visit → Type 0
+StepStops m v = EntryIsUnreadable m v × (v.table.indirect ≡ false)
+
+-- so it is of the last of some steps, and those before it pass
+pub record EndsAt (m : Memory) (q : Queue) (vs : List Visit) (IsSo : Visit → Type 0) : Type 0 where
+  pub front : List Visit
+  pub last : Visit
+  pub steps : vs ≡ front ++ last ∷ []
+  pub pass : All (Passes m q) front
+  pub here : IsSo last
+
+-- the ordinary descriptors of some steps, in their order
+abbrev pub ordinary_entries : Memory → List Visit → List Descriptor
+ordinary_entries m vs = filter (λ d. not (is_indirect d)) (map (entry_of m) vs)
+
+-- what some steps come to: the chain of their ordinary descriptors where each passes; a fault that the last has, or a stop of the queue there
+abbrev pub ComesTo : Memory → Queue → List Visit → Found → Type 0
+ComesTo m q vs (IsChain ds) = All (Passes m q) vs × (ds ≡ ordinary_entries m vs)
+ComesTo m q vs (HasFault fault) = EndsAt m q vs (λ v. StepHasFault m q v fault)
+ComesTo m q vs StopsQueue = EndsAt m q vs (StepStops m)
+
+-- a walk, the longest path, finds exactly what its steps come to
+abbrev pub WalksFind : Type 0
+WalksFind = (m : Memory) (q : Queue) (head : ℕ) (finds : Found) → (chain m q head ≡ finds) ↔ ComesTo m q (walk m q head) finds
