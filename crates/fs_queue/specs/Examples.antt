@@ -1,4 +1,4 @@
--- Worked offers that compute, behind an IOMMU: a queue of one descriptor with a room of 4 bytes at 0x28.
+-- Worked offers that compute, behind an IOMMU: a queue of one descriptor with a room of 4 bytes at 0x28. Then chains of two descriptors in a table.
 use Rattle.std.specs.Prelude.{◌≡◌, ℕ, ◌+◌, Bool, true, false, List, [], ◌∷◌, refl}
 use Rattle.vm_iotlb.specs.declared.permissions.Permissions.{Permissions}
 use Rattle.vm_iotlb.specs.declared.permissions.Permissions.TheVariants.{Read, Write, ReadWrite}
@@ -6,11 +6,11 @@ use Rattle.vm_iotlb.specs.declared.range.IotlbRange.{IotlbRange}
 use Rattle.vm_iotlb.specs.AddressRuns.{may_all}
 use Rattle.vm_iotlb.specs.Ranges.{table_kept}
 use Rattle.vm_memory.specs.Layout.{place}
-use Rattle.vm_memory.specs.Memory.{Memory, addresses, io_memory}
-use Rattle.fs_queue.specs.declared.fault.ChainFault.TheVariants.{RoomUnreachable}
+use Rattle.vm_memory.specs.Memory.{Memory, addresses, io_memory, memory_of}
+use Rattle.fs_queue.specs.declared.fault.ChainFault.TheVariants.{RoomUnreachable, TooLong}
 use Rattle.fs_queue.specs.declared.fault.QueueError.TheVariants as stop
-use Rattle.fs_queue.specs.Chain.{path, found}
-use Rattle.fs_queue.specs.Queue.{Queue}
+use Rattle.fs_queue.specs.Chain.{path, IsChain, HasFault, found, chain}
+use Rattle.fs_queue.specs.Queue.{Queue, fresh}
 use Rattle.fs_queue.specs.Taking.{Offer, Refuses, Offers, IsRequest, CannotFetch, offer, may_lack_memory}
 
 -- a descriptor of the room, then the available ring with head 0 at position 0, then the used ring and the room
@@ -91,3 +91,27 @@ room_not_written = refl
 room_written : gives (range 0 0x18 Read ∷ range 0x18 0x2c Write ∷ []) ≡ Offers 0 (IsRequest [] (addresses 0x28 4))
 unfolding offer place addresses table_kept path found
 room_written = refl
+
+-- a head that names a table of two entries at 0x20, and an entry that nothing names; in the table a descriptor with NEXT, then one without
+abbrev table_bytes : List ℕ
+table_bytes =
+    0x20 ∷ 0 ∷ 0 ∷ 0 ∷ 0 ∷ 0 ∷ 0 ∷ 0 ∷ 0x20 ∷ 0 ∷ 0 ∷ 0 ∷ 4 ∷ 0 ∷ 0 ∷ 0
+    ∷ 0 ∷ 0 ∷ 0 ∷ 0 ∷ 0 ∷ 0 ∷ 0 ∷ 0 ∷ 0 ∷ 0 ∷ 0 ∷ 0 ∷ 0 ∷ 0 ∷ 0 ∷ 0
+    ∷ 0x40 ∷ 0 ∷ 0 ∷ 0 ∷ 0 ∷ 0 ∷ 0 ∷ 0 ∷ 4 ∷ 0 ∷ 0 ∷ 0 ∷ 1 ∷ 0 ∷ 1 ∷ 0
+    ∷ 0x44 ∷ 0 ∷ 0 ∷ 0 ∷ 0 ∷ 0 ∷ 0 ∷ 0 ∷ 8 ∷ 0 ∷ 0 ∷ 0 ∷ 2 ∷ 0 ∷ 0 ∷ 0 ∷ []
+
+-- these bytes at 0, by physical addresses
+abbrev table_memory : Memory
+table_memory =
+    memory_of (record { blocks = record { bytes = table_bytes; marks = false ∷ [] } ∷ []; tables = []; io_marks = [] }) (record { start = 0; size = 0x40; block = 0 } ∷ [])
+
+-- two descriptors in a queue of one are too long a chain, though none follows the second
+one_more_than_the_queue : chain table_memory (fresh 1 0 0x50 0x60) 0 ≡ HasFault TooLong
+unfolding place addresses path found
+one_more_than_the_queue = refl
+
+-- in a queue of two they are a chain
+as_many_as_the_queue : chain table_memory (fresh 2 0 0x50 0x60) 0
+    ≡ IsChain (record { addr = 0x40; len = 4; flags = 1; next = 1 } ∷ record { addr = 0x44; len = 8; flags = 2; next = 0 } ∷ [])
+unfolding place addresses path found
+as_many_as_the_queue = refl
