@@ -12,8 +12,11 @@ use vm_memory_core::Windows;
 /// index in the queue's table.
 #[derive(Drop)]
 pub struct Chain {
+    /// The index of its first descriptor in the queue's table.
     pub head: u16,
+    /// Where the request's bytes stand.
     pub readable: Windows,
+    /// Where the reply's bytes go.
     pub writable: Windows,
     pub(crate) request_len: usize,
     pub(crate) room_len: usize,
@@ -83,7 +86,7 @@ impl Taken {
         self.head
     }
 
-    /// The chain, or what is wrong with it.
+    /// The chain, or the `ChainFault` that was found as it was walked (VIRTIO 1.2, 2.7.5).
     pub fn chain(&self) -> Result<&Chain, ChainFault>
         ensures { MatchResult result (λ c. self.now.chain ≡ Ok c.now) (λ fault. self.now.chain ≡ Err fault) }
     {

@@ -79,7 +79,8 @@ fn attr_of(st: Stat, flags: u32, uid: GuestUid, gid: GuestGid) -> Attr
 }
 
 impl Attr {
-    /// The attributes of a file, with no flags; an error of `uid_map`, and then of `gid_map`, ends the call.
+    /// The attributes of a file (`struct fuse_attr`, of what `stat(2)` tells), with no flags. An errno of `uid_map`,
+    /// and then of `gid_map`, ends the call.
     pub fn try_from_stat<U, G>(st: Stat, uid_map: U, gid_map: G) -> Result<Attr, Errno>
     where
         U: FnOnce(HostUid) -> Result<GuestUid, Errno>,
@@ -93,7 +94,8 @@ impl Attr {
         Attr::try_with_flags(st, 0, uid_map, gid_map)
     }
 
-    /// The attributes of a file; an error of `uid_map`, and then of `gid_map`, ends the call.
+    /// The attributes of a file (`struct fuse_attr`, of what `stat(2)` tells), with these flags (`FUSE_ATTR_` in
+    /// linux/fuse.h). An errno of `uid_map`, and then of `gid_map`, ends the call.
     pub fn try_with_flags<U, G>(st: Stat, flags: u32, uid_map: U, gid_map: G) -> Result<Attr, Errno>
     where
         U: FnOnce(HostUid) -> Result<GuestUid, Errno>,

@@ -8,7 +8,7 @@ use fuse_fs::{Context, Entry, FileNumber, FileSystem};
 use fuse_in::{InHeader, LinkIn, Rename2In, RenameIn};
 use fuse_wire::Errno;
 
-/// LINK: a node gets one more name.
+/// LINK (`struct fuse_link_in`): a node gets one more name.
 pub struct Link;
 
 impl<F: FileSystem> RecordNameRequest<F> for Link {
@@ -30,7 +30,7 @@ impl<F: FileSystem> RecordNameRequest<F> for Link {
     }
 }
 
-/// RENAME: a name moves.
+/// RENAME (`struct fuse_rename_in`): a name moves.
 pub struct Rename;
 
 impl<F: FileSystem> TwoPartsRequest<F> for Rename {
@@ -61,7 +61,7 @@ impl<F: FileSystem> TwoPartsRequest<F> for Rename {
 /// The flags of `renameat2(2)`: RENAME_NOREPLACE, RENAME_EXCHANGE and RENAME_WHITEOUT.
 const RENAME_FLAGS: u32 = 7;
 
-/// RENAME2: a name moves, by flags.
+/// RENAME2 (`struct fuse_rename2_in`): a name moves, by flags.
 pub struct Rename2;
 
 impl<F: FileSystem> TwoPartsRequest<F> for Rename2 {

@@ -12,7 +12,7 @@ use fuse_in::{CreateIn, InHeader, MkdirIn, MknodIn};
 use fuse_wire::constants::OPEN_KILL_SUIDGID;
 use fuse_wire::{Errno, OpenOptions};
 
-/// MKNOD: a file of a kind is made.
+/// MKNOD (`struct fuse_mknod_in`): a file of a kind is made.
 pub struct Mknod;
 
 impl<F: FileSystem> NewNameRequest<F> for Mknod {
@@ -43,7 +43,7 @@ impl<F: FileSystem> NewNameRequest<F> for Mknod {
     }
 }
 
-/// MKDIR: a directory is made.
+/// MKDIR (`struct fuse_mkdir_in`): a directory is made.
 pub struct Mkdir;
 
 impl<F: FileSystem> NewNameRequest<F> for Mkdir {
@@ -73,7 +73,7 @@ impl<F: FileSystem> NewNameRequest<F> for Mkdir {
     }
 }
 
-/// CREATE: a file is made and opened.
+/// CREATE (`struct fuse_create_in`): a file is made and opened.
 pub struct Create;
 
 impl<F: FileSystem> NewNameRequest<F> for Create {
@@ -105,7 +105,8 @@ impl<F: FileSystem> NewNameRequest<F> for Create {
     }
 }
 
-/// SYMLINK: a symbolic link is made, which leads to `link`.
+/// SYMLINK: a symbolic link is made, which leads to `link`. Answers its entry, or the file system's errno, from 1 to
+/// 4095.
 pub fn make_symlink_call<F: FileSystem>(
     fs: &mut F,
     head: &InHeader,

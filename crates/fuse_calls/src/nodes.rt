@@ -27,7 +27,7 @@ impl<F: FileSystem> NameRequest<F> for Lookup {
     }
 }
 
-/// FORGET: a node is held less.
+/// FORGET (`struct fuse_forget_in`): a node is held less.
 pub struct Forget;
 
 impl<F: FileSystem> RecordRequest<F> for Forget {
@@ -51,7 +51,7 @@ fn handle_if<H: FileNumber>(test: bool, fh: u64) -> Option<H>
     if test { Some(H::numbered(fh)) } else { None }
 }
 
-/// GETATTR: the attributes of a node.
+/// GETATTR (`struct fuse_getattr_in`): the attributes of a node.
 pub struct Getattr;
 
 impl<F: FileSystem> RecordRequest<F> for Getattr {
@@ -83,7 +83,7 @@ fn known_valid(valid: u32) -> SetattrValid
     SetattrValid::from_bits_truncate(valid)
 }
 
-/// SETATTR: attributes of a node are set.
+/// SETATTR (`struct fuse_setattr_in`): attributes of a node are set.
 pub struct Setattr;
 
 impl<F: FileSystem> RecordRequest<F> for Setattr {
@@ -174,7 +174,7 @@ impl<F: FileSystem> NameRequest<F> for Removexattr {
     }
 }
 
-/// ACCESS: whether a node may be used so.
+/// ACCESS (`struct fuse_access_in`): whether a node may be used so.
 pub struct Access;
 
 impl<F: FileSystem> RecordRequest<F> for Access {

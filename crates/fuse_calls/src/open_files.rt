@@ -26,7 +26,7 @@ fn releasing_owner(request: &ReleaseIn) -> Option<u64>
     owner_if(told, request.lock_owner)
 }
 
-/// OPEN: a file is opened.
+/// OPEN (`struct fuse_open_in`): a file is opened.
 pub struct Open;
 
 impl<F: FileSystem> RecordRequest<F> for Open {
@@ -51,7 +51,7 @@ impl<F: FileSystem> RecordRequest<F> for Open {
     }
 }
 
-/// RELEASE: an open file goes.
+/// RELEASE (`struct fuse_release_in`): an open file goes.
 pub struct Release;
 
 impl<F: FileSystem> RecordRequest<F> for Release {
@@ -76,7 +76,7 @@ impl<F: FileSystem> RecordRequest<F> for Release {
     }
 }
 
-/// FSYNC: a file is written to the disk.
+/// FSYNC (`struct fuse_fsync_in`): a file is written to the disk.
 pub struct Fsync;
 
 impl<F: FileSystem> RecordRequest<F> for Fsync {
@@ -97,7 +97,7 @@ impl<F: FileSystem> RecordRequest<F> for Fsync {
     }
 }
 
-/// FSYNCDIR: a directory is written to the disk.
+/// FSYNCDIR (`struct fuse_fsync_in`): a directory is written to the disk.
 pub struct Fsyncdir;
 
 impl<F: FileSystem> RecordRequest<F> for Fsyncdir {
@@ -118,7 +118,7 @@ impl<F: FileSystem> RecordRequest<F> for Fsyncdir {
     }
 }
 
-/// FLUSH: a descriptor of an open file is closed.
+/// FLUSH (`struct fuse_flush_in`): a descriptor of an open file is closed.
 pub struct Flush;
 
 impl<F: FileSystem> RecordRequest<F> for Flush {
@@ -138,7 +138,7 @@ impl<F: FileSystem> RecordRequest<F> for Flush {
     }
 }
 
-/// OPENDIR: a directory is opened.
+/// OPENDIR (`struct fuse_open_in`): a directory is opened.
 pub struct Opendir;
 
 impl<F: FileSystem> RecordRequest<F> for Opendir {
@@ -161,7 +161,7 @@ impl<F: FileSystem> RecordRequest<F> for Opendir {
     }
 }
 
-/// RELEASEDIR: an open directory goes.
+/// RELEASEDIR (`struct fuse_release_in`): an open directory goes.
 pub struct Releasedir;
 
 impl<F: FileSystem> RecordRequest<F> for Releasedir {
@@ -181,7 +181,7 @@ impl<F: FileSystem> RecordRequest<F> for Releasedir {
     }
 }
 
-/// FALLOCATE: room in a file.
+/// FALLOCATE (`struct fuse_fallocate_in`): room in a file.
 pub struct Fallocate;
 
 impl<F: FileSystem> RecordRequest<F> for Fallocate {
@@ -203,7 +203,7 @@ impl<F: FileSystem> RecordRequest<F> for Fallocate {
     }
 }
 
-/// LSEEK: a place in a file.
+/// LSEEK (`struct fuse_lseek_in`): a place in a file.
 pub struct Lseek;
 
 impl<F: FileSystem> RecordRequest<F> for Lseek {
@@ -224,7 +224,7 @@ impl<F: FileSystem> RecordRequest<F> for Lseek {
     }
 }
 
-/// COPY_FILE_RANGE: bytes of one file go to another.
+/// COPY_FILE_RANGE (`struct fuse_copy_file_range_in`): bytes of one file go to another.
 pub struct CopyFileRange;
 
 impl<F: FileSystem> RecordRequest<F> for CopyFileRange {

@@ -7,7 +7,7 @@ ghost use Rattle.fuse_fs.specs.Calls.{is_handle, is_of, IsBytesOrCount};
 use fuse_fs::{Entry, FileNumber, GetxattrReply, ListxattrReply, Silence};
 use fuse_wire::{Errno, OpenOptions};
 
-/// An answer as it came. An error's number is from 1 to 4095, which is told here once for all calls.
+/// An answer as it came. An errno (errno.h) is from 1 to 4095, which is told here once for all calls.
 pub fn received<T>(answer: Result<T, Errno>) -> Result<T, Errno>
     ensures same { result ≡ answer }
     ensures errno { IfErr result (λ e. (0 < e) × (e < 4096)) }
@@ -84,7 +84,7 @@ pub(crate) fn received_file<I: FileNumber, H: FileNumber>(
     }
 }
 
-/// A count as it came, below 2^32.
+/// A count as it came, below 2^32; or the errno as it came, from 1 to 4095.
 pub fn received_count(answer: Result<u32, Errno>) -> Result<u32, Errno>
     ensures same { result ≡ answer }
     ensures errno { IfErr result (λ e. (0 < e) × (e < 4096)) }
@@ -134,7 +134,7 @@ pub(crate) fn received_names(answer: Result<ListxattrReply, Errno>) -> Result<Li
     }
 }
 
-/// A call's answer that has no reply where it is good.
+/// A call's answer that has no reply where it is good; or the errno as it came, from 1 to 4095.
 pub fn silent(answer: Result<(), Errno>) -> Result<Silence, Errno>
     ensures same { done_answer result ≡ done_answer answer }
     ensures errno { IfErr result (λ e. (0 < e) × (e < 4096)) }

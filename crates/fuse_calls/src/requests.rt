@@ -26,7 +26,7 @@ pub trait RecordRequest<F: FileSystem> {
     // The call that it makes.
     ghost call: { InHeader → Self.Record → FileCall };
 
-    /// Makes the call, and hands its answer on.
+    /// Makes the call, and hands its answer on; an errno is the file system's own.
     fn make_call(fs: &mut F, head: &InHeader, request: &Self::Record) -> Result<Self::Answer, Errno>
         ensures may { F.may fs.old (call head.now request.now) (Self.Answer.said result) fs.new }
         ensures suits { IsTrue (suits (call head.now request.now) (Self.Answer.said result)) }
@@ -41,7 +41,7 @@ pub trait PlainRequest<F: FileSystem> {
     // The call that it makes.
     ghost call: { InHeader → FileCall };
 
-    /// Makes the call, and hands its answer on.
+    /// Makes the call, and hands its answer on; an errno is the file system's own.
     fn make_call(fs: &mut F, head: &InHeader) -> Result<Self::Answer, Errno>
         ensures may { F.may fs.old (call head.now) (Self.Answer.said result) fs.new }
         ensures suits { IsTrue (suits (call head.now) (Self.Answer.said result)) }
@@ -56,7 +56,7 @@ pub trait NameRequest<F: FileSystem> {
     // The call that it makes.
     ghost call: { InHeader → List ℕ → FileCall };
 
-    /// Makes the call, and hands its answer on.
+    /// Makes the call, and hands its answer on; an errno is the file system's own.
     fn make_call(fs: &mut F, head: &InHeader, name: &[u8]) -> Result<Self::Answer, Errno>
         ensures may { F.may fs.old (call head.now name.now) (Self.Answer.said result) fs.new }
         ensures suits { IsTrue (suits (call head.now name.now) (Self.Answer.said result)) }
@@ -73,7 +73,7 @@ pub trait RecordNameRequest<F: FileSystem> {
     // The call that it makes.
     ghost call: { InHeader → Self.Record → List ℕ → FileCall };
 
-    /// Makes the call, and hands its answer on.
+    /// Makes the call, and hands its answer on; an errno is the file system's own.
     fn make_call(
         fs: &mut F,
         head: &InHeader,
@@ -95,7 +95,7 @@ pub trait TwoPartsRequest<F: FileSystem> {
     // The call that it makes.
     ghost call: { InHeader → Self.Record → List ℕ × List ℕ → FileCall };
 
-    /// Makes the call, and hands its answer on.
+    /// Makes the call, and hands its answer on; an errno is the file system's own.
     fn make_call(
         fs: &mut F,
         head: &InHeader,
@@ -121,7 +121,7 @@ pub trait NewNameRequest<F: FileSystem> {
     // It is handed memory of its own only for a context.
     ghost owns: { (h : InHeader) (r : Self.Record) (x : List ℕ × Extra) → owns_memory (call h r x) ≡ has_security x.1 };
 
-    /// Makes the call, and hands its answer on.
+    /// Makes the call, and hands its answer on; an errno is the file system's own.
     fn make_call(
         fs: &mut F,
         head: &InHeader,

@@ -11,7 +11,8 @@ use fuse_in::{InHeader, WriteIn};
 use fuse_wire::Errno;
 use fuse_wire::constants::{WRITE_CACHE, WRITE_KILL_PRIV, WRITE_LOCKOWNER};
 
-/// WRITE (`struct fuse_write_in`): a file is written with what a reader has left. Answers how many bytes.
+/// WRITE (`struct fuse_write_in`): a file is written with what a reader has left. Answers how many bytes, or the file
+/// system's errno, from 1 to 4095.
 pub fn make_write_call<F: FileSystem, R: ZeroCopyReader>(
     fs: &mut F,
     head: &InHeader,

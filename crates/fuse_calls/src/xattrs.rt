@@ -10,7 +10,7 @@ use fuse_fs::{Context, FileNumber, FileSystem, GetxattrReply, ListxattrReply};
 use fuse_in::{GetxattrIn, InHeader, SetxattrIn};
 use fuse_wire::{Errno, SetxattrFlags};
 
-/// GETXATTR: the value of an extended attribute.
+/// GETXATTR (`struct fuse_getxattr_in`): the value of an extended attribute.
 pub struct Getxattr;
 
 impl<F: FileSystem> RecordNameRequest<F> for Getxattr {
@@ -31,7 +31,7 @@ impl<F: FileSystem> RecordNameRequest<F> for Getxattr {
     }
 }
 
-/// LISTXATTR: the names of the extended attributes.
+/// LISTXATTR (`struct fuse_getxattr_in`): the names of the extended attributes.
 pub struct Listxattr;
 
 impl<F: FileSystem> RecordRequest<F> for Listxattr {
@@ -59,7 +59,7 @@ fn known(flags: u32) -> SetxattrFlags
     SetxattrFlags::from_bits_truncate(flags)
 }
 
-/// SETXATTR: an extended attribute is set.
+/// SETXATTR (`struct fuse_setxattr_in`): an extended attribute is set.
 pub struct Setxattr;
 
 impl<F: FileSystem> TwoPartsRequest<F> for Setxattr {

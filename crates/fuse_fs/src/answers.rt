@@ -58,24 +58,28 @@ impl Timeout {
 /// What a name stands for (virtiofsd's `Entry`). Node 0 is a name that is known not to be there.
 #[derive(Drop)]
 pub struct Entry<I> {
+    /// The node's number (`nodeid` of `struct fuse_entry_out`).
     pub inode: I,
+    /// Which node of this number it is (`generation`).
     pub generation: u64,
+    /// The node's attributes (`struct fuse_attr`).
     pub attr: Attr,
-    /// How long the attributes stay good.
+    /// How long the attributes stay good (`attr_valid` and `attr_valid_nsec` of `struct fuse_entry_out`).
     pub attr_timeout: Timeout,
-    /// How long the name stays good.
+    /// How long the name stays good (`entry_valid` and `entry_valid_nsec`).
     pub entry_timeout: Timeout,
 }
 
-/// The value of an extended attribute.
+/// The value of an extended attribute (virtiofsd's `GetxattrReply`).
 #[derive(Debug, Drop)]
 pub enum GetxattrReply {
+    /// The value's bytes.
     Value(Vec<u8>),
     /// How many bytes the value has, where it was asked for with a size of 0.
     Count(u32),
 }
 
-/// The names of a node's extended attributes.
+/// The names of a node's extended attributes (virtiofsd's `ListxattrReply`).
 #[derive(Debug, Drop)]
 pub enum ListxattrReply {
     /// Each name with a zero byte behind it.
@@ -87,8 +91,11 @@ pub enum ListxattrReply {
 /// Who asks (virtiofsd's `Context`): the guest's process, and in whose name it runs.
 #[derive(Clone, Copy, Debug)]
 pub struct Context {
+    /// The user's number in the guest (`uid` of `struct fuse_in_header`).
     pub uid: GuestUid,
+    /// The group's number in the guest (`gid`).
     pub gid: GuestGid,
+    /// The process's number in the guest (`pid`).
     pub pid: i32,
 }
 

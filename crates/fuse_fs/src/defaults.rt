@@ -1,5 +1,6 @@
 //! What a call of `FileSystem` or `SerializableFileSystem` does where a file system has nothing of its own to do, for a
-//! method to call. What a default doesn't take stays as it is: file system, writer, stream.
+//! method to call. What a default doesn't take stays as it is: file system, writer, stream. ENOSYS is errno 38
+//! (errno.h).
 
 ghost use Rattle.std.specs.Prelude.{◌≡◌, Ok, Err, None, Some, option_map};
 ghost use Rattle.std.specs.Result.{result_err};
@@ -12,24 +13,25 @@ use bitflags::Flags;
 use fuse_base::{Attr, Errno, FsOptions, OpenOptions, StatVfs};
 use std::io::{self, ErrorKind};
 
-/// Of what both sides can, nothing is wanted.
+/// Default of virtiofsd's `FileSystem::init`: of what both sides can, nothing is wanted. It never fails.
 pub fn init() -> Result<FsOptions, Errno>
     ensures { result ≡ Ok no_flags }
 {
     Ok(FsOptions::from_bits_retain(0))
 }
 
-/// Nothing is done.
+/// Default of virtiofsd's `FileSystem::destroy`: nothing is done.
 pub fn destroy<F: FileSystemBase>(_fs: &mut F)
     ensures { _fs.new ≡ _fs.old }
 {}
 
-/// Nothing is done.
+/// Default of virtiofsd's `FileSystem::forget`: nothing is done.
 pub fn forget<F: FileSystemBase>(_fs: &mut F)
     ensures { _fs.new ≡ _fs.old }
 {}
 
-/// Forgets each node in order, by the file system's own `forget`.
+/// Default of virtiofsd's `FileSystem::batch_forget`: each node is forgotten in order, by the file system's own
+/// `forget`.
 pub fn batch_forget<F: FileSystemBase>(fs: &mut F, ctx: Context, requests: Vec<(F::Inode, u64)>)
     ensures { ForgetsEach F.may fs.old ctx (pair_numbers F.Inode.number requests.items) fs.new }
 {
@@ -38,140 +40,141 @@ pub fn batch_forget<F: FileSystemBase>(fs: &mut F, ctx: Context, requests: Vec<(
     }
 }
 
-/// No such call.
+/// Default of virtiofsd's `FileSystem::lookup`: no such call, ENOSYS.
 pub fn lookup<I>() -> Result<Entry<I>, Errno>
     ensures { result ≡ Err 38 }
 {
     Err(Errno::ENOSYS)
 }
 
-/// No such call.
+/// Default of virtiofsd's `FileSystem::getattr`: no such call, ENOSYS.
 pub fn getattr() -> Result<(Attr, Timeout), Errno>
     ensures { result ≡ Err 38 }
 {
     Err(Errno::ENOSYS)
 }
 
-/// No such call.
+/// Default of virtiofsd's `FileSystem::setattr`: no such call, ENOSYS.
 pub fn setattr() -> Result<(Attr, Timeout), Errno>
     ensures { result ≡ Err 38 }
 {
     Err(Errno::ENOSYS)
 }
 
-/// No such call.
+/// Default of virtiofsd's `FileSystem::readlink`: no such call, ENOSYS.
 pub fn readlink() -> Result<Vec<u8>, Errno>
     ensures { result ≡ Err 38 }
 {
     Err(Errno::ENOSYS)
 }
 
-/// No such call.
+/// Default of virtiofsd's `FileSystem::symlink`: no such call, ENOSYS.
 pub fn symlink<I>() -> Result<Entry<I>, Errno>
     ensures { result ≡ Err 38 }
 {
     Err(Errno::ENOSYS)
 }
 
-/// No such call.
+/// Default of virtiofsd's `FileSystem::mknod`: no such call, ENOSYS.
 pub fn mknod<I>() -> Result<Entry<I>, Errno>
     ensures { result ≡ Err 38 }
 {
     Err(Errno::ENOSYS)
 }
 
-/// No such call.
+/// Default of virtiofsd's `FileSystem::mkdir`: no such call, ENOSYS.
 pub fn mkdir<I>() -> Result<Entry<I>, Errno>
     ensures { result ≡ Err 38 }
 {
     Err(Errno::ENOSYS)
 }
 
-/// No such call.
+/// Default of virtiofsd's `FileSystem::unlink`: no such call, ENOSYS.
 pub fn unlink() -> Result<(), Errno>
     ensures { result ≡ Err 38 }
 {
     Err(Errno::ENOSYS)
 }
 
-/// No such call.
+/// Default of virtiofsd's `FileSystem::rmdir`: no such call, ENOSYS.
 pub fn rmdir() -> Result<(), Errno>
     ensures { result ≡ Err 38 }
 {
     Err(Errno::ENOSYS)
 }
 
-/// No such call.
+/// Default of virtiofsd's `FileSystem::rename`: no such call, ENOSYS.
 pub fn rename() -> Result<(), Errno>
     ensures { result ≡ Err 38 }
 {
     Err(Errno::ENOSYS)
 }
 
-/// No such call.
+/// Default of virtiofsd's `FileSystem::link`: no such call, ENOSYS.
 pub fn link<I>() -> Result<Entry<I>, Errno>
     ensures { result ≡ Err 38 }
 {
     Err(Errno::ENOSYS)
 }
 
-/// Opened without a handle, in no special way.
+/// Default of virtiofsd's `FileSystem::open`: opened without a handle, in no special way. It never fails.
 pub fn open<H>() -> Result<(Option<H>, OpenOptions), Errno>
     ensures { result ≡ Ok (None, no_flags) }
 {
     Ok((None, OpenOptions::from_bits_retain(0)))
 }
 
-/// No such call.
+/// Default of virtiofsd's `FileSystem::create`: no such call, ENOSYS.
 pub fn create<I, H>() -> Result<(Entry<I>, Option<H>, OpenOptions), Errno>
     ensures { result ≡ Err 38 }
 {
     Err(Errno::ENOSYS)
 }
 
-/// No such call. It puts nothing into the writer.
+/// Default of virtiofsd's `FileSystem::read`: no such call, ENOSYS. It puts nothing into the writer.
 pub fn read() -> Result<usize, Errno>
     ensures { result ≡ Err 38 }
 {
     Err(Errno::ENOSYS)
 }
 
-/// No such call.
+/// Default of virtiofsd's `FileSystem::write`: no such call, ENOSYS.
 pub fn write() -> Result<u32, Errno>
     ensures { result ≡ Err 38 }
 {
     Err(Errno::ENOSYS)
 }
 
-/// No such call.
+/// Default of virtiofsd's `FileSystem::flush`: no such call, ENOSYS.
 pub fn flush() -> Result<(), Errno>
     ensures { result ≡ Err 38 }
 {
     Err(Errno::ENOSYS)
 }
 
-/// No such call.
+/// Default of virtiofsd's `FileSystem::fsync`: no such call, ENOSYS.
 pub fn fsync() -> Result<(), Errno>
     ensures { result ≡ Err 38 }
 {
     Err(Errno::ENOSYS)
 }
 
-/// No such call.
+/// Default of virtiofsd's `FileSystem::fallocate`: no such call, ENOSYS.
 pub fn fallocate() -> Result<(), Errno>
     ensures { result ≡ Err 38 }
 {
     Err(Errno::ENOSYS)
 }
 
-/// No such call.
+/// Default of virtiofsd's `FileSystem::release`: no such call, ENOSYS.
 pub fn release() -> Result<(), Errno>
     ensures { result ≡ Err 38 }
 {
     Err(Errno::ENOSYS)
 }
 
-/// Nothing is counted; names have at most 255 bytes, and blocks 512.
+/// Default of virtiofsd's `FileSystem::statfs`: nothing is counted; a name has at most 255 bytes, and a block has 512
+/// (`statvfs(3)`). It never fails.
 pub fn statfs() -> Result<StatVfs, Errno>
     ensures { result ≡ Ok default_stats }
 {
@@ -182,159 +185,161 @@ pub fn statfs() -> Result<StatVfs, Errno>
     })
 }
 
-/// No such call.
+/// Default of virtiofsd's `FileSystem::setxattr`: no such call, ENOSYS.
 pub fn setxattr() -> Result<(), Errno>
     ensures { result ≡ Err 38 }
 {
     Err(Errno::ENOSYS)
 }
 
-/// No such call.
+/// Default of virtiofsd's `FileSystem::getxattr`: no such call, ENOSYS.
 pub fn getxattr() -> Result<GetxattrReply, Errno>
     ensures { result ≡ Err 38 }
 {
     Err(Errno::ENOSYS)
 }
 
-/// No such call.
+/// Default of virtiofsd's `FileSystem::listxattr`: no such call, ENOSYS.
 pub fn listxattr() -> Result<ListxattrReply, Errno>
     ensures { result ≡ Err 38 }
 {
     Err(Errno::ENOSYS)
 }
 
-/// No such call.
+/// Default of virtiofsd's `FileSystem::removexattr`: no such call, ENOSYS.
 pub fn removexattr() -> Result<(), Errno>
     ensures { result ≡ Err 38 }
 {
     Err(Errno::ENOSYS)
 }
 
-/// Opened without a handle, in no special way.
+/// Default of virtiofsd's `FileSystem::opendir`: opened without a handle, in no special way. It never fails.
 pub fn opendir<H>() -> Result<(Option<H>, OpenOptions), Errno>
     ensures { result ≡ Ok (None, no_flags) }
 {
     Ok((None, OpenOptions::from_bits_retain(0)))
 }
 
-/// No such call.
+/// Default of virtiofsd's `FileSystem::readdir`: no such call, ENOSYS.
 pub fn readdir<D>() -> Result<D, Errno>
     ensures { result ≡ Err 38 }
 {
     Err(Errno::ENOSYS)
 }
 
-/// No such call.
+/// Default of virtiofsd's `FileSystem::fsyncdir`: no such call, ENOSYS.
 pub fn fsyncdir() -> Result<(), Errno>
     ensures { result ≡ Err 38 }
 {
     Err(Errno::ENOSYS)
 }
 
-/// No such call.
+/// Default of virtiofsd's `FileSystem::releasedir`: no such call, ENOSYS.
 pub fn releasedir() -> Result<(), Errno>
     ensures { result ≡ Err 38 }
 {
     Err(Errno::ENOSYS)
 }
 
-/// No such call.
+/// Default of virtiofsd's `FileSystem::access`: no such call, ENOSYS.
 pub fn access() -> Result<(), Errno>
     ensures { result ≡ Err 38 }
 {
     Err(Errno::ENOSYS)
 }
 
-/// No such call.
+/// Default of virtiofsd's `FileSystem::lseek`: no such call, ENOSYS.
 pub fn lseek() -> Result<u64, Errno>
     ensures { result ≡ Err 38 }
 {
     Err(Errno::ENOSYS)
 }
 
-/// No such call.
+/// Default of virtiofsd's `FileSystem::copyfilerange`: no such call, ENOSYS.
 pub fn copyfilerange() -> Result<u32, Errno>
     ensures { result ≡ Err 38 }
 {
     Err(Errno::ENOSYS)
 }
 
-/// No such call.
+/// Default of virtiofsd's `FileSystem::syncfs`: no such call, ENOSYS.
 pub fn syncfs() -> Result<(), Errno>
     ensures { result ≡ Err 38 }
 {
     Err(Errno::ENOSYS)
 }
 
-/// No such call.
+/// Default of virtiofsd's `FileSystem::getlk`: no such call, ENOSYS.
 pub fn getlk() -> Result<(), Errno>
     ensures { result ≡ Err 38 }
 {
     Err(Errno::ENOSYS)
 }
 
-/// No such call.
+/// Default of virtiofsd's `FileSystem::setlk`: no such call, ENOSYS.
 pub fn setlk() -> Result<(), Errno>
     ensures { result ≡ Err 38 }
 {
     Err(Errno::ENOSYS)
 }
 
-/// No such call.
+/// Default of virtiofsd's `FileSystem::setlkw`: no such call, ENOSYS.
 pub fn setlkw() -> Result<(), Errno>
     ensures { result ≡ Err 38 }
 {
     Err(Errno::ENOSYS)
 }
 
-/// No such call.
+/// Default of virtiofsd's `FileSystem::ioctl`: no such call, ENOSYS.
 pub fn ioctl() -> Result<(), Errno>
     ensures { result ≡ Err 38 }
 {
     Err(Errno::ENOSYS)
 }
 
-/// No such call.
+/// Default of virtiofsd's `FileSystem::bmap`: no such call, ENOSYS.
 pub fn bmap() -> Result<(), Errno>
     ensures { result ≡ Err 38 }
 {
     Err(Errno::ENOSYS)
 }
 
-/// No such call.
+/// Default of virtiofsd's `FileSystem::poll`: no such call, ENOSYS.
 pub fn poll() -> Result<(), Errno>
     ensures { result ≡ Err 38 }
 {
     Err(Errno::ENOSYS)
 }
 
-/// No such call.
+/// Default of virtiofsd's `FileSystem::notify_reply`: no such call, ENOSYS.
 pub fn notify_reply() -> Result<(), Errno>
     ensures { result ≡ Err 38 }
 {
     Err(Errno::ENOSYS)
 }
 
-/// No such call.
+/// Default of virtiofsd's `FileSystem::tmpfile`: no such call, ENOSYS.
 pub fn tmpfile() -> Errno
     ensures { result ≡ 38 }
 {
     Errno::ENOSYS
 }
 
-/// Nothing is made ready.
+/// Default of virtiofsd's `SerializableFileSystem::prepare_serialization`: nothing is made ready.
 pub fn prepare_serialization<F>(_fs: &mut F)
     ensures { _fs.new ≡ _fs.old }
 {}
 
-/// Not supported. It writes nothing to the stream.
+/// Default of virtiofsd's `SerializableFileSystem::serialize`: not supported, `ErrorKind::Unsupported`. It writes
+/// nothing to the stream.
 pub fn serialize() -> io::Result<()>
     ensures { option_map error_kind (result_err result) ≡ Some ErrorKind.Unsupported }
 {
     Err(io::Error::from(ErrorKind::Unsupported))
 }
 
-/// Not supported. It reads nothing from the stream.
+/// Default of virtiofsd's `SerializableFileSystem::deserialize_and_apply`: not supported, `ErrorKind::Unsupported`. It
+/// reads nothing from the stream.
 pub fn deserialize_and_apply() -> io::Result<()>
     ensures { option_map error_kind (result_err result) ≡ Some ErrorKind.Unsupported }
 {

@@ -6,11 +6,12 @@ ghost use Rattle.std.specs.Io.BufRead.{Rests};
 ghost use Rattle.fuse_fs.specs.Answers.{listed};
 ghost use Rattle.fuse_fs.specs.Calls.{Listed};
 
-/// An entry of a directory.
+/// An entry of a directory (virtiofsd's `DirEntry`, `struct fuse_dirent`).
 #[derive(Drop)]
 pub struct DirEntry<'a> {
+    /// The node's number as the listing tells it (`ino`).
     pub ino: u64,
-    /// Where a listing goes on behind this entry.
+    /// Where a listing goes on behind this entry (`off`).
     pub offset: u64,
     /// The kind of node (`DT_` in dirent.h).
     pub type_: u32,
@@ -18,7 +19,7 @@ pub struct DirEntry<'a> {
     pub name: &'a [u8],
 }
 
-/// The entries of a directory from some place on, as a finite list.
+/// The entries of a directory from some place on, as a finite list (virtiofsd's `DirectoryIterator`).
 pub trait DirectoryIterator: Drop {
     // What it still gives.
     ghost rest: { Self → List Listed };

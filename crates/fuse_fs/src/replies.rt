@@ -11,7 +11,7 @@ use bitflags::Flags;
 use fuse_base::{Attr, OpenOptions};
 use fuse_wire::{AttrOut, Dirent, GetxattrOut, LseekOut, OpenOut, WriteOut};
 
-/// Attributes that stay good for so long: `struct fuse_attr_out`.
+/// Attributes that stay good for so long: `struct fuse_attr_out`, 104 bytes.
 pub fn attr_out(attr: Attr, timeout: Timeout) -> AttrOut
     ensures { result ≡ attr_out_of attr timeout }
 {
@@ -23,7 +23,7 @@ pub fn attr_out(attr: Attr, timeout: Timeout) -> AttrOut
     }
 }
 
-/// An open file, as `struct fuse_open_out`; the handle 0 where it has none.
+/// An open file, as `struct fuse_open_out`, 16 bytes; the handle 0 where it has none.
 pub fn open_out<H: FileNumber>(handle: Option<H>, options: OpenOptions) -> OpenOut
     ensures { result ≡ open_out_of (option_map H.number handle) options.0 }
 {
@@ -38,7 +38,7 @@ pub fn open_out<H: FileNumber>(handle: Option<H>, options: OpenOptions) -> OpenO
     }
 }
 
-/// How many bytes were written: `struct fuse_write_out`.
+/// How many bytes were written: `struct fuse_write_out`, 8 bytes.
 pub fn write_out(count: u32) -> WriteOut
     ensures { result ≡ write_out_of count }
 {
@@ -48,14 +48,14 @@ pub fn write_out(count: u32) -> WriteOut
     }
 }
 
-/// A place in a file, in bytes from its start: `struct fuse_lseek_out`.
+/// A place in a file, in bytes from its start: `struct fuse_lseek_out`, 8 bytes.
 pub fn lseek_out(offset: u64) -> LseekOut
     ensures { result ≡ lseek_out_of offset }
 {
     LseekOut { offset }
 }
 
-/// How many bytes a value or a list of names has: `struct fuse_getxattr_out`.
+/// How many bytes a value or a list of names has: `struct fuse_getxattr_out`, 8 bytes.
 pub fn getxattr_out(count: u32) -> GetxattrOut
     ensures { result ≡ getxattr_out_of count }
 {
@@ -65,7 +65,7 @@ pub fn getxattr_out(count: u32) -> GetxattrOut
     }
 }
 
-/// An entry of a directory, as `struct fuse_dirent` before its name. The name's length has 32 bits.
+/// An entry of a directory, as `struct fuse_dirent` before its name, 24 bytes. The name's length in bytes has 32 bits.
 pub fn dirent(entry: &DirEntry<'_>) -> Dirent
     requires { length entry.now.name.now < 2 ^ 32 }
     ensures { result ≡ dirent_of (listed entry.now) }

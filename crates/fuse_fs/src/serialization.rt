@@ -26,11 +26,13 @@ pub trait SerializableFileSystem {
     fn prepare_serialization(&mut self, cancel: &AtomicBool)
         ensures prepares { may_prepare self.old self.new };
 
-    /// Writes the state to a stream; one that can't answers kind Unsupported.
+    /// Writes the state to a stream. Which errors it has is the implementer's, by `may_serialize`; one that can't
+    /// answers `ErrorKind::Unsupported`.
     fn serialize<W: Write>(&mut self, w: &mut W) -> io::Result<()>
         ensures serializes { may_serialize self.old (W.contents w.old) (option_map error_kind (result_err result)) (W.contents w.new) self.new };
 
-    /// Reads a state that `serialize` wrote, and goes on from there; one that can't answers kind Unsupported.
+    /// Reads a state that `serialize` wrote, and goes on from there. Which errors it has is the implementer's, by
+    /// `may_apply`; one that can't answers `ErrorKind::Unsupported`.
     fn deserialize_and_apply<R: Read>(&mut self, r: &mut R) -> io::Result<()>
         ensures applies { may_apply self.old (R.remaining r.old) (option_map error_kind (result_err result)) (R.remaining r.new) self.new };
 }

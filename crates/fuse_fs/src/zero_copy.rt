@@ -7,11 +7,12 @@ ghost use Rattle.fuse_fs.specs.Transfers.{bytes_answer, ReadsSegments, Spends};
 
 use fuse_base::Errno;
 
-/// How bytes are written at a place (`RWF_` in linux/fs.h).
+/// How bytes are written at a place: the flags of `pwritev2(2)` (`RWF_` in linux/fs.h).
 #[derive(Clone, Copy, Debug, PartialEq, Eq)]
 pub struct WritevFlags(pub u32);
 
-/// A file that is read and written at a place.
+/// A file that is read and written at a place, which counts bytes from its start. Which errors it has is the
+/// implementer's, by `read_gives` and `write_gives`.
 pub trait PositionedFile {
     // What one read may answer: before, most bytes, place, answer, after.
     ghost read_gives: { Self → ℕ → ℕ → Result (List ℕ) ℕ → Self → Type 0 };
@@ -19,18 +20,21 @@ pub trait PositionedFile {
     // What one write may answer: before, bytes, place, flags, answer, after.
     ghost write_gives: { Self → List ℕ → ℕ → Option ℕ → Result ℕ ℕ → Self → Type 0 };
 
-    /// Reads to the front of a buffer.
+    /// Reads to the front of a buffer, and answers how many bytes, at most as many as it has; or an errno of the file's
+    /// own.
     fn read_at(&mut self, buf: &mut [u8], off: u64) -> Result<usize, Errno>
         ensures within { IfOk result (λ n. n ≤ length buf.old) }
         ensures gives { read_gives self.old (length buf.old) off (bytes_answer result buf.new) self.new };
 
-    /// Writes a buffer.
+    /// Writes a buffer's bytes from the first on, and answers how many, at most as many as it has; or an errno of the
+    /// file's own.
     fn write_at(&mut self, buf: &[u8], off: u64, flags: Option<WritevFlags>) -> Result<usize, Errno>
         ensures within { IfOk result (λ n. n ≤ length buf.now) }
         ensures gives { write_gives self.old buf.now off (option_map (λ f. f.0) flags) result self.new };
 
-    /// Reads at most this many bytes to the end of a buffer, which has room for them. A file whose bytes lie in memory
-    /// may give them by one copy; where it doesn't, the room is set to zero for `read_at` first.
+    /// Reads at most this many bytes to the end of a buffer, which has room for them, and answers how many. An errno is
+    /// the file's own, and leaves the buffer's bytes as they were. A file whose bytes lie in memory may give them by
+    /// one copy; where it doesn't, the room is set to zero for `read_at` first.
     fn append_at(&mut self, out: &mut Vec<u8>, most: usize, off: u64) -> Result<usize, Errno>
         requires { vec_len out.old + most ≤ vec_capacity out.old }
         ensures ok { IfOk result (λ n. (part : List ℕ) × (out.new.items ≡ out.old.items ++ part) × (n ≡ length part) × (n ≤ most)
@@ -53,7 +57,7 @@ pub trait PositionedFile {
     }
 }
 
-/// Where a file system puts the bytes that it reads.
+/// Where a file system puts the bytes that it reads (virtiofsd's `ZeroCopyWriter`).
 pub trait ZeroCopyWriter {
     // What was put in so far.
     ghost put: { Self → List ℕ };
@@ -64,8 +68,9 @@ pub trait ZeroCopyWriter {
     // The lengths of the segments in which that room is.
     ghost rooms: { Self → List ℕ };
 
-    /// Puts in what a file has at a place: it is asked for one segment after another, until the count is done, the room
-    /// is used up, or it answers 0 or an error. Where there is room left for a place past 2^64 - 1, that is EIO.
+    /// Puts in what a file has at a place, in bytes from its start: it is asked for one segment after another, until
+    /// the count of bytes is done, the room is used up, or it answers 0 or an errno. Where there is room left for a
+    /// place past 2^64 - 1, that is EIO.
     fn read_from_file_at<F: PositionedFile>(
         &mut self,
         file: &mut F,
@@ -94,7 +99,7 @@ impl<Inner: ZeroCopyWriter> ZeroCopyWriter for &mut Inner {
     }
 }
 
-/// Where a file system takes the bytes from that it writes.
+/// Where a file system takes the bytes from that it writes (virtiofsd's `ZeroCopyReader`).
 pub trait ZeroCopyReader {
     // What is left.
     ghost left: { Self → List ℕ };
@@ -105,8 +110,9 @@ pub trait ZeroCopyReader {
     // How many bytes were read.
     ghost read: { Self → ℕ };
 
-    /// Has a file write what is left at a place: it is lent one segment after another, until the count is done, nothing
-    /// is left, or it answers 0 or an error. Where a byte is left for a place past 2^64 - 1, that is EIO.
+    /// Has a file write what is left at a place, in bytes from its start: it is lent one segment after another, until
+    /// the count of bytes is done, nothing is left, or it answers 0 or an errno. Where a byte is left for a place past
+    /// 2^64 - 1, that is EIO.
     fn write_to_file_at<F: PositionedFile>(
         &mut self,
         file: &mut F,

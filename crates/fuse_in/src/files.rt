@@ -310,7 +310,7 @@ impl InRecord for LseekIn {
     ghost of_shape = { (λ x. refl, λ x. refl, refl) };
 }
 
-/// `struct fuse_copyfilerange_in`: 56 bytes.
+/// `struct fuse_copy_file_range_in`: 56 bytes.
 #[derive(Clone, Copy, Debug, Default, PartialEq)]
 pub struct CopyfilerangeIn {
     pub fh_in: u64,

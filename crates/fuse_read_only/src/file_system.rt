@@ -8,10 +8,11 @@ ghost use Rattle.fuse_fs.specs.Calls as call;
 use fuse_base::{Attr, Errno, FsOptions, OpenOptions};
 use fuse_fs::{Context, DirectoryIterator, Entry, Timeout, ZeroCopyWriter};
 
-/// A file system that is read, by what it may answer. Its nodes and open files are numbers, and the root is node 1. Each
-/// call's answer stands in the relation `may`, which the implementer names; `ReadOnly` makes a `FileSystem` of it, in
-/// which all other calls have the answers of `defaults`. What a guest forgets isn't told, so that a node keeps its
-/// number as long as the guest may name it.
+/// A file system that is read, by what it may answer. Its nodes and open files are numbers, and the root is node 1.
+/// Each call's answer stands in the relation `may`, which the implementer names; `ReadOnly` makes a `FileSystem` of it,
+/// in which all other calls have the answers of `defaults`. Where a call fails, it answers an errno (errno.h, 1 to
+/// 4095) of the implementer's choice, which `may` has to allow. Beside each call stands its request in linux/fuse.h.
+/// What a guest forgets isn't told, so that a node keeps its number as long as the guest may name it.
 pub trait ReadOnlyFileSystem {
     type DirIter: DirectoryIterator;
 
@@ -22,11 +23,11 @@ pub trait ReadOnlyFileSystem {
     fn init(&mut self, capable: FsOptions) -> Result<FsOptions, Errno>
         ensures may { may self.old (call.Init capable.0) (options_answer result) self.new };
 
-    /// What a name of a directory stands for.
+    /// What a name of a directory stands for (FUSE_LOOKUP).
     fn lookup(&mut self, ctx: Context, parent: u64, name: &[u8]) -> Result<Entry<u64>, Errno>
         ensures may { may self.old (call.Lookup ctx parent name.now) (entry_answer (λ n. n) result) self.new };
 
-    /// A node's attributes, and how long they stay good.
+    /// A node's attributes, and how long they stay good (FUSE_GETATTR).
     fn getattr(
         &mut self,
         ctx: Context,
@@ -35,7 +36,7 @@ pub trait ReadOnlyFileSystem {
     ) -> Result<(Attr, Timeout), Errno>
         ensures may { may self.old (call.Getattr ctx inode handle) (attr_answer result) self.new };
 
-    /// Opens a file (`open(2)`, which has the flags). Without a handle its calls get 0.
+    /// Opens a file (FUSE_OPEN; `open(2)` has the flags). Without a handle its calls get 0.
     fn open(
         &mut self,
         ctx: Context,
@@ -45,7 +46,7 @@ pub trait ReadOnlyFileSystem {
     ) -> Result<(Option<u64>, OpenOptions), Errno>
         ensures may { may self.old (call.Open ctx inode kill_priv flags) (opened_answer (λ n. n) result) self.new };
 
-    /// Puts bytes of a file into a writer, and answers how many: an `Ok(n)` put in exactly n.
+    /// Puts bytes of a file into a writer, and answers how many (FUSE_READ): an `Ok(n)` put in exactly n.
     fn read<W: ZeroCopyWriter>(
         &mut self,
         ctx: Context,
@@ -62,7 +63,7 @@ pub trait ReadOnlyFileSystem {
             × may self.old (call.Read ctx inode handle (W.room w.old) size offset lock_owner flags)
             (data_answer result bytes) self.new };
 
-    /// The last descriptor of an open file was closed.
+    /// The last descriptor of an open file was closed (FUSE_RELEASE).
     fn release(
         &mut self,
         ctx: Context,
@@ -75,7 +76,7 @@ pub trait ReadOnlyFileSystem {
     ) -> Result<(), Errno>
         ensures may { may self.old (call.Release ctx inode flags handle flush flock_release lock_owner) (done_answer result) self.new };
 
-    /// Opens a directory. Without a handle its calls get 0.
+    /// Opens a directory (FUSE_OPENDIR). Without a handle its calls get 0.
     fn opendir(
         &mut self,
         ctx: Context,
@@ -84,7 +85,8 @@ pub trait ReadOnlyFileSystem {
     ) -> Result<(Option<u64>, OpenOptions), Errno>
         ensures may { may self.old (call.Opendir ctx inode flags) (opened_answer (λ n. n) result) self.new };
 
-    /// The entries of a directory behind the one with this offset (0: all), for a reply of at most `size` bytes.
+    /// The entries of a directory behind the one with this offset (0: all), for a reply of at most `size` bytes
+    /// (FUSE_READDIR and FUSE_READDIRPLUS).
     fn readdir(
         &mut self,
         ctx: Context,

@@ -15,7 +15,8 @@ use vm_values::ByteValued;
 
 /// An answer as the client is told of it.
 pub trait AsReply: Answer {
-    /// Replies with a good one.
+    /// Replies with a good one, whole or not at all: header and record (linux/fuse.h). Answers the reply's length in
+    /// bytes, 0 where there is none, and `EncodeMessage` where it has no room.
     fn reply(self, w: &mut Writer, unique: u64) -> Result<usize, Error>
         requires fresh { w.old.written ≡ [] }
         requires room { w.old.free < 2 ^ 32 }

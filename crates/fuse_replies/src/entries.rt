@@ -65,7 +65,9 @@ fn write_entry(w: &mut Writer, node: &[u8], entry: &DirEntry<'_>)
     append(w, &[0; 8][..zeros]);
 }
 
-/// Puts an entry in, where it has room: what is left of the size then, or how the list ends.
+/// Puts an entry in, where it has room, and answers how many bytes are left of the size then. Else it writes nothing
+/// and answers how the list ends: EOVERFLOW where the name has 2^32 bytes or more, no errno where the entry has more
+/// bytes than are left of the size, EIO where it has more than the writer has room for.
 #[tactic(auto, unfolding(crate::specs::Entries::fit_of))]
 pub fn put_entry(
     w: &mut Writer,

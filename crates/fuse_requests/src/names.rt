@@ -51,7 +51,9 @@ fn read_bytes<'a>(alloc: Global, r: &mut Reader<'a>, n: usize) -> Result<Request
     Ok(CowSlice::Owned(read_owned(alloc, r, n)?))
 }
 
-/// As many bytes as the header's length leaves after the header, 40 bytes, and `fixed` bytes of record.
+/// As many bytes as the header's length, `len`, leaves after the header, 40 bytes, and `fixed` bytes of record.
+/// `InvalidHeaderLength` where it doesn't reach so far, `DecodeMessage` where fewer bytes are there, and `OutOfMemory`
+/// only where they stand in several segments.
 #[inline(always)]
 pub fn read_counted<'a>(
     alloc: Global,
@@ -75,14 +77,18 @@ pub fn read_counted<'a>(
     read_bytes(alloc, r, count as usize)
 }
 
-/// A record with the bytes after it.
+/// A record with the bytes after it, as many as the header's length (`len` of `struct fuse_in_header`) says.
 #[derive(Drop)]
 pub struct WithBytes<'a, T> {
+    /// The record, with which the request begins behind its header.
     pub record: T,
+    /// The bytes after it.
     pub bytes: RequestBytes<'a>,
 }
 
-/// A record, and as many bytes as the header's length leaves after it.
+/// A record, and as many bytes as the header's length, `len`, leaves after it. `DecodeMessage` where the record or
+/// these bytes aren't all there, `InvalidHeaderLength` where `len` ends before the record does, and `OutOfMemory` only
+/// where the bytes stand in several segments.
 pub fn read_with_bytes<'a, T: InRecord>(
     alloc: Global,
     len: u32,

@@ -21,7 +21,8 @@ fn has_setxattr_ext(options: FsOptions) -> bool
     (options & FsOptions::SETXATTR_EXT).bits() != 0
 }
 
-/// The record of SETXATTR (`struct fuse_setxattr_in`: 16 bytes with `SETXATTR_EXT`, else 8), and the bytes after it.
+/// The record of SETXATTR (`struct fuse_setxattr_in`: 16 bytes with `SETXATTR_EXT`, else 8), and the bytes after it:
+/// `DecodeMessage`, `InvalidHeaderLength` or `OutOfMemory`, as `read_with_bytes` has them.
 #[tactic(auto, using(crate::proofs::NameLemmas::setxattr_long))]
 pub fn read_setxattr<'a>(
     alloc: Global,

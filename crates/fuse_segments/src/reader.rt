@@ -265,8 +265,9 @@ impl<'a> Reader<'a> {
         Ok(T::get_bytes(&buffer[..T::SIZE]))
     }
 
-    /// Lends the front of the first segment that isn't empty, cut to `count`, to one call of a file; without one where
-    /// nothing is left or `count` is 0. An error uses up nothing.
+    /// Lends the front of the first segment that isn't empty, cut to `count` bytes, to one call of a file, and answers
+    /// how many it wrote; without a call 0, where nothing is left or `count` is 0. An errno is the file's own, and uses
+    /// up nothing.
     pub fn write_to_file_at<F: PositionedFile>(
         &mut self,
         file: &mut F,
@@ -294,8 +295,8 @@ impl<'a> Reader<'a> {
         }
     }
 
-    /// Splits what is left at a place: what stands behind it goes to a reader of its own, with no byte read.
-    /// `SplitOutOfBounds` where the place is past the end. A refusal changes nothing.
+    /// Splits what is left at a place, in bytes: what stands behind it goes to a reader of its own, with no byte read.
+    /// `SplitOutOfBounds` where the place is past the end, else `OutOfMemory`. A refusal changes nothing.
     #[tactic(auto, using(crate::proofs::Cutting::take_past, crate::proofs::Cutting::drop_past))]
     pub fn split_at(&mut self, alloc: Global, offset: usize) -> Result<Reader<'a>, Error>
         ensures left { OnOk result ((offset ≤ length self.old.left) × (self.new.left ≡ take offset self.old.left)) }

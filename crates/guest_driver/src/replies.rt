@@ -5,12 +5,12 @@ ghost use Rattle.std.specs.Prelude.{◌≡◌, drop, IfOk, IfSome};
 use fuse_wire::OutHeader;
 use vm_values::ByteValued;
 
-/// The length of a reply's header.
+/// The length of a reply's header in bytes (`struct fuse_out_header`).
 pub const OUT_HEADER_LEN: usize = 16;
 
-/// What follows the header of the reply to this request, or the error number that the header tells, which is below 0;
-/// nothing where the bytes are no reply to it: they are not as many as the header says, it names another request, or an
-/// error is followed by bytes.
+/// What follows the header of the reply to this request, or the errno that the header tells (`error` of `struct
+/// fuse_out_header`, 16 bytes, little-endian), made negative as it stands there; nothing where the bytes are no reply
+/// to it: they are not as many as the header says, it names another request, or an error is followed by bytes.
 pub fn body(reply: &[u8], unique: u64) -> Option<Result<&[u8], i32>>
     ensures { IfSome result (λ told. IfOk told (λ body. body.now ≡ drop 16 reply.now)) }
 {

@@ -1,4 +1,5 @@
-//! The flat bytes of FUSE requests.
+//! The flat bytes of FUSE requests (linux/fuse.h): little-endian, a header of 40 bytes in front (`struct
+//! fuse_in_header`). Where memory is wanting for them, that is AllocError.
 
 ghost use Rattle.std.specs.Prelude.{◌<◌, ◌^◌, length};
 
@@ -6,10 +7,11 @@ use fuse_wire::{ForgetIn, InHeader, InitInCompat, Opcode, ReadIn};
 use std::alloc::{AllocError, Global};
 use vm_values::ByteValued;
 
-/// The length of a request's header.
+/// The length of a request's header in bytes.
 pub(crate) const IN_HEADER_LEN: usize = 40;
 
-/// A request's header, from user, group and process 0. `len` may be any, true or not, and `opcode` of no request.
+/// A request's header (`struct fuse_in_header`, 40 bytes), from user, group and process 0. `len`, in bytes, may be any,
+/// true or not, and `opcode` of no request.
 pub fn header(len: u32, opcode: u32, unique: u64, nodeid: u64) -> [u8; IN_HEADER_LEN] {
     let header = InHeader {
         len,
@@ -23,7 +25,7 @@ pub fn header(len: u32, opcode: u32, unique: u64, nodeid: u64) -> [u8; IN_HEADER
     bytes
 }
 
-/// One piece after the other.
+/// One piece after the other, in memory of its own; AllocError where memory is wanting.
 pub fn joined(alloc: Global, front: &[u8], back: &[u8]) -> Result<Vec<u8>, AllocError> {
     let mut all = Vec::new(alloc);
     all.extend_from_slice(front)?;
@@ -31,7 +33,7 @@ pub fn joined(alloc: Global, front: &[u8], back: &[u8]) -> Result<Vec<u8>, Alloc
     Ok(all)
 }
 
-/// A value's bytes behind others.
+/// A value's bytes behind others, in memory of its own; AllocError where memory is wanting.
 pub fn with_record<T: ByteValued>(
     alloc: Global,
     front: &[u8],
@@ -42,7 +44,7 @@ pub fn with_record<T: ByteValued>(
     joined(alloc, front, &bytes[..T::SIZE])
 }
 
-/// LOOKUP of a name, which goes out with its zero byte.
+/// LOOKUP of a name, which goes out with its zero byte: 41 bytes and the name's. AllocError where memory is wanting.
 pub fn lookup(alloc: Global, unique: u64, parent: u64, name: &[u8]) -> Result<Vec<u8>, AllocError>
     requires { length name.now < 2 ^ 16 }
 {
@@ -56,7 +58,7 @@ pub fn lookup(alloc: Global, unique: u64, parent: u64, name: &[u8]) -> Result<Ve
     Ok(all)
 }
 
-/// FORGET of so many lookups of a node, in 48 bytes.
+/// FORGET (`struct fuse_forget_in`) of so many lookups of a node, in 48 bytes. AllocError where memory is wanting.
 pub fn forget(
     alloc: Global,
     unique: u64,
@@ -67,7 +69,8 @@ pub fn forget(
     with_record(alloc, &header, &ForgetIn { nlookup })
 }
 
-/// READ of so many bytes of a node's file `fh` from an offset, in 80 bytes.
+/// READ (`struct fuse_read_in`) of so many bytes of a node's file `fh` from an offset in bytes, in 80 bytes. AllocError
+/// where memory is wanting.
 pub fn read(
     alloc: Global,
     unique: u64,
@@ -86,7 +89,8 @@ pub fn read(
     with_record(alloc, &header, &record)
 }
 
-/// INIT of a version with these flags, in 56 bytes.
+/// INIT (`struct fuse_init_in`, its first 16 bytes) of a version with these flags, in 56 bytes. AllocError where memory
+/// is wanting.
 pub fn init(alloc: Global, unique: u64, record: &InitInCompat) -> Result<Vec<u8>, AllocError> {
     with_record(alloc, &header(56, Opcode::Init as u32, unique, 0), record)
 }

@@ -1,4 +1,6 @@
-//! A guest's memory with a split virtqueue in it, drawn entry by entry (VIRTIO 1.2, section 2.7).
+//! A guest's memory with a split virtqueue in it, drawn entry by entry (VIRTIO 1.2, section 2.7). Addresses and lengths
+//! count bytes; all numbers stand little-endian. An access fails as `read_slice` and `write_slice` of the memory do:
+//! `InvalidGuestAddress` where no byte has a place, `PartialBuffer` where only some have.
 
 ghost use Rattle.std.specs.Prelude.{◌≡◌};
 ghost use Rattle.vm_memory_core.specs.Host.{lengths, shape};
@@ -12,10 +14,10 @@ use vm_memory_core::{GuestAddress, HostMemory, PageBitmap};
 /// The flag of a descriptor after which another comes (VIRTIO 1.2, 2.7.5).
 pub const NEXT: u16 = 1;
 
-/// The flag of a descriptor that the device writes.
+/// The flag of a descriptor that the device writes (VIRTIO 1.2, 2.7.5).
 pub const WRITE: u16 = 2;
 
-/// The flag of a descriptor whose bytes are a table of descriptors.
+/// The flag of a descriptor whose bytes are a table of descriptors (VIRTIO 1.2, 2.7.5.3).
 pub const INDIRECT: u16 = 4;
 
 /// A descriptor as a driver puts it into a table: le64 addr, le32 len, le16 flags, le16 next (VIRTIO 1.2, 2.7.5). It is
@@ -35,12 +37,17 @@ pub struct UsedElement {
     pub len: u32,
 }
 
-/// A queue's size and the addresses of its descriptor table, available ring and used ring.
+/// A queue's size in descriptors, and the addresses of its descriptor table, available ring and used ring (VIRTIO 1.2,
+/// 2.7).
 #[derive(Clone, Copy, Debug)]
 pub struct Ring {
+    /// How many descriptors the table has.
     pub size: u16,
+    /// The address of the descriptor table: 16 bytes for each descriptor.
     pub desc: u64,
+    /// The address of the available ring: 6 bytes, and 2 for each descriptor.
     pub avail: u64,
+    /// The address of the used ring: 6 bytes, and 8 for each descriptor.
     pub used: u64,
 }
 
@@ -64,7 +71,9 @@ fn clear(host: &mut HostMemory<PageBitmap>)
 }
 
 impl Guest {
-    /// Zeros in these regions, each from an address on and so long, with a ring in which nothing is offered.
+    /// Zeros in these regions, each from an address on and so many bytes long, with a ring in which nothing is offered.
+    /// Refused as `GuestMemoryMmap::from_ranges` refuses them: MmapRegion, InvalidGuestRegion, Collection or
+    /// OutOfMemory.
     pub fn new(
         alloc: Global,
         regions: &[(GuestAddress, usize)],
@@ -87,7 +96,8 @@ impl Guest {
         (self.host, self.mem)
     }
 
-    /// The memory behind an IOMMU that is off: no address is mapped, and the I/O pages are those below `io_end`.
+    /// The memory behind an IOMMU that is off: no address is mapped, and the I/O pages are those below `io_end`, an I/O
+    /// address in bytes. AllocError where memory is wanting.
     pub fn into_translated(
         self,
         alloc: Global,
@@ -106,13 +116,13 @@ impl Guest {
         Ok((host, mem))
     }
 
-    /// Puts bytes at an address.
+    /// Puts bytes at an address. `InvalidGuestAddress` or `PartialBuffer` where not all have a place.
     pub fn put(&mut self, addr: u64, bytes: &[u8]) -> Result<(), GuestMemoryError> {
         self.mem
             .write_slice(&mut self.host, bytes, GuestAddress(addr))
     }
 
-    /// The bytes from an address on.
+    /// The `N` bytes from an address on. `InvalidGuestAddress` or `PartialBuffer` where not all are there.
     pub fn bytes<const N: usize>(&self, addr: u64) -> Result<[u8; N], GuestMemoryError> {
         let mut bytes = [0; N];
         self.mem
@@ -120,7 +130,8 @@ impl Guest {
         Ok(bytes)
     }
 
-    /// So many bytes from an address on.
+    /// So many bytes from an address on. `InvalidGuestAddress` or `PartialBuffer` where not all are there, or
+    /// `OutOfMemory`.
     pub fn read(&self, alloc: Global, addr: u64, len: usize) -> Result<Vec<u8>, GuestMemoryError> {
         let mut bytes = Vec::new(alloc);
         bytes
@@ -131,7 +142,8 @@ impl Guest {
         Ok(bytes)
     }
 
-    /// Puts an entry of the descriptor table.
+    /// Puts an entry of the descriptor table, 16 bytes (VIRTIO 1.2, 2.7.5). `InvalidGuestAddress` or `PartialBuffer`
+    /// where it has no place.
     pub fn descriptor(
         &mut self,
         index: u16,
@@ -141,7 +153,8 @@ impl Guest {
         self.descriptor_in(table, index, descriptor)
     }
 
-    /// Puts an entry of a table of descriptors that begins at an address.
+    /// Puts an entry, 16 bytes, of a table of descriptors that begins at an address. `InvalidGuestAddress` or
+    /// `PartialBuffer` where it has no place.
     pub fn descriptor_in(
         &mut self,
         table: u64,
@@ -155,14 +168,16 @@ impl Guest {
         self.put(at.wrapping_add(14), &descriptor.next.to_le_bytes())
     }
 
-    /// Puts the available ring's index.
+    /// Puts the available ring's index, an le16 (VIRTIO 1.2, 2.7.6). `InvalidGuestAddress` or `PartialBuffer` where it
+    /// has no place.
     pub fn set_available(&mut self, index: u16) -> Result<(), GuestMemoryError> {
         let at = self.ring.avail.wrapping_add(2);
         self.offered = index;
         self.put(at, &index.to_le_bytes())
     }
 
-    /// Makes a chain available, by its head: the next entry of the available ring, then its index.
+    /// Makes a chain available, by its head: the next entry of the available ring, then its index, each an le16 (VIRTIO
+    /// 1.2, 2.7.6). `InvalidGuestAddress` or `PartialBuffer` where one of them has no place.
     pub fn make_available(&mut self, head: u16) -> Result<(), GuestMemoryError> {
         let slot = u64::from(self.offered % self.ring.size.max(1));
         let at = self.ring.avail.wrapping_add(4 + 2 * slot);
@@ -171,7 +186,8 @@ impl Guest {
     }
 
     /// Offers a chain of the entries from `head` on: first a request's bytes, cut into these readable parts (address
-    /// and length), then these writable ones.
+    /// and length in bytes), then these writable ones. `InvalidGuestAddress` or `PartialBuffer` where something that is
+    /// put has no place.
     pub fn chain(
         &mut self,
         head: u16,
@@ -184,7 +200,8 @@ impl Guest {
     }
 
     /// Offers such a chain of the entries of a table of its own, which begins at an address and is named by the entry
-    /// `head` of the descriptor table (VIRTIO 1.2, 2.7.5.3).
+    /// `head` of the descriptor table (VIRTIO 1.2, 2.7.5.3). `InvalidGuestAddress` or `PartialBuffer` where something
+    /// that is put has no place.
     pub fn indirect_chain(
         &mut self,
         head: u16,
@@ -233,7 +250,8 @@ impl Guest {
         Ok(())
     }
 
-    /// The used ring's element in a slot.
+    /// The used ring's element in a slot, 8 bytes (VIRTIO 1.2, 2.7.8). `InvalidGuestAddress` or `PartialBuffer` where
+    /// it isn't there.
     pub fn used(&self, slot: u16) -> Result<UsedElement, GuestMemoryError> {
         let at = self.ring.used.wrapping_add(4 + 8 * u64::from(slot));
         let id = u32::from_le_bytes(self.bytes(at)?);
@@ -241,14 +259,16 @@ impl Guest {
         Ok(UsedElement { id, len })
     }
 
-    /// The used ring's index.
+    /// The used ring's index, an le16 (VIRTIO 1.2, 2.7.8). `InvalidGuestAddress` or `PartialBuffer` where it isn't
+    /// there.
     pub fn used_index(&self) -> Result<u16, GuestMemoryError> {
         let bytes = self.bytes(self.ring.used.wrapping_add(2))?;
         Ok(u16::from_le_bytes(bytes))
     }
 
     /// The element of the chain that was returned last, where all that were offered are returned (VIRTIO 1.2, 2.7.8);
-    /// nothing where one isn't. At least one is to have been offered.
+    /// nothing where one isn't. At least one is to have been offered. `InvalidGuestAddress` or `PartialBuffer` where
+    /// the used ring isn't there.
     pub fn last_used(&self) -> Result<Option<UsedElement>, GuestMemoryError> {
         if self.used_index()? != self.offered {
             return Ok(None);
@@ -262,7 +282,7 @@ impl Guest {
         clear(&mut self.host);
     }
 
-    /// The marked pages, by block and number in it.
+    /// The marked pages, by block and number in it. AllocError where memory is wanting.
     pub fn marked(&self, alloc: Global) -> Result<Vec<(usize, usize)>, AllocError> {
         let mut pages = Vec::new(alloc);
         for block in 0..self.host.block_count() {

@@ -88,7 +88,8 @@ pub(crate) fn clear(host: &mut HostMemory<PageBitmap>)
     }
 }
 
-/// Each marked page with its bytes, by block and page; the marks are cleared. Where memory is wanting nothing changes.
+/// Each marked page with its bytes, by block and page; the marks are cleared. AllocError where memory is wanting; then
+/// nothing changes.
 pub fn harvest(
     alloc: Global,
     host: &mut HostMemory<PageBitmap>,

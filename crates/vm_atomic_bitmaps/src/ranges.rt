@@ -225,8 +225,8 @@ impl AtomicBitmap {
         }
     }
 
-    /// Takes all marks, in one step for each word: page p is bit p mod 64 of word p / 64. Where there is no memory
-    /// nothing is taken (vm-memory's `AtomicBitmap::get_and_reset`).
+    /// Takes all marks, in one step for each word: page p is bit p mod 64 of word p / 64 (vm-memory's
+    /// `AtomicBitmap::get_and_reset`). AllocError where memory is wanting; then nothing is taken.
     pub fn get_and_reset(
         &self,
         alloc: Global,

@@ -84,14 +84,16 @@ impl PageBitmap {
         })
     }
 
-    /// Clear marks for `byte_size` bytes in pages of `page_size` bytes (vm-memory's `AtomicBitmap::new`).
+    /// Clear marks for `byte_size` bytes in pages of `page_size` bytes (vm-memory's `AtomicBitmap::new`); AllocError
+    /// where memory is wanting.
     pub fn new(alloc: Global, byte_size: usize, page_size: NonZeroUsize) -> Result<Self, AllocError>
         ensures { IfOk result (λ b. b ≡ clear_set (non_zero_usize_get page_size) byte_size) }
     {
         PageBitmap::made(alloc, byte_size, page_size.get())
     }
 
-    /// The same bytes, pages and marks once more, in memory of the allocator that this value was made with.
+    /// The same bytes, pages and marks once more, in memory of the allocator that this value was made with; AllocError
+    /// where it is wanting.
     pub fn try_clone(&self) -> Result<PageBitmap, AllocError>
         ensures { IfOk result (λ b. b ≡ self.now) }
     {
@@ -203,9 +205,9 @@ impl PageBitmap {
         clear_words(&mut self.words, &mut self.summary);
     }
 
-    /// The marks as words of 64 pages, which are all cleared. Page p is bit p mod 64 of word p / 64
-    /// (vm-memory's `AtomicBitmap::get_and_reset`). The memory is of the allocator that this value was made
-    /// with; where there is none, nothing changes.
+    /// The marks as words of 64 pages, which are all cleared. Page p is bit p mod 64 of word p / 64 (vm-memory's
+    /// `AtomicBitmap::get_and_reset`). The memory is of the allocator that this value was made with; where there is
+    /// none, that is AllocError, and nothing changes.
     pub fn get_and_reset(&mut self) -> Result<Vec<u64>, AllocError>
         ensures words { IfOk result (λ words. words.items ≡ words_of self.old.marks) }
         ensures count { IfOk result (λ words. vec_len words ≡ div_ceil (length self.old.marks) 64) }

@@ -7,12 +7,16 @@ ghost use Rattle.vm_iotlb.specs.Ranges.{AddsPart, AddsParts, AddsRange, AreRange
 use crate::permissions::Permissions;
 use std::alloc::{AllocError, Global};
 
-// I/O addresses from a first one up to an end, which are mapped to addresses from a target on.
+/// I/O addresses, each of a byte, from a first one up to an end, which are mapped to addresses from a target on.
 #[derive(Clone, Copy)]
 pub struct IotlbRange {
+    /// The first I/O address.
     pub start: u64,
+    /// The I/O address behind the last.
     pub end: u64,
+    /// The address that the first is mapped to; those that follow go on from there.
     pub target: u64,
+    /// The accesses that are let through.
     pub perm: Permissions,
 }
 

@@ -58,8 +58,8 @@ impl<R: GuestMemoryRegion> GuestRegionCollection<R> {
         }
     }
 
-    /// The same of regions that others may share; no memory is taken (vm-memory's
-    /// `GuestRegionCollection::from_arc_regions`).
+    /// The same of regions that others may share: NoMemoryRegion, UnsortedMemoryRegions or MemoryRegionOverlap. No
+    /// memory is taken (vm-memory's `GuestRegionCollection::from_arc_regions`).
     pub fn from_arc_regions(
         alloc: Global,
         regions: Vec<Arc<R>>,
@@ -170,7 +170,7 @@ impl<R: GuestMemoryRegion> GuestRegionCollection<R> {
         ))
     }
 
-    /// The same regions once more.
+    /// The same regions once more; AllocError where memory is wanting.
     pub fn try_clone(&self) -> Result<GuestRegionCollection<R>, AllocError>
         ensures { IfOk result (λ m. m ≡ self.now) }
     {

@@ -97,7 +97,8 @@ impl<M: GuestMemoryBackend + Drop, I: Iommu + Drop> IommuMemory<M, I> {
 }
 
 impl<M: GuestMemoryBackend + Drop, I: Iommu + Clone> IommuMemory<M, I> {
-    /// Another backend behind the same IOMMU, with the same set of I/O pages.
+    /// Another backend behind a clone of the IOMMU, with the same set of I/O pages (vm-memory's
+    /// `IommuMemory::with_replaced_backend`); AllocError where memory for the clone is wanting.
     pub fn with_replaced_backend(&self, new_backend: M) -> Result<IommuMemory<M, I>, AllocError>
         ensures backend { IfOk result (λ m. m.backend ≡ new_backend) }
         ensures iommu { IfOk result (λ m. I.is_clone self.now.iommu m.iommu) }

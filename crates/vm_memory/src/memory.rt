@@ -83,7 +83,7 @@ pub trait GuestMemory: HeldIn {
     ghost longest: { Self → Host → Permissions → ℕ → ℕ };
 
     /// Whether each of `count` addresses from one on has a place, for an access (vm-memory's
-    /// `GuestMemory::check_range`).
+    /// `GuestMemory::check_range`). AllocError only where they aren't mapped throughout.
     fn check_range<H: HostBlocks>(
         &self,
         alloc: Global,
@@ -116,7 +116,8 @@ pub trait GuestMemory: HeldIn {
     fn physical_memory(&self) -> Option<&Self::PhysicalMemory>
         ensures { (h : Host) → option_map (λ m. Self.PhysicalMemory.layout m.now) result ≡ physical_layout (memory self.now h) };
 
-    /// Reads a buffer full of bytes from an address on, or answers that one of them isn't there.
+    /// Reads a buffer full of bytes from an address on, or answers false, where one of them isn't there. AllocError
+    /// only where they aren't mapped throughout.
     fn read_range<H: HostBlocks>(
         &self,
         alloc: Global,
@@ -128,8 +129,8 @@ pub trait GuestMemory: HeldIn {
         ensures found { Checks (memory self.now (H.host h.now)) Read addr.0 (length buffer.old) result }
         ensures bytes { Reads (memory self.now (H.host h.now)) addr.0 (length buffer.old) buffer.new result };
 
-    /// Adds the windows of `count` addresses from one on, joined, for an access, or answers that one of them has no
-    /// place. Memory is wanting only where a translation fails, or where the list has no room left.
+    /// Adds the windows of `count` addresses from one on, joined, for an access, or answers false, where one of them
+    /// has no place. AllocError only where they aren't mapped throughout, or where the list has no room left.
     fn push_windows<H: HostBlocks>(
         &self,
         alloc: Global,

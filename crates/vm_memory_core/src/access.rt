@@ -20,7 +20,7 @@ use vm_values::ByteValued;
 /// Memory whose bytes are read and written by their address (vm-memory's `Bytes`). The host is lent to each
 /// call.
 pub trait Bytes<A> {
-    /// What a refused access answers.
+    /// What a refused access answers (vm-memory's `Bytes::E`).
     type E;
 
     // whether a host has this memory
@@ -32,7 +32,8 @@ pub trait Bytes<A> {
     // what refuses an access to so many bytes of which only some are there
     ghost partial: { ℕ → ℕ → Self.E };
 
-    /// Reads as many bytes as are there, at most as many as the buffer has: how many (vm-memory's `Bytes::read`).
+    /// Reads as many bytes as are there, at most as many as the buffer has: how many, or the error that refuses them
+    /// all (vm-memory's `Bytes::read`).
     fn read<B: NewBitmap>(
         &self,
         h: &HostMemory<B>,
@@ -42,7 +43,8 @@ pub trait Bytes<A> {
         requires { IsHeld self.now h.now }
         ensures { ReadsSome (Reaches self.now h.now addr (length buf.old) Permissions.Read) h.now buf.old buf.new result };
 
-    /// Writes as many bytes as are there, and marks their pages: how many (vm-memory's `Bytes::write`).
+    /// Writes as many bytes as are there, and marks their pages: how many, or the error that refuses them all
+    /// (vm-memory's `Bytes::write`).
     fn write<B: NewBitmap>(
         &self,
         h: &mut HostMemory<B>,
@@ -54,7 +56,8 @@ pub trait Bytes<A> {
         ensures held { IsHeld self.now h.new }
         ensures shape { shape h.new ≡ shape h.old };
 
-    /// Fills a buffer. Where only some bytes are there, these are read (vm-memory's `Bytes::read_slice`).
+    /// Fills a buffer. Where only some bytes are there, these are read, and the error is `partial`, as PartialBuffer;
+    /// one that refuses them all is that of `read` (vm-memory's `Bytes::read_slice`).
     fn read_slice<B: NewBitmap>(
         &self,
         h: &HostMemory<B>,
@@ -64,8 +67,8 @@ pub trait Bytes<A> {
         requires { IsHeld self.now h.now }
         ensures { ReadsAll (Reaches self.now h.now addr (length buf.old) Permissions.Read) partial h.now buf.old buf.new result };
 
-    /// Writes all of a buffer, and marks the pages. Where only some bytes are there, these are written (vm-memory's
-    /// `Bytes::write_slice`).
+    /// Writes all of a buffer, and marks the pages. Where only some bytes are there, these are written, and the error
+    /// is `partial`, as PartialBuffer; one that refuses them all is that of `write` (vm-memory's `Bytes::write_slice`).
     fn write_slice<B: NewBitmap>(
         &self,
         h: &mut HostMemory<B>,
@@ -78,7 +81,8 @@ pub trait Bytes<A> {
         ensures held { IsHeld self.now h.new }
         ensures shape { shape h.new ≡ shape h.old };
 
-    /// The value that the bytes from an address on spell (vm-memory's `Bytes::read_obj`).
+    /// The value that the bytes from an address on spell, as `ByteValued` has them; the errors are those of
+    /// `read_slice` (vm-memory's `Bytes::read_obj`).
     final fn read_obj<T: ByteValued, B: NewBitmap>(
         &self,
         h: &HostMemory<B>,
@@ -95,8 +99,8 @@ pub trait Bytes<A> {
         }
     }
 
-    /// Writes a value's bytes from an address on, and marks their pages. Where only some bytes are there, these
-    /// are written (vm-memory's `Bytes::write_obj`).
+    /// Writes a value's bytes from an address on, and marks their pages. The errors are those of `write_slice`: where
+    /// only some bytes are there, these are written (vm-memory's `Bytes::write_obj`).
     final fn write_obj<T: ByteValued, B: NewBitmap>(
         &self,
         h: &mut HostMemory<B>,

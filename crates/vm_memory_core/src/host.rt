@@ -52,7 +52,8 @@ impl<B: NewBitmap> HostMemory<B> {
         }
     }
 
-    /// A new block of `len` zeros, none of whose pages is marked: its number.
+    /// A new block of `len` bytes, all zero, none of whose pages is marked: its number. AllocError where memory is
+    /// wanting; then nothing changes.
     pub fn new_block(&mut self, len: usize) -> Result<usize, AllocError>
         requires { 0 < len }
         ensures number { IfOk result (λ b. b ≡ length self.old.blocks) }
@@ -66,7 +67,8 @@ impl<B: NewBitmap> HostMemory<B> {
         Ok(number)
     }
 
-    /// A new table, in which no I/O address is mapped: its number.
+    /// A new table, in which no I/O address is mapped: its number. AllocError where memory is wanting; then nothing
+    /// changes.
     pub fn new_table(&mut self) -> Result<usize, AllocError>
         ensures number { IfOk result (λ t. t ≡ length self.old.tables) }
         ensures ok { IfOk result (λ _. self.new ≡ with_table self.old []) }
@@ -78,6 +80,7 @@ impl<B: NewBitmap> HostMemory<B> {
     }
 
     /// A new set of dirty I/O pages for the addresses below `byte_size`, none of which is marked: its number.
+    /// AllocError where memory is wanting; then nothing changes.
     pub fn new_io_bitmap(&mut self, byte_size: usize) -> Result<usize, AllocError>
         ensures number { IfOk result (λ i. i ≡ length self.old.io_marks) }
         ensures ok { IfOk result (λ _. self.new ≡ with_io_pages self.old (replicate (B.count byte_size) false)) }
@@ -293,7 +296,8 @@ fn cloned_tables(alloc: Global, tables: &[Iotlb]) -> Result<Vec<Iotlb>, AllocErr
 impl HostMemory<PageBitmap> {
     ghost use Rattle.vm_memory_core.specs.Host.{changed_at, unmarked, with_blocks};
 
-    /// The same memory once more: blocks with their bytes and marks, tables, and sets of I/O pages.
+    /// The same memory once more: blocks with their bytes and marks, tables, and sets of I/O pages. AllocError where
+    /// memory is wanting.
     pub fn try_clone(&self) -> Result<HostMemory<PageBitmap>, AllocError>
         ensures { IfOk result (λ h. h ≡ self.now) }
     {

@@ -101,7 +101,7 @@ pub trait HostBlocks {
         }
     }
 
-    /// The bytes of the windows, joined; there are about `capacity` of them. An error is a want of memory.
+    /// The bytes of the windows, joined; there are about `capacity` of them. AllocError where memory is wanting.
     #[tactic(auto, unfolding(crate::specs::Window::AllLieIn))]
     #[inline(always)]
     final fn fetch_windows(
