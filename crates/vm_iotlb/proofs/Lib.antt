@@ -3,3 +3,10 @@ pub mod RunLemmas
 pub mod PieceLemmas
 pub mod SearchLemmas
 pub mod Canonical
+pub mod MapLemmas
+pub mod LookupLemmas
+pub mod ExchangeLemmas
+pub mod CutLemmas
+pub mod TakeLemmas
+pub mod SideLemmas
+pub mod SetLemmas

@@ -34,7 +34,7 @@ unfolding may_all
 may_head t access a zero some all = absurd (omega arith)
 may_head t access a (suc n) some all = (and_parts _ _ all).0
 
-stopped : (t : Table) (access : Permissions) (a e : ℕ) → a < e → t a ≡ None → may_all t access a (e - a) ≡ true → ⊥
+pub stopped : (t : Table) (access : Permissions) (a e : ℕ) → a < e → t a ≡ None → may_all t access a (e - a) ≡ true → ⊥
 stopped t access a e some none all =
     let held : may_pass access (t a) ≡ true = may_head t access a (e - a) (omega arith) all in
     false≢true (rw none at held)

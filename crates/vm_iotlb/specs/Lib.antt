@@ -5,3 +5,4 @@ pub mod Pieces
 pub mod Changes
 pub mod Numbers
 pub mod Examples
+pub mod Keys

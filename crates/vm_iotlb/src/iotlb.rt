@@ -1,6 +1,7 @@
 //! An IOMMU's table (vm-memory's `Iotlb`).
 
 ghost use Rattle.std.specs.Prelude.{◌≡◌, ℕ, ◌+◌, ◌<◌, ◌≤◌, ◌^◌, List, [], ◌∷◌, IfOk, MatchOption, true};
+ghost use Rattle.std.specs.Map.{values_of};
 ghost use Rattle.vm_iotlb.specs.Changes.{InvalidatesMapping, SetsMapping};
 ghost use Rattle.vm_iotlb.specs.Ranges.{AreRanges, EndsAbove, table_kept};
 ghost use Rattle.vm_iotlb.specs.AddressRuns.{LooksUp, may_all, pieces};
@@ -12,8 +13,11 @@ use crate::error::IommuError;
 use crate::iova::MappedRange;
 use crate::lookup::{IotlbIterator, LookupError, fails_among, is_covered, misses_whole};
 use crate::permissions::Permissions;
-use crate::range::{IotlbRange, with_range, without};
+use crate::range::IotlbRange;
+use crate::ranges::{Ranges, key_from, last_up_to, map_range, take_out};
 use std::alloc::{AllocError, Global};
+use std::collections::BTreeMap;
+use std::collections::btree_map::Range;
 use std::marker::Model;
 use vm_values::GuestAddress;
 
@@ -22,19 +26,21 @@ use vm_values::GuestAddress;
 #[derive(Drop)]
 pub struct Iotlb {
     alloc: Global,
-    ranges: Vec<IotlbRange>,
+    ranges: Ranges,
 }
 
 impl Model for Iotlb {
     ghost use Rattle.std.specs.Prelude.{List};
     ghost use Rattle.vm_iotlb.specs.declared.range.IotlbRange.{IotlbRange};
+    ghost use Rattle.std.specs.Map.{values_of};
+    ghost use Rattle.vm_iotlb.specs.Keys.{AreKeyed};
     ghost use Rattle.vm_iotlb.specs.Ranges.{AreRanges};
 
     ghost Value = { List IotlbRange };
 
-    ghost view = { λ t. t.ranges.items };
+    ghost view = { λ t. values_of t.ranges.entries };
 
-    ghost invariant = { λ t. AreRanges t.ranges.items };
+    ghost invariant = { λ t. AreKeyed t.ranges.entries × AreRanges (values_of t.ranges.entries) };
 }
 
 impl Iotlb {
@@ -44,7 +50,7 @@ impl Iotlb {
     {
         Iotlb {
             alloc,
-            ranges: Vec::new(alloc),
+            ranges: BTreeMap::new(alloc),
         }
     }
 
@@ -54,7 +60,7 @@ impl Iotlb {
     {
         Ok(Iotlb {
             alloc: self.alloc,
-            ranges: Vec::from_slice(self.alloc, &self.ranges)?,
+            ranges: self.ranges.clone()?,
         })
     }
 
@@ -84,11 +90,8 @@ impl Iotlb {
             target: target.0,
             perm,
         };
-        match with_range(self.alloc, &self.ranges, range) {
-            Ok(ranges) => {
-                self.ranges = ranges;
-                Ok(())
-            }
+        match map_range(&mut self.ranges, &range) {
+            Ok(()) => Ok(()),
             Err(_) => Err(IommuError::OutOfMemory),
         }
     }
@@ -108,11 +111,8 @@ impl Iotlb {
         if length == 0 {
             return Ok(());
         }
-        match without(self.alloc, &self.ranges, iova.0, end) {
-            Ok(ranges) => {
-                self.ranges = ranges;
-                Ok(())
-            }
+        match take_out(&mut self.ranges, iova.0, end) {
+            Ok(()) => Ok(()),
             Err(_) => Err(IommuError::OutOfMemory),
         }
     }
@@ -139,11 +139,29 @@ impl Iotlb {
         let Some(end) = iova.0.checked_add(length as u64) else {
             return Err(misses_whole(self.alloc, iova, length));
         };
-        let ranges = self.ranges_from(iova.0);
-        if is_covered(ranges, iova.0, end, access) {
-            return Ok(IotlbIterator::over(ranges, iova.0, end));
+        match last_up_to(&self.ranges, iova.0) {
+            Some(range) if end <= range.end && range.perm.allow(access) => {
+                Ok(IotlbIterator::within(range, iova.0, end))
+            }
+            _ => self.lookup_pieces(iova, length, end, access),
         }
-        match fails_among(self.alloc, ranges, iova.0, end, access) {
+    }
+
+    // The same, range by range.
+    fn lookup_pieces(
+        &self,
+        iova: GuestAddress,
+        length: usize,
+        end: u64,
+        access: Permissions,
+    ) -> Result<IotlbIterator<'_>, LookupError>
+        requires { end ≡ iova.0 + length }
+        ensures { LooksUp (table_kept self.now) iova.0 length access result }
+    {
+        if is_covered(self.ranges_from(iova.0), iova.0, end, access) {
+            return Ok(IotlbIterator::over(self.ranges_from(iova.0), iova.0, end));
+        }
+        match fails_among(self.alloc, self.ranges_from(iova.0), iova.0, end, access) {
             Ok(fails) => Err(LookupError::Fails(fails)),
             Err(_) => Err(LookupError::OutOfMemory),
         }
@@ -159,18 +177,20 @@ impl Iotlb {
         ensures { MatchOption result ⊥ (λ p. (rest : List MappedRange) × (pieces (table_kept self.now) iova.0 length ≡ p ∷ rest)) }
     {
         let end = iova.0 + length as u64;
-        IotlbIterator::over(self.ranges_from(iova.0), iova.0, end).next()
+        match last_up_to(&self.ranges, iova.0) {
+            Some(range) => IotlbIterator::within(range, iova.0, end.min(range.end)).next(),
+            None => None,
+        }
     }
 
     // The ranges that end above an address.
     #[inline]
-    fn ranges_from(&self, iova: u64) -> &[IotlbRange]
-        ensures ranges { AreRanges result.now }
-        ensures table { (a : ℕ) → iova ≤ a → table_kept self.now a ≡ table_kept result.now a }
-        ensures first { EndsAbove iova result.now }
+    fn ranges_from(&self, iova: u64) -> Range<'_, u64, IotlbRange>
+        ensures ranges { AreRanges (values_of result) }
+        ensures table { (a : ℕ) → iova ≤ a → table_kept self.now a ≡ table_kept (values_of result) a }
+        ensures first { EndsAbove iova (values_of result) }
     {
-        let ended = self.ranges.partition_point(|range| range.end <= iova);
-        &self.ranges[ended..]
+        self.ranges.range(key_from(&self.ranges, iova)..)
     }
 
     /// Tables that do the same to each address are the same, range by range: this is a law, and the call does nothing.

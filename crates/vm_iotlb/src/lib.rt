@@ -7,6 +7,7 @@ mod iova;
 mod lookup;
 mod permissions;
 mod range;
+mod ranges;
 
 pub use error::IommuError;
 pub use iotlb::Iotlb;

@@ -2,6 +2,7 @@
 
 ghost use Rattle.std.specs.Prelude.{◌≡◌, ◌+◌, ◌^◌, ◌-◌, ◌≤◌, ◌<◌, ◌++◌, ◌∷◌, [], IfOk, OnOk, MatchOption, length};
 ghost use Rattle.std.specs.Iterator.{at_most};
+ghost use Rattle.std.specs.Map.{values_of};
 ghost use Rattle.vm_iotlb.specs.Ranges.{Agree, AreRanges, EndsAbove};
 ghost use Rattle.vm_iotlb.specs.Table.{Table};
 ghost use Rattle.vm_iotlb.specs.Pieces.{Cover, pieces_in};
@@ -11,6 +12,7 @@ use crate::iova::{IovaRange, MappedRange};
 use crate::permissions::Permissions;
 use crate::range::IotlbRange;
 use std::alloc::{AllocError, Global};
+use std::collections::btree_map::Range;
 use std::marker::Model;
 use thiserror::Error;
 use vm_values::GuestAddress;
@@ -37,7 +39,8 @@ pub enum LookupError {
 /// What I/O addresses are mapped to, range by range (vm-memory's `IotlbIterator`).
 #[derive(Drop)]
 pub struct IotlbIterator<'a> {
-    ranges: &'a [IotlbRange],
+    first: Option<&'a IotlbRange>,
+    rest: Option<Range<'a, u64, IotlbRange>>,
     next: u64,
     end: u64,
 }
@@ -45,24 +48,40 @@ pub struct IotlbIterator<'a> {
 impl<'a> Model for IotlbIterator<'a> {
     ghost use Rattle.std.specs.Prelude.{List};
     ghost use Rattle.vm_iotlb.specs.declared.iova.MappedRange.{MappedRange};
+    ghost use Rattle.vm_iotlb.specs.Keys.{ranges_left};
     ghost use Rattle.vm_iotlb.specs.Pieces.{Cover, pieces_in};
 
     ghost Value = { List MappedRange };
 
-    ghost view = { λ i. pieces_in i.ranges.now i.next i.end };
+    ghost view = { λ i. pieces_in (ranges_left i.first i.rest) i.next i.end };
 
-    ghost invariant = { λ i. Cover i.ranges.now i.next i.end };
+    ghost invariant = { λ i. Cover (ranges_left i.first i.rest) i.next i.end };
 }
 
 impl<'a> IotlbIterator<'a> {
     // The pieces of the addresses from one up to another.
     #[inline]
-    pub(crate) fn over(ranges: &'a [IotlbRange], iova: u64, end: u64) -> IotlbIterator<'a>
-        requires { Cover ranges.now iova end }
-        ensures { result ≡ pieces_in ranges.now iova end }
+    pub(crate) fn over(ranges: Range<'a, u64, IotlbRange>, iova: u64, end: u64) -> IotlbIterator<'a>
+        requires { Cover (values_of ranges) iova end }
+        ensures { result ≡ pieces_in (values_of ranges.entry) iova end }
     {
         IotlbIterator {
-            ranges,
+            first: None,
+            rest: Some(ranges),
+            next: iova,
+            end,
+        }
+    }
+
+    // The piece of the addresses from one up to another, which lie in one range.
+    #[inline]
+    pub(crate) fn within(range: &'a IotlbRange, iova: u64, end: u64) -> IotlbIterator<'a>
+        requires { Cover (range.now ∷ []) iova end }
+        ensures { result ≡ pieces_in (range.now ∷ []) iova end }
+    {
+        IotlbIterator {
+            first: Some(range),
+            rest: None,
             next: iova,
             end,
         }
@@ -75,7 +94,8 @@ impl<'a> Default for IotlbIterator<'a> {
         ensures { result ≡ [] }
     {
         IotlbIterator {
-            ranges: &[],
+            first: None,
+            rest: None,
             next: 0,
             end: 0,
         }
@@ -94,32 +114,41 @@ impl<'a> Iterator for IotlbIterator<'a> {
         if self.end <= self.next {
             return None;
         }
-        match self.ranges.split_first() {
-            Some((first, rest)) => {
-                let stop = first.end.min(self.end);
-                let piece = MappedRange {
-                    base: GuestAddress(first.target + (self.next - first.start)),
-                    length: (stop - self.next) as usize,
-                };
-                self.ranges = rest;
-                self.next = stop;
-                Some(piece)
-            }
-            None => None,
-        }
+        let range = match self.first.take() {
+            Some(first) => first,
+            None => match self.rest.as_mut() {
+                Some(rest) => match rest.next() {
+                    Some((_, range)) => range,
+                    None => return None,
+                },
+                None => return None,
+            },
+        };
+        let stop = range.end.min(self.end);
+        let piece = MappedRange {
+            base: GuestAddress(range.target + (self.next - range.start)),
+            length: (stop - self.next) as usize,
+        };
+        self.next = stop;
+        Some(piece)
     }
 }
 
 // Whether an access may go through each address from one up to another.
 #[inline]
-pub(crate) fn is_covered(ranges: &[IotlbRange], iova: u64, end: u64, access: Permissions) -> bool
-    requires ranges { AreRanges ranges.now }
-    requires first { EndsAbove iova ranges.now }
+pub(crate) fn is_covered(
+    ranges: Range<'_, u64, IotlbRange>,
+    iova: u64,
+    end: u64,
+    access: Permissions,
+) -> bool
+    requires ranges { AreRanges (values_of ranges) }
+    requires first { EndsAbove iova (values_of ranges) }
     requires order { iova ≤ end }
-    ensures { (table : Table) → Agree table ranges.now iova end → result ≡ may_all table access iova (end - iova) }
+    ensures { (table : Table) → Agree table (values_of ranges.entry) iova end → result ≡ may_all table access iova (end - iova) }
 {
     let mut next = iova;
-    for range in ranges {
+    for (_, range) in ranges {
         if end <= next {
             return true;
         }
@@ -166,21 +195,23 @@ fn push_between(ranges: &mut Vec<IovaRange>, start: u64, end: u64) -> Result<(),
 // What stands in the way among the addresses from one up to another.
 pub(crate) fn fails_among(
     alloc: Global,
-    ranges: &[IotlbRange],
+    ranges: Range<'_, u64, IotlbRange>,
     iova: u64,
     end: u64,
     access: Permissions,
 ) -> Result<IotlbFails, AllocError>
-    requires ranges { AreRanges ranges.now }
-    requires first { EndsAbove iova ranges.now }
+    requires ranges { AreRanges (values_of ranges) }
+    requires first { EndsAbove iova (values_of ranges) }
     requires order { iova ≤ end }
-    ensures misses { (table : Table) → Agree table ranges.now iova end → IfOk result (λ f. f.misses.items ≡ missing table iova (end - iova)) }
-    ensures access { (table : Table) → Agree table ranges.now iova end → IfOk result (λ f. f.access_fails.items ≡ lacking table access iova (end - iova)) }
+    ensures misses { (table : Table) → Agree table (values_of ranges.entry) iova end
+        → IfOk result (λ f. f.misses.items ≡ missing table iova (end - iova)) }
+    ensures access { (table : Table) → Agree table (values_of ranges.entry) iova end
+        → IfOk result (λ f. f.access_fails.items ≡ lacking table access iova (end - iova)) }
 {
     let mut misses = Vec::new(alloc);
     let mut access_fails = Vec::new(alloc);
     let mut next = iova;
-    for range in ranges {
+    for (_, range) in ranges {
         if end <= next {
             return Ok(IotlbFails {
                 misses,

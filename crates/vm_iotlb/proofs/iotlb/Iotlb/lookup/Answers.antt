@@ -1,22 +1,23 @@
-use Rattle.std.proofs.Common.{◌≡◌, true, ◌-◌, ◌≤◌, sym, ◌∙◌, arith}
-use Rattle.vm_iotlb.specs.Ranges.{table_kept, Agree}
-use Rattle.vm_iotlb.specs.AddressRuns.{may_all, pieces}
-use Rattle.vm_iotlb.proofs.PieceLemmas.{cover, pieces_cover, joined_pieces}
+use Rattle.std.proofs.Common.{◌≡◌, ◌-◌, ◌∷◌, [], sym, ◌∙◌, arith}
+use Rattle.vm_iotlb.specs.Ranges.{table_kept}
+use Rattle.vm_iotlb.specs.AddressRuns.{pieces}
+use Rattle.vm_iotlb.proofs.PieceLemmas.{pieces_cover, joined_pieces}
+use Rattle.vm_iotlb.proofs.LookupLemmas.{may_within, within_one}
 use Rattle.vm_iotlb.proofs.iotlb.Iotlb.lookup.Goals as goal
 
-pub over-requires : goal.over-requires
-over-requires c =
-    let agree : Agree (table_kept c.args.self.now) c.ranges_from-ranges.result.now c.args.iova.0 c.in-Some.end = λ x from to. c.ranges_from-ranges.ensures.table x from in
-    cover (table_kept c.args.self.now) c.args.access c.ranges_from-ranges.result.now c.args.iova.0 c.in-Some.end c.ranges_from-ranges.ensures.ranges c.ranges_from-ranges.ensures.first
-    (omega (arith, c.in-Some.ensures)) agree (sym (c.if-is_covered.ensures (table_kept c.args.self.now) agree))
+pub within-requires : goal.within-requires
+within-requires c = (within_one c.self.inside.ranges.entries c.args.iova.0 c.in-Some.end c.in-Some-last_up_to.range.now c.self.invariant.0 c.self.invariant.1 c.in-Some-last_up_to.ensures (omega arith)).2
 
-pub returns-then-is_covered-clause-found : goal.returns-then-is_covered-clause-found
-returns-then-is_covered-clause-found c =
-    let agree : Agree (table_kept c.args.self.now) c.ranges_from-ranges.result.now c.args.iova.0 c.in-Some.end = λ x from to. c.ranges_from-ranges.ensures.table x from in
-    let order : c.args.iova.0 ≤ c.in-Some.end = omega (arith, c.in-Some.ensures) in
-    let all : may_all (table_kept c.args.self.now) c.args.access c.args.iova.0 (c.in-Some.end - c.args.iova.0) ≡ true = sym (c.if-is_covered.ensures (table_kept c.args.self.now) agree) in
-    let covered = cover (table_kept c.args.self.now) c.args.access c.ranges_from-ranges.result.now c.args.iova.0 c.in-Some.end c.ranges_from-ranges.ensures.ranges c.ranges_from-ranges.ensures.first order agree all in
-    let count : c.args.length ≡ c.in-Some.end - c.args.iova.0 = omega (arith, c.in-Some.ensures) in
-    let whole : c.over.result ≡ pieces (table_kept c.args.self.now) c.args.iova.0 (c.in-Some.end - c.args.iova.0) =
-    c.over.ensures ∙ pieces_cover (table_kept c.args.self.now) c.ranges_from-ranges.result.now c.args.iova.0 c.in-Some.end c.ranges_from-ranges.ensures.ranges covered order agree in
-    rw count (omega (arith, c.in-Some.ensures), all, whole, rw whole (joined_pieces (table_kept c.args.self.now) c.args.access (c.in-Some.end - c.args.iova.0) c.args.iova.0 all))
+pub returns-in-Some-last_up_to-clause-found : goal.returns-in-Some-last_up_to-clause-found
+returns-in-Some-last_up_to-clause-found c =
+    let es = c.self.inside.ranges.entries in
+    let r = c.in-Some-last_up_to.range.now in
+    let end = c.in-Some.end in
+    let count : c.args.length ≡ end - c.args.iova.0 = omega (arith, c.in-Some.ensures) in
+    let one = within_one es c.args.iova.0 end r c.self.invariant.0 c.self.invariant.1 c.in-Some-last_up_to.ensures (omega arith) in
+    let all = rw c.self.view_is at (may_within es c.args.access c.args.iova.0 end r c.self.invariant.0 c.self.invariant.1 c.in-Some-last_up_to.ensures (omega (arith, c.in-Some.ensures)) (omega arith)
+    (sym c.if-allow.ensures)) in
+    let agree = rw c.self.view_is at one.1 in
+    let whole : c.within.result ≡ pieces (table_kept c.args.self.now) c.args.iova.0 (end - c.args.iova.0) =
+    c.within.ensures ∙ pieces_cover (table_kept c.args.self.now) (r ∷ []) c.args.iova.0 end one.0 one.2 (omega (arith, c.in-Some.ensures)) agree in
+    rw count (omega (arith, c.in-Some.ensures), all, whole, rw whole (joined_pieces (table_kept c.args.self.now) c.args.access (end - c.args.iova.0) c.args.iova.0 all))
