@@ -25,9 +25,15 @@ pub fn table(rt: &impl Abort, alloc: Global, mappings: &[MappingRow]) -> Iotlb {
     table
 }
 
-// A range as base+length in hexadecimal.
-fn write_range(rt: &impl Abort, text: &mut String, base: GuestAddress, length: usize) {
+/// Writes a range as base+length in hexadecimal.
+pub fn write_range(rt: &impl Abort, text: &mut String, base: GuestAddress, length: usize) {
     write!(text, " {:x}+{:x}", base.0, length).expect(rt, "memory");
+}
+
+/// Writes as many addresses from a base on as there are from one up to another.
+pub fn write_section(rt: &impl Abort, text: &mut String, base: u64, from: u64, to: u64) {
+    let length = to.wrapping_sub(from) as usize;
+    write_range(rt, text, GuestAddress(base), length);
 }
 
 fn write_pieces(rt: &impl Abort, text: &mut String, pieces: IotlbIterator<'_>) {
@@ -44,7 +50,26 @@ fn write_ranges(rt: &impl Abort, text: &mut String, name: &str, ranges: &[IovaRa
     }
 }
 
-/// A look-up from an address on answers this: its pieces, or what misses and what lacks the permission.
+/// Writes what a look-up answers: its pieces, or what misses and what lacks the permission.
+pub fn write_found(
+    rt: &impl Abort,
+    text: &mut String,
+    table: &Iotlb,
+    iova: u64,
+    length: usize,
+    access: Permissions,
+) {
+    match table.lookup(GuestAddress(iova), length, access) {
+        Ok(pieces) => write_pieces(rt, text, pieces),
+        Err(LookupError::Fails(fails)) => {
+            write_ranges(rt, text, "misses", &fails.misses);
+            write_ranges(rt, text, ", lacks", &fails.access_fails);
+        }
+        Err(LookupError::OutOfMemory) => {}
+    }
+}
+
+/// A look-up from an address on answers this.
 pub fn expect_found(
     rt: &impl Abort,
     alloc: Global,
@@ -55,13 +80,6 @@ pub fn expect_found(
     want: &str,
 ) {
     let mut text = String::new(alloc);
-    match table.lookup(GuestAddress(iova), length, access) {
-        Ok(pieces) => write_pieces(rt, &mut text, pieces),
-        Err(LookupError::Fails(fails)) => {
-            write_ranges(rt, &mut text, "misses", &fails.misses);
-            write_ranges(rt, &mut text, ", lacks", &fails.access_fails);
-        }
-        Err(LookupError::OutOfMemory) => {}
-    }
+    write_found(rt, &mut text, table, iova, length, access);
     expect_same(rt, text.as_str(), want);
 }

@@ -1,8 +1,10 @@
-//! Tests of an IOMMU's table: worked look-ups, hostile ranges, texts and numbers of errors.
+//! Tests of an IOMMU's table: worked look-ups, changes beside a plain vector of ranges, hostile ranges, texts and numbers of errors.
 #![tactic(auto)]
 
 #[cfg(test)]
 mod changes;
+#[cfg(test)]
+mod compared;
 #[cfg(test)]
 mod errors;
 #[cfg(test)]
@@ -13,3 +15,5 @@ mod hostile;
 mod lookups;
 #[cfg(test)]
 mod permissions;
+#[cfg(test)]
+mod plain;
