@@ -5,12 +5,9 @@ use Rattle.fuse_wire.specs.declared.opcodes.Opcode.{Opcode}
 use Rattle.fuse_wire.specs.declared.opcodes.Opcode.TheVariants as op
 use Rattle.fuse_wire.specs.Opcodes.{opcode_of}
 use Rattle.fuse_fs.specs.Calls.{FileCall, FileAnswer, Forget, BatchForget, HasEntry, Created}
-use Rattle.fuse_segments.specs.declared.error.Error.TheVariants.{EncodeMessage}
 use Rattle.fuse_replies.specs.Entries.{entry_len}
 use Rattle.virtiofsd_fuse.specs.Grammar.{Meaning, Asks, One, meaning}
 use Rattle.virtiofsd_fuse.specs.Serving.{May}
-use Rattle.fs_device.specs.declared.exchange.Fault.{Fault}
-use Rattle.fs_device.specs.declared.exchange.Fault.TheVariants as fault
 use Rattle.fs_device.specs.Step.{State}
 use Rattle.fs_device.specs.Run.{Turn, Told, Command, Answer, RunTold}
 
@@ -96,15 +93,6 @@ nodes_in (Some opcode) body = nodes_of opcode body
 abbrev pub written : (node : ℕ) → Turn → ℕ
 written n t = count_by (λ k. k == n) (nodes_in (opcode_in t.exchange.request) (drop 16 t.exchange.reply))
 
--- whether the reply was longer than its room
-abbrev pub is_lost : Option Fault → Bool
-is_lost (Some (fault.Served EncodeMessage)) = true
-is_lost _ = false
-
--- the entries of a node that were answered, and whose reply was lost
-abbrev pub lost : (node : ℕ) → Turn → ℕ
-lost n t = if is_lost t.exchange.fault then answered n t else 0
-
 -- the counts of a node that a request takes back, by what it means
 abbrev pub forgets_meant : (node : ℕ) → Meaning → ℕ
 forgets_meant n (Asks (One unique call)) = forget_count n call
@@ -121,9 +109,9 @@ accepted n t = if length t.calls == 0 then 0 else forgets_meant n (meaning 0 t.e
 abbrev pub over : (Turn → ℕ) → List Told → ℕ
 over amount tolds = sum_by (λ told. sum_by amount told) tolds
 
--- answered minus sent is written plus lost minus accepted
+-- answered minus sent is written minus accepted
 abbrev pub IsBalanced : (node : ℕ) → List Told → Type 0
-IsBalanced n tolds = over (answered n) tolds + over (accepted n) tolds ≡ over (written n) tolds + over (lost n) tolds + over (sent n) tolds
+IsBalanced n tolds = over (answered n) tolds + over (accepted n) tolds ≡ over (written n) tolds + over (sent n) tolds
 
 -- each run balances, whatever the state that it begins in, for each node but 0, which stands for no node
 abbrev pub Balances : {F : Type 0} → May F → Type 0

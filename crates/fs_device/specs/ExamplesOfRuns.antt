@@ -36,7 +36,7 @@ use Rattle.host_copies.specs.Harvested.{block_pages, host_pages, harvested}
 use Rattle.fs_device.specs.Run as run
 use Rattle.fs_device.specs.Run.{Command, Answer, Turn, Affects, Run, RunTold, KickRun, effect, with_ranges}
 use Rattle.fs_device.specs.Marks.{SameButMarks, SameEvents}
-use Rattle.fs_device.specs.Books.{answered, sent, written, lost, accepted, nodes_listed}
+use Rattle.fs_device.specs.Books.{answered, sent, written, accepted, nodes_listed}
 use Rattle.fs_device.specs.Examples.{blank, queue, put, descriptor_bytes, request, with_one_request, Nothing, may, device, unknown_reply, unknown_exchange, after_reply, one_step}
 
 -- ---- kicks
@@ -205,9 +205,9 @@ list_tells_of_one : written 5 listing_turn ≡ 1
 unfolding listing_turn nodes_listed
 list_tells_of_one = refl
 
--- the accounts of node 2 over one exchange: answered, sent, written, lost, accepted
+-- the accounts of node 2 over one exchange: answered, sent, written, accepted
 abbrev accounts : Turn → List ℕ
-accounts t = answered 2 t ∷ sent 2 t ∷ written 2 t ∷ lost 2 t ∷ accepted 2 t ∷ []
+accounts t = answered 2 t ∷ sent 2 t ∷ written 2 t ∷ accepted 2 t ∷ []
 
 -- a file `a` in a listing
 abbrev listed_a : files.Listed
@@ -217,9 +217,10 @@ listed_a = record { ino = 2; offset = 2; kind = 8; name = 97 ∷ [] }
 abbrev entry_of_a : Entry ℕ
 entry_of_a = record (no_node listed_a) { inode = 2 }
 
--- each LOOKUP is answered with that entry, and counted
+-- each LOOKUP is answered with that entry, and counted; a FORGET takes counts back
 abbrev finds : May ℕ
 finds before (files.Lookup who parent name) (files.HasEntry entry) after = (entry ≡ entry_of_a) × (after ≡ before + 1)
+finds before (files.Forget who node count) files.Done after = after + count ≡ before
 finds before call answer after = ⊥
 
 -- LOOKUP of `a` in the root
@@ -235,32 +236,37 @@ short_of_room =
     record { memory = c; queues = queue ∷ []; options = 0; files = 0; limit = 0x101000; page_size = 4096 }
 
 -- the exchange without its reply
-abbrev lost_exchange : Exchange
-lost_exchange = record { head = 0; request = look_up; reply = []; fault = Some (fault.Served EncodeMessage) }
+abbrev unheard_exchange : Exchange
+unheard_exchange = record { head = 0; request = look_up; reply = []; fault = Some (fault.Served EncodeMessage) }
 
--- that exchange, with its one call, which was answered
-abbrev lost_turn : Turn
-lost_turn = record { exchange = lost_exchange; notice = true; calls = (files.Lookup nobody 1 (97 ∷ []), files.HasEntry entry_of_a) ∷ [] }
-
--- the chain went back with nothing
-abbrev reply_lost : State ℕ
-reply_lost = after_return short_of_room 0 queue 0 (addresses 0x2000 143) [] 0 1
-
-kick_loses_a_reply : Run finds short_of_room ((run.Kick 0 1, run.Served (record { exchanges = (lost_exchange, true) ∷ []; refused = None })) ∷ []) reply_lost
-unfolding RunTold KickRun offer place addresses stored_all path found meaning reading_of meant row counted last_name reply_bytes fields.field_bytes
-kick_loses_a_reply =
-    let step : Step finds short_of_room 0 lost_turn.calls (Exchanged lost_exchange true) reply_lost =
+-- that exchange, with its calls: the entry that was answered is given back
+abbrev unheard_turn : Turn
+unheard_turn =
     record {
-      given = record { calls = files.Lookup nobody 1 (97 ∷ []) ∷ []; options = 0; reply = []; fault = Some EncodeMessage };
-      serves = record { gives = refl; asks = refl; run = (1, refl, (refl, refl), refl) };
+      exchange = unheard_exchange;
+      notice = true;
+      calls = (files.Lookup nobody 1 (97 ∷ []), files.HasEntry entry_of_a) ∷ (files.Forget nobody 2 1, files.Done) ∷ [];
+    }
+
+-- the chain went back with nothing, and the file system counts nothing
+abbrev entry_given_back : State ℕ
+entry_given_back = after_return short_of_room 0 queue 0 (addresses 0x2000 143) [] 0 0
+
+kick_gives_an_entry_back : Run finds short_of_room ((run.Kick 0 1, run.Served (record { exchanges = (unheard_exchange, true) ∷ []; refused = None })) ∷ []) entry_given_back
+unfolding RunTold KickRun offer place addresses stored_all path found meaning reading_of meant row counted last_name reply_bytes fields.field_bytes
+kick_gives_an_entry_back =
+    let step : Step finds short_of_room 0 unheard_turn.calls (Exchanged unheard_exchange true) entry_given_back =
+    record {
+      given = record { calls = files.Lookup nobody 1 (97 ∷ []) ∷ files.Forget nobody 2 1 ∷ []; options = 0; reply = []; fault = Some EncodeMessage };
+      serves = record { gives = refl; asks = refl; run = (1, refl, (refl, refl), (0, refl, refl, refl)) };
       returns = record { exchange = refl; state = refl; told = refl };
     } in
-    ((lost_turn ∷ []) ∷ [], (reply_lost, ((reply_lost, step, refl), refl), refl))
+    ((unheard_turn ∷ []) ∷ [], (entry_given_back, ((entry_given_back, step, refl), refl), refl))
 
--- the node was answered once, and the driver never heard of it
-lost_once : accounts lost_turn ≡ 1 ∷ 0 ∷ 0 ∷ 1 ∷ 0 ∷ []
+-- the node was answered once and given back once, and the driver never heard of it
+unheard_balances : accounts unheard_turn ≡ 1 ∷ 1 ∷ 0 ∷ 0 ∷ []
 unfolding meaning reading_of meant row counted last_name
-lost_once = refl
+unheard_balances = refl
 
 -- READDIRPLUS of `.` and `a` with room for one of them: `a`, which was looked up, is taken back
 abbrev list_two : List ℕ
@@ -279,7 +285,7 @@ abbrev listed_turn : Turn
 listed_turn = record { exchange = record { head = 0; request = list_two; reply = as_listed.reply; fault = None }; notice = true; calls = zip as_listed.calls list_answers }
 
 -- the node was answered once and taken back once
-given_back_once : accounts listed_turn ≡ 1 ∷ 1 ∷ 0 ∷ 0 ∷ 0 ∷ []
+given_back_once : accounts listed_turn ≡ 1 ∷ 1 ∷ 0 ∷ 0 ∷ []
 unfolding meaning reading_of meant row reply_bytes fields.field_bytes list_entries fit_of dirent_bytes node_bytes nodes_listed
 given_back_once = refl
 

@@ -1,5 +1,5 @@
 -- What requests ask of the file system, by their header and what they say (linux/fuse.h).
-use Rattle.std.specs.Prelude.{ℕ, Bool, true, false, not, ◌||◌, nat_lt, List, length, Option, Some, None, is_none, if◌then◌else◌, bit_and}
+use Rattle.std.specs.Prelude.{ℕ, Bool, true, false, not, ◌||◌, nat_lt, List, [], ◌∷◌, length, Option, Some, None, is_none, if◌then◌else◌, bit_and}
 use Rattle.vm_values.specs.Bits.{has_bit}
 use Rattle.fuse_in.specs.declared.session.InHeader.{InHeader}
 use Rattle.fuse_in.specs.declared.nodes.AccessIn.{AccessIn}
@@ -23,7 +23,9 @@ use Rattle.fuse_in.specs.declared.files.ReadIn.{ReadIn}
 use Rattle.fuse_in.specs.declared.files.ReleaseIn.{ReleaseIn}
 use Rattle.fuse_in.specs.declared.nodes.SetattrIn.{SetattrIn}
 use Rattle.fuse_in.specs.declared.files.WriteIn.{WriteIn}
+use Rattle.fuse_fs.specs.declared.answers.Context.{Context}
 use Rattle.fuse_fs.specs.Answers.{context_of}
+use Rattle.fuse_fs.specs.Calls.{FileAnswer, HasEntry, Created}
 use Rattle.fuse_fs.specs.Calls.{FileCall, Access, CopyFileRange, Fallocate, Flush, Forget, Fsync, Fsyncdir, Getattr, Lookup, Lseek, Open, Opendir, Readlink, Release}
 use Rattle.fuse_fs.specs.Calls.{Releasedir, Removexattr, Rmdir, Setattr, Statfs, Syncfs, Unlink, Read, Readdir, Link, Rename, Setxattr, Getxattr, Listxattr, BatchForget, Write, Extra}
 use Rattle.fuse_fs.specs.Calls.{Symlink, Mknod, Mkdir, Create, NewLink, Destroy, Getlk, Setlk, Setlkw, Bmap, Ioctl, Poll, NotifyReply}
@@ -214,3 +216,24 @@ owns_memory _ = false
 abbrev pub options_after : ℕ → FileCall → ℕ
 options_after options Destroy = 0
 options_after options _ = options
+
+-- the node of the entry that an answer has
+abbrev pub entry_node : FileAnswer → Option ℕ
+entry_node (HasEntry e) = Some e.inode
+entry_node (Created e handle options) = Some e.inode
+entry_node _ = None
+
+-- the call that gives a node back, where there is one
+abbrev pub give_back : Context → (node : Option ℕ) → List FileCall
+give_back who None = []
+give_back who (Some node) = Forget who node 1 ∷ []
+
+-- the call that gives back the entry that was answered, node 0 too; a file that `create` opened stays open
+abbrev pub given_back : FileCall → FileAnswer → List FileCall
+given_back (Lookup who n name) answer = give_back who (entry_node answer)
+given_back (Symlink who l n name x) answer = give_back who (entry_node answer)
+given_back (Mknod who n name m r u x) answer = give_back who (entry_node answer)
+given_back (Mkdir who n name m u x) answer = give_back who (entry_node answer)
+given_back (Link who o n name) answer = give_back who (entry_node answer)
+given_back (Create who n name m k f u x) answer = give_back who (entry_node answer)
+given_back _ answer = []

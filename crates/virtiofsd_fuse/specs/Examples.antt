@@ -4,7 +4,7 @@ use Rattle.std.specs.Int.{w16, w32, w64, to_le_bytes}
 use Rattle.vm_values.specs.Fields.{field_bytes}
 use Rattle.fuse_fs.specs.declared.answers.Context.{Context}
 use Rattle.fuse_fs.specs.declared.answers.Entry.{Entry}
-use Rattle.fuse_fs.specs.Calls.{FileAnswer, Lookup, Forget, Getattr, Mkdir, Release, Rename, Wants, Listed, Readdir, Entries, HasEntry, Done}
+use Rattle.fuse_fs.specs.Calls.{FileAnswer, Lookup, Forget, Getattr, Mkdir, Create, Release, Rename, Wants, Listed, Readdir, Entries, HasEntry, Created, Done}
 use Rattle.fuse_segments.specs.declared.error.Error.TheVariants.{DecodeMessage, EncodeMessage, InvalidHeaderLength, InvalidXattrSize, MissingExtension}
 use Rattle.fuse_requests.specs.Reading.{reading_of, last_name, two_names, name_and_value, front_name}
 use Rattle.fuse_requests.specs.Extras.{one_group, part, extension, extensions, extra_in, new_name}
@@ -171,6 +171,27 @@ plus_means : (serve (list_root 44 160) 176 (Entries (itself ∷ named_a ∷ []) 
     ≡ Readdir nobody 1 0 160 0 ∷ Lookup nobody 1 (97 ∷ []) ∷ Forget nobody 2 1 ∷ []
 unfolding meaning meant reading_of row reply_bytes field_bytes list_entries fit_of dirent_bytes node_bytes
 plus_means = refl
+
+-- a LOOKUP that found `a`, in a room of a byte too few: the entry is given back
+lookup_given_back : serve (in_header_bytes 42 1 1 1 ++ 97 ∷ 0 ∷ []) 143 (HasEntry node_of_a ∷ Done ∷ [])
+    ≡ record { calls = Lookup nobody 1 (97 ∷ []) ∷ Forget nobody 2 1 ∷ []; options = 0; reply = []; fault = Some EncodeMessage }
+unfolding meaning meant reading_of row counted last_name reply_bytes field_bytes
+lookup_given_back = refl
+
+-- with that byte it is told, and nothing is given back
+lookup_told : (serve (in_header_bytes 42 1 1 1 ++ 97 ∷ 0 ∷ []) 144 (HasEntry node_of_a ∷ [])).calls ≡ Lookup nobody 1 (97 ∷ []) ∷ []
+unfolding meaning meant reading_of row counted last_name reply_bytes field_bytes
+lookup_told = refl
+
+-- CREATE of `c`, which may be read and written
+abbrev create : List ℕ
+create = in_header_bytes 58 35 1 1 ++ le32 2 ++ le32 420 ++ le32 18 ++ zeros 4 ++ 99 ∷ 0 ∷ []
+
+-- in a room of a byte too few the entry is given back, and the file that was opened stays open
+created_given_back : (serve create 159 (Created node_of_a (Some 9) 0 ∷ Done ∷ [])).calls
+    ≡ Create nobody 1 (99 ∷ []) 420 false 2 18 (record { security = None; group = None }) ∷ Forget nobody 2 1 ∷ []
+unfolding meaning meant reading_of row counted with_bytes front_name new_name reply_bytes field_bytes
+created_given_back = refl
 
 -- a name whose length has more than 32 bits is the error 75, however much room there is
 long_name : fit_of (2 ^ 32) (entry_len false (2 ^ 32)) (2 ^ 33) (2 ^ 33) ≡ IsWrong 75

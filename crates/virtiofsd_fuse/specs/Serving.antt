@@ -1,7 +1,7 @@
 -- What the server does for a meaning: its calls, given the answers so far, and its reply.
 use Rattle.std.specs.Prelude.{◌≡◌, ℕ, ◌-◌, Bool, false, nat_lt, List, [], ◌∷◌, map, length, Option, Some, None, Result, Ok, Err, if◌then◌else◌, bit_and, bit_or, MatchBool}
 use Rattle.fuse_wire.specs.declared.opcodes.Opcode.{Opcode}
-use Rattle.fuse_fs.specs.Calls.{FileCall, FileAnswer, FileRun, Init, Failed}
+use Rattle.fuse_fs.specs.Calls.{FileCall, FileAnswer, FileRun, Init, Failed, Done}
 use Rattle.fuse_fs.specs.Calls.{Entries, Wants}
 use Rattle.fuse_segments.specs.declared.error.Error.{Error}
 use Rattle.fuse_segments.specs.declared.error.Error.TheVariants.{EncodeMessage}
@@ -12,7 +12,7 @@ use Rattle.virtiofsd_fuse.specs.Listings.{Listing, Went, list_entries, readdir_c
 use Rattle.virtiofsd_fuse.specs.Grammar.{Meaning, IsFault, Replies, IsSilent, Asks, FileCommand, One, Starts, Lists, Given, given, ended, row, default_options}
 use Rattle.fuse_segments.specs.ReaderAndWriter.{WriterView}
 use Rattle.fuse_replies.specs.WholeReplies.{reply_bytes, error_bytes, started_bytes, told_bytes, listing_bytes, LeavesWriter}
-use Rattle.fuse_calls.specs.Requests.{is_silent, options_after}
+use Rattle.fuse_calls.specs.Requests.{is_silent, options_after, given_back}
 pub use Rattle.fuse_segments.specs.Errors.{is_memory, lacks_memory}
 
 -- what serving gives so far: the calls, the last of which may wait for its answer, the options after, the reply, and the fault if there is one
@@ -72,11 +72,20 @@ list_answered s unique l (Entries ds) answers = list_ended s unique l (list_entr
 list_answered s unique l (Failed errno) answers = replied s.room (readdir_call l ∷ []) s.options (error_bytes unique errno)
 list_answered s unique l _ answers = no_reply (readdir_call l ∷ []) s.options None
 
+-- the calls after a reply: where it is longer than the room, those that undo what it tells of
+abbrev pub undone : (room : ℕ) → (reply : List ℕ) → (undo : List FileCall) → List FileCall
+undone room reply undo = if nat_lt room (length reply) then undo else []
+
+-- one call that was answered, and its reply; an entry whose reply is longer than the room is given back
+abbrev pub one_answered : Setting → ℕ → FileCall → FileAnswer → Served
+one_answered s unique call answer =
+    let bytes = answer_bytes unique call answer in
+    replied s.room (call ∷ undone s.room bytes (given_back call answer)) (options_after s.options call) bytes
+
 -- a call without an answer so far has no reply; with one the reply is told of it
 abbrev pub commanded : Setting → FileCommand → List FileAnswer → Served
 commanded s (One unique call) [] = no_reply (call ∷ []) s.options None
-commanded s (One unique call) (answer ∷ answers) =
-    replied s.room (call ∷ []) (options_after s.options call) (answer_bytes unique call answer)
+commanded s (One unique call) (answer ∷ answers) = one_answered s unique call answer
 commanded s (Starts unique capable readahead) [] = no_reply (Init capable ∷ []) s.options None
 commanded s (Starts unique capable readahead) (answer ∷ answers) =
     replied s.room (Init capable ∷ []) (start_options s.options capable answer)
@@ -99,6 +108,10 @@ served_of calls options (Err fault) written = no_reply calls options (Some fault
 -- what a file system may answer: its state before, the call, the answer, its state after
 abbrev pub May : Type 0 → Type 1
 May F = F → FileCall → FileAnswer → F → Type 0
+
+-- calls that are done: they answer nothing
+abbrev pub all_done : List FileCall → List (FileCall × FileAnswer)
+all_done calls = map (λ call. (call, Done)) calls
 
 -- a request served whole: calls, each with its answer, along which the file system's state moves, and what comes of them
 pub record Serves {F : Type 0} (may : May F) (s : Setting) (m : Meaning) (before : F)
