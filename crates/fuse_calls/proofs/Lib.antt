@@ -1,1 +1,2 @@
+pub mod NoEntry
 pub mod Options

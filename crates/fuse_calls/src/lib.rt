@@ -3,6 +3,7 @@
 #![tactic(auto)]
 
 pub mod directories;
+pub mod entries;
 pub mod links;
 pub mod new_nodes;
 pub mod nodes;

@@ -1,9 +1,9 @@
 //! Requests that make a node.
 
-ghost use Rattle.std.specs.Prelude.{IsTrue, refl};
-ghost use Rattle.fuse_fs.specs.Answers.{extra_of, entry_answer};
+ghost use Rattle.std.specs.Prelude.{◌≡◌, IsTrue, refl};
+ghost use Rattle.fuse_fs.specs.Answers.{context_of, extra_of, entry_answer};
 ghost use Rattle.fuse_fs.specs.Calls.{suits};
-ghost use Rattle.fuse_calls.specs.Requests.{symlink_call, mknod_call, mkdir_call, create_call};
+ghost use Rattle.fuse_calls.specs.Requests.{symlink_call, mknod_call, mkdir_call, create_call, given_back, give_back, entry_node};
 
 use crate::received::{received_entry, received_file};
 use crate::requests::NewNameRequest;
@@ -118,6 +118,8 @@ pub fn make_symlink_call<F: FileSystem>(
         (entry_answer F.Inode.number result) fs.new }
     ensures suits { IsTrue
         (suits (symlink_call head.now (record { name = name.now; link = link.now; extra = extra_of extensions })) (entry_answer F.Inode.number result)) }
+    ensures back { given_back (symlink_call head.now (record { name = name.now; link = link.now; extra = extra_of extensions })) (entry_answer F.Inode.number result)
+        ≡ give_back (context_of head.now) (entry_node (entry_answer F.Inode.number result)) }
 {
     let parent = F::Inode::numbered(head.nodeid);
     let context = Context::from(*head);

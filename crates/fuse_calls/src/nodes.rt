@@ -130,6 +130,7 @@ impl<F: FileSystem> NameRequest<F> for Unlink {
 
     ghost call = { unlink_call };
 
+    #[tactic(auto, using(crate::proofs::NoEntry::none_done))]
     fn make_call(fs: &mut F, head: &InHeader, name: &[u8]) -> Result<(), Errno> {
         received(fs.unlink(Context::from(*head), F::Inode::numbered(head.nodeid), name))
     }
@@ -143,6 +144,7 @@ impl<F: FileSystem> NameRequest<F> for Rmdir {
 
     ghost call = { rmdir_call };
 
+    #[tactic(auto, using(crate::proofs::NoEntry::none_done))]
     fn make_call(fs: &mut F, head: &InHeader, name: &[u8]) -> Result<(), Errno> {
         received(fs.rmdir(Context::from(*head), F::Inode::numbered(head.nodeid), name))
     }
@@ -169,6 +171,7 @@ impl<F: FileSystem> NameRequest<F> for Removexattr {
 
     ghost call = { removexattr_call };
 
+    #[tactic(auto, using(crate::proofs::NoEntry::none_done))]
     fn make_call(fs: &mut F, head: &InHeader, name: &[u8]) -> Result<(), Errno> {
         received(fs.removexattr(Context::from(*head), F::Inode::numbered(head.nodeid), name))
     }

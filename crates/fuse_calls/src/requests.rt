@@ -1,11 +1,12 @@
 //! Requests by their shape: the call that each of them makes.
 
-ghost use Rattle.std.specs.Prelude.{◌≡◌, ℕ, List, IsTrue};
+ghost use Rattle.std.specs.Prelude.{◌≡◌, ℕ, List, [], IsTrue};
 ghost use Rattle.fuse_in.specs.declared.session.InHeader.{InHeader};
-ghost use Rattle.fuse_fs.specs.Answers.{extra_of};
+ghost use Rattle.fuse_fs.specs.Answers.{context_of, extra_of};
 ghost use Rattle.fuse_fs.specs.Calls.{FileCall, Extra, suits};
-ghost use Rattle.fuse_calls.specs.Requests.{has_security, if_set, is_silent, options_after, owns_memory};
+ghost use Rattle.fuse_calls.specs.Requests.{has_security, if_set, is_silent, options_after, owns_memory, given_back, give_back, entry_node};
 
+use crate::entries::EntryAnswer;
 use fuse_fs::{Answer, Extensions, FileSystem};
 use fuse_in::{InHeader, InRecord};
 use fuse_wire::Errno;
@@ -31,6 +32,7 @@ pub trait RecordRequest<F: FileSystem> {
         ensures may { F.may fs.old (call head.now request.now) (Self.Answer.said result) fs.new }
         ensures suits { IsTrue (suits (call head.now request.now) (Self.Answer.said result)) }
         ensures silent { is_silent (call head.now request.now) ≡ Self.Answer.silent }
+        ensures back { given_back (call head.now request.now) (Self.Answer.said result) ≡ [] }
         ensures options { (options : ℕ) → options_after options (call head.now request.now) ≡ options };
 }
 
@@ -46,12 +48,13 @@ pub trait PlainRequest<F: FileSystem> {
         ensures may { F.may fs.old (call head.now) (Self.Answer.said result) fs.new }
         ensures suits { IsTrue (suits (call head.now) (Self.Answer.said result)) }
         ensures silent { is_silent (call head.now) ≡ Self.Answer.silent }
+        ensures back { given_back (call head.now) (Self.Answer.said result) ≡ [] }
         ensures options { (options : ℕ) → options_after options (call head.now) ≡ options };
 }
 
 /// A request that is one name.
 pub trait NameRequest<F: FileSystem> {
-    type Answer: Answer;
+    type Answer: EntryAnswer<F::Inode>;
 
     // The call that it makes.
     ghost call: { InHeader → List ℕ → FileCall };
@@ -61,6 +64,7 @@ pub trait NameRequest<F: FileSystem> {
         ensures may { F.may fs.old (call head.now name.now) (Self.Answer.said result) fs.new }
         ensures suits { IsTrue (suits (call head.now name.now) (Self.Answer.said result)) }
         ensures silent { is_silent (call head.now name.now) ≡ Self.Answer.silent }
+        ensures back { given_back (call head.now name.now) (Self.Answer.said result) ≡ give_back (context_of head.now) (entry_node (Self.Answer.said result)) }
         ensures options { (options : ℕ) → options_after options (call head.now name.now) ≡ options };
 }
 
@@ -68,7 +72,7 @@ pub trait NameRequest<F: FileSystem> {
 pub trait RecordNameRequest<F: FileSystem> {
     type Record: InRecord;
 
-    type Answer: Answer;
+    type Answer: EntryAnswer<F::Inode>;
 
     // The call that it makes.
     ghost call: { InHeader → Self.Record → List ℕ → FileCall };
@@ -83,6 +87,8 @@ pub trait RecordNameRequest<F: FileSystem> {
         ensures may { F.may fs.old (call head.now request.now name.now) (Self.Answer.said result) fs.new }
         ensures suits { IsTrue (suits (call head.now request.now name.now) (Self.Answer.said result)) }
         ensures silent { is_silent (call head.now request.now name.now) ≡ Self.Answer.silent }
+        ensures back { given_back (call head.now request.now name.now) (Self.Answer.said result)
+            ≡ give_back (context_of head.now) (entry_node (Self.Answer.said result)) }
         ensures options { (options : ℕ) → options_after options (call head.now request.now name.now) ≡ options };
 }
 
@@ -106,6 +112,7 @@ pub trait TwoPartsRequest<F: FileSystem> {
         ensures may { F.may fs.old (call head.now request.now (first.now, second.now)) (Self.Answer.said result) fs.new }
         ensures suits { IsTrue (suits (call head.now request.now (first.now, second.now)) (Self.Answer.said result)) }
         ensures silent { is_silent (call head.now request.now (first.now, second.now)) ≡ Self.Answer.silent }
+        ensures back { given_back (call head.now request.now (first.now, second.now)) (Self.Answer.said result) ≡ [] }
         ensures options { (options : ℕ) → options_after options (call head.now request.now (first.now, second.now)) ≡ options };
 }
 
@@ -113,7 +120,7 @@ pub trait TwoPartsRequest<F: FileSystem> {
 pub trait NewNameRequest<F: FileSystem> {
     type Record: InRecord;
 
-    type Answer: Answer;
+    type Answer: EntryAnswer<F::Inode>;
 
     // The call that it makes.
     ghost call: { InHeader → Self.Record → List ℕ × Extra → FileCall };
@@ -132,5 +139,7 @@ pub trait NewNameRequest<F: FileSystem> {
         ensures may { F.may fs.old (call head.now request.now (name.now, extra_of extensions)) (Self.Answer.said result) fs.new }
         ensures suits { IsTrue (suits (call head.now request.now (name.now, extra_of extensions)) (Self.Answer.said result)) }
         ensures silent { is_silent (call head.now request.now (name.now, extra_of extensions)) ≡ Self.Answer.silent }
+        ensures back { given_back (call head.now request.now (name.now, extra_of extensions)) (Self.Answer.said result)
+            ≡ give_back (context_of head.now) (entry_node (Self.Answer.said result)) }
         ensures options { (options : ℕ) → options_after options (call head.now request.now (name.now, extra_of extensions)) ≡ options };
 }

@@ -20,6 +20,7 @@ impl<F: FileSystem> RecordNameRequest<F> for Getxattr {
 
     ghost call = { getxattr_call };
 
+    #[tactic(auto, using(crate::proofs::NoEntry::none_valued))]
     fn make_call(
         fs: &mut F,
         head: &InHeader,

@@ -64,8 +64,9 @@ pub trait FileSystemBase {
     // From a state, a call may have this answer and leave that state.
     ghost may: { Self → FileCall → FileAnswer → Self → Type 0 };
 
-    /// The guest holds a node this many times less (FUSE_FORGET); it can't fail. Node 0 comes too: READDIRPLUS takes
-    /// back an entry without a node, `.` and `..` among them, as it does one with a node.
+    /// The guest holds a node this many times less (FUSE_FORGET), or an entry is given back whose reply has no room; it
+    /// can't fail. Node 0 comes too: READDIRPLUS takes back an entry without a node, `.` and `..` among them, as it does
+    /// one with a node.
     fn forget(&mut self, ctx: Context, inode: Self::Inode, count: u64)
         ensures may { may self.old (call.Forget ctx (Self.Inode.number inode) count) call.Done self.new };
 }
