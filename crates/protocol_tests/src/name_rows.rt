@@ -1,6 +1,6 @@
 //! Requests that move names, and what comes of them.
 
-use crate::rows::{ASKER, Change, EMPTY, ENTRY_OUT, End, Row, UNIQUE, expect_rows};
+use crate::rows::{ASKER, Change, EMPTY, ENTRY_OUT, End, Row, UNIQUE, expect_entries, expect_rows};
 use crate::toy::Told;
 use virtiofsd_fuse::Error;
 
@@ -44,6 +44,11 @@ fn names_are_moved(rt: HostRuntime) {
     expect_rows(&rt, rt.alloc(), NAMES, Change::ShortRoom);
     expect_rows(&rt, rt.alloc(), NAMES, Change::Failing);
     expect_rows(&rt, rt.alloc(), NAMES, Change::Default);
+}
+
+#[test]
+fn linked_nodes_without_room_are_given_back(rt: HostRuntime) {
+    expect_entries(&rt, rt.alloc(), NAMES);
 }
 
 // Names that aren't one.

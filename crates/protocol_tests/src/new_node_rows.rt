@@ -1,6 +1,8 @@
 //! Requests that make a node, also with extensions, and what comes of them.
 
-use crate::rows::{ASKER, Change, ENTRY_OUT, End, Row, UNIQUE, expect_options, expect_rows};
+use crate::rows::{
+    ASKER, Change, ENTRY_OUT, End, Row, UNIQUE, expect_entries, expect_options, expect_rows,
+};
 use crate::toy::Told;
 use virtiofsd_fuse::Error;
 
@@ -73,6 +75,11 @@ fn nodes_are_made(rt: HostRuntime) {
     expect_rows(&rt, rt.alloc(), MADE, Change::ShortRoom);
     expect_rows(&rt, rt.alloc(), MADE, Change::Failing);
     expect_rows(&rt, rt.alloc(), MADE, Change::Default);
+}
+
+#[test]
+fn made_nodes_without_room_are_given_back(rt: HostRuntime) {
+    expect_entries(&rt, rt.alloc(), MADE);
 }
 
 // Names that aren't one.

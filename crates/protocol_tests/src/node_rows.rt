@@ -1,6 +1,8 @@
 //! Requests about nodes, and what comes of them.
 
-use crate::rows::{ASKER, Change, Digits, EMPTY, ENTRY_OUT, End, Row, UNIQUE, expect_rows};
+use crate::rows::{
+    ASKER, Change, Digits, EMPTY, ENTRY_OUT, End, Row, UNIQUE, expect_entries, expect_rows,
+};
 use crate::toy::Told;
 use virtiofsd_fuse::Error;
 
@@ -138,6 +140,11 @@ fn short_requests_about_nodes_are_faults(rt: HostRuntime) {
 #[test]
 fn short_rooms_for_nodes_are_faults(rt: HostRuntime) {
     expect_rows(&rt, rt.alloc(), NODES, Change::ShortRoom);
+}
+
+#[test]
+fn looked_up_nodes_without_room_are_given_back(rt: HostRuntime) {
+    expect_entries(&rt, rt.alloc(), NODES);
 }
 
 #[test]

@@ -42,7 +42,7 @@ pub enum Change {
     Same,
     /// The request has a byte less: it can't be read, and there is no call.
     ShortRequest,
-    /// The room has a byte less: the reply doesn't fit, and the calls were made.
+    /// The room has a byte less: the reply doesn't fit, and the calls were made; an entry is given back.
     ShortRoom,
     /// The file system answers EIO, and that is the reply.
     Failing,
@@ -76,12 +76,33 @@ const CUTS: &[(usize, usize)] = &[(0x10000, 0x10000), (1, 7), (7, 39), (39, 1)];
 
 const NO_CALLS: &[&str] = &[];
 
+// The entry that file systems of tests answer is given back.
+const ENTRY_GIVEN_BACK: &[&str] = &["forget 10 11 12 2 1"];
+
+impl Row {
+    // Whether the reply begins with an entry.
+    fn tells_entry(&self) -> bool {
+        match self.end {
+            End::Reply(digits) => digits.get(2) == Some(&ENTRY_OUT),
+            _ => false,
+        }
+    }
+}
+
 impl Change {
     // How many bytes the request lacks.
     fn missing(self) -> usize {
         match self {
             Change::ShortRequest => 1,
             _ => 0,
+        }
+    }
+
+    // The calls that come after those of the row.
+    fn further_calls(self, row: &Row) -> &'static [&'static str] {
+        match self {
+            Change::ShortRoom if row.tells_entry() => ENTRY_GIVEN_BACK,
+            _ => NO_CALLS,
         }
     }
 
@@ -172,15 +193,18 @@ fn answer(
     Ok((len, w.into_written()))
 }
 
-// A row holds for a server, cut so.
+// A row holds for a server with this change, cut so.
 fn expect_row(
     rt: &impl Abort,
     alloc: Global,
     server: &mut Server<Recorder<'_, ()>>,
     row: &Row,
-    missing: usize,
+    change: Change,
     cut: &(usize, usize),
 ) {
+    let further = change.further_calls(row);
+    let row = change.of(row);
+    let missing = change.missing();
     let request = spelled(rt, alloc, row.request);
     let request = &request[..request.len().saturating_sub(missing)];
     let logged = server.fs().log.lines.len();
@@ -189,7 +213,9 @@ fn expect_row(
     let found = answer(rt, alloc, server, r, w);
     let lines = &server.fs().log.lines;
     let calls = lines.get(logged..).expect(rt, "a log that grows");
-    let want = lines_of(rt, alloc, row.calls);
+    let mut want = lines_of(rt, alloc, row.calls);
+    want.append(&mut lines_of(rt, alloc, further))
+        .expect(rt, "memory");
     expect_same(rt, (row.request, calls), (row.request, want.as_slice()));
     let end = match row.end {
         End::Reply(digits) => Ok(spelled(rt, alloc, digits)),
@@ -212,9 +238,8 @@ fn expect_served(
     let log = Log::new(alloc, &told);
     let mut server = Server::new(Recorder { log, kept: () }, 4096);
     for row in rows {
-        let row = change.of(row);
-        told.set(row.told);
-        expect_row(rt, alloc, &mut server, &row, change.missing(), cut);
+        told.set(change.of(row).told);
+        expect_row(rt, alloc, &mut server, row, change, cut);
     }
     server.options().bits()
 }
@@ -223,6 +248,19 @@ fn expect_served(
 pub fn expect_rows(rt: &impl Abort, alloc: Global, rows: &[Row], change: Change) {
     for cut in CUTS {
         expect_served(rt, alloc, rows, change, cut);
+    }
+}
+
+/// Each row whose reply begins with an entry holds, and where the room has a byte less, the entry is given back, however
+/// the room is cut.
+pub fn expect_entries(rt: &impl Abort, alloc: Global, rows: &[Row]) {
+    for row in rows {
+        for cut in 1..row.room {
+            if row.tells_entry() {
+                expect_served(rt, alloc, &[*row], Change::Same, &(39, cut));
+                expect_served(rt, alloc, &[*row], Change::ShortRoom, &(39, cut));
+            }
+        }
     }
 }
 

@@ -2,15 +2,15 @@
 use Rattle.std.proofs.Common.{◌≡◌, ◌≤◌, ℕ, Bool, true, false, List, [], ◌∷◌, length, map, Result, Ok, Err, Some, None, refl, ap, sym, ◌∙◌, cond, arith, subst}
 use Rattle.std.proofs.lemmas.Bool.Decides.{nat_tests}
 use Rattle.std.specs.Prelude.{IsTrue, OnOk, nat_lt, ◌-◌, Option}
-use Rattle.fuse_fs.specs.Calls.{FileCall, FileAnswer, suits, Init, Listed, Failed, Done, HasEntry, HasAttr, Opened, Created, Bytes, Count, Stats, Wrote, Offset, Entries}
+use Rattle.fuse_fs.specs.Calls.{FileCall, FileAnswer, FileRun, suits, Init, Listed, Failed, Done, HasEntry, HasAttr, Opened, Created, Bytes, Count, Stats, Wrote, Offset, Entries}
 use Rattle.fuse_fs.specs.Calls.{Wants}
 use Rattle.fuse_requests.specs.Reading.{ReadFailure, Faults, Read, Reading, and_then, value_of, within}
 use Rattle.virtiofsd_fuse.specs.Grammar.{Meaning, IsFault, Replies, IsSilent, Asks, One, Starts, refused, ended, Lists}
 use Rattle.fuse_replies.specs.WholeReplies.{error_bytes, with_written, whole_or_none, listing_bytes}
 use Rattle.virtiofsd_fuse.specs.Listings.{Listing, readdir_call}
 use Rattle.virtiofsd_fuse.specs.ListingRuns.{ListRun}
-use Rattle.virtiofsd_fuse.specs.Serving.{Served, served, Setting, Serves, Handles, served_of, replied, no_reply, answer_bytes, start_options}
-use Rattle.fuse_calls.specs.Requests.{options_after}
+use Rattle.virtiofsd_fuse.specs.Serving.{Served, served, Setting, Serves, Handles, served_of, replied, no_reply, answer_bytes, start_options, undone, all_done}
+use Rattle.fuse_calls.specs.Requests.{options_after, given_back}
 use Rattle.virtiofsd_fuse.specs.Serving.{start_answered, lacks_memory, list_ended, list_answered}
 use Rattle.fuse_segments.specs.Errors.{is_memory}
 use Rattle.fuse_segments.specs.declared.error.Error.{Error}
@@ -35,6 +35,15 @@ memory_by false bytes e h = absurd (cc)
 pub told_memory : (room : ℕ) (bytes : List ℕ) (result : Result ℕ Error) (written : List ℕ) → with_written result written ≡ whole_or_none room bytes → lacks_memory result ≡ false
 told_memory room bytes (Ok n) written h = refl
 told_memory room bytes (Err e) written h = memory_by (nat_lt room (length bytes)) bytes e h
+
+-- where nothing is to be undone, no call comes after the reply
+none_undone : (t : Bool) (undo : List FileCall) → undo ≡ [] → cond t undo [] ≡ []
+none_undone true undo e = e
+none_undone false undo e = refl
+
+calls_done : (calls : List FileCall) → map (λ step. step.0) (all_done calls) ≡ calls
+calls_done [] = refl
+calls_done (call ∷ calls) = ap (λ (more : List FileCall). call ∷ more) (calls_done calls)
 
 module _ {F : Type 0} (may : F → FileCall → FileAnswer → F → Type 0) where
   handled : (s : Setting) (m : Meaning) (before : F) (result : Result ℕ Error) (written : List ℕ) (options : ℕ) (after : F) → lacks_memory result ≡ false
@@ -68,19 +77,34 @@ module _ {F : Type 0} (may : F → FileCall → FileAnswer → F → Type 0) whe
   pub handles_refusal : (s : Setting) (m : Meaning) (e : Error) (before : F) (written : List ℕ) → (is_memory e ≡ false → m ≡ IsFault e) → Handles may s m before (Err e) written s.options before
   handles_refusal s m e before written h = refused_by (is_memory e) s m e before written refl h
 
+  -- one call, its reply, and where that has no room, what undoes it
+  pub handles_entry : (s : Setting) (m : Meaning) (unique : ℕ) (call : FileCall) (answer : FileAnswer) (undo : List FileCall) (before between after : F) (result : Result ℕ Error)
+      (written : List ℕ) (options : ℕ) → m ≡ Asks (One unique call) → IsTrue (suits call answer) → may before call answer between
+      → options ≡ options_after s.options call → given_back call answer ≡ undo
+      → FileRun may between (all_done (undone s.room (answer_bytes unique call answer) undo)) after
+      → with_written result written ≡ whole_or_none s.room (answer_bytes unique call answer)
+      → Handles may s m before result written options after
+  handles_entry s m unique call answer undo before between after result written options e fits step o back more h =
+      let bytes = answer_bytes unique call answer in
+      let calls = undone s.room bytes undo in
+      let asked : (call ∷ map (λ step. step.0) (all_done calls)) ≡ call ∷ undone s.room bytes (given_back call answer) =
+      ap (λ (more : List FileCall). call ∷ more) (calls_done calls ∙ ap (undone s.room bytes) (sym back)) in
+      rw (e, o) (handled s (Asks (One unique call)) before result written (options_after s.options call) after (told_memory s.room bytes result written h)
+      (record {
+        steps = (call, answer) ∷ all_done calls;
+        run = (between, fits, step, more);
+        gives = rw asked (told_replied s.room (call ∷ undone s.room bytes (given_back call answer)) (options_after s.options call) bytes result written h);
+      }))
+
   -- one call, and its reply
   pub handles_one : (s : Setting) (m : Meaning) (unique : ℕ) (call : FileCall) (answer : FileAnswer) (before after : F) (result : Result ℕ Error)
       (written : List ℕ) (options : ℕ) → m ≡ Asks (One unique call) → IsTrue (suits call answer) → may before call answer after
-      → options ≡ options_after s.options call → with_written result written ≡ whole_or_none s.room (answer_bytes unique call answer)
+      → options ≡ options_after s.options call → given_back call answer ≡ [] → with_written result written ≡ whole_or_none s.room (answer_bytes unique call answer)
       → Handles may s m before result written options after
-  handles_one s m unique call answer before after result written options e fits step o h =
-      rw (e, o) (handled s (Asks (One unique call)) before result written (options_after s.options call) after (told_memory s.room (answer_bytes unique call answer) result written h)
-      (record {
-        steps = (call, answer) ∷ [];
-        run = (after, fits, step, refl);
-        gives = told_replied s.room (call ∷ []) (options_after s.options call)
-            (answer_bytes unique call answer) result written h;
-      }))
+  handles_one s m unique call answer before after result written options e fits step o back h =
+      let bytes = answer_bytes unique call answer in
+      let none : undone s.room bytes [] ≡ [] = none_undone (nat_lt s.room (length bytes)) [] refl in
+      handles_entry s m unique call answer [] before after after result written options e fits step o back (rw none refl) h
 
   -- INIT
   pub handles_start : (s : Setting) (m : Meaning) (unique capable readahead : ℕ) (answer : FileAnswer) (before after : F) (result : Result ℕ Error)
@@ -183,7 +207,7 @@ served_fits s (IsFault fault) answers = omega arith
 served_fits s (Replies bytes) answers = replied_fits s.room [] s.options bytes
 served_fits s IsSilent answers = omega arith
 served_fits s (Asks (One unique call)) [] = omega arith
-served_fits s (Asks (One unique call)) (answer ∷ answers) = replied_fits s.room (call ∷ []) (options_after s.options call) (answer_bytes unique call answer)
+served_fits s (Asks (One unique call)) (answer ∷ answers) = replied_fits s.room _ (options_after s.options call) (answer_bytes unique call answer)
 served_fits s (Asks (Starts unique capable readahead)) [] = omega arith
 served_fits s (Asks (Starts unique capable readahead)) (answer ∷ answers) = replied_fits s.room (Init capable ∷ []) (start_options s.options capable answer)
     (start_answered s.page_size unique capable readahead answer)

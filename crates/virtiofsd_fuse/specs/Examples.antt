@@ -190,7 +190,7 @@ create = in_header_bytes 58 35 1 1 ++ le32 2 ++ le32 420 ++ le32 18 ++ zeros 4 +
 -- in a room of a byte too few the entry is given back, and the file that was opened stays open
 created_given_back : (serve create 159 (Created node_of_a (Some 9) 0 ∷ Done ∷ [])).calls
     ≡ Create nobody 1 (99 ∷ []) 420 false 2 18 (record { security = None; group = None }) ∷ Forget nobody 2 1 ∷ []
-unfolding meaning meant reading_of row counted with_bytes front_name new_name reply_bytes field_bytes
+unfolding meaning meant reading_of row counted with_bytes front_name new_name extra_in reply_bytes field_bytes
 created_given_back = refl
 
 -- a name whose length has more than 32 bits is the error 75, however much room there is

@@ -1,6 +1,7 @@
 //! The FUSE server: it serves requests over a file system (virtiofsd's `Server`).
 #![tactic(auto)]
 
+mod answers;
 mod forgets;
 mod listings;
 mod new_nodes;

@@ -11,7 +11,7 @@ use fuse_calls::new_nodes::make_symlink_call;
 use fuse_calls::requests::NewNameRequest;
 use fuse_fs::FileSystem;
 use fuse_in::InHeader;
-use fuse_replies::answers::{AsReply, reply_answer};
+use fuse_replies::answers::AsReply;
 use fuse_requests::extensions::owned_extensions;
 use fuse_requests::names::{read_counted, read_with_bytes};
 use fuse_requests::new_names::{new_link, new_name};
@@ -47,7 +47,7 @@ impl<F: FileSystem> Server<F> {
                             new.name,
                             extensions,
                         );
-                        reply_answer(w, head.unique, answer)
+                        self.reply_entry(head, answer, w)
                     }
                     Err(error) => Err(error),
                 },
@@ -82,7 +82,7 @@ impl<F: FileSystem> Server<F> {
                             parts.name,
                             extensions,
                         );
-                        reply_answer(w, head.unique, answer)
+                        self.reply_entry(head, answer, w)
                     }
                     Err(error) => Err(error),
                 },

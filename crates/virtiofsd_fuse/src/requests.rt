@@ -79,7 +79,7 @@ impl<F: FileSystem> Server<F> {
             Ok(bytes) => match last_name(&bytes) {
                 Ok(name) => {
                     let answer = R::make_call(&mut self.fs, head, name);
-                    reply_answer(w, head.unique, answer)
+                    self.reply_entry(head, answer, w)
                 }
                 Err(error) => Err(error),
             },
@@ -107,7 +107,7 @@ impl<F: FileSystem> Server<F> {
             Ok(front) => match last_name(&front.bytes) {
                 Ok(name) => {
                     let answer = R::make_call(&mut self.fs, head, &front.record, name);
-                    reply_answer(w, head.unique, answer)
+                    self.reply_entry(head, answer, w)
                 }
                 Err(error) => Err(error),
             },

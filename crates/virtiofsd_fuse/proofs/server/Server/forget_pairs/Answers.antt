@@ -20,7 +20,7 @@ returns-in-Ok-clause-handles g c =
     handles_one g.F.FileSystemBase.may (setting c.args.self.now.page_size c.args.self.now.options.0 c.args.w.now.free) _ c.args.head.now.unique
     (batch_forget_call c.args.head.now (pair_numbers g.F.Inode.FileNumber.number c.in-Ok.pairs.items)) Done _ _ _ _ _
     (forgets_ask c.args.count (given c.args.head.now c.args.self.now.options.0 c.args.w.now.free) _ _ _ c.if-count-gt-MAX_FORGETS.false c.in-Ok.ensures.ok)
-    refl (rw c.from.ensures at c.batch_forget.ensures.may) refl (silent_told c.args.w.now.free _ _ c.silence.ensures c.requires.fresh)
+    refl (rw c.from.ensures at c.batch_forget.ensures.may) refl refl (silent_told c.args.w.now.free _ _ c.silence.ensures c.requires.fresh)
 
 pub returns-in-Err-clause-handles : goal.returns-in-Err-clause-handles
 returns-in-Err-clause-handles g c =

@@ -1,4 +1,4 @@
-use Rattle.std.proofs.Common.{ap, sym, ◌∙◌}
+use Rattle.std.proofs.Common.{ap, sym, refl, ◌∙◌}
 use Rattle.fuse_in.specs.declared.nodes.GetxattrIn.{GetxattrIn}
 use Rattle.fuse_in.specs.Records.{getxattr_in}
 use Rattle.virtiofsd_fuse.specs.Serving.{setting}
@@ -18,7 +18,7 @@ returns-in-Ok-last_name-clause-handles g c =
     handles_one g.F.FileSystemBase.may _ _ _ _ _ _ _ _ _ _
     (bytes_read h front parts getxattr_call _ c.in-Ok.front.record _ c.in-Ok.ensures.reads
     ∙ ap (ask_of c.args.head.now.unique (getxattr_call c.args.head.now c.in-Ok.front.record)) (sized _ last_name _ c.if-front-gt-MAX_BUFFER_SIZE.false ∙ sym (rw c.deref.ensures.value at c.in-Ok-last_name.ensures.ok)))
-    c.make_call-answer.ensures.suits c.make_call-answer.ensures.may (sym (c.make_call-answer.ensures.options _))
+    c.make_call-answer.ensures.suits c.make_call-answer.ensures.may (sym (c.make_call-answer.ensures.options _)) refl
     (rw c.make_call-answer.ensures.silent c.reply_answer.ensures.sent)
 
 pub returns-in-Ok-clause-handles : goal.returns-in-Ok-clause-handles

@@ -10,7 +10,7 @@ returns-else-request-gt-MAX_BUFFER_SIZE-clause-handles g c =
     let h = given c.args.head.now c.args.self.now.options.0 c.args.w.now.free in
     handles_one g.F.FileSystemBase.may _ _ _ _ _ _ _ _ _ _
     (list_asks h _ _ _ c.in-Ok.ensures.reads c.if-request-gt-MAX_BUFFER_SIZE.false)
-    c.make_call-answer.ensures.suits c.make_call-answer.ensures.may (sym (c.make_call-answer.ensures.options _))
+    c.make_call-answer.ensures.suits c.make_call-answer.ensures.may (sym (c.make_call-answer.ensures.options _)) c.make_call-answer.ensures.back
     (rw c.make_call-answer.ensures.silent c.reply_answer.ensures.sent)
 
 pub returns-then-request-gt-MAX_BUFFER_SIZE-clause-handles : goal.returns-then-request-gt-MAX_BUFFER_SIZE-clause-handles

@@ -1,18 +1,20 @@
 use Rattle.std.proofs.Common.{ap, sym, ◌∙◌}
+use Rattle.fuse_base.specs.Options.{FsOptions}
 use Rattle.virtiofsd_fuse.specs.Serving.{setting}
 use Rattle.virtiofsd_fuse.specs.Grammar.{given}
-use Rattle.virtiofsd_fuse.proofs.Serve.{ask_of, handles_one, handles_refusal}
+use Rattle.virtiofsd_fuse.proofs.Serve.{ask_of, handles_entry, handles_refusal}
 use Rattle.virtiofsd_fuse.proofs.Rows.{name_read, name_fault}
 use Rattle.virtiofsd_fuse.proofs.server.Server.name_request.Goals as goal
 
 pub returns-in-Ok-last_name-clause-handles : goal.returns-in-Ok-last_name-clause-handles
 returns-in-Ok-last_name-clause-handles g c =
     let h = given c.args.head.now c.args.self.now.options.0 c.args.w.now.free in
-    handles_one g.F.FileSystemBase.may _ _ _ _ _ _ _ _ _ _
+    handles_entry g.F.FileSystemBase.may _ _ _ _ _ _ _ _ _ _ _ _
     (name_read h g.R.NameRequest.call _ _ c.in-Ok.ensures.bytes
     ∙ ap (ask_of c.args.head.now.unique (g.R.NameRequest.call c.args.head.now)) (sym (rw c.deref.ensures.value at c.in-Ok-last_name.ensures.ok)))
-    c.make_call-answer.ensures.suits c.make_call-answer.ensures.may (sym (c.make_call-answer.ensures.options _))
-    (rw c.make_call-answer.ensures.silent c.reply_answer.ensures.sent)
+    c.make_call-answer.ensures.suits c.make_call-answer.ensures.may (ap (λ (o : FsOptions). o.0) c.reply_entry.ensures.options ∙ sym (c.make_call-answer.ensures.options _)) c.make_call-answer.ensures.back
+    (rw c.make_call-answer.ensures.silent c.reply_entry.ensures.back)
+    (rw c.make_call-answer.ensures.silent c.reply_entry.ensures.sent)
 
 pub returns-in-Ok-clause-handles : goal.returns-in-Ok-clause-handles
 returns-in-Ok-clause-handles g c =

@@ -22,6 +22,7 @@ returns-clause-handles g c = λ more.
     (read_suits c.args.head.now _ _ c.args.request.now c.make_read_call-answer.result h.0 (sym left ∙ behind) c.make_read_call-answer.ensures.errno)
     (rw left at h.4)
     refl
+    refl
     (read_told c.args.w.now.free c.args.head.now.unique c.args.head.now
     (c.args.w.now.free - 16) c.args.request.now c.make_read_call-answer.result _ _ _ h.0 c.reply_data.result front h.1 fits c.reply_data.ensures.reply)
 

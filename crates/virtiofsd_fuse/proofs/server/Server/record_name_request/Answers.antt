@@ -1,9 +1,10 @@
 use Rattle.std.proofs.Common.{ap, sym, ◌∙◌}
+use Rattle.fuse_base.specs.Options.{FsOptions}
 use Rattle.virtiofsd_fuse.specs.Serving.{setting}
 use Rattle.fuse_requests.specs.Reading.{last_name}
 use Rattle.virtiofsd_fuse.specs.Grammar.{Given, given}
 use Rattle.fuse_requests.specs.Fronts.{with_bytes}
-use Rattle.virtiofsd_fuse.proofs.Serve.{ask_of, handles_one, handles_refusal}
+use Rattle.virtiofsd_fuse.proofs.Serve.{ask_of, handles_entry, handles_refusal}
 use Rattle.virtiofsd_fuse.proofs.Rows.{bytes_read, bytes_fault}
 use Rattle.virtiofsd_fuse.proofs.server.Server.record_name_request.Goals as goal
 
@@ -11,11 +12,12 @@ pub returns-in-Ok-last_name-clause-handles : goal.returns-in-Ok-last_name-clause
 returns-in-Ok-last_name-clause-handles g c =
     let h = given c.args.head.now c.args.self.now.options.0 c.args.w.now.free in
     let front = λ (x : Given). with_bytes g.R.Record.InRecord.shape g.R.Record.ByteValued.SIZE x.header.len in
-    handles_one g.F.FileSystemBase.may _ _ _ _ _ _ _ _ _ _
+    handles_entry g.F.FileSystemBase.may _ _ _ _ _ _ _ _ _ _ _ _
     (bytes_read h front (λ x r. last_name) g.R.RecordNameRequest.call _ c.in-Ok.front.record _ c.in-Ok.ensures.reads
     ∙ ap (ask_of c.args.head.now.unique (g.R.RecordNameRequest.call c.args.head.now c.in-Ok.front.record)) (sym (rw c.deref.ensures.value at c.in-Ok-last_name.ensures.ok)))
-    c.make_call-answer.ensures.suits c.make_call-answer.ensures.may (sym (c.make_call-answer.ensures.options _))
-    (rw c.make_call-answer.ensures.silent c.reply_answer.ensures.sent)
+    c.make_call-answer.ensures.suits c.make_call-answer.ensures.may (ap (λ (o : FsOptions). o.0) c.reply_entry.ensures.options ∙ sym (c.make_call-answer.ensures.options _)) c.make_call-answer.ensures.back
+    (rw c.make_call-answer.ensures.silent c.reply_entry.ensures.back)
+    (rw c.make_call-answer.ensures.silent c.reply_entry.ensures.sent)
 
 pub returns-in-Ok-clause-handles : goal.returns-in-Ok-clause-handles
 returns-in-Ok-clause-handles g c =

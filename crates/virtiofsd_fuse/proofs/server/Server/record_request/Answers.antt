@@ -11,7 +11,7 @@ returns-in-Ok-clause-handles g c =
     let h = given c.args.head.now c.args.self.now.options.0 c.args.w.now.free in
     handles_one g.F.FileSystemBase.may _ _ _ _ _ _ _ _ _ _
     (record_asks h g.R.Record.InRecord.shape g.R.RecordRequest.call _ _ _ c.in-Ok.ensures.reads)
-    c.make_call-answer.ensures.suits c.make_call-answer.ensures.may (sym (c.make_call-answer.ensures.options _))
+    c.make_call-answer.ensures.suits c.make_call-answer.ensures.may (sym (c.make_call-answer.ensures.options _)) c.make_call-answer.ensures.back
     (rw c.make_call-answer.ensures.silent c.reply_answer.ensures.sent)
 
 pub returns-in-Err-clause-handles : goal.returns-in-Err-clause-handles

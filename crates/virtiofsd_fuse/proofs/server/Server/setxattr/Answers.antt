@@ -17,7 +17,7 @@ returns-in-Ok-name_and_value-clause-handles g c =
     handles_one g.F.FileSystemBase.may _ _ _ _ _ _ _ _ _ _
     (bytes_read h front parts setxattr_call _ c.in-Ok.front.record _ c.in-Ok.ensures.reads
     ∙ ap (ask_of c.args.head.now.unique (setxattr_call c.args.head.now c.in-Ok.front.record)) (sym (rw c.deref.ensures.value at c.in-Ok-name_and_value.ensures.ok)))
-    c.make_call-answer.ensures.suits c.make_call-answer.ensures.may (sym (c.make_call-answer.ensures.options _))
+    c.make_call-answer.ensures.suits c.make_call-answer.ensures.may (sym (c.make_call-answer.ensures.options _)) c.make_call-answer.ensures.back
     (rw c.make_call-answer.ensures.silent c.reply_answer.ensures.sent)
 
 pub returns-in-Ok-clause-handles : goal.returns-in-Ok-clause-handles

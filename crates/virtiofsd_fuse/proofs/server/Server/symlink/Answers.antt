@@ -1,9 +1,10 @@
 use Rattle.std.proofs.Common.{ap, sym, refl, ◌∙◌}
+use Rattle.fuse_base.specs.Options.{FsOptions}
 use Rattle.virtiofsd_fuse.specs.Serving.{setting}
 use Rattle.fuse_calls.specs.Requests.{symlink_call}
 use Rattle.fuse_fs.specs.Calls.{NewLink}
 use Rattle.virtiofsd_fuse.specs.Grammar.{given}
-use Rattle.virtiofsd_fuse.proofs.Serve.{ask_of, handles_one, handles_refusal}
+use Rattle.virtiofsd_fuse.proofs.Serve.{ask_of, handles_entry, handles_refusal}
 use Rattle.fuse_requests.specs.Extras.{parts_of, sent_of}
 use Rattle.virtiofsd_fuse.proofs.Left.{context_owned}
 use Rattle.virtiofsd_fuse.proofs.Rows.{symlink_read, symlink_fault}
@@ -12,10 +13,11 @@ use Rattle.virtiofsd_fuse.proofs.server.Server.symlink.Goals as goal
 pub returns-in-Ok-owned_extensions-clause-handles : goal.returns-in-Ok-owned_extensions-clause-handles
 returns-in-Ok-owned_extensions-clause-handles g c =
     let h = given c.args.head.now c.args.self.now.options.0 c.args.w.now.free in
-    handles_one g.F.FileSystemBase.may _ _ _ _ _ _ _ _ _ _
+    handles_entry g.F.FileSystemBase.may _ _ _ _ _ _ _ _ _ _ _ _
     (symlink_read h _ _ c.in-Ok.ensures.bytes
     ∙ ap (ask_of c.args.head.now.unique (symlink_call c.args.head.now)) (sym (rw (c.deref.ensures.value, ← c.in-Ok-owned_extensions.ensures.ok) at c.in-Ok-new_link.ensures.reads)))
-    c.make_symlink_call-answer.ensures.suits c.make_symlink_call-answer.ensures.may refl c.reply_answer.ensures.sent
+    c.make_symlink_call-answer.ensures.suits c.make_symlink_call-answer.ensures.may (ap (λ (o : FsOptions). o.0) c.reply_entry.ensures.options) c.make_symlink_call-answer.ensures.back
+    c.reply_entry.ensures.back c.reply_entry.ensures.sent
 
 pub returns-in-Ok-new_link-clause-handles : goal.returns-in-Ok-new_link-clause-handles
 returns-in-Ok-new_link-clause-handles g c =

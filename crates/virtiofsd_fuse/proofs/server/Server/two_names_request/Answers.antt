@@ -14,7 +14,7 @@ returns-in-Ok-two_names-clause-handles g c =
     handles_one g.F.FileSystemBase.may _ _ _ _ _ _ _ _ _ _
     (bytes_read h front (λ x r. two_names) g.R.TwoPartsRequest.call _ c.in-Ok.front.record _ c.in-Ok.ensures.reads
     ∙ ap (ask_of c.args.head.now.unique (g.R.TwoPartsRequest.call c.args.head.now c.in-Ok.front.record)) (sym (rw c.deref.ensures.value at c.in-Ok-two_names.ensures.ok)))
-    c.make_call-answer.ensures.suits c.make_call-answer.ensures.may (sym (c.make_call-answer.ensures.options _))
+    c.make_call-answer.ensures.suits c.make_call-answer.ensures.may (sym (c.make_call-answer.ensures.options _)) c.make_call-answer.ensures.back
     (rw c.make_call-answer.ensures.silent c.reply_answer.ensures.sent)
 
 pub returns-in-Ok-clause-handles : goal.returns-in-Ok-clause-handles

@@ -16,6 +16,7 @@ returns-in-Ok-clause-handles g c =
     (write_suits c.args.head.now c.in-Ok.request c.replace-reader.result.left c.make_write_call-answer.result c.make_write_call-answer.ensures.errno c.make_write_call-answer.ensures.count)
     c.make_write_call-answer.ensures.may
     refl
+    refl
     c.reply_answer.ensures.sent
 
 pub returns-in-Err-clause-handles : goal.returns-in-Err-clause-handles

@@ -1,0 +1,60 @@
+//! Answers of calls that may have an entry: the client is told, or the entry is given back.
+
+ghost use Rattle.std.specs.Prelude.{◌≡◌, ◌<◌, ◌^◌, [], false, option_map};
+ghost use Rattle.fuse_fs.specs.Answers.{context_of};
+ghost use Rattle.fuse_fs.specs.Calls.{FileRun};
+ghost use Rattle.fuse_segments.specs.Errors.{lacks_memory};
+ghost use Rattle.fuse_replies.specs.WholeReplies.{with_written, whole_or_none, told_bytes, LeavesWriter};
+ghost use Rattle.fuse_calls.specs.Requests.{entry_node, give_back};
+ghost use Rattle.virtiofsd_fuse.specs.Serving.{undone, all_done};
+
+use crate::server::Server;
+use fuse_calls::entries::{EntryAnswer, answered_node};
+use fuse_fs::{Context, FileSystem};
+use fuse_in::InHeader;
+use fuse_replies::answers::{AsReply, reply_answer};
+use fuse_segments::{Error, Writer};
+use fuse_wire::Errno;
+
+impl<F: FileSystem> Server<F> {
+    // Gives a node back, where there is one.
+    fn give_back(&mut self, head: &InHeader, node: Option<F::Inode>)
+        ensures run { FileRun F.may self.old.fs (all_done (give_back (context_of head.now) (option_map F.Inode.number node))) self.new.fs }
+        ensures options { self.new.options ≡ self.old.options }
+        ensures page_size { self.new.page_size ≡ self.old.page_size }
+    {
+        match node {
+            Some(inode) => self.fs.forget(Context::from(*head), inode, 1),
+            None => {}
+        }
+    }
+
+    /// Replies with an answer that may have an entry. Where the reply has no room, the entry is given back, and the
+    /// answer is `EncodeMessage`.
+    pub(crate) fn reply_entry<A: AsReply + EntryAnswer<F::Inode>>(
+        &mut self,
+        head: &InHeader,
+        answer: Result<A, Errno>,
+        w: &mut Writer,
+    ) -> Result<usize, Error>
+        requires fresh { w.old.written ≡ [] }
+        requires room { w.old.free < 2 ^ 32 }
+        ensures sent { with_written result w.new.written ≡ whole_or_none w.old.free (told_bytes A.silent head.now.unique (A.said answer)) }
+        ensures back { FileRun F.may self.old.fs
+            (all_done (undone w.old.free (told_bytes A.silent head.now.unique (A.said answer)) (give_back (context_of head.now) (entry_node (A.said answer)))))
+            self.new.fs }
+        ensures writer { LeavesWriter result w.old w.new }
+        ensures memory { lacks_memory result ≡ false }
+        ensures options { self.new.options ≡ self.old.options }
+        ensures page_size { self.new.page_size ≡ self.old.page_size }
+    {
+        let node = answered_node(&answer);
+        match reply_answer(w, head.unique, answer) {
+            Ok(len) => Ok(len),
+            Err(error) => {
+                self.give_back(head, node);
+                Err(error)
+            }
+        }
+    }
+}
