@@ -10,7 +10,7 @@ use Rattle.fuse_fs.specs.Calls as call
 use Rattle.fuse_segments.specs.declared.error.Error.{Error}
 use Rattle.fuse_segments.specs.declared.error.Error.TheVariants.{EncodeMessage}
 use Rattle.fuse_replies.specs.WholeReplies.{error_bytes, listing_bytes}
-use Rattle.fuse_calls.specs.Requests.{options_after}
+use Rattle.fuse_calls.specs.Requests.{options_after, given_back}
 use Rattle.fs_queue.specs.declared.fault.ChainFault.{ChainFault}
 use Rattle.fs_queue.specs.Queue.{Queue}
 use Rattle.fs_queue.specs.Taking.{Offer, IsRequest, CannotFetch, Refuses, Offers}
@@ -22,13 +22,14 @@ use Rattle.virtiofsd_fuse.specs.Serving.{May, Served, Setting, setting, served, 
 use Rattle.fuse_replies.proofs.ReplyLemmas.{length_reply, length_error}
 use Rattle.fs_device.specs.declared.error.DeviceError.{DeviceError}
 use Rattle.fs_device.specs.declared.refusal.Refusal.TheVariants as why
-use Rattle.fs_device.specs.Step.{State, Exchange, Calls, Exchanged, Exchanges, StepOf, faulty, served_fault, served_exchange, EachSuits, calls_alone, answers_alone}
+use Rattle.fs_device.specs.Step.{State, Exchange, Calls, Exchanged, Exchanges, StepOf, faulty, served_exchange, EachSuits, calls_alone, answers_alone}
 use Rattle.fs_device.specs.Run as run
 use Rattle.fs_device.specs.Run.{Turn, Told, Command, Answer, KickRun, Kicks, Kicked, Does, Performs, RunTold}
-use Rattle.fs_device.specs.Books.{answered, sent, written, lost, accepted, is_lost, nodes_in, nodes_listed, opcode_in, entry_count, forget_count, forgets_meant, IsBalanced}
+use Rattle.fs_device.specs.Books.{answered, sent, written, accepted, nodes_in, nodes_listed, opcode_in, entry_count, forget_count, forgets_meant, IsBalanced}
 use Rattle.fs_device.proofs.NodeLemmas.{drop_reply, drop_error, none_in_nothing, not_zero}
 use Rattle.fs_device.proofs.MeaningLemmas.{has_entry, no_entry, not_true, CallFits, MeaningFits, ListFits, meaning_fits}
 use Rattle.fs_device.proofs.ListBooks.{entries_in, counts_in, times, entries_more, counts_more, no_step, one_step, list_balances, list_fits, plain_asks_nothing}
+use Rattle.fs_device.proofs.GivenBack.{gives_back}
 
 -- ---- one request
 
@@ -36,13 +37,12 @@ use Rattle.fs_device.proofs.ListBooks.{entries_in, counts_in, times, entries_mor
 abbrev taken : (n : ℕ) → Calls → Meaning → ℕ
 taken n calls m = if length calls == 0 then 0 else forgets_meant n m
 
--- the entries that were lost
-abbrev gone : (n : ℕ) → Calls → Option Error → ℕ
-gone n calls e = if is_lost (served_fault e) then entries_in n calls else 0
+taken_made : (n : ℕ) (step : FileCall × FileAnswer) (calls : Calls) (m : Meaning) → taken n (step ∷ calls) m ≡ forgets_meant n m
+taken_made n step calls m = let some = not_zero (length (step ∷ calls)) (omega arith) in rw some refl
 
 -- what comes of a request balances
 abbrev Balanced : (n : ℕ) → Option Opcode → Calls → (back : ℕ) → Served → Type 0
-Balanced n o calls back given = entries_in n calls + back ≡ times n (nodes_in o (drop 16 given.reply)) + gone n calls given.fault + counts_in n calls
+Balanced n o calls back given = entries_in n calls + back ≡ times n (nodes_in o (drop 16 given.reply)) + counts_in n calls
 
 either_way : (b : Bool) (k : ℕ) → (if b then k else k) ≡ k
 either_way true k = refl
@@ -55,10 +55,9 @@ silent n o = ap (times n) (none_in_nothing o)
 nothing_asked : (n : ℕ) (o : Option Opcode) (calls : Calls) (m : Meaning) (given : Served) → [] ≡ calls_alone calls → times n (nodes_in o (drop 16 given.reply)) ≡ 0 →
     Balanced n o calls (taken n calls m) given
 nothing_asked n o calls m given asks none =
-    let no_loss : gone n [] given.fault ≡ 0 = either_way (is_lost (served_fault given.fault)) 0 in
-    subst (λ (l : Calls). Balanced n o l (taken n l m) given) (sym (no_step calls asks)) (omega (arith, none, no_loss))
+    subst (λ (l : Calls). Balanced n o l (taken n l m) given) (sym (no_step calls asks)) (omega (arith, none))
 
--- a reply goes in whole, or is lost
+-- a reply goes in whole, or not at all
 abbrev in_room : Bool → List FileCall → (options : ℕ) → List ℕ → Served
 in_room long fetched options bytes = if long then no_reply fetched options (Some EncodeMessage) else record { calls = fetched; options = options; reply = bytes; fault = None }
 
@@ -71,10 +70,11 @@ replied_nodes : (n : ℕ) (o : Option Opcode) (long : Bool) (fetched : List File
 replied_nodes n o true fetched options bytes none = silent n o
 replied_nodes n o false fetched options bytes none = ap (times n) none
 
-replied_balances : (n : ℕ) (o : Option Opcode) (calls : Calls) (back options : ℕ) (fetched : List FileCall) (bytes : List ℕ) (long : Bool) →
-    times n (nodes_in o (drop 16 bytes)) ≡ entries_in n calls → back ≡ counts_in n calls → Balanced n o calls back (in_room long fetched options bytes)
-replied_balances n o calls back options fetched bytes true same keeps = let none = silent n o in omega (arith, none, keeps)
-replied_balances n o calls back options fetched bytes false same keeps = omega (arith, same, keeps)
+-- a reply without an entry
+replied_balances : (n : ℕ) (o : Option Opcode) (calls : Calls) (back options : ℕ) (fetched : List FileCall) (bytes : List ℕ) (long : Bool) → entries_in n calls ≡ 0 →
+    times n (nodes_in o (drop 16 bytes)) ≡ 0 → back ≡ counts_in n calls → Balanced n o calls back (in_room long fetched options bytes)
+replied_balances n o calls back options fetched bytes true none same keeps = let silence = silent n o in omega (arith, none, silence, keeps)
+replied_balances n o calls back options fetched bytes false none same keeps = omega (arith, none, same, keeps)
 
 replied_whole : (n : ℕ) (o : Option Opcode) (calls : Calls) (back options : ℕ) (fetched : List FileCall) (bytes : List ℕ) (long : Bool) → long ≡ false →
     entries_in n calls ≡ times n (nodes_in o (drop 16 bytes)) + counts_in n calls → back ≡ 0 → Balanced n o calls back (in_room long fetched options bytes)
@@ -96,24 +96,46 @@ plus_nodes [] = refl
 plus_nodes (b ∷ bytes) = let some = not_zero (length (b ∷ bytes)) (omega arith) in rw some refl
 
 module _ (n : ℕ) (some : n ≢ 0) (s : Setting) (o : Option Opcode) where
-  -- one call, by its answer
-  one_given : (unique : ℕ) (c : FileCall) (a : FileAnswer) → CallFits n o c → IsTrue (suits c a) →
-      Balanced n o ((c, a) ∷ []) (taken n ((c, a) ∷ []) (grammar.Asks (One unique c))) (served s (grammar.Asks (One unique c)) (a ∷ []))
-  one_given unique c a fits suit =
-      let bytes = answer_bytes unique c a in
-      let x = entries_more n (c, a) [] in
-      let y = counts_more n (c, a) [] in
-      let counted : times n (nodes_in o (drop 16 bytes)) ≡ entries_in n ((c, a) ∷ []) = (let z = fits unique a suit in omega (arith, x, z)) in
-      replied_balances n o ((c, a) ∷ []) _ (options_after s.options c) (c ∷ []) bytes (nat_lt s.room (length bytes)) counted (omega (arith, y))
+  -- one call, by its answer, and the calls that give its entry back where the reply has no room
+  one_given : (unique : ℕ) (c : FileCall) (a : FileAnswer) (more : Calls) (long : Bool) → CallFits n o c → EachSuits ((c, a) ∷ more) →
+      (if long then given_back c a else []) ≡ calls_alone more → Balanced n o ((c, a) ∷ more) (forget_count n c)
+      (in_room long (c ∷ (if long then given_back c a else [])) (options_after s.options c) (answer_bytes unique c a))
+  one_given unique c a more true fits suit asks =
+      let silence = silent n o in
+      let back = gives_back n c a suit.0 more suit.1 asks in
+      let x = entries_more n (c, a) more in
+      let y = counts_more n (c, a) more in
+      let none = back.0 in
+      let same = back.1 in
+      omega (arith, silence, x, y, none, same)
+  one_given unique c a more false fits suit asks =
+      let x = entries_more n (c, a) more in
+      let y = counts_more n (c, a) more in
+      let e : entries_in n more ≡ 0 = ap (entries_in n) (no_step more asks) in
+      let k : counts_in n more ≡ 0 = ap (counts_in n) (no_step more asks) in
+      let told = fits unique a suit.0 in
+      omega (arith, x, y, e, k, told)
+
+  -- the same of the call that was made
+  one_made : (unique : ℕ) (c : FileCall) (step : FileCall × FileAnswer) (more : Calls) (long : Bool) → CallFits n o c → EachSuits (step ∷ more) →
+      (c ∷ (if long then given_back c step.1 else [])) ≡ step.0 ∷ calls_alone more → Balanced n o (step ∷ more) (forget_count n c)
+      (in_room long (c ∷ (if long then given_back c step.1 else [])) (options_after s.options c) (answer_bytes unique c step.1))
+  one_made unique c step more long fits suit asks =
+      let same : step ≡ (c, step.1) = (let first : step.0 ≡ c = cc in ap (λ (x : FileCall). (x, step.1)) first) in
+      let only : EachSuits ((c, step.1) ∷ more) = subst (λ (x : FileCall × FileAnswer). EachSuits (x ∷ more)) same suit in
+      subst (λ (x : FileCall × FileAnswer). Balanced n o (x ∷ more) (forget_count n c)
+      (in_room long (c ∷ (if long then given_back c step.1 else [])) (options_after s.options c) (answer_bytes unique c step.1))) (sym same)
+      (one_given unique c step.1 more long fits only (cc))
 
   one_balances : (unique : ℕ) (c : FileCall) (calls : Calls) → CallFits n o c → EachSuits calls → (served s (grammar.Asks (One unique c)) (answers_alone calls)).calls ≡ calls_alone calls →
       Balanced n o calls (taken n calls (grammar.Asks (One unique c))) (served s (grammar.Asks (One unique c)) (answers_alone calls))
   one_balances unique c [] fits suit asks = absurd (cc)
   one_balances unique c (step ∷ calls) fits suit asks =
       let bytes = answer_bytes unique c step.1 in
-      let one = one_step c (step ∷ calls) (sym (replied_asks (nat_lt s.room (length bytes)) (c ∷ []) (options_after s.options c) bytes) ∙ asks) in
-      let only : EachSuits ((c, one.0) ∷ []) = subst EachSuits one.1 suit in
-      subst (λ (l : Calls). Balanced n o l (taken n l (grammar.Asks (One unique c))) (served s (grammar.Asks (One unique c)) (answers_alone l))) (sym one.1) (one_given unique c one.0 fits only.0)
+      let long = nat_lt s.room (length bytes) in
+      let made = c ∷ (if long then given_back c step.1 else []) in
+      subst (λ (k : ℕ). Balanced n o (step ∷ calls) k (served s (grammar.Asks (One unique c)) (step.1 ∷ answers_alone calls))) (sym (taken_made n step calls (grammar.Asks (One unique c))))
+      (one_made unique c step calls long fits suit (sym (replied_asks long made (options_after s.options c) bytes) ∙ asks))
 
   start_given : (unique capable readahead : ℕ) (a : FileAnswer) → ((bytes : List ℕ) → nodes_in o bytes ≡ []) → IsTrue (suits (call.Init capable) a) →
       Balanced n o ((call.Init capable, a) ∷ []) 0 (served s (grammar.Asks (Starts unique capable readahead)) (a ∷ []))
@@ -121,9 +143,9 @@ module _ (n : ℕ) (some : n ≢ 0) (s : Setting) (o : Option Opcode) where
       let bytes = start_answered s.page_size unique capable readahead a in
       let x = entries_more n (call.Init capable, a) [] in
       let y = counts_more n (call.Init capable, a) [] in
-      let counted : times n (nodes_in o (drop 16 bytes)) ≡ entries_in n ((call.Init capable, a) ∷ []) =
-      (let z = no_entry n (call.Init capable) a refl suit in let k = ap (times n) (fits (drop 16 bytes)) in omega (arith, x, z, k)) in
-      replied_balances n o ((call.Init capable, a) ∷ []) 0 (start_options s.options capable a) (call.Init capable ∷ []) bytes (nat_lt s.room (length bytes)) counted (omega (arith, y))
+      let z = no_entry n (call.Init capable) a refl suit in
+      replied_balances n o ((call.Init capable, a) ∷ []) 0 (start_options s.options capable a) (call.Init capable ∷ []) bytes (nat_lt s.room (length bytes))
+      (omega (arith, x, z)) (ap (times n) (fits (drop 16 bytes))) (omega (arith, y))
 
   start_balances : (unique capable readahead : ℕ) (calls : Calls) → ((bytes : List ℕ) → nodes_in o bytes ≡ []) → EachSuits calls →
       (served s (grammar.Asks (Starts unique capable readahead)) (answers_alone calls)).calls ≡ calls_alone calls → Balanced n o calls 0 (served s (grammar.Asks (Starts unique capable readahead)) (answers_alone calls))
@@ -161,8 +183,7 @@ module _ (n : ℕ) (some : n ≢ 0) (s : Setting) (o : Option Opcode) where
       let y = counts_more n (readdir_call l, call.Entries ds) steps in
       let a : entries_in n steps ≡ 0 = ap (entries_in n) nothing in
       let b : counts_in n steps ≡ 0 = ap (counts_in n) nothing in
-      let k = ap (times n) (fits (drop 16 bytes)) in
-      replied_balances n o ((readdir_call l, call.Entries ds) ∷ steps) 0 s.options (readdir_call l ∷ w.calls) bytes (nat_lt s.room (length bytes)) (omega (arith, x, a, k)) (omega (arith, y, b))
+      replied_balances n o ((readdir_call l, call.Entries ds) ∷ steps) 0 s.options (readdir_call l ∷ w.calls) bytes (nat_lt s.room (length bytes)) (omega (arith, x, a)) (ap (times n) (fits (drop 16 bytes))) (omega (arith, y, b))
 
   -- an answer that lists nothing
   unlisted : (l : Listing) (c : FileCall) (a : FileAnswer) (steps : Calls) (bytes : List ℕ) (long : Bool) → readdir_call l ≡ c → IsTrue (suits c a) → [] ≡ calls_alone steps → nodes_in o (drop 16 bytes) ≡ [] →
@@ -174,8 +195,7 @@ module _ (n : ℕ) (some : n ≢ 0) (s : Setting) (o : Option Opcode) where
       let v : counts_in n steps ≡ 0 = ap (counts_in n) (no_step steps asks) in
       let f : forget_count n c ≡ 0 = ap (forget_count n) (sym is) in
       let e : entry_count n a ≡ 0 = no_entry n c a (ap (λ (c : FileCall). has_entry (kind_of c)) (sym is)) suit in
-      let k = ap (times n) none in
-      replied_balances n o ((c, a) ∷ steps) 0 s.options (readdir_call l ∷ []) bytes long (omega (arith, x, z, e, k)) (omega (arith, y, v, f))
+      replied_balances n o ((c, a) ∷ steps) 0 s.options (readdir_call l ∷ []) bytes long (omega (arith, x, z, e)) (ap (times n) none) (omega (arith, y, v, f))
 
   list_given : (unique : ℕ) (l : Listing) (c : FileCall) (a : FileAnswer) (steps : Calls) → ListFits s.room o l.with_nodes → EachSuits ((c, a) ∷ steps) →
       (served s (grammar.Asks (Lists unique l)) (a ∷ answers_alone steps)).calls ≡ c ∷ calls_alone steps → Balanced n o ((c, a) ∷ steps) 0 (served s (grammar.Asks (Lists unique l)) (a ∷ answers_alone steps))
@@ -223,7 +243,7 @@ module _ (n : ℕ) (some : n ≢ 0) (s : Setting) (o : Option Opcode) where
 -- ---- steps
 
 abbrev TurnBalances : (n : ℕ) → Turn → Type 0
-TurnBalances n t = answered n t + accepted n t ≡ written n t + lost n t + sent n t
+TurnBalances n t = answered n t + accepted n t ≡ written n t + sent n t
 
 abbrev turn : Exchange → Bool → Calls → Turn
 turn x notice calls = record { exchange = x; notice = notice; calls = calls }
@@ -263,7 +283,7 @@ step_balances may n some s i (Some q) calls x notice after t = exchange_balances
 
 -- over exchanges
 abbrev ToldBalances : (n : ℕ) → Told → Type 0
-ToldBalances n told = sum_by (answered n) told + sum_by (accepted n) told ≡ sum_by (written n) told + sum_by (lost n) told + sum_by (sent n) told
+ToldBalances n told = sum_by (answered n) told + sum_by (accepted n) told ≡ sum_by (written n) told + sum_by (sent n) told
 
 kick_balances : {F : Type 0} (may : May F) (n : ℕ) → n ≢ 0 → (s : State F) (i most : ℕ) (told : Told) (refused : Option DeviceError) (after : State F) → KickRun may s i most told refused after → ToldBalances n told
 unfolding KickRun
@@ -275,9 +295,8 @@ kick_balances may n some s i (suc most) (x ∷ told) refused after (mid, step, r
     let a = sum_by-cons (answered n) x told in
     let b = sum_by-cons (accepted n) x told in
     let c = sum_by-cons (written n) x told in
-    let d = sum_by-cons (lost n) x told in
-    let e = sum_by-cons (sent n) x told in
-    omega (arith, own, others, a, b, c, d, e)
+    let d = sum_by-cons (sent n) x told in
+    omega (arith, own, others, a, b, c, d)
 
 kicks_balance : {F : Type 0} (may : May F) (n : ℕ) → n ≢ 0 → (s : State F) (i most : ℕ) (o : Option Queue) (told : Told) (k : Kicked) (after : State F) → Kicks may s i most o told k after → ToldBalances n told
 kicks_balance may n some s i most None told k after t = subst (ToldBalances n) (sym t.1) refl
@@ -338,6 +357,5 @@ run_balances may n some s (e ∷ es) (told ∷ tolds) after (mid, performs, rest
     let a = sum_by-cons (λ (l : Told). sum_by (answered n) l) told tolds in
     let b = sum_by-cons (λ (l : Told). sum_by (accepted n) l) told tolds in
     let c = sum_by-cons (λ (l : Told). sum_by (written n) l) told tolds in
-    let d = sum_by-cons (λ (l : Told). sum_by (lost n) l) told tolds in
-    let k = sum_by-cons (λ (l : Told). sum_by (sent n) l) told tolds in
-    omega (arith, own, others, a, b, c, d, k)
+    let d = sum_by-cons (λ (l : Told). sum_by (sent n) l) told tolds in
+    omega (arith, own, others, a, b, c, d)

@@ -11,6 +11,7 @@ pub mod MeaningLemmas
 pub mod HeaderLemmas
 pub mod UsedLemmas
 pub mod ListBooks
+pub mod GivenBack
 pub mod BookLemmas
 pub mod TellingLemmas
 pub mod MarkLemmas

@@ -19,7 +19,7 @@ pub fn law_cuts<F: FileSystem>()
 {}
 
 /// Over a run, for each node but 0: what the file system answered of it less what it was sent back is what replies told
-/// of it, with what was lost in replies that did not fit, less what the driver gave back.
+/// of it less what the driver gave back.
 pub fn law_books<F: FileSystem>()
     ensures { Balances F.may }
 {}
