@@ -65,11 +65,17 @@ fn read_is_the_same_however_it_is_cut(rt: HostRuntime) {
 const LOOKUP_A: Request<'static> = Request::Lookup { name: b"a" };
 
 #[test]
-fn entry_that_has_no_room_is_asked_for_all_the_same(rt: HostRuntime) {
+fn entry_that_has_no_room_is_given_back(rt: HostRuntime) {
     const ACTS: &[Act<'static>] = &[
         Act::Asks(LOOKUP_A, 143),
         Act::Faults(NO_ROOM),
-        Act::Calls(&[LoggedCall::Lookup { parent: 1 }]),
+        Act::Calls(&[
+            LoggedCall::Lookup { parent: 1 },
+            LoggedCall::Forget {
+                node: HELLO,
+                count: 1,
+            },
+        ]),
         Act::Has(ROOM_AT, &[0; 143]),
         Act::Used(0, (0, 0), 1),
     ];

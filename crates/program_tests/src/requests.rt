@@ -77,7 +77,7 @@ fn agrees_on_a_start(rt: HostRuntime) {
 }
 
 // The entry of the file `a`: node 2, generation 0, both timeouts 1 second, ino 2, size 5, mode 0o100644, one link,
-// pages of 4096 bytes. With one byte less room the file system is asked, and nothing is stored.
+// pages of 4096 bytes. With one byte less room the file system is asked, the node is given back, and nothing is stored.
 const LOOKS_UP_THE_FILE: &[u8] = b"\
 > queue 4 0 0x100 0x200
 ok
@@ -124,6 +124,7 @@ ok
 ok
 > kick 0 1
 call lookup 1 61
+call forget 2 1
 done 0 0 EncodeMessage 1
 > read 0x2000 24
 bytes 000000000000000000000000000000000000000000000000
