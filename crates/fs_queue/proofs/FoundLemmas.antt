@@ -1,15 +1,19 @@
 -- a walk finds what its steps come to
-use Rattle.std.proofs.Common.{◌≡◌, ◌↔◌, ℕ, zero, suc, ◌+◌, ◌/◌, ◌%◌, ◌^◌, ◌<◌, ◌≤◌, Bool, true, false, cond, not, ◌&&◌, nat_lt, nat_le, List, [], ◌∷◌, ◌++◌, Option, Some, None, ◌⊎◌, inl, inr, refl, ap, sym, ◌∙◌, subst, arith}
+use Rattle.std.proofs.Common.{◌≡◌, ◌↔◌, ℕ, zero, suc, ◌+◌, ◌/◌, ◌%◌, ◌^◌, ◌<◌, ◌≤◌, Bool, true, false, cond, not, ◌&&◌, nat_lt}
+use Rattle.std.proofs.Common.{nat_le, List, [], ◌∷◌, ◌++◌, Option, Some, None, ◌⊎◌, inl, inr, refl, ap, sym, ◌∙◌, subst, arith}
 use Rattle.std.specs.Prelude.{◌==◌, ◌||◌, All}
 use Rattle.std.proofs.lemmas.Bool.{eqb-true, ltb-true, ltb-false, leb-true, leb-false, le-leb, lt-leb, lt-ltb, le-ltb, eq-eqb, or_parts, or_cases, and_parts, not-false, not-true}
 use Rattle.std.proofs.lemmas.List.Elements.{All-nil, All-cons, All-head, All-tail}
 use Rattle.vm_iotlb.specs.declared.permissions.Permissions.TheVariants.{Read}
 use Rattle.vm_memory.specs.Memory.{Memory, reach}
 use Rattle.fs_queue.specs.declared.fault.ChainFault.{ChainFault}
-use Rattle.fs_queue.specs.declared.fault.ChainFault.TheVariants.{TooLong, NextOutOfTable, AddressOverflow, IndirectWithNext, IndirectNested, IndirectLength, TableUnreachable, OverLimit, RequestUnreachable, RoomUnreachable}
+use Rattle.fs_queue.specs.declared.fault.ChainFault.TheVariants.{TooLong, NextOutOfTable, AddressOverflow, IndirectWithNext, IndirectNested}
+use Rattle.fs_queue.specs.declared.fault.ChainFault.TheVariants.{IndirectLength, TableUnreachable, OverLimit, RequestUnreachable, RoomUnreachable}
 use Rattle.fs_queue.specs.Queue.{Queue}
-use Rattle.fs_queue.specs.Chain.{Descriptor, DescriptorTable, Visit, WalkStep, Ordinary, Table, Faulty, Stops, has_next, is_indirect, ends_in_64_bits, indirect_step, ordinary_step, walk_step, walk_step_at, next_visit, onward, path, first_visit, walk, with_front, after_walk_step, Found, IsChain, HasFault, StopsQueue, found, chain}
-use Rattle.fs_queue.specs.Paths.{entry_address, entry_of, EntryIsThere, PassesOrdinary, PassesTable, Passes, EntryIsUnreadable, IsOrdinary, NamesTable, NamesTableFromOwn, OrdinaryOverflows, StepHasFault, StepStops, EndsAt, ordinary_entries, ComesTo}
+use Rattle.fs_queue.specs.Chain.{Descriptor, DescriptorTable, Visit, WalkStep, Ordinary, Table, Faulty, Stops, has_next, is_indirect, ends_in_64_bits, indirect_step, ordinary_step, walk_step}
+use Rattle.fs_queue.specs.Chain.{walk_step_at, next_visit, onward, path, first_visit, walk, with_front, after_walk_step, Found, IsChain, HasFault, StopsQueue, found, chain}
+use Rattle.fs_queue.specs.Paths.{entry_address, entry_of, EntryIsThere, PassesOrdinary, PassesTable, Passes, EntryIsUnreadable, IsOrdinary}
+use Rattle.fs_queue.specs.Paths.{NamesTable, NamesTableFromOwn, OrdinaryOverflows, StepHasFault, StepStops, EndsAt, ordinary_entries, ComesTo}
 use Rattle.fs_queue.proofs.BoundLemmas.{either}
 use Rattle.fs_queue.proofs.PathLemmas.{not_nothing, fewer, next_ordinary, next_table, some_bytes, ends_or_none, room_left, next_follows, still_few}
 

@@ -3,7 +3,8 @@ use Rattle.std.specs.Prelude.{◌≡◌, ◌↔◌, ◌⊎◌, ℕ, ◌+◌, ◌
 use Rattle.vm_iotlb.specs.declared.permissions.Permissions.TheVariants.{Read}
 use Rattle.vm_memory.specs.Memory.{Memory, reach}
 use Rattle.fs_queue.specs.declared.fault.ChainFault.{ChainFault}
-use Rattle.fs_queue.specs.declared.fault.ChainFault.TheVariants.{TooLong, NextOutOfTable, AddressOverflow, IndirectWithNext, IndirectNested, IndirectLength, TableUnreachable, OverLimit, RequestUnreachable, RoomUnreachable}
+use Rattle.fs_queue.specs.declared.fault.ChainFault.TheVariants.{TooLong, NextOutOfTable, AddressOverflow, IndirectWithNext, IndirectNested, IndirectLength, TableUnreachable}
+use Rattle.fs_queue.specs.declared.fault.ChainFault.TheVariants.{OverLimit, RequestUnreachable, RoomUnreachable}
 use Rattle.fs_queue.specs.Queue.{Queue}
 use Rattle.fs_queue.specs.Chain.{Descriptor, Visit, descriptor_at, has_next, is_indirect, first_visit, walk, Found, IsChain, HasFault, StopsQueue, chain}
 
@@ -102,31 +103,31 @@ pub record NamesTable (m : Memory) (v : Visit) : Type 0 where
   pub there : EntryIsThere m v
   pub indirect : is_indirect (entry_of m v) ≡ true
 
--- nor has that descriptor a NEXT, which it may not (2.7.5.3.1)
+-- the step is at one without NEXT, which it must not have (2.7.5.3.1)
 pub record NamesTableLast (m : Memory) (v : Visit) : Type 0 where
   pub names : NamesTable m v
   pub last : has_next (entry_of m v) ≡ false
 
--- nor does it stand in such a table itself, in which it may not (2.7.5.3.1)
+-- the step is at such a one in the queue's own table: in a table that a descriptor names there must be none (2.7.5.3.1)
 pub record NamesTableFromOwn (m : Memory) (v : Visit) : Type 0 where
   pub names : NamesTableLast m v
   pub own : v.table.indirect ≡ false
 
--- the table that it names is one entry or more, but ends past 2^64 - 1
+-- the step is at one whose bytes are one entry or more, but end past 2^64 - 1
 pub record TableOverflows (m : Memory) (v : Visit) : Type 0 where
   pub names : NamesTableFromOwn m v
   pub some : 0 < (entry_of m v).len
   pub whole : (entry_of m v).len % 16 ≡ 0
   pub past : 2 ^ 64 ≤ (entry_of m v).addr + (entry_of m v).len
 
--- an ordinary descriptor that the chain has room for has bytes, and they end past 2^64 - 1
+-- the step is at an ordinary descriptor before which fewer came than the queue has entries, and which has bytes, but they end past 2^64 - 1
 pub record OrdinaryOverflows (m : Memory) (q : Queue) (v : Visit) : Type 0 where
   pub ordinary : IsOrdinary m v
   pub room : v.earlier < q.size
   pub some : 0 < (entry_of m v).len
   pub past : 2 ^ 64 ≤ (entry_of m v).addr + (entry_of m v).len
 
--- the fault of a step is the first rule that it breaks (2.7.5 and 2.7.5.3.1). A chain has no more ordinary descriptors than the queue has entries, whether one follows or not
+-- the fault of a step: the first rule that it breaks (2.7.5 and 2.7.5.3.1). An ordinary one is TooLong where as many came before it as the queue has entries, with NEXT or without
 abbrev pub StepHasFault : Memory → Queue → Visit → ChainFault → Type 0
 StepHasFault m q v NextOutOfTable = v.table.entries ≤ v.index
 StepHasFault m q v TableUnreachable = EntryIsUnreadable m v × (v.table.indirect ≡ true)
@@ -143,7 +144,7 @@ StepHasFault m q v RoomUnreachable = ⊥
 abbrev pub StepStops : Memory → Visit → Type 0
 StepStops m v = EntryIsUnreadable m v × (v.table.indirect ≡ false)
 
--- so it is of the last of some steps, and those before it pass
+-- the steps before the last of some pass, and of the last this is so
 pub record EndsAt (m : Memory) (q : Queue) (vs : List Visit) (IsSo : Visit → Type 0) : Type 0 where
   pub front : List Visit
   pub last : Visit
@@ -155,7 +156,7 @@ pub record EndsAt (m : Memory) (q : Queue) (vs : List Visit) (IsSo : Visit → T
 abbrev pub ordinary_entries : Memory → List Visit → List Descriptor
 ordinary_entries m vs = filter (λ d. not (is_indirect d)) (map (entry_of m) vs)
 
--- what some steps come to: the chain of their ordinary descriptors where each passes; a fault that the last has, or a stop of the queue there
+-- what some steps come to: the chain of their ordinary descriptors where each passes; else the fault that the last has, or a stop of the queue there
 abbrev pub ComesTo : Memory → Queue → List Visit → Found → Type 0
 ComesTo m q vs (IsChain ds) = All (Passes m q) vs × (ds ≡ ordinary_entries m vs)
 ComesTo m q vs (HasFault fault) = EndsAt m q vs (λ v. StepHasFault m q v fault)
