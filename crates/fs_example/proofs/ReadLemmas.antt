@@ -85,8 +85,12 @@ module _ (fs : List File) (f : File) (s : Setting) (who : Context) (unique node 
   fits true is place = omega (arith, length_error unique EIO, place)
   fits false is place = omega (arith, length_reply unique (wanted f size offset), ltb-false (s.room - 16) (length (wanted f size offset)) is, place)
 
+  -- its answer has no entry, so nothing is given back
+  abbrev asked : Bool → List FileCall
+  asked long = reading ∷ (if long then [] else [])
+
   asked_once : (options : ℕ) (long : Bool) (bytes : List ℕ) →
-      (if long then no_reply (reading ∷ []) options (Some EncodeMessage) else record { calls = reading ∷ []; options = options; reply = bytes; fault = None }).calls ≡ reading ∷ []
+      (if long then no_reply (asked long) options (Some EncodeMessage) else record { calls = asked long; options = options; reply = bytes; fault = None }).calls ≡ reading ∷ []
   asked_once options true bytes = refl
   asked_once options false bytes = refl
 
@@ -102,7 +106,7 @@ module _ (fs : List File) (f : File) (s : Setting) (who : Context) (unique node 
       all.0 ∙ ap (whole_answer fs) same ∙ ap (λ (o : Option File). bytes_at o (s.room - 16) size offset) there in
       let is : bytes ≡ reply_by long = ap (answer_bytes unique reading) answer ∙ replies long in
       let low : length bytes ≤ s.room = subst (λ (l : List ℕ). length l ≤ s.room) (sym is) (fits long refl place) in
-      whole_reply s.room (reading ∷ []) s.options bytes low ∙ is
+      whole_reply s.room (asked (nat_lt s.room (length bytes))) s.options bytes low ∙ is
 
   by_header : (calls : Calls) (place : Bool) → nat_le 16 s.room ≡ place → Answered fs calls →
       (served s (if place then Asks (One unique reading) else IsFault EncodeMessage) (answers_alone calls)).calls ≡ calls_alone calls →
