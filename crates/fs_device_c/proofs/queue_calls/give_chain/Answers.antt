@@ -1,0 +1,15 @@
+use Rattle.std.proofs.Common.{rules, refl, sym, ap}
+use Rattle.fs_device_c.proofs.queue_calls.give_chain.Goals as goal
+
+pub returns : goal.returns
+returns c = record {
+  chain = c.in-Some.pending;
+  was_taken = Prim.search rules;
+  head_is = Prim.search rules;
+  written = λ fetched is. Prim.search rules;
+  tells = λ fetched is. Prim.search rules;
+  queue = Prim.search rules;
+  none_taken = Prim.search rules;
+  mem = c.take_pages.ensures.mem;
+  limit = c.take_pages.ensures.limit;
+}

@@ -1,0 +1,23 @@
+-- Guest memory in two parts that are lent for a call.
+use Rattle.std.specs.Prelude.{ℕ, Bool, List, [], ◌∷◌, ◌++◌, Option, Some, None}
+use Rattle.vm_memory_core.specs.Host.{Host, of_two}
+use Rattle.vm_memory.specs.Layout.{Backing, Region}
+use Rattle.vm_memory.specs.Making.{backing_over}
+use Rattle.vm_memory.specs.Memory.{Memory, memory_of}
+
+-- two parts with their dirty pages
+abbrev pub parts : (low : List ℕ) → (low_marks : List Bool) → (high : List ℕ) → (high_marks : List Bool) → Host
+parts low low_marks high high_marks = of_two (record { bytes = low; marks = low_marks }) (record { bytes = high; marks = high_marks })
+
+-- they under a layout, as a device sees them
+abbrev pub lent : (low : List ℕ) → (low_marks : List Bool) → (high : List ℕ) → (high_marks : List Bool) → List Region → Memory
+lent low low_marks high high_marks layout = memory_of (parts low low_marks high high_marks) layout
+
+-- the region over a part from a guest address on: none, if it is empty
+abbrev pub region_in : Option Backing → (base : ℕ) → List Region
+region_in None base = []
+region_in (Some m) base = record { start = base; size = m.size; block = m.block } ∷ []
+
+-- the layout of two parts, each from a guest address on
+abbrev pub laid_out : Host → (low_base high_base : ℕ) → List Region
+laid_out h low_base high_base = region_in (backing_over h 0) low_base ++ region_in (backing_over h 1) high_base

@@ -1,0 +1,5 @@
+pub mod Lending
+pub mod OneProof
+pub mod Owned
+pub mod QueueExports
+pub mod Queues

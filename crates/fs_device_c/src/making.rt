@@ -1,0 +1,116 @@
+//! A device is made.
+
+ghost use Rattle.std.specs.Prelude.{◌≡◌, ◌≤◌, ◌<◌, ◌^◌, ◌++◌, false, length, replicate, [], IfOk, OnOk};
+ghost use Rattle.vm_bitmaps.specs.Pages.{pages_of};
+ghost use Rattle.vm_memory.specs.Making.{backing_over};
+ghost use Rattle.fs_device_c.specs.Lending.{laid_out, parts, region_in};
+
+/// Pages.
+pub type Pages = (IoPages<PageBitmap>, IoPages<PageBitmap>);
+
+use crate::refusal::Refusal;
+use std::alloc::{AllocError, Global};
+use vm_memory::{GuestMemoryMmap, GuestRegionCollectionError, GuestRegionMmap, MmapRegion};
+use vm_memory_core::{GuestAddress, HostBlocks, IoPages, LentMemory, PageBitmap};
+
+// Puts the region over a block behind others, if the block isn't empty.
+fn add_part<H: HostBlocks>(
+    regions: &mut Vec<GuestRegionMmap>,
+    host: &H,
+    block: usize,
+    base: u64,
+) -> Result<(), Refusal>
+    ensures { OnOk result (regions.new.items ≡ regions.old.items ++ region_in (backing_over (H.host host.now) block) base) }
+{
+    let Some(mapping) = MmapRegion::over_block(host, block) else {
+        return Ok(());
+    };
+    let Some(region) = GuestRegionMmap::new(mapping, GuestAddress(base)) else {
+        return Err(Refusal::BadArgument);
+    };
+    match regions.push(region) {
+        Ok(()) => Ok(()),
+        Err(_) => Err(Refusal::OutOfMemory),
+    }
+}
+
+// Memory of some regions, of which there may be none.
+fn collected(alloc: Global, regions: Vec<GuestRegionMmap>) -> Result<GuestMemoryMmap, Refusal>
+    ensures { IfOk result (λ m. m ≡ regions.items) }
+{
+    if regions.is_empty() {
+        return Ok(GuestMemoryMmap::new(alloc));
+    }
+    match GuestMemoryMmap::from_regions(alloc, regions) {
+        Ok(mem) => Ok(mem),
+        Err(GuestRegionCollectionError::OutOfMemory) => Err(Refusal::OutOfMemory),
+        Err(_) => Err(Refusal::BadArgument),
+    }
+}
+
+// The layout of two blocks, each from a guest address on.
+fn layout_over<H: HostBlocks>(
+    alloc: Global,
+    host: &H,
+    low_base: u64,
+    high_base: u64,
+) -> Result<GuestMemoryMmap, Refusal>
+    ensures { IfOk result (λ m. m ≡ laid_out (H.host host.now) low_base high_base) }
+{
+    let mut regions = Vec::new(alloc);
+    match add_part(&mut regions, host, 0, low_base) {
+        Ok(()) => {}
+        Err(refusal) => return Err(refusal),
+    }
+    match add_part(&mut regions, host, 1, high_base) {
+        Ok(()) => {}
+        Err(refusal) => return Err(refusal),
+    }
+    collected(alloc, regions)
+}
+
+// Clear pages of both parts, by their lengths.
+fn clear_pages(alloc: Global, low: usize, high: usize) -> Result<Pages, AllocError>
+    ensures low { IfOk result (λ p. p.0 ≡ replicate (pages_of 4096 low) false) }
+    ensures high { IfOk result (λ p. p.1 ≡ replicate (pages_of 4096 high) false) }
+{
+    let low_pages = IoPages::with_len(alloc, low)?;
+    let high_pages = IoPages::with_len(alloc, high)?;
+    Ok((low_pages, high_pages))
+}
+
+// The layout of two parts that are lent, and their clear pages.
+pub fn lay_out(
+    alloc: Global,
+    low_base: u64,
+    low: &mut [u8],
+    high_base: u64,
+    high: &mut [u8],
+) -> Result<(GuestMemoryMmap, Pages), Refusal>
+    ensures mem { IfOk result (λ r. r.0 ≡ laid_out (parts low.old [] high.old []) low_base high_base) }
+    ensures low_pages { IfOk result (λ r. r.1.0 ≡ replicate (pages_of 4096 (length low.old)) false) }
+    ensures high_pages { IfOk result (λ r. r.1.1 ≡ replicate (pages_of 4096 (length high.old)) false) }
+    ensures low { low.new ≡ low.old }
+    ensures high { high.new ≡ high.old }
+{
+    let Ok((low_pages, high_pages)) = clear_pages(alloc, low.len(), high.len()) else {
+        return Err(Refusal::OutOfMemory);
+    };
+    let host: LentMemory<'_, PageBitmap> = LentMemory {
+        low,
+        high,
+        low_pages,
+        high_pages,
+    };
+    let mem = layout_over(alloc, &host, low_base, high_base);
+    let LentMemory {
+        low: _low,
+        high: _high,
+        low_pages,
+        high_pages,
+    } = host;
+    match mem {
+        Ok(mem) => Ok((mem, (low_pages, high_pages))),
+        Err(refusal) => Err(refusal),
+    }
+}

@@ -1,0 +1,10 @@
+//! R.
+
+/// R.
+#[derive(Clone, Copy)]
+pub enum Refusal {
+    NoDevice,
+    OutOfMemory,
+    BadArgument,
+    OtherLengths,
+}
