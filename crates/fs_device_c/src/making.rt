@@ -1,11 +1,11 @@
-//! A device is made.
+//! The layout of memory in two parts.
 
 ghost use Rattle.std.specs.Prelude.{◌≡◌, ◌≤◌, ◌<◌, ◌^◌, ◌++◌, false, length, replicate, [], IfOk, OnOk};
 ghost use Rattle.vm_bitmaps.specs.Pages.{pages_of};
 ghost use Rattle.vm_memory.specs.Making.{backing_over};
 ghost use Rattle.fs_device_c.specs.Lending.{laid_out, parts, region_in};
 
-/// Pages.
+/// The dirty pages of both parts.
 pub type Pages = (IoPages<PageBitmap>, IoPages<PageBitmap>);
 
 use crate::refusal::Refusal;
@@ -79,7 +79,8 @@ fn clear_pages(alloc: Global, low: usize, high: usize) -> Result<Pages, AllocErr
     Ok((low_pages, high_pages))
 }
 
-// The layout of two parts that are lent, and their clear pages.
+/// The layout of two parts that are lent, each from a guest address on, and their clear pages: BadArgument where they make
+/// none, or OutOfMemory. Nothing is written.
 pub fn lay_out(
     alloc: Global,
     low_base: u64,

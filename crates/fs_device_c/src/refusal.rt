@@ -1,10 +1,8 @@
-//! R.
+//! Why memory can't be laid out.
 
-/// R.
+/// Why memory can't be laid out: memory for it is wanting, or an argument is none that the call takes.
 #[derive(Clone, Copy)]
 pub enum Refusal {
-    NoDevice,
     OutOfMemory,
     BadArgument,
-    OtherLengths,
 }
