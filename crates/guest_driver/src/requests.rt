@@ -1,7 +1,9 @@
 //! The flat bytes of FUSE requests (linux/fuse.h): little-endian, a header of 40 bytes in front (`struct
 //! fuse_in_header`). Where memory is wanting for them, that is AllocError.
 
-ghost use Rattle.std.specs.Prelude.{◌<◌, ◌^◌, length};
+ghost use Rattle.std.specs.Prelude.{◌≡◌, ◌<◌, ◌^◌, ◌++◌, length, IfOk};
+ghost use Rattle.vm_values.specs.Fields.{spelled};
+ghost use Rattle.guest_driver.specs.Requests.{header_bytes, lookup_bytes, read_bytes};
 
 use fuse_wire::{ForgetIn, InHeader, InitInCompat, Opcode, ReadIn};
 use std::alloc::{AllocError, Global};
@@ -12,7 +14,9 @@ pub(crate) const IN_HEADER_LEN: usize = 40;
 
 /// A request's header (`struct fuse_in_header`, 40 bytes), from user, group and process 0. `len`, in bytes, may be any,
 /// true or not, and `opcode` of no request.
-pub fn header(len: u32, opcode: u32, unique: u64, nodeid: u64) -> [u8; IN_HEADER_LEN] {
+pub fn header(len: u32, opcode: u32, unique: u64, nodeid: u64) -> [u8; IN_HEADER_LEN]
+    ensures { result ≡ header_bytes len opcode unique nodeid }
+{
     let header = InHeader {
         len,
         opcode,
@@ -26,7 +30,9 @@ pub fn header(len: u32, opcode: u32, unique: u64, nodeid: u64) -> [u8; IN_HEADER
 }
 
 /// One piece after the other, in memory of its own; AllocError where memory is wanting.
-pub fn joined(alloc: Global, front: &[u8], back: &[u8]) -> Result<Vec<u8>, AllocError> {
+pub fn joined(alloc: Global, front: &[u8], back: &[u8]) -> Result<Vec<u8>, AllocError>
+    ensures { IfOk result (λ all. all.items ≡ front.now ++ back.now) }
+{
     let mut all = Vec::new(alloc);
     all.extend_from_slice(front)?;
     all.extend_from_slice(back)?;
@@ -37,16 +43,19 @@ pub fn joined(alloc: Global, front: &[u8], back: &[u8]) -> Result<Vec<u8>, Alloc
 pub fn with_record<T: ByteValued>(
     alloc: Global,
     front: &[u8],
-    record: &T,
-) -> Result<Vec<u8>, AllocError> {
+    value: &T,
+) -> Result<Vec<u8>, AllocError>
+    ensures { IfOk result (λ all. all.items ≡ front.now ++ spelled (T.fields value.now)) }
+{
     let mut bytes = [0; 256];
-    record.put_bytes(&mut bytes[..T::SIZE]);
+    value.put_bytes(&mut bytes[..T::SIZE]);
     joined(alloc, front, &bytes[..T::SIZE])
 }
 
 /// LOOKUP of a name, which goes out with its zero byte: 41 bytes and the name's. AllocError where memory is wanting.
 pub fn lookup(alloc: Global, unique: u64, parent: u64, name: &[u8]) -> Result<Vec<u8>, AllocError>
     requires { length name.now < 2 ^ 16 }
+    ensures { IfOk result (λ all. all.items ≡ lookup_bytes unique parent name.now) }
 {
     let len = (IN_HEADER_LEN + name.len() + 1) as u32;
     let mut all = joined(
@@ -78,7 +87,9 @@ pub fn read(
     fh: u64,
     offset: u64,
     size: u32,
-) -> Result<Vec<u8>, AllocError> {
+) -> Result<Vec<u8>, AllocError>
+    ensures { IfOk result (λ all. all.items ≡ read_bytes unique nodeid fh offset size) }
+{
     let header = header(80, Opcode::Read as u32, unique, nodeid);
     let record = ReadIn {
         fh,
