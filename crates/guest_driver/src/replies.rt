@@ -1,6 +1,6 @@
 //! What the flat bytes of FUSE replies say.
 
-ghost use Rattle.std.specs.Prelude.{◌≡◌, ◌++◌, length, IfOk, IfSome};
+ghost use Rattle.std.specs.Prelude.{◌≡◌, ◌+◌, ◌++◌, length, IfOk, IfSome};
 ghost use Rattle.guest_driver.specs.Requests.{good_header};
 
 use fuse_wire::OutHeader;
@@ -13,7 +13,7 @@ pub const OUT_HEADER_LEN: usize = 16;
 /// fuse_out_header`, 16 bytes, little-endian), made negative as it stands there; nothing where the bytes are no reply
 /// to it: they are not as many as the header says, it names another request, or an error is followed by bytes.
 pub fn body(reply: &[u8], unique: u64) -> Option<Result<&[u8], i32>>
-    ensures { IfSome result (λ told. IfOk told (λ body. reply.now ≡ good_header (length reply.now) unique ++ body.now)) }
+    ensures { IfSome result (λ told. IfOk told (λ body. reply.now ≡ good_header (16 + length body.now) unique ++ body.now)) }
 {
     let (header, body) = reply.split_at_checked(OUT_HEADER_LEN)?;
     let header = OutHeader::from_slice(header)?;

@@ -1,4 +1,4 @@
-use Rattle.std.proofs.Common.{◌≡◌, ◌++◌, length, ℕ, List, ℤ, pos, w32, of_z, to_z, sym, ap, ◌∙◌}
+use Rattle.std.proofs.Common.{◌≡◌, ◌++◌, length, ℕ, ◌+◌, List, arith, ℤ, pos, w32, of_z, to_z, sym, ap, ◌∙◌}
 use Rattle.std.proofs.lemmas.Int.{to_z-of_z}
 use Rattle.std.proofs.lemmas.List.{take-append-drop}
 use Rattle.vm_values.specs.Fields.{Fits, i, spelled}
@@ -21,5 +21,5 @@ returns-then-header-eq0 c =
     let cases = c.in_ok-header.ensures.cases in
     let header = c.in_ok-header-2.header in
     let halves : c.args.reply.now ≡ c.in_ok-header.header.now ++ c.in_ok-header.body.now = cc (take-append-drop 16 c.args.reply.now) in
-    joined_again c.args.reply.now c.in_ok-header.header.now c.in_ok-header.body.now header.len header.unique header.error (length c.args.reply.now) c.args.unique
-    halves c.in_ok-header-2.ensures.bytes.0 c.if-header-reply.false c.if-header-unique.false (no_error header.error c.in_ok-header-2.ensures.bytes.1.1.0 c.if-header-eq0.true)
+    joined_again c.args.reply.now c.in_ok-header.header.now c.in_ok-header.body.now header.len header.unique header.error (16 + length c.in_ok-header.body.now) c.args.unique
+    halves c.in_ok-header-2.ensures.bytes.0 (omega (arith, cases, c.if-header-reply.false)) c.if-header-unique.false (no_error header.error c.in_ok-header-2.ensures.bytes.1.1.0 c.if-header-eq0.true)
