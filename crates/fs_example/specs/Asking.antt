@@ -1,10 +1,18 @@
 -- What a monitor and its guest do with one request after another.
-use Rattle.std.specs.Prelude.{◌≡◌, ℕ, zero, suc, List, [], ◌++◌, length, drop, Option, Some}
+use Rattle.std.specs.Prelude.{◌≡◌, ℕ, zero, suc, ◌+◌, ◌%◌, ◌^◌, Bool, List, [], ◌∷◌, ◌++◌, length, Option, Some}
+use Rattle.vm_values.specs.Fields.{AllFit, spelled}
+use Rattle.vm_memory_core.specs.Host.{new_block}
 use Rattle.vm_memory.specs.Layout.{Region}
-use Rattle.vm_memory.specs.Memory.{bytes, memory_of}
+use Rattle.vm_memory.specs.Memory.{Memory, memory_of}
+use Rattle.fs_queue.specs.Queue.{fresh}
+use Rattle.fuse_wire.specs.Records.{entry_out}
+use Rattle.fuse_wire.specs.declared.replies.EntryOut.{EntryOut}
+use Rattle.virtiofsd_fuse.specs.Grammar.{reply_bytes}
+use Rattle.guest_driver.specs.Requests.{lookup_bytes, read_bytes}
 use Rattle.fs_device.specs.DeviceView.{state_of}
-use Rattle.fs_device.specs.Step.{State, Outcome}
+use Rattle.fs_device.specs.Step.{State, Exchange, Exchanged}
 use Rattle.fs_example.specs.declared.monitor.Monitor.{Monitor}
+use Rattle.fs_example.specs.declared.table.File.{File}
 use Rattle.fs_example.specs.Directory.{Directory}
 use Rattle.fs_example.specs.Driver.{offered, reply_at}
 use Rattle.fs_example.specs.Reading.{ReadingStep}
@@ -21,26 +29,52 @@ layout_of m = m.mem
 abbrev pub chains_of : Monitor → ℕ
 chains_of m = m.offered
 
--- a request is offered in the guest's memory as the chain of this number, and a step of the device over the directory follows; the
--- reply is what the guest then finds in its room by the used ring
+-- memory of so many zeros from 0 on, no page of which is marked
+unfoldable pub zeros : (size : ℕ) → Memory
+zeros size = memory_of (record { blocks = new_block size ∷ []; tables = []; io_marks = [] }) (record { start = 0; size = size; block = 0 } ∷ [])
+
+-- the machine of a new monitor over these files: 64 KiB of zeros, one queue of 4 descriptors of which no chain was returned (its
+-- table at 0, its available ring at 0x100 and its used ring at 0x200), no options agreed on, a limit of 1 MiB and 4 KiB, and
+-- pages of 4 KiB
+pub record IsNew (files : List File) (s : State Directory) : Type 0 where
+  pub memory : s.memory ≡ zeros 0x10000
+  pub queues : s.queues ≡ fresh 4 0 0x100 0x200 ∷ []
+  pub options : s.options ≡ 0
+  pub table : s.files.0.files.now ≡ files
+  pub limit : s.limit ≡ 0x101000
+  pub page_size : s.page_size ≡ 4096
+
+-- a request is offered in the guest's memory as the chain of this number, and in the step that follows the device exchanges a
+-- chain; the reply is what the guest then finds in its room by the used ring
 abbrev pub IsAsked : State Directory → (chain : ℕ) → (request reply : List ℕ) → State Directory → Type 0
 IsAsked s chain request reply after =
-    (outcome : Outcome) × ReadingStep (record s { memory = offered s.memory chain request }) 0 outcome after
+    (x : Exchange) × (notice : Bool) × ReadingStep (record s { memory = offered s.memory chain request }) 0 (Exchanged x notice) after
     × (reply_at after.memory chain ≡ Some reply)
 
--- some request is asked, and behind the header of its reply, of 16 bytes, the guest has this piece in the room at 0x1000
-abbrev pub GetsPiece : State Directory → (piece : List ℕ) → State Directory → Type 0
-GetsPiece s piece after =
-    (chain : ℕ) × (request reply : List ℕ) × IsAsked s chain request reply after × (piece ≡ drop 16 (bytes after.memory 0x1000 (length reply)))
+-- a request is asked, and the guest finds the good reply to the request of this unique number in its room, with this piece behind the header
+abbrev pub GetsPiece : State Directory → (chain unique : ℕ) → (request piece : List ℕ) → State Directory → Type 0
+GetsPiece s chain unique request piece after = IsAsked s (chain % 2 ^ 16) request (reply_bytes unique piece) after
 
--- so many requests are asked one after another, whose pieces together are the contents
-abbrev pub GetsPieces : State Directory → (count : ℕ) → (contents : List ℕ) → State Directory → Type 0
-GetsPieces s zero contents after = (contents ≡ []) × (after ≡ s)
-GetsPieces s (suc count) contents after =
-    (before : State Directory) × (front piece : List ℕ) × GetsPieces s count front before × GetsPiece before piece after × (contents ≡ front ++ piece)
+-- a READ of at most 4096 bytes of a node from an offset on gets a piece
+abbrev pub ReadsPiece : State Directory → (chain unique node offset : ℕ) → (piece : List ℕ) → State Directory → Type 0
+ReadsPiece s chain unique node offset piece after = GetsPiece s chain unique (read_bytes unique node 0 offset 0x1000) piece after
 
--- a look-up is asked, then so many reads, and one that gets nothing: the contents are what the guest got by them in its room
-abbrev pub ReadsFile : State Directory → (contents : List ℕ) → State Directory → Type 0
-ReadsFile s contents after =
-    (looked last : State Directory) × (count : ℕ) × (entry : List ℕ)
-    × GetsPiece s entry looked × GetsPieces looked count contents last × GetsPiece last [] after
+-- so many READs of a node, from chain `first` and from unique number 2 on, each from where the pieces before it end; together they are the contents
+abbrev pub GetsPieces : State Directory → (first node count : ℕ) → (contents : List ℕ) → State Directory → Type 0
+GetsPieces s first node zero contents after = (contents ≡ []) × (after ≡ s)
+GetsPieces s first node (suc count) contents after =
+    (before : State Directory) × (front piece : List ℕ) × GetsPieces s first node count front before
+    × ReadsPiece before (first + count) (2 + count) node (length front) piece after × (contents ≡ front ++ piece)
+
+-- these bytes are an entry of a node (struct fuse_entry_out)
+unfoldable pub IsEntry : List ℕ → (node : ℕ) → Type 0
+IsEntry bytes node = (entry : EntryOut) × AllFit (entry_out entry) × (bytes ≡ spelled (entry_out entry)) × (entry.nodeid ≡ node)
+
+-- a guest that has offered so many chains looks a name up under the root, node 1, and reads the node that the reply's entry tells,
+-- until a READ behind the last piece gets nothing: the contents are the pieces together
+abbrev pub ReadsFile : State Directory → (chains : ℕ) → (name contents : List ℕ) → State Directory → Type 0
+ReadsFile s chains name contents after =
+    (looked last : State Directory) × (entry : List ℕ) × (node count : ℕ)
+    × GetsPiece s (chains + 1) 1 (lookup_bytes 1 1 name) entry looked × IsEntry entry node
+    × GetsPieces looked (chains + 2) node count contents last
+    × ReadsPiece last (chains + 2 + count) (2 + count) node (length contents) [] after

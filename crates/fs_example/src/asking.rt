@@ -1,9 +1,10 @@
 //! What a monitor does: one request after another.
 
-ghost use Rattle.std.specs.Prelude.{◌≡◌, ◌+◌, ◌%◌, ◌<◌, ◌^◌, length, drop, IfOk};
+ghost use Rattle.std.specs.Prelude.{◌≡◌, ◌+◌, ◌%◌, ◌<◌, ◌^◌, length, IfOk};
 ghost use Rattle.vm_memory_core.specs.Host.{shape};
+ghost use Rattle.virtiofsd_fuse.specs.Grammar.{reply_bytes};
 ghost use Rattle.fs_device.specs.Step.{State};
-ghost use Rattle.fs_example.specs.Asking.{IsAsked, ReadsFile, chains_of, layout_of, machine_of_monitor};
+ghost use Rattle.fs_example.specs.Asking.{IsAsked, IsNew, ReadsFile, chains_of, layout_of, machine_of_monitor};
 ghost use Rattle.fs_example.specs.Directory.{Directory};
 
 use crate::driver::{AVAIL, DESC, QUEUE_SIZE, ROOM_LEN, USED, offer, reply};
@@ -36,10 +37,11 @@ const PIECE: u32 = ROOM_LEN - 16;
 const NAME_MAX: usize = 255;
 
 impl<'a> Monitor<'a> {
-    /// A guest with 64 KiB from 0 on, and a device of one queue.
+    /// A guest with 64 KiB of zeros from 0 on, and a device of one queue of which no chain was returned.
     pub fn new(alloc: Global, files: &'a [File<'a>]) -> Result<Monitor<'a>, MonitorError>
         requires { length files.now < 2 ^ 32 }
-        ensures { IfOk result (λ monitor. (machine_of_monitor monitor).files.0.files.now ≡ files.now) }
+        ensures machine { IfOk result (λ monitor. IsNew files.now (machine_of_monitor monitor)) }
+        ensures chains { IfOk result (λ monitor. chains_of monitor ≡ 0) }
     {
         let mut host = HostMemory::new(alloc);
         let mem = GuestMemoryMmap::from_ranges(alloc, &mut host, &[(GuestAddress(0), 0x10000)])?;
@@ -58,9 +60,9 @@ impl<'a> Monitor<'a> {
     }
 
     /// The guest offers a request as its next chain, the device takes a step, and the guest reads the reply from its
-    /// memory, as long as the used ring says. `NoReply`: the device has not returned this chain, or with more bytes than
-    /// its room has. A request longer than 52 KiB has no place in memory (`Place`). After `Device` the monitor is of no
-    /// more use: its chain still waits.
+    /// memory, as long as the used ring says. `NoReply`: the device finds no chain, it has not returned this one, or it
+    /// did with more bytes than the room has. A request longer than 52 KiB has no place in memory (`Place`). After `Device`
+    /// the monitor is of no more use: its chain still waits.
     pub fn ask(&mut self, request: &[u8]) -> Result<Vec<u8>, MonitorError>
         ensures asked { IfOk result (λ reply.
             IsAsked (machine_of_monitor self.old) ((chains_of self.old + 1) % 2 ^ 16) request.now reply.items (machine_of_monitor self.new)) }
@@ -71,7 +73,10 @@ impl<'a> Monitor<'a> {
         let chain = self.offered.wrapping_add(1);
         offer(&mut self.host, &self.mem, chain, request)?;
         self.offered = chain;
-        step_directory(self.alloc, &mut self.device, &mut self.host, &self.mem, 0)?;
+        let Some(_) = step_directory(self.alloc, &mut self.device, &mut self.host, &self.mem, 0)?
+        else {
+            return Err(MonitorError::NoReply);
+        };
         match reply(self.alloc, &self.host, &self.mem, chain)? {
             Some(reply) => Ok(reply),
             None => Err(MonitorError::NoReply),
@@ -81,7 +86,7 @@ impl<'a> Monitor<'a> {
     /// Has the guest look a name up, and read its file piece by piece until there is no more. A name that no file has is
     /// `Failed(-2)` (ENOENT).
     pub fn read_file(&mut self, name: &[u8]) -> Result<Vec<u8>, MonitorError>
-        ensures { IfOk result (λ contents. ReadsFile (machine_of_monitor self.old) contents.items (machine_of_monitor self.new)) }
+        ensures { IfOk result (λ contents. ReadsFile (machine_of_monitor self.old) (chains_of self.old) name.now contents.items (machine_of_monitor self.new)) }
     {
         if name.len() > NAME_MAX {
             return Err(MonitorError::LongName);
@@ -103,8 +108,9 @@ impl<'a> Monitor<'a> {
 }
 
 // What follows the header of the reply to a request, unless that tells an error.
+#[tactic(auto, using(crate::proofs::AskingLemmas::good_reply))]
 fn told(reply: &[u8], unique: u64) -> Result<&[u8], MonitorError>
-    ensures { IfOk result (λ bytes. bytes.now ≡ drop 16 reply.now) }
+    ensures { IfOk result (λ bytes. reply.now ≡ reply_bytes unique bytes.now) }
 {
     match body(reply, unique) {
         Some(Ok(body)) => Ok(body),
@@ -117,7 +123,7 @@ fn told(reply: &[u8], unique: u64) -> Result<&[u8], MonitorError>
 pub fn read_file(alloc: Global, files: &[File], name: &[u8]) -> Result<Vec<u8>, MonitorError>
     requires { length files.now < 2 ^ 32 }
     ensures { IfOk result (λ contents. (before after : State Directory)
-        × (before.files.0.files.now ≡ files.now) × ReadsFile before contents.items after) }
+        × IsNew files.now before × ReadsFile before 0 name.now contents.items after) }
 {
     let mut monitor = Monitor::new(alloc, files)?;
     monitor.read_file(name)
