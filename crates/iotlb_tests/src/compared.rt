@@ -74,7 +74,7 @@ fn write_mapped(rt: &impl Abort, text: &mut String, table: &Iotlb, from: u64, to
                 next = next.wrapping_add(piece.length as u64);
             }
         }
-        Err(_) => text.push_str("not mapped").expect(rt, "memory"),
+        Err(_fails) => text.push_str("not mapped").expect(rt, "memory"),
     }
 }
 
