@@ -8,13 +8,11 @@
  *    written; no two arguments overlap. No pointer is NULL; what has length 0 may have any other.
  *  - a handle is zeros, or what these functions left: it isn't copied and used twice. One call at a time on a handle, and
  *    all of them on one thread.
- *  - nobody else writes the lent memory while a call runs: neither a vCPU nor a device. Stop the vCPUs for the call, or
- *    know what follows.
- * If vCPUs run: a take reads, in this order, the available index, the ring's entry, the descriptors, the request, each of
- * them once; a return writes the reply, then the used element, then the used index, and reads the available flags last.
- * There are no barriers inside. So put one of acquire between a notification and a take (C11:
- * atomic_thread_fence(memory_order_acquire)) and one of release behind a return, before you tell the guest. A guest that
- * writes while a call runs is outside of what is proved.
+ *  - nobody else reads or writes the lent memory while a call runs: neither a vCPU nor a device. So stop the vCPUs for the
+ *    call. In the source a take reads the available index, the ring's entry, the descriptors and then the request; a return
+ *    writes the reply, then the used element, then the used index, and reads the available flags last. But these are plain
+ *    loads and stores, which a compiler or a processor may move or repeat, and no barrier stands between them: a vCPU that
+ *    runs meanwhile may see the used index before the reply, and may not be told where it wants to be.
  *
  * Link libfs_device_c.a, the heap's file of the toolchain (rattle_alloc and its kin, over malloc) and the C library.
  */

@@ -65,8 +65,8 @@ pub trait FileSystemBase {
     ghost may: { Self → FileCall → FileAnswer → Self → Type 0 };
 
     /// The guest holds a node this many times less (FUSE_FORGET), or an entry is given back whose reply has no room; it
-    /// can't fail. Node 0 comes too: READDIRPLUS takes back an entry without a node, `.` and `..` among them, as it does
-    /// one with a node.
+    /// can't fail. Node 0 comes too, where that was answered: READDIRPLUS takes back an entry without a node, `.` and `..`
+    /// among them, as it does one with a node, and so does a reply that has no room.
     fn forget(&mut self, ctx: Context, inode: Self::Inode, count: u64)
         ensures may { may self.old (call.Forget ctx (Self.Inode.number inode) count) call.Done self.new };
 }
@@ -208,7 +208,8 @@ pub trait FileSystem: FileSystemBase {
     ) -> Result<(Option<Self::Handle>, OpenOptions), Errno>
         ensures may { Self.may self.old (call.Open ctx (Self.Inode.number inode) kill_priv flags) (opened_answer Self.Handle.number result) self.new };
 
-    /// Makes a file where there is none, and opens it (FUSE_CREATE).
+    /// Makes a file where there is none, and opens it (FUSE_CREATE). Where the reply has no room the entry is given back
+    /// by `forget`, but the handle isn't released: who hands out handles bounds how many a guest may leave open.
     fn create(
         &mut self,
         ctx: Context,
