@@ -1,8 +1,8 @@
 -- words with a summary
-use Rattle.std.proofs.Common.{◌≡◌, ◌≢◌, ℕ, ◌+◌, ◌-◌, ◌*◌, ◌/◌, ◌%◌, ◌^◌, ◌<◌, ◌≤◌, inl, inr, Bool, true, false, cond, eqb, ltb, List, length, get_or, set, replicate, refl, ap, sym, subst, ◌∙◌, arith, Option, Some, None}
+use Rattle.std.proofs.Common.{◌≡◌, ◌≢◌, ℕ, ◌+◌, ◌-◌, ◌*◌, ◌/◌, ◌%◌, ◌^◌, ◌<◌, ◌≤◌, inl, inr, Bool, true, false, cond, eqb, ltb, List, length, get_or, replicate, refl, ap, sym, subst, ◌∙◌, arith, Option, Some, None}
 use Rattle.std.specs.Int.{bit_at, div_ceil}
 use Rattle.std.proofs.Math.Nat.{div-div-eq-div-mul}
-use Rattle.std.proofs.lemmas.List.{ext_get_or, length-replicate, get_or_past, get_or-set_same, get_or-set_other}
+use Rattle.std.proofs.lemmas.List.{length-replicate, get_or_past}
 use Rattle.std.proofs.lemmas.Nat.{pow-add}
 use Rattle.std.proofs.lemmas.Nat.Bits.{bit_at-zero, bit_at_above, same_from_bits_below}
 use Rattle.std.proofs.lemmas.Bool.{cases_lt, cases_eq, lt-ltb, le-ltb}
@@ -202,16 +202,6 @@ past_words words p g = bit_none words p (p / 64) refl (get_or_past words (p / 64
 pub skipped : (words summary : List ℕ) (p : ℕ) → IsSummary words summary → page_bit summary (p / 64) ≡ 0 → page_bit words p ≡ 0
 skipped words summary p s none = bit_none words p (p / 64) refl (not_told words summary (p / 64) (s.tells (p / 64)) none)
 
--- a word that is told of
-pub told_inside : (words summary : List ℕ) (w : ℕ) → IsSummary words summary → page_bit summary w ≡ 1 → w < length words
-told_inside words summary w s one = elim (cases_lt w (length words)) [
-  | inl l ↦ l
-  | inr g ↦
-      let some = is_some_word words summary w (s.tells w) one in
-      let none : get_or words w 0 ≡ 0 = get_or_past words w 0 g in
-      absurd (omega arith)
-]
-
 -- after the word of a page no word is told of
 pub next_none : (words summary : List ℕ) (from : ℕ) → IsSummary words summary → IsFirstSet words from (64 * (from / 64) + 64) None →
     IsNextSet summary (from / 64 + 1) None → IsNextSet words from None
@@ -256,29 +246,6 @@ written_clean n items old new first last mark clean is run len below = record {
 }
 
 -- ---- words that are cleared one after another
-
--- one more of them
-pub clear_step : (old now summary : List ℕ) (from w i : ℕ) → IsSummary old summary → IsNextSet summary from (Some w) → w < length now →
-    ((j : ℕ) → j < from → get_or now j 0 ≡ 0) → ((j : ℕ) → from ≤ j → get_or now j 0 ≡ get_or old j 0) → i < w + 1 → get_or (set now w 0) i 0 ≡ 0
-clear_step old now summary from w i s next inside done left below = elim (cases_eq i w) [
-  | inl is ↦ ap (λ j. get_or (set now w 0) j 0) is ∙ get_or-set_same now w 0 0 inside
-  | inr ne ↦ get_or-set_other now w i 0 0 ne ∙ elim (cases_lt i from) [
-    | inl low ↦ done i low
-    | inr high ↦ left i high ∙ not_told old summary i (s.tells i) (next.2 i high (omega arith))
-  ]
-]
-
-pub clear_rest : (old now : List ℕ) (from w i : ℕ) → from ≤ w → ((j : ℕ) → from ≤ j → get_or now j 0 ≡ get_or old j 0) → w + 1 ≤ i → get_or (set now w 0) i 0 ≡ get_or old i 0
-clear_rest old now from w i order left above = get_or-set_other now w i 0 0 (λ e. absurd (omega arith)) ∙ left i (omega arith)
-
--- all of them
-pub clear_end : (old now summary : List ℕ) (from : ℕ) → IsSummary old summary → IsNextSet summary from None → length now ≡ length old →
-    ((j : ℕ) → j < from → get_or now j 0 ≡ 0) → ((j : ℕ) → from ≤ j → get_or now j 0 ≡ get_or old j 0) → now ≡ replicate (length old) 0
-clear_end old now summary from s none len done left =
-    ext_get_or 0 now (replicate (length old) 0) (len ∙ sym (length-replicate {A = ℕ} (length old) 0)) (λ i l. elim (cases_lt i from) [
-      | inl low ↦ done i low
-      | inr high ↦ left i high ∙ not_told old summary i (s.tells i) (none i high)
-    ] ∙ sym (get_or-zeros (length old) i))
 
 -- the next marked page is the next one whose bit is set
 pub next_marked_is : (n : ℕ) (words : List ℕ) (from : ℕ) (found : Option ℕ) → IsClean n words → IsNextSet words from found → IsNextMarked (marks_of n words) from found

@@ -1,7 +1,6 @@
 pub mod RangeLemmas
 pub mod RunLemmas
 pub mod PieceLemmas
-pub mod SearchLemmas
 pub mod Canonical
 pub mod MapLemmas
 pub mod LookupLemmas

@@ -276,27 +276,6 @@ back_at r before q mid after free put gone =
       | inr apart ↦ gone ∙ rw (test_apart r.start q apart) (put ∙ put_apart r before q apart)
     ]
 
--- a key that is taken out from among those that are to go
-pub clear_step : (from to k q : ℕ) (g h : ℕ → Option IotlbRange) → from ≤ k → k < to → h q ≡ cond (is_at (nat_cmp k) q) None (g q) → cleared from to h q ≡ cleared from to g q
-clear_step from to k q g h low high step =
-    elim (cases_lt q from) [
-      | inl under ↦ clear_below from to h q under ∙ step ∙ rw (test_apart k q (λ same. omega arith)) (sym (clear_below from to g q under))
-      | inr above ↦ elim (cases_lt q to) [
-        | inl within ↦ clear_within from to h q above within ∙ sym (clear_within from to g q above within)
-        | inr over ↦ clear_above from to h q over ∙ step ∙ rw (test_apart k q (λ same. omega arith)) (sym (clear_above from to g q over))
-      ]
-    ]
-
-pub clear_done : (from to q : ℕ) (g : ℕ → Option IotlbRange) → ((k : ℕ) → from ≤ k → k < to → g k ≡ None) → g q ≡ cleared from to g q
-clear_done from to q g none =
-    elim (cases_lt q from) [
-      | inl under ↦ sym (clear_below from to g q under)
-      | inr above ↦ elim (cases_lt q to) [
-        | inl within ↦ none q above within ∙ sym (clear_within from to g q above within)
-        | inr over ↦ sym (clear_above from to g q over)
-      ]
-    ]
-
 -- ---- the ranges about an address
 
 pub reaches_none : (es : List (ℕ × IotlbRange)) (below addr : ℕ) (r : IotlbRange) → AreKeyed es → AreRanges (values_of es) → below + 1 ≡ addr → IsLastUpTo es below r → r.end < addr → ReachesFrom es addr None

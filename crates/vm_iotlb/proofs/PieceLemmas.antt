@@ -1,8 +1,7 @@
 -- what a look-up over ranges answers
-use Rattle.std.proofs.Common.{◌≡◌, ℕ, zero, suc, true, false, ◌+◌, ◌-◌, ◌<◌, ◌≤◌, ◌^◌, List, [], ◌∷◌, ◌++◌, append_assoc, length, map, get_or, drop, leb, refl, ap, sym, ◌∙◌, arith, Some, None, Option, inl, inr}
+use Rattle.std.proofs.Common.{◌≡◌, ℕ, zero, suc, true, false, ◌+◌, ◌-◌, ◌<◌, ◌≤◌, List, [], ◌∷◌, ◌++◌, append_assoc, map, leb, refl, ap, sym, ◌∙◌, arith, Some, None, Option, inl, inr}
 use Rattle.std.proofs.Math.Numerals.{add-one}
-use Rattle.std.proofs.Math.Seq.{drop-cons}
-use Rattle.std.specs.Prelude.{nat_lt, if◌then◌else◌, max, min, MatchOption}
+use Rattle.std.specs.Prelude.{nat_lt, if◌then◌else◌, max, min}
 use Rattle.std.specs.List.{range_with_len}
 use Rattle.std.proofs.lemmas.List.{append-nil}
 use Rattle.std.proofs.lemmas.Bool.{cases_lt, cases_Bool, and_parts, eqb-true, false≢true, lt-ltb, le-ltb, lt-leb, le-leb}
@@ -10,7 +9,6 @@ use Rattle.vm_iotlb.specs.declared.permissions.Permissions.{Permissions}
 use Rattle.vm_iotlb.specs.declared.permissions.Permissions.TheVariants.{No}
 use Rattle.vm_iotlb.specs.declared.range.IotlbRange.{IotlbRange}
 use Rattle.vm_iotlb.specs.declared.iova.IovaRange.{IovaRange}
-use Rattle.vm_iotlb.specs.declared.iova.MappedRange.{MappedRange}
 use Rattle.vm_iotlb.specs.Table.{Mapping, Table, allows}
 use Rattle.vm_iotlb.specs.Ranges.{mapping_in, table_kept, AreRanges, EndsAbove, Agree}
 use Rattle.vm_iotlb.specs.Pieces.{Cover, pieces_in}
@@ -153,35 +151,11 @@ range_part t access r l a p e are agree some low high end =
 
 -- ---- an iterator at its end
 
--- some addresses have a piece
-pub no_pieces : (t : Table) (a n : ℕ) → 0 < n → pieces t a n ≡ [] → ⊥
-unfolding pieces
-no_pieces t a zero some none = absurd (omega arith)
-no_pieces t a (suc n) some none =
-    let head = runs_head t a n in
-    let same : piece_of t (run_of a head.0) ∷ map (piece_of t) head.1 ≡ [] = sym (ap (map (piece_of t)) head.2) ∙ none in
-    absurd (cc)
-
--- the first of what an iterator has left, where something is left
-pub first_given : (r : Option MappedRange) (s t all : List MappedRange) → MatchOption r ((s ≡ []) × (t ≡ [])) (λ x. (s ≡ x ∷ t) × (x.base.0 + x.length < 2 ^ 64)) → s ≡ all → (all ≡ [] → ⊥) →
-    MatchOption r ⊥ (λ p. (rest : List MappedRange) × (all ≡ p ∷ rest))
-first_given None s t all gives is some = some (sym is ∙ gives.0)
-first_given (Some p) s t all gives is some = (t, sym is ∙ gives.0)
-
 pub none_in : (l : List IotlbRange) (a e : ℕ) → e ≤ a → pieces_in l a e ≡ []
 none_in [] a e h = refl
 none_in (r ∷ l) a e h = let test : nat_lt a e ≡ false = le-ltb a e h in rw test refl
 
 -- ---- loops over ranges
-
-pub drop_more : (l : List IotlbRange) (i : ℕ) (d : IotlbRange) → i < length l → drop i l ≡ get_or l i d ∷ drop (i + 1) l
-drop_more l i d h = rw add-one (drop-cons l i d h)
-
-pub drop_past : (l : List IotlbRange) (i : ℕ) → length l ≤ i → drop i l ≡ []
-drop_past [] zero h = refl
-drop_past [] (suc i) h = refl
-drop_past (r ∷ l) zero h = absurd (omega arith)
-drop_past (r ∷ l) (suc i) h = drop_past l i (omega arith)
 
 -- no range is left
 pub covered_end : (t : Table) (access : Permissions) (a e : ℕ) → Agree t [] a e → leb e a ≡ may_all t access a (e - a)

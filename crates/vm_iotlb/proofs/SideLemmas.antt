@@ -5,12 +5,9 @@ use Rattle.std.proofs.lemmas.Bool.{cases_lt}
 use Rattle.vm_iotlb.specs.declared.range.IotlbRange.{IotlbRange}
 use Rattle.vm_iotlb.specs.Keys.{AreKeyed, HasAddress, IsFree, IsTaken, JoinsLeft, JoinsRight, ReachesFrom, end_joined, left_over, put_at, range_at, right_over, start_joined, target_joined}
 use Rattle.vm_iotlb.specs.Ranges.{AreRanges, IsRange}
-use Rattle.vm_iotlb.proofs.MapLemmas.{is_at_key, none_some, pair_at, some_one}
+use Rattle.vm_iotlb.proofs.MapLemmas.{is_at_key, pair_at, some_one}
 use Rattle.vm_iotlb.proofs.ExchangeLemmas.{Part, Has}
 use Rattle.vm_iotlb.proofs.CutLemmas.{MapsAs, head_apart, head_taken, left_keep, left_part, old_part, one_about, right_keep, right_part, tail_apart, tail_free}
-
-none_is_some : (b : IotlbRange) → ◌≡◌ {A = Option IotlbRange} None (Some b) → ⊥
-none_is_some b e = none_some b e
 
 -- the range that reaches up to an address is the one before it
 before_of : (es : List (ℕ × IotlbRange)) (s k : ℕ) (before : Option IotlbRange) (r : IotlbRange) → AreKeyed es → AreRanges (values_of es) → ReachesFrom es s before → range_at es k ≡ Some r → k < s →

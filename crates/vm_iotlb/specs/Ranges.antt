@@ -38,11 +38,6 @@ abbrev pub AreRanges : List IotlbRange → Type 0
 AreRanges [] = Unit {0}
 AreRanges (r ∷ rs) = IsRange r × PrecedesAll r rs × AreRanges rs
 
--- no range ends above an address
-abbrev pub EndBy : ℕ → List IotlbRange → Type 0
-EndBy e [] = Unit {0}
-EndBy e (r ∷ rs) = (r.end ≤ e) × EndBy e rs
-
 -- the first range ends above an address
 abbrev pub EndsAbove : ℕ → List IotlbRange → Type 0
 EndsAbove a [] = Unit {0}
@@ -51,14 +46,6 @@ EndsAbove a (r ∷ rs) = a < r.end
 -- ranges do what one more does to its own addresses, and to others what some did before
 abbrev pub AddsRange : IotlbRange → (old new : List IotlbRange) → Type 0
 AddsRange r old new = (a : ℕ) → table_kept new a ≡ (if has r a then Some (mapping_in r a) else table_kept old a)
-
--- the same of those addresses of a range that lie from one up to another
-abbrev pub AddsPart : IotlbRange → (from to : ℕ) → (old new : List IotlbRange) → Type 0
-AddsPart r from to old new = (a : ℕ) → table_kept new a ≡ (if has r a && (nat_le from a && nat_lt a to) then Some (mapping_in r a) else table_kept old a)
-
--- ranges do to the addresses from one up to another what others do, and elsewhere what some did before
-abbrev pub AddsParts : (others : List IotlbRange) → (from to : ℕ) → (old new : List IotlbRange) → Type 0
-AddsParts others from to old new = (a : ℕ) → table_kept new a ≡ (if nat_le from a && nat_lt a to then table_kept others a else table_kept old a)
 
 -- ranges do what a table does, from one address up to another
 abbrev pub Agree : Table → List IotlbRange → ℕ → ℕ → Type 0
