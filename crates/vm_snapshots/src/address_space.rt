@@ -1,0 +1,59 @@
+//! Whatever lends guest memory to a call (vm-memory's `GuestAddressSpace`).
+
+ghost use Rattle.std.specs.Prelude.{◌≡◌};
+ghost use Rattle.std.specs.Fn.{FnOnceReturnsAt};
+
+use std::alloc::Global;
+use std::rc::Rc;
+use std::sync::{Arc, Wait};
+use vm_memory::GuestMemory;
+
+/// What has guest memory to lend, for one call at a time (vm-memory's `GuestAddressSpace`, whose `memory` hands out a
+/// guard): a reference, an `Rc`, an `Arc`, or a `GuestMemoryAtomic`.
+pub trait GuestAddressSpace {
+    /// The memory that it lends.
+    type M: GuestMemory;
+
+    // which memory it lends
+    ghost Lends: { Self → Self.M → Type 0 };
+
+    /// Lends the memory to `f`, which is called once, and answers what `f` answered. It may wait for whoever replaces
+    /// the memory.
+    fn memory<R: Wait, T, F: FnOnce(&Self::M) -> T>(&self, rt: &R, f: F) -> T
+        requires { F.IsAlwaysCallable f }
+        ensures lent { (m : _) × Lends self.now m × FnOnceReturnsAt F.FnOnce f m result };
+}
+
+impl<M: GuestMemory> GuestAddressSpace for &M {
+    type M = M;
+
+    ghost Lends = { λ space m. m ≡ space.now };
+
+    fn memory<R: Wait, T, F: FnOnce(&M) -> T>(&self, _rt: &R, f: F) -> T {
+        f(&**self)
+    }
+}
+
+impl<M: GuestMemory> GuestAddressSpace for Rc<M, Global> {
+    ghost use Rattle.std.specs.Rc.{rc_value};
+
+    type M = M;
+
+    ghost Lends = { λ space m. m ≡ rc_value space };
+
+    fn memory<R: Wait, T, F: FnOnce(&M) -> T>(&self, _rt: &R, f: F) -> T {
+        f(&**self)
+    }
+}
+
+impl<M: GuestMemory> GuestAddressSpace for Arc<M, Global> {
+    ghost use Rattle.std.specs.Arc.{arc_value};
+
+    type M = M;
+
+    ghost Lends = { λ space m. m ≡ arc_value space };
+
+    fn memory<R: Wait, T, F: FnOnce(&M) -> T>(&self, _rt: &R, f: F) -> T {
+        f(&**self)
+    }
+}

@@ -1,0 +1,8 @@
+//! Snapshots of guest memory: memory that threads share, and that one of them at a time replaces (vm-memory's `atomic`).
+#![tactic(auto)]
+
+mod address_space;
+mod atomic;
+
+pub use address_space::GuestAddressSpace;
+pub use atomic::{GuestMemoryAtomic, GuestMemoryExclusiveGuard, GuestMemoryLoadGuard};
