@@ -1,5 +1,6 @@
 pub mod RangeLemmas
 pub mod RunLemmas
+pub mod Covering
 pub mod PieceLemmas
 pub mod Canonical
 pub mod MapLemmas

@@ -1,5 +1,5 @@
 -- a look-up that begins at the range with the greatest start
-use Rattle.std.proofs.Common.{◌≡◌, ℕ, true, ◌+◌, ◌-◌, ◌<◌, ◌≤◌, ◌^◌, List, [], ◌∷◌, ap, sym, ◌∙◌, arith, Some, None, Option, inl, inr}
+use Rattle.std.proofs.Common.{refl, ◌≡◌, ℕ, true, ◌+◌, ◌-◌, ◌<◌, ◌≤◌, ◌^◌, List, [], ◌∷◌, ap, sym, ◌∙◌, arith, Some, None, Option, inl, inr}
 use Rattle.std.specs.Prelude.{min, nat_lt, MatchOption}
 use Rattle.std.specs.Map.{values_of}
 use Rattle.std.proofs.lemmas.Bool.{cases_lt, cases_eq, lt-ltb}
@@ -8,12 +8,16 @@ use Rattle.vm_iotlb.specs.declared.range.IotlbRange.{IotlbRange}
 use Rattle.vm_iotlb.specs.declared.iova.MappedRange.{MappedRange}
 use Rattle.vm_iotlb.specs.Table.{allows}
 use Rattle.vm_iotlb.specs.Keys.{AreKeyed, range_at, IsLastUpTo, NoneUpTo}
-use Rattle.vm_iotlb.specs.Pieces.{Cover, pieces_in}
-use Rattle.vm_iotlb.specs.Ranges.{table_kept, AreRanges, Agree}
-use Rattle.vm_iotlb.specs.AddressRuns.{may_all, pieces}
+use Rattle.std.specs.BTreeMap.{BTreeMap as SeenMap}
+use denote.Ref.{Bor}
+use Rattle.vm_iotlb.specs.declared.permissions.Permissions.TheVariants.{No}
+use Rattle.vm_iotlb.specs.Pieces.{AreMapped, pieces_left}
+use Rattle.vm_iotlb.proofs.Covering.{Cover}
+use Rattle.vm_iotlb.specs.Ranges.{mapping_in, table_kept, AreRanges, Agree}
+use Rattle.vm_iotlb.specs.AddressRuns.{may_all, may_pass, pieces}
 use Rattle.vm_iotlb.proofs.RangeLemmas.{table_inside}
-use Rattle.vm_iotlb.proofs.RunLemmas.{may_range, nothing_left}
-use Rattle.vm_iotlb.proofs.PieceLemmas.{cover, pieces_cover, stopped}
+use Rattle.vm_iotlb.proofs.RunLemmas.{agree_rest, may_range, nothing_left}
+use Rattle.vm_iotlb.proofs.PieceLemmas.{cover, may_head, pieces_cover, stopped}
 use Rattle.vm_iotlb.proofs.MapLemmas.{is_at_key, none_at, pair_at, some_one, tail_at}
 
 -- an address that is in no range, since the last one that begins up to it ends up to it
@@ -50,10 +54,12 @@ may_within es access iova end r keyed are last order within allowed =
     let one = within_one es iova end r keyed are last within in
     may_range (table_kept (values_of es)) access r [] iova end end one.1 last.0 order within (omega arith) allowed ∙ (nothing_left (table_kept (values_of es)) access end end (omega arith)).3
 
--- the first piece, where each address is mapped
+-- the first piece, where each address is mapped, and what is left behind it
 pub first_of : (es : List (ℕ × IotlbRange)) (access : Permissions) (iova end : ℕ) (r : IotlbRange) → AreKeyed es → AreRanges (values_of es) → IsLastUpTo es iova r → iova < end →
     may_all (table_kept (values_of es)) access iova (end - iova) ≡ true →
-    (iova < r.end) × ((rest : List MappedRange) × (pieces (table_kept (values_of es)) iova (end - iova) ≡ record { base = record { 0 = r.target + (iova - r.start) }; length = min end r.end - iova } ∷ rest))
+    (iova < r.end) × (r.target + (r.end - r.start) < 2 ^ 64) × (may_all (table_kept (values_of es)) access (min r.end end) (end - min r.end end) ≡ true) ×
+    (pieces (table_kept (values_of es)) iova (end - iova)
+    ≡ record { base = record { 0 = r.target + (iova - r.start) }; length = min r.end end - iova } ∷ pieces (table_kept (values_of es)) (min r.end end) (end - min r.end end))
 first_of es access iova end r keyed are last some all =
     let tail = tail_at es r.start r keyed are last.1 in
     let has : iova < r.end = elim (cases_lt iova r.end) [
@@ -62,26 +68,28 @@ first_of es access iova end r keyed are last some all =
     ] in
     let agree : Agree (table_kept (values_of es)) (r ∷ tail.0) iova end = λ x from to. tail.3 x (omega (arith, last.0)) in
     let covered = cover (table_kept (values_of es)) access (r ∷ tail.0) iova end tail.1 has (omega arith) agree all in
+    let behind : Agree (table_kept (values_of es)) tail.0 (min r.end end) end = agree_rest (table_kept (values_of es)) r tail.0 iova (min r.end end) end agree (omega arith) (λ more. omega arith) in
+    let rest = pieces_cover (table_kept (values_of es)) tail.0 (min r.end end) end tail.1.2 (covered some).3 (omega arith) behind in
     let test : nat_lt iova end ≡ true = lt-ltb iova end some in
     let whole = pieces_cover (table_kept (values_of es)) (r ∷ tail.0) iova end tail.1 covered (omega arith) agree in
-    let first = rw test at whole in
-    let same : min r.end end ≡ min end r.end = omega arith in
-    (has, (pieces_in tail.0 (min end r.end) end, rw same at (sym first)))
+    let first = rw (test, rest) at whole in
+    let held : may_pass access (table_kept (values_of es) iova) ≡ true = may_head (table_kept (values_of es)) access iova (end - iova) (omega arith) all in
+    let here : table_kept (values_of es) iova ≡ Some (mapping_in r iova) = agree iova (omega arith) some ∙ table_inside r tail.0 iova last.0 has in
+    let allowed : allows r.perm access ≡ true = rw here at held in
+    let left = may_range (table_kept (values_of es)) access r tail.0 iova (min r.end end) end agree last.0 (omega arith) (omega arith) (omega arith) allowed in
+    (has, (covered some).2, sym left ∙ all, sym first)
 
-cons_head : (x y : MappedRange) (l m : List MappedRange) → x ∷ l ≡ y ∷ m → x ≡ y
-cons_head x y l m e = cc
+-- nothing is left at the end
+pub none_left : (m : Option (Bor (SeenMap ℕ IotlbRange))) (a e : ℕ) → e ≤ a → pieces_left m a e ≡ []
+none_left None a e done = refl
+none_left (Some m) a e done = (nothing_left (table_kept (values_of m.now.entries)) No a e done).2
 
-pub one_given : (res : Option MappedRange) (r : IotlbRange) (t all : List MappedRange) (iova stop : ℕ) →
-    MatchOption res ((pieces_in (r ∷ []) iova stop ≡ []) × (t ≡ [])) (λ x. (pieces_in (r ∷ []) iova stop ≡ x ∷ t) × (x.base.0 + x.length < 2 ^ 64)) →
-    iova < stop → stop ≤ r.end → ((rest : List MappedRange) × (all ≡ record { base = record { 0 = r.target + (iova - r.start) }; length = stop - iova } ∷ rest)) →
-    MatchOption res ⊥ (λ p. (rest : List MappedRange) × (all ≡ p ∷ rest))
-one_given res r t all iova stop gives some within first =
-    let test : nat_lt iova stop ≡ true = lt-ltb iova stop some in
-    let same : min r.end stop ≡ stop = omega arith in
-    let got = rw (test, same) at gives in
-    by res got
-  where
-    by : (res : Option MappedRange) → MatchOption res ((◌≡◌ {A = List MappedRange} (record { base = record { 0 = r.target + (iova - r.start) }; length = stop - iova } ∷ []) []) × (t ≡ []))
-        (λ x. (record { base = record { 0 = r.target + (iova - r.start) }; length = stop - iova } ∷ [] ≡ x ∷ t) × (x.base.0 + x.length < 2 ^ 64)) → MatchOption res ⊥ (λ p. (rest : List MappedRange) × (all ≡ p ∷ rest))
-    by None g = let bad = g.0 in absurd (cc)
-    by (Some p) g = let head = cons_head _ p [] t g.0 in (first.0, rw (sym head) first.1)
+-- an address is mapped where an access may go through it
+pub not_none : (es : List (ℕ × IotlbRange)) (iova end : ℕ) → AreKeyed es → AreRanges (values_of es) → AreMapped (table_kept (values_of es)) iova end → iova < end → NoneUpTo es iova → ⊥
+not_none es iova end keyed are mapped some none = stopped (table_kept (values_of es)) mapped.0 iova end some (none_up_to es iova keyed are none) mapped.1
+
+-- the first of some pieces
+pub first_given : (res : Option MappedRange) (s t all : List MappedRange) → s ≡ all → (all ≡ [] → ⊥) → MatchOption res ((s ≡ []) × (t ≡ [])) (λ x. (s ≡ x ∷ t) × (x.base.0 + x.length < 2 ^ 64)) →
+    MatchOption res ⊥ (λ x. (l : List MappedRange) × (all ≡ x ∷ l))
+first_given None s t all is some gives = some (sym is ∙ gives.0)
+first_given (Some x) s t all is some gives = (t, sym is ∙ gives.0)

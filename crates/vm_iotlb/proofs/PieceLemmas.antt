@@ -11,7 +11,7 @@ use Rattle.vm_iotlb.specs.declared.range.IotlbRange.{IotlbRange}
 use Rattle.vm_iotlb.specs.declared.iova.IovaRange.{IovaRange}
 use Rattle.vm_iotlb.specs.Table.{Mapping, Table, allows}
 use Rattle.vm_iotlb.specs.Ranges.{mapping_in, table_kept, AreRanges, EndsAbove, Agree}
-use Rattle.vm_iotlb.specs.Pieces.{Cover, pieces_in}
+use Rattle.vm_iotlb.proofs.Covering.{Cover, pieces_in}
 use Rattle.vm_iotlb.specs.AddressRuns.{may_pass, target_of, may_all, go_together, run_of, led_by, runs, missing, lacking, piece_of, pieces, addresses_joined, targets, between}
 use Rattle.vm_iotlb.proofs.RangeLemmas.{table_before, table_inside}
 use Rattle.vm_iotlb.proofs.RunLemmas.{runs_one, runs_more, gap_run, range_run, agree_rest, missing_run, missing_skip, lacking_run, lacking_skip, lacking_gap, pieces_run, nothing_left, may_stop, may_range}
@@ -27,7 +27,7 @@ agree_none t a e agree some = agree a (omega arith) some
 
 -- ---- pieces
 
-may_head : (t : Table) (access : Permissions) (a n : ℕ) → 0 < n → may_all t access a n ≡ true → may_pass access (t a) ≡ true
+pub may_head : (t : Table) (access : Permissions) (a n : ℕ) → 0 < n → may_all t access a n ≡ true → may_pass access (t a) ≡ true
 unfolding may_all
 may_head t access a zero some all = absurd (omega arith)
 may_head t access a (suc n) some all = (and_parts _ _ all).0
@@ -115,6 +115,15 @@ joined_pieces t access (suc (suc n)) a all =
           rw whole (longer (target_of (t a)) (target_of (t (a + 1))) head.0 (addresses_joined (map (piece_of t) head.1)) (targets t (a + 1) (suc n)) next first)
       | inr off ↦ rw (runs_one t a (suc n) (λ some. off)) (ap (λ (l : List ℕ). target_of (t a) ∷ l) tail)
     ]
+
+-- some addresses have a piece
+pub no_pieces : (t : Table) (a n : ℕ) → 0 < n → pieces t a n ≡ [] → ⊥
+unfolding pieces
+no_pieces t a zero some none = absurd (omega arith)
+no_pieces t a (suc n) some none =
+    let head = runs_head t a n in
+    let same : piece_of t (run_of a head.0) ∷ map (piece_of t) head.1 ≡ [] = sym (ap (map (piece_of t)) head.2) ∙ none in
+    absurd (cc)
 
 -- ---- a look-up that fails
 

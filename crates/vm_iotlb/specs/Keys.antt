@@ -1,9 +1,8 @@
 -- Ranges that are kept by their starts.
 use Rattle.std.specs.Prelude.{◌≡◌, ◌<◌, ◌≤◌, ◌+◌, ◌-◌, ℕ, List, [], ◌∷◌, Option, Some, None, IsSome, cond, nat_le, nat_lt, ◌&&◌, if◌then◌else◌}
-use Rattle.std.specs.Map.{lookup, values_of}
+use Rattle.std.specs.Map.{lookup}
 use Rattle.std.specs.BTreeMap.{is_at}
 use Rattle.std.specs.Ordering.{nat_cmp}
-use denote.Ref.{Bor}
 use Rattle.vm_iotlb.specs.declared.range.IotlbRange.{IotlbRange}
 
 -- each key is its range's start
@@ -26,13 +25,6 @@ NoneUpTo es iova = (k : ℕ) (s : IotlbRange) → range_at es k ≡ Some s → i
 -- those below a key end by an address, and those from it on end above the address
 abbrev pub Divides : List (ℕ × IotlbRange) → (low iova : ℕ) → Type 0
 Divides es low iova = ((k : ℕ) (r : IotlbRange) → range_at es k ≡ Some r → k < low → r.end ≤ iova) × ((k : ℕ) (r : IotlbRange) → range_at es k ≡ Some r → low ≤ k → iova < r.end)
-
--- the range that an iterator holds, and those of the entries that it has left
-abbrev pub ranges_left : Option (Bor IotlbRange) → Option (List (ℕ × IotlbRange)) → List IotlbRange
-ranges_left (Some r) (Some es) = r.now ∷ values_of es
-ranges_left (Some r) None = r.now ∷ []
-ranges_left None (Some es) = values_of es
-ranges_left None None = []
 
 -- a range, if there is one, put under its start
 abbrev pub put_at : Option IotlbRange → (ℕ → Option IotlbRange) → ℕ → Option IotlbRange

@@ -141,7 +141,7 @@ impl Iotlb {
         };
         match last_up_to(&self.ranges, iova.0) {
             Some(range) if end <= range.end && range.perm.allow(access) => {
-                Ok(IotlbIterator::within(range, iova.0, end))
+                Ok(IotlbIterator::from_range(&self.ranges, range, iova.0, end))
             }
             _ => self.lookup_pieces(iova, length, end, access),
         }
@@ -159,7 +159,7 @@ impl Iotlb {
         ensures { LooksUp (table_kept self.now) iova.0 length access result }
     {
         if is_covered(self.ranges_from(iova.0), iova.0, end, access) {
-            return Ok(IotlbIterator::over(self.ranges_from(iova.0), iova.0, end));
+            return Ok(IotlbIterator::over(&self.ranges, iova.0, end));
         }
         match fails_among(self.alloc, self.ranges_from(iova.0), iova.0, end, access) {
             Ok(fails) => Err(LookupError::Fails(fails)),
@@ -176,11 +176,7 @@ impl Iotlb {
         requires mapped { (access : Permissions) × (may_all (table_kept self.now) access iova.0 length ≡ true) }
         ensures { MatchOption result ⊥ (λ p. (rest : List MappedRange) × (pieces (table_kept self.now) iova.0 length ≡ p ∷ rest)) }
     {
-        let end = iova.0 + length as u64;
-        match last_up_to(&self.ranges, iova.0) {
-            Some(range) => IotlbIterator::within(range, iova.0, end.min(range.end)).next(),
-            None => None,
-        }
+        IotlbIterator::over(&self.ranges, iova.0, iova.0 + length as u64).next()
     }
 
     // The ranges that end above an address.

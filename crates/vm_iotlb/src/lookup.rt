@@ -3,14 +3,16 @@
 ghost use Rattle.std.specs.Prelude.{◌≡◌, ◌+◌, ◌^◌, ◌-◌, ◌≤◌, ◌<◌, ◌++◌, ◌∷◌, [], IfOk, OnOk, MatchOption, length};
 ghost use Rattle.std.specs.Iterator.{at_most};
 ghost use Rattle.std.specs.Map.{values_of};
-ghost use Rattle.vm_iotlb.specs.Ranges.{Agree, AreRanges, EndsAbove};
+ghost use Rattle.vm_iotlb.specs.Ranges.{Agree, AreRanges, EndsAbove, table_kept};
+ghost use Rattle.vm_iotlb.specs.Keys.{AreKeyed, IsLastUpTo, NoneUpTo};
 ghost use Rattle.vm_iotlb.specs.Table.{Table};
-ghost use Rattle.vm_iotlb.specs.Pieces.{Cover, pieces_in};
-ghost use Rattle.vm_iotlb.specs.AddressRuns.{IsMissedWhole, between, lacking, may_all, missing};
+ghost use Rattle.vm_iotlb.specs.Pieces.{AreMapped, IsFoundAt};
+ghost use Rattle.vm_iotlb.specs.AddressRuns.{IsMissedWhole, between, lacking, may_all, missing, pieces};
 
 use crate::iova::{IovaRange, MappedRange};
 use crate::permissions::Permissions;
 use crate::range::IotlbRange;
+use crate::ranges::{Ranges, last_up_to};
 use std::alloc::{AllocError, Global};
 use std::collections::btree_map::Range;
 use std::marker::Model;
@@ -36,11 +38,28 @@ pub enum LookupError {
     OutOfMemory,
 }
 
+// The range with the greatest start up to an address, which may have been found before.
+#[inline]
+fn found_or_last<'a>(
+    ranges: &'a Ranges,
+    found: Option<&'a IotlbRange>,
+    addr: u64,
+) -> Option<&'a IotlbRange>
+    requires keyed { AreKeyed ranges.now.entries }
+    requires found { IsFoundAt ranges.now.entries found addr }
+    ensures { MatchOption result (NoneUpTo ranges.now.entries addr) (λ r. IsLastUpTo ranges.now.entries addr r.now) }
+{
+    match found {
+        Some(range) => Some(range),
+        None => last_up_to(ranges, addr),
+    }
+}
+
 /// What I/O addresses are mapped to, range by range (vm-memory's `IotlbIterator`).
 #[derive(Drop)]
 pub struct IotlbIterator<'a> {
-    first: Option<&'a IotlbRange>,
-    rest: Option<Range<'a, u64, IotlbRange>>,
+    ranges: Option<&'a Ranges>,
+    found: Option<&'a IotlbRange>,
     next: u64,
     end: u64,
 }
@@ -48,40 +67,49 @@ pub struct IotlbIterator<'a> {
 impl<'a> Model for IotlbIterator<'a> {
     ghost use Rattle.std.specs.Prelude.{List};
     ghost use Rattle.vm_iotlb.specs.declared.iova.MappedRange.{MappedRange};
-    ghost use Rattle.vm_iotlb.specs.Keys.{ranges_left};
-    ghost use Rattle.vm_iotlb.specs.Pieces.{Cover, pieces_in};
+    ghost use Rattle.vm_iotlb.specs.Pieces.{CanGoOn, pieces_left};
 
     ghost Value = { List MappedRange };
 
-    ghost view = { λ i. pieces_in (ranges_left i.first i.rest) i.next i.end };
+    ghost view = { λ i. pieces_left i.ranges i.next i.end };
 
-    ghost invariant = { λ i. Cover (ranges_left i.first i.rest) i.next i.end };
+    ghost invariant = { λ i. CanGoOn i.ranges i.found i.next i.end };
 }
 
 impl<'a> IotlbIterator<'a> {
-    // The pieces of the addresses from one up to another.
+    // The pieces of the addresses from one up to another, each of which is mapped.
     #[inline]
-    pub(crate) fn over(ranges: Range<'a, u64, IotlbRange>, iova: u64, end: u64) -> IotlbIterator<'a>
-        requires { Cover (values_of ranges) iova end }
-        ensures { result ≡ pieces_in (values_of ranges.entry) iova end }
+    pub(crate) fn over(ranges: &'a Ranges, iova: u64, end: u64) -> IotlbIterator<'a>
+        requires keyed { AreKeyed ranges.now.entries }
+        requires ranges { AreRanges (values_of ranges.now.entries) }
+        requires mapped { AreMapped (table_kept (values_of ranges.now.entries)) iova end }
+        ensures { result ≡ pieces (table_kept (values_of ranges.now.entries)) iova (end - iova) }
     {
         IotlbIterator {
-            first: None,
-            rest: Some(ranges),
+            ranges: Some(ranges),
+            found: None,
             next: iova,
             end,
         }
     }
 
-    // The piece of the addresses from one up to another, which lie in one range.
+    // The same, where the range that has the first of them was found.
     #[inline]
-    pub(crate) fn within(range: &'a IotlbRange, iova: u64, end: u64) -> IotlbIterator<'a>
-        requires { Cover (range.now ∷ []) iova end }
-        ensures { result ≡ pieces_in (range.now ∷ []) iova end }
+    pub(crate) fn from_range(
+        ranges: &'a Ranges,
+        range: &'a IotlbRange,
+        iova: u64,
+        end: u64,
+    ) -> IotlbIterator<'a>
+        requires keyed { AreKeyed ranges.now.entries }
+        requires ranges { AreRanges (values_of ranges.now.entries) }
+        requires mapped { AreMapped (table_kept (values_of ranges.now.entries)) iova end }
+        requires found { IsLastUpTo ranges.now.entries iova range.now }
+        ensures { result ≡ pieces (table_kept (values_of ranges.now.entries)) iova (end - iova) }
     {
         IotlbIterator {
-            first: Some(range),
-            rest: None,
+            ranges: Some(ranges),
+            found: Some(range),
             next: iova,
             end,
         }
@@ -94,8 +122,8 @@ impl<'a> Default for IotlbIterator<'a> {
         ensures { result ≡ [] }
     {
         IotlbIterator {
-            first: None,
-            rest: None,
+            ranges: None,
+            found: None,
             next: 0,
             end: 0,
         }
@@ -114,15 +142,11 @@ impl<'a> Iterator for IotlbIterator<'a> {
         if self.end <= self.next {
             return None;
         }
-        let range = match self.first.take() {
-            Some(first) => first,
-            None => match self.rest.as_mut() {
-                Some(rest) => match rest.next() {
-                    Some((_, range)) => range,
-                    None => return None,
-                },
-                None => return None,
-            },
+        let Some(ranges) = self.ranges else {
+            return None;
+        };
+        let Some(range) = found_or_last(ranges, self.found.take(), self.next) else {
+            return None;
         };
         let stop = range.end.min(self.end);
         let piece = MappedRange {
