@@ -23,8 +23,8 @@ use Rattle.fs_device.specs.Run.{Command, Answer, Effect, Turn, Told, shown, Kick
 use Rattle.fs_device.proofs.BookLemmas.{all_suit}
 use Rattle.fs_device.proofs.TellingLemmas.{end_stays}
 use Rattle.call_log.specs.declared.log.LoggedCall.{LoggedCall}
-use Rattle.call_log.specs.Log.{entries_for, kept, with_calls}
-use Rattle.call_log.specs.Runs.{entries_of, IsAnswered, WritesDown, IsLoggedBy, AreLoggedBy, exchanges_in, Grows}
+use Rattle.call_log.specs.Log.{entries_for, kept, with_calls, MayAnswerLogged}
+use Rattle.call_log.specs.Runs.{entries_of, EachMayAnswer, IsAnswered, WritesDown, IsLoggedBy, AreLoggedBy, exchanges_in, Grows}
 
 -- ---- logs
 
@@ -49,15 +49,21 @@ unfolding AreLoggedBy
 stayed log before after same = ([], refl, ap log same)
 
 abbrev Keeps : {F : Type 0} → May F → (F → List LoggedCall) → Type 0
-Keeps {F} may log = (before : F) (call : FileCall) (answer : FileAnswer) (after : F) → may before call answer after → log after ≡ with_calls (log before) (entries_for call)
+Keeps {F} may log = (before : F) (call : FileCall) (answer : FileAnswer) (after : F) → may before call answer after →
+    (log after ≡ with_calls (log before) (entries_for call)) × MayAnswerLogged call answer
 
 steps_logged : {F : Type 0} (may : May F) (log : F → List LoggedCall) → Keeps may log → (before : F) (steps : Calls) (after : F) → FileRun may before steps after →
     log after ≡ with_calls (log before) (entries_of (map (λ step. step.0) steps))
 steps_logged may log keeps before [] after same = ap log same
 steps_logged may log keeps before (step ∷ steps) after (between, suits, made, rest) =
     steps_logged may log keeps between steps after rest
-    ∙ ap (λ (l : List LoggedCall). with_calls l (entries_of (map (λ step. step.0) steps))) (keeps before step.0 step.1 between made)
+    ∙ ap (λ (l : List LoggedCall). with_calls l (entries_of (map (λ step. step.0) steps))) ((keeps before step.0 step.1 between made).0)
     ∙ sym (with_calls-append (log before) (entries_for step.0) (entries_of (map (λ step. step.0) steps)))
+
+each_may_answer : {F : Type 0} (may : May F) (log : F → List LoggedCall) → Keeps may log → (before : F) (steps : Calls) (after : F) → FileRun may before steps after → EachMayAnswer steps
+each_may_answer may log keeps before [] after same = tt
+each_may_answer may log keeps before (step ∷ steps) after (between, suits, made, rest) =
+    ((keeps before step.0 step.1 between made).1, each_may_answer may log keeps between steps after rest)
 
 -- what an exchange without a fault of its chain writes down
 logs_answered : (e : Option Error) (x : Exchange) (entries : List LoggedCall) → x.fault ≡ served_fault e → IsAnswered x entries → IsLoggedBy x entries
@@ -87,7 +93,7 @@ taken_logged may log keeps s i q (Offers head (IsRequest request room)) calls x 
     (subst (λ (bytes : List ℕ). x ≡ served_exchange head bytes (served set (meaning s.options bytes (length room)) answers)) (sym same) told) in
     let fault : x.fault ≡ served_fault r.given.fault = ap (λ (e : Exchange). e.fault) r.returns.exchange in (
       entries,
-      (entries, [], logs_answered r.given.fault x entries fault (set, calls, all_suit may s.files calls after.files r.serves.run, own, is, refl), refl, sym (append-nil entries)),
+      (entries, [], logs_answered r.given.fault x entries fault (set, calls, all_suit may s.files calls after.files r.serves.run, each_may_answer may log keeps s.files calls after.files r.serves.run, own, is, refl), refl, sym (append-nil entries)),
       steps_logged may log keeps s.files calls after.files r.serves.run,
     )
 taken_logged may log keeps s i q taking.Idle calls x notice after r = absurd r

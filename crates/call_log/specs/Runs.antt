@@ -9,16 +9,22 @@ use Rattle.fs_device.specs.declared.exchange.Fault.TheVariants as fault
 use Rattle.fs_device.specs.Step.{Calls, Exchange, served_exchange, calls_alone, answers_alone, EachSuits}
 use Rattle.fs_device.specs.Run.{Answer, Done, Bytes, NewBlockIs, Served, Copied, Pages, IsRefused}
 use Rattle.call_log.specs.declared.log.LoggedCall.{LoggedCall}
-use Rattle.call_log.specs.Log.{entries_for, with_calls}
+use Rattle.call_log.specs.Log.{entries_for, with_calls, MayAnswerLogged}
 
 -- what calls write down, one after another
 abbrev pub entries_of : List FileCall → List LoggedCall
 entries_of calls = flat_map entries_for calls
 
+-- each call has one of the answers that the file system may give it: so a look-up whose entry had no room is followed by the forget of
+-- node 2 by 1, and one that found nothing by no forget
+abbrev pub EachMayAnswer : Calls → Type 0
+EachMayAnswer [] = Unit {0}
+EachMayAnswer (step ∷ steps) = MayAnswerLogged step.0 step.1 × EachMayAnswer steps
+
 -- what a request writes down that was answered so: the calls that it asks in some setting, each by the answers before it, which make
 -- this exchange
 abbrev pub IsAnswered : Exchange → List LoggedCall → Type 0
-IsAnswered x entries = (s : Setting) × (steps : Calls) × EachSuits steps
+IsAnswered x entries = (s : Setting) × (steps : Calls) × EachSuits steps × EachMayAnswer steps
     × ((served s (meaning s.options x.request s.room) (answers_alone steps)).calls ≡ calls_alone steps)
     × (x ≡ served_exchange x.head x.request (served s (meaning s.options x.request s.room) (answers_alone steps)))
     × (entries ≡ entries_of (calls_alone steps))

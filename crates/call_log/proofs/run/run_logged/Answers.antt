@@ -11,7 +11,7 @@ use Rattle.call_log.proofs.run.run_logged.Goals as goal
 pub returns-clause-log : goal.returns-clause-log
 returns-clause-log g c =
     of_both c.run.result _ _ _ c.run.ensures.run c.run.ensures.all (λ answers ran all.
-    run_grows MayLog (λ (f : CallLog). f.calls.items) (λ before call answer after made. made.0)
+    run_grows MayLog (λ (f : CallLog). f.calls.items) (λ before call answer after made. made)
     (machine_of c.args.machine.now) (map command_of c.args.commands.items) (map answer_of answers.items) (machine_of c.run.new.self)
     (length-map answers.items answer_of ∙ all ∙ sym (length-map c.args.commands.items command_of)) ran)
 
