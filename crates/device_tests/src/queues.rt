@@ -29,13 +29,12 @@ fn expect_lengths(rt: &impl Abort, taken: &Taken, lengths: (usize, usize)) {
 fn chain_is_taken_and_given_back(rt: HostRuntime) {
     let (mut host, mem) = stand(&rt, rt.alloc()).guest.into_memory();
     let mut queue = Queue::new(layout(&rt, RING));
-    let taken = queue
-        .take(rt.alloc(), &host, &mem, LIMIT)
-        .expect(&rt, "no refusal")
-        .expect(&rt, "a chain that waits");
+    let mut taken = Taken::empty(rt.alloc());
+    let waits = queue.take(rt.alloc(), &host, &mem, LIMIT, &mut taken);
+    expect_same(&rt, waits, Ok(true));
     expect_same(&rt, (taken.head(), queue.position()), (0, 0));
     expect_lengths(&rt, &taken, (40, 16));
-    let told = queue.give_back(&mut host, taken, &[]);
+    let told = queue.give_back(&mut host, &mut taken, &[]);
     let after = (told, queue.position(), queue.is_stopped());
     expect_same(&rt, after, (true, 1, false));
     let mut used = [9; 10];
@@ -47,10 +46,9 @@ fn chain_is_taken_and_given_back(rt: HostRuntime) {
 fn nothing_is_taken_where_nothing_waits(rt: HostRuntime) {
     let guest = &Stand::new(&rt, rt.alloc()).guest;
     let mut queue = Queue::new(layout(&rt, RING));
-    let taken = queue
-        .take(rt.alloc(), &guest.host, &guest.mem, LIMIT)
-        .expect(&rt, "no refusal");
-    expect_same(&rt, taken.is_none(), true);
+    let mut taken = Taken::empty(rt.alloc());
+    let waits = queue.take(rt.alloc(), &guest.host, &guest.mem, LIMIT, &mut taken);
+    expect_same(&rt, waits, Ok(false));
 }
 
 #[test]

@@ -5,7 +5,7 @@ use crate::stand::{
 };
 use call_log::{CallLog, LoggedCall};
 use fs_device::{Device, Stream};
-use fs_queue::Queue;
+use fs_queue::{Queue, Taken};
 use std::alloc::Global;
 use std::process::Abort;
 use vm_memory_core::GuestAddress;
@@ -79,7 +79,9 @@ fn resumed_queue_that_is_stopped_is_reset(rt: HostRuntime) {
     let stand = stand(&rt, rt.alloc());
     let mut queue = Queue::resume(layout(&rt, RING), 7, true);
     expect_queue(&rt, &queue, 7, true);
-    let refused = queue.take(rt.alloc(), &stand.guest.host, &stand.guest.mem, LIMIT);
+    let mut taken = Taken::empty(rt.alloc());
+    let guest = &stand.guest;
+    let refused = queue.take(rt.alloc(), &guest.host, &guest.mem, LIMIT, &mut taken);
     expect_same(&rt, refused.is_err(), true);
     queue.reset(layout(&rt, RING));
     expect_queue(&rt, &queue, 0, false);

@@ -10,7 +10,7 @@ use crate::error::DeviceError;
 use crate::exchange::Exchange;
 use crate::pending_request::PendingRequest;
 use crate::serve::{serve, serve_taken};
-use fs_queue::{Queue, QueueError, QueueLayout};
+use fs_queue::{Queue, QueueError, QueueLayout, Taken};
 use fuse_fs::FileSystem;
 use fuse_wire::FsOptions;
 use std::alloc::{AllocError, Global};
@@ -30,6 +30,8 @@ pub struct Device<F> {
     server: Server<F>,
     pub(crate) queues: Vec<Queue>,
     limit: u32,
+    // The place into which chains are taken that go back within the same call.
+    taken: Taken,
     ghost short: { limit < 2 ^ 32 },
     pub ghost some: { 1 ≤ length queues.items },
     pub ghost few: { length queues.items ≤ 64 },
@@ -64,10 +66,12 @@ impl<F: FileSystem> Device<F> {
         requires high { limit ≤ 2 ^ 31 }
         ensures { result ≡ record { queues = queues.items; options = server.options.0; files = server.fs; limit = limit; page_size = server.page_size } }
     {
+        let taken = Taken::empty(*queues.allocator());
         Device {
             server,
             queues,
             limit,
+            taken,
         }
     }
 
@@ -110,13 +114,19 @@ impl<F: FileSystem> Device<F> {
         requires { IsSavable options.0 queues.items }
         ensures { result ≡ record self { queues = queues.items; options = options.0 } }
     {
-        let Device { server, limit, .. } = self;
+        let Device {
+            server,
+            limit,
+            taken,
+            ..
+        } = self;
         let page_size = server.page_size();
         let server = Server::resume(server.into_fs(), page_size, options);
         Device {
             server,
             queues,
             limit,
+            taken,
         }
     }
 
@@ -140,11 +150,12 @@ impl<F: FileSystem> Device<F> {
         if queue >= self.queues.len() {
             return Err(DeviceError::NoSuchQueue);
         }
-        let taken = match self.queues[queue].take(alloc, host, mem, self.limit) {
-            Ok(Some(taken)) => taken,
-            Ok(None) => return Ok(None),
+        let mut taken = Taken::empty(alloc);
+        match self.queues[queue].take(alloc, host, mem, self.limit, &mut taken) {
+            Ok(true) => {}
+            Ok(false) => return Ok(None),
             Err(error) => return Err(DeviceError::Queue(error)),
-        };
+        }
         match PendingRequest::of(alloc, host, queue, taken) {
             Ok(pending) => Ok(Some(pending)),
             Err(_) => Err(DeviceError::Queue(QueueError::OutOfMemory)),
@@ -171,12 +182,12 @@ impl<F: FileSystem> Device<F> {
     {
         let PendingRequest {
             queue,
-            taken,
+            mut taken,
             request,
             room,
         } = pending;
         let exchange = serve(alloc, &mut self.server, &taken, request, room)?;
-        let notify = self.queues[queue].give_back(host, taken, &exchange.reply);
+        let notify = self.queues[queue].give_back(host, &mut taken, &exchange.reply);
         Ok((exchange, notify))
     }
 
@@ -199,15 +210,15 @@ impl<F: FileSystem> Device<F> {
         if queue >= self.queues.len() {
             return Err(DeviceError::NoSuchQueue);
         }
-        let taken = match self.queues[queue].take(alloc, host, mem, self.limit) {
-            Ok(Some(taken)) => taken,
-            Ok(None) => return Ok(None),
+        match self.queues[queue].take(alloc, host, mem, self.limit, &mut self.taken) {
+            Ok(true) => {}
+            Ok(false) => return Ok(None),
             Err(error) => return Err(DeviceError::Queue(error)),
-        };
-        let Ok(exchange) = serve_taken(alloc, &mut self.server, host, &taken) else {
+        }
+        let Ok(exchange) = serve_taken(alloc, &mut self.server, host, &self.taken) else {
             return Err(DeviceError::Queue(QueueError::OutOfMemory));
         };
-        let notify = self.queues[queue].give_back(host, taken, &exchange.reply);
+        let notify = self.queues[queue].give_back(host, &mut self.taken, &exchange.reply);
         Ok(Some((exchange, notify)))
     }
 

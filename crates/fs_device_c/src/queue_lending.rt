@@ -101,12 +101,13 @@ fn take_next<H: HostBlocks>(
     ensures queue { queue.new ≡ after_taking queue.old (taken_alone result) }
     ensures lies { IfOk result (λ o. IfSome o (λ t. TakenLiesIn (lengths (H.host host.now)) t.0)) }
 {
-    match queue.take(alloc, host, mem, limit) {
-        Ok(Some(taken)) => {
+    let mut taken = Taken::empty(alloc);
+    match queue.take(alloc, host, mem, limit, &mut taken) {
+        Ok(true) => {
             let (told, copied) = fetch(host, &taken, buffer);
             Ok(Some((taken, told, copied)))
         }
-        Ok(None) => Ok(None),
+        Ok(false) => Ok(None),
         Err(error) => Err(error),
     }
 }
@@ -190,7 +191,8 @@ pub fn give_back_over(
         low_pages,
         high_pages,
     };
-    let told = queue.give_back(&mut host, taken, reply);
+    let mut taken = taken;
+    let told = queue.give_back(&mut host, &mut taken, reply);
     let LentMemory {
         low: _low,
         high: _high,

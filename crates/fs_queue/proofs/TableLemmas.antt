@@ -3,9 +3,10 @@ use Rattle.std.proofs.Common.{◌≡◌, ℕ, Bool, true, ◌+◌, ◌*◌, ◌-
 use Rattle.std.specs.Prelude.{is_some, if◌then◌else◌, length, nat_lt}
 use Rattle.std.specs.List.{list_all}
 use Rattle.std.proofs.lemmas.List.{take_all}
+use Rattle.std.specs.Int.{w16, from_le_bytes}
 use Rattle.vm_values.specs.Fields.{AllFit, spelled}
 use Rattle.vm_iotlb.specs.declared.permissions.Permissions.TheVariants.{Read}
-use Rattle.vm_memory.specs.Memory.{Memory, addresses, circular, located, location, reach, bytes}
+use Rattle.vm_memory.specs.Memory.{Memory, addresses, circular, located, location, reach, bytes, number}
 use Rattle.vm_memory_core.specs.Host.{Place}
 use Rattle.vm_memory_core.specs.Window.{Window, byte_in, places_of}
 use Rattle.vm_memory.specs.Slices.{Slices, Gives}
@@ -36,6 +37,21 @@ entry_of : (m : Memory) (a i k : ℕ) (bs : List ℕ) (d : Descriptor) → a + (
 entry_of m a i k bs d ends is found read fits =
     let here : take 16 (drop i bs) ≡ bytes m (a + i) 16 = ap (λ (l : List ℕ). take 16 (drop i l)) is ∙ ap (take 16) (back_bytes m a i (16 + k)) ∙ front_bytes m (a + i) 16 k in
     rw (part_reached m a i 16 k ends found) (ap Some (decoded m (a + i) d (sym read ∙ here) fits))
+
+-- a number in a range, by the range's bytes
+pub number_in_range : (m : Memory) (a n i : ℕ) (bs : List ℕ) (v : ℕ) → a + n < 2 ^ 64 → i + 2 ≤ n → bs ≡ bytes m a n → reach m Read a n ≡ true →
+    v ≡ from_le_bytes w16 (take 2 (drop i bs)) → Some v ≡ (if reach m Read (a + i) 2 then Some (number m w16 (a + i)) else None)
+number_in_range m a n i bs v ends inside is found read =
+    let k = n - i - 2 in
+    let cut : n ≡ i + (2 + k) = omega (arith, inside) in
+    let here : take 2 (drop i bs) ≡ bytes m (a + i) 2 = ap (λ (l : List ℕ). take 2 (drop i l)) (is ∙ ap (bytes m a) cut) ∙ ap (take 2) (back_bytes m a i (2 + k)) ∙ front_bytes m (a + i) 2 k in
+    rw (part_reached m a i 2 k (rw cut at ends) (rw cut at found)) (ap Some (read ∙ ap (from_le_bytes w16) here))
+
+-- a number lies in the bytes of its range
+pub number_inside : (m : Memory) (a n i : ℕ) (bs : List ℕ) → i + 2 ≤ n → bs ≡ bytes m a n → i + 2 ≤ length bs
+number_inside m a n i bs inside is =
+    let all : length bs ≡ n = ap length is ∙ length-bytes m a n in
+    omega (arith, inside, all)
 
 -- an entry of a table, by the table's bytes
 pub entry_in_table : (m : Memory) (a n i : ℕ) (bs : List ℕ) (d : Descriptor) → a + 16 * n < 2 ^ 64 → i < n → bs ≡ bytes m a (16 * n) →

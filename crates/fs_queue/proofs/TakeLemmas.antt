@@ -1,7 +1,7 @@
 -- the descriptors of one direction, one at a time, and what a queue offers by its parts
 use mathlib.Core.Bool.{beq}
-use Rattle.std.proofs.Common.{◌≡◌, ℕ, Bool, true, false, ◌+◌, ◌^◌, ◌<◌, ◌≤◌, ◌&&◌, ◌||◌, ◌++◌, not, nat_lt, List, [], ◌∷◌, drop, map, filter, length, refl, ap, sym, ◌∙◌, arith, suc, Option, Some, None, append-nil, length-append}
-use Rattle.std.specs.Prelude.{is_some}
+use Rattle.std.proofs.Common.{◌≡◌, ℕ, Bool, true, false, ◌+◌, ◌^◌, ◌<◌, ◌≤◌, ◌&&◌, ◌||◌, ◌++◌, not, nat_lt, List, [], ◌∷◌, drop, map, filter, length, refl, ap, sym, ◌∙◌, arith, suc, Option, Some, None, append-nil, append_assoc, length-append}
+use Rattle.std.specs.Prelude.{if◌then◌else◌, is_some, Result, Ok, Err, IsOk}
 use Rattle.std.specs.List.{list_all, flat_map}
 use Rattle.std.specs.Option.{option_map, option_and_then}
 use Rattle.std.proofs.lemmas.List.{map-append, drop_all}
@@ -15,13 +15,15 @@ use Rattle.vm_iotlb.specs.declared.permissions.Permissions.{Permissions}
 use Rattle.vm_iotlb.specs.declared.permissions.Permissions.TheVariants.{Read, Write}
 use Rattle.vm_memory_core.specs.Window.{byte_in}
 use Rattle.vm_memory.specs.Memory.{Memory, addresses, located, location, after, reach, byte, bytes}
+use Rattle.fs_queue.specs.declared.chain.Chain.{Chain}
+use Rattle.fs_queue.specs.declared.fault.ChainFault.{ChainFault}
 use Rattle.fs_queue.specs.declared.fault.ChainFault.TheVariants.{RequestUnreachable, RoomUnreachable}
 use Rattle.fs_queue.specs.Walking.{AllEndIn64Bits}
 use Rattle.fs_queue.specs.Taking.{readable, writable, total_len, all_reach, request_and_room, IsRequest, CannotFetch}
 use Rattle.fs_queue.specs.Queue.{Queue, element_at, index_at}
-use Rattle.fs_queue.specs.Chain.{Descriptor, is_writable}
-use Rattle.fs_queue.specs.Windows.{of_direction, addresses_of, used_addresses}
-use Rattle.vm_memory.proofs.Places.{Where, length-addresses, located-append, after-after, bytes-located}
+use Rattle.fs_queue.specs.Chain.{Descriptor, is_writable, IsChain}
+use Rattle.fs_queue.specs.Windows.{of_direction, addresses_of, used_addresses, unreachable, unreachable_of, room_places, HoldsChain, HoldsWindows}
+use Rattle.vm_memory.proofs.Places.{Where, addresses-append, length-addresses, located-append, after-after, bytes-located}
 use Rattle.vm_memory.proofs.RangeLemmas.{all_located}
 
 parts : (o : Option Place) (r : Option (List Place)) (ps : List Place) →
@@ -106,33 +108,49 @@ after_lost : (o : Option (List Place)) (xs ys : List ℕ) (f : Where) (old : Lis
 after_lost None xs ys f old h e = ap (after old) (located-lost xs ys f h)
 after_lost (Some ps) xs ys f old h e = absurd (cc)
 
-pub direction_found : (f : Where) (b : Bool) (ds : List Descriptor) (i : ℕ) (d : Descriptor) (old new : List Place) → drop i ds ≡ d ∷ drop (i + 1) ds → beq (is_writable d) b ≡ true →
-    after old (located f (addresses d.addr d.len)) ≡ Some new →
-    after old (located f (addresses_of (of_direction b (drop i ds)))) ≡ after new (located f (addresses_of (of_direction b (drop (i + 1) ds))))
-direction_found f b ds i d old new next kept found =
-    ap (λ (l : List Descriptor). after old (located f (addresses_of l))) (ap (of_direction b) next ∙ direction-kept b d (drop (i + 1) ds) kept)
-    ∙ after_found (located f (addresses d.addr d.len)) (addresses d.addr d.len) (addresses_of (of_direction b (drop (i + 1) ds))) f old new refl found
+-- a range grows by the addresses that follow it
+pub range_grown : (f : Where) (start len addr n : ℕ) (rest : List ℕ) (old : List Place) → start + len ≡ addr →
+    after old (located f (addresses start len ++ (addresses addr n ++ rest))) ≡ after old (located f (addresses start (len + n) ++ rest))
+range_grown f start len addr n rest old follows =
+    let joined : addresses start (len + n) ≡ addresses start len ++ addresses addr n =
+    addresses-append len n start ∙ ap (λ x. addresses start len ++ addresses x n) follows in
+    ap (λ (l : List ℕ). after old (located f l)) (sym (append_assoc (addresses start len) (addresses addr n) rest) ∙ ap (λ (l : List ℕ). l ++ rest) (sym joined))
 
-pub direction_lost : (f : Where) (b : Bool) (ds : List Descriptor) (i : ℕ) (d : Descriptor) (old : List Place) → drop i ds ≡ d ∷ drop (i + 1) ds → beq (is_writable d) b ≡ true →
-    after old (located f (addresses d.addr d.len)) ≡ None → after old (located f (addresses_of (of_direction b (drop i ds)))) ≡ None
-direction_lost f b ds i d old next kept lost =
-    ap (λ (l : List Descriptor). after old (located f (addresses_of l))) (ap (of_direction b) next ∙ direction-kept b d (drop (i + 1) ds) kept)
-    ∙ after_lost (located f (addresses d.addr d.len)) (addresses d.addr d.len) (addresses_of (of_direction b (drop (i + 1) ds))) f old refl lost
+-- a range whose windows were added makes room for another
+pub range_added : (f : Where) (xs ys : List ℕ) (old new : List Place) (found : Bool) → after old (located f xs) ≡ (if found then Some new else None) →
+    after old (located f (xs ++ ys)) ≡ (if found then after new (located f ys) else None)
+range_added f xs ys old new true e = after_found (located f xs) xs ys f old new refl e
+range_added f xs ys old new false e = after_lost (located f xs) xs ys f old refl e
 
-pub direction_other : (f : Where) (b : Bool) (ds : List Descriptor) (i : ℕ) (d : Descriptor) (old : List Place) → drop i ds ≡ d ∷ drop (i + 1) ds → beq (is_writable d) b ≡ false →
-    after old (located f (addresses_of (of_direction b (drop i ds)))) ≡ after old (located f (addresses_of (of_direction b (drop (i + 1) ds))))
-direction_other f b ds i d old next other =
-    ap (λ (l : List Descriptor). after old (located f (addresses_of l))) (ap (of_direction b) next ∙ direction-other b d (drop (i + 1) ds) other)
+-- a descriptor of the direction comes next
+pub direction_next : (f : Where) (b : Bool) (ds : List Descriptor) (i : ℕ) (d : Descriptor) (xs : List ℕ) (old : List Place) → drop i ds ≡ d ∷ drop (i + 1) ds → beq (is_writable d) b ≡ true →
+    after old (located f (xs ++ addresses_of (of_direction b (drop i ds)))) ≡ after old (located f (xs ++ (addresses d.addr d.len ++ addresses_of (of_direction b (drop (i + 1) ds)))))
+direction_next f b ds i d xs old next kept =
+    ap (λ (l : List Descriptor). after old (located f (xs ++ addresses_of l))) (ap (of_direction b) next ∙ direction-kept b d (drop (i + 1) ds) kept)
+
+-- one of the other direction does
+pub direction_other : (f : Where) (b : Bool) (ds : List Descriptor) (i : ℕ) (d : Descriptor) (xs : List ℕ) (old : List Place) → drop i ds ≡ d ∷ drop (i + 1) ds → beq (is_writable d) b ≡ false →
+    after old (located f (xs ++ addresses_of (of_direction b (drop i ds)))) ≡ after old (located f (xs ++ addresses_of (of_direction b (drop (i + 1) ds))))
+direction_other f b ds i d xs old next other =
+    ap (λ (l : List Descriptor). after old (located f (xs ++ addresses_of l))) (ap (of_direction b) next ∙ direction-other b d (drop (i + 1) ds) other)
+
+direction-end : (b : Bool) (ds : List Descriptor) (i : ℕ) → length ds ≤ i → addresses_of (of_direction b (drop i ds)) ≡ []
+direction-end true ds i h = rw (drop_all i ds h) refl
+direction-end false ds i h = rw (drop_all i ds h) refl
 
 -- the end of the list
-pub direction_done : (f : Where) (b : Bool) (ds : List Descriptor) (i : ℕ) (old : List Place) → length ds ≤ i → after old (located f (addresses_of (of_direction b (drop i ds)))) ≡ Some old
-unfolding located
-direction_done f true ds i old h = rw (drop_all i ds h) (ap Some (append-nil old))
-direction_done f false ds i old h = rw (drop_all i ds h) (ap Some (append-nil old))
+pub direction_done : (f : Where) (b : Bool) (ds : List Descriptor) (i : ℕ) (xs : List ℕ) (old : List Place) → length ds ≤ i →
+    after old (located f (xs ++ addresses_of (of_direction b (drop i ds)))) ≡ after old (located f xs)
+direction_done f b ds i xs old h = ap (λ (l : List ℕ). after old (located f l)) (ap (λ (l : List ℕ). xs ++ l) (direction-end b ds i h) ∙ append-nil xs)
 
 pub after-none : (o : Option (List Place)) → after [] o ≡ o
 after-none None = refl
 after-none (Some ps) = refl
+
+-- its beginning, where no range was begun
+pub direction_begun : (f : Where) (xs : List ℕ) → after [] (located f (addresses 0 0 ++ xs)) ≡ located f xs
+unfolding addresses
+direction_begun f xs = after-none (located f xs)
 
 -- ---- the request and the room of a chain
 
@@ -211,3 +229,31 @@ fetched_all m limit ds ps qs all a b found room =
 -- how many places a direction has
 pub length-direction : (f : Where) (ds : List Descriptor) (ps : List Place) → Some ps ≡ located f (addresses_of ds) → length ps ≡ total_len ds
 length-direction f ds ps e = length-located (addresses_of ds) f ps (sym e) ∙ length-addresses_of ds
+
+missing : (m : Memory) (limit : ℕ) (ds : List Descriptor) (fault : ChainFault) (r w : Option (List Place)) → AllEndIn64Bits ds → total_len (readable ds) ≤ limit → total_len (writable ds) ≤ limit →
+    r ≡ located (location m Read) (addresses_of (readable ds)) → w ≡ located (location m Write) (addresses_of (writable ds)) → Some fault ≡ unreachable r w → request_and_room m limit ds ≡ CannotFetch fault
+missing m limit ds fault None w all a b er ew e =
+    let same : fault ≡ RequestUnreachable = cc in
+    request_unreachable m limit ds all a b er ∙ ap CannotFetch (sym same)
+missing m limit ds fault (Some ps) None all a b er ew e =
+    let same : fault ≡ RoomUnreachable = cc in
+    room_unreachable m limit ds ps all a b er ew ∙ ap CannotFetch (sym same)
+missing m limit ds fault (Some ps) (Some qs) all a b er ew e = absurd (cc)
+
+-- which part of a chain can't be fetched, by what has no place
+pub cannot_fetch : (m : Memory) (limit : ℕ) (ds : List Descriptor) (fault : ChainFault) → AllEndIn64Bits ds → total_len (readable ds) ≤ limit → total_len (writable ds) ≤ limit →
+    Some fault ≡ unreachable_of m ds → request_and_room m limit ds ≡ CannotFetch fault
+cannot_fetch m limit ds fault all a b e =
+    missing m limit ds fault (located (location m Read) (addresses_of (readable ds))) (located (location m Write) (addresses_of (writable ds))) all a b refl refl e
+
+-- what is fetched of a chain that has its windows
+pub holds_fetched : (m : Memory) (limit : ℕ) (ds : List Descriptor) (head : ℕ) (chain : Result Chain ChainFault) → AllEndIn64Bits ds → total_len (readable ds) ≤ limit → total_len (writable ds) ≤ limit →
+    IsOk chain → HoldsWindows m head chain (IsChain ds) → HoldsChain m (request_and_room m limit ds) chain
+holds_fetched m limit ds head (Ok c) all a b ok h = rw (fetched_all m limit ds _ _ all a b (sym h.1) (sym h.2)) (refl, h.2)
+holds_fetched m limit ds head (Err fault) all a b ok h = absurd (cc)
+
+pub room_within : (m : Memory) (limit : ℕ) (ds : List Descriptor) (head : ℕ) (chain : Result Chain ChainFault) → total_len (writable ds) ≤ limit → IsOk chain → HoldsWindows m head chain (IsChain ds) → room_places chain ≤ limit
+room_within m limit ds head (Ok c) b ok h =
+    let w = length-direction (location m Write) (writable ds) _ (sym h.2) in
+    omega (arith, w)
+room_within m limit ds head (Err fault) b ok h = absurd (cc)

@@ -38,15 +38,23 @@ walk_step_of says.Stops = Stops
 abbrev pub EndsIn64Bits : DescriptorTable → Type 0
 EndsIn64Bits table = table.address + 16 * table.entries < 2 ^ 64
 
--- these are the bytes of a table, each of which can be read
-abbrev pub AreTheTable : Memory → DescriptorTable → List ℕ → Type 0
-AreTheTable m table bs = (bs ≡ bytes m table.address (16 * table.entries)) × (reach m Read table.address (16 * table.entries) ≡ true)
+-- these are the bytes of n addresses from a on, each of which can be read
+abbrev pub AreTheBytes : Memory → (a n : ℕ) → List ℕ → Type 0
+AreTheBytes m a n bs = (bs ≡ bytes m a n) × (reach m Read a n ≡ true)
 
--- what a walk found
-abbrev pub found_of : walked.Walked → Found
-found_of (comes_to.Chain v) = IsChain v.items
-found_of (comes_to.Faulty fault) = HasFault fault
-found_of comes_to.Stopped = StopsQueue
+-- these are the bytes of a table
+abbrev pub AreTheTable : Memory → DescriptorTable → List ℕ → Type 0
+AreTheTable m table bs = AreTheBytes m table.address (16 * table.entries) bs
+
+-- these are the bytes of an available ring, but for what follows its entries
+abbrev pub AreTheRing : Memory → QueueLayout → List ℕ → Type 0
+AreTheRing m l bs = AreTheBytes m l.avail (4 + 2 * l.size) bs
+
+-- what a walk found, and the descriptors that it collected
+abbrev pub found_of : walked.Walked → List Descriptor → Found
+found_of comes_to.Chain ds = IsChain ds
+found_of (comes_to.Faulty fault) ds = HasFault fault
+found_of comes_to.Stopped ds = StopsQueue
 
 -- of an ordinary descriptor, which joins the chain
 abbrev pub IfOrdinary : code_step.WalkStep → (Descriptor → Type 0) → Type 0
@@ -65,9 +73,3 @@ IfTable says.Stops P = Unit {0}
 -- no descriptor of a chain ends past 2^64 - 1
 unfoldable pub AllEndIn64Bits : List Descriptor → Type 0
 AllEndIn64Bits ds = All (λ d. d.addr + d.len < 2 ^ 64) ds
-
--- the same of those that a walk collected
-abbrev pub DescriptorsFit : walked.Walked → Type 0
-DescriptorsFit (comes_to.Chain v) = AllEndIn64Bits v.items
-DescriptorsFit (comes_to.Faulty fault) = Unit {0}
-DescriptorsFit comes_to.Stopped = Unit {0}

@@ -1,12 +1,13 @@
 //! Reads and windows of guest memory that want all of a range.
 
-ghost use Rattle.std.specs.Prelude.{◌≡◌, ◌+◌, ◌<◌, ◌^◌, IsTrue, IfOk, OnErr, length, Some, None, if◌then◌else◌};
+ghost use Rattle.std.specs.Prelude.{◌≡◌, ◌+◌, ◌<◌, ◌≤◌, ◌^◌, IsTrue, IfOk, IfSome, OnErr, length, take, drop, Some, None, if◌then◌else◌};
 ghost use Rattle.std.specs.Int.{w16, from_le_bytes};
 ghost use Rattle.vm_iotlb.specs.declared.permissions.Permissions.TheVariants.{Read};
 ghost use Rattle.vm_memory_core.specs.Host.{lengths};
 ghost use Rattle.vm_memory_core.specs.Window.{places, AllLieIn};
 ghost use Rattle.vm_memory.specs.Memory.{addresses, after, bytes, located, location, number, reach};
 ghost use Rattle.fs_queue.specs.NextAvail.{IsUnmapped};
+ghost use Rattle.fs_queue.specs.Walking.{AreTheBytes};
 
 use std::alloc::{AllocError, Global};
 use vm_memory::GuestMemory;
@@ -38,6 +39,40 @@ pub(crate) fn le16_number(bytes: &[u8; 2]) -> u16
     ensures { result ≡ from_le_bytes w16 bytes.now }
 {
     Le16::get_bytes(bytes).to_native()
+}
+
+/// The number that the two bytes from an offset on spell as le16.
+#[tactic(auto, using(crate::proofs::ReadLemmas::spelled_number))]
+#[inline(always)]
+pub(crate) fn le16_at(bytes: &[u8], offset: usize) -> u16
+    requires { offset + 2 ≤ length bytes.now }
+    ensures { result ≡ from_le_bytes w16 (take 2 (drop offset bytes.now)) }
+{
+    Le16::get_bytes(&bytes[offset..][..2]).to_native()
+}
+
+/// The bytes of some addresses that follow one another, where one window has all of them. None says nothing of them:
+/// parts of the range are then read by themselves.
+#[inline(always)]
+pub(crate) fn whole_bytes<'a, M: GuestMemory, H: HostBlocks>(
+    alloc: Global,
+    host: &'a H,
+    mem: &M,
+    addr: u64,
+    len: usize,
+) -> Option<&'a [u8]>
+    requires fits { addr + len < 2 ^ 64 }
+    requires held { M.IsHeld mem.now (H.host host.now) }
+    ensures { IfSome result (λ b. AreTheBytes (M.memory mem.now (H.host host.now)) addr len b.now) }
+{
+    let start = GuestAddress(addr);
+    let Ok(mut windows) = mem.get_slices(alloc, host, start, len, Permissions::Read) else {
+        return None;
+    };
+    match windows.next() {
+        Some(Ok(window)) if window.len() == len && host.has(&window) => Some(host.bytes(window)),
+        _ => None,
+    }
 }
 
 /// The le16 at an address, or None where one of its two bytes isn't there. Memory is wanting only where a translation

@@ -3,6 +3,7 @@
 ghost use Rattle.std.specs.Prelude.{◌≡◌, ◌<◌, ◌^◌, [], length, MatchResult};
 ghost use Rattle.vm_memory_core.specs.Window.{places};
 
+use crate::descriptor::Descriptors;
 use crate::fault::ChainFault;
 use std::alloc::Global;
 use vm_memory_core::Windows;
@@ -26,6 +27,32 @@ pub struct Chain {
 }
 
 impl Chain {
+    // A chain without bytes, whose windows take no memory.
+    pub(crate) fn empty(alloc: Global) -> Chain
+        ensures readable { result.readable.items ≡ [] }
+        ensures writable { result.writable.items ≡ [] }
+    {
+        Chain {
+            head: 0,
+            readable: Windows::new(alloc),
+            writable: Windows::new(alloc),
+            request_len: 0,
+            room_len: 0,
+        }
+    }
+
+    // Takes its bytes away. The lists keep their memory.
+    #[inline(always)]
+    pub(crate) fn clear(&mut self)
+        ensures readable { self.new.readable.items ≡ [] }
+        ensures writable { self.new.writable.items ≡ [] }
+    {
+        self.readable.clear();
+        self.writable.clear();
+        self.request_len = 0;
+        self.room_len = 0;
+    }
+
     /// How many bytes the request has.
     pub fn request_len(&self) -> usize
         ensures { result ≡ length (places self.now.readable.items) }
@@ -49,34 +76,42 @@ pub(crate) struct ReturnWindows {
     pub(crate) flags: Windows,
 }
 
-/// A chain that was taken and not yet given back, or its fault, with the windows of its return.
+/// A place for a chain that was taken and not yet given back, or its fault, with the windows of its return and the
+/// descriptors that were walked. It is made once, and one chain after another is taken into it; its lists keep the
+/// memory that they grew to.
 #[derive(Drop)]
 pub struct Taken {
     pub(crate) head: u16,
     pub(crate) chain: Result<Chain, ChainFault>,
     pub(crate) return_windows: ReturnWindows,
+    pub(crate) descriptors: Descriptors,
 }
 
 impl Taken {
-    // A place for what is taken: a chain without bytes, and no windows for its return.
-    pub(crate) fn empty(alloc: Global) -> Taken
-        ensures used { result.return_windows.used.items ≡ [] }
-        ensures flags { result.return_windows.flags.items ≡ [] }
+    ghost use Rattle.fs_queue.specs.Windows.{IsEmpty};
+
+    /// A place into which nothing was taken, which takes no memory.
+    pub fn empty(alloc: Global) -> Taken
+        ensures { IsEmpty result }
     {
         Taken {
             head: 0,
-            chain: Ok(Chain {
-                head: 0,
-                readable: Windows::new(alloc),
-                writable: Windows::new(alloc),
-                request_len: 0,
-                room_len: 0,
-            }),
+            chain: Ok(Chain::empty(alloc)),
             return_windows: ReturnWindows {
                 used: Windows::new(alloc),
                 flags: Windows::new(alloc),
             },
+            descriptors: Descriptors::new(alloc),
         }
+    }
+
+    // Takes the windows of a return away, so that nothing can be given back.
+    #[inline(always)]
+    pub(crate) fn clear(&mut self)
+        ensures { IsEmpty self.new }
+    {
+        self.return_windows.used.clear();
+        self.return_windows.flags.clear();
     }
 
     /// The chain's head: its first descriptor's index in the queue's table.

@@ -47,7 +47,8 @@ impl Model for Queue {
 ghost use Rattle.fs_queue.specs.Queue.{fresh, resumed};
 ghost use Rattle.fs_queue.specs.Taking.{RequestAndRoom, room_of};
 ghost use Rattle.fs_queue.specs.Returning.{returned, wants_notice, advanced};
-ghost use Rattle.fs_queue.specs.Windows.{Takes, after_taking, IsTaken, TakenLiesIn, ChainLiesIn, room_places, chain_places, HasItsWindows};
+ghost use Rattle.fs_queue.specs.Windows.{Takes, after_taking, taken_if, IsTaken, TakenLiesIn, ChainLiesIn, room_places, chain_places, HasItsWindows};
+ghost use Rattle.fs_queue.specs.Windows.{IsEmpty, IsEmptyUnlessTaken};
 
 // Writes the reply over the room of a chain.
 #[tactic(auto, unfolding(vm_memory_core::specs::Window::put_all))]
@@ -119,9 +120,10 @@ impl Queue {
         self.stopped
     }
 
-    /// The chain that waits at the queue's position, with its windows (VIRTIO 1.2, 2.7.13 from the device's side). The
-    /// position stays until the chain is given back. A request or a room of more than `limit` bytes makes a chain
-    /// faulty. Refused, in this order: `Stopped`, `AvailIndexUnreachable`, then, where something waits, `AvailTooFar`,
+    /// Takes the chain that waits at the queue's position, with its windows, into a place whatever that had, or answers
+    /// false, where none waits (VIRTIO 1.2, 2.7.13 from the device's side); unless a chain was taken, the place is empty
+    /// then. The position stays until the chain is given back. A request or a room of more than `limit` bytes makes a
+    /// chain faulty. Refused, in this order: `Stopped`, `AvailIndexUnreachable`, then, where something waits, `AvailTooFar`,
     /// `RingEntryUnreachable`, `HeadOutOfTable`, `UsedUnreachable`, `AvailFlagsUnreachable`, `DescriptorUnreachable`.
     /// Want of memory is `OutOfMemory`. All of them but `Stopped` and `OutOfMemory` stop the queue.
     #[inline(always)]
@@ -131,31 +133,25 @@ impl Queue {
         host: &H,
         mem: &M,
         limit: u32,
-    ) -> Result<Option<Taken>, QueueError>
+        taken: &mut Taken,
+    ) -> Result<bool, QueueError>
         requires { M.IsHeld mem.now (H.host host.now) }
-        ensures takes { Takes (M.memory mem.now (H.host host.now)) limit self.old result }
-        ensures windows { IfOk result (λ o. IfSome o (HasItsWindows (M.memory mem.now (H.host host.now)) self.old)) }
-        ensures queue { self.new ≡ after_taking self.old result }
-        ensures lie { IfOk result (λ o. IfSome o (TakenLiesIn (lengths (H.host host.now)))) }
-        ensures short { IfOk result (λ o. IfSome o (λ t. room_places t.chain ≤ limit)) }
+        ensures takes { Takes (M.memory mem.now (H.host host.now)) limit self.old (taken_if taken.new result) }
+        ensures windows { IfOk (taken_if taken.new result) (λ o. IfSome o (HasItsWindows (M.memory mem.now (H.host host.now)) self.old)) }
+        ensures queue { self.new ≡ after_taking self.old (taken_if taken.new result) }
+        ensures lie { IfOk (taken_if taken.new result) (λ o. IfSome o (TakenLiesIn (lengths (H.host host.now)))) }
+        ensures short { IfOk (taken_if taken.new result) (λ o. IfSome o (λ t. room_places t.chain ≤ limit)) }
+        ensures empty { IsEmptyUnlessTaken result taken.new }
     {
+        taken.clear();
         if self.stopped {
             return Err(QueueError::Stopped);
         }
-        let mut taken = Taken::empty(alloc);
-        match take_into(
-            alloc,
-            self.layout,
-            self.position,
-            host,
-            mem,
-            limit,
-            &mut taken,
-        ) {
-            Ok(true) => Ok(Some(taken)),
-            Ok(false) => Ok(None),
+        match take_into(alloc, self.layout, self.position, host, mem, limit, taken) {
+            Ok(waits) => Ok(waits),
             Err(error) => {
                 self.stopped = error.stops_queue();
+                taken.clear();
                 Err(error)
             }
         }
@@ -164,15 +160,21 @@ impl Queue {
     /// Writes the reply over the room, then the used element (le32 head, le32 length of the reply in bytes), then the
     /// le16 used index (VIRTIO 1.2, 2.7.8), and says whether the driver wants to be told: bit 0 of the available flags,
     /// read last, is clear (2.7.7). The chain was taken at this position, and the reply is no longer than its room,
-    /// which is empty for a fault.
+    /// which is empty for a fault. The place is emptied: what lies in it can't be given back twice.
     #[inline(always)]
-    pub fn give_back<H: HostBlocks>(&mut self, host: &mut H, taken: Taken, reply: &[u8]) -> bool
-        requires lies { TakenLiesIn (lengths (H.host host.old)) taken }
-        requires fits { length reply.now ≤ room_places taken.chain }
-        ensures stored { (m : Memory) (fetched : RequestAndRoom) → m.host ≡ H.host host.old → IsTaken m self.old fetched taken →
-            record m { host = H.host host.new } ≡ returned m self.old taken.head (room_of fetched) reply.now }
-        ensures told { (m : Memory) (fetched : RequestAndRoom) → m.host ≡ H.host host.old → IsTaken m self.old fetched taken →
+    pub fn give_back<H: HostBlocks>(
+        &mut self,
+        host: &mut H,
+        taken: &mut Taken,
+        reply: &[u8],
+    ) -> bool
+        requires lies { TakenLiesIn (lengths (H.host host.old)) taken.old }
+        requires fits { length reply.now ≤ room_places taken.old.chain }
+        ensures stored { (m : Memory) (fetched : RequestAndRoom) → m.host ≡ H.host host.old → IsTaken m self.old fetched taken.old →
+            record m { host = H.host host.new } ≡ returned m self.old taken.old.head (room_of fetched) reply.now }
+        ensures told { (m : Memory) (fetched : RequestAndRoom) → m.host ≡ H.host host.old → IsTaken m self.old fetched taken.old →
             result ≡ wants_notice (record m { host = H.host host.new }) self.old }
+        ensures empty { IsEmpty taken.new }
         ensures queue { self.new ≡ advanced self.old }
         ensures shape { shape (H.host host.new) ≡ shape (H.host host.old) }
         ensures loan { H.IsSameLoan host.old host.new }
@@ -187,6 +189,7 @@ impl Queue {
         host.write_windows(&taken.return_windows.used, &update.to_bytes());
         let mut flags = [0u8; 2];
         host.read_windows(&taken.return_windows.flags, &mut flags);
+        taken.clear();
         le16_number(&flags) & NO_INTERRUPT == 0
     }
 }

@@ -1,22 +1,22 @@
 //! What is taken of a chain: windows with its request and its room, and those of its return (VIRTIO 1.2, 2.7.5 to
 //! 2.7.8).
 
-ghost use Rattle.std.specs.Prelude.{◌≡◌, ◌-◌, ◌≤◌, ◌^◌, [], length, min, None, Some, if◌then◌else◌};
-ghost use Rattle.std.specs.Prelude.{IfNone, IfOk, IfSome, IsTrue, OnOk};
-ghost use Rattle.vm_iotlb.specs.declared.permissions.Permissions.TheVariants.{Write};
+ghost use Rattle.std.specs.Prelude.{ℕ, ◌≡◌, ◌+◌, ◌-◌, ◌<◌, ◌≤◌, ◌^◌, ◌++◌, List, [], min, false, true, None, Some, Ok, if◌then◌else◌};
+ghost use Rattle.std.specs.Prelude.{IfNone, IfOk, IfSome, IsOk, IsTrue, OnOk};
+ghost use Rattle.vm_iotlb.specs.declared.permissions.Permissions.TheVariants.{Read, Write};
 ghost use Rattle.vm_memory_core.specs.Host.{lengths};
 ghost use Rattle.vm_memory_core.specs.Window.{places, AllLieIn};
-ghost use Rattle.vm_memory.specs.Memory.{located, location};
+ghost use Rattle.vm_memory.specs.Memory.{addresses, after, located, location};
 ghost use Rattle.fs_queue.specs.Walking.{AllEndIn64Bits, at_position};
 ghost use Rattle.fs_queue.specs.Taking.{total_len, request_and_room, stops_queue};
 ghost use Rattle.fs_queue.specs.Windows.{of_direction, access_of, addresses_of, used_addresses, return_places_of};
 ghost use Rattle.fs_queue.specs.Windows.{return_places_at, room_places, ReturnWindowsLieIn, ChainLiesIn, TakenLiesIn};
-ghost use Rattle.fs_queue.specs.Windows.{HoldsChain, HoldsWindows, HasItsWindows, Takes, taken_if};
+ghost use Rattle.fs_queue.specs.Windows.{HoldsChain, HoldsWindows, HasItsWindows, HasNoWindows, IsEmpty, Takes, taken_if, unreachable_of};
 ghost use Rattle.fs_queue.specs.Chain.{IsChain};
 
 use crate::access::add_windows;
 use crate::chain::{Chain, ReturnWindows, Taken};
-use crate::descriptor::{Descriptor, Descriptors};
+use crate::descriptor::Descriptor;
 use crate::fault::{ChainFault, QueueError};
 use crate::layout::QueueLayout;
 use crate::next_avail::{NextAvail, next_head};
@@ -101,36 +101,6 @@ fn count_bytes(descriptors: &[Descriptor], write_only: bool) -> u64
     sum
 }
 
-// How many descriptors of one direction there are.
-fn count_descriptors(descriptors: &[Descriptor], write_only: bool) -> usize
-    ensures { result ≡ length (of_direction write_only descriptors.now) }
-{
-    let mut count = 0;
-    for descriptor in descriptors {
-        if descriptor.is_write_only() == write_only {
-            count += 1;
-        }
-    }
-    count
-}
-
-// Makes a list long enough for a window of each descriptor of one direction, where it is likely too short for that. An
-// error is want of memory.
-#[inline(always)]
-fn reserve_windows(
-    windows: &mut Windows,
-    descriptors: &[Descriptor],
-    write_only: bool,
-) -> Result<(), AllocError>
-    ensures { windows.new.items ≡ windows.old.items }
-{
-    if descriptors.len() > 4 {
-        windows.reserve(count_descriptors(descriptors, write_only))
-    } else {
-        Ok(())
-    }
-}
-
 // The access that the device needs to the descriptors of one direction.
 #[inline]
 fn access_of(write_only: bool) -> Permissions
@@ -143,8 +113,49 @@ fn access_of(write_only: bool) -> Permissions
     }
 }
 
+// Addresses that follow one another.
+#[derive(Clone, Copy, Debug)]
+struct AddressRange {
+    start: u64,
+    len: usize,
+}
+
+// Has a range grow by a descriptor's addresses, if they follow it. Else the range's windows are added to a list, and the
+// descriptor's addresses are the range; or the answer is false, where one of the former range's addresses has no place.
+#[inline(always)]
+fn extend_range<M: GuestMemory, H: HostBlocks>(
+    alloc: Global,
+    host: &H,
+    mem: &M,
+    access: Permissions,
+    descriptor: Descriptor,
+    range: &mut AddressRange,
+    windows: &mut Windows,
+) -> Result<bool, AllocError>
+    requires range { range.old.start + range.old.len < 2 ^ 64 }
+    requires descriptor { descriptor.addr + descriptor.len < 2 ^ 64 }
+    requires held { M.IsHeld mem.now (H.host host.now) }
+    ensures found { (rest : List ℕ) → let f = location (M.memory mem.now (H.host host.now)) access in
+        IfOk result (λ found.
+        after (places windows.old.items) (located f (addresses range.old.start range.old.len ++ (addresses descriptor.addr descriptor.len ++ rest)))
+        ≡ (if found then after (places windows.new.items) (located f (addresses range.new.start range.new.len ++ rest)) else None)) }
+    ensures range { range.new.start + range.new.len < 2 ^ 64 }
+    ensures lie { AllLieIn (lengths (H.host host.now)) windows.old.items → AllLieIn (lengths (H.host host.now)) windows.new.items }
+{
+    let len = descriptor.len as usize;
+    if range.start + range.len as u64 == descriptor.addr {
+        range.len += len;
+        return Ok(true);
+    }
+    let found = add_windows(alloc, host, mem, range.start, range.len, access, windows)?;
+    range.start = descriptor.addr;
+    range.len = len;
+    Ok(found)
+}
+
 // Adds to an empty list the windows of the descriptors of one direction, in their order, or answers false where one of
-// their addresses has no place.
+// their addresses has no place. Those whose addresses follow one another are looked up at once, and have one window
+// where one has them all.
 #[inline(always)]
 fn add_direction<M: GuestMemory, H: HostBlocks>(
     alloc: Global,
@@ -162,17 +173,146 @@ fn add_direction<M: GuestMemory, H: HostBlocks>(
         ≡ (if found then Some (places windows.new.items) else None)) }
     ensures lie { IfOk result (λ found. IsTrue found → AllLieIn (lengths (H.host host.now)) windows.new.items) }
 {
-    reserve_windows(windows, descriptors, write_only)?;
     let access = access_of(write_only);
+    let mut range = AddressRange { start: 0, len: 0 };
     for descriptor in descriptors {
-        let len = descriptor.len as usize;
         if descriptor.is_write_only() == write_only
-            && !add_windows(alloc, host, mem, descriptor.addr, len, access, windows)?
+            && !extend_range(alloc, host, mem, access, *descriptor, &mut range, windows)?
         {
             return Ok(false);
         }
     }
-    Ok(true)
+    add_windows(alloc, host, mem, range.start, range.len, access, windows)
+}
+
+// Adds to two empty lists the windows of a request and of its room, or answers which of them has an address without a
+// place: `RequestUnreachable`, then `RoomUnreachable`. An error is want of memory.
+#[inline(always)]
+fn add_chain<M: GuestMemory, H: HostBlocks>(
+    alloc: Global,
+    host: &H,
+    mem: &M,
+    descriptors: &[Descriptor],
+    readable: &mut Windows,
+    writable: &mut Windows,
+) -> Result<Option<ChainFault>, AllocError>
+    requires fits { AllEndIn64Bits descriptors.now }
+    requires held { M.IsHeld mem.now (H.host host.now) }
+    requires no_readable { readable.old.items ≡ [] }
+    requires no_writable { writable.old.items ≡ [] }
+    ensures fault { IfOk result (λ fault. fault ≡ unreachable_of (M.memory mem.now (H.host host.now)) descriptors.now) }
+    ensures readable { let m = M.memory mem.now (H.host host.now) in
+        IfOk result (λ fault. IfNone fault (located (location m Read) (addresses_of (of_direction false descriptors.now)) ≡ Some (places readable.new.items))) }
+    ensures writable { let m = M.memory mem.now (H.host host.now) in
+        IfOk result (λ fault. IfNone fault (located (location m Write) (addresses_of (of_direction true descriptors.now)) ≡ Some (places writable.new.items))) }
+    ensures readable_lie { IfOk result (λ fault. IfNone fault (AllLieIn (lengths (H.host host.now)) readable.new.items)) }
+    ensures writable_lie { IfOk result (λ fault. IfNone fault (AllLieIn (lengths (H.host host.now)) writable.new.items)) }
+{
+    if !add_direction(alloc, host, mem, descriptors, false, readable)? {
+        return Ok(Some(ChainFault::RequestUnreachable));
+    }
+    if !add_direction(alloc, host, mem, descriptors, true, writable)? {
+        return Ok(Some(ChainFault::RoomUnreachable));
+    }
+    Ok(None)
+}
+
+// Fills a chain without windows, or answers which part of it has an address without a place. An error is want of memory.
+#[inline(always)]
+fn fill_chain<M: GuestMemory, H: HostBlocks>(
+    alloc: Global,
+    host: &H,
+    mem: &M,
+    head: u16,
+    descriptors: &[Descriptor],
+    request_len: usize,
+    room_len: usize,
+    chain: &mut Chain,
+) -> Result<Option<ChainFault>, AllocError>
+    requires fits { AllEndIn64Bits descriptors.now }
+    requires held { M.IsHeld mem.now (H.host host.now) }
+    requires request_len { request_len ≡ total_len (of_direction false descriptors.now) }
+    requires room_len { room_len ≡ total_len (of_direction true descriptors.now) }
+    requires short { room_len < 2 ^ 32 }
+    requires no_windows { HasNoWindows (Ok chain.old) }
+    ensures fault { IfOk result (λ fault. fault ≡ unreachable_of (M.memory mem.now (H.host host.now)) descriptors.now) }
+    ensures windows { IfOk result (λ fault. IfNone fault (HoldsWindows (M.memory mem.now (H.host host.now)) head (Ok chain.new) (IsChain descriptors.now))) }
+    ensures lie { IfOk result (λ fault. IfNone fault (ChainLiesIn (lengths (H.host host.now)) (Ok chain.new))) }
+{
+    match add_chain(
+        alloc,
+        host,
+        mem,
+        descriptors,
+        &mut chain.readable,
+        &mut chain.writable,
+    ) {
+        Ok(None) => {
+            chain.head = head;
+            chain.request_len = request_len;
+            chain.room_len = room_len;
+            Ok(None)
+        }
+        Ok(Some(fault)) => {
+            chain.readable.clear();
+            chain.writable.clear();
+            Ok(Some(fault))
+        }
+        Err(error) => {
+            chain.readable.clear();
+            chain.writable.clear();
+            Err(error)
+        }
+    }
+}
+
+// Makes what a place has a chain without windows.
+#[inline(always)]
+fn clear_chain(alloc: Global, chain: &mut Result<Chain, ChainFault>)
+    ensures { HasNoWindows chain.new }
+{
+    match chain {
+        Ok(held) => held.clear(),
+        Err(_) => *chain = Ok(Chain::empty(alloc)),
+    }
+}
+
+// Fills the chain that a place has, as `fill_chain` does.
+#[inline(always)]
+fn fill_held<M: GuestMemory, H: HostBlocks>(
+    alloc: Global,
+    host: &H,
+    mem: &M,
+    head: u16,
+    descriptors: &[Descriptor],
+    request_len: usize,
+    room_len: usize,
+    chain: &mut Result<Chain, ChainFault>,
+) -> Result<Option<ChainFault>, AllocError>
+    requires fits { AllEndIn64Bits descriptors.now }
+    requires held { M.IsHeld mem.now (H.host host.now) }
+    requires request_len { request_len ≡ total_len (of_direction false descriptors.now) }
+    requires room_len { room_len ≡ total_len (of_direction true descriptors.now) }
+    requires short { room_len < 2 ^ 32 }
+    requires no_windows { HasNoWindows chain.old }
+    ensures fault { IfOk result (λ fault. fault ≡ unreachable_of (M.memory mem.now (H.host host.now)) descriptors.now) }
+    ensures ok { IfOk result (λ fault. IfNone fault (IsOk chain.new)) }
+    ensures windows { IfOk result (λ fault. IfNone fault (HoldsWindows (M.memory mem.now (H.host host.now)) head chain.new (IsChain descriptors.now))) }
+    ensures lie { IfOk result (λ fault. IfNone fault (ChainLiesIn (lengths (H.host host.now)) chain.new)) }
+{
+    match chain {
+        Ok(held) => fill_chain(
+            alloc,
+            host,
+            mem,
+            head,
+            descriptors,
+            request_len,
+            room_len,
+            held,
+        ),
+        Err(fault) => Ok(Some(*fault)),
+    }
 }
 
 // Puts the request and the room of a chain in a place, or its fault: `OverLimit` where one of them has more than
@@ -200,50 +340,26 @@ fn hold_chain<M: GuestMemory, H: HostBlocks>(
         *chain = Err(ChainFault::OverLimit);
         return Ok(());
     }
-    let mut readable = Windows::new(alloc);
-    if !add_direction(alloc, host, mem, descriptors, false, &mut readable)? {
-        *chain = Err(ChainFault::RequestUnreachable);
-        return Ok(());
-    }
-    let mut writable = Windows::new(alloc);
-    if !add_direction(alloc, host, mem, descriptors, true, &mut writable)? {
-        *chain = Err(ChainFault::RoomUnreachable);
-        return Ok(());
-    }
-    let held = Chain {
+    clear_chain(alloc, chain);
+    match fill_held(
+        alloc,
+        host,
+        mem,
         head,
-        readable,
-        writable,
-        request_len: request_len as usize,
-        room_len: room_len as usize,
-    };
-    *chain = Ok(held);
-    Ok(())
+        descriptors,
+        request_len as usize,
+        room_len as usize,
+        chain,
+    )? {
+        None => Ok(()),
+        Some(fault) => {
+            *chain = Err(fault);
+            Ok(())
+        }
+    }
 }
 
-// The same of descriptors that a walk collected, whose memory is given back.
-#[inline(always)]
-fn hold_walked<M: GuestMemory, H: HostBlocks>(
-    alloc: Global,
-    host: &H,
-    mem: &M,
-    head: u16,
-    descriptors: Descriptors,
-    limit: u32,
-    chain: &mut Result<Chain, ChainFault>,
-) -> Result<(), AllocError>
-    requires fits { AllEndIn64Bits descriptors.items }
-    requires held { M.IsHeld mem.now (H.host host.now) }
-    ensures fetched { let m = M.memory mem.now (H.host host.now) in OnOk result (HoldsChain m (request_and_room m limit descriptors.items) chain.new) }
-    ensures lie { OnOk result (ChainLiesIn (lengths (H.host host.now)) chain.new) }
-    ensures windows { OnOk result (HoldsWindows (M.memory mem.now (H.host host.now)) head chain.new (IsChain descriptors.items)) }
-    ensures short { OnOk result (room_places chain.new ≤ limit) }
-{
-    hold_chain(alloc, host, mem, head, &descriptors, limit, chain)
-}
-
-/// Takes the chain that waits at a position of a queue that isn't stopped into a place whose lists of return windows
-/// are empty; false where none waits. The errors are those of `Queue::take` but `Stopped`, in the same order.
+/// Takes the chain that waits at a position of a queue that isn't stopped into an empty place; false where none waits. The errors are those of `Queue::take` but `Stopped`, in the same order.
 #[inline(always)]
 pub(crate) fn take_into<M: GuestMemory, H: HostBlocks>(
     alloc: Global,
@@ -255,12 +371,12 @@ pub(crate) fn take_into<M: GuestMemory, H: HostBlocks>(
     taken: &mut Taken,
 ) -> Result<bool, QueueError>
     requires held { M.IsHeld mem.now (H.host host.now) }
-    requires used { taken.old.return_windows.used.items ≡ [] }
-    requires flags { taken.old.return_windows.flags.items ≡ [] }
+    requires empty { IsEmpty taken.old }
     ensures takes { Takes (M.memory mem.now (H.host host.now)) limit (at_position layout position) (taken_if taken.new result) }
     ensures lie { IfOk (taken_if taken.new result) (λ o. IfSome o (TakenLiesIn (lengths (H.host host.now)))) }
     ensures windows { IfOk (taken_if taken.new result) (λ o. IfSome o (HasItsWindows (M.memory mem.now (H.host host.now)) (at_position layout position))) }
     ensures short { IfOk (taken_if taken.new result) (λ o. IfSome o (λ t. room_places t.chain ≤ limit)) }
+    ensures idle { IfOk result (λ waits. waits ≡ false → IsEmpty taken.new) }
 {
     let head = match next_head(alloc, layout, position, host, mem) {
         Ok(NextAvail::Idle) => return Ok(false),
@@ -280,26 +396,25 @@ pub(crate) fn take_into<M: GuestMemory, H: HostBlocks>(
         Ok(Some(error)) => return Err(error),
         Err(_) => return Err(QueueError::OutOfMemory),
     }
-    let Ok(walked) = walk(alloc, layout, host, mem, head) else {
-        return Err(QueueError::OutOfMemory);
-    };
-    let held = match walked {
-        Walked::Stopped => return Err(QueueError::DescriptorUnreachable),
-        Walked::Faulty(fault) => {
+    match walk(alloc, layout, host, mem, head, &mut taken.descriptors) {
+        Ok(Walked::Chain) => {}
+        Ok(Walked::Faulty(fault)) => {
+            taken.head = head;
             taken.chain = Err(fault);
-            Ok(())
+            return Ok(true);
         }
-        Walked::Chain(descriptors) => hold_walked(
-            alloc,
-            host,
-            mem,
-            head,
-            descriptors,
-            limit,
-            &mut taken.chain,
-        ),
-    };
-    match held {
+        Ok(Walked::Stopped) => return Err(QueueError::DescriptorUnreachable),
+        Err(_) => return Err(QueueError::OutOfMemory),
+    }
+    match hold_chain(
+        alloc,
+        host,
+        mem,
+        head,
+        &taken.descriptors,
+        limit,
+        &mut taken.chain,
+    ) {
         Ok(()) => {
             taken.head = head;
             Ok(true)

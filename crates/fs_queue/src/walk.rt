@@ -1,19 +1,20 @@
 //! The walk through a chain of descriptors (VIRTIO 1.2, 2.7.5).
 
-ghost use Rattle.std.specs.Prelude.{◌≡◌, ◌+◌, ◌*◌, ◌<◌, ◌^◌, ◌≤◌, IfOk, IfSome, Some, None};
+ghost use Rattle.std.specs.Prelude.{◌≡◌, ◌+◌, ◌*◌, ◌<◌, ◌^◌, ◌≤◌, IfOk, IfSome, OnOk, Some, None};
 ghost use Rattle.std.specs.Prelude.{if◌then◌else◌, false, true, length, take, drop};
 ghost use Rattle.vm_values.specs.Fields.{AllFit, spelled};
 ghost use Rattle.vm_iotlb.specs.declared.permissions.Permissions.TheVariants.{Read};
 ghost use Rattle.vm_memory.specs.Memory.{reach};
 ghost use Rattle.fs_queue.specs.Records.{descriptor};
 
+use crate::access::whole_bytes;
 use crate::descriptor::{Descriptor, Descriptors, read_descriptor};
 use crate::fault::ChainFault;
 use crate::layout::QueueLayout;
 use std::alloc::{AllocError, Global};
 use std::marker::Model;
 use vm_memory::GuestMemory;
-use vm_memory_core::{GuestAddress, HostBlocks, Permissions};
+use vm_memory_core::HostBlocks;
 use vm_values::ByteValued;
 
 // How many bytes an entry of a table has.
@@ -47,16 +48,16 @@ pub(crate) enum WalkStep {
     Stops,
 }
 
-/// What a walk comes to: the ordinary descriptors of the chain in order, its fault, or a stop of the queue.
-#[derive(Drop)]
+/// What a walk comes to: a chain, whose ordinary descriptors it collected in order, its fault, or a stop of the queue.
+#[derive(Clone, Copy, Debug, PartialEq, Eq)]
 pub(crate) enum Walked {
-    Chain(Descriptors),
+    Chain,
     Faulty(ChainFault),
     Stopped,
 }
 
 ghost use Rattle.fs_queue.specs.Chain.{descriptor_at, indirect_step, ordinary_step, walk_step, chain, own_table};
-ghost use Rattle.fs_queue.specs.Walking.{at_position, in_table, walk_step_of, found_of, IfOrdinary, IfTable, EndsIn64Bits, AreTheTable, DescriptorsFit};
+ghost use Rattle.fs_queue.specs.Walking.{at_position, in_table, walk_step_of, found_of, IfOrdinary, IfTable, EndsIn64Bits, AllEndIn64Bits, AreTheTable};
 
 // The bytes of a table, where one window has all of them. None says nothing of the table: each entry is then read by
 // itself.
@@ -71,15 +72,13 @@ fn table_bytes<'a, M: GuestMemory, H: HostBlocks>(
     requires ends { EndsIn64Bits table }
     ensures { IfSome result (λ b. AreTheTable (M.memory mem.now (H.host host.now)) table b.now) }
 {
-    let len = ENTRY as usize * table.entries as usize;
-    let start = GuestAddress(table.address);
-    let Ok(mut windows) = mem.get_slices(alloc, host, start, len, Permissions::Read) else {
-        return None;
-    };
-    match windows.next() {
-        Some(Ok(window)) if window.len() == len && host.has(&window) => Some(host.bytes(window)),
-        _ => None,
-    }
+    whole_bytes(
+        alloc,
+        host,
+        mem,
+        table.address,
+        ENTRY as usize * table.entries as usize,
+    )
 }
 
 // An entry of a table, by the table's bytes.
@@ -214,8 +213,9 @@ fn queue_table(layout: QueueLayout) -> DescriptorTable
     }
 }
 
-/// The chain that begins at an entry of the queue's table (VIRTIO 1.2, 2.7.5 and 2.7.5.3). An error is want of memory,
-/// for a chain of more than eight descriptors or where a translation fails.
+/// Puts the descriptors of the chain that begins at an entry of the queue's table in place of those that a list has
+/// (VIRTIO 1.2, 2.7.5 and 2.7.5.3). An error is want of memory, for a chain of more than eight descriptors or where a
+/// translation fails.
 #[inline(always)]
 pub(crate) fn walk<M: GuestMemory, H: HostBlocks>(
     alloc: Global,
@@ -223,18 +223,19 @@ pub(crate) fn walk<M: GuestMemory, H: HostBlocks>(
     host: &H,
     mem: &M,
     head: u16,
+    descriptors: &mut Descriptors,
 ) -> Result<Walked, AllocError>
     requires { M.IsHeld mem.now (H.host host.now) }
-    ensures chain { IfOk result (λ w. found_of w ≡ chain (M.memory mem.now (H.host host.now)) (at_position layout 0) head) }
-    ensures fit { IfOk result DescriptorsFit }
+    ensures chain { IfOk result (λ w. found_of w descriptors.new.items ≡ chain (M.memory mem.now (H.host host.now)) (at_position layout 0) head) }
+    ensures fit { OnOk result (AllEndIn64Bits descriptors.new.items) }
 {
-    let mut descriptors = Descriptors::new(alloc);
+    descriptors.clear();
     let mut table = queue_table(layout);
     let mut whole = table_bytes(alloc, host, mem, table);
     let mut index = head;
     let size = layout.size();
     let mut earlier = 0;
-    loop {
+    'steps: loop {
         match walk_step(alloc, host, mem, size, table, whole, index, earlier)? {
             WalkStep::Stops => return Ok(Walked::Stopped),
             WalkStep::Faulty(fault) => return Ok(Walked::Faulty(fault)),
@@ -246,7 +247,7 @@ pub(crate) fn walk<M: GuestMemory, H: HostBlocks>(
             WalkStep::Ordinary(descriptor) => {
                 descriptors.push(descriptor)?;
                 if !descriptor.has_next() {
-                    return Ok(Walked::Chain(descriptors));
+                    return Ok(Walked::Chain);
                 }
                 index = descriptor.next;
                 earlier += 1;

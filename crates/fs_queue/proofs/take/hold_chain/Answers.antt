@@ -1,40 +1,24 @@
-use Rattle.std.proofs.Common.{◌≤◌, sym, arith, refl}
-use Rattle.vm_iotlb.specs.declared.permissions.Permissions.TheVariants.{Read, Write}
-use Rattle.vm_memory.specs.Memory.{location}
+use Rattle.std.proofs.Common.{◌≤◌, ◌∙◌, sym, arith, refl}
 use Rattle.fs_queue.specs.Taking.{readable, writable, total_len}
-use Rattle.fs_queue.proofs.TakeLemmas.{request_unreachable, room_unreachable, fetched_all, length-direction}
+use Rattle.fs_queue.proofs.TakeLemmas.{cannot_fetch, holds_fetched, room_within}
 use Rattle.fs_queue.proofs.take.hold_chain.Goals as goal
 
-pub returns-then-not-branch-clause-fetched : goal.returns-then-not-branch-clause-fetched
-returns-then-not-branch-clause-fetched g c =
+pub returns-in-None-clause-fetched : goal.returns-in-None-clause-fetched
+returns-in-None-clause-fetched g c =
     let a : total_len (readable c.args.descriptors.now) ≤ c.args.limit = omega arith in
     let b : total_len (writable c.args.descriptors.now) ≤ c.args.limit = omega arith in
-    rw (request_unreachable (g.M.GuestMemory.memory c.args.mem.now (g.H.HostBlocks.host c.args.host.now)) c.args.limit c.args.descriptors.now c.requires.fits a b (sym (rw c.if-not-branch.true at c.in_ok-add_direction.ensures.found)))
+    holds_fetched (g.M.GuestMemory.memory c.args.mem.now (g.H.HostBlocks.host c.args.host.now)) c.args.limit c.args.descriptors.now c.args.head c.fill_held.new.chain c.requires.fits a b
+    (rw c.in-None.is at c.in_ok-fill_held.ensures.ok) (rw c.in-None.is at c.in_ok-fill_held.ensures.windows)
 
-pub returns-then-not-branch-2-clause-fetched : goal.returns-then-not-branch-2-clause-fetched
-returns-then-not-branch-2-clause-fetched g c =
+pub returns-in-None-clause-short : goal.returns-in-None-clause-short
+returns-in-None-clause-short g c =
+    let b : total_len (writable c.args.descriptors.now) ≤ c.args.limit = omega arith in
+    room_within (g.M.GuestMemory.memory c.args.mem.now (g.H.HostBlocks.host c.args.host.now)) c.args.limit c.args.descriptors.now c.args.head c.fill_held.new.chain b
+    (rw c.in-None.is at c.in_ok-fill_held.ensures.ok) (rw c.in-None.is at c.in_ok-fill_held.ensures.windows)
+
+pub returns-in-Some-clause-fetched : goal.returns-in-Some-clause-fetched
+returns-in-Some-clause-fetched g c =
     let a : total_len (readable c.args.descriptors.now) ≤ c.args.limit = omega arith in
     let b : total_len (writable c.args.descriptors.now) ≤ c.args.limit = omega arith in
-    rw (room_unreachable (g.M.GuestMemory.memory c.args.mem.now (g.H.HostBlocks.host c.args.host.now)) c.args.limit c.args.descriptors.now _ c.requires.fits a b (sym (rw c.if-not-branch.false at c.in_ok-add_direction.ensures.found))
-    (sym (rw c.if-not-branch-2.true at c.in_ok-add_direction-2.ensures.found)))
-
-pub invariant_of-held : goal.invariant_of-held
-invariant_of-held g c =
-    let a : total_len (readable c.args.descriptors.now) ≤ c.args.limit = omega arith in
-    let b : total_len (writable c.args.descriptors.now) ≤ c.args.limit = omega arith in
-    let r = length-direction (location (g.M.GuestMemory.memory c.args.mem.now (g.H.HostBlocks.host c.args.host.now)) Read) (readable c.args.descriptors.now) _ (sym (rw c.if-not-branch.false at c.in_ok-add_direction.ensures.found)) in
-    let w = length-direction (location (g.M.GuestMemory.memory c.args.mem.now (g.H.HostBlocks.host c.args.host.now)) Write) (writable c.args.descriptors.now) _ (sym (rw c.if-not-branch-2.false at c.in_ok-add_direction-2.ensures.found)) in
-    record { request_counted = omega arith; room_counted = omega arith; short = omega (arith, b, w) }
-
-pub returns-clause-fetched : goal.returns-clause-fetched
-returns-clause-fetched g c =
-    let a : total_len (readable c.args.descriptors.now) ≤ c.args.limit = omega arith in
-    let b : total_len (writable c.args.descriptors.now) ≤ c.args.limit = omega arith in
-    let room = sym (rw c.if-not-branch-2.false at c.in_ok-add_direction-2.ensures.found) in
-    rw (fetched_all (g.M.GuestMemory.memory c.args.mem.now (g.H.HostBlocks.host c.args.host.now)) c.args.limit c.args.descriptors.now _ _ c.requires.fits a b (sym (rw c.if-not-branch.false at c.in_ok-add_direction.ensures.found)) room) (refl, sym room)
-
-pub returns-clause-lie : goal.returns-clause-lie
-returns-clause-lie g c = (c.in_ok-add_direction.ensures.lie c.if-not-branch.false, c.in_ok-add_direction-2.ensures.lie c.if-not-branch-2.false)
-
-pub returns-clause-windows : goal.returns-clause-windows
-returns-clause-windows g c = (refl, rw c.if-not-branch.false at c.in_ok-add_direction.ensures.found, rw c.if-not-branch-2.false at c.in_ok-add_direction-2.ensures.found)
+    rw (cannot_fetch (g.M.GuestMemory.memory c.args.mem.now (g.H.HostBlocks.host c.args.host.now)) c.args.limit c.args.descriptors.now c.in-Some.fault c.requires.fits a b
+    (sym c.in-Some.is ∙ c.in_ok-fill_held.ensures.fault)) refl

@@ -5,7 +5,6 @@ use Rattle.fs_queue.specs.Taking.{CannotFetch, request_and_room, may_lack_memory
 use Rattle.fs_queue.specs.Windows.{HoldsReturnWindows}
 use Rattle.fs_queue.proofs.OfferLemmas.{offer_next_avail, offer_lacks, offer_found, lacks_memory, found_return_places, refuses}
 use Rattle.fs_queue.proofs.take.take_into.Goals as goal
-use Rattle.fs_queue.proofs.take.take_into.Goals.{in-Faulty, in-Chain}
 
 pub returns-in-Ok-Idle-clause-takes : goal.returns-in-Ok-Idle-clause-takes
 returns-in-Ok-Idle-clause-takes g c =
@@ -35,38 +34,39 @@ pub returns-in-Err-add_return_windows-clause-takes : goal.returns-in-Err-add_ret
 returns-in-Err-add_return_windows-clause-takes g c =
     lacks_memory (g.M.GuestMemory.memory c.args.mem.now (g.H.HostBlocks.host c.args.host.now)) c.args.limit c.args.layout c.args.position c.in-Ok-Head.head (rw c.in-Ok-Head.field-0-is at c.in-Ok-Head.ensures.next_avail)
 
-pub returns-in-Err-held-clause-takes : goal.returns-in-Err-held-clause-takes
-returns-in-Err-held-clause-takes g c =
+pub returns-in-Err-walk-clause-takes : goal.returns-in-Err-walk-clause-takes
+returns-in-Err-walk-clause-takes g c =
     lacks_memory (g.M.GuestMemory.memory c.args.mem.now (g.H.HostBlocks.host c.args.host.now)) c.args.limit c.args.layout c.args.position c.in-Ok-Head.head (rw c.in-Ok-Head.field-0-is at c.in-Ok-Head.ensures.next_avail)
 
-pub returns-in-Stopped-clause-takes : goal.returns-in-Stopped-clause-takes
-returns-in-Stopped-clause-takes g c =
-    offer_found (g.M.GuestMemory.memory c.args.mem.now (g.H.HostBlocks.host c.args.host.now)) c.args.limit c.args.layout c.args.position c.in-Ok-Head.head _ _ StopsQueue (rw c.in-Ok-Head.field-0-is at c.in-Ok-Head.ensures.next_avail)
-    (rw c.in-Ok-None.field-0-is at c.in-Ok-None.ensures.places) (rw c.in-Stopped.is at c.in-Ok.ensures.chain)
+pub returns-in-Err-hold_chain-clause-takes : goal.returns-in-Err-hold_chain-clause-takes
+returns-in-Err-hold_chain-clause-takes g c =
+    lacks_memory (g.M.GuestMemory.memory c.args.mem.now (g.H.HostBlocks.host c.args.host.now)) c.args.limit c.args.layout c.args.position c.in-Ok-Head.head (rw c.in-Ok-Head.field-0-is at c.in-Ok-Head.ensures.next_avail)
 
-pub returns-in-Ok-held-clause-takes : goal.returns-in-Ok-held-clause-takes
-returns-in-Ok-held-clause-takes g c =
+pub returns-in-Ok-Stopped-clause-takes : goal.returns-in-Ok-Stopped-clause-takes
+returns-in-Ok-Stopped-clause-takes g c =
+    offer_found (g.M.GuestMemory.memory c.args.mem.now (g.H.HostBlocks.host c.args.host.now)) c.args.limit c.args.layout c.args.position c.in-Ok-Head.head _ _ StopsQueue (rw c.in-Ok-Head.field-0-is at c.in-Ok-Head.ensures.next_avail)
+    (rw c.in-Ok-None.field-0-is at c.in-Ok-None.ensures.places) (rw c.in-Ok-Stopped.field-0-is at c.in-Ok-Stopped.ensures.chain)
+
+pub returns-in-Ok-Faulty-clause-takes : goal.returns-in-Ok-Faulty-clause-takes
+returns-in-Ok-Faulty-clause-takes g c =
     let m = g.M.GuestMemory.memory c.args.mem.now (g.H.HostBlocks.host c.args.host.now) in
     let avail = rw c.in-Ok-Head.field-0-is at c.in-Ok-Head.ensures.next_avail in
     let places = rw c.in-Ok-None.field-0-is at c.in-Ok-None.ensures.places in
     let both = found_return_places _ _ _ _ places in
-    let kept : HoldsReturnWindows m (at_position c.args.layout c.args.position) c.add_return_windows.new.windows = record { used = both.0; flags = both.1 } in
-    elim c.match-walked.branch [
-      | in-Faulty w ↦
-          rw w.taken-is (
-            CannotFetch w.in-Faulty.fault,
-            offer_found m c.args.limit c.args.layout c.args.position c.in-Ok-Head.head _ _ (HasFault w.in-Faulty.fault) avail places (rw w.in-Faulty.is at c.in-Ok.ensures.chain),
-            record { return_windows = kept; chain = refl },
-          )
-      | in-Chain w ↦
-          let held = sym w.held-is ∙ c.in-Ok-held.is in
-          rw w.taken-is (
-            request_and_room m c.args.limit w.in-Chain.descriptors.items,
-            offer_found m c.args.limit c.args.layout c.args.position c.in-Ok-Head.head _ _ (IsChain w.in-Chain.descriptors.items) avail places (rw w.in-Chain.is at c.in-Ok.ensures.chain),
-            record { return_windows = kept; chain = rw held at w.hold_walked-held.ensures.fetched },
-          )
-    ]
+    let kept : HoldsReturnWindows m (at_position c.args.layout c.args.position) c.add_return_windows.new.windows = record { used = both.0; flags = both.1 } in (
+      CannotFetch c.in-Ok-Faulty.fault,
+      offer_found m c.args.limit c.args.layout c.args.position c.in-Ok-Head.head _ _ (HasFault c.in-Ok-Faulty.fault) avail places (rw c.in-Ok-Faulty.field-0-is at c.in-Ok-Faulty.ensures.chain),
+      record { return_windows = kept; chain = refl },
+    )
 
-pub returns-in_default-clause-takes : goal.returns-in_default-clause-takes
-returns-in_default-clause-takes g c =
-    lacks_memory (g.M.GuestMemory.memory c.args.mem.now (g.H.HostBlocks.host c.args.host.now)) c.args.limit c.args.layout c.args.position c.in-Ok-Head.head (rw c.in-Ok-Head.field-0-is at c.in-Ok-Head.ensures.next_avail)
+pub returns-in-Ok-clause-takes : goal.returns-in-Ok-clause-takes
+returns-in-Ok-clause-takes g c =
+    let m = g.M.GuestMemory.memory c.args.mem.now (g.H.HostBlocks.host c.args.host.now) in
+    let avail = rw c.in-Ok-Head.field-0-is at c.in-Ok-Head.ensures.next_avail in
+    let places = rw c.in-Ok-None.field-0-is at c.in-Ok-None.ensures.places in
+    let both = found_return_places _ _ _ _ places in
+    let kept : HoldsReturnWindows m (at_position c.args.layout c.args.position) c.add_return_windows.new.windows = record { used = both.0; flags = both.1 } in (
+      request_and_room m c.args.limit c.walk.new.descriptors.items,
+      offer_found m c.args.limit c.args.layout c.args.position c.in-Ok-Head.head _ _ (IsChain c.walk.new.descriptors.items) avail places (rw c.in-Ok-Chain.field-0-is at c.in-Ok-Chain.ensures.chain),
+      record { return_windows = kept; chain = rw c.deref.ensures at c.in-Ok.ensures.fetched },
+    )

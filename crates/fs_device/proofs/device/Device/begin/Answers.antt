@@ -5,12 +5,12 @@ use Rattle.fs_device.proofs.StepLemmas.{Fixed, idles, refuses, lacks, is_pending
 use Rattle.fs_device.proofs.device.Device.begin.Goals as goal
 use Rattle.fs_device.proofs.device.Device.begin.Goals.{in-Ok, in-Err-of}
 
-pub returns-in-Ok-None-clause-begins : goal.returns-in-Ok-None-clause-begins
-returns-in-Ok-None-clause-begins g c =
+pub returns-in-Ok-false-clause-begins : goal.returns-in-Ok-false-clause-begins
+returns-in-Ok-false-clause-begins g c =
     let there = slice_get_read c.self.inside.queues.items (vec_len c.self.inside.queues) c.args.queue _ c.self.inside.queues.ok.0 (omega arith) c.index_mut.ensures.value in
     let fixed : Fixed = record { limit = c.self.inside.limit; page_size = c.self.inside.server.page_size } in
     rw (← c.self.view_is) (idles g.F.FileSystemBase.may fixed _ c.self.inside.queues.items c.args.queue c.index_mut.result.now c.take.new.self (c.self.inside.server.options.0, c.self.inside.server.fs) there
-    (rw c.in-Ok-None.field-0-is at c.in-Ok-None.ensures.takes) c.in-Ok-None.ensures.queue)
+    (rw c.in-Ok-false.field-0-test at c.in-Ok-false.ensures.takes) (rw c.in-Ok-false.field-0-test at c.in-Ok-false.ensures.queue))
 
 pub returns-in-Err-clause-begins : goal.returns-in-Err-clause-begins
 returns-in-Err-clause-begins g c =
@@ -25,14 +25,14 @@ returns-clause-begins g c =
     let host : m.host ≡ (g.H.HostBlocks.host c.args.host.now) = ap (λ (x : Memory). x.host) (g.met.M.GuestMemory.over c.args.mem.now (g.H.HostBlocks.host c.args.host.now) (g.H.HostBlocks.host c.args.host.now)) in
     let there = slice_get_read c.self.inside.queues.items (vec_len c.self.inside.queues) c.args.queue _ c.self.inside.queues.ok.0 (omega arith) c.index_mut.ensures.value in
     let fixed : Fixed = record { limit = c.self.inside.limit; page_size = c.self.inside.server.page_size } in
-    let takes = rw c.in-Ok-Some.field-0-is at c.in-Ok-Some.ensures.takes in
-    let same = unchanged fixed m c.self.inside.queues.items c.args.queue c.index_mut.result.now c.take.new.self (c.self.inside.server.options.0, c.self.inside.server.fs) there c.in-Ok-Some.ensures.queue in
+    let takes = rw c.in-Ok-true.field-0-test at c.in-Ok-true.ensures.takes in
+    let same = unchanged fixed m c.self.inside.queues.items c.args.queue c.index_mut.result.now c.take.new.self (c.self.inside.server.options.0, c.self.inside.server.fs) there (rw c.in-Ok-true.field-0-test at c.in-Ok-true.ensures.queue) in
     elim c.match-of.branch [
       | in-Ok w ↦ rw (← c.self.view_is, w.result-is) (
         w.in-Ok.ensures.queue,
-        is_pending fixed m c.self.inside.queues.items c.index_mut.result.now (c.self.inside.server.options.0, c.self.inside.server.fs) c.in-Ok-Some.taken w.in-Ok.pending (rw w.in-Ok.ensures.queue there) takes w.in-Ok.ensures.taken
+        is_pending fixed m c.self.inside.queues.items c.index_mut.result.now (c.self.inside.server.options.0, c.self.inside.server.fs) c.take.new.taken w.in-Ok.pending (rw w.in-Ok.ensures.queue there) takes w.in-Ok.ensures.taken
             (λ fetched held. w.in-Ok.ensures.request m fetched host held),
         same,
       )
-      | in-Err-of w ↦ rw (← c.self.view_is, w.result-is) (lacks g.F.FileSystemBase.may _ _ c.args.queue c.index_mut.result.now c.in-Ok-Some.taken.head takes.0 there takes.1 same)
+      | in-Err-of w ↦ rw (← c.self.view_is, w.result-is) (lacks g.F.FileSystemBase.may _ _ c.args.queue c.index_mut.result.now c.take.new.taken.head takes.0 there takes.1 same)
     ]

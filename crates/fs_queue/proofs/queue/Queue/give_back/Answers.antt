@@ -3,12 +3,12 @@ use Rattle.fs_queue.proofs.queue.Queue.give_back.Goals as goal
 
 pub returns-clause-stored : goal.returns-clause-stored
 returns-clause-stored g c m fetched host taken =
-    returned_is m _ _ _ c.args.self.now fetched c.args.taken c.args.reply.now _ _ host taken c.write_reply.ensures.stored
+    returned_is m _ _ _ c.args.self.now fetched c.args.taken.now c.args.reply.now _ _ host taken c.write_reply.ensures.stored
     c.deref.ensures (rw (← c.self.view_is) (rw c.from.ensures at c.to_bytes.ensures)) c.write_windows.ensures.stored
 
 pub returns-clause-told : goal.returns-clause-told
 returns-clause-told g c m fetched host taken =
-    told_is m (g.H.HostBlocks.host c.write_windows.new.self) c.args.self.now fetched c.args.taken _ _ _
+    told_is m (g.H.HostBlocks.host c.write_windows.new.self) c.args.self.now fetched c.args.taken.now _ _ _
     (kept_tables m _ _ _ _ _ host c.write_reply.ensures.stored c.write_windows.ensures.stored)
     taken c.deref-2.ensures c.read_windows.ensures c.le16_number.ensures
 
