@@ -5,10 +5,10 @@ use call_log::files::PATTERN;
 use call_log::{CallLog, LoggedCall};
 use fs_device::{Device, DeviceError, Exchange, Fault};
 use fs_queue::{Queue, QueueLayout};
-use fuse_wire::InitInCompat;
-use guest_driver::requests::{forget, header, init, lookup, read};
+use fuse_wire::{InitInCompat, WriteIn};
+use guest_driver::requests::{forget, header, init, lookup, read, with_record};
 use guest_driver::{DriverDescriptor, Guest, Ring};
-use std::alloc::Global;
+use std::alloc::{AllocError, Global};
 use std::fmt::Debug;
 use std::process::Abort;
 use virtiofsd_fuse::Server;
@@ -61,6 +61,10 @@ pub enum Request<'a> {
         offset: u64,
         size: u32,
     },
+    /// So many bytes of 7, at the start of node 2's file 0; unique number 1.
+    Write {
+        size: u32,
+    },
     /// Unique number 1, with readahead 0x20000 and flag 0.
     Init {
         major: u32,
@@ -73,6 +77,18 @@ pub const ENOSYS_REPLY: [u8; 16] = [16, 0, 0, 0, 0xda, 0xff, 0xff, 0xff, 1, 0, 0
 
 /// A request of an opcode that no request has.
 pub const UNKNOWN: Request<'static> = Request::Unknown { len: 40 };
+
+// WRITE of so many bytes of 7.
+fn write(alloc: Global, size: u32) -> Result<Vec<u8>, AllocError> {
+    let header = header(size.saturating_add(80), 16, 1, 2);
+    let record = WriteIn {
+        size,
+        ..WriteIn::default()
+    };
+    let mut request = with_record(alloc, &header, &record)?;
+    request.resize(request.len().saturating_add(size as usize), 7)?;
+    Ok(request)
+}
 
 impl Request<'_> {
     /// The bytes of the request.
@@ -87,6 +103,7 @@ impl Request<'_> {
                 offset,
                 size,
             } => read(alloc, unique, node, 0, offset, size),
+            Request::Write { size } => write(alloc, size),
             Request::Init { major, minor } => {
                 let record = InitInCompat {
                     major,

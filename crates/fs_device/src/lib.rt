@@ -17,6 +17,7 @@ mod refusal;
 mod run;
 mod saved;
 mod serve;
+mod serving;
 
 pub use command::{Answer, Command};
 pub use device::{Device, LEAST_LIMIT};
@@ -29,3 +30,4 @@ pub use migrating::{Migrated, Stayed};
 pub use pending_request::PendingRequest;
 pub use queues::QueueRun;
 pub use refusal::Refusal;
+pub use serving::Returned;

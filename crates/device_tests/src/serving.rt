@@ -1,0 +1,102 @@
+//! Steps told by lengths alone, each beside the same step that hands out its bytes.
+
+use crate::stand::{REQUEST_AT, RING, ROOM_AT, Request, Stand, UNKNOWN, expect_same};
+use call_log::files::{HELLO, PATTERN};
+use fs_device::{DeviceError, Returned};
+use std::process::Abort;
+
+// Up to where the chains of these tests stand in memory, in bytes.
+const ALL: usize = 0x4000;
+
+const READ: Request<'static> = Request::Read {
+    unique: 9,
+    node: PATTERN,
+    offset: 7,
+    size: 256,
+};
+
+// READ of `hello` from its second byte on: the file answers less than is asked.
+const READ_ELLO: Request<'static> = Request::Read {
+    unique: 7,
+    node: HELLO,
+    offset: 1,
+    size: 64,
+};
+
+const WRITE: Request<'static> = Request::Write { size: 64 };
+
+const WRITE_NOTHING: Request<'static> = Request::Write { size: 0 };
+
+const FORGET: Request<'static> = Request::Forget { node: 5, count: 3 };
+
+// A request, the parts that it stands in, and those of its room: a request that no opcode has, FORGET, READ into one
+// part, into several, into a room over itself, its data over its header, its header over its data, over the used ring
+// and over its own request; of a file that answers less; a room that is too short, and one in no region; WRITE from
+// one part, from two, from a part of its own, of no data, and cut short by a byte.
+const ROWS: &[(Request<'static>, &[(u64, u32)], &[(u64, u32)])] = &[
+    (UNKNOWN, &[(REQUEST_AT, 40)], &[(ROOM_AT, 16)]),
+    (FORGET, &[(REQUEST_AT, 48)], &[]),
+    (READ, &[(REQUEST_AT, 80)], &[(ROOM_AT, 272)]),
+    (READ, &[(REQUEST_AT, 80)], &[(ROOM_AT, 16), (0x3000, 256)]),
+    (READ, &[(REQUEST_AT, 33), (0x1100, 47)], &[(ROOM_AT, 272)]),
+    (READ, &[(REQUEST_AT, 80)], &[(ROOM_AT, 3), (0x3000, 269)]),
+    (READ, &[(REQUEST_AT, 80)], &[(ROOM_AT, 100), (0x2032, 172)]),
+    (READ, &[(REQUEST_AT, 80)], &[(ROOM_AT, 16), (0x2008, 256)]),
+    (READ, &[(REQUEST_AT, 80)], &[(0x2080, 16), (ROOM_AT, 256)]),
+    (READ, &[(REQUEST_AT, 80)], &[(RING.used, 272)]),
+    (READ, &[(REQUEST_AT, 80)], &[(REQUEST_AT, 272)]),
+    (READ_ELLO, &[(REQUEST_AT, 80)], &[(ROOM_AT, 80)]),
+    (READ, &[(REQUEST_AT, 80)], &[(ROOM_AT, 15)]),
+    (READ, &[(REQUEST_AT, 80)], &[(0x20000, 272)]),
+    (WRITE, &[(REQUEST_AT, 144)], &[(ROOM_AT, 24)]),
+    (WRITE, &[(REQUEST_AT, 100), (0x3000, 44)], &[(ROOM_AT, 24)]),
+    (WRITE, &[(REQUEST_AT, 80), (0x3000, 64)], &[(ROOM_AT, 24)]),
+    (WRITE_NOTHING, &[(REQUEST_AT, 80)], &[(ROOM_AT, 24)]),
+    (WRITE_NOTHING, &[(REQUEST_AT, 79)], &[(ROOM_AT, 24)]),
+];
+
+// A step of a queue that is told by lengths alone.
+fn serve(stand: &mut Stand, queue: usize) -> Result<Option<Returned>, DeviceError> {
+    stand.device.serve_one(stand.alloc, &mut stand.guest.host, &stand.guest.mem, queue)
+}
+
+// Both stands have the same bytes and marks, and the same calls were made.
+fn expect_alike(rt: &impl Abort, one: &Stand, other: &Stand) {
+    let bytes = one.guest.read(one.alloc, 0, ALL).expect(rt, "a place");
+    other.expect_bytes(rt, 0, &bytes);
+    let marked = one.guest.marked(one.alloc).expect(rt, "memory");
+    other.expect_marked(rt, &marked);
+    other.expect_calls(rt, one.device.server().fs().calls());
+}
+
+// Steps both stands, one of which hands out bytes.
+fn expect_told(rt: &impl Abort, one: &mut Stand, other: &mut Stand) {
+    let (exchange, notify) = one.exchange(rt);
+    let told = Returned {
+        head: exchange.head,
+        request_len: exchange.request.len(),
+        reply_len: exchange.reply.len(),
+        fault: exchange.fault,
+        notify,
+    };
+    expect_same(rt, serve(other, 0), Ok(Some(told)));
+}
+
+#[test]
+fn lengths_tell_the_same_step(rt: HostRuntime) {
+    for (request, readable, writable) in ROWS {
+        let mut one = Stand::new(&rt, rt.alloc());
+        let mut other = Stand::new(&rt, rt.alloc());
+        one.ask_cut(&rt, *request, readable, writable);
+        other.ask_cut(&rt, *request, readable, writable);
+        expect_told(&rt, &mut one, &mut other);
+        expect_alike(&rt, &one, &other);
+    }
+}
+
+#[test]
+fn idle_or_missing_queue_serves_nothing(rt: HostRuntime) {
+    let mut stand = Stand::new(&rt, rt.alloc());
+    expect_same(&rt, serve(&mut stand, 0), Ok(None));
+    expect_same(&rt, serve(&mut stand, 1), Err(DeviceError::NoSuchQueue));
+}

@@ -1,0 +1,73 @@
+//! A chain is served, and what was exchanged is told by lengths alone.
+
+ghost use Rattle.std.specs.Prelude.{◌≡◌};
+ghost use Rattle.vm_memory_core.specs.Host.{shape};
+
+use crate::device::Device;
+use crate::error::DeviceError;
+use crate::exchange::{Exchange, Fault};
+use fuse_fs::FileSystem;
+use std::alloc::Global;
+use vm_memory::GuestMemory;
+use vm_memory_core::HostBlocks;
+
+/// What is told of a chain that was taken and returned (VIRTIO 1.2, 2.7): the index of its head in the descriptor table,
+/// the length of its request in bytes (0 of a faulty chain), the used length, which is that of the reply in bytes, why
+/// there is no reply, and whether the driver wants to be told (2.7.7).
+#[derive(Clone, Copy, Debug, PartialEq, Eq)]
+pub struct Returned {
+    pub head: u16,
+    pub request_len: usize,
+    pub reply_len: usize,
+    pub fault: Option<Fault>,
+    pub notify: bool,
+}
+
+ghost use Rattle.fs_device.specs.DeviceView.{exchange_of, outcome_of, state_of};
+ghost use Rattle.fs_device.specs.Returned.{StepTold, told, told_exchange};
+
+// What is told of an exchange.
+fn tell_exchange(exchange: &Exchange, notify: bool) -> Returned
+    ensures { result ≡ told_exchange (exchange_of exchange.now) notify }
+{
+    Returned {
+        head: exchange.head,
+        request_len: exchange.request.len(),
+        reply_len: exchange.reply.len(),
+        fault: exchange.fault,
+        notify,
+    }
+}
+
+// What is told of the end of a step.
+fn tell(
+    outcome: Result<Option<(Exchange, bool)>, DeviceError>,
+) -> Result<Option<Returned>, DeviceError>
+    ensures { result ≡ told (outcome_of outcome) }
+{
+    match outcome {
+        Ok(Some((exchange, notify))) => Ok(Some(tell_exchange(&exchange, notify))),
+        Ok(None) => Ok(None),
+        Err(error) => Err(error),
+    }
+}
+
+impl<F: FileSystem> Device<F> {
+    /// Serves the next chain of a queue, by its number from 0, as `process_one` does, and tells what was exchanged
+    /// without its bytes; None where no chain waits. The refusals are those of `process_one`.
+    pub fn serve_one<M: GuestMemory, H: HostBlocks>(
+        &mut self,
+        alloc: Global,
+        host: &mut H,
+        mem: &M,
+        queue: usize,
+    ) -> Result<Option<Returned>, DeviceError>
+        requires { M.IsHeld mem.now (H.host host.old) }
+        ensures step { StepTold F.may (state_of (M.memory mem.now (H.host host.old)) self.old) queue result
+            (state_of (M.memory mem.now (H.host host.new)) self.new) }
+        ensures shape { shape (H.host host.new) ≡ shape (H.host host.old) }
+        ensures loan { H.IsSameLoan host.old host.new }
+    {
+        tell(self.process_one(alloc, host, mem, queue))
+    }
+}
