@@ -1,7 +1,8 @@
 //! Requests about nodes, and what comes of them.
 
 use crate::rows::{
-    ASKER, Change, Digits, EMPTY, ENTRY_OUT, End, Row, UNIQUE, expect_entries, expect_rows,
+    ASKER, Change, Digits, EMPTY, ENTRY_OUT, End, NO_NODE_OUT, Row, UNIQUE, expect_entries,
+    expect_given_back, expect_rows,
 };
 use crate::toy::Told;
 use virtiofsd_fuse::Error;
@@ -145,6 +146,27 @@ fn short_rooms_for_nodes_are_faults(rt: HostRuntime) {
 #[test]
 fn looked_up_nodes_without_room_are_given_back(rt: HostRuntime) {
     expect_entries(&rt, rt.alloc(), NODES);
+}
+
+// LOOKUP that finds node 2, or no node, which is node 0, in each room.
+#[test]
+fn looked_up_nodes_are_given_back_in_each_short_room(rt: HostRuntime) {
+    const FOUND: Row = Row {
+        request: &["2a000000 01000000", ASKER, "6100"],
+        told: Told::Good,
+        room: 144,
+        calls: &["lookup 10 11 12 5 a"],
+        end: End::Reply(&["90000000 00000000", UNIQUE, ENTRY_OUT]),
+    };
+    const NO_NODE: Row = Row {
+        told: Told::NoNode,
+        end: End::Reply(&["90000000 00000000", UNIQUE, NO_NODE_OUT]),
+        ..FOUND
+    };
+    for row in [FOUND, NO_NODE] {
+        expect_given_back(&rt, rt.alloc(), &row);
+        expect_entries(&rt, rt.alloc(), &[row]);
+    }
 }
 
 #[test]

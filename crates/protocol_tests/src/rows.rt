@@ -62,6 +62,12 @@ pub const ENTRY_OUT: &str =
     0200000000000000 0500000000000000 0600000000000000 0700000000000000 0800000000000000 0900000000000000 \
     0a000000 0b000000 0c000000 a4810000 0d000000 0e000000 0f000000 10000000 11000000 12000000";
 
+/// The same of no node, which is node 0.
+pub const NO_NODE_OUT: &str =
+    "0000000000000000 0300000000000000 1400000000000000 1600000000000000 15000000 17000000 \
+    0200000000000000 0500000000000000 0600000000000000 0700000000000000 0800000000000000 0900000000000000 \
+    0a000000 0b000000 0c000000 a4810000 0d000000 0e000000 0f000000 10000000 11000000 12000000";
+
 /// The reply that has no bytes behind its header.
 pub const EMPTY: Digits = &["10000000 00000000", UNIQUE];
 
@@ -76,15 +82,18 @@ const CUTS: &[(usize, usize)] = &[(0x10000, 0x10000), (1, 7), (7, 39), (39, 1)];
 
 const NO_CALLS: &[&str] = &[];
 
-// The entry that file systems of tests answer is given back.
+// The entries that file systems of tests answer are given back.
 const ENTRY_GIVEN_BACK: &[&str] = &["forget 10 11 12 2 1"];
 
+const NO_NODE_GIVEN_BACK: &[&str] = &["forget 10 11 12 0 1"];
+
 impl Row {
-    // Whether the reply begins with an entry.
-    fn tells_entry(&self) -> bool {
+    // The call that gives the entry back with which the reply begins, if it does.
+    fn giving_back(&self) -> &'static [&'static str] {
         match self.end {
-            End::Reply(digits) => digits.get(2) == Some(&ENTRY_OUT),
-            _ => false,
+            End::Reply(digits) if digits.get(2) == Some(&ENTRY_OUT) => ENTRY_GIVEN_BACK,
+            End::Reply(digits) if digits.get(2) == Some(&NO_NODE_OUT) => NO_NODE_GIVEN_BACK,
+            _ => NO_CALLS,
         }
     }
 }
@@ -101,7 +110,7 @@ impl Change {
     // The calls that come after those of the row.
     fn further_calls(self, row: &Row) -> &'static [&'static str] {
         match self {
-            Change::ShortRoom if row.tells_entry() => ENTRY_GIVEN_BACK,
+            Change::ShortRoom => row.giving_back(),
             _ => NO_CALLS,
         }
     }
@@ -256,11 +265,22 @@ pub fn expect_rows(rt: &impl Abort, alloc: Global, rows: &[Row], change: Change)
 pub fn expect_entries(rt: &impl Abort, alloc: Global, rows: &[Row]) {
     for row in rows {
         for cut in 1..row.room {
-            if row.tells_entry() {
+            if !row.giving_back().is_empty() {
                 expect_served(rt, alloc, &[*row], Change::Same, &(39, cut));
                 expect_served(rt, alloc, &[*row], Change::ShortRoom, &(39, cut));
             }
         }
+    }
+}
+
+/// In each room that is too short for its reply a row's entry is given back.
+pub fn expect_given_back(rt: &impl Abort, alloc: Global, row: &Row) {
+    for shorter in 0..row.room {
+        let row = Row {
+            room: shorter + 1,
+            ..*row
+        };
+        expect_served(rt, alloc, &[row], Change::ShortRoom, &(39, 0x10000));
     }
 }
 

@@ -113,6 +113,8 @@ pub enum Told {
     /// Another good answer: no handle, a count in place of bytes, each option that there is; but no name is found, and
     /// a file that was read then answers EIO.
     Other,
+    /// A good answer, whose entry is that of no node.
+    NoNode,
     /// EIO.
     Failing,
 }
@@ -122,7 +124,7 @@ impl Told {
     pub fn answer<T: Drop>(self, value: T) -> Result<T, Errno> {
         match self {
             Told::Failing => Err(Errno::EIO),
-            Told::Default | Told::Good | Told::Other => Ok(value),
+            Told::Default | Told::Good | Told::Other | Told::NoNode => Ok(value),
         }
     }
 
@@ -161,10 +163,13 @@ impl Told {
         })
     }
 
-    /// The entry of node 2.
+    /// The entry of node 2, or of no node, which is 0.
     pub fn entry(self) -> Result<Entry<u64>, Errno> {
         self.answer(Entry {
-            inode: 2,
+            inode: match self {
+                Told::NoNode => 0,
+                _ => 2,
+            },
             generation: 3,
             attr: attr(),
             attr_timeout: timeout(22, 23),
