@@ -1,7 +1,8 @@
 -- The bytes of a driver's requests, and of good replies to them (linux/fuse.h).
-use Rattle.std.specs.Prelude.{ℕ, ◌+◌, pos, List, [], ◌∷◌, ◌++◌, length}
+use Rattle.std.specs.Prelude.{◌≡◌, ◌≢◌, ◌<◌, ◌<ℤ◌, ◌⊎◌, ℕ, ◌+◌, ℤ, pos, List, [], ◌∷◌, ◌++◌, length, take}
 use Rattle.vm_values.specs.Fields.{w, d, q, spelled}
 use Rattle.fuse_wire.specs.Records.{out_header}
+use Rattle.fuse_wire.specs.declared.replies.OutHeader.{OutHeader}
 
 -- a request's header of 40 bytes, from user, group and process 0 (struct fuse_in_header: len, opcode, unique, nodeid, uid, gid,
 -- pid, total_extlen, padding)
@@ -18,6 +19,21 @@ abbrev pub read_bytes : (unique node handle offset size : ℕ) → List ℕ
 read_bytes unique node handle offset size =
     header_bytes 80 15 unique node ++ spelled (q handle ∷ q offset ∷ d size ∷ d 0 ∷ q 0 ∷ d 0 ∷ d 0 ∷ [])
 
--- a good reply's header of 16 bytes (struct fuse_out_header); `len` is the length of the whole reply
+-- a reply's header of 16 bytes (struct fuse_out_header); `len` is the length of the whole reply
+abbrev pub reply_header : (len : ℕ) → (error : ℤ) → (unique : ℕ) → List ℕ
+reply_header len error unique = spelled (out_header (record { len = len; error = error; unique = unique }))
+
+-- that of a good reply
 abbrev pub good_header : (len unique : ℕ) → List ℕ
-good_header len unique = spelled (out_header (record { len = len; error = pos 0; unique = unique }))
+good_header len unique = reply_header len (pos 0) unique
+
+-- the header of these bytes is no reply's to this request: it tells another length or another request, an error above 0, or an error
+-- with bytes behind it
+abbrev pub IsOtherHeader : OutHeader → (reply : List ℕ) → (unique : ℕ) → Type 0
+IsOtherHeader header reply unique =
+    (header.len ≢ length reply) ⊎ (header.unique ≢ unique) ⊎ (pos 0 <ℤ header.error) ⊎ ((header.error ≢ pos 0) × (16 < length reply))
+
+-- bytes that are no reply to this request: they have no header, or it is no such reply's
+abbrev pub IsNoReply : (reply : List ℕ) → (unique : ℕ) → Type 0
+IsNoReply reply unique =
+    (length reply < 16) ⊎ ((header : OutHeader) × (take 16 reply ≡ reply_header header.len header.error header.unique) × IsOtherHeader header reply unique)

@@ -1,7 +1,7 @@
 //! What the flat bytes of FUSE replies say.
 
-ghost use Rattle.std.specs.Prelude.{◌≡◌, ◌+◌, ◌++◌, length, IfOk, IfSome};
-ghost use Rattle.guest_driver.specs.Requests.{good_header};
+ghost use Rattle.std.specs.Prelude.{◌≡◌, ◌+◌, ◌++◌, ◌<ℤ◌, pos, length, IfOk, IfErr, IfSome, IfNone};
+ghost use Rattle.guest_driver.specs.Requests.{IsNoReply, good_header, reply_header};
 
 use fuse_wire::OutHeader;
 use vm_values::ByteValued;
@@ -11,9 +11,12 @@ pub const OUT_HEADER_LEN: usize = 16;
 
 /// What follows the header of the reply to this request, or the errno that the header tells (`error` of `struct
 /// fuse_out_header`, 16 bytes, little-endian), made negative as it stands there; nothing where the bytes are no reply
-/// to it: they are not as many as the header says, it names another request, or an error is followed by bytes.
+/// to it: they have no header, they are not as many as it says, it names another request, it tells an error above 0,
+/// or an error is followed by bytes.
 pub fn body(reply: &[u8], unique: u64) -> Option<Result<&[u8], i32>>
-    ensures { IfSome result (λ told. IfOk told (λ body. reply.now ≡ good_header (16 + length body.now) unique ++ body.now)) }
+    ensures good { IfSome result (λ told. IfOk told (λ body. reply.now ≡ good_header (16 + length body.now) unique ++ body.now)) }
+    ensures failed { IfSome result (λ told. IfErr told (λ error. (error <ℤ pos 0) × (reply.now ≡ reply_header 16 error unique))) }
+    ensures none { IfNone result (IsNoReply reply.now unique) }
 {
     let (header, body) = reply.split_at_checked(OUT_HEADER_LEN)?;
     let header = OutHeader::from_slice(header)?;
