@@ -1,5 +1,5 @@
 -- What a monitor and its guest do with one request after another.
-use Rattle.std.specs.Prelude.{◌≡◌, ℕ, zero, suc, ◌+◌, ◌%◌, ◌^◌, Bool, List, [], ◌∷◌, ◌++◌, length, Option, Some}
+use Rattle.std.specs.Prelude.{◌≡◌, ◌<◌, ℕ, zero, suc, ◌+◌, ◌%◌, ◌^◌, Bool, List, [], ◌∷◌, ◌++◌, length, Option, Some}
 use Rattle.vm_values.specs.Fields.{AllFit, spelled}
 use Rattle.vm_memory_core.specs.Host.{new_block}
 use Rattle.vm_memory.specs.Layout.{Region}
@@ -59,12 +59,13 @@ GetsPiece s chain unique request piece after = IsAsked s (chain % 2 ^ 16) reques
 abbrev pub ReadsPiece : State Directory → (chain unique node offset : ℕ) → (piece : List ℕ) → State Directory → Type 0
 ReadsPiece s chain unique node offset piece after = GetsPiece s chain unique (read_bytes unique node 0 offset 0x1000) piece after
 
--- so many READs of a node, from chain `first` and from unique number 2 on, each from where the pieces before it end; together they are the contents
+-- so many READs of a node, from chain `first` and from unique number 2 on, each from where the pieces before it end and of at least a byte;
+-- together they are the contents
 abbrev pub GetsPieces : State Directory → (first node count : ℕ) → (contents : List ℕ) → State Directory → Type 0
 GetsPieces s first node zero contents after = (contents ≡ []) × (after ≡ s)
 GetsPieces s first node (suc count) contents after =
     (before : State Directory) × (front piece : List ℕ) × GetsPieces s first node count front before
-    × ReadsPiece before (first + count) (2 + count) node (length front) piece after × (contents ≡ front ++ piece)
+    × ReadsPiece before (first + count) (2 + count) node (length front) piece after × (0 < length piece) × (contents ≡ front ++ piece)
 
 -- these bytes are an entry of a node (struct fuse_entry_out)
 unfoldable pub IsEntry : List ℕ → (node : ℕ) → Type 0

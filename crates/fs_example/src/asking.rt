@@ -11,7 +11,7 @@ use crate::driver::{AVAIL, DESC, QUEUE_SIZE, ROOM_LEN, USED, offer, reply};
 use crate::monitor::{Monitor, MonitorError};
 use crate::step::step_directory;
 use crate::table::{File, FileTable};
-use fs_device::Device;
+use fs_device::{Device, LEAST_LIMIT};
 use fs_queue::{Queue, QueueLayout};
 use fuse_read_only::ReadOnly;
 use fuse_wire::EntryOut;
@@ -22,10 +22,6 @@ use virtiofsd_fuse::Server;
 use vm_memory::GuestMemoryMmap;
 use vm_memory_core::{GuestAddress, HostMemory};
 use vm_values::ByteValued;
-
-// The least limit that a device may have: so many bytes has the longest request (a WRITE of 1 MiB, with its headers) or
-// reply.
-const LEAST_LIMIT: u32 = 0x101000;
 
 // The size of a guest's page.
 const PAGE_SIZE: u32 = 4096;
@@ -83,8 +79,8 @@ impl<'a> Monitor<'a> {
         }
     }
 
-    /// Has the guest look a name up, and read its file piece by piece until there is no more. A name that no file has is
-    /// `Failed(-2)` (ENOENT).
+    /// Has the guest look a name up, and read its file piece by piece until there is no more: each READ but the last gets
+    /// at least a byte. A name that no file has is `Failed(-2)` (ENOENT).
     pub fn read_file(&mut self, name: &[u8]) -> Result<Vec<u8>, MonitorError>
         ensures { IfOk result (λ contents. ReadsFile (machine_of_monitor self.old) (chains_of self.old) name.now contents.items (machine_of_monitor self.new)) }
     {

@@ -5,16 +5,13 @@ ghost use Rattle.std.specs.Prelude.{◌≡◌, ◌≤◌, length, IfOk};
 use crate::calls::FirstCalls;
 use crate::files::LoggingFiles;
 use crate::halt::Halt;
-use fs_device::{Answer, Command, Device, Machine, Migrated};
+use fs_device::{Answer, Command, Device, LEAST_LIMIT, Machine, Migrated};
 use fs_queue::Queue;
 use std::alloc::{AllocError, Global};
 use std::cell::Cell;
 use virtiofsd_fuse::Server;
 use vm_memory::{GuestMemoryMmap, IommuMemory, TableIommu};
 use vm_memory_core::HostMemory;
-
-// The longest request, and the longest reply.
-const LIMIT: u32 = 0x101000;
 
 // The I/O addresses below this one have their pages marked.
 const IO_BYTES: usize = 0x10000;
@@ -56,7 +53,7 @@ impl<'a> GuestMachine<'a> {
         let layout = GuestMemoryMmap::new(alloc);
         let mem = IommuMemory::new(alloc, layout, iommu, false, io_bitmap);
         let server = Server::new(LoggingFiles::new(log), PAGE_BYTES);
-        let device = Device::new(server, queues, LIMIT);
+        let device = Device::new(server, queues, LEAST_LIMIT);
         Ok(GuestMachine {
             alloc,
             log,

@@ -1,4 +1,4 @@
-use Rattle.std.proofs.Common.{◌≡◌, ◌++◌, ◌+◌, ◌%◌, ◌^◌, suc, List, [], ℕ, length, Some, refl, ◌∙◌, arith}
+use Rattle.std.proofs.Common.{◌≡◌, ◌<◌, ◌++◌, ◌+◌, ◌%◌, ◌^◌, suc, List, [], ℕ, length, Some, refl, ◌∙◌, arith}
 use Rattle.std.proofs.lemmas.Grind.{common_steps}
 use Rattle.guest_driver.specs.Requests.{lookup_bytes, read_bytes}
 use Rattle.virtiofsd_fuse.specs.Grammar.{reply_bytes}
@@ -37,6 +37,7 @@ loop-unique-preserved c =
     let contents = c.loop-unique.contents.items in
     let reads : c.deref-in-loop-unique.result.now ≡ read_bytes c.loop-unique.unique node 0 (length contents) 0x1000 = grind (arith, common_steps) in
     let told : c.in_ok-reply.reply.items ≡ reply_bytes c.loop-unique.unique c.in_ok-piece.piece.now = grind (arith, common_steps) in
+    let some : 0 < length c.in_ok-piece.piece.now = grind (arith, common_steps) in
     let more : c.extend_from_slice.new.self.items ≡ contents ++ c.in_ok-piece.piece.now = grind (arith, common_steps) in
     let next = next_chain chains (chains_of c.loop-unique.self) count c.loop-unique.invariant.2 in
     let after : chains_of c.ask-in-loop-unique.new.self ≡ (chains + 2 + count) % 2 ^ 16 = c.in_ok-reply.ensures.chain ∙ next in (
@@ -50,6 +51,7 @@ loop-unique-preserved c =
         c.loop-unique.invariant.3,
         read_piece _ _ _ (chains + 2) count c.loop-unique.unique node contents c.in_ok-piece.piece.now _ c.in_ok-reply.reply.items c.in_ok-reply.ensures.asked next
             c.loop-unique.invariant.1 reads told,
+        some,
         more,
       ),
     )
