@@ -270,9 +270,33 @@ impl Case for Kicking {
     }
 }
 
+// The same, told by lengths alone.
+#[derive(Drop)]
+struct Serving {
+    kicking: Kicking,
+}
+
+impl Case for Serving {
+    fn prepare(&mut self, runs: u16) {
+        self.kicking.prepare(runs);
+    }
+
+    fn run(&mut self) -> u64 {
+        let kicking = &mut self.kicking;
+        let guest = &mut kicking.guest;
+        match kicking
+            .device
+            .serve_one(kicking.alloc, &mut guest.host, &guest.mem, 0)
+        {
+            Ok(Some(returned)) => returned.reply_len as u64,
+            _ => 0,
+        }
+    }
+}
+
 /// Measures kicks of a request that the server doesn't know, of GETATTR, LOOKUP, READDIRPLUS, READ and WRITE, each cut
-/// into ever more descriptors, in the queue's table (`kick`) and in one of the chain's own (`indirect`); and chains of
-/// very many.
+/// into ever more descriptors, in the queue's table (`kick`), there and told by lengths alone (`serve`), and in one of
+/// the chain's own (`indirect`); and chains of very many.
 pub(crate) fn measure_kicks<R: Clock + Eprint>(
     meter: &mut Meter<'_, R>,
     alloc: Global,
@@ -281,6 +305,7 @@ pub(crate) fn measure_kicks<R: Clock + Eprint>(
         let asked = Asked::new(alloc, case, ask)?;
         for split in SPLITS {
             measure_kick(meter, alloc, &asked, split, Form::Direct)?;
+            measure_serve(meter, alloc, &asked, split)?;
             measure_kick(meter, alloc, &asked, split, Form::Indirect)?;
         }
     }
@@ -326,7 +351,32 @@ fn measure_kick<R: Clock + Eprint>(
         case: asked.case,
         split,
         bytes,
-        runs: if bytes > 0x3000 { 16 } else { QUEUE_SIZE },
+        runs: runs_of(bytes),
+    };
+    meter.measure(label, &mut case)
+}
+
+// How many kicks that move so many bytes make one sample.
+fn runs_of(bytes: usize) -> u16 {
+    if bytes > 0x3000 { 16 } else { QUEUE_SIZE }
+}
+
+// Measures one request whose exchange is told by lengths alone.
+fn measure_serve<R: Clock + Eprint>(
+    meter: &mut Meter<'_, R>,
+    alloc: Global,
+    asked: &Asked,
+    split: u16,
+) -> Result<(), BenchFault> {
+    let mut case = Serving {
+        kicking: Kicking::new(alloc, asked, split, Form::Direct)?,
+    };
+    let label = Label {
+        kind: "serve",
+        case: asked.case,
+        split,
+        bytes: asked.len(),
+        runs: runs_of(asked.len()),
     };
     meter.measure(label, &mut case)
 }

@@ -1,4 +1,4 @@
-//! A device behind an IOMMU: its kicks with the IOMMU off and on, and look-ups in tables of ever more mappings.
+//! A device behind an IOMMU: its kicks with the IOMMU off and on, and look-ups and changes in tables of many mappings.
 
 use crate::fault::BenchFault;
 use crate::files::MemoryFiles;
@@ -33,10 +33,19 @@ const JOINED: [(&str, usize); 2] = [("read-1m-1-mapping", 1), ("read-1m-256-join
 // How many mappings there are, and under which name an address is looked up among them.
 const LOOK_UPS: [(&str, u64); 3] = [("look-up-1", 1), ("look-up-64", 64), ("look-up-4096", 4096)];
 
+// How many mappings there are in the table of which one is taken out and put back.
+const MANY: u64 = 4096;
+
+// Where the page of this number is mapped, behind all that the guest has.
+fn page_iova(number: u64) -> GuestAddress {
+    let offset = number.wrapping_mul(2 * PAGE as u64);
+    GuestAddress(offset.wrapping_add(MEMORY as u64))
+}
+
 // A mapping of a page behind all that the guest has. Between two of them a page is not mapped.
 fn map_page(table: &mut Iotlb, number: u64) -> Result<(), BenchFault> {
     let page = number.wrapping_mul(PAGE as u64);
-    let iova = GuestAddress(page.wrapping_mul(2).wrapping_add(MEMORY as u64));
+    let iova = page_iova(number);
     match table.set_mapping(iova, GuestAddress(page), PAGE, Permissions::ReadWrite) {
         Ok(()) => Ok(()),
         Err(_) => Err(BenchFault::OutOfMemory),
@@ -150,14 +159,19 @@ struct LookingUp {
     state: u64,
 }
 
+// A table of so many pages, of which no two join.
+fn table_of(alloc: Global, count: u64) -> Result<Iotlb, BenchFault> {
+    let mut table = Iotlb::new(alloc);
+    for number in 0..count {
+        map_page(&mut table, number)?;
+    }
+    Ok(table)
+}
+
 impl LookingUp {
     fn new(alloc: Global, count: u64) -> Result<LookingUp, BenchFault> {
-        let mut table = Iotlb::new(alloc);
-        for number in 0..count {
-            map_page(&mut table, number)?;
-        }
         Ok(LookingUp {
-            table,
+            table: table_of(alloc, count)?,
             count,
             state: 0,
         })
@@ -169,9 +183,7 @@ impl LookingUp {
             .state
             .wrapping_mul(6_364_136_223_846_793_005)
             .wrapping_add(1_442_695_040_888_963_407);
-        let number = (self.state >> 32).wrapping_mul(self.count) >> 32;
-        let offset = number.wrapping_mul(2 * PAGE as u64);
-        GuestAddress(offset.wrapping_add(MEMORY as u64))
+        page_iova((self.state >> 32).wrapping_mul(self.count) >> 32)
     }
 }
 
@@ -187,6 +199,23 @@ impl Case for LookingUp {
             Some(piece) => piece.base.0,
             None => 0,
         }
+    }
+}
+
+// A page in the middle of a table that is unmapped and mapped again, so that the table stays as it is.
+#[derive(Drop)]
+struct Remapping {
+    table: Iotlb,
+}
+
+impl Case for Remapping {
+    fn prepare(&mut self, _runs: u16) {}
+
+    fn run(&mut self) -> u64 {
+        let page = page_iova(MANY / 2);
+        let taken = self.table.invalidate_mapping(page, PAGE).is_ok();
+        let mapped = map_page(&mut self.table, MANY / 2).is_ok();
+        u64::from(taken && mapped)
     }
 }
 
@@ -229,8 +258,26 @@ fn measure_look_ups<R: Clock + Eprint>(
     Ok(())
 }
 
+// Measures a change of one mapping among many.
+fn measure_remapping<R: Clock + Eprint>(
+    meter: &mut Meter<'_, R>,
+    alloc: Global,
+) -> Result<(), BenchFault> {
+    let label = Label {
+        kind: "table",
+        case: "set-mapping-4096",
+        split: 1,
+        bytes: 0,
+        runs: 1 << 10,
+    };
+    let mut case = Remapping {
+        table: table_of(alloc, MANY)?,
+    };
+    meter.measure(label, &mut case)
+}
+
 /// Measures kicks of a device whose IOMMU is off, or on with 16 mappings, READ of 1 MiB through one mapping and through
-/// neighbours that join, and look-ups among ever more mappings.
+/// neighbours that join, look-ups among ever more mappings, and a change of one among many.
 pub(crate) fn measure_mappings<R: Clock + Eprint>(
     meter: &mut Meter<'_, R>,
     alloc: Global,
@@ -244,5 +291,6 @@ pub(crate) fn measure_mappings<R: Clock + Eprint>(
         let asked = Asked::new(alloc, case, Ask::Read(0x10_0000))?;
         measure_behind(meter, alloc, &asked, Mapped::Joined(count), true)?;
     }
-    measure_look_ups(meter, alloc)
+    measure_look_ups(meter, alloc)?;
+    measure_remapping(meter, alloc)
 }
