@@ -1,12 +1,13 @@
 -- What the exports of a queue do.
-use Rattle.std.specs.Prelude.{◌≡◌, ℕ, true, false, Bool, List, [], length, replicate, Option, Some, None, Ok, Err}
+use Rattle.std.specs.Prelude.{◌≡◌, ◌≤◌, ◌<◌, ◌⊎◌, ℕ, true, false, Bool, List, [], ◌∷◌, length, replicate, Option, Some, None, IsSome, IsTrue, Ok, Err}
 use Rattle.vm_bitmaps.specs.Pages.{pages_of}
+use Rattle.vm_memory.specs.Layout.{AreHeld}
 use Rattle.vm_memory.specs.Memory.{Memory}
 use Rattle.fs_queue.specs.declared.chain.Taken.{Taken}
 use Rattle.fs_queue.specs.Queue.{fresh}
 use Rattle.fs_queue.specs.Returning.{advanced, returned, wants_notice}
 use Rattle.fs_queue.specs.Taking.{RequestAndRoom, after_refusal, room_of}
-use Rattle.fs_queue.specs.Windows.{IsTaken, Takes}
+use Rattle.fs_queue.specs.Windows.{IsTaken, Takes, room_places}
 use Rattle.fs_device_c.specs.declared.queue_refusal.QueueRefusal.{QueueRefusal}
 use Rattle.fs_device_c.specs.declared.queue_refusal.QueueRefusal.TheVariants.{Queue, NoQueue, OutOfMemory, BadArgument, OtherLengths, TakenBefore, ShortBuffer, NotTaken, LongReply}
 use Rattle.fs_device_c.specs.declared.queue_lending.FsTaken.{FsTaken}
@@ -30,16 +31,36 @@ pub record IsNewQueue (low_base : ℕ) (low : List ℕ) (high_base : ℕ) (high 
   pub limited : s.limit ≡ limit
   pub pending : s.pending ≡ None
 
+-- the refusals of a new queue
+abbrev pub may_refuse_new : QueueRefusal → Bool
+may_refuse_new BadArgument = true
+may_refuse_new OutOfMemory = true
+may_refuse_new _ = false
+
 -- a refusal, and the handle stays as it was; or a new queue
 abbrev pub QueueMade : (low_base : ℕ) → (low : List ℕ) → (high_base : ℕ) → (high : List ℕ) → (size desc avail used limit : ℕ) → Option QueueState → Option QueueRefusal → Option QueueState → Type 0
 QueueMade low_base low high_base high size desc avail used limit before None None = ⊥
 QueueMade low_base low high_base high size desc avail used limit before None (Some s) = IsNewQueue low_base low high_base high size desc avail used limit s
-QueueMade low_base low high_base high size desc avail used limit before (Some refusal) after = after ≡ before
+QueueMade low_base low high_base high size desc avail used limit before (Some refusal) after = IsTrue (may_refuse_new refusal) × (after ≡ before)
 
 -- a queue is made in the place of what the handle held
 abbrev pub MakesQueue : (low_base : ℕ) → (low : List ℕ) → (high_base : ℕ) → (high : List ℕ) → (size desc avail used limit : ℕ) → Option QueueState → (status : ℕ) → Option QueueState → Type 0
 MakesQueue low_base low high_base high size desc avail used limit before status after =
     (how : Option QueueRefusal) × (status ≡ status_in how) × QueueMade low_base low high_base high size desc avail used limit before how after
+
+-- ---- the parts that are lent
+
+-- a queue has a mark for each page of parts of these lengths
+abbrev pub HasTheirPages : QueueState → (low high : ℕ) → Type 0
+HasTheirPages s low high = (length s.low_pages ≡ pages_of 4096 low) × (length s.high_pages ≡ pages_of 4096 high)
+
+-- so it has, and each region of its layout lies over a part of these lengths
+abbrev pub AreItsParts : QueueState → (low high : ℕ) → Type 0
+AreItsParts s low high = HasTheirPages s low high × AreHeld (low ∷ high ∷ []) s.mem
+
+-- a chain was taken over parts of these lengths
+abbrev pub HadLengths : Pending → (low high : ℕ) → Type 0
+HadLengths chain low high = (chain.low_len ≡ low) × (chain.high_len ≡ high)
 
 -- ---- a chain is taken
 
@@ -55,14 +76,28 @@ Keeps s low high buffer None told s' buffer' = NothingTaken s buffer told s' buf
 Keeps s low high buffer (Some t) told s' buffer' =
     Fetches (parts low s.low_pages high s.high_pages) t buffer (told, true) buffer' × ((p : Pending) × (p.taken ≡ t) × (s' ≡ record s { pending = Some p }))
 
--- what is taken, by how it ends
+-- no chain waits for its return, and the parts are the queue's
+abbrev pub CanTake : QueueState → (low high : List ℕ) → Type 0
+CanTake s low high = (s.pending ≡ None) × AreItsParts s (length low) (length high)
+
+-- why no chain is taken before the queue is asked: one waits for its return, or else the parts have other pages than the queue has marks for
+abbrev pub RefusesTake : QueueState → (low high : ℕ) → QueueRefusal → Type 0
+RefusesTake s low high TakenBefore = IsSome s.pending
+RefusesTake s low high OtherLengths = (s.pending ≡ None) × (HasTheirPages s low high → ⊥)
+RefusesTake s low high _ = ⊥
+
+-- what is taken, by how it ends: refused where a chain waits for its return, then where the parts are others, then by the queue, then where the buffer is too
+-- short; memory may be wanting where no chain waits
 abbrev pub TakesSo : QueueState → (low high buffer : List ℕ) → Option QueueRefusal → FsTaken → QueueState → (buffer' : List ℕ) → Type 0
-TakesSo s low high buffer None told s' buffer' = (t : Option Taken) × Takes (seen s low high) s.limit s.queue (Ok t) × Keeps s low high buffer t told s' buffer'
+TakesSo s low high buffer None told s' buffer' = CanTake s low high × ((t : Option Taken) × Takes (seen s low high) s.limit s.queue (Ok t) × Keeps s low high buffer t told s' buffer')
+TakesSo s low high buffer (Some TakenBefore) told s' buffer' = IsSome s.pending × NothingTaken s buffer told s' buffer'
+TakesSo s low high buffer (Some OtherLengths) told s' buffer' = (s.pending ≡ None) × (AreItsParts s (length low) (length high) → ⊥) × NothingTaken s buffer told s' buffer'
+TakesSo s low high buffer (Some OutOfMemory) told s' buffer' = (s.pending ≡ None) × HasTheirPages s (length low) (length high) × NothingTaken s buffer told s' buffer'
 TakesSo s low high buffer (Some (Queue e)) told s' buffer' =
-    Takes (seen s low high) s.limit s.queue (Err e) × (told ≡ none_waits) × (s' ≡ record s { queue = after_refusal s.queue e }) × (buffer' ≡ buffer)
+    CanTake s low high × Takes (seen s low high) s.limit s.queue (Err e) × (told ≡ none_waits) × (s' ≡ record s { queue = after_refusal s.queue e }) × (buffer' ≡ buffer)
 TakesSo s low high buffer (Some ShortBuffer) told s' buffer' =
-    (t : Taken) × Takes (seen s low high) s.limit s.queue (Ok (Some t)) × Fetches (parts low s.low_pages high s.high_pages) t buffer (told, false) buffer' × (s' ≡ s)
-TakesSo s low high buffer (Some refusal) told s' buffer' = NothingTaken s buffer told s' buffer'
+    CanTake s low high × ((t : Taken) × Takes (seen s low high) s.limit s.queue (Ok (Some t)) × Fetches (parts low s.low_pages high s.high_pages) t buffer (told, false) buffer' × (s' ≡ s))
+TakesSo s low high buffer (Some _) told s' buffer' = ⊥
 
 -- a chain of a handle's queue is taken: without a queue nothing
 abbrev pub TakesChain : Option QueueState → (low high buffer : List ℕ) → (status : ℕ) → FsTaken → Option QueueState → (buffer' : List ℕ) → Type 0
@@ -85,6 +120,8 @@ pub record GivesBack (before : QueueState) (low high : List ℕ) (head : ℕ) (r
   pub chain : Pending
   pub was_taken : before.pending ≡ Some chain
   pub head_is : chain.taken.head ≡ head
+  pub same_parts : HasTheirPages before (length low) (length high) × HadLengths chain (length low) (length high)
+  pub fits : length reply ≤ room_places chain.taken.chain
   pub written : (fetched : RequestAndRoom) → IsTaken (seen before low high) before.queue fetched chain.taken →
       seen after low' high' ≡ returned (seen before low high) before.queue head (room_of fetched) reply
   pub tells : (fetched : RequestAndRoom) → IsTaken (seen before low high) before.queue fetched chain.taken → told ≡ wants_notice (seen after low' high') before.queue
@@ -93,10 +130,24 @@ pub record GivesBack (before : QueueState) (low high : List ℕ) (head : ℕ) (r
   pub mem : after.mem ≡ before.mem
   pub limit : after.limit ≡ before.limit
 
+-- why a chain that was taken doesn't go back so: it has another head, then was taken over parts of other lengths, then has less room than the reply is long
+abbrev pub KeptBack : Pending → (head low high reply : ℕ) → QueueRefusal → Type 0
+KeptBack chain head low high reply NotTaken = chain.taken.head ≡ head → ⊥
+KeptBack chain head low high reply OtherLengths = (chain.taken.head ≡ head) × (HadLengths chain low high → ⊥)
+KeptBack chain head low high reply LongReply = (chain.taken.head ≡ head) × HadLengths chain low high × (room_places chain.taken.chain < reply)
+KeptBack chain head low high reply OutOfMemory = (chain.taken.head ≡ head) × HadLengths chain low high × (reply ≤ room_places chain.taken.chain)
+KeptBack chain head low high reply _ = ⊥
+
+-- why nothing goes back, where the pages are those of the parts: no chain was taken, or the one that was is kept back
+abbrev pub StaysTaken : Option Pending → (head low high reply : ℕ) → QueueRefusal → Type 0
+StaysTaken None head low high reply why = why ≡ NotTaken
+StaysTaken (Some chain) head low high reply why = KeptBack chain head low high reply why
+
 -- what goes back, by how it ends
 abbrev pub GivesSo : QueueState → (low high : List ℕ) → (head : ℕ) → (reply : List ℕ) → Option QueueRefusal → (told : Bool) → QueueState → (low' high' : List ℕ) → Type 0
 GivesSo s low high head reply None told s' low' high' = GivesBack s low high head reply told s' low' high'
-GivesSo s low high head reply (Some refusal) told s' low' high' = NothingGiven s low high told s' low' high'
+GivesSo s low high head reply (Some why) told s' low' high' =
+    NothingGiven s low high told s' low' high' × (((HasTheirPages s (length low) (length high) → ⊥) × (why ≡ OtherLengths)) ⊎ StaysTaken s.pending head (length low) (length high) (length reply) why)
 
 -- a chain of a handle's queue goes back: without a queue nothing
 abbrev pub GivesChain : Option QueueState → (low high : List ℕ) → (head : ℕ) → (reply : List ℕ) → (status : ℕ) → (told : Bool) → Option QueueState → (low' high' : List ℕ) → Type 0

@@ -1,9 +1,9 @@
 //! What is done with a queue that a handle holds.
 
-ghost use Rattle.std.specs.Prelude.{◌≡◌, ◌∷◌, [], ◌↔◌, ◌≤◌, IsTrue, length, IfOk, IfNone, OnErr};
+ghost use Rattle.std.specs.Prelude.{◌≡◌, ◌∷◌, [], ◌↔◌, ◌≤◌, IsTrue, None, length, IfOk, IfErr, IfNone, IfSome, OnErr};
 ghost use Rattle.vm_bitmaps.specs.Pages.{pages_of};
 ghost use Rattle.fs_queue.specs.Windows.{TakenLiesIn, room_places};
-ghost use Rattle.fs_device_c.specs.QueueExports.{GivesSo, IsNewQueue, TakesSo};
+ghost use Rattle.fs_device_c.specs.QueueExports.{GivesSo, HadLengths, HasTheirPages, IsNewQueue, KeptBack, RefusesTake, may_refuse_new, TakesSo};
 
 use crate::making::{Pages, lay_out};
 use crate::queue_lending::{FsTaken, give_back_over, take_over};
@@ -54,6 +54,21 @@ fn waiting(taken: Taken, low_len: usize, high_len: usize) -> Pending
     }
 }
 
+// Why no chain can be taken so, before the queue is asked.
+fn refused_take(state: &QueueState, low: &[u8], high: &[u8]) -> Option<QueueRefusal>
+    ensures none_waits { IfNone result (state.now.pending ≡ None) }
+    ensures pages { IfNone result (HasTheirPages state.now (length low.now) (length high.now)) }
+    ensures why { IfSome result (RefusesTake state.now (length low.now) (length high.now)) }
+{
+    if state.pending.is_some() {
+        Some(QueueRefusal::TakenBefore)
+    } else if !are_of(&state.low_pages, low) || !are_of(&state.high_pages, high) {
+        Some(QueueRefusal::OtherLengths)
+    } else {
+        None
+    }
+}
+
 /// Takes the next chain of a queue, over the two parts that are lent for it, and copies its request out.
 pub fn take_chain(
     alloc: Global,
@@ -66,11 +81,9 @@ pub fn take_chain(
     ensures low { low.new ≡ low.old }
     ensures high { high.new ≡ high.old }
 {
-    if state.pending.is_some() {
-        return (FsTaken::nothing(), Some(QueueRefusal::TakenBefore));
-    }
-    if !are_of(&state.low_pages, low) || !are_of(&state.high_pages, high) {
-        return (FsTaken::nothing(), Some(QueueRefusal::OtherLengths));
+    match refused_take(state, low, high) {
+        Some(refusal) => return (FsTaken::nothing(), Some(refusal)),
+        None => {}
     }
     let (low_len, high_len) = (low.len(), high.len());
     let Ok(pages) = take_pages(alloc, state) else {
@@ -126,9 +139,9 @@ fn refused_return(
     reply_len: usize,
 ) -> Option<QueueRefusal>
     ensures head { IfNone result (pending.now.taken.head ≡ head) }
-    ensures low { IfNone result (pending.now.low_len ≡ low_len) }
-    ensures high { IfNone result (pending.now.high_len ≡ high_len) }
+    ensures lengths { IfNone result (HadLengths pending.now low_len high_len) }
     ensures fits { IfNone result (reply_len ≤ room_places pending.now.taken.chain) }
+    ensures why { IfSome result (KeptBack pending.now head low_len high_len reply_len) }
 {
     if pending.taken.head() != head {
         Some(QueueRefusal::NotTaken)
@@ -191,6 +204,7 @@ pub fn make_queue(
     limit: u32,
 ) -> Result<QueueState, QueueRefusal>
     ensures made { IfOk result (IsNewQueue low_base low.old high_base high.old size desc avail used limit) }
+    ensures refused { IfErr result (λ why. IsTrue (may_refuse_new why)) }
     ensures low { low.new ≡ low.old }
     ensures high { high.new ≡ high.old }
 {

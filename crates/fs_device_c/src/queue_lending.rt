@@ -133,6 +133,8 @@ pub fn take_over(
     ensures fetches { IfOk result (λ t. FetchesIf (parts low.old pages.0 high.old pages.1) t.answer buffer.old buffer.new) }
     ensures queue { IfOk result (λ t. queue.new ≡ after_taking queue.old (taken_alone t.answer)) }
     ensures lies { IfOk result (λ t. IfOk t.answer (λ o. IfSome o (λ x. TakenLiesIn (length low.old ∷ length high.old ∷ []) x.0))) }
+    ensures held { IfOk result (λ t. AreHeld (length low.old ∷ length high.old ∷ []) mem.now) }
+    ensures others { IfErr result (λ p. AreHeld (length low.old ∷ length high.old ∷ []) mem.now → ⊥) }
     ensures refused { IfErr result (λ p. (p ≡ pages) × (queue.new ≡ queue.old) × (buffer.new ≡ buffer.old)) }
 {
     let (low_pages, high_pages) = pages;
