@@ -1,4 +1,5 @@
 pub mod ServeLemmas
+pub mod AnsweringLemmas
 pub mod StepLemmas
 pub mod KickLemmas
 pub mod RunLemmas

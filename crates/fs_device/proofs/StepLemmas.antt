@@ -19,6 +19,14 @@ use Rattle.fs_device.specs.PendingRequest.{IsPending}
 use Rattle.fs_device.specs.DeviceView.{request_of, ServesChain}
 use Rattle.vm_memory_core.proofs.Stores.{changed_at-set}
 
+-- the other queues stay
+pub others_stay : (l : List Queue) (n i : ℕ) (q : Queue) → (i ≡ n → ⊥) → slice_get (set l n q) i ≡ slice_get l i
+others_stay [] n i q apart = refl
+others_stay (x ∷ l) zero zero q apart = absurd (apart refl)
+others_stay (x ∷ l) zero (suc i) q apart = refl
+others_stay (x ∷ l) (suc n) zero q apart = refl
+others_stay (x ∷ l) (suc n) (suc i) q apart = others_stay l n i q (λ same. apart (ap suc same))
+
 pub set-same : (l : List Queue) (i : ℕ) (q : Queue) → slice_get l i ≡ Some q → set l i q ≡ l
 set-same [] i q e = refl
 set-same (x ∷ l) zero q e = let is : x ≡ q = cc in ap (λ (y : Queue). y ∷ l) (sym is)

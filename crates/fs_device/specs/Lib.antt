@@ -1,6 +1,7 @@
 pub mod DeviceParts
 pub mod Step
 pub mod DeviceView
+pub mod Answering
 pub mod Returned
 pub mod PendingRequest
 pub mod Refusing

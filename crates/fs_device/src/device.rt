@@ -1,6 +1,6 @@
 //! The device: its queues are served one chain a step.
 
-ghost use Rattle.std.specs.Prelude.{◌≡◌, ◌≤◌, ◌<◌, ◌^◌, length, set, slice_get, IfErr, IfOk, IfSome, None, OnOk, option_map};
+ghost use Rattle.std.specs.Prelude.{ℕ, ◌≡◌, ◌≤◌, ◌<◌, ◌^◌, length, set, slice_get, IfErr, IfOk, IfSome, None, OnErr, OnOk, option_map};
 ghost use Rattle.vm_memory_core.specs.Host.{lengths, shape};
 ghost use Rattle.vm_memory.specs.Memory.{Memory};
 ghost use Rattle.fs_queue.specs.Windows.{TakenLiesIn};
@@ -27,11 +27,11 @@ pub const LEAST_LIMIT: u32 = 0x101000;
 /// request or a room longer than the limit, from `LEAST_LIMIT` to 2^31 bytes, makes a chain faulty (`ChainFault::OverLimit`).
 #[derive(Drop)]
 pub struct Device<F> {
-    server: Server<F>,
+    pub(crate) server: Server<F>,
     pub(crate) queues: Vec<Queue>,
-    limit: u32,
+    pub(crate) limit: u32,
     // The place into which chains are taken that go back within the same call.
-    taken: Taken,
+    pub(crate) taken: Taken,
     ghost short: { limit < 2 ^ 32 },
     pub ghost some: { 1 ≤ length queues.items },
     pub ghost few: { length queues.items ≤ 64 },
@@ -165,7 +165,7 @@ impl<F: FileSystem> Device<F> {
     /// Has the server answer what was begun, and gives the chain back (VIRTIO 1.2, 2.7.8): what was exchanged, and
     /// whether the driver wants to be told (2.7.7). Only memory that the server wants before it asks the file system can
     /// be lacking (`AllocError`); then nothing changes, and the chain may be begun again. Finish it while memory and queue
-    /// are as `begin` left them: of another nothing is said.
+    /// are as `begin` left them: of another no more is said than that limits and other queues stay.
     #[inline]
     pub fn finish<H: HostBlocks>(
         &mut self,
@@ -177,6 +177,9 @@ impl<F: FileSystem> Device<F> {
         requires there { pending.queue < length self.old.queues }
         ensures finishes { (m : Memory) → m.host ≡ H.host host.old → IsPending (state_of m self.old) pending →
             Finishes F.may (state_of m self.old) pending.queue result (state_of (record m { host = H.host host.new }) self.new) }
+        ensures lacks { OnErr result ((self.new ≡ self.old) × (H.host host.new ≡ H.host host.old)) }
+        ensures limits { (self.new.limit ≡ self.old.limit) × (self.new.page_size ≡ self.old.page_size) }
+        ensures others { (i : ℕ) → (i ≡ pending.queue → ⊥) → slice_get self.new.queues i ≡ slice_get self.old.queues i }
         ensures shape { shape (H.host host.new) ≡ shape (H.host host.old) }
         ensures loan { H.IsSameLoan host.old host.new }
     {

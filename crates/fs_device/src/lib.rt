@@ -1,6 +1,7 @@
 //! A virtio-fs device.
 #![tactic(auto)]
 
+mod answering;
 mod command;
 mod copies;
 mod device;

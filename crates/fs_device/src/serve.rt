@@ -1,6 +1,6 @@
 //! What is exchanged for a chain that was taken.
 
-ghost use Rattle.std.specs.Prelude.{◌≡◌, ◌≤◌, ◌<◌, ◌^◌, [], length, IfOk, IfSome, OnErr, IfNone};
+ghost use Rattle.std.specs.Prelude.{◌≡◌, ◌≤◌, ◌<◌, ◌^◌, [], length, IfOk, OnErr};
 ghost use Rattle.vm_memory_core.specs.Host.{lengths};
 ghost use Rattle.vm_memory.specs.Memory.{Memory};
 ghost use Rattle.fs_queue.specs.Queue.{Queue};
@@ -23,7 +23,8 @@ pub(crate) struct Reply {
 
 ghost use Rattle.virtiofsd_fuse.specs.Serving.{is_memory};
 ghost use Rattle.fs_device.specs.Step.{Calls};
-ghost use Rattle.fs_device.specs.DeviceView.{exchange_of, request_of, ServesChain, AnswersRequest, server_state};
+ghost use Rattle.fs_device.specs.Answering.{IsAnswered};
+ghost use Rattle.fs_device.specs.DeviceView.{exchange_of, request_of, ServesChain, server_state};
 
 /// The bytes of a chain's request. A faulty chain has none, and takes no memory.
 #[inline(always)]
@@ -64,25 +65,22 @@ fn is_memory(error: Error) -> bool
     matches!(error, Error::OutOfMemory)
 }
 
-// Has the server answer a request into a writer's room; nothing where memory was wanting, and then nothing changed.
+// Has the server answer what a reader has left into a writer's room; nothing where memory was wanting, and then nothing
+// changed.
 #[inline(always)]
-fn answer<F: FileSystem>(
+pub(crate) fn answer<F: FileSystem>(
     alloc: Global,
     server: &mut Server<F>,
-    request: &[u8],
+    request: Reader<'_>,
     room: Writer,
 ) -> Option<Reply>
     requires unwritten { room.written ≡ [] }
     requires short { room.free < 2 ^ 32 }
-    ensures some { IfSome result (λ r. (calls : Calls) × AnswersRequest F.may server.old.page_size (server_state server.old) request.now room.free calls
-        r.bytes.items r.fault (server_state server.new)) }
-    ensures fits { IfSome result (λ r. length r.bytes.items ≤ room.free) }
-    ensures none { IfNone result ((server.new.options.0 ≡ server.old.options.0) × (server.new.fs ≡ server.old.fs)) }
+    ensures answered { IsAnswered F.may server.old request.entry.left room.free result server.new }
     ensures page_size { server.new.page_size ≡ server.old.page_size }
 {
     let mut writer = room;
-    let reader = Reader::of_slice(alloc, request);
-    match server.handle_message(alloc, reader, &mut writer) {
+    match server.handle_message(alloc, request, &mut writer) {
         Ok(_) => Some(Reply {
             bytes: writer.into_written(),
             fault: None,
@@ -128,7 +126,7 @@ pub(crate) fn serve<F: FileSystem>(
             reply: Vec::new(alloc),
             fault: Some(Fault::Chain(fault)),
         }),
-        Ok(_) => match answer(alloc, server, &request, room) {
+        Ok(_) => match answer(alloc, server, Reader::of_slice(alloc, &request), room) {
             Some(reply) => Ok(Exchange {
                 head,
                 request,

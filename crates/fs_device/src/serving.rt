@@ -3,9 +3,11 @@
 ghost use Rattle.std.specs.Prelude.{◌≡◌};
 ghost use Rattle.vm_memory_core.specs.Host.{shape};
 
+use crate::answering::{Answered, answer_taken};
 use crate::device::Device;
 use crate::error::DeviceError;
-use crate::exchange::{Exchange, Fault};
+use crate::exchange::Fault;
+use fs_queue::QueueError;
 use fuse_fs::FileSystem;
 use std::alloc::Global;
 use vm_memory::GuestMemory;
@@ -23,38 +25,13 @@ pub struct Returned {
     pub notify: bool,
 }
 
-ghost use Rattle.fs_device.specs.DeviceView.{exchange_of, outcome_of, state_of};
-ghost use Rattle.fs_device.specs.Returned.{StepTold, told, told_exchange};
-
-// What is told of an exchange.
-fn tell_exchange(exchange: &Exchange, notify: bool) -> Returned
-    ensures { result ≡ told_exchange (exchange_of exchange.now) notify }
-{
-    Returned {
-        head: exchange.head,
-        request_len: exchange.request.len(),
-        reply_len: exchange.reply.len(),
-        fault: exchange.fault,
-        notify,
-    }
-}
-
-// What is told of the end of a step.
-fn tell(
-    outcome: Result<Option<(Exchange, bool)>, DeviceError>,
-) -> Result<Option<Returned>, DeviceError>
-    ensures { result ≡ told (outcome_of outcome) }
-{
-    match outcome {
-        Ok(Some((exchange, notify))) => Ok(Some(tell_exchange(&exchange, notify))),
-        Ok(None) => Ok(None),
-        Err(error) => Err(error),
-    }
-}
+ghost use Rattle.fs_device.specs.DeviceView.{state_of};
+ghost use Rattle.fs_device.specs.Returned.{StepTold};
 
 impl<F: FileSystem> Device<F> {
     /// Serves the next chain of a queue, by its number from 0, as `process_one` does, and tells what was exchanged
-    /// without its bytes; None where no chain waits. The refusals are those of `process_one`.
+    /// without its bytes; None where no chain waits. The data of a WRITE whose request is one window isn't copied: the
+    /// file system reads it where it stands. The refusals are those of `process_one`.
     pub fn serve_one<M: GuestMemory, H: HostBlocks>(
         &mut self,
         alloc: Global,
@@ -68,6 +45,26 @@ impl<F: FileSystem> Device<F> {
         ensures shape { shape (H.host host.new) ≡ shape (H.host host.old) }
         ensures loan { H.IsSameLoan host.old host.new }
     {
-        tell(self.process_one(alloc, host, mem, queue))
+        if queue >= self.queues.len() {
+            return Err(DeviceError::NoSuchQueue);
+        }
+        match self.queues[queue].take(alloc, host, mem, self.limit, &mut self.taken) {
+            Ok(true) => {}
+            Ok(false) => return Ok(None),
+            Err(error) => return Err(DeviceError::Queue(error)),
+        }
+        let Ok(answered) = answer_taken(alloc, &mut self.server, host, &self.taken) else {
+            return Err(DeviceError::Queue(QueueError::OutOfMemory));
+        };
+        let Answered { request_len, reply } = answered;
+        let head = self.taken.head();
+        let notify = self.queues[queue].give_back(host, &mut self.taken, &reply.bytes);
+        Ok(Some(Returned {
+            head,
+            request_len,
+            reply_len: reply.bytes.len(),
+            fault: reply.fault,
+            notify,
+        }))
     }
 }

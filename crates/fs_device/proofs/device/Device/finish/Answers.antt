@@ -1,7 +1,7 @@
 use Rattle.std.proofs.Common.{vec_len, arith}
 use Rattle.std.proofs.lemmas.Option.{slice_get_read}
 use Rattle.fs_device.specs.PendingRequest.{IsPending}
-use Rattle.fs_device.proofs.StepLemmas.{Fixed, state, finishes}
+use Rattle.fs_device.proofs.StepLemmas.{Fixed, state, finishes, others_stay}
 use Rattle.fs_device.proofs.device.Device.finish.Goals as goal
 
 pub returns-clause-finishes : goal.returns-clause-finishes
@@ -17,3 +17,6 @@ returns-clause-finishes g c m host is =
 
 pub returns-in_err-exchange-clause-loan : goal.returns-in_err-exchange-clause-loan
 returns-in_err-exchange-clause-loan g c = g.met.H.HostBlocks.reflexive c.args.host.now
+
+pub returns-clause-others : goal.returns-clause-others
+returns-clause-others g c i apart = rw (← c.self.view_is) (others_stay c.self.inside.queues.items c.args.pending.queue i c.give_back-notify.new.self apart)
