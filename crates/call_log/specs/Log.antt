@@ -1,7 +1,7 @@
 -- What the file system writes down, and what it may answer.
 use Rattle.std.specs.Prelude.{◌≡◌, nat_lt, List, [], ◌∷◌, ◌++◌, length, map, None, if◌then◌else◌}
 use Rattle.fuse_fs.specs.Answers.{default_stats}
-use Rattle.fuse_fs.specs.Calls.{FileCall, FileAnswer, Init, Destroy, Lookup, Forget, BatchForget, Open, Opendir, Read, Statfs, Done, HasEntry, Opened, Stats, Failed, Wants}
+use Rattle.fuse_fs.specs.Calls.{FileCall, FileAnswer, Init, Destroy, Lookup, Forget, BatchForget, Open, Opendir, Read, Write, Statfs, Done, HasEntry, Opened, Stats, Failed, Wants}
 use Rattle.call_log.specs.declared.files.CallLog.{CallLog}
 use Rattle.call_log.specs.declared.log.LoggedCall.{LoggedCall}
 use Rattle.call_log.specs.declared.log.LoggedCall.TheVariants as log
@@ -13,6 +13,7 @@ entries_for (Lookup who parent name) = log.Lookup parent ∷ []
 entries_for (Forget who node count) = log.Forget node count ∷ []
 entries_for (BatchForget who counts) = map (λ node. log.Forget node.0 node.1) counts
 entries_for (Read who node handle room size offset owner flags) = log.Read node ∷ []
+entries_for (Write who node handle bytes size offset owner delayed kill flags) = log.Write node ∷ []
 entries_for _ = []
 
 -- a log with one more call; it holds 64
@@ -33,6 +34,7 @@ MayAnswerLogged (Lookup who parent name) (HasEntry entry) = entry.inode ≡ 2
 MayAnswerLogged (Lookup who parent name) (Failed errno) = errno ≡ 2
 MayAnswerLogged (Lookup who parent name) _ = ⊥
 MayAnswerLogged (Read who node handle room size offset owner flags) _ = Unit {0}
+MayAnswerLogged (Write who node handle bytes size offset owner delayed kill flags) _ = Unit {0}
 MayAnswerLogged (Forget who node count) answer = answer ≡ Done
 MayAnswerLogged (BatchForget who counts) answer = answer ≡ Done
 MayAnswerLogged Destroy answer = answer ≡ Done

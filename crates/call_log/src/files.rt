@@ -62,11 +62,48 @@ impl PositionedFile for FileContents {
     }
 }
 
-/// A file system whose state is the log of its calls of five kinds: INIT, LOOKUP, FORGET, lists of nodes to forget, and
-/// READ. A look-up of `a` in node 1 may find node 2, and any may find nothing.
+// How many bytes of what is written are kept.
+const MOST_WRITTEN: usize = 256;
+
+// Bytes that were written, wherever that was, and how many times bytes were handed over.
+#[derive(Drop)]
+struct WrittenBytes {
+    bytes: ArrayVec<u8, MOST_WRITTEN>,
+    pieces: u64,
+}
+
+impl PositionedFile for WrittenBytes {
+    ghost read_gives = { λ f n off r g. ⊤ };
+
+    ghost write_gives = { λ f bytes off flags r g. ⊤ };
+
+    fn read_at(&mut self, _buf: &mut [u8], _off: u64) -> Result<usize, Errno> {
+        Err(Errno::EINVAL)
+    }
+
+    fn write_at(
+        &mut self,
+        buf: &[u8],
+        _off: u64,
+        _flags: Option<WritevFlags>,
+    ) -> Result<usize, Errno> {
+        self.pieces = self.pieces.wrapping_add(1);
+        for byte in buf {
+            if !self.bytes.is_full() {
+                self.bytes.push(*byte);
+            }
+        }
+        Ok(buf.len())
+    }
+}
+
+/// A file system whose state is the log of its calls of six kinds: INIT, LOOKUP, FORGET, lists of nodes to forget, READ
+/// and WRITE, with the first bytes that were written. A look-up of `a` in node 1 may find node 2, and any may find
+/// nothing.
 #[derive(Drop)]
 pub struct CallLog {
     calls: ArrayVec<LoggedCall, MOST_CALLS>,
+    written: WrittenBytes,
 }
 
 impl CallLog {
@@ -76,6 +113,10 @@ impl CallLog {
     {
         CallLog {
             calls: ArrayVec::new(),
+            written: WrittenBytes {
+                bytes: ArrayVec::new(),
+                pieces: 0,
+            },
         }
     }
 
@@ -84,6 +125,20 @@ impl CallLog {
         ensures { result.now ≡ self.now.calls.items }
     {
         self.calls.as_slice()
+    }
+
+    /// The first 256 bytes that were written, one after another, to whatever file and place.
+    pub fn written(&self) -> &[u8]
+        ensures { result.now ≡ self.now.written.bytes.items }
+    {
+        self.written.bytes.as_slice()
+    }
+
+    /// How many times bytes were handed over to be written.
+    pub fn pieces(&self) -> u64
+        ensures { result ≡ self.now.written.pieces }
+    {
+        self.written.pieces
     }
 
     // Writes a call down, if there is room for it.
@@ -277,17 +332,21 @@ impl FileSystem for CallLog {
     fn write<R: ZeroCopyReader>(
         &mut self,
         _ctx: Context,
-        _inode: u64,
+        inode: u64,
         _handle: u64,
-        _r: &mut R,
-        _size: u32,
-        _offset: u64,
+        r: &mut R,
+        size: u32,
+        offset: u64,
         _lock_owner: Option<u64>,
         _delayed_write: bool,
         _kill_priv: bool,
         _flags: u32,
     ) -> Result<u32, Errno> {
-        defaults::write()
+        self.note(LoggedCall::Write { node: inode });
+        match r.write_to_file_at(&mut self.written, size as usize, offset, None) {
+            Ok(n) => Ok(n as u32),
+            Err(error) => Err(error),
+        }
     }
 
     fn flush(

@@ -8,6 +8,7 @@ pub enum LoggedCall {
     Lookup { parent: u64 },
     Forget { node: u64, count: u64 },
     Read { node: u64 },
+    Write { node: u64 },
 }
 
 /// How many calls a log holds; what comes after them isn't written down.

@@ -1,6 +1,7 @@
 //! Steps told by lengths alone, each beside the same step that hands out its bytes.
 
 use crate::stand::{REQUEST_AT, RING, ROOM_AT, Request, Stand, UNKNOWN, expect_same};
+use call_log::LoggedCall;
 use call_log::files::{HELLO, PATTERN};
 use fs_device::{DeviceError, Returned};
 use std::process::Abort;
@@ -32,7 +33,8 @@ const FORGET: Request<'static> = Request::Forget { node: 5, count: 3 };
 // A request, the parts that it stands in, and those of its room: a request that no opcode has, FORGET, READ into one
 // part, into several, into a room over itself, its data over its header, its header over its data, over the used ring
 // and over its own request; of a file that answers less; a room that is too short, and one in no region; WRITE from
-// one part, from two, from a part of its own, of no data, and cut short by a byte.
+// one part, with its room over its data, with a room that is too short, of fewer bytes than it tells; from two parts, from
+// a part of its own, of no data, and cut short by a byte.
 const ROWS: &[(Request<'static>, &[(u64, u32)], &[(u64, u32)])] = &[
     (UNKNOWN, &[(REQUEST_AT, 40)], &[(ROOM_AT, 16)]),
     (FORGET, &[(REQUEST_AT, 48)], &[]),
@@ -49,10 +51,18 @@ const ROWS: &[(Request<'static>, &[(u64, u32)], &[(u64, u32)])] = &[
     (READ, &[(REQUEST_AT, 80)], &[(ROOM_AT, 15)]),
     (READ, &[(REQUEST_AT, 80)], &[(0x20000, 272)]),
     (WRITE, &[(REQUEST_AT, 144)], &[(ROOM_AT, 24)]),
+    (WRITE, &[(REQUEST_AT, 144)], &[(0x1050, 24)]),
+    (WRITE, &[(REQUEST_AT, 144)], &[(ROOM_AT, 23)]),
+    (WRITE, &[(REQUEST_AT, 120)], &[(ROOM_AT, 24)]),
     (WRITE, &[(REQUEST_AT, 100), (0x3000, 44)], &[(ROOM_AT, 24)]),
     (WRITE, &[(REQUEST_AT, 80), (0x3000, 64)], &[(ROOM_AT, 24)]),
     (WRITE_NOTHING, &[(REQUEST_AT, 80)], &[(ROOM_AT, 24)]),
     (WRITE_NOTHING, &[(REQUEST_AT, 79)], &[(ROOM_AT, 24)]),
+];
+
+// The reply to a WRITE of 64 bytes, by `struct fuse_out_header` and `struct fuse_write_out`.
+const WRITTEN_64: [u8; 24] = [
+    24, 0, 0, 0, 0, 0, 0, 0, 1, 0, 0, 0, 0, 0, 0, 0, 64, 0, 0, 0, 0, 0, 0, 0,
 ];
 
 // A step of a queue that is told by lengths alone.
@@ -66,7 +76,16 @@ fn expect_alike(rt: &impl Abort, one: &Stand, other: &Stand) {
     other.expect_bytes(rt, 0, &bytes);
     let marked = one.guest.marked(one.alloc).expect(rt, "memory");
     other.expect_marked(rt, &marked);
-    other.expect_calls(rt, one.device.server().fs().calls());
+    let files = one.device.server().fs();
+    other.expect_calls(rt, files.calls());
+    expect_written(rt, other, files.written(), files.pieces());
+}
+
+// So many bytes were written, and they were handed over in so many pieces.
+fn expect_written(rt: &impl Abort, stand: &Stand, bytes: &[u8], pieces: u64) {
+    let files = stand.device.server().fs();
+    expect_same(rt, files.written(), bytes);
+    expect_same(rt, files.pieces(), pieces);
 }
 
 // Steps both stands, one of which hands out bytes.
@@ -91,6 +110,32 @@ fn lengths_tell_the_same_step(rt: HostRuntime) {
         other.ask_cut(&rt, *request, readable, writable);
         expect_told(&rt, &mut one, &mut other);
         expect_alike(&rt, &one, &other);
+    }
+}
+
+// The parts of a WRITE of 64 bytes: one, one that is cut in its data, and one of its data alone.
+const WRITE_PARTS: &[&[(u64, u32)]] = &[
+    &[(REQUEST_AT, 144)],
+    &[(REQUEST_AT, 100), (0x3000, 44)],
+    &[(REQUEST_AT, 80), (0x3000, 64)],
+];
+
+#[test]
+fn data_of_a_write_is_handed_over_once(rt: HostRuntime) {
+    for parts in WRITE_PARTS {
+        let mut stand = Stand::new(&rt, rt.alloc());
+        stand.ask_cut(&rt, WRITE, parts, &[(ROOM_AT, 24)]);
+        let told = Returned {
+            head: 0,
+            request_len: 144,
+            reply_len: 24,
+            fault: None,
+            notify: true,
+        };
+        expect_same(&rt, serve(&mut stand, 0), Ok(Some(told)));
+        stand.expect_calls(&rt, &[LoggedCall::Write { node: 2 }]);
+        expect_written(&rt, &stand, &[7; 64], 1);
+        stand.expect_bytes(&rt, ROOM_AT, &WRITTEN_64);
     }
 }
 
