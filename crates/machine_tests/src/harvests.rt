@@ -5,6 +5,8 @@ ghost use Rattle.vm_memory_core.specs.Host.{shape};
 
 use crate::machines::{Row, expect_rows, machine};
 use crate::stand::{RING, expect_same};
+use call_log::CallLog;
+use fs_device::laws::law_marked_pages;
 use fs_device::{HarvestedPage, harvest};
 use guest_driver::Guest;
 use std::alloc::Global;
@@ -53,6 +55,7 @@ fn pages_of_an_exchange_are_harvested_once(rt: HostRuntime) {
     expect_rows(&rt, rt.alloc(), &mut machine, ROWS);
     let pages = [(0, 0, 4096), (0, 0x2000, 4096)];
     expect_pages(&rt, rt.alloc(), &mut machine.host, &pages);
+    law_marked_pages::<CallLog>();
 }
 
 #[test]
