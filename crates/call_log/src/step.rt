@@ -3,7 +3,7 @@
 ghost use Rattle.std.specs.Prelude.{◌≡◌, IfOk, IfSome};
 ghost use Rattle.vm_memory_core.specs.Host.{shape};
 ghost use Rattle.fs_device.specs.DeviceView.{state_of};
-ghost use Rattle.call_log.specs.Steps.{LeavesUsedLength};
+ghost use Rattle.call_log.specs.Steps.{LeavesUsedLength, StepTellsLength};
 
 use crate::files::CallLog;
 use fs_device::laws::law_used_length;
@@ -15,7 +15,8 @@ use vm_memory_core::HostBlocks;
 /// Serves the next chain of a queue, by its number from 0, as `Device::process_one`, with that call's refusals, and
 /// tells the used length that the driver finds, in bytes (VIRTIO 1.2, 2.7.8): above 0 it is the length in the reply's
 /// header (linux/fuse.h, `fuse_out_header.len`) and the number of bytes written over the chain's room; where it is 0 no
-/// byte of the room was written. None where no chain waits.
+/// byte of the room was written. None where no chain waits. Whatever it answers, memory, queues, options and files go
+/// as by a step that ends so.
 pub fn used_length<M: GuestMemory, H: HostBlocks>(
     alloc: Global,
     device: &mut Device<CallLog>,
@@ -24,6 +25,8 @@ pub fn used_length<M: GuestMemory, H: HostBlocks>(
     queue: usize,
 ) -> Result<Option<usize>, DeviceError>
     requires { M.IsHeld mem.now (H.host host.old) }
+    ensures step { StepTellsLength (state_of (M.memory mem.now (H.host host.old)) device.old) queue result
+        (state_of (M.memory mem.now (H.host host.new)) device.new) }
     ensures told { IfOk result (λ o. IfSome o (λ n. LeavesUsedLength (state_of (M.memory mem.now (H.host host.old)) device.old) queue n
         (M.memory mem.now (H.host host.new)))) }
     ensures shape { shape (H.host host.new) ≡ shape (H.host host.old) }
