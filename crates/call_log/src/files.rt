@@ -344,7 +344,7 @@ impl FileSystem for CallLog {
     ) -> Result<u32, Errno> {
         self.note(LoggedCall::Write { node: inode });
         match r.write_to_file_at(&mut self.written, size as usize, offset, None) {
-            Ok(n) => Ok(n as u32),
+            Ok(n) => u32::try_from(n).map_err(|_| Errno::EIO),
             Err(error) => Err(error),
         }
     }
