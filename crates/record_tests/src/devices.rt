@@ -92,6 +92,12 @@ const RING: Ring = Ring {
     used: 0x200,
 };
 
+// Has a device serve the chain that a guest made available.
+fn serve(rt: &impl Abort, alloc: Global, device: &mut Device<CallLog>, guest: &mut Guest) {
+    let step = device.process_one(alloc, &mut guest.host, &guest.mem, 0);
+    expect_same(rt, step.expect(rt, "no refusal").is_some(), true);
+}
+
 // A new device that served one request, of an opcode that no request has, with a room of 16 bytes.
 fn served(rt: &impl Abort, alloc: Global) -> Device<CallLog> {
     let mut guest = Guest::new(alloc, &[(GuestAddress(0), 0x10000)], RING).expect(rt, "regions");
@@ -102,8 +108,7 @@ fn served(rt: &impl Abort, alloc: Global) -> Device<CallLog> {
     let queue = Queue::new(layout.expect(rt, "a layout"));
     let queues = Vec::from_array(alloc, [queue]).expect(rt, "memory");
     let mut device = Device::new(Server::new(CallLog::new(), PAGE_SIZE), queues, LIMIT);
-    let step = device.process_one(alloc, &mut guest.host, &guest.mem, 0);
-    expect_same(rt, step.expect(rt, "no refusal").is_some(), true);
+    serve(rt, alloc, &mut device, &mut guest);
     device
 }
 
