@@ -89,9 +89,14 @@ pub record TakenLiesIn (lengths : List ℕ) (t : Taken) : Type 0 where
   pub return_windows : ReturnWindowsLieIn lengths t.return_windows
   pub chain : ChainLiesIn lengths t.chain
 
--- nothing can be given back by it: it has no window of a return
+-- no byte can be read or written by a chain: it has no window, as a fault has none
+abbrev pub LacksWindows : Result Chain ChainFault → Type 0
+LacksWindows (Ok c) = (c.readable.items ≡ []) × (c.writable.items ≡ [])
+LacksWindows (Err fault) = Unit {0}
+
+-- nothing can be given back by it: it has no window of a return, and none of a chain
 abbrev pub IsEmpty : Taken → Type 0
-IsEmpty t = (t.return_windows.used.items ≡ []) × (t.return_windows.flags.items ≡ [])
+IsEmpty t = (t.return_windows.used.items ≡ []) × (t.return_windows.flags.items ≡ []) × LacksWindows t.chain
 
 -- a place is empty unless a chain was taken into it
 abbrev pub IsEmptyUnlessTaken : Result Bool QueueError → Taken → Type 0
@@ -137,13 +142,14 @@ abbrev pub after_taking : Queue → Result (Option Taken) QueueError → Queue
 after_taking q (Ok o) = q
 after_taking q (Err e) = after_refusal q e
 
--- a chain has this head, and windows of the places of these descriptors: of those that the device reads, and of those that it writes
+-- a chain has this head, and windows of the places of these descriptors: of those that the device reads, and of those that it writes; a fault has none
 abbrev pub HoldsWindows : Memory → (head : ℕ) → Result Chain ChainFault → Found → Type 0
 HoldsWindows m head (Ok c) (IsChain ds) =
     (c.head ≡ head)
     × (located (location m Read) (addresses_of (readable ds)) ≡ Some (places c.readable.items))
     × (located (location m Write) (addresses_of (writable ds)) ≡ Some (places c.writable.items))
-HoldsWindows m head _ _ = Unit {0}
+HoldsWindows m head (Err fault) found = Unit {0}
+HoldsWindows m head _ _ = ⊥
 
 -- a chain that was taken has the windows of the chain that begins at its head
 abbrev pub HasItsWindows : Memory → Queue → Taken → Type 0

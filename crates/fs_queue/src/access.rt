@@ -117,5 +117,9 @@ pub(crate) fn add_windows<M: GuestMemory, H: HostBlocks>(
         ≡ (if found then Some (places windows.new.items) else None)) }
     ensures lie { AllLieIn (lengths (H.host host.now)) windows.old.items → AllLieIn (lengths (H.host host.now)) windows.new.items }
 {
+    // No address is translated for nothing.
+    if len == 0 {
+        return Ok(true);
+    }
     mem.push_windows(alloc, host, GuestAddress(addr), len, access, windows)
 }

@@ -90,7 +90,7 @@ pub struct Taken {
 impl Taken {
     ghost use Rattle.fs_queue.specs.Windows.{IsEmpty};
 
-    /// A place into which nothing was taken, which takes no memory.
+    /// A place into which nothing was taken: it has no windows, of a chain or of a return. It takes no memory.
     pub fn empty(alloc: Global) -> Taken
         ensures { IsEmpty result }
     {
@@ -105,13 +105,16 @@ impl Taken {
         }
     }
 
-    // Takes the windows of a return away, so that nothing can be given back.
+    // Takes all windows away, so that nothing can be given back, read or written. The lists keep their memory.
     #[inline(always)]
     pub(crate) fn clear(&mut self)
         ensures { IsEmpty self.new }
     {
         self.return_windows.used.clear();
         self.return_windows.flags.clear();
+        if let Ok(chain) = &mut self.chain {
+            chain.clear();
+        }
     }
 
     /// The chain's head: its first descriptor's index in the queue's table.

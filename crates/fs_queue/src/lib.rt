@@ -12,6 +12,7 @@ mod queue;
 mod take;
 mod used;
 mod walk;
+mod written;
 
 pub use chain::{Chain, Taken};
 pub use fault::{ChainFault, QueueError, QueueLayoutError};

@@ -121,11 +121,12 @@ impl Queue {
     }
 
     /// Takes the chain that waits at the queue's position, with its windows, into a place whatever that had, or answers
-    /// false, where none waits (VIRTIO 1.2, 2.7.13 from the device's side); unless a chain was taken, the place is empty
-    /// then. The position stays until the chain is given back. A request or a room of more than `limit` bytes makes a
-    /// chain faulty. Refused, in this order: `Stopped`, `AvailIndexUnreachable`, then, where something waits, `AvailTooFar`,
-    /// `RingEntryUnreachable`, `HeadOutOfTable`, `UsedUnreachable`, `AvailFlagsUnreachable`, `DescriptorUnreachable`.
-    /// Want of memory is `OutOfMemory`. All of them but `Stopped` and `OutOfMemory` stop the queue.
+    /// false, where none waits (VIRTIO 1.2, 2.7.13 from the device's side); unless a chain was taken, the place is
+    /// empty then: it has no windows, and its head says nothing. The position stays until the chain is given back. A
+    /// request or a room of more than `limit` bytes makes a chain faulty. Refused, in this order: `Stopped`,
+    /// `AvailIndexUnreachable`, then, where something waits, `AvailTooFar`, `RingEntryUnreachable`, `HeadOutOfTable`,
+    /// `UsedUnreachable`, `AvailFlagsUnreachable`, `DescriptorUnreachable`. Want of memory is `OutOfMemory`. All of
+    /// them but `Stopped` and `OutOfMemory` stop the queue.
     #[inline(always)]
     pub fn take<M: GuestMemory, H: HostBlocks>(
         &mut self,
@@ -160,7 +161,7 @@ impl Queue {
     /// Writes the reply over the room, then the used element (le32 head, le32 length of the reply in bytes), then the
     /// le16 used index (VIRTIO 1.2, 2.7.8), and says whether the driver wants to be told: bit 0 of the available flags,
     /// read last, is clear (2.7.7). The chain was taken at this position, and the reply is no longer than its room,
-    /// which is empty for a fault. The place is emptied: what lies in it can't be given back twice.
+    /// which is empty for a fault. The place is emptied: what lay in it can't be read, written or given back again.
     #[inline(always)]
     pub fn give_back<H: HostBlocks>(
         &mut self,

@@ -359,7 +359,8 @@ fn hold_chain<M: GuestMemory, H: HostBlocks>(
     }
 }
 
-/// Takes the chain that waits at a position of a queue that isn't stopped into an empty place; false where none waits. The errors are those of `Queue::take` but `Stopped`, in the same order.
+/// Takes the chain that waits at a position of a queue that isn't stopped into an empty place; false where none waits.
+/// The errors are those of `Queue::take` but `Stopped`, in the same order.
 #[inline(always)]
 pub(crate) fn take_into<M: GuestMemory, H: HostBlocks>(
     alloc: Global,

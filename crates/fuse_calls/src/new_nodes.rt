@@ -118,8 +118,8 @@ pub fn make_symlink_call<F: FileSystem>(
         (entry_answer F.Inode.number result) fs.new }
     ensures suits { IsTrue
         (suits (symlink_call head.now (record { name = name.now; link = link.now; extra = extra_of extensions })) (entry_answer F.Inode.number result)) }
-    ensures back { given_back (symlink_call head.now (record { name = name.now; link = link.now; extra = extra_of extensions })) (entry_answer F.Inode.number result)
-        ≡ give_back (context_of head.now) (entry_node (entry_answer F.Inode.number result)) }
+    ensures back { let call = symlink_call head.now (record { name = name.now; link = link.now; extra = extra_of extensions }) in
+        given_back call (entry_answer F.Inode.number result) ≡ give_back (context_of head.now) (entry_node (entry_answer F.Inode.number result)) }
 {
     let parent = F::Inode::numbered(head.nodeid);
     let context = Context::from(*head);

@@ -1,8 +1,8 @@
-use Rattle.std.proofs.Common.{◌≡◌, Bool, List, Option, Some, None, subst}
+use Rattle.std.proofs.Common.{ap, append-nil, arith, ◌≡◌, Bool, List, Option, Some, None, subst}
 use Rattle.std.specs.Prelude.{if◌then◌else◌, IfOk}
 use Rattle.vm_memory_core.specs.Host.{Place}
 use Rattle.vm_memory_core.specs.Window.{places}
-use Rattle.vm_memory.specs.Memory.{after}
+use Rattle.vm_memory.specs.Memory.{addresses, after, located}
 use Rattle.vm_memory.proofs.RangeLemmas.{places_from-is}
 use Rattle.fs_queue.proofs.access.add_windows.Goals as goal
 
@@ -13,3 +13,9 @@ returns-clause-found g c =
 
 pub returns-clause-lie : goal.returns-clause-lie
 returns-clause-lie g c = c.push_windows.ensures.held c.requires.held
+
+pub returns-then-len-eq0-clause-found : goal.returns-then-len-eq0-clause-found
+unfolding located addresses
+returns-then-len-eq0-clause-found g c =
+    let none : c.args.len ≡ 0 = omega (arith, c.if-len-eq0.true) in
+    rw none (ap Some (append-nil (places c.args.windows.now.items)))
