@@ -20,6 +20,15 @@ fn expect_untouched(rt: &impl Abort, stand: &Stand) {
     stand.expect_marked(rt, &[]);
 }
 
+// The request of what was begun is as long as its chain's, and none of a faulty chain.
+fn expect_parts(rt: &impl Abort, pending: &PendingRequest) {
+    let len = match pending.taken().chain() {
+        Ok(chain) => chain.request_len(),
+        Err(_) => 0,
+    };
+    expect_same(rt, pending.request().len(), len);
+}
+
 // The first exchange of a queue in two parts, between which nothing is written.
 fn exchange(rt: &impl Abort, stand: &mut Stand) -> (Exchange, bool) {
     let pending = stand
@@ -28,6 +37,7 @@ fn exchange(rt: &impl Abort, stand: &mut Stand) -> (Exchange, bool) {
         .expect(rt, "no refusal")
         .expect(rt, "a chain that waits");
     expect_untouched(rt, stand);
+    expect_parts(rt, &pending);
     stand
         .device
         .finish(stand.alloc, &mut stand.guest.host, pending)

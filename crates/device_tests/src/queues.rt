@@ -36,7 +36,10 @@ fn chain_is_taken_and_given_back(rt: HostRuntime) {
     }
     expect_same(&rt, (taken.head(), queue.position()), (0, 0));
     expect_lengths(&rt, &taken, (40, 16));
+    let used_windows = taken.used_windows().len();
+    expect_same(&rt, used_windows, 2);
     let told = queue.give_back(&mut host, &mut taken, &[]);
+    expect_lengths(&rt, &taken, (0, 0));
     let after = (told, queue.position(), queue.is_stopped());
     expect_same(&rt, after, (true, 1, false));
     let mut used = [9; 10];

@@ -74,17 +74,17 @@ fn write_in_place<'a, H: HostBlocks>(host: &'a H, chain: &Chain) -> Option<&'a [
     }
 }
 
-// A reader of headers and of the data behind them; nothing where memory was wanting.
+// A reader of headers and of what stands behind them; nothing where memory was wanting.
 #[inline(always)]
-fn reader_of_both<'a>(alloc: Global, headers: &'a [u8], data: &'a [u8]) -> Option<Reader<'a>>
-    requires { length headers.now + length data.now < 2 ^ 64 }
-    ensures { IfSome result (λ r. r.left ≡ headers.now ++ data.now) }
+fn reader_of_both<'a>(alloc: Global, headers: &'a [u8], behind: &'a [u8]) -> Option<Reader<'a>>
+    requires { length headers.now + length behind.now < 2 ^ 64 }
+    ensures { IfSome result (λ r. r.left ≡ headers.now ++ behind.now) }
 {
     let Ok(mut segments) = Vec::with_capacity(alloc, 2) else {
         return None;
     };
     segments.push(headers).unwrap();
-    segments.push(data).unwrap();
+    segments.push(behind).unwrap();
     match Reader::new(segments) {
         Ok(reader) => Some(reader),
         Err(_) => None,

@@ -12,6 +12,7 @@ mod layouts;
 mod machine;
 mod mappings;
 mod migrating;
+mod pending_parts;
 mod pending_request;
 mod queues;
 mod refusal;

@@ -19,8 +19,9 @@ use vm_memory::Iommu;
 use vm_memory_core::{GuestAddress, Permissions};
 
 impl<F: FileSystem, I: Iommu + Drop> Machine<F, I> {
-    // Whether the guest reaches that many bytes from an address on.
-    fn reaches(&self, addr: u64, len: usize, access: Permissions) -> bool
+    /// Whether the guest reaches that many bytes from a physical address on, all of them, by an access that its regions
+    /// allow.
+    pub fn reaches(&self, addr: u64, len: usize, access: Permissions) -> bool
         ensures { result ≡ reach (physical (machine_of self.now).memory) access addr len }
     {
         match addr.checked_add(len as u64) {
@@ -47,7 +48,9 @@ impl<F: FileSystem, I: Iommu + Drop> Machine<F, I> {
         let _ = layout.write_slice(&mut self.host, bytes, GuestAddress(addr));
     }
 
-    fn guest_read(&self, alloc: Global, addr: u64, len: usize) -> Answer
+    /// The guest reads `len` bytes from a physical address on: `Bytes`, or refused `NoPlace` where it doesn't reach all of
+    /// them, or `OutOfMemory`.
+    pub fn guest_read(&self, alloc: Global, addr: u64, len: usize) -> Answer
         ensures { Performs F.may (machine_of self.now) (GuestRead addr len) [] (answer_of result) (machine_of self.now) }
     {
         if !self.reaches(addr, len, Permissions::Read) {
@@ -60,7 +63,9 @@ impl<F: FileSystem, I: Iommu + Drop> Machine<F, I> {
         Answer::Bytes(bytes)
     }
 
-    fn guest_write(&mut self, addr: u64, bytes: &[u8]) -> Answer
+    /// The guest writes bytes from a physical address on: `Done`, or refused `NoPlace` where it doesn't reach all of them,
+    /// and then nothing changed.
+    pub fn guest_write(&mut self, addr: u64, bytes: &[u8]) -> Answer
         ensures { Performs F.may (machine_of self.old) (GuestWrite addr bytes.now) [] (answer_of result) (machine_of self.new) }
     {
         if !self.reaches(addr, bytes.len(), Permissions::Write) {

@@ -4,6 +4,8 @@
 #[cfg(test)]
 mod copies;
 #[cfg(test)]
+mod events;
+#[cfg(test)]
 mod harvests;
 #[cfg(test)]
 mod layouts;

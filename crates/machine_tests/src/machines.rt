@@ -36,8 +36,8 @@ pub fn expect_refusal(
     expect_same(rt, refusal_of(&answer), Some(number));
 }
 
-// The number of the refusal that an answer is; 0 is none.
-fn refusal_of(answer: &Answer) -> Option<u8> {
+/// The number of the refusal that an answer is; 0 is none.
+pub fn refusal_of(answer: &Answer) -> Option<u8> {
     match answer {
         Answer::Done => Some(0),
         Answer::Refused(refusal) => Some(refusal.number()),
@@ -53,8 +53,8 @@ fn block_of(answer: &Answer) -> Option<usize> {
     }
 }
 
-// The bytes that an answer holds.
-fn bytes_of(answer: &Answer) -> Option<&[u8]> {
+/// The bytes that an answer holds.
+pub fn bytes_of(answer: &Answer) -> Option<&[u8]> {
     match answer {
         Answer::Bytes(bytes) => Some(bytes.as_slice()),
         _ => None,
