@@ -30,10 +30,11 @@ zeros_made size before after layout none made =
 
 -- a step on what was offered
 pub is_asked : (s after : State Directory) (chain chain' : ℕ) (request reply : List ℕ) (m : Memory) (x : Exchange) (notice : Bool) → m ≡ offered s.memory chain request →
-    ReadingStep (record s { memory = m }) 0 (Exchanged x notice) after → reply_at after.memory chain ≡ Some reply → chain ≡ chain' → IsAsked s chain' request reply after
-is_asked s after chain chain' request reply m x notice stored step found same =
+    ReadingStep (record s { memory = m }) 0 (Exchanged x notice) after → x.request ≡ request → x.reply ≡ reply → reply_at after.memory chain ≡ Some reply → chain ≡ chain' →
+    IsAsked s chain' request reply after
+is_asked s after chain chain' request reply m x notice stored step asks replies found same =
     subst (λ (n : ℕ). IsAsked s n request reply after) same
-    (x, notice, subst (λ (k : Memory). ReadingStep (record s { memory = k }) 0 (Exchanged x notice) after) stored step, found)
+    (x, notice, subst (λ (k : Memory). ReadingStep (record s { memory = k }) 0 (Exchanged x notice) after) stored step, asks, replies, found)
 
 -- a good reply, by what follows its header
 pub good_reply : (reply piece : List ℕ) (unique : ℕ) → reply ≡ good_header (16 + length piece) unique ++ piece → reply ≡ reply_bytes unique piece

@@ -45,11 +45,11 @@ pub record IsNew (files : List File) (s : State Directory) : Type 0 where
   pub page_size : s.page_size ≡ 4096
 
 -- a request is offered in the guest's memory as the chain of this number, and in the step that follows the device exchanges a
--- chain; the reply is what the guest then finds in its room by the used ring
+-- chain, by which this request is replied to; that reply is what the guest then finds in its room by the used ring
 abbrev pub IsAsked : State Directory → (chain : ℕ) → (request reply : List ℕ) → State Directory → Type 0
 IsAsked s chain request reply after =
     (x : Exchange) × (notice : Bool) × ReadingStep (record s { memory = offered s.memory chain request }) 0 (Exchanged x notice) after
-    × (reply_at after.memory chain ≡ Some reply)
+    × (x.request ≡ request) × (x.reply ≡ reply) × (reply_at after.memory chain ≡ Some reply)
 
 -- a request is asked, and the guest finds the good reply to the request of this unique number in its room, with this piece behind the header
 abbrev pub GetsPiece : State Directory → (chain unique : ℕ) → (request piece : List ℕ) → State Directory → Type 0

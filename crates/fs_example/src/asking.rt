@@ -1,6 +1,6 @@
 //! What a monitor does: one request after another.
 
-ghost use Rattle.std.specs.Prelude.{◌≡◌, ◌+◌, ◌%◌, ◌<◌, ◌^◌, length, IfOk};
+ghost use Rattle.std.specs.Prelude.{◌≡◌, ◌+◌, ◌%◌, ◌<◌, ◌^◌, true, length, IfOk};
 ghost use Rattle.vm_memory_core.specs.Host.{shape};
 ghost use Rattle.virtiofsd_fuse.specs.Grammar.{reply_bytes};
 ghost use Rattle.fs_device.specs.Step.{State};
@@ -56,9 +56,10 @@ impl<'a> Monitor<'a> {
     }
 
     /// The guest offers a request as its next chain, the device takes a step, and the guest reads the reply from its
-    /// memory, as long as the used ring says. `NoReply`: the device finds no chain, it has not returned this one, or it
-    /// did with more bytes than the room has. A request longer than 52 KiB has no place in memory (`Place`). After `Device`
-    /// the monitor is of no more use: its chain still waits.
+    /// memory, as long as the used ring says. `NoReply`: the device finds no chain, the one that it takes asks something
+    /// else, it has not returned this one, or it did with more bytes than the room has or others than it replied. A
+    /// request longer than 52 KiB has no place in memory (`Place`). After `Device` the monitor is of no more use: its
+    /// chain still waits.
     pub fn ask(&mut self, request: &[u8]) -> Result<Vec<u8>, MonitorError>
         ensures asked { IfOk result (λ reply.
             IsAsked (machine_of_monitor self.old) ((chains_of self.old + 1) % 2 ^ 16) request.now reply.items (machine_of_monitor self.new)) }
@@ -69,13 +70,23 @@ impl<'a> Monitor<'a> {
         let chain = self.offered.wrapping_add(1);
         offer(&mut self.host, &self.mem, chain, request)?;
         self.offered = chain;
-        let Some(_) = step_directory(self.alloc, &mut self.device, &mut self.host, &self.mem, 0)?
+        let Some(exchanged) = step_directory(
+            self.alloc,
+            &mut self.device,
+            &mut self.host,
+            &self.mem,
+            0,
+        )?
         else {
             return Err(MonitorError::NoReply);
         };
-        match reply(self.alloc, &self.host, &self.mem, chain)? {
-            Some(reply) => Ok(reply),
-            None => Err(MonitorError::NoReply),
+        let Some(found) = reply(self.alloc, &self.host, &self.mem, chain)? else {
+            return Err(MonitorError::NoReply);
+        };
+        if are_same(&exchanged.0.request, request) && are_same(&exchanged.0.reply, &found) {
+            Ok(found)
+        } else {
+            Err(MonitorError::NoReply)
         }
     }
 
@@ -101,6 +112,13 @@ impl<'a> Monitor<'a> {
         }
         Err(MonitorError::NoReply)
     }
+}
+
+// Whether the same bytes stand in two places.
+fn are_same(bytes: &[u8], others: &[u8]) -> bool
+    ensures { result ≡ true → bytes.now ≡ others.now }
+{
+    *bytes == *others
 }
 
 // What follows the header of the reply to a request, unless that tells an error.
