@@ -1,5 +1,6 @@
 //! Measures windows of memory, memory of many regions, whole kicks, kicks behind an IOMMU and what a move to
-//! another host takes beside plain slice copies, and page marks beside bare steps on atomic words.
+//! another host takes beside plain slice copies, page marks beside bare steps on atomic words, and kicks of a device
+//! that threads share.
 //!
 //! Without an argument each case runs a few times, and the checksum of what was done is printed. An argument is how
 //! many samples are taken of each case; the times are then printed on standard error.
@@ -15,6 +16,7 @@ mod moves;
 mod pages;
 mod plain;
 mod regions;
+mod shared;
 mod window;
 
 use fault::BenchFault;
@@ -25,10 +27,14 @@ use moves::measure_moves;
 use pages::measure_pages;
 use plain::measure_copies;
 use regions::measure_regions;
+use shared::measure_shared;
 use std::alloc::{Alloc, Global};
 use std::env::{self, Env};
 use std::io;
+use std::marker::Brand;
 use std::process::ExitCode;
+use std::sync::Wait;
+use std::sync::ledger::Blank;
 use std::thread::Threads;
 use std::time::Clock;
 use window::measure_windows;
@@ -42,7 +48,7 @@ fn samples_asked<R: Env + Alloc>(rt: &R) -> io::Result<Option<usize>> {
 }
 
 // Runs each family of cases, and answers the checksum.
-fn run<R: Clock + Eprint + Threads + Sync>(
+fn run<R: Clock + Eprint + Threads + Wait + Sync>(
     rt: &R,
     alloc: Global,
     samples: Option<usize>,
@@ -54,6 +60,7 @@ fn run<R: Clock + Eprint + Threads + Sync>(
     measure_kicks(&mut meter, alloc)?;
     measure_mappings(&mut meter, alloc)?;
     measure_pages(&mut meter, rt, alloc)?;
+    measure_shared::<Brand, _>(&mut meter, rt, alloc, Blank::new(8))?;
     measure_moves(&mut meter, alloc)?;
     Ok(meter.checksum())
 }

@@ -1,0 +1,11 @@
+pub mod Forgetting
+pub mod Appending
+pub mod Returning
+pub mod Replaying
+pub mod KickLemmas
+pub mod PageLemmas
+pub mod ActLemmas
+pub mod CallLemmas
+pub mod ReadLemmas
+pub mod Written
+pub mod Differing

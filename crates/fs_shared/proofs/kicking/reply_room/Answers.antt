@@ -1,0 +1,15 @@
+use Rattle.std.proofs.Common.{◌∙◌, arith}
+use Rattle.fs_shared.proofs.kicking.reply_room.Goals as goal
+
+pub returns : goal.returns
+returns g c =
+    let runs = c.in_ok-runs.runs in record {
+      request = c.in_ok-from_slice.ensures.items ∙ c.request.ensures;
+      reply = c.in_ok-reply_buffer.ensures.empty;
+      reply_fits = rw c.taken-2.ensures at c.in_ok-reply_buffer.ensures.fits;
+      runs = rw c.taken.ensures at c.in_ok-runs.ensures;
+      pages = c.in_ok-with_capacity.ensures.items;
+      pages_fit = omega (arith, c.len.ensures, c.len-2.ensures, c.in_ok-with_capacity.ensures.capacity, runs.room.ok.0, runs.used.ok.0);
+      copy = c.in_ok-with_capacity-2.ensures.items;
+      copy_fits = omega (arith, c.len.ensures, c.len-2.ensures, c.in_ok-with_capacity-2.ensures.capacity, runs.room.ok.0, runs.used.ok.0);
+    }

@@ -1,0 +1,19 @@
+use Rattle.fs_device.specs.MachineView.{machine_of}
+use Rattle.fs_device.specs.Run.{GuestWrite}
+use Rattle.fs_shared.specs.Held.{journal_of}
+use Rattle.fs_shared.proofs.CallLemmas.{act_replays, act_starts}
+use Rattle.fs_shared.proofs.state.SharedState.guest_write.Goals as goal
+
+pub invariant_of-self : goal.invariant_of-self
+invariant_of-self g c =
+    let s = c.self.inside in
+    let new = c.write_into.new in (
+      act_replays g.F.FileSystemBase.may s.start (machine_of s.machine) (machine_of new.machine) (journal_of s.journal.items) (journal_of new.journal.items) (GuestWrite c.args.addr c.args.bytes.now) c.write_into.result c.self.invariant.0 c.write_into.ensures.write,
+      c.write_into.ensures.total c.self.invariant.1,
+    )
+
+pub returns-clause-write : goal.returns-clause-write
+returns-clause-write g c =
+    let s = c.self.inside in
+    let new = c.write_into.new in
+    rw (← c.self.view_is) (act_starts g.F.FileSystemBase.may s.start (machine_of s.machine) (machine_of new.machine) (journal_of s.journal.items) (journal_of new.journal.items) (GuestWrite c.args.addr c.args.bytes.now) c.write_into.result c.write_into.ensures.write)

@@ -1,0 +1,60 @@
+-- What the calls on the state under the lock do, by cases on the answer.
+use Rattle.std.specs.Prelude.{◌≡◌, ℕ, Bool, true, false, [], ◌∷◌, ◌++◌, length, Result, Ok, Err, Vec}
+use Rattle.std.specs.Global.{Global}
+use Rattle.fs_queue.specs.declared.fault.QueueError.TheVariants as stop
+use Rattle.virtiofsd_fuse.specs.Serving.{May}
+use Rattle.fs_device.specs.declared.error.DeviceError.{DeviceError}
+use Rattle.fs_device.specs.declared.error.DeviceError.TheVariants as device
+use Rattle.fs_device.specs.declared.refusal.Refusal.{Refusal}
+use Rattle.fs_device.specs.declared.refusal.Refusal.TheVariants as why
+use Rattle.fs_device.specs.Step as step
+use Rattle.fs_device.specs.Step.{State, Step}
+use Rattle.fs_device.specs.Run.{Command, GuestRead, Kick, Affects, Bytes, IsRefused, Performs}
+use Rattle.fs_device.specs.CommandView.{command_of}
+use Rattle.fs_shared.specs.declared.entry.Kicked as kicked
+use Rattle.fs_shared.specs.declared.entry.Receipt.{Receipt}
+use Rattle.fs_shared.specs.Replay.{Plays}
+use Rattle.fs_shared.specs.Held.{HasQueue, Held, came_of}
+
+-- one entry more, which is what the call did, and the receipt of it
+pub record Journals {F : Type 0} (may : May F) (before : Held F) (command : Command) (r : Receipt) (after : Held F) : Type 0 where
+  pub plays : Plays may before.machine command (came_of r.outcome) r.pages.items after.machine
+  pub journal : after.journal ≡
+      before.journal ++ record { command = command; outcome = came_of r.outcome; options = after.machine.options; pages = r.pages.items } ∷ []
+  pub start : after.start ≡ before.start
+  pub number : r.number ≡ length before.journal
+  pub receipt : command_of r.command ≡ command
+
+-- a step of queue i that changes nothing, and ends so
+abbrev pub Stays : {F : Type 0} → May F → Held F → ℕ → step.Outcome → Held F → Type 0
+Stays may before i outcome after = Step may before.machine i [] outcome before.machine × (after ≡ before)
+
+-- a kick for one chain: nothing waits, the queue is stopped or it is missing only where the step says so; want of memory changes nothing, and comes of a queue that is there
+abbrev pub KicksBy : {F : Type 0} → May F → Held F → ℕ → Result (kicked.Kicked) DeviceError → Held F → Type 0
+KicksBy may before i (Ok (kicked.TheVariants.Done r)) after = Journals may before (Kick i 1) r after
+KicksBy may before i (Ok kicked.TheVariants.Idle) after = Stays may before i step.Idle after
+KicksBy may before i (Err device.NoSuchQueue) after = Stays may before i (step.Refused device.NoSuchQueue) after
+KicksBy may before i (Err (device.Queue stop.Stopped)) after = Stays may before i (step.Refused (device.Queue stop.Stopped)) after
+KicksBy may before i (Err (device.Queue stop.OutOfMemory)) after = HasQueue before.machine i × (after ≡ before)
+KicksBy may before i (Err (device.Queue _)) after = ⊥
+
+-- a guest's write or another layout: refused only where the machine refuses it so; want of memory changes nothing
+abbrev pub ActsBy : {F : Type 0} → May F → Held F → Command → Result Receipt Refusal → Held F → Type 0
+ActsBy may before command (Ok r) after = Journals may before command r after
+ActsBy may before command (Err why.OutOfMemory) after = after ≡ before
+ActsBy may before command (Err e) after = Affects before.machine command (IsRefused e) before.machine × (after ≡ before)
+
+-- a guest's read: what the machine answers to it, and nothing changes
+abbrev pub ReadsBy : {F : Type 0} → May F → Held F → (addr len : ℕ) → Result (Vec ℕ Global) Refusal → Type 0
+ReadsBy may held addr len (Ok bytes) = Performs may held.machine (GuestRead addr len) [] (Bytes bytes.items) held.machine
+ReadsBy may held addr len (Err e) = Performs may held.machine (GuestRead addr len) [] (IsRefused e) held.machine
+
+-- whether a kick was journaled
+abbrev pub did_kick : Result (kicked.Kicked) DeviceError → Bool
+did_kick (Ok (kicked.TheVariants.Done r)) = true
+did_kick _ = false
+
+-- whether another call was
+abbrev pub did : Result Receipt Refusal → Bool
+did (Ok r) = true
+did (Err e) = false

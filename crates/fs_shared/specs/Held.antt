@@ -1,0 +1,56 @@
+-- What lies under the lock, and what its journal says.
+use Rattle.std.specs.Prelude.{ℕ, Bool, List, map, IsSome, slice_get}
+use Rattle.fs_device.specs.Step.{State}
+use Rattle.fs_device.specs.CommandView.{command_of}
+use Rattle.fs_device.specs.DeviceView.{exchange_of}
+use Rattle.fs_shared.specs.declared.entry.Outcome as told
+use Rattle.fs_shared.specs.declared.entry.JournalEntry.{JournalEntry}
+use Rattle.fs_shared.specs.declared.entry.Start.{Start}
+use Rattle.fs_shared.specs.Replay.{Outcome, Done, Served, Stopped, Entry}
+
+-- there is a queue of this number
+abbrev pub HasQueue : {F : Type 0} → State F → ℕ → Type 0
+HasQueue s i = IsSome (slice_get s.queues i)
+
+-- what came of a call
+abbrev pub came_of : told.Outcome → Outcome
+came_of told.TheVariants.Done = Done
+came_of (told.TheVariants.Served x notice) = Served (exchange_of x) notice
+came_of (told.TheVariants.Stopped e) = Stopped e
+
+-- an entry of the journal
+abbrev pub entry_of : JournalEntry → Entry
+entry_of e = record { command = command_of e.command; outcome = came_of e.outcome; options = e.options.0; pages = e.pages.items }
+
+-- the journal
+abbrev pub journal_of : List JournalEntry → List Entry
+journal_of entries = map entry_of entries
+
+-- what no call on a shared device changes: the numbers of the table and of the set of I/O pages, whether the table is used, the limit and the page size
+pub record Fixed : Type 0 where
+  pub table : ℕ
+  pub io_pages : ℕ
+  pub translates : Bool
+  pub limit : ℕ
+  pub page_size : ℕ
+
+-- those of a state
+abbrev pub fixed_of : {F : Type 0} → State F → Fixed
+fixed_of s = record { table = s.memory.table; io_pages = s.memory.io_pages; translates = s.memory.translates; limit = s.limit; page_size = s.page_size }
+
+-- the state in which the journal began
+abbrev pub start_of : Start → Fixed → State (Unit {0})
+start_of start fixed = record {
+  memory = record { host = start.host; layout = start.layout; table = fixed.table; io_pages = fixed.io_pages; translates = fixed.translates };
+  queues = start.queues.items;
+  options = start.options.0;
+  files = tt;
+  limit = fixed.limit;
+  page_size = fixed.page_size;
+}
+
+-- the machine, the state in which the journal began, and the journal
+pub record Held (F : Type 0) : Type 0 where
+  pub machine : State F
+  pub start : State (Unit {0})
+  pub journal : List Entry

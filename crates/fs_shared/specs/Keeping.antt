@@ -1,0 +1,57 @@
+-- What a machine did, as it is kept for a journal and for a receipt.
+use Rattle.std.specs.Prelude.{◌≡◌, ◌≤◌, ◌+◌, ℕ, List, [], length, Option, Some, None, Result, Ok, Err, vec_capacity}
+use Rattle.fs_queue.specs.declared.fault.QueueError.TheVariants as stop
+use Rattle.fs_queue.specs.Windows.{room_places}
+use Rattle.virtiofsd_fuse.specs.Serving.{May}
+use Rattle.fs_device.specs.declared.error.DeviceError.{DeviceError}
+use Rattle.fs_device.specs.declared.error.DeviceError.TheVariants as device
+use Rattle.fs_device.specs.declared.pending_request.PendingRequest.{PendingRequest}
+use Rattle.fs_device.specs.declared.refusal.Refusal.{Refusal}
+use Rattle.fs_device.specs.declared.refusal.Refusal.TheVariants as why
+use Rattle.fs_device.specs.Step as step
+use Rattle.fs_device.specs.Step.{State, Step}
+use Rattle.fs_device.specs.Run.{Command, Kick, Affects, IsRefused}
+use Rattle.fs_device.specs.CommandView.{command_of}
+use Rattle.fs_shared.specs.declared.kept.Kept.{Kept}
+use Rattle.fs_shared.specs.declared.kicking.ReplyRoom.{ReplyRoom}
+use Rattle.fs_shared.specs.Held.{HasQueue, came_of}
+use Rattle.fs_shared.specs.Replay.{Plays}
+use Rattle.fs_shared.specs.ReturnRuns.{AreReturnRuns}
+
+-- an event of a machine, and the same for the receipt
+pub record Keeps {F : Type 0} (may : May F) (before : State F) (command : Command) (kept : Kept) (after : State F) : Type 0 where
+  pub plays : Plays may before command (came_of kept.entry.outcome) kept.entry.pages.items after
+  pub entry : command_of kept.entry.command ≡ command
+  pub receipt : command_of kept.receipt.command ≡ command
+  pub outcome : came_of kept.receipt.outcome ≡ came_of kept.entry.outcome
+  pub pages : kept.receipt.pages.items ≡ kept.entry.pages.items
+
+-- a step of queue i that changes nothing, and ends so
+abbrev pub Leaves : {F : Type 0} → May F → State F → ℕ → step.Outcome → State F → Type 0
+Leaves may before i outcome after = Step may before i [] outcome before × (after ≡ before)
+
+-- a kick of a machine for one chain, by cases on the answer, as on a shared device
+abbrev pub KickKeeps : {F : Type 0} → May F → State F → ℕ → Result (Option Kept) DeviceError → State F → Type 0
+KickKeeps may before i (Ok (Some kept)) after = Keeps may before (Kick i 1) kept after
+KickKeeps may before i (Ok None) after = Leaves may before i step.Idle after
+KickKeeps may before i (Err device.NoSuchQueue) after = Leaves may before i (step.Refused device.NoSuchQueue) after
+KickKeeps may before i (Err (device.Queue stop.Stopped)) after = Leaves may before i (step.Refused (device.Queue stop.Stopped)) after
+KickKeeps may before i (Err (device.Queue stop.OutOfMemory)) after = HasQueue before i × (after ≡ before)
+KickKeeps may before i (Err (device.Queue _)) after = ⊥
+
+-- a guest's write or another layout of a machine, by cases on the answer
+abbrev pub ActKeeps : {F : Type 0} → May F → State F → Command → Result Kept Refusal → State F → Type 0
+ActKeeps may before command (Ok kept) after = Keeps may before command kept after
+ActKeeps may before command (Err why.OutOfMemory) after = after ≡ before
+ActKeeps may before command (Err e) after = Affects before command (IsRefused e) before × (after ≡ before)
+
+-- room for a copy of what is exchanged and for the pages of its return, where a chain was taken from blocks of these lengths
+pub record IsRoomFor (block_lengths : List ℕ) (pending : PendingRequest) (room : ReplyRoom) : Type 0 where
+  pub request : room.request.items ≡ pending.request.items
+  pub reply : room.reply.items ≡ []
+  pub reply_fits : room_places pending.taken.chain ≤ vec_capacity room.reply
+  pub runs : AreReturnRuns block_lengths pending.taken room.runs
+  pub pages : room.pages.items ≡ []
+  pub pages_fit : length room.runs.room.items + length room.runs.used.items ≤ vec_capacity room.pages
+  pub copy : room.pages_copy.items ≡ []
+  pub copy_fits : length room.runs.room.items + length room.runs.used.items ≤ vec_capacity room.pages_copy

@@ -1,0 +1,9 @@
+pub mod Replay
+pub mod Laws
+pub mod ReturnRuns
+pub mod Held
+pub mod Calls
+pub mod Keeping
+pub mod Audit
+pub mod Shared
+pub mod JournalPages

@@ -1,0 +1,74 @@
+-- What a journal of single events gives from its start, for some answers of the file system.
+use Rattle.std.specs.Prelude.{◌≡◌, ℕ, Bool, false, IsTrue, List, [], ◌∷◌, length}
+use Rattle.std.specs.List.{filter_map}
+use Rattle.vm_iotlb.specs.declared.permissions.Permissions.TheVariants.{Write}
+use Rattle.vm_memory_core.specs.Host.{Place, lengths}
+use Rattle.vm_memory.specs.Memory.{Memory, addresses, location, physical}
+use Rattle.fs_queue.specs.Taking.{room_of, stops_queue}
+use Rattle.virtiofsd_fuse.specs.Serving.{May}
+use Rattle.fs_device.specs.declared.error.DeviceError.{DeviceError}
+use Rattle.fs_device.specs.declared.error.DeviceError.TheVariants as device
+use Rattle.fs_device.specs.Step as step
+use Rattle.fs_device.specs.Step.{State, Exchange, Calls, Step}
+use Rattle.fs_device.specs.Run as run
+use Rattle.fs_device.specs.Run.{Command, GuestWrite, SetLayout, Kick, Affects}
+use Rattle.fs_device.specs.MarkedPages.{returned_addresses}
+use Rattle.fs_device.specs.UsedLength.{IsOffered}
+use Rattle.block_pages.specs.Pages.{ArePagesOf}
+
+-- what came of an event: it was done, a chain was exchanged, with whether the driver was told, or a refusal stopped the queue
+pub data Outcome : Type 0 where
+  Done : Outcome
+  Served : Exchange → (notice : Bool) → Outcome
+  Stopped : DeviceError → Outcome
+
+-- an event, what came of it, the options after it, and the pages of blocks that it wrote, ascending
+pub record Entry : Type 0 where
+  pub command : Command
+  pub outcome : Outcome
+  pub options : ℕ
+  pub pages : List ℕ
+
+-- any answer of a file system
+abbrev pub Anything : May (Unit {0})
+Anything = λ before call answer after. Unit {0}
+
+-- the state without its file system
+abbrev pub forget : {F : Type 0} → State F → State (Unit {0})
+forget s = record { memory = s.memory; queues = s.queues; options = s.options; files = tt; limit = s.limit; page_size = s.page_size }
+
+-- the places that are written where each of some addresses is written
+abbrev pub written_places : Memory → List ℕ → List Place
+written_places m written = filter_map (location m Write) written
+
+-- the pages of blocks that are written where each of some addresses is written
+abbrev pub WritesPages : Memory → List ℕ → List ℕ → Type 0
+WritesPages m written pages = ArePagesOf (lengths m.host) (written_places m written) pages
+
+-- an exchange writes its reply over the room, the used element and the used index
+abbrev pub ExchangesPages : {F : Type 0} → State F → ℕ → Exchange → List ℕ → Type 0
+ExchangesPages s i x pages = (o : IsOffered s i x) × WritesPages s.memory (returned_addresses o.queue x.head (room_of o.fetched) x.reply) pages
+
+-- the refusals that are journaled are those that stop a queue: the others change nothing
+abbrev pub is_journaled : DeviceError → Bool
+is_journaled device.NoSuchQueue = false
+is_journaled (device.Queue e) = stops_queue e
+
+-- one step on a queue, with this outcome and these pages
+abbrev pub Kicked : {F : Type 0} → May F → State F → ℕ → Outcome → List ℕ → State F → Type 0
+Kicked may s i Done pages after = ⊥
+Kicked may s i (Served x notice) pages after = (calls : Calls) × Step may s i calls (step.Exchanged x notice) after × ExchangesPages s i x pages
+Kicked may s i (Stopped e) pages after = IsTrue (is_journaled e) × Step may s i [] (step.Refused e) after × (pages ≡ [])
+
+-- one event: a guest's write, another layout, or a kick for one chain
+abbrev pub Plays : {F : Type 0} → May F → State F → Command → Outcome → List ℕ → State F → Type 0
+Plays may s (GuestWrite a bytes) outcome pages after =
+    (outcome ≡ Done) × Affects s (GuestWrite a bytes) run.Done after × WritesPages (physical s.memory) (addresses a (length bytes)) pages
+Plays may s (SetLayout layout) outcome pages after = (outcome ≡ Done) × Affects s (SetLayout layout) run.Done after × (pages ≡ [])
+Plays may s (Kick i most) outcome pages after = (most ≡ 1) × Kicked may s i outcome pages after
+Plays may s command outcome pages after = ⊥
+
+-- a journal replays from one state to another
+unfoldable pub Replays : State (Unit {0}) → List Entry → State (Unit {0}) → Type 0
+Replays s [] after = after ≡ s
+Replays s (e ∷ es) after = (mid : State (Unit {0})) × Plays Anything s e.command e.outcome e.pages mid × (e.options ≡ mid.options) × Replays mid es after

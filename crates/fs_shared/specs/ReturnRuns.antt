@@ -1,0 +1,25 @@
+-- Runs of the bytes that a return of a chain may write.
+use Rattle.std.specs.Prelude.{◌≡◌, ℕ, List, length, map}
+use Rattle.vm_memory_core.specs.Host.{lengths}
+use Rattle.vm_memory_core.specs.Window.{places}
+use Rattle.vm_memory.specs.Memory.{Memory}
+use Rattle.fs_queue.specs.Queue.{Queue}
+use Rattle.fs_queue.specs.Taking.{RequestAndRoom, room_of}
+use Rattle.fs_queue.specs.Windows.{IsTaken, chain_places}
+use Rattle.fs_queue.specs.declared.chain.Taken.{Taken}
+use Rattle.block_pages.specs.Pages.{page_of}
+use Rattle.block_pages.specs.Runs.{AreRuns}
+use Rattle.fs_device.specs.MarkedPages.{returned_addresses}
+use Rattle.fs_shared.specs.Replay.{WritesPages}
+use Rattle.fs_shared.specs.declared.return_pages.ReturnRuns.{ReturnRuns}
+
+-- those of the places of its room, and those of the places of the used element and the used index
+pub record AreReturnRuns (block_lengths : List ℕ) (t : Taken) (runs : ReturnRuns) : Type 0 where
+  pub room : AreRuns (map (page_of block_lengths) (chain_places t.chain)) runs.room.items
+  pub used : AreRuns (map (page_of block_lengths) (places t.return_windows.used.items)) runs.used.items
+
+-- the pages that a return writes, with a reply of this length, where a chain was taken whose runs these are; used element and index have 10 bytes
+abbrev pub AreReturnPages : ReturnRuns → (reply_len : ℕ) → (pages : List ℕ) → Type 0
+AreReturnPages runs reply_len pages =
+    (m : Memory) (q : Queue) (fetched : RequestAndRoom) (t : Taken) (head : ℕ) (reply : List ℕ) → AreReturnRuns (lengths m.host) t runs → IsTaken m q fetched t →
+    length (places t.return_windows.used.items) ≡ 10 → length reply ≡ reply_len → WritesPages m (returned_addresses q head (room_of fetched) reply) pages

@@ -1,0 +1,140 @@
+//! A guest's write and another layout, of which what is told is kept twice. It has room before anything changes.
+
+ghost use Rattle.std.specs.Prelude.{◌≡◌, [], true, IfOk, length};
+ghost use Rattle.vm_iotlb.specs.declared.permissions.Permissions.TheVariants.{Write};
+ghost use Rattle.vm_memory.specs.Memory.{addresses, memory_of, reach};
+ghost use Rattle.fs_device.specs.Run.{GuestWrite, SetLayout};
+ghost use Rattle.fs_device.specs.CommandView.{command_of};
+ghost use Rattle.fs_device.specs.MachineView.{machine_of};
+ghost use Rattle.fs_shared.specs.Held.{came_of};
+ghost use Rattle.fs_shared.specs.Keeping.{ActKeeps};
+ghost use Rattle.fs_shared.specs.Replay.{Done, WritesPages};
+
+use crate::entry::Outcome;
+use crate::kept::{Event, Kept};
+use block_pages::{page_runs, written_pages};
+use fs_device::{Answer, Command, Machine, Refusal};
+use fuse_fs::FileSystem;
+use std::alloc::{AllocError, Global};
+use vm_memory::{GuestMemory, GuestMemoryMmap, Iommu};
+use vm_memory_core::{GuestAddress, HostBlocks, Permissions, Windows};
+
+// The pages of bytes that a guest writes, from a physical address on; it reaches them.
+fn write_pages<H: HostBlocks>(
+    alloc: Global,
+    host: &H,
+    layout: &GuestMemoryMmap,
+    addr: u64,
+    len: usize,
+) -> Result<Vec<usize>, AllocError>
+    requires { reach (memory_of (H.host host.now) layout.now) Write addr len ≡ true }
+    ensures { IfOk result (λ pages. WritesPages (memory_of (H.host host.now) layout.now) (addresses addr len) pages.items) }
+{
+    let mut windows = Windows::new(alloc);
+    layout.push_windows(
+        alloc,
+        host,
+        GuestAddress(addr),
+        len,
+        Permissions::Write,
+        &mut windows,
+    )?;
+    let runs = page_runs(alloc, host, &windows)?;
+    let mut pages = Vec::with_capacity(alloc, runs.len())?;
+    written_pages(&mut pages, &runs, len, &[], 0);
+    Ok(pages)
+}
+
+// A guest's write that was done, and its pages.
+fn write_event(
+    alloc: Global,
+    addr: u64,
+    bytes: &[u8],
+    pages: Vec<usize>,
+) -> Result<Event, AllocError>
+    ensures command { IfOk result (λ event. command_of event.command ≡ GuestWrite addr bytes.now) }
+    ensures outcome { IfOk result (λ event. came_of event.outcome ≡ Done) }
+    ensures pages { IfOk result (λ event. event.pages.items ≡ pages.items) }
+{
+    Ok(Event {
+        command: Command::GuestWrite {
+            addr,
+            bytes: Vec::from_slice(alloc, bytes)?,
+        },
+        outcome: Outcome::Done,
+        pages,
+    })
+}
+
+// What is told of a guest's write of these pages.
+fn kept_write(alloc: Global, addr: u64, bytes: &[u8], pages: Vec<usize>) -> Result<Kept, AllocError>
+    ensures entry { IfOk result (λ kept. (command_of kept.entry.command ≡ GuestWrite addr bytes.now) × (came_of kept.entry.outcome ≡ Done)
+        × (kept.entry.pages.items ≡ pages.items)) }
+    ensures receipt { IfOk result (λ kept. (command_of kept.receipt.command ≡ GuestWrite addr bytes.now) × (came_of kept.receipt.outcome ≡ Done)
+        × (kept.receipt.pages.items ≡ pages.items)) }
+{
+    let copy = Vec::from_slice(alloc, &pages)?;
+    Ok(Kept {
+        entry: write_event(alloc, addr, bytes, pages)?,
+        receipt: write_event(alloc, addr, bytes, copy)?,
+    })
+}
+
+/// The guest writes bytes from a physical address on, and what is told of it is kept: refused where it doesn't reach all
+/// of them, or for want of memory, and then nothing changes.
+pub(crate) fn write_kept<F: FileSystem, I: Iommu + Drop>(
+    alloc: Global,
+    machine: &mut Machine<F, I>,
+    addr: u64,
+    bytes: &[u8],
+) -> Result<Kept, Refusal>
+    ensures { ActKeeps F.may (machine_of machine.old) (GuestWrite addr bytes.now) result (machine_of machine.new) }
+{
+    if !machine.reaches(addr, bytes.len(), Permissions::Write) {
+        return Err(Refusal::NoPlace);
+    }
+    let layout = machine.mem.get_backend();
+    let Ok(pages) = write_pages(alloc, &machine.host, layout, addr, bytes.len()) else {
+        return Err(Refusal::OutOfMemory);
+    };
+    let Ok(kept) = kept_write(alloc, addr, bytes, pages) else {
+        return Err(Refusal::OutOfMemory);
+    };
+    // It reaches, so it isn't refused.
+    let _ = machine.guest_write(addr, bytes);
+    Ok(kept)
+}
+
+// Another layout that was set; no page is written.
+fn layout_event(alloc: Global, layout: GuestMemoryMmap) -> Event
+    ensures command { command_of result.command ≡ SetLayout layout }
+    ensures outcome { came_of result.outcome ≡ Done }
+    ensures pages { result.pages.items ≡ [] }
+{
+    Event {
+        command: Command::SetLayout(layout),
+        outcome: Outcome::Done,
+        pages: Vec::new(alloc),
+    }
+}
+
+/// Other regions take the place of all that are there, and what is told of it is kept: refused where one of them lies over
+/// a block that the host doesn't have so, or for want of memory, and then nothing changes.
+pub(crate) fn layout_kept<F: FileSystem, I: Iommu + Drop>(
+    alloc: Global,
+    machine: &mut Machine<F, I>,
+    layout: GuestMemoryMmap,
+) -> Result<Kept, Refusal>
+    ensures { ActKeeps F.may (machine_of machine.old) (SetLayout layout) result (machine_of machine.new) }
+{
+    let (Ok(first), Ok(second)) = (layout.try_clone(), layout.try_clone()) else {
+        return Err(Refusal::OutOfMemory);
+    };
+    match machine.set_layout(layout) {
+        Answer::Refused(refusal) => Err(refusal),
+        _ => Ok(Kept {
+            entry: layout_event(alloc, first),
+            receipt: layout_event(alloc, second),
+        }),
+    }
+}

@@ -1,0 +1,73 @@
+//! Whether receipts say all that a journal says.
+
+ghost use Rattle.std.specs.Prelude.{◌≡◌, ◌↔◌, ◌<◌, ℕ, IsTrue, All};
+ghost use Rattle.fs_shared.specs.Audit.{AreAllReceipts, IsTold, Tells, times};
+
+use crate::entry::{JournalEntry, Receipt};
+use crate::same_command::same_command;
+use crate::same_outcome::same_outcome;
+
+// Whether a receipt says what an entry says.
+fn tells(entry: &JournalEntry, receipt: &Receipt) -> bool
+    ensures { IsTrue result ↔ Tells entry.now receipt.now }
+{
+    same_command(&entry.command, &receipt.command)
+        && same_outcome(&entry.outcome, &receipt.outcome)
+        && receipt.pages.as_slice() == entry.pages.as_slice()
+}
+
+// Whether a receipt has the number of an entry, and says what that says.
+fn is_told(journal: &[JournalEntry], receipt: &Receipt) -> bool
+    ensures { IsTrue result ↔ IsTold journal.now receipt.now }
+{
+    match journal.get(receipt.number) {
+        Some(entry) => tells(entry, receipt),
+        None => false,
+    }
+}
+
+// How many receipts have a number.
+fn times(receipts: &[Receipt], number: usize) -> usize
+    ensures { result ≡ times number receipts.now }
+{
+    let mut count = 0;
+    for receipt in receipts {
+        if receipt.number == number {
+            count += 1;
+        }
+    }
+    count
+}
+
+// Whether each receipt says what the entry of its number says.
+fn all_told(journal: &[JournalEntry], receipts: &[Receipt]) -> bool
+    ensures { IsTrue result ↔ All (IsTold journal.now) receipts.now }
+{
+    for receipt in receipts {
+        if !is_told(journal, receipt) {
+            return false;
+        }
+    }
+    true
+}
+
+// Whether each number below a count is that of one receipt.
+fn each_once(count: usize, receipts: &[Receipt]) -> bool
+    ensures { IsTrue result ↔ ((number : ℕ) → number < count → times number receipts.now ≡ 1) }
+{
+    for number in 0..count {
+        if times(receipts, number) != 1 {
+            return false;
+        }
+    }
+    true
+}
+
+/// Whether some receipts say all that a journal says: their numbers are 0 up to the journal's length, each once, and each
+/// has the command, the outcome and the pages of the entry of its number. Layouts are compared by the base, the length
+/// and the block of each region. It takes no memory, and looks at each receipt once for each entry.
+pub fn audit(journal: &[JournalEntry], receipts: &[Receipt]) -> bool
+    ensures { IsTrue result ↔ AreAllReceipts journal.now receipts.now }
+{
+    all_told(journal, receipts) && each_once(journal.len(), receipts)
+}

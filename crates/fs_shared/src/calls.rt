@@ -1,0 +1,189 @@
+//! The calls on what lies under the lock. Each is one event, and is journaled with its receipt or changes nothing.
+
+ghost use Rattle.std.specs.Prelude.{◌≡◌, vec_len};
+ghost use Rattle.device_shares.specs.Portion.{counted};
+ghost use Rattle.fs_device.specs.MachineView.{machine_of};
+ghost use Rattle.fs_device.specs.Run.{GuestWrite, SetLayout};
+ghost use Rattle.fs_device.specs.Step.{State};
+ghost use Rattle.fs_shared.specs.Calls.{ActsBy, KicksBy, ReadsBy, did, did_kick};
+ghost use Rattle.fs_shared.specs.Held.{journal_of};
+
+use crate::acting::{layout_kept, write_kept};
+use crate::entry::{JournalEntry, Kicked, Receipt};
+use crate::kept::journal_kept;
+use crate::kicking::kick_kept;
+use crate::state::SharedState;
+use device_shares::Share;
+use fs_device::{Answer, DeviceError, Machine, Refusal};
+use fs_queue::QueueError;
+use fuse_fs::FileSystem;
+use std::alloc::Global;
+use std::sync::ledger::{Book, Ledger};
+use vm_memory::{GuestMemoryMmap, Iommu};
+
+// Serves the next chain of a queue of a machine, and journals what came of it. The entry has room before a chain is taken.
+fn kick_into<L: Ledger, F: FileSystem, I: Iommu + Drop>(
+    alloc: Global,
+    machine: &mut Machine<F, I>,
+    journal: &mut Vec<JournalEntry>,
+    calls: &mut Book<L>,
+    share: &mut Share<L>,
+    queue: usize,
+) -> Result<Kicked, DeviceError>
+    ensures kick { (start : State (Unit {0})) →
+        KicksBy F.may (record { machine = machine_of machine.old; start = start; journal = journal_of journal.old.items }) queue result
+        (record { machine = machine_of machine.new; start = start; journal = journal_of journal.new.items }) }
+    ensures total { calls.old.total ≡ vec_len journal.old → calls.new.total ≡ vec_len journal.new }
+    ensures share { share.new ≡ counted share.old (did_kick result) }
+{
+    if machine.device.queue(queue).is_none() {
+        return Err(DeviceError::NoSuchQueue);
+    }
+    if journal.reserve(1).is_err() {
+        return Err(DeviceError::Queue(QueueError::OutOfMemory));
+    }
+    match kick_kept(alloc, machine, queue) {
+        Ok(Some(kept)) => {
+            let options = machine.device.server().options();
+            Ok(Kicked::Done(journal_kept(journal, calls, share, options, kept)))
+        }
+        Ok(None) => Ok(Kicked::Idle),
+        Err(error) => Err(error),
+    }
+}
+
+// Writes a guest's bytes, and journals that. The entry has room before anything is written.
+fn write_into<L: Ledger, F: FileSystem, I: Iommu + Drop>(
+    alloc: Global,
+    machine: &mut Machine<F, I>,
+    journal: &mut Vec<JournalEntry>,
+    calls: &mut Book<L>,
+    share: &mut Share<L>,
+    addr: u64,
+    bytes: &[u8],
+) -> Result<Receipt, Refusal>
+    ensures write { (start : State (Unit {0})) →
+        ActsBy F.may (record { machine = machine_of machine.old; start = start; journal = journal_of journal.old.items }) (GuestWrite addr bytes.now) result
+        (record { machine = machine_of machine.new; start = start; journal = journal_of journal.new.items }) }
+    ensures total { calls.old.total ≡ vec_len journal.old → calls.new.total ≡ vec_len journal.new }
+    ensures share { share.new ≡ counted share.old (did result) }
+{
+    if journal.reserve(1).is_err() {
+        return Err(Refusal::OutOfMemory);
+    }
+    match write_kept(alloc, machine, addr, bytes) {
+        Ok(kept) => {
+            let options = machine.device.server().options();
+            Ok(journal_kept(journal, calls, share, options, kept))
+        }
+        Err(refusal) => Err(refusal),
+    }
+}
+
+// Takes another layout, and journals that. The entry has room before anything is changed.
+fn layout_into<L: Ledger, F: FileSystem, I: Iommu + Drop>(
+    alloc: Global,
+    machine: &mut Machine<F, I>,
+    journal: &mut Vec<JournalEntry>,
+    calls: &mut Book<L>,
+    share: &mut Share<L>,
+    layout: GuestMemoryMmap,
+) -> Result<Receipt, Refusal>
+    ensures layout { (start : State (Unit {0})) →
+        ActsBy F.may (record { machine = machine_of machine.old; start = start; journal = journal_of journal.old.items }) (SetLayout layout) result
+        (record { machine = machine_of machine.new; start = start; journal = journal_of journal.new.items }) }
+    ensures total { calls.old.total ≡ vec_len journal.old → calls.new.total ≡ vec_len journal.new }
+    ensures share { share.new ≡ counted share.old (did result) }
+{
+    if journal.reserve(1).is_err() {
+        return Err(Refusal::OutOfMemory);
+    }
+    match layout_kept(alloc, machine, layout) {
+        Ok(kept) => {
+            let options = machine.device.server().options();
+            Ok(journal_kept(journal, calls, share, options, kept))
+        }
+        Err(refusal) => Err(refusal),
+    }
+}
+
+impl<L: Ledger, F: FileSystem, I: Iommu + Drop> SharedState<L, F, I> {
+    /// Serves the next chain of a queue, by its number from 0 (VIRTIO 1.2, 2.7.13 and 2.7.8). What is done is journaled, and
+    /// nothing is done before its entry and its receipt have room. A refusal that stops the queue is journaled too; `Idle`,
+    /// `NoSuchQueue`, `Stopped` and `OutOfMemory` change nothing.
+    pub fn kick(
+        &mut self,
+        alloc: Global,
+        share: &mut Share<L>,
+        queue: usize,
+    ) -> Result<Kicked, DeviceError>
+        ensures kick { KicksBy F.may self.old queue result self.new }
+        ensures share { share.new ≡ counted share.old (did_kick result) }
+    {
+        kick_into(
+            alloc,
+            &mut self.machine,
+            &mut self.journal,
+            &mut self.calls,
+            share,
+            queue,
+        )
+    }
+
+    /// The guest writes bytes from a physical address on, and that is journaled; refused `NoPlace` where it doesn't reach all
+    /// of them, or `OutOfMemory`, and then nothing changes.
+    pub fn guest_write(
+        &mut self,
+        alloc: Global,
+        share: &mut Share<L>,
+        addr: u64,
+        bytes: &[u8],
+    ) -> Result<Receipt, Refusal>
+        ensures write { ActsBy F.may self.old (GuestWrite addr bytes.now) result self.new }
+        ensures share { share.new ≡ counted share.old (did result) }
+    {
+        write_into(
+            alloc,
+            &mut self.machine,
+            &mut self.journal,
+            &mut self.calls,
+            share,
+            addr,
+            bytes,
+        )
+    }
+
+    /// Other regions take the place of all that are there, and that is journaled; refused `UnknownBlock` where one of them lies
+    /// over a block that the host doesn't have so, or `OutOfMemory`, and then nothing changes.
+    pub fn set_layout(
+        &mut self,
+        alloc: Global,
+        share: &mut Share<L>,
+        layout: GuestMemoryMmap,
+    ) -> Result<Receipt, Refusal>
+        ensures layout { ActsBy F.may self.old (SetLayout layout) result self.new }
+        ensures share { share.new ≡ counted share.old (did result) }
+    {
+        layout_into(
+            alloc,
+            &mut self.machine,
+            &mut self.journal,
+            &mut self.calls,
+            share,
+            layout,
+        )
+    }
+
+    /// The guest reads `len` bytes from a physical address on; refused `NoPlace` where it doesn't reach all of them, or
+    /// `OutOfMemory`. Nothing changes, and nothing is journaled.
+    pub fn guest_read(&mut self, alloc: Global, addr: u64, len: usize) -> Result<Vec<u8>, Refusal>
+        ensures same { self.new ≡ self.old }
+        ensures read { ReadsBy F.may self.old addr len result }
+    {
+        match self.machine.guest_read(alloc, addr, len) {
+            Answer::Bytes(bytes) => Ok(bytes),
+            Answer::Refused(refusal) => Err(refusal),
+            _ => unreachable!(),
+        }
+    }
+}

@@ -1,0 +1,67 @@
+//! What a call did, kept for its entry in the journal and for its receipt.
+
+ghost use Rattle.std.specs.Prelude.{◌≡◌, ◌<◌, ◌+◌, ◌++◌, ◌∷◌, [], true, length, vec_len, vec_capacity};
+ghost use Rattle.device_shares.specs.Portion.{counted};
+ghost use Rattle.fs_device.specs.CommandView.{command_of};
+ghost use Rattle.fs_shared.specs.Held.{came_of, journal_of};
+
+use crate::entry::{JournalEntry, Outcome, Receipt};
+use crate::state::append;
+use device_shares::Share;
+use fs_device::Command;
+use fuse_wire::FsOptions;
+use std::sync::ledger::{Book, Ledger};
+
+/// A call's command, what came of it, and the pages that it wrote.
+#[derive(Drop)]
+pub(crate) struct Event {
+    pub command: Command,
+    pub outcome: Outcome,
+    pub pages: Vec<usize>,
+}
+
+/// What a call did, for its entry in the journal and, once more, for its receipt.
+#[derive(Drop)]
+pub(crate) struct Kept {
+    pub entry: Event,
+    pub receipt: Event,
+}
+
+/// Journals what a call did, with the options after it, and answers the receipt.
+pub(crate) fn journal_kept<L: Ledger>(
+    journal: &mut Vec<JournalEntry>,
+    calls: &mut Book<L>,
+    share: &mut Share<L>,
+    options: FsOptions,
+    kept: Kept,
+) -> Receipt
+    requires { vec_len journal.old < vec_capacity journal.old }
+    ensures journal { journal_of journal.new.items ≡ journal_of journal.old.items ++ record {
+      command = command_of kept.entry.command;
+      outcome = came_of kept.entry.outcome;
+      options = options.0;
+      pages = kept.entry.pages.items;
+    } ∷ [] }
+    ensures len { vec_len journal.new ≡ vec_len journal.old + 1 }
+    ensures total { calls.new.total ≡ calls.old.total + 1 }
+    ensures share { share.new ≡ counted share.old true }
+    ensures number { result.number ≡ length (journal_of journal.old.items) }
+    ensures command { result.command ≡ kept.receipt.command }
+    ensures outcome { result.outcome ≡ kept.receipt.outcome }
+    ensures pages { result.pages.items ≡ kept.receipt.pages.items }
+{
+    let Kept { entry, receipt } = kept;
+    let entry = JournalEntry {
+        command: entry.command,
+        outcome: entry.outcome,
+        options,
+        pages: entry.pages,
+    };
+    let number = append(journal, calls, share, entry);
+    Receipt {
+        number,
+        command: receipt.command,
+        outcome: receipt.outcome,
+        pages: receipt.pages,
+    }
+}

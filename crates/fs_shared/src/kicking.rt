@@ -1,0 +1,199 @@
+//! A kick for one chain, of which what is told is kept twice. All of it has room before the file system is asked.
+
+ghost use Rattle.std.specs.Prelude.{◌≡◌, ◌≤◌, ◌<◌, ◌+◌, [], false, IsTrue, IfOk, IfErr, OnErr, length, vec_len, vec_capacity};
+ghost use Rattle.vm_memory_core.specs.Host.{lengths};
+ghost use Rattle.fs_queue.specs.Windows.{TakenLiesIn, room_places};
+ghost use Rattle.fs_device.specs.Run.{Kick};
+ghost use Rattle.fs_device.specs.CommandView.{command_of};
+ghost use Rattle.fs_device.specs.DeviceView.{exchange_of};
+ghost use Rattle.fs_device.specs.MachineView.{machine_of};
+ghost use Rattle.fs_device.specs.PendingRequest.{IsPending};
+ghost use Rattle.fs_shared.specs.Held.{came_of};
+ghost use Rattle.fs_shared.specs.Replay.{Served, Stopped, is_journaled};
+ghost use Rattle.fs_shared.specs.ReturnRuns.{AreReturnPages};
+
+use crate::entry::Outcome;
+use crate::kept::{Event, Kept};
+use crate::return_pages::{ReturnRuns, return_pages, return_runs};
+use fs_device::{Command, DeviceError, Exchange, Machine, PendingRequest};
+use fs_queue::{QueueError, Taken};
+use fuse_fs::FileSystem;
+use std::alloc::{AllocError, Global};
+use vm_memory::Iommu;
+use vm_memory_core::HostBlocks;
+
+/// Room for a copy of what is exchanged for a chain that was taken, and for the pages of its return, twice.
+#[derive(Drop)]
+pub(crate) struct ReplyRoom {
+    pub request: Vec<u8>,
+    pub reply: Vec<u8>,
+    pub runs: ReturnRuns,
+    pub pages: Vec<usize>,
+    pub pages_copy: Vec<usize>,
+}
+
+ghost use Rattle.fs_shared.specs.Keeping.{IsRoomFor, Keeps, KickKeeps};
+
+// An empty list with room for the longest reply to a chain; a faulty one has none.
+fn reply_buffer(alloc: Global, taken: &Taken) -> Result<Vec<u8>, AllocError>
+    ensures empty { IfOk result (λ reply. reply.items ≡ []) }
+    ensures fits { IfOk result (λ reply. room_places taken.now.chain ≤ vec_capacity reply) }
+{
+    match taken.chain() {
+        Ok(chain) => Vec::with_capacity(alloc, chain.room_len()),
+        Err(_) => Ok(Vec::new(alloc)),
+    }
+}
+
+// Room for what is told of an exchange that was begun.
+fn reply_room<H: HostBlocks>(
+    alloc: Global,
+    host: &H,
+    pending: &PendingRequest,
+) -> Result<ReplyRoom, AllocError>
+    requires { TakenLiesIn (lengths (H.host host.now)) pending.now.taken }
+    ensures { IfOk result (λ room. IsRoomFor (lengths (H.host host.now)) pending.now room) }
+{
+    let runs = return_runs(alloc, host, pending.taken())?;
+    let most = runs.room.len() + runs.used.len();
+    Ok(ReplyRoom {
+        request: Vec::from_slice(alloc, pending.request())?,
+        reply: reply_buffer(alloc, pending.taken())?,
+        runs,
+        pages: Vec::with_capacity(alloc, most)?,
+        pages_copy: Vec::with_capacity(alloc, most)?,
+    })
+}
+
+// An exchange of a queue with whether it is told, and the pages of its return, kept twice: they have room.
+fn kept_exchange(queue: usize, exchange: Exchange, notice: bool, room: ReplyRoom) -> Kept
+    requires reply { room.reply.items ≡ [] }
+    requires reply_fits { length exchange.reply.items ≤ vec_capacity room.reply }
+    requires pages { room.pages.items ≡ [] }
+    requires pages_fit { length room.runs.room.items + length room.runs.used.items ≤ vec_capacity room.pages }
+    requires copy { room.pages_copy.items ≡ [] }
+    requires copy_fits { length room.runs.room.items + length room.runs.used.items ≤ vec_capacity room.pages_copy }
+    ensures entry { command_of result.entry.command ≡ Kick queue 1 }
+    ensures entry_outcome { came_of result.entry.outcome ≡ Served (exchange_of exchange) notice }
+    ensures pages { AreReturnPages room.runs (length exchange.reply.items) result.entry.pages.items }
+    ensures receipt { command_of result.receipt.command ≡ Kick queue 1 }
+    ensures receipt_outcome { came_of result.receipt.outcome ≡ Served (record (exchange_of exchange) { request = room.request.items }) notice }
+    ensures receipt_pages { result.receipt.pages.items ≡ result.entry.pages.items }
+{
+    let ReplyRoom {
+        request,
+        mut reply,
+        runs,
+        mut pages,
+        mut pages_copy,
+    } = room;
+    return_pages(&mut pages, &runs, exchange.reply.len());
+    pages_copy.extend_from_slice(&pages).unwrap();
+    reply.extend_from_slice(&exchange.reply).unwrap();
+    let copy = Exchange {
+        head: exchange.head,
+        request,
+        reply,
+        fault: exchange.fault,
+    };
+    Kept {
+        entry: Event {
+            command: Command::Kick { queue, most: 1 },
+            outcome: Outcome::Served(exchange, notice),
+            pages,
+        },
+        receipt: Event {
+            command: Command::Kick { queue, most: 1 },
+            outcome: Outcome::Served(copy, notice),
+            pages: pages_copy,
+        },
+    }
+}
+
+// Finishes an exchange that was begun on a queue. AllocError, which changes nothing, comes before the file system is asked.
+fn exchange_kept<F: FileSystem, I: Iommu + Drop>(
+    alloc: Global,
+    machine: &mut Machine<F, I>,
+    queue: usize,
+    pending: PendingRequest,
+) -> Result<Kept, AllocError>
+    requires pending { IsPending (machine_of machine.old) pending }
+    requires queue { pending.queue ≡ queue }
+    requires lies { TakenLiesIn (lengths machine.old.host) pending.taken }
+    requires there { pending.queue < length machine.old.device.queues }
+    ensures keeps { IfOk result (λ kept. Keeps F.may (machine_of machine.old) (Kick queue 1) kept (machine_of machine.new)) }
+    ensures lacks { OnErr result (machine_of machine.new ≡ machine_of machine.old) }
+{
+    let room = reply_room(alloc, &machine.host, &pending)?;
+    let (exchange, notice) = machine.device.finish(alloc, &mut machine.host, pending)?;
+    Ok(kept_exchange(queue, exchange, notice, room))
+}
+
+// Whether a kick that is refused so is journaled: where the refusal stops the queue.
+fn is_journaled(error: DeviceError) -> bool
+    ensures { result ≡ is_journaled error }
+{
+    match error {
+        DeviceError::NoSuchQueue => false,
+        DeviceError::Queue(QueueError::Stopped) => false,
+        DeviceError::Queue(QueueError::OutOfMemory) => false,
+        DeviceError::Queue(_) => true,
+    }
+}
+
+// A refusal that stopped a queue: no page was written.
+fn stopped(alloc: Global, queue: usize, error: DeviceError) -> Event
+    ensures command { command_of result.command ≡ Kick queue 1 }
+    ensures outcome { came_of result.outcome ≡ Stopped error }
+    ensures pages { result.pages.items ≡ [] }
+{
+    Event {
+        command: Command::Kick { queue, most: 1 },
+        outcome: Outcome::Stopped(error),
+        pages: Vec::new(alloc),
+    }
+}
+
+// A refusal, if it is to be journaled; else it is answered.
+fn kept_refusal(alloc: Global, queue: usize, error: DeviceError) -> Result<Kept, DeviceError>
+    ensures stops { IfOk result (λ kept. IsTrue (is_journaled error)) }
+    ensures entry { IfOk result (λ kept. (command_of kept.entry.command ≡ Kick queue 1) × (came_of kept.entry.outcome ≡ Stopped error)
+        × (kept.entry.pages.items ≡ [])) }
+    ensures receipt { IfOk result (λ kept. (command_of kept.receipt.command ≡ Kick queue 1) × (came_of kept.receipt.outcome ≡ Stopped error)
+        × (kept.receipt.pages.items ≡ [])) }
+    ensures err { IfErr result (λ e. (e ≡ error) × (is_journaled error ≡ false)) }
+{
+    if is_journaled(error) {
+        Ok(Kept {
+            entry: stopped(alloc, queue, error),
+            receipt: stopped(alloc, queue, error),
+        })
+    } else {
+        Err(error)
+    }
+}
+
+/// Serves the next chain of a queue, and keeps what is told of it. None where nothing waits. A refusal that stops the
+/// queue is kept too, the others are answered; want of memory changes nothing.
+pub(crate) fn kick_kept<F: FileSystem, I: Iommu + Drop>(
+    alloc: Global,
+    machine: &mut Machine<F, I>,
+    queue: usize,
+) -> Result<Option<Kept>, DeviceError>
+    ensures { KickKeeps F.may (machine_of machine.old) queue result (machine_of machine.new) }
+{
+    match machine
+        .device
+        .begin(alloc, &machine.host, &machine.mem, queue)
+    {
+        Ok(Some(pending)) => match exchange_kept(alloc, machine, queue, pending) {
+            Ok(kept) => Ok(Some(kept)),
+            Err(_) => Err(DeviceError::Queue(QueueError::OutOfMemory)),
+        },
+        Ok(None) => Ok(None),
+        Err(error) => match kept_refusal(alloc, queue, error) {
+            Ok(kept) => Ok(Some(kept)),
+            Err(error) => Err(error),
+        },
+    }
+}

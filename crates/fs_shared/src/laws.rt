@@ -1,0 +1,27 @@
+//! Laws of the definitions, each the contract of a function that does nothing.
+
+ghost use Rattle.fs_shared.specs.JournalPages.{JournalsTellPages};
+ghost use Rattle.fs_shared.specs.Laws.{ActsReplay, EventsForget, KicksReplay, StepsForget};
+
+use fuse_fs::FileSystem;
+
+/// What a journal replays to doesn't need the file system: each step of a device, and each event, is one of the state
+/// without the file system, with the same file calls, answers, outcome and pages, where any answer that suits its call
+/// may come.
+pub fn law_forgets<F: FileSystem>()
+    ensures steps { StepsForget F.may }
+    ensures events { EventsForget F.may }
+{}
+
+/// A journal that replays from its start to what the machine holds does so after each call that is told as the calls of a
+/// shared device are: one that was journaled, with its one entry more, and one that was not, which changes nothing.
+pub fn law_replays<F: FileSystem>()
+    ensures kicks { KicksReplay F.may }
+    ensures acts { ActsReplay F.may }
+{}
+
+/// Where a journal replays, the page of each byte that differs between the two hosts is among the entries' pages, with the
+/// IOMMU on or off.
+pub fn law_journal_pages()
+    ensures { JournalsTellPages }
+{}

@@ -1,0 +1,65 @@
+//! The pages that a return of a chain writes (VIRTIO 1.2, 2.7.8).
+
+ghost use Rattle.std.specs.Prelude.{◌≡◌, ◌≤◌, ◌+◌, [], length, map, IfOk, vec_len, vec_capacity};
+ghost use Rattle.vm_memory_core.specs.Host.{lengths};
+ghost use Rattle.fs_queue.specs.Windows.{TakenLiesIn, chain_places};
+ghost use Rattle.block_pages.specs.Pages.{page_of};
+ghost use Rattle.block_pages.specs.Runs.{AreRuns};
+
+use block_pages::{PageRun, page_runs, written_pages};
+use fs_queue::Taken;
+use std::alloc::{AllocError, Global};
+use vm_memory_core::HostBlocks;
+
+// How many bytes a return writes besides the reply: a used element and the used index.
+const USED_LEN: usize = 10;
+
+/// Runs of the bytes that a return of a chain may write, each in one page: those of the room for the reply, and those of
+/// the used element and the used index.
+#[derive(Debug, Drop)]
+pub(crate) struct ReturnRuns {
+    pub room: Vec<PageRun>,
+    pub used: Vec<PageRun>,
+}
+
+ghost use Rattle.fs_shared.specs.ReturnRuns.{AreReturnPages, AreReturnRuns};
+
+// The runs of the room of a chain; a faulty one has none.
+fn room_runs<H: HostBlocks>(
+    alloc: Global,
+    host: &H,
+    taken: &Taken,
+) -> Result<Vec<PageRun>, AllocError>
+    ensures { IfOk result (λ runs. AreRuns (map (page_of (lengths (H.host host.now))) (chain_places taken.now.chain)) runs.items) }
+{
+    match taken.chain() {
+        Ok(chain) => page_runs(alloc, host, &chain.writable),
+        Err(_) => Ok(Vec::new(alloc)),
+    }
+}
+
+/// The runs of what the return of a chain that was taken may write.
+pub(crate) fn return_runs<H: HostBlocks>(
+    alloc: Global,
+    host: &H,
+    taken: &Taken,
+) -> Result<ReturnRuns, AllocError>
+    requires { TakenLiesIn (lengths (H.host host.now)) taken.now }
+    ensures { IfOk result (λ runs. AreReturnRuns (lengths (H.host host.now)) taken.now runs) }
+{
+    Ok(ReturnRuns {
+        room: room_runs(alloc, host, taken)?,
+        used: page_runs(alloc, host, taken.used_windows())?,
+    })
+}
+
+/// The pages that a return with a reply of so many bytes writes, in a list that is empty and has room for all runs. There
+/// are no more pages than runs.
+pub(crate) fn return_pages(pages: &mut Vec<usize>, runs: &ReturnRuns, reply_len: usize)
+    requires empty { pages.old.items ≡ [] }
+    requires fits { length runs.now.room.items + length runs.now.used.items ≤ vec_capacity pages.old }
+    ensures len { vec_len pages.new ≤ length runs.now.room.items + length runs.now.used.items }
+    ensures pages { AreReturnPages runs.now reply_len pages.new.items }
+{
+    written_pages(pages, &runs.room, reply_len, &runs.used, USED_LEN);
+}

@@ -1,0 +1,57 @@
+//! Whether two outcomes are the same.
+
+ghost use Rattle.std.specs.Prelude.{◌≡◌, ◌↔◌, IsTrue};
+ghost use Rattle.fs_device.specs.DeviceView.{exchange_of};
+ghost use Rattle.fs_shared.specs.Held.{came_of};
+ghost use Rattle.fs_shared.specs.Replay.{Done, Served, Stopped};
+
+use crate::entry::Outcome;
+use fs_device::{DeviceError, Exchange};
+
+// Whether two exchanges have the same head, request, reply and fault.
+fn same_exchange(one: &Exchange, other: &Exchange) -> bool
+    ensures { IsTrue result ↔ (exchange_of other.now ≡ exchange_of one.now) }
+{
+    other.head == one.head
+        && other.request.as_slice() == one.request.as_slice()
+        && other.reply.as_slice() == one.reply.as_slice()
+        && other.fault == one.fault
+}
+
+// Whether something was done.
+fn is_done(outcome: &Outcome) -> bool
+    ensures { IsTrue result ↔ (came_of outcome.now ≡ Done) }
+{
+    matches!(outcome, Outcome::Done)
+}
+
+// Whether this exchange came, with this notice.
+fn is_served(outcome: &Outcome, exchange: &Exchange, notice: bool) -> bool
+    ensures { IsTrue result ↔ (came_of outcome.now ≡ Served (exchange_of exchange.now) notice) }
+{
+    match outcome {
+        Outcome::Served(other, told) => same_exchange(exchange, other) && *told == notice,
+        _ => false,
+    }
+}
+
+// Whether this refusal stopped the queue.
+fn is_stopped(outcome: &Outcome, error: DeviceError) -> bool
+    ensures { IsTrue result ↔ (came_of outcome.now ≡ Stopped error) }
+{
+    match outcome {
+        Outcome::Stopped(other) => *other == error,
+        _ => false,
+    }
+}
+
+/// Whether the same came of two calls.
+pub(crate) fn same_outcome(one: &Outcome, other: &Outcome) -> bool
+    ensures { IsTrue result ↔ (came_of other.now ≡ came_of one.now) }
+{
+    match one {
+        Outcome::Done => is_done(other),
+        Outcome::Served(exchange, notice) => is_served(other, exchange, *notice),
+        Outcome::Stopped(error) => is_stopped(other, *error),
+    }
+}

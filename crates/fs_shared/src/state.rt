@@ -1,0 +1,124 @@
+//! What lies under the lock: the machine, where it started, and the journal of all that was done.
+
+ghost use Rattle.std.specs.Prelude.{◌≡◌, ◌<◌, ◌+◌, ◌++◌, ◌∷◌, ◌==◌, [], true, length, vec_len, vec_capacity};
+ghost use Rattle.fs_device.specs.MachineView.{machine_of};
+ghost use Rattle.device_shares.specs.Portion.{counted};
+ghost use Rattle.fs_shared.specs.Replay.{forget, Replays};
+ghost use Rattle.fs_shared.specs.Held.{fixed_of, journal_of, start_of};
+
+use crate::entry::{JournalEntry, Parts, Start};
+use device_shares::Share;
+use fs_device::Machine;
+use fuse_fs::FileSystem;
+use std::alloc::Global;
+use std::marker::Model;
+use std::sync::ledger::{Book, Ledger};
+use vm_memory::Iommu;
+
+/// The machine, where it started, and the journal. From the start the journal replays to what the machine holds, and the
+/// shares count its entries.
+#[derive(Drop)]
+pub struct SharedState<L: Ledger, F, I: Iommu + Drop> {
+    pub(crate) machine: Machine<F, I>,
+    pub(crate) start: Start,
+    pub(crate) journal: Vec<JournalEntry>,
+    pub(crate) calls: Book<L>,
+}
+
+impl<L: Ledger, F, I: Iommu + Drop> Model for SharedState<L, F, I> {
+    ghost use Rattle.std.specs.Prelude.{◌≡◌, vec_len};
+    ghost use Rattle.fs_device.specs.MachineView.{machine_of};
+    ghost use Rattle.fs_shared.specs.Replay.{Replays, forget};
+    ghost use Rattle.fs_shared.specs.Held.{Held, fixed_of, journal_of, start_of};
+
+    ghost Value = { Held F };
+
+    ghost view = { λ s. record {
+      machine = machine_of s.machine;
+      start = start_of s.start (fixed_of (machine_of s.machine));
+      journal = journal_of s.journal.items;
+    } };
+
+    ghost invariant = { λ s. Replays (start_of s.start (fixed_of (machine_of s.machine))) (journal_of s.journal.items) (forget (machine_of s.machine))
+        × (s.calls.total ≡ vec_len s.journal) };
+}
+
+// Puts an entry, which has room, at the journal's end, counts it, and answers its number.
+pub(crate) fn append<L: Ledger>(
+    journal: &mut Vec<JournalEntry>,
+    calls: &mut Book<L>,
+    share: &mut Share<L>,
+    entry: JournalEntry,
+) -> usize
+    requires { vec_len journal.old < vec_capacity journal.old }
+    ensures journal { journal.new.items ≡ journal.old.items ++ entry ∷ [] }
+    ensures len { vec_len journal.new ≡ vec_len journal.old + 1 }
+    ensures number { result ≡ vec_len journal.old }
+    ensures total { calls.new.total ≡ calls.old.total + 1 }
+    ensures share { share.new ≡ counted share.old true }
+{
+    let number = journal.len();
+    journal.push_reserved(entry);
+    share.add(calls);
+    number
+}
+
+impl<L: Ledger, F: FileSystem, I: Iommu + Drop> SharedState<L, F, I> {
+    // A journal that begins: it is empty.
+    pub(crate) fn begin(
+        alloc: Global,
+        machine: Machine<F, I>,
+        start: Start,
+        calls: Book<L>,
+    ) -> SharedState<L, F, I>
+        requires start { start_of start (fixed_of (machine_of machine)) ≡ forget (machine_of machine) }
+        requires none { calls.total ≡ 0 }
+        ensures { result ≡ record { machine = machine_of machine; start = forget (machine_of machine); journal = [] } }
+    {
+        SharedState {
+            machine,
+            start,
+            journal: Vec::new(alloc),
+            calls,
+        }
+    }
+
+    /// From the start the journal replays to what the machine holds.
+    pub fn replays(&self)
+        ensures { Replays self.now.start self.now.journal (forget self.now.machine) }
+    {
+        let _opened = self.start.options;
+    }
+
+    // Whether a share's count is the journal's length. So it is where the share has every part.
+    pub(crate) fn is_counted(&mut self, share: &mut Share<L>) -> bool
+        ensures state { self.new ≡ self.old }
+        ensures share { share.new ≡ share.old }
+        ensures count { result ≡ (share.old.count == length self.old.journal) }
+        ensures whole { share.old.parts ≡ L.parts → result ≡ true }
+    {
+        let entries = self.journal.len();
+        share.is_of(&mut self.calls, entries as u64)
+    }
+
+    // What it is made of. The journal replays from the start to the machine.
+    pub(crate) fn open(self) -> Parts<F, I>
+        ensures replays { Replays (start_of result.start (fixed_of (machine_of result.machine))) (journal_of result.journal.items)
+            (forget (machine_of result.machine)) }
+        ensures machine { machine_of result.machine ≡ self.machine }
+        ensures start { start_of result.start (fixed_of (machine_of result.machine)) ≡ self.start }
+        ensures journal { journal_of result.journal.items ≡ self.journal }
+    {
+        let SharedState {
+            machine,
+            start,
+            journal,
+            calls: _,
+        } = self;
+        Parts {
+            machine,
+            start,
+            journal,
+        }
+    }
+}

@@ -1,0 +1,13 @@
+//! Tests of a device that threads share, and of the audit of its receipts. Nothing else stands here.
+#![tactic(auto)]
+
+#[cfg(test)]
+mod audits;
+#[cfg(test)]
+mod crowd;
+#[cfg(test)]
+mod refusals;
+#[cfg(test)]
+mod stand;
+#[cfg(test)]
+mod threads;

@@ -1,0 +1,140 @@
+//! A device that two threads share.
+
+ghost use Rattle.std.specs.Prelude.{◌≡◌, ◌<◌};
+
+use crate::stand::{expect_same, machine};
+use call_log::CallLog;
+use device_shares::Share;
+use fs_device::DeviceError;
+use fs_shared::{Kicked, Receipt, SharedDevice, audit};
+use std::alloc::Global;
+use std::marker::Brand;
+use std::process::Abort;
+use std::sync::Wait;
+use std::sync::ledger::{Blank, Ledger};
+use std::thread::{Threads, join};
+use vm_memory::{GuestMemoryMmap, TableIommu};
+
+type LogDevice<L> = SharedDevice<L, CallLog, TableIommu>;
+
+// What a thread brings back: its share, and what its kick came to.
+type Brought<L> = (Share<L>, Result<Kicked, DeviceError>);
+
+// Two threads kick the queue once each.
+fn kicked_by_two<L: Ledger + Send + Sync, R: Threads + Wait + Sync>(
+    rt: &R,
+    alloc: Global,
+    device: &LogDevice<L>,
+    mine: Share<L>,
+    theirs: Share<L>,
+) -> (Brought<L>, Brought<L>) {
+    let mut mine = mine;
+    let mut theirs = theirs;
+    join(
+        rt,
+        move || {
+            let kicked = device.kick(rt, alloc, &mut mine, 0);
+            (mine, kicked)
+        },
+        move || {
+            let kicked = device.kick(rt, alloc, &mut theirs, 0);
+            (theirs, kicked)
+        },
+    )
+}
+
+// The receipt of a kick that was done.
+fn receipt_of(kicked: Result<Kicked, DeviceError>) -> Option<Receipt> {
+    match kicked {
+        Ok(Kicked::Done(receipt)) => Some(receipt),
+        _ => None,
+    }
+}
+
+// The receipts of two kicks, which have the numbers 0 and 1, and pages 0 and 2 each.
+fn both_receipts(
+    rt: &impl Abort,
+    alloc: Global,
+    one: Result<Kicked, DeviceError>,
+    other: Result<Kicked, DeviceError>,
+) -> Vec<Receipt> {
+    let one = receipt_of(one).expect(rt, "a receipt");
+    let other = receipt_of(other).expect(rt, "a receipt");
+    expect_same(rt, one.number < 2 && other.number < 2, true);
+    expect_same(rt, one.number == other.number, false);
+    expect_same(rt, one.pages.as_slice() == [0, 2].as_slice(), true);
+    expect_same(rt, other.pages.as_slice() == [0, 2].as_slice(), true);
+    Vec::from_array(alloc, [one, other]).expect(rt, "memory")
+}
+
+// A third kick, a write, a read and another layout: the receipts of the write and the layout are added.
+fn later_calls<L: Ledger, R: Wait + Abort>(
+    rt: &R,
+    alloc: Global,
+    device: &LogDevice<L>,
+    share: &mut Share<L>,
+    layout: GuestMemoryMmap,
+    receipts: &mut Vec<Receipt>,
+) {
+    let third = device.kick(rt, alloc, share, 0);
+    expect_same(rt, matches!(third, Ok(Kicked::Idle)), true);
+    let written = device
+        .guest_write(rt, alloc, share, 0x5000, &[1])
+        .expect(rt, "a receipt");
+    expect_same(rt, written.number, 2);
+    expect_same(rt, written.pages.as_slice() == [5].as_slice(), true);
+    receipts.push(written).expect(rt, "memory");
+    let bytes = device.guest_read(rt, alloc, 0x5000, 1).expect(rt, "bytes");
+    expect_same(rt, bytes.as_slice() == [1].as_slice(), true);
+    let laid = device
+        .set_layout(rt, alloc, share, layout)
+        .expect(rt, "a receipt");
+    expect_same(rt, laid.number, 3);
+    expect_same(rt, laid.pages.len(), 0);
+    receipts.push(laid).expect(rt, "memory");
+}
+
+// The device comes apart with all shares, and its receipts pass the audit; without one they don't.
+fn taken_apart<L: Ledger>(
+    rt: &impl Abort,
+    device: LogDevice<L>,
+    share: Share<L>,
+    receipts: Vec<Receipt>,
+) {
+    let parts = device.into_parts(share).ok().expect(rt, "all parts");
+    expect_same(rt, parts.journal.len(), 4);
+    expect_same(rt, audit(&parts.journal, &receipts), true);
+    let all_but_one = receipts.get(1..).expect(rt, "receipts");
+    expect_same(rt, audit(&parts.journal, all_but_one), false);
+}
+
+fn shared<L: Ledger + Send + Sync, R: Threads + Wait + Abort + Sync>(
+    rt: &R,
+    alloc: Global,
+    blank: Blank,
+)
+    requires name { blank.name ≡ L.name }
+    requires ledger { blank.parts ≡ L.parts }
+    requires parts { blank.parts ≡ 2 }
+{
+    let machine = machine(rt, alloc);
+    let layout = machine.mem.get_backend().try_clone().expect(rt, "memory");
+    let made = LogDevice::<L>::new(alloc, blank, 2, machine);
+    let (device, mut mine) = made.ok().expect(rt, "memory");
+    let theirs = device.split_share(&mut mine).expect(rt, "two parts");
+    expect_same(rt, device.split_share(&mut mine).is_none(), true);
+    let (one, other) = kicked_by_two(rt, alloc, &device, mine, theirs);
+    let mut receipts = both_receipts(rt, alloc, one.1, other.1);
+    let mut mine = one.0;
+    later_calls(rt, alloc, &device, &mut mine, layout, &mut receipts);
+    let back = device.into_parts(mine).err();
+    let (device, mut mine) = back.expect(rt, "a part is missing");
+    device.join_share(&mut mine, other.0);
+    taken_apart(rt, device, mine, receipts);
+}
+
+#[test]
+fn two_threads_share_a_device(rt: HostRuntime) {
+    let alloc = rt.alloc();
+    shared::<Brand, _>(&rt, alloc, Blank::new(2));
+}
