@@ -1,18 +1,22 @@
 /*
- * Split virtqueues (VIRTIO 1.2, 2.7) from the device's side, for monitors in C.
+ * Split virtqueues (VIRTIO 1.2, 2.7) from the device's side, and a virtio-fs device (5.11) over a read-only directory, for
+ * monitors in C and Rust.
  *
  * What is proved: each function, whenever its arguments are what their types say, returns, doesn't panic, reads and
- * writes only what it is lent, and does what its contract in src/queue_exports.rt says, in the terms of the queue's own
- * definitions. What isn't proved, since nobody checks C:
+ * writes only what it is lent, and does what its contract in src/queue_exports.rt or src/device_exports.rt says, in the
+ * terms of the queue's and the device's own definitions. What isn't proved, since nobody checks C:
  *  - each pointer is good for its length, for this call: memory that may be read and, where the parameter isn't const,
- *    written; no two arguments overlap. No pointer is NULL; what has length 0 may have any other.
+ *    written; no two arguments overlap, but that const ones may. No pointer is NULL; what has
+ *    length 0 may have any other, aligned as its type is.
  *  - a handle is zeros, or what these functions left: it isn't copied and used twice. One call at a time on a handle, and
  *    all of them on one thread.
  *  - nobody else reads or writes the lent memory while a call runs: neither a vCPU nor a device. So stop the vCPUs for the
  *    call. In the source a take reads the available index, the ring's entry, the descriptors and then the request; a return
- *    writes the reply, then the used element, then the used index, and reads the available flags last. But these are plain
- *    loads and stores, which a compiler or a processor may move or repeat, and no barrier stands between them: a vCPU that
- *    runs meanwhile may see the used index before the reply, and may not be told where it wants to be.
+ *    writes the reply, then the used element, then the used index, and reads the available flags last; a step of the device
+ *    is both. But these are plain loads and stores, which a compiler or a processor may move or repeat, and no barrier
+ *    stands between them: a vCPU that runs meanwhile may see the used index before the reply, and may not be told where it
+ *    wants to be.
+ *  - that these declarations are the archive's: their names are compared by a script, their types by nobody.
  *
  * Link libfs_device_c.a, the heap's file of the toolchain (rattle_alloc and its kin, over malloc) and the C library.
  */
@@ -25,7 +29,7 @@
 extern "C" {
 #endif
 
-/* What a call answers: 0, or why it was refused. Numbers from 1 to 9 are the queue's. */
+/* What a call answers: 0, or why it was refused. Numbers from 1 to 9 are a queue's. */
 enum fs_status {
     FS_DONE = 0,
     FS_STOPPED = 1,                 /* the queue stopped before */
@@ -36,7 +40,8 @@ enum fs_status {
     FS_USED_UNREACHABLE = 6,
     FS_AVAIL_FLAGS_UNREACHABLE = 7,
     FS_DESCRIPTOR_UNREACHABLE = 8,
-    FS_TAKE_OUT_OF_MEMORY = 9,      /* memory is wanting; nothing was done */
+    FS_TAKE_OUT_OF_MEMORY = 9,      /* memory is wanting; the chain waits as before */
+    FS_NO_SUCH_QUEUE = 10,          /* the device has no queue of this number */
     FS_NO_QUEUE = 64,               /* the handle holds none: before fs_queue_new, or after fs_queue_free */
     FS_OUT_OF_MEMORY = 65,          /* memory is wanting; nothing was done */
     FS_BAD_ARGUMENT = 66,           /* nothing was done */
@@ -45,7 +50,55 @@ enum fs_status {
     FS_SHORT_BUFFER = 69,           /* the request is longer than the buffer: the chain may be taken again */
     FS_NOT_TAKEN = 70,              /* no chain with this head was taken; nothing was done */
     FS_LONG_REPLY = 71,             /* the reply is longer than the room: the chain stays taken */
+    FS_NO_DEVICE = 72,              /* the handle holds none: before fs_device_new, or after fs_device_free */
+    FS_RECORD_TRUNCATED = 81,       /* 81 to 90: no device goes on from the record, and nothing was done. It ends early */
+    FS_RECORD_BAD_MAGIC = 82,       /* it doesn't begin with VFSD */
+    FS_RECORD_BAD_VERSION = 83,     /* its version is neither 1 nor 2 */
+    FS_RECORD_BAD_COUNT = 84,       /* it has no queue, or more than 64 */
+    FS_RECORD_BAD_RESERVED = 85,    /* its reserved number isn't 0 */
+    FS_RECORD_BAD_QUEUE = 86,       /* one of its queues is none */
+    FS_RECORD_BAD_OPTIONS = 87,     /* it has options that aren't known */
+    FS_RECORD_READ_FAULT = 88,      /* of no memory's record */
+    FS_RECORD_OUT_OF_MEMORY = 89,   /* memory is wanting */
+    FS_RECORD_MISMATCH = 90,        /* its page size or limit is another one */
 };
+
+/* The name of a refusal, by its number, and "" of others. This is C, and unproved. */
+static inline const char *fs_status_name(uint32_t status) {
+    switch (status) {
+    case FS_DONE: return "FS_DONE";
+    case FS_STOPPED: return "FS_STOPPED";
+    case FS_AVAIL_INDEX_UNREACHABLE: return "FS_AVAIL_INDEX_UNREACHABLE";
+    case FS_AVAIL_TOO_FAR: return "FS_AVAIL_TOO_FAR";
+    case FS_RING_ENTRY_UNREACHABLE: return "FS_RING_ENTRY_UNREACHABLE";
+    case FS_HEAD_OUT_OF_TABLE: return "FS_HEAD_OUT_OF_TABLE";
+    case FS_USED_UNREACHABLE: return "FS_USED_UNREACHABLE";
+    case FS_AVAIL_FLAGS_UNREACHABLE: return "FS_AVAIL_FLAGS_UNREACHABLE";
+    case FS_DESCRIPTOR_UNREACHABLE: return "FS_DESCRIPTOR_UNREACHABLE";
+    case FS_TAKE_OUT_OF_MEMORY: return "FS_TAKE_OUT_OF_MEMORY";
+    case FS_NO_SUCH_QUEUE: return "FS_NO_SUCH_QUEUE";
+    case FS_NO_QUEUE: return "FS_NO_QUEUE";
+    case FS_OUT_OF_MEMORY: return "FS_OUT_OF_MEMORY";
+    case FS_BAD_ARGUMENT: return "FS_BAD_ARGUMENT";
+    case FS_OTHER_LENGTHS: return "FS_OTHER_LENGTHS";
+    case FS_TAKEN_BEFORE: return "FS_TAKEN_BEFORE";
+    case FS_SHORT_BUFFER: return "FS_SHORT_BUFFER";
+    case FS_NOT_TAKEN: return "FS_NOT_TAKEN";
+    case FS_LONG_REPLY: return "FS_LONG_REPLY";
+    case FS_NO_DEVICE: return "FS_NO_DEVICE";
+    case FS_RECORD_TRUNCATED: return "FS_RECORD_TRUNCATED";
+    case FS_RECORD_BAD_MAGIC: return "FS_RECORD_BAD_MAGIC";
+    case FS_RECORD_BAD_VERSION: return "FS_RECORD_BAD_VERSION";
+    case FS_RECORD_BAD_COUNT: return "FS_RECORD_BAD_COUNT";
+    case FS_RECORD_BAD_RESERVED: return "FS_RECORD_BAD_RESERVED";
+    case FS_RECORD_BAD_QUEUE: return "FS_RECORD_BAD_QUEUE";
+    case FS_RECORD_BAD_OPTIONS: return "FS_RECORD_BAD_OPTIONS";
+    case FS_RECORD_READ_FAULT: return "FS_RECORD_READ_FAULT";
+    case FS_RECORD_OUT_OF_MEMORY: return "FS_RECORD_OUT_OF_MEMORY";
+    case FS_RECORD_MISMATCH: return "FS_RECORD_MISMATCH";
+    default: return "";
+    }
+}
 
 /* A queue, or none: all zeros is none. The caller keeps it, passes its address, and looks at neither field. */
 struct fs_queue { void *at; bool full; };
@@ -73,6 +126,57 @@ uint32_t fs_queue_take(struct fs_queue *queue, uint8_t *low, size_t low_len, uin
 /* Gives the chain that was taken back with its reply, and says whether the driver wants to be told (2.7.7). */
 uint32_t fs_queue_give_back(struct fs_queue *queue, uint8_t *low, size_t low_len, uint8_t *high, size_t high_len,
                             uint16_t head, const uint8_t *reply, size_t reply_len, bool *notify);
+
+/* A device, or none: all zeros is none. The caller keeps it, passes its address, and looks at no field but `refused`: the
+ * number of the last refusal of a call on it, which a call that isn't refused leaves as it was (fs_status_name tells its
+ * name). */
+struct fs_device { void *at; bool full; uint32_t refused; };
+
+/* A file of the directory. Its name is to be one that a directory can have (not empty, without '/' and zero bytes, of at
+ * most 255 bytes, and no other file's), which nothing looks at. */
+struct fs_file { const uint8_t *name; size_t name_len; const uint8_t *contents; size_t contents_len; };
+
+/* Where a queue's parts stand, as guest addresses aligned to 16, 2 and 4, and its size, a power of two. */
+struct fs_layout { uint64_t desc, avail, used; uint16_t size; };
+
+/* What came of steps: how many chains went back with a reply, with none (as FORGET's), and with none for a fault; whether
+ * none waits any more; and whether the driver wants to be told (2.7.7). */
+struct fs_served { uint32_t replied, silent, faulty; bool idle, notify; };
+
+/* A device that begins, in the place of what the handle held, over copies of these files: fewer than 2^32, the root is
+ * node 1 and they are nodes 2, 3 and so on. It has 1 to 64 queues of these layouts. The guest's memory is in two parts, as
+ * for fs_queue_new; its pages have page_size bytes, a power of two from 4096 to 65536. A request or a room of more than
+ * `limit` bytes, from 0x101000 to 2^31, makes a chain faulty. No pointer is kept. Where it is refused the handle holds what
+ * it held: FS_OUT_OF_MEMORY, FS_BAD_ARGUMENT. */
+uint32_t fs_device_new(struct fs_device *device, uint64_t low_base, uint8_t *low, size_t low_len, uint64_t high_base,
+                       uint8_t *high, size_t high_len, const struct fs_file *files, size_t file_count,
+                       const struct fs_layout *layouts, size_t queue_count, uint32_t page_size, uint32_t limit);
+
+/* Frees the device; then there is none. Of none it does nothing. */
+void fs_device_free(struct fs_device *device);
+
+/* Serves the next chains of a queue, numbered from 0, one after another: at most so many, until none waits or a step is
+ * refused, and says what came of them. The parts are as long as they were. FS_NO_DEVICE, FS_OTHER_LENGTHS and
+ * FS_OUT_OF_MEMORY did nothing; any other refusal, from 1 to 10, is of the step after those that are told, and a number
+ * from 2 to 8 stops the queue. */
+uint32_t fs_device_serve(struct fs_device *device, uint8_t *low, size_t low_len, uint8_t *high, size_t high_len,
+                         size_t queue, uint16_t most, struct fs_served *served);
+
+/* Begins a queue anew with this layout, as a driver's reset does: FS_BAD_ARGUMENT, FS_NO_SUCH_QUEUE. */
+uint32_t fs_device_reset_queue(struct fs_device *device, size_t queue, const struct fs_layout *layout);
+
+/* Puts the dirty pages of part 0 (low) or 1 (high), of 4096 bytes each, at the front of some words, and clears them: page p
+ * is bit p mod 64 of word p / 64. `count` is how many words there are, also with FS_SHORT_BUFFER, which did nothing. */
+uint32_t fs_device_gather(struct fs_device *device, uint32_t part, uint64_t *words, size_t word_count, size_t *count);
+
+/* Puts the device's record (queues, options that were agreed, page size, limit) at the front of a buffer. `len` is how long
+ * it is, also with FS_SHORT_BUFFER, which did nothing. Memory, its dirty pages and the files aren't in it. */
+uint32_t fs_device_save(struct fs_device *device, uint8_t *buffer, size_t buffer_len, size_t *len);
+
+/* A device that goes on from the record at the front of `saved`. All else is as for fs_device_new. */
+uint32_t fs_device_restore(struct fs_device *device, uint64_t low_base, uint8_t *low, size_t low_len, uint64_t high_base,
+                           uint8_t *high, size_t high_len, const struct fs_file *files, size_t file_count,
+                           const uint8_t *saved, size_t saved_len, uint32_t page_size, uint32_t limit);
 
 #ifdef __cplusplus
 }

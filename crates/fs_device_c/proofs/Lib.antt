@@ -1,1 +1,5 @@
+mod DeviceAsBox
+pub mod PuttingLemmas
 mod QueueAsBox
+pub mod ServedLemmas
+pub mod WordLemmas

@@ -1,4 +1,8 @@
+pub mod DeviceCalls
+pub mod DeviceExports
+pub mod Devices
 pub mod Lending
+pub mod Making
 pub mod OneProof
 pub mod Owned
 pub mod QueueExports

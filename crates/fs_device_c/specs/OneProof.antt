@@ -1,7 +1,7 @@
 -- What a chain that was taken holds of the memory's lengths has one proof, as a ghost field that keeps it needs. Nothing here has to be believed.
 use Rattle.std.specs.Prelude.{ℕ, List, Result, Ok, Err, slice_index_or}
 use Rattle.std.specs.Coded.{Unit-prop}
-use Rattle.vm_memory_core.specs.Window.{Window, AllLieIn, LiesIn}
+use Rattle.vm_memory_core.specs.Window.{Window, AllLieIn}
 use Rattle.vm_memory.specs.OneProof.{LiesIn-prop}
 use Rattle.fs_queue.specs.declared.chain.Chain.{Chain}
 use Rattle.fs_queue.specs.declared.chain.ReturnWindows.{ReturnWindows}

@@ -7,6 +7,7 @@ use Rattle.std.specs.Coded.{coded_option}
 use Rattle.std.specs.Box.Ownership.{box_owns}
 use Rattle.std.specs.Global.{Global}
 use Rattle.std_heap.specs.contracts.GlobalAllocator.TheImpl.{ghosts}
+use Rattle.fs_device_c.specs.contracts.device_state.DeviceState as device
 use Rattle.fs_device_c.specs.contracts.queue_state.QueueState as queue
 
 -- what a queue's seat owns: the box behind its pointer, where it has one
@@ -16,3 +17,11 @@ queue_seat_owns alloc p (Some v) = box_owns (ghosts.dealloc_token alloc) queue.t
 
 abbrev pub queue_value_coded : Coded (Option (queue.the_row).Denot)
 queue_value_coded = coded_option (queue.the_row).coded
+
+-- what a device's seat owns
+abbrev pub device_seat_owns : Global → Ptr → Option (device.the_row).Denot → Fml
+device_seat_owns alloc p None = ftrue
+device_seat_owns alloc p (Some v) = box_owns (ghosts.dealloc_token alloc) device.the_row p v
+
+abbrev pub device_value_coded : Coded (Option (device.the_row).Denot)
+device_value_coded = coded_option (device.the_row).coded

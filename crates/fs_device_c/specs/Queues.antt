@@ -1,20 +1,15 @@
 -- What is done with a queue for any server.
-use Rattle.std.specs.Prelude.{◌≡◌, [], ◌<◌, ◌≤◌, ℕ, true, false, Bool, List, ◌++◌, length, map, drop, Option, Some, None, Result, Ok, Err}
+use Rattle.std.specs.Prelude.{◌≡◌, [], ◌<◌, ℕ, true, false, Bool, List, ◌++◌, length, map, drop, Option, Some, None, Result, Ok, Err}
 use Rattle.vm_memory_core.specs.Host.{Host}
 use Rattle.vm_memory_core.specs.Window.{places, byte_in}
-use Rattle.vm_memory.specs.Memory.{Memory}
 use Rattle.fs_queue.specs.declared.chain.Chain.{Chain}
 use Rattle.fs_queue.specs.declared.chain.Taken.{Taken}
 use Rattle.fs_queue.specs.declared.fault.ChainFault.{ChainFault}
 use Rattle.fs_queue.specs.declared.fault.QueueError.{QueueError}
 use Rattle.fs_queue.specs.Numbers.{chain_fault_number, queue_number}
-use Rattle.fs_queue.specs.Taking.{RequestAndRoom, room_of}
-use Rattle.fs_queue.specs.Returning.{returned, wants_notice, advanced}
-use Rattle.fs_queue.specs.Windows.{IsTaken, Takes, after_taking, room_places}
 use Rattle.fs_device_c.specs.declared.queue_refusal.QueueRefusal.{QueueRefusal}
 use Rattle.fs_device_c.specs.declared.queue_refusal.QueueRefusal.TheVariants.{Queue, NoQueue, OutOfMemory, BadArgument, OtherLengths, TakenBefore, ShortBuffer, NotTaken, LongReply}
 use Rattle.fs_device_c.specs.declared.queue_lending.FsTaken.{FsTaken}
-use Rattle.fs_device_c.specs.Lending.{lent}
 
 -- a refusal's number: the queue's own, from 1 to 9, or the library's
 abbrev pub queue_status : QueueRefusal → ℕ

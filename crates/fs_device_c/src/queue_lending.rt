@@ -178,8 +178,10 @@ pub fn give_back_over(
     requires high { length pages.1 ≡ pages_of 4096 (length high.old) }
     requires lies { TakenLiesIn (length low.old ∷ length high.old ∷ []) taken }
     requires fits { length reply.now ≤ room_places taken.chain }
-    ensures stored { (layout : List Region) (fetched : RequestAndRoom) → IsTaken (lent low.old pages.0 high.old pages.1 layout) queue.old fetched taken →
-        lent low.new result.1.0 high.new result.1.1 layout ≡ returned (lent low.old pages.0 high.old pages.1 layout) queue.old taken.head (room_of fetched) reply.now }
+    ensures stored { (layout : List Region) (fetched : RequestAndRoom) →
+        let before = lent low.old pages.0 high.old pages.1 layout in
+        IsTaken before queue.old fetched taken →
+        lent low.new result.1.0 high.new result.1.1 layout ≡ returned before queue.old taken.head (room_of fetched) reply.now }
     ensures told { (layout : List Region) (fetched : RequestAndRoom) → IsTaken (lent low.old pages.0 high.old pages.1 layout) queue.old fetched taken →
         result.0 ≡ wants_notice (lent low.new result.1.0 high.new result.1.1 layout) queue.old }
     ensures queue { queue.new ≡ advanced queue.old }

@@ -1,4 +1,4 @@
-use Rattle.std.proofs.Common.{rules, refl, sym, ap}
+use Rattle.std.proofs.Common.{rules}
 use Rattle.fs_device_c.proofs.queue_calls.give_chain.Goals as goal
 
 pub returns : goal.returns

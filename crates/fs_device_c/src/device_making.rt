@@ -1,0 +1,219 @@
+//! Devices that begin, or go on from a record.
+
+ghost use Rattle.std.specs.Prelude.{◌≡◌, ◌↔◌, ◌≤◌, ◌<◌, ◌^◌, IsTrue, length, map, IfErr, IfOk, IfSome};
+ghost use Rattle.fuse_replies.specs.PageSizes.{is_page_size};
+ghost use Rattle.owned_directory.specs.Files.{files_of};
+ghost use Rattle.fs_device_c.specs.Making.{AreCopies, AreSettings, HasParts, IsNewDevice, IsRestored, may_refuse_device, RefusesRestore, queue_of};
+
+use crate::device_refusal::DeviceRefusal;
+use crate::device_state::DeviceState;
+use crate::making::{Pages, lay_out};
+use crate::part_pages::PartPages;
+use crate::refusal::Refusal;
+use fs_device::{Device, Stream};
+use fs_queue::{Queue, QueueLayout};
+use fuse_read_only::ReadOnly;
+use owned_directory::{OwnedFile, OwnedTable};
+use std::alloc::{AllocError, Global};
+use virtiofsd_fuse::Server;
+use vm_memory::GuestMemoryMmap;
+
+// A directory has fewer files.
+const MOST_FILES: usize = 1 << 32;
+
+// A device has at most so many queues.
+const MOST_QUEUES: usize = 64;
+
+/// A file as C hands it in: the bytes of its name and of its contents, which are copied.
+#[repr(C)]
+#[derive(Clone, Copy)]
+pub struct FsFile<'a> {
+    pub name: &'a [u8],
+    pub contents: &'a [u8],
+}
+
+/// A queue's layout as C hands it in: the guest addresses of its descriptor table, available ring and used ring, and how
+/// many descriptors it has.
+#[repr(C)]
+#[derive(Clone, Copy)]
+pub struct FsLayout {
+    pub desc: u64,
+    pub avail: u64,
+    pub used: u64,
+    pub size: u16,
+}
+
+// Copies of files.
+fn copied(alloc: Global, files: &[FsFile]) -> Result<Vec<OwnedFile>, AllocError>
+    ensures { IfOk result (λ owned. AreCopies files.now owned.items) }
+{
+    let mut owned = Vec::with_capacity(alloc, files.len())?;
+    for file in files {
+        owned.push(OwnedFile::copied(alloc, file.name, file.contents)?)?;
+    }
+    Ok(owned)
+}
+
+// A directory of copies of files.
+fn directory(alloc: Global, files: &[FsFile]) -> Result<ReadOnly<OwnedTable>, AllocError>
+    requires { length files.now < 2 ^ 32 }
+    ensures { IfOk result (λ d. AreCopies files.now (files_of d.0)) }
+{
+    let owned = copied(alloc, files)?;
+    let table = OwnedTable::new(alloc, owned)?;
+    Ok(ReadOnly(table))
+}
+
+// A queue of which no chain was returned; None where it can't have this layout.
+fn queue_of(layout: &FsLayout) -> Option<Queue>
+    ensures { IfSome result (λ q. q ≡ queue_of layout.now) }
+{
+    match QueueLayout::new(layout.size, layout.desc, layout.avail, layout.used) {
+        Ok(layout) => Some(Queue::new(layout)),
+        Err(_) => None,
+    }
+}
+
+// Queues of which no chain was returned.
+fn queues_of(alloc: Global, layouts: &[FsLayout]) -> Result<Vec<Queue>, DeviceRefusal>
+    ensures ok { IfOk result (λ queues. queues.items ≡ map queue_of layouts.now) }
+    ensures err { IfErr result (λ why. IsTrue (may_refuse_device why)) }
+{
+    let Ok(mut queues) = Vec::with_capacity(alloc, layouts.len()) else {
+        return Err(DeviceRefusal::OutOfMemory);
+    };
+    for layout in layouts {
+        match queue_of(layout) {
+            Some(queue) => queues.push(queue).unwrap(),
+            None => return Err(DeviceRefusal::BadArgument),
+        }
+    }
+    Ok(queues)
+}
+
+// Whether a guest's pages may have so many bytes.
+fn is_page_size(bytes: u32) -> bool
+    ensures { result ≡ is_page_size bytes }
+{
+    bytes == 4096 || bytes == 8192 || bytes == 16384 || bytes == 32768 || bytes == 65536
+}
+
+// Whether a device can have this page size and this limit.
+fn are_settings(page_size: u32, limit: u32) -> bool
+    ensures { IsTrue result ↔ AreSettings page_size limit }
+{
+    is_page_size(page_size) && limit >= 0x101000 && limit <= 0x8000_0000
+}
+
+// Two parts that are lent, each from a guest address on, with their clear pages.
+fn parts_of(
+    alloc: Global,
+    low_base: u64,
+    low: &mut [u8],
+    high_base: u64,
+    high: &mut [u8],
+) -> Result<(GuestMemoryMmap, PartPages, PartPages), DeviceRefusal>
+    ensures made { IfOk result (λ r. HasParts low_base low.old high_base high.old r.0 r.1 r.2) }
+    ensures refused { IfErr result (λ why. IsTrue (may_refuse_device why)) }
+    ensures low { low.new ≡ low.old }
+    ensures high { high.new ≡ high.old }
+{
+    let (low_len, high_len) = (low.len(), high.len());
+    let (mem, pages): (GuestMemoryMmap, Pages) = match lay_out(
+        alloc, low_base, low, high_base, high,
+    ) {
+        Ok(laid) => laid,
+        Err(Refusal::OutOfMemory) => return Err(DeviceRefusal::OutOfMemory),
+        Err(_) => return Err(DeviceRefusal::BadArgument),
+    };
+    let (low_pages, high_pages) = pages;
+    let low_part = PartPages::of(low_pages, low_len);
+    let high_part = PartPages::of(high_pages, high_len);
+    Ok((mem, low_part, high_part))
+}
+
+/// A device that begins, over copies of files, with queues of these layouts, for memory in two parts, each from a guest
+/// address on: BadArgument where it can't be so, or OutOfMemory. Nothing is written.
+pub fn make_device(
+    alloc: Global,
+    low_base: u64,
+    low: &mut [u8],
+    high_base: u64,
+    high: &mut [u8],
+    files: &[FsFile],
+    layouts: &[FsLayout],
+    page_size: u32,
+    limit: u32,
+) -> Result<DeviceState, DeviceRefusal>
+    ensures made { IfOk result (IsNewDevice low_base low.old high_base high.old files.now layouts.now page_size limit) }
+    ensures refused { IfErr result (λ why. IsTrue (may_refuse_device why)) }
+    ensures low { low.new ≡ low.old }
+    ensures high { high.new ≡ high.old }
+{
+    if !are_settings(page_size, limit) || files.len() >= MOST_FILES {
+        return Err(DeviceRefusal::BadArgument);
+    }
+    if layouts.is_empty() || layouts.len() > MOST_QUEUES {
+        return Err(DeviceRefusal::BadArgument);
+    }
+    let queues = match queues_of(alloc, layouts) {
+        Ok(queues) => queues,
+        Err(refusal) => return Err(refusal),
+    };
+    let Ok(fs) = directory(alloc, files) else {
+        return Err(DeviceRefusal::OutOfMemory);
+    };
+    let (mem, low, high) = match parts_of(alloc, low_base, low, high_base, high) {
+        Ok(parts) => parts,
+        Err(refusal) => return Err(refusal),
+    };
+    let device = Device::new(Server::new(fs, page_size), queues, limit);
+    Ok(DeviceState {
+        mem,
+        low,
+        high,
+        device,
+    })
+}
+
+/// A device that goes on from a record that stands at the front of some bytes, over copies of files, for memory in two
+/// parts, each from a guest address on: refused as the record is, BadArgument where it can't be so otherwise, or
+/// OutOfMemory. Nothing is written.
+pub fn restore_device(
+    alloc: Global,
+    low_base: u64,
+    low: &mut [u8],
+    high_base: u64,
+    high: &mut [u8],
+    files: &[FsFile],
+    saved: &[u8],
+    page_size: u32,
+    limit: u32,
+) -> Result<DeviceState, DeviceRefusal>
+    ensures restored { IfOk result (IsRestored low_base low.old high_base high.old files.now saved.now page_size limit) }
+    ensures refused { IfErr result (RefusesRestore saved.now page_size limit) }
+    ensures low { low.new ≡ low.old }
+    ensures high { high.new ≡ high.old }
+{
+    if !are_settings(page_size, limit) || files.len() >= MOST_FILES {
+        return Err(DeviceRefusal::BadArgument);
+    }
+    let Ok(fs) = directory(alloc, files) else {
+        return Err(DeviceRefusal::OutOfMemory);
+    };
+    let mut source = Stream::new(saved);
+    let device = match Device::restore(alloc, &mut source, fs, page_size, limit) {
+        Ok(device) => device,
+        Err((error, _)) => return Err(DeviceRefusal::Record(error)),
+    };
+    let (mem, low, high) = match parts_of(alloc, low_base, low, high_base, high) {
+        Ok(parts) => parts,
+        Err(refusal) => return Err(refusal),
+    };
+    Ok(DeviceState {
+        mem,
+        low,
+        high,
+        device,
+    })
+}
