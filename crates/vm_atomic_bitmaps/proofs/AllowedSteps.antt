@@ -14,7 +14,7 @@ use Rattle.vm_atomic_bitmaps.specs.declared.counts.Tally.{Tally}
 use Rattle.vm_atomic_bitmaps.specs.declared.counts.PageCounts.{PageCounts}
 use Rattle.vm_bitmaps.specs.Words.{page_bit, bit_of}
 use Rattle.vm_atomic_bitmaps.specs.Counts.{no_tally, tally_of, each_tally, after_mark, after_clearing, after_read, picks, in_word, marked_by, cleared_by, read_by, first_pass, with_pages, IsWhole}
-use Rattle.vm_atomic_bitmaps.specs.Rule.{table_words, total_by, marks_at, on_at, off_at, Counted, weight, IsIdle, AddUp, PageAccount, KeepsRule}
+use Rattle.vm_atomic_bitmaps.specs.Rule.{table_words, total_by, marks_at, on_at, off_at, Counted, weight, IsIdle, AddUp, PageAccount, KeepsRule, StandsAt}
 use Rattle.vm_atomic_bitmaps.specs.Steps.{NoneBeyond, Settles, SettlesWord, PassSeat, MarkStep, GatherStep, ClearStep, ReadStep}
 use Rattle.vm_atomic_bitmaps.proofs.PassTotals.{total_set, total_part, total_alone, at_each, at_past}
 
@@ -305,6 +305,19 @@ settles : (len : ℕ) (s : State (Unit {0}) PageCounts) (id : ℕ) (v : PageCoun
     → SettlesWord v i (get_or s.words i 0)
 settles len s id v i long at_id r all p l here = subst (Settles (tally_of v.pages p)) (bit_was s.words i p here) (settles_all len s.words s.views id v at_id r all p (omega arith))
 
+found_there : (l : List ℕ) (i : ℕ) → i < length l → get_elem? l i ≡ some (get_or l i 0)
+found_there [] i l = absurd (omega arith)
+found_there (x ∷ xs) zero l = refl
+found_there (x ∷ xs) (suc i) l = found_there xs i (omega arith)
+
+stands_at : (len : ℕ) (s : State (Unit {0}) PageCounts) (id : ℕ) (v : PageCounts) (i : ℕ) → length v.pages ≡ len → i < length s.words → get_elem? s.views id ≡ some v
+    → PageAccount len s.words s.views → StandsAt (length v.pages) i (get_or s.words i 0) v
+stands_at len s id v i long room at_id r = (
+  s.words,
+  found_there s.words i room,
+  (s.views, subst (λ (n : ℕ). PageAccount n s.words s.views) (sym long) r, (id, at_id)),
+)
+
 pub marks_allowed : (len slots id : ℕ) (me : PassSeat) (i mask : ℕ) → length me.0.pages ≡ len → 0 < me.0.parts → i < div_ceil len 64 → NoneBeyond len i mask
     → Allows (KeepsRule len) slots id me i (λ n. bit_or n mask) (MarkStep (step slots i mask 0 none) me)
 marks_allowed len slots id me i mask long some_part inside none_beyond s q _ at_id _ =
@@ -356,7 +369,7 @@ gathers_allowed len slots id me i long some_part inside s q _ at_id _ =
             (λ p l here was. bit_at-zero (p % 64))
             (λ p. gather_page s.words i p (tally_of me.0.pages p) room),
       ),
-      (refl, settles len s id me.0 i long at_id r, λ p l here. sym (bit_was s.words i p here) ∙ r.counted.rest p (omega arith)),
+      (refl, settles len s id me.0 i long at_id r, λ p l here. sym (bit_was s.words i p here) ∙ r.counted.rest p (omega arith), stands_at len s id me.0 i long room at_id r),
     )
 
 pub reads_allowed : (len slots id : ℕ) (me : PassSeat) (i : ℕ) → length me.0.pages ≡ len → 0 < me.0.parts → i < div_ceil len 64
@@ -374,7 +387,7 @@ reads_allowed len slots id me i long some_part inside s q _ at_id _ =
             (λ p l here was. was)
             (λ p. read_page s.words i p (tally_of me.0.pages p) room),
       ),
-      (refl, settles len s id me.0 i long at_id r, λ p l here. sym (bit_was s.words i p here) ∙ r.counted.rest p (omega arith)),
+      (refl, settles len s id me.0 i long at_id r, λ p l here. sym (bit_was s.words i p here) ∙ r.counted.rest p (omega arith), stands_at len s id me.0 i long room at_id r),
     )
 
 -- clear words and the first pass

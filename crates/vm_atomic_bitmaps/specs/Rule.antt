@@ -68,3 +68,7 @@ KeepsRule len s = (length s.words ≡ table_words len) × PageAccount len s.word
 -- the rule holds of the words and of all passes, of which this is one
 abbrev pub Stands : (len : ℕ) → List ℕ → PageCounts → Type 0
 Stands len words v = (views : List PageCounts) × PageAccount len words views × ((id : ℕ) × (get_elem? views id ≡ some v))
+
+-- at some moment the i-th word is `found`, and the rule holds of the words and of all passes, of which this is one
+abbrev pub StandsAt : (len i found : ℕ) → PageCounts → Type 0
+StandsAt len i found v = (words : List ℕ) × (get_elem? words i ≡ some found) × Stands len words v

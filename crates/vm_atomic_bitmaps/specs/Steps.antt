@@ -6,6 +6,7 @@ use Rattle.vm_bitmaps.specs.Words.{page_bit}
 use Rattle.vm_atomic_bitmaps.specs.declared.counts.Tally.{Tally}
 use Rattle.vm_atomic_bitmaps.specs.declared.counts.PageCounts.{PageCounts}
 use Rattle.vm_atomic_bitmaps.specs.Counts.{tally_of, picks, in_word, marked_by, cleared_by, read_by, with_pages, IsWhole}
+use Rattle.vm_atomic_bitmaps.specs.Rule.{StandsAt}
 
 -- the word i has no bit of a page past the last
 abbrev pub NoneBeyond : (len i found : ℕ) → Type 0
@@ -31,18 +32,18 @@ PassSeat = Me (Unit {0}) PageCounts
 abbrev pub MarkStep : Step (Unit {0}) → PassSeat → (found : ℕ) → PassSeat → Type 0
 MarkStep st m found w = (w ≡ (with_pages m.0 (marked_by (picks st.word st.first 1) found m.0.pages), m.1)) × SettlesWord m.0 st.word found
 
--- a swap with 0
+-- a swap with 0, before which the rule holds
 abbrev pub GatherStep : Step (Unit {0}) → PassSeat → (found : ℕ) → PassSeat → Type 0
 GatherStep st m found w =
     (w ≡ (with_pages m.0 (cleared_by (in_word st.word) found m.0.pages), m.1)) × SettlesWord m.0 st.word found
-    × NoneBeyond (length m.0.pages) st.word found
+    × NoneBeyond (length m.0.pages) st.word found × StandsAt (length m.0.pages) st.word found m.0
 
 -- a fetch_and with a mask, which clears the pages that the mask hasn't
 abbrev pub ClearStep : Step (Unit {0}) → PassSeat → (found : ℕ) → PassSeat → Type 0
 ClearStep st m found w = (w ≡ (with_pages m.0 (cleared_by (picks st.word st.first 0) found m.0.pages), m.1)) × SettlesWord m.0 st.word found
 
--- a load
+-- a load, before which the rule holds
 abbrev pub ReadStep : Step (Unit {0}) → PassSeat → (found : ℕ) → PassSeat → Type 0
 ReadStep st m found w =
     (w ≡ (with_pages m.0 (read_by (in_word st.word) found m.0.pages), m.1)) × SettlesWord m.0 st.word found
-    × NoneBeyond (length m.0.pages) st.word found
+    × NoneBeyond (length m.0.pages) st.word found × StandsAt (length m.0.pages) st.word found m.0

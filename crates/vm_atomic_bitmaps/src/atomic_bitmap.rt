@@ -9,7 +9,7 @@ ghost use lib.ListN.{get_elem?};
 ghost use Rattle.vm_bitmaps.specs.Pages.{pages_of};
 ghost use Rattle.vm_bitmaps.specs.Words.{page_bit};
 ghost use Rattle.vm_atomic_bitmaps.specs.Counts.{first_pass, marked_by, cleared_by, read_by, picks, in_word, kept_half, new_half, both_passes, met_with};
-ghost use Rattle.vm_atomic_bitmaps.specs.Rule.{Stands};
+ghost use Rattle.vm_atomic_bitmaps.specs.Rule.{Stands, StandsAt};
 ghost use Rattle.vm_atomic_bitmaps.specs.Steps.{SettlesWord, SettlesAll, NoneBeyond};
 ghost use Rattle.vm_atomic_bitmaps.specs.Passes.{IsPassOf, counting};
 
@@ -142,7 +142,8 @@ impl AtomicBitmap {
             .fetch_and::<Clear>(&mut pass.seat, word, !mask)
     }
 
-    /// Takes the marks of a word, in one step, a swap: the word is 0 afterwards. Bit b is page 64 * word + b.
+    /// Takes the marks of a word, in one step, a swap: the word is 0 afterwards. Bit b is page 64 * word + b. At that step
+    /// a page that the pass has marked is set, or some pass took it out before.
     #[inline]
     pub fn gather(&self, pass: &mut BitmapPass, word: usize) -> u64
         requires own { IsPassOf self.now pass.old }
@@ -151,12 +152,13 @@ impl AtomicBitmap {
         ensures own { IsPassOf self.now pass.new }
         ensures word { SettlesWord pass.old.counts word result }
         ensures past { NoneBeyond self.now.len word result }
+        ensures rule { StandsAt self.now.len word result pass.old.counts }
     {
         self.table.shared.swap::<Gather>(&mut pass.seat, word, 0)
     }
 
     /// Reads a word, in one step, a load. Bit b is page 64 * word + b. The pass has then seen each of its pages set or
-    /// cleared as often as its bit tells.
+    /// cleared as often as its bit tells. At that step a page that it has marked is set, or some pass took it out before.
     #[inline]
     pub fn word(&self, pass: &mut BitmapPass, word: usize) -> u64
         requires own { IsPassOf self.now pass.old }
@@ -165,6 +167,7 @@ impl AtomicBitmap {
         ensures own { IsPassOf self.now pass.new }
         ensures word { SettlesWord pass.old.counts word result }
         ensures past { NoneBeyond self.now.len word result }
+        ensures rule { StandsAt self.now.len word result pass.old.counts }
     {
         self.table.shared.load::<Read>(&mut pass.seat, word)
     }
