@@ -22,7 +22,11 @@ pub const HELLO: u64 = 2;
 /// The node of a file that has no name: its byte at k is k modulo 251, and it has no end.
 pub const PATTERN: u64 = 3;
 
-// The bytes of a file: those of `hello`, or the pattern.
+/// The node of a file that has no name: of its bytes, which are those of `hello`, one read gives at most three, and
+/// where there are none that is EIO.
+pub const BROKEN: u64 = 4;
+
+// The bytes of a file: those of `hello`, all at once or at most three a read, or the pattern.
 #[derive(Drop)]
 struct FileContents {
     node: u64,
@@ -47,7 +51,11 @@ impl PositionedFile for FileContents {
         }
         let all = b"hello";
         let rest = if off < 5 { &all[off as usize..] } else { &[] };
-        let count = rest.len().min(buf.len());
+        let most = if self.node == BROKEN { 3 } else { buf.len() };
+        let count = rest.len().min(buf.len()).min(most);
+        if self.node == BROKEN && count == 0 {
+            return Err(Errno::EIO);
+        }
         buf[..count].copy_from_slice(&rest[..count]);
         Ok(count)
     }
@@ -166,6 +174,14 @@ impl FileSystemBase for CallLog {
 impl FileSystem for CallLog {
     type DirIter = NoEntries;
 
+    ghost use Rattle.std.specs.Prelude.{true};
+
+    ghost reads_whole = { λ fs. true };
+
+    fn reads_whole(&self) -> bool {
+        true
+    }
+
     fn init(&mut self, _capable: FsOptions) -> Result<FsOptions, Errno> {
         self.note(LoggedCall::Init);
         Ok(FsOptions::from_bits_retain(0))
@@ -198,7 +214,8 @@ impl FileSystem for CallLog {
         _flags: u32,
     ) -> Result<usize, Errno> {
         self.note(LoggedCall::Read { node: inode });
-        w.read_from_file_at(&mut FileContents { node: inode }, size as usize, offset)
+        let mut file = FileContents { node: inode };
+        defaults::read_whole(&mut file, w, size as usize, offset)
     }
 
     fn destroy(&mut self) {

@@ -2,7 +2,7 @@
 
 use crate::stand::{REQUEST_AT, RING, ROOM_AT, Request, Stand, UNKNOWN, expect_same};
 use call_log::LoggedCall;
-use call_log::files::{HELLO, PATTERN};
+use call_log::files::{BROKEN, HELLO, PATTERN};
 use fs_device::{DeviceError, Returned};
 use std::process::Abort;
 
@@ -24,6 +24,21 @@ const READ_ELLO: Request<'static> = Request::Read {
     size: 64,
 };
 
+// READ of a file that gives `hello` in two pieces and then fails, and one from behind them.
+const READ_BROKEN: Request<'static> = Request::Read {
+    unique: 7,
+    node: BROKEN,
+    offset: 0,
+    size: 64,
+};
+
+const READ_FAILS: Request<'static> = Request::Read {
+    unique: 7,
+    node: BROKEN,
+    offset: 9,
+    size: 64,
+};
+
 const WRITE: Request<'static> = Request::Write { size: 64 };
 
 const WRITE_NOTHING: Request<'static> = Request::Write { size: 0 };
@@ -32,7 +47,8 @@ const FORGET: Request<'static> = Request::Forget { node: 5, count: 3 };
 
 // A request, the parts that it stands in, and those of its room: a request that no opcode has, FORGET, READ into one
 // part, into several, into a room over itself, its data over its header, its header over its data, over the used ring
-// and over its own request; of a file that answers less; a room that is too short, and one in no region; WRITE from
+// and over its own request; of a file that answers less, that fails after some bytes, and that fails at once; a room that
+// is too short, and one in no region; WRITE from
 // one part, with its room over its data, with a room that is too short, of fewer bytes than it tells; from two parts, from
 // a part of its own, of no data, and cut short by a byte.
 const ROWS: &[(Request<'static>, &[(u64, u32)], &[(u64, u32)])] = &[
@@ -48,6 +64,13 @@ const ROWS: &[(Request<'static>, &[(u64, u32)], &[(u64, u32)])] = &[
     (READ, &[(REQUEST_AT, 80)], &[(RING.used, 272)]),
     (READ, &[(REQUEST_AT, 80)], &[(REQUEST_AT, 272)]),
     (READ_ELLO, &[(REQUEST_AT, 80)], &[(ROOM_AT, 80)]),
+    (READ_BROKEN, &[(REQUEST_AT, 80)], &[(ROOM_AT, 80)]),
+    (READ_BROKEN, &[(REQUEST_AT, 80)], &[(ROOM_AT, 20)]),
+    (
+        READ_FAILS,
+        &[(REQUEST_AT, 80)],
+        &[(ROOM_AT, 16), (0x3000, 64)],
+    ),
     (READ, &[(REQUEST_AT, 80)], &[(ROOM_AT, 15)]),
     (READ, &[(REQUEST_AT, 80)], &[(0x20000, 272)]),
     (WRITE, &[(REQUEST_AT, 144)], &[(ROOM_AT, 24)]),
@@ -110,6 +133,29 @@ fn lengths_tell_the_same_step(rt: HostRuntime) {
         other.ask_cut(&rt, *request, readable, writable);
         expect_told(&rt, &mut one, &mut other);
         expect_alike(&rt, &one, &other);
+    }
+}
+
+// The replies to a READ of a file that fails after `hello`, and to one that fails at once (EIO is 5), by
+// `struct fuse_out_header`.
+const SHORT_READ: &[u8] = b"\x15\0\0\0\0\0\0\0\x07\0\0\0\0\0\0\0hello\0";
+
+const FAILED_READ: &[u8] = b"\x10\0\0\0\xfb\xff\xff\xff\x07\0\0\0\0\0\0\0\0";
+
+#[test]
+fn error_after_some_bytes_is_a_short_read(rt: HostRuntime) {
+    for (request, len, bytes) in [(READ_BROKEN, 21, SHORT_READ), (READ_FAILS, 16, FAILED_READ)] {
+        let mut stand = Stand::new(&rt, rt.alloc());
+        stand.ask_cut(&rt, request, &[(REQUEST_AT, 80)], &[(ROOM_AT, 80)]);
+        let told = Returned {
+            head: 0,
+            request_len: 80,
+            reply_len: len,
+            fault: None,
+            notify: true,
+        };
+        expect_same(&rt, serve(&mut stand, 0), Ok(Some(told)));
+        stand.expect_bytes(&rt, ROOM_AT, bytes);
     }
 }
 

@@ -105,6 +105,14 @@ impl FileSystemBase for MemoryFiles {
 impl FileSystem for MemoryFiles {
     type DirIter = ListedEntries;
 
+    ghost use Rattle.std.specs.Prelude.{true};
+
+    ghost reads_whole = { λ fs. true };
+
+    fn reads_whole(&self) -> bool {
+        true
+    }
+
     fn init(&mut self, _capable: FsOptions) -> Result<FsOptions, Errno> {
         Ok(FsOptions::from_bits_retain(0))
     }
@@ -131,7 +139,7 @@ impl FileSystem for MemoryFiles {
         _lock_owner: Option<u64>,
         _flags: u32,
     ) -> Result<usize, Errno> {
-        w.read_from_file_at(&mut self.file, size as usize, offset)
+        defaults::read_whole(&mut self.file, w, size as usize, offset)
     }
 
     fn destroy(&mut self) {

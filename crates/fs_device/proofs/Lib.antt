@@ -1,5 +1,6 @@
 pub mod ServeLemmas
 pub mod AnsweringLemmas
+pub mod ReadingLemmas
 pub mod StepLemmas
 pub mod KickLemmas
 pub mod RunLemmas

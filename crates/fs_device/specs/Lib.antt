@@ -21,3 +21,4 @@ pub mod Examples
 pub mod ExamplesOfRuns
 pub mod ExamplesOfMoves
 pub mod ExamplesOfMarks
+pub mod ReplyFront

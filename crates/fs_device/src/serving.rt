@@ -3,10 +3,10 @@
 ghost use Rattle.std.specs.Prelude.{◌≡◌};
 ghost use Rattle.vm_memory_core.specs.Host.{shape};
 
-use crate::answering::{Answered, answer_taken};
 use crate::device::Device;
 use crate::error::DeviceError;
 use crate::exchange::Fault;
+use crate::reading::answer_front;
 use fs_queue::QueueError;
 use fuse_fs::FileSystem;
 use std::alloc::Global;
@@ -31,7 +31,8 @@ ghost use Rattle.fs_device.specs.Returned.{StepTold};
 impl<F: FileSystem> Device<F> {
     /// Serves the next chain of a queue, by its number from 0, as `process_one` does, and tells what was exchanged
     /// without its bytes; None where no chain waits. The data of a WRITE whose request is one window isn't copied: the
-    /// file system reads it where it stands. The refusals are those of `process_one`.
+    /// file system reads it where it stands. Nor is that of a READ whose room has one window behind the reply's header,
+    /// where reads that fail put nothing in (`FileSystem::reads_whole`): the file system puts it where it goes. The refusals are those of `process_one`.
     pub fn serve_one<M: GuestMemory, H: HostBlocks>(
         &mut self,
         alloc: Global,
@@ -53,17 +54,17 @@ impl<F: FileSystem> Device<F> {
             Ok(false) => return Ok(None),
             Err(error) => return Err(DeviceError::Queue(error)),
         }
-        let Ok(answered) = answer_taken(alloc, &mut self.server, host, &self.taken) else {
+        let Ok(answered) = answer_front(alloc, &mut self.server, host, &self.taken) else {
             return Err(DeviceError::Queue(QueueError::OutOfMemory));
         };
-        let Answered { request_len, reply } = answered;
         let head = self.taken.head();
-        let notify = self.queues[queue].give_back(host, &mut self.taken, &reply.bytes);
+        let front = answered.front.bytes();
+        let notify = self.queues[queue].give_back_front(host, &mut self.taken, front, answered.len);
         Ok(Some(Returned {
             head,
-            request_len,
-            reply_len: reply.bytes.len(),
-            fault: reply.fault,
+            request_len: answered.request_len,
+            reply_len: answered.len,
+            fault: answered.fault,
             notify,
         }))
     }

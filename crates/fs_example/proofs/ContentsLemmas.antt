@@ -122,9 +122,6 @@ module _ (f : Contents) (rooms : List ℕ) (off wanted : ℕ) (bytes : List ℕ)
       absurd (other (omega (arith, total, more, ended, there, sum-up_to wanted rooms, length-drop (off + length bytes) f.bytes.now, length-drop off f.bytes.now))))
       t.ends.1
 
-  pub short_count : (n : ℕ) (answer : Result ℕ ℕ) → ReadsSegments Gives f (up_to wanted rooms) off bytes answer g → answer ≡ Ok n → (n ≡ wanted → ⊥) → sum rooms < wanted
-  short_count n answer t is other = short_of n (subst (λ (a : Result ℕ ℕ). ReadsSegments Gives f (up_to wanted rooms) off bytes a g) is t) other
-
   -- a read of contents doesn't fail
   no_failure : (e : ℕ) → ReadsSegments Gives f (up_to wanted rooms) off bytes (Err e) g → off < 2 ^ 64 → length f.bytes.now < 2 ^ 64 → ⊥
   no_failure e t low small =
@@ -135,8 +132,20 @@ module _ (f : Contents) (rooms : List ℕ) (off wanted : ℕ) (bytes : List ℕ)
       (λ (last : (off + length bytes < 2 ^ 64) × Gives t.mid (first (past (length bytes) (up_to wanted rooms))) (off + length bytes) (Err e) g). absurd (cc))
       t.ends.1
 
-  pub never_fails : (e : ℕ) (answer : Result ℕ ℕ) → ReadsSegments Gives f (up_to wanted rooms) off bytes answer g → answer ≡ Err e → off < 2 ^ 64 → length f.bytes.now < 2 ^ 64 → ⊥
-  never_fails e answer t is low small = no_failure e (subst (λ (a : Result ℕ ℕ). ReadsSegments Gives f (up_to wanted rooms) off bytes a g) is t) low small
+  -- where there is room for all that is wanted, all of it comes
+  pub all_comes : (answer : Result ℕ ℕ) → ReadsSegments Gives f (up_to wanted rooms) off bytes answer g → wanted ≤ sum rooms → off < 2 ^ 64 → length f.bytes.now < 2 ^ 64 → answer ≡ Ok wanted
+  all_comes (Ok n) t room low small =
+      let same : n ≡ wanted =
+      ⊎_elim
+      (λ (l : n < wanted). let short = short_of n t (λ e. omega (arith, l, e)) in absurd (omega (arith, short, room)))
+      (λ (l : wanted ≤ n). ⊎_elim
+      (λ (k : wanted < n). let short = short_of n t (λ e. omega (arith, k, e)) in absurd (omega (arith, short, room)))
+      (λ (k : n ≤ wanted). omega (arith, k, l))
+      (cases_lt wanted n))
+      (cases_lt n wanted)
+      in
+      ap Ok same
+  all_comes (Err e) t room low small = absurd (no_failure e t low small)
 
 -- ---- what is told of it
 

@@ -1,6 +1,6 @@
 //! A read-only directory, as a file system.
 
-ghost use Rattle.std.specs.Prelude.{◌≡◌, ◌<◌, ◌^◌, ◌+◌, ◌++◌, ℕ, List, length, take, drop, Ok, IfOk};
+ghost use Rattle.std.specs.Prelude.{◌≡◌, ◌<◌, ◌^◌, ◌+◌, ◌++◌, ℕ, List, length, take, drop, Ok, IfOk, OnErr};
 ghost use Rattle.fuse_fs.specs.Answers.{data_answer, entry_answer};
 ghost use Rattle.fs_example.specs.Directory.{EROFS, attr_of, bytes_in, file_entry, file_at, found_from, listing_from, MayAnswer};
 
@@ -151,14 +151,15 @@ fn put_bytes<W: ZeroCopyWriter>(
     size: u32,
     offset: u64,
 ) -> Result<usize, Errno>
-    ensures { (bytes : List ℕ) × (W.put w.new ≡ W.put w.old ++ bytes) × (W.room w.old ≡ W.room w.new + length bytes)
-        × IfOk result (λ n. n ≡ length bytes) × (data_answer result bytes ≡ bytes_in (W.room w.old) (take size (drop offset contents.now))) }
+    ensures { (bytes : List ℕ) × W.Puts w.old bytes w.new × (W.room w.old ≡ W.room w.new + length bytes)
+        × IfOk result (λ n. n ≡ length bytes) × (data_answer result bytes ≡ bytes_in (W.room w.old) (take size (drop offset contents.now)))
+        × OnErr result (length bytes ≡ 0) }
 {
     let wanted = rest(contents, offset).len().min(size as usize);
-    match w.read_from_file_at(&mut Contents { bytes: contents }, wanted, offset) {
-        Ok(n) if n == wanted => Ok(n),
-        _ => Err(Errno::EIO),
+    if w.available_bytes() < wanted {
+        return Err(Errno::EIO);
     }
+    w.read_from_file_at(&mut Contents { bytes: contents }, wanted, offset)
 }
 
 impl<'a> DirectoryIterator for Entries<'a> {
@@ -181,6 +182,14 @@ impl<'a> DirectoryIterator for Entries<'a> {
 
 impl<'a> ReadOnlyFileSystem for FileTable<'a> {
     type DirIter = Entries<'a>;
+
+    ghost use Rattle.std.specs.Prelude.{true};
+
+    ghost reads_whole = { λ fs. true };
+
+    fn reads_whole(&self) -> bool {
+        true
+    }
 
     ghost may = { MayAnswer };
 

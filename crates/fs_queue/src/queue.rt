@@ -1,6 +1,6 @@
 //! A split virtqueue (VIRTIO 1.2, 2.7).
 
-ghost use Rattle.std.specs.Prelude.{◌≡◌, ◌≤◌, length, IfOk, IfSome};
+ghost use Rattle.std.specs.Prelude.{◌≡◌, ℕ, ◌<◌, ◌≤◌, ◌^◌, List, length, IfOk, IfSome};
 ghost use Rattle.std.specs.List.{zip};
 ghost use Rattle.vm_memory_core.specs.Host.{lengths, shape};
 ghost use Rattle.vm_memory_core.specs.Window.{put_all};
@@ -46,7 +46,7 @@ impl Model for Queue {
 
 ghost use Rattle.fs_queue.specs.Queue.{fresh, resumed};
 ghost use Rattle.fs_queue.specs.Taking.{RequestAndRoom, room_of};
-ghost use Rattle.fs_queue.specs.Returning.{returned, wants_notice, advanced};
+ghost use Rattle.fs_queue.specs.Returning.{returned, wants_notice, advanced, PutFrontLast};
 ghost use Rattle.fs_queue.specs.Windows.{Takes, after_taking, taken_if, IsTaken, TakenLiesIn, ChainLiesIn, room_places, chain_places, HasItsWindows};
 ghost use Rattle.fs_queue.specs.Windows.{IsEmpty, IsEmptyUnlessTaken};
 
@@ -180,11 +180,39 @@ impl Queue {
         ensures shape { shape (H.host host.new) ≡ shape (H.host host.old) }
         ensures loan { H.IsSameLoan host.old host.new }
     {
-        write_reply(host, &taken.chain, reply);
+        self.give_back_front(host, taken, reply, reply.len())
+    }
+
+    /// The same for a reply of `len` bytes that stands in the room already but for its first bytes, which are written
+    /// over the room's first places: with them the host is what a store of the whole reply makes of the host that the
+    /// chain was taken from.
+    #[inline(always)]
+    pub fn give_back_front<H: HostBlocks>(
+        &mut self,
+        host: &mut H,
+        taken: &mut Taken,
+        front: &[u8],
+        len: usize,
+    ) -> bool
+        requires lies { TakenLiesIn (lengths (H.host host.old)) taken.old }
+        requires fits { length front.now ≤ room_places taken.old.chain }
+        requires short { len < 2 ^ 32 }
+        ensures stored { (m : Memory) (fetched : RequestAndRoom) (reply : List ℕ) →
+            PutFrontLast m.host (H.host host.old) (chain_places taken.old.chain) front.now reply → length reply ≡ len → IsTaken m self.old fetched taken.old →
+            record m { host = H.host host.new } ≡ returned m self.old taken.old.head (room_of fetched) reply }
+        ensures told { (m : Memory) (fetched : RequestAndRoom) (reply : List ℕ) →
+            PutFrontLast m.host (H.host host.old) (chain_places taken.old.chain) front.now reply → IsTaken m self.old fetched taken.old →
+            result ≡ wants_notice (record m { host = H.host host.new }) self.old }
+        ensures empty { IsEmpty taken.new }
+        ensures queue { self.new ≡ advanced self.old }
+        ensures shape { shape (H.host host.new) ≡ shape (H.host host.old) }
+        ensures loan { H.IsSameLoan host.old host.new }
+    {
+        write_reply(host, &taken.chain, front);
         self.position = self.position.wrapping_add(1);
         let update = UsedUpdate {
             id: u32::from(taken.head),
-            len: reply.len() as u32,
+            len: len as u32,
             index: self.position,
         };
         host.write_windows(&taken.return_windows.used, &update.to_bytes());

@@ -1,6 +1,6 @@
 //! READ: what is read of an open file.
 
-ghost use Rattle.std.specs.Prelude.{◌≡◌, ℕ, ◌+◌, ◌<◌, List, ◌++◌, length, IfOk, IfErr};
+ghost use Rattle.std.specs.Prelude.{◌≡◌, ℕ, ◌+◌, ◌<◌, List, length, IfOk, IfErr, IsTrue, OnErr};
 ghost use Rattle.fuse_fs.specs.Answers.{data_answer};
 ghost use Rattle.fuse_calls.specs.Requests.{read_call};
 
@@ -20,10 +20,10 @@ pub fn make_read_call<F: FileSystem, W: ZeroCopyWriter>(
     request: &ReadIn,
     into: &mut W,
 ) -> Result<usize, Errno>
-    ensures read { (bytes : List ℕ) × (W.put into.new ≡ W.put into.old ++ bytes)
+    ensures read { (bytes : List ℕ) × W.Puts into.old bytes into.new
         × (W.room into.old ≡ W.room into.new + length bytes) × IfOk result (λ n. n ≡ length bytes)
-        × F.may fs.old (read_call head.now (W.room into.old) request.now) (data_answer result bytes) fs.new }
-    ensures room { length (W.put into.new) + W.room into.new ≡ length (W.put into.old) + W.room into.old }
+        × F.may fs.old (read_call head.now (W.room into.old) request.now) (data_answer result bytes) fs.new
+        × (IsTrue (F.reads_whole fs.old) → OnErr result (length bytes ≡ 0)) }
     ensures errno { IfErr result (λ e. (0 < e) × (e < 4096)) }
 {
     received(fs.read(

@@ -1,5 +1,5 @@
 -- What calls of a file move: each is lent one segment, at the place where the call before ended.
-use Rattle.std.specs.Prelude.{◌≡◌, ℕ, ◌+◌, ◌^◌, ◌<◌, ◌≤◌, ◌⊎◌, min, sum, List, [], ◌∷◌, length, take, drop, Option, Result, Ok, Err}
+use Rattle.std.specs.Prelude.{◌≡◌, ℕ, ◌+◌, ◌^◌, ◌<◌, ◌≤◌, ◌⊎◌, ◌==◌, min, sum, List, [], ◌∷◌, length, take, drop, Option, Result, Ok, Err, if◌then◌else◌}
 use Rattle.std.specs.List.{concat}
 use Rattle.fuse_fs.specs.Lengths.{first, past}
 
@@ -17,6 +17,11 @@ bytes_answer (Err e) buf = Err e
 abbrev pub read_answer : Result ℕ ℕ → List ℕ → Result (List ℕ) ℕ
 read_answer (Ok n) bytes = Ok bytes
 read_answer (Err e) bytes = Err e
+
+-- what is answered where an errno that comes after some bytes is no more than a short read: their count
+abbrev pub whole_answer : Result ℕ ℕ → List ℕ → Result ℕ ℕ
+whole_answer (Ok n) bytes = Ok n
+whole_answer (Err e) bytes = if length bytes == 0 then Err e else Ok (length bytes)
 
 -- what one read of a file may answer: before, how many bytes are asked for, the place, the answer, after
 abbrev pub MayRead : Type 0 → Type 1

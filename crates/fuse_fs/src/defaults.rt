@@ -2,13 +2,16 @@
 //! method to call. What a default doesn't take stays as it is: file system, writer, stream. ENOSYS is errno 38
 //! (errno.h).
 
-ghost use Rattle.std.specs.Prelude.{◌≡◌, Ok, Err, None, Some, option_map};
+ghost use Rattle.std.specs.Prelude.{◌≡◌, ℕ, ◌+◌, List, length, Result, Ok, Err, IfOk, OnErr, None, Some, option_map};
 ghost use Rattle.std.specs.Result.{result_err};
 ghost use Rattle.std.specs.IoError.{error_kind};
 ghost use Rattle.fuse_fs.specs.Answers.{ForgetsEach, pair_numbers, default_stats, no_flags};
+ghost use Rattle.fuse_fs.specs.Lengths.{past, up_to};
+ghost use Rattle.fuse_fs.specs.Transfers.{ReadsSegments, whole_answer};
 
 use crate::answers::{Context, Entry, GetxattrReply, ListxattrReply, Timeout};
 use crate::file_system::FileSystemBase;
+use crate::zero_copy::{PositionedFile, ZeroCopyWriter};
 use bitflags::Flags;
 use fuse_base::{Attr, Errno, FsOptions, OpenOptions, StatVfs};
 use std::io::{self, ErrorKind};
@@ -136,6 +139,29 @@ pub fn read() -> Result<usize, Errno>
     ensures { result ≡ Err 38 }
 {
     Err(Errno::ENOSYS)
+}
+
+/// What a `FileSystem::read` may call that is to put nothing in where it fails (`FileSystem::reads_whole`), whatever its
+/// file does: an errno that comes after some bytes is no more than a short read, and their count is the answer.
+pub fn read_whole<F: PositionedFile, W: ZeroCopyWriter>(
+    file: &mut F,
+    w: &mut W,
+    count: usize,
+    off: u64,
+) -> Result<usize, Errno>
+    ensures read { (bytes : List ℕ) × W.Puts w.old bytes w.new × (W.room w.old ≡ W.room w.new + length bytes)
+        × (W.rooms w.new ≡ past (length bytes) (W.rooms w.old)) × IfOk result (λ n. n ≡ length bytes) × OnErr result (length bytes ≡ 0)
+        × ((answer : Result ℕ ℕ) × (result ≡ whole_answer answer bytes)
+        × ReadsSegments F.read_gives file.old (up_to count (W.rooms w.old)) off bytes answer file.new) }
+{
+    let room = w.available_bytes();
+    match w.read_from_file_at(file, count, off) {
+        Ok(n) => Ok(n),
+        Err(error) => {
+            let done = room - w.available_bytes();
+            if done == 0 { Err(error) } else { Ok(done) }
+        }
+    }
 }
 
 /// Default of virtiofsd's `FileSystem::write`: no such call, ENOSYS.

@@ -1,6 +1,6 @@
 //! The trait of file systems (virtiofsd's `FileSystem`).
 
-ghost use Rattle.std.specs.Prelude.{◌≡◌, ℕ, ◌^◌, ◌+◌, ◌<◌, List, ◌++◌, length, Result, IfOk, Option, option_map};
+ghost use Rattle.std.specs.Prelude.{◌≡◌, ℕ, ◌^◌, ◌+◌, ◌<◌, List, ◌++◌, length, Result, IfOk, OnErr, IsTrue, Bool, Option, option_map};
 ghost use Rattle.fuse_fs.specs.Calls.{FileCall, FileAnswer};
 ghost use Rattle.fuse_fs.specs.Calls as call;
 ghost use Rattle.fuse_fs.specs.Answers.{options_answer, entry_answer, data_answer, done_answer, attr_answer};
@@ -79,6 +79,13 @@ pub trait FileSystemBase {
 /// those that READDIRPLUS looks up are the file system's own, as its listing gave them.
 pub trait FileSystem: FileSystemBase {
     type DirIter: DirectoryIterator;
+
+    // whether reads that fail put nothing in
+    ghost reads_whole: { Self → Bool };
+
+    /// Whether reads that fail put nothing in, whatever the writer and the file.
+    fn reads_whole(&self) -> bool
+        ensures { result ≡ reads_whole self.now };
 
     /// The start of a conversation (FUSE_INIT): of the options that both sides can, those that the file system wants.
     fn init(&mut self, capable: FsOptions) -> Result<FsOptions, Errno>
@@ -224,7 +231,8 @@ pub trait FileSystem: FileSystemBase {
         ensures may { Self.may self.old (call.Create ctx (Self.Inode.number parent) name.now mode kill_priv flags umask (extra_of extensions))
             (created_answer Self.Inode.number Self.Handle.number result) self.new };
 
-    /// Puts bytes of a file into a writer, and answers how many (FUSE_READ): an `Ok(n)` put in exactly n.
+    /// Puts bytes of a file into a writer, and answers how many (FUSE_READ): an `Ok(n)` put in exactly n. Where a read
+    /// that fails puts nothing in, the writer may be the guest's memory itself (`defaults::read_whole`).
     fn read<W: ZeroCopyWriter>(
         &mut self,
         ctx: Context,
@@ -236,10 +244,11 @@ pub trait FileSystem: FileSystemBase {
         lock_owner: Option<u64>,
         flags: u32,
     ) -> Result<usize, Errno>
-        ensures { (bytes : List ℕ) × (W.put w.new ≡ W.put w.old ++ bytes) × (W.room w.old ≡ W.room w.new + length bytes)
+        ensures { (bytes : List ℕ) × W.Puts w.old bytes w.new × (W.room w.old ≡ W.room w.new + length bytes)
             × IfOk result (λ n. n ≡ length bytes)
             × Self.may self.old (call.Read ctx (Self.Inode.number inode) (Self.Handle.number handle) (W.room w.old) size offset lock_owner flags)
-            (data_answer result bytes) self.new };
+            (data_answer result bytes) self.new
+            × (IsTrue (reads_whole self.old) → OnErr result (length bytes ≡ 0)) };
 
     /// Takes bytes of a file out of a reader, and answers how many are written (FUSE_WRITE). A delayed write comes from
     /// the guest's cache.

@@ -1,9 +1,9 @@
 //! Files that are read and written at a place, and what they fill.
 
-ghost use Rattle.std.specs.Prelude.{◌≡◌, ℕ, ◌+◌, ◌≤◌, List, ◌++◌, length, take, drop, Result, Ok, Err, IfOk, IfErr};
+ghost use Rattle.std.specs.Prelude.{◌≡◌, ℕ, ◌+◌, ◌≤◌, List, [], ◌++◌, length, take, drop, Result, Ok, Err, IfOk, IfErr};
 ghost use Rattle.std.specs.Prelude.{Option, option_map, vec_len, vec_capacity, sum};
 ghost use Rattle.fuse_fs.specs.Lengths.{past, up_to};
-ghost use Rattle.fuse_fs.specs.Transfers.{bytes_answer, ReadsSegments, Spends};
+ghost use Rattle.fuse_fs.specs.Transfers.{bytes_answer, moved, ReadsSegments, Spends};
 
 use fuse_base::Errno;
 
@@ -21,9 +21,10 @@ pub trait PositionedFile {
     ghost write_gives: { Self → List ℕ → ℕ → Option ℕ → Result ℕ ℕ → Self → Type 0 };
 
     /// Reads to the front of a buffer, and answers how many bytes, at most as many as it has; or an errno of the file's
-    /// own.
+    /// own. What lies behind them stays, and all of the buffer with an errno.
     fn read_at(&mut self, buf: &mut [u8], off: u64) -> Result<usize, Errno>
         ensures within { IfOk result (λ n. n ≤ length buf.old) }
+        ensures rest { buf.new ≡ take (moved result) buf.new ++ drop (moved result) buf.old }
         ensures gives { read_gives self.old (length buf.old) off (bytes_answer result buf.new) self.new };
 
     /// Writes a buffer's bytes from the first on, and answers how many, at most as many as it has; or an errno of the
@@ -59,14 +60,18 @@ pub trait PositionedFile {
 
 /// Where a file system puts the bytes that it reads (virtiofsd's `ZeroCopyWriter`).
 pub trait ZeroCopyWriter {
-    // What was put in so far.
-    ghost put: { Self → List ℕ };
+    // These bytes were put in, and nothing else changed: before, the bytes, after.
+    ghost Puts: { Self → List ℕ → Self → Type 0 };
 
     // How many bytes more there is room for.
     ghost room: { Self → ℕ };
 
     // The lengths of the segments in which that room is.
     ghost rooms: { Self → List ℕ };
+
+    /// How many bytes more there is room for.
+    fn available_bytes(&self) -> usize
+        ensures { result ≡ room self.now };
 
     /// Puts in what a file has at a place, in bytes from its start: it is asked for one segment after another, until
     /// the count of bytes is done, the room is used up, or it answers 0 or an errno. Where there is room left for a
@@ -77,17 +82,35 @@ pub trait ZeroCopyWriter {
         count: usize,
         off: u64,
     ) -> Result<usize, Errno>
-        ensures { (bytes : List ℕ) × (put self.new ≡ put self.old ++ bytes) × (room self.old ≡ room self.new + length bytes)
+        ensures { (bytes : List ℕ) × Puts self.old bytes self.new × (room self.old ≡ room self.new + length bytes)
             × (rooms self.new ≡ past (length bytes) (rooms self.old)) × (sum (rooms self.old) ≡ room self.old)
             × ReadsSegments F.read_gives file.old (up_to count (rooms self.old)) off bytes result file.new };
+
+    // where nothing is done, nothing is put in
+    ghost puts_none: { (w : Self) → Puts w [] w };
+
+    // what is put in after something
+    ghost puts_more: { (a b c : Self) (xs ys : List ℕ) → Puts a xs b → Puts b ys c → Puts a (xs ++ ys) c };
 }
 
+/// What is behind a reference, which stays the same reference.
 impl<Inner: ZeroCopyWriter> ZeroCopyWriter for &mut Inner {
-    ghost put = { λ w. Inner.put w.now };
+    ghost use Rattle.std.specs.Prelude.{◌≡◌, refl};
+    ghost use Rattle.std.proofs.Common.{◌∙◌};
+
+    ghost Puts = { λ old bytes new. (new.ghost_name ≡ old.ghost_name) × Inner.Puts old.now bytes new.now };
 
     ghost room = { λ w. Inner.room w.now };
 
     ghost rooms = { λ w. Inner.rooms w.now };
+
+    ghost puts_none = { λ w. (refl, Inner.puts_none w.now) };
+
+    ghost puts_more = { λ a b c xs ys first second. (second.0 ∙ first.0, Inner.puts_more a.now b.now c.now xs ys first.1 second.1) };
+
+    fn available_bytes(&self) -> usize {
+        (**self).available_bytes()
+    }
 
     fn read_from_file_at<F: PositionedFile>(
         &mut self,

@@ -31,6 +31,12 @@ impl<T: ReadOnlyFileSystem> FileSystemBase for ReadOnly<T> {
 impl<T: ReadOnlyFileSystem> FileSystem for ReadOnly<T> {
     type DirIter = T::DirIter;
 
+    ghost reads_whole = { λ fs. T.reads_whole fs.0 };
+
+    fn reads_whole(&self) -> bool {
+        self.0.reads_whole()
+    }
+
     fn init(&mut self, capable: FsOptions) -> Result<FsOptions, Errno> {
         self.0.init(capable)
     }

@@ -1,6 +1,6 @@
 //! The trait of file systems that are read.
 
-ghost use Rattle.std.specs.Prelude.{◌≡◌, ℕ, ◌+◌, List, ◌++◌, length, IfOk};
+ghost use Rattle.std.specs.Prelude.{◌≡◌, ℕ, ◌+◌, List, length, Bool, IfOk, IsTrue, OnErr};
 ghost use Rattle.fuse_fs.specs.Answers.{attr_answer, data_answer, done_answer, entry_answer, listed_answer, opened_answer, options_answer};
 ghost use Rattle.fuse_fs.specs.Calls.{FileCall, FileAnswer};
 ghost use Rattle.fuse_fs.specs.Calls as call;
@@ -15,6 +15,13 @@ use fuse_fs::{Context, DirectoryIterator, Entry, Timeout, ZeroCopyWriter};
 /// What a guest forgets isn't told, so that a node keeps its number as long as the guest may name it.
 pub trait ReadOnlyFileSystem {
     type DirIter: DirectoryIterator;
+
+    // whether reads that fail put nothing in
+    ghost reads_whole: { Self → Bool };
+
+    /// Whether reads that fail put nothing in, whatever the writer and the file.
+    fn reads_whole(&self) -> bool
+        ensures { result ≡ reads_whole self.now };
 
     // From a state, a call may have this answer and leave that state.
     ghost may: { Self → FileCall → FileAnswer → Self → Type 0 };
@@ -58,10 +65,11 @@ pub trait ReadOnlyFileSystem {
         lock_owner: Option<u64>,
         flags: u32,
     ) -> Result<usize, Errno>
-        ensures { (bytes : List ℕ) × (W.put w.new ≡ W.put w.old ++ bytes) × (W.room w.old ≡ W.room w.new + length bytes)
+        ensures { (bytes : List ℕ) × W.Puts w.old bytes w.new × (W.room w.old ≡ W.room w.new + length bytes)
             × IfOk result (λ n. n ≡ length bytes)
             × may self.old (call.Read ctx inode handle (W.room w.old) size offset lock_owner flags)
-            (data_answer result bytes) self.new };
+            (data_answer result bytes) self.new
+            × (IsTrue (reads_whole self.old) → OnErr result (length bytes ≡ 0)) };
 
     /// The last descriptor of an open file was closed (FUSE_RELEASE).
     fn release(

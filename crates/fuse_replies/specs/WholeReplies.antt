@@ -75,6 +75,11 @@ abbrev pub listing_answer : (len : ℕ) → (with_nodes : Bool) → Option ℕ �
 listing_answer len with_nodes None = Ok len
 listing_answer len with_nodes (Some errno) = if with_nodes && nat_lt 0 len then Ok len else Err errno
 
+-- the header of that reply alone; an error has nothing else
+abbrev pub data_header : ℕ → Result ℕ ℕ → List ℕ
+data_header unique (Ok n) = spelled (out_header (record { len = 16 + n; error = pos 0; unique = unique }))
+data_header unique (Err errno) = error_bytes unique errno
+
 -- the reply to a listing, by the entries that went in and the error that ended it
 abbrev pub listing_bytes : ℕ → (with_nodes : Bool) → List ℕ → Option ℕ → List ℕ
 listing_bytes unique with_nodes bytes error = data_reply unique (listing_answer (length bytes) with_nodes error) bytes

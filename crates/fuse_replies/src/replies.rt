@@ -4,7 +4,7 @@ ghost use Rattle.std.specs.Prelude.{◌≡◌, ◌+◌, ◌<◌, ◌≤◌, ◌^
 ghost use Rattle.std.specs.Result.{ForOk};
 ghost use Rattle.vm_values.specs.Fields.{spelled};
 ghost use Rattle.fuse_wire.specs.Records.{out_header};
-ghost use Rattle.fuse_replies.specs.WholeReplies.{reply_bytes, error_bytes, data_reply, with_written, whole_or_none, LeavesWriter};
+ghost use Rattle.fuse_replies.specs.WholeReplies.{reply_bytes, error_bytes, data_header, data_reply, with_written, whole_or_none, LeavesWriter};
 ghost use Rattle.fuse_segments.specs.Errors.{lacks_memory};
 
 use fuse_segments::{Error, Writer};
@@ -127,6 +127,18 @@ pub fn reply_error(w: &mut Writer, unique: u64, error: Errno) -> Result<usize, E
     ensures memory { lacks_memory result ≡ false }
 {
     send(w, &error_reply(unique, error))
+}
+
+/// The header of the reply to a READ that had this answer, for who has put the data elsewhere; an error's reply is no
+/// more.
+pub fn data_header(unique: u64, answer: Result<usize, Errno>) -> [u8; OUT_HEADER_LEN]
+    requires { ForOk answer (λ n. 16 + n < 2 ^ 32) }
+    ensures { result ≡ data_header unique answer }
+{
+    match answer {
+        Ok(n) => header_bytes((OUT_HEADER_LEN + n) as u32, 0, unique),
+        Err(error) => error_reply(unique, error),
+    }
 }
 
 /// Puts a header before the bytes that stand behind its place, or an error in place of all of it.

@@ -55,11 +55,21 @@ pub struct ZcWriter {
 }
 
 impl ZeroCopyWriter for ZcWriter {
-    ghost put = { λ z. z.writer.written };
+    ghost use Rattle.std.proofs.Common.{◌∙◌, append-nil, append_assoc, ap, sym};
+
+    ghost Puts = { λ old bytes new. new.writer.written ≡ old.writer.written ++ bytes };
 
     ghost room = { λ z. z.writer.free };
 
     ghost rooms = { λ z. rooms z.writer };
+
+    ghost puts_none = { λ z. sym (append-nil z.writer.written) };
+
+    ghost puts_more = { λ a b c xs ys first second. second ∙ ap (λ front. front ++ ys) first ∙ append_assoc a.writer.written xs ys };
+
+    fn available_bytes(&self) -> usize {
+        self.writer.available_bytes()
+    }
 
     #[inline(always)]
     fn read_from_file_at<F: PositionedFile>(

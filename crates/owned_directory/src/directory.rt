@@ -1,6 +1,6 @@
 //! A read-only directory, as a file system.
 
-ghost use Rattle.std.specs.Prelude.{◌≡◌, ◌<◌, ◌^◌, ◌+◌, ◌++◌, ℕ, List, length, take, drop, option_map, slice_get, Some, Ok, IfOk};
+ghost use Rattle.std.specs.Prelude.{◌≡◌, ◌<◌, ◌^◌, ◌+◌, ◌++◌, ℕ, List, length, take, drop, option_map, slice_get, Some, Ok, IfOk, OnErr};
 ghost use Rattle.std.specs.Arc.{arc_value};
 ghost use Rattle.fuse_fs.specs.Answers.{data_answer, entry_answer, listed};
 ghost use Rattle.owned_directory.specs.Directory.{EROFS, attr_of, bytes_in, file_entry, file_at, found_from, listing_from, MayAnswer};
@@ -152,14 +152,15 @@ fn put_bytes<W: ZeroCopyWriter>(
     size: u32,
     offset: u64,
 ) -> Result<usize, Errno>
-    ensures { (bytes : List ℕ) × (W.put w.new ≡ W.put w.old ++ bytes) × (W.room w.old ≡ W.room w.new + length bytes)
-        × IfOk result (λ n. n ≡ length bytes) × (data_answer result bytes ≡ bytes_in (W.room w.old) (take size (drop offset contents.now))) }
+    ensures { (bytes : List ℕ) × W.Puts w.old bytes w.new × (W.room w.old ≡ W.room w.new + length bytes)
+        × IfOk result (λ n. n ≡ length bytes) × (data_answer result bytes ≡ bytes_in (W.room w.old) (take size (drop offset contents.now)))
+        × OnErr result (length bytes ≡ 0) }
 {
     let wanted = rest(contents, offset).len().min(size as usize);
-    match w.read_from_file_at(&mut Contents { bytes: contents }, wanted, offset) {
-        Ok(n) if n == wanted => Ok(n),
-        _ => Err(Errno::EIO),
+    if w.available_bytes() < wanted {
+        return Err(Errno::EIO);
     }
+    w.read_from_file_at(&mut Contents { bytes: contents }, wanted, offset)
 }
 
 // The entry of a file, by its place in the table.
@@ -190,6 +191,14 @@ impl DirectoryIterator for Entries {
 
 impl ReadOnlyFileSystem for OwnedTable {
     type DirIter = Entries;
+
+    ghost use Rattle.std.specs.Prelude.{true};
+
+    ghost reads_whole = { λ fs. true };
+
+    fn reads_whole(&self) -> bool {
+        true
+    }
 
     ghost may = { MayAnswer };
 

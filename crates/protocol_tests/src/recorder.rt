@@ -36,6 +36,14 @@ impl<K> FileSystemBase for Recorder<'_, K> {
 impl<K> FileSystem for Recorder<'_, K> {
     type DirIter = Entries;
 
+    ghost use Rattle.std.specs.Prelude.{false};
+
+    ghost reads_whole = { λ fs. false };
+
+    fn reads_whole(&self) -> bool {
+        false
+    }
+
     fn init(&mut self, capable: FsOptions) -> Result<FsOptions, Errno> {
         match self.log.note("init") {
             Told::Default => defaults::init(),

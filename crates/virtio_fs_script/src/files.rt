@@ -197,6 +197,14 @@ impl<'a> FileSystemBase for LoggingFiles<'a> {
 impl<'a> FileSystem for LoggingFiles<'a> {
     type DirIter = RootEntries;
 
+    ghost use Rattle.std.specs.Prelude.{false};
+
+    ghost reads_whole = { λ fs. false };
+
+    fn reads_whole(&self) -> bool {
+        false
+    }
+
     fn init(&mut self, _capable: FsOptions) -> Result<FsOptions, Errno> {
         self.note(Call::Init);
         Ok(FsOptions::from_bits_retain(0))

@@ -1,6 +1,6 @@
 -- The rows of the grammar, by what was read.
 use Rattle.std.proofs.Common.{◌≡◌, ℕ, ◌+◌, ◌-◌, ◌<◌, ◌≤◌, true, false, List, [], ◌++◌, length, Result, Ok, Err, Option, None, refl, sym, ap, ◌∙◌, arith, Bool}
-use Rattle.std.specs.Prelude.{IsTrue, nat_le, bit_and, ◌*◌, ◌^◌, IfErr, IfOk, drop}
+use Rattle.std.specs.Prelude.{IsTrue, nat_le, bit_and, ◌*◌, ◌^◌, IfErr, IfOk, OnErr, Some, drop}
 use Rattle.std.proofs.lemmas.Bool.{lt-ltb, le-ltb}
 use Rattle.std.proofs.lemmas.Bool.Decides.{nat_tests}
 use Rattle.fuse_in.specs.declared.session.InHeader.{InHeader}
@@ -10,13 +10,15 @@ use Rattle.fuse_in.specs.declared.session.InitInCompat.{InitInCompat}
 use Rattle.fuse_in.specs.declared.files.ReadIn.{ReadIn}
 use Rattle.fuse_in.specs.declared.nodes.GetxattrIn.{GetxattrIn}
 use Rattle.fuse_wire.specs.declared.opcodes.Opcode.{Opcode}
+use Rattle.fuse_wire.specs.declared.opcodes.Opcode.TheVariants as op
 use Rattle.fuse_wire.specs.Opcodes.{opcode_of}
 use Rattle.fuse_fs.specs.Answers.{data_answer, written_answer}
 use Rattle.fuse_fs.specs.Calls.{FileCall, suits, Failed}
+use Rattle.fuse_fs.specs.Transfers.{moved}
 use Rattle.fuse_requests.specs.Reading.{Reading, ◌>>◌, Faults, Sends, and_then, within, value_of, reading_of, last_name}
-use Rattle.virtiofsd_fuse.specs.Grammar.{IsFault, Replies, Asks, One, Starts, Given, given, one, row_of, meant, meaning, record_row, name_row, bytes_row, ended}
+use Rattle.virtiofsd_fuse.specs.Grammar.{IsFault, Replies, Asks, One, Starts, Given, given, one, row, row_of, meant, meaning, record_row, name_row, bytes_row, ended}
 use Rattle.fuse_requests.specs.Fronts.{counted, flags2_of}
-use Rattle.fuse_replies.specs.WholeReplies.{error_bytes, reply_bytes, versions_bytes, with_written, whole_or_none, data_reply, listing_answer, listing_bytes}
+use Rattle.fuse_replies.specs.WholeReplies.{error_bytes, reply_bytes, versions_bytes, with_written, whole_or_none, data_reply, listing_answer, listing_bytes, data_header}
 use Rattle.virtiofsd_fuse.specs.Grammar.{started, known_options, read_asked, read_row, init_row, ENOMEM}
 use Rattle.virtiofsd_fuse.specs.Grammar.{at_most_a_mebibyte, listxattr_row, Lists, write_row, listing_asked, listing_row, symlink_row}
 use Rattle.fuse_calls.specs.Requests.{read_call, listxattr_call, write_call, symlink_call}
@@ -26,7 +28,7 @@ use Rattle.fuse_in.specs.declared.files.WriteIn.{WriteIn}
 use Rattle.fuse_requests.specs.Extras.{new_link}
 use Rattle.fuse_segments.specs.declared.error.Error.{Error}
 use Rattle.fuse_segments.specs.declared.error.Error.TheVariants.{DecodeMessage, EncodeMessage}
-use Rattle.std.proofs.lemmas.List.{drop_at}
+use Rattle.std.proofs.lemmas.List.{append-nil, drop_at, nil_from_length}
 use Rattle.fuse_replies.proofs.ReplyLemmas.{sent_fits, length_reply, length_error}
 use Rattle.virtiofsd_fuse.proofs.Serve.{ask_of, ended_parts, ended_fault}
 
@@ -182,6 +184,32 @@ read_told room unique h left r (Ok k) front before written bytes n l e fits w =
 read_told room unique h left r (Err k) front before written bytes n l e fits w =
     let enough : 16 ≤ room = omega (arith, fits) in
     ap Ok w ∙ sym (sent_fits room (error_bytes unique k) (rw (length_error unique k) enough))
+
+-- the same, where the data stands apart from the header
+pub read_told_apart : (room unique : ℕ) (h : InHeader) (left : ℕ) (r : ReadIn) (answer : Result ℕ ℕ) (header bytes : List ℕ) (n : ℕ)
+    → header ≡ data_header unique answer → IfOk answer (λ k. k ≡ length bytes) → OnErr answer (length bytes ≡ 0) → 16 + length bytes ≤ room
+    → with_written (Ok n) (header ++ bytes) ≡ whole_or_none room (answer_bytes unique (read_call h left r) (data_answer answer bytes))
+unfolding reply_bytes
+read_told_apart room unique h left r (Ok k) header bytes n e long none fits =
+    let is : header ++ bytes ≡ reply_bytes unique bytes = rw (e, long) refl in
+    ap Ok is ∙ sym (sent_fits room (reply_bytes unique bytes) (rw (length_reply unique bytes) fits))
+read_told_apart room unique h left r (Err k) header bytes n e long none fits =
+    let enough : 16 ≤ room = omega (arith, fits) in
+    let is : header ++ bytes ≡ error_bytes unique k = rw (e, nil_from_length bytes none) (append-nil (error_bytes unique k)) in
+    ap Ok is ∙ sym (sent_fits room (error_bytes unique k) (rw (length_error unique k) enough))
+
+-- how many bytes came of a read that put nothing in where it failed
+pub moved_all : (answer : Result ℕ ℕ) (bytes : List ℕ) → IfOk answer (λ n. n ≡ length bytes) → OnErr answer (length bytes ≡ 0) → moved answer ≡ length bytes
+moved_all (Ok n) bytes long none = long
+moved_all (Err e) bytes long none = sym none
+
+-- a READ, by its header and its record
+pub read_means : (options room : ℕ) (request more rest : List ℕ) (h : InHeader) (r : ReadIn) → Ok (h, more) ≡ reading_of in_header request → Ok (r, rest) ≡ reading_of read_in more
+    → h.len ≤ 0x101000 → opcode_of h.opcode ≡ Some op.Read → 16 ≤ room → meaning options request room ≡ Asks (One h.unique (read_call h (room - 16) r))
+unfolding row
+read_means options room request more rest h r e k short is fits =
+    meaning_head options room request more h e ∙ meant_row (given h options room) more (Some op.Read) short is
+    ∙ rw (← k) (read_asks (given h options room) r rest fits)
 
 -- WRITE, by its record and what is left
 pub write_asks : (g : Given) (bytes more : List ℕ) (r : WriteIn) → Ok (r, more) ≡ reading_of write_in bytes

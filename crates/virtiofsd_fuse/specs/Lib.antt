@@ -6,3 +6,4 @@ pub mod ListingRuns
 pub mod Listings
 pub mod WantOfMemory
 pub mod Serving
+pub mod ReadApart

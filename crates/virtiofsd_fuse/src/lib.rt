@@ -19,4 +19,5 @@ pub use fuse_fs::{
     SerializableFileSystem, Timeout, WritevFlags, ZeroCopyReader, ZeroCopyWriter, defaults,
 };
 pub use fuse_segments::{DescriptorType, Error, Reader, Writer, ZcReader, ZcWriter};
+pub use reads::{ReadReply, ReadRequest};
 pub use server::Server;

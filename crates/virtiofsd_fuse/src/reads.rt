@@ -1,20 +1,94 @@
 //! READ: bytes of a file go straight into the reply.
 
-ghost use Rattle.std.specs.Prelude.{◌≡◌, ℕ, ◌<◌, ◌^◌, List, [], false};
-ghost use Rattle.virtiofsd_fuse.specs.Grammar.{read_row, read_asked};
-ghost use Rattle.virtiofsd_fuse.specs.Serving.{RowHandles, Leaves};
+ghost use Rattle.std.specs.Prelude.{◌≡◌, ℕ, ◌+◌, ◌<◌, ◌≤◌, ◌^◌, List, [], ◌++◌, length, false, IfSome, IsTrue, Ok, Some};
+ghost use Rattle.fuse_wire.specs.Opcodes.{opcode_of};
+ghost use Rattle.fuse_fs.specs.Transfers.{moved};
+ghost use Rattle.virtiofsd_fuse.specs.Grammar.{meaning, read_row, read_asked};
+ghost use Rattle.virtiofsd_fuse.specs.ReadApart.{read_meaning};
+ghost use Rattle.virtiofsd_fuse.specs.Serving.{RowHandles, Leaves, ServerHandles};
 
-use crate::server::Server;
+use crate::server::{MAX_REQUEST_LEN, Server, opcode_of};
 use fuse_calls::reads::make_read_call;
-use fuse_fs::FileSystem;
+use fuse_fs::{FileSystem, ZeroCopyWriter};
 use fuse_in::{InHeader, ReadIn};
-use fuse_replies::replies::{OUT_HEADER_LEN, append, reply_data};
+use fuse_replies::replies::{OUT_HEADER_LEN, append, data_header, reply_data};
 use fuse_requests::records::read_record;
 use fuse_segments::{Error, Reader, Writer, ZcWriter};
+use fuse_wire::{Errno, Opcode};
 use std::alloc::Global;
 use std::mem;
 
+/// A READ that was read from a request's bytes: its header and its record.
+#[derive(Clone, Copy)]
+pub struct ReadRequest {
+    pub header: InHeader,
+    pub record: ReadIn,
+}
+
+impl ReadRequest {
+    /// The READ that a request's bytes are; None where they are another request's, are cut short, or say a length that
+    /// is too great.
+    pub fn of_bytes(alloc: Global, request: &[u8]) -> Option<ReadRequest>
+        ensures { (options room : ℕ) → 16 ≤ room → IfSome result (λ q. meaning options request.now room ≡ read_meaning q room) }
+    {
+        let mut r = Reader::of_slice(alloc, request);
+        let Ok(header) = read_record::<InHeader>(&mut r) else {
+            return None;
+        };
+        if header.len > MAX_REQUEST_LEN || !is_read(&header) {
+            return None;
+        }
+        match read_record::<ReadIn>(&mut r) {
+            Ok(record) => Some(ReadRequest { header, record }),
+            Err(_) => None,
+        }
+    }
+}
+
+// Whether a header is that of a READ.
+fn is_read(header: &InHeader) -> bool
+    ensures { IsTrue result → opcode_of header.now.opcode ≡ Some Opcode.Read }
+{
+    matches!(opcode_of(header.opcode), Some(Opcode::Read))
+}
+
+// How many bytes a read moved.
+fn moved(answer: &Result<usize, Errno>) -> usize
+    ensures { result ≡ moved answer.now }
+{
+    match answer {
+        Ok(n) => *n,
+        Err(_) => 0,
+    }
+}
+
+/// The reply to a READ whose data has gone elsewhere: its header, and its length in bytes with the data.
+#[derive(Clone, Copy)]
+pub struct ReadReply {
+    pub header: [u8; OUT_HEADER_LEN],
+    pub len: usize,
+}
+
 impl<F: FileSystem> Server<F> {
+    /// Serves a READ of which the data goes to a writer, for a file system whose reads put nothing in where they fail.
+    /// The header of the reply is answered; with the data behind it, it is the reply.
+    pub fn read_into<W: ZeroCopyWriter>(&mut self, request: &ReadRequest, data: &mut W) -> ReadReply
+        requires whole { IsTrue (F.reads_whole self.old.fs) }
+        requires room { 16 + W.room data.old < 2 ^ 32 }
+        ensures handles { (bytes : List ℕ) × W.Puts data.old bytes data.new × (W.room data.old ≡ W.room data.new + length bytes)
+            × (result.len ≡ 16 + length bytes)
+            × ServerHandles F.may self.old (16 + W.room data.old) (read_meaning request.now (16 + W.room data.old)) (Ok result.len)
+            (result.header ++ bytes) self.new }
+        ensures page_size { self.new.page_size ≡ self.old.page_size }
+    {
+        let answer = make_read_call(&mut self.fs, &request.header, &request.record, data);
+        let len = OUT_HEADER_LEN + moved(&answer);
+        ReadReply {
+            header: data_header(request.header.unique, answer),
+            len,
+        }
+    }
+
     // READ, by its record: the data goes behind the header's place in the reply.
     #[inline(always)]
     fn read_data(

@@ -27,7 +27,7 @@ use fuse_wire::{Errno, FsOptions, Opcode};
 use std::alloc::Global;
 
 /// The longest request: 2^20 bytes of data, and one page.
-const MAX_REQUEST_LEN: u32 = 0x101000;
+pub(crate) const MAX_REQUEST_LEN: u32 = 0x101000;
 
 /// A server of one file system.
 #[derive(Drop)]
@@ -40,7 +40,7 @@ pub struct Server<F> {
 }
 
 // The request that a number asks for.
-fn opcode_of(number: u32) -> Option<Opcode>
+pub(crate) fn opcode_of(number: u32) -> Option<Opcode>
     ensures { result ≡ opcode_of number }
 {
     match Opcode::try_from(number) {

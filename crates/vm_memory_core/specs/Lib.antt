@@ -1,6 +1,7 @@
 pub mod Host
 pub mod Lending
 pub mod Window
+pub mod Volatile
 pub mod Putting
 pub mod Parts
 pub mod Access

@@ -1,12 +1,14 @@
 //! One block of host memory, and copies from one block to another.
 
-ghost use Rattle.std.specs.Prelude.{◌≡◌, ◌≢◌, ◌+◌, ◌<◌, ◌≤◌, ◌^◌, ◌*◌, ◌++◌, IfOk, length, map, take, drop};
+ghost use Rattle.std.specs.Prelude.{◌≡◌, ◌≢◌, ℕ, ◌+◌, ◌<◌, ◌≤◌, ◌^◌, ◌*◌, List, ◌++◌, IfOk, length, map, take, drop};
 ghost use Rattle.vm_memory_core.specs.Host.{Block, Host, with_blocks};
 ghost use Rattle.vm_memory_core.specs.Parts.{spelled_all};
 ghost use Rattle.vm_memory_core.specs.Putting.{copied_in_block, marked_if};
+ghost use Rattle.vm_memory_core.specs.Volatile.{moved, read_answer};
 ghost use Rattle.vm_memory_core.specs.Window.{LiesIn};
 
 use crate::copy::{put_at, put_values};
+use crate::volatile::{ReadVolatile, moved, read_to};
 use crate::window::VolatileSlice;
 use std::alloc::{AllocError, Global};
 use std::marker::Model;
@@ -91,6 +93,27 @@ impl<B: NewBitmap> Block<B> {
         if mark {
             self.bitmap.mark_dirty(offset, bytes.len());
         }
+    }
+
+    // Reads to some of its bytes, and marks the pages of those that came if `mark`.
+    pub(crate) fn read_volatile_from<S: ReadVolatile>(
+        &mut self,
+        offset: usize,
+        len: usize,
+        source: &mut S,
+        mark: bool,
+    ) -> Result<usize, S::Error>
+        requires { offset + len ≤ length self.old.bytes }
+        ensures reads { (part : List ℕ) × (self.new.bytes ≡ take offset self.old.bytes ++ part ++ drop (offset + length part) self.old.bytes)
+            × (self.new.marks ≡ marked_if mark self.old.marks offset (length part)) × (length part ≡ moved result) × (length part ≤ len)
+            × S.gives source.old len (read_answer result part) source.new }
+        ensures fits { offset + moved result < 2 ^ 64 }
+    {
+        let answer = read_to(&mut self.bytes, offset, len, source);
+        if mark {
+            self.bitmap.mark_dirty(offset, moved(&answer));
+        }
+        answer
     }
 }
 

@@ -1,15 +1,17 @@
 //! Memory as numbered blocks, each with its dirty pages, with the tables of IOMMUs and their dirty pages beside them.
 
-ghost use Rattle.std.specs.Prelude.{[], IfOk, IfSome, IsSome, IsTrue, None, OnErr, false, ◌≡◌, ◌↔◌, ◌<◌, ◌≤◌, ◌*◌};
-ghost use Rattle.std.specs.Prelude.{length, map, replicate, slice_get, option_map};
+ghost use Rattle.std.specs.Prelude.{[], IfOk, IfSome, IsSome, IsTrue, None, OnErr, false, ℕ, ◌≡◌, ◌↔◌, ◌<◌, ◌≤◌, ◌*◌};
+ghost use Rattle.std.specs.Prelude.{List, length, map, replicate, slice_get, option_map};
 ghost use Rattle.std.specs.Borrow.{sem};
 ghost use Rattle.vm_memory_core.specs.Host.{byte_at, lengths, shape, with_block, with_io_pages, with_table};
 ghost use Rattle.vm_memory_core.specs.Parts.{spelled_all};
 ghost use Rattle.vm_memory_core.specs.Putting.{copied_in_block, io_marked};
+ghost use Rattle.vm_memory_core.specs.Volatile.{moved, read_answer};
 ghost use Rattle.vm_memory_core.specs.Window.{places_of, LiesIn, Stores, byte_in};
 
 use crate::block::{Block, cloned_blocks, copy_across};
 use crate::io_pages::{IoPages, cloned_sets, mark_pages};
+use crate::volatile::{ReadVolatile, moved};
 use crate::window::VolatileSlice;
 use std::alloc::{AllocError, Global};
 use std::fmt;
@@ -167,6 +169,25 @@ impl<B: NewBitmap> HostMemory<B> {
         let block = &mut self.blocks[window.block()];
         block.write(window.block_offset(), bytes, window.marks_its_block());
         self.mark_io(window, bytes.len());
+    }
+
+    /// Reads to the first places of a window, and marks the pages of the bytes that came. An error changes nothing
+    /// (vm-memory's `VolatileSlice::read_volatile_from`).
+    pub fn read_volatile_from<S: ReadVolatile>(
+        &mut self,
+        window: VolatileSlice,
+        source: &mut S,
+    ) -> Result<usize, S::Error>
+        requires { LiesIn (lengths self.old) window }
+        ensures reads { (part : List ℕ) × Stores self.old self.new (places_of window) part × (length part ≡ moved result) × (length part ≤ window.len)
+            × S.gives source.old window.len (read_answer result part) source.new }
+        ensures shape { shape self.new ≡ shape self.old }
+    {
+        let block = &mut self.blocks[window.block()];
+        let mark = window.marks_its_block();
+        let answer = block.read_volatile_from(window.block_offset(), window.len(), source, mark);
+        self.mark_io(window, moved(&answer));
+        answer
     }
 
     // Marks the I/O pages of the first bytes of a window that marks such pages.

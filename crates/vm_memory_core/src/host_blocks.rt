@@ -1,11 +1,13 @@
 //! Host memory of any kind, as queues and devices use it.
 
-ghost use Rattle.std.specs.Prelude.{◌≡◌, ◌↔◌, ◌<◌, ◌≤◌, IfOk, IsTrue, length, map, option_map, slice_get};
+ghost use Rattle.std.specs.Prelude.{◌≡◌, ◌↔◌, ℕ, ◌<◌, ◌≤◌, IfOk, IsTrue, List, length, map, option_map, slice_get};
 ghost use Rattle.vm_memory_core.specs.Host.{Host, lengths, shape};
+ghost use Rattle.vm_memory_core.specs.Volatile.{moved, read_answer};
 ghost use Rattle.vm_memory_core.specs.Window.{AllLieIn, LiesIn, Stores, byte_in, places, places_of};
 
 use crate::copy::put_at;
 use crate::host::HostMemory;
+use crate::volatile::ReadVolatile;
 use crate::window::VolatileSlice;
 use std::alloc::{AllocError, Global};
 use vm_bitmaps::NewBitmap;
@@ -36,6 +38,18 @@ pub trait HostBlocks {
         requires lies { LiesIn (lengths (host self.old)) window }
         requires fits { length bytes.now ≤ window.len }
         ensures stored { Stores (host self.old) (host self.new) (places_of window) bytes.now }
+        ensures shape { shape (host self.new) ≡ shape (host self.old) }
+        ensures loan { IsSameLoan self.old self.new };
+
+    /// Reads to the first places of a window, and marks the pages of the bytes that came. An error changes nothing.
+    fn read_volatile_from<S: ReadVolatile>(
+        &mut self,
+        window: VolatileSlice,
+        source: &mut S,
+    ) -> Result<usize, S::Error>
+        requires { LiesIn (lengths (host self.old)) window }
+        ensures reads { (part : List ℕ) × Stores (host self.old) (host self.new) (places_of window) part × (length part ≡ moved result)
+            × (length part ≤ window.len) × S.gives source.old window.len (read_answer result part) source.new }
         ensures shape { shape (host self.new) ≡ shape (host self.old) }
         ensures loan { IsSameLoan self.old self.new };
 
@@ -150,6 +164,14 @@ impl<B: NewBitmap> HostBlocks for HostMemory<B> {
     #[inline(always)]
     fn write(&mut self, window: VolatileSlice, bytes: &[u8]) {
         HostMemory::write(self, window, bytes);
+    }
+
+    fn read_volatile_from<S: ReadVolatile>(
+        &mut self,
+        window: VolatileSlice,
+        source: &mut S,
+    ) -> Result<usize, S::Error> {
+        HostMemory::read_volatile_from(self, window, source)
     }
 
     fn table(&self, table: usize) -> Option<&Iotlb> {

@@ -1,11 +1,14 @@
 //! Memory that a monitor lends to a device for a call.
 
-ghost use Rattle.std.specs.Prelude.{◌≡◌, ◌+◌, ◌<◌, ◌≤◌, ◌^◌, ◌++◌, length, take, drop};
+ghost use Rattle.std.specs.Prelude.{◌≡◌, ℕ, ◌+◌, ◌<◌, ◌≤◌, ◌^◌, List, ◌++◌, length, take, drop, IfSome};
+ghost use Rattle.std.specs.Option.{is_none};
 ghost use Rattle.vm_memory_core.specs.Putting.{marked_if};
+ghost use Rattle.vm_memory_core.specs.Volatile.{moved, read_answer};
 
 use crate::copy::put_at;
 use crate::host_blocks::HostBlocks;
 use crate::io_pages::IoPages;
+use crate::volatile::{ReadVolatile, moved, read_to};
 use crate::window::VolatileSlice;
 use vm_bitmaps::{Bitmap, NewBitmap};
 use vm_iotlb::Iotlb;
@@ -55,6 +58,29 @@ fn write_block<B: NewBitmap>(
     }
 }
 
+// Reads to bytes of a block, and marks the pages of those that came if `mark`.
+fn read_block<B: NewBitmap, S: ReadVolatile>(
+    block: &mut [u8],
+    pages: &mut IoPages<B>,
+    window: VolatileSlice,
+    source: &mut S,
+) -> Result<usize, S::Error>
+    requires { window.offset + window.len ≤ length block.old }
+    ensures reads { (part : List ℕ) × (block.new ≡ take window.offset block.old ++ part ++ drop (window.offset + length part) block.old)
+        × (pages.new ≡ marked_if (is_none window.io) pages.old window.offset (length part)) × (length part ≡ moved result) × (length part ≤ window.len)
+        × S.gives source.old window.len (read_answer result part) source.new }
+    ensures fits { window.offset + moved result < 2 ^ 64 }
+    ensures len { length block.new ≡ length block.old }
+    ensures pages { length pages.new ≡ length pages.old }
+    ensures from { IfSome window.io (λ m. m.from ≤ window.offset) }
+{
+    let answer = read_to(block, window.block_offset(), window.len(), source);
+    if window.io().is_none() {
+        pages.mark_dirty(window.block_offset(), moved(&answer));
+    }
+    answer
+}
+
 impl<'a, B: NewBitmap> HostBlocks for LentMemory<'a, B> {
     ghost use Rattle.std.specs.Prelude.{refl};
     ghost use Rattle.std.proofs.Common.{◌∙◌};
@@ -92,6 +118,18 @@ impl<'a, B: NewBitmap> HostBlocks for LentMemory<'a, B> {
             write_block(&mut *self.low, &mut self.low_pages, offset, bytes, mark);
         } else {
             write_block(&mut *self.high, &mut self.high_pages, offset, bytes, mark);
+        }
+    }
+
+    fn read_volatile_from<S: ReadVolatile>(
+        &mut self,
+        window: VolatileSlice,
+        source: &mut S,
+    ) -> Result<usize, S::Error> {
+        if window.block() == 0 {
+            read_block(&mut *self.low, &mut self.low_pages, window, source)
+        } else {
+            read_block(&mut *self.high, &mut self.high_pages, window, source)
         }
     }
 

@@ -13,6 +13,7 @@ mod io_pages;
 mod lent;
 mod memory;
 mod unmarked;
+mod volatile;
 mod window;
 
 pub use access::Bytes;
@@ -34,4 +35,5 @@ pub use vm_values::{
     Address, AddressValue, Be16, Be32, Be64, ByteValued, GuestAddress, GuestUsize, Le16, Le32,
     Le64, MemoryRegionAddress,
 };
+pub use volatile::ReadVolatile;
 pub use window::{IoMarks, VolatileSlice, Windows};

@@ -1,17 +1,14 @@
-use Rattle.fs_queue.proofs.ReturnLemmas.{returned_is, told_is, kept_tables}
+use Rattle.std.proofs.Common.{ap, sym, refl}
+use Rattle.std.specs.List.{zip}
+use Rattle.vm_memory_core.specs.Host.{Host}
+use Rattle.vm_memory_core.specs.Window.{put_all}
+use Rattle.fs_queue.specs.Windows.{chain_places}
 use Rattle.fs_queue.proofs.queue.Queue.give_back.Goals as goal
 
 pub returns-clause-stored : goal.returns-clause-stored
 returns-clause-stored g c m fetched host taken =
-    returned_is m _ _ _ c.args.self.now fetched c.args.taken.now c.args.reply.now _ _ host taken c.write_reply.ensures.stored
-    c.deref.ensures (rw (← c.self.view_is) (rw c.from.ensures at c.to_bytes.ensures)) c.write_windows.ensures.stored
+    c.give_back_front.ensures.stored m fetched c.args.reply.now (ap (λ (h : Host). put_all h (zip (chain_places c.args.taken.now.chain) c.args.reply.now)) (sym host)) refl taken
 
 pub returns-clause-told : goal.returns-clause-told
 returns-clause-told g c m fetched host taken =
-    told_is m (g.H.HostBlocks.host c.write_windows.new.self) c.args.self.now fetched c.args.taken.now _ _ _
-    (kept_tables m _ _ _ _ _ host c.write_reply.ensures.stored c.write_windows.ensures.stored)
-    taken c.deref-2.ensures c.read_windows.ensures c.le16_number.ensures
-
-pub returns-clause-loan : goal.returns-clause-loan
-returns-clause-loan g c =
-    g.met.H.HostBlocks.composes c.args.host.now c.write_reply.new.host c.write_windows.new.self c.write_reply.ensures.loan c.write_windows.ensures.loan
+    c.give_back_front.ensures.told m fetched c.args.reply.now (ap (λ (h : Host). put_all h (zip (chain_places c.args.taken.now.chain) c.args.reply.now)) (sym host)) taken

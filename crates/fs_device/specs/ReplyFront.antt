@@ -1,0 +1,32 @@
+-- What a chain is answered that is yet to be written: all of the reply, or its header, with the data in its place already.
+use Rattle.std.specs.Prelude.{◌≡◌, ℕ, List, length, Option}
+use Rattle.vm_memory_core.specs.Host.{Host}
+use Rattle.fs_queue.specs.declared.chain.Taken.{Taken}
+use Rattle.fs_queue.specs.Taking.{RequestAndRoom}
+use Rattle.fs_queue.specs.Returning.{PutFrontLast}
+use Rattle.fs_queue.specs.Windows.{chain_places}
+use Rattle.virtiofsd_fuse.specs.declared.server.Server.{Server}
+use Rattle.virtiofsd_fuse.specs.Serving.{May}
+use Rattle.fs_device.specs.declared.exchange.Fault.{Fault}
+use Rattle.fs_device.specs.declared.reply_front.Front.{Front}
+use Rattle.fs_device.specs.declared.reply_front.Front.TheVariants.{Header, Reply}
+use Rattle.fs_device.specs.declared.reply_front.ReplyFront.{ReplyFront}
+use Rattle.fs_device.specs.Step.{Calls, Exchange}
+use Rattle.fs_device.specs.DeviceView.{ServesChain, request_of, server_state}
+
+-- the bytes that are yet to be written
+abbrev pub front_bytes : Front → List ℕ
+front_bytes (Reply bytes) = bytes.items
+front_bytes (Header bytes) = bytes
+
+-- the exchange of a chain with this head that was offered so, by this reply or fault
+abbrev pub replied : (head : ℕ) → RequestAndRoom → (reply : List ℕ) → Option Fault → Exchange
+replied head fetched reply fault = record { head = head; request = request_of fetched; reply = reply; fault = fault }
+
+-- a chain is served by a reply of this length, which stands in its room but for its front
+pub record AnswersFront {F : Type 0} (may : May F) (before : Server F) (old : Host) (taken : Taken) (fetched : RequestAndRoom) (a : ReplyFront) (new : Host) (after : Server F) : Type 0 where
+  pub reply : List ℕ
+  pub len : length reply ≡ a.len
+  pub put : PutFrontLast old new (chain_places taken.chain) (front_bytes a.front) reply
+  pub request : a.request_len ≡ length (request_of fetched)
+  pub served : (calls : Calls) × ServesChain may before.page_size (server_state before) taken.head fetched calls (replied taken.head fetched reply a.fault) (server_state after)

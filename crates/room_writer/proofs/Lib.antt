@@ -1,0 +1,2 @@
+pub mod FillLemmas
+pub mod ApartLemmas

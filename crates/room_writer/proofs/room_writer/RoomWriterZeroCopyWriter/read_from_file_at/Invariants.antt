@@ -1,0 +1,18 @@
+use Rattle.std.proofs.Common.{◌≡◌, ◌-◌, ℕ, List, []}
+use Rattle.fuse_fs.proofs.SegmentReads.{Offered, SoFar}
+use Rattle.room_writer.specs.Fills.{Fills}
+use Rattle.room_writer.proofs.FillLemmas.{filling}
+use Rattle.room_writer.proofs.room_writer.RoomWriterZeroCopyWriter.read_from_file_at.Given as goal
+
+abbrev pub invariant-loop-done : goal.invariant-loop-done
+invariant-loop-done g l = record {
+  offered : Offered (filling [] l.fn.self.window) l.count l.most;
+  put :
+      (got : List ℕ) × Fills (g.H.HostBlocks.host l.fn.self.host.now) l.fn.self.window got (g.H.HostBlocks.host l.self.host.now) l.self.window
+      × SoFar g.F.PositionedFile.read_gives l.initial.file (filling [] l.fn.self.window) l.most l.off l.done (filling got l.self.window) l.file;
+  name : l.self.host.ghost_name ≡ l.fn.self.host.ghost_name;
+  loan : g.H.HostBlocks.IsSameLoan l.fn.self.host.now l.self.host.now;
+}
+
+abbrev pub decreases-loop-done : goal.decreases-loop-done
+decreases-loop-done g l = l.most - l.done

@@ -1,0 +1,3 @@
+pub mod Fills
+pub mod FillsLaws
+pub mod Apart
