@@ -1,6 +1,7 @@
 -- runs of bytes in pages
 use Rattle.std.specs.List.Sorted.{IsStrictlyIncreasing}
-use Rattle.std.proofs.Common.{inl, inr, get_or, ◌≡◌, ◌≤◌, ◌<◌, ◌+◌, ◌-◌, ◌/◌, ◌%◌, ℕ, zero, suc, Bool, true, false, List, [], ◌∷◌, ◌++◌, length, map, take, drop, ap, sym, refl, ◌∙◌, subst, Option, Some, arith, append_assoc, append-nil, slice_get, length-append}
+use Rattle.std.proofs.Common.{◌≡◌, ◌≤◌, ◌<◌, ◌+◌, ◌-◌, ◌/◌, ◌%◌, ℕ, zero, suc, Bool, true, false, List, [], ◌∷◌, ◌++◌, length, map, take, drop, Option, Some}
+use Rattle.std.proofs.Common.{inl, inr, get_or, ap, sym, refl, ◌∙◌, subst, arith, append_assoc, append-nil, slice_get, length-append}
 use Rattle.std.specs.Prelude.{◌↔◌, nat_lt, option_map, if◌then◌else◌}
 use Rattle.std.specs.List.{AllByRecursion, Contains, filter}
 use Rattle.std.proofs.lemmas.Bool.Decides.{nat_tests}
@@ -26,7 +27,8 @@ first_zero (n ∷ ns) = refl
 pub no_pages : (ls : List ℕ) → first_page ls 0 ≡ 0
 no_pages ls = first_zero ls
 
-next_first : (bs : List Block) (k n : ℕ) → Some n ≡ option_map (λ (b : Block). length b.bytes) (slice_get bs k) → first_page (map (λ (b : Block). length b.bytes) bs) (suc k) ≡ first_page (map (λ (b : Block). length b.bytes) bs) k + page_count n
+next_first : (bs : List Block) (k n : ℕ) → Some n ≡ option_map (λ (b : Block). length b.bytes) (slice_get bs k) →
+    first_page (map (λ (b : Block). length b.bytes) bs) (suc k) ≡ first_page (map (λ (b : Block). length b.bytes) bs) k + page_count n
 unfolding first_page
 next_first [] k n is = absurd (cc)
 next_first (b ∷ bs) zero n is =
@@ -37,12 +39,14 @@ next_first (b ∷ bs) (suc k) n is =
     let rest = next_first bs k n is in
     omega (arith, rest)
 
-pub first_next : (bs : List Block) (k n j : ℕ) → Some n ≡ option_map (λ (b : Block). length b.bytes) (slice_get bs k) → j ≡ suc k → first_page (map (λ (b : Block). length b.bytes) bs) j ≡ first_page (map (λ (b : Block). length b.bytes) bs) k + page_count n
+pub first_next : (bs : List Block) (k n j : ℕ) → Some n ≡ option_map (λ (b : Block). length b.bytes) (slice_get bs k) → j ≡ suc k →
+    first_page (map (λ (b : Block). length b.bytes) bs) j ≡ first_page (map (λ (b : Block). length b.bytes) bs) k + page_count n
 first_next bs k n j is next = ap (first_page (map (λ (b : Block). length b.bytes) bs)) next ∙ next_first bs k n is
 
 -- ---- bytes that lie in one page
 
-pub span_in_page : (ls : List ℕ) (block offset : ℕ) (io : Option IoMarks) (n q : ℕ) → ((k : ℕ) → k < n → (offset + k) / 4096 ≡ q) → AllByRecursion (λ page. page ≡ first_page ls block + q) (map (page_of ls) (span block offset io n))
+pub span_in_page : (ls : List ℕ) (block offset : ℕ) (io : Option IoMarks) (n q : ℕ) → ((k : ℕ) → k < n → (offset + k) / 4096 ≡ q) →
+    AllByRecursion (λ page. page ≡ first_page ls block + q) (map (page_of ls) (span block offset io n))
 unfolding span
 span_in_page ls block offset io zero q all = tt
 span_in_page ls block offset io (suc n) q all = (
@@ -64,7 +68,8 @@ length_span ls block offset io (suc n) =
     let rest = length_span ls block (offset + 1) io n in
     omega (arith, rest)
 
-pub span_parts : (ls : List ℕ) (block offset : ℕ) (io : Option IoMarks) (n m : ℕ) → map (page_of ls) (span block offset io (n + m)) ≡ map (page_of ls) (span block offset io n) ++ map (page_of ls) (span block (offset + n) io m)
+pub span_parts : (ls : List ℕ) (block offset : ℕ) (io : Option IoMarks) (n m : ℕ) →
+    map (page_of ls) (span block offset io (n + m)) ≡ map (page_of ls) (span block offset io n) ++ map (page_of ls) (span block (offset + n) io m)
 unfolding span
 span_parts ls block offset io zero m =
     let none : 0 + m ≡ m = omega arith in
@@ -132,7 +137,8 @@ or_more before more runs r n x is from same some false lt =
     )
 
 -- one run more, of bytes in one page
-pub runs_more : (before more : List ℕ) (runs : List PageRun) (r : PageRun) → AreRuns before runs → r.from ≡ length before → AllByRecursion (λ y. y ≡ r.page) more → 0 < length more → AreRuns (before ++ more) (runs ++ r ∷ [])
+pub runs_more : (before more : List ℕ) (runs : List PageRun) (r : PageRun) → AreRuns before runs → r.from ≡ length before →
+    AllByRecursion (λ y. y ≡ r.page) more → 0 < length more → AreRuns (before ++ more) (runs ++ r ∷ [])
 runs_more before more runs r is from same some n x = or_more before more runs r n x is from same some (nat_lt r.from n) refl
 
 -- the next bytes of a window
@@ -142,11 +148,13 @@ pub next_run : (ls : List ℕ) (block offset : ℕ) (io : Option IoMarks) (done 
 next_run ls block offset io done count from before runs r is begins at page some fits =
     let first = map (page_of ls) (span block offset io done) in
     let more = map (page_of ls) (span block (offset + done) io count) in
-    let all : before ++ map (page_of ls) (span block offset io (done + count)) ≡ (before ++ first) ++ more = ap (λ (xs : List ℕ). before ++ xs) (span_parts ls block offset io done count) ∙ sym (append_assoc before first more) in
+    let all : before ++ map (page_of ls) (span block offset io (done + count)) ≡ (before ++ first) ++ more =
+    ap (λ (xs : List ℕ). before ++ xs) (span_parts ls block offset io done count) ∙ sym (append_assoc before first more) in
     let length_first = length_span ls block offset io done in
     let length_more = length_span ls block (offset + done) io count in
     let whole = length-append before first in
-    let same : AllByRecursion (λ y. y ≡ r.page) more = subst (λ p. AllByRecursion (λ y. y ≡ p) more) (sym page) (span_in_page ls block (offset + done) io count ((offset + done) / 4096) (λ k below. omega (arith, below, fits))) in
+    let same : AllByRecursion (λ y. y ≡ r.page) more =
+    subst (λ p. AllByRecursion (λ y. y ≡ p) more) (sym page) (span_in_page ls block (offset + done) io count ((offset + done) / 4096) (λ k below. omega (arith, below, fits))) in
     subst (λ (xs : List ℕ). AreRuns xs (runs ++ r ∷ [])) (sym all) (runs_more (before ++ first) more runs r is (omega (arith, whole, length_first, begins, at)) same (omega (arith, length_more, some)))
 
 -- ---- the windows so far
@@ -196,7 +204,9 @@ pub both_pages : (ls : List ℕ) (firsts lasts : List Place) (first last : List 
     IsStrictlyIncreasing pages → ((page : ℕ) → Contains pages page ↔ Contains (begun n first ++ begun m last) page) → ArePagesOf ls (take n firsts ++ take m lasts) pages
 both_pages ls firsts lasts first last n m pages one two ascending all =
     let whole : map (page_of ls) (take n firsts ++ take m lasts) ≡ take n (map (page_of ls) firsts) ++ take m (map (page_of ls) lasts) =
-    map-append (page_of ls) (take n firsts) (take m lasts) ∙ ap (λ (xs : List ℕ). xs ++ map (page_of ls) (take m lasts)) (sym (take-map (page_of ls) n firsts)) ∙ ap (λ (xs : List ℕ). take n (map (page_of ls) firsts) ++ xs) (sym (take-map (page_of ls) m lasts)) in
+    map-append (page_of ls) (take n firsts) (take m lasts)
+    ∙ ap (λ (xs : List ℕ). xs ++ map (page_of ls) (take m lasts)) (sym (take-map (page_of ls) n firsts))
+    ∙ ap (λ (xs : List ℕ). take n (map (page_of ls) firsts) ++ xs) (sym (take-map (page_of ls) m lasts)) in
     record {
       ascending = ascending;
       all = λ page. (

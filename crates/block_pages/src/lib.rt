@@ -4,5 +4,5 @@
 mod numbers;
 mod runs;
 
-pub use numbers::PAGE_SIZE;
-pub use runs::{PageRun, page_runs, written_pages};
+pub use numbers::{PAGE_SIZE, first_page};
+pub use runs::{PageRun, PageRuns, page_runs, written_pages};

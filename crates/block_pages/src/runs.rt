@@ -8,11 +8,12 @@ ghost use Rattle.vm_memory_core.specs.Window.{places, places_of};
 ghost use Rattle.block_pages.specs.Pages.{ArePagesOf, page_of};
 
 use crate::numbers::{PAGE_SIZE, first_page};
+use smallvec::SmallVec;
 use std::alloc::{AllocError, Global};
 use vm_memory_core::{HostBlocks, VolatileSlice};
 
 /// Bytes in a row that lie in one page of a block.
-#[derive(Clone, Copy, Debug, PartialEq, Eq)]
+#[derive(Clone, Copy, Debug, Default, PartialEq, Eq)]
 pub struct PageRun {
     /// The page's number.
     pub page: usize,
@@ -20,12 +21,15 @@ pub struct PageRun {
     pub from: usize,
 }
 
+/// Runs in order, of which the first two take no memory.
+pub type PageRuns = SmallVec<PageRun, 2>;
+
 ghost use Rattle.block_pages.specs.Runs.{AreRuns, begun};
 
 // Adds the runs of a window, before which so many bytes come.
 fn push_runs<H: HostBlocks>(
     host: &H,
-    runs: &mut Vec<PageRun>,
+    runs: &mut PageRuns,
     from: usize,
     window: VolatileSlice,
 ) -> Result<(), AllocError>
@@ -55,11 +59,11 @@ pub fn page_runs<H: HostBlocks>(
     alloc: Global,
     host: &H,
     windows: &[VolatileSlice],
-) -> Result<Vec<PageRun>, AllocError>
+) -> Result<PageRuns, AllocError>
     requires { length (places windows.now) < 2 ^ 64 }
     ensures { IfOk result (λ runs. AreRuns (map (page_of (lengths (H.host host.now))) (places windows.now)) runs.items) }
 {
-    let mut runs = Vec::new(alloc);
+    let mut runs = PageRuns::new(alloc);
     let mut from = 0;
     for window in windows {
         push_runs(host, &mut runs, from, *window)?;

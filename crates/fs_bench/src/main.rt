@@ -1,6 +1,6 @@
 //! Measures windows of memory, memory of many regions, whole kicks, kicks behind an IOMMU and what a move to
-//! another host takes beside plain slice copies, page marks beside bare steps on atomic words, and kicks of a device
-//! that threads share.
+//! another host takes beside plain slice copies, page marks beside bare steps on atomic words, kicks of a device that
+//! threads share, and gathers of the pages that it wrote.
 //!
 //! Without an argument each case runs a few times, and the checksum of what was done is printed. An argument is how
 //! many samples are taken of each case; the times are then printed on standard error.
@@ -8,6 +8,7 @@
 
 mod fault;
 mod files;
+mod harvests;
 mod kick;
 mod listing;
 mod mappings;
@@ -20,6 +21,7 @@ mod shared;
 mod window;
 
 use fault::BenchFault;
+use harvests::measure_harvests;
 use kick::measure_kicks;
 use mappings::measure_mappings;
 use measure::Meter;
@@ -61,6 +63,7 @@ fn run<R: Clock + Eprint + Threads + Wait + Sync>(
     measure_mappings(&mut meter, alloc)?;
     measure_pages(&mut meter, rt, alloc)?;
     measure_shared::<Brand, _>(&mut meter, rt, alloc, Blank::new(8))?;
+    measure_harvests::<Brand, _>(&meter, rt, alloc, Blank::new(8))?;
     measure_moves(&mut meter, alloc)?;
     Ok(meter.checksum())
 }

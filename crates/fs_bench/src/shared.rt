@@ -1,6 +1,7 @@
 //! Kicks of a device that threads share: of one thread, and of four queues by one thread and by four.
 
 ghost use Rattle.std.specs.Prelude.{◌≡◌, ◌<◌};
+ghost use Rattle.device_shares.specs.Portion.{IsShareOf};
 
 use crate::fault::BenchFault;
 use crate::files::MemoryFiles;
@@ -24,17 +25,20 @@ use vm_memory_core::GuestAddress;
 const QUEUES: usize = 4;
 
 // Into how many parts the ledger is cut: enough for a share of each queue.
-const PARTS: u64 = 8;
+pub(crate) const PARTS: u64 = 8;
 
 // How often a worker has a whole ring served in one sample.
 const ROUNDS: u16 = 16;
+
+// How many kicks that is.
+const KICKS: u16 = ROUNDS * QUEUE_SIZE;
 
 // How many bytes a kick of a request that the server doesn't know moves.
 const MOVED: usize = 56;
 
 type FilesMachine = Machine<MemoryFiles, TableIommu>;
 
-type FilesDevice<L> = SharedDevice<L, MemoryFiles, TableIommu>;
+pub(crate) type FilesDevice<L> = SharedDevice<L, MemoryFiles, TableIommu>;
 
 // The ring of a queue: behind those of the queues before it.
 fn ring(queue: usize) -> Ring {
@@ -47,10 +51,10 @@ fn ring(queue: usize) -> Ring {
     }
 }
 
-// A guest whose rings have a chain each, to which each of their entries points; none is available.
-fn guest(alloc: Global) -> Result<Guest, BenchFault> {
+// A guest with so many bytes, whose rings have a chain each, to which each of their entries points; none is available.
+fn guest(alloc: Global, memory: usize) -> Result<Guest, BenchFault> {
     let asked = Asked::new(alloc, "unknown", Ask::Unknown(16))?;
-    let mut guest = Guest::new(alloc, &[(GuestAddress(0), MEMORY)], ring(0))?;
+    let mut guest = Guest::new(alloc, &[(GuestAddress(0), memory)], ring(0))?;
     for queue in 0..QUEUES {
         guest.ring = ring(queue);
         let request = 0x20000u64.wrapping_add(guest.ring.desc);
@@ -79,34 +83,48 @@ fn device(alloc: Global) -> Result<Device<MemoryFiles>, BenchFault> {
     Ok(Device::new(server, queues, LIMIT))
 }
 
-// The machine of that guest and that device. Its IOMMU is off.
-fn machine(alloc: Global) -> Result<FilesMachine, BenchFault> {
-    let (host, mem) = guest(alloc)?.into_translated(alloc, 0x3000)?;
+/// A machine of such a guest and such a device. Its IOMMU is off.
+pub(crate) fn machine(alloc: Global, memory: usize) -> Result<FilesMachine, BenchFault> {
+    let (host, mem) = guest(alloc, memory)?.into_translated(alloc, 0x3000)?;
     if !host.holds(&mem) {
         return Err(BenchFault::Guest);
     }
     Ok(Machine::new(host, mem, device(alloc)?))
 }
 
-// A thread's share of a device, and its queue.
+// A thread's share of a device, its queue, and how many kicks of its last rings were answered by a reply.
 #[derive(Drop)]
-struct Worker<'a, L: Ledger, R> {
+pub(crate) struct Worker<'a, L: Ledger, R> {
     rt: &'a R,
     alloc: Global,
     device: &'a FilesDevice<L>,
     share: Share<L>,
     queue: usize,
     available: u16,
+    answered: u16,
+    ghost own: { IsShareOf device.now share },
 }
 
 impl<L: Ledger, R: Wait> Worker<'_, L, R> {
+    /// Whether a kick of its last rings was answered by a reply.
+    pub fn is_answered(&self) -> bool {
+        self.answered > 0
+    }
+
+    /// Has its whole ring served, and counts the kicks that are answered by a reply.
+    pub fn serve_ring(&mut self) {
+        self.prepare(QUEUE_SIZE);
+        for _ in 0..QUEUE_SIZE {
+            let is_answered = self.run() > 0;
+            self.answered = self.answered.wrapping_add(u16::from(is_answered));
+        }
+    }
+
     // Has its whole ring served so often.
     fn serve_rings(&mut self) {
+        self.answered = 0;
         for _ in 0..ROUNDS {
-            self.prepare(QUEUE_SIZE);
-            for _ in 0..QUEUE_SIZE {
-                self.run();
-            }
+            self.serve_ring();
         }
     }
 }
@@ -135,13 +153,15 @@ impl<L: Ledger, R: Wait> Case for Worker<'_, L, R> {
     }
 }
 
-// A worker of each queue.
-fn workers<'a, L: Ledger, R>(
+/// A worker of each queue.
+pub(crate) fn workers<'a, L: Ledger, R>(
     rt: &'a R,
     alloc: Global,
     device: &'a FilesDevice<L>,
     share: Share<L>,
-) -> Result<Vec<Worker<'a, L, R>>, BenchFault> {
+) -> Result<Vec<Worker<'a, L, R>>, BenchFault>
+    requires { IsShareOf device.now share }
+{
     let mut share = share;
     let mut workers = Vec::with_capacity(alloc, QUEUES)?;
     for queue in 1..QUEUES {
@@ -162,7 +182,9 @@ fn new_worker<'a, L: Ledger, R>(
     device: &'a FilesDevice<L>,
     share: Share<L>,
     queue: usize,
-) -> Worker<'a, L, R> {
+) -> Worker<'a, L, R>
+    requires { IsShareOf device.now share }
+{
     Worker {
         rt,
         alloc,
@@ -170,10 +192,11 @@ fn new_worker<'a, L: Ledger, R>(
         share,
         queue,
         available: 0,
+        answered: 0,
     }
 }
 
-// The nanoseconds that so many threads take for all workers.
+// The nanoseconds that so many threads take for all workers. `Guest` where a kick was idle or refused.
 fn time_workers<L: Ledger + Send + Sync, R: Clock + Threads + Wait + Sync>(
     rt: &R,
     workers: &mut [Worker<'_, L, R>],
@@ -191,6 +214,11 @@ fn time_workers<L: Ledger + Send + Sync, R: Clock + Threads + Wait + Sync>(
         },
     );
     let elapsed = start.elapsed(rt)?;
+    for worker in workers.iter() {
+        if worker.answered != KICKS {
+            return Err(BenchFault::Guest);
+        }
+    }
     Ok(u64::try_from(elapsed.as_nanos()).unwrap_or(u64::MAX))
 }
 
@@ -210,10 +238,7 @@ fn measure_workers<L: Ledger + Send + Sync, R: Clock + Eprint + Threads + Wait +
         let nanos = time_workers(rt, workers, threads)?;
         push_sample(&mut samples, nanos)?;
     }
-    meter.report(
-        label(case, ROUNDS.wrapping_mul(QUEUE_SIZE).wrapping_mul(4)),
-        samples,
-    )
+    meter.report(label(case, KICKS.wrapping_mul(4)), samples)
 }
 
 fn label(case: &'static str, runs: u16) -> Label {
@@ -238,7 +263,8 @@ pub(crate) fn measure_shared<L: Ledger + Send + Sync, R: Clock + Eprint + Thread
     requires ledger { blank.parts ≡ L.parts }
     requires parts { blank.parts ≡ 8 }
 {
-    let Ok((device, share)) = FilesDevice::<L>::new(alloc, blank, PARTS, machine(alloc)?) else {
+    let machine = machine(alloc, MEMORY)?;
+    let Ok((device, share, _)) = FilesDevice::<L>::new(alloc, blank, PARTS, machine) else {
         return Err(BenchFault::OutOfMemory);
     };
     let mut workers = workers(rt, alloc, &device, share)?;

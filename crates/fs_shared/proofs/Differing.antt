@@ -1,12 +1,12 @@
 -- where a machine differs from the start, its journal tells the page
 use Rattle.std.proofs.Common.{inl, inr, ⊎_elim, ◌⊎◌, ◌≡◌, ℕ, Bool, true, false, List, [], ◌∷◌, ◌++◌, length, map, Option, Some, None, refl, ap, sym, ◌∙◌, subst}
-use Rattle.std.specs.Prelude.{◌≢◌, if◌then◌else◌, not, slice_get, zip}
-use Rattle.std.specs.List.{Contains, filter_map, list_all}
+use Rattle.std.specs.Prelude.{if◌then◌else◌, not, slice_get, zip}
+use Rattle.std.specs.List.{Contains, list_all}
 use Rattle.std.proofs.lemmas.List.Elements.{Contains-append_left, Contains-append_right}
 use Rattle.vm_iotlb.specs.declared.permissions.Permissions.TheVariants.{Write}
 use Rattle.vm_memory_core.specs.Host.{Host, Place, byte_at, lengths}
 use Rattle.vm_memory.specs.Layout.{Region, fits}
-use Rattle.vm_memory.specs.Memory.{Memory, addresses, location, physical, reach, stored_all}
+use Rattle.vm_memory.specs.Memory.{Memory, addresses, physical, reach, stored_all}
 use Rattle.fs_queue.specs.declared.fault.QueueError.TheVariants as stop
 use Rattle.fs_queue.specs.Queue.{Queue}
 use Rattle.fs_queue.specs.Returning.{writes}
@@ -22,7 +22,7 @@ use Rattle.fs_device.specs.Run as run
 use Rattle.fs_device.specs.Run.{Command, Effect, GuestWrite, SetLayout, Kick, IsDecided, effect, guest_written, is_known, no, some_overlap, with_layout}
 use Rattle.fs_device.specs.UsedLength.{IsOffered}
 use Rattle.fs_device.proofs.UsedLemmas.{exchange_returns, step_offers}
-use Rattle.fs_shared.specs.JournalPages.{DiffersWithin, JournalsTellPages, joined_pages}
+use Rattle.fs_shared.specs.JournalPages.{JournalsTellPages, joined_pages}
 use Rattle.fs_shared.specs.Replay.{Anything, Done, Entry, ExchangesPages, Kicked, Plays, Replays, Served, Stopped, WritesPages}
 use Rattle.fs_shared.specs.Replay as replay
 use Rattle.fs_shared.proofs.Returning.{all_firsts}

@@ -9,3 +9,7 @@ pub mod CallLemmas
 pub mod ReadLemmas
 pub mod Written
 pub mod Differing
+pub mod Gathering
+pub mod Accounts
+pub mod MarksKept
+pub mod WholePasses

@@ -1,9 +1,9 @@
 -- which bytes stores change
-use Rattle.std.proofs.Common.{arith, ⊎_elim, ◌+◌, inl, inr, ◌≡◌, ◌⊎◌, ◌/◌, ℕ, zero, suc, Bool, true, false, List, [], ◌∷◌, ◌++◌, length, map, Option, Some, None, refl, ap, sym, ◌∙◌, subst}
-use Rattle.std.specs.Prelude.{slice_get, slice_set, option_and_then, option_map}
+use Rattle.std.proofs.Common.{arith, ⊎_elim, ◌+◌, inl, inr, ◌≡◌, ◌⊎◌, ◌/◌, ℕ, zero, suc, Bool, List, [], ◌∷◌, length, map, Option, Some, None, refl, ap, ◌∙◌, subst}
+use Rattle.std.specs.Prelude.{slice_get, slice_set, option_and_then}
 use Rattle.std.specs.List.{Contains, cons_option, filter_map}
 use Rattle.std.proofs.lemmas.Bool.{cases_eq}
-use Rattle.std.proofs.lemmas.List.Elements.{Contains-append_left, Contains-append_right}
+use Rattle.std.proofs.lemmas.List.Elements.{Contains-append_right}
 use Rattle.vm_iotlb.specs.declared.range.IotlbRange.{IotlbRange}
 use Rattle.vm_iotlb.specs.declared.permissions.Permissions.TheVariants.{Write}
 use Rattle.vm_memory_core.specs.Host.{Host, Block, IoAddress, Place, byte_at, changed_at, lengths, with_byte, with_mark_by}

@@ -29,7 +29,8 @@ pub record Journals {F : Type 0} (may : May F) (before : Held F) (command : Comm
 abbrev pub Stays : {F : Type 0} → May F → Held F → ℕ → step.Outcome → Held F → Type 0
 Stays may before i outcome after = Step may before.machine i [] outcome before.machine × (after ≡ before)
 
--- a kick for one chain: nothing waits, the queue is stopped or it is missing only where the step says so; want of memory changes nothing, and comes of a queue that is there
+-- a kick for one chain: nothing waits, the queue is stopped or it is missing only where the step says so;
+-- want of memory changes nothing, and comes of a queue that is there
 abbrev pub KicksBy : {F : Type 0} → May F → Held F → ℕ → Result (kicked.Kicked) DeviceError → Held F → Type 0
 KicksBy may before i (Ok (kicked.TheVariants.Done r)) after = Journals may before (Kick i 1) r after
 KicksBy may before i (Ok kicked.TheVariants.Idle) after = Stays may before i step.Idle after

@@ -17,4 +17,6 @@ pub record DiffersWithin (pages : List ℕ) (before after : Host) : Type 0 where
 
 -- so it is of what a journal replays to
 abbrev pub JournalsTellPages : Type 0
-JournalsTellPages = (start after : State (Unit {0})) (journal : List Entry) → Replays start journal after → DiffersWithin (joined_pages journal) start.memory.host after.memory.host
+JournalsTellPages =
+    (start after : State (Unit {0})) (journal : List Entry) → Replays start journal after →
+    DiffersWithin (joined_pages journal) start.memory.host after.memory.host

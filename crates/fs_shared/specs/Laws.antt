@@ -1,5 +1,9 @@
--- What a file system may do is forgotten, and each call keeps a journal that replays.
-use Rattle.std.specs.Prelude.{ℕ, List, Result}
+-- What a file system may do is forgotten, each call keeps a journal that replays, what a share marked stays marked, and passes are joined to the whole.
+use Rattle.std.specs.Prelude.{◌≡◌, ℕ, ◌*◌, ◌^◌, ◌++◌, ◌∷◌, [], List, Result, length}
+use Rattle.vm_atomic_bitmaps.specs.declared.counts.PageCounts.{PageCounts}
+use Rattle.vm_atomic_bitmaps.specs.declared.counts.Tally.{Tally}
+use Rattle.vm_atomic_bitmaps.specs.Counts.{both_passes, first_pass, joined_with, kept_half, met_with, new_half, IsWhole}
+use Rattle.device_shares.specs.Portion.{MarksPages}
 use Rattle.virtiofsd_fuse.specs.Serving.{May}
 use Rattle.fs_device.specs.Step.{State, Calls, Outcome, Step}
 use Rattle.fs_device.specs.Run.{Command}
@@ -9,6 +13,7 @@ use Rattle.fs_shared.specs.declared.entry.Kicked.{Kicked}
 use Rattle.fs_shared.specs.declared.entry.Receipt.{Receipt}
 use Rattle.fs_shared.specs.Calls.{ActsBy, KicksBy}
 use Rattle.fs_shared.specs.Held.{Held}
+use Rattle.fs_shared.specs.Marks.{HasMarked}
 use Rattle.fs_shared.specs.Replay.{Anything, forget, Plays, Replays}
 use Rattle.fs_shared.specs.Replay as replay
 
@@ -35,4 +40,35 @@ KicksReplay {F} may =
 -- and after a write or another layout
 abbrev pub ActsReplay : {F : Type 0} → May F → Type 0
 ActsReplay {F} may =
-    (before after : Held F) (command : Command) (result : Result Receipt Refusal) → HoldsReplay before → ActsBy may before command result after → HoldsReplay after
+    (before after : Held F) (command : Command) (result : Result Receipt Refusal) → HoldsReplay before → ActsBy may before command result after →
+    HoldsReplay after
+
+-- a call has marked what its receipt tells
+abbrev pub CallsMark : Type 0
+CallsMark = (r : Receipt) (old new : List Tally) → MarksPages r.pages.items old new → HasMarked new (r ∷ [])
+
+-- a call keeps what was marked
+abbrev pub CallsKeepMarks : Type 0
+CallsKeepMarks = (receipts : List Receipt) (pages : List ℕ) (old new : List Tally) → MarksPages pages old new → HasMarked old receipts → HasMarked new receipts
+
+-- two shares in one have marked what either has
+abbrev pub JoinsKeepMarks : Type 0
+JoinsKeepMarks =
+    (receipts others : List Receipt) (ts us : List Tally) → length us ≡ length ts → HasMarked ts receipts → HasMarked us others →
+    HasMarked (joined_with us ts) (receipts ++ others)
+
+-- a share that takes over what was seen keeps what it marked
+abbrev pub MeetsKeepMarks : Type 0
+MeetsKeepMarks = (receipts : List Receipt) (ts us : List Tally) → HasMarked ts receipts → HasMarked (met_with us ts) receipts
+
+-- two passes have the same part of all
+abbrev pub HaveSamePart : PageCounts → PageCounts → Type 0
+HaveSamePart v w = w.parts * 2 ^ v.depth ≡ v.parts * 2 ^ w.depth
+
+-- the halves of a share's pass, whatever they have counted since, have its part once they are one again
+abbrev pub JoinsGiveBack : Type 0
+JoinsGiveBack = (v a b : PageCounts) → HaveSamePart (kept_half v) a → HaveSamePart (new_half v) b → HaveSamePart v (both_passes a b)
+
+-- a harvest and a share with the parts that a new device's have are the whole
+abbrev pub HalvesAreWhole : Type 0
+HalvesAreWhole = (len : ℕ) (h v : PageCounts) → HaveSamePart (new_half (first_pass len)) h → HaveSamePart (kept_half (first_pass len)) v → IsWhole (both_passes h v)

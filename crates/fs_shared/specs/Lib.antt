@@ -7,3 +7,4 @@ pub mod Keeping
 pub mod Audit
 pub mod Shared
 pub mod JournalPages
+pub mod Marks

@@ -7,6 +7,7 @@ ghost use Rattle.fs_device.specs.Run.{GuestWrite, SetLayout};
 ghost use Rattle.fs_device.specs.Step.{State};
 ghost use Rattle.fs_shared.specs.Calls.{ActsBy, KicksBy, ReadsBy, did, did_kick};
 ghost use Rattle.fs_shared.specs.Held.{journal_of};
+ghost use Rattle.fs_shared.specs.Laws.{HoldsReplay};
 
 use crate::acting::{layout_kept, write_kept};
 use crate::entry::{JournalEntry, Kicked, Receipt};
@@ -118,6 +119,7 @@ impl<L: Ledger, F: FileSystem, I: Iommu + Drop> SharedState<L, F, I> {
         queue: usize,
     ) -> Result<Kicked, DeviceError>
         ensures kick { KicksBy F.may self.old queue result self.new }
+        ensures replays { HoldsReplay self.new }
         ensures share { share.new ≡ counted share.old (did_kick result) }
     {
         kick_into(
@@ -140,6 +142,7 @@ impl<L: Ledger, F: FileSystem, I: Iommu + Drop> SharedState<L, F, I> {
         bytes: &[u8],
     ) -> Result<Receipt, Refusal>
         ensures write { ActsBy F.may self.old (GuestWrite addr bytes.now) result self.new }
+        ensures replays { HoldsReplay self.new }
         ensures share { share.new ≡ counted share.old (did result) }
     {
         write_into(
@@ -162,6 +165,7 @@ impl<L: Ledger, F: FileSystem, I: Iommu + Drop> SharedState<L, F, I> {
         layout: GuestMemoryMmap,
     ) -> Result<Receipt, Refusal>
         ensures layout { ActsBy F.may self.old (SetLayout layout) result self.new }
+        ensures replays { HoldsReplay self.new }
         ensures share { share.new ≡ counted share.old (did result) }
     {
         layout_into(
@@ -179,6 +183,7 @@ impl<L: Ledger, F: FileSystem, I: Iommu + Drop> SharedState<L, F, I> {
     pub fn guest_read(&mut self, alloc: Global, addr: u64, len: usize) -> Result<Vec<u8>, Refusal>
         ensures same { self.new ≡ self.old }
         ensures read { ReadsBy F.may self.old addr len result }
+        ensures replays { HoldsReplay self.new }
     {
         match self.machine.guest_read(alloc, addr, len) {
             Answer::Bytes(bytes) => Ok(bytes),

@@ -1,7 +1,12 @@
 //! The machine behind one lock, for threads that share it.
 
-ghost use Rattle.std.specs.Prelude.{◌≡◌, ◌+◌, ◌/◌, ◌<◌, IfErr, IfNone, IfOk, IfSome, IsOk, length};
-ghost use Rattle.device_shares.specs.Portion.{counted};
+ghost use Rattle.std.specs.Prelude.{◌≡◌, ℕ, ◌+◌, ◌/◌, ◌<◌, ◌≤◌, IfErr, IfNone, IfOk, IfSome, IsOk, OnErr, length, true};
+ghost use Rattle.std.specs.Int.{div_ceil};
+ghost use Rattle.vm_bitmaps.specs.Words.{page_bit};
+ghost use Rattle.vm_atomic_bitmaps.specs.Counts.{both_passes, met_with};
+ghost use Rattle.vm_atomic_bitmaps.specs.Passes.{counting};
+ghost use Rattle.vm_atomic_bitmaps.specs.Steps.{SettlesAll};
+ghost use Rattle.device_shares.specs.Portion.{IsShareOf, MarksPages, counted, joined, kept_pass, new_pass};
 ghost use Rattle.fs_device.specs.CommandView.{command_of};
 ghost use Rattle.fs_device.specs.MachineView.{machine_of};
 ghost use Rattle.fs_device.specs.Run.{GuestWrite, Kick, SetLayout};
@@ -12,75 +17,111 @@ ghost use Rattle.fs_shared.specs.Replay.{Replays, forget};
 ghost use Rattle.fs_shared.specs.Shared.{ActsSome, IfDone, KicksSome, ReadsSome};
 
 use crate::entry::{Kicked, Parts, Receipt};
+use crate::harvest::{PageHarvest, clear_pages};
 use crate::start::started;
 use crate::state::SharedState;
 use device_shares::Share;
 use fs_device::{DeviceError, Machine, Refusal};
 use fuse_fs::FileSystem;
 use std::alloc::Global;
+use std::marker::Model;
 use std::sync::ledger::{Blank, Ledger};
-use std::sync::{Mutex, Wait};
+use std::sync::{Arc, Mutex, Wait};
+use vm_atomic_bitmaps::AtomicBitmap;
 use vm_memory::{GuestMemoryMmap, Iommu};
 
 /// A machine that threads share, by shares of a ledger `L` (`std::sync::ledger`). Each call is one event, and is done whole
-/// under one lock: threads that call at once take turns, in no promised order. A call waits until it has the lock.
+/// under one lock: threads that call at once take turns, in no promised order. A call waits until it has the lock. What it
+/// wrote is marked, without the lock and before it returns, in a bitmap of the host's pages, which contracts see.
 #[derive(Drop)]
 pub struct SharedDevice<L: Ledger, F, I: Iommu + Drop> {
     state: Mutex<SharedState<L, F, I>>,
+    bitmap: Arc<AtomicBitmap, Global>,
 }
 
+impl<L: Ledger, F, I: Iommu + Drop> Model for SharedDevice<L, F, I> {
+    ghost use Rattle.std.specs.Arc.{arc_value};
+    ghost use Rattle.vm_atomic_bitmaps.specs.Passes.{SharedPages};
+
+    ghost Value = { SharedPages };
+
+    ghost view = { λ d. arc_value d.bitmap };
+}
+
+ghost use Rattle.fs_shared.specs.Marks.{AccountsFor, HasPagesOf, IsHarvestOf, first_of, kicked_pages, told_pages};
+
 impl<L: Ledger, F: FileSystem, I: Iommu + Drop> SharedDevice<L, F, I> {
-    /// A device over a machine, with an empty journal, and a share with every part of a new ledger; `parts` says how many
-    /// that has, at least one. The host is copied, and the journal grows without bound: whoever goes on for long takes the
-    /// device apart and makes it anew. Where memory is wanting, blank and machine come back.
+    /// A device over a machine, with an empty journal, a share with every part of a new ledger, and a harvest that begins clear;
+    /// `parts` says how many the ledger has, at least one. The host is copied, and the journal grows without bound: whoever goes
+    /// on for long takes the device apart and makes it anew. Where memory is wanting, blank and machine come back.
     pub fn new(
         alloc: Global,
         blank: Blank,
         parts: u64,
         machine: Machine<F, I>,
-    ) -> Result<(SharedDevice<L, F, I>, Share<L>), (Blank, Machine<F, I>)>
+    ) -> Result<(SharedDevice<L, F, I>, Share<L>, PageHarvest), (Blank, Machine<F, I>)>
         requires name { blank.name ≡ L.name }
         requires ledger { blank.parts ≡ L.parts }
         requires parts { blank.parts ≡ parts }
         requires some { 0 < parts }
-        ensures whole { IfOk result (λ made. made.1 ≡ record { parts = L.parts; count = 0 }) }
+        ensures pages { IfOk result (λ made. HasPagesOf machine.host made.0) }
+        ensures whole { IfOk result (λ made. made.1 ≡ record { parts = L.parts; count = 0; pass = kept_pass (first_of made.0) }) }
+        ensures own { IfOk result (λ made. IsShareOf made.0 made.1) }
+        ensures harvest { IfOk result (λ made. made.2 ≡ record { bitmap = made.0; pass = new_pass (first_of made.0) }) }
         ensures blank { IfErr result (λ back. back.0 ≡ blank) }
         ensures machine { IfErr result (λ back. back.1 ≡ machine) }
     {
-        let Ok(start) = started(alloc, &machine) else {
+        let (Ok(start), Ok((bitmap, pass, harvest))) = (
+            started(alloc, &machine),
+            clear_pages(alloc, &machine.host),
+        ) else {
             return Err((blank, machine));
         };
         let (calls, token) = blank.open::<L>();
-        let share = Share::new(parts, token);
-        let state = SharedState::begin(alloc, machine, start, calls);
-        Ok((
-            SharedDevice {
-                state: Mutex::new(state),
-            },
-            share,
-        ))
+        let share = Share::new(parts, token, pass);
+        let state = Mutex::new(SharedState::begin(alloc, machine, start, calls));
+        Ok((SharedDevice { state, bitmap }, share, harvest))
     }
 
-    /// Half of a share's parts, rounded down, with count 0; None, changing nothing, where it has one.
+    /// Half of a share's parts, rounded down, with count 0 and half of its pass; None, changing nothing, where it has one part.
     pub fn split_share(&self, share: &mut Share<L>) -> Option<Share<L>>
-        ensures half { IfSome result (λ s. s ≡ record { parts = share.old.parts / 2; count = 0 }) }
+        requires { IsShareOf self.now share.old }
+        ensures half { IfSome result (λ s. s ≡ record { parts = share.old.parts / 2; count = 0; pass = new_pass share.old.pass }) }
         ensures rest { IfSome result (λ s. share.new.parts + s.parts ≡ share.old.parts) }
         ensures count { share.new.count ≡ share.old.count }
+        ensures pass { IfSome result (λ s. share.new.pass ≡ kept_pass share.old.pass) }
         ensures one { IfNone result (share.old.parts ≡ 1) }
         ensures same { IfNone result (share.new ≡ share.old) }
+        ensures own { IsShareOf self.now share.new }
+        ensures own_half { IfSome result (λ s. IsShareOf self.now s) }
     {
-        share.split()
+        share.split(&self.bitmap)
     }
 
-    /// Takes another share's parts and count.
+    /// Takes another share's parts, count and pass.
     pub fn join_share(&self, share: &mut Share<L>, other: Share<L>)
-        ensures { share.new ≡ record { parts = share.old.parts + other.parts; count = share.old.count + other.count } }
+        requires own { IsShareOf self.now share.old }
+        requires other { IsShareOf self.now other }
+        ensures share { share.new ≡ joined share.old other }
+        ensures own { IsShareOf self.now share.new }
     {
-        share.join(other);
+        share.join(&self.bitmap, other);
     }
 
-    /// Serves the next chain of a queue, by its number from 0 (`SharedState::kick`). What is done is journaled, and counted by
-    /// the share.
+    /// A share takes over what a harvest has seen (`AtomicBitmap::meet_pass`). It always can, and waits for nobody.
+    pub fn meet(&self, share: &mut Share<L>, harvest: &mut PageHarvest) -> bool
+        requires share { IsShareOf self.now share.old }
+        requires harvest { IsHarvestOf self.now harvest.old }
+        ensures met { result ≡ true }
+        ensures share { share.new ≡ record share.old { pass = counting share.old.pass (met_with harvest.old.pass.counts.pages share.old.pass.counts.pages) } }
+        ensures harvest { harvest.new ≡ harvest.old }
+        ensures own { IsShareOf self.now share.new }
+    {
+        share.meet(&self.bitmap, &mut harvest.pass)
+    }
+
+    /// Serves the next chain of a queue, by its number from 0 (`SharedState::kick`). What is done is journaled, counted by
+    /// the share, and its pages are marked by the share's pass.
     pub fn kick<R: Wait>(
         &self,
         rt: &R,
@@ -88,15 +129,22 @@ impl<L: Ledger, F: FileSystem, I: Iommu + Drop> SharedDevice<L, F, I> {
         share: &mut Share<L>,
         queue: usize,
     ) -> Result<Kicked, DeviceError>
+        requires { IsShareOf self.now share.old }
         ensures does { KicksSome F.may queue result }
-        ensures share { share.new ≡ counted share.old (did_kick result) }
+        ensures share { share.new ≡ record (counted share.old (did_kick result)) { pass = counting share.old.pass share.new.pass.counts.pages } }
+        ensures pages { MarksPages (kicked_pages result) share.old.pass.counts.pages share.new.pass.counts.pages }
+        ensures own { IsShareOf self.now share.new }
         ensures command { IfOk result (IfDone (λ r. command_of r.command ≡ Kick queue 1)) }
     {
-        self.state.lock(rt).kick_held(alloc, share, queue)
+        let kicked = self.state.lock(rt).kick_held(alloc, share, queue);
+        if let Ok(Kicked::Done(receipt)) = &kicked {
+            share.mark(&self.bitmap, &receipt.pages);
+        }
+        kicked
     }
 
-    /// The guest writes bytes from a physical address on (`SharedState::guest_write`). What is done is journaled, and counted
-    /// by the share.
+    /// The guest writes bytes from a physical address on (`SharedState::guest_write`). What is done is journaled, counted by the
+    /// share, and its pages are marked by the share's pass.
     pub fn guest_write<R: Wait>(
         &self,
         rt: &R,
@@ -105,17 +153,25 @@ impl<L: Ledger, F: FileSystem, I: Iommu + Drop> SharedDevice<L, F, I> {
         addr: u64,
         bytes: &[u8],
     ) -> Result<Receipt, Refusal>
+        requires { IsShareOf self.now share.old }
         ensures does { ActsSome F.may (GuestWrite addr bytes.now) result }
-        ensures share { share.new ≡ counted share.old (did result) }
+        ensures share { share.new ≡ record (counted share.old (did result)) { pass = counting share.old.pass share.new.pass.counts.pages } }
+        ensures pages { MarksPages (told_pages result) share.old.pass.counts.pages share.new.pass.counts.pages }
+        ensures own { IsShareOf self.now share.new }
         ensures command { IfOk result (λ r. command_of r.command ≡ GuestWrite addr bytes.now) }
     {
-        self.state
+        let written = self
+            .state
             .lock(rt)
-            .guest_write_held(alloc, share, addr, bytes)
+            .guest_write_held(alloc, share, addr, bytes);
+        if let Ok(receipt) = &written {
+            share.mark(&self.bitmap, &receipt.pages);
+        }
+        written
     }
 
-    /// Other regions take the place of all that are there (`SharedState::set_layout`). What is done is journaled, and counted
-    /// by the share.
+    /// Other regions take the place of all that are there (`SharedState::set_layout`). What is done is journaled, counted
+    /// by the share, and its pages, none, are marked by the share's pass.
     pub fn set_layout<R: Wait>(
         &self,
         rt: &R,
@@ -123,11 +179,18 @@ impl<L: Ledger, F: FileSystem, I: Iommu + Drop> SharedDevice<L, F, I> {
         share: &mut Share<L>,
         layout: GuestMemoryMmap,
     ) -> Result<Receipt, Refusal>
+        requires { IsShareOf self.now share.old }
         ensures does { ActsSome F.may (SetLayout layout) result }
-        ensures share { share.new ≡ counted share.old (did result) }
+        ensures share { share.new ≡ record (counted share.old (did result)) { pass = counting share.old.pass share.new.pass.counts.pages } }
+        ensures pages { MarksPages (told_pages result) share.old.pass.counts.pages share.new.pass.counts.pages }
+        ensures own { IsShareOf self.now share.new }
         ensures command { IfOk result (λ r. command_of r.command ≡ SetLayout layout) }
     {
-        self.state.lock(rt).set_layout_held(alloc, share, layout)
+        let laid = self.state.lock(rt).set_layout_held(alloc, share, layout);
+        if let Ok(receipt) = &laid {
+            share.mark(&self.bitmap, &receipt.pages);
+        }
+        laid
     }
 
     /// The guest reads `len` bytes from a physical address on (`SharedState::guest_read`). Nothing is journaled.
@@ -155,19 +218,56 @@ impl<L: Ledger, F: FileSystem, I: Iommu + Drop> SharedDevice<L, F, I> {
         ensures replays { IfOk result (λ p. Replays (start_of p.start (fixed_of (machine_of p.machine))) (journal_of p.journal.items)
             (forget (machine_of p.machine))) }
         ensures pages { IfOk result (λ p. DiffersWithin (joined_pages (journal_of p.journal.items)) p.start.host p.machine.host) }
+        ensures device { IfErr result (λ back. back.0 ≡ self) }
         ensures back { IfErr result (λ back. back.1 ≡ share) }
     {
         let mut share = share;
-        let mut state = self.state.into_inner();
+        let SharedDevice { state, bitmap } = self;
+        let mut state = state.into_inner();
         if state.is_counted(&mut share) {
             Ok(state.open())
         } else {
-            Err((
-                SharedDevice {
-                    state: Mutex::new(state),
-                },
-                share,
-            ))
+            let state = Mutex::new(state);
+            Err((SharedDevice { state, bitmap }, share))
         }
+    }
+
+    /// The same, and all pages that are still marked, in words of 64 pages each: page p is bit p mod 64 of word p / 64. What is
+    /// told of the words wants share and harvest to have every part of the passes, as they have once each share that was split
+    /// off is joined again. Then a page is set in them exactly where it was marked more often than gathered; and where `audit`
+    /// takes the receipts of all calls, whose pages the share has marked, each page of the bitmap in which the hosts differ is
+    /// set, or the harvest gathered it. Else device, share and harvest come back, and the words are as they were.
+    pub fn into_parts_and_pages(
+        self,
+        share: Share<L>,
+        harvest: PageHarvest,
+        words: &mut [u64],
+    ) -> Result<Parts<F, I>, (SharedDevice<L, F, I>, Share<L>, PageHarvest)>
+        requires share { IsShareOf self share }
+        requires harvest { IsHarvestOf self harvest }
+        requires room { length words.old ≡ div_ceil self.len 64 }
+        ensures whole { share.parts ≡ L.parts → IsOk result }
+        ensures count { IfOk result (λ p. share.count ≡ length p.journal.items) }
+        ensures replays { IfOk result (λ p. Replays (start_of p.start (fixed_of (machine_of p.machine))) (journal_of p.journal.items)
+            (forget (machine_of p.machine))) }
+        ensures pages { IfOk result (λ p. DiffersWithin (joined_pages (journal_of p.journal.items)) p.start.host p.machine.host) }
+        ensures settles { IfOk result (λ p. SettlesAll (both_passes harvest.pass.counts share.pass.counts) words.new) }
+        ensures past { IfOk result (λ p. (page : ℕ) → self.len ≤ page → page_bit words.new page ≡ 0) }
+        ensures gathered { IfOk result (λ p. AccountsFor share.pass harvest p.journal.items p.start.host p.machine.host words.new) }
+        ensures room { length words.new ≡ length words.old }
+        ensures back { IfErr result (λ back. (back.0 ≡ self) × (back.1 ≡ share) × (back.2 ≡ harvest)) }
+        ensures same { OnErr result (words.new ≡ words.old) }
+    {
+        let mut share = share;
+        let SharedDevice { state, bitmap } = self;
+        let mut state = state.into_inner();
+        if !state.is_counted(&mut share) {
+            let state = Mutex::new(state);
+            return Err((SharedDevice { state, bitmap }, share, harvest));
+        }
+        let mut harvest = harvest;
+        harvest.take_in(share.into_pass());
+        harvest.gather_all(words);
+        Ok(state.open())
     }
 }

@@ -26,9 +26,7 @@ impl<L: Ledger, F: FileSystem, I: Iommu + Drop> SharedState<L, F, I> {
         ensures does { KicksSome F.may queue result }
         ensures share { share.new ≡ counted share.old (did_kick result) }
     {
-        let kicked = self.kick(alloc, share, queue);
-        self.replays();
-        kicked
+        self.kick(alloc, share, queue)
     }
 
     // Writes a guest's bytes.
@@ -42,9 +40,7 @@ impl<L: Ledger, F: FileSystem, I: Iommu + Drop> SharedState<L, F, I> {
         ensures does { ActsSome F.may (GuestWrite addr bytes.now) result }
         ensures share { share.new ≡ counted share.old (did result) }
     {
-        let receipt = self.guest_write(alloc, share, addr, bytes);
-        self.replays();
-        receipt
+        self.guest_write(alloc, share, addr, bytes)
     }
 
     // Takes another layout.
@@ -57,9 +53,7 @@ impl<L: Ledger, F: FileSystem, I: Iommu + Drop> SharedState<L, F, I> {
         ensures does { ActsSome F.may (SetLayout layout) result }
         ensures share { share.new ≡ counted share.old (did result) }
     {
-        let receipt = self.set_layout(alloc, share, layout);
-        self.replays();
-        receipt
+        self.set_layout(alloc, share, layout)
     }
 
     // Reads a guest's bytes.
@@ -71,8 +65,6 @@ impl<L: Ledger, F: FileSystem, I: Iommu + Drop> SharedState<L, F, I> {
     ) -> Result<Vec<u8>, Refusal>
         ensures does { ReadsSome F.may addr len result }
     {
-        let bytes = self.guest_read(alloc, addr, len);
-        self.replays();
-        bytes
+        self.guest_read(alloc, addr, len)
     }
 }

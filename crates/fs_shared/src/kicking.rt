@@ -55,7 +55,7 @@ fn reply_room<H: HostBlocks>(
     ensures { IfOk result (λ room. IsRoomFor (lengths (H.host host.now)) pending.now room) }
 {
     let runs = return_runs(alloc, host, pending.taken())?;
-    let most = runs.room.len() + runs.used.len();
+    let most = runs.most_pages()?;
     Ok(ReplyRoom {
         request: Vec::from_slice(alloc, pending.request())?,
         reply: reply_buffer(alloc, pending.taken())?,

@@ -1,7 +1,8 @@
 //! Laws of the definitions, each the contract of a function that does nothing.
 
 ghost use Rattle.fs_shared.specs.JournalPages.{JournalsTellPages};
-ghost use Rattle.fs_shared.specs.Laws.{ActsReplay, EventsForget, KicksReplay, StepsForget};
+ghost use Rattle.fs_shared.specs.Laws.{ActsReplay, CallsKeepMarks, CallsMark, EventsForget, HalvesAreWhole};
+ghost use Rattle.fs_shared.specs.Laws.{JoinsGiveBack, JoinsKeepMarks, KicksReplay, MeetsKeepMarks, StepsForget};
 
 use fuse_fs::FileSystem;
 
@@ -24,4 +25,20 @@ pub fn law_replays<F: FileSystem>()
 /// IOMMU on or off.
 pub fn law_journal_pages()
     ensures { JournalsTellPages }
+{}
+
+/// What the calls of a shared device tell is marked by their share, and stays so: in later calls, where the share takes in
+/// another, and where it takes over what a harvest has seen.
+pub fn law_marks_stay()
+    ensures calls { CallsMark }
+    ensures later { CallsKeepMarks }
+    ensures joins { JoinsKeepMarks }
+    ensures meets { MeetsKeepMarks }
+{}
+
+/// Whatever the calls counted meanwhile, which leaves parts alone: where each share that was split off is joined again, share
+/// and harvest have every part of the passes, as `SharedDevice::into_parts_and_pages` wants it.
+pub fn law_passes_are_whole()
+    ensures joins { JoinsGiveBack }
+    ensures whole { HalvesAreWhole }
 {}

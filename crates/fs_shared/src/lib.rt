@@ -1,4 +1,4 @@
-//! A virtio-fs device that threads share: what its journal gives, and what lies under its lock.
+//! A virtio-fs device that threads share: what its journal gives, what lies under its lock, and which pages its calls wrote.
 #![tactic(auto)]
 
 mod acting;
@@ -6,6 +6,7 @@ mod auditing;
 mod calls;
 mod device;
 mod entry;
+mod harvest;
 mod held;
 mod kept;
 mod kicking;
@@ -21,4 +22,5 @@ pub use auditing::audit;
 pub use device::SharedDevice;
 pub use device_shares::Share;
 pub use entry::{JournalEntry, Kicked, Outcome, Parts, Receipt, Start};
+pub use harvest::PageHarvest;
 pub use state::SharedState;

@@ -6,7 +6,7 @@ ghost use Rattle.fs_queue.specs.Windows.{TakenLiesIn, chain_places};
 ghost use Rattle.block_pages.specs.Pages.{page_of};
 ghost use Rattle.block_pages.specs.Runs.{AreRuns};
 
-use block_pages::{PageRun, page_runs, written_pages};
+use block_pages::{PageRuns, page_runs, written_pages};
 use fs_queue::Taken;
 use std::alloc::{AllocError, Global};
 use vm_memory_core::HostBlocks;
@@ -18,23 +18,32 @@ const USED_LEN: usize = 10;
 /// the used element and the used index.
 #[derive(Debug, Drop)]
 pub(crate) struct ReturnRuns {
-    pub room: Vec<PageRun>,
-    pub used: Vec<PageRun>,
+    pub room: PageRuns,
+    pub used: PageRuns,
+}
+
+impl ReturnRuns {
+    /// The most pages that a return may write: as many as there are runs. AllocError where their number doesn't fit 64 bits,
+    /// since no memory has so many.
+    pub(crate) fn most_pages(&self) -> Result<usize, AllocError>
+        ensures { IfOk result (λ most. most ≡ length self.now.room.items + length self.now.used.items) }
+    {
+        self.room
+            .len()
+            .checked_add(self.used.len())
+            .ok_or(AllocError)
+    }
 }
 
 ghost use Rattle.fs_shared.specs.ReturnRuns.{AreReturnPages, AreReturnRuns};
 
 // The runs of the room of a chain; a faulty one has none.
-fn room_runs<H: HostBlocks>(
-    alloc: Global,
-    host: &H,
-    taken: &Taken,
-) -> Result<Vec<PageRun>, AllocError>
+fn room_runs<H: HostBlocks>(alloc: Global, host: &H, taken: &Taken) -> Result<PageRuns, AllocError>
     ensures { IfOk result (λ runs. AreRuns (map (page_of (lengths (H.host host.now))) (chain_places taken.now.chain)) runs.items) }
 {
     match taken.chain() {
         Ok(chain) => page_runs(alloc, host, &chain.writable),
-        Err(_) => Ok(Vec::new(alloc)),
+        Err(_) => Ok(PageRuns::new(alloc)),
     }
 }
 

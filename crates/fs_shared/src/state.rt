@@ -83,13 +83,6 @@ impl<L: Ledger, F: FileSystem, I: Iommu + Drop> SharedState<L, F, I> {
         }
     }
 
-    /// From the start the journal replays to what the machine holds.
-    pub fn replays(&self)
-        ensures { Replays self.now.start self.now.journal (forget self.now.machine) }
-    {
-        let _opened = self.start.options;
-    }
-
     // Whether a share's count is the journal's length. So it is where the share has every part.
     pub(crate) fn is_counted(&mut self, share: &mut Share<L>) -> bool
         ensures state { self.new ≡ self.old }

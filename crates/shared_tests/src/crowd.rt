@@ -1,18 +1,20 @@
 //! Four threads that write, kick and read at once. The journal of it is replayed on a second machine.
 
 ghost use Rattle.std.specs.Prelude.{◌≡◌};
+ghost use Rattle.std.specs.Thread.{IsSync};
+ghost use Rattle.device_shares.specs.Portion.{IsShareOf};
 
 use crate::stand::{LogMachine, expect_same, machine_of_four, ring};
 use call_log::CallLog;
 use device_shares::Share;
 use fs_device::{Answer, Command, HarvestedPage, harvest};
-use fs_shared::{JournalEntry, Kicked, Outcome, Parts, Receipt, SharedDevice, audit};
+use fs_shared::{JournalEntry, Kicked, Outcome, PageHarvest, Parts, Receipt, SharedDevice, audit};
 use std::alloc::Global;
 use std::marker::Brand;
 use std::process::Abort;
 use std::sync::Wait;
 use std::sync::ledger::{Blank, Ledger};
-use std::thread::{Threads, for_each_mut};
+use std::thread::{Threads, join};
 use vm_memory::{GuestMemoryBackend, GuestMemoryMmap, TableIommu};
 use vm_memory_core::{HostMemory, PageBitmap};
 
@@ -22,165 +24,174 @@ type LogDevice<L> = SharedDevice<L, CallLog, TableIommu>;
 // calls in all.
 const ROUNDS: u16 = 334;
 
-// A thread's share of the device, its queue, and the receipts that it got. `is_fine` until a call ends otherwise than it
-// has to.
+// A thread at a queue of the device. A call that ends otherwise than it has to ends its work.
 #[derive(Drop)]
 struct Worker<'a, L: Ledger, R> {
     rt: &'a R,
     alloc: Global,
     device: &'a LogDevice<L>,
-    share: Share<L>,
     queue: usize,
     layout: GuestMemoryMmap,
-    receipts: Vec<Receipt>,
-    is_fine: bool,
 }
 
 impl<L: Ledger, R: Wait> Worker<'_, L, R> {
-    fn keep(&mut self, receipt: Receipt) {
-        if self.receipts.push(receipt).is_err() {
-            self.is_fine = false;
-        }
-    }
-
     // The guest's write of its available index.
-    fn offer(&mut self, index: u16) {
+    fn offer(&self, share: &mut Share<L>, index: u16) -> Option<Receipt>
+        requires { IsShareOf self.now.device.now share.old }
+        ensures { IsShareOf self.now.device.now share.new }
+    {
         let addr = ring(self.queue).avail.wrapping_add(2);
         let bytes = index.to_le_bytes();
-        match self
-            .device
-            .guest_write(self.rt, self.alloc, &mut self.share, addr, &bytes)
-        {
-            Ok(receipt) => self.keep(receipt),
-            Err(_) => self.is_fine = false,
-        }
+        self.device
+            .guest_write(self.rt, self.alloc, share, addr, &bytes)
+            .ok()
     }
 
-    fn kick(&mut self) {
-        match self
-            .device
-            .kick(self.rt, self.alloc, &mut self.share, self.queue)
-        {
-            Ok(Kicked::Done(receipt)) => self.keep(receipt),
-            _ => self.is_fine = false,
+    fn kick(&self, share: &mut Share<L>) -> Option<Receipt>
+        requires { IsShareOf self.now.device.now share.old }
+        ensures { IsShareOf self.now.device.now share.new }
+    {
+        match self.device.kick(self.rt, self.alloc, share, self.queue) {
+            Ok(Kicked::Done(receipt)) => Some(receipt),
+            _ => None,
         }
     }
 
     // The guest's read of its used index, which is the same now.
-    fn read(&mut self, index: u16) {
+    fn read(&self, index: u16) -> Option<()> {
         let addr = ring(self.queue).used.wrapping_add(2);
-        match self.device.guest_read(self.rt, self.alloc, addr, 2) {
-            Ok(bytes) => {
-                self.is_fine = self.is_fine && bytes.as_slice() == index.to_le_bytes().as_slice()
-            }
-            Err(_) => self.is_fine = false,
-        }
+        let bytes = self.device.guest_read(self.rt, self.alloc, addr, 2).ok()?;
+        (bytes.as_slice() == index.to_le_bytes().as_slice()).then_some(())
     }
 
     // The same regions take the place of all that are there.
-    fn set_layout(&mut self) {
-        let Ok(layout) = self.layout.try_clone() else {
-            self.is_fine = false;
-            return;
-        };
-        match self
-            .device
-            .set_layout(self.rt, self.alloc, &mut self.share, layout)
-        {
-            Ok(receipt) => self.keep(receipt),
-            Err(_) => self.is_fine = false,
-        }
+    fn set_layout(&self, share: &mut Share<L>) -> Option<Receipt>
+        requires { IsShareOf self.now.device.now share.old }
+        ensures { IsShareOf self.now.device.now share.new }
+    {
+        let layout = self.layout.try_clone().ok()?;
+        self.device
+            .set_layout(self.rt, self.alloc, share, layout)
+            .ok()
     }
 
-    fn work(&mut self) {
-        self.set_layout();
+    // One chain: the receipts of its write and its kick are added.
+    fn serve(&self, share: &mut Share<L>, index: u16, receipts: &mut Vec<Receipt>) -> Option<()>
+        requires { IsShareOf self.now.device.now share.old }
+        ensures { IsShareOf self.now.device.now share.new }
+    {
+        receipts.push(self.offer(share, index)?).ok()?;
+        receipts.push(self.kick(share)?).ok()?;
+        self.read(index)
+    }
+
+    fn work(&self, share: &mut Share<L>) -> Option<Vec<Receipt>>
+        requires { IsShareOf self.now.device.now share.old }
+        ensures { IsShareOf self.now.device.now share.new }
+    {
+        let mut receipts = Vec::new(self.alloc);
+        receipts.push(self.set_layout(share)?).ok()?;
         for index in 1..=ROUNDS {
-            self.offer(index);
-            self.kick();
-            self.read(index);
+            self.serve(share, index, &mut receipts)?;
         }
+        Some(receipts)
     }
 }
 
-// What four threads do, each with a share of its own, and what they bring back: the shares, joined, and all receipts.
-fn worked<L: Ledger + Send + Sync, R: Threads + Wait + Abort + Sync>(
+// What a thread brings back: its share, and its receipts where all calls ended as they have to.
+type Brought<L> = (Share<L>, Option<Vec<Receipt>>);
+
+// What a thread does at a queue.
+fn worked<L: Ledger, R: Wait + Abort>(
     rt: &R,
     alloc: Global,
     device: &LogDevice<L>,
-    share: Share<L>,
-) -> (Share<L>, Vec<Receipt>) {
-    let mut workers = workers(rt, alloc, device, share);
-    for_each_mut(
-        rt,
-        &mut workers,
-        4,
-        &|_, worker| {
-            worker.work();
-        },
-    );
-    let mut joined = None;
-    let mut receipts = Vec::new(alloc);
-    for worker in workers {
-        expect_same(rt, worker.is_fine, true);
-        let Worker {
-            share,
-            receipts: own,
-            ..
-        } = worker;
-        for receipt in own {
-            receipts.push(receipt).expect(rt, "memory");
-        }
-        joined = Some(match joined {
-            None => share,
-            Some(all) => joined_with(device, all, share),
-        });
-    }
-    (joined.expect(rt, "a share"), receipts)
-}
-
-fn joined_with<L: Ledger>(device: &LogDevice<L>, all: Share<L>, share: Share<L>) -> Share<L> {
-    let mut all = all;
-    device.join_share(&mut all, share);
-    all
-}
-
-// Four threads' shares, each with a queue.
-fn workers<'a, L: Ledger, R: Abort>(
-    rt: &'a R,
-    alloc: Global,
-    device: &'a LogDevice<L>,
-    share: Share<L>,
-) -> Vec<Worker<'a, L, R>> {
-    let mut share = share;
-    let mut workers = Vec::new(alloc);
-    for queue in 1..4 {
-        let part = device.split_share(&mut share).expect(rt, "two parts");
-        let added = workers.push(new_worker(rt, alloc, device, part, queue));
-        added.expect(rt, "memory");
-    }
-    let added = workers.push(new_worker(rt, alloc, device, share, 0));
-    added.expect(rt, "memory");
-    workers
-}
-
-fn new_worker<'a, L: Ledger, R: Abort>(
-    rt: &'a R,
-    alloc: Global,
-    device: &'a LogDevice<L>,
-    share: Share<L>,
+    mut share: Share<L>,
     queue: usize,
-) -> Worker<'a, L, R> {
+) -> Brought<L>
+    requires { IsShareOf device.now share }
+    ensures { IsShareOf device.now result.0 }
+{
     let layout = machine_of_four(rt, alloc).mem.get_backend().try_clone();
-    Worker {
+    let worker = Worker {
         rt,
         alloc,
         device,
-        share,
         queue,
         layout: layout.expect(rt, "memory"),
-        receipts: Vec::new(alloc),
-        is_fine: true,
+    };
+    let receipts = worker.work(&mut share);
+    (share, receipts)
+}
+
+// What two threads do, each at a queue with half of the share.
+fn worked_by_two<L: Ledger + Send + Sync, R: Threads + Wait + Abort + Sync>(
+    rt: &R,
+    alloc: Global,
+    device: &LogDevice<L>,
+    mut share: Share<L>,
+    queues: [usize; 2],
+) -> Brought<L>
+    requires { IsShareOf device.now share }
+    ensures { IsShareOf device.now result.0 }
+{
+    let theirs = device.split_share(&mut share).expect(rt, "two parts");
+    let [first, second] = queues;
+    let (one, other) = join(
+        rt,
+        move ||
+            requires { IsSync R.row × IsShareOf device.now share }
+        { worked(rt, alloc, device, share, first) },
+        move ||
+            requires { IsSync R.row × IsShareOf device.now theirs }
+        { worked(rt, alloc, device, theirs, second) },
+    );
+    together(device, one, other)
+}
+
+// What four threads do.
+fn worked_by_four<L: Ledger + Send + Sync, R: Threads + Wait + Abort + Sync>(
+    rt: &R,
+    alloc: Global,
+    device: &LogDevice<L>,
+    mut share: Share<L>,
+) -> Brought<L>
+    requires { IsShareOf device.now share }
+    ensures { IsShareOf device.now result.0 }
+{
+    let theirs = device.split_share(&mut share).expect(rt, "two parts");
+    let (one, other) = join(
+        rt,
+        move ||
+            requires { IsSync R.row × IsShareOf device.now share }
+        { worked_by_two(rt, alloc, device, share, [0, 1]) },
+        move ||
+            requires { IsSync R.row × IsShareOf device.now theirs }
+        { worked_by_two(rt, alloc, device, theirs, [2, 3]) },
+    );
+    together(device, one, other)
+}
+
+// Both shares in one, and all receipts.
+fn together<L: Ledger>(device: &LogDevice<L>, one: Brought<L>, other: Brought<L>) -> Brought<L>
+    requires one { IsShareOf device.now one.0 }
+    requires other { IsShareOf device.now other.0 }
+    ensures { IsShareOf device.now result.0 }
+{
+    let (mut share, receipts) = one;
+    device.join_share(&mut share, other.0);
+    (share, all_receipts(receipts, other.1))
+}
+
+fn all_receipts(
+    receipts: Option<Vec<Receipt>>,
+    others: Option<Vec<Receipt>>,
+) -> Option<Vec<Receipt>> {
+    let mut receipts = receipts?;
+    for receipt in others? {
+        receipts.push(receipt).ok()?;
     }
+    Some(receipts)
 }
 
 // A second machine answers an entry's command as the entry says, and has its options then.
@@ -286,6 +297,32 @@ fn expect_replays(rt: &impl Abort, alloc: Global, parts: Parts<CallLog, TableIom
     expect_alike(rt, alloc, machine, plain);
 }
 
+// No page is past the host's sixteen.
+fn expect_pages_inside(rt: &impl Abort, receipts: &[Receipt]) {
+    for receipt in receipts {
+        for page in &receipt.pages {
+            expect_same(rt, *page < 16, true);
+        }
+    }
+}
+
+// The device comes apart, and each thread's page is marked.
+fn taken_apart<L: Ledger>(
+    rt: &impl Abort,
+    device: LogDevice<L>,
+    share: Share<L>,
+    harvest: PageHarvest,
+) -> Parts<CallLog, TableIommu>
+    requires share { IsShareOf device share }
+    requires harvest { harvest.bitmap ≡ device }
+{
+    let mut words = [0];
+    assert!(rt; harvest.words() == words.len());
+    let parts = device.into_parts_and_pages(share, harvest, &mut words);
+    expect_same(rt, words, [0xf]);
+    parts.ok().expect(rt, "all parts")
+}
+
 // Four threads at work; a kick of a missing queue, which isn't journaled; and all that they did is accounted for.
 fn crowd<L: Ledger + Send + Sync, R: Threads + Wait + Abort + Sync>(
     rt: &R,
@@ -297,14 +334,15 @@ fn crowd<L: Ledger + Send + Sync, R: Threads + Wait + Abort + Sync>(
     requires parts { blank.parts ≡ 8 }
 {
     let made = LogDevice::<L>::new(alloc, blank, 8, machine_of_four(rt, alloc));
-    let (device, share) = made.ok().expect(rt, "memory");
-    let (share, receipts) = worked(rt, alloc, &device, share);
-    let mut share = share;
+    let (device, share, harvest) = made.ok().expect(rt, "memory");
+    let (mut share, receipts) = worked_by_four(rt, alloc, &device, share);
+    let receipts = receipts.expect(rt, "receipts");
     let missing = device.kick(rt, alloc, &mut share, 9).err();
     expect_same(rt, missing.map(|error| error.number()), Some(10));
-    let parts = device.into_parts(share).ok().expect(rt, "all parts");
+    let parts = taken_apart(rt, device, share, harvest);
     expect_same(rt, parts.journal.len(), 8 * usize::from(ROUNDS) + 4);
     expect_same(rt, audit(&parts.journal, &receipts), true);
+    expect_pages_inside(rt, &receipts);
     expect_replays(rt, alloc, parts);
 }
 

@@ -6,8 +6,14 @@ mod audits;
 #[cfg(test)]
 mod crowd;
 #[cfg(test)]
+mod gathers;
+#[cfg(test)]
+mod laws;
+#[cfg(test)]
 mod refusals;
 #[cfg(test)]
 mod stand;
 #[cfg(test)]
 mod threads;
+#[cfg(test)]
+mod windows;

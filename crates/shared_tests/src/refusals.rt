@@ -1,6 +1,7 @@
 //! What a device that threads share refuses, and what of it is journaled.
 
 ghost use Rattle.std.specs.Prelude.{◌≡◌};
+ghost use Rattle.device_shares.specs.Portion.{IsShareOf};
 
 use crate::stand::{expect_same, machine};
 use call_log::CallLog;
@@ -25,13 +26,16 @@ fn foreign(rt: &impl Abort, alloc: Global) -> GuestMemoryMmap {
     GuestMemoryMmap::from_ranges(alloc, &mut other, &ranges).expect(rt, "regions")
 }
 
-// A write and a read past the end of memory, and a layout over a missing block.
+// A write and a read past the end of memory, and a layout over a missing block. No page is marked.
 fn expect_refused<L: Ledger, R: Wait + Abort>(
     rt: &R,
     alloc: Global,
     device: &LogDevice<L>,
     share: &mut Share<L>,
-) {
+)
+    requires { IsShareOf device.now share.old }
+    ensures { IsShareOf device.now share.new }
+{
     let written = device.guest_write(rt, alloc, share, 0xffff, &[1, 2]).err();
     expect_same(rt, written.map(|refusal| refusal.number()), Some(1));
     let read = device.guest_read(rt, alloc, 0xffff, 2).err();
@@ -61,7 +65,10 @@ fn expect_stopped<L: Ledger, R: Wait + Abort>(
     alloc: Global,
     device: &LogDevice<L>,
     share: &mut Share<L>,
-) {
+)
+    requires { IsShareOf device.now share.old }
+    ensures { IsShareOf device.now share.new }
+{
     let offered = device.guest_write(rt, alloc, share, 0x102, &[5, 0]);
     expect_same(rt, offered.expect(rt, "a receipt").number, 0);
     let stops = stopped_by(device.kick(rt, alloc, share, 0));
@@ -71,15 +78,19 @@ fn expect_stopped<L: Ledger, R: Wait + Abort>(
     expect_same(rt, after.map(|error| error.number()), Some(1));
 }
 
+// The write of the available index alone marks a page.
 fn refuses<L: Ledger, R: Wait + Abort>(rt: &R, alloc: Global, blank: Blank)
     requires name { blank.name ≡ L.name }
     requires ledger { blank.parts ≡ L.parts }
     requires parts { blank.parts ≡ 1 }
 {
     let made = LogDevice::<L>::new(alloc, blank, 1, machine(rt, alloc));
-    let (device, mut share) = made.ok().expect(rt, "memory");
+    let (device, mut share, mut harvest) = made.ok().expect(rt, "memory");
     expect_refused(rt, alloc, &device, &mut share);
+    assert!(rt; harvest.words() == 1);
+    expect_same(rt, harvest.gather(0), 0);
     expect_stopped(rt, alloc, &device, &mut share);
+    expect_same(rt, harvest.gather(0), 1);
     let parts = device.into_parts(share).ok().expect(rt, "all parts");
     expect_same(rt, parts.journal.len(), 2);
 }

@@ -8,7 +8,7 @@ use guest_driver::{Guest, Ring};
 use std::alloc::Global;
 use std::fmt::Debug;
 use std::process::Abort;
-use virtiofsd_fuse::Server;
+use virtiofsd_fuse::{FileSystem, Server};
 use vm_memory::TableIommu;
 use vm_memory_core::GuestAddress;
 
@@ -90,20 +90,29 @@ fn guest_of_four(rt: &impl Abort, alloc: Global) -> Guest {
 }
 
 // A device of the four rings.
-fn device_of_four(rt: &impl Abort, alloc: Global) -> Device<CallLog> {
+fn device_of_four<F: FileSystem>(rt: &impl Abort, alloc: Global, files: F) -> Device<F> {
     let queues = [0, 1, 2, 3].map(|number| {
         let ring = ring(number);
         let layout = QueueLayout::new(ring.size, ring.desc, ring.avail, ring.used);
         Queue::new(layout.expect(rt, "a layout"))
     });
     let queues = Vec::from_array(alloc, queues).expect(rt, "memory");
-    Device::new(Server::new(CallLog::new(), 4096), queues, 0x101000)
+    Device::new(Server::new(files, 4096), queues, 0x101000)
 }
 
-/// The machine of that guest and a device of its four rings. Its IOMMU is off.
-pub fn machine_of_four(rt: &impl Abort, alloc: Global) -> LogMachine {
+/// The machine of that guest and a device of its four rings over a file system. Its IOMMU is off.
+pub fn machine_over<F: FileSystem>(
+    rt: &impl Abort,
+    alloc: Global,
+    files: F,
+) -> Machine<F, TableIommu> {
     let made = guest_of_four(rt, alloc).into_translated(alloc, 0x3000);
     let (host, mem) = made.expect(rt, "memory");
     assert!(rt; host.holds(&mem));
-    Machine::new(host, mem, device_of_four(rt, alloc))
+    Machine::new(host, mem, device_of_four(rt, alloc, files))
+}
+
+/// The same, with the file system that logs its calls.
+pub fn machine_of_four(rt: &impl Abort, alloc: Global) -> LogMachine {
+    machine_over(rt, alloc, CallLog::new())
 }

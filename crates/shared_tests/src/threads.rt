@@ -1,12 +1,14 @@
 //! A device that two threads share.
 
 ghost use Rattle.std.specs.Prelude.{◌≡◌, ◌<◌};
+ghost use Rattle.std.specs.Thread.{IsSync};
+ghost use Rattle.device_shares.specs.Portion.{IsShareOf};
 
 use crate::stand::{expect_same, machine};
 use call_log::CallLog;
 use device_shares::Share;
 use fs_device::DeviceError;
-use fs_shared::{Kicked, Receipt, SharedDevice, audit};
+use fs_shared::{Kicked, PageHarvest, Receipt, SharedDevice, audit};
 use std::alloc::Global;
 use std::marker::Brand;
 use std::process::Abort;
@@ -20,6 +22,20 @@ type LogDevice<L> = SharedDevice<L, CallLog, TableIommu>;
 // What a thread brings back: its share, and what its kick came to.
 type Brought<L> = (Share<L>, Result<Kicked, DeviceError>);
 
+// One kick of the queue.
+fn kicked<L: Ledger, R: Wait>(
+    rt: &R,
+    alloc: Global,
+    device: &LogDevice<L>,
+    mut share: Share<L>,
+) -> Brought<L>
+    requires { IsShareOf device.now share }
+    ensures { IsShareOf device.now result.0 }
+{
+    let kicked = device.kick(rt, alloc, &mut share, 0);
+    (share, kicked)
+}
+
 // Two threads kick the queue once each.
 fn kicked_by_two<L: Ledger + Send + Sync, R: Threads + Wait + Sync>(
     rt: &R,
@@ -27,19 +43,20 @@ fn kicked_by_two<L: Ledger + Send + Sync, R: Threads + Wait + Sync>(
     device: &LogDevice<L>,
     mine: Share<L>,
     theirs: Share<L>,
-) -> (Brought<L>, Brought<L>) {
-    let mut mine = mine;
-    let mut theirs = theirs;
+) -> (Brought<L>, Brought<L>)
+    requires mine { IsShareOf device.now mine }
+    requires theirs { IsShareOf device.now theirs }
+    ensures mine { IsShareOf device.now result.0.0 }
+    ensures theirs { IsShareOf device.now result.1.0 }
+{
     join(
         rt,
-        move || {
-            let kicked = device.kick(rt, alloc, &mut mine, 0);
-            (mine, kicked)
-        },
-        move || {
-            let kicked = device.kick(rt, alloc, &mut theirs, 0);
-            (theirs, kicked)
-        },
+        move ||
+            requires { IsSync R.row × IsShareOf device.now mine }
+        { kicked(rt, alloc, device, mine) },
+        move ||
+            requires { IsSync R.row × IsShareOf device.now theirs }
+        { kicked(rt, alloc, device, theirs) },
     )
 }
 
@@ -75,7 +92,10 @@ fn later_calls<L: Ledger, R: Wait + Abort>(
     share: &mut Share<L>,
     layout: GuestMemoryMmap,
     receipts: &mut Vec<Receipt>,
-) {
+)
+    requires { IsShareOf device.now share.old }
+    ensures { IsShareOf device.now share.new }
+{
     let third = device.kick(rt, alloc, share, 0);
     expect_same(rt, matches!(third, Ok(Kicked::Idle)), true);
     let written = device
@@ -92,6 +112,37 @@ fn later_calls<L: Ledger, R: Wait + Abort>(
     expect_same(rt, laid.number, 3);
     expect_same(rt, laid.pages.len(), 0);
     receipts.push(laid).expect(rt, "memory");
+}
+
+// The harvest takes the pages of all receipts, 0, 2 and 5, and then none. A share takes over that it did.
+fn gathered<L: Ledger>(
+    rt: &impl Abort,
+    device: &LogDevice<L>,
+    share: &mut Share<L>,
+    mut harvest: PageHarvest,
+)
+    requires share { IsShareOf device.now share.old }
+    requires harvest { harvest.bitmap ≡ device.now }
+    ensures { IsShareOf device.now share.new }
+{
+    assert!(rt; harvest.words() == 1);
+    expect_same(rt, harvest.gather(0), 0x25);
+    expect_same(rt, harvest.gather(0), 0);
+    expect_same(rt, device.meet(share, &mut harvest), true);
+}
+
+// With a part outside device and share come back.
+fn expect_back<L: Ledger>(
+    rt: &impl Abort,
+    device: LogDevice<L>,
+    share: Share<L>,
+) -> (LogDevice<L>, Share<L>)
+    requires { IsShareOf device share }
+    ensures device { result.0 ≡ device }
+    ensures own { IsShareOf result.0 result.1 }
+{
+    let back = device.into_parts(share).err();
+    back.expect(rt, "a part is missing")
 }
 
 // The device comes apart with all shares, and its receipts pass the audit; without one they don't.
@@ -120,15 +171,15 @@ fn shared<L: Ledger + Send + Sync, R: Threads + Wait + Abort + Sync>(
     let machine = machine(rt, alloc);
     let layout = machine.mem.get_backend().try_clone().expect(rt, "memory");
     let made = LogDevice::<L>::new(alloc, blank, 2, machine);
-    let (device, mut mine) = made.ok().expect(rt, "memory");
+    let (device, mut mine, harvest) = made.ok().expect(rt, "memory");
     let theirs = device.split_share(&mut mine).expect(rt, "two parts");
     expect_same(rt, device.split_share(&mut mine).is_none(), true);
     let (one, other) = kicked_by_two(rt, alloc, &device, mine, theirs);
     let mut receipts = both_receipts(rt, alloc, one.1, other.1);
     let mut mine = one.0;
     later_calls(rt, alloc, &device, &mut mine, layout, &mut receipts);
-    let back = device.into_parts(mine).err();
-    let (device, mut mine) = back.expect(rt, "a part is missing");
+    gathered(rt, &device, &mut mine, harvest);
+    let (device, mut mine) = expect_back(rt, device, mine);
     device.join_share(&mut mine, other.0);
     taken_apart(rt, device, mine, receipts);
 }

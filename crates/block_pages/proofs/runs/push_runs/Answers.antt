@@ -19,7 +19,7 @@ loop-done-preserved g c =
     let ls = lengths (g.H.HostBlocks.host c.args.host.now) in
     let w = c.args.window in
     let run : PageRun = record { page = c.in-Some.page; from = c.args.from + c.loop-done.done } in
-    let pushed : c.push.new.self.items ≡ c.loop-done.runs.items ++ run ∷ [] = c.in_ok-push.ensures.items in
+    let pushed : c.push.new.self.items ≡ c.loop-done.runs.items ++ run ∷ [] = c.in_ok-push.ensures.ok in
     let page : c.in-Some.page ≡ c.in_ok-first.first + (w.offset + c.loop-done.done) / 4096 = search rules in
     let some : 0 < c.min-count.result = search rules in
     let fits : (w.offset + c.loop-done.done) % 4096 + c.min-count.result ≤ 4096 = search rules in

@@ -9,7 +9,7 @@ returns g c =
       reply_fits = rw c.taken-2.ensures at c.in_ok-reply_buffer.ensures.fits;
       runs = rw c.taken.ensures at c.in_ok-runs.ensures;
       pages = c.in_ok-with_capacity.ensures.items;
-      pages_fit = omega (arith, c.len.ensures, c.len-2.ensures, c.in_ok-with_capacity.ensures.capacity, runs.room.ok.0, runs.used.ok.0);
+      pages_fit = omega (arith, c.in_ok-most.ensures, c.in_ok-with_capacity.ensures.capacity);
       copy = c.in_ok-with_capacity-2.ensures.items;
-      copy_fits = omega (arith, c.len.ensures, c.len-2.ensures, c.in_ok-with_capacity-2.ensures.capacity, runs.room.ok.0, runs.used.ok.0);
+      copy_fits = omega (arith, c.in_ok-most.ensures, c.in_ok-with_capacity-2.ensures.capacity);
     }

@@ -5,5 +5,5 @@ use Rattle.fs_shared.proofs.state.SharedState.guest_read_held.Goals as goal
 
 pub returns : goal.returns
 returns g c = record {
-  does = (c.args.self.now, c.guest_read-bytes.ensures.read, subst (λ (h : Held g.row.F.Denot). HoldsReplay h) c.guest_read-bytes.ensures.same c.replays.ensures);
+  does = (c.args.self.now, c.guest_read.ensures.read, subst (λ (h : Held g.row.F.Denot). HoldsReplay h) c.guest_read.ensures.same c.guest_read.ensures.replays);
 }

@@ -1,0 +1,74 @@
+-- the pages of a journal's entries are those that its receipts tell
+use Rattle.std.proofs.Common.{◌≡◌, ℕ, suc, ◌<◌, ◌==◌, cond, Bool, true, false, List, [], ◌∷◌, length, Option, Some, None, subst, sym, refl, ⊎_elim, arith}
+use Rattle.std.specs.Prelude.{IsSomeAnd, slice_get}
+use Rattle.std.specs.List.{Contains, filter}
+use Rattle.std.proofs.lemmas.Bool.{eqb-true}
+use Rattle.std.proofs.lemmas.List.Elements.{All-contains, Contains-append_cases, Contains-append_right}
+use Rattle.std.proofs.lemmas.List.Sums.{length-filter}
+use Rattle.vm_atomic_bitmaps.specs.Counts.{both_of, both_passes, tally_of}
+use Rattle.vm_atomic_bitmaps.specs.Passes.{Pass}
+use Rattle.vm_atomic_bitmaps.specs.Steps.{SettlesAll}
+use Rattle.vm_atomic_bitmaps.proofs.PassTotals.{length-each_tally}
+use Rattle.vm_memory_core.specs.Host.{Host, lengths}
+use Rattle.block_pages.specs.Pages.{page_of}
+use Rattle.fs_shared.specs.declared.entry.JournalEntry.{JournalEntry}
+use Rattle.fs_shared.specs.declared.entry.Receipt.{Receipt}
+use Rattle.fs_shared.specs.Audit.{AreAllReceipts, IsTold, Tells, times}
+use Rattle.fs_shared.specs.Held.{journal_of}
+use Rattle.fs_shared.specs.JournalPages.{DiffersWithin, joined_pages}
+use Rattle.fs_shared.specs.Marks.{AccountsFor, Harvest}
+use Rattle.fs_shared.proofs.Gathering.{accounts_for}
+
+-- a page of all entries is one of some entry
+entry_has : (page : ℕ) (entries : List JournalEntry) → Contains (joined_pages (journal_of entries)) page
+    → (k : ℕ) × (k < length entries) × IsSomeAnd (slice_get entries k) (λ e. Contains e.pages.items page)
+entry_has page [] here = let below = here.1 in absurd (omega arith)
+entry_has page (e ∷ es) here =
+    ⊎_elim
+    (λ (first : Contains e.pages.items page). (0, omega arith, first))
+    (λ (later : Contains (joined_pages (journal_of es)) page). let r = entry_has page es later in (suc r.0, omega arith, r.2))
+    (Contains-append_cases e.pages.items (joined_pages (journal_of es)) page here)
+
+-- where some receipts have a number, one of them has it
+number_kept : (number : ℕ) (receipts : List Receipt) → 0 < length (filter (λ r. r.number == number) receipts) → (r : Receipt) × Contains receipts r × (r.number ≡ number)
+number_kept number [] some = absurd (omega arith)
+number_kept number (r ∷ rs) some = by_number (r.number == number) refl some (λ more. number_kept number rs more)
+  where
+    rest : List Receipt
+    rest = filter (λ s. s.number == number) rs
+
+    by_number : (b : Bool) → (r.number == number) ≡ b → 0 < length (cond b (r ∷ rest) rest) → (0 < length rest → (s : Receipt) × Contains rs s × (s.number ≡ number))
+        → (s : Receipt) × Contains (r ∷ rs) s × (s.number ≡ number)
+    by_number true is more later = (r, (0, omega arith, refl), eqb-true r.number number is)
+    by_number false is more later = let found = later more in (found.0, Contains-append_right (r ∷ []) rs found.0 found.1, found.2)
+
+receipt_has : (number : ℕ) (receipts : List Receipt) → times number receipts ≡ 1 → (r : Receipt) × Contains receipts r × (r.number ≡ number)
+receipt_has number receipts one = number_kept number receipts (omega (arith, length-filter {X = Receipt} (λ r. r.number == number) receipts))
+
+-- what holds of an element that is there
+both_of_some : {X : Type 0} (P Q : X → Type 0) (o : Option X) → IsSomeAnd o P → IsSomeAnd o Q → (x : X) × P x × Q x
+both_of_some P Q None p q = absurd p
+both_of_some P Q (Some x) p q = (x, p, q)
+
+-- each page of the entries is told by a receipt
+receipt_tells : (page : ℕ) (journal : List JournalEntry) (receipts : List Receipt) → AreAllReceipts journal receipts → Contains (joined_pages (journal_of journal)) page
+    → (r : Receipt) × Contains receipts r × Contains r.pages.items page
+receipt_tells page journal receipts all here =
+    let e = entry_has page journal here in
+    let r = receipt_has e.0 receipts (all.once e.0 e.1) in
+    let told = subst (λ (n : ℕ). IsSomeAnd (slice_get journal n) (λ (x : JournalEntry). Tells x r.0)) r.2 (All-contains (IsTold journal) receipts r.0 all.told r.1) in
+    let both = both_of_some (λ (x : JournalEntry). Tells x r.0) (λ (x : JournalEntry). Contains x.pages.items page) (slice_get journal e.0) told e.2 in
+    (r.0, r.1, subst (λ (pages : List ℕ). Contains pages page) (sym both.1.pages) both.2)
+
+-- the words of the last gather, by all passes, account for each page in which the hosts differ
+pub accounts : (share : Pass) (h : Harvest) (journal : List JournalEntry) (before after : Host) (words : List ℕ)
+    → length h.pass.counts.pages ≡ h.bitmap.len → length share.counts.pages ≡ h.bitmap.len → ((p : ℕ) → (tally_of share.counts.pages p).off ≡ 0)
+    → SettlesAll (both_passes h.pass.counts share.counts) words → DiffersWithin (joined_pages (journal_of journal)) before after
+    → AccountsFor share h journal before after words
+accounts share h journal before after words mine theirs none settles differs whole receipts all marked p apart below =
+    let page = page_of (lengths before) p in
+    let told = receipt_tells page journal receipts all (differs.bytes p apart) in
+    let long = length-each_tally (λ p t. both_of t (tally_of share.counts.pages p)) 0 h.pass.counts.pages in
+    accounts_for h share words page (omega arith) (settles whole page (omega arith))
+    (All-contains (λ (r : Receipt). (n : ℕ) → n < length share.counts.pages → Contains r.pages.items n → (tally_of share.counts.pages n).marked ≡ true) receipts told.0 marked told.1 page (omega arith) told.2)
+    (none page)
