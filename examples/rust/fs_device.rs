@@ -1,14 +1,14 @@
-//! What fs_device.h declares, as far as the monitor calls it. The header says what each function does, and what isn't proved.
+//! What fs_device.h declares. The header says what each function does, and what isn't proved.
 #[repr(C)]
 pub struct Device {
-    pub at: *mut u8,
+    pub at: *mut (),
     pub full: bool,
     pub refused: u32,
 }
 
 #[repr(C)]
 pub struct Queue {
-    pub at: *mut u8,
+    pub at: *mut (),
     pub full: bool,
 }
 
@@ -55,6 +55,11 @@ extern "C" {
     pub fn fs_device_free(device: &mut Device);
     pub fn fs_device_serve(device: &mut Device, low: *mut u8, low_len: usize, high: *mut u8, high_len: usize, queue: usize, most: u16,
         served: &mut Served) -> u32;
+    pub fn fs_device_reset_queue(device: &mut Device, queue: usize, layout: *const Layout) -> u32;
+    pub fn fs_device_gather(device: &mut Device, part: u32, words: *mut u64, word_count: usize, count: &mut usize) -> u32;
+    pub fn fs_device_save(device: &mut Device, buffer: *mut u8, buffer_len: usize, len: &mut usize) -> u32;
+    pub fn fs_device_restore(device: &mut Device, low_base: u64, low: *mut u8, low_len: usize, high_base: u64, high: *mut u8, high_len: usize,
+        files: *const File, file_count: usize, saved: *const u8, saved_len: usize, page_size: u32, limit: u32) -> u32;
     pub fn fs_queue_new(queue: &mut Queue, low_base: u64, low: *mut u8, low_len: usize, high_base: u64, high: *mut u8, high_len: usize,
         size: u16, desc: u64, avail: u64, used: u64, limit: u32) -> u32;
     pub fn fs_queue_free(queue: &mut Queue);

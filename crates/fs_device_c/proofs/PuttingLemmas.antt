@@ -9,11 +9,12 @@ use Rattle.fs_device_c.specs.DeviceExports.{DeviceMade, PutsMade}
 
 module _ (Made : DeviceState → Type 0) (Refuses : DeviceRefusal → Type 0) (before : Option DeviceState) (status : ℕ) (after : Option DeviceState) where
   -- it is one of which this holds, or memory is wanting for it, or why none was made is told
-  pub puts : (made : Result DeviceState DeviceRefusal) → PutsMade made before status after → IfOk made Made → IfErr made Refuses → Refuses OutOfMemory →
+  pub puts : (made : Result DeviceState DeviceRefusal) → PutsMade made before status after → IfOk made Made → IfErr made Refuses →
+      ((s : DeviceState) → Made s → Refuses OutOfMemory) →
       (how : Option DeviceRefusal) × (status ≡ device_status_in how) × DeviceMade Made Refuses before how after
   puts (Ok s) put is why lacks =
       ⊎_elim
       (λ (p : (status ≡ 0) × (after ≡ Some s)). (None, p.0, subst (λ (o : Option DeviceState). DeviceMade Made Refuses before None o) (sym p.1) is))
-      (λ (p : (status ≡ device_status OutOfMemory) × (after ≡ before)). (Some OutOfMemory, p.0, (lacks, p.1)))
+      (λ (p : (status ≡ device_status OutOfMemory) × (after ≡ before)). (Some OutOfMemory, p.0, (lacks s is, p.1)))
       put
   puts (Err refusal) put is why lacks = (Some refusal, put.0, (why, put.1))

@@ -44,7 +44,8 @@ AreDeviceParts s low high = (s.low.len ≡ low) × (s.high.len ≡ high) × AreH
 abbrev pub NothingServed : DeviceState → (low high : List ℕ) → FsServed → DeviceState → (low' high' : List ℕ) → Type 0
 NothingServed s low high told s' low' high' = IsSame s s' × (low' ≡ low) × (high' ≡ high) × (told ≡ nothing_served)
 
--- chains of a queue are served, by how it ends: refused where the parts are others, then where memory is wanting, and then by a step, which may come after others
+-- chains of a queue are served, by how it ends: refused where the parts are others, then where memory is wanting, and then by a step, which may
+-- come after others
 abbrev pub ServesSo : DeviceState → (low high : List ℕ) → (queue most : ℕ) → Option DeviceRefusal → FsServed → DeviceState → (low' high' : List ℕ) → Type 0
 ServesSo s low high queue most None told s' low' high' =
     AreDeviceParts s (length low) (length high) × IsOverSameParts s s'
@@ -70,7 +71,8 @@ ResetsSo s queue l None s' =
     (layout_error l.size l.desc l.avail l.used ≡ None) × (queue < length s.device.queues) × IsSameBeside s s'
     × (s'.device ≡ record (s.device) { queues = set s.device.queues queue (queue_of l) })
 ResetsSo s queue l (Some BadArgument) s' = (layout_error l.size l.desc l.avail l.used ≡ None → ⊥) × IsSame s s'
-ResetsSo s queue l (Some (Step e)) s' = (e ≡ NoSuchQueue) × (slice_get s.device.queues queue ≡ None) × IsSame s s'
+ResetsSo s queue l (Some (Step e)) s' =
+    (layout_error l.size l.desc l.avail l.used ≡ None) × (e ≡ NoSuchQueue) × (slice_get s.device.queues queue ≡ None) × IsSame s s'
 ResetsSo s queue l (Some _) s' = ⊥
 
 -- ---- dirty pages are gathered

@@ -1,5 +1,5 @@
 -- What the exports of a device do.
-use Rattle.std.specs.Prelude.{◌≡◌, ◌==◌, ◌⊎◌, ℕ, List, IsTrue, Option, Some, None, Result, Ok, Err, if◌then◌else◌}
+use Rattle.std.specs.Prelude.{◌≡◌, ◌==◌, ◌⊎◌, ℕ, List, Option, Some, None, Result, Ok, Err, if◌then◌else◌}
 use Rattle.fs_device_c.specs.declared.device_making.FsFile.{FsFile}
 use Rattle.fs_device_c.specs.declared.device_making.FsLayout.{FsLayout}
 use Rattle.fs_device_c.specs.declared.device_refusal.DeviceRefusal.{DeviceRefusal}
@@ -8,7 +8,7 @@ use Rattle.fs_device_c.specs.declared.device_serving.FsServed.{FsServed}
 use Rattle.fs_device_c.specs.declared.device_state.DeviceState.{DeviceState}
 use Rattle.fs_device_c.specs.DeviceCalls.{GathersSo, ResetsSo, SavesSo, ServesSo}
 use Rattle.fs_device_c.specs.Devices.{device_status, device_status_in, nothing_served}
-use Rattle.fs_device_c.specs.Making.{IsNewDevice, IsRestored, RefusesRestore, may_refuse_device}
+use Rattle.fs_device_c.specs.Making.{IsNewDevice, IsRestored, RefusesNew, RefusesRestore}
 
 -- the last refusal's number, after a call that answers so: 0 is none
 abbrev pub last_of : (last status : ℕ) → ℕ
@@ -23,7 +23,8 @@ PutsMade (Ok s) before status after =
 PutsMade (Err why) before status after = (status ≡ device_status why) × (after ≡ before)
 
 -- a refusal of these, and the handle holds what it held; or a device of which this holds
-abbrev pub DeviceMade : (Made : DeviceState → Type 0) → (Refuses : DeviceRefusal → Type 0) → (before : Option DeviceState) → Option DeviceRefusal → (after : Option DeviceState) → Type 0
+abbrev pub DeviceMade : (Made : DeviceState → Type 0) → (Refuses : DeviceRefusal → Type 0) →
+    (before : Option DeviceState) → Option DeviceRefusal → (after : Option DeviceState) → Type 0
 DeviceMade Made Refuses before None None = ⊥
 DeviceMade Made Refuses before None (Some s) = Made s
 DeviceMade Made Refuses before (Some why) after = Refuses why × (after ≡ before)
@@ -33,19 +34,22 @@ abbrev pub MakesDevice : (low_base : ℕ) → (low : List ℕ) → (high_base : 
     Option DeviceState → (status : ℕ) → Option DeviceState → Type 0
 MakesDevice low_base low high_base high files layouts page_size limit before status after =
     (how : Option DeviceRefusal) × (status ≡ device_status_in how)
-    × DeviceMade (IsNewDevice low_base low high_base high files layouts page_size limit) (λ why. IsTrue (may_refuse_device why)) before how after
+    × DeviceMade (IsNewDevice low_base low high_base high files layouts page_size limit)
+    (RefusesNew low_base low high_base high files layouts page_size limit) before how after
 
 -- a device goes on from a record in the place of what the handle held
 abbrev pub RestoresDevice : (low_base : ℕ) → (low : List ℕ) → (high_base : ℕ) → (high : List ℕ) → List FsFile → (saved : List ℕ) → (page_size limit : ℕ) →
     Option DeviceState → (status : ℕ) → Option DeviceState → Type 0
 RestoresDevice low_base low high_base high files saved page_size limit before status after =
     (how : Option DeviceRefusal) × (status ≡ device_status_in how)
-    × DeviceMade (IsRestored low_base low high_base high files saved page_size limit) (RefusesRestore saved page_size limit) before how after
+    × DeviceMade (IsRestored low_base low high_base high files saved page_size limit)
+    (RefusesRestore low_base low high_base high files saved page_size limit) before how after
 
 -- ---- calls on a device
 
 -- what a handle's device does is told by a status; with no device nothing is done, and that is told
-abbrev pub CallsDevice : (Does : DeviceState → Option DeviceRefusal → DeviceState → Type 0) → (Nothing : Type 0) → Option DeviceState → (status : ℕ) → Option DeviceState → Type 0
+abbrev pub CallsDevice : (Does : DeviceState → Option DeviceRefusal → DeviceState → Type 0) → (Nothing : Type 0) →
+    Option DeviceState → (status : ℕ) → Option DeviceState → Type 0
 CallsDevice Does Nothing None status None = (status ≡ device_status NoDevice) × Nothing
 CallsDevice Does Nothing None status (Some s') = ⊥
 CallsDevice Does Nothing (Some s) status None = ⊥
@@ -54,7 +58,8 @@ CallsDevice Does Nothing (Some s) status (Some s') = (how : Option DeviceRefusal
 -- chains of a queue are served
 abbrev pub ServesQueue : Option DeviceState → (low high : List ℕ) → (queue most status : ℕ) → FsServed → Option DeviceState → (low' high' : List ℕ) → Type 0
 ServesQueue before low high queue most status told after low' high' =
-    CallsDevice (λ s how s'. ServesSo s low high queue most how told s' low' high') ((told ≡ nothing_served) × (low' ≡ low) × (high' ≡ high)) before status after
+    CallsDevice (λ s how s'. ServesSo s low high queue most how told s' low' high')
+    ((told ≡ nothing_served) × (low' ≡ low) × (high' ≡ high)) before status after
 
 -- a queue begins anew
 abbrev pub ResetsQueue : Option DeviceState → (queue : ℕ) → FsLayout → (status : ℕ) → Option DeviceState → Type 0

@@ -34,7 +34,8 @@ none_waits = record { waits = false; head = 0; fault = 0; request_len = 0; room_
 
 -- what is told of a chain with this head
 abbrev pub told_of : (head : ℕ) → Result Chain ChainFault → FsTaken
-told_of head (Ok c) = record { waits = true; head = head; fault = 0; request_len = length (places c.readable.items); room_len = length (places c.writable.items) }
+told_of head (Ok c) =
+    record { waits = true; head = head; fault = 0; request_len = length (places c.readable.items); room_len = length (places c.writable.items) }
 told_of head (Err fault) = record { waits = true; head = head; fault = chain_fault_number fault; request_len = 0; room_len = 0 }
 
 -- the bytes of a chain's request, as they stand in memory; a faulty chain has none

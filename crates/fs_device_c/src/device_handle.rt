@@ -12,6 +12,7 @@ use std::mem;
 pub struct FsDevice {
     seat: DeviceSeat,
     full: bool,
+    /// The number of the last refusal (0: none).
     pub(crate) refused: u32,
     ghost known: { full ≡ is_some seat.value },
 }

@@ -1,16 +1,19 @@
 //! Devices that begin, or go on from a record.
 
-ghost use Rattle.std.specs.Prelude.{◌≡◌, ◌↔◌, ◌≤◌, ◌<◌, ◌^◌, IsTrue, length, map, IfErr, IfOk, IfSome};
+ghost use Rattle.std.specs.Prelude.{◌≡◌, ◌↔◌, ◌≤◌, ◌<◌, ◌^◌, [], All, IsTrue, length, map, IfErr, IfNone, IfOk, IfSome, OnOk, OnSome};
 ghost use Rattle.fuse_replies.specs.PageSizes.{is_page_size};
 ghost use Rattle.owned_directory.specs.Files.{files_of};
-ghost use Rattle.fs_device_c.specs.Making.{AreCopies, AreSettings, HasParts, IsNewDevice, IsRestored, may_refuse_device, RefusesRestore, queue_of};
+ghost use Rattle.fs_device_c.specs.Lending.{CanBeLaidOut, parts};
+ghost use Rattle.fs_device_c.specs.Making.{AreCopies, AreSettings, HasLayout, HasParts, IsNewDevice, IsRestored};
+ghost use Rattle.fs_device_c.specs.Making.{RefusesDeviceUnless, RefusesNew, RefusesRestore, queue_of};
 
 use crate::device_refusal::DeviceRefusal;
 use crate::device_state::DeviceState;
 use crate::making::{Pages, lay_out};
 use crate::part_pages::PartPages;
 use crate::refusal::Refusal;
-use fs_device::{Device, Stream};
+use crate::saved_bytes::SavedBytes;
+use fs_device::Device;
 use fs_queue::{Queue, QueueLayout};
 use fuse_read_only::ReadOnly;
 use owned_directory::{OwnedFile, OwnedTable};
@@ -24,22 +27,27 @@ const MOST_FILES: usize = 1 << 32;
 // A device has at most so many queues.
 const MOST_QUEUES: usize = 64;
 
-/// A file as C hands it in: the bytes of its name and of its contents, which are copied.
+/// A file as C hands it in. Its bytes are copied.
 #[repr(C)]
 #[derive(Clone, Copy)]
 pub struct FsFile<'a> {
+    /// The bytes of its name.
     pub name: &'a [u8],
+    /// The bytes of its contents.
     pub contents: &'a [u8],
 }
 
-/// A queue's layout as C hands it in: the guest addresses of its descriptor table, available ring and used ring, and how
-/// many descriptors it has.
+/// A queue's layout as C hands it in.
 #[repr(C)]
 #[derive(Clone, Copy)]
 pub struct FsLayout {
+    /// The guest address of its descriptor table.
     pub desc: u64,
+    /// The guest address of its available ring.
     pub avail: u64,
+    /// The guest address of its used ring.
     pub used: u64,
+    /// How many descriptors it has.
     pub size: u16,
 }
 
@@ -66,7 +74,9 @@ fn directory(alloc: Global, files: &[FsFile]) -> Result<ReadOnly<OwnedTable>, Al
 
 // A queue of which no chain was returned; None where it can't have this layout.
 fn queue_of(layout: &FsLayout) -> Option<Queue>
-    ensures { IfSome result (λ q. q ≡ queue_of layout.now) }
+    ensures queue { IfSome result (λ q. q ≡ queue_of layout.now) }
+    ensures can { OnSome result (HasLayout layout.now) }
+    ensures none { IfNone result (HasLayout layout.now → ⊥) }
 {
     match QueueLayout::new(layout.size, layout.desc, layout.avail, layout.used) {
         Ok(layout) => Some(Queue::new(layout)),
@@ -77,7 +87,8 @@ fn queue_of(layout: &FsLayout) -> Option<Queue>
 // Queues of which no chain was returned.
 fn queues_of(alloc: Global, layouts: &[FsLayout]) -> Result<Vec<Queue>, DeviceRefusal>
     ensures ok { IfOk result (λ queues. queues.items ≡ map queue_of layouts.now) }
-    ensures err { IfErr result (λ why. IsTrue (may_refuse_device why)) }
+    ensures can { OnOk result (All HasLayout layouts.now) }
+    ensures err { IfErr result (RefusesDeviceUnless (All HasLayout layouts.now)) }
 {
     let Ok(mut queues) = Vec::with_capacity(alloc, layouts.len()) else {
         return Err(DeviceRefusal::OutOfMemory);
@@ -114,7 +125,8 @@ fn parts_of(
     high: &mut [u8],
 ) -> Result<(GuestMemoryMmap, PartPages, PartPages), DeviceRefusal>
     ensures made { IfOk result (λ r. HasParts low_base low.old high_base high.old r.0 r.1 r.2) }
-    ensures refused { IfErr result (λ why. IsTrue (may_refuse_device why)) }
+    ensures can { OnOk result (CanBeLaidOut (parts low.old [] high.old []) low_base high_base) }
+    ensures refused { IfErr result (RefusesDeviceUnless (CanBeLaidOut (parts low.old [] high.old []) low_base high_base)) }
     ensures low { low.new ≡ low.old }
     ensures high { high.new ≡ high.old }
 {
@@ -146,7 +158,7 @@ pub fn make_device(
     limit: u32,
 ) -> Result<DeviceState, DeviceRefusal>
     ensures made { IfOk result (IsNewDevice low_base low.old high_base high.old files.now layouts.now page_size limit) }
-    ensures refused { IfErr result (λ why. IsTrue (may_refuse_device why)) }
+    ensures refused { IfErr result (RefusesNew low_base low.old high_base high.old files.now layouts.now page_size limit) }
     ensures low { low.new ≡ low.old }
     ensures high { high.new ≡ high.old }
 {
@@ -177,8 +189,8 @@ pub fn make_device(
 }
 
 /// A device that goes on from a record that stands at the front of some bytes, over copies of files, for memory in two
-/// parts, each from a guest address on: refused as the record is, BadArgument where it can't be so otherwise, or
-/// OutOfMemory. Nothing is written.
+/// parts, each from a guest address on. The first of these is told: BadArgument of page size, limit or the number of
+/// files, the record's refusal, BadArgument of the parts; or OutOfMemory, where the first are good. Nothing is written.
 pub fn restore_device(
     alloc: Global,
     low_base: u64,
@@ -191,7 +203,7 @@ pub fn restore_device(
     limit: u32,
 ) -> Result<DeviceState, DeviceRefusal>
     ensures restored { IfOk result (IsRestored low_base low.old high_base high.old files.now saved.now page_size limit) }
-    ensures refused { IfErr result (RefusesRestore saved.now page_size limit) }
+    ensures refused { IfErr result (RefusesRestore low_base low.old high_base high.old files.now saved.now page_size limit) }
     ensures low { low.new ≡ low.old }
     ensures high { high.new ≡ high.old }
 {
@@ -201,7 +213,7 @@ pub fn restore_device(
     let Ok(fs) = directory(alloc, files) else {
         return Err(DeviceRefusal::OutOfMemory);
     };
-    let mut source = Stream::new(saved);
+    let mut source = SavedBytes(saved);
     let device = match Device::restore(alloc, &mut source, fs, page_size, limit) {
         Ok(device) => device,
         Err((error, _)) => return Err(DeviceRefusal::Record(error)),

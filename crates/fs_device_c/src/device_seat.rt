@@ -9,11 +9,13 @@ use crate::parts::Parts;
 use std::alloc::Global;
 use std::marker::Model;
 
+/// A boxed device, or none, where C sees a pointer.
 #[repr(C)]
 #[derive(Drop)]
 pub struct DeviceSeat {
     at: *mut (),
     alloc: Global,
+    /// The device behind the pointer, if there is one.
     pub ghost value: { Option DeviceState } by { device_value_coded },
 }
 
@@ -22,6 +24,7 @@ impl Model for DeviceSeat {
 }
 
 impl DeviceSeat {
+    /// No device: a null pointer.
     pub fn empty(alloc: Global) -> DeviceSeat
         ensures { result.value ≡ None }
     {
@@ -31,12 +34,14 @@ impl DeviceSeat {
         }
     }
 
+    /// A device, which leaves its box for the pointer.
     pub fn of_box(state: Box<DeviceState>) -> DeviceSeat
         ensures { result.value ≡ Some state.value }
     {
         DeviceSeat::of_parts(Parts::of(state))
     }
 
+    /// The device, in a box again.
     pub fn into_box(self) -> Box<DeviceState>
         requires { IsSome self.value }
         ensures { self.value ≡ Some result.value }
@@ -44,6 +49,7 @@ impl DeviceSeat {
         self.into_parts().into_box()
     }
 
+    // The pointer to a box that was taken apart.
     fn of_parts(parts: Parts<DeviceState, Global>) -> DeviceSeat
         ensures { result.value ≡ Some parts.value }
     {
@@ -54,6 +60,7 @@ impl DeviceSeat {
         }
     }
 
+    // The parts of a box behind the pointer.
     fn into_parts(self) -> Parts<DeviceState, Global>
         requires { IsSome self.value }
         ensures { self.value ≡ Some result.value }

@@ -18,15 +18,19 @@ use std::alloc::Global;
 use vm_memory::GuestMemoryMmap;
 use vm_memory_core::{HeldIn, HostBlocks, IoPages, LentMemory, PageBitmap};
 
-/// What came of some steps: how many chains went back with a reply, with none (as FORGET's), and with none for a fault;
-/// whether no chain waits any more; and whether the driver wants to be told.
+/// What came of some steps.
 #[repr(C)]
 #[derive(Clone, Copy)]
 pub struct FsServed {
+    /// How many chains went back with a reply.
     pub replied: u32,
+    /// How many went back with none, as FORGET's.
     pub silent: u32,
+    /// How many went back with none for a fault.
     pub faulty: u32,
+    /// Whether no chain waits any more.
     pub idle: bool,
+    /// Whether the driver wants to be told.
     pub notify: bool,
 }
 

@@ -20,6 +20,7 @@ mod queue_refusal;
 mod queue_seat;
 mod queue_state;
 mod refusal;
+mod saved_bytes;
 
 pub use device_exports::{
     fs_device_free, fs_device_gather, fs_device_new, fs_device_reset_queue, fs_device_restore,

@@ -1,9 +1,9 @@
 //! The layout of memory in two parts.
 
-ghost use Rattle.std.specs.Prelude.{◌≡◌, ◌≤◌, ◌<◌, ◌^◌, ◌++◌, false, length, replicate, [], IfOk, OnOk};
+ghost use Rattle.std.specs.Prelude.{◌≡◌, ◌≤◌, ◌<◌, ◌^◌, ◌++◌, false, length, replicate, [], IfErr, IfOk, OnOk};
 ghost use Rattle.vm_bitmaps.specs.Pages.{pages_of};
 ghost use Rattle.vm_memory.specs.Making.{backing_over};
-ghost use Rattle.fs_device_c.specs.Lending.{laid_out, parts, region_in};
+ghost use Rattle.fs_device_c.specs.Lending.{CanBeLaidOut, PartFits, RefusesUnless, StandApart, laid_out, parts, region_in};
 
 /// The dirty pages of both parts.
 pub type Pages = (IoPages<PageBitmap>, IoPages<PageBitmap>);
@@ -20,7 +20,9 @@ fn add_part<H: HostBlocks>(
     block: usize,
     base: u64,
 ) -> Result<(), Refusal>
-    ensures { OnOk result (regions.new.items ≡ regions.old.items ++ region_in (backing_over (H.host host.now) block) base) }
+    ensures put { OnOk result (regions.new.items ≡ regions.old.items ++ region_in (backing_over (H.host host.now) block) base) }
+    ensures fits { OnOk result (PartFits (backing_over (H.host host.now) block) base) }
+    ensures refused { IfErr result (RefusesUnless (PartFits (backing_over (H.host host.now) block) base)) }
 {
     let Some(mapping) = MmapRegion::over_block(host, block) else {
         return Ok(());
@@ -36,7 +38,9 @@ fn add_part<H: HostBlocks>(
 
 // Memory of some regions, of which there may be none.
 fn collected(alloc: Global, regions: Vec<GuestRegionMmap>) -> Result<GuestMemoryMmap, Refusal>
-    ensures { IfOk result (λ m. m ≡ regions.items) }
+    ensures collected { IfOk result (λ m. m ≡ regions.items) }
+    ensures apart { OnOk result (StandApart regions.items) }
+    ensures refused { IfErr result (RefusesUnless (StandApart regions.items)) }
 {
     if regions.is_empty() {
         return Ok(GuestMemoryMmap::new(alloc));
@@ -55,7 +59,9 @@ fn layout_over<H: HostBlocks>(
     low_base: u64,
     high_base: u64,
 ) -> Result<GuestMemoryMmap, Refusal>
-    ensures { IfOk result (λ m. m ≡ laid_out (H.host host.now) low_base high_base) }
+    ensures laid { IfOk result (λ m. m ≡ laid_out (H.host host.now) low_base high_base) }
+    ensures can { OnOk result (CanBeLaidOut (H.host host.now) low_base high_base) }
+    ensures refused { IfErr result (RefusesUnless (CanBeLaidOut (H.host host.now) low_base high_base)) }
 {
     let mut regions = Vec::new(alloc);
     match add_part(&mut regions, host, 0, low_base) {
@@ -91,6 +97,8 @@ pub fn lay_out(
     ensures mem { IfOk result (λ r. r.0 ≡ laid_out (parts low.old [] high.old []) low_base high_base) }
     ensures low_pages { IfOk result (λ r. r.1.0 ≡ replicate (pages_of 4096 (length low.old)) false) }
     ensures high_pages { IfOk result (λ r. r.1.1 ≡ replicate (pages_of 4096 (length high.old)) false) }
+    ensures can { OnOk result (CanBeLaidOut (parts low.old [] high.old []) low_base high_base) }
+    ensures refused { IfErr result (RefusesUnless (CanBeLaidOut (parts low.old [] high.old []) low_base high_base)) }
     ensures low { low.new ≡ low.old }
     ensures high { high.new ≡ high.old }
 {

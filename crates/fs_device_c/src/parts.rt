@@ -1,13 +1,18 @@
-// A `Box` with its fields in sight of the module above.
+//! A `Box` with its fields in sight of the modules beside it.
+
 ghost use Rattle.std.specs.Prelude.{◌≡◌};
 ghost use Rattle.std.specs.Box.Ownership.{box_owns};
 
 use std::alloc::Allocator;
 use std::marker::Model;
 
+/// A box that was taken apart: where its value stands, and its allocator.
 pub struct Parts<T, A: Allocator> {
+    /// Where the value stands.
     pub(crate) ptr: *mut T,
+    /// What its memory came from.
     pub(crate) alloc: A,
+    /// The value.
     pub ghost value: { T },
 }
 
@@ -16,6 +21,7 @@ impl<T, A: Allocator> Model for Parts<T, A> {
 }
 
 impl<T, A: Allocator> Parts<T, A> {
+    /// Takes a box apart.
     pub fn of(b: Box<T, A>) -> Parts<T, A>
     where
         T: Drop,
@@ -25,6 +31,7 @@ impl<T, A: Allocator> Parts<T, A> {
         Parts { ptr, alloc }
     }
 
+    /// Puts the box together again.
     pub fn into_box(self) -> Box<T, A>
         ensures { result.value ≡ self.value }
     {

@@ -3,7 +3,8 @@
 ghost use Rattle.std.specs.Prelude.{◌≡◌, ◌∷◌, [], ◌↔◌, ◌≤◌, IsTrue, None, length, IfOk, IfErr, IfNone, IfSome, OnErr};
 ghost use Rattle.vm_bitmaps.specs.Pages.{pages_of};
 ghost use Rattle.fs_queue.specs.Windows.{TakenLiesIn, room_places};
-ghost use Rattle.fs_device_c.specs.QueueExports.{GivesSo, HadLengths, HasTheirPages, IsNewQueue, KeptBack, RefusesTake, may_refuse_new, TakesSo};
+ghost use Rattle.fs_device_c.specs.QueueExports.{CanHaveQueue, HadLengths, HasTheirPages, IsNewQueue};
+ghost use Rattle.fs_device_c.specs.QueueExports.{GivesSo, KeptBack, RefusesQueueUnless, RefusesTake, TakesSo};
 
 use crate::making::{Pages, lay_out};
 use crate::queue_lending::{FsTaken, give_back_over, take_over};
@@ -45,7 +46,8 @@ fn take_pages(alloc: Global, state: &mut QueueState) -> Result<Pages, AllocError
 // A chain that waits for its return.
 fn waiting(taken: Taken, low_len: usize, high_len: usize) -> Pending
     requires { TakenLiesIn (low_len ∷ high_len ∷ []) taken }
-    ensures { result.taken ≡ taken }
+    ensures taken { result.taken ≡ taken }
+    ensures lengths { HadLengths result low_len high_len }
 {
     Pending {
         taken,
@@ -204,7 +206,7 @@ pub fn make_queue(
     limit: u32,
 ) -> Result<QueueState, QueueRefusal>
     ensures made { IfOk result (IsNewQueue low_base low.old high_base high.old size desc avail used limit) }
-    ensures refused { IfErr result (λ why. IsTrue (may_refuse_new why)) }
+    ensures refused { IfErr result (RefusesQueueUnless (CanHaveQueue low_base low.old high_base high.old size desc avail used)) }
     ensures low { low.new ≡ low.old }
     ensures high { high.new ≡ high.old }
 {

@@ -41,19 +41,18 @@ pub extern "C" fn fs_queue_new(
     ensures low { low.new ≡ low.old }
     ensures high { high.new ≡ high.old }
 {
-    let refusal = match make_queue(
+    match make_queue(
         alloc, low_base, low, high_base, high, size, desc, avail, used, limit,
     ) {
         Ok(state) => match Box::new(alloc, state) {
             Ok(state) => {
                 *queue = FsQueue::of_box(state);
-                return 0;
+                0
             }
-            Err(_) => QueueRefusal::OutOfMemory,
+            Err(_) => QueueRefusal::OutOfMemory.number(),
         },
-        Err(refusal) => refusal,
-    };
-    refusal.number()
+        Err(refusal) => refusal.number(),
+    }
 }
 
 /// Frees a queue; then there is none.

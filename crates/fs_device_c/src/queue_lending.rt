@@ -18,15 +18,19 @@ use std::alloc::Global;
 use vm_memory::GuestMemoryMmap;
 use vm_memory_core::{HeldIn, HostBlocks, IoPages, LentMemory, PageBitmap};
 
-/// A chain that was taken: its head, the length of its request and of the room for its reply in bytes, and its fault's
-/// number (0: none). Where no chain waits all is 0.
+/// A chain that was taken. Where no chain waits all is 0.
 #[repr(C)]
 #[derive(Clone, Copy)]
 pub struct FsTaken {
+    /// Whether a chain waits.
     pub waits: bool,
+    /// The number of its first descriptor.
     pub head: u16,
+    /// Its fault's number, from 1 to 10 (0: none).
     pub fault: u32,
+    /// How many bytes its request has.
     pub request_len: usize,
+    /// How many bytes of reply it has room for.
     pub room_len: usize,
 }
 

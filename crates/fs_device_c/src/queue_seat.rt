@@ -9,11 +9,13 @@ use crate::queue_state::QueueState;
 use std::alloc::Global;
 use std::marker::Model;
 
+/// A boxed queue, or none, where C sees a pointer.
 #[repr(C)]
 #[derive(Drop)]
 pub struct QueueSeat {
     at: *mut (),
     alloc: Global,
+    /// The queue behind the pointer, if there is one.
     pub ghost value: { Option QueueState } by { queue_value_coded },
 }
 
@@ -22,6 +24,7 @@ impl Model for QueueSeat {
 }
 
 impl QueueSeat {
+    /// No queue: a null pointer.
     pub fn empty(alloc: Global) -> QueueSeat
         ensures { result.value ≡ None }
     {
@@ -31,12 +34,14 @@ impl QueueSeat {
         }
     }
 
+    /// A queue, which leaves its box for the pointer.
     pub fn of_box(state: Box<QueueState>) -> QueueSeat
         ensures { result.value ≡ Some state.value }
     {
         QueueSeat::of_parts(Parts::of(state))
     }
 
+    /// The queue, in a box again.
     pub fn into_box(self) -> Box<QueueState>
         requires { IsSome self.value }
         ensures { self.value ≡ Some result.value }
@@ -44,6 +49,7 @@ impl QueueSeat {
         self.into_parts().into_box()
     }
 
+    // The pointer to a box that was taken apart.
     fn of_parts(parts: Parts<QueueState, Global>) -> QueueSeat
         ensures { result.value ≡ Some parts.value }
     {
@@ -54,6 +60,7 @@ impl QueueSeat {
         }
     }
 
+    // The parts of a box behind the pointer.
     fn into_parts(self) -> Parts<QueueState, Global>
         requires { IsSome self.value }
         ensures { self.value ≡ Some result.value }

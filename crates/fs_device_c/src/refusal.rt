@@ -1,8 +1,10 @@
 //! Why memory can't be laid out.
 
-/// Why memory can't be laid out: memory for it is wanting, or an argument is none that the call takes.
+/// Why memory can't be laid out.
 #[derive(Clone, Copy)]
 pub enum Refusal {
+    /// Memory is wanting.
     OutOfMemory,
+    /// An argument is none that the call takes.
     BadArgument,
 }
