@@ -163,17 +163,29 @@ pub(crate) fn workers<'a, L: Ledger, R>(
     requires { IsShareOf device.now share }
 {
     let mut share = share;
-    let mut workers = Vec::with_capacity(alloc, QUEUES)?;
-    for queue in 1..QUEUES {
-        let Some(part) = device.split_share(&mut share) else {
-            return Err(BenchFault::Guest);
-        };
-        let added = workers.push(new_worker(rt, alloc, device, part, queue));
-        added.map_err(|_| BenchFault::OutOfMemory)?;
+    let second = split_worker(rt, alloc, device, &mut share, 1)?;
+    let third = split_worker(rt, alloc, device, &mut share, 2)?;
+    let fourth = split_worker(rt, alloc, device, &mut share, 3)?;
+    let first = new_worker(rt, alloc, device, share, 0);
+    let all = Vec::from_array(alloc, [first, second, third, fourth]);
+    all.map_err(|_| BenchFault::OutOfMemory)
+}
+
+// A worker of a queue, with half of a share.
+fn split_worker<'a, L: Ledger, R>(
+    rt: &'a R,
+    alloc: Global,
+    device: &'a FilesDevice<L>,
+    share: &mut Share<L>,
+    queue: usize,
+) -> Result<Worker<'a, L, R>, BenchFault>
+    requires { IsShareOf device.now share.old }
+    ensures { IsShareOf device.now share.new }
+{
+    match device.split_share(share) {
+        Some(part) => Ok(new_worker(rt, alloc, device, part, queue)),
+        None => Err(BenchFault::Guest),
     }
-    let added = workers.push(new_worker(rt, alloc, device, share, 0));
-    added.map_err(|_| BenchFault::OutOfMemory)?;
-    Ok(workers)
 }
 
 fn new_worker<'a, L: Ledger, R>(
