@@ -47,11 +47,11 @@ enum fs_status {
     FS_TAKE_OUT_OF_MEMORY = 9,      /* memory is wanting; the chain waits as before */
     FS_NO_SUCH_QUEUE = 10,          /* the device has no queue of this number */
     FS_NO_QUEUE = 64,               /* the handle holds none: before fs_queue_new, or after fs_queue_free */
-    FS_OUT_OF_MEMORY = 65,          /* memory is wanting; nothing was done */
+    FS_OUT_OF_MEMORY = 65,          /* memory is wanting, to make or restore one or to save; nothing was done. So says 89 too */
     FS_BAD_ARGUMENT = 66,           /* nothing was done */
     FS_OTHER_LENGTHS = 67,          /* the parts aren't as long as they were; nothing was done */
     FS_TAKEN_BEFORE = 68,           /* a chain was taken, and not given back; nothing was done */
-    FS_SHORT_BUFFER = 69,           /* the request is longer than the buffer: the chain may be taken again */
+    FS_SHORT_BUFFER = 69,           /* the buffer is too short for the request, the words or the record; nothing was done */
     FS_NOT_TAKEN = 70,              /* no chain with this head was taken; nothing was done */
     FS_LONG_REPLY = 71,             /* the reply is longer than the room: the chain stays taken */
     FS_NO_DEVICE = 72,              /* the handle holds none: before fs_device_new, or after fs_device_free */
@@ -63,7 +63,7 @@ enum fs_status {
     FS_RECORD_BAD_QUEUE = 86,       /* one of its queues is none */
     FS_RECORD_BAD_OPTIONS = 87,     /* it has options that aren't known */
     FS_RECORD_READ_FAULT = 88,      /* never comes here: to read bytes in memory doesn't fail */
-    FS_RECORD_OUT_OF_MEMORY = 89,   /* memory is wanting */
+    FS_RECORD_OUT_OF_MEMORY = 89,   /* memory is wanting for its queues: the record may be good, and the call be made again */
     FS_RECORD_MISMATCH = 90,        /* its page size or limit is another one */
 };
 
@@ -147,7 +147,7 @@ struct fs_file { const uint8_t *name; size_t name_len; const uint8_t *contents; 
 struct fs_layout { uint64_t desc, avail, used; uint16_t size; };
 
 /* What came of steps: how many chains went back with a reply, with none (as FORGET's), and with none for a fault; whether
- * none waits any more; and whether the driver wants to be told (2.7.7). */
+ * fewer came than were asked for, since none waits any more; and whether the driver wants to be told (2.7.7). */
 struct fs_served { uint32_t replied, silent, faulty; bool idle, notify; };
 
 /* A device that begins, in the place of what the handle held, over copies of these files: fewer than 2^32, the root is
@@ -163,10 +163,9 @@ uint32_t fs_device_new(struct fs_device *device, uint64_t low_base, uint8_t *low
 void fs_device_free(struct fs_device *device);
 
 /* Serves the next chains of a queue, numbered from 0, one after another: at most so many, until none waits or a step is
- * refused, and says what came of them. The parts are as long as they were. FS_NO_DEVICE, FS_OTHER_LENGTHS and
- * FS_OUT_OF_MEMORY did nothing; any other refusal, from 1 to 10, is of the step after those that are told, and a number
- * from 2 to 8 stops the queue. Where `most` is 0 no step comes: 0 is told then of a queue that isn't there, too, and of one
- * that stopped. */
+ * refused, and says what came of them. The parts are as long as they were. FS_NO_DEVICE and FS_OTHER_LENGTHS did nothing;
+ * any other refusal, from 1 to 10, is of the step after those that are told, and a number from 2 to 8 stops the queue. Where
+ * `most` is 0 no step comes: 0 is told then of a queue that isn't there, too, and of one that stopped. */
 uint32_t fs_device_serve(struct fs_device *device, uint8_t *low, size_t low_len, uint8_t *high, size_t high_len,
                          size_t queue, uint16_t most, struct fs_served *served);
 
@@ -184,8 +183,8 @@ uint32_t fs_device_save(struct fs_device *device, uint8_t *buffer, size_t buffer
 
 /* A device that goes on from the record at the front of `saved`. All else is as for fs_device_new. It tells the first cause
  * in this order: FS_BAD_ARGUMENT of page size, limit or the number of files; the record's refusal, from 81 on;
- * FS_BAD_ARGUMENT of the parts of memory. FS_OUT_OF_MEMORY may come where the first are good. FS_RECORD_TRUNCATED comes only
- * where `saved` ends within the record's head, a queue or the limit. */
+ * FS_BAD_ARGUMENT of the parts of memory. FS_OUT_OF_MEMORY may come where the first are good, and 89 of a good record.
+ * FS_RECORD_TRUNCATED comes only where `saved` ends within the record's head, a queue or the limit. */
 uint32_t fs_device_restore(struct fs_device *device, uint64_t low_base, uint8_t *low, size_t low_len, uint64_t high_base,
                            uint8_t *high, size_t high_len, const struct fs_file *files, size_t file_count,
                            const uint8_t *saved, size_t saved_len, uint32_t page_size, uint32_t limit);

@@ -1,6 +1,7 @@
 //! A kick over memory that is lent for it.
 
-ghost use Rattle.std.specs.Prelude.{◌≡◌, IfErr, IfOk, length};
+ghost use Rattle.std.specs.Prelude.{◌≡◌, IfNone, IfSome, length};
+ghost use Rattle.vm_bitmaps.specs.Pages.{pages_of};
 ghost use Rattle.vm_memory_core.specs.Host.{of_two};
 ghost use Rattle.vm_memory.specs.Memory.{memory_of};
 ghost use Rattle.fs_device.specs.Step.{Calls, Step};
@@ -39,22 +40,31 @@ fn one_queue(rt: &impl Abort, alloc: Global) -> Device<CallLog> {
     Device::new(Server::new(CallLog::new(), 4096), queues, LIMIT)
 }
 
-// The pages of a block of so many bytes, none of which is marked.
-fn clear<B: NewBitmap>(rt: &impl Abort, alloc: Global, byte_size: usize) -> IoPages<B>
-    ensures { length result ≡ B.count byte_size }
-{
-    IoPages::with_len(alloc, byte_size).expect(rt, "memory")
-}
-
-// Two slices that are lent.
-fn lent<'a>(
+// The pages of two slices, none of which is marked.
+fn clear<B: NewBitmap>(
     rt: &impl Abort,
     alloc: Global,
+    low: &[u8],
+    high: &[u8],
+) -> (IoPages<B>, IoPages<B>)
+    ensures low { length result.0 ≡ B.count (length low.now) }
+    ensures high { length result.1 ≡ B.count (length high.now) }
+{
+    let low_pages = IoPages::with_len(alloc, low.len()).expect(rt, "memory");
+    let high_pages = IoPages::with_len(alloc, high.len()).expect(rt, "memory");
+    (low_pages, high_pages)
+}
+
+// Two slices that are lent with their pages.
+fn lent<'a, B: NewBitmap>(
     low: &'a mut [u8],
     high: &'a mut [u8],
-) -> LentMemory<'a, PageBitmap> {
-    let low_pages = clear(rt, alloc, low.len());
-    let high_pages = clear(rt, alloc, high.len());
+    low_pages: &'a mut IoPages<B>,
+    high_pages: &'a mut IoPages<B>,
+) -> LentMemory<'a, B>
+    requires low { length low_pages.old ≡ B.count (length low.old) }
+    requires high { length high_pages.old ≡ B.count (length high.old) }
+{
     LentMemory {
         low,
         high,
@@ -94,7 +104,8 @@ fn reply_stands_in_the_slices_that_were_lent(rt: HostRuntime) {
     let guest = offered(&rt, alloc, ROOM_AT);
     let mut low = guest.read(alloc, 0, 0x1000).expect(&rt, "a region");
     let mut high = guest.read(alloc, 0x1000, 0xf000).expect(&rt, "a region");
-    let mut host = lent(&rt, alloc, &mut low, &mut high);
+    let (mut low_pages, mut high_pages) = clear::<PageBitmap>(&rt, alloc, &low, &high);
+    let mut host = lent(&mut low, &mut high, &mut low_pages, &mut high_pages);
     let mem = regions_over(&rt, alloc, &host);
     assert!(rt; mem.is_held(&host));
     let (exchange, notify) = one_queue(&rt, alloc)
@@ -106,13 +117,13 @@ fn reply_stands_in_the_slices_that_were_lent(rt: HostRuntime) {
         (exchange.head, exchange.fault, notify),
         (0, None, true),
     );
+    end_loan(host);
     let marked = [
-        host.low_pages.dirty_at(0),
-        host.high_pages.dirty_at(0),
-        host.high_pages.dirty_at(0x1000),
+        low_pages.dirty_at(0),
+        high_pages.dirty_at(0),
+        high_pages.dirty_at(0x1000),
     ];
     expect_same(&rt, marked, [true, false, true]);
-    end_loan(host);
     expect_same(&rt, high.get(0x1000..0x1010), Some(ENOSYS_REPLY.as_slice()));
     expect_same(
         &rt,
@@ -129,71 +140,62 @@ fn reply_across_two_lent_slices_stands_in_both(rt: HostRuntime) {
     let guest = offered(&rt, alloc, 0xff8);
     let mut low = guest.read(alloc, 0, 0x1000).expect(&rt, "a region");
     let mut high = guest.read(alloc, 0x1000, 0xf000).expect(&rt, "a region");
-    let mut host = lent(&rt, alloc, &mut low, &mut high);
+    let (mut low_pages, mut high_pages) = clear::<PageBitmap>(&rt, alloc, &low, &high);
+    let mut host = lent(&mut low, &mut high, &mut low_pages, &mut high_pages);
     let mem = regions_over(&rt, alloc, &host);
     assert!(rt; mem.is_held(&host));
     let run = one_queue(&rt, alloc)
         .process_queue(alloc, &mut host, &mem, 0, 2)
         .expect(&rt, "a queue");
     expect_same(&rt, (run.done.len(), run.refused), (1, None));
-    let marked = [host.low_pages.dirty_at(0), host.high_pages.dirty_at(0)];
-    expect_same(&rt, marked, [true, true]);
     end_loan(host);
+    let marked = [low_pages.dirty_at(0), high_pages.dirty_at(0)];
+    expect_same(&rt, marked, [true, true]);
     expect_same(&rt, low.get(0xff8..), ENOSYS_REPLY.get(..8));
     expect_same(&rt, high.get(..8), ENOSYS_REPLY.get(8..));
 }
 
-// What a step answered, and the dirty pages of both slices behind it.
-#[derive(Drop)]
-struct Stepped<B: NewBitmap> {
-    outcome: Result<Option<(Exchange, bool)>, DeviceError>,
-    pages: (IoPages<B>, IoPages<B>),
-}
-
-// A step over two slices that are lent for it, if they are what the layout names: its whole meaning is known of the
-// slices, whatever the device did. If they aren't, their pages come back.
-fn step_over<F: FileSystem, B: NewBitmap>(
+// A step over two slices that are lent for it with their pages, if they are what the layout names: its whole meaning is known of
+// them, whatever the device did.
+fn step_over<F: FileSystem>(
     alloc: Global,
     device: &mut Device<F>,
     mem: &GuestMemoryMmap,
     low: &mut [u8],
     high: &mut [u8],
-    pages: (IoPages<B>, IoPages<B>),
-) -> Result<Stepped<B>, (IoPages<B>, IoPages<B>)>
-    requires low { length pages.0 ≡ B.count (length low.old) }
-    requires high { length pages.1 ≡ B.count (length high.old) }
-    ensures refused { IfErr result (λ unused. (unused ≡ pages) × (low.new ≡ low.old) × (high.new ≡ high.old)) }
-    ensures step { IfOk result (λ s. (calls : Calls) × Step F.may
-        (state_of (memory_of (of_two (record { bytes = low.old; marks = pages.0 }) (record { bytes = high.old; marks = pages.1 })) mem.now) device.old)
-        0 calls (outcome_of s.outcome)
-        (state_of (memory_of (of_two (record { bytes = low.new; marks = s.pages.0 }) (record { bytes = high.new; marks = s.pages.1 })) mem.now) device.new)) }
-    ensures covered { IfOk result (λ s. (length s.pages.0 ≡ B.count (length low.new)) × (length s.pages.1 ≡ B.count (length high.new))) }
+    low_pages: &mut IoPages<PageBitmap>,
+    high_pages: &mut IoPages<PageBitmap>,
+) -> Option<Result<Option<(Exchange, bool)>, DeviceError>>
+    requires low { length low_pages.old ≡ pages_of 4096 (length low.old) }
+    requires high { length high_pages.old ≡ pages_of 4096 (length high.old) }
+    ensures refused { IfNone result ((low.new ≡ low.old) × (high.new ≡ high.old) × (low_pages.new ≡ low_pages.old) × (high_pages.new ≡ high_pages.old)) }
+    ensures step { IfSome result (λ outcome. (calls : Calls) × Step F.may
+        (state_of (memory_of (of_two (record { bytes = low.old; marks = low_pages.old })
+        (record { bytes = high.old; marks = high_pages.old })) mem.now) device.old)
+        0 calls (outcome_of outcome)
+        (state_of (memory_of (of_two (record { bytes = low.new; marks = low_pages.new })
+        (record { bytes = high.new; marks = high_pages.new })) mem.now) device.new)) }
+    ensures low_covered { length low_pages.new ≡ pages_of 4096 (length low.new) }
+    ensures high_covered { length high_pages.new ≡ pages_of 4096 (length high.new) }
 {
-    let (low_pages, high_pages) = pages;
     let mut host = LentMemory {
         low,
         high,
         low_pages,
         high_pages,
     };
-    if !mem.is_held(&host) {
-        let LentMemory {
-            low: _low,
-            high: _high,
-            low_pages,
-            high_pages,
-        } = host;
-        return Err((low_pages, high_pages));
-    }
-    let outcome = device.process_one(alloc, &mut host, mem, 0);
+    let outcome = if mem.is_held(&host) {
+        Some(device.process_one(alloc, &mut host, mem, 0))
+    } else {
+        None
+    };
     let LentMemory {
         low: _low,
         high: _high,
-        low_pages,
-        high_pages,
+        low_pages: _low_pages,
+        high_pages: _high_pages,
     } = host;
-    let pages = (low_pages, high_pages);
-    Ok(Stepped { outcome, pages })
+    outcome
 }
 
 #[test]
@@ -202,7 +204,8 @@ fn begun_step_over_lent_slices_is_finished(rt: HostRuntime) {
     let guest = offered(&rt, alloc, ROOM_AT);
     let mut low = guest.read(alloc, 0, 0x1000).expect(&rt, "a region");
     let mut high = guest.read(alloc, 0x1000, 0xf000).expect(&rt, "a region");
-    let mut host = lent(&rt, alloc, &mut low, &mut high);
+    let (mut low_pages, mut high_pages) = clear::<PageBitmap>(&rt, alloc, &low, &high);
+    let mut host = lent(&mut low, &mut high, &mut low_pages, &mut high_pages);
     let mem = regions_over(&rt, alloc, &host);
     assert!(rt; mem.is_held(&host));
     let mut device = one_queue(&rt, alloc);
@@ -224,7 +227,8 @@ fn lent_slices_of_other_lengths_hold_no_layout(rt: HostRuntime) {
     let (_, mem) = offered(&rt, alloc, ROOM_AT).into_memory();
     let mut low = [0; 0x1000];
     let mut high = [0; 0];
-    let host = lent(&rt, alloc, &mut low, &mut high);
+    let (mut low_pages, mut high_pages) = clear::<PageBitmap>(&rt, alloc, &low, &high);
+    let host = lent(&mut low, &mut high, &mut low_pages, &mut high_pages);
     expect_same(&rt, mem.is_held(&host), false);
     end_loan(host);
 }
@@ -236,22 +240,30 @@ fn step_over_lent_slices_ends_with_its_loan(rt: HostRuntime) {
     let mut low = guest.read(alloc, 0, 0x1000).expect(&rt, "a region");
     let mut high = guest.read(alloc, 0x1000, 0xf000).expect(&rt, "a region");
     let (_, mem) = guest.into_memory();
-    let pages: (IoPages<PageBitmap>, IoPages<PageBitmap>) = (
-        clear(&rt, alloc, low.len()),
-        clear(&rt, alloc, high.len()),
-    );
+    let (mut low_pages, mut high_pages) = clear::<PageBitmap>(&rt, alloc, &low, &high);
     let mut device = one_queue(&rt, alloc);
-    let stepped = step_over(alloc, &mut device, &mem, &mut low, &mut high, pages)
-        .ok()
-        .expect(&rt, "slices as the layout names them");
-    let exchanged = stepped.outcome.expect(&rt, "no refusal");
-    expect_same(&rt, exchanged.is_some(), true);
-    expect_same(&rt, stepped.pages.0.dirty_at(0), true);
+    let served = step_over(
+        alloc,
+        &mut device,
+        &mem,
+        &mut low,
+        &mut high,
+        &mut low_pages,
+        &mut high_pages,
+    )
+    .expect(&rt, "slices as the layout names them");
+    expect_same(&rt, served.expect(&rt, "no refusal").is_some(), true);
+    expect_same(&rt, low_pages.dirty_at(0), true);
+    let idle = step_over(
+        alloc,
+        &mut device,
+        &mem,
+        &mut low,
+        &mut high,
+        &mut low_pages,
+        &mut high_pages,
+    )
+    .expect(&rt, "slices as the layout names them");
+    expect_same(&rt, idle.expect(&rt, "no refusal").is_none(), true);
     expect_same(&rt, high.get(0x1000..0x1010), Some(ENOSYS_REPLY.as_slice()));
-    let pages = stepped.pages;
-    let again = step_over(alloc, &mut device, &mem, &mut low, &mut high, pages)
-        .ok()
-        .expect(&rt, "slices as the layout names them");
-    let idle = again.outcome.expect(&rt, "no refusal");
-    expect_same(&rt, idle.is_none(), true);
 }

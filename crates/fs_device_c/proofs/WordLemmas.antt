@@ -1,5 +1,5 @@
 -- marks as words
-use Rattle.std.proofs.Common.{◌≡◌, ℕ, zero, suc, ◌+◌, ◌*◌, ◌^◌, ◌<◌, Bool, true, false, List, [], ◌∷◌, ◌++◌, length, take, drop, get_or, refl, ap, sym, ◌∙◌, arith}
+use Rattle.std.proofs.Common.{◌≡◌, ℕ, zero, suc, ◌+◌, ◌*◌, ◌^◌, ◌<◌, ◌≤◌, Bool, true, false, List, [], ◌∷◌, ◌++◌, length, take, drop, get_or, refl, ap, sym, ◌∙◌, arith}
 use Rattle.std.specs.Prelude.{slice_set, if◌then◌else◌}
 use Rattle.std.proofs.lemmas.List.FromFn.{length-map-range_with_len, get_or-map-range_with_len}
 use Rattle.std.specs.Int.{div_ceil}
@@ -41,8 +41,12 @@ word_there marks i low =
     sym (get_or-map-range_with_len (λ i. word_from marks (64 * i) 64) 0 (div_ceil (length marks) 64) i i 0 (omega (arith, low, words_count marks)) (omega arith))
 
 -- the last page that a word may tell has a number
-pub word_low : (marks : List Bool) (len i : ℕ) → len < 2 ^ 64 → length marks ≡ pages_of 4096 len → i < length (words_of marks) → 64 * i + 64 < 2 ^ 64
-word_low marks len i small covered low = omega (arith, small, covered, low, words_count marks)
+pub word_low : (marks : List Bool) (i : ℕ) → length marks ≤ 2 ^ 52 → i < length (words_of marks) → 64 * i + 64 < 2 ^ 64
+word_low marks i few low = omega (arith, few, low, words_count marks)
+
+-- a part has no more pages than 64-bit addresses
+pub few_pages : (marks : List Bool) (len : ℕ) → len < 2 ^ 64 → length marks ≡ pages_of 4096 len → length marks ≤ 2 ^ 52
+few_pages marks len small covered = omega (arith, small, covered)
 
 -- one element more in front of what stood there
 put_suc : (i : ℕ) (all old : List ℕ) → i < length all → i < length old → slice_set (take i all ++ drop i old) i (get_or all i 0) ≡ take (suc i) all ++ drop (suc i) old

@@ -1,5 +1,6 @@
 -- What is done with a device.
-use Rattle.std.specs.Prelude.{◌≡◌, ◌+◌, ℕ, zero, suc, Bool, true, false, ◌&&◌, ◌||◌, nat_lt, List, [], ◌∷◌, length, count_by, Option, Some, None, is_some, is_none}
+use Rattle.std.specs.Prelude.{◌≡◌, ◌+◌, ℕ, zero, suc, Bool, true, false, ◌&&◌, ◌||◌, nat_lt, List, [], ◌∷◌, length, count_by}
+use Rattle.std.specs.Prelude.{Option, Some, None, is_some, is_none}
 use Rattle.std.specs.List.{list_any}
 use Rattle.virtiofsd_fuse.specs.Serving.{May}
 use Rattle.device_record.specs.Numbers.{restore_error_number}
@@ -11,7 +12,8 @@ use Rattle.fs_device.specs.Refusing.{refusal_number}
 use Rattle.fs_device.specs.Step.{State, Exchange}
 use Rattle.owned_directory.specs.Directory.{Directory, DirectoryAnswers}
 use Rattle.fs_device_c.specs.declared.device_refusal.DeviceRefusal.{DeviceRefusal}
-use Rattle.fs_device_c.specs.declared.device_refusal.DeviceRefusal.TheVariants.{Step, OutOfMemory, BadArgument, OtherLengths, ShortBuffer, NoDevice, Record}
+use Rattle.fs_device_c.specs.declared.device_refusal.DeviceRefusal.TheVariants.{Step, OutOfMemory, BadArgument, OtherLengths, ShortBuffer}
+use Rattle.fs_device_c.specs.declared.device_refusal.DeviceRefusal.TheVariants.{NoDevice, Record}
 use Rattle.fs_device_c.specs.declared.device_serving.FsServed.{FsServed}
 
 -- a refusal's number: the device's own, from 1 to 10, the library's, or 80 more than a record's

@@ -1,7 +1,6 @@
 -- What a device begins with.
 use Rattle.std.specs.Prelude.{◌≡◌, ◌≤◌, ◌<◌, ◌^◌, ℕ, false, List, [], ◌++◌, IsTrue, All, Some, None, length, map, replicate}
 use Rattle.vm_bitmaps.specs.Pages.{pages_of}
-use Rattle.vm_memory.specs.Layout.{Region}
 use Rattle.fs_queue.specs.Lawful.{layout_error}
 use Rattle.fs_queue.specs.Queue.{Queue, fresh}
 use Rattle.fuse_replies.specs.PageSizes.{is_page_size}
@@ -15,7 +14,6 @@ use Rattle.fs_device_c.specs.declared.device_making.FsLayout.{FsLayout}
 use Rattle.fs_device_c.specs.declared.device_refusal.DeviceRefusal.{DeviceRefusal}
 use Rattle.fs_device_c.specs.declared.device_refusal.DeviceRefusal.TheVariants.{OutOfMemory, BadArgument, Record}
 use Rattle.fs_device_c.specs.declared.device_state.DeviceState.{DeviceState}
-use Rattle.fs_device_c.specs.declared.part_pages.PartPages.{PartPages}
 use Rattle.fs_device_c.specs.Lending.{CanBeLaidOut, laid_out, parts}
 
 -- the name and the contents of a file that is handed in
@@ -63,20 +61,19 @@ abbrev pub RefusesNew : (low_base : ℕ) → (low : List ℕ) → (high_base : �
 RefusesNew low_base low high_base high files layouts page_size limit why =
     RefusesDeviceUnless (CanBegin low_base low high_base high files page_size limit × AreQueues layouts) why
 
--- the clear pages of a part of so many bytes
-abbrev pub AreClear : PartPages → (len : ℕ) → Type 0
-AreClear p len = (p.len ≡ len) × (p.pages ≡ replicate (pages_of 4096 len) false)
-
--- two parts, each from a guest address on, make this layout, and no page of theirs is dirty
-abbrev pub HasParts : (low_base : ℕ) → (low : List ℕ) → (high_base : ℕ) → (high : List ℕ) → List Region → PartPages → PartPages → Type 0
-HasParts low_base low high_base high mem low_part high_part =
-    (mem ≡ laid_out (parts low [] high []) low_base high_base) × AreClear low_part (length low) × AreClear high_part (length high)
+-- its memory is in two parts, each from a guest address on, of which no page is dirty
+pub record HasParts (low_base : ℕ) (low : List ℕ) (high_base : ℕ) (high : List ℕ) (s : DeviceState) : Type 0 where
+  pub mem : s.mem ≡ laid_out (parts low [] high []) low_base high_base
+  pub low_len : s.low_len ≡ length low
+  pub high_len : s.high_len ≡ length high
+  pub low_pages : s.low_pages ≡ replicate (pages_of 4096 (length low)) false
+  pub high_pages : s.high_pages ≡ replicate (pages_of 4096 (length high)) false
 
 -- a device that begins: with these queues and copies of these files, and with no options
 pub record IsNewDevice (low_base : ℕ) (low : List ℕ) (high_base : ℕ) (high : List ℕ) (files : List FsFile) (layouts : List FsLayout)
     (page_size limit : ℕ) (s : DeviceState) : Type 0 where
   pub fit : CanBegin low_base low high_base high files page_size limit × AreQueues layouts
-  pub memory : HasParts low_base low high_base high s.mem s.low s.high
+  pub memory : HasParts low_base low high_base high s
   pub queues : s.device.queues ≡ map queue_of layouts
   pub options : s.device.options ≡ 0
   pub directory : AreCopies files (files_of s.device.files.0)
@@ -87,7 +84,7 @@ pub record IsNewDevice (low_base : ℕ) (low : List ℕ) (high_base : ℕ) (high
 pub record IsRestored (low_base : ℕ) (low : List ℕ) (high_base : ℕ) (high : List ℕ) (files : List FsFile) (saved : List ℕ)
     (page_size limit : ℕ) (s : DeviceState) : Type 0 where
   pub fit : CanBegin low_base low high_base high files page_size limit
-  pub memory : HasParts low_base low high_base high s.mem s.low s.high
+  pub memory : HasParts low_base low high_base high s
   pub front : (taken rest : List ℕ) × (saved ≡ taken ++ rest) × IsRecordFor taken page_size limit s.device.options s.device.queues
   pub directory : AreCopies files (files_of s.device.files.0)
   pub limited : s.device.limit ≡ limit

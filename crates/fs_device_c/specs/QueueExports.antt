@@ -10,7 +10,8 @@ use Rattle.fs_queue.specs.Returning.{advanced, returned, wants_notice}
 use Rattle.fs_queue.specs.Taking.{RequestAndRoom, after_refusal, room_of}
 use Rattle.fs_queue.specs.Windows.{IsTaken, Takes, room_places}
 use Rattle.fs_device_c.specs.declared.queue_refusal.QueueRefusal.{QueueRefusal}
-use Rattle.fs_device_c.specs.declared.queue_refusal.QueueRefusal.TheVariants.{Queue, NoQueue, OutOfMemory, BadArgument, OtherLengths, TakenBefore, ShortBuffer, NotTaken, LongReply}
+use Rattle.fs_device_c.specs.declared.queue_refusal.QueueRefusal.TheVariants.{Queue, NoQueue, OutOfMemory, BadArgument, OtherLengths}
+use Rattle.fs_device_c.specs.declared.queue_refusal.QueueRefusal.TheVariants.{TakenBefore, ShortBuffer, NotTaken, LongReply}
 use Rattle.fs_device_c.specs.declared.queue_lending.FsTaken.{FsTaken}
 use Rattle.fs_device_c.specs.declared.queue_state.Pending.{Pending}
 use Rattle.fs_device_c.specs.declared.queue_state.QueueState.{QueueState}
@@ -98,16 +99,14 @@ RefusesTake s low high TakenBefore = IsSome s.pending
 RefusesTake s low high OtherLengths = (s.pending ≡ None) × (HasTheirPages s low high → ⊥)
 RefusesTake s low high _ = ⊥
 
--- what is taken, by how it ends: refused where a chain waits for its return, then where the parts are others, then by the queue, then where the buffer is too
--- short; memory may be wanting where no chain waits
+-- what is taken, by how it ends: refused where a chain waits for its return, then where the parts are others, then by the queue, then where the
+-- buffer is too short
 abbrev pub TakesSo : QueueState → (low high buffer : List ℕ) → Option QueueRefusal → FsTaken → QueueState → (buffer' : List ℕ) → Type 0
 TakesSo s low high buffer None told s' buffer' =
     CanTake s low high × ((t : Option Taken) × Takes (seen s low high) s.limit s.queue (Ok t) × Keeps s low high buffer t told s' buffer')
 TakesSo s low high buffer (Some TakenBefore) told s' buffer' = IsSome s.pending × NothingTaken s buffer told s' buffer'
 TakesSo s low high buffer (Some OtherLengths) told s' buffer' =
     (s.pending ≡ None) × (AreItsParts s (length low) (length high) → ⊥) × NothingTaken s buffer told s' buffer'
-TakesSo s low high buffer (Some OutOfMemory) told s' buffer' =
-    (s.pending ≡ None) × HasTheirPages s (length low) (length high) × NothingTaken s buffer told s' buffer'
 TakesSo s low high buffer (Some (Queue e)) told s' buffer' =
     CanTake s low high × Takes (seen s low high) s.limit s.queue (Err e) × (told ≡ none_waits)
     × (s' ≡ record s { queue = after_refusal s.queue e }) × (buffer' ≡ buffer)
@@ -155,7 +154,6 @@ abbrev pub KeptBack : Pending → (head low high reply : ℕ) → QueueRefusal �
 KeptBack chain head low high reply NotTaken = chain.taken.head ≡ head → ⊥
 KeptBack chain head low high reply OtherLengths = (chain.taken.head ≡ head) × (HadLengths chain low high → ⊥)
 KeptBack chain head low high reply LongReply = (chain.taken.head ≡ head) × HadLengths chain low high × (room_places chain.taken.chain < reply)
-KeptBack chain head low high reply OutOfMemory = (chain.taken.head ≡ head) × HadLengths chain low high × (reply ≤ room_places chain.taken.chain)
 KeptBack chain head low high reply _ = ⊥
 
 -- why no chain goes back, where the pages are those of the parts: none was taken, or the one that was is kept back

@@ -8,7 +8,8 @@ use Rattle.fs_queue.specs.declared.fault.ChainFault.{ChainFault}
 use Rattle.fs_queue.specs.declared.fault.QueueError.{QueueError}
 use Rattle.fs_queue.specs.Numbers.{chain_fault_number, queue_number}
 use Rattle.fs_device_c.specs.declared.queue_refusal.QueueRefusal.{QueueRefusal}
-use Rattle.fs_device_c.specs.declared.queue_refusal.QueueRefusal.TheVariants.{Queue, NoQueue, OutOfMemory, BadArgument, OtherLengths, TakenBefore, ShortBuffer, NotTaken, LongReply}
+use Rattle.fs_device_c.specs.declared.queue_refusal.QueueRefusal.TheVariants.{Queue, NoQueue, OutOfMemory, BadArgument, OtherLengths}
+use Rattle.fs_device_c.specs.declared.queue_refusal.QueueRefusal.TheVariants.{TakenBefore, ShortBuffer, NotTaken, LongReply}
 use Rattle.fs_device_c.specs.declared.queue_lending.FsTaken.{FsTaken}
 
 -- a refusal's number: the queue's own, from 1 to 9, or the library's

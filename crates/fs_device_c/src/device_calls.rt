@@ -1,36 +1,17 @@
 //! What is done with a device that a handle holds.
 
-ghost use Rattle.std.specs.Prelude.{◌≡◌, [], IfOk, OnErr};
-ghost use Rattle.fs_device_c.specs.DeviceCalls.{GathersPages, GathersSo, IsSame, ResetsSo, SavesSo, ServesSo};
+ghost use Rattle.std.specs.Prelude.{◌≡◌, ◌≤◌, ◌^◌, length};
+ghost use Rattle.fs_device_c.specs.DeviceCalls.{GathersPages, GathersSo, ResetsSo, SavesSo, ServesSo};
 
 use crate::device_making::FsLayout;
 use crate::device_refusal::DeviceRefusal;
 use crate::device_serving::{FsServed, serve_over};
 use crate::device_state::DeviceState;
-use crate::making::Pages;
-use crate::part_pages::PartPages;
+use crate::part_pages::{gather_words, word_count};
 use fs_device::Stream;
 use fs_queue::QueueLayout;
-use std::alloc::{AllocError, Global};
-
-// Takes the pages of both parts out, for a call; an error is a want of memory, and then nothing changed.
-fn take_pages(alloc: Global, state: &mut DeviceState) -> Result<Pages, AllocError>
-    ensures low { IfOk result (λ p. p.0 ≡ state.old.low.pages) }
-    ensures high { IfOk result (λ p. p.1 ≡ state.old.high.pages) }
-    ensures mem { state.new.mem ≡ state.old.mem }
-    ensures device { state.new.device ≡ state.old.device }
-    ensures err { OnErr result (IsSame state.old state.new) }
-{
-    let low_len = state.low.len;
-    let low_pages = state.low.take(alloc)?;
-    match state.high.take(alloc) {
-        Ok(high_pages) => Ok((low_pages, high_pages)),
-        Err(error) => {
-            state.low = PartPages::of(low_pages, low_len);
-            Err(error)
-        }
-    }
-}
+use std::alloc::Global;
+use vm_memory_core::{IoPages, PageBitmap};
 
 /// Serves the next chains of a queue, at most so many, over the two parts that are lent for it.
 pub fn serve_device(
@@ -43,36 +24,23 @@ pub fn serve_device(
 ) -> (FsServed, Option<DeviceRefusal>)
     ensures { ServesSo state.old low.old high.old queue most result.1 result.0 state.new low.new high.new }
 {
-    let (low_len, high_len) = (low.len(), high.len());
-    if state.low.len != low_len || state.high.len != high_len {
+    if state.low_len != low.len() || state.high_len != high.len() {
         return (FsServed::nothing(), Some(DeviceRefusal::OtherLengths));
     }
-    let Ok(pages) = take_pages(alloc, state) else {
-        return (FsServed::nothing(), Some(DeviceRefusal::OutOfMemory));
-    };
     match serve_over(
         alloc,
         &mut state.device,
         &state.mem,
         low,
         high,
-        pages,
+        &mut state.low_pages,
+        &mut state.high_pages,
         queue,
         most,
     ) {
-        Ok(over) => {
-            state.low = PartPages::of(over.low_pages, low_len);
-            state.high = PartPages::of(over.high_pages, high_len);
-            match over.refused {
-                Some(error) => (over.served, Some(DeviceRefusal::Step(error))),
-                None => (over.served, None),
-            }
-        }
-        Err(pages) => {
-            state.low = PartPages::of(pages.0, low_len);
-            state.high = PartPages::of(pages.1, high_len);
-            (FsServed::nothing(), Some(DeviceRefusal::OtherLengths))
-        }
+        Some((served, Some(error))) => (served, Some(DeviceRefusal::Step(error))),
+        Some((served, None)) => (served, None),
+        None => (FsServed::nothing(), Some(DeviceRefusal::OtherLengths)),
     }
 }
 
@@ -95,14 +63,19 @@ pub fn reset_queue(
 
 // Puts the marks of a part at the front of some words, and clears them: how many words there are, and ShortBuffer where
 // that is more than are lent.
-fn gather_pages(part: &mut PartPages, words: &mut [u64]) -> (usize, Option<DeviceRefusal>)
-    ensures { GathersPages part.old words.old result.1 result.0 part.new words.new }
+fn gather_pages(
+    pages: &mut IoPages<PageBitmap>,
+    words: &mut [u64],
+) -> (usize, Option<DeviceRefusal>)
+    requires { length pages.old ≤ 2 ^ 52 }
+    ensures gathers { GathersPages pages.old words.old result.1 result.0 pages.new words.new }
+    ensures count { length pages.new ≡ length pages.old }
 {
-    let count = part.word_count();
+    let count = word_count(pages);
     if count > words.len() {
         return (count, Some(DeviceRefusal::ShortBuffer));
     }
-    part.gather(words);
+    gather_words(pages, words);
     (count, None)
 }
 
@@ -115,8 +88,8 @@ pub fn gather(
     ensures { GathersSo state.old part words.old result.1 result.0 state.new words.new }
 {
     match part {
-        0 => gather_pages(&mut state.low, words),
-        1 => gather_pages(&mut state.high, words),
+        0 => gather_pages(&mut state.low_pages, words),
+        1 => gather_pages(&mut state.high_pages, words),
         _ => (0, Some(DeviceRefusal::BadArgument)),
     }
 }

@@ -1,16 +1,16 @@
 //! Devices that begin, or go on from a record.
 
-ghost use Rattle.std.specs.Prelude.{◌≡◌, ◌↔◌, ◌≤◌, ◌<◌, ◌^◌, [], All, IsTrue, length, map, IfErr, IfNone, IfOk, IfSome, OnOk, OnSome};
+ghost use Rattle.std.specs.Prelude.{◌≡◌, ◌↔◌, ◌≤◌, ◌<◌, ◌^◌, [], All, IsTrue, false, length, map, replicate, IfErr, IfNone, IfOk, IfSome, OnOk, OnSome};
 ghost use Rattle.fuse_replies.specs.PageSizes.{is_page_size};
 ghost use Rattle.owned_directory.specs.Files.{files_of};
-ghost use Rattle.fs_device_c.specs.Lending.{CanBeLaidOut, parts};
-ghost use Rattle.fs_device_c.specs.Making.{AreCopies, AreSettings, HasLayout, HasParts, IsNewDevice, IsRestored};
+ghost use Rattle.vm_bitmaps.specs.Pages.{pages_of};
+ghost use Rattle.fs_device_c.specs.Lending.{CanBeLaidOut, laid_out, parts};
+ghost use Rattle.fs_device_c.specs.Making.{AreCopies, AreSettings, HasLayout, IsNewDevice, IsRestored};
 ghost use Rattle.fs_device_c.specs.Making.{RefusesDeviceUnless, RefusesNew, RefusesRestore, queue_of};
 
 use crate::device_refusal::DeviceRefusal;
 use crate::device_state::DeviceState;
 use crate::making::{Pages, lay_out};
-use crate::part_pages::PartPages;
 use crate::refusal::Refusal;
 use crate::saved_bytes::SavedBytes;
 use fs_device::Device;
@@ -116,32 +116,27 @@ fn are_settings(page_size: u32, limit: u32) -> bool
     is_page_size(page_size) && limit >= 0x101000 && limit <= 0x8000_0000
 }
 
-// Two parts that are lent, each from a guest address on, with their clear pages.
+// The layout of two parts that are lent, each from a guest address on, and their clear pages.
 fn parts_of(
     alloc: Global,
     low_base: u64,
     low: &mut [u8],
     high_base: u64,
     high: &mut [u8],
-) -> Result<(GuestMemoryMmap, PartPages, PartPages), DeviceRefusal>
-    ensures made { IfOk result (λ r. HasParts low_base low.old high_base high.old r.0 r.1 r.2) }
+) -> Result<(GuestMemoryMmap, Pages), DeviceRefusal>
+    ensures mem { IfOk result (λ r. r.0 ≡ laid_out (parts low.old [] high.old []) low_base high_base) }
+    ensures low_pages { IfOk result (λ r. r.1.0 ≡ replicate (pages_of 4096 (length low.old)) false) }
+    ensures high_pages { IfOk result (λ r. r.1.1 ≡ replicate (pages_of 4096 (length high.old)) false) }
     ensures can { OnOk result (CanBeLaidOut (parts low.old [] high.old []) low_base high_base) }
     ensures refused { IfErr result (RefusesDeviceUnless (CanBeLaidOut (parts low.old [] high.old []) low_base high_base)) }
     ensures low { low.new ≡ low.old }
     ensures high { high.new ≡ high.old }
 {
-    let (low_len, high_len) = (low.len(), high.len());
-    let (mem, pages): (GuestMemoryMmap, Pages) = match lay_out(
-        alloc, low_base, low, high_base, high,
-    ) {
-        Ok(laid) => laid,
-        Err(Refusal::OutOfMemory) => return Err(DeviceRefusal::OutOfMemory),
-        Err(_) => return Err(DeviceRefusal::BadArgument),
-    };
-    let (low_pages, high_pages) = pages;
-    let low_part = PartPages::of(low_pages, low_len);
-    let high_part = PartPages::of(high_pages, high_len);
-    Ok((mem, low_part, high_part))
+    match lay_out(alloc, low_base, low, high_base, high) {
+        Ok(laid) => Ok(laid),
+        Err(Refusal::OutOfMemory) => Err(DeviceRefusal::OutOfMemory),
+        Err(_) => Err(DeviceRefusal::BadArgument),
+    }
 }
 
 /// A device that begins, over copies of files, with queues of these layouts, for memory in two parts, each from a guest
@@ -175,15 +170,19 @@ pub fn make_device(
     let Ok(fs) = directory(alloc, files) else {
         return Err(DeviceRefusal::OutOfMemory);
     };
-    let (mem, low, high) = match parts_of(alloc, low_base, low, high_base, high) {
+    let (low_len, high_len) = (low.len(), high.len());
+    let (mem, pages) = match parts_of(alloc, low_base, low, high_base, high) {
         Ok(parts) => parts,
         Err(refusal) => return Err(refusal),
     };
+    let (low_pages, high_pages) = pages;
     let device = Device::new(Server::new(fs, page_size), queues, limit);
     Ok(DeviceState {
         mem,
-        low,
-        high,
+        low_len,
+        high_len,
+        low_pages,
+        high_pages,
         device,
     })
 }
@@ -218,14 +217,18 @@ pub fn restore_device(
         Ok(device) => device,
         Err((error, _)) => return Err(DeviceRefusal::Record(error)),
     };
-    let (mem, low, high) = match parts_of(alloc, low_base, low, high_base, high) {
+    let (low_len, high_len) = (low.len(), high.len());
+    let (mem, pages) = match parts_of(alloc, low_base, low, high_base, high) {
         Ok(parts) => parts,
         Err(refusal) => return Err(refusal),
     };
+    let (low_pages, high_pages) = pages;
     Ok(DeviceState {
         mem,
-        low,
-        high,
+        low_len,
+        high_len,
+        low_pages,
+        high_pages,
         device,
     })
 }

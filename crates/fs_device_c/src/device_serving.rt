@@ -1,6 +1,6 @@
 //! Chains of a device's queue, served one after another over memory that is lent for it.
 
-ghost use Rattle.std.specs.Prelude.{◌≡◌, ◌≤◌, ◌∷◌, [], ◌+◌, ◌<◌, ◌^◌, true, length, IfOk, IfErr};
+ghost use Rattle.std.specs.Prelude.{◌≡◌, ◌≤◌, ◌∷◌, [], ◌+◌, ◌<◌, ◌^◌, true, length, IfNone, IfSome};
 ghost use Rattle.vm_bitmaps.specs.Pages.{pages_of};
 ghost use Rattle.vm_memory.specs.Layout.{AreHeld};
 ghost use Rattle.vm_memory.specs.Memory.{memory_of};
@@ -9,7 +9,6 @@ ghost use Rattle.fs_device.specs.DeviceView.{state_of};
 ghost use Rattle.fs_device_c.specs.Lending.{lent};
 ghost use Rattle.fs_device_c.specs.Devices.{DirectoryServes, Serves, nothing_served, with_returned};
 
-use crate::making::Pages;
 use fs_device::{Device, DeviceError, Returned};
 use fuse_fs::FileSystem;
 use fuse_read_only::ReadOnly;
@@ -101,65 +100,47 @@ fn serve_chains<F: FileSystem, H: HostBlocks>(
     (served, None)
 }
 
-/// What came of steps over lent memory: what is told of them, why no more came, if that is a refusal, and the dirty pages
-/// behind them.
-#[derive(Drop)]
-pub struct ServedOver {
-    pub served: FsServed,
-    pub refused: Option<DeviceError>,
-    pub low_pages: IoPages<PageBitmap>,
-    pub high_pages: IoPages<PageBitmap>,
-}
-
-/// Serves the next chains of a queue, at most so many, over two parts that are lent for it, if they are what the layout
-/// names. If the parts aren't so, the pages come back.
+/// Serves the next chains of a queue, at most so many, over two parts that are lent for it with their pages: what came of
+/// them, and why no more came, if that is a refusal. None where the parts aren't what the layout names, and then nothing was
+/// done.
 pub fn serve_over(
     alloc: Global,
     device: &mut Device<ReadOnly<OwnedTable>>,
     mem: &GuestMemoryMmap,
     low: &mut [u8],
     high: &mut [u8],
-    pages: Pages,
+    low_pages: &mut IoPages<PageBitmap>,
+    high_pages: &mut IoPages<PageBitmap>,
     queue: usize,
     most: u16,
-) -> Result<ServedOver, Pages>
-    requires low { length pages.0 ≡ pages_of 4096 (length low.old) }
-    requires high { length pages.1 ≡ pages_of 4096 (length high.old) }
-    ensures serves { IfOk result (λ r. DirectoryServes (state_of (lent low.old pages.0 high.old pages.1 mem.now) device.old) queue most r.refused r.served
-        (state_of (lent low.new r.low_pages high.new r.high_pages mem.now) device.new)) }
-    ensures low_pages { IfOk result (λ r. length r.low_pages ≡ length pages.0) }
-    ensures high_pages { IfOk result (λ r. length r.high_pages ≡ length pages.1) }
-    ensures held { IfOk result (λ r. AreHeld (length low.old ∷ length high.old ∷ []) mem.now) }
-    ensures others { IfErr result (λ p. AreHeld (length low.old ∷ length high.old ∷ []) mem.now → ⊥) }
-    ensures refused { IfErr result (λ p. (p ≡ pages) × (device.new ≡ device.old) × (low.new ≡ low.old) × (high.new ≡ high.old)) }
+) -> Option<(FsServed, Option<DeviceError>)>
+    requires low { length low_pages.old ≡ pages_of 4096 (length low.old) }
+    requires high { length high_pages.old ≡ pages_of 4096 (length high.old) }
+    ensures serves { IfSome result (λ r. DirectoryServes (state_of (lent low.old low_pages.old high.old high_pages.old mem.now) device.old) queue most r.1 r.0
+        (state_of (lent low.new low_pages.new high.new high_pages.new mem.now) device.new)) }
+    ensures held { IfSome result (λ r. AreHeld (length low.old ∷ length high.old ∷ []) mem.now) }
+    ensures others { IfNone result (AreHeld (length low.old ∷ length high.old ∷ []) mem.now → ⊥) }
+    ensures refused { IfNone result ((device.new ≡ device.old) × (low.new ≡ low.old) × (high.new ≡ high.old)
+        × (low_pages.new ≡ low_pages.old) × (high_pages.new ≡ high_pages.old)) }
+    ensures low_count { length low_pages.new ≡ length low_pages.old }
+    ensures high_count { length high_pages.new ≡ length high_pages.old }
 {
-    let (low_pages, high_pages) = pages;
     let mut host = LentMemory {
         low,
         high,
         low_pages,
         high_pages,
     };
-    if !mem.is_held(&host) {
-        let LentMemory {
-            low: _low,
-            high: _high,
-            low_pages,
-            high_pages,
-        } = host;
-        return Err((low_pages, high_pages));
-    }
-    let (served, refused) = serve_chains(alloc, device, &mut host, mem, queue, most);
+    let served = if mem.is_held(&host) {
+        Some(serve_chains(alloc, device, &mut host, mem, queue, most))
+    } else {
+        None
+    };
     let LentMemory {
         low: _low,
         high: _high,
-        low_pages,
-        high_pages,
+        low_pages: _low_pages,
+        high_pages: _high_pages,
     } = host;
-    Ok(ServedOver {
-        served,
-        refused,
-        low_pages,
-        high_pages,
-    })
+    served
 }

@@ -5,13 +5,13 @@ ghost use Rattle.vm_bitmaps.specs.Pages.{pages_of};
 ghost use Rattle.vm_memory.specs.Making.{backing_over};
 ghost use Rattle.fs_device_c.specs.Lending.{CanBeLaidOut, PartFits, RefusesUnless, StandApart, laid_out, parts, region_in};
 
-/// The dirty pages of both parts.
-pub type Pages = (IoPages<PageBitmap>, IoPages<PageBitmap>);
-
 use crate::refusal::Refusal;
 use std::alloc::{AllocError, Global};
 use vm_memory::{GuestMemoryMmap, GuestRegionCollectionError, GuestRegionMmap, MmapRegion};
 use vm_memory_core::{GuestAddress, HostBlocks, IoPages, LentMemory, PageBitmap};
+
+/// The dirty pages of both parts.
+pub type Pages = (IoPages<PageBitmap>, IoPages<PageBitmap>);
 
 // Puts the region over a block behind others, if the block isn't empty.
 fn add_part<H: HostBlocks>(
@@ -102,21 +102,21 @@ pub fn lay_out(
     ensures low { low.new ≡ low.old }
     ensures high { high.new ≡ high.old }
 {
-    let Ok((low_pages, high_pages)) = clear_pages(alloc, low.len(), high.len()) else {
+    let Ok((mut low_pages, mut high_pages)) = clear_pages(alloc, low.len(), high.len()) else {
         return Err(Refusal::OutOfMemory);
     };
     let host: LentMemory<'_, PageBitmap> = LentMemory {
         low,
         high,
-        low_pages,
-        high_pages,
+        low_pages: &mut low_pages,
+        high_pages: &mut high_pages,
     };
     let mem = layout_over(alloc, &host, low_base, high_base);
     let LentMemory {
         low: _low,
         high: _high,
-        low_pages,
-        high_pages,
+        low_pages: _low_pages,
+        high_pages: _high_pages,
     } = host;
     match mem {
         Ok(mem) => Ok((mem, (low_pages, high_pages))),

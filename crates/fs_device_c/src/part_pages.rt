@@ -1,10 +1,8 @@
 //! The dirty pages of a part of memory.
 
-ghost use Rattle.std.specs.Prelude.{◌≡◌, ◌+◌, ◌*◌, ◌<◌, ◌≤◌, ◌^◌, ◌++◌, false, length, map, drop, IfOk, OnErr, if◌then◌else◌};
-ghost use Rattle.vm_bitmaps.specs.Pages.{mark_of, pages_of, word_from, words_of};
+ghost use Rattle.std.specs.Prelude.{◌≡◌, ◌+◌, ◌*◌, ◌<◌, ◌≤◌, ◌^◌, ◌++◌, false, length, map, drop, if◌then◌else◌};
+ghost use Rattle.vm_bitmaps.specs.Pages.{mark_of, word_from, words_of};
 
-use std::alloc::{AllocError, Global};
-use std::mem;
 use vm_bitmaps::Bitmap;
 use vm_memory_core::{IoPages, PageBitmap};
 
@@ -23,71 +21,44 @@ fn with_bit(word: u64, bits: usize, marked: bool) -> u64
     if marked { word + (1 << bits) } else { word }
 }
 
-/// The dirty pages of a part of memory of so many bytes, of 4096 bytes each.
-#[derive(Drop)]
-pub struct PartPages {
-    pub pages: IoPages<PageBitmap>,
-    pub len: usize,
-    pub ghost covered: { length pages ≡ pages_of 4096 len },
+// Whether a page is marked.
+fn is_marked(pages: &IoPages<PageBitmap>, page: usize) -> bool
+    requires { length pages.now ≤ 2 ^ 52 }
+    ensures { result ≡ mark_of pages.now page }
+{
+    page < pages.len() && pages.dirty_at(page * PAGE_BYTES)
 }
 
-impl PartPages {
-    /// The pages of a part of so many bytes.
-    pub fn of(pages: IoPages<PageBitmap>, len: usize) -> PartPages
-        requires { length pages ≡ pages_of 4096 len }
-        ensures pages { result.pages ≡ pages }
-        ensures len { result.len ≡ len }
-    {
-        PartPages { pages, len }
+// The marks of 64 pages from one on, as the bits of a word.
+fn word_at(pages: &IoPages<PageBitmap>, first: usize) -> u64
+    requires few { length pages.now ≤ 2 ^ 52 }
+    requires first { first + 64 < 2 ^ 64 }
+    ensures { result ≡ word_from pages.now first 64 }
+{
+    let mut word = 0;
+    for k in 0..WORD_PAGES {
+        word = with_bit(word, k, is_marked(pages, first + k));
     }
+    word
+}
 
-    /// Takes the pages out, for a call: those of an empty part are left. AllocError where memory is wanting, and then
-    /// nothing changes.
-    pub fn take(&mut self, alloc: Global) -> Result<IoPages<PageBitmap>, AllocError>
-        ensures ok { IfOk result (λ p. p ≡ self.old.pages) }
-        ensures err { OnErr result (self.new ≡ self.old) }
-    {
-        let none = IoPages::with_len(alloc, 0)?;
-        let PartPages { pages, .. } = mem::replace(self, PartPages::of(none, 0));
-        Ok(pages)
-    }
+/// How many words tell the marks: one for 64 pages.
+pub fn word_count(pages: &IoPages<PageBitmap>) -> usize
+    ensures { result ≡ length (words_of pages.now) }
+{
+    pages.len().div_ceil(WORD_PAGES)
+}
 
-    // Whether a page is marked.
-    fn is_marked(&self, page: usize) -> bool
-        ensures { result ≡ mark_of self.now.pages page }
-    {
-        page < self.pages.len() && self.pages.dirty_at(page * PAGE_BYTES)
+/// Puts the marks at the front of some words, page p as bit p mod 64 of word p / 64, and clears them. There are no more
+/// pages than 64-bit addresses have.
+pub fn gather_words(pages: &mut IoPages<PageBitmap>, words: &mut [u64])
+    requires few { length pages.old ≤ 2 ^ 52 }
+    requires room { length (words_of pages.old) ≤ length words.old }
+    ensures words { words.new ≡ words_of pages.old ++ drop (length (words_of pages.old)) words.old }
+    ensures cleared { pages.new ≡ map (λ _. false) pages.old }
+{
+    for i in 0..word_count(pages) {
+        words[i] = word_at(pages, WORD_PAGES * i);
     }
-
-    // The marks of 64 pages from one on, as the bits of a word.
-    fn word_at(&self, first: usize) -> u64
-        requires { first + 64 < 2 ^ 64 }
-        ensures { result ≡ word_from self.now.pages first 64 }
-    {
-        let mut word = 0;
-        for k in 0..WORD_PAGES {
-            word = with_bit(word, k, self.is_marked(first + k));
-        }
-        word
-    }
-
-    /// How many words tell the marks: one for 64 pages.
-    pub fn word_count(&self) -> usize
-        ensures { result ≡ length (words_of self.now.pages) }
-    {
-        self.pages.len().div_ceil(WORD_PAGES)
-    }
-
-    /// Puts the marks at the front of some words, page p as bit p mod 64 of word p / 64, and clears them.
-    pub fn gather(&mut self, words: &mut [u64])
-        requires { length (words_of self.old.pages) ≤ length words.old }
-        ensures words { words.new ≡ words_of self.old.pages ++ drop (length (words_of self.old.pages)) words.old }
-        ensures cleared { self.new.pages ≡ map (λ _. false) self.old.pages }
-        ensures len { self.new.len ≡ self.old.len }
-    {
-        for i in 0..self.word_count() {
-            words[i] = self.word_at(WORD_PAGES * i);
-        }
-        self.pages.reset();
-    }
+    pages.reset();
 }

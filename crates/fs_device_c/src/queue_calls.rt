@@ -1,6 +1,6 @@
 //! What is done with a queue that a handle holds.
 
-ghost use Rattle.std.specs.Prelude.{◌≡◌, ◌∷◌, [], ◌↔◌, ◌≤◌, IsTrue, None, length, IfOk, IfErr, IfNone, IfSome, OnErr};
+ghost use Rattle.std.specs.Prelude.{◌≡◌, ◌∷◌, [], ◌↔◌, ◌≤◌, IsTrue, None, length, IfOk, IfErr, IfNone, IfSome};
 ghost use Rattle.vm_bitmaps.specs.Pages.{pages_of};
 ghost use Rattle.fs_queue.specs.Windows.{TakenLiesIn, room_places};
 ghost use Rattle.fs_device_c.specs.QueueExports.{CanHaveQueue, HadLengths, HasTheirPages, IsNewQueue};
@@ -12,8 +12,7 @@ use crate::queue_refusal::QueueRefusal;
 use crate::queue_state::{Pending, QueueState};
 use crate::refusal::Refusal;
 use fs_queue::{Queue, QueueLayout, Taken};
-use std::alloc::{AllocError, Global};
-use std::mem;
+use std::alloc::Global;
 use vm_memory_core::{IoPages, PageBitmap};
 
 // How many bytes a page has.
@@ -24,23 +23,6 @@ fn are_of(pages: &IoPages<PageBitmap>, part: &[u8]) -> bool
     ensures { IsTrue result ↔ (length pages.now ≡ pages_of 4096 (length part.now)) }
 {
     pages.len() == part.len().div_ceil(PAGE_BYTES)
-}
-
-// Takes the pages out, for a call; an error is a want of memory.
-fn take_pages(alloc: Global, state: &mut QueueState) -> Result<Pages, AllocError>
-    ensures low { IfOk result (λ p. p.0 ≡ state.old.low_pages) }
-    ensures high { IfOk result (λ p. p.1 ≡ state.old.high_pages) }
-    ensures mem { state.new.mem ≡ state.old.mem }
-    ensures queue { state.new.queue ≡ state.old.queue }
-    ensures limit { state.new.limit ≡ state.old.limit }
-    ensures pending { state.new.pending ≡ state.old.pending }
-    ensures err { OnErr result (state.new ≡ state.old) }
-{
-    let no_low_pages = IoPages::with_len(alloc, 0)?;
-    let no_high_pages = IoPages::with_len(alloc, 0)?;
-    let low_pages = mem::replace(&mut state.low_pages, no_low_pages);
-    let high_pages = mem::replace(&mut state.high_pages, no_high_pages);
-    Ok((low_pages, high_pages))
 }
 
 // A chain that waits for its return.
@@ -88,37 +70,25 @@ pub fn take_chain(
         None => {}
     }
     let (low_len, high_len) = (low.len(), high.len());
-    let Ok(pages) = take_pages(alloc, state) else {
-        return (FsTaken::nothing(), Some(QueueRefusal::OutOfMemory));
-    };
     match take_over(
         alloc,
         &mut state.queue,
         &state.mem,
         low,
         high,
-        pages,
+        &mut state.low_pages,
+        &mut state.high_pages,
         state.limit,
         buffer,
     ) {
-        Ok(over) => {
-            state.low_pages = over.pages.0;
-            state.high_pages = over.pages.1;
-            match over.answer {
-                Ok(Some((taken, told, true))) => {
-                    state.pending = Some(waiting(taken, low_len, high_len));
-                    (told, None)
-                }
-                Ok(Some((_, told, false))) => (told, Some(QueueRefusal::ShortBuffer)),
-                Ok(None) => (FsTaken::nothing(), None),
-                Err(error) => (FsTaken::nothing(), Some(QueueRefusal::Queue(error))),
-            }
+        Some(Ok(Some((taken, told, true)))) => {
+            state.pending = Some(waiting(taken, low_len, high_len));
+            (told, None)
         }
-        Err(pages) => {
-            state.low_pages = pages.0;
-            state.high_pages = pages.1;
-            (FsTaken::nothing(), Some(QueueRefusal::OtherLengths))
-        }
+        Some(Ok(Some((_, told, false)))) => (told, Some(QueueRefusal::ShortBuffer)),
+        Some(Ok(None)) => (FsTaken::nothing(), None),
+        Some(Err(error)) => (FsTaken::nothing(), Some(QueueRefusal::Queue(error))),
+        None => (FsTaken::nothing(), Some(QueueRefusal::OtherLengths)),
     }
 }
 
@@ -158,7 +128,6 @@ fn refused_return(
 
 /// Gives the chain with a head back, over the two parts that are lent for it: whether the driver is to be told.
 pub fn give_chain(
-    alloc: Global,
     state: &mut QueueState,
     low: &mut [u8],
     high: &mut [u8],
@@ -180,14 +149,16 @@ pub fn give_chain(
         }
         None => {}
     }
-    let Ok(pages) = take_pages(alloc, state) else {
-        state.pending = Some(pending);
-        return (false, Some(QueueRefusal::OutOfMemory));
-    };
     let Pending { taken, .. } = pending;
-    let (told, pages) = give_back_over(&mut state.queue, low, high, pages, taken, reply);
-    state.low_pages = pages.0;
-    state.high_pages = pages.1;
+    let told = give_back_over(
+        &mut state.queue,
+        low,
+        high,
+        &mut state.low_pages,
+        &mut state.high_pages,
+        taken,
+        reply,
+    );
     (told, None)
 }
 

@@ -106,7 +106,7 @@ pub extern "C" fn fs_queue_give_back(
         *notify = false;
         return QueueRefusal::NoQueue.number();
     };
-    let (told, refused) = give_chain(alloc, &mut state, low, high, head, reply);
+    let (told, refused) = give_chain(&mut state, low, high, head, reply);
     *notify = told;
     *queue = FsQueue::of_box(state);
     status(refused)

@@ -1,6 +1,6 @@
 //! Chains that are taken from a queue and given back, over memory that is lent for it.
 
-ghost use Rattle.std.specs.Prelude.{◌≡◌, ◌∷◌, [], ◌≤◌, List, length, IfOk, IfErr, IfSome};
+ghost use Rattle.std.specs.Prelude.{◌≡◌, ◌∷◌, [], ◌≤◌, List, length, IfNone, IfOk, IfSome};
 ghost use Rattle.vm_memory.specs.Layout.{AreHeld, Region};
 ghost use Rattle.vm_memory.specs.Memory.{memory_of};
 ghost use Rattle.fs_queue.specs.Returning.{advanced, returned, wants_notice};
@@ -11,7 +11,6 @@ ghost use Rattle.fs_queue.specs.Windows.{IsTaken, Takes, TakenLiesIn, after_taki
 ghost use Rattle.fs_device_c.specs.Lending.{lent, parts};
 ghost use Rattle.fs_device_c.specs.Queues.{Fetches, FetchesIf, none_waits, taken_alone};
 
-use crate::making::Pages;
 use crate::queue_refusal::QueueRefusal;
 use fs_queue::{Queue, QueueError, Taken};
 use std::alloc::Global;
@@ -82,14 +81,6 @@ fn fetch<H: HostBlocks>(host: &H, taken: &Taken, request: &mut [u8]) -> (FsTaken
     }
 }
 
-/// What was taken over lent memory: the queue's answer, with what is told of a chain and whether its request was copied
-/// out, and the dirty pages behind it.
-#[derive(Drop)]
-pub struct TakenOver {
-    pub answer: Result<Option<(Taken, FsTaken, bool)>, QueueError>,
-    pub pages: Pages,
-}
-
 // The next chain of a queue, whose request is copied out.
 fn take_next<H: HostBlocks>(
     alloc: Global,
@@ -116,83 +107,79 @@ fn take_next<H: HostBlocks>(
     }
 }
 
-// The next chain of a queue over two parts that are lent for it, if they are what the layout names. Nothing is written
-// but the buffer. If the parts aren't so, the pages come back.
+/// The next chain of a queue over two parts that are lent for it with their pages, whose request is copied out. Nothing is
+/// written but the buffer. None where the parts aren't what the layout names, and then nothing was done.
 pub fn take_over(
     alloc: Global,
     queue: &mut Queue,
     mem: &GuestMemoryMmap,
     low: &mut [u8],
     high: &mut [u8],
-    pages: Pages,
+    low_pages: &mut IoPages<PageBitmap>,
+    high_pages: &mut IoPages<PageBitmap>,
     limit: u32,
     buffer: &mut [u8],
-) -> Result<TakenOver, Pages>
-    requires low { length pages.0 ≡ pages_of 4096 (length low.old) }
-    requires high { length pages.1 ≡ pages_of 4096 (length high.old) }
+) -> Option<Result<Option<(Taken, FsTaken, bool)>, QueueError>>
+    requires low { length low_pages.old ≡ pages_of 4096 (length low.old) }
+    requires high { length high_pages.old ≡ pages_of 4096 (length high.old) }
     ensures low { low.new ≡ low.old }
     ensures high { high.new ≡ high.old }
-    ensures pages { IfOk result (λ t. t.pages ≡ pages) }
-    ensures takes { IfOk result (λ t. Takes (lent low.old pages.0 high.old pages.1 mem.now) limit queue.old (taken_alone t.answer)) }
-    ensures fetches { IfOk result (λ t. FetchesIf (parts low.old pages.0 high.old pages.1) t.answer buffer.old buffer.new) }
-    ensures queue { IfOk result (λ t. queue.new ≡ after_taking queue.old (taken_alone t.answer)) }
-    ensures lies { IfOk result (λ t. IfOk t.answer (λ o. IfSome o (λ x. TakenLiesIn (length low.old ∷ length high.old ∷ []) x.0))) }
-    ensures held { IfOk result (λ t. AreHeld (length low.old ∷ length high.old ∷ []) mem.now) }
-    ensures others { IfErr result (λ p. AreHeld (length low.old ∷ length high.old ∷ []) mem.now → ⊥) }
-    ensures refused { IfErr result (λ p. (p ≡ pages) × (queue.new ≡ queue.old) × (buffer.new ≡ buffer.old)) }
+    ensures low_pages { low_pages.new ≡ low_pages.old }
+    ensures high_pages { high_pages.new ≡ high_pages.old }
+    ensures takes { IfSome result (λ a. Takes (lent low.old low_pages.old high.old high_pages.old mem.now) limit queue.old (taken_alone a)) }
+    ensures fetches { IfSome result (λ a. FetchesIf (parts low.old low_pages.old high.old high_pages.old) a buffer.old buffer.new) }
+    ensures queue { IfSome result (λ a. queue.new ≡ after_taking queue.old (taken_alone a)) }
+    ensures lies { IfSome result (λ a. IfOk a (λ o. IfSome o (λ x. TakenLiesIn (length low.old ∷ length high.old ∷ []) x.0))) }
+    ensures held { IfSome result (λ a. AreHeld (length low.old ∷ length high.old ∷ []) mem.now) }
+    ensures others { IfNone result (AreHeld (length low.old ∷ length high.old ∷ []) mem.now → ⊥) }
+    ensures refused { IfNone result ((queue.new ≡ queue.old) × (buffer.new ≡ buffer.old)) }
 {
-    let (low_pages, high_pages) = pages;
     let host = LentMemory {
         low,
         high,
         low_pages,
         high_pages,
     };
-    if !mem.is_held(&host) {
-        let LentMemory {
-            low: _low,
-            high: _high,
-            low_pages,
-            high_pages,
-        } = host;
-        return Err((low_pages, high_pages));
-    }
-    let answer = take_next(alloc, queue, &host, mem, limit, buffer);
+    let answer = if mem.is_held(&host) {
+        Some(take_next(alloc, queue, &host, mem, limit, buffer))
+    } else {
+        None
+    };
     let LentMemory {
         low: _low,
         high: _high,
-        low_pages,
-        high_pages,
+        low_pages: _low_pages,
+        high_pages: _high_pages,
     } = host;
-    let pages = (low_pages, high_pages);
-    Ok(TakenOver { answer, pages })
+    answer
 }
 
-// A chain goes back over two parts that are lent for it, which have the lengths that they had when it was taken: whether
-// the driver is to be told, and the pages behind it.
+/// A chain goes back over two parts that are lent for it with their pages, which have the lengths that they had when it was
+/// taken: whether the driver is to be told.
 pub fn give_back_over(
     queue: &mut Queue,
     low: &mut [u8],
     high: &mut [u8],
-    pages: Pages,
+    low_pages: &mut IoPages<PageBitmap>,
+    high_pages: &mut IoPages<PageBitmap>,
     taken: Taken,
     reply: &[u8],
-) -> (bool, Pages)
-    requires low { length pages.0 ≡ pages_of 4096 (length low.old) }
-    requires high { length pages.1 ≡ pages_of 4096 (length high.old) }
+) -> bool
+    requires low { length low_pages.old ≡ pages_of 4096 (length low.old) }
+    requires high { length high_pages.old ≡ pages_of 4096 (length high.old) }
     requires lies { TakenLiesIn (length low.old ∷ length high.old ∷ []) taken }
     requires fits { length reply.now ≤ room_places taken.chain }
     ensures stored { (layout : List Region) (fetched : RequestAndRoom) →
-        let before = lent low.old pages.0 high.old pages.1 layout in
+        let before = lent low.old low_pages.old high.old high_pages.old layout in
         IsTaken before queue.old fetched taken →
-        lent low.new result.1.0 high.new result.1.1 layout ≡ returned before queue.old taken.head (room_of fetched) reply.now }
-    ensures told { (layout : List Region) (fetched : RequestAndRoom) → IsTaken (lent low.old pages.0 high.old pages.1 layout) queue.old fetched taken →
-        result.0 ≡ wants_notice (lent low.new result.1.0 high.new result.1.1 layout) queue.old }
+        lent low.new low_pages.new high.new high_pages.new layout ≡ returned before queue.old taken.head (room_of fetched) reply.now }
+    ensures told { (layout : List Region) (fetched : RequestAndRoom) →
+        IsTaken (lent low.old low_pages.old high.old high_pages.old layout) queue.old fetched taken →
+        result ≡ wants_notice (lent low.new low_pages.new high.new high_pages.new layout) queue.old }
     ensures queue { queue.new ≡ advanced queue.old }
     ensures low_len { length low.new ≡ length low.old }
     ensures high_len { length high.new ≡ length high.old }
 {
-    let (low_pages, high_pages) = pages;
     let mut host = LentMemory {
         low,
         high,
@@ -204,8 +191,8 @@ pub fn give_back_over(
     let LentMemory {
         low: _low,
         high: _high,
-        low_pages,
-        high_pages,
+        low_pages: _low_pages,
+        high_pages: _high_pages,
     } = host;
-    (told, (low_pages, high_pages))
+    told
 }

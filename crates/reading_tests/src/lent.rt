@@ -67,22 +67,31 @@ const ROWS: &[Row<'static>] = &[
     },
 ];
 
-// The pages of a block of so many bytes, none of which is marked.
-fn clear<B: NewBitmap>(rt: &impl Abort, alloc: Global, byte_size: usize) -> IoPages<B>
-    ensures { length result ≡ B.count byte_size }
-{
-    IoPages::with_len(alloc, byte_size).expect(rt, "memory")
-}
-
-// Two slices that are lent.
-fn lent<'a>(
+// The pages of two slices, none of which is marked.
+fn clear<B: NewBitmap>(
     rt: &impl Abort,
     alloc: Global,
+    low: &[u8],
+    high: &[u8],
+) -> (IoPages<B>, IoPages<B>)
+    ensures low { length result.0 ≡ B.count (length low.now) }
+    ensures high { length result.1 ≡ B.count (length high.now) }
+{
+    let low_pages = IoPages::with_len(alloc, low.len()).expect(rt, "memory");
+    let high_pages = IoPages::with_len(alloc, high.len()).expect(rt, "memory");
+    (low_pages, high_pages)
+}
+
+// Two slices that are lent with their pages.
+fn lent<'a, B: NewBitmap>(
     low: &'a mut [u8],
     high: &'a mut [u8],
-) -> LentMemory<'a, PageBitmap> {
-    let low_pages = clear(rt, alloc, low.len());
-    let high_pages = clear(rt, alloc, high.len());
+    low_pages: &'a mut IoPages<B>,
+    high_pages: &'a mut IoPages<B>,
+) -> LentMemory<'a, B>
+    requires low { length low_pages.old ≡ B.count (length low.old) }
+    requires high { length high_pages.old ≡ B.count (length high.old) }
+{
     LentMemory {
         low,
         high,
@@ -117,13 +126,13 @@ fn end_loan(host: LentMemory<'_, PageBitmap>) {
 }
 
 // The pages that are marked: the one of the first slice, and the four of the second.
-fn marked(host: &LentMemory<'_, PageBitmap>) -> [bool; 5] {
+fn marked(low: &IoPages<PageBitmap>, high: &IoPages<PageBitmap>) -> [bool; 5] {
     [
-        host.low_pages.dirty_at(0),
-        host.high_pages.dirty_at(0),
-        host.high_pages.dirty_at(0x1000),
-        host.high_pages.dirty_at(0x2000),
-        host.high_pages.dirty_at(0x3000),
+        low.dirty_at(0),
+        high.dirty_at(0),
+        high.dirty_at(0x1000),
+        high.dirty_at(0x2000),
+        high.dirty_at(0x3000),
     ]
 }
 
@@ -138,7 +147,8 @@ fn asked(rt: &impl Abort, alloc: Global, way: Way, row: &Row<'_>) -> Asked {
     let guest = asking(rt, alloc, REGIONS, RING, row.asks, REQUEST_AT, row.room);
     let mut low = guest.read(alloc, 0, 0x1000).expect(rt, "a region");
     let mut high = guest.read(alloc, 0x1000, 0x4000).expect(rt, "a region");
-    let mut host = lent(rt, alloc, &mut low, &mut high);
+    let (mut low_pages, mut high_pages) = clear(rt, alloc, &low, &high);
+    let mut host = lent(&mut low, &mut high, &mut low_pages, &mut high_pages);
     let mem = regions_over(rt, alloc, &host);
     assert!(rt; mem.is_held(&host));
     let mut device = device(rt, alloc, RING, true);
@@ -154,8 +164,8 @@ fn asked(rt: &impl Abort, alloc: Global, way: Way, row: &Row<'_>) -> Asked {
         serve(rt, alloc, &mut device, &mut host, &mem, way),
         told,
     );
-    expect_same(rt, marked(&host), row.marked);
     end_loan(host);
+    expect_same(rt, marked(&low_pages, &high_pages), row.marked);
     expect_at(rt, &low, (0x200, &row.used));
     expect_at(rt, &low, row.low);
     expect_at(rt, &high, row.high);

@@ -13,20 +13,20 @@ use crate::window::VolatileSlice;
 use vm_bitmaps::{Bitmap, NewBitmap};
 use vm_iotlb::Iotlb;
 
-/// Memory that a monitor owns and lends for a call, in two slices, of which each may be empty. There is no table of an
-/// IOMMU and no set of I/O pages. Clauses see both references. It isn't dropped but taken apart by a pattern: so who
-/// lent the slices knows what stands in them afterwards.
+/// Memory that a monitor owns and lends for a call with its dirty pages, in two slices, of which each may be empty. There is
+/// no table of an IOMMU and no set of I/O pages. Clauses see the references. It isn't dropped but taken apart by a pattern:
+/// so who lent slices and pages knows what stands in them afterwards.
 pub struct LentMemory<'a, B: NewBitmap> {
     /// Block 0.
     pub low: &'a mut [u8],
     /// Block 1.
     pub high: &'a mut [u8],
     /// The dirty pages of block 0, of 4096 bytes each, as many as `B` counts for its length.
-    pub low_pages: IoPages<B>,
+    pub low_pages: &'a mut IoPages<B>,
     /// The dirty pages of block 1.
-    pub high_pages: IoPages<B>,
-    pub ghost low_covered: { length low_pages ≡ B.count (length low.now) },
-    pub ghost high_covered: { length high_pages ≡ B.count (length high.now) },
+    pub high_pages: &'a mut IoPages<B>,
+    pub ghost low_covered: { length low_pages.now ≡ B.count (length low.now) },
+    pub ghost high_covered: { length high_pages.now ≡ B.count (length high.now) },
 }
 
 // Some bytes of a block.
@@ -86,13 +86,14 @@ impl<'a, B: NewBitmap> HostBlocks for LentMemory<'a, B> {
     ghost use Rattle.std.proofs.Common.{◌∙◌};
     ghost use Rattle.vm_memory_core.specs.Host.{of_two};
 
-    ghost host = { λ m. of_two (record { bytes = m.low.now; marks = m.low_pages }) (record { bytes = m.high.now; marks = m.high_pages }) };
+    ghost host = { λ m. of_two (record { bytes = m.low.now; marks = m.low_pages.now }) (record { bytes = m.high.now; marks = m.high_pages.now }) };
 
-    ghost IsSameLoan = { λ old new. (new.low.ghost_name ≡ old.low.ghost_name) × (new.high.ghost_name ≡ old.high.ghost_name) };
+    ghost IsSameLoan = { λ old new. (new.low.ghost_name ≡ old.low.ghost_name) × (new.high.ghost_name ≡ old.high.ghost_name)
+        × (new.low_pages.ghost_name ≡ old.low_pages.ghost_name) × (new.high_pages.ghost_name ≡ old.high_pages.ghost_name) };
 
-    ghost reflexive = { λ m. (refl, refl) };
+    ghost reflexive = { λ m. (refl, refl, refl, refl) };
 
-    ghost composes = { λ a b c first second. (second.0 ∙ first.0, second.1 ∙ first.1) };
+    ghost composes = { λ a b c first second. (second.0 ∙ first.0, second.1 ∙ first.1, second.2 ∙ first.2, second.3 ∙ first.3) };
 
     fn block_len(&self, block: usize) -> Option<usize> {
         match block {
@@ -115,9 +116,9 @@ impl<'a, B: NewBitmap> HostBlocks for LentMemory<'a, B> {
         let offset = window.block_offset();
         let mark = window.io().is_none();
         if window.block() == 0 {
-            write_block(&mut *self.low, &mut self.low_pages, offset, bytes, mark);
+            write_block(&mut *self.low, &mut *self.low_pages, offset, bytes, mark);
         } else {
-            write_block(&mut *self.high, &mut self.high_pages, offset, bytes, mark);
+            write_block(&mut *self.high, &mut *self.high_pages, offset, bytes, mark);
         }
     }
 
@@ -127,9 +128,9 @@ impl<'a, B: NewBitmap> HostBlocks for LentMemory<'a, B> {
         source: &mut S,
     ) -> Result<usize, S::Error> {
         if window.block() == 0 {
-            read_block(&mut *self.low, &mut self.low_pages, window, source)
+            read_block(&mut *self.low, &mut *self.low_pages, window, source)
         } else {
-            read_block(&mut *self.high, &mut self.high_pages, window, source)
+            read_block(&mut *self.high, &mut *self.high_pages, window, source)
         }
     }
 

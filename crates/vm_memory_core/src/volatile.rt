@@ -11,8 +11,8 @@ pub trait ReadVolatile {
     // What one read may answer: before, most bytes, answer, after.
     ghost gives: { Self → ℕ → Result (List ℕ) Self.Error → Self → Type 0 };
 
-    /// Reads to the front of a buffer, and answers how many bytes. What lies behind them stays, and all of the buffer
-    /// with an error.
+    /// Reads to the front of a buffer, and answers how many bytes. The buffer may hold bytes of a guest, which are no input:
+    /// what lies behind those that came stays as it was, and all of the buffer with an error.
     fn read_volatile(&mut self, buf: &mut [u8]) -> Result<usize, Self::Error>
         ensures within { moved result ≤ length buf.old }
         ensures rest { buf.new ≡ take (moved result) buf.new ++ drop (moved result) buf.old }

@@ -6,8 +6,8 @@ use Rattle.vm_memory_core.proofs.lent.LentMemoryHostBlocks.read_volatile_from.Go
 pub returns-then-block-eq0-clause-reads : goal.returns-then-block-eq0-clause-reads
 returns-then-block-eq0-clause-reads g c =
     let r = c.read_block.ensures.reads in
-    let low : Block = record { bytes = c.args.self.now.low.now; marks = c.args.self.now.low_pages } in
-    let high : Block = record { bytes = c.args.self.now.high.now; marks = c.args.self.now.high_pages } in
+    let low : Block = record { bytes = c.args.self.now.low.now; marks = c.args.self.now.low_pages.now } in
+    let high : Block = record { bytes = c.args.self.now.high.now; marks = c.args.self.now.high_pages.now } in
     let new : Block = record { bytes = c.read_block.new.block; marks = c.read_block.new.pages } in
     let stored = low_stored low high c.args.window c.requires new r.0 _ _ (omega (arith, c.block.ensures)) refl refl r.1 r.2 r.4
     (omega (arith, c.read_block.ensures.fits, r.3)) c.read_block.ensures.from in
@@ -16,8 +16,8 @@ returns-then-block-eq0-clause-reads g c =
 pub returns-else-block-eq0-clause-reads : goal.returns-else-block-eq0-clause-reads
 returns-else-block-eq0-clause-reads g c =
     let r = c.read_block-else-block-eq0.ensures.reads in
-    let low : Block = record { bytes = c.args.self.now.low.now; marks = c.args.self.now.low_pages } in
-    let high : Block = record { bytes = c.args.self.now.high.now; marks = c.args.self.now.high_pages } in
+    let low : Block = record { bytes = c.args.self.now.low.now; marks = c.args.self.now.low_pages.now } in
+    let high : Block = record { bytes = c.args.self.now.high.now; marks = c.args.self.now.high_pages.now } in
     let new : Block = record { bytes = c.read_block-else-block-eq0.new.block; marks = c.read_block-else-block-eq0.new.pages } in
     let stored = high_stored low high c.args.window c.requires new r.0 _ _ (omega (arith, c.block.ensures, c.requires.0)) refl refl r.1 r.2 r.4
     (omega (arith, c.read_block-else-block-eq0.ensures.fits, r.3)) c.read_block-else-block-eq0.ensures.from in
