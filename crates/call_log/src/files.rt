@@ -1,4 +1,4 @@
-//! The file system: two files that never change, and a log that grows by each call.
+//! The file system: three files that never change, and a log that grows by each call.
 
 ghost use Rattle.std.specs.Prelude.{◌≡◌, ⊤, [], option_map};
 ghost use Rattle.fuse_fs.specs.Answers.{attr_answer, pair_numbers};

@@ -1,6 +1,7 @@
 //! Reading a record from a source.
 
-ghost use Rattle.std.specs.Prelude.{◌≡◌, ◌==◌, ◌||◌, ◌<◌, ◌≤◌, ℕ, List, [], Some, None, true, false, length, OnOk, IfOk, IfErr, IfSome, IfNone};
+ghost use Rattle.std.specs.Prelude.{◌≡◌, ◌==◌, ◌||◌, ◌<◌, ◌≤◌, ℕ, List, [], Some, None, true, false};
+ghost use Rattle.std.specs.Prelude.{length, OnOk, IfOk, IfErr, IfSome, IfNone};
 ghost use Rattle.std.specs.Io.KnownBytes.{Consumes};
 ghost use Rattle.vm_values.specs.Fields.{spelled, AllFit};
 ghost use Rattle.device_record.specs.Record.{HasKnownBits, IsRecordFor, IsSavedQueue, end_bytes, head_error, head_of, saved, queue_bytes};

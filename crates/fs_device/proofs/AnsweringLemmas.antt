@@ -1,6 +1,14 @@
 -- requests that stand in one window
-use Rattle.std.proofs.Common.{◌≡◌, ℕ, ◌-◌, Bool, List, [], ◌∷◌, length, map, Some, Ok, take, drop, ◌++◌, append-nil, take-append-drop, take_all, length-drop, le_refl, ap, sym, ◌∙◌, arith, slice_get}
+use Rattle.std.proofs.Common.{◌≡◌, ℕ, ◌-◌, refl, Bool, false, List, [], ◌∷◌, length, map, Some, Ok, take, drop, ◌++◌, append-nil, take-append-drop, take_all, length-drop, le_refl, ap, sym, ◌∙◌, arith, get_or, ◌≤◌}
 use Rattle.std.proofs.lemmas.List.{length-map}
+use Rattle.std.proofs.lemmas.Nat.{from_le_bytes-to_le_bytes_4}
+use Rattle.std.specs.Int.{w32, from_le_bytes, to_le_bytes}
+use Rattle.vm_values.specs.Fields.{AllFit, Fits, field_bytes, spelled}
+use Rattle.fuse_in.specs.Records.{in_header}
+use Rattle.fuse_in.specs.Shapes.{fields_by}
+use Rattle.fuse_in.specs.declared.session.InHeader.{InHeader}
+use Rattle.fs_device.specs.Books.{number_at}
+use Rattle.fs_device.proofs.MeaningLemmas.{opcode_there}
 use Rattle.vm_memory_core.specs.Host.{Host}
 use Rattle.vm_memory_core.specs.Window.{Window, byte_in, places, places_of}
 use Rattle.vm_memory.specs.Memory.{Memory}
@@ -11,15 +19,20 @@ use Rattle.virtiofsd_fuse.specs.Serving.{May}
 use Rattle.fs_device.specs.declared.serving.Returned.{Returned}
 use Rattle.fs_device.specs.DeviceView.{request_of}
 use Rattle.fs_device.specs.Returned.{StepTold, told_exchange}
+use Rattle.fs_device.specs.ShortWay.{is_one_of}
 use Rattle.fs_device.specs.Step.{State, Exchange, Exchanged, Calls, Step}
 
 -- a list of one element is that element's
-pub sole : {A : Type 0} (l : List A) (a : A) → length l ≡ 1 → slice_get l 0 ≡ Some a → l ≡ a ∷ []
-sole [] a n there = absurd (omega (arith, n))
-sole (b ∷ []) a n there =
-    let same : b ≡ a = cc in
-    ap (λ x. x ∷ []) same
-sole (b ∷ c ∷ l) a n there = absurd (omega (arith, n))
+pub sole_there : {A : Type 0} (l : List A) (a : A) → length l ≡ 1 → a ≡ get_or l 0 a → l ≡ a ∷ []
+sole_there [] a n there = absurd (omega (arith, n))
+sole_there (b ∷ []) a n there = ap (λ x. x ∷ []) (sym there)
+sole_there (b ∷ c ∷ l) a n there = absurd (omega (arith, n))
+
+-- windows that aren't one
+pub not_one : (least : ℕ) (l : List Window) → (length l ≡ 1 → ⊥) → is_one_of least l ≡ false
+not_one least [] other = refl
+not_one least (w ∷ []) other = absurd (other refl)
+not_one least (w ∷ v ∷ l) other = refl
 
 -- the places of one window are its own
 pub places_of_sole : (w : Window) → places (w ∷ []) ≡ places_of w
@@ -48,3 +61,11 @@ pub told_step : {F : Type 0} (may : May F) (before : State F) (i : ℕ) (x : Exc
 told_step may before i x notice after r step head request reply fault told =
     let same : r ≡ told_exchange x notice = λ j. record { head = head j; request_len = request j; reply_len = reply j; fault = fault j; notify = told j } in
     (step.0, Exchanged x notice, step.1, ap (λ y. Ok (Some y)) same)
+
+-- a header's opcode, in the request that begins with it
+pub header_opcode : (bs : List ℕ) (h : InHeader) → 40 ≤ length bs → take 40 bs ≡ spelled (fields_by in_header h) → AllFit (fields_by in_header h) →
+    h.opcode ≡ number_at w32 bs 4
+unfolding field_bytes Fits
+header_opcode bs h long is fits =
+    let there : take 4 (drop 4 (take 40 bs)) ≡ to_le_bytes w32 h.opcode = ap (λ l. take 4 (drop 4 l)) is in
+    sym (from_le_bytes-to_le_bytes_4 h.opcode fits.1.0) ∙ ap (from_le_bytes w32) (sym there ∙ opcode_there bs long)

@@ -411,7 +411,7 @@ unfolding meant
 header_fits n g bytes = by_opcode n g (nat_le g.header.len 0x101000) (opcode_of g.header.opcode) bytes
 
 -- the opcode stands in the front of the request as in the front of its header
-opcode_there : (bs : List ℕ) → 40 ≤ length bs → take 4 (drop 4 (take 40 bs)) ≡ take 4 (drop 4 bs)
+pub opcode_there : (bs : List ℕ) → 40 ≤ length bs → take 4 (drop 4 (take 40 bs)) ≡ take 4 (drop 4 bs)
 opcode_there [] l = absurd (omega arith)
 opcode_there (a ∷ []) l = absurd (omega arith)
 opcode_there (a ∷ b ∷ []) l = absurd (omega arith)

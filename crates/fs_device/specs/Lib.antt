@@ -22,3 +22,4 @@ pub mod ExamplesOfRuns
 pub mod ExamplesOfMoves
 pub mod ExamplesOfMarks
 pub mod ReplyFront
+pub mod ShortWay

@@ -1,5 +1,5 @@
 -- What a chain is answered that is yet to be written: all of the reply, or its header, with the data in its place already.
-use Rattle.std.specs.Prelude.{◌≡◌, ℕ, List, length, Option}
+use Rattle.std.specs.Prelude.{◌≡◌, ℕ, Bool, true, false, List, length, Option}
 use Rattle.vm_memory_core.specs.Host.{Host}
 use Rattle.fs_queue.specs.declared.chain.Taken.{Taken}
 use Rattle.fs_queue.specs.Taking.{RequestAndRoom}
@@ -18,6 +18,11 @@ use Rattle.fs_device.specs.DeviceView.{ServesChain, request_of, server_state}
 abbrev pub front_bytes : Front → List ℕ
 front_bytes (Reply bytes) = bytes.items
 front_bytes (Header bytes) = bytes
+
+-- whether they are the header's alone
+abbrev pub is_header : Front → Bool
+is_header (Reply bytes) = false
+is_header (Header bytes) = true
 
 -- the exchange of a chain with this head that was offered so, by this reply or fault
 abbrev pub replied : (head : ℕ) → RequestAndRoom → (reply : List ℕ) → Option Fault → Exchange

@@ -1,7 +1,7 @@
 //! A chain is answered without its request's bytes being handed out: the data of a WRITE that stands in one window is
 //! read where it stands.
 
-ghost use Rattle.std.specs.Prelude.{◌≡◌, ◌≤◌, ◌<◌, ◌^◌, [], ◌∷◌, ◌++◌, ◌+◌, length, map, IfOk, IfSome, OnErr};
+ghost use Rattle.std.specs.Prelude.{◌≡◌, ◌≤◌, ◌<◌, ◌^◌, [], ◌++◌, ◌+◌, length, map, is_some, IfOk, IfSome, OnErr};
 ghost use Rattle.vm_memory_core.specs.Host.{lengths};
 ghost use Rattle.vm_memory_core.specs.Window.{AllLieIn, byte_in, places};
 ghost use Rattle.vm_memory.specs.Memory.{Memory};
@@ -16,7 +16,7 @@ use fuse_fs::FileSystem;
 use fuse_wire::{InHeader, Opcode};
 use std::alloc::{AllocError, Global};
 use virtiofsd_fuse::{Reader, Server, Writer};
-use vm_memory_core::{HostBlocks, VolatileSlice};
+use vm_memory_core::HostBlocks;
 use vm_values::ByteValued;
 
 /// How many bytes stand before the data of a WRITE: `struct fuse_in_header` and `struct fuse_write_in` (linux/fuse.h).
@@ -32,42 +32,40 @@ pub(crate) struct Answered {
 ghost use Rattle.fs_device.specs.Step.{Calls};
 ghost use Rattle.fs_device.specs.Answering.{IsAnswered, exchange_with};
 ghost use Rattle.fs_device.specs.DeviceView.{request_of, server_state, ServesChain};
+ghost use Rattle.fs_device.specs.ShortWay.{begins_a_write, is_one_of, is_write};
+ghost use Rattle.fuse_wire.specs.Opcodes.{opcode_of};
 
-// The window that a request stands in, where it is one.
+// Whether a number is a WRITE's.
 #[inline(always)]
-#[tactic(auto, using(crate::proofs::AnsweringLemmas::sole))]
-fn sole_window(chain: &Chain) -> Option<VolatileSlice>
-    ensures { IfSome result (λ w. chain.now.readable.items ≡ w ∷ []) }
+fn names_write(opcode: u32) -> bool
+    ensures { result ≡ is_write (opcode_of opcode) }
 {
-    if chain.readable.len() == 1 {
-        Some(chain.readable[0])
-    } else {
-        None
-    }
+    matches!(Opcode::try_from(opcode), Ok(Opcode::Write))
 }
 
-// Whether a request's header is that of a WRITE.
+// Whether a request that begins so is a WRITE, by its header's opcode.
 #[inline(always)]
-fn is_write(request: &[u8]) -> bool
-    requires long { 80 ≤ length request.now }
+fn is_write(headers: &[u8; WRITE_HEADERS]) -> bool
+    ensures { result ≡ begins_a_write headers.now }
 {
-    let head = InHeader::get_bytes(&request[..InHeader::SIZE]);
-    head.opcode == Opcode::Write.number()
+    let head = InHeader::get_bytes(&headers[..InHeader::SIZE]);
+    names_write(head.opcode)
 }
 
-// The bytes of a request that stands in one window, where these are the headers of a WRITE and its data; else none.
+// The bytes of a request that stands in one window, where there are as many as stand before a WRITE's data; else none.
 #[inline(always)]
-#[tactic(auto, unfolding(vm_memory_core::specs::Window::AllLieIn), using(crate::proofs::AnsweringLemmas::places_of_sole))]
-fn write_in_place<'a, H: HostBlocks>(host: &'a H, chain: &Chain) -> Option<&'a [u8]>
+#[tactic(auto, unfolding(vm_memory_core::specs::Window::AllLieIn), using(crate::proofs::AnsweringLemmas::not_one))]
+fn sole_bytes<'a, H: HostBlocks>(host: &'a H, chain: &Chain) -> Option<&'a [u8]>
     requires lie { AllLieIn (lengths (H.host host.now)) chain.now.readable.items }
     ensures bytes { IfSome result (λ b. b.now ≡ map (byte_in (H.host host.now)) (places chain.now.readable.items)) }
+    ensures some { is_some result ≡ is_one_of 80 chain.now.readable.items }
     ensures long { IfSome result (λ b. 80 ≤ length b.now) }
 {
-    let bytes = match sole_window(chain) {
-        Some(window) => host.bytes(window),
-        None => return None,
-    };
-    if bytes.len() >= WRITE_HEADERS && is_write(bytes) {
+    if chain.readable.len() != 1 {
+        return None;
+    }
+    let bytes = host.bytes(chain.readable[0]);
+    if bytes.len() >= WRITE_HEADERS {
         Some(bytes)
     } else {
         None
@@ -91,30 +89,31 @@ fn reader_of_both<'a>(alloc: Global, headers: &'a [u8], behind: &'a [u8]) -> Opt
     }
 }
 
-// Has the server answer a request of which what stands before a WRITE's data is copied first, so that it is read once;
-// the rest is read where it stands. Nothing where memory was wanting, and then nothing changed.
+// Has the server answer a request by a copy of what stands before a WRITE's data, and by the rest, which is read where it
+// stands. Nothing where memory was wanting, and then nothing changed.
 #[inline(always)]
 fn answer_in_place<F: FileSystem>(
     alloc: Global,
     server: &mut Server<F>,
-    request: &[u8],
+    headers: &[u8; WRITE_HEADERS],
+    behind: &[u8],
     room: Writer,
 ) -> Option<Reply>
-    requires long { 80 ≤ length request.now }
+    requires long { 80 + length behind.now < 2 ^ 64 }
     requires unwritten { room.written ≡ [] }
     requires short { room.free < 2 ^ 32 }
-    ensures answered { IsAnswered F.may server.old request.now room.free result server.new }
+    ensures answered { IsAnswered F.may server.old (headers.now ++ behind.now) room.free result server.new }
     ensures page_size { server.new.page_size ≡ server.old.page_size }
 {
-    let mut headers = [0; WRITE_HEADERS];
-    headers.copy_from_slice(&request[..WRITE_HEADERS]);
-    match reader_of_both(alloc, &headers, &request[WRITE_HEADERS..]) {
+    match reader_of_both(alloc, headers, behind) {
         Some(reader) => answer(alloc, server, reader, room),
         None => None,
     }
 }
 
-// Has the server answer a chain's request. Nothing where memory was wanting, and then nothing changed.
+// Has the server answer a chain's request. Of one in a single window that is long enough for a WRITE the headers are copied,
+// once: whether it is one is asked of the copy, and the copy is what is served. Any other is fetched whole. Nothing where
+// memory was wanting, and then nothing changed.
 #[inline(always)]
 fn answer_chain<F: FileSystem, H: HostBlocks>(
     alloc: Global,
@@ -129,8 +128,12 @@ fn answer_chain<F: FileSystem, H: HostBlocks>(
     ensures answered { IsAnswered F.may server.old (map (byte_in (H.host host.now)) (places chain.now.readable.items)) room.free result server.new }
     ensures page_size { server.new.page_size ≡ server.old.page_size }
 {
-    if let Some(request) = write_in_place(host, chain) {
-        return answer_in_place(alloc, server, request, room);
+    if let Some(request) = sole_bytes(host, chain) {
+        let mut headers = [0; WRITE_HEADERS];
+        headers.copy_from_slice(&request[..WRITE_HEADERS]);
+        if is_write(&headers) {
+            return answer_in_place(alloc, server, &headers, &request[WRITE_HEADERS..], room);
+        }
     }
     match host.fetch_windows(alloc, &chain.readable, chain.request_len()) {
         Ok(request) => answer(alloc, server, Reader::of_slice(alloc, &request), room),

@@ -1,6 +1,6 @@
 //! A READ is answered with its data put where it goes.
 
-ghost use Rattle.std.specs.Prelude.{◌≡◌, ℕ, ◌+◌, ◌<◌, ◌≤◌, ◌^◌, List, ◌++◌, length, map, IfNone, IfOk, IfSome, IsTrue, Ok, OnErr};
+ghost use Rattle.std.specs.Prelude.{◌≡◌, ℕ, ◌+◌, ◌<◌, ◌≤◌, ◌^◌, List, ◌++◌, length, map, IfNone, IfOk, IfSome, IsTrue, Ok, OnErr, is_some, ◌&&◌};
 ghost use Rattle.vm_memory_core.specs.Host.{lengths, shape};
 ghost use Rattle.vm_memory_core.specs.Window.{AllLieIn, LiesIn, Window, byte_in, places};
 ghost use Rattle.vm_memory.specs.Memory.{Memory};
@@ -25,7 +25,8 @@ use vm_memory_core::{HostBlocks, VolatileSlice};
 /// The length of a READ in bytes: `struct fuse_in_header` and `struct fuse_read_in` (linux/fuse.h).
 const READ_LEN: usize = 80;
 
-ghost use Rattle.fs_device.specs.ReplyFront.{AnswersFront, front_bytes};
+ghost use Rattle.fs_device.specs.ReplyFront.{AnswersFront, front_bytes, is_header};
+ghost use Rattle.fs_device.specs.ShortWay.{hold_a_read, reads_in_place};
 
 // Has a READ's data put into a window.
 fn read_to_window<F: FileSystem, H: HostBlocks>(
@@ -55,6 +56,7 @@ fn read_of<H: HostBlocks>(alloc: Global, host: &H, chain: &Chain) -> Option<Read
     ensures means { (options room : ℕ) → 16 ≤ room →
         IfSome result (λ q. meaning options (map (byte_in (H.host host.now)) (places chain.now.readable.items)) room ≡ read_meaning q room) }
     ensures size { IfSome result (λ q. length (places chain.now.readable.items) ≡ 80) }
+    ensures some { is_some result ≡ hold_a_read (H.host host.now) chain.now.readable.items }
 {
     if chain.request_len() != READ_LEN {
         return None;
@@ -64,9 +66,9 @@ fn read_of<H: HostBlocks>(alloc: Global, host: &H, chain: &Chain) -> Option<Read
     ReadRequest::of_bytes(alloc, &request)
 }
 
-// Answers a chain that was taken, where its request is a READ, and what stands behind the first 16 bytes of its room is one
-// window that has no byte in common with those: the data is put there. None of any other chain, and where reads that fail
-// may put something in; then nothing changed.
+// Answers a chain that was taken, where its request is a READ, its room is one window or two, and what stands behind the
+// room's first 16 bytes is one window that has no byte in common with those: the data is put there. None of any other chain,
+// and where reads that fail may put something in; then nothing changed.
 fn answer_read<F: FileSystem, H: HostBlocks>(
     alloc: Global,
     server: &mut Server<F>,
@@ -78,7 +80,9 @@ fn answer_read<F: FileSystem, H: HostBlocks>(
     ensures some { (m : Memory) (q : Queue) (fetched : RequestAndRoom) → m.host ≡ H.host host.old → IsTaken m q fetched taken.now →
         IfSome result (λ a. AnswersFront F.may server.old (H.host host.old) taken.now fetched a (H.host host.new) server.new) }
     ensures none { IfNone result ((server.new ≡ server.old) × (host.new ≡ host.old)) }
-    ensures fits { IfSome result (λ a. (length (front_bytes a.front) ≤ room_places taken.now.chain) × (a.len < 2 ^ 32)) }
+    ensures taken { is_some result ≡ (F.reads_whole server.old.fs && reads_in_place (H.host host.old) taken.now.chain) }
+    ensures header { IfSome result (λ a. IsTrue (is_header a.front)) }
+    ensures fits { IfSome result (λ a. (length (front_bytes a.front) ≤ room_places taken.now.chain) × (a.len ≤ room_places taken.now.chain)) }
     ensures shape { shape (H.host host.new) ≡ shape (H.host host.old) }
     ensures loan { H.IsSameLoan host.old host.new }
     ensures page_size { server.new.page_size ≡ server.old.page_size }
@@ -112,7 +116,8 @@ pub(crate) fn answer_front<F: FileSystem, H: HostBlocks>(
     requires short { room_places taken.now.chain < 2 ^ 32 }
     ensures exchange { (m : Memory) (q : Queue) (fetched : RequestAndRoom) → m.host ≡ H.host host.old → IsTaken m q fetched taken.now →
         IfOk result (λ a. AnswersFront F.may server.old (H.host host.old) taken.now fetched a (H.host host.new) server.new) }
-    ensures fits { IfOk result (λ a. (length (front_bytes a.front) ≤ room_places taken.now.chain) × (a.len < 2 ^ 32)) }
+    ensures fits { IfOk result (λ a. (length (front_bytes a.front) ≤ room_places taken.now.chain) × (a.len ≤ room_places taken.now.chain)) }
+    ensures way { IfOk result (λ a. is_header a.front ≡ (F.reads_whole server.old.fs && reads_in_place (H.host host.old) taken.now.chain)) }
     ensures err { OnErr result ((server.new.options.0 ≡ server.old.options.0) × (server.new.fs ≡ server.old.fs) × (H.host host.new ≡ H.host host.old)) }
     ensures shape { shape (H.host host.new) ≡ shape (H.host host.old) }
     ensures loan { H.IsSameLoan host.old host.new }

@@ -31,8 +31,10 @@ ghost use Rattle.fs_device.specs.Returned.{StepTold};
 impl<F: FileSystem> Device<F> {
     /// Serves the next chain of a queue, by its number from 0, as `process_one` does, and tells what was exchanged
     /// without its bytes; None where no chain waits. The data of a WRITE whose request is one window isn't copied: the
-    /// file system reads it where it stands. Nor is that of a READ whose room has one window behind the reply's header,
-    /// where reads that fail put nothing in (`FileSystem::reads_whole`): the file system puts it where it goes. The refusals are those of `process_one`.
+    /// file system reads it where it stands. Nor is that of a READ of 80 bytes (`struct fuse_in_header` and
+    /// `struct fuse_read_in`, linux/fuse.h) whose room is one window or two, of which what is behind the 16 bytes of the
+    /// reply's header is one, apart from these, where reads that fail put nothing in (`FileSystem::reads_whole`): the file
+    /// system puts it where it goes. The refusals are those of `process_one`.
     pub fn serve_one<M: GuestMemory, H: HostBlocks>(
         &mut self,
         alloc: Global,

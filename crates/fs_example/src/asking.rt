@@ -93,7 +93,8 @@ impl<'a> Monitor<'a> {
     /// Has the guest look a name up, and read its file piece by piece until there is no more: each READ but the last gets
     /// at least a byte. A name that no file has is `Failed(-2)` (ENOENT).
     pub fn read_file(&mut self, name: &[u8]) -> Result<Vec<u8>, MonitorError>
-        ensures { IfOk result (λ contents. ReadsFile (machine_of_monitor self.old) (chains_of self.old) name.now contents.items (machine_of_monitor self.new)) }
+        ensures { IfOk result (λ contents.
+            ReadsFile (machine_of_monitor self.old) (chains_of self.old) name.now contents.items (machine_of_monitor self.new)) }
     {
         if name.len() > NAME_MAX {
             return Err(MonitorError::LongName);

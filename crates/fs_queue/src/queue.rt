@@ -196,9 +196,10 @@ impl Queue {
     ) -> bool
         requires lies { TakenLiesIn (lengths (H.host host.old)) taken.old }
         requires fits { length front.now ≤ room_places taken.old.chain }
-        requires short { len < 2 ^ 32 }
+        requires room { len ≤ room_places taken.old.chain }
         ensures stored { (m : Memory) (fetched : RequestAndRoom) (reply : List ℕ) →
-            PutFrontLast m.host (H.host host.old) (chain_places taken.old.chain) front.now reply → length reply ≡ len → IsTaken m self.old fetched taken.old →
+            PutFrontLast m.host (H.host host.old) (chain_places taken.old.chain) front.now reply → length reply ≡ len →
+            IsTaken m self.old fetched taken.old →
             record m { host = H.host host.new } ≡ returned m self.old taken.old.head (room_of fetched) reply }
         ensures told { (m : Memory) (fetched : RequestAndRoom) (reply : List ℕ) →
             PutFrontLast m.host (H.host host.old) (chain_places taken.old.chain) front.now reply → IsTaken m self.old fetched taken.old →

@@ -1,7 +1,8 @@
 //! What is taken of a chain: windows with its request and its room, and those of its return (VIRTIO 1.2, 2.7.5 to
 //! 2.7.8).
 
-ghost use Rattle.std.specs.Prelude.{ℕ, ◌≡◌, ◌+◌, ◌-◌, ◌<◌, ◌≤◌, ◌^◌, ◌++◌, List, [], min, false, true, None, Some, Ok, if◌then◌else◌};
+ghost use Rattle.std.specs.Prelude.{ℕ, ◌≡◌, ◌+◌, ◌-◌, ◌<◌, ◌≤◌, ◌^◌, ◌++◌, List, []};
+ghost use Rattle.std.specs.Prelude.{min, false, true, None, Some, Ok, if◌then◌else◌};
 ghost use Rattle.std.specs.Prelude.{IfNone, IfOk, IfSome, IsOk, IsTrue, OnOk};
 ghost use Rattle.vm_iotlb.specs.declared.permissions.Permissions.TheVariants.{Read, Write};
 ghost use Rattle.vm_memory_core.specs.Host.{lengths};
@@ -202,9 +203,11 @@ fn add_chain<M: GuestMemory, H: HostBlocks>(
     requires no_writable { writable.old.items ≡ [] }
     ensures fault { IfOk result (λ fault. fault ≡ unreachable_of (M.memory mem.now (H.host host.now)) descriptors.now) }
     ensures readable { let m = M.memory mem.now (H.host host.now) in
-        IfOk result (λ fault. IfNone fault (located (location m Read) (addresses_of (of_direction false descriptors.now)) ≡ Some (places readable.new.items))) }
+        IfOk result (λ fault. IfNone fault
+        (located (location m Read) (addresses_of (of_direction false descriptors.now)) ≡ Some (places readable.new.items))) }
     ensures writable { let m = M.memory mem.now (H.host host.now) in
-        IfOk result (λ fault. IfNone fault (located (location m Write) (addresses_of (of_direction true descriptors.now)) ≡ Some (places writable.new.items))) }
+        IfOk result (λ fault. IfNone fault
+        (located (location m Write) (addresses_of (of_direction true descriptors.now)) ≡ Some (places writable.new.items))) }
     ensures readable_lie { IfOk result (λ fault. IfNone fault (AllLieIn (lengths (H.host host.now)) readable.new.items)) }
     ensures writable_lie { IfOk result (λ fault. IfNone fault (AllLieIn (lengths (H.host host.now)) writable.new.items)) }
 {

@@ -21,7 +21,8 @@ pub trait PositionedFile {
     ghost write_gives: { Self → List ℕ → ℕ → Option ℕ → Result ℕ ℕ → Self → Type 0 };
 
     /// Reads to the front of a buffer, and answers how many bytes, at most as many as it has; or an errno of the file's
-    /// own. What lies behind them stays, and all of the buffer with an errno.
+    /// own. The buffer may hold bytes of a guest, which are no input: what lies behind those that came stays as it was, and
+    /// all of the buffer with an errno.
     fn read_at(&mut self, buf: &mut [u8], off: u64) -> Result<usize, Errno>
         ensures within { IfOk result (λ n. n ≤ length buf.old) }
         ensures rest { buf.new ≡ take (moved result) buf.new ++ drop (moved result) buf.old }

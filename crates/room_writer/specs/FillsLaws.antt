@@ -3,7 +3,7 @@ use Rattle.std.proofs.Common.{◌≡◌, ℕ, zero, suc, ◌+◌, ◌-◌, ◌�
 use Rattle.std.specs.Prelude.{Option}
 use Rattle.std.specs.List.{zip}
 use Rattle.std.proofs.lemmas.List.{take_at, drop_at, length-take-le, take-append-drop}
-use Rattle.vm_memory_core.specs.Host.{Host, Place, shape}
+use Rattle.vm_memory_core.specs.Host.{Host, Place}
 use Rattle.vm_memory_core.specs.declared.window.IoMarks.{IoMarks}
 use Rattle.vm_memory_core.specs.Window.{Window, places_of, put_all, span}
 use Rattle.vm_memory_core.specs.Parts.{part_of}

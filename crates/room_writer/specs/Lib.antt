@@ -1,3 +1,4 @@
 pub mod Fills
 pub mod FillsLaws
 pub mod Apart
+pub mod Behind

@@ -1,5 +1,11 @@
 -- A READ whose data goes elsewhere than the header of its reply.
-use Rattle.std.specs.Prelude.{ℕ, ◌-◌}
+use Rattle.std.specs.Prelude.{ℕ, ◌-◌, ◌&&◌, nat_le, Bool, true, false, Option, Some}
+use Rattle.fuse_in.specs.Records.{in_header, read_in}
+use Rattle.fuse_wire.specs.declared.opcodes.Opcode.{Opcode}
+use Rattle.fuse_wire.specs.declared.opcodes.Opcode.TheVariants as op
+use Rattle.fuse_wire.specs.Opcodes.{opcode_of}
+use Rattle.fuse_segments.specs.declared.error.Error.TheVariants.{DecodeMessage}
+use Rattle.fuse_requests.specs.Reading.{Reading, Faults, ◌>>=◌, ◌>>◌, give, needs, reading_of}
 use Rattle.fuse_calls.specs.Requests.{read_call}
 use Rattle.virtiofsd_fuse.specs.declared.reads.ReadRequest.{ReadRequest}
 use Rattle.virtiofsd_fuse.specs.Grammar.{Meaning, Asks, One}
@@ -7,3 +13,14 @@ use Rattle.virtiofsd_fuse.specs.Grammar.{Meaning, Asks, One}
 -- what a READ means that has this room, which holds the reply's header at least
 abbrev pub read_meaning : ReadRequest → (room : ℕ) → Meaning
 read_meaning q room = Asks (One q.header.unique (read_call q.header (room - 16) q.record))
+
+-- the request that is asked for is a READ
+abbrev pub is_read : Option Opcode → Bool
+is_read (Some op.Read) = true
+is_read _ = false
+
+-- the READ that the first bytes of a request are: a header of one, which says no length that is too great, and its record
+abbrev pub read_request : Reading ReadRequest
+read_request =
+    reading_of in_header >>= λ h. needs (nat_le h.len 0x101000 && is_read (opcode_of h.opcode)) (Faults DecodeMessage)
+    >> reading_of read_in >>= λ r. give (record { header = h; «record» = r })

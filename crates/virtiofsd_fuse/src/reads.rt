@@ -1,10 +1,10 @@
 //! READ: bytes of a file go straight into the reply.
 
-ghost use Rattle.std.specs.Prelude.{◌≡◌, ℕ, ◌+◌, ◌<◌, ◌≤◌, ◌^◌, List, [], ◌++◌, length, false, IfSome, IsTrue, Ok, Some};
+ghost use Rattle.std.specs.Prelude.{◌≡◌, ℕ, ◌+◌, ◌<◌, ◌≤◌, ◌^◌, List, [], ◌++◌, length, false, is_ok, is_some, IfSome, IsTrue, Ok, Some};
 ghost use Rattle.fuse_wire.specs.Opcodes.{opcode_of};
 ghost use Rattle.fuse_fs.specs.Transfers.{moved};
 ghost use Rattle.virtiofsd_fuse.specs.Grammar.{meaning, read_row, read_asked};
-ghost use Rattle.virtiofsd_fuse.specs.ReadApart.{read_meaning};
+ghost use Rattle.virtiofsd_fuse.specs.ReadApart.{is_read, read_meaning, read_request};
 ghost use Rattle.virtiofsd_fuse.specs.Serving.{RowHandles, Leaves, ServerHandles};
 
 use crate::server::{MAX_REQUEST_LEN, Server, opcode_of};
@@ -29,7 +29,8 @@ impl ReadRequest {
     /// The READ that a request's bytes are; None where they are another request's, are cut short, or say a length that
     /// is too great.
     pub fn of_bytes(alloc: Global, request: &[u8]) -> Option<ReadRequest>
-        ensures { (options room : ℕ) → 16 ≤ room → IfSome result (λ q. meaning options request.now room ≡ read_meaning q room) }
+        ensures some { is_some result ≡ is_ok (read_request request.now) }
+        ensures means { (options room : ℕ) → 16 ≤ room → IfSome result (λ q. meaning options request.now room ≡ read_meaning q room) }
     {
         let mut r = Reader::of_slice(alloc, request);
         let Ok(header) = read_record::<InHeader>(&mut r) else {
@@ -47,7 +48,8 @@ impl ReadRequest {
 
 // Whether a header is that of a READ.
 fn is_read(header: &InHeader) -> bool
-    ensures { IsTrue result → opcode_of header.now.opcode ≡ Some Opcode.Read }
+    ensures test { result ≡ is_read (opcode_of header.now.opcode) }
+    ensures opcode { IsTrue result → opcode_of header.now.opcode ≡ Some Opcode.Read }
 {
     matches!(opcode_of(header.opcode), Some(Opcode::Read))
 }
@@ -72,16 +74,20 @@ pub struct ReadReply {
 impl<F: FileSystem> Server<F> {
     /// Serves a READ of which the data goes to a writer, for a file system whose reads put nothing in where they fail.
     /// The header of the reply is answered; with the data behind it, it is the reply.
-    pub fn read_into<W: ZeroCopyWriter>(&mut self, request: &ReadRequest, data: &mut W) -> ReadReply
+    pub fn read_into<W: ZeroCopyWriter>(
+        &mut self,
+        request: &ReadRequest,
+        writer: &mut W,
+    ) -> ReadReply
         requires whole { IsTrue (F.reads_whole self.old.fs) }
-        requires room { 16 + W.room data.old < 2 ^ 32 }
-        ensures handles { (bytes : List ℕ) × W.Puts data.old bytes data.new × (W.room data.old ≡ W.room data.new + length bytes)
+        requires room { 16 + W.room writer.old < 2 ^ 32 }
+        ensures handles { (bytes : List ℕ) × W.Puts writer.old bytes writer.new × (W.room writer.old ≡ W.room writer.new + length bytes)
             × (result.len ≡ 16 + length bytes)
-            × ServerHandles F.may self.old (16 + W.room data.old) (read_meaning request.now (16 + W.room data.old)) (Ok result.len)
+            × ServerHandles F.may self.old (16 + W.room writer.old) (read_meaning request.now (16 + W.room writer.old)) (Ok result.len)
             (result.header ++ bytes) self.new }
         ensures page_size { self.new.page_size ≡ self.old.page_size }
     {
-        let answer = make_read_call(&mut self.fs, &request.header, &request.record, data);
+        let answer = make_read_call(&mut self.fs, &request.header, &request.record, writer);
         let len = OUT_HEADER_LEN + moved(&answer);
         ReadReply {
             header: data_header(request.header.unique, answer),

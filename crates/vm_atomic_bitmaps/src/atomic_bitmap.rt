@@ -143,7 +143,8 @@ impl AtomicBitmap {
     }
 
     /// Takes the marks of a word, in one step, a swap: the word is 0 afterwards. Bit b is page 64 * word + b. At that step
-    /// a page that the pass has marked is set, or some pass took it out before.
+    /// each page's bit is how much more often it was set than cleared by the counts of all passes, of which this is one
+    /// (`StandsAt`): a part of the passes knows its own counts and those that it met.
     #[inline]
     pub fn gather(&self, pass: &mut BitmapPass, word: usize) -> u64
         requires own { IsPassOf self.now pass.old }
@@ -158,7 +159,7 @@ impl AtomicBitmap {
     }
 
     /// Reads a word, in one step, a load. Bit b is page 64 * word + b. The pass has then seen each of its pages set or
-    /// cleared as often as its bit tells. At that step a page that it has marked is set, or some pass took it out before.
+    /// cleared as often as its bit tells. At that step the bits are those of the counts of all passes, as for `gather`.
     #[inline]
     pub fn word(&self, pass: &mut BitmapPass, word: usize) -> u64
         requires own { IsPassOf self.now pass.old }

@@ -1,8 +1,8 @@
-use Rattle.std.proofs.Common.{sym, arith, length-take-le}
+use Rattle.std.proofs.Common.{◌∙◌, ap, arith}
+use Rattle.fuse_wire.specs.Opcodes.{opcode_of}
+use Rattle.fs_device.specs.ShortWay.{is_write}
+use Rattle.fs_device.proofs.AnsweringLemmas.{header_opcode}
 use Rattle.fs_device.proofs.answering.is_write.Goals as goal
 
-pub slice_bounds-get_bytes-end : goal.slice_bounds-get_bytes-end
-slice_bounds-get_bytes-end c = sym (length-take-le 40 c.args.request.now (omega (arith, c.requires.long)))
-
-pub get_bytes-head-requires : goal.get_bytes-head-requires
-get_bytes-head-requires c = length-take-le 40 c.args.request.now (omega (arith, c.requires.long))
+pub returns : goal.returns
+returns c = c.names_write.ensures ∙ ap (λ n. is_write (opcode_of n)) (header_opcode c.args.headers.now c.get_bytes-head.result (omega (arith, c.told-headers)) c.get_bytes-head.ensures.bytes c.get_bytes-head.ensures.fits)

@@ -25,4 +25,4 @@ returns-clause-fits g c =
     let whole = whole_room (places c.deref.result.now) c.in_ok-window.window e.count e.places in
     let room = ap room_places c.in-Ok.ensures in
     let same = ap (λ ws. length (places ws)) c.deref.ensures in
-    (omega (arith, e.count, same, room), omega (arith, whole, same, room, c.requires.short, r.2.fits, r.3))
+    (omega (arith, e.count, same, room), omega (arith, whole, same, room, r.2.fits, r.3))

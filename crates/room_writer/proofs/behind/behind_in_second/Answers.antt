@@ -13,4 +13,4 @@ returns-then-are_apart-clause-places c =
 pub returns-then-are_apart-clause-apart : goal.returns-then-are_apart-clause-apart
 returns-then-are_apart-clause-apart c =
     two_apart c.args.front.now c.args.window.now c.in_ok-behind.behind c.args.count _ (omega (arith, c.len.ensures.len, c.if-len-count.false)) (omega (arith, c.len.ensures.len, c.len-2.ensures.len)) c.in_ok-behind.ensures.apart
-    (c.if-are_apart.ensures refl)
+    (c.if-are_apart.ensures.apart refl)
