@@ -18,7 +18,7 @@ fn page_count(len: usize) -> usize
 }
 
 /// The number of a block's first page, and of the block past the last the number of all pages. AllocError where it doesn't
-/// fit 64 bits, since no memory has so many bytes.
+/// fit 64 bits, since no memory has so many bytes, or where the host has fewer blocks.
 pub fn first_page<H: HostBlocks>(host: &H, block: usize) -> Result<usize, AllocError>
     ensures { IfOk result (λ first. first ≡ first_page (lengths (H.host host.now)) block) }
 {

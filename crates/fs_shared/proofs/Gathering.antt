@@ -18,7 +18,7 @@ pub either_marked : (b : Bool) → cond b true true ≡ true
 either_marked true = refl
 either_marked false = refl
 
-bit_below : (words : List ℕ) (p : ℕ) → page_bit words p < 2
+pub bit_below : (words : List ℕ) (p : ℕ) → page_bit words p < 2
 unfolding page_bit
 bit_below words p = bit_at-lt (slice_index words (p / 64)) (p % 64)
 

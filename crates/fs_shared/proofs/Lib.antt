@@ -13,3 +13,4 @@ pub mod Gathering
 pub mod Accounts
 pub mod MarksKept
 pub mod WholePasses
+pub mod RoundPages

@@ -1,5 +1,5 @@
 -- what a share marked stays marked
-use Rattle.std.proofs.Common.{◌≡◌, ℕ, ◌<◌, Bool, true, cond, List, [], ◌∷◌, length, ap, ◌∙◌, arith}
+use Rattle.std.proofs.Common.{◌≡◌, ℕ, ◌<◌, Bool, true, cond, List, [], length, ap, ◌∙◌, arith}
 use Rattle.std.specs.List.{Contains}
 use Rattle.std.proofs.lemmas.List.Elements.{All-append, All-cons, All-nil, All-weaker}
 use Rattle.vm_atomic_bitmaps.specs.declared.counts.Tally.{Tally}
@@ -10,7 +10,7 @@ use Rattle.fs_shared.specs.Laws.{CallsKeepMarks, CallsMark, JoinsKeepMarks, Meet
 use Rattle.fs_shared.proofs.Gathering.{either_marked}
 
 -- what one receipt tells is marked
-abbrev Told : List Tally → Receipt → Type 0
+abbrev pub Told : List Tally → Receipt → Type 0
 Told pages r = (page : ℕ) → page < length pages → Contains r.pages.items page → (tally_of pages page).marked ≡ true
 
 pub calls_mark : CallsMark

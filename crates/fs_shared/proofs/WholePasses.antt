@@ -1,9 +1,7 @@
 -- the halves of a pass are its part again, and the two of the first pass are the whole
 use Rattle.std.proofs.Common.{◌≡◌, ℕ, suc, ◌+◌, ◌*◌, ◌^◌, ap, sym, ◌∙◌, arith}
 use Rattle.std.proofs.lemmas.Nat.{pow-add}
-use Rattle.vm_atomic_bitmaps.specs.declared.counts.PageCounts.{PageCounts}
-use Rattle.vm_atomic_bitmaps.specs.Counts.{both_passes}
-use Rattle.fs_shared.specs.Laws.{HaveSamePart, HalvesAreWhole, JoinsGiveBack}
+use Rattle.fs_shared.specs.Laws.{HalvesAreWhole, JoinsGiveBack}
 
 -- a part in halves, each in other units
 halves_are : (a b n x y z : ℕ) → a * (2 * x) ≡ n * y → b * (2 * x) ≡ n * z → (a * z + b * y) * x ≡ n * (y * z)

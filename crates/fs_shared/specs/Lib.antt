@@ -8,3 +8,5 @@ pub mod Audit
 pub mod Shared
 pub mod JournalPages
 pub mod Marks
+pub mod Refusing
+pub mod Rounds

@@ -18,6 +18,7 @@ ghost use Rattle.fs_shared.specs.Shared.{ActsSome, IfDone, KicksSome, ReadsSome}
 
 use crate::entry::{Kicked, Parts, Receipt};
 use crate::harvest::{PageHarvest, clear_pages};
+use crate::share_error::ShareError;
 use crate::start::started;
 use crate::state::SharedState;
 use device_shares::Share;
@@ -49,17 +50,19 @@ impl<L: Ledger, F, I: Iommu + Drop> Model for SharedDevice<L, F, I> {
 }
 
 ghost use Rattle.fs_shared.specs.Marks.{AccountsFor, HasPagesOf, IsHarvestOf, first_of, kicked_pages, told_pages};
+ghost use Rattle.fs_shared.specs.declared.share_error.ShareError.TheVariants.{OutOfMemory};
 
 impl<L: Ledger, F: FileSystem, I: Iommu + Drop> SharedDevice<L, F, I> {
     /// A device over a machine, with an empty journal, a share with every part of a new ledger, and a harvest that begins clear;
     /// `parts` says how many the ledger has, at least one. The host is copied, and the journal grows without bound: whoever goes
-    /// on for long takes the device apart and makes it anew. Where memory is wanting, blank and machine come back.
+    /// on for long takes the device apart and makes it anew. Refused `OutOfMemory` alone, where memory is wanting, and then blank
+    /// and machine come back.
     pub fn new(
         alloc: Global,
         blank: Blank,
         parts: u64,
         machine: Machine<F, I>,
-    ) -> Result<(SharedDevice<L, F, I>, Share<L>, PageHarvest), (Blank, Machine<F, I>)>
+    ) -> Result<(SharedDevice<L, F, I>, Share<L>, PageHarvest), (ShareError, Blank, Machine<F, I>)>
         requires name { blank.name ≡ L.name }
         requires ledger { blank.parts ≡ L.parts }
         requires parts { blank.parts ≡ parts }
@@ -68,14 +71,15 @@ impl<L: Ledger, F: FileSystem, I: Iommu + Drop> SharedDevice<L, F, I> {
         ensures whole { IfOk result (λ made. made.1 ≡ record { parts = L.parts; count = 0; pass = kept_pass (first_of made.0) }) }
         ensures own { IfOk result (λ made. IsShareOf made.0 made.1) }
         ensures harvest { IfOk result (λ made. made.2 ≡ record { bitmap = made.0; pass = new_pass (first_of made.0) }) }
-        ensures blank { IfErr result (λ back. back.0 ≡ blank) }
-        ensures machine { IfErr result (λ back. back.1 ≡ machine) }
+        ensures refused { IfErr result (λ back. back.0 ≡ OutOfMemory) }
+        ensures blank { IfErr result (λ back. back.1 ≡ blank) }
+        ensures machine { IfErr result (λ back. back.2 ≡ machine) }
     {
         let (Ok(start), Ok((bitmap, pass, harvest))) = (
             started(alloc, &machine),
             clear_pages(alloc, &machine.host),
         ) else {
-            return Err((blank, machine));
+            return Err((ShareError::OutOfMemory, blank, machine));
         };
         let (calls, token) = blank.open::<L>();
         let share = Share::new(parts, token, pass);
@@ -208,7 +212,7 @@ impl<L: Ledger, F: FileSystem, I: Iommu + Drop> SharedDevice<L, F, I> {
 
     /// The machine, its start and its journal, where a share's count is the journal's length: so it is where the share has
     /// every part. From the start the journal replays to the machine, and the page of each byte that differs between the two
-    /// hosts is among the entries' pages. Else device and share come back.
+    /// hosts is among the entries' pages. Else device and share come back; `SharedState::is_counted` tells the two cases apart.
     pub fn into_parts(
         self,
         share: Share<L>,

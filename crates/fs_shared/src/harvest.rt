@@ -1,10 +1,10 @@
 //! Who gathers the pages that were marked in a device's bitmap, without its lock.
 
-ghost use Rattle.std.specs.Prelude.{◌≡◌, ℕ, ◌<◌, ◌≤◌, IfOk, length};
+ghost use Rattle.std.specs.Prelude.{◌≡◌, ℕ, ◌+◌, ◌<◌, ◌≤◌, IfOk, length};
 ghost use Rattle.std.specs.Arc.{arc_value};
 ghost use Rattle.std.specs.Int.{div_ceil};
 ghost use Rattle.vm_bitmaps.specs.Words.{page_bit};
-ghost use Rattle.vm_atomic_bitmaps.specs.Counts.{both_passes, cleared_by, in_word};
+ghost use Rattle.vm_atomic_bitmaps.specs.Counts.{both_passes, cleared_by, in_word, tally_of};
 ghost use Rattle.vm_atomic_bitmaps.specs.Passes.{IsPassOf, counting};
 ghost use Rattle.vm_atomic_bitmaps.specs.Rule.{StandsAt};
 ghost use Rattle.vm_atomic_bitmaps.specs.Steps.{NoneBeyond, SettlesAll, SettlesWord};
@@ -109,6 +109,9 @@ impl PageHarvest {
     pub(crate) fn gather_all(&mut self, words: &mut [u64])
         requires { length words.old ≡ div_ceil self.old.bitmap.len 64 }
         ensures count { length words.new ≡ length words.old }
+        ensures harvest { self.new ≡ record self.old { pass = counting self.old.pass self.new.pass.counts.pages } }
+        ensures taken { (p : ℕ) → p < self.old.bitmap.len →
+            (tally_of self.new.pass.counts.pages p).off ≡ (tally_of self.old.pass.counts.pages p).off + page_bit words.new p }
         ensures whole { SettlesAll self.old.pass.counts words.new }
         ensures past { (p : ℕ) → self.old.bitmap.len ≤ p → page_bit words.new p ≡ 0 }
     {

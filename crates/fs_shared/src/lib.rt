@@ -12,9 +12,11 @@ mod kept;
 mod kicking;
 pub mod laws;
 mod return_pages;
+mod rounds;
 mod same_command;
 mod same_layout;
 mod same_outcome;
+mod share_error;
 mod start;
 mod state;
 
@@ -23,4 +25,6 @@ pub use device::SharedDevice;
 pub use device_shares::Share;
 pub use entry::{JournalEntry, Kicked, Outcome, Parts, Receipt, Start};
 pub use harvest::PageHarvest;
+pub use rounds::{Round, serve_round};
+pub use share_error::ShareError;
 pub use state::SharedState;

@@ -2,7 +2,8 @@
 
 ghost use Rattle.std.specs.Prelude.{◌≡◌, ◌↔◌, IsTrue};
 ghost use Rattle.fs_device.specs.CommandView.{command_of};
-ghost use Rattle.fs_device.specs.Run.{GuestRead, GuestWrite, NewBlock, InsertRegion, RemoveRegion, SetLayout, Map, Unmap, UnmapAll, SetIommu, Kick, ResetQueue, Image, Harvest};
+ghost use Rattle.fs_device.specs.Run.{GuestRead, GuestWrite, Harvest, Image, InsertRegion, Kick, Map};
+ghost use Rattle.fs_device.specs.Run.{NewBlock, RemoveRegion, ResetQueue, SetIommu, SetLayout, Unmap, UnmapAll};
 
 use crate::same_layout::same_layout;
 use fs_device::Command;

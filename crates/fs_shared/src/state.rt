@@ -5,6 +5,7 @@ ghost use Rattle.fs_device.specs.MachineView.{machine_of};
 ghost use Rattle.device_shares.specs.Portion.{counted};
 ghost use Rattle.fs_shared.specs.Replay.{forget, Replays};
 ghost use Rattle.fs_shared.specs.Held.{fixed_of, journal_of, start_of};
+ghost use Rattle.fs_shared.specs.Laws.{HoldsReplay};
 
 use crate::entry::{JournalEntry, Parts, Start};
 use device_shares::Share;
@@ -83,12 +84,14 @@ impl<L: Ledger, F: FileSystem, I: Iommu + Drop> SharedState<L, F, I> {
         }
     }
 
-    // Whether a share's count is the journal's length. So it is where the share has every part.
-    pub(crate) fn is_counted(&mut self, share: &mut Share<L>) -> bool
+    /// Whether a share's count is the journal's length: exactly then the device comes apart (`SharedDevice::into_parts`). So it
+    /// is where the share has every part.
+    pub fn is_counted(&mut self, share: &mut Share<L>) -> bool
         ensures state { self.new ≡ self.old }
         ensures share { share.new ≡ share.old }
         ensures count { result ≡ (share.old.count == length self.old.journal) }
         ensures whole { share.old.parts ≡ L.parts → result ≡ true }
+        ensures replays { HoldsReplay self.new }
     {
         let entries = self.journal.len();
         share.is_of(&mut self.calls, entries as u64)

@@ -12,6 +12,8 @@ mod laws;
 #[cfg(test)]
 mod refusals;
 #[cfg(test)]
+mod rounds;
+#[cfg(test)]
 mod stand;
 #[cfg(test)]
 mod threads;

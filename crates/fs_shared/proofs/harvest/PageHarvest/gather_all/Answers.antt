@@ -76,3 +76,12 @@ returns-clause-whole c whole p within =
     let long : length c.args.self.now.pass.counts.pages ≡ length c.self.inside.pass.counts.pages = ap (λ (h : Harvest). length h.pass.counts.pages) (sym c.self.view_is) in
     let over = c.loop-word-test.false in
     c.loop-word.invariant.settled whole p within (omega arith)
+
+pub returns-clause-taken : goal.returns-clause-taken
+returns-clause-taken c p below =
+    let there = c.words-word-end.ensures ∙ ap (λ (b : SharedPages). div_ceil b.len 64) (c.deref.ensures ∙ ap (λ (h : Harvest). h.bitmap) c.self.view_is) in
+    let own = c.self.invariant.1 in
+    let long : length c.args.self.now.pass.counts.pages ≡ length c.self.inside.pass.counts.pages = ap (λ (h : Harvest). length h.pass.counts.pages) (sym c.self.view_is) in
+    let same = ap (λ (h : Harvest). h.bitmap.len) c.self.view_is in
+    let over = c.loop-word-test.false in
+    ap (λ (t : Tally). t.off) (c.loop-word.invariant.pages.inside p (omega arith) (omega arith) (omega arith))

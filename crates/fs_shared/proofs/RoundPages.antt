@@ -1,0 +1,56 @@
+-- what a share marked in a round was gathered or is left at its end
+use Rattle.std.proofs.Common.{◌≡◌, ℕ, ◌+◌, ◌<◌, List, [], ◌∷◌, ◌++◌, refl, ap, sym, subst, inl, inr, arith}
+use Rattle.std.proofs.lemmas.List.Elements.{All-append, All-nil}
+use Rattle.vm_bitmaps.specs.Words.{page_bit}
+use Rattle.vm_atomic_bitmaps.specs.declared.counts.PageCounts.{PageCounts}
+use Rattle.vm_atomic_bitmaps.specs.declared.counts.Tally.{Tally}
+use Rattle.vm_atomic_bitmaps.specs.Counts.{both_passes, first_pass, kept_half, new_half, tally_of, with_pages, IsWhole}
+use Rattle.vm_atomic_bitmaps.specs.Passes.{Pass, SharedPages, counting}
+use Rattle.device_shares.specs.Portion.{MarksPages, kept_pass, new_pass}
+use Rattle.device_shares.proofs.Marking.{none_by_new}
+use Rattle.vm_memory_core.specs.Host.{Host, lengths}
+use Rattle.block_pages.specs.Pages.{page_of}
+use Rattle.fs_shared.specs.declared.entry.JournalEntry.{JournalEntry}
+use Rattle.fs_shared.specs.declared.entry.Receipt.{Receipt}
+use Rattle.fs_shared.specs.Audit.{AreAllReceipts}
+use Rattle.fs_shared.specs.Laws.{HaveSamePart}
+use Rattle.fs_shared.specs.Marks.{AccountsFor, Harvest, HasMarked, first_of}
+use Rattle.fs_shared.specs.Rounds.{TellsPages}
+use Rattle.fs_shared.proofs.Gathering.{bit_below}
+use Rattle.fs_shared.proofs.MarksKept.{calls_keep, calls_mark, Told}
+use Rattle.fs_shared.proofs.WholePasses.{halves_are_whole}
+
+-- nothing was told, so all that was told is marked
+pub none_told : (pages : List Tally) → HasMarked pages []
+none_told pages = All-nil (Told pages)
+
+-- one receipt more
+pub one_told : (receipts : List Receipt) (r : Receipt) (old new : List Tally) → MarksPages r.pages.items old new → HasMarked old receipts → HasMarked new (receipts ++ r ∷ [])
+one_told receipts r old new m has = All-append (Told new) receipts (r ∷ []) (calls_keep receipts r.pages.items old new m has) (calls_mark r old new m)
+
+-- the passes of a new device are the whole, whatever they have counted since
+round_whole : (len : ℕ) (h v : PageCounts) → h ≡ with_pages (new_half (first_pass len)) h.pages → v ≡ with_pages (kept_half (first_pass len)) v.pages → IsWhole (both_passes h v)
+round_whole len h v mine theirs =
+    halves_are_whole len h v
+    (subst (HaveSamePart (new_half (first_pass len))) (sym mine) refl)
+    (subst (HaveSamePart (kept_half (first_pass len))) (sym theirs) refl)
+
+-- a page that was taken is set in what was gathered
+set_of_taken : (gathered : List ℕ) (page before after : ℕ) → before ≡ 0 → after ≡ before + page_bit gathered page → 0 < after → page_bit gathered page ≡ 1
+set_of_taken gathered page before after none is more = let below = bit_below gathered page in omega arith
+
+-- each page in which the hosts differ was gathered or is left
+pub tells : (b : SharedPages) (share : Pass) (h : Harvest) (journal : List JournalEntry) (receipts : List Receipt) (before after : Host) (gathered left : List ℕ)
+    → h ≡ record { bitmap = b; pass = counting (new_pass (first_of b)) h.pass.counts.pages }
+    → ((p : ℕ) → p < b.len → (tally_of h.pass.counts.pages p).off ≡ (tally_of (new_half (first_pass b.len)).pages p).off + page_bit gathered p)
+    → share ≡ counting (kept_pass (first_of b)) share.counts.pages
+    → AccountsFor share h journal before after left → AreAllReceipts journal receipts → HasMarked share.counts.pages receipts
+    → TellsPages b.len gathered left before after
+tells b share h journal receipts before after gathered left is taken mine accounts all marked p apart below =
+    let page = page_of (lengths before) p in
+    let whole = round_whole b.len h.pass.counts share.counts (ap (λ (g : Harvest). g.pass.counts) is) (ap (λ (q : Pass). q.counts) mine) in
+    let found = accounts whole receipts all marked p apart (subst (λ (n : ℕ). page < n) (sym (ap (λ (g : Harvest). g.bitmap.len) is)) below) in
+    elim found [
+      | inl here ↦ inr here
+      | inr more ↦ inl (set_of_taken gathered page (tally_of (new_half (first_pass b.len)).pages page).off (tally_of h.pass.counts.pages page).off (none_by_new (first_pass b.len) page) (taken page below) more)
+    ]

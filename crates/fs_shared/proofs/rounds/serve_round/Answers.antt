@@ -1,0 +1,8 @@
+use Rattle.std.proofs.Common.{ℕ, subst}
+use Rattle.fs_shared.specs.Rounds.{TellsPages}
+use Rattle.fs_shared.proofs.rounds.serve_round.Goals as goal
+
+pub returns-in-Ok-new-clause-pages : goal.returns-in-Ok-new-clause-pages
+returns-in-Ok-new-clause-pages g c audited =
+    let round = c.go_round.result in
+    subst (λ (n : ℕ). TellsPages n round.gathered.items round.left.items round.parts.start.host round.parts.machine.host) c.in-Ok-new.ensures.pages.len (c.go_round.ensures.pages audited)

@@ -1,0 +1,208 @@
+//! A round of a device: it is made over a machine, serves a queue before and after a gather, and is taken apart again.
+
+ghost use Rattle.std.specs.Prelude.{◌≡◌, ◌+◌, ◌<◌, ◌≤◌, ◌*◌, ◌↔◌, [], IfErr, IfOk, IsTrue, length, vec_capacity, vec_len};
+ghost use Rattle.std.specs.Int.{div_ceil};
+ghost use Rattle.vm_atomic_bitmaps.specs.Passes.{counting};
+ghost use Rattle.vm_memory_core.specs.Host.{lengths};
+ghost use Rattle.block_pages.specs.Pages.{first_page};
+ghost use Rattle.device_shares.specs.Portion.{IsShareOf, kept_pass, new_pass};
+ghost use Rattle.fs_device.specs.MachineView.{machine_of};
+ghost use Rattle.fs_shared.specs.Audit.{AreAllReceipts};
+ghost use Rattle.fs_shared.specs.Held.{fixed_of, journal_of, start_of};
+ghost use Rattle.fs_shared.specs.Marks.{HasMarked, first_of};
+ghost use Rattle.fs_shared.specs.Replay.{Replays, forget};
+ghost use Rattle.fs_shared.specs.Rounds.{TellsPages};
+ghost use Rattle.fs_shared.specs.declared.share_error.ShareError.TheVariants.{OutOfMemory};
+
+use crate::auditing::audit;
+use crate::device::SharedDevice;
+use crate::entry::{Kicked, Parts, Receipt};
+use crate::harvest::PageHarvest;
+use crate::share_error::ShareError;
+use block_pages::first_page;
+use device_shares::Share;
+use fs_device::Machine;
+use fuse_fs::FileSystem;
+use std::alloc::{AllocError, Global};
+use std::sync::Wait;
+use std::sync::ledger::{Blank, Ledger};
+use vm_memory::Iommu;
+use vm_memory_core::{HostMemory, PageBitmap};
+
+/// What a round leaves: the machine with its start and its journal, the receipts of its kicks, and the pages that these marked.
+#[derive(Drop)]
+pub struct Round<F, I: Iommu + Drop> {
+    pub parts: Parts<F, I>,
+    pub receipts: Vec<Receipt>,
+    /// Whether the receipts say all that the journal says (`audit`).
+    pub is_audited: bool,
+    /// The pages that the harvest gathered between the kicks: page p is bit p mod 64 of word p / 64.
+    pub gathered: Vec<u64>,
+    /// The pages that were still marked at the end, in the same form.
+    pub left: Vec<u64>,
+}
+
+// Room for what a round leaves.
+#[derive(Drop)]
+struct RoundRoom {
+    receipts: Vec<Receipt>,
+    gathered: Vec<u64>,
+    left: Vec<u64>,
+}
+
+// Room for twice so many receipts, and words for the pages of a host.
+fn round_room(
+    alloc: Global,
+    host: &HostMemory<PageBitmap>,
+    most: u16,
+) -> Result<RoundRoom, AllocError>
+    ensures receipts { IfOk result (λ room. room.receipts.items ≡ []) }
+    ensures fits { IfOk result (λ room. vec_len room.receipts + (most + most) ≤ vec_capacity room.receipts) }
+    ensures gathered { IfOk result (λ room. vec_len room.gathered ≡ div_ceil (first_page (lengths host.now) (length (lengths host.now))) 64) }
+    ensures left { IfOk result (λ room. vec_len room.left ≡ div_ceil (first_page (lengths host.now) (length (lengths host.now))) 64) }
+{
+    let words = first_page(host, host.block_count())?.div_ceil(64);
+    let receipts = Vec::with_capacity(alloc, usize::from(most) + usize::from(most))?;
+    Ok(RoundRoom {
+        receipts,
+        gathered: vec![in alloc; 0; words]?,
+        left: vec![in alloc; 0; words]?,
+    })
+}
+
+// Serves the next chain of a queue, and keeps its receipt, which has room. Whether there is one.
+fn kick_once<L: Ledger, F: FileSystem, I: Iommu + Drop, R: Wait>(
+    rt: &R,
+    alloc: Global,
+    device: &SharedDevice<L, F, I>,
+    share: &mut Share<L>,
+    receipts: &mut Vec<Receipt>,
+    queue: usize,
+) -> bool
+    requires own { IsShareOf device.now share.old }
+    requires marked { HasMarked share.old.pass.counts.pages receipts.old.items }
+    requires room { vec_len receipts.old < vec_capacity receipts.old }
+    ensures own { IsShareOf device.now share.new }
+    ensures marked { HasMarked share.new.pass.counts.pages receipts.new.items }
+    ensures parts { share.new.parts ≡ share.old.parts }
+    ensures pass { share.new.pass ≡ counting share.old.pass share.new.pass.counts.pages }
+    ensures len { vec_len receipts.new ≤ vec_len receipts.old + 1 }
+    ensures capacity { vec_capacity receipts.new ≡ vec_capacity receipts.old }
+{
+    match device.kick(rt, alloc, share, queue) {
+        Ok(Kicked::Done(receipt)) => {
+            receipts.push_reserved(receipt);
+            true
+        }
+        Ok(Kicked::Idle) => false,
+        Err(_) => false,
+    }
+}
+
+// Serves up to so many chains of a queue, and keeps their receipts, which have room.
+fn kick_often<L: Ledger, F: FileSystem, I: Iommu + Drop, R: Wait>(
+    rt: &R,
+    alloc: Global,
+    device: &SharedDevice<L, F, I>,
+    share: &mut Share<L>,
+    receipts: &mut Vec<Receipt>,
+    queue: usize,
+    most: u16,
+)
+    requires own { IsShareOf device.now share.old }
+    requires marked { HasMarked share.old.pass.counts.pages receipts.old.items }
+    requires room { vec_len receipts.old + most ≤ vec_capacity receipts.old }
+    ensures own { IsShareOf device.now share.new }
+    ensures marked { HasMarked share.new.pass.counts.pages receipts.new.items }
+    ensures parts { share.new.parts ≡ share.old.parts }
+    ensures pass { share.new.pass ≡ counting share.old.pass share.new.pass.counts.pages }
+    ensures len { vec_len receipts.new ≤ vec_len receipts.old + most }
+    ensures capacity { vec_capacity receipts.new ≡ vec_capacity receipts.old }
+{
+    for _ in 0..most {
+        if !kick_once(rt, alloc, device, share, receipts, queue) {
+            return;
+        }
+    }
+}
+
+// Serves a queue of a new device before and after a gather, and takes the device apart.
+fn go_round<L: Ledger, F: FileSystem + Drop, I: Iommu + Drop, R: Wait>(
+    rt: &R,
+    alloc: Global,
+    made: (SharedDevice<L, F, I>, Share<L>, PageHarvest),
+    room: RoundRoom,
+    queue: usize,
+    most: u16,
+) -> Round<F, I>
+    requires share { made.1 ≡ record { parts = L.parts; count = 0; pass = kept_pass (first_of made.0) } }
+    requires own { IsShareOf made.0 made.1 }
+    requires harvest { made.2 ≡ record { bitmap = made.0; pass = new_pass (first_of made.0) } }
+    requires receipts { room.receipts.items ≡ [] }
+    requires fits { vec_len room.receipts + (most + most) ≤ vec_capacity room.receipts }
+    requires gathered { vec_len room.gathered ≡ div_ceil made.0.len 64 }
+    requires left { vec_len room.left ≡ div_ceil made.0.len 64 }
+    ensures audit { IsTrue result.is_audited ↔ AreAllReceipts result.parts.journal.items result.receipts.items }
+    ensures replays { Replays (start_of result.parts.start (fixed_of (machine_of result.parts.machine))) (journal_of result.parts.journal.items)
+        (forget (machine_of result.parts.machine)) }
+    ensures pages { IsTrue result.is_audited →
+        TellsPages made.0.len result.gathered.items result.left.items result.parts.start.host result.parts.machine.host }
+{
+    let (device, mut share, mut harvest) = made;
+    let RoundRoom {
+        mut receipts,
+        mut gathered,
+        mut left,
+    } = room;
+    kick_often(rt, alloc, &device, &mut share, &mut receipts, queue, most);
+    harvest.gather_all(&mut gathered);
+    kick_often(rt, alloc, &device, &mut share, &mut receipts, queue, most);
+    let Ok(parts) = device.into_parts_and_pages(share, harvest, &mut left) else {
+        // The share has every part.
+        unreachable!()
+    };
+    let is_audited = audit(&parts.journal, &receipts);
+    Round {
+        parts,
+        receipts,
+        is_audited,
+        gathered,
+        left,
+    }
+}
+
+/// A round of a machine by one thread: a device is made over it (`SharedDevice::new`), a queue is kicked until nothing waits, a kick
+/// is refused or `most` chains were served, the harvest gathers, the queue is kicked so once more, and the device is taken apart.
+/// Where the receipts pass the audit, each page, below the number of pages of the host, in which the machine's host differs from
+/// the start's was gathered or is left. Refused `OutOfMemory` alone, where memory is wanting before anything was served, and then
+/// blank and machine come back.
+pub fn serve_round<L: Ledger, F: FileSystem + Drop, I: Iommu + Drop, R: Wait>(
+    rt: &R,
+    alloc: Global,
+    blank: Blank,
+    parts: u64,
+    machine: Machine<F, I>,
+    queue: usize,
+    most: u16,
+) -> Result<Round<F, I>, (ShareError, Blank, Machine<F, I>)>
+    requires name { blank.name ≡ L.name }
+    requires ledger { blank.parts ≡ L.parts }
+    requires parts { blank.parts ≡ parts }
+    requires some { 0 < parts }
+    ensures audit { IfOk result (λ round. IsTrue round.is_audited ↔ AreAllReceipts round.parts.journal.items round.receipts.items) }
+    ensures replays { IfOk result (λ round. Replays (start_of round.parts.start (fixed_of (machine_of round.parts.machine)))
+        (journal_of round.parts.journal.items) (forget (machine_of round.parts.machine))) }
+    ensures pages { IfOk result (λ round. IsTrue round.is_audited → TellsPages (first_page (lengths machine.host) (length (lengths machine.host)))
+        round.gathered.items round.left.items round.parts.start.host round.parts.machine.host) }
+    ensures refused { IfErr result (λ back. back.0 ≡ OutOfMemory) }
+    ensures blank { IfErr result (λ back. back.1 ≡ blank) }
+    ensures machine { IfErr result (λ back. back.2 ≡ machine) }
+{
+    let Ok(room) = round_room(alloc, &machine.host, most) else {
+        return Err((ShareError::OutOfMemory, blank, machine));
+    };
+    match SharedDevice::<L, F, I>::new(alloc, blank, parts, machine) {
+        Ok(made) => Ok(go_round(rt, alloc, made, room, queue, most)),
+        Err(back) => Err(back),
+    }
+}

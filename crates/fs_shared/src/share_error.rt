@@ -1,0 +1,29 @@
+//! Why a machine isn't shared.
+
+ghost use Rattle.std.specs.Prelude.{◌≡◌};
+
+use thiserror::Error;
+
+/// Why `SharedDevice::new` makes no device.
+#[derive(Clone, Copy, Debug, PartialEq, Eq, Error)]
+pub enum ShareError {
+    #[error("out of memory")]
+    OutOfMemory,
+    /// Kept for its name: a bitmap always gives a second pass (`AtomicBitmap::split_pass`).
+    #[error("there is no second pass")]
+    NoPass,
+}
+
+impl ShareError {
+    ghost use Rattle.fs_shared.specs.Refusing.{share_error_number};
+
+    /// The number that tells the refusal apart: 1 for `OutOfMemory`, 2 for `NoPass`.
+    pub fn number(&self) -> u8
+        ensures { result ≡ share_error_number self.now }
+    {
+        match self {
+            ShareError::OutOfMemory => 1,
+            ShareError::NoPass => 2,
+        }
+    }
+}
