@@ -1,7 +1,7 @@
 //! The numbers and texts of refusals.
 
 use crate::given::expect_same;
-use host_copies::ApplyError::{OutOfRange, UnknownBlock};
+use vm_copies::ApplyError::{OutOfRange, UnknownBlock};
 
 #[test]
 fn refusals_have_their_numbers_and_texts(rt: HostRuntime) {

@@ -1,9 +1,9 @@
 //! Harvests of a block with few marks.
 
 use crate::given::{Host, expect_same, write};
-use host_copies::harvest;
 use std::alloc::Global;
 use std::process::Abort;
+use vm_copies::harvest;
 use vm_memory_core::HostMemory;
 
 // Where the pages begin that are harvested next.

@@ -1,7 +1,7 @@
 //! An image of a host, and the pages that make it the host again.
 
 use crate::given::{expect_marked, expect_same, expect_same_bytes, two_blocks, write};
-use host_copies::{apply, harvest, image};
+use vm_copies::{apply, harvest, image};
 
 #[test]
 fn an_image_with_the_harvested_pages_is_the_host(rt: HostRuntime) {

@@ -1,10 +1,10 @@
 //! Pages that are put into a host, and those that have no place there.
 
 use crate::given::{expect_marked, expect_same, expect_same_bytes, two_blocks, write};
-use host_copies::ApplyError::{self, OutOfRange, UnknownBlock};
-use host_copies::{HarvestedPage, apply};
 use std::alloc::Global;
 use std::process::Abort;
+use vm_copies::ApplyError::{self, OutOfRange, UnknownBlock};
+use vm_copies::{HarvestedPage, apply};
 
 // A page's block, where it begins there, and its bytes.
 type PageRow<'a> = (usize, usize, &'a [u8]);

@@ -1,11 +1,11 @@
 //! A directory of two files and an empty one, as a guest asks the server for it: requests and replies as linux/fuse.h lays
 //! them out, in words of 32 bits.
 
+use fuse_directory::{OwnedFile, OwnedTable};
 use fuse_read_only::ReadOnly;
 use fuse_wire::Opcode;
 use guest_driver::replies::body;
 use guest_driver::requests::header;
-use owned_directory::{OwnedFile, OwnedTable};
 use std::alloc::Global;
 use std::fmt::Debug;
 use std::process::Abort;

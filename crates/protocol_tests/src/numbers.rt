@@ -42,14 +42,47 @@ fn constants_have_their_values(rt: HostRuntime) {
 }
 
 // Each error that has a name, with its number.
-const ERRORS: [(Errno, u32); 7] = [
+const ERRORS: [(Errno, u32); 40] = [
+    (Errno::EPERM, 1),
     (Errno::ENOENT, 2),
+    (Errno::EINTR, 4),
     (Errno::EIO, 5),
+    (Errno::ENXIO, 6),
+    (Errno::EBADF, 9),
+    (Errno::EAGAIN, 11),
     (Errno::ENOMEM, 12),
+    (Errno::EACCES, 13),
+    (Errno::EBUSY, 16),
+    (Errno::EEXIST, 17),
+    (Errno::EXDEV, 18),
+    (Errno::ENODEV, 19),
+    (Errno::ENOTDIR, 20),
+    (Errno::EISDIR, 21),
     (Errno::EINVAL, 22),
+    (Errno::ENFILE, 23),
+    (Errno::EMFILE, 24),
+    (Errno::ENOTTY, 25),
+    (Errno::ETXTBSY, 26),
+    (Errno::EFBIG, 27),
+    (Errno::ENOSPC, 28),
+    (Errno::ESPIPE, 29),
+    (Errno::EROFS, 30),
+    (Errno::EMLINK, 31),
+    (Errno::EPIPE, 32),
+    (Errno::ERANGE, 34),
+    (Errno::EDEADLK, 35),
+    (Errno::ENAMETOOLONG, 36),
+    (Errno::ENOLCK, 37),
     (Errno::ENOSYS, 38),
+    (Errno::ENOTEMPTY, 39),
+    (Errno::ELOOP, 40),
+    (Errno::ENODATA, 61),
     (Errno::EPROTO, 71),
     (Errno::EOVERFLOW, 75),
+    (Errno::EOPNOTSUPP, 95),
+    (Errno::ETIMEDOUT, 110),
+    (Errno::ESTALE, 116),
+    (Errno::EDQUOT, 122),
 ];
 
 #[test]

@@ -3,7 +3,7 @@
 use crate::given::{
     FIRST, LIMIT, PAGE_SIZE, RESTORED, SECOND, changed, expect_restored, expect_same,
 };
-use device_record::{Stream, restore_record};
+use fs_record::{Stream, restore_record};
 use std::alloc::Global;
 use std::process::Abort;
 

@@ -3,9 +3,9 @@
 use crate::given::{FIRST, LIMIT, PAGE_SIZE, SECOND, changed, expect_same};
 use bitflags::Flags;
 use call_log::CallLog;
-use device_record::{RestoreError, Stream};
 use fs_device::Device;
 use fs_queue::{Queue, QueueLayout};
+use fs_record::{RestoreError, Stream};
 use fuse_wire::FsOptions;
 use guest_driver::requests::header;
 use guest_driver::{Guest, Ring};

@@ -1,7 +1,7 @@
 //! Texts and numbers of refusals.
 
 use crate::given::expect_same;
-use device_record::{RestoreError, WriteFault};
+use fs_record::{RestoreError, WriteFault};
 
 #[test]
 fn refusals_have_numbers_and_texts(rt: HostRuntime) {

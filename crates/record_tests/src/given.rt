@@ -1,8 +1,8 @@
 //! The worked record, and what is restored from an input as text.
 
 use bitflags::Flags;
-use device_record::{RecordSource, Stream, restore_record};
 use fs_queue::Queue;
+use fs_record::{RecordSource, Stream, restore_record};
 use fuse_wire::FsOptions;
 use std::alloc::Global;
 use std::fmt::{Debug, Write};

@@ -2,8 +2,8 @@
 
 use crate::given::{LIMIT, PAGE_SIZE, RESTORED, SECOND, expect_same, restored};
 use bitflags::Flags;
-use device_record::{Stream, WriteFault, save_record};
 use fs_queue::{Queue, QueueLayout};
+use fs_record::{Stream, WriteFault, save_record};
 use fuse_wire::FsOptions;
 use std::alloc::Global;
 use std::io::{self, ErrorKind, Read, Write};

@@ -2,9 +2,9 @@
 
 use crate::given::{FIRST, LIMIT, PAGE_SIZE, RESTORED, SECOND, expect_restored, expect_same};
 use bitflags::Flags;
-use device_record::laws::law_record;
-use device_record::{Stream, restore_record, save_record};
 use fs_queue::{Queue, QueueLayout};
+use fs_record::laws::law_record;
+use fs_record::{Stream, restore_record, save_record};
 use fuse_wire::FsOptions;
 use std::alloc::Global;
 use std::process::Abort;

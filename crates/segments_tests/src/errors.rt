@@ -1,7 +1,7 @@
 //! The faults by their numbers and texts.
 
 use crate::given::expect_same;
-use fuse_segments::{DescriptorType, Error};
+use server_segments::{DescriptorType, Error};
 use std::alloc::Global;
 use std::io::ErrorKind;
 use std::process::Abort;

@@ -4,8 +4,8 @@ ghost use Rattle.std.specs.Prelude.{⊤};
 
 use crate::given::{expect_left, expect_room, expect_same, expect_written, reader, writer};
 use fuse_fs::{PositionedFile, WritevFlags, ZeroCopyReader, ZeroCopyWriter};
-use fuse_segments::{Reader, Writer, ZcReader, ZcWriter};
 use fuse_wire::Errno;
+use server_segments::{Reader, Writer, ZcReader, ZcWriter};
 use std::process::Abort;
 
 // A file of 64 bytes that writes down how much it was lent last, how often and where.

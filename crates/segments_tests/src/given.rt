@@ -1,6 +1,6 @@
 //! What the tests share: readers and writers, and what they answer.
 
-use fuse_segments::{Error, Reader, Writer};
+use server_segments::{Error, Reader, Writer};
 use std::alloc::Global;
 use std::fmt::Debug;
 use std::io::{Read, Write};

@@ -1,7 +1,7 @@
 //! Readers and writers of one segment, and what is read where it stands or written over.
 
 use crate::given::{expect_left, expect_room, expect_same, expect_value, expect_written, writer};
-use fuse_segments::{Error, Reader, Writer};
+use server_segments::{Error, Reader, Writer};
 use std::io::{ErrorKind, Write};
 use std::process::Abort;
 

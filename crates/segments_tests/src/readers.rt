@@ -1,7 +1,7 @@
 //! Reading over segments.
 
 use crate::given::{expect_exact, expect_left, expect_read, expect_same, expect_value, reader};
-use fuse_segments::{Error, Reader};
+use server_segments::{Error, Reader};
 use std::alloc::Global;
 use std::io::{ErrorKind, Read};
 use std::process::Abort;

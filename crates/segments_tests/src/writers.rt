@@ -1,7 +1,7 @@
 //! Writing over segments.
 
 use crate::given::{expect_put, expect_room, expect_same, expect_write, expect_written, writer};
-use fuse_segments::{Error, Writer};
+use server_segments::{Error, Writer};
 use std::alloc::Global;
 use std::io::{ErrorKind, Write};
 use std::process::Abort;

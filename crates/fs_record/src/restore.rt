@@ -1,0 +1,211 @@
+//! Reading a record from a source.
+
+ghost use Rattle.std.specs.Prelude.{◌≡◌, ◌==◌, ◌||◌, ◌<◌, ◌≤◌, ℕ, List, [], Some, None, true, false};
+ghost use Rattle.std.specs.Prelude.{length, OnOk, IfOk, IfErr, IfSome, IfNone};
+ghost use Rattle.std.specs.Io.KnownBytes.{Consumes};
+ghost use Rattle.vm_values.specs.Fields.{spelled, AllFit};
+ghost use Rattle.fs_record.specs.Record.{HasKnownBits, IsRecordFor, IsSavedQueue, end_bytes, head_error, head_of, saved, queue_bytes};
+ghost use Rattle.fs_record.specs.Record.{is_queue, version_number};
+ghost use Rattle.fs_record.specs.Restoring.{LeavesSource, RefusesEnd, RefusesRecord, RefusesQueue, IsRecordFront, ends_early, told_by};
+
+use crate::error::RestoreError;
+use crate::fields::{RecordHead, RecordVersion, SavedQueue};
+use crate::save::MAGIC;
+use crate::source::RecordSource;
+use bitflags::Flags;
+use fs_queue::{Queue, QueueLayout};
+use fuse_wire::FsOptions;
+use std::alloc::Global;
+use vm_values::ByteValued;
+
+// How many queues a device has at most.
+const MAX_QUEUES: u32 = 64;
+
+// Fills a buffer with the next bytes; Truncated where there are too few, ReadFault where the source fails.
+fn fill<S: RecordSource>(source: &mut S, buf: &mut [u8]) -> Result<(), RestoreError>
+    ensures ok { OnOk result (Consumes (S.left source.old) (S.left source.new) buf.new × (S.failed source.new ≡ S.failed source.old)) }
+    ensures err { IfErr result (λ e. (part : List ℕ) × (length part < length buf.old) × Consumes (S.left source.old) (S.left source.new) part
+        × (ends_early e ≡ true) × LeavesSource e (S.left source.new) (S.failed source.old) (S.failed source.new)) }
+{
+    let mut at = 0;
+    while at < buf.len() {
+        match source.get(&mut buf[at..]) {
+            Ok(0) => return Err(RestoreError::Truncated),
+            Ok(n) => at += n,
+            Err(_) => return Err(RestoreError::ReadFault),
+        }
+    }
+    Ok(())
+}
+
+// The value that the next bytes spell; Truncated where there are too few, ReadFault where the source fails.
+fn next_value<S: RecordSource, T: ByteValued>(source: &mut S) -> Result<T, RestoreError>
+    ensures ok { IfOk result (λ x. Consumes (S.left source.old) (S.left source.new) (spelled (T.fields x)) × AllFit (T.fields x)
+        × (S.failed source.new ≡ S.failed source.old)) }
+    ensures err { IfErr result (λ e. (part : List ℕ) × (length part < T.SIZE) × Consumes (S.left source.old) (S.left source.new) part
+        × (ends_early e ≡ true) × LeavesSource e (S.left source.new) (S.failed source.old) (S.failed source.new)) }
+{
+    let mut buffer = [0; 256];
+    fill(source, &mut buffer[..T::SIZE])?;
+    Ok(T::get_bytes(&buffer[..T::SIZE]))
+}
+
+// The options of a known flag set, or None where another bit is set.
+fn known(bits: u64) -> Option<FsOptions>
+    ensures some { IfSome result (λ o. (o.0 ≡ bits) × HasKnownBits bits) }
+    ensures none { IfNone result (¬ HasKnownBits bits) }
+{
+    FsOptions::from_bits(bits)
+}
+
+// What a head says of the record: its version, its options, and how many queues it has.
+#[derive(Clone, Copy)]
+struct CheckedHead {
+    version: RecordVersion,
+    options: FsOptions,
+    count: usize,
+}
+
+impl RecordHead {
+    // The record's version, or None where it is no known one.
+    fn record_version(&self) -> Option<RecordVersion>
+        ensures some { IfSome result (λ v. self.now.version ≡ version_number (told_by v 0 0)) }
+        ensures none { IfNone result ((self.now.version == 1 || self.now.version == 2) ≡ false) }
+    {
+        match self.version {
+            1 => Some(RecordVersion::First),
+            2 => Some(RecordVersion::Second),
+            _ => None,
+        }
+    }
+
+    // What the head says where the guest's pages have this size, or the first thing that is wrong.
+    fn checked(&self, page_size: u32) -> Result<CheckedHead, RestoreError>
+        ensures ok { IfOk result (λ h. (head_error page_size self.now ≡ None) × (self.now ≡ head_of (told_by h.version page_size 0) h.options.0 h.count)
+            × HasKnownBits h.options.0 × (1 ≤ h.count) × (h.count ≤ 64)) }
+        ensures err { IfErr result (λ e. head_error page_size self.now ≡ Some e) }
+    {
+        if self.magic != MAGIC {
+            return Err(RestoreError::BadMagic);
+        }
+        let Some(version) = self.record_version() else {
+            return Err(RestoreError::BadVersion);
+        };
+        if self.count == 0 || self.count > MAX_QUEUES {
+            return Err(RestoreError::BadCount);
+        }
+        match version {
+            RecordVersion::First if self.page_size != 0 => return Err(RestoreError::BadReserved),
+            RecordVersion::Second if self.page_size != page_size => {
+                return Err(RestoreError::Mismatch);
+            }
+            _ => {}
+        }
+        match known(self.options) {
+            Some(options) => Ok(CheckedHead {
+                version,
+                options,
+                count: self.count as usize,
+            }),
+            None => Err(RestoreError::BadOptions),
+        }
+    }
+}
+
+impl SavedQueue {
+    // The queue, or None where these are the numbers of none.
+    fn queue(&self) -> Option<Queue>
+        ensures some { IfSome result (λ q. (self.now ≡ saved q) × IsSavedQueue q) }
+        ensures none { IfNone result (is_queue self.now ≡ false) }
+    {
+        let stopped = match self.stopped {
+            0 => false,
+            1 => true,
+            _ => return None,
+        };
+        match QueueLayout::new(self.size, self.desc, self.avail, self.used) {
+            Ok(layout) => Some(Queue::resume(layout, self.position, stopped)),
+            Err(_) => None,
+        }
+    }
+}
+
+// What the next 24 bytes say, or why these aren't the head of a record that goes with this page size.
+fn read_head<S: RecordSource>(source: &mut S, page_size: u32) -> Result<CheckedHead, RestoreError>
+    ensures ok { IfOk result (λ h. (taken : List ℕ) × Consumes (S.left source.old) (S.left source.new) taken
+        × IsRecordFront taken (told_by h.version page_size 0) h.options.0 h.count [] × (S.failed source.new ≡ S.failed source.old)) }
+    ensures err { (limit : ℕ) → IfErr result (λ e. (taken : List ℕ) × Consumes (S.left source.old) (S.left source.new) taken
+        × RefusesRecord taken page_size limit e × LeavesSource e (S.left source.new) (S.failed source.old) (S.failed source.new)) }
+{
+    let head: RecordHead = next_value(source)?;
+    head.checked(page_size)
+}
+
+// The queue that the next 32 bytes have, or why they are none: BadQueue of this number where they are there.
+fn read_queue<S: RecordSource>(source: &mut S, index: usize) -> Result<Queue, RestoreError>
+    ensures ok { IfOk result (λ q. Consumes (S.left source.old) (S.left source.new) (queue_bytes q) × IsSavedQueue q
+        × (S.failed source.new ≡ S.failed source.old)) }
+    ensures err { IfErr result (λ e. (taken : List ℕ) × Consumes (S.left source.old) (S.left source.new) taken × RefusesQueue taken index e
+        × LeavesSource e (S.left source.new) (S.failed source.old) (S.failed source.new)) }
+{
+    let saved: SavedQueue = next_value(source)?;
+    saved.queue().ok_or(RestoreError::BadQueue(index))
+}
+
+// Reads what stands behind the queues: in version 2 the limit, which is this one; Mismatch where it is another.
+fn read_end<S: RecordSource>(
+    source: &mut S,
+    version: RecordVersion,
+    limit: u32,
+) -> Result<(), RestoreError>
+    ensures ok { OnOk result (Consumes (S.left source.old) (S.left source.new) (end_bytes (told_by version 0 limit))
+        × (S.failed source.new ≡ S.failed source.old)) }
+    ensures err { IfErr result (λ e. (taken : List ℕ) × Consumes (S.left source.old) (S.left source.new) taken × RefusesEnd taken version limit e
+        × LeavesSource e (S.left source.new) (S.failed source.old) (S.failed source.new)) }
+{
+    match version {
+        RecordVersion::First => Ok(()),
+        RecordVersion::Second => {
+            let told: u64 = next_value(source)?;
+            if told == u64::from(limit) {
+                Ok(())
+            } else {
+                Err(RestoreError::Mismatch)
+            }
+        }
+    }
+}
+
+/// The options and the queues of the record that stands next in a source; no byte behind the record is taken. Version 1
+/// tells no page size and no limit; version 2 tells both, and they have to be these: the bytes of a guest's page, and
+/// the greatest length of a request and of a room, in bytes. A refusal says what stands there instead: Truncated or
+/// ReadFault where the head's 24 bytes can't be had, then BadMagic, BadVersion, BadCount, BadReserved (version 1) or
+/// Mismatch (version 2), BadOptions and OutOfMemory; then for each queue Truncated or ReadFault where its 32 bytes can't
+/// be had, and BadQueue; and last, in version 2, Truncated or ReadFault where the limit's 8 bytes can't be had, and
+/// Mismatch.
+pub fn restore_record<S: RecordSource>(
+    alloc: Global,
+    source: &mut S,
+    page_size: u32,
+    limit: u32,
+) -> Result<(FsOptions, Vec<Queue>), RestoreError>
+    ensures ok { IfOk result (λ v. (taken : List ℕ) × Consumes (S.left source.old) (S.left source.new) taken
+        × IsRecordFor taken page_size limit v.0.0 v.1.items × (S.failed source.new ≡ S.failed source.old)) }
+    ensures err { IfErr result (λ e. (taken : List ℕ) × Consumes (S.left source.old) (S.left source.new) taken
+        × RefusesRecord taken page_size limit e × LeavesSource e (S.left source.new) (S.failed source.old) (S.failed source.new)) }
+{
+    let head = read_head(source, page_size)?;
+    let Ok(mut queues) = Vec::with_capacity(alloc, head.count) else {
+        return Err(RestoreError::OutOfMemory);
+    };
+    for index in 0..head.count {
+        match read_queue(source, index) {
+            Ok(queue) => queues.push(queue).unwrap(),
+            Err(error) => return Err(error),
+        }
+    }
+    match read_end(source, head.version, limit) {
+        Ok(()) => Ok((head.options, queues)),
+        Err(error) => Err(error),
+    }
+}

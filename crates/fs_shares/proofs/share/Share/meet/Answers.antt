@@ -1,0 +1,13 @@
+use Rattle.std.proofs.Common.{ap, sym, ◌∙◌, subst}
+use Rattle.vm_atomic_bitmaps.specs.Counts.{tally_of}
+use Rattle.vm_atomic_bitmaps.specs.Passes.{Pass}
+use Rattle.fs_shares.specs.Portion.{IsShareOf}
+use Rattle.fs_shares.proofs.Marking.{none_by_met}
+use Rattle.fs_shares.proofs.share.Share.meet.Goals as goal
+
+pub returns-clause-own : goal.returns-clause-own
+returns-clause-own g c = record {
+  pass = c.meet_pass.ensures.own;
+  none_cleared = λ p. ap (λ (q : Pass). (tally_of q.counts.pages p).off) c.meet_pass.ensures.pass
+      ∙ none_by_met c.args.other.now.counts.pages c.self.inside.pass.counts.pages (subst (IsShareOf c.args.bitmap.now) (sym c.self.view_is) c.requires.own).none_cleared p;
+}

@@ -1,8 +1,0 @@
-use Rattle.std.proofs.Common.{sym}
-use Rattle.fuse_requests.proofs.ExtraLemmas.{link_refused}
-use Rattle.fuse_requests.proofs.new_names.new_link.Goals as goal
-
-pub returns-in-Err-received_extensions-clause-fault :
-    goal.returns-in-Err-received_extensions-clause-fault
-returns-in-Err-received_extensions-clause-fault c =
-    (sym (link_refused _ _ _ _ _ _ _ _ _ c.in-Ok.ensures.reads c.in-Ok-front_name.ensures.reads c.in-Err-received_extensions.ensures.reads), c.in-Err-received_extensions.ensures.fault)

@@ -1,6 +1,0 @@
-use Rattle.std.proofs.Common.{◌≡◌, length, take}
-use Rattle.fuse_segments.specs.Segments.{joined}
-use Rattle.fuse_segments.proofs.reader.Reader.new.Given as goal
-
-abbrev pub invariant-loop-segment : goal.invariant-loop-segment
-invariant-loop-segment l = l.total ≡ length (joined (take l.segment-index l.segment-items))

@@ -1,0 +1,49 @@
+//! The entries in answers: where one can't be told, its node is given back.
+
+ghost use Rattle.std.specs.Prelude.{◌≡◌, None, Ok, option_map};
+ghost use Rattle.fuse_fs.specs.Answers.{context_of};
+ghost use Rattle.server_calls.specs.Requests.{entry_node};
+
+use fuse_fs::{Answer, Entry, FileNumber, GetxattrReply};
+use fuse_wire::{Errno, OpenOptions};
+
+/// An answer that may have an entry.
+pub trait EntryAnswer<I: FileNumber>: Answer {
+    /// The node of a good one's entry.
+    fn node(&self) -> Option<I>
+        ensures { option_map I.number result ≡ entry_node (Self.said (Ok self.now)) };
+}
+
+impl<I: FileNumber> EntryAnswer<I> for Entry<I> {
+    fn node(&self) -> Option<I> {
+        Some(self.inode)
+    }
+}
+
+impl<I: FileNumber> EntryAnswer<I> for () {
+    fn node(&self) -> Option<I> {
+        None
+    }
+}
+
+impl<I: FileNumber> EntryAnswer<I> for GetxattrReply {
+    fn node(&self) -> Option<I> {
+        None
+    }
+}
+
+impl<I: FileNumber, H: FileNumber> EntryAnswer<I> for (Entry<I>, Option<H>, OpenOptions) {
+    fn node(&self) -> Option<I> {
+        Some(self.0.inode)
+    }
+}
+
+/// The node of the entry that was answered, where there is one.
+pub fn answered_node<I: FileNumber, A: EntryAnswer<I>>(answer: &Result<A, Errno>) -> Option<I>
+    ensures { option_map I.number result ≡ entry_node (A.said answer.now) }
+{
+    match answer {
+        Ok(good) => good.node(),
+        Err(_) => None,
+    }
+}

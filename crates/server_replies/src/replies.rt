@@ -1,0 +1,166 @@
+//! Replies, whole or not at all.
+
+ghost use Rattle.std.specs.Prelude.{◌≡◌, ◌+◌, ◌<◌, ◌≤◌, ◌^◌, [], ◌++◌, length, drop, false};
+ghost use Rattle.std.specs.Result.{ForOk};
+ghost use Rattle.vm_values.specs.Fields.{spelled};
+ghost use Rattle.fuse_wire.specs.Records.{out_header};
+ghost use Rattle.server_replies.specs.WholeReplies.{reply_bytes, error_bytes, data_header, data_reply, with_written, whole_or_none, LeavesWriter};
+ghost use Rattle.server_segments.specs.Errors.{lacks_memory};
+
+use fuse_wire::{Errno, OutHeader};
+use server_segments::{Error, Writer};
+use std::io::Write;
+use vm_values::ByteValued;
+
+/// The length of a reply's header in bytes, `struct fuse_out_header`.
+pub const OUT_HEADER_LEN: usize = 16;
+
+/// The bytes of a reply's header.
+pub(crate) fn header_bytes(len: u32, error: i32, unique: u64) -> [u8; OUT_HEADER_LEN]
+    ensures { result ≡ spelled (out_header (record { len = len; error = error; unique = unique })) }
+{
+    let mut bytes = [0u8; OUT_HEADER_LEN];
+    let header = OutHeader { len, error, unique };
+    header.put_bytes(&mut bytes);
+    bytes
+}
+
+/// The bytes of an error's reply.
+#[tactic(auto, unfolding(crate::specs::WholeReplies::error_bytes))]
+pub(crate) fn error_reply(unique: u64, error: Errno) -> [u8; OUT_HEADER_LEN]
+    ensures { result ≡ error_bytes unique error }
+{
+    header_bytes(16, -(error.raw() as i32), unique)
+}
+
+/// Writes these bytes, which have room.
+#[inline(always)]
+pub fn append(w: &mut Writer, bytes: &[u8])
+    requires { length bytes.now ≤ w.old.free }
+    ensures written { w.new.written ≡ w.old.written ++ bytes.now }
+    ensures free { w.new.free + length bytes.now ≡ w.old.free }
+    ensures room { length w.new.written + w.new.free ≡ length w.old.written + w.old.free }
+{
+    w.write_all(bytes).unwrap();
+}
+
+/// Writes a good reply, whole or not at all: header and body. Answers its length in bytes, or `EncodeMessage` where it
+/// has no room.
+#[tactic(auto, using(crate::proofs::ReplyLemmas::reply_long, crate::proofs::ReplyLemmas::reply_fits))]
+#[inline(always)]
+pub fn reply(w: &mut Writer, unique: u64, body: &[u8]) -> Result<usize, Error>
+    requires fresh { w.old.written ≡ [] }
+    requires room { w.old.free < 2 ^ 32 }
+    ensures sent { with_written result w.new.written ≡ whole_or_none w.old.free (reply_bytes unique body.now) }
+    ensures writer { LeavesWriter result w.old w.new }
+    ensures memory { lacks_memory result ≡ false }
+{
+    let room = w.available_bytes();
+    if room < OUT_HEADER_LEN || room - OUT_HEADER_LEN < body.len() {
+        return Err(Error::EncodeMessage);
+    }
+    let len = OUT_HEADER_LEN + body.len();
+    append(w, &header_bytes(len as u32, 0, unique));
+    append(w, body);
+    Ok(len)
+}
+
+// Writes a reply that is whole, where it has room.
+#[inline(always)]
+#[tactic(auto, using(crate::proofs::ReplyLemmas::sent_long, crate::proofs::ReplyLemmas::sent_fits))]
+fn send(w: &mut Writer, reply: &[u8]) -> Result<usize, Error>
+    requires fresh { w.old.written ≡ [] }
+    ensures sent { with_written result w.new.written ≡ whole_or_none w.old.free reply.now }
+    ensures writer { LeavesWriter result w.old w.new }
+    ensures memory { lacks_memory result ≡ false }
+{
+    if w.available_bytes() < reply.len() {
+        return Err(Error::EncodeMessage);
+    }
+    append(w, reply);
+    Ok(reply.len())
+}
+
+// The longest reply that is one record: a header, and the longest record.
+const RECORD_REPLY_LEN: usize = OUT_HEADER_LEN + 256;
+
+// Puts a good reply that is one record over these bytes.
+fn put_reply<T: ByteValued>(out: &mut [u8], unique: u64, body: &T)
+    requires { length out.old ≡ 16 + T.SIZE }
+    ensures { out.new ≡ reply_bytes unique (spelled (T.fields body.now)) }
+{
+    let len = out.len() as u32;
+    let (front, back) = out.split_at_mut(OUT_HEADER_LEN);
+    let header = OutHeader {
+        len,
+        error: 0,
+        unique,
+    };
+    header.put_bytes(front);
+    body.put_bytes(back);
+}
+
+/// Writes a good reply that is one record.
+#[inline(always)]
+pub(crate) fn reply_record<T: ByteValued>(
+    w: &mut Writer,
+    unique: u64,
+    body: &T,
+) -> Result<usize, Error>
+    requires fresh { w.old.written ≡ [] }
+    ensures sent { with_written result w.new.written ≡ whole_or_none w.old.free (reply_bytes unique (spelled (T.fields body.now))) }
+    ensures writer { LeavesWriter result w.old w.new }
+    ensures memory { lacks_memory result ≡ false }
+{
+    let len = OUT_HEADER_LEN + T::SIZE;
+    let mut buffer = [0; RECORD_REPLY_LEN];
+    put_reply(&mut buffer[..len], unique, body);
+    send(w, &buffer[..len])
+}
+
+/// Writes an error: a header with the error's number made negative. Answers 16, or `EncodeMessage` where it has no
+/// room.
+pub fn reply_error(w: &mut Writer, unique: u64, error: Errno) -> Result<usize, Error>
+    requires fresh { w.old.written ≡ [] }
+    ensures sent { with_written result w.new.written ≡ whole_or_none w.old.free (error_bytes unique error) }
+    ensures writer { LeavesWriter result w.old w.new }
+    ensures memory { lacks_memory result ≡ false }
+{
+    send(w, &error_reply(unique, error))
+}
+
+/// The header of the reply to a READ that had this answer, for who has put the data elsewhere; an error's reply is no
+/// more.
+pub fn data_header(unique: u64, answer: Result<usize, Errno>) -> [u8; OUT_HEADER_LEN]
+    requires { ForOk answer (λ n. 16 + n < 2 ^ 32) }
+    ensures { result ≡ data_header unique answer }
+{
+    match answer {
+        Ok(n) => header_bytes((OUT_HEADER_LEN + n) as u32, 0, unique),
+        Err(error) => error_reply(unique, error),
+    }
+}
+
+/// Puts a header before the bytes that stand behind its place, or an error in place of all of it.
+#[inline(always)]
+pub fn reply_data(w: &mut Writer, unique: u64, answer: Result<usize, Errno>) -> usize
+    requires behind { 16 ≤ length w.old.written }
+    requires count { ForOk answer (λ n. 16 + n ≡ length w.old.written) }
+    requires small { length w.old.written < 2 ^ 32 }
+    ensures reply { w.new.written ≡ data_reply unique answer (drop 16 w.old.written) }
+    ensures length { result ≡ length w.new.written }
+    ensures room { length w.new.written + w.new.free ≡ length w.old.written + w.old.free }
+{
+    match answer {
+        Ok(n) => {
+            let len = OUT_HEADER_LEN + n;
+            w.put_front(&header_bytes(len as u32, 0, unique));
+            len
+        }
+        Err(error) => {
+            w.clear();
+            append(w, &error_reply(unique, error));
+            OUT_HEADER_LEN
+        }
+    }
+}

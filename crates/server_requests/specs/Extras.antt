@@ -1,0 +1,114 @@
+-- The extensions after the names of a request that makes a node (struct fuse_ext_header, fuse_secctx and fuse_supp_groups of linux/fuse.h).
+use Rattle.std.specs.Prelude.{ℕ, zero, suc, ◌-◌, Bool, true, false, not, ◌&&◌, ◌||◌, ◌==◌, nat_le, nat_lt, List, [], ◌∷◌, length, Option, Some, None, Ok, Err, Result, if◌then◌else◌, is_none, option_map}
+use Rattle.vm_values.specs.Bits.{has_bit}
+use Rattle.fuse_in.specs.Shapes.{Shape, u32, ◌&◌, end}
+use Rattle.fuse_wire.specs.Records.{ext_header, secctx, supp_groups}
+use Rattle.fuse_fs.specs.Calls.{SecurityContext, Extra, NewLink}
+use Rattle.server_segments.specs.declared.error.Error.TheVariants.{DecodeMessage, MissingParameter, MissingExtension, InvalidHeaderLength, InvalidCString}
+use Rattle.server_requests.specs.declared.extensions.Label.{Label}
+use Rattle.server_requests.specs.declared.extensions.Received.{Received}
+use Rattle.server_requests.specs.Reading.{ReadFailure, Faults, Reading, and_then, ◌>>=◌, ◌>>◌, give, refuse, needs, rest, exactly, within, name_or, front_name, reading_of}
+
+-- FUSE_SECURITY_CTX (bit 32 of the options) is agreed
+abbrev pub takes_security : ℕ → Bool
+takes_security options = has_bit options 32
+
+-- FUSE_CREATE_SUPP_GROUP (bit 34 of the options) is agreed
+abbrev pub takes_group : ℕ → Bool
+takes_group options = has_bit options 34
+
+-- what has come so far: whether a context was sent, perhaps an empty one, and the parts
+pub record Sent : Type 0 where
+  pub was_sent : Bool
+  pub security : Option SecurityContext
+  pub group : Option ℕ
+
+-- before the first extension
+abbrev pub nothing_sent : Sent
+nothing_sent = record { was_sent = false; security = None; group = None }
+
+-- a label where it stands
+abbrev pub label_of : Label → SecurityContext
+label_of l = record { name = l.name.now; label = l.secctx.now }
+
+-- what has come, where it stands
+abbrev pub sent_of : Received → Sent
+sent_of r = record { was_sent = r.was_sent; security = option_map label_of r.secctx; group = r.sup_gid }
+
+-- a context that isn't empty: its name and its label
+unfoldable pub security_context : Reading SecurityContext
+security_context =
+    reading_of secctx >>= λ head. needs (not (head.size == 0)) (Faults DecodeMessage) >> rest >>= λ more.
+    needs (not (length more == 0)) (Faults MissingParameter) >> within more (
+    name_or DecodeMessage >>= λ name. exactly head.size >>= λ label. give (record { name = name; label = label }))
+
+-- a group's number
+abbrev pub group_number : Shape ℕ
+group_number = record { parts = u32 ∷ []; make = λ n. n; says = λ n. n & end }
+
+-- one group
+unfoldable pub one_group : Reading ℕ
+one_group = reading_of supp_groups >>= λ head. needs (head.nr_groups == 1) (Faults DecodeMessage) >> reading_of group_number
+
+-- a context, of which kind 0 is empty
+abbrev pub security_part : ℕ → Sent → ℕ → Reading Sent
+security_part options sent kind =
+    needs (takes_security options && not sent.was_sent && nat_le kind 1) (Faults DecodeMessage)
+    >> (if kind == 0 then give (record { was_sent = true; security = sent.security; group = sent.group })
+    else (security_context >>= λ x. give (record { was_sent = true; security = Some x; group = sent.group })))
+
+-- a group
+abbrev pub group_part : ℕ → Sent → Reading Sent
+group_part options sent =
+    needs (takes_group options && is_none sent.group) (Faults DecodeMessage)
+    >> one_group >>= λ group. give (record { was_sent = sent.was_sent; security = sent.security; group = Some group })
+
+-- what an extension's body says, by its kind
+unfoldable pub part : ℕ → Sent → ℕ → Reading Sent
+part options sent kind =
+    if nat_lt 32 kind then refuse (Faults DecodeMessage)
+    else if kind == 32 then group_part options sent
+    else security_part options sent kind
+
+-- one extension; what its body has besides is ignored
+unfoldable pub extension : ℕ → Sent → Reading Sent
+extension options sent =
+    reading_of ext_header >>= λ head. needs (nat_le 8 head.size) (Faults InvalidHeaderLength) >> exactly (head.size - 8) >>= λ body.
+    within body (part options sent head.ext_type)
+
+-- one after the other until the bytes end; there are no more of them than bytes
+unfoldable pub extensions : ℕ → ℕ → Sent → List ℕ → Result Sent ReadFailure
+extensions options n sent [] = Ok sent
+extensions options zero sent (b ∷ bytes) = Ok sent
+extensions options (suc n) sent (b ∷ bytes) = and_then (extension options sent (b ∷ bytes)) (λ x. extensions options n x.0 x.1)
+
+-- the parts as they came, without the mark that one was sent
+abbrev pub parts_of : Sent → Extra
+parts_of sent = record { security = sent.security; group = sent.group }
+
+-- a context has to be sent where it is agreed, be it empty
+abbrev pub all_sent : ℕ → Sent → Result Extra ReadFailure
+all_sent options sent =
+    if takes_security options && not sent.was_sent then Err (Faults MissingExtension)
+    else Ok (parts_of sent)
+
+-- the bytes after the names; they are ignored where no kind of extension is agreed
+unfoldable pub extra_in : ℕ → List ℕ → Result Extra ReadFailure
+extra_in options bytes =
+    if takes_security options || takes_group options
+    then and_then (extensions options (length bytes) nothing_sent bytes) (all_sent options)
+    else Ok (parts_of nothing_sent)
+
+-- the extensions are all that is left
+abbrev pub extra : ℕ → Reading Extra
+extra options = λ bytes. and_then (extra_in options bytes) (λ x. Ok (x, []))
+
+-- a name of a node that is made, and what comes with it
+unfoldable pub new_name : ℕ → Reading (List ℕ × Extra)
+new_name options = front_name >>= λ name. extra options >>= λ more. needs name.1 (Faults InvalidCString) >> give (name.0, more)
+
+-- the name of a symbolic link, what it leads to, and what comes with it
+unfoldable pub new_link : ℕ → Reading NewLink
+new_link options =
+    front_name >>= λ name. front_name >>= λ link. extra options >>= λ more. needs (name.1 && link.1) (Faults InvalidCString)
+    >> give (record { name = name.0; link = link.0; extra = more })

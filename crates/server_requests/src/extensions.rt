@@ -1,0 +1,370 @@
+//! The extensions after the names of a request that makes a node.
+
+ghost use Rattle.std.specs.Prelude.{◌≡◌, ◌+◌, ◌<◌, ◌&&◌, ◌||◌, not, nat_le, length, is_none, Ok, Err, IfOk, IfErr, false};
+ghost use Rattle.fuse_fs.specs.Answers.{extra_of, security_of};
+ghost use Rattle.server_requests.specs.Reading.{Faults, outcome, reading_of, value_of};
+ghost use Rattle.server_requests.specs.Extras.{takes_security, takes_group, label_of, sent_of, parts_of, nothing_sent};
+ghost use Rattle.server_requests.specs.Extras.{security_context, one_group, part, extension, extensions, extra_in};
+ghost use Rattle.server_requests.specs.Extras.{security_part, group_part};
+ghost use Rattle.server_segments.specs.Errors.{is_memory};
+
+use crate::names::first_name;
+use bitflags::Flags;
+use fuse_fs::{Extensions, SecContext};
+use fuse_in::InRecord;
+use fuse_wire::{ExtHeader, FsOptions, GuestGid, Secctx, SuppGroups};
+use server_segments::Error;
+use std::alloc::{AllocError, Global};
+use vm_values::ByteValued;
+
+/// A security label where it stands in a request.
+#[derive(Clone, Copy)]
+pub struct Label<'a> {
+    name: &'a [u8],
+    secctx: &'a [u8],
+}
+
+/// What has come of the extensions, where it stands in a request.
+#[derive(Clone, Copy)]
+pub struct Received<'a> {
+    // Whether a context was sent, be it empty.
+    was_sent: bool,
+    secctx: Option<Label<'a>>,
+    sup_gid: Option<u32>,
+}
+
+// A record from the front of some bytes, and those after it.
+#[derive(Clone, Copy)]
+struct WithRest<'a, T> {
+    record: T,
+    rest: &'a [u8],
+}
+
+// What has come with one more extension, and the bytes after it.
+#[derive(Clone, Copy)]
+struct Progress<'a> {
+    received: Received<'a>,
+    rest: &'a [u8],
+}
+
+// Whether security contexts are sent.
+fn takes_security(options: FsOptions) -> bool
+    ensures { result ≡ takes_security options.0 }
+{
+    (options & FsOptions::SECURITY_CTX).bits() != 0
+}
+
+// Whether a further group is sent.
+fn takes_group(options: FsOptions) -> bool
+    ensures { result ≡ takes_group options.0 }
+{
+    (options & FsOptions::CREATE_SUPP_GROUP).bits() != 0
+}
+
+// The record in front.
+fn front_record<T: InRecord>(bytes: &[u8]) -> Result<WithRest<'_, T>, Error>
+    ensures reads { IfOk result (λ x. Ok (x.record, x.rest.now) ≡ reading_of T.shape bytes.now) }
+    ensures fault { IfErr result (λ e. (Err (Faults e) ≡ reading_of T.shape bytes.now) × (is_memory e ≡ false)) }
+    ensures len { IfOk result (λ x. length x.rest.now + T.SIZE ≡ length bytes.now) }
+{
+    if bytes.len() < T::SIZE {
+        return Err(Error::DecodeMessage);
+    }
+    let (front, rest) = bytes.split_at(T::SIZE);
+    Ok(WithRest {
+        record: T::get_bytes(front),
+        rest,
+    })
+}
+
+// A label of `size` bytes behind its name.
+#[tactic(auto, using(crate::proofs::ExtraLemmas::label_cases))]
+fn security_context(bytes: &[u8]) -> Result<Label<'_>, Error>
+    ensures reads { outcome label_of result ≡ value_of (security_context bytes.now) }
+    ensures fault { IfErr result (λ e. is_memory e ≡ false) }
+{
+    match front_record::<Secctx>(bytes) {
+        Ok(head) => {
+            if head.record.size == 0 {
+                return Err(Error::DecodeMessage);
+            }
+            if head.rest.is_empty() {
+                return Err(Error::MissingParameter);
+            }
+            match first_name(head.rest) {
+                Some((name, more)) => {
+                    let size = head.record.size as usize;
+                    if more.len() < size {
+                        return Err(Error::DecodeMessage);
+                    }
+                    Ok(Label {
+                        name,
+                        secctx: &more[..size],
+                    })
+                }
+                None => Err(Error::DecodeMessage),
+            }
+        }
+        Err(error) => Err(error),
+    }
+}
+
+// One group.
+#[tactic(auto, using(crate::proofs::ExtraLemmas::one_group_cases))]
+fn one_group(bytes: &[u8]) -> Result<u32, Error>
+    ensures reads { outcome (λ n. n) result ≡ value_of (one_group bytes.now) }
+    ensures fault { IfErr result (λ e. is_memory e ≡ false) }
+{
+    match front_record::<SuppGroups>(bytes) {
+        Ok(head) => {
+            if head.record.nr_groups != 1 {
+                return Err(Error::DecodeMessage);
+            }
+            if head.rest.len() < 4 {
+                return Err(Error::DecodeMessage);
+            }
+            let (group, _more) = head.rest.split_at(4);
+            Ok(u32::get_bytes(group))
+        }
+        Err(error) => Err(error),
+    }
+}
+
+// Whether a context of this kind may come now.
+fn may_be_context(options: FsOptions, was_sent: bool, kind: u32) -> bool
+    ensures { result ≡ (takes_security options.0 && not was_sent && nat_le kind 1) }
+{
+    takes_security(options) && !was_sent && kind <= 1
+}
+
+// Whether a group may come now.
+fn may_be_group(options: FsOptions, sup_gid: Option<u32>) -> bool
+    ensures { result ≡ (takes_group options.0 && is_none sup_gid) }
+{
+    takes_group(options) && sup_gid.is_none()
+}
+
+// What has come with a context, of which kind 0 is empty.
+#[tactic(auto, using(crate::proofs::ExtraLemmas::security_cases))]
+fn security_part<'a>(
+    options: FsOptions,
+    received: Received<'a>,
+    kind: u32,
+    bytes: &'a [u8],
+) -> Result<Received<'a>, Error>
+    ensures reads { outcome sent_of result ≡ value_of (security_part options.0 (sent_of received.entry) kind bytes.now) }
+    ensures fault { IfErr result (λ e. is_memory e ≡ false) }
+{
+    if !may_be_context(options, received.was_sent, kind) {
+        return Err(Error::DecodeMessage);
+    }
+    if kind == 0 {
+        return Ok(Received {
+            was_sent: true,
+            ..received
+        });
+    }
+    match security_context(bytes) {
+        Ok(label) => Ok(Received {
+            was_sent: true,
+            secctx: Some(label),
+            sup_gid: received.sup_gid,
+        }),
+        Err(error) => Err(error),
+    }
+}
+
+// What has come with a group.
+#[tactic(auto, using(crate::proofs::ExtraLemmas::group_refused, crate::proofs::ExtraLemmas::group_given, crate::proofs::ExtraLemmas::group_fault))]
+fn group_part<'a>(
+    options: FsOptions,
+    received: Received<'a>,
+    bytes: &'a [u8],
+) -> Result<Received<'a>, Error>
+    ensures reads { outcome sent_of result ≡ value_of (group_part options.0 (sent_of received.entry) bytes.now) }
+    ensures fault { IfErr result (λ e. is_memory e ≡ false) }
+{
+    if !may_be_group(options, received.sup_gid) {
+        return Err(Error::DecodeMessage);
+    }
+    match one_group(bytes) {
+        Ok(group) => Ok(Received {
+            sup_gid: Some(group),
+            ..received
+        }),
+        Err(error) => Err(error),
+    }
+}
+
+/// The kind of the extension that holds a group (`FUSE_EXT_GROUPS`); those below it are kept for security contexts.
+const EXT_GROUPS: u32 = 32;
+
+// What has come with an extension of a kind.
+#[tactic(auto, unfolding(crate::specs::Extras::part))]
+fn part<'a>(
+    options: FsOptions,
+    received: Received<'a>,
+    kind: u32,
+    bytes: &'a [u8],
+) -> Result<Received<'a>, Error>
+    ensures reads { outcome sent_of result ≡ value_of (part options.0 (sent_of received.entry) kind bytes.now) }
+    ensures fault { IfErr result (λ e. is_memory e ≡ false) }
+{
+    if kind > EXT_GROUPS {
+        return Err(Error::DecodeMessage);
+    }
+    if kind == EXT_GROUPS {
+        group_part(options, received, bytes)
+    } else {
+        security_part(options, received, kind, bytes)
+    }
+}
+
+/// The length of an extension's header, `struct fuse_ext_header`.
+const EXT_HEADER_LEN: u32 = 8;
+
+// What has come with one more extension.
+#[tactic(auto, using(crate::proofs::ExtraLemmas::extension_cases))]
+fn extension<'a>(
+    options: FsOptions,
+    received: Received<'a>,
+    bytes: &'a [u8],
+) -> Result<Progress<'a>, Error>
+    ensures reads { IfOk result (λ x. Ok (sent_of x.received, x.rest.now) ≡ extension options.0 (sent_of received.entry) bytes.now) }
+    ensures fault { IfErr result (λ e. (Err (Faults e) ≡ extension options.0 (sent_of received.entry) bytes.now) × (is_memory e ≡ false)) }
+    ensures shorter { IfOk result (λ x. length x.rest.now < length bytes.now) }
+{
+    match front_record::<ExtHeader>(bytes) {
+        Ok(head) => {
+            if head.record.size < EXT_HEADER_LEN {
+                return Err(Error::InvalidHeaderLength);
+            }
+            let size = (head.record.size - EXT_HEADER_LEN) as usize;
+            if head.rest.len() < size {
+                return Err(Error::DecodeMessage);
+            }
+            let (body, rest) = head.rest.split_at(size);
+            match part(options, received, head.record.ext_type, body) {
+                Ok(received) => Ok(Progress { received, rest }),
+                Err(error) => Err(error),
+            }
+        }
+        Err(error) => Err(error),
+    }
+}
+
+impl<'a> Received<'a> {
+    // Nothing has come.
+    fn nothing() -> Received<'a>
+        ensures { sent_of result ≡ nothing_sent }
+    {
+        Received {
+            was_sent: false,
+            secctx: None,
+            sup_gid: None,
+        }
+    }
+}
+
+// What has come with all extensions.
+fn extensions<'a>(options: FsOptions, bytes: &'a [u8]) -> Result<Received<'a>, Error>
+    ensures reads { outcome sent_of result ≡ extensions options.0 (length bytes.now) nothing_sent bytes.now }
+    ensures fault { IfErr result (λ e. is_memory e ≡ false) }
+{
+    let mut progress = Progress {
+        received: Received::nothing(),
+        rest: bytes,
+    };
+    while !progress.rest.is_empty() {
+        progress = extension(options, progress.received, progress.rest)?;
+    }
+    Ok(progress.received)
+}
+
+// Whether extensions are read at all.
+fn takes_any(options: FsOptions) -> bool
+    ensures { result ≡ (takes_security options.0 || takes_group options.0) }
+{
+    takes_security(options) || takes_group(options)
+}
+
+// Whether a context was to be sent and wasn't.
+fn lacks_context(options: FsOptions, was_sent: bool) -> bool
+    ensures { result ≡ (takes_security options.0 && not was_sent) }
+{
+    takes_security(options) && !was_sent
+}
+
+/// The extensions that these bytes are (`struct fuse_ext_header` and what follows it, again and again), where they
+/// stand; none where no kind of them is agreed. `InvalidHeaderLength`, `DecodeMessage` or `MissingParameter` where they
+/// are malformed, `MissingExtension` where a security context was agreed and none is sent.
+#[tactic(auto, using(crate::proofs::ExtraLemmas::extra_ignored))]
+pub(crate) fn received_extensions<'a>(
+    options: FsOptions,
+    bytes: &'a [u8],
+) -> Result<Received<'a>, Error>
+    ensures reads { outcome (λ r. parts_of (sent_of r)) result ≡ extra_in options.0 bytes.now }
+    ensures fault { IfErr result (λ e. is_memory e ≡ false) }
+{
+    if takes_any(options) {
+        match extensions(options, bytes) {
+            Ok(received) => {
+                if lacks_context(options, received.was_sent) {
+                    return Err(Error::MissingExtension);
+                }
+                Ok(received)
+            }
+            Err(error) => Err(error),
+        }
+    } else {
+        Ok(Received::nothing())
+    }
+}
+
+// The same bytes in memory of their own.
+fn copied(alloc: Global, bytes: &[u8]) -> Result<Vec<u8>, Error>
+    ensures ok { IfOk result (λ copy. copy.items ≡ bytes.now) }
+    ensures err { IfErr result (λ e. e ≡ Error.OutOfMemory) }
+{
+    match Vec::with_capacity(alloc, bytes.len()) {
+        Ok(mut copy) => {
+            copy.extend_from_slice(bytes).unwrap();
+            Ok(copy)
+        }
+        Err(AllocError) => Err(Error::OutOfMemory),
+    }
+}
+
+// A label in memory of its own.
+fn owned_label(alloc: Global, label: Label<'_>) -> Result<SecContext, Error>
+    ensures ok { IfOk result (λ copy. security_of copy ≡ label_of label.entry) }
+    ensures err { IfErr result (λ e. e ≡ Error.OutOfMemory) }
+{
+    let name = copied(alloc, label.name)?;
+    let secctx = copied(alloc, label.secctx)?;
+    Ok(SecContext { name, secctx })
+}
+
+/// What has come as a file system gets it: a label in memory of its own. The error is `OutOfMemory`.
+pub fn owned_extensions(alloc: Global, received: Received<'_>) -> Result<Extensions, Error>
+    ensures ok { IfOk result (λ ext. extra_of ext ≡ parts_of (sent_of received.entry)) }
+    ensures err { IfErr result (λ e. (e ≡ Error.OutOfMemory) × (is_none (parts_of (sent_of received.entry)).security ≡ false)) }
+{
+    let sup_gid = match received.sup_gid {
+        Some(group) => Some(GuestGid::from(group)),
+        None => None,
+    };
+    match received.secctx {
+        Some(label) => match owned_label(alloc, label) {
+            Ok(label) => Ok(Extensions {
+                secctx: Some(label),
+                sup_gid,
+            }),
+            Err(error) => Err(error),
+        },
+        None => Ok(Extensions {
+            secctx: None,
+            sup_gid,
+        }),
+    }
+}
