@@ -12,7 +12,8 @@ use Rattle.fs_queue.specs.declared.fault.ChainFault.TheVariants.{IndirectLength,
 use Rattle.fs_queue.specs.Queue.{Queue}
 use Rattle.fs_queue.specs.Chain.{Descriptor, DescriptorTable, Visit, WalkStep, Ordinary, Table, Faulty, Stops, has_next, is_indirect, ends_in_64_bits, indirect_step, ordinary_step, walk_step}
 use Rattle.fs_queue.specs.Chain.{walk_step_at, next_visit, onward, path, first_visit, walk, with_front, after_walk_step, Found, IsChain, HasFault, StopsQueue, found, chain}
-use Rattle.fs_queue.specs.Paths.{entry_address, entry_of, EntryIsThere, PassesOrdinary, PassesTable, Passes, EntryIsUnreadable, IsOrdinary}
+use Rattle.fs_queue.specs.Chain.{entry_address}
+use Rattle.fs_queue.specs.Paths.{entry_of, EntryIsThere, PassesOrdinary, PassesTable, Passes, EntryIsUnreadable, IsOrdinary}
 use Rattle.fs_queue.specs.Paths.{NamesTable, NamesTableFromOwn, OrdinaryOverflows, StepHasFault, StepStops, EndsAt, ordinary_entries, ComesTo}
 use Rattle.fs_queue.proofs.BoundLemmas.{either}
 use Rattle.fs_queue.proofs.PathLemmas.{not_nothing, fewer, next_ordinary, next_table, some_bytes, ends_or_none, room_left, next_follows, still_few}

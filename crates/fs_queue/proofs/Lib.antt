@@ -2,9 +2,15 @@ pub mod ReadLemmas
 pub mod WalkLemmas
 pub mod TakeLemmas
 pub mod TableLemmas
+pub mod LoadLemmas
 pub mod OfferLemmas
 pub mod OfferedLemmas
 pub mod ReturnLemmas
 pub mod BoundLemmas
 pub mod PathLemmas
 pub mod FoundLemmas
+pub mod StillLemmas
+pub mod GivenLemmas
+pub mod RingLemmas
+pub mod OfferByLemmas
+pub mod AnyLoadLemmas

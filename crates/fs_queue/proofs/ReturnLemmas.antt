@@ -1,23 +1,23 @@
 -- the stores of a return are the writes at their addresses
-use Rattle.std.proofs.Common.{◌≡◌, ℕ, Bool, true, false, [], ◌∷◌, ◌++◌, not, eqb, List, length, map, drop, append_assoc, length-append, arith, refl, ap, sym, ◌∙◌, Ok, Err, Option, Some, None}
-use Rattle.std.specs.Prelude.{Result, bit_and}
+use Rattle.std.proofs.Common.{◌≡◌, ℕ, ◌+◌, [], ◌∷◌, ◌++◌, List, length, map, drop, append_assoc, append-nil, length-append, arith, refl, ap, sym, ◌∙◌, Ok, Err, Option, Some, None}
+use Rattle.std.specs.Prelude.{Result}
 use Rattle.std.specs.List.{zip}
 use Rattle.std.proofs.lemmas.List.{take_at, drop_at}
-use Rattle.std.specs.Int.{w16, w32, to_le_bytes, from_le_bytes}
+use Rattle.std.specs.Int.{w16, w32, to_le_bytes}
 use Rattle.vm_iotlb.specs.declared.permissions.Permissions.TheVariants.{Read, Write}
 use Rattle.vm_iotlb.specs.declared.range.IotlbRange.{IotlbRange}
 use Rattle.vm_memory_core.specs.Host.{Host, IoAddress, Place}
 use Rattle.vm_memory_core.specs.Window.{Window, places, byte_in, put_byte, put_all}
 use Rattle.vm_memory_core.proofs.WindowLemmas.{zip-append}
 use Rattle.vm_memory.specs.Memory.{Memory, addresses, located, location, stored_at, stored_all, bytes}
-use Rattle.vm_memory.proofs.Places.{parts, length-addresses, stored_all-append, bytes-located, put_none}
+use Rattle.vm_memory.proofs.Places.{parts, length-addresses, stored_all-append, bytes-located, put_none, addresses-append}
 use Rattle.fs_queue.specs.declared.chain.Chain.{Chain}
-use Rattle.fs_queue.specs.declared.chain.Taken.{Taken}
+use Rattle.fs_queue.specs.declared.returning.Return.{Return}
 use Rattle.fs_queue.specs.declared.fault.ChainFault.{ChainFault}
 use Rattle.fs_queue.specs.Queue.{Queue, element_at, index_at}
 use Rattle.fs_queue.specs.Taking.{RequestAndRoom, IsRequest, CannotFetch, room_of}
-use Rattle.fs_queue.specs.Returning.{next_position, returned, wants_notice}
-use Rattle.fs_queue.specs.Windows.{HoldsChain, IsTaken, chain_places, used_addresses}
+use Rattle.fs_queue.specs.Returning.{next_position, returned, wants_notice, tells, Store, stores_after_reply, stores_of, ReturnsByStores}
+use Rattle.fs_queue.specs.Windows.{Taken, HoldsChain, IsTaken, chain_places, used_addresses}
 
 -- a memory over another host
 abbrev pub over : Memory → Host → Memory
@@ -32,12 +32,12 @@ with_tables h p x (Some a) e = rw e refl
 put_tables : (h : Host) (p : Place) (x : ℕ) → (put_byte h p x).tables ≡ h.tables
 put_tables h p x = with_tables h p x p.io refl
 
-all_tables : (ws : List (Place × ℕ)) (h : Host) → (put_all h ws).tables ≡ h.tables
+pub all_tables : (ws : List (Place × ℕ)) (h : Host) → (put_all h ws).tables ≡ h.tables
 unfolding put_all
 all_tables [] h = refl
 all_tables (w ∷ ws) h = all_tables ws (put_byte h w.0 w.1) ∙ put_tables h w.0 w.1
 
-same_location : (m : Memory) (h : Host) → h.tables ≡ m.host.tables → location (over m h) ≡ location m
+pub same_location : (m : Memory) (h : Host) → h.tables ≡ m.host.tables → location (over m h) ≡ location m
 same_location m h e = ap (λ (t : List (List IotlbRange)). location (over m (record h { tables = t }))) e
 
 stored_one : (a x : ℕ) (as' xs : List ℕ) (ps qs : List Place) (p : Place) (m : Memory) → location m Write a ≡ Some p → ps ≡ p ∷ qs →
@@ -48,7 +48,7 @@ stored_one a x as' xs ps qs p m at is ih =
     ap (λ (o : Option Place). stored_all (stored_at m x o) (zip as' xs)) at ∙ ih ∙ sym (ap (λ (rs : List Place). over m (put_all m.host (zip rs (x ∷ xs)))) is)
 
 -- stores at addresses are stores at their places
-stored_located : (as' : List ℕ) (ps : List Place) (xs : List ℕ) (m : Memory) → located (location m Write) as' ≡ Some ps →
+pub stored_located : (as' : List ℕ) (ps : List Place) (xs : List ℕ) (m : Memory) → located (location m Write) as' ≡ Some ps →
     stored_all m (zip as' xs) ≡ over m (put_all m.host (zip ps xs))
 unfolding located stored_all put_all
 stored_located [] ps xs m e = let none : [] ≡ ps = cc in rw (← none)
@@ -103,19 +103,39 @@ returned_is m h0 h1 h2 q fetched t reply bytes ws host taken a e1 e2 b =
     ∙ stored_all-append room at_used m
     ∙ ap (λ (n : Memory). stored_all n at_used) first ∙ second)
 
-not_not : (b : Bool) → b ≡ not (not b)
-not_not true = refl
-not_not false = refl
-
-pub told_is : (m : Memory) (h2 : Host) (q : Queue) (fetched : RequestAndRoom) (t : Taken) (n : ℕ) (flags : List ℕ) (fs : List Window) → h2.tables ≡ m.host.tables → IsTaken m q fetched t →
-    fs ≡ t.return_windows.flags.items → flags ≡ map (byte_in h2) (places fs) → n ≡ from_le_bytes w16 flags → eqb (bit_and n 1) 0 ≡ wants_notice (over m h2) q
-told_is m h2 q fetched t n flags fs kept taken e f is =
+pub told_is : (m : Memory) (h2 : Host) (q : Queue) (fetched : RequestAndRoom) (t : Taken) (flags : List ℕ) (fs : List Window) → h2.tables ≡ m.host.tables → IsTaken m q fetched t →
+    fs ≡ t.return_windows.flags.items → flags ≡ map (byte_in h2) (places fs) → tells flags ≡ wants_notice (over m h2) q
+told_is m h2 q fetched t flags fs kept taken e f =
     let read : bytes (over m h2) q.avail 2 ≡ flags =
     bytes-located (addresses q.avail 2) (over m h2) (places t.return_windows.flags.items) (ap (λ g. located (g Read) (addresses q.avail 2)) (same_location m h2 kept) ∙ taken.return_windows.flags)
     ∙ ap (λ (ws : List Window). map (byte_in h2) (places ws)) (sym e) ∙ sym f in
-    ap (λ k. eqb (bit_and k 1) 0) (is ∙ ap (from_le_bytes w16) (sym read)) ∙ not_not _
+    ap tells (sym read)
 
 -- both stores keep the tables
 pub kept_tables : (m : Memory) (h0 h1 h2 : Host) (ws1 ws2 : List (Place × ℕ)) → m.host ≡ h0 → h1 ≡ put_all h0 ws1 → h2 ≡ put_all h1 ws2 → h2.tables ≡ m.host.tables
 kept_tables m h0 h1 h2 ws1 ws2 host a b =
     ap (λ (h : Host). h.tables) b ∙ all_tables ws2 h1 ∙ ap (λ (h : Host). h.tables) a ∙ all_tables ws1 h0 ∙ ap (λ (h : Host). h.tables) (sym host)
+
+-- the bytes of three stores, one after another
+abbrev joined : List Store → List ℕ
+joined (a ∷ b ∷ c ∷ []) = a.bytes ++ b.bytes ++ c.bytes
+joined _ = []
+
+-- those of a return
+pub used_bytes_are : (r : Return) (q : Queue) (head len : ℕ) (bs : List ℕ) → stores_of r ≡ stores_after_reply q head len → bs ≡ to_le_bytes w32 r.head.value ++ to_le_bytes w32 r.len.value ++ to_le_bytes w16 r.index.value →
+    bs ≡ to_le_bytes w32 head ++ to_le_bytes w32 len ++ to_le_bytes w16 (next_position q)
+used_bytes_are r q head len bs is e = e ∙ ap joined is
+
+-- the writes of a used element are those of its halves
+pub returns_by_stores : ReturnsByStores
+returns_by_stores q head room reply =
+    let id = to_le_bytes w32 head in
+    let len = to_le_bytes w32 (length reply) in
+    let index = zip (addresses (index_at q) 2) (to_le_bytes w16 (next_position q)) in
+    let a = zip (addresses (element_at q) 4) id in
+    let b = zip (addresses (element_at q + 4) 4) len in
+    let halves : zip (addresses (element_at q) 8) (id ++ len) ≡ a ++ b =
+    ap (λ (l : List ℕ). zip l (id ++ len)) (addresses-append 4 4 (element_at q)) ∙ zip_used (addresses (element_at q) 4) (addresses (element_at q + 4) 4) id len (length-addresses 4 (element_at q)) in
+    ap (λ (l : List (ℕ × ℕ)). zip room reply ++ l ++ index) halves
+    ∙ append_assoc (zip room reply) (a ++ b) index
+    ∙ ap (λ (l : List (ℕ × ℕ)). zip room reply ++ l) (append_assoc a b index ∙ ap (λ (l : List (ℕ × ℕ)). a ++ (b ++ l)) (sym (append-nil index)))

@@ -3,18 +3,14 @@ use Rattle.std.proofs.Common.{◌≡◌, ℕ, Bool, true, ◌+◌, ◌*◌, ◌-
 use Rattle.std.specs.Prelude.{is_some, if◌then◌else◌, length, nat_lt}
 use Rattle.std.specs.List.{list_all}
 use Rattle.std.proofs.lemmas.List.{take_all}
-use Rattle.std.specs.Int.{w16, from_le_bytes}
-use Rattle.vm_values.specs.Fields.{AllFit, spelled}
 use Rattle.vm_iotlb.specs.declared.permissions.Permissions.TheVariants.{Read}
-use Rattle.vm_memory.specs.Memory.{Memory, addresses, circular, located, location, reach, bytes, number}
+use Rattle.vm_memory.specs.Memory.{Memory, addresses, circular, located, location, reach, bytes}
 use Rattle.vm_memory_core.specs.Host.{Place}
 use Rattle.vm_memory_core.specs.Window.{Window, byte_in, places_of}
 use Rattle.vm_memory.specs.Slices.{Slices, Gives}
 use Rattle.vm_memory.specs.declared.error.GuestMemoryError.{GuestMemoryError}
 use Rattle.vm_memory.proofs.Places.{addresses-append, bytes-located, circular-is, length-circular}
-use Rattle.fs_queue.specs.Records.{descriptor}
-use Rattle.fs_queue.specs.Chain.{Descriptor, descriptor_at}
-use Rattle.fs_queue.proofs.ReadLemmas.{decoded, front_bytes, back_bytes, length-bytes}
+use Rattle.fs_queue.proofs.ReadLemmas.{front_bytes, back_bytes, length-bytes}
 use Rattle.fs_queue.proofs.TakeLemmas.{list_all-append, below}
 use Rattle.std.proofs.lemmas.Bool.{and_parts}
 use Rattle.vm_memory.proofs.RangeLemmas.{all_located}
@@ -31,36 +27,30 @@ part_reached m a i n k fits h =
     let front = and_parts (list_all p (addresses (a + i) n)) (list_all p (addresses (a + i + n) k)) (list_all-append (addresses (a + i) n) (addresses (a + i + n) k) (location m Read) ∙ back.1) in
     rw (below (a + i + n) (omega (arith, fits)), front.0) refl
 
-entry_of : (m : Memory) (a i k : ℕ) (bs : List ℕ) (d : Descriptor) → a + (i + (16 + k)) < 2 ^ 64 → bs ≡ bytes m a (i + (16 + k)) →
-    reach m Read a (i + (16 + k)) ≡ true → take 16 (drop i bs) ≡ spelled (descriptor d) → AllFit (descriptor d) →
-    Some d ≡ (if reach m Read (a + i) 16 then Some (descriptor_at m (a + i)) else None)
-entry_of m a i k bs d ends is found read fits =
-    let here : take 16 (drop i bs) ≡ bytes m (a + i) 16 = ap (λ (l : List ℕ). take 16 (drop i l)) is ∙ ap (take 16) (back_bytes m a i (16 + k)) ∙ front_bytes m (a + i) 16 k in
-    rw (part_reached m a i 16 k ends found) (ap Some (decoded m (a + i) d (sym read ∙ here) fits))
+-- the bytes of an entry of a table, by the table's bytes
+pub entry_bytes : (m : Memory) (a n i : ℕ) (bs : List ℕ) → a + 16 * n < 2 ^ 64 → i < n → bs ≡ bytes m a (16 * n) → reach m Read a (16 * n) ≡ true →
+    Some (take 16 (drop (16 * i) bs)) ≡ (if reach m Read (a + 16 * i) 16 then Some (bytes m (a + 16 * i) 16) else None)
+entry_bytes m a n i bs ends inside is all =
+    let k = 16 * n - 16 * i - 16 in
+    let cut : 16 * n ≡ 16 * i + (16 + k) = omega (arith, inside) in
+    let here : take 16 (drop (16 * i) bs) ≡ bytes m (a + 16 * i) 16 =
+    ap (λ (l : List ℕ). take 16 (drop (16 * i) l)) (is ∙ ap (bytes m a) cut) ∙ ap (take 16) (back_bytes m a (16 * i) (16 + k)) ∙ front_bytes m (a + 16 * i) 16 k in
+    rw (part_reached m a (16 * i) 16 k (rw cut at ends) (rw cut at all)) (ap Some here)
 
--- a number in a range, by the range's bytes
-pub number_in_range : (m : Memory) (a n i : ℕ) (bs : List ℕ) (v : ℕ) → a + n < 2 ^ 64 → i + 2 ≤ n → bs ≡ bytes m a n → reach m Read a n ≡ true →
-    v ≡ from_le_bytes w16 (take 2 (drop i bs)) → Some v ≡ (if reach m Read (a + i) 2 then Some (number m w16 (a + i)) else None)
-number_in_range m a n i bs v ends inside is found read =
+-- two bytes of a range, by the range's bytes
+pub pair_bytes : (m : Memory) (a n i : ℕ) (bs : List ℕ) → a + n < 2 ^ 64 → i + 2 ≤ n → bs ≡ bytes m a n → reach m Read a n ≡ true →
+    Some (take 2 (drop i bs)) ≡ (if reach m Read (a + i) 2 then Some (bytes m (a + i) 2) else None)
+pair_bytes m a n i bs ends inside is all =
     let k = n - i - 2 in
     let cut : n ≡ i + (2 + k) = omega (arith, inside) in
     let here : take 2 (drop i bs) ≡ bytes m (a + i) 2 = ap (λ (l : List ℕ). take 2 (drop i l)) (is ∙ ap (bytes m a) cut) ∙ ap (take 2) (back_bytes m a i (2 + k)) ∙ front_bytes m (a + i) 2 k in
-    rw (part_reached m a i 2 k (rw cut at ends) (rw cut at found)) (ap Some (read ∙ ap (from_le_bytes w16) here))
+    rw (part_reached m a i 2 k (rw cut at ends) (rw cut at all)) (ap Some here)
 
 -- a number lies in the bytes of its range
 pub number_inside : (m : Memory) (a n i : ℕ) (bs : List ℕ) → i + 2 ≤ n → bs ≡ bytes m a n → i + 2 ≤ length bs
 number_inside m a n i bs inside is =
     let all : length bs ≡ n = ap length is ∙ length-bytes m a n in
     omega (arith, inside, all)
-
--- an entry of a table, by the table's bytes
-pub entry_in_table : (m : Memory) (a n i : ℕ) (bs : List ℕ) (d : Descriptor) → a + 16 * n < 2 ^ 64 → i < n → bs ≡ bytes m a (16 * n) →
-    reach m Read a (16 * n) ≡ true → take 16 (drop (16 * i) bs) ≡ spelled (descriptor d) → AllFit (descriptor d) →
-    Some d ≡ (if reach m Read (a + 16 * i) 16 then Some (descriptor_at m (a + 16 * i)) else None)
-entry_in_table m a n i bs d ends inside is found read fits =
-    let k = 16 * n - 16 * i - 16 in
-    let cut : 16 * n ≡ 16 * i + (16 + k) = omega (arith, inside) in
-    entry_of m a (16 * i) k bs d (rw cut at ends) (rw cut at is) (rw cut at found) read fits
 
 -- an entry lies in the bytes of its table
 pub entry_inside : (m : Memory) (a n i : ℕ) (bs : List ℕ) → i < n → bs ≡ bytes m a (16 * n) → 16 * i + 16 ≤ length bs

@@ -1,7 +1,8 @@
 -- the descriptors of one direction, one at a time, and what a queue offers by its parts
 use mathlib.Core.Bool.{beq}
 use Rattle.std.proofs.Common.{◌≡◌, ℕ, Bool, true, false, ◌+◌, ◌^◌, ◌<◌, ◌≤◌, ◌&&◌, ◌||◌, ◌++◌, not, nat_lt, List, [], ◌∷◌, drop, map, filter, length, refl, ap, sym, ◌∙◌, arith, suc, Option, Some, None, append-nil, append_assoc, length-append}
-use Rattle.std.specs.Prelude.{if◌then◌else◌, is_some, Result, Ok, Err, IsOk}
+use Rattle.std.specs.Prelude.{if◌then◌else◌, is_some, Result, Ok, Err, IsOk, IfOk, IfNone}
+use Rattle.std.specs.declared.alloc.AllocError.{AllocError}
 use Rattle.std.specs.List.{list_all, flat_map}
 use Rattle.std.specs.Option.{option_map, option_and_then}
 use Rattle.std.proofs.lemmas.List.{map-append, drop_all}
@@ -22,7 +23,7 @@ use Rattle.fs_queue.specs.Walking.{AllEndIn64Bits}
 use Rattle.fs_queue.specs.Taking.{readable, writable, total_len, all_reach, request_and_room, IsRequest, CannotFetch}
 use Rattle.fs_queue.specs.Queue.{Queue, element_at, index_at}
 use Rattle.fs_queue.specs.Chain.{Descriptor, is_writable, IsChain}
-use Rattle.fs_queue.specs.Windows.{of_direction, addresses_of, used_addresses, unreachable, unreachable_of, room_places, HoldsChain, HoldsWindows}
+use Rattle.fs_queue.specs.Windows.{of_direction, addresses_of, used_addresses, unreachable, unreachable_of, room_places, HoldsChain, HoldsWindows, ChainLiesIn, unless_faulty}
 use Rattle.vm_memory.proofs.Places.{Where, addresses-append, length-addresses, located-append, after-after, bytes-located}
 use Rattle.vm_memory.proofs.RangeLemmas.{all_located}
 
@@ -257,3 +258,44 @@ room_within m limit ds head (Ok c) b ok h =
     let w = length-direction (location m Write) (writable ds) _ (sym h.2) in
     omega (arith, w)
 room_within m limit ds head (Err fault) b ok h = absurd (cc)
+
+-- ---- by what filling a chain answers
+
+filled_fetched : (m : Memory) (limit : ℕ) (ds : List Descriptor) (head : ℕ) (c : Chain) (fault : Option ChainFault) → AllEndIn64Bits ds → total_len (readable ds) ≤ limit → total_len (writable ds) ≤ limit →
+    fault ≡ unreachable_of m ds → IfNone fault (HoldsWindows m head (Ok c) (IsChain ds)) → HoldsChain m (request_and_room m limit ds) (unless_faulty fault c)
+filled_fetched m limit ds head c None all a b is h = holds_fetched m limit ds head (Ok c) all a b refl h
+filled_fetched m limit ds head c (Some fault) all a b is h = rw (cannot_fetch m limit ds fault all a b is) refl
+
+pub fetched : (m : Memory) (limit : ℕ) (ds : List Descriptor) (head : ℕ) (c : Chain) (r : Result (Option ChainFault) AllocError) → AllEndIn64Bits ds → total_len (readable ds) ≤ limit → total_len (writable ds) ≤ limit →
+    IfOk r (λ fault. fault ≡ unreachable_of m ds) → IfOk r (λ fault. IfNone fault (HoldsWindows m head (Ok c) (IsChain ds))) →
+    IfOk r (λ fault. HoldsChain m (request_and_room m limit ds) (unless_faulty fault c))
+fetched m limit ds head c (Ok fault) all a b is h = filled_fetched m limit ds head c fault all a b is h
+fetched m limit ds head c (Err e) all a b is h = tt
+
+filled_short : (m : Memory) (limit : ℕ) (ds : List Descriptor) (head : ℕ) (c : Chain) (fault : Option ChainFault) → total_len (writable ds) ≤ limit →
+    IfNone fault (HoldsWindows m head (Ok c) (IsChain ds)) → room_places (unless_faulty fault c) ≤ limit
+filled_short m limit ds head c None b h = room_within m limit ds head (Ok c) b refl h
+filled_short m limit ds head c (Some fault) b h = omega arith
+
+pub short : (m : Memory) (limit : ℕ) (ds : List Descriptor) (head : ℕ) (c : Chain) (r : Result (Option ChainFault) AllocError) → total_len (writable ds) ≤ limit →
+    IfOk r (λ fault. IfNone fault (HoldsWindows m head (Ok c) (IsChain ds))) → IfOk r (λ fault. room_places (unless_faulty fault c) ≤ limit)
+short m limit ds head c (Ok fault) b h = filled_short m limit ds head c fault b h
+short m limit ds head c (Err e) b h = tt
+
+filled_windows : (m : Memory) (ds : List Descriptor) (head : ℕ) (c : Chain) (fault : Option ChainFault) → IfNone fault (HoldsWindows m head (Ok c) (IsChain ds)) →
+    HoldsWindows m head (unless_faulty fault c) (IsChain ds)
+filled_windows m ds head c None h = h
+filled_windows m ds head c (Some fault) h = tt
+
+pub has_windows : (m : Memory) (ds : List Descriptor) (head : ℕ) (c : Chain) (r : Result (Option ChainFault) AllocError) → IfOk r (λ fault. IfNone fault (HoldsWindows m head (Ok c) (IsChain ds))) →
+    IfOk r (λ fault. HoldsWindows m head (unless_faulty fault c) (IsChain ds))
+has_windows m ds head c (Ok fault) h = filled_windows m ds head c fault h
+has_windows m ds head c (Err e) h = tt
+
+filled_lies : (lengths : List ℕ) (c : Chain) (fault : Option ChainFault) → IfNone fault (ChainLiesIn lengths (Ok c)) → ChainLiesIn lengths (unless_faulty fault c)
+filled_lies lengths c None h = h
+filled_lies lengths c (Some fault) h = tt
+
+pub lies : (lengths : List ℕ) (c : Chain) (r : Result (Option ChainFault) AllocError) → IfOk r (λ fault. IfNone fault (ChainLiesIn lengths (Ok c))) → IfOk r (λ fault. ChainLiesIn lengths (unless_faulty fault c))
+lies lengths c (Ok fault) h = filled_lies lengths c fault h
+lies lengths c (Err e) h = tt

@@ -42,6 +42,10 @@ pub record Visit : Type 0 where
   pub index : ℕ
   pub earlier : ℕ
 
+-- where a step's entry is
+abbrev pub entry_address : Visit → ℕ
+entry_address v = v.table.address + 16 * v.index
+
 -- what a step comes to: an ordinary descriptor, which joins the chain, a table to be read on from, a faulty chain, or a stop of the queue
 pub data WalkStep : Type 0 where
   Ordinary : Descriptor → WalkStep

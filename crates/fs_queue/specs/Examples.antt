@@ -11,6 +11,7 @@ use Rattle.fs_queue.specs.declared.fault.ChainFault.TheVariants.{RoomUnreachable
 use Rattle.fs_queue.specs.declared.fault.QueueError.TheVariants as stop
 use Rattle.fs_queue.specs.Chain.{path, IsChain, HasFault, found, chain}
 use Rattle.fs_queue.specs.Queue.{Queue, fresh}
+use Rattle.fs_queue.specs.Returning.{stores_after_reply, tells}
 use Rattle.fs_queue.specs.Taking.{Offer, Refuses, Offers, IsRequest, CannotFetch, offer, may_lack_memory}
 
 -- a descriptor of the room, then the available ring with head 0 at position 0, then the used ring and the room
@@ -115,3 +116,15 @@ as_many_as_the_queue : chain table_memory (fresh 2 0 0x50 0x60) 0
     ≡ IsChain (record { addr = 0x40; len = 4; flags = 1; next = 1 } ∷ record { addr = 0x44; len = 8; flags = 2; next = 0 } ∷ [])
 unfolding place addresses path found
 as_many_as_the_queue = refl
+
+-- the last position of a queue of four comes before position 0: its slot is 3, and the used index after it is 0
+last_position : stores_after_reply (record { size = 4; desc = 0; avail = 0x50; used = 0x60; position = 0xffff; stopped = false }) 2 16
+    ≡ record { address = 0x7c; bytes = 2 ∷ 0 ∷ 0 ∷ 0 ∷ [] } ∷ record { address = 0x80; bytes = 16 ∷ 0 ∷ 0 ∷ 0 ∷ [] } ∷ record { address = 0x62; bytes = 0 ∷ 0 ∷ [] } ∷ []
+last_position = refl
+
+-- bit 0 of the flags alone says that the driver isn't told
+not_told : tells (1 ∷ 0xff ∷ []) ≡ false
+not_told = refl
+
+told : tells (0xfe ∷ 0xff ∷ []) ≡ true
+told = refl

@@ -4,10 +4,16 @@ pub mod Lawful
 pub mod Queue
 pub mod Chain
 pub mod Walking
+pub mod Loads
+pub mod Stepping
+pub mod Ringing
 pub mod NextAvail
 pub mod Taking
 pub mod Returning
 pub mod Windows
 pub mod Paths
 pub mod Laws
+pub mod OfferLoads
+pub mod AnyLoads
 pub mod Examples
+pub mod ExamplesOfLoads

@@ -25,9 +25,3 @@ next_avail m q =
 -- n addresses from a on are translated and not mapped throughout, so not each can be read
 abbrev pub IsUnmapped : Memory → (a n : ℕ) → Type 0
 IsUnmapped m a n = (is_mapped m Read a n ≡ false) × (reach m Read a n ≡ false)
-
--- of a refusal
-abbrev pub IfRefused : NextAvail → (QueueError → Type 0) → Type 0
-IfRefused Idle P = Unit {0}
-IfRefused (Head h) P = Unit {0}
-IfRefused (Refused e) P = P e

@@ -1,16 +1,12 @@
 -- Paths in the standard's words (VIRTIO 1.2, 2.7.5 and 2.7.5.3): a relation, beside the walk of Chain, which computes.
-use Rattle.std.specs.Prelude.{◌≡◌, ◌↔◌, ◌⊎◌, ℕ, ◌+◌, ◌*◌, ◌/◌, ◌%◌, ◌^◌, ◌<◌, ◌≤◌, true, false, not, List, [], ◌∷◌, ◌++◌, map, filter, All}
+use Rattle.std.specs.Prelude.{◌≡◌, ◌↔◌, ◌⊎◌, ℕ, ◌+◌, ◌/◌, ◌%◌, ◌^◌, ◌<◌, ◌≤◌, true, false, not, List, [], ◌∷◌, ◌++◌, map, filter, All}
 use Rattle.vm_iotlb.specs.declared.permissions.Permissions.TheVariants.{Read}
 use Rattle.vm_memory.specs.Memory.{Memory, reach}
 use Rattle.fs_queue.specs.declared.fault.ChainFault.{ChainFault}
 use Rattle.fs_queue.specs.declared.fault.ChainFault.TheVariants.{TooLong, NextOutOfTable, AddressOverflow, IndirectWithNext, IndirectNested, IndirectLength, TableUnreachable}
 use Rattle.fs_queue.specs.declared.fault.ChainFault.TheVariants.{OverLimit, RequestUnreachable, RoomUnreachable}
 use Rattle.fs_queue.specs.Queue.{Queue}
-use Rattle.fs_queue.specs.Chain.{Descriptor, Visit, descriptor_at, has_next, is_indirect, first_visit, walk, Found, IsChain, HasFault, StopsQueue, chain}
-
--- where the entry of a step is
-abbrev pub entry_address : Visit → ℕ
-entry_address v = v.table.address + 16 * v.index
+use Rattle.fs_queue.specs.Chain.{Descriptor, Visit, entry_address, descriptor_at, has_next, is_indirect, first_visit, walk, Found, IsChain, HasFault, StopsQueue, chain}
 
 -- the entry of a step
 abbrev pub entry_of : Memory → Visit → Descriptor

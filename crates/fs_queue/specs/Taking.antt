@@ -54,12 +54,15 @@ offer_of m limit head (IsChain ds) = Offers head (request_and_room m limit ds)
 offer_of m limit head (HasFault fault) = Offers head (CannotFetch fault)
 offer_of m limit head StopsQueue = Refuses stop.DescriptorUnreachable
 
--- what is offered once a head waits, by the places of what a return writes and reads (2.7.8 and 2.7.7)
-abbrev pub on_head : Memory → ℕ → Queue → (head : ℕ) → Offer
-on_head m limit q head =
+-- what is offered once a head waits and the walk from it found this, by the places of what a return writes and reads (2.7.8 and 2.7.7)
+abbrev pub on_found : Memory → ℕ → Queue → (head : ℕ) → Found → Offer
+on_found m limit q head f =
     if not (reach m Write (element_at q) 8 && reach m Write (index_at q) 2) then Refuses stop.UsedUnreachable
     else if not (reach m Read q.avail 2) then Refuses stop.AvailFlagsUnreachable
-    else offer_of m limit head (chain m q head)
+    else offer_of m limit head f
+
+abbrev pub on_head : Memory → ℕ → Queue → (head : ℕ) → Offer
+on_head m limit q head = on_found m limit q head (chain m q head)
 
 -- what is offered by what the available ring holds
 abbrev pub on_next_avail : Memory → ℕ → Queue → NextAvail → Offer

@@ -2,15 +2,12 @@
 use Rattle.std.specs.Prelude.{◌≡◌, ℕ, ◌+◌, ◌*◌, ◌^◌, ◌<◌, true, false, All, List}
 use Rattle.vm_iotlb.specs.declared.permissions.Permissions.TheVariants.{Read}
 use Rattle.vm_memory.specs.Memory.{Memory, bytes, reach}
-use Rattle.fs_queue.specs.declared.next_avail.NextAvail as code_next
-use Rattle.fs_queue.specs.declared.next_avail.NextAvail.TheVariants as finds
-use Rattle.fs_queue.specs.declared.walk.WalkStep as code_step
-use Rattle.fs_queue.specs.declared.walk.WalkStep.TheVariants as says
-use Rattle.fs_queue.specs.declared.walk.Walked as walked
-use Rattle.fs_queue.specs.declared.walk.Walked.TheVariants as comes_to
+use Rattle.fs_queue.specs.declared.walk_step.WalkStep as code_step
+use Rattle.fs_queue.specs.declared.walk_step.WalkStep.TheVariants as says
+use Rattle.fs_queue.specs.declared.chain_walk.Walked as walked
+use Rattle.fs_queue.specs.declared.chain_walk.Walked.TheVariants as comes_to
 use Rattle.fs_queue.specs.declared.layout.QueueLayout.{QueueLayout}
 use Rattle.fs_queue.specs.Queue.{Queue, resumed}
-use Rattle.fs_queue.specs.NextAvail.{NextAvail, Idle, Head, Refused}
 use Rattle.fs_queue.specs.Chain.{Descriptor, DescriptorTable, Visit, WalkStep, Ordinary, Table, Faulty, Stops, Found, IsChain, HasFault, StopsQueue}
 
 -- the queue with the numbers of a layout, at a position, which isn't stopped
@@ -20,12 +17,6 @@ at_position l position = resumed l.size l.desc l.avail l.used position false
 -- a step at an entry of a table
 abbrev pub in_table : DescriptorTable → (index earlier : ℕ) → Visit
 in_table table index earlier = record { table = table; index = index; earlier = earlier }
-
--- what waits in the available ring, as the code says it
-abbrev pub next_avail_of : code_next.NextAvail → NextAvail
-next_avail_of finds.Idle = Idle
-next_avail_of (finds.Head head) = Head head
-next_avail_of (finds.Refused e) = Refused e
 
 -- what a step comes to, as the code says it
 abbrev pub walk_step_of : code_step.WalkStep → WalkStep

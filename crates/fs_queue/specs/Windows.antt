@@ -12,7 +12,6 @@ use Rattle.fs_queue.specs.declared.fault.QueueError.{QueueError}
 use Rattle.fs_queue.specs.declared.fault.QueueError.TheVariants as stop
 use Rattle.fs_queue.specs.declared.chain.Chain.{Chain}
 use Rattle.fs_queue.specs.declared.chain.ReturnWindows.{ReturnWindows}
-use Rattle.fs_queue.specs.declared.chain.Taken.{Taken}
 use Rattle.fs_queue.specs.Queue.{Queue, element_at, index_at}
 use Rattle.fs_queue.specs.Chain.{Descriptor, Found, IsChain, chain}
 use Rattle.fs_queue.specs.Taking.{readable, writable, RequestAndRoom, IsRequest, CannotFetch, Idle, Refuses, Offers, offer, may_lack_memory, after_refusal}
@@ -67,6 +66,17 @@ HoldsChain m (IsRequest request room) (Ok c) =
 HoldsChain m (CannotFetch why) (Err fault) = fault ≡ why
 HoldsChain m _ _ = ⊥
 
+-- a place for a chain that was taken: the chain or its fault, and the windows of its return
+pub record Taken : Type 0 where
+  pub head : ℕ
+  pub chain : Result Chain ChainFault
+  pub return_windows : ReturnWindows
+
+-- a chain, unless a fault was found
+abbrev pub unless_faulty : Option ChainFault → Chain → Result Chain ChainFault
+unless_faulty None chain = Ok chain
+unless_faulty (Some fault) chain = Err fault
+
 -- a chain was taken from a queue that offered this
 pub record IsTaken (m : Memory) (q : Queue) (fetched : RequestAndRoom) (t : Taken) : Type 0 where
   pub return_windows : HoldsReturnWindows m q t.return_windows
@@ -115,9 +125,8 @@ abbrev pub unreachable_of : Memory → List Descriptor → Option ChainFault
 unreachable_of m ds = unreachable (located (location m Read) (addresses_of (readable ds))) (located (location m Write) (addresses_of (writable ds)))
 
 -- a chain without a window
-abbrev pub HasNoWindows : Result Chain ChainFault → Type 0
-HasNoWindows (Ok c) = (c.readable.items ≡ []) × (c.writable.items ≡ [])
-HasNoWindows (Err fault) = ⊥
+abbrev pub HasNoWindows : Chain → Type 0
+HasNoWindows c = (c.readable.items ≡ []) × (c.writable.items ≡ [])
 
 -- how many bytes of reply a chain has room for
 abbrev pub room_places : Result Chain ChainFault → ℕ

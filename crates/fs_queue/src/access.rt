@@ -1,7 +1,7 @@
 //! Reads and windows of guest memory that want all of a range.
 
-ghost use Rattle.std.specs.Prelude.{◌≡◌, ◌+◌, ◌<◌, ◌≤◌, ◌^◌, IsTrue, IfOk, IfSome, OnErr};
-ghost use Rattle.std.specs.Prelude.{length, take, drop, Some, None, if◌then◌else◌};
+ghost use Rattle.std.specs.Prelude.{◌≡◌, ◌+◌, ◌<◌, ◌^◌, IsTrue, IfOk, IfSome, OnErr};
+ghost use Rattle.std.specs.Prelude.{length, Some, None, if◌then◌else◌};
 ghost use Rattle.std.specs.Int.{w16, from_le_bytes};
 ghost use Rattle.vm_iotlb.specs.declared.permissions.Permissions.TheVariants.{Read};
 ghost use Rattle.vm_memory_core.specs.Host.{lengths};
@@ -42,16 +42,6 @@ pub(crate) fn le16_number(bytes: &[u8; 2]) -> u16
     Le16::get_bytes(bytes).to_native()
 }
 
-/// The number that the two bytes from an offset on spell as le16.
-#[tactic(auto, using(crate::proofs::ReadLemmas::spelled_number))]
-#[inline(always)]
-pub(crate) fn le16_at(bytes: &[u8], offset: usize) -> u16
-    requires { offset + 2 ≤ length bytes.now }
-    ensures { result ≡ from_le_bytes w16 (take 2 (drop offset bytes.now)) }
-{
-    Le16::get_bytes(&bytes[offset..][..2]).to_native()
-}
-
 /// The bytes of some addresses that follow one another, where one window has all of them. None says nothing of them:
 /// parts of the range are then read by themselves.
 #[inline(always)]
@@ -73,29 +63,6 @@ pub(crate) fn whole_bytes<'a, M: GuestMemory, H: HostBlocks>(
     match windows.next() {
         Some(Ok(window)) if window.len() == len && host.has(&window) => Some(host.bytes(window)),
         _ => None,
-    }
-}
-
-/// The le16 at an address, or None where one of its two bytes isn't there. Memory is wanting only where a translation
-/// fails.
-#[inline(always)]
-pub(crate) fn read_u16<M: GuestMemory, H: HostBlocks>(
-    alloc: Global,
-    host: &H,
-    mem: &M,
-    addr: u64,
-) -> Result<Option<u16>, AllocError>
-    requires fits { addr + 2 < 2 ^ 64 }
-    requires held { M.IsHeld mem.now (H.host host.now) }
-    ensures number { let m = M.memory mem.now (H.host host.now) in
-        IfOk result (λ o. o ≡ (if reach m Read addr 2 then Some (number m w16 addr) else None)) }
-    ensures unmapped { OnErr result (IsUnmapped (M.memory mem.now (H.host host.now)) addr 2) }
-{
-    let mut bytes = [0u8; 2];
-    if read(alloc, host, mem, addr, &mut bytes)? {
-        Ok(Some(le16_number(&bytes)))
-    } else {
-        Ok(None)
     }
 }
 

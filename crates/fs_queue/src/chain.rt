@@ -6,6 +6,7 @@ ghost use Rattle.vm_memory_core.specs.Window.{places};
 use crate::descriptor::Descriptors;
 use crate::fault::ChainFault;
 use std::alloc::Global;
+use std::marker::Model;
 use vm_memory_core::Windows;
 
 /// A chain (VIRTIO 1.2, 2.7.5): the windows of its request, which the device reads, and of the room for its reply,
@@ -78,13 +79,22 @@ pub(crate) struct ReturnWindows {
 
 /// A place for a chain that was taken and not yet given back, or its fault, with the windows of its return and the
 /// descriptors that were walked. It is made once, and one chain after another is taken into it; its lists keep the
-/// memory that they grew to.
+/// memory that they grew to, also where a chain is faulty.
 #[derive(Drop)]
 pub struct Taken {
     pub(crate) head: u16,
-    pub(crate) chain: Result<Chain, ChainFault>,
+    pub(crate) fault: Option<ChainFault>,
+    pub(crate) chain: Chain,
     pub(crate) return_windows: ReturnWindows,
     pub(crate) descriptors: Descriptors,
+}
+
+impl Model for Taken {
+    ghost use Rattle.fs_queue.specs.Windows.{Taken, unless_faulty};
+
+    ghost Value = { Taken };
+
+    ghost view = { λ t. record { head = t.head; chain = unless_faulty t.fault t.chain; return_windows = t.return_windows } };
 }
 
 impl Taken {
@@ -96,7 +106,8 @@ impl Taken {
     {
         Taken {
             head: 0,
-            chain: Ok(Chain::empty(alloc)),
+            fault: None,
+            chain: Chain::empty(alloc),
             return_windows: ReturnWindows {
                 used: Windows::new(alloc),
                 flags: Windows::new(alloc),
@@ -112,9 +123,8 @@ impl Taken {
     {
         self.return_windows.used.clear();
         self.return_windows.flags.clear();
-        if let Ok(chain) = &mut self.chain {
-            chain.clear();
-        }
+        self.fault = None;
+        self.chain.clear();
     }
 
     /// The chain's head: its first descriptor's index in the queue's table.
@@ -128,9 +138,9 @@ impl Taken {
     pub fn chain(&self) -> Result<&Chain, ChainFault>
         ensures { MatchResult result (λ c. self.now.chain ≡ Ok c.now) (λ fault. self.now.chain ≡ Err fault) }
     {
-        match &self.chain {
-            Ok(chain) => Ok(chain),
-            Err(fault) => Err(*fault),
+        match self.fault {
+            None => Ok(&self.chain),
+            Some(fault) => Err(fault),
         }
     }
 }

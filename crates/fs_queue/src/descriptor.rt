@@ -1,27 +1,24 @@
 //! Descriptors (VIRTIO 1.2, 2.7.5).
 
-ghost use Rattle.std.specs.Prelude.{◌≡◌, ◌+◌, ◌<◌, ◌^◌, IfOk, Some, None, if◌then◌else◌, refl};
+ghost use Rattle.std.specs.Prelude.{◌≡◌, refl};
 ghost use Rattle.std.proofs.Common.{rules};
-ghost use Rattle.vm_iotlb.specs.declared.permissions.Permissions.TheVariants.{Read};
-ghost use Rattle.vm_memory.specs.Memory.{reach};
 ghost use Rattle.fs_queue.specs.Records.{descriptor};
-ghost use Rattle.fs_queue.specs.Chain.{descriptor_at};
 
-use crate::access::read;
 use smallvec::SmallVec;
-use std::alloc::{AllocError, Global};
 use std::marker::Model;
-use vm_memory::GuestMemory;
-use vm_memory_core::HostBlocks;
 use vm_values::{ByteValued, get_fields, put_fields};
 
 /// An entry of a descriptor table: le64 addr, le32 len, le16 flags, le16 next, 16 bytes in all (VIRTIO 1.2, 2.7.5).
 #[derive(Clone, Copy, Debug, Default, PartialEq, Eq)]
-pub(crate) struct Descriptor {
-    pub(crate) addr: u64,
-    pub(crate) len: u32,
-    pub(crate) flags: u16,
-    pub(crate) next: u16,
+pub struct Descriptor {
+    /// The guest address of its bytes.
+    pub addr: u64,
+    /// How many bytes it has.
+    pub len: u32,
+    /// NEXT, WRITE and INDIRECT, bits 0 to 2.
+    pub flags: u16,
+    /// The index in the same table of the descriptor that follows, if NEXT says that one does.
+    pub next: u16,
 }
 
 impl Model for Descriptor {
@@ -35,7 +32,7 @@ impl Model for Descriptor {
 }
 
 /// Descriptors in order, of which the first eight take no memory.
-pub(crate) type Descriptors = SmallVec<Descriptor, 8>;
+pub type Descriptors = SmallVec<Descriptor, 8>;
 
 const NEXT: u16 = 1;
 
@@ -47,21 +44,21 @@ impl Descriptor {
     ghost use Rattle.fs_queue.specs.Chain.{has_next, is_writable, is_indirect};
 
     /// Whether another descriptor follows.
-    pub(crate) fn has_next(&self) -> bool
+    pub fn has_next(&self) -> bool
         ensures { result ≡ has_next self.now }
     {
         self.flags & NEXT != 0
     }
 
     /// Whether the device writes its bytes; else it reads them.
-    pub(crate) fn is_write_only(&self) -> bool
+    pub fn is_write_only(&self) -> bool
         ensures { result ≡ is_writable self.now }
     {
         self.flags & WRITE != 0
     }
 
     /// Whether its bytes are a table of descriptors.
-    pub(crate) fn refers_to_indirect_table(&self) -> bool
+    pub fn refers_to_indirect_table(&self) -> bool
         ensures { result ≡ is_indirect self.now }
     {
         self.flags & INDIRECT != 0
@@ -84,23 +81,4 @@ impl ByteValued for Descriptor {
     }
 
     ghost lawful = { (λ x y. refl, λ x y h. Prim.search rules, Prim.search rules) };
-}
-
-/// The entry of a descriptor table at an address, or None where it can't be read.
-pub(crate) fn read_descriptor<M: GuestMemory, H: HostBlocks>(
-    alloc: Global,
-    host: &H,
-    mem: &M,
-    addr: u64,
-) -> Result<Option<Descriptor>, AllocError>
-    requires fits { addr + 16 < 2 ^ 64 }
-    requires held { M.IsHeld mem.now (H.host host.now) }
-    ensures { let m = M.memory mem.now (H.host host.now) in IfOk result (λ o. o ≡ (if reach m Read addr 16 then Some (descriptor_at m addr) else None)) }
-{
-    let mut bytes = [0u8; 16];
-    if read(alloc, host, mem, addr, &mut bytes)? {
-        Ok(Some(Descriptor::get_bytes(&bytes)))
-    } else {
-        Ok(None)
-    }
 }

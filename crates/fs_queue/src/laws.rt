@@ -1,6 +1,10 @@
 //! Laws of the definitions, each the contract of a function that does nothing.
 
+ghost use Rattle.fs_queue.specs.AnyLoads.{FewLoads, LoadsEnd, EndsAreRead, Once, EntriesApart};
 ghost use Rattle.fs_queue.specs.Laws.{WalksEnd};
+ghost use Rattle.fs_queue.specs.Loads.{Still, Finds, Confined, InTurn, RingIsStill};
+ghost use Rattle.fs_queue.specs.OfferLoads.{OfferIsStill, OfferFinds};
+ghost use Rattle.fs_queue.specs.Returning.{ReturnsByStores};
 ghost use Rattle.fs_queue.specs.Paths.{WalksArePaths, PathsAreFronts, NothingFollows, WalksFind};
 
 /// The bound of a walk cuts nothing short.
@@ -15,4 +19,30 @@ pub fn law_paths()
     ensures longest { PathsAreFronts }
     ensures ends { NothingFollows }
     ensures finds { WalksFind }
+{}
+
+/// A walk by loads that find what a memory has is the walk in that memory, and there are such loads for each walk.
+pub fn law_loads()
+    ensures still { Still }
+    ensures finds { Finds }
+    ensures confined { Confined }
+    ensures in_turn { InTurn }
+    ensures ring { RingIsStill }
+    ensures offer { OfferIsStill }
+    ensures offer_finds { OfferFinds }
+{}
+
+/// The stores of a return are its writes.
+pub fn law_returns()
+    ensures { ReturnsByStores }
+{}
+
+/// Of a guest that writes meanwhile: whatever the loads of a walk find, they are few and end it, each fault and stop is
+/// that of the bytes that were loaded, and no entry is loaded again unless the chain visits it again.
+pub fn law_any_loads()
+    ensures few { FewLoads }
+    ensures end { LoadsEnd }
+    ensures read { EndsAreRead }
+    ensures once { Once }
+    ensures apart { EntriesApart }
 {}

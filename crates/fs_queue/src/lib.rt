@@ -2,19 +2,29 @@
 #![tactic(auto)]
 
 mod access;
+mod by_loads;
 mod chain;
+mod chain_walk;
 mod descriptor;
 mod fault;
 pub mod laws;
 mod layout;
-mod next_avail;
+mod loads;
 mod queue;
+mod returning;
 mod take;
 mod used;
 mod walk;
+mod walk_step;
 mod written;
 
 pub use chain::{Chain, Taken};
+pub use chain_walk::{ChainWalk, Given, Progress, Walked};
+pub use descriptor::{Descriptor, Descriptors};
 pub use fault::{ChainFault, QueueError, QueueLayoutError};
 pub use layout::QueueLayout;
+pub use loads::{EntryLoad, walk_loads};
 pub use queue::Queue;
+pub use returning::{ElementStore, IndexStore, Return};
+pub use walk::{IndexWalk, RingEntryWalk, Walk};
+pub use walk_step::DescriptorTable;

@@ -6,19 +6,15 @@ ghost use Rattle.vm_memory_core.specs.Host.{lengths, shape};
 ghost use Rattle.vm_memory_core.specs.Window.{put_all};
 ghost use Rattle.vm_memory.specs.Memory.{Memory};
 
-use crate::access::le16_number;
-use crate::chain::{Chain, Taken};
-use crate::fault::{ChainFault, QueueError};
+use crate::chain::Taken;
+use crate::fault::QueueError;
 use crate::layout::QueueLayout;
+use crate::returning::Return;
 use crate::take::take_into;
-use crate::used::UsedUpdate;
 use std::alloc::Global;
 use std::marker::Model;
 use vm_memory::GuestMemory;
 use vm_memory_core::HostBlocks;
-
-// The available flag by which the driver wants no notice (VIRTIO 1.2, 2.7.7).
-const NO_INTERRUPT: u16 = 1;
 
 /// A split virtqueue from the device's side: where its parts are, how many chains were returned, modulo 2^16 (its
 /// position), and whether it stopped.
@@ -53,14 +49,14 @@ ghost use Rattle.fs_queue.specs.Windows.{IsEmpty, IsEmptyUnlessTaken};
 // Writes the reply over the room of a chain.
 #[tactic(auto, unfolding(vm_memory_core::specs::Window::put_all))]
 #[inline(always)]
-fn write_reply<H: HostBlocks>(host: &mut H, chain: &Result<Chain, ChainFault>, reply: &[u8])
-    requires lies { ChainLiesIn (lengths (H.host host.old)) chain.now }
-    requires fits { length reply.now ≤ room_places chain.now }
-    ensures stored { H.host host.new ≡ put_all (H.host host.old) (zip (chain_places chain.now) reply.now) }
+fn write_reply<H: HostBlocks>(host: &mut H, taken: &Taken, reply: &[u8])
+    requires lies { ChainLiesIn (lengths (H.host host.old)) taken.now.chain }
+    requires fits { length reply.now ≤ room_places taken.now.chain }
+    ensures stored { H.host host.new ≡ put_all (H.host host.old) (zip (chain_places taken.now.chain) reply.now) }
     ensures shape { shape (H.host host.new) ≡ shape (H.host host.old) }
     ensures loan { H.IsSameLoan host.old host.new }
 {
-    match chain {
+    match taken.chain() {
         Ok(chain) => host.write_windows(&chain.writable, reply),
         Err(_) => {}
     }
@@ -209,17 +205,13 @@ impl Queue {
         ensures shape { shape (H.host host.new) ≡ shape (H.host host.old) }
         ensures loan { H.IsSameLoan host.old host.new }
     {
-        write_reply(host, &taken.chain, front);
+        write_reply(host, taken, front);
+        let back = Return::new(self.layout, self.position, taken.head(), len as u32);
         self.position = self.position.wrapping_add(1);
-        let update = UsedUpdate {
-            id: u32::from(taken.head),
-            len: len as u32,
-            index: self.position,
-        };
-        host.write_windows(&taken.return_windows.used, &update.to_bytes());
+        host.write_windows(taken.used_windows(), &back.used_bytes());
         let mut flags = [0u8; 2];
-        host.read_windows(&taken.return_windows.flags, &mut flags);
+        host.read_windows(taken.flags_windows(), &mut flags);
         taken.clear();
-        le16_number(&flags) & NO_INTERRUPT == 0
+        Return::tells(flags)
     }
 }

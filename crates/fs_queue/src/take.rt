@@ -3,7 +3,7 @@
 
 ghost use Rattle.std.specs.Prelude.{ℕ, ◌≡◌, ◌+◌, ◌-◌, ◌<◌, ◌≤◌, ◌^◌, ◌++◌, List, []};
 ghost use Rattle.std.specs.Prelude.{min, false, true, None, Some, Ok, if◌then◌else◌};
-ghost use Rattle.std.specs.Prelude.{IfNone, IfOk, IfSome, IsOk, IsTrue, OnOk};
+ghost use Rattle.std.specs.Prelude.{IfNone, IfOk, IfSome, IsTrue};
 ghost use Rattle.vm_iotlb.specs.declared.permissions.Permissions.TheVariants.{Read, Write};
 ghost use Rattle.vm_memory_core.specs.Host.{lengths};
 ghost use Rattle.vm_memory_core.specs.Window.{places, AllLieIn};
@@ -12,16 +12,17 @@ ghost use Rattle.fs_queue.specs.Walking.{AllEndIn64Bits, at_position};
 ghost use Rattle.fs_queue.specs.Taking.{total_len, request_and_room, stops_queue};
 ghost use Rattle.fs_queue.specs.Windows.{of_direction, access_of, addresses_of, used_addresses, return_places_of};
 ghost use Rattle.fs_queue.specs.Windows.{return_places_at, room_places, ReturnWindowsLieIn, ChainLiesIn, TakenLiesIn};
-ghost use Rattle.fs_queue.specs.Windows.{HoldsChain, HoldsWindows, HasItsWindows, HasNoWindows, IsEmpty, Takes, taken_if, unreachable_of};
+ghost use Rattle.fs_queue.specs.Windows.{HoldsChain, HoldsWindows, HasItsWindows, HasNoWindows, IsEmpty, Takes, taken_if, unless_faulty, unreachable_of};
 ghost use Rattle.fs_queue.specs.Chain.{IsChain};
 
 use crate::access::add_windows;
+use crate::by_loads::{walk_chain, walk_ring};
 use crate::chain::{Chain, ReturnWindows, Taken};
+use crate::chain_walk::Walked;
 use crate::descriptor::Descriptor;
 use crate::fault::{ChainFault, QueueError};
 use crate::layout::QueueLayout;
-use crate::next_avail::{NextAvail, next_head};
-use crate::walk::{Walked, walk};
+use crate::walk::Walk;
 use std::alloc::{AllocError, Global};
 use vm_memory::GuestMemory;
 use vm_memory_core::{HostBlocks, Permissions, Windows};
@@ -237,7 +238,7 @@ fn fill_chain<M: GuestMemory, H: HostBlocks>(
     requires request_len { request_len ≡ total_len (of_direction false descriptors.now) }
     requires room_len { room_len ≡ total_len (of_direction true descriptors.now) }
     requires short { room_len < 2 ^ 32 }
-    requires no_windows { HasNoWindows (Ok chain.old) }
+    requires no_windows { HasNoWindows chain.old }
     ensures fault { IfOk result (λ fault. fault ≡ unreachable_of (M.memory mem.now (H.host host.now)) descriptors.now) }
     ensures windows { IfOk result (λ fault. IfNone fault (HoldsWindows (M.memory mem.now (H.host host.now)) head (Ok chain.new) (IsChain descriptors.now))) }
     ensures lie { IfOk result (λ fault. IfNone fault (ChainLiesIn (lengths (H.host host.now)) (Ok chain.new))) }
@@ -269,57 +270,8 @@ fn fill_chain<M: GuestMemory, H: HostBlocks>(
     }
 }
 
-// Makes what a place has a chain without windows.
-#[inline(always)]
-fn clear_chain(alloc: Global, chain: &mut Result<Chain, ChainFault>)
-    ensures { HasNoWindows chain.new }
-{
-    match chain {
-        Ok(held) => held.clear(),
-        Err(_) => *chain = Ok(Chain::empty(alloc)),
-    }
-}
-
-// Fills the chain that a place has, as `fill_chain` does.
-#[inline(always)]
-fn fill_held<M: GuestMemory, H: HostBlocks>(
-    alloc: Global,
-    host: &H,
-    mem: &M,
-    head: u16,
-    descriptors: &[Descriptor],
-    request_len: usize,
-    room_len: usize,
-    chain: &mut Result<Chain, ChainFault>,
-) -> Result<Option<ChainFault>, AllocError>
-    requires fits { AllEndIn64Bits descriptors.now }
-    requires held { M.IsHeld mem.now (H.host host.now) }
-    requires request_len { request_len ≡ total_len (of_direction false descriptors.now) }
-    requires room_len { room_len ≡ total_len (of_direction true descriptors.now) }
-    requires short { room_len < 2 ^ 32 }
-    requires no_windows { HasNoWindows chain.old }
-    ensures fault { IfOk result (λ fault. fault ≡ unreachable_of (M.memory mem.now (H.host host.now)) descriptors.now) }
-    ensures ok { IfOk result (λ fault. IfNone fault (IsOk chain.new)) }
-    ensures windows { IfOk result (λ fault. IfNone fault (HoldsWindows (M.memory mem.now (H.host host.now)) head chain.new (IsChain descriptors.now))) }
-    ensures lie { IfOk result (λ fault. IfNone fault (ChainLiesIn (lengths (H.host host.now)) chain.new)) }
-{
-    match chain {
-        Ok(held) => fill_chain(
-            alloc,
-            host,
-            mem,
-            head,
-            descriptors,
-            request_len,
-            room_len,
-            held,
-        ),
-        Err(fault) => Ok(Some(*fault)),
-    }
-}
-
-// Puts the request and the room of a chain in a place, or its fault: `OverLimit` where one of them has more than
-// `limit` bytes, then `RequestUnreachable`, then `RoomUnreachable`. An error is want of memory.
+// Puts the request and the room of a chain in its place, or answers its fault: `OverLimit` where one of them has more
+// than `limit` bytes, then `RequestUnreachable`, then `RoomUnreachable`. An error is want of memory.
 #[inline(always)]
 fn hold_chain<M: GuestMemory, H: HostBlocks>(
     alloc: Global,
@@ -328,23 +280,23 @@ fn hold_chain<M: GuestMemory, H: HostBlocks>(
     head: u16,
     descriptors: &[Descriptor],
     limit: u32,
-    chain: &mut Result<Chain, ChainFault>,
-) -> Result<(), AllocError>
+    chain: &mut Chain,
+) -> Result<Option<ChainFault>, AllocError>
     requires fits { AllEndIn64Bits descriptors.now }
     requires held { M.IsHeld mem.now (H.host host.now) }
-    ensures fetched { let m = M.memory mem.now (H.host host.now) in OnOk result (HoldsChain m (request_and_room m limit descriptors.now) chain.new) }
-    ensures lie { OnOk result (ChainLiesIn (lengths (H.host host.now)) chain.new) }
-    ensures windows { OnOk result (HoldsWindows (M.memory mem.now (H.host host.now)) head chain.new (IsChain descriptors.now)) }
-    ensures short { OnOk result (room_places chain.new ≤ limit) }
+    ensures fetched { let m = M.memory mem.now (H.host host.now) in
+        IfOk result (λ fault. HoldsChain m (request_and_room m limit descriptors.now) (unless_faulty fault chain.new)) }
+    ensures lie { IfOk result (λ fault. ChainLiesIn (lengths (H.host host.now)) (unless_faulty fault chain.new)) }
+    ensures windows { IfOk result (λ fault. HoldsWindows (M.memory mem.now (H.host host.now)) head (unless_faulty fault chain.new) (IsChain descriptors.now)) }
+    ensures short { IfOk result (λ fault. room_places (unless_faulty fault chain.new) ≤ limit) }
 {
     let request_len = count_bytes(descriptors, false);
     let room_len = count_bytes(descriptors, true);
     if request_len > u64::from(limit) || room_len > u64::from(limit) {
-        *chain = Err(ChainFault::OverLimit);
-        return Ok(());
+        return Ok(Some(ChainFault::OverLimit));
     }
-    clear_chain(alloc, chain);
-    match fill_held(
+    chain.clear();
+    fill_chain(
         alloc,
         host,
         mem,
@@ -353,13 +305,7 @@ fn hold_chain<M: GuestMemory, H: HostBlocks>(
         request_len as usize,
         room_len as usize,
         chain,
-    )? {
-        None => Ok(()),
-        Some(fault) => {
-            *chain = Err(fault);
-            Ok(())
-        }
-    }
+    )
 }
 
 /// Takes the chain that waits at a position of a queue that isn't stopped into an empty place; false where none waits.
@@ -382,10 +328,11 @@ pub(crate) fn take_into<M: GuestMemory, H: HostBlocks>(
     ensures short { IfOk (taken_if taken.new result) (λ o. IfSome o (λ t. room_places t.chain ≤ limit)) }
     ensures idle { IfOk result (λ waits. waits ≡ false → IsEmpty taken.new) }
 {
-    let head = match next_head(alloc, layout, position, host, mem) {
-        Ok(NextAvail::Idle) => return Ok(false),
-        Ok(NextAvail::Refused(error)) => return Err(error),
-        Ok(NextAvail::Head(head)) => head,
+    let (head, progress) = match walk_ring(alloc, layout, position, host, mem) {
+        Ok(Walk::Idle) => return Ok(false),
+        Ok(Walk::Refused(error)) => return Err(error),
+        Ok(Walk::Chain(head, progress)) => (head, progress),
+        Ok(Walk::Index(_) | Walk::RingEntry(_)) => unreachable!(),
         Err(_) => return Err(QueueError::OutOfMemory),
     };
     match add_return_windows(
@@ -400,11 +347,19 @@ pub(crate) fn take_into<M: GuestMemory, H: HostBlocks>(
         Ok(Some(error)) => return Err(error),
         Err(_) => return Err(QueueError::OutOfMemory),
     }
-    match walk(alloc, layout, host, mem, head, &mut taken.descriptors) {
+    match walk_chain(
+        alloc,
+        layout,
+        host,
+        mem,
+        head,
+        progress,
+        &mut taken.descriptors,
+    ) {
         Ok(Walked::Chain) => {}
         Ok(Walked::Faulty(fault)) => {
             taken.head = head;
-            taken.chain = Err(fault);
+            taken.fault = Some(fault);
             return Ok(true);
         }
         Ok(Walked::Stopped) => return Err(QueueError::DescriptorUnreachable),
@@ -419,8 +374,9 @@ pub(crate) fn take_into<M: GuestMemory, H: HostBlocks>(
         limit,
         &mut taken.chain,
     ) {
-        Ok(()) => {
+        Ok(fault) => {
             taken.head = head;
+            taken.fault = fault;
             Ok(true)
         }
         Err(_) => Err(QueueError::OutOfMemory),

@@ -13,4 +13,11 @@ impl Taken {
     {
         self.return_windows.used.as_slice()
     }
+
+    // The windows of the available flags, 2 bytes, which a return reads.
+    pub(crate) fn flags_windows(&self) -> &[VolatileSlice]
+        ensures { result.now ≡ self.now.return_windows.flags.items }
+    {
+        self.return_windows.flags.as_slice()
+    }
 }

@@ -1,0 +1,138 @@
+-- one load after another
+use Rattle.std.proofs.Common.{◌≡◌, ℕ, Bool, ◌+◌, List, [], ◌∷◌, ◌++◌, Option, Some, None, refl, ap, sym, ◌∙◌, append_assoc, append-nil}
+use Rattle.std.specs.Prelude.{if◌then◌else◌, option_map}
+use Rattle.std.proofs.lemmas.Bool.{eq-eqb, ne_eqb}
+use Rattle.vm_iotlb.specs.declared.permissions.Permissions.TheVariants.{Read}
+use Rattle.vm_memory.specs.Memory.{Memory, bytes, reach}
+use Rattle.fs_queue.specs.declared.chain_walk.ChainWalk.{ChainWalk}
+use Rattle.fs_queue.specs.declared.chain_walk.Walked as walked
+use Rattle.fs_queue.specs.declared.chain_walk.Walked.TheVariants as comes_to
+use Rattle.fs_queue.specs.declared.chain_walk.Progress as code
+use Rattle.fs_queue.specs.declared.chain_walk.Progress.TheVariants as says
+use Rattle.fs_queue.specs.Queue.{Queue}
+use Rattle.fs_queue.specs.Chain.{Descriptor, Visit, WalkStep, Ordinary, Table, Faulty, Stops, after_walk_step, with_front, Found, IsChain, HasFault, StopsQueue, chain, first_visit}
+use Rattle.fs_queue.specs.Walking.{found_of}
+use Rattle.fs_queue.specs.Chain.{entry_address}
+use Rattle.fs_queue.specs.Loads.{Load, Ahead, Reads, Ends, step_by, ahead_at, ahead_after, found_by, IsEntryOf, AreEntriesOf}
+use Rattle.fs_queue.specs.Stepping.{joining, visit_of, load_of, steps_left, IfWants}
+use Rattle.fs_queue.proofs.WalkLemmas.{prepend, prepend-push, prepend-chain, prepend-fault, prepend-stop}
+use Rattle.fs_queue.proofs.StillLemmas.{still}
+
+-- the chain so far, with the descriptor that joins it
+abbrev pub with_joining : List Descriptor → Option Descriptor → List Descriptor
+with_joining ds None = ds
+with_joining ds (Some d) = ds ++ d ∷ []
+
+ended : (size : ℕ) (ls : List Load) (f : Found) → found_by size ls (Ends f) ≡ Some f
+unfolding found_by
+ended size [] f = refl
+ended size (l ∷ ls) f = refl
+
+pushed : (ds : List Descriptor) (d : Descriptor) (o : Option Found) → option_map (prepend (ds ++ d ∷ [])) o ≡ option_map (prepend ds) (option_map (with_front d) o)
+pushed ds d None = refl
+pushed ds d (Some f) = ap Some (prepend-push ds d f)
+
+alone : (ds : List Descriptor) (o : Option Found) → option_map (prepend ds) o ≡ option_map (prepend ds) (option_map (λ f. f) o)
+alone ds None = refl
+alone ds (Some f) = refl
+
+by_step : (size : ℕ) (v : Visit) (w : WalkStep) (ls : List Load) (ds : List Descriptor) →
+    option_map (prepend (with_joining ds (joining w))) (found_by size ls (ahead_after size v w)) ≡ option_map (prepend ds) (option_map (after_walk_step w) (found_by size ls (ahead_after size v w)))
+by_step size v (Ordinary d) ls ds = pushed ds d _
+by_step size v (Table t) ls ds = alone ds _
+by_step size v (Faulty f) ls ds = rw (ended size ls (HasFault f)) refl
+by_step size v Stops ls ds = rw (ended size ls StopsQueue) refl
+
+-- what is found by a load and those after it, by what came of the load
+pub given : (size : ℕ) (v : Visit) (l : Load) (ls : List Load) (ds : List Descriptor) (joins : Option Descriptor) (a : Ahead) → l.address ≡ entry_address v →
+    joins ≡ joining (step_by size v l) → a ≡ ahead_after size v (step_by size v l) →
+    option_map (prepend (with_joining ds joins)) (found_by size ls a) ≡ option_map (prepend ds) (found_by size (l ∷ ls) (Reads v))
+unfolding found_by
+given size v l ls ds joins a at joins-is a-is =
+    let w = step_by size v l in
+    ap (λ (o : Option Descriptor). option_map (prepend (with_joining ds o)) (found_by size ls a)) joins-is
+    ∙ ap (λ (x : Ahead). option_map (prepend (with_joining ds (joining w))) (found_by size ls x)) a-is
+    ∙ by_step size v w ls ds
+    ∙ ap (λ (b : Bool). option_map (prepend ds) (if b then option_map (after_walk_step w) (found_by size ls (ahead_after size v w)) else None)) (sym (eq-eqb l.address (entry_address v) at))
+
+-- some loads found what a memory has, and they brought a walk so far
+pub record Came (m : Memory) (size : ℕ) (start : Ahead) (ds : List Descriptor) (a : Ahead) : Type 0 where
+  pub loads : List Load
+  pub are : AreEntriesOf m loads
+  pub so_far : (more : List Load) → found_by size (loads ++ more) start ≡ option_map (prepend ds) (found_by size more a)
+
+same : (o : Option Found) → o ≡ option_map (prepend []) o
+same None = refl
+same (Some f) = refl
+
+pub came_none : (m : Memory) (size : ℕ) (a : Ahead) → Came m size a [] a
+came_none m size a = record { loads = []; are = tt; so_far = λ more. same (found_by size more a) }
+
+entries-push : (m : Memory) (ls : List Load) (l : Load) → AreEntriesOf m ls → IsEntryOf m l → AreEntriesOf m (ls ++ l ∷ [])
+entries-push m [] l are is = (is, tt)
+entries-push m (k ∷ ls) l are is = (are.0, entries-push m ls l are.1 is)
+
+pub came_on : (m : Memory) (size : ℕ) (start : Ahead) (ds : List Descriptor) (v : Visit) (l : Load) (joins : Option Descriptor) (a : Ahead) → l.address ≡ entry_address v → IsEntryOf m l →
+    joins ≡ joining (step_by size v l) → a ≡ ahead_after size v (step_by size v l) → Came m size start ds (Reads v) → Came m size start (with_joining ds joins) a
+came_on m size start ds v l joins a at is joins-is a-is c = record {
+  loads = c.loads ++ l ∷ [];
+  are = entries-push m c.loads l c.are is;
+  so_far = λ more. ap (λ (ls : List Load). found_by size ls start) (append_assoc c.loads (l ∷ []) more) ∙ c.so_far (l ∷ more) ∙ sym (given size v l more ds joins a at joins-is a-is);
+}
+
+prepended : (w : walked.Walked) (ds : List Descriptor) → prepend ds (found_of w []) ≡ found_of w ds
+prepended comes_to.Chain ds = prepend-chain ds [] ∙ ap IsChain (append-nil ds)
+prepended (comes_to.Faulty fault) ds = prepend-fault ds fault
+prepended comes_to.Stopped ds = prepend-stop ds
+
+pub ended_by : (size : ℕ) (ls : List Load) (w : walked.Walked) (ds : List Descriptor) → Some (found_of w ds) ≡ option_map (prepend ds) (found_by size ls (Ends (found_of w [])))
+ended_by size ls w ds = ap Some (sym (prepended w ds)) ∙ sym (ap (option_map (prepend ds)) (ended size ls (found_of w [])))
+
+-- a walk that ended found what the memory has
+pub came_end : (m : Memory) (q : Queue) (head : ℕ) (ds : List Descriptor) (w : walked.Walked) → Came m q.size (ahead_at q.size (first_visit q head)) ds (Ends (found_of w [])) → found_of w ds ≡ chain m q head
+came_end m q head ds w c =
+    still m q head c.loads (found_of w ds) c.are
+    (ap (λ (ls : List Load). found_by q.size ls (ahead_at q.size (first_visit q head))) (sym (append-nil c.loads)) ∙ c.so_far [] ∙ sym (ended_by q.size [] w ds))
+
+pub came_begin : (m : Memory) (size : ℕ) (start a : Ahead) → a ≡ start → Came m size start [] a
+came_begin m size start a is = rw is (came_none m size start)
+
+-- by what the code answers
+pub came_given : (m : Memory) (size : ℕ) (start : Ahead) (ds : List Descriptor) (w : ChainWalk) (at : ℕ) (came : Option (List ℕ)) (joins : Option Descriptor) (a : Ahead) → w.size ≡ size →
+    at ≡ entry_address (visit_of w) → came ≡ (if reach m Read at 16 then Some (bytes m at 16) else None) → joins ≡ joining (step_by w.size (visit_of w) (load_of w came)) →
+    a ≡ ahead_after w.size (visit_of w) (step_by w.size (visit_of w) (load_of w came)) → Came m size start ds (Reads (visit_of w)) → Came m size start (with_joining ds joins) a
+came_given m size start ds w at came joins a own at-is is joins-is a-is c =
+    came_on m size start ds (visit_of w) (load_of w came) joins a refl (rw at-is at is) (rw own at joins-is) (rw own at a-is) c
+
+pub wants_size : (p : code.Progress) (a b : ℕ) → a ≡ b → IfWants p (λ w. w.size ≡ a) → IfWants p (λ w. w.size ≡ b)
+wants_size (says.Wants w) a b e h = h ∙ e
+wants_size (says.Ends walked) a b e h = tt
+
+-- a load of another address
+pub other_load : (size : ℕ) (v : Visit) (l : Load) (ls : List Load) → (l.address ≡ entry_address v → ⊥) → found_by size (l ∷ ls) (Reads v) ≡ None
+unfolding found_by
+other_load size v l ls other = rw (ne_eqb l.address (entry_address v) other) refl
+
+pub no_load : (size : ℕ) (v : Visit) (ls : List Load) → ls ≡ [] → found_by size ls (Reads v) ≡ None
+unfolding found_by
+no_load size v ls none = rw none refl
+
+abbrev load_at : ℕ → Option (List ℕ) → Load
+load_at a came = record { address = a; came = came }
+
+-- a list of loads, by what the code answers
+pub listed : (size : ℕ) (w : ChainWalk) (l : Load) (ls rest : List Load) (ds : List Descriptor) (joins : Option Descriptor) (a : Ahead) (f : Option Found) → w.size ≡ size →
+    l.address ≡ entry_address (visit_of w) → ls ≡ l ∷ rest → joins ≡ joining (step_by w.size (visit_of w) (load_of w l.came)) →
+    a ≡ ahead_after w.size (visit_of w) (step_by w.size (visit_of w) (load_of w l.came)) → option_map (prepend ds) (found_by size ls (Reads (visit_of w))) ≡ f →
+    option_map (prepend (with_joining ds joins)) (found_by size rest a) ≡ f
+listed size w l ls rest ds joins a f own at is joins-is a-is e =
+    let same : load_of w l.came ≡ l = ap (λ n. load_at n l.came) (sym at) in
+    given size (visit_of w) l rest ds joins a at
+    ((rw own at joins-is) ∙ ap (λ (x : Load). joining (step_by size (visit_of w) x)) same)
+    ((rw own at a-is) ∙ ap (λ (x : Load). ahead_after size (visit_of w) (step_by size (visit_of w) x)) same)
+    ∙ sym (ap (λ (x : List Load). option_map (prepend ds) (found_by size x (Reads (visit_of w)))) is) ∙ e
+
+-- how many loads a walk may still ask for
+abbrev pub loads_left : code.Progress → ℕ
+loads_left (says.Wants w) = steps_left w.size (visit_of w) + 1
+loads_left (says.Ends walked) = 0

@@ -1,0 +1,13 @@
+use Rattle.std.proofs.Common.{◌≡◌, drop}
+use Rattle.std.specs.Prelude.{option_map}
+use Rattle.fs_queue.specs.Loads.{chain_by, found_by}
+use Rattle.fs_queue.specs.Stepping.{ahead_of, IfWants}
+use Rattle.fs_queue.specs.Walking.{at_position}
+use Rattle.fs_queue.proofs.WalkLemmas.{prepend}
+use Rattle.fs_queue.proofs.loads.walk_loads.Given as goal
+
+abbrev pub invariant-loop-load : goal.invariant-loop-load
+invariant-loop-load l = record {
+  so_far : option_map (prepend l.descriptors.items) (found_by l.fn.layout.size (drop l.load-index l.loads) (ahead_of l.progress)) ≡ chain_by l.loads (at_position l.fn.layout 0) l.fn.head;
+  size : IfWants l.progress (λ w. w.size ≡ l.fn.layout.size);
+}

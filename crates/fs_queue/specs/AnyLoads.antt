@@ -1,0 +1,72 @@
+-- What holds of a walk whatever its loads find, as a guest that writes meanwhile may have it (VIRTIO 1.2, 2.7.5).
+use Rattle.std.specs.Prelude.{◌≡◌, ◌⊎◌, ℕ, ◌+◌, ◌<◌, ◌≤◌, List, [], ◌∷◌, ◌++◌, length, map, Option, Some}
+use Rattle.fs_queue.specs.declared.fault.ChainFault.TheVariants.{NextOutOfTable}
+use Rattle.fs_queue.specs.Queue.{Queue}
+use Rattle.fs_queue.specs.Chain.{Visit, WalkStep, Faulty, Stops, first_visit, Found, IsChain, HasFault, StopsQueue}
+use Rattle.fs_queue.specs.Chain.{entry_address}
+use Rattle.fs_queue.specs.Loads.{Load, Ahead, Reads, Ends, step_by, ahead_at, ahead_after, chain_by}
+
+-- what lies before the walk from a head
+abbrev pub ahead_of_head : Queue → ℕ → Ahead
+ahead_of_head q head = ahead_at q.size (first_visit q head)
+
+-- the load of a step's entry where this came
+abbrev pub load_at : Visit → Option (List ℕ) → Load
+load_at v came = record { address = entry_address v; came = came }
+
+-- the loads of a walk to which this comes, one after another; it leaves what comes after its end
+unfoldable pub loads_by : (size : ℕ) → (came : List (Option (List ℕ))) → Ahead → List Load
+loads_by size [] a = []
+loads_by size (c ∷ cs) (Ends f) = []
+loads_by size (c ∷ cs) (Reads v) = load_at v c ∷ loads_by size cs (ahead_after size v (step_by size v (load_at v c)))
+
+-- whatever comes, a walk makes at most size + 2 loads
+abbrev pub FewLoads : Type 0
+FewLoads = (q : Queue) (head : ℕ) (came : List (Option (List ℕ))) → length (loads_by q.size came (ahead_of_head q head)) ≤ q.size + 2
+
+-- where so much comes it ends
+abbrev pub LoadsEnd : Type 0
+LoadsEnd =
+    (q : Queue) (head : ℕ) (came : List (Option (List ℕ))) → q.size + 2 ≤ length came →
+    (f : Found) × (chain_by (loads_by q.size came (ahead_of_head q head)) q head ≡ Some f)
+
+-- a step came to this by one of some loads
+pub record ReadIn (size : ℕ) (ls : List Load) (w : WalkStep) : Type 0 where
+  pub front : List Load
+  pub load : Load
+  pub rest : List Load
+  pub among : ls ≡ front ++ load ∷ rest
+  pub step : Visit
+  pub entry : load.address ≡ entry_address step
+  pub tells : step_by size step load ≡ w
+
+-- a fault is told by the bytes of one of the loads, unless it is an entry past its table's end, which isn't loaded; a stop by a load that found no place
+abbrev pub IsReadIn : (size : ℕ) → List Load → Found → Type 0
+IsReadIn size ls (IsChain ds) = Unit {0}
+IsReadIn size ls (HasFault fault) = ReadIn size ls (Faulty fault) ⊎ (fault ≡ NextOutOfTable)
+IsReadIn size ls StopsQueue = ReadIn size ls Stops
+
+-- so is what a walk by any loads finds
+abbrev pub EndsAreRead : Type 0
+EndsAreRead = (q : Queue) (head : ℕ) (ls : List Load) (f : Found) → chain_by ls q head ≡ Some f → IsReadIn q.size ls f
+
+-- the steps of a walk by some loads whose entries were loaded
+unfoldable pub visits_by : (size : ℕ) → List Load → Ahead → List Visit
+visits_by size [] a = []
+visits_by size (l ∷ ls) (Ends f) = []
+visits_by size (l ∷ ls) (Reads v) = v ∷ visits_by size ls (ahead_after size v (step_by size v l))
+
+-- the loads that a walk uses are one for each of its steps, in their order, at the step's entry
+pub record OneForEach (size : ℕ) (ls : List Load) (a : Ahead) : Type 0 where
+  pub used : List Load
+  pub left : List Load
+  pub parts : ls ≡ used ++ left
+  pub each : map (λ l. l.address) used ≡ map entry_address (visits_by size ls a)
+
+-- so no entry is loaded again unless the chain visits it again
+abbrev pub Once : Type 0
+Once = (q : Queue) (head : ℕ) (ls : List Load) (f : Found) → chain_by ls q head ≡ Some f → OneForEach q.size ls (ahead_of_head q head)
+
+-- and no two entries of a table have an address in common
+abbrev pub EntriesApart : Type 0
+EntriesApart = (v w : Visit) → v.table ≡ w.table → entry_address v < entry_address w + 16 → entry_address w < entry_address v + 16 → v.index ≡ w.index

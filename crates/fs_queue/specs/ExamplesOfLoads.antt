@@ -1,0 +1,91 @@
+-- Worked walks by loads that compute: a queue of four descriptors whose table begins at 0.
+use Rattle.std.specs.Prelude.{◌≡◌, ◌+◌, ℕ, true, List, [], ◌∷◌, length, map, Some, None, refl}
+use Rattle.vm_memory.specs.Layout.{place}
+use Rattle.vm_memory.specs.Memory.{Memory, memory_of, addresses}
+use Rattle.fs_queue.specs.declared.fault.ChainFault.TheVariants.{NextOutOfTable}
+use Rattle.fs_queue.specs.Queue.{Queue, fresh}
+use Rattle.fs_queue.specs.NextAvail.{Idle, Head, next_avail}
+use Rattle.fs_queue.specs.declared.fault.QueueError.TheVariants.{AvailIndexUnreachable}
+use Rattle.fs_queue.specs.Taking.{Offers, Refuses, IsRequest}
+use Rattle.fs_queue.specs.OfferLoads.{offer_by}
+use Rattle.fs_queue.specs.AnyLoads.{ahead_of_head, loads_by, visits_by}
+use Rattle.fs_queue.specs.Chain.{Visit, IsChain, HasFault, StopsQueue}
+use Rattle.fs_queue.specs.Loads.{Load, holding, chain_by, found_by, asks_entry, index_load, entry_load}
+
+abbrev queue : Queue
+queue = fresh 4 0 0x50 0x60
+
+-- sixteen bytes that begin at 0x40 + low, are four, have a flag NEXT or none, and name an entry
+abbrev entry : (low flags next : ℕ) → List ℕ
+entry low flags next = (0x40 + low) ∷ 0 ∷ 0 ∷ 0 ∷ 0 ∷ 0 ∷ 0 ∷ 0 ∷ 4 ∷ 0 ∷ 0 ∷ 0 ∷ flags ∷ 0 ∷ next ∷ 0 ∷ []
+
+abbrev loaded : (address : ℕ) → List ℕ → Load
+loaded a bs = record { address = a; came = Some bs }
+
+-- entry 2 is visited twice, and the guest wrote it between the two loads: no memory has such a chain
+rewritten_meanwhile : chain_by (loaded 0x20 (entry 0 1 2) ∷ loaded 0x20 (entry 8 0 0) ∷ []) queue 2
+    ≡ Some (IsChain (record { addr = 0x40; len = 4; flags = 1; next = 2 } ∷ record { addr = 0x48; len = 4; flags = 0; next = 0 } ∷ []))
+unfolding place addresses found_by
+rewritten_meanwhile = refl
+
+-- the loads end too soon
+one_too_few : chain_by (loaded 0x20 (entry 0 1 3) ∷ []) queue 2 ≡ None
+unfolding place addresses found_by
+one_too_few = refl
+
+-- another entry was loaded than the one that follows
+another_entry : chain_by (loaded 0x20 (entry 0 1 3) ∷ loaded 0x10 (entry 8 0 0) ∷ []) queue 2 ≡ None
+unfolding place addresses found_by
+another_entry = refl
+
+-- an entry past the table isn't loaded
+past_the_table : chain_by (loaded 0x20 (entry 0 1 4) ∷ []) queue 2 ≡ Some (HasFault NextOutOfTable)
+unfolding place addresses found_by
+past_the_table = refl
+
+-- an entry of the queue's own table without a place stops it
+without_a_place : chain_by (record { address = 0x20; came = None } ∷ []) queue 2 ≡ Some StopsQueue
+unfolding place addresses found_by
+without_a_place = refl
+
+-- a head that waits, once the index asked for the entry
+index_asks : asks_entry (next_avail (holding (index_load queue (Some (1 ∷ 0 ∷ [])) ∷ [])) queue) ≡ true
+unfolding place addresses
+index_asks = refl
+
+entry_tells : next_avail (holding (index_load queue (Some (1 ∷ 0 ∷ [])) ∷ entry_load queue (Some (3 ∷ 0 ∷ [])) ∷ [])) queue ≡ Head 3
+unfolding place addresses
+entry_tells = refl
+
+nothing_waits : next_avail (holding (index_load queue (Some (0 ∷ 0 ∷ [])) ∷ [])) queue ≡ Idle
+unfolding place addresses
+nothing_waits = refl
+
+-- the third answer isn't wanted: the second load found no place, which stops the queue
+stops_early : loads_by 4 (Some (entry 0 1 3) ∷ None ∷ Some (entry 8 0 0) ∷ []) (ahead_of_head queue 2) ≡ loaded 0x20 (entry 0 1 3) ∷ record { address = 0x30; came = None } ∷ []
+unfolding place addresses loads_by
+stops_early = refl
+
+-- a chain that always goes on has as many loads as the queue has entries, and one more, which is TooLong
+goes_round : length (loads_by 1 (Some (entry 0 1 0) ∷ Some (entry 0 1 0) ∷ Some (entry 0 1 0) ∷ []) (ahead_of_head (fresh 1 0 0x50 0x60) 0)) ≡ 2
+unfolding place addresses loads_by
+goes_round = refl
+
+-- the steps whose entries were loaded
+two_visits : map (λ (v : Visit). v.index) (visits_by 4 (loaded 0x20 (entry 0 1 3) ∷ loaded 0x30 (entry 8 0 0) ∷ []) (ahead_of_head queue 2)) ≡ 2 ∷ 3 ∷ []
+unfolding place addresses visits_by
+two_visits = refl
+
+-- places for all of the queue's parts, and for the bytes of its chains
+abbrev everywhere : Memory
+everywhere = memory_of (record { blocks = []; tables = []; io_marks = [] }) (record { start = 0; size = 0x100; block = 0 } ∷ [])
+
+-- a request of four bytes is offered as it was loaded
+offered : offer_by everywhere 0x1000 queue (Some (1 ∷ 0 ∷ [])) (Some (2 ∷ 0 ∷ [])) (loaded 0x20 (entry 0 0 0) ∷ []) (9 ∷ 8 ∷ 7 ∷ 6 ∷ []) ≡ Some (Offers 2 (IsRequest (9 ∷ 8 ∷ 7 ∷ 6 ∷ []) []))
+unfolding place addresses found_by
+offered = refl
+
+-- an index without a place is refused before all else
+index_lost : offer_by everywhere 0x1000 queue None None [] [] ≡ Some (Refuses AvailIndexUnreachable)
+unfolding place addresses
+index_lost = refl

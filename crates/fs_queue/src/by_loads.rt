@@ -1,0 +1,256 @@
+//! A walk whose loads are made from host memory: what waits in the available ring, and the chain of its head.
+
+ghost use Rattle.std.specs.Prelude.{◌≡◌, ℕ, ◌+◌, ◌*◌, ◌<◌, ◌≤◌, ◌^◌, IfOk, IfSome, IsTrue, OnOk, OnErr, Some, None, if◌then◌else◌, length, take, drop};
+ghost use Rattle.vm_iotlb.specs.declared.permissions.Permissions.TheVariants.{Read};
+ghost use Rattle.vm_memory.specs.Memory.{bytes, reach};
+ghost use Rattle.fs_queue.specs.Chain.{chain, first_visit};
+ghost use Rattle.fs_queue.specs.Loads.{ahead_at};
+ghost use Rattle.fs_queue.specs.Stepping.{ahead_of, IfWants};
+ghost use Rattle.fs_queue.specs.Ringing.{stage_of, Told, BeginsChain, IfRefuses};
+ghost use Rattle.fs_queue.specs.NextAvail.{next_avail, IsUnmapped};
+ghost use Rattle.fs_queue.specs.Taking.{may_lack_memory, on_next_avail, stops_queue};
+ghost use Rattle.fs_queue.specs.Walking.{at_position, found_of, AllEndIn64Bits, AreTheRing, AreTheTable, EndsIn64Bits};
+
+use crate::access::{read, whole_bytes};
+use crate::chain_walk::{Progress, Walked};
+use crate::descriptor::Descriptors;
+use crate::layout::QueueLayout;
+use crate::walk::{IndexWalk, Walk, entry_offset};
+use crate::walk_step::{DescriptorTable, ENTRY, queue_table};
+use std::alloc::{AllocError, Global};
+use vm_memory::GuestMemory;
+use vm_memory_core::HostBlocks;
+
+// Loads an entry from host memory.
+fn load_entry<M: GuestMemory, H: HostBlocks>(
+    alloc: Global,
+    host: &H,
+    mem: &M,
+    addr: u64,
+) -> Result<Option<[u8; 16]>, AllocError>
+    requires fits { addr + 16 < 2 ^ 64 }
+    requires held { M.IsHeld mem.now (H.host host.now) }
+    ensures { let m = M.memory mem.now (H.host host.now) in IfOk result (λ o. o ≡ (if reach m Read addr 16 then Some (bytes m addr 16) else None)) }
+{
+    let mut bytes = [0u8; 16];
+    if read(alloc, host, mem, addr, &mut bytes)? {
+        Ok(Some(bytes))
+    } else {
+        Ok(None)
+    }
+}
+
+// The bytes of a table, where one window has all of them. None says nothing of the table: each entry is then read by
+// itself.
+#[inline(always)]
+fn table_bytes<'a, M: GuestMemory, H: HostBlocks>(
+    alloc: Global,
+    host: &'a H,
+    mem: &M,
+    table: DescriptorTable,
+) -> Option<&'a [u8]>
+    requires held { M.IsHeld mem.now (H.host host.now) }
+    requires ends { EndsIn64Bits table }
+    ensures { IfSome result (λ b. AreTheTable (M.memory mem.now (H.host host.now)) table b.now) }
+{
+    whole_bytes(
+        alloc,
+        host,
+        mem,
+        table.address,
+        ENTRY as usize * table.entries as usize,
+    )
+}
+
+// An entry of a table whose bytes are at hand.
+fn entry_of(bytes: &[u8], index: u16) -> [u8; 16]
+    requires { 16 * index + 16 ≤ length bytes.now }
+    ensures { result ≡ take 16 (drop (16 * index) bytes.now) }
+{
+    let mut entry = [0u8; 16];
+    entry.copy_from_slice(&bytes[16 * usize::from(index)..][..16]);
+    entry
+}
+
+// Loads an entry of a table, from the table's bytes where they are at hand.
+#[inline(always)]
+fn load_from_table<M: GuestMemory, H: HostBlocks>(
+    alloc: Global,
+    host: &H,
+    mem: &M,
+    table: DescriptorTable,
+    whole: Option<&[u8]>,
+    index: u16,
+) -> Result<Option<[u8; 16]>, AllocError>
+    requires held { M.IsHeld mem.now (H.host host.now) }
+    requires ends { EndsIn64Bits table }
+    requires index { index < table.entries }
+    requires whole { IfSome whole (λ b. AreTheTable (M.memory mem.now (H.host host.now)) table b.now) }
+    ensures { let m = M.memory mem.now (H.host host.now) in let a = table.address + 16 * index in
+        IfOk result (λ o. o ≡ (if reach m Read a 16 then Some (bytes m a 16) else None)) }
+{
+    match whole {
+        Some(bytes) => Ok(Some(entry_of(bytes, index))),
+        None => load_entry(alloc, host, mem, table.address + 16 * u64::from(index)),
+    }
+}
+
+// The bytes of a table, where one window has all of them; those of another may be at hand.
+#[inline(always)]
+fn bytes_of<'a, M: GuestMemory, H: HostBlocks>(
+    alloc: Global,
+    host: &'a H,
+    mem: &M,
+    table: DescriptorTable,
+    other: DescriptorTable,
+    whole: Option<&'a [u8]>,
+) -> Option<&'a [u8]>
+    requires held { M.IsHeld mem.now (H.host host.now) }
+    requires ends { EndsIn64Bits table }
+    requires whole { IfSome whole (λ b. AreTheTable (M.memory mem.now (H.host host.now)) other b.now) }
+    ensures { IfSome result (λ b. AreTheTable (M.memory mem.now (H.host host.now)) table b.now) }
+{
+    if table == other {
+        whole
+    } else {
+        table_bytes(alloc, host, mem, table)
+    }
+}
+
+/// The walk through the chain of a head, whose ordinary descriptors take the place of those that a list has. An error is
+/// want of memory, for a chain of more than eight descriptors or where a translation fails.
+#[inline(always)]
+pub(crate) fn walk_chain<M: GuestMemory, H: HostBlocks>(
+    alloc: Global,
+    layout: QueueLayout,
+    host: &H,
+    mem: &M,
+    head: u16,
+    first: Progress,
+    descriptors: &mut Descriptors,
+) -> Result<Walked, AllocError>
+    requires held { M.IsHeld mem.now (H.host host.now) }
+    requires at { ahead_of first ≡ ahead_at layout.size (first_visit (at_position layout 0) head) }
+    requires size { IfWants first (λ w. w.size ≡ layout.size) }
+    ensures chain { IfOk result (λ w. found_of w descriptors.new.items ≡ chain (M.memory mem.now (H.host host.now)) (at_position layout 0) head) }
+    ensures fit { OnOk result (AllEndIn64Bits descriptors.new.items) }
+{
+    descriptors.clear();
+    let mut whole_of = queue_table(layout);
+    let mut whole = table_bytes(alloc, host, mem, whole_of);
+    let mut progress = first;
+    'steps: loop {
+        match progress {
+            Progress::Ends(walked) => return Ok(walked),
+            Progress::Wants(walk) => {
+                let (table, index) = walk.entry();
+                whole = bytes_of(alloc, host, mem, table, whole_of, whole);
+                whole_of = table;
+                let came = load_from_table(alloc, host, mem, table, whole, index)?;
+                let given = walk.give(came);
+                if let Some(descriptor) = given.joins {
+                    descriptors.push(descriptor)?;
+                }
+                progress = given.then;
+            }
+        }
+    }
+}
+
+// Two bytes of a ring whose bytes are at hand.
+fn pair_of(bytes: &[u8], offset: usize) -> [u8; 2]
+    requires { offset + 2 ≤ length bytes.now }
+    ensures { result ≡ take 2 (drop offset bytes.now) }
+{
+    let mut pair = [0u8; 2];
+    pair.copy_from_slice(&bytes[offset..][..2]);
+    pair
+}
+
+// Loads two bytes from host memory. Memory is wanting only where a translation fails.
+#[inline(always)]
+fn load_pair<M: GuestMemory, H: HostBlocks>(
+    alloc: Global,
+    host: &H,
+    mem: &M,
+    addr: u64,
+) -> Result<Option<[u8; 2]>, AllocError>
+    requires fits { addr + 2 < 2 ^ 64 }
+    requires held { M.IsHeld mem.now (H.host host.now) }
+    ensures bytes { let m = M.memory mem.now (H.host host.now) in IfOk result (λ o. o ≡ (if reach m Read addr 2 then Some (bytes m addr 2) else None)) }
+    ensures unmapped { OnErr result (IsUnmapped (M.memory mem.now (H.host host.now)) addr 2) }
+{
+    let mut pair = [0u8; 2];
+    if read(alloc, host, mem, addr, &mut pair)? {
+        Ok(Some(pair))
+    } else {
+        Ok(None)
+    }
+}
+
+// The bytes of the available ring, where one window has them, but for what follows its entries.
+#[inline(always)]
+fn ring_bytes<'a, M: GuestMemory, H: HostBlocks>(
+    alloc: Global,
+    layout: QueueLayout,
+    host: &'a H,
+    mem: &M,
+) -> Option<&'a [u8]>
+    requires { M.IsHeld mem.now (H.host host.now) }
+    ensures { IfSome result (λ b. AreTheRing (M.memory mem.now (H.host host.now)) layout b.now) }
+{
+    let len = 4 + 2 * usize::from(layout.size());
+    whole_bytes(alloc, host, mem, layout.avail(), len)
+}
+
+// Loads two bytes of the available ring, from its bytes where they are at hand.
+#[inline(always)]
+fn load_from_ring<M: GuestMemory, H: HostBlocks>(
+    alloc: Global,
+    layout: QueueLayout,
+    host: &H,
+    mem: &M,
+    ring: Option<&[u8]>,
+    offset: u32,
+) -> Result<Option<[u8; 2]>, AllocError>
+    requires held { M.IsHeld mem.now (H.host host.now) }
+    requires inside { offset + 2 ≤ 4 + 2 * layout.size }
+    requires ring { IfSome ring (λ b. AreTheRing (M.memory mem.now (H.host host.now)) layout b.now) }
+    ensures bytes { let m = M.memory mem.now (H.host host.now) in let a = layout.avail + offset in
+        IfOk result (λ o. o ≡ (if reach m Read a 2 then Some (bytes m a 2) else None)) }
+    ensures unmapped { OnErr result (IsUnmapped (M.memory mem.now (H.host host.now)) (layout.avail + offset) 2) }
+{
+    match ring {
+        Some(bytes) => Ok(Some(pair_of(bytes, offset as usize))),
+        None => load_pair(alloc, host, mem, layout.avail() + u64::from(offset)),
+    }
+}
+
+/// What waits at a position of a queue that isn't stopped: the walk as far as the loads of the ring bring it. Memory is
+/// wanting only where a translation fails.
+#[inline(always)]
+pub(crate) fn walk_ring<M: GuestMemory, H: HostBlocks>(
+    alloc: Global,
+    layout: QueueLayout,
+    position: u16,
+    host: &H,
+    mem: &M,
+) -> Result<Walk, AllocError>
+    requires { M.IsHeld mem.now (H.host host.now) }
+    ensures told { IfOk result (λ w. stage_of w ≡ Told (next_avail (M.memory mem.now (H.host host.now)) (at_position layout position))) }
+    ensures chain { IfOk result (BeginsChain layout) }
+    ensures stops { IfOk result (λ w. IfRefuses w (λ e. IsTrue (stops_queue e))) }
+    ensures memory { OnErr result ((limit : ℕ) → let m = M.memory mem.now (H.host host.now) in let q = at_position layout position in
+        IsTrue (may_lack_memory m q (on_next_avail m limit q (next_avail m q)))) }
+{
+    let ring = ring_bytes(alloc, layout, host, mem);
+    let index = load_from_ring(alloc, layout, host, mem, ring, 2)?;
+    match IndexWalk::new(layout, position).give(index) {
+        Walk::RingEntry(walk) => {
+            let offset = entry_offset(layout, position);
+            let entry = load_from_ring(alloc, layout, host, mem, ring, offset)?;
+            Ok(walk.give(entry))
+        }
+        told => Ok(told),
+    }
+}

@@ -1,0 +1,158 @@
+//! The walk through a chain of descriptors by loads that another makes: it touches no memory (VIRTIO 1.2, 2.7.5).
+
+ghost use Rattle.std.specs.Prelude.{◌≡◌, ◌+◌, ◌*◌, ◌<◌, ◌≤◌, ◌^◌, IfSome, true, false};
+
+use crate::descriptor::Descriptor;
+use crate::fault::ChainFault;
+use crate::layout::QueueLayout;
+use crate::walk_step::{DescriptorTable, WalkStep, indirect_step, ordinary_step, queue_table};
+use vm_values::ByteValued;
+
+/// A walk that asks for an entry of a table.
+#[derive(Clone, Copy, Debug)]
+pub struct ChainWalk {
+    size: u16,
+    table: DescriptorTable,
+    index: u16,
+    earlier: u16,
+    pub ghost inside: { index < table.entries },
+    pub ghost ends: { table.address + 16 * table.entries < 2 ^ 64 },
+    pub ghost few: { earlier ≤ size },
+}
+
+/// What a walk through a chain came to.
+#[derive(Clone, Copy, Debug, PartialEq, Eq)]
+pub enum Walked {
+    /// A chain: the descriptors that joined it, in their order.
+    Chain,
+    /// A faulty chain, which goes back unserved.
+    Faulty(ChainFault),
+    /// An entry of the queue's own table has no place: `DescriptorUnreachable`, which stops the queue.
+    Stopped,
+}
+
+/// How far a walk through a chain has come.
+#[derive(Clone, Copy, Debug)]
+pub enum Progress {
+    /// It asks for an entry of a table.
+    Wants(ChainWalk),
+    /// It has ended.
+    Ends(Walked),
+}
+
+/// What came of a load.
+#[derive(Clone, Copy, Debug)]
+pub struct Given {
+    /// An ordinary descriptor, which joins the chain, or none.
+    pub joins: Option<Descriptor>,
+    /// How far the walk has come.
+    pub then: Progress,
+}
+
+impl ChainWalk {
+    ghost use Rattle.fs_queue.specs.Chain.{first_visit};
+    ghost use Rattle.fs_queue.specs.Chain.{entry_address};
+    ghost use Rattle.fs_queue.specs.Loads.{ahead_at, ahead_after, step_by};
+    ghost use Rattle.fs_queue.specs.Stepping.{visit_of, load_of, ahead_of, joining, steps_left, IfWants};
+    ghost use Rattle.fs_queue.specs.Walking.{at_position, in_table, walk_step_of, IfOrdinary, IfTable, EndsIn64Bits};
+
+    // At an entry of a table, or past its end.
+    fn at(size: u16, table: DescriptorTable, index: u16, earlier: u16) -> Progress
+        requires ends { EndsIn64Bits table }
+        requires few { earlier ≤ size }
+        ensures at { ahead_of result ≡ ahead_at size (in_table table index earlier) }
+        ensures size { IfWants result (λ w. w.size ≡ size) }
+        ensures visit { IfWants result (λ w. visit_of w ≡ in_table table index earlier) }
+    {
+        if u32::from(index) < table.entries {
+            Progress::Wants(ChainWalk {
+                size,
+                table,
+                index,
+                earlier,
+            })
+        } else {
+            Progress::Ends(Walked::Faulty(ChainFault::NextOutOfTable))
+        }
+    }
+
+    /// The walk from an entry of the queue's table.
+    pub fn begin(layout: QueueLayout, head: u16) -> Progress
+        ensures at { ahead_of result ≡ ahead_at layout.size (first_visit (at_position layout 0) head) }
+        ensures size { IfWants result (λ w. w.size ≡ layout.size) }
+    {
+        Self::at(layout.size(), queue_table(layout), head, 0)
+    }
+
+    /// The address of the 16 bytes that it asks for, which end below 2^64.
+    pub fn address(&self) -> u64
+        ensures address { result ≡ entry_address (visit_of self.now) }
+        ensures fits { result + 16 < 2 ^ 64 }
+    {
+        self.table.address + 16 * u64::from(self.index)
+    }
+
+    /// The table that the entry is of, and its index there.
+    pub fn entry(&self) -> (DescriptorTable, u16)
+        ensures table { result.0 ≡ self.now.table }
+        ensures index { result.1 ≡ self.now.index }
+        ensures inside { result.1 < result.0.entries }
+        ensures ends { EndsIn64Bits result.0 }
+    {
+        (self.table, self.index)
+    }
+
+    // What the step comes to by the bytes that came, or that one of their addresses has no place.
+    fn step(self, came: Option<[u8; 16]>) -> WalkStep
+        ensures step { walk_step_of result ≡ step_by self.size (visit_of self) (load_of self came) }
+        ensures fits { IfOrdinary result (λ d. d.addr + d.len < 2 ^ 64) }
+        ensures room { IfOrdinary result (λ _. self.earlier ≡ self.size → ⊥) }
+        ensures table { IfTable result (λ t. (self.table.indirect ≡ false) × (t.indirect ≡ true) × EndsIn64Bits t) }
+    {
+        let Some(bytes) = came else {
+            return if self.table.indirect {
+                WalkStep::Faulty(ChainFault::TableUnreachable)
+            } else {
+                WalkStep::Stops
+            };
+        };
+        let descriptor = Descriptor::get_bytes(&bytes);
+        if descriptor.refers_to_indirect_table() {
+            indirect_step(self.table, self.index, self.earlier, descriptor)
+        } else {
+            ordinary_step(self.size, self.table, self.index, self.earlier, descriptor)
+        }
+    }
+
+    /// Goes on by the bytes that came, or by that one of their addresses has no place. Each time fewer steps are left.
+    pub fn give(self, came: Option<[u8; 16]>) -> Given
+        ensures joins { result.joins ≡ joining (step_by self.size (visit_of self) (load_of self came)) }
+        ensures then { ahead_of result.then ≡ ahead_after self.size (visit_of self) (step_by self.size (visit_of self) (load_of self came)) }
+        ensures size { IfWants result.then (λ w. w.size ≡ self.size) }
+        ensures fewer { IfWants result.then (λ w. steps_left self.size (visit_of w) < steps_left self.size (visit_of self)) }
+        ensures fits { IfSome result.joins (λ d. d.addr + d.len < 2 ^ 64) }
+    {
+        match self.step(came) {
+            WalkStep::Stops => Given {
+                joins: None,
+                then: Progress::Ends(Walked::Stopped),
+            },
+            WalkStep::Faulty(fault) => Given {
+                joins: None,
+                then: Progress::Ends(Walked::Faulty(fault)),
+            },
+            WalkStep::Table(table) => Given {
+                joins: None,
+                then: Self::at(self.size, table, 0, self.earlier),
+            },
+            WalkStep::Ordinary(descriptor) => Given {
+                joins: Some(descriptor),
+                then: if descriptor.has_next() {
+                    Self::at(self.size, self.table, descriptor.next, self.earlier + 1)
+                } else {
+                    Progress::Ends(Walked::Chain)
+                },
+            },
+        }
+    }
+}

@@ -1,0 +1,107 @@
+//! A step of a walk through a chain of descriptors (VIRTIO 1.2, 2.7.5 and 2.7.5.3).
+
+ghost use Rattle.std.specs.Prelude.{◌≡◌, ◌+◌, ◌<◌, ◌^◌, false, true};
+
+use crate::descriptor::Descriptor;
+use crate::fault::ChainFault;
+use crate::layout::QueueLayout;
+use std::marker::Model;
+
+// How many bytes an entry of a table has.
+pub(crate) const ENTRY: u32 = 16;
+
+/// A table of descriptors: the queue's own, or one that a descriptor names.
+#[derive(Clone, Copy, Debug, PartialEq, Eq)]
+pub struct DescriptorTable {
+    /// The guest address of its first entry.
+    pub address: u64,
+    /// How many entries of 16 bytes it has.
+    pub entries: u32,
+    /// Whether a descriptor names it.
+    pub indirect: bool,
+}
+
+impl Model for DescriptorTable {
+    ghost use Rattle.fs_queue.specs.Chain.{DescriptorTable};
+
+    ghost Value = { DescriptorTable };
+
+    ghost view = { λ t. record { address = t.address; entries = t.entries; indirect = t.indirect } };
+
+    ghost inverse = { λ t. record { address = t.address; entries = t.entries; indirect = t.indirect } };
+}
+
+/// What a step comes to: an ordinary descriptor, which joins the chain, a table to be read on from, a faulty chain, or
+/// a stop of the queue.
+#[derive(Clone, Copy, Debug, PartialEq, Eq)]
+pub(crate) enum WalkStep {
+    Ordinary(Descriptor),
+    Table(DescriptorTable),
+    Faulty(ChainFault),
+    Stops,
+}
+
+ghost use Rattle.fs_queue.specs.Chain.{indirect_step, ordinary_step, own_table};
+ghost use Rattle.fs_queue.specs.Walking.{at_position, in_table, walk_step_of, IfOrdinary, IfTable, EndsIn64Bits};
+
+// What a step comes to at a descriptor that names a table, found in this one after `earlier` ordinary ones.
+pub(crate) fn indirect_step(
+    table: DescriptorTable,
+    index: u16,
+    earlier: u16,
+    descriptor: Descriptor,
+) -> WalkStep
+    ensures step { walk_step_of result ≡ indirect_step (in_table table index earlier) descriptor }
+    ensures indirect { IfOrdinary result (λ _. ⊥) }
+    ensures table { IfTable result (λ t. (table.indirect ≡ false) × (t.indirect ≡ true) × EndsIn64Bits t) }
+{
+    if descriptor.has_next() {
+        WalkStep::Faulty(ChainFault::IndirectWithNext)
+    } else if table.indirect {
+        WalkStep::Faulty(ChainFault::IndirectNested)
+    } else if descriptor.len == 0 || descriptor.len % ENTRY != 0 {
+        WalkStep::Faulty(ChainFault::IndirectLength)
+    } else if descriptor.addr > u64::MAX - u64::from(descriptor.len) {
+        WalkStep::Faulty(ChainFault::AddressOverflow)
+    } else {
+        WalkStep::Table(DescriptorTable {
+            address: descriptor.addr,
+            entries: descriptor.len / ENTRY,
+            indirect: true,
+        })
+    }
+}
+
+// What a step comes to at an ordinary descriptor, after `earlier` others in the chain of a queue of this size.
+pub(crate) fn ordinary_step(
+    size: u16,
+    table: DescriptorTable,
+    index: u16,
+    earlier: u16,
+    descriptor: Descriptor,
+) -> WalkStep
+    ensures step { walk_step_of result ≡ ordinary_step size (in_table table index earlier) descriptor }
+    ensures fits { IfOrdinary result (λ d. d.addr + d.len < 2 ^ 64) }
+    ensures room { IfOrdinary result (λ _. earlier ≡ size → ⊥) }
+    ensures ordinary { IfTable result (λ _. ⊥) }
+{
+    if earlier == size {
+        WalkStep::Faulty(ChainFault::TooLong)
+    } else if descriptor.len > 0 && descriptor.addr > u64::MAX - u64::from(descriptor.len) {
+        WalkStep::Faulty(ChainFault::AddressOverflow)
+    } else {
+        WalkStep::Ordinary(descriptor)
+    }
+}
+
+// The queue's own table.
+pub(crate) fn queue_table(layout: QueueLayout) -> DescriptorTable
+    ensures table { result ≡ own_table (at_position layout 0) }
+    ensures ends { EndsIn64Bits result }
+{
+    DescriptorTable {
+        address: layout.desc(),
+        entries: u32::from(layout.size()),
+        indirect: false,
+    }
+}
