@@ -1,20 +1,19 @@
 -- Stores at places apart go in either order.
-use Rattle.std.proofs.Common.{◌≡◌, ℕ, zero, suc, ◌+◌, ◌-◌, ◌/◌, ◌^◌, ◌<◌, ◌≤◌, Bool, true, false, List, [], ◌∷◌, ◌++◌, length, take, drop, set, refl, sym, ap, ◌∙◌, arith, inl, inr, ⊎_elim, subst, length-append, Option, None, Some, Ok, Err, nat_lt, if◌then◌else◌}
-use Rattle.std.specs.Prelude.{◌⊎◌, nat_le}
+use Rattle.std.proofs.Common.{◌≡◌, ℕ, zero, suc, ◌+◌, ◌-◌, ◌/◌, ◌^◌, ◌<◌, ◌≤◌, Bool, true, false, List, [], ◌∷◌, ◌++◌, length, take, drop, set, refl, sym, ap, ◌∙◌, arith, inl, inr, ⊎_elim, subst, Option, None, Some, nat_lt, if◌then◌else◌}
+use Rattle.std.specs.Prelude.{◌⊎◌, ◌↔◌, ◌||◌, ◌==◌, not, nat_le, IsTrue}
+use Rattle.std.proofs.lemmas.Bool.Decides.{nat_tests}
 use Rattle.std.specs.Option.{is_none}
 use Rattle.std.specs.List.{zip}
-use Rattle.std.proofs.lemmas.List.{append-nil, drop-drop, drop_at, set_comm}
+use Rattle.std.proofs.lemmas.Bool.{cases_eq, cases_lt}
+use Rattle.std.proofs.lemmas.List.{nil_from_length, set_comm, take-append-drop}
 use Rattle.vm_bitmaps.specs.Pages.{marked_at}
 use Rattle.vm_memory_core.specs.Host.{Block, Host, IoAddress, Place, changed_at, marked}
 use Rattle.vm_memory_core.specs.declared.window.IoMarks.{IoMarks}
 use Rattle.vm_memory_core.specs.Window.{Window, io_address, places_of, put_all, put_byte, span}
-use Rattle.vm_memory_core.specs.Parts.{part_of, rest_of}
-use Rattle.vm_memory_core.specs.declared.error.VolatileMemoryError.TheVariants.{OutOfBounds}
-use Rattle.vm_memory_core.proofs.WindowLemmas.{length-span, put_all-append, span-part}
-use Rattle.std.proofs.Math.Seq.{take-append-add}
-use Rattle.std.proofs.lemmas.Bool.Decides.{nat_tests}
-use Rattle.room_writer.specs.Apart.{Apart, IsApart}
-use Rattle.room_writer.specs.FillsLaws.{places-behind, zip-both, zip-front}
+use Rattle.vm_memory_core.proofs.WindowLemmas.{put_all-append}
+use Rattle.std.proofs.Math.Seq.{take-nil}
+use Rattle.room_writer.specs.Apart.{Apart, IsApart, are_apart}
+use Rattle.room_writer.specs.FillsLaws.{zip-both, zip-front}
 
 -- two places aren't one byte
 abbrev Differ : Place → Place → Type 0
@@ -140,58 +139,100 @@ spans_apart (suc n) b o io c q jo m h = (
 pub windows_apart : (w v : Window) → (w.block ≡ v.block → (w.offset + w.len ≤ v.offset) ⊎ (v.offset + v.len ≤ w.offset)) → Apart (places_of w) (places_of v)
 windows_apart w v h = spans_apart w.len w.block w.offset w.io v.block v.offset v.io v.len h
 
--- the front of a window and what follows it
-pub front_apart : (w : Window) (n : ℕ) → n ≤ w.len → Apart (take n (places_of w)) (places_of (part_of w n (w.len - n)))
-front_apart w n h =
-    subst (λ (l : List Place). Apart l (places_of (part_of w n (w.len - n)))) (span-part n w.len w.block w.offset w.io h)
-    (spans_apart n w.block w.offset w.io w.block (w.offset + n) w.io (w.len - n) (λ same. inl (omega arith)))
+-- a byte of a span, and of two
+one_meets : (p : Place) (c q : ℕ) (jo : Option IoMarks) (m : ℕ) → p.block ≡ c → q ≤ p.offset → p.offset < q + m → IsApart p (span c q jo m) → ⊥
+unfolding span
+one_meets p c q jo zero same low high a = absurd (omega (arith, low, high))
+one_meets p c q jo (suc m) same low high a =
+    ⊎_elim (λ (e : p.offset ≡ q). a.0 same e) (λ (e : p.offset ≡ q → ⊥). one_meets p c (q + 1) jo m same (omega (arith, low, e)) (omega (arith, high)) a.1) (cases_eq p.offset q)
+
+spans_meet : (n b o : ℕ) (io : Option IoMarks) (c q : ℕ) (jo : Option IoMarks) (m : ℕ) → b ≡ c → 0 < n → 0 < m → o < q + m → q < o + n → Apart (span b o io n) (span c q jo m) → ⊥
+unfolding span
+spans_meet zero b o io c q jo m same any some low high a = absurd (omega (arith, any))
+spans_meet (suc n) b o io c q jo m same any some low high a =
+    ⊎_elim (λ (l : o < q). spans_meet n b (o + 1) io c q jo m same (omega (arith, l, high)) some (omega (arith, l, some)) (omega (arith, high)) a.1)
+    (λ (l : q ≤ o). one_meets (record { block = b; offset = o; io = io_address o io }) c q jo m same l low a.0) (cases_lt o q)
+
+pub windows_meet : (w v : Window) → w.block ≡ v.block → 0 < w.len → 0 < v.len → w.offset < v.offset + v.len → v.offset < w.offset + w.len → Apart (places_of w) (places_of v) → ⊥
+windows_meet w v same any some low high a = spans_meet w.len w.block w.offset w.io v.block v.offset v.io v.len same any some low high a
+
+decides_by : (a b c : Bool) (w v : Window) → (w.block == v.block) ≡ a → nat_le (w.offset + w.len) v.offset ≡ b → nat_le (v.offset + v.len) w.offset ≡ c → 0 < w.len → 0 < v.len →
+    IsTrue (not a || (b || c)) ↔ Apart (places_of w) (places_of v)
+decides_by false b c w v s t u any some = (λ yes. windows_apart w v (λ same. absurd (grind (arith, nat_tests, s, same))), λ apart. refl)
+decides_by true true c w v s t u any some = (λ yes. windows_apart w v (λ same. inl (grind (arith, nat_tests, t))), λ apart. refl)
+decides_by true false true w v s t u any some = (λ yes. windows_apart w v (λ same. inr (grind (arith, nat_tests, u))), λ apart. refl)
+decides_by true false false w v s t u any some = (
+  λ yes. absurd (cc),
+  λ apart. absurd (windows_meet w v (grind (arith, nat_tests, s)) any some (grind (arith, nat_tests, u)) (grind (arith, nat_tests, t)) apart),
+)
+
+-- windows that have a byte are apart by their numbers, or they aren't
+pub windows_decide : (w v : Window) → 0 < w.len → 0 < v.len → IsTrue (are_apart w v) ↔ Apart (places_of w) (places_of v)
+windows_decide w v any some = decides_by (w.block == v.block) (nat_le (w.offset + w.len) v.offset) (nat_le (v.offset + v.len) w.offset) w v refl refl refl any some
 
 -- two lists apart from a third
 pub both_apart : (ps rs qs : List Place) → Apart ps qs → Apart rs qs → Apart (ps ++ rs) qs
 both_apart [] rs qs a b = b
 both_apart (p ∷ ps) rs qs a b = (a.0, both_apart ps rs qs a.1 b)
 
--- ---- what follows the front of windows
+-- and a list apart from two
+one_both : (p : Place) (qs rs : List Place) → IsApart p qs → IsApart p rs → IsApart p (qs ++ rs)
+one_both p [] rs a b = b
+one_both p (q ∷ qs) rs a b = (a.0, one_both p qs rs a.1 b)
 
-rest_by : (b : Bool) (w v : Window) (n : ℕ) → nat_le n w.len ≡ b → Ok v ≡ (if b then Ok (part_of w n (w.len - n)) else Err (OutOfBounds n)) → (n ≤ w.len) × (v ≡ part_of w n (w.len - n))
-rest_by true w v n t e = (grind (arith, nat_tests, t), let same : v ≡ part_of w n (w.len - n) = cc in same)
-rest_by false w v n t e = absurd (cc)
+pub apart_both : (ps qs rs : List Place) → Apart ps qs → Apart ps rs → Apart ps (qs ++ rs)
+apart_both [] qs rs a b = tt
+apart_both (p ∷ ps) qs rs a b = (one_both p qs rs a.0 b.0, apart_both ps qs rs a.1 b.1)
 
--- what follows the front of a window
-pub rest_is : (w v : Window) (n : ℕ) → Ok v ≡ rest_of w n → (n ≤ w.len) × (v ≡ part_of w n (w.len - n))
-rest_is w v n e = rest_by (nat_le n w.len) w v n refl e
+-- the parts of what is apart are
+one_parts : (p : Place) (qs rs : List Place) → IsApart p (qs ++ rs) → IsApart p qs × IsApart p rs
+one_parts p [] rs a = (tt, a)
+one_parts p (q ∷ qs) rs a = let more = one_parts p qs rs a.1 in ((a.0, more.0), more.1)
 
-pub rest_places : (w v : Window) (n : ℕ) → Ok v ≡ rest_of w n → places_of v ≡ drop n (places_of w)
-rest_places w v n e = let r = rest_is w v n e in ap places_of r.1 ∙ places-behind w n r.0
+apart_parts : (ps qs rs : List Place) → Apart ps (qs ++ rs) → Apart ps qs × Apart ps rs
+apart_parts [] qs rs a = (tt, tt)
+apart_parts (p ∷ ps) qs rs a =
+    let one = one_parts p qs rs a.0 in
+    let more = apart_parts ps qs rs a.1 in ((one.0, more.0), (one.1, more.1))
 
-pub rest_apart : (w v : Window) (n : ℕ) → Ok v ≡ rest_of w n → Apart (take n (places_of w)) (places_of v)
-rest_apart w v n e =
-    let r = rest_is w v n e in
-    subst (λ (k : Window). Apart (take n (places_of w)) (places_of k)) (sym r.1) (front_apart w n r.0)
+front_parts : (ps rs qs : List Place) → Apart (ps ++ rs) qs → Apart ps qs × Apart rs qs
+front_parts [] rs qs a = (tt, a)
+front_parts (p ∷ ps) rs qs a = let more = front_parts ps rs qs a.1 in ((a.0, more.0), more.1)
 
-pub rest_count : (w v : Window) (n : ℕ) → Ok v ≡ rest_of w n → n ≤ length (places_of w)
-rest_count w v n e = let r = rest_is w v n e in let long = length-span w.len w.block w.offset w.io in omega (arith, r.0, long)
+apart_none : (ps : List Place) → Apart ps []
+apart_none [] = tt
+apart_none (p ∷ ps) = (tt, apart_none ps)
 
--- the same of two windows, joined
-module _ (f w v : Window) (n k : ℕ) (front : f.len ≤ n) (is : k ≡ n - f.len) where
-  long : length (places_of f) ≡ f.len
-  long = length-span f.len f.block f.offset f.io
+-- where a part of the second list is known to be apart, the rest decides
+pub rest_decides : (A : Type 0) (ps qs part : List Place) (k : ℕ) → part ≡ take k qs → A ↔ Apart ps qs → Apart ps part → A ↔ Apart ps (drop k qs)
+rest_decides A ps qs part k is all known = (
+  λ a. (apart_parts ps (take k qs) (drop k qs) (subst (Apart ps) (sym (take-append-drop k qs)) (all.0 a))).1,
+  λ r. all.1 (subst (Apart ps) (take-append-drop k qs) (apart_both ps (take k qs) (drop k qs) (subst (Apart ps) is known) r)),
+)
 
-  pub two_count : k ≤ length (places_of w) → n ≤ length (places_of f ++ (places_of w ++ []))
-  two_count le = omega (arith, le, is, front, long, length-append (places_of f) (places_of w ++ []), length-append (places_of w) [])
+pub part_denies : (A : Type 0) (ps qs part : List Place) (k : ℕ) → part ≡ take k qs → A ↔ Apart ps qs → (Apart ps part → ⊥) → A → ⊥
+part_denies A ps qs part k is all none a =
+    none (subst (Apart ps) (sym is) (apart_parts ps (take k qs) (drop k qs) (subst (Apart ps) (sym (take-append-drop k qs)) (all.0 a))).0)
 
-  cut : (n ≡ length (places_of f) + k)
-  cut = omega (arith, long, front, is)
+pub nothing_left : (A : Type 0) (ps qs : List Place) → A ↔ Apart ps qs → length qs ≡ 0 → A
+nothing_left A ps qs all none = all.1 (subst (Apart ps) (sym (nil_from_length qs none)) (apart_none ps))
 
-  pub two_places : places_of v ≡ drop k (places_of w) → places_of v ≡ drop n (places_of f ++ (places_of w ++ []))
-  two_places e =
-      e ∙ ap (drop k) (sym (append-nil (places_of w)))
-      ∙ sym (ap (λ i. drop i (places_of f ++ (places_of w ++ []))) cut ∙ sym (drop-drop k (length (places_of f)) (places_of f ++ (places_of w ++ [])))
-      ∙ ap (drop k) (drop_at (places_of f) (places_of w ++ []) (length (places_of f)) refl))
+-- and where one of the first is
+cut_front : (ps : List Place) (k n : ℕ) → k ≤ n → take n ps ≡ take k ps ++ take (n - k) (drop k ps)
+cut_front ps zero n le = ap (λ i. take i ps) (let e : n ≡ n - 0 = omega arith in e)
+cut_front [] (suc k) zero le = absurd (omega (arith, le))
+cut_front [] (suc k) (suc n) le = sym (take-nil (suc n - suc k))
+cut_front (p ∷ ps) (suc k) zero le = absurd (omega (arith, le))
+cut_front (p ∷ ps) (suc k) (suc n) le = ap (λ l. p ∷ l) (cut_front ps k n (omega (arith, le)) ∙ ap (λ i. take k ps ++ take i (drop k ps)) (let e : n - k ≡ suc n - suc k = omega arith in e))
 
-  pub two_apart : Apart (take k (places_of w)) (places_of v) → Apart (places_of f) (places_of v) → Apart (take n (places_of f ++ (places_of w ++ []))) (places_of v)
-  two_apart own other =
-      let parts : take n (places_of f ++ (places_of w ++ [])) ≡ places_of f ++ take k (places_of w) =
-      ap (λ i. take i (places_of f ++ (places_of w ++ []))) cut ∙ take-append-add (places_of f) (places_of w ++ []) k
-      ∙ ap (λ (l : List Place). places_of f ++ take k l) (append-nil (places_of w)) in
-      subst (λ (l : List Place). Apart l (places_of v)) (sym parts) (both_apart (places_of f) (take k (places_of w)) (places_of v) other own)
+pub front_decides : (A : Type 0) (ps qs part : List Place) (k n : ℕ) → k ≤ n → part ≡ take k ps → A ↔ Apart (take n ps) qs → Apart part qs → A ↔ Apart (take (n - k) (drop k ps)) qs
+front_decides A ps qs part k n le is all known =
+    let cut = cut_front ps k n le in (
+      λ a. (front_parts (take k ps) (take (n - k) (drop k ps)) qs (subst (λ l. Apart l qs) cut (all.0 a))).1,
+      λ r. all.1 (subst (λ l. Apart l qs) (sym cut) (both_apart (take k ps) (take (n - k) (drop k ps)) qs (subst (λ l. Apart l qs) is known) r)),
+    )
+
+pub front_denies : (A : Type 0) (ps qs part : List Place) (k n : ℕ) → k ≤ n → part ≡ take k ps → A ↔ Apart (take n ps) qs → (Apart part qs → ⊥) → A → ⊥
+front_denies A ps qs part k n le is all none a =
+    let cut = cut_front ps k n le in
+    none (subst (λ l. Apart l qs) (sym is) (front_parts (take k ps) (take (n - k) (drop k ps)) qs (subst (λ l. Apart l qs) cut (all.0 a))).0)

@@ -1,77 +1,49 @@
--- A window as what reads of a file fill.
-use Rattle.std.proofs.Common.{◌≡◌, ℕ, ◌+◌, ◌-◌, ◌^◌, ◌≤◌, Bool, true, false, min, sum, List, [], ◌∷◌, ◌++◌, length, take, Result, Ok, Err, refl, sym, ap, ◌∙◌, arith, subst, nat_lt, if◌then◌else◌}
-use Rattle.std.specs.Prelude.{nat_le}
+-- What reads of a file have put into a room.
+use Rattle.std.proofs.Common.{◌≡◌, ℕ, ◌+◌, ◌≤◌, min, sum, List, [], ◌∷◌, ◌++◌, length, take, drop, Result, refl, sym, ap, ◌∙◌, subst, arith}
+use Rattle.std.proofs.lemmas.List.{length-drop}
 use Rattle.std.specs.List.{zip}
 use Rattle.fuse_fs.specs.Lengths.{filled, first, past, up_to}
-use Rattle.fuse_fs.specs.Transfers.{MayRead, ReadsOnce, ReadsSegments}
-use Rattle.fuse_fs.proofs.Lengths.{filled-filled, first_of, past_first, sum-filled}
+use Rattle.fuse_fs.specs.Transfers.{MayRead, ReadsSegments}
 use Rattle.fuse_fs.proofs.SegmentReads.{Filling, Filled, Offered, Added}
+use Rattle.fuse_fs.proofs.Lengths.{sum-cons}
 use Rattle.vm_memory_core.specs.Host.{Host, Place, shape}
-use Rattle.vm_memory_core.specs.Window.{Window, Stores, places_of, put_all}
-use Rattle.vm_memory_core.specs.Parts.{part_of, sub_window}
-use Rattle.vm_memory_core.specs.declared.error.VolatileMemoryError.{VolatileMemoryError}
-use Rattle.vm_memory_core.proofs.WindowLemmas.{places-part}
+use Rattle.vm_memory_core.specs.Window.{Stores, put_all}
+use Rattle.room_writer.specs.Behind.{RoomLeft}
 use Rattle.room_writer.specs.Fills.{Fills}
 use Rattle.room_writer.specs.FillsLaws.{zip-front}
 
-abbrev pub filling : List ℕ → Window → Filling
-filling got w = record { put = got; room = w.len; rooms = filled (w.len ∷ []) }
+abbrev pub filling : List ℕ → RoomLeft → Filling
+filling got r = record { put = got; room = length r.places; rooms = r.rooms }
 
-pub offered : (w : Window) (count most : ℕ) → most ≡ min count w.len → Offered (filling [] w) count most
-offered w count most m =
-    let one : sum (w.len ∷ []) ≡ w.len = omega arith in
-    record { limit = m; all = sum-filled (w.len ∷ []) ∙ one; some = filled-filled (w.len ∷ []) }
+pub offered : (r : RoomLeft) (count most : ℕ) → most ≡ min count (length r.places) → sum r.rooms ≡ length r.places → filled r.rooms ≡ r.rooms → Offered (filling [] r) count most
+offered r count most m all some = record { limit = m; all = all; some = some }
 
-pub added : (got bytes : List ℕ) (a b : Host) (w v : Window) → Fills a w bytes b v → Added (filling got w) bytes (filling (got ++ bytes) v)
-added got bytes a b w v f =
-    let size : v.len ≡ w.len - length bytes = ap (λ k. k.len) f.left in
+pub added : (got bytes : List ℕ) (a b : Host) (r s : RoomLeft) → Fills a r.places bytes b s.places → s.rooms ≡ past (length bytes) r.rooms → Added (filling got r) bytes (filling (got ++ bytes) s)
+added got bytes a b r s f rooms = record {
+  put = refl;
+  room = omega (arith, ap length f.left, length-drop (length bytes) r.places, f.fits);
+  rooms = rooms;
+}
+
+-- the first length is no more than all
+pub first_within : (ns : List ℕ) → first ns ≤ sum ns
+first_within [] = omega arith
+first_within (n ∷ ns) = omega (arith, sum-cons n ns)
+
+-- bytes that were stored at the front of a room
+pub fills_front : (a b : Host) (ps qs front : List Place) (most n : ℕ) (bytes : List ℕ) → front ≡ take most ps → most ≤ length ps → Stores a b front bytes → length bytes ≡ n → n ≤ most →
+    shape b ≡ shape a → qs ≡ drop n ps → Fills a ps bytes b qs
+fills_front a b ps qs front most n bytes is le stored count fits same left =
     record {
-      put = refl;
-      room = omega (arith, size, f.fits);
-      rooms = ap (λ n. filled (n ∷ [])) size ∙ sym (past_first (length bytes) w.len [] f.fits);
-    }
-
--- the first segment of a window is all of it
-pub first_window : (w : Window) → first (filled (w.len ∷ [])) ≡ w.len
-first_window w = first_of w.len [] (λ none. refl)
-
-sub_by : (a b : Bool) (w f : Window) (n : ℕ) (d e : VolatileMemoryError) → Ok f ≡ (if a then if b then Ok (part_of w 0 n) else Err d else Err e) → f ≡ part_of w 0 n
-sub_by true true w f n d e h = let same : f ≡ part_of w 0 n = cc in same
-sub_by true false w f n d e h = absurd (cc)
-sub_by false b w f n d e h = absurd (cc)
-
--- the front of a window
-pub sub_is : (w f : Window) (n : ℕ) → Ok f ≡ sub_window w 0 n → f ≡ part_of w 0 n
-sub_is w f n h = sub_by (nat_lt (0 + n) (2 ^ 64)) (nat_le (0 + n) w.len) w f n _ _ h
-
--- bytes that were stored at the front of a window
-pub fills_front : (a b : Host) (w f v : Window) (most n : ℕ) (bytes : List ℕ) → f ≡ part_of w 0 most → most ≤ w.len → Stores a b (places_of f) bytes → n ≡ length bytes → length bytes ≤ f.len →
-    shape b ≡ shape a → v ≡ part_of w n (w.len - n) → Fills a w bytes b v
-fills_front a b w f v most n bytes is le stored count fits same left =
-    let size : f.len ≡ most = ap (λ (k : Window). k.len) is in
-    let places : places_of f ≡ take most (places_of w) = ap places_of is ∙ places-part w most le in
-    record {
-      stored = stored ∙ ap (λ (ps : List Place). put_all a (zip ps bytes)) places ∙ ap (put_all a) (zip-front most (places_of w) bytes (omega (arith, fits, size)));
-      left = left ∙ ap (λ k. part_of w k (w.len - k)) count;
-      fits = omega (arith, fits, size, le);
+      stored = stored ∙ ap (λ (l : List Place). put_all a (zip l bytes)) is ∙ ap (put_all a) (zip-front most ps bytes (omega (arith, fits, count)));
+      left = left ∙ ap (λ k. drop k ps) (sym count);
+      fits = omega (arith, fits, count, le);
       shape = same;
     }
 
--- no bytes leave a window as it was
-pub none_left : (w : Window) (n : ℕ) → n ≡ 0 → w ≡ part_of w n (w.len - n)
-none_left w n none =
-    let at : w.offset + n ≡ w.offset = omega (arith, none) in
-    let long : w.len - n ≡ w.len = omega (arith, none) in
-    sym (rw (at, long) refl)
-
 -- what reads have put in in the end
-pub all_filled : {F : Type 0} (may : MayRead F) (f g : F) (a b : Host) (w v : Window) (got : List ℕ) (count off : ℕ) (answer : Result ℕ ℕ) → Fills a w got b v →
-    Filled may f (filling [] w) count off answer (filling got v) g →
-    (bytes : List ℕ) × Fills a w bytes b v × (w.len ≡ v.len + length bytes) × (filled (v.len ∷ []) ≡ past (length bytes) (filled (w.len ∷ [])))
-    × (sum (filled (w.len ∷ [])) ≡ w.len) × ReadsSegments may f (up_to count (filled (w.len ∷ []))) off bytes answer g
-all_filled may f g a b w v got count off answer fills t = (t.0, subst (λ (bytes : List ℕ). Fills a w bytes b v) t.1 fills, t.2, t.3, t.4, t.5)
-
--- what one call of a file is asked for
-pub once_in : {F : Type 0} (may : MayRead F) (f g : F) (v : Window) (count off : ℕ) (bytes : List ℕ) (answer : Result ℕ ℕ) → ReadsOnce may f (min count v.len) off bytes answer g →
-    ReadsOnce may f (min count (first (filled (v.len ∷ [])))) off bytes answer g
-once_in may f g v count off bytes answer once = subst (λ k. ReadsOnce may f (min count k) off bytes answer g) (sym (first_window v)) once
+pub all_filled : {F : Type 0} (may : MayRead F) (f g : F) (a b : Host) (r s : RoomLeft) (got : List ℕ) (count off : ℕ) (answer : Result ℕ ℕ) → Fills a r.places got b s.places →
+    Filled may f (filling [] r) count off answer (filling got s) g →
+    (bytes : List ℕ) × Fills a r.places bytes b s.places × (length r.places ≡ length s.places + length bytes) × (s.rooms ≡ past (length bytes) r.rooms)
+    × (sum r.rooms ≡ length r.places) × ReadsSegments may f (up_to count r.rooms) off bytes answer g
+all_filled may f g a b r s got count off answer fills t = (t.0, subst (λ (bytes : List ℕ). Fills a r.places bytes b s.places) t.1 fills, t.2, t.3, t.4, t.5)

@@ -1,2 +1,3 @@
 pub mod FillLemmas
 pub mod ApartLemmas
+pub mod BehindLemmas

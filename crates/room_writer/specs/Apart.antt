@@ -1,6 +1,7 @@
 -- Places that have no byte in common.
-use Rattle.std.specs.Prelude.{◌≡◌, List, [], ◌∷◌}
+use Rattle.std.specs.Prelude.{◌≡◌, ◌+◌, ◌||◌, ◌==◌, Bool, not, nat_le, List, [], ◌∷◌}
 use Rattle.vm_memory_core.specs.Host.{Place}
+use Rattle.vm_memory_core.specs.Window.{Window}
 
 -- no place of a list is the byte at this one
 abbrev pub IsApart : Place → List Place → Type 0
@@ -11,3 +12,8 @@ IsApart p (q ∷ qs) = (p.block ≡ q.block → p.offset ≡ q.offset → ⊥) �
 abbrev pub Apart : (first second : List Place) → Type 0
 Apart [] qs = Unit {0}
 Apart (p ∷ ps) qs = IsApart p qs × Apart ps qs
+
+-- whether windows are of different blocks, or one of them begins where the other has ended or further on: where both have a byte, they are apart if
+-- they are so, and only then
+abbrev pub are_apart : (first second : Window) → Bool
+are_apart w v = not (w.block == v.block) || (nat_le (w.offset + w.len) v.offset || nat_le (v.offset + v.len) w.offset)

@@ -1,19 +1,24 @@
--- Where what follows the first bytes of a room is one window.
-use Rattle.std.specs.Prelude.{ℕ, ◌+◌, ◌-◌, Bool, false, not, ◌&&◌, ◌||◌, ◌==◌, nat_le, List, [], ◌∷◌}
-use Rattle.vm_memory_core.specs.Window.{Window}
-use Rattle.vm_memory_core.specs.Parts.{part_of}
+-- What follows the first bytes of a room.
+use Rattle.std.specs.Prelude.{◌≡◌, ◌≤◌, ◌<◌, ℕ, List, length, min, take, drop}
+use Rattle.fuse_fs.specs.Lengths.{first}
+use Rattle.vm_memory_core.specs.Host.{Place}
+use Rattle.vm_memory_core.specs.Window.{Window, places_of}
+use Rattle.room_writer.specs.Apart.{Apart}
 
--- whether windows are of different blocks, or one of them begins where the other has ended or further on
-abbrev pub are_apart : (first second : Window) → Bool
-are_apart w v = not (w.block == v.block) || (nat_le (w.offset + w.len) v.offset || nat_le (v.offset + v.len) w.offset)
+-- a room has n places, and none of them is a byte that is behind them too
+pub record HasBehind (room : List Place) (n : ℕ) : Type 0 where
+  pub enough : n ≤ length room
+  pub apart : Apart (take n room) (drop n room)
 
--- what follows the first n bytes of a window that has them
-abbrev pub behind_first : Window → (n : ℕ) → Window
-behind_first w n = part_of w n (w.len - n)
+-- what is left of a room: its windows, the places in them that are left, in order, and how many of those each window has that has one
+pub record RoomLeft : Type 0 where
+  pub windows : List Window
+  pub places : List Place
+  pub rooms : List ℕ
 
--- whether what follows the first n bytes of one window, or of two that are joined, is in one window, and in none of those before it
-abbrev pub has_behind : List Window → (n : ℕ) → Bool
-has_behind [] n = false
-has_behind (w ∷ []) n = nat_le n w.len
-has_behind (front ∷ w ∷ []) n = nat_le front.len n && (nat_le (n - front.len) w.len && are_apart front (behind_first w (n - front.len)))
-has_behind (front ∷ w ∷ v ∷ more) n = false
+-- a window is the front of what is left: of the first window that has a place, all that is left of it or `most` bytes
+pub record Front (r : RoomLeft) (most : ℕ) (f : Window) : Type 0 where
+  pub places : places_of f ≡ take f.len r.places
+  pub len : f.len ≡ min most (first r.rooms)
+  pub some : 0 < first r.rooms
+  pub within : first r.rooms ≤ length r.places

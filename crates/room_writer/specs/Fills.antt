@@ -1,12 +1,11 @@
--- How a window of host memory is filled.
-use Rattle.std.specs.Prelude.{◌≡◌, ℕ, ◌-◌, ◌≤◌, List, length}
-use Rattle.vm_memory_core.specs.Host.{Host, shape}
-use Rattle.vm_memory_core.specs.Window.{Window, Stores, places_of}
-use Rattle.vm_memory_core.specs.Parts.{part_of}
+-- How a room in host memory is filled.
+use Rattle.std.specs.Prelude.{◌≡◌, ℕ, ◌≤◌, List, length, drop}
+use Rattle.vm_memory_core.specs.Host.{Host, Place, shape}
+use Rattle.vm_memory_core.specs.Window.{Stores}
 
--- these bytes were stored at the first places of a window, and what follows them is left of it
-pub record Fills (old : Host) (window : Window) (bytes : List ℕ) (new : Host) (rest : Window) : Type 0 where
-  pub stored : Stores old new (places_of window) bytes
-  pub left : rest ≡ part_of window (length bytes) (window.len - length bytes)
-  pub fits : length bytes ≤ window.len
+-- these bytes were stored at the first places of a room, in order, and the places that follow are left of it
+pub record Fills (old : Host) (room : List Place) (bytes : List ℕ) (new : Host) (rest : List Place) : Type 0 where
+  pub stored : Stores old new room bytes
+  pub left : rest ≡ drop (length bytes) room
+  pub fits : length bytes ≤ length room
   pub shape : shape new ≡ shape old

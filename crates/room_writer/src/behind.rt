@@ -1,76 +1,144 @@
-//! What stands behind the first bytes of a room, where it is one window.
+//! What follows the first bytes of a room, where these are apart from it.
 
-ghost use Rattle.std.specs.Prelude.{◌≡◌, ℕ, ◌≤◌, ◌∷◌, [], List, IfSome, IsTrue, drop, is_some, length, nat_le, take};
-ghost use Rattle.vm_memory_core.specs.Window.{AllLieIn, LiesIn, places, places_of};
-ghost use Rattle.room_writer.specs.Apart.{Apart};
-ghost use Rattle.room_writer.specs.Behind.{are_apart, behind_first, has_behind};
+ghost use Rattle.std.specs.Prelude.{◌≡◌, ◌↔◌, ℕ, ◌<◌, ◌≤◌, ◌+◌, ◌∷◌, List, IfSome, IsSome, IsTrue, drop, length, map, sum, take};
+ghost use Rattle.fuse_fs.specs.Lengths.{filled, past};
+ghost use Rattle.vm_memory_core.specs.Window.{AllLieIn, LiesIn, Window, places, places_of};
+ghost use Rattle.room_writer.specs.Apart.{Apart, are_apart};
+ghost use Rattle.room_writer.specs.Behind.{Front, HasBehind};
 
+use crate::room_left::RoomLeft;
 use vm_memory_core::VolatileSlice;
 
-// Whether windows are of different blocks, or one of them behind the other: then they have no byte in common.
-#[tactic(auto, using(crate::proofs::ApartLemmas::windows_apart))]
-fn are_apart(first: &VolatileSlice, second: &VolatileSlice) -> bool
-    ensures test { result ≡ are_apart first.now second.now }
-    ensures apart { IsTrue result → Apart (places_of first.now) (places_of second.now) }
+// The window in which a byte is that is counted from the beginning of one of them, and where it is there.
+fn window_at(windows: &[VolatileSlice], index: usize, at: usize) -> (usize, usize)
+    requires { at < length (places (drop index windows.now)) }
+    ensures within { (w : Window) → drop result.0 windows.now ≡ w ∷ drop (result.0 + 1) windows.now → result.1 < w.len }
+    ensures there { result.0 < length windows.now }
+    ensures before { result.1 ≤ at }
+    ensures places { drop result.1 (places (drop result.0 windows.now)) ≡ drop at (places (drop index windows.now)) }
+    ensures rooms { past result.1 (filled (map (λ w. w.len) (drop result.0 windows.now))) ≡ past at (filled (map (λ w. w.len) (drop index windows.now))) }
 {
-    let first_end = first.block_offset() + first.len();
-    let second_end = second.block_offset() + second.len();
-    first.block() != second.block()
-        || first_end <= second.block_offset()
-        || second_end <= first.block_offset()
+    let mut i = index;
+    let mut rest = at;
+    while rest >= windows[i].len() {
+        rest -= windows[i].len();
+        i += 1;
+    }
+    (i, rest)
 }
 
-// What follows the first `count` bytes of a window; None where it has fewer.
-fn behind_in(window: &VolatileSlice, count: usize) -> Option<VolatileSlice>
-    ensures some { is_some result ≡ nat_le count window.now.len }
-    ensures window { IfSome result (λ w. w ≡ behind_first window.now count) }
-    ensures count { IfSome result (λ w. count ≤ length (places_of window.now)) }
-    ensures places { IfSome result (λ w. places_of w ≡ drop count (places_of window.now)) }
-    ensures apart { IfSome result (λ w. Apart (take count (places_of window.now)) (places_of w)) }
-    ensures lies { IfSome result (λ w. (lengths : List ℕ) → LiesIn lengths window.now → LiesIn lengths w) }
-{
-    match window.offset(count) {
-        Ok(behind) => Some(behind),
-        Err(_) => None,
+impl<'a> RoomLeft<'a> {
+    // What follows the first bytes of a room, where it has as many; its length in bytes is told.
+    fn behind(windows: &'a [VolatileSlice], len: usize, count: usize) -> RoomLeft<'a>
+        requires counted { len ≡ length (places windows.now) }
+        requires enough { count ≤ len }
+        ensures windows { result.windows ≡ windows.now }
+        ensures places { result.places ≡ drop count (places windows.now) }
+    {
+        RoomLeft {
+            windows,
+            index: 0,
+            at: count,
+            len: len - count,
+        }
+    }
+
+    /// How many bytes are left.
+    pub fn len(&self) -> usize
+        ensures len { result ≡ length self.now.places }
+        ensures rooms { (sum self.now.rooms ≡ length self.now.places) × (filled self.now.rooms ≡ self.now.rooms) }
+    {
+        self.len
+    }
+
+    // The first bytes that are left, in the first window that has one: all that it has, or `most` of them.
+    pub(crate) fn front(&mut self, most: usize) -> VolatileSlice
+        requires { 0 < length self.old.places }
+        ensures same { self.new ≡ self.old }
+        ensures front { Front self.old most result }
+        ensures lies { (lengths : List ℕ) → AllLieIn lengths self.old.windows → LiesIn lengths result }
+    {
+        let (index, at) = window_at(self.windows, self.index, self.at);
+        self.index = index;
+        self.at = at;
+        let window = self.windows[index];
+        window.subslice(at, most.min(window.len() - at)).unwrap()
+    }
+
+    // Leaves out the first bytes.
+    pub(crate) fn advance(&mut self, count: usize)
+        requires { count ≤ length self.old.places }
+        ensures windows { self.new.windows ≡ self.old.windows }
+        ensures places { self.new.places ≡ drop count self.old.places }
+        ensures rooms { self.new.rooms ≡ past count self.old.rooms }
+    {
+        self.at += count;
+        self.len -= count;
     }
 }
 
-// What follows the first `count` bytes of two windows, joined, where it is in the second and apart from the first.
-fn behind_in_second(
-    front: &VolatileSlice,
-    window: &VolatileSlice,
+// Whether two windows are of different blocks, or one of them ends before the other begins.
+fn are_apart(one: &VolatileSlice, other: &VolatileSlice) -> bool
+    ensures { result ≡ are_apart one.now other.now }
+{
+    let one_end = one.block_offset() + one.len();
+    let other_end = other.block_offset() + other.len();
+    one.block() != other.block()
+        || one_end <= other.block_offset()
+        || other_end <= one.block_offset()
+}
+
+// Whether a window has no byte in common with the room that follows the first bytes of some windows.
+fn is_apart(window: &VolatileSlice, windows: &[VolatileSlice], len: usize, count: usize) -> bool
+    requires some { 0 < window.now.len }
+    requires counted { len ≡ length (places windows.now) }
+    requires enough { count ≤ len }
+    ensures { IsTrue result ↔ Apart (places_of window.now) (drop count (places windows.now)) }
+{
+    let mut rest = RoomLeft::behind(windows, len, count);
+    while rest.len() > 0 {
+        let part = rest.front(usize::MAX);
+        if !are_apart(window, &part) {
+            return false;
+        }
+        rest.advance(part.len());
+    }
+    true
+}
+
+// Whether the first bytes of some windows, joined, have none in common with those that follow.
+fn front_is_apart(windows: &[VolatileSlice], len: usize, count: usize) -> bool
+    requires counted { len ≡ length (places windows.now) }
+    requires enough { count ≤ len }
+    ensures { IsTrue result ↔ Apart (take count (places windows.now)) (drop count (places windows.now)) }
+{
+    let mut front = RoomLeft::behind(windows, len, 0);
+    let mut left = count;
+    while left > 0 {
+        let part = front.front(left);
+        if !is_apart(&part, windows, len, count) {
+            return false;
+        }
+        front.advance(part.len());
+        left -= part.len();
+    }
+    true
+}
+
+/// What follows the first `count` bytes of a room of `len` bytes, where none of its bytes is one of those; else None.
+pub fn room_behind<'a>(
+    windows: &'a [VolatileSlice],
+    len: usize,
     count: usize,
-) -> Option<VolatileSlice>
-    ensures some { is_some result ≡ has_behind (front.now ∷ window.now ∷ []) count }
-    ensures count { IfSome result (λ w. count ≤ length (places (front.now ∷ window.now ∷ []))) }
-    ensures places { IfSome result (λ w. places_of w ≡ drop count (places (front.now ∷ window.now ∷ []))) }
-    ensures apart { IfSome result (λ w. Apart (take count (places (front.now ∷ window.now ∷ []))) (places_of w)) }
-    ensures lies { IfSome result (λ w. (lengths : List ℕ) → LiesIn lengths window.now → LiesIn lengths w) }
+) -> Option<RoomLeft<'a>>
+    requires { len ≡ length (places windows.now) }
+    ensures some { IsSome result ↔ HasBehind (places windows.now) count }
+    ensures windows { IfSome result (λ r. r.windows ≡ windows.now) }
+    ensures places { IfSome result (λ r. r.places ≡ drop count (places windows.now)) }
 {
-    if front.len() > count {
-        return None;
-    }
-    let behind = behind_in(window, count - front.len())?;
-    if are_apart(front, &behind) {
-        Some(behind)
+    if count <= len && front_is_apart(windows, len, count) {
+        Some(RoomLeft::behind(windows, len, count))
     } else {
         None
-    }
-}
-
-/// What follows the first `count` bytes of one window or two, joined, where it is one window that has no byte in common
-/// with those; else None.
-#[tactic(auto, unfolding(vm_memory_core::specs::Window::AllLieIn))]
-pub fn window_behind(windows: &[VolatileSlice], count: usize) -> Option<VolatileSlice>
-    ensures some { is_some result ≡ has_behind windows.now count }
-    ensures count { IfSome result (λ w. count ≤ length (places windows.now)) }
-    ensures places { IfSome result (λ w. places_of w ≡ drop count (places windows.now)) }
-    ensures apart { IfSome result (λ w. Apart (take count (places windows.now)) (places_of w)) }
-    ensures lies { IfSome result (λ w. (lengths : List ℕ) → AllLieIn lengths windows.now → LiesIn lengths w) }
-{
-    match windows.len() {
-        1 => behind_in(&windows[0], count),
-        2 => behind_in_second(&windows[0], &windows[1], count),
-        _ => None,
     }
 }

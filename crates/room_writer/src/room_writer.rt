@@ -1,57 +1,62 @@
-//! A window of host memory that files fill.
+//! A room in host memory that files fill.
 
-ghost use Rattle.std.specs.Prelude.{◌≡◌, ℕ, List, min};
+ghost use Rattle.std.specs.Prelude.{◌≡◌, ℕ, All, List, length, min};
+ghost use Rattle.std.proofs.Props.{props};
+ghost use Rattle.fuse_fs.specs.Lengths.{first, past};
 ghost use Rattle.fuse_fs.specs.Transfers.{ReadsOnce};
 ghost use Rattle.vm_memory_core.specs.Host.{lengths};
 ghost use Rattle.vm_memory_core.specs.Window.{LiesIn};
 ghost use Rattle.room_writer.specs.Fills.{Fills};
 
+use crate::room_left::RoomLeft;
 use crate::source::read_to_window;
 use fuse_base::Errno;
 use fuse_fs::{PositionedFile, ZeroCopyWriter};
-use vm_memory_core::{HostBlocks, VolatileSlice};
+use vm_memory_core::HostBlocks;
 
-/// A window of host memory, of which files fill one place after another: what is left of it. It isn't dropped but
-/// ended: so who lent the memory knows what stands there.
-pub struct RoomWriter<'a, H: HostBlocks> {
+/// A room in host memory, of which files fill one place after another: a file is asked for one window after another. It
+/// isn't dropped but ended: so who lent the memory knows what stands there.
+pub struct RoomWriter<'a, 'b, 'c, H: HostBlocks> {
     pub host: &'a mut H,
     /// The places that are free.
-    pub window: VolatileSlice,
-    pub ghost lies: { LiesIn (lengths (H.host host.now)) window },
+    pub room: &'b mut RoomLeft<'c>,
+    pub ghost lies: { All (LiesIn (lengths (H.host host.now))) room.now.windows } by { Prim.hlevel props },
 }
 
-impl<'a, H: HostBlocks> RoomWriter<'a, H> {
+impl<'a, 'b, 'c, H: HostBlocks> RoomWriter<'a, 'b, 'c, H> {
     /// The end of the loan: what stands in the memory now is what its lender finds.
     pub fn end(self)
         ensures { self.exit.0.now ≡ self.entry.host.now }
     {
         let RoomWriter {
             host: _host,
-            window: _window,
+            room: _room,
         } = self;
     }
 
-    // Puts in what one call of a file reads, at most `count` bytes; no call is made where there is no room or `count` is
-    // 0.
+    // Puts in what one call of a file reads, at most `count` bytes, in the first window that has room; no call is made
+    // where there is no room or `count` is 0.
+    #[tactic(auto, unfolding(vm_memory_core::specs::Window::AllLieIn))]
     fn read_once<F: PositionedFile>(
         &mut self,
         file: &mut F,
         count: usize,
         off: u64,
     ) -> Result<usize, Errno>
-        ensures once { (bytes : List ℕ) × Fills (H.host self.old.host.now) self.old.window bytes (H.host self.new.host.now) self.new.window
-            × ReadsOnce F.read_gives file.old (min count self.old.window.len) off bytes result file.new }
+        ensures once { (bytes : List ℕ) × Fills (H.host self.old.host.now) self.old.room.now.places bytes (H.host self.new.host.now) self.new.room.now.places
+            × (self.new.room.now.rooms ≡ past (length bytes) self.old.room.now.rooms)
+            × ReadsOnce F.read_gives file.old (min count (first self.old.room.now.rooms)) off bytes result file.new }
         ensures name { self.new.host.ghost_name ≡ self.old.host.ghost_name }
         ensures loan { H.IsSameLoan self.old.host.now self.new.host.now }
     {
-        let most = count.min(self.window.len());
+        let most = count.min(self.room.len());
         if most == 0 {
             return Ok(0);
         }
-        let front = self.window.subslice(0, most).unwrap();
+        let front = self.room.front(count);
         match read_to_window(&mut *self.host, front, file, off) {
             Ok(n) => {
-                self.window = self.window.offset(n).unwrap();
+                self.room.advance(n);
                 Ok(n)
             }
             Err(error) => Err(error),
@@ -59,29 +64,28 @@ impl<'a, H: HostBlocks> RoomWriter<'a, H> {
     }
 }
 
-impl<'a, H: HostBlocks> ZeroCopyWriter for RoomWriter<'a, H> {
-    ghost use Rattle.std.specs.Prelude.{◌∷◌, [], refl};
+impl<'a, 'b, 'c, H: HostBlocks> ZeroCopyWriter for RoomWriter<'a, 'b, 'c, H> {
+    ghost use Rattle.std.specs.Prelude.{refl, length};
     ghost use Rattle.std.proofs.Common.{◌∙◌};
-    ghost use Rattle.fuse_fs.specs.Lengths.{filled};
     ghost use Rattle.room_writer.specs.FillsLaws.{fills_more, fills_none};
 
-    ghost Puts = { λ old bytes new. Fills (H.host old.host.now) old.window bytes (H.host new.host.now) new.window
+    ghost Puts = { λ old bytes new. Fills (H.host old.host.now) old.room.now.places bytes (H.host new.host.now) new.room.now.places
         × (new.host.ghost_name ≡ old.host.ghost_name) × H.IsSameLoan old.host.now new.host.now };
 
-    ghost room = { λ w. w.window.len };
+    ghost room = { λ w. length w.room.now.places };
 
-    ghost rooms = { λ w. filled (w.window.len ∷ []) };
+    ghost rooms = { λ w. w.room.now.rooms };
 
-    ghost puts_none = { λ w. (fills_none (H.host w.host.now) w.window, refl, H.reflexive w.host.now) };
+    ghost puts_none = { λ w. (fills_none (H.host w.host.now) w.room.now.places, refl, H.reflexive w.host.now) };
 
     ghost puts_more = { λ a b c xs ys first second. (
-      fills_more (H.host a.host.now) (H.host b.host.now) (H.host c.host.now) a.window b.window c.window xs ys first.0 second.0,
+      fills_more (H.host a.host.now) (H.host b.host.now) (H.host c.host.now) a.room.now.places b.room.now.places c.room.now.places xs ys first.0 second.0,
       second.1 ∙ first.1,
       H.composes a.host.now b.host.now c.host.now first.2 second.2,
     ) };
 
     fn available_bytes(&self) -> usize {
-        self.window.len()
+        self.room.len()
     }
 
     fn read_from_file_at<F: PositionedFile>(
@@ -90,7 +94,7 @@ impl<'a, H: HostBlocks> ZeroCopyWriter for RoomWriter<'a, H> {
         count: usize,
         off: u64,
     ) -> Result<usize, Errno> {
-        let most = count.min(self.window.len());
+        let most = count.min(self.room.len());
         let mut done = 0;
         while done < most {
             let Some(place) = off.checked_add(done as u64) else {

@@ -3,11 +3,11 @@ use Rattle.std.proofs.Common.{◌≡◌, ℕ, ◌*◌, ◌<◌, ◌≤◌, ◌^�
 use Rattle.std.specs.Prelude.{nat_le}
 use Rattle.std.proofs.lemmas.Bool.Decides.{nat_tests}
 use Rattle.fuse_in.specs.Records.{batch_forget_in}
-use Rattle.fuse_segments.specs.declared.error.Error.{Error}
-use Rattle.fuse_requests.specs.Reading.{Faults, many, reading_of}
-use Rattle.fuse_requests.specs.Fronts.{forget_pair}
-use Rattle.fuse_calls.specs.Requests.{batch_forget_call}
-use Rattle.fuse_replies.specs.WholeReplies.{error_bytes}
+use Rattle.server_segments.specs.declared.error.Error.{Error}
+use Rattle.server_requests.specs.Reading.{Faults, many, reading_of}
+use Rattle.server_requests.specs.Fronts.{forget_pair}
+use Rattle.server_calls.specs.Requests.{batch_forget_call}
+use Rattle.server_replies.specs.WholeReplies.{error_bytes}
 use Rattle.virtiofsd_fuse.specs.Grammar.{IsFault, Replies, Asks, One, Given, ended, forgets_asked, batch_forget_row}
 
 -- a BATCH_FORGET, by how many pairs it says

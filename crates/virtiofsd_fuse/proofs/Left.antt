@@ -5,12 +5,12 @@ use Rattle.fuse_in.specs.declared.session.InHeader.{InHeader}
 use Rattle.fuse_in.specs.Records.{in_header}
 use Rattle.fuse_fs.specs.Lengths.{past}
 use Rattle.fuse_fs.specs.Calls.{FileCall, Extra}
-use Rattle.fuse_segments.specs.Errors.{is_memory}
-use Rattle.fuse_segments.specs.declared.error.Error.{Error}
-use Rattle.fuse_segments.specs.ReaderAndWriter.{ReaderView, WriterView}
-use Rattle.fuse_requests.specs.Reading.{reading_of}
-use Rattle.fuse_calls.specs.Requests.{has_security, owns_memory}
-use Rattle.fuse_replies.specs.WholeReplies.{LeavesWriter}
+use Rattle.server_segments.specs.Errors.{is_memory}
+use Rattle.server_segments.specs.declared.error.Error.{Error}
+use Rattle.server_segments.specs.ReaderAndWriter.{ReaderView, WriterView}
+use Rattle.server_requests.specs.Reading.{reading_of}
+use Rattle.server_calls.specs.Requests.{has_security, owns_memory}
+use Rattle.server_replies.specs.WholeReplies.{LeavesWriter}
 use Rattle.virtiofsd_fuse.specs.Grammar.{Meaning, Asks, One, given}
 use Rattle.virtiofsd_fuse.specs.WantOfMemory.{meaning_owns, body_takes_memory, may_take_memory}
 

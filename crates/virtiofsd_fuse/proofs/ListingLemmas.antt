@@ -4,7 +4,7 @@ use Rattle.std.specs.Prelude.{IsTrue, OnOk, OnErr, slice_get}
 use Rattle.fuse_fs.specs.declared.answers.Entry.{Entry}
 use Rattle.fuse_fs.specs.Calls.{FileCall, FileAnswer, FileRun, Listed, Lookup, HasEntry, Failed, suits}
 use Rattle.virtiofsd_fuse.specs.Listings.{Listing, Went, Next, undo_call, after_call, with_entry, list_entries}
-use Rattle.fuse_replies.specs.Entries.{Fit, GoesIn, IsFull, IsWrong, entry_len, entry_bytes, fit_of, is_dot, no_node, AfterEntry, after_entry}
+use Rattle.server_replies.specs.Entries.{Fit, GoesIn, IsFull, IsWrong, entry_len, entry_bytes, fit_of, is_dot, no_node, AfterEntry, after_entry}
 use Rattle.virtiofsd_fuse.specs.ListingRuns.{ListRun, EntryRun}
 use Rattle.virtiofsd_fuse.specs.Serving.{May}
 

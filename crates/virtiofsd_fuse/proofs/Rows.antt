@@ -15,21 +15,21 @@ use Rattle.fuse_wire.specs.Opcodes.{opcode_of}
 use Rattle.fuse_fs.specs.Answers.{data_answer, written_answer}
 use Rattle.fuse_fs.specs.Calls.{FileCall, suits, Failed}
 use Rattle.fuse_fs.specs.Transfers.{moved}
-use Rattle.fuse_requests.specs.Reading.{Reading, ◌>>◌, Faults, Sends, and_then, within, value_of, reading_of, last_name}
+use Rattle.server_requests.specs.Reading.{Reading, ◌>>◌, Faults, Sends, and_then, within, value_of, reading_of, last_name}
 use Rattle.virtiofsd_fuse.specs.Grammar.{IsFault, Replies, Asks, One, Starts, Given, given, one, row, row_of, meant, meaning, record_row, name_row, bytes_row, ended}
-use Rattle.fuse_requests.specs.Fronts.{counted, flags2_of}
-use Rattle.fuse_replies.specs.WholeReplies.{error_bytes, reply_bytes, versions_bytes, with_written, whole_or_none, data_reply, listing_answer, listing_bytes, data_header}
+use Rattle.server_requests.specs.Fronts.{counted, flags2_of}
+use Rattle.server_replies.specs.WholeReplies.{error_bytes, reply_bytes, versions_bytes, with_written, whole_or_none, data_reply, listing_answer, listing_bytes, data_header}
 use Rattle.virtiofsd_fuse.specs.Grammar.{started, known_options, read_asked, read_row, init_row, ENOMEM}
 use Rattle.virtiofsd_fuse.specs.Grammar.{at_most_a_mebibyte, listxattr_row, Lists, write_row, listing_asked, listing_row, symlink_row}
-use Rattle.fuse_calls.specs.Requests.{read_call, listxattr_call, write_call, symlink_call}
+use Rattle.server_calls.specs.Requests.{read_call, listxattr_call, write_call, symlink_call}
 use Rattle.virtiofsd_fuse.specs.Listings.{listing_of, Listing, readdir_call}
 use Rattle.virtiofsd_fuse.specs.Serving.{answer_bytes}
 use Rattle.fuse_in.specs.declared.files.WriteIn.{WriteIn}
-use Rattle.fuse_requests.specs.Extras.{new_link}
-use Rattle.fuse_segments.specs.declared.error.Error.{Error}
-use Rattle.fuse_segments.specs.declared.error.Error.TheVariants.{DecodeMessage, EncodeMessage}
+use Rattle.server_requests.specs.Extras.{new_link}
+use Rattle.server_segments.specs.declared.error.Error.{Error}
+use Rattle.server_segments.specs.declared.error.Error.TheVariants.{DecodeMessage, EncodeMessage}
 use Rattle.std.proofs.lemmas.List.{append-nil, drop_at, nil_from_length}
-use Rattle.fuse_replies.proofs.ReplyLemmas.{sent_fits, length_reply, length_error}
+use Rattle.server_replies.proofs.ReplyLemmas.{sent_fits, length_reply, length_error}
 use Rattle.virtiofsd_fuse.proofs.Serve.{ask_of, ended_parts, ended_fault}
 
 pub meant_long : (g : Given) (bytes : List ℕ) → 0x101000 < g.header.len → meant g bytes ≡ Replies (error_bytes g.header.unique 12)

@@ -4,17 +4,17 @@ use Rattle.std.proofs.lemmas.Bool.Decides.{nat_tests}
 use Rattle.std.specs.Prelude.{IsTrue, OnOk, nat_lt, ◌-◌, Option}
 use Rattle.fuse_fs.specs.Calls.{FileCall, FileAnswer, FileRun, suits, Init, Listed, Failed, Done, HasEntry, HasAttr, Opened, Created, Bytes, Count, Stats, Wrote, Offset, Entries}
 use Rattle.fuse_fs.specs.Calls.{Wants}
-use Rattle.fuse_requests.specs.Reading.{ReadFailure, Faults, Read, Reading, and_then, value_of, within}
+use Rattle.server_requests.specs.Reading.{ReadFailure, Faults, Read, Reading, and_then, value_of, within}
 use Rattle.virtiofsd_fuse.specs.Grammar.{Meaning, IsFault, Replies, IsSilent, Asks, One, Starts, refused, ended, Lists}
-use Rattle.fuse_replies.specs.WholeReplies.{error_bytes, with_written, whole_or_none, listing_bytes}
+use Rattle.server_replies.specs.WholeReplies.{error_bytes, with_written, whole_or_none, listing_bytes}
 use Rattle.virtiofsd_fuse.specs.Listings.{Listing, readdir_call}
 use Rattle.virtiofsd_fuse.specs.ListingRuns.{ListRun}
 use Rattle.virtiofsd_fuse.specs.Serving.{Served, served, Setting, Serves, Handles, served_of, replied, no_reply, answer_bytes, start_options, undone, all_done}
-use Rattle.fuse_calls.specs.Requests.{options_after, given_back}
+use Rattle.server_calls.specs.Requests.{options_after, given_back}
 use Rattle.virtiofsd_fuse.specs.Serving.{start_answered, lacks_memory, list_ended, list_answered}
-use Rattle.fuse_segments.specs.Errors.{is_memory}
-use Rattle.fuse_segments.specs.declared.error.Error.{Error}
-use Rattle.fuse_segments.specs.declared.error.Error.TheVariants.{EncodeMessage}
+use Rattle.server_segments.specs.Errors.{is_memory}
+use Rattle.server_segments.specs.declared.error.Error.{Error}
+use Rattle.server_segments.specs.declared.error.Error.TheVariants.{EncodeMessage}
 
 told_by : (t : Bool) (calls : List FileCall) (options : ℕ) (bytes : List ℕ) (result : Result ℕ Error) (written : List ℕ) → with_written result written ≡ cond t (Err EncodeMessage) (Ok bytes)
     → cond t (no_reply calls options (Some EncodeMessage)) (record { calls = calls; options = options; reply = bytes; fault = None }) ≡ served_of calls options result written

@@ -5,14 +5,14 @@ use Rattle.vm_values.specs.Fields.{field_bytes}
 use Rattle.fuse_fs.specs.declared.answers.Context.{Context}
 use Rattle.fuse_fs.specs.declared.answers.Entry.{Entry}
 use Rattle.fuse_fs.specs.Calls.{FileAnswer, Lookup, Forget, Getattr, Mkdir, Create, Release, Rename, Wants, Listed, Readdir, Entries, HasEntry, Created, Done}
-use Rattle.fuse_segments.specs.declared.error.Error.TheVariants.{DecodeMessage, EncodeMessage, InvalidHeaderLength, InvalidXattrSize, MissingExtension}
-use Rattle.fuse_requests.specs.Reading.{reading_of, last_name, two_names, name_and_value, front_name}
-use Rattle.fuse_requests.specs.Extras.{one_group, part, extension, extensions, extra_in, new_name}
+use Rattle.server_segments.specs.declared.error.Error.TheVariants.{DecodeMessage, EncodeMessage, InvalidHeaderLength, InvalidXattrSize, MissingExtension}
+use Rattle.server_requests.specs.Reading.{reading_of, last_name, two_names, name_and_value, front_name}
+use Rattle.server_requests.specs.Extras.{one_group, part, extension, extensions, extra_in, new_name}
 use Rattle.virtiofsd_fuse.specs.Grammar.{meaning, meant, row, IsFault, Asks, One}
-use Rattle.fuse_requests.specs.Fronts.{counted, with_bytes, setxattr_front}
-use Rattle.fuse_replies.specs.WholeReplies.{error_bytes, reply_bytes, versions_bytes, started_bytes}
+use Rattle.server_requests.specs.Fronts.{counted, with_bytes, setxattr_front}
+use Rattle.server_replies.specs.WholeReplies.{error_bytes, reply_bytes, versions_bytes, started_bytes}
 use Rattle.virtiofsd_fuse.specs.Listings.{list_entries}
-use Rattle.fuse_replies.specs.Entries.{entry_len, fit_of, GoesIn, IsWrong, dirent_bytes, node_bytes, no_node}
+use Rattle.server_replies.specs.Entries.{entry_len, fit_of, GoesIn, IsWrong, dirent_bytes, node_bytes, no_node}
 use Rattle.virtiofsd_fuse.specs.Serving.{Served, served, setting}
 
 -- who asks: nobody in particular

@@ -1,10 +1,10 @@
 -- Requests that take memory, and requests that don't, worked out.
 use Rattle.std.specs.Prelude.{◌≡◌, ℕ, ◌^◌, true, false, List, [], ◌∷◌, ◌++◌, refl}
 use Rattle.fuse_fs.specs.Lengths.{past}
-use Rattle.fuse_segments.specs.ReaderAndWriter.{ReaderView}
-use Rattle.fuse_requests.specs.Reading.{reading_of, many, front_name}
-use Rattle.fuse_requests.specs.Fronts.{counted, with_bytes}
-use Rattle.fuse_requests.specs.Extras.{security_context, part, extension, extensions, extra_in, new_name}
+use Rattle.server_segments.specs.ReaderAndWriter.{ReaderView}
+use Rattle.server_requests.specs.Reading.{reading_of, many, front_name}
+use Rattle.server_requests.specs.Fronts.{counted, with_bytes}
+use Rattle.server_requests.specs.Extras.{security_context, part, extension, extensions, extra_in, new_name}
 use Rattle.virtiofsd_fuse.specs.Grammar.{row}
 use Rattle.virtiofsd_fuse.specs.WantOfMemory.{may_take_memory}
 use Rattle.virtiofsd_fuse.specs.Examples.{in_header_bytes, le32, le64}

@@ -11,18 +11,18 @@ use Rattle.fuse_in.specs.Records.{batch_forget_in, write_in, mknod_in, mkdir_in,
 use Rattle.fuse_wire.specs.declared.opcodes.Opcode.{Opcode}
 use Rattle.fuse_wire.specs.declared.opcodes.Opcode.TheVariants as op
 use Rattle.fuse_wire.specs.Opcodes.{opcode_of}
-use Rattle.fuse_requests.specs.Extras.{new_name, new_link}
+use Rattle.server_requests.specs.Extras.{new_name, new_link}
 use Rattle.fuse_fs.specs.Calls.{FileCall, Extra, Destroy, Getlk, Setlk, Setlkw, Bmap, Ioctl, Poll, NotifyReply, TmpFile}
-use Rattle.fuse_segments.specs.declared.error.Error.{Error}
-use Rattle.fuse_segments.specs.declared.error.Error.TheVariants.{DecodeMessage, EncodeMessage}
-use Rattle.fuse_requests.specs.Reading.{ReadFailure, Faults, Sends, Reading, ◌>>=◌, ◌>>◌, give, refuse, needs, reading_of, within, last_name, two_names, name_and_value, rest, many}
-use Rattle.fuse_calls.specs.Requests.{lookup_call, forget_call, getattr_call, setattr_call, readlink_call, unlink_call, rmdir_call, open_call, statfs_call, release_call}
-use Rattle.fuse_calls.specs.Requests.{fsync_call, fsyncdir_call, removexattr_call, flush_call, opendir_call, releasedir_call, access_call, fallocate_call, lseek_call}
-use Rattle.fuse_calls.specs.Requests.{copy_file_range_call, syncfs_call, read_call, link_call, rename_call, rename2_call, setxattr_call, getxattr_call, listxattr_call}
-use Rattle.fuse_calls.specs.Requests.{write_call, batch_forget_call, symlink_call, mknod_call, mkdir_call, create_call}
-use Rattle.fuse_requests.specs.Fronts.{counted, with_bytes, setxattr_front, forget_pair, flags2_of}
-use Rattle.fuse_replies.specs.WholeReplies.{versions_bytes}
-unfoldable pub use Rattle.fuse_replies.specs.WholeReplies.{reply_bytes, error_bytes}
+use Rattle.server_segments.specs.declared.error.Error.{Error}
+use Rattle.server_segments.specs.declared.error.Error.TheVariants.{DecodeMessage, EncodeMessage}
+use Rattle.server_requests.specs.Reading.{ReadFailure, Faults, Sends, Reading, ◌>>=◌, ◌>>◌, give, refuse, needs, reading_of, within, last_name, two_names, name_and_value, rest, many}
+use Rattle.server_calls.specs.Requests.{lookup_call, forget_call, getattr_call, setattr_call, readlink_call, unlink_call, rmdir_call, open_call, statfs_call, release_call}
+use Rattle.server_calls.specs.Requests.{fsync_call, fsyncdir_call, removexattr_call, flush_call, opendir_call, releasedir_call, access_call, fallocate_call, lseek_call}
+use Rattle.server_calls.specs.Requests.{copy_file_range_call, syncfs_call, read_call, link_call, rename_call, rename2_call, setxattr_call, getxattr_call, listxattr_call}
+use Rattle.server_calls.specs.Requests.{write_call, batch_forget_call, symlink_call, mknod_call, mkdir_call, create_call}
+use Rattle.server_requests.specs.Fronts.{counted, with_bytes, setxattr_front, forget_pair, flags2_of}
+use Rattle.server_replies.specs.WholeReplies.{versions_bytes}
+unfoldable pub use Rattle.server_replies.specs.WholeReplies.{reply_bytes, error_bytes}
 use Rattle.virtiofsd_fuse.specs.Listings.{Listing, listing_of}
 
 -- a file command: one call, INIT, or a listing

@@ -7,3 +7,4 @@ pub mod Listings
 pub mod WantOfMemory
 pub mod Serving
 pub mod ReadApart
+pub mod DataApart

@@ -1,7 +1,7 @@
 -- Listings with the calls of the file system that come with them.
 use Rattle.std.specs.Prelude.{◌≡◌, ℕ, List, ◌∷◌, ◌++◌, map, Option, Ok, Err}
 use Rattle.fuse_fs.specs.Calls.{FileCall, FileAnswer, FileRun, Listed}
-use Rattle.fuse_replies.specs.Entries.{AfterEntry}
+use Rattle.server_replies.specs.Entries.{AfterEntry}
 use Rattle.virtiofsd_fuse.specs.Listings.{Listing, list_entries}
 use Rattle.virtiofsd_fuse.specs.Serving.{May}
 

@@ -6,7 +6,7 @@ use Rattle.fuse_fs.specs.declared.answers.Context.{Context}
 use Rattle.fuse_fs.specs.declared.answers.Entry.{Entry}
 use Rattle.fuse_fs.specs.Answers.{context_of}
 use Rattle.fuse_fs.specs.Calls.{FileCall, FileAnswer, Listed, Lookup, Forget, Readdir, HasEntry, Failed}
-use Rattle.fuse_replies.specs.Entries.{entry_len, entry_bytes, Fit, GoesIn, IsFull, IsWrong, fit_of, is_dot, no_node}
+use Rattle.server_replies.specs.Entries.{entry_len, entry_bytes, Fit, GoesIn, IsFull, IsWrong, fit_of, is_dot, no_node}
 
 -- which entries are asked for, and whether each comes with its node
 pub record Listing : Type 0 where

@@ -4,9 +4,9 @@ use Rattle.fuse_in.specs.Records.{in_header, read_in}
 use Rattle.fuse_wire.specs.declared.opcodes.Opcode.{Opcode}
 use Rattle.fuse_wire.specs.declared.opcodes.Opcode.TheVariants as op
 use Rattle.fuse_wire.specs.Opcodes.{opcode_of}
-use Rattle.fuse_segments.specs.declared.error.Error.TheVariants.{DecodeMessage}
-use Rattle.fuse_requests.specs.Reading.{Reading, Faults, ◌>>=◌, ◌>>◌, give, needs, reading_of}
-use Rattle.fuse_calls.specs.Requests.{read_call}
+use Rattle.server_segments.specs.declared.error.Error.TheVariants.{DecodeMessage}
+use Rattle.server_requests.specs.Reading.{Reading, Faults, ◌>>=◌, ◌>>◌, give, needs, reading_of}
+use Rattle.server_calls.specs.Requests.{read_call}
 use Rattle.virtiofsd_fuse.specs.declared.reads.ReadRequest.{ReadRequest}
 use Rattle.virtiofsd_fuse.specs.Grammar.{Meaning, Asks, One}
 

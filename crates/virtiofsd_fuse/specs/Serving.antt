@@ -3,17 +3,17 @@ use Rattle.std.specs.Prelude.{◌≡◌, ℕ, ◌-◌, Bool, false, nat_lt, List
 use Rattle.fuse_wire.specs.declared.opcodes.Opcode.{Opcode}
 use Rattle.fuse_fs.specs.Calls.{FileCall, FileAnswer, FileRun, Init, Failed, Done}
 use Rattle.fuse_fs.specs.Calls.{Entries, Wants}
-use Rattle.fuse_segments.specs.declared.error.Error.{Error}
-use Rattle.fuse_segments.specs.declared.error.Error.TheVariants.{EncodeMessage}
+use Rattle.server_segments.specs.declared.error.Error.{Error}
+use Rattle.server_segments.specs.declared.error.Error.TheVariants.{EncodeMessage}
 use Rattle.fuse_in.specs.declared.session.InHeader.{InHeader}
 use Rattle.virtiofsd_fuse.specs.declared.server.Server.{Server}
-use Rattle.fuse_requests.specs.Reading.{Reading}
+use Rattle.server_requests.specs.Reading.{Reading}
 use Rattle.virtiofsd_fuse.specs.Listings.{Listing, Went, list_entries, readdir_call}
 use Rattle.virtiofsd_fuse.specs.Grammar.{Meaning, IsFault, Replies, IsSilent, Asks, FileCommand, One, Starts, Lists, Given, given, ended, row, default_options}
-use Rattle.fuse_segments.specs.ReaderAndWriter.{WriterView}
-use Rattle.fuse_replies.specs.WholeReplies.{reply_bytes, error_bytes, started_bytes, told_bytes, listing_bytes, LeavesWriter}
-use Rattle.fuse_calls.specs.Requests.{is_silent, options_after, given_back}
-pub use Rattle.fuse_segments.specs.Errors.{is_memory, lacks_memory}
+use Rattle.server_segments.specs.ReaderAndWriter.{WriterView}
+use Rattle.server_replies.specs.WholeReplies.{reply_bytes, error_bytes, started_bytes, told_bytes, listing_bytes, LeavesWriter}
+use Rattle.server_calls.specs.Requests.{is_silent, options_after, given_back}
+pub use Rattle.server_segments.specs.Errors.{is_memory, lacks_memory}
 
 -- what serving gives so far: the calls, the last of which may wait for its answer, the options after, the reply, and the fault if there is one
 pub record Served : Type 0 where

@@ -6,10 +6,10 @@ use Rattle.fuse_wire.specs.declared.opcodes.Opcode.{Opcode}
 use Rattle.fuse_wire.specs.declared.opcodes.Opcode.TheVariants as op
 use Rattle.fuse_wire.specs.Opcodes.{opcode_of}
 use Rattle.fuse_fs.specs.Lengths.{past}
-use Rattle.fuse_segments.specs.ReaderAndWriter.{ReaderView}
-use Rattle.fuse_requests.specs.Reading.{Reading, ReadFailure, reading_of}
-use Rattle.fuse_requests.specs.Fronts.{counted_split, setxattr_len}
-use Rattle.fuse_calls.specs.Requests.{owns_memory}
+use Rattle.server_segments.specs.ReaderAndWriter.{ReaderView}
+use Rattle.server_requests.specs.Reading.{Reading, ReadFailure, reading_of}
+use Rattle.server_requests.specs.Fronts.{counted_split, setxattr_len}
+use Rattle.server_calls.specs.Requests.{owns_memory}
 use Rattle.virtiofsd_fuse.specs.Grammar.{Meaning, Asks, One, Given, given, ended, row}
 
 -- whether what is asked for is handed memory of its own: pairs, or a context

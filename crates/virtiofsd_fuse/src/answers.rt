@@ -3,18 +3,18 @@
 ghost use Rattle.std.specs.Prelude.{◌≡◌, ◌<◌, ◌^◌, [], false, option_map};
 ghost use Rattle.fuse_fs.specs.Answers.{context_of};
 ghost use Rattle.fuse_fs.specs.Calls.{FileRun};
-ghost use Rattle.fuse_segments.specs.Errors.{lacks_memory};
-ghost use Rattle.fuse_replies.specs.WholeReplies.{with_written, whole_or_none, told_bytes, LeavesWriter};
-ghost use Rattle.fuse_calls.specs.Requests.{entry_node, give_back};
+ghost use Rattle.server_segments.specs.Errors.{lacks_memory};
+ghost use Rattle.server_replies.specs.WholeReplies.{with_written, whole_or_none, told_bytes, LeavesWriter};
+ghost use Rattle.server_calls.specs.Requests.{entry_node, give_back};
 ghost use Rattle.virtiofsd_fuse.specs.Serving.{undone, all_done};
 
 use crate::server::Server;
-use fuse_calls::entries::{EntryAnswer, answered_node};
 use fuse_fs::{Context, FileSystem};
 use fuse_in::InHeader;
-use fuse_replies::answers::{AsReply, reply_answer};
-use fuse_segments::{Error, Writer};
 use fuse_wire::Errno;
+use server_calls::entries::{EntryAnswer, answered_node};
+use server_replies::answers::{AsReply, reply_answer};
+use server_segments::{Error, Writer};
 
 impl<F: FileSystem> Server<F> {
     // Gives a node back, where there is one.

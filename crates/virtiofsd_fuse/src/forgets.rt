@@ -9,11 +9,11 @@ use crate::server::Server;
 use crate::session::silence;
 use fuse_fs::{Context, FileSystem};
 use fuse_in::{BatchForgetIn, InHeader};
-use fuse_replies::replies::reply_error;
-use fuse_requests::forgets::read_pairs;
-use fuse_requests::records::read_record;
-use fuse_segments::{Error, Reader, Writer};
 use fuse_wire::Errno;
+use server_replies::replies::reply_error;
+use server_requests::forgets::read_pairs;
+use server_requests::records::read_record;
+use server_segments::{Error, Reader, Writer};
 use std::alloc::Global;
 
 /// How many pairs one request may have: 2^20 bytes of them.

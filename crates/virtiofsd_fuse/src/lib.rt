@@ -2,6 +2,7 @@
 #![tactic(auto)]
 
 mod answers;
+mod data_apart;
 mod forgets;
 mod listings;
 mod new_nodes;
@@ -13,11 +14,12 @@ mod session;
 mod writes;
 mod xattrs;
 
+pub use data_apart::{REPLY_FRONT, REQUEST_FRONT, writes_data};
 pub use fuse_fs::{
     Context, DirEntry, DirectoryIterator, Entry, Extensions, FileNumber, FileSystem,
     FileSystemBase, GetxattrReply, ListxattrReply, NoEntries, PositionedFile, SecContext,
     SerializableFileSystem, Timeout, WritevFlags, ZeroCopyReader, ZeroCopyWriter, defaults,
 };
-pub use fuse_segments::{DescriptorType, Error, Reader, Writer, ZcReader, ZcWriter};
 pub use reads::{ReadReply, ReadRequest};
 pub use server::Server;
+pub use server_segments::{DescriptorType, Error, Reader, Writer, ZcReader, ZcWriter};

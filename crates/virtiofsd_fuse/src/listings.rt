@@ -4,24 +4,24 @@ ghost use Rattle.std.specs.Prelude.{◌≡◌, ◌+◌, ◌<◌, ◌^◌, Bool, 
 ghost use Rattle.fuse_in.specs.declared.files.ReadIn.{ReadIn};
 ghost use Rattle.fuse_fs.specs.Answers.{listed, numbered, context_of};
 ghost use Rattle.fuse_fs.specs.Calls.{Done};
-ghost use Rattle.fuse_replies.specs.Entries.{dirent_bytes, node_bytes, entry_len, fit_of, is_dot, after_entry};
+ghost use Rattle.server_replies.specs.Entries.{dirent_bytes, node_bytes, entry_len, fit_of, is_dot, after_entry};
 ghost use Rattle.virtiofsd_fuse.specs.Listings.{listing_of, undo_call};
 ghost use Rattle.virtiofsd_fuse.specs.ListingRuns.{ListRun, EntryRun};
 ghost use Rattle.virtiofsd_fuse.specs.Grammar.{listing_row, listing_asked};
 ghost use Rattle.virtiofsd_fuse.specs.Serving.{RowHandles, Leaves};
 
 use crate::server::Server;
-use fuse_calls::directories::make_readdir_call;
-use fuse_calls::nodes::Lookup;
-use fuse_calls::requests::NameRequest;
 use fuse_fs::{Context, DirEntry, DirectoryIterator, Entry, FileSystem};
 use fuse_in::{InHeader, ReadIn};
-use fuse_replies::entries::{is_dot, no_node, node_bytes, put_entry, reply_listing};
-use fuse_replies::init::MAX_BUFFER_SIZE;
-use fuse_replies::replies::{OUT_HEADER_LEN, append, reply_error};
-use fuse_requests::records::read_record;
-use fuse_segments::{Error, Reader, Writer};
 use fuse_wire::Errno;
+use server_calls::directories::make_readdir_call;
+use server_calls::nodes::Lookup;
+use server_calls::requests::NameRequest;
+use server_replies::entries::{is_dot, no_node, node_bytes, put_entry, reply_listing};
+use server_replies::init::MAX_BUFFER_SIZE;
+use server_replies::replies::{OUT_HEADER_LEN, append, reply_error};
+use server_requests::records::read_record;
+use server_segments::{Error, Reader, Writer};
 
 impl<F: FileSystem> Server<F> {
     // Puts an entry with its node in; where it doesn't go in, the node is taken back.

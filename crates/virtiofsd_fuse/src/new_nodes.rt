@@ -1,21 +1,21 @@
 //! Requests that make a node.
 
 ghost use Rattle.std.specs.Prelude.{◌≡◌, ◌<◌, ◌^◌, ◌||◌, []};
-ghost use Rattle.fuse_requests.specs.Fronts.{counted_split};
+ghost use Rattle.server_requests.specs.Fronts.{counted_split};
 ghost use Rattle.virtiofsd_fuse.specs.Grammar.{given, new_name_row, symlink_row};
 ghost use Rattle.virtiofsd_fuse.specs.WantOfMemory.{row_owns};
 ghost use Rattle.virtiofsd_fuse.specs.Serving.{RowHandles, Leaves};
 
 use crate::server::Server;
-use fuse_calls::new_nodes::make_symlink_call;
-use fuse_calls::requests::NewNameRequest;
 use fuse_fs::FileSystem;
 use fuse_in::InHeader;
-use fuse_replies::answers::AsReply;
-use fuse_requests::extensions::owned_extensions;
-use fuse_requests::names::{read_counted, read_with_bytes};
-use fuse_requests::new_names::{new_link, new_name};
-use fuse_segments::{Error, Reader, Writer};
+use server_calls::new_nodes::make_symlink_call;
+use server_calls::requests::NewNameRequest;
+use server_replies::answers::AsReply;
+use server_requests::extensions::owned_extensions;
+use server_requests::names::{read_counted, read_with_bytes};
+use server_requests::new_names::{new_link, new_name};
+use server_segments::{Error, Reader, Writer};
 use std::alloc::Global;
 
 impl<F: FileSystem> Server<F> {

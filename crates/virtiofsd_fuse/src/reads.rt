@@ -8,13 +8,13 @@ ghost use Rattle.virtiofsd_fuse.specs.ReadApart.{is_read, read_meaning, read_req
 ghost use Rattle.virtiofsd_fuse.specs.Serving.{RowHandles, Leaves, ServerHandles};
 
 use crate::server::{MAX_REQUEST_LEN, Server, opcode_of};
-use fuse_calls::reads::make_read_call;
 use fuse_fs::{FileSystem, ZeroCopyWriter};
 use fuse_in::{InHeader, ReadIn};
-use fuse_replies::replies::{OUT_HEADER_LEN, append, data_header, reply_data};
-use fuse_requests::records::read_record;
-use fuse_segments::{Error, Reader, Writer, ZcWriter};
 use fuse_wire::{Errno, Opcode};
+use server_calls::reads::make_read_call;
+use server_replies::replies::{OUT_HEADER_LEN, append, data_header, reply_data};
+use server_requests::records::read_record;
+use server_segments::{Error, Reader, Writer, ZcWriter};
 use std::alloc::Global;
 use std::mem;
 

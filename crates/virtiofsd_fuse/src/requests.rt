@@ -1,20 +1,20 @@
 //! Requests of one shape: they are read, they make one call, and the client is told its answer.
 
 ghost use Rattle.std.specs.Prelude.{◌≡◌, ◌<◌, ◌^◌, [], false};
-ghost use Rattle.fuse_requests.specs.Fronts.{counted_split};
+ghost use Rattle.server_requests.specs.Fronts.{counted_split};
 ghost use Rattle.virtiofsd_fuse.specs.Grammar.{plain_row, record_row, name_row, record_name_row, two_names_row};
 ghost use Rattle.virtiofsd_fuse.specs.Serving.{RowHandles, Leaves};
 
 use crate::server::Server;
-use fuse_calls::requests::{
-    NameRequest, PlainRequest, RecordNameRequest, RecordRequest, TwoPartsRequest,
-};
 use fuse_fs::FileSystem;
 use fuse_in::InHeader;
-use fuse_replies::answers::{AsReply, reply_answer};
-use fuse_requests::names::{last_name, read_counted, read_with_bytes, two_names};
-use fuse_requests::records::read_record;
-use fuse_segments::{Error, Reader, Writer};
+use server_calls::requests::{
+    NameRequest, PlainRequest, RecordNameRequest, RecordRequest, TwoPartsRequest,
+};
+use server_replies::answers::{AsReply, reply_answer};
+use server_requests::names::{last_name, read_counted, read_with_bytes, two_names};
+use server_requests::records::read_record;
+use server_segments::{Error, Reader, Writer};
 use std::alloc::Global;
 
 impl<F: FileSystem> Server<F> {

@@ -2,28 +2,28 @@
 
 ghost use Rattle.std.specs.Prelude.{◌≡◌, ◌+◌, ◌<◌, ◌≤◌, ◌^◌, false, [], length, IfOk, OnOk, OnErr, IsTrue, bit_and};
 ghost use Rattle.fuse_wire.specs.Opcodes.{opcode_of};
-ghost use Rattle.fuse_replies.specs.PageSizes.{is_page_size};
-ghost use Rattle.fuse_segments.specs.Errors.{lacks_memory};
+ghost use Rattle.server_replies.specs.PageSizes.{is_page_size};
+ghost use Rattle.server_segments.specs.Errors.{lacks_memory};
 ghost use Rattle.virtiofsd_fuse.specs.Grammar.{given, meant, meaning, unserved_row, known_options};
 ghost use Rattle.virtiofsd_fuse.specs.WantOfMemory.{takes_memory, body_takes_memory, may_take_memory};
 
 use crate::session::known;
 use bitflags::Flags;
-use fuse_calls::links::{Link, Rename, Rename2};
-use fuse_calls::new_nodes::{Create, Mkdir, Mknod};
-use fuse_calls::nodes::{
-    Access, Forget, Getattr, Lookup, Readlink, Removexattr, Rmdir, Setattr, Statfs, Syncfs, Unlink,
-};
-use fuse_calls::open_files::{
-    CopyFileRange, Fallocate, Flush, Fsync, Fsyncdir, Lseek, Open, Opendir, Release, Releasedir,
-};
-use fuse_calls::plain_requests::{Bmap, Getlk, Ioctl, NotifyReply, Poll, Setlk, Setlkw, TmpFile};
 use fuse_fs::FileSystem;
 use fuse_in::InHeader;
-use fuse_replies::replies::reply_error;
-use fuse_requests::records::read_record;
-use fuse_segments::{Error, Reader, Writer};
 use fuse_wire::{Errno, FsOptions, Opcode};
+use server_calls::links::{Link, Rename, Rename2};
+use server_calls::new_nodes::{Create, Mkdir, Mknod};
+use server_calls::nodes::{
+    Access, Forget, Getattr, Lookup, Readlink, Removexattr, Rmdir, Setattr, Statfs, Syncfs, Unlink,
+};
+use server_calls::open_files::{
+    CopyFileRange, Fallocate, Flush, Fsync, Fsyncdir, Lseek, Open, Opendir, Release, Releasedir,
+};
+use server_calls::plain_requests::{Bmap, Getlk, Ioctl, NotifyReply, Poll, Setlk, Setlkw, TmpFile};
+use server_replies::replies::reply_error;
+use server_requests::records::read_record;
+use server_segments::{Error, Reader, Writer};
 use std::alloc::Global;
 
 /// The longest request: 2^20 bytes of data, and one page.

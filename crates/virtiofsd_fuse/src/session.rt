@@ -7,15 +7,15 @@ ghost use Rattle.virtiofsd_fuse.specs.Serving.{RowHandles, Leaves, agreed};
 
 use crate::server::Server;
 use bitflags::Flags;
-use fuse_calls::session::make_init_call;
 use fuse_fs::FileSystem;
 use fuse_in::{InHeader, InitInCompat};
-use fuse_replies::init::{start_bytes, versions};
-use fuse_replies::replies::{reply, reply_error};
-use fuse_requests::records::{read_flags2, read_record};
-use fuse_segments::{Error, Reader, Writer};
 use fuse_wire::constants::{KERNEL_VERSION, MIN_KERNEL_MINOR_VERSION};
 use fuse_wire::{Errno, FsOptions};
+use server_calls::session::make_init_call;
+use server_replies::init::{start_bytes, versions};
+use server_replies::replies::{reply, reply_error};
+use server_requests::records::{read_flags2, read_record};
+use server_segments::{Error, Reader, Writer};
 
 // The options that are known.
 #[tactic(auto, using(crate::proofs::Options::known_bits_are, crate::proofs::Options::known_twice))]

@@ -5,12 +5,12 @@ ghost use Rattle.virtiofsd_fuse.specs.Grammar.{write_row};
 ghost use Rattle.virtiofsd_fuse.specs.Serving.{RowHandles, Leaves};
 
 use crate::server::Server;
-use fuse_calls::writes::make_write_call;
 use fuse_fs::FileSystem;
 use fuse_in::InHeader;
-use fuse_replies::answers::reply_answer;
-use fuse_requests::records::read_record;
-use fuse_segments::{Error, Reader, Writer, ZcReader};
+use server_calls::writes::make_write_call;
+use server_replies::answers::reply_answer;
+use server_requests::records::read_record;
+use server_segments::{Error, Reader, Writer, ZcReader};
 use std::alloc::Global;
 use std::mem;
 

@@ -1,23 +1,23 @@
 //! Requests about extended attributes.
 
 ghost use Rattle.std.specs.Prelude.{◌≡◌, ◌<◌, ◌^◌, [], false};
-ghost use Rattle.fuse_requests.specs.Fronts.{counted_split, setxattr_len};
+ghost use Rattle.server_requests.specs.Fronts.{counted_split, setxattr_len};
 ghost use Rattle.virtiofsd_fuse.specs.Grammar.{getxattr_row, listxattr_row, setxattr_row};
 ghost use Rattle.virtiofsd_fuse.specs.Serving.{RowHandles, Leaves};
 
 use crate::server::Server;
-use fuse_calls::requests::{RecordNameRequest, RecordRequest, TwoPartsRequest};
-use fuse_calls::xattrs::{Getxattr, Listxattr, Setxattr};
 use fuse_fs::FileSystem;
 use fuse_in::{GetxattrIn, InHeader};
-use fuse_replies::answers::reply_answer;
-use fuse_replies::init::MAX_BUFFER_SIZE;
-use fuse_replies::replies::reply_error;
-use fuse_requests::names::{last_name, name_and_value, read_with_bytes};
-use fuse_requests::records::read_record;
-use fuse_requests::xattrs::read_setxattr;
-use fuse_segments::{Error, Reader, Writer};
 use fuse_wire::Errno;
+use server_calls::requests::{RecordNameRequest, RecordRequest, TwoPartsRequest};
+use server_calls::xattrs::{Getxattr, Listxattr, Setxattr};
+use server_replies::answers::reply_answer;
+use server_replies::init::MAX_BUFFER_SIZE;
+use server_replies::replies::reply_error;
+use server_requests::names::{last_name, name_and_value, read_with_bytes};
+use server_requests::records::read_record;
+use server_requests::xattrs::read_setxattr;
+use server_segments::{Error, Reader, Writer};
 use std::alloc::Global;
 
 impl<F: FileSystem> Server<F> {

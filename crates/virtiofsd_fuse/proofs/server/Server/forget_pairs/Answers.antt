@@ -2,7 +2,7 @@ use Rattle.std.proofs.Common.{refl}
 use Rattle.fuse_fs.specs.Answers.{pair_numbers}
 use Rattle.fuse_fs.specs.Calls.{Done}
 use Rattle.virtiofsd_fuse.specs.Grammar.{given}
-use Rattle.fuse_calls.specs.Requests.{batch_forget_call}
+use Rattle.server_calls.specs.Requests.{batch_forget_call}
 use Rattle.virtiofsd_fuse.specs.Serving.{setting}
 use Rattle.virtiofsd_fuse.proofs.Serve.{handles_reply, handles_one, handles_refusal}
 use Rattle.virtiofsd_fuse.proofs.Rows.{silent_told}

@@ -2,10 +2,10 @@ use Rattle.std.proofs.Common.{ap, sym, refl, ◌∙◌}
 use Rattle.fuse_in.specs.declared.nodes.GetxattrIn.{GetxattrIn}
 use Rattle.fuse_in.specs.Records.{getxattr_in}
 use Rattle.virtiofsd_fuse.specs.Serving.{setting}
-use Rattle.fuse_requests.specs.Reading.{◌>>◌, last_name}
-use Rattle.fuse_calls.specs.Requests.{getxattr_call}
+use Rattle.server_requests.specs.Reading.{◌>>◌, last_name}
+use Rattle.server_calls.specs.Requests.{getxattr_call}
 use Rattle.virtiofsd_fuse.specs.Grammar.{Given, given, at_most_a_mebibyte}
-use Rattle.fuse_requests.specs.Fronts.{with_bytes}
+use Rattle.server_requests.specs.Fronts.{with_bytes}
 use Rattle.virtiofsd_fuse.proofs.Serve.{ask_of, handles_one, handles_refusal, handles_reply}
 use Rattle.virtiofsd_fuse.proofs.Rows.{bytes_read, bytes_fault, sized, too_large}
 use Rattle.virtiofsd_fuse.proofs.server.Server.getxattr.Goals as goal

@@ -1,9 +1,9 @@
 use Rattle.std.proofs.Common.{true, false, [], ◌∷◌, refl, ap, rules}
-use Rattle.fuse_segments.specs.ReaderAndWriter.{WriterView}
+use Rattle.server_segments.specs.ReaderAndWriter.{WriterView}
 use Rattle.fuse_fs.specs.declared.answers.Entry.{Entry}
 use Rattle.fuse_fs.specs.Answers.{listed, context_of}
 use Rattle.fuse_fs.specs.Calls.{Done}
-use Rattle.fuse_replies.specs.Entries.{no_node}
+use Rattle.server_replies.specs.Entries.{no_node}
 use Rattle.virtiofsd_fuse.specs.Listings.{undo_call, listing_of}
 use Rattle.virtiofsd_fuse.proofs.ListingLemmas.{plain_run, dot_run, placed_one, on_error, nothing_done, nothing_undone}
 use Rattle.virtiofsd_fuse.proofs.server.Server.list_entry.Goals as goal

@@ -1,9 +1,9 @@
 use Rattle.std.proofs.Common.{ap, sym, refl, ◌∙◌}
 use Rattle.fuse_base.specs.Options.{FsOptions}
 use Rattle.virtiofsd_fuse.specs.Serving.{setting}
-use Rattle.fuse_requests.specs.Extras.{new_name, parts_of, sent_of}
+use Rattle.server_requests.specs.Extras.{new_name, parts_of, sent_of}
 use Rattle.virtiofsd_fuse.specs.Grammar.{Given, given}
-use Rattle.fuse_requests.specs.Fronts.{with_bytes}
+use Rattle.server_requests.specs.Fronts.{with_bytes}
 use Rattle.virtiofsd_fuse.proofs.Serve.{ask_of, handles_entry, handles_refusal}
 use Rattle.virtiofsd_fuse.proofs.Left.{context_owned}
 use Rattle.virtiofsd_fuse.proofs.Rows.{bytes_read, bytes_fault}

@@ -1,7 +1,7 @@
 use Rattle.std.proofs.Common.{◌≡◌, Ok, ◌+◌, ◌-◌, ◌≤◌, length, refl, sym, ◌∙◌, arith}
 use Rattle.fuse_fs.specs.Answers.{data_answer}
 use Rattle.virtiofsd_fuse.specs.Grammar.{given}
-use Rattle.fuse_calls.specs.Requests.{read_call}
+use Rattle.server_calls.specs.Requests.{read_call}
 use Rattle.virtiofsd_fuse.specs.Serving.{setting}
 use Rattle.virtiofsd_fuse.proofs.Serve.{handles_one, handles_refusal}
 use Rattle.virtiofsd_fuse.proofs.Rows.{read_asks, read_without_room, read_suits, read_told}

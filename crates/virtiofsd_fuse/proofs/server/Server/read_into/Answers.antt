@@ -1,6 +1,6 @@
 use Rattle.std.proofs.Common.{◌≡◌, Ok, ◌+◌, ◌-◌, ◌≤◌, length, subst, refl, sym, ap, ◌∙◌, arith}
 use Rattle.fuse_fs.specs.Answers.{data_answer}
-use Rattle.fuse_calls.specs.Requests.{read_call}
+use Rattle.server_calls.specs.Requests.{read_call}
 use Rattle.virtiofsd_fuse.specs.Serving.{setting}
 use Rattle.virtiofsd_fuse.proofs.Serve.{handles_one}
 use Rattle.virtiofsd_fuse.proofs.Rows.{moved_all, read_suits, read_told_apart}

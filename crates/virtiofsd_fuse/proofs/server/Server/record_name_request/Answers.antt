@@ -1,9 +1,9 @@
 use Rattle.std.proofs.Common.{ap, sym, ◌∙◌}
 use Rattle.fuse_base.specs.Options.{FsOptions}
 use Rattle.virtiofsd_fuse.specs.Serving.{setting}
-use Rattle.fuse_requests.specs.Reading.{last_name}
+use Rattle.server_requests.specs.Reading.{last_name}
 use Rattle.virtiofsd_fuse.specs.Grammar.{Given, given}
-use Rattle.fuse_requests.specs.Fronts.{with_bytes}
+use Rattle.server_requests.specs.Fronts.{with_bytes}
 use Rattle.virtiofsd_fuse.proofs.Serve.{ask_of, handles_entry, handles_refusal}
 use Rattle.virtiofsd_fuse.proofs.Rows.{bytes_read, bytes_fault}
 use Rattle.virtiofsd_fuse.proofs.server.Server.record_name_request.Goals as goal

@@ -1,5 +1,5 @@
 use Rattle.std.proofs.Common.{sym, ap}
-use Rattle.fuse_requests.specs.Reading.{value_of}
+use Rattle.server_requests.specs.Reading.{value_of}
 use Rattle.virtiofsd_fuse.specs.Serving.{setting}
 use Rattle.virtiofsd_fuse.specs.Grammar.{given, one}
 use Rattle.virtiofsd_fuse.proofs.Serve.{handles_one, handles_refusal, ended_fault}

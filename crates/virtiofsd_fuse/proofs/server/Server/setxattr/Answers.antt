@@ -1,10 +1,10 @@
 use Rattle.std.proofs.Common.{ap, sym, ◌∙◌}
 use Rattle.fuse_in.specs.declared.nodes.SetxattrIn.{SetxattrIn}
 use Rattle.virtiofsd_fuse.specs.Serving.{setting}
-use Rattle.fuse_requests.specs.Reading.{name_and_value}
-use Rattle.fuse_calls.specs.Requests.{setxattr_call}
+use Rattle.server_requests.specs.Reading.{name_and_value}
+use Rattle.server_calls.specs.Requests.{setxattr_call}
 use Rattle.virtiofsd_fuse.specs.Grammar.{Given, given}
-use Rattle.fuse_requests.specs.Fronts.{setxattr_front}
+use Rattle.server_requests.specs.Fronts.{setxattr_front}
 use Rattle.virtiofsd_fuse.proofs.Serve.{ask_of, handles_one, handles_refusal}
 use Rattle.virtiofsd_fuse.proofs.Rows.{bytes_read, bytes_fault}
 use Rattle.virtiofsd_fuse.proofs.server.Server.setxattr.Goals as goal

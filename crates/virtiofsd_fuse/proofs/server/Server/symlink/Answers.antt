@@ -1,11 +1,11 @@
 use Rattle.std.proofs.Common.{ap, sym, refl, ◌∙◌}
 use Rattle.fuse_base.specs.Options.{FsOptions}
 use Rattle.virtiofsd_fuse.specs.Serving.{setting}
-use Rattle.fuse_calls.specs.Requests.{symlink_call}
+use Rattle.server_calls.specs.Requests.{symlink_call}
 use Rattle.fuse_fs.specs.Calls.{NewLink}
 use Rattle.virtiofsd_fuse.specs.Grammar.{given}
 use Rattle.virtiofsd_fuse.proofs.Serve.{ask_of, handles_entry, handles_refusal}
-use Rattle.fuse_requests.specs.Extras.{parts_of, sent_of}
+use Rattle.server_requests.specs.Extras.{parts_of, sent_of}
 use Rattle.virtiofsd_fuse.proofs.Left.{context_owned}
 use Rattle.virtiofsd_fuse.proofs.Rows.{symlink_read, symlink_fault}
 use Rattle.virtiofsd_fuse.proofs.server.Server.symlink.Goals as goal

@@ -1,8 +1,8 @@
 use Rattle.std.proofs.Common.{ap, sym, ◌∙◌}
 use Rattle.virtiofsd_fuse.specs.Serving.{setting}
-use Rattle.fuse_requests.specs.Reading.{two_names}
+use Rattle.server_requests.specs.Reading.{two_names}
 use Rattle.virtiofsd_fuse.specs.Grammar.{Given, given}
-use Rattle.fuse_requests.specs.Fronts.{with_bytes}
+use Rattle.server_requests.specs.Fronts.{with_bytes}
 use Rattle.virtiofsd_fuse.proofs.Serve.{ask_of, handles_one, handles_refusal}
 use Rattle.virtiofsd_fuse.proofs.Rows.{bytes_read, bytes_fault}
 use Rattle.virtiofsd_fuse.proofs.server.Server.two_names_request.Goals as goal

@@ -1,7 +1,7 @@
 use Rattle.std.proofs.Common.{refl}
 use Rattle.fuse_fs.specs.Answers.{written_answer}
 use Rattle.virtiofsd_fuse.specs.Grammar.{given}
-use Rattle.fuse_calls.specs.Requests.{write_call}
+use Rattle.server_calls.specs.Requests.{write_call}
 use Rattle.virtiofsd_fuse.specs.Serving.{setting}
 use Rattle.virtiofsd_fuse.proofs.Serve.{handles_one, handles_refusal}
 use Rattle.virtiofsd_fuse.proofs.Rows.{write_asks, write_short, write_suits}

@@ -1,0 +1,45 @@
+-- What a file system writes down that is told of a call.
+use Rattle.std.specs.Prelude.{◌≡◌, Bool, true, false, [], if◌then◌else◌}
+use Rattle.fuse_fs.specs.Calls.{FileCall, FileAnswer, Failed, Done, never_fails, Lookup, Symlink, Mknod, Mkdir, Unlink, Rmdir, Rename, Link, Setxattr}
+use Rattle.fuse_fs.specs.Calls.{Getxattr, Removexattr, Create, Read, Write}
+use Rattle.fuse_values.specs.declared.recorder.Recorded.{Recorded}
+use Rattle.fuse_values.specs.declared.recorder.Recorded.TheVariants as recorded
+use Rattle.fuse_values.specs.declared.recorder.Recorder.{Recorder}
+use Rattle.fuse_values.specs.Values.{call_of}
+
+-- the calls that have names, which a value owns
+abbrev pub has_name : FileCall → Bool
+has_name (Lookup c n name) = true
+has_name (Symlink c l n name x) = true
+has_name (Mknod c n name m r u x) = true
+has_name (Mkdir c n name m u x) = true
+has_name (Unlink c n name) = true
+has_name (Rmdir c n name) = true
+has_name (Rename c n old d new f) = true
+has_name (Link c o n name) = true
+has_name (Setxattr c n name value f x) = true
+has_name (Getxattr c n name s) = true
+has_name (Removexattr c n name) = true
+has_name (Create c n name m k f u x) = true
+has_name _ = false
+
+-- the calls whose data a value doesn't hold
+abbrev pub is_transfer : FileCall → Bool
+is_transfer (Read c n h r s o w f) = true
+is_transfer (Write c n h b s o w d k f) = true
+is_transfer _ = false
+
+-- what is written down of a call
+abbrev pub Records : FileCall → Recorded → Type 0
+Records call recorded.Nothing = ⊥
+Records call (recorded.Call made) = call_of [] made ≡ call
+Records call recorded.OutOfMemory = has_name call ≡ true
+Records call recorded.Transfer = is_transfer call ≡ true
+
+-- EIO (errno.h, 5), or that it is done where the call can't fail
+abbrev pub refusal : FileCall → FileAnswer
+refusal call = if never_fails call then Done else Failed 5
+
+-- each call is written down in place of the one before, and refused
+abbrev pub MayRecord : Recorder → FileCall → FileAnswer → Recorder → Type 0
+MayRecord before call answer after = Records call after.told × (answer ≡ refusal call)

@@ -1,0 +1,11 @@
+//! Calls of a file system and their answers as values, for who owns the files and is told of one call after another.
+#![tactic(auto)]
+
+mod answer;
+mod call;
+mod owned_calls;
+mod recorder;
+
+pub use answer::FileAnswer;
+pub use call::FileCall;
+pub use recorder::{Recorded, Recorder};

@@ -1,0 +1,5 @@
+pub mod Meanings
+pub mod Plain
+pub mod Recorded
+pub mod Suiting
+pub mod Telling

@@ -1,0 +1,17 @@
+use Rattle.std.proofs.Common.{refl, sym, ap}
+use Rattle.fuse_fs.specs.declared.answers.Context.{Context}
+use Rattle.fuse_fs.specs.Calls.{Readdir}
+use Rattle.virtiofsd_fuse.specs.Grammar.{Lists, given}
+use Rattle.virtiofsd_fuse.specs.Listings.{listing_of}
+use Rattle.virtiofsd_fuse.proofs.Rows.{listing_asks}
+use Rattle.server_phases.proofs.asking.ask_listing.Goals as goal
+
+pub returns : goal.returns
+returns c = λ page_size options more bytes. (
+  Lists c.args.head.now.unique (listing_of c.args.with_nodes c.args.head.now c.args.request.now),
+  listing_asks c.args.with_nodes (given c.args.head.now options c.args.room) c.args.request.now more c.if-request-gt-MAX_BUFFER_SIZE.false c.if-room-request.false
+      c.if-room-lt-OUT_HEADER_LEN.false,
+  ap (λ (who : Context). Readdir who c.args.head.now.nodeid c.args.request.now.fh c.args.request.now.size c.args.request.now.offset) c.from-context.ensures,
+  tt,
+  (refl, refl, sym c.from-context.ensures),
+)

@@ -1,0 +1,13 @@
+use Rattle.std.proofs.Common.{refl}
+use Rattle.server_calls.specs.Requests.{write_call}
+use Rattle.virtiofsd_fuse.specs.Grammar.{One}
+use Rattle.server_phases.proofs.asking.ask_write.Goals as goal
+
+pub returns : goal.returns
+returns c = λ s bytes e. (
+  One c.args.head.now.unique (write_call c.args.head.now c.args.request.now bytes),
+  refl,
+  c.write_value.ensures.call bytes,
+  c.write_value.ensures.data_apart bytes e,
+  (refl, refl, tt, refl),
+)

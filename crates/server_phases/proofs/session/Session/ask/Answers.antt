@@ -1,0 +1,53 @@
+use Rattle.std.proofs.Common.{sym, ap, ◌∙◌, refl, drop}
+use Rattle.fuse_in.specs.Records.{in_header}
+use Rattle.server_requests.specs.Reading.{reading_of}
+use Rattle.virtiofsd_fuse.specs.Serving.{setting}
+use Rattle.virtiofsd_fuse.proofs.Rows.{meaning_head, meaning_fault}
+use Rattle.server_phases.proofs.Plain.{means_read, means_write, means_readdir, means_readdirplus, data_behind, if_ok_map}
+use Rattle.server_phases.proofs.session.Session.ask.Goals as goal
+
+pub returns-in-Read-clause-told : goal.returns-in-Read-clause-told
+returns-in-Read-clause-told c =
+    let s = c.args.self.now in
+    rw (means_read c.in-Ok.head s.options.0 c.args.room c.args.request.now c.read_record.new.r.left (c.in-Ok.ensures.reads ∙ ap (reading_of in_header) c.of_slice-r.ensures.left)
+    (sym c.apart_of.ensures ∙ c.in-Read.is))
+    (c.ask_read_row.ensures s.page_size s.options.0 (drop 80 c.args.request.now))
+
+pub returns-in-Write-clause-told : goal.returns-in-Write-clause-told
+returns-in-Write-clause-told c =
+    let s = c.args.self.now in
+    rw (
+      means_write c.in-Ok.head s.options.0 c.args.room c.args.request.now c.read_record.new.r.left (c.in-Ok.ensures.reads ∙ ap (reading_of in_header) c.of_slice-r.ensures.left)
+          (sym c.apart_of.ensures ∙ c.in-Write.is),
+      sym (data_behind c.args.request.now c.read_record.new.r.left c.in-Ok.head (c.in-Ok.ensures.reads ∙ ap (reading_of in_header) c.of_slice-r.ensures.left)),
+    )
+    (c.ask_write_row.ensures (setting s.page_size s.options.0 c.args.room) s.options.0 c.args.room)
+
+pub returns-in-Readdir-clause-told : goal.returns-in-Readdir-clause-told
+returns-in-Readdir-clause-told c =
+    let s = c.args.self.now in
+    rw (means_readdir c.in-Ok.head s.options.0 c.args.room c.args.request.now c.read_record.new.r.left (c.in-Ok.ensures.reads ∙ ap (reading_of in_header) c.of_slice-r.ensures.left)
+    (sym c.apart_of.ensures ∙ c.in-Readdir.is))
+    (c.ask_listing_row.ensures s.page_size s.options.0 (drop 80 c.args.request.now))
+
+pub returns-in-Readdirplus-clause-told : goal.returns-in-Readdirplus-clause-told
+returns-in-Readdirplus-clause-told c =
+    let s = c.args.self.now in
+    rw (means_readdirplus c.in-Ok.head s.options.0 c.args.room c.args.request.now c.read_record.new.r.left (c.in-Ok.ensures.reads ∙ ap (reading_of in_header) c.of_slice-r.ensures.left)
+    (sym c.apart_of.ensures ∙ c.in-Readdirplus.is))
+    (c.ask_listing_row-in-Readdirplus.ensures s.page_size s.options.0 (drop 80 c.args.request.now))
+
+pub returns-in-Ok-clause-told : goal.returns-in-Ok-clause-told
+returns-in-Ok-clause-told c =
+    let s = c.args.self.now in
+    let reads = c.in-Ok.ensures.reads ∙ ap (reading_of in_header) c.of_slice-r.ensures.left in
+    if_ok_map c.ask_plain.result _ _ c.ask_plain.ensures.told (λ asked k.
+    rw (meaning_head s.options.0 c.args.room c.args.request.now c.read_record.new.r.left c.in-Ok.head reads)
+    (k c.read_record.new.r.left (drop 80 c.args.request.now) (sym reads) (sym c.apart_of.ensures ∙ c.in-Neither.is)))
+
+pub returns-clause-told : goal.returns-clause-told
+returns-clause-told c =
+    rw (
+      meaning_fault c.args.self.now.options.0 c.args.room c.args.request.now c.in-Err.error (c.in-Err.ensures.reads ∙ ap (reading_of in_header) c.of_slice-r.ensures.left),
+      c.in-Err.ensures.fault,
+    ) refl

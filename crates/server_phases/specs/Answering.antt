@@ -1,0 +1,99 @@
+-- What an answer gives: the reply, the options after it, and the call that gives an entry back.
+use Rattle.std.specs.Prelude.{◌≡◌, ℕ, Bool, true, false, not, ◌&&◌, nat_lt, nat_le, List, [], ◌∷◌, ◌++◌, length, Option, Some, None, if◌then◌else◌}
+use Rattle.fuse_fs.specs.declared.answers.Context.{Context}
+use Rattle.fuse_fs.specs.Calls as call
+use Rattle.fuse_fs.specs.Calls.{Kind, IsDone, IsNeverGood, IsEntry, IsAttr, IsOpen, IsCreate, IsBytes, IsBytesOrCount, IsStats, IsWritten, IsOffset, IsEntries, IsWish, is_of}
+use Rattle.fuse_values.specs.declared.answer.FileAnswer.{FileAnswer}
+use Rattle.fuse_values.specs.declared.answer.FileAnswer.TheVariants as value
+use Rattle.fuse_values.specs.Answers.{answer_of}
+use Rattle.server_calls.specs.Requests.{give_back, entry_node}
+use Rattle.server_segments.specs.declared.error.Error.TheVariants.{EncodeMessage}
+use Rattle.virtiofsd_fuse.specs.Grammar.{FileCommand}
+use Rattle.virtiofsd_fuse.specs.Serving.{Setting, Served, commanded}
+use Rattle.server_phases.specs.declared.answering.Answered.{Answered}
+use Rattle.server_phases.specs.declared.answering.Sent.{Sent}
+use Rattle.server_phases.specs.declared.answering.Sent.TheVariants as sent
+use Rattle.server_phases.specs.declared.waiting.Awaits.{Awaits}
+use Rattle.server_phases.specs.declared.waiting.Awaits.TheVariants as awaits
+use Rattle.server_phases.specs.Waiting.{first_call}
+
+-- the kind of good answer that is waited for
+abbrev pub kind_for : Awaits → Kind
+kind_for awaits.Entry = IsEntry
+kind_for awaits.Create = IsCreate
+kind_for awaits.Attr = IsAttr
+kind_for awaits.Open = IsOpen
+kind_for awaits.Bytes = IsBytes
+kind_for (awaits.FileBytes most) = IsBytes
+kind_for awaits.BytesOrCount = IsBytesOrCount
+kind_for awaits.Stats = IsStats
+kind_for awaits.Written = IsWritten
+kind_for awaits.Offset = IsOffset
+kind_for (awaits.Entries with_nodes size) = IsEntries
+kind_for (awaits.Wish capable readahead) = IsWish
+kind_for awaits.Refusal = IsNeverGood
+kind_for _ = IsDone
+
+-- whether no error is waited for
+abbrev pub fails_never : Awaits → Bool
+fails_never awaits.Forgotten = true
+fails_never awaits.End = true
+fails_never _ = false
+
+-- whether the client isn't told of a good answer
+abbrev pub tells_nothing : Awaits → Bool
+tells_nothing awaits.Forgotten = true
+tells_nothing awaits.Silence = true
+tells_nothing awaits.End = true
+tells_nothing _ = false
+
+-- the options after it
+abbrev pub leaves_options : ℕ → Awaits → ℕ
+leaves_options options awaits.End = 0
+leaves_options options _ = options
+
+-- whether an entry may come
+abbrev pub brings_entry : Awaits → Bool
+brings_entry awaits.Entry = true
+brings_entry awaits.Create = true
+brings_entry _ = false
+
+-- whether an answer is one that is waited for
+abbrev pub takes : Awaits → call.FileAnswer → Bool
+takes w (call.Failed errno) = not (fails_never w) && nat_lt 0 errno && nat_lt errno 4096
+takes (awaits.FileBytes most) (call.Bytes bytes) = nat_le (length bytes) most
+takes w answer = is_of (kind_for w) answer
+
+-- the data of an answer stands elsewhere, and it says how much there is
+abbrev pub TellsBytes : (bytes : List ℕ) → FileAnswer → Type 0
+TellsBytes bytes (value.Bytes len) = len ≡ length bytes
+TellsBytes bytes _ = bytes ≡ []
+
+-- who holds an entry less, by one
+abbrev pub forget_call : Option (Context × ℕ) → List call.FileCall
+forget_call None = []
+forget_call (Some node) = call.Forget node.0 node.1 1 ∷ []
+
+-- the calls that were made, the options, and the reply; bytes: the data behind its front
+abbrev pub served_by : List call.FileCall → (options : ℕ) → Sent → (bytes : List ℕ) → Served
+served_by calls options (sent.Reply front) bytes = record { calls = calls; options = options; reply = front ++ bytes; fault = None }
+served_by calls options sent.NoRoom bytes = record { calls = calls; options = options; reply = []; fault = Some EncodeMessage }
+
+-- what an answer to a command's first call gives, in a setting, with its data and the options after it
+abbrev pub Gives : Setting → FileCommand → (bytes : List ℕ) → FileAnswer → Answered → (options : ℕ) → Type 0
+Gives s command bytes answer given options =
+    commanded s command (answer_of bytes answer ∷ []) ≡ served_by (first_call command ∷ forget_call given.forget) options given.sent bytes
+
+-- who gave an entry holds it less
+abbrev pub back_by : Bool → Context → call.FileAnswer → List call.FileCall
+back_by entry who answer = if entry then give_back who (entry_node answer) else []
+
+-- how many bytes of data an answer has that is data
+abbrev pub data_of : FileAnswer → Option ℕ
+data_of (value.Bytes len) = Some len
+data_of _ = None
+
+-- the options that both sides can and the bytes to read ahead, where the options that are wanted are waited for
+abbrev pub wish_of : Awaits → Option (ℕ × ℕ)
+wish_of (awaits.Wish capable readahead) = Some (capable, readahead)
+wish_of _ = None

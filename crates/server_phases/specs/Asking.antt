@@ -1,0 +1,54 @@
+-- What a request asks, as it is told to who owns the files.
+use Rattle.std.specs.Prelude.{◌≡◌, ℕ, Bool, false, ◌||◌, List, [], ◌∷◌, length, nat_lt, Some, None, if◌then◌else◌}
+use Rattle.fuse_values.specs.declared.call.FileCall.{FileCall}
+use Rattle.fuse_values.specs.declared.call.FileCall.TheVariants as value
+use Rattle.fuse_values.specs.Recording.{has_name}
+use Rattle.fuse_values.specs.Values.{call_of}
+use Rattle.fuse_fs.specs.Lengths.{filled}
+use Rattle.server_segments.specs.ReaderAndWriter.{ReaderView}
+use Rattle.virtiofsd_fuse.specs.WantOfMemory.{may_take_memory}
+use Rattle.server_segments.specs.declared.error.Error.TheVariants.{EncodeMessage}
+use Rattle.virtiofsd_fuse.specs.Grammar.{Meaning, Asks, FileCommand, meaning}
+use Rattle.virtiofsd_fuse.specs.Serving.{Setting, served, Served, no_reply}
+use Rattle.server_phases.specs.declared.waiting.Waiting.{Waiting}
+use Rattle.server_phases.specs.declared.asking.Asked.{Asked}
+use Rattle.server_phases.specs.declared.asking.Asked.TheVariants as asked
+use Rattle.server_phases.specs.Waiting.{WaitsFor, first_call}
+
+-- a WRITE says how many bytes of data it has
+abbrev pub TellsData : (bytes : List ℕ) → FileCall → Type 0
+TellsData bytes (value.Write context node handle len size offset owner delayed kill flags) = len ≡ length bytes
+TellsData bytes _ = Unit {0}
+
+-- the command that is asked for, the call that it makes first, and what is kept of it; bytes: the data of a WRITE
+abbrev pub AsksCall : Meaning → (bytes : List ℕ) → FileCall → Waiting → Type 0
+AsksCall m bytes made w =
+    (command : FileCommand) × (m ≡ Asks command) × (call_of bytes made ≡ first_call command) × TellsData bytes made × WaitsFor w command
+
+-- no call is made, and this is the reply
+abbrev pub all_reply : (options : ℕ) → List ℕ → Served
+all_reply options reply = record { calls = []; options = options; reply = reply; fault = None }
+
+-- what is told of a request with this meaning: its call, or what it is served without one
+abbrev pub IsTold : Setting → Meaning → (bytes : List ℕ) → Asked → Type 0
+IsTold s m bytes (asked.Call made w) = AsksCall m bytes made w
+IsTold s m bytes (asked.Reply reply) = served s m [] ≡ all_reply s.options reply
+IsTold s m bytes asked.Silence = served s m [] ≡ all_reply s.options []
+IsTold s m bytes (asked.Fault e) = served s m [] ≡ no_reply [] s.options (Some e)
+
+-- what is told of a reply without a call: it has room, or it is a fault
+abbrev pub told_reply : (room : ℕ) → List ℕ → Asked
+told_reply room reply = if nat_lt room (length reply) then asked.Fault EncodeMessage else asked.Reply reply
+
+-- whether the call that is asked for has names, which it owns
+abbrev pub has_names : Meaning → Bool
+has_names (Asks command) = has_name (first_call command)
+has_names _ = false
+
+-- a request in one piece, of which nothing was read
+abbrev pub in_one_piece : List ℕ → ReaderView
+in_one_piece request = record { left = request; segments = filled (length request ∷ []); read = 0 }
+
+-- whether memory may be wanting: for what the call is handed, or for its names
+abbrev pub may_want_memory : (options : ℕ) → (request : List ℕ) → (room : ℕ) → Bool
+may_want_memory options request room = may_take_memory options (in_one_piece request) room || has_names (meaning options request room)

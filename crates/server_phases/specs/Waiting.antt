@@ -1,0 +1,81 @@
+-- What is kept of a request while its call waits for an answer.
+use Rattle.std.specs.Prelude.{◌≡◌, ℕ, []}
+use Rattle.std.specs.Prelude.{Bool, true, false, bit_and}
+use Rattle.fuse_fs.specs.declared.answers.Context.{Context}
+use Rattle.fuse_fs.specs.Calls.{FileCall, Init, Destroy, Lookup, Forget, BatchForget, Getattr, Setattr, Readlink, Symlink, Mknod, Mkdir, Link, Open, Read, Write}
+use Rattle.fuse_fs.specs.Calls.{Statfs, Readdir, Getxattr, Listxattr, Opendir, Getlk, Setlk, Setlkw, Bmap, Ioctl, Poll, NotifyReply, Create, Lseek, CopyFileRange, TmpFile}
+use Rattle.fuse_values.specs.declared.call.FileCall as made
+use Rattle.fuse_values.specs.declared.call.FileCall.TheVariants as value
+use Rattle.fuse_values.specs.Values.{call_of}
+use Rattle.virtiofsd_fuse.specs.Listings.{readdir_call}
+use Rattle.virtiofsd_fuse.specs.Grammar.{FileCommand, One, Starts, Lists, known_options}
+use Rattle.server_phases.specs.declared.waiting.Awaits.{Awaits}
+use Rattle.server_phases.specs.declared.waiting.Awaits.TheVariants as awaits
+use Rattle.server_phases.specs.declared.waiting.Waiting.{Waiting}
+
+-- what one call waits for
+abbrev pub awaits_of : FileCall → Awaits
+awaits_of (Lookup c n name) = awaits.Entry
+awaits_of (Symlink c l n name x) = awaits.Entry
+awaits_of (Mknod c n name m r u x) = awaits.Entry
+awaits_of (Mkdir c n name m u x) = awaits.Entry
+awaits_of (Link c o n name) = awaits.Entry
+awaits_of (Create c n name m k f u x) = awaits.Create
+awaits_of (Getattr c n h) = awaits.Attr
+awaits_of (Setattr c n r h v) = awaits.Attr
+awaits_of (Open c n k f) = awaits.Open
+awaits_of (Opendir c n f) = awaits.Open
+awaits_of (Readlink c n) = awaits.Bytes
+awaits_of (Read c n h r s o w f) = awaits.FileBytes r
+awaits_of (Getxattr c n name s) = awaits.BytesOrCount
+awaits_of (Listxattr c n s) = awaits.BytesOrCount
+awaits_of (Statfs c n) = awaits.Stats
+awaits_of (Write c n h b s o w d k f) = awaits.Written
+awaits_of (CopyFileRange c n h o n' h' o' l f) = awaits.Written
+awaits_of (Lseek c n h o w) = awaits.Offset
+awaits_of (Forget c n k) = awaits.Forgotten
+awaits_of (BatchForget c counts) = awaits.Forgotten
+awaits_of Getlk = awaits.Silence
+awaits_of Setlk = awaits.Silence
+awaits_of Setlkw = awaits.Silence
+awaits_of Bmap = awaits.Silence
+awaits_of Ioctl = awaits.Silence
+awaits_of Poll = awaits.Silence
+awaits_of NotifyReply = awaits.Silence
+awaits_of Destroy = awaits.End
+awaits_of TmpFile = awaits.Refusal
+awaits_of _ = awaits.Done
+
+-- who gets an entry, of the calls that have one
+abbrev pub IsFor : Context → FileCall → Type 0
+IsFor who (Lookup c n name) = c ≡ who
+IsFor who (Symlink c l n name x) = c ≡ who
+IsFor who (Mknod c n name m r u x) = c ≡ who
+IsFor who (Mkdir c n name m u x) = c ≡ who
+IsFor who (Link c o n name) = c ≡ who
+IsFor who (Create c n name m k f u x) = c ≡ who
+IsFor who _ = Unit {0}
+
+-- the calls that requests of one call make
+abbrev pub is_single : FileCall → Bool
+is_single (Init capable) = false
+is_single (Readdir c n h s o) = false
+is_single _ = true
+
+-- a request that means this command waits so
+abbrev pub WaitsFor : Waiting → FileCommand → Type 0
+WaitsFor w (One unique call) = (w.unique ≡ unique) × (w.awaits ≡ awaits_of call) × IsFor w.context call × (is_single call ≡ true)
+WaitsFor w (Starts unique capable readahead) =
+    (w.unique ≡ unique) × (w.awaits ≡ awaits.Wish capable readahead) × (bit_and capable known_options ≡ capable)
+WaitsFor w (Lists unique l) = (w.unique ≡ unique) × (w.awaits ≡ awaits.Entries l.with_nodes l.size) × (l.context ≡ w.context)
+
+-- the call that a command makes first
+abbrev pub first_call : FileCommand → FileCall
+first_call (One unique call) = call
+first_call (Starts unique capable readahead) = Init capable
+first_call (Lists unique l) = readdir_call l
+
+-- what a call that was written down waits for
+abbrev pub awaits_for : made.FileCall → (readahead : ℕ) → Awaits
+awaits_for (value.Init capable) readahead = awaits.Wish capable.0 readahead
+awaits_for call readahead = awaits_of (call_of [] call)

@@ -1,0 +1,372 @@
+//! Answers to the calls of requests.
+
+ghost use Rattle.std.specs.Prelude.{◌≡◌, ℕ, ◌+◌, ◌<◌, ◌≤◌, ◌^◌, ◌++◌, [], ◌∷◌, List, length, true, false, nat_lt, nat_le, option_map};
+ghost use Rattle.vm_values.specs.Fields.{spelled};
+ghost use Rattle.fuse_wire.specs.Records.{entry_out, open_out};
+ghost use Rattle.fuse_fs.specs.Calls.{FileCall, is_handle, Done, HasEntry, HasAttr, Opened, Created, Bytes, Count, Stats, Wrote, Offset};
+ghost use Rattle.fuse_values.specs.Answers.{answer_of};
+ghost use Rattle.server_replies.specs.WholeReplies.{reply_bytes, told_bytes};
+ghost use Rattle.server_calls.specs.Requests.{entry_node, give_back};
+ghost use Rattle.virtiofsd_fuse.specs.Serving.{replied, undone};
+ghost use Rattle.server_phases.specs.Answering.{TellsBytes, takes, tells_nothing, fails_never, brings_entry, back_by, forget_call, served_by};
+
+use crate::front::Front;
+use crate::waiting::{Awaits, Waiting};
+use bitflags::Flags;
+use fuse_fs::replies::{attr_out, getxattr_out, lseek_out, open_out, write_out};
+use fuse_fs::{Context, Entry, Timeout};
+use fuse_values::FileAnswer;
+use fuse_wire::{Attr, EntryOut, Kstatfs, OpenOptions, OpenOut, StatVfs, StatfsOut};
+use server_replies::replies::{OUT_HEADER_LEN, data_header};
+use vm_values::ByteValued;
+
+/// What comes of a reply.
+#[derive(Drop)]
+pub enum Sent {
+    /// The reply: this front, and the data of the answer behind it. Empty where there is no reply.
+    Reply(Front),
+    /// The reply is longer than its room (`Error::EncodeMessage`).
+    NoRoom,
+}
+
+/// What an answer gives.
+#[derive(Drop)]
+pub struct Answered {
+    /// The reply, or that it has no room.
+    pub sent: Sent,
+    /// Who is to hold which node less by one (a call of `forget`): the entry that was answered has no room.
+    pub forget: Option<(Context, u64)>,
+}
+
+/// Why an answer is refused: it changes nothing.
+#[derive(Clone, Copy, Debug, PartialEq, Eq)]
+pub enum Refused {
+    /// The call waits for another kind of answer, or for no error, or for less data.
+    OtherKind,
+}
+
+// A reply that is an entry.
+fn entry_front(unique: u64, entry: Entry<u64>) -> Front
+    ensures { result ≡ told_bytes false unique (HasEntry entry) }
+{
+    let mut body = [0u8; 128];
+    EntryOut::from(entry).put_bytes(&mut body);
+    Front::reply(unique, &body)
+}
+
+// A reply that is attributes.
+fn attr_front(unique: u64, attr: Attr, timeout: Timeout) -> Front
+    ensures { result ≡ told_bytes false unique (HasAttr attr timeout) }
+{
+    let mut body = [0u8; 104];
+    attr_out(attr, timeout).put_bytes(&mut body);
+    Front::reply(unique, &body)
+}
+
+// A reply that is an opened file.
+fn open_front(unique: u64, handle: Option<u64>, options: OpenOptions) -> Front
+    ensures { result ≡ told_bytes false unique (Opened handle options.0) }
+{
+    let mut body = [0u8; 16];
+    open_out(handle, options).put_bytes(&mut body);
+    Front::reply(unique, &body)
+}
+
+// Writes the two records of a reply to CREATE.
+fn put_created(body: &mut [u8], entry: &EntryOut, opened: &OpenOut)
+    requires { length body.old ≡ 144 }
+    ensures { body.new ≡ spelled (entry_out entry.now) ++ spelled (open_out opened.now) }
+{
+    let (first, second) = body.split_at_mut(128);
+    entry.put_bytes(first);
+    opened.put_bytes(second);
+}
+
+// A reply that is an entry and an opened file.
+fn create_front(unique: u64, entry: Entry<u64>, handle: Option<u64>, options: OpenOptions) -> Front
+    ensures { result ≡ told_bytes false unique (Created entry handle options.0) }
+{
+    let mut body = [0u8; 144];
+    let opened = open_out(handle, options);
+    put_created(&mut body, &EntryOut::from(entry), &opened);
+    Front::reply(unique, &body)
+}
+
+// A reply that is a count of what there is.
+fn count_front(unique: u64, count: u32) -> Front
+    ensures { result ≡ told_bytes false unique (Count count) }
+{
+    let mut body = [0u8; 8];
+    getxattr_out(count).put_bytes(&mut body);
+    Front::reply(unique, &body)
+}
+
+// A reply that is the numbers of a file system.
+fn stats_front(unique: u64, stats: StatVfs) -> Front
+    ensures { result ≡ told_bytes false unique (Stats stats) }
+{
+    let mut body = [0u8; 80];
+    let st = Kstatfs::from(stats);
+    StatfsOut { st }.put_bytes(&mut body);
+    Front::reply(unique, &body)
+}
+
+// A reply that is a count of what was written.
+fn write_front(unique: u64, count: u32) -> Front
+    ensures { result ≡ told_bytes false unique (Wrote count) }
+{
+    let mut body = [0u8; 8];
+    write_out(count).put_bytes(&mut body);
+    Front::reply(unique, &body)
+}
+
+// A reply that is a place in a file.
+fn offset_front(unique: u64, offset: u64) -> Front
+    ensures { result ≡ told_bytes false unique (Offset offset) }
+{
+    let mut body = [0u8; 8];
+    lseek_out(offset).put_bytes(&mut body);
+    Front::reply(unique, &body)
+}
+
+// A reply to an answer of which the client is told, without data.
+fn told_front(unique: u64, answer: FileAnswer) -> Front
+    ensures { result ≡ told_bytes false unique (answer_of [] answer) }
+{
+    match answer {
+        FileAnswer::Failed(error) => Front::error(unique, error),
+        FileAnswer::HasEntry(entry) => entry_front(unique, entry),
+        FileAnswer::HasAttr(attr, timeout) => attr_front(unique, attr, timeout),
+        FileAnswer::Opened { handle, options } => open_front(unique, handle, options),
+        FileAnswer::Created {
+            entry,
+            handle,
+            options,
+        } => create_front(unique, entry, handle, options),
+        FileAnswer::Count(count) => count_front(unique, count),
+        FileAnswer::Stats(stats) => stats_front(unique, stats),
+        FileAnswer::Wrote(count) => write_front(unique, count),
+        FileAnswer::Offset(offset) => offset_front(unique, offset),
+        FileAnswer::Done => Front::reply(unique, &[]),
+        FileAnswer::Bytes { .. } => Front::reply(unique, &[]),
+        FileAnswer::Wants(_) => Front::reply(unique, &[]),
+    }
+}
+
+// A reply to an answer of which the client isn't told where it is good.
+fn silent_front(unique: u64, answer: &FileAnswer) -> Front
+    ensures { result ≡ told_bytes true unique (answer_of [] answer.now) }
+{
+    match answer {
+        FileAnswer::Failed(error) => Front::error(unique, *error),
+        _ => Front::of_parts(&[], &[]),
+    }
+}
+
+// The front of the reply to an answer.
+fn front_of(waiting: &Waiting, answer: FileAnswer) -> Front
+    ensures { result ≡ told_bytes (tells_nothing waiting.now.awaits) waiting.now.unique (answer_of [] answer) }
+{
+    if tells_nothing(&waiting.awaits) {
+        silent_front(waiting.unique, &answer)
+    } else {
+        told_front(waiting.unique, answer)
+    }
+}
+
+// The node of the entry that an answer has.
+fn entry_node(answer: &FileAnswer) -> Option<u64>
+    ensures { result ≡ entry_node (answer_of [] answer.now) }
+{
+    match answer {
+        FileAnswer::HasEntry(entry) => Some(entry.inode),
+        FileAnswer::Created { entry, .. } => Some(entry.inode),
+        _ => None,
+    }
+}
+
+// Who is to hold which node less, if an entry was answered.
+fn back_of(waiting: &Waiting, answer: &FileAnswer) -> Option<(Context, u64)>
+    ensures { forget_call result ≡ back_by (brings_entry waiting.now.awaits) waiting.now.context (answer_of [] answer.now) }
+{
+    if !brings_entry(&waiting.awaits) {
+        return None;
+    }
+    match entry_node(answer) {
+        Some(node) => Some((waiting.context, node)),
+        None => None,
+    }
+}
+
+// Whether no error is waited for.
+fn fails_never(awaits: &Awaits) -> bool
+    ensures { result ≡ fails_never awaits.now }
+{
+    matches!(awaits, Awaits::Forgotten | Awaits::End)
+}
+
+// Whether the client isn't told of a good answer.
+fn tells_nothing(awaits: &Awaits) -> bool
+    ensures { result ≡ tells_nothing awaits.now }
+{
+    matches!(awaits, Awaits::Forgotten | Awaits::Silence | Awaits::End)
+}
+
+// Whether an entry may come.
+fn brings_entry(awaits: &Awaits) -> bool
+    ensures { result ≡ brings_entry awaits.now }
+{
+    matches!(awaits, Awaits::Entry | Awaits::Create)
+}
+
+// A front where it has room, else that who answered is to hold a node less.
+pub(crate) fn placed(front: Front, room: usize, back: Option<(Context, u64)>) -> Answered
+    ensures { (options : ℕ) (call : FileCall) → replied room (call ∷ undone room front (forget_call back)) options front
+        ≡ served_by (call ∷ forget_call result.forget) options result.sent [] }
+{
+    if room < front.bytes().len() {
+        Answered {
+            sent: Sent::NoRoom,
+            forget: back,
+        }
+    } else {
+        Answered {
+            sent: Sent::Reply(front),
+            forget: None,
+        }
+    }
+}
+
+// The reply to an answer without data.
+pub(crate) fn plain_answered(waiting: &Waiting, room: usize, answer: FileAnswer) -> Answered
+    ensures { let told = told_bytes (tells_nothing waiting.now.awaits) waiting.now.unique (answer_of [] answer) in
+        let back = back_by (brings_entry waiting.now.awaits) waiting.now.context (answer_of [] answer) in
+        (options : ℕ) (call : FileCall) → replied room (call ∷ undone room told back) options told
+        ≡ served_by (call ∷ forget_call result.forget) options result.sent [] }
+{
+    let back = back_of(waiting, &answer);
+    placed(front_of(waiting, answer), room, back)
+}
+
+// The header of a reply with so many bytes of data.
+#[tactic(auto, unfolding(server_replies::specs::WholeReplies::reply_bytes))]
+fn data_front(unique: u64, len: usize) -> Front
+    requires { 16 + len < 2 ^ 32 }
+    ensures { (bytes : List ℕ) → len ≡ length bytes → result ++ bytes ≡ reply_bytes unique bytes }
+{
+    Front::of_parts(&data_header(unique, Ok(len)), &[])
+}
+
+// The reply to an answer that is data.
+pub(crate) fn data_answered(unique: u64, room: usize, len: usize) -> Answered
+    requires { room < 2 ^ 32 }
+    ensures { (options : ℕ) (call : FileCall) (bytes : List ℕ) → len ≡ length bytes
+        → replied room (call ∷ undone room (reply_bytes unique bytes) []) options (reply_bytes unique bytes)
+        ≡ served_by (call ∷ forget_call result.forget) options result.sent bytes }
+{
+    match has_room(room, len) {
+        true => Answered {
+            sent: Sent::Reply(data_front(unique, len)),
+            forget: None,
+        },
+        false => Answered {
+            sent: Sent::NoRoom,
+            forget: None,
+        },
+    }
+}
+
+// Whether a header and so many bytes of data have room.
+fn has_room(room: usize, len: usize) -> bool
+    ensures { result ≡ nat_le (16 + len) room }
+{
+    OUT_HEADER_LEN <= room && len <= room - OUT_HEADER_LEN
+}
+
+// A front where it has room, of a call that gives nothing back.
+pub(crate) fn placed_alone(front: Front, room: usize) -> Answered
+    ensures { (options : ℕ) (call : FileCall) → replied room (call ∷ []) options front ≡ served_by (call ∷ forget_call result.forget) options result.sent [] }
+{
+    if room < front.bytes().len() {
+        Answered {
+            sent: Sent::NoRoom,
+            forget: None,
+        }
+    } else {
+        Answered {
+            sent: Sent::Reply(front),
+            forget: None,
+        }
+    }
+}
+
+// Whether a number has 64 bits: any has.
+fn is_number(number: u64) -> bool
+    ensures { result ≡ nat_lt number (2 ^ 64) }
+{
+    true
+}
+
+// Whether a count has 32 bits: any has.
+fn is_count(count: u32) -> bool
+    ensures { result ≡ nat_lt count (2 ^ 32) }
+{
+    true
+}
+
+// Whether an open file's number has 64 bits, where there is one: any has.
+fn is_handle(handle: Option<u64>) -> bool
+    ensures { result ≡ is_handle handle }
+{
+    match handle {
+        Some(number) => is_number(number),
+        None => true,
+    }
+}
+
+/// Whether an answer is one that is waited for.
+pub(crate) fn suits(awaits: &Awaits, answer: &FileAnswer) -> bool
+    ensures { (bytes : List ℕ) → TellsBytes bytes answer.now → result ≡ takes awaits.now (answer_of bytes answer.now) }
+{
+    match answer {
+        FileAnswer::Failed(error) => {
+            let number = error.raw();
+            !fails_never(awaits) && 0 < number && number < 4096
+        }
+        FileAnswer::Done => takes_done(awaits),
+        FileAnswer::HasEntry(entry) => matches!(awaits, Awaits::Entry) && is_number(entry.inode),
+        FileAnswer::HasAttr(_, _) => matches!(awaits, Awaits::Attr),
+        FileAnswer::Opened { handle, .. } => matches!(awaits, Awaits::Open) && is_handle(*handle),
+        FileAnswer::Created { entry, handle, .. } => {
+            matches!(awaits, Awaits::Create) && is_number(entry.inode) && is_handle(*handle)
+        }
+        FileAnswer::Bytes { len } => takes_bytes(awaits, *len),
+        FileAnswer::Count(count) => matches!(awaits, Awaits::BytesOrCount) && is_count(*count),
+        FileAnswer::Stats(_) => matches!(awaits, Awaits::Stats),
+        FileAnswer::Wrote(count) => matches!(awaits, Awaits::Written) && is_count(*count),
+        FileAnswer::Offset(offset) => matches!(awaits, Awaits::Offset) && is_number(*offset),
+        FileAnswer::Wants(wanted) => matches!(awaits, Awaits::Wish { .. })
+            && is_number(wanted.bits()),
+    }
+}
+
+// Whether that it is done is waited for.
+fn takes_done(awaits: &Awaits) -> bool
+    ensures { result ≡ takes awaits.now Done }
+{
+    matches!(
+        awaits,
+        Awaits::Done | Awaits::Forgotten | Awaits::Silence | Awaits::End
+    )
+}
+
+// Whether so much data is waited for.
+fn takes_bytes(awaits: &Awaits, len: usize) -> bool
+    ensures { (bytes : List ℕ) → len ≡ length bytes → result ≡ takes awaits.now (Bytes bytes) }
+{
+    match awaits {
+        Awaits::FileBytes { most } => len <= *most,
+        Awaits::Bytes | Awaits::BytesOrCount => true,
+        _ => false,
+    }
+}

@@ -1,0 +1,157 @@
+//! How a session answers the calls of requests.
+
+ghost use Rattle.std.specs.Prelude.{◌≡◌, ℕ, ◌<◌, ◌^◌, [], ◌∷◌, List, None, true, false, bit_and, IfOk, OnOk, OnErr};
+ghost use Rattle.fuse_fs.specs.Calls.{FileCall, Init, suits};
+ghost use Rattle.fuse_values.specs.Answers.{answer_of};
+ghost use Rattle.virtiofsd_fuse.specs.Grammar.{FileCommand, known_options};
+ghost use Rattle.virtiofsd_fuse.specs.Serving.{setting, replied, agreed, start_options, start_answered};
+ghost use Rattle.server_phases.specs.Answering.{Gives, TellsBytes, takes, forget_call, served_by, data_of, wish_of, leaves_options};
+ghost use Rattle.server_phases.specs.Waiting.{WaitsFor, first_call};
+
+use crate::answering::{Answered, Refused, data_answered, placed_alone, plain_answered, suits};
+use crate::front::Front;
+use crate::session::{Session, known};
+use crate::waiting::{Awaits, Waiting};
+use bitflags::Flags;
+use fuse_values::FileAnswer;
+use fuse_wire::FsOptions;
+use server_replies::init::start_bytes;
+
+// What both sides can, and the file system wants or is agreed on anyway.
+#[tactic(auto, using(virtiofsd_fuse::proofs::Options::some_known))]
+fn agree(capable: FsOptions, wanted: FsOptions) -> FsOptions
+    requires { bit_and capable.0 known_options ≡ capable.0 }
+    ensures options { result.0 ≡ agreed capable.0 wanted.0 }
+    ensures known { bit_and result.0 known_options ≡ result.0 }
+{
+    capable & (wanted | FsOptions::DEFAULT)
+}
+
+// The options after a call that is no INIT.
+fn left_options(options: FsOptions, awaits: &Awaits) -> FsOptions
+    requires { bit_and options.0 known_options ≡ options.0 }
+    ensures options { result.0 ≡ leaves_options options.0 awaits.now }
+    ensures known { bit_and result.0 known_options ≡ result.0 }
+{
+    match awaits {
+        Awaits::End => FsOptions::from_bits_retain(0),
+        _ => options,
+    }
+}
+
+// How many bytes of data an answer has that is data.
+fn data_of(answer: &FileAnswer) -> Option<usize>
+    ensures { result ≡ data_of answer.now }
+{
+    match answer {
+        FileAnswer::Bytes { len } => Some(*len),
+        _ => None,
+    }
+}
+
+// The options and the bytes to read ahead where those that are wanted are waited for.
+fn wish_of(awaits: &Awaits) -> Option<(u64, u32)>
+    ensures { result ≡ wish_of awaits.now }
+{
+    match awaits {
+        Awaits::Wish { capable, readahead } => Some((*capable, *readahead)),
+        _ => None,
+    }
+}
+
+impl Session {
+    // INIT: what is agreed from then on.
+    fn start(
+        &mut self,
+        unique: u64,
+        room: usize,
+        capable: FsOptions,
+        readahead: u32,
+        answer: &FileAnswer,
+    ) -> Answered
+        requires { bit_and capable.0 known_options ≡ capable.0 }
+        ensures gives { replied room (Init capable.0 ∷ []) (start_options self.old.options.0 capable.0 (answer_of [] answer.now))
+            (start_answered self.old.page_size unique capable.0 readahead (answer_of [] answer.now))
+            ≡ served_by (Init capable.0 ∷ forget_call result.forget) self.new.options.0 result.sent [] }
+        ensures page_size { self.new.page_size ≡ self.old.page_size }
+    {
+        match answer {
+            FileAnswer::Wants(wanted) => {
+                let options = agree(capable, *wanted);
+                let body = start_bytes(self.page_size, readahead, options);
+                self.options = options;
+                placed_alone(Front::reply(unique, &body), room)
+            }
+            FileAnswer::Failed(error) => placed_alone(Front::error(unique, *error), room),
+            _ => placed_alone(Front::of_parts(&[], &[]), room),
+        }
+    }
+
+    // An answer without data, but INIT's.
+    fn answer_single(&mut self, waiting: &Waiting, room: usize, answer: FileAnswer) -> Answered
+        requires plain { data_of answer ≡ None }
+        requires single { wish_of waiting.now.awaits ≡ None }
+        ensures gives { (command : FileCommand) (bytes : List ℕ) → WaitsFor waiting.now command → TellsBytes bytes answer
+            → takes waiting.now.awaits (answer_of bytes answer) ≡ true
+            → Gives (setting self.old.page_size self.old.options.0 room) command bytes answer result self.new.options.0 }
+        ensures page_size { self.new.page_size ≡ self.old.page_size }
+    {
+        self.options = left_options(self.options, &waiting.awaits);
+        plain_answered(waiting, room, answer)
+    }
+
+    // An answer without data.
+    fn answer_plain(&mut self, waiting: &Waiting, room: usize, answer: FileAnswer) -> Answered
+        requires plain { data_of answer ≡ None }
+        ensures gives { (command : FileCommand) (bytes : List ℕ) → WaitsFor waiting.now command → TellsBytes bytes answer
+            → takes waiting.now.awaits (answer_of bytes answer) ≡ true
+            → Gives (setting self.old.page_size self.old.options.0 room) command bytes answer result self.new.options.0 }
+        ensures page_size { self.new.page_size ≡ self.old.page_size }
+    {
+        match wish_of(&waiting.awaits) {
+            Some((capable, readahead)) => {
+                self.start(waiting.unique, room, known(capable), readahead, &answer)
+            }
+            None => self.answer_single(waiting, room, answer),
+        }
+    }
+
+    // An answer that is waited for.
+    fn answer_taken(&mut self, waiting: &Waiting, room: usize, answer: FileAnswer) -> Answered
+        requires { room < 2 ^ 32 }
+        ensures gives { (command : FileCommand) (bytes : List ℕ) → WaitsFor waiting.now command → TellsBytes bytes answer
+            → takes waiting.now.awaits (answer_of bytes answer) ≡ true
+            → Gives (setting self.old.page_size self.old.options.0 room) command bytes answer result self.new.options.0 }
+        ensures page_size { self.new.page_size ≡ self.old.page_size }
+    {
+        match data_of(&answer) {
+            Some(len) => data_answered(waiting.unique, room, len),
+            None => self.answer_plain(waiting, room, answer),
+        }
+    }
+
+    /// Answers the call of a request that has this room for its reply, which is less than 2^32 bytes: the reply's front and
+    /// the options after it, by what the call's answer is served. An answer that the call can't have is refused, and
+    /// changes nothing.
+    pub fn answer(
+        &mut self,
+        waiting: &Waiting,
+        room: usize,
+        answer: FileAnswer,
+    ) -> Result<Answered, Refused>
+        requires { room < 2 ^ 32 }
+        ensures gives { IfOk result (λ given. (command : FileCommand) (bytes : List ℕ) → WaitsFor waiting.now command → TellsBytes bytes answer
+            → Gives (setting self.old.page_size self.old.options.0 room) command bytes answer given self.new.options.0) }
+        ensures taken { OnOk result ((command : FileCommand) (bytes : List ℕ) → WaitsFor waiting.now command → TellsBytes bytes answer
+            → suits (first_call command) (answer_of bytes answer) ≡ true) }
+        ensures refused { OnErr result ((command : FileCommand) (bytes : List ℕ) → WaitsFor waiting.now command → TellsBytes bytes answer
+            → suits (first_call command) (answer_of bytes answer) ≡ false) }
+        ensures same { OnErr result (self.new ≡ self.old) }
+        ensures page_size { self.new.page_size ≡ self.old.page_size }
+    {
+        if !suits(&waiting.awaits, &answer) {
+            return Err(Refused::OtherKind);
+        }
+        Ok(self.answer_taken(waiting, room, answer))
+    }
+}

@@ -1,0 +1,105 @@
+//! What is kept of a request while its call waits for an answer.
+
+ghost use Rattle.std.specs.Prelude.{◌≡◌, []};
+ghost use Rattle.fuse_values.specs.Values.{call_of};
+ghost use Rattle.server_phases.specs.Waiting.{awaits_of, awaits_for};
+
+use bitflags::Flags;
+use fuse_fs::Context;
+use fuse_values::FileCall;
+
+/// What a call waits for.
+#[derive(Clone, Copy, Debug, PartialEq, Eq)]
+pub enum Awaits {
+    /// That it is done.
+    Done,
+    /// That it is done, which can't fail, and of which the client isn't told.
+    Forgotten,
+    /// That it is done, of which the client isn't told.
+    Silence,
+    /// That a conversation has ended.
+    End,
+    /// An error, since there is no good answer.
+    Refusal,
+    /// An entry.
+    Entry,
+    /// Attributes.
+    Attr,
+    /// An opened file.
+    Open,
+    /// An entry and an opened file.
+    Create,
+    /// Data.
+    Bytes,
+    /// At most `most` bytes of a file.
+    FileBytes { most: usize },
+    /// Data, or how many bytes of it there are.
+    BytesOrCount,
+    /// The numbers of a file system.
+    Stats,
+    /// How many bytes were written.
+    Written,
+    /// A place in a file.
+    Offset,
+    /// The options that are wanted, of those that both sides can; the client reads `readahead` bytes ahead.
+    Wish { capable: u64, readahead: u32 },
+    /// The entries of a directory in `size` bytes, each with its node or without.
+    Entries { with_nodes: bool, size: u32 },
+}
+
+/// What is kept of a request whose call waits for an answer; its bytes are wanted no more.
+#[derive(Clone, Copy, Debug)]
+pub struct Waiting {
+    /// The client's number of the request (`unique` of `struct fuse_in_header`).
+    pub unique: u64,
+    /// Who asks.
+    pub context: Context,
+    /// What the call waits for.
+    pub awaits: Awaits,
+}
+
+// What one call waits for.
+fn awaits_of(call: &FileCall) -> Awaits
+    ensures { result ≡ awaits_of (call_of [] call.now) }
+{
+    match call {
+        FileCall::Lookup { .. }
+        | FileCall::Symlink { .. }
+        | FileCall::Mknod { .. }
+        | FileCall::Mkdir { .. }
+        | FileCall::Link { .. } => Awaits::Entry,
+        FileCall::Create { .. } => Awaits::Create,
+        FileCall::Getattr { .. } | FileCall::Setattr { .. } => Awaits::Attr,
+        FileCall::Open { .. } | FileCall::Opendir { .. } => Awaits::Open,
+        FileCall::Readlink { .. } => Awaits::Bytes,
+        FileCall::Getxattr { .. } | FileCall::Listxattr { .. } => Awaits::BytesOrCount,
+        FileCall::Statfs { .. } => Awaits::Stats,
+        FileCall::Write { .. } | FileCall::CopyFileRange { .. } => Awaits::Written,
+        FileCall::Lseek { .. } => Awaits::Offset,
+        FileCall::Forget { .. } | FileCall::BatchForget { .. } => Awaits::Forgotten,
+        FileCall::Getlk
+        | FileCall::Setlk
+        | FileCall::Setlkw
+        | FileCall::Bmap
+        | FileCall::Ioctl
+        | FileCall::Poll
+        | FileCall::NotifyReply => Awaits::Silence,
+        FileCall::Destroy => Awaits::End,
+        FileCall::TmpFile => Awaits::Refusal,
+        FileCall::Read { room, .. } => Awaits::FileBytes { most: *room },
+        _ => Awaits::Done,
+    }
+}
+
+/// What a call that was written down waits for.
+pub(crate) fn awaits_for(call: &FileCall, readahead: u32) -> Awaits
+    ensures { result ≡ awaits_for call.now readahead }
+{
+    match call {
+        FileCall::Init { capable } => Awaits::Wish {
+            capable: capable.bits(),
+            readahead,
+        },
+        other => awaits_of(other),
+    }
+}

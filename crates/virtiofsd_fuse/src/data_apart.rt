@@ -1,0 +1,41 @@
+//! Which bytes of a request and of its reply are data that may stay where they stand.
+
+ghost use Rattle.std.specs.Prelude.{◌≡◌};
+ghost use Rattle.fuse_wire.specs.Opcodes.{opcode_of};
+ghost use Rattle.virtiofsd_fuse.specs.DataApart.{begins_a_write, is_write};
+
+use crate::server::opcode_of;
+use fuse_in::InHeader;
+use fuse_wire::Opcode;
+use server_replies::replies::OUT_HEADER_LEN;
+use server_requests::records::read_record;
+use server_segments::Reader;
+use std::alloc::Global;
+
+/// How many bytes of a request stand before its data, in bytes: all that a READ has, and what stands before the data of a
+/// WRITE (linux/fuse.h: `struct fuse_in_header`, and `struct fuse_read_in` or `struct fuse_write_in`).
+pub const REQUEST_FRONT: usize = 80;
+
+/// How many bytes of a reply stand before its data, in bytes: `struct fuse_out_header` (linux/fuse.h).
+pub const REPLY_FRONT: usize = OUT_HEADER_LEN;
+
+// Whether a header is that of a WRITE.
+#[inline(always)]
+fn is_write(header: &InHeader) -> bool
+    ensures { result ≡ is_write (opcode_of header.now.opcode) }
+{
+    matches!(opcode_of(header.opcode), Some(Opcode::Write))
+}
+
+/// Whether what follows the first `REQUEST_FRONT` bytes of a request, which begins so, is data that is written: whether
+/// its header is that of a WRITE.
+#[inline(always)]
+pub fn writes_data(alloc: Global, front: &[u8]) -> bool
+    ensures { result ≡ begins_a_write front.now }
+{
+    let mut r = Reader::of_slice(alloc, front);
+    match read_record::<InHeader>(&mut r) {
+        Ok(header) => is_write(&header),
+        Err(_) => false,
+    }
+}
