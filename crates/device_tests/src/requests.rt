@@ -4,7 +4,7 @@ use crate::stand::{Act, REQUEST_AT, ROOM_AT, Request, play};
 use call_log::files::HELLO;
 use call_log::{CallLog, LoggedCall};
 use fs_device::Fault;
-use fs_device::laws::law_cuts;
+use fs_device::laws::{law_cuts, law_steps_by_loads};
 use fs_queue::laws::{law_paths, law_walks_end};
 use std::process::Abort;
 use virtiofsd_fuse::Error;
@@ -58,6 +58,7 @@ fn read_is_the_same_however_it_is_cut(rt: HostRuntime) {
     ];
     play(&rt, rt.alloc(), ACTS);
     law_cuts::<CallLog>();
+    law_steps_by_loads::<CallLog>();
     law_paths();
     law_walks_end();
 }

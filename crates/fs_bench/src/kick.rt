@@ -32,6 +32,14 @@ const LONG_RING: Ring = Ring {
     used: 0x91000,
 };
 
+// How many bytes of a request come before what belongs to its opcode, and of a reply (`struct fuse_in_header` and
+// `struct fuse_out_header`, linux/fuse.h), and of a WRITE before its data (with `struct fuse_write_in`).
+const IN_HEADER: u32 = 40;
+
+const OUT_HEADER: u32 = 16;
+
+const WRITE_FRONT: u32 = 80;
+
 // Where the request and its room are.
 const REQUEST: u64 = 0x10000;
 
@@ -55,8 +63,39 @@ pub(crate) const LIMIT: u32 = 0x101000;
 /// How many bytes the guest's pages have.
 pub(crate) const PAGE_SIZE: u32 = 4096;
 
-// The splits that are measured.
-const SPLITS: [u16; 3] = [1, 2, 16];
+// The cuts that every request is measured by.
+const CUTS: [Cut; 3] = [Cut::Parts(1), Cut::Parts(2), Cut::Parts(16)];
+
+// How many bytes of a guest lie between two parts of a cut, so that no two of them are joined.
+const GAP: u64 = 64;
+
+// How many bytes a page of data has, and how far the next one of Linux's begins from it.
+const PAGE: u32 = 0x1000;
+
+const PAGE_STEP: u64 = 0x2000;
+
+// Where the data of Linux's cut begins, from its header on.
+const PAGES: u64 = 0x1000;
+
+/// Into which descriptors a request and its room are cut.
+#[derive(Clone, Copy)]
+pub(crate) enum Cut {
+    /// As Linux's driver does (fs/fuse/virtio_fs.c): a header, what belongs to the opcode, and data in pages of 4096 bytes,
+    /// 8192 apart. None of them touches another.
+    Linux,
+    /// Into so many parts, 64 bytes apart.
+    Parts(u16),
+}
+
+impl Cut {
+    // The number that a line tells.
+    fn split(self) -> u16 {
+        match self {
+            Cut::Linux => 0,
+            Cut::Parts(split) => split,
+        }
+    }
+}
 
 /// Whether a chain stands in the queue's table, or in one of its own that a descriptor names.
 #[derive(Clone, Copy)]
@@ -82,7 +121,7 @@ pub(crate) enum Ask {
     Write(u32),
 }
 
-// What is asked, and under which name.
+// What is asked by every cut, and under which name.
 const ASKED: [(&str, Ask); 11] = [
     ("unknown", Ask::Unknown(16)),
     ("unknown-room-1m", Ask::Unknown(0x100000)),
@@ -97,24 +136,46 @@ const ASKED: [(&str, Ask); 11] = [
     ("write-1m", Ask::Write(0x100000)),
 ];
 
-/// A request, how much room its reply has, and how much of it the reply takes.
+// What is asked by Linux's cut, which is that of a guest's driver.
+const ASKED_BY_LINUX: [(&str, Ask); 10] = [
+    ("unknown", Ask::Unknown(16)),
+    ("lookup", Ask::Lookup),
+    ("getattr", Ask::Getattr),
+    ("read-4k", Ask::Read(0x1000)),
+    ("read-64k", Ask::Read(0x10000)),
+    ("read-512k", Ask::Read(0x80000)),
+    ("write-4k", Ask::Write(0x1000)),
+    ("write-64k", Ask::Write(0x10000)),
+    ("write-512k", Ask::Write(0x80000)),
+    ("readdirplus-100", Ask::Readdirplus),
+];
+
+/// A request, how much room its reply has, and how much of it the reply takes; and how many bytes of the request and of
+/// the room aren't data that Linux keeps in pages.
 #[derive(Drop)]
 pub(crate) struct Asked {
     pub case: &'static str,
     pub request: Vec<u8>,
     pub room: u32,
     pub reply: u32,
+    pub request_front: u32,
+    pub room_front: u32,
 }
 
 impl Asked {
     /// What is asked under a name.
     pub fn new(alloc: Global, case: &'static str, ask: Ask) -> Result<Asked, AllocError> {
         let (room, reply) = ask.lengths();
+        let request = ask.request(alloc)?;
+        let len = u32::try_from(request.len()).unwrap_or(u32::MAX);
+        let (request_front, room_front) = ask.fronts(len, room);
         Ok(Asked {
             case,
-            request: ask.request(alloc)?,
+            request,
             room,
             reply,
+            request_front,
+            room_front,
         })
     }
 
@@ -134,6 +195,15 @@ impl Ask {
             Ask::Readdirplus => (0x8010, 16_816),
             Ask::Read(size) => (size.saturating_add(16), size.saturating_add(16)),
             Ask::Write(_) => (24, 24),
+        }
+    }
+
+    // How many bytes of a request and of a room of these lengths aren't data.
+    fn fronts(self, request: u32, room: u32) -> (u32, u32) {
+        match self {
+            Ask::Write(_) => (WRITE_FRONT, room),
+            Ask::Read(_) | Ask::Readdirplus => (request, OUT_HEADER),
+            Ask::Unknown(_) | Ask::Getattr | Ask::Lookup => (request, room),
         }
     }
 
@@ -175,8 +245,14 @@ fn write(alloc: Global, size: u32) -> Result<Vec<u8>, AllocError> {
     Ok(request)
 }
 
-// A range of addresses cut into as many parts, the last of which has what is left over.
-fn cut(alloc: Global, addr: u64, len: u32, split: u16) -> Result<Vec<(u64, u32)>, AllocError> {
+// So many bytes from an address on cut into as many parts, of which the last has what is left over, with a gap behind each.
+fn parts(
+    alloc: Global,
+    addr: u64,
+    len: u32,
+    split: u16,
+    gap: u64,
+) -> Result<Vec<(u64, u32)>, AllocError> {
     let step = len / u32::from(split.max(1));
     let mut parts = Vec::new(alloc);
     for k in 0..split {
@@ -186,9 +262,57 @@ fn cut(alloc: Global, addr: u64, len: u32, split: u16) -> Result<Vec<(u64, u32)>
         } else {
             step
         };
-        parts.push((addr.wrapping_add(u64::from(begin)), size))?;
+        let at = u64::from(begin).wrapping_add(gap.wrapping_mul(u64::from(k)));
+        parts.push((addr.wrapping_add(at), size))?;
     }
     Ok(parts)
+}
+
+// So many bytes from an address on as Linux cuts them: a header, the rest of the front, and the data in pages.
+fn linux_parts(
+    alloc: Global,
+    addr: u64,
+    len: u32,
+    header: u32,
+    front: u32,
+) -> Result<Vec<(u64, u32)>, AllocError> {
+    let mut parts = Vec::new(alloc);
+    parts.push((addr, header))?;
+    let behind = front.saturating_sub(header);
+    if behind > 0 {
+        let at = addr.wrapping_add(u64::from(header)).wrapping_add(GAP);
+        parts.push((at, behind))?;
+    }
+    let mut left = len.saturating_sub(front);
+    for page in 0..len / PAGE + 1 {
+        if left == 0 {
+            break;
+        }
+        let at = PAGES.wrapping_add(PAGE_STEP.wrapping_mul(u64::from(page)));
+        let size = left.min(PAGE);
+        parts.push((addr.wrapping_add(at), size))?;
+        left = left.saturating_sub(size);
+    }
+    Ok(parts)
+}
+
+// The descriptors of a request and of its room by a cut.
+fn descriptors_of(
+    alloc: Global,
+    asked: &Asked,
+    cut: Cut,
+) -> Result<(Vec<(u64, u32)>, Vec<(u64, u32)>), AllocError> {
+    let len = u32::try_from(asked.request.len()).unwrap_or(u32::MAX);
+    match cut {
+        Cut::Parts(split) => Ok((
+            parts(alloc, REQUEST, len, split, GAP)?,
+            parts(alloc, ROOM, asked.room, split, GAP)?,
+        )),
+        Cut::Linux => Ok((
+            linux_parts(alloc, REQUEST, len, IN_HEADER, asked.request_front)?,
+            linux_parts(alloc, ROOM, asked.room, OUT_HEADER, asked.room_front)?,
+        )),
+    }
 }
 
 // A device whose one queue is a ring.
@@ -223,17 +347,10 @@ impl Kicking {
     }
 
     /// A chain that begins at the table's first descriptor, to which each entry of the ring points.
-    pub fn new(
-        alloc: Global,
-        asked: &Asked,
-        split: u16,
-        form: Form,
-    ) -> Result<Kicking, BenchFault> {
+    pub fn new(alloc: Global, asked: &Asked, by: Cut, form: Form) -> Result<Kicking, BenchFault> {
         let mut kicking = Kicking::idle(alloc, RING)?;
         let request = &asked.request;
-        let len = u32::try_from(request.len()).unwrap_or(u32::MAX);
-        let readable = cut(alloc, REQUEST, len, split)?;
-        let writable = cut(alloc, ROOM, asked.room, split)?;
+        let (readable, writable) = descriptors_of(alloc, asked, by)?;
         let guest = &mut kicking.guest;
         match form {
             Form::Direct => guest.chain(0, request, &readable, &writable)?,
@@ -246,7 +363,7 @@ impl Kicking {
     fn long(alloc: Global, request: &[u8], split: u16) -> Result<Kicking, BenchFault> {
         let mut kicking = Kicking::idle(alloc, LONG_RING)?;
         let len = u32::try_from(request.len()).unwrap_or(u32::MAX);
-        let readable = cut(alloc, LONG_REQUEST, len, split)?;
+        let readable = parts(alloc, LONG_REQUEST, len, split, 0)?;
         kicking.guest.chain(0, request, &readable, &[(ROOM, 16)])?;
         Ok(kicking)
     }
@@ -294,19 +411,24 @@ impl Case for Serving {
     }
 }
 
-/// Measures kicks of a request that the server doesn't know, of GETATTR, LOOKUP, READDIRPLUS, READ and WRITE, each cut
-/// into ever more descriptors, in the queue's table (`kick`), there and told by lengths alone (`serve`), and in one of
-/// the chain's own (`indirect`); and chains of very many.
+/// Measures kicks of a request that the server doesn't know, of GETATTR, LOOKUP, READDIRPLUS, READ and WRITE, each cut as
+/// Linux does and into ever more descriptors, in the queue's table (`kick`), there and told by lengths alone (`serve`), and
+/// in one of the chain's own (`indirect`); and chains of very many.
 pub(crate) fn measure_kicks<R: Clock + Eprint>(
     meter: &mut Meter<'_, R>,
     alloc: Global,
 ) -> Result<(), BenchFault> {
+    for (case, ask) in ASKED_BY_LINUX {
+        let asked = Asked::new(alloc, case, ask)?;
+        measure_kick(meter, alloc, &asked, Cut::Linux, Form::Direct)?;
+        measure_serve(meter, alloc, &asked, Cut::Linux)?;
+    }
     for (case, ask) in ASKED {
         let asked = Asked::new(alloc, case, ask)?;
-        for split in SPLITS {
-            measure_kick(meter, alloc, &asked, split, Form::Direct)?;
-            measure_serve(meter, alloc, &asked, split)?;
-            measure_kick(meter, alloc, &asked, split, Form::Indirect)?;
+        for by in CUTS {
+            measure_kick(meter, alloc, &asked, by, Form::Direct)?;
+            measure_serve(meter, alloc, &asked, by)?;
+            measure_kick(meter, alloc, &asked, by, Form::Indirect)?;
         }
     }
     measure_long_chains(meter, alloc)
@@ -338,10 +460,10 @@ fn measure_kick<R: Clock + Eprint>(
     meter: &mut Meter<'_, R>,
     alloc: Global,
     asked: &Asked,
-    split: u16,
+    by: Cut,
     form: Form,
 ) -> Result<(), BenchFault> {
-    let mut case = Kicking::new(alloc, asked, split, form)?;
+    let mut case = Kicking::new(alloc, asked, by, form)?;
     let bytes = asked.len();
     let label = Label {
         kind: match form {
@@ -349,7 +471,7 @@ fn measure_kick<R: Clock + Eprint>(
             Form::Indirect => "indirect",
         },
         case: asked.case,
-        split,
+        split: by.split(),
         bytes,
         runs: runs_of(bytes),
     };
@@ -366,15 +488,15 @@ fn measure_serve<R: Clock + Eprint>(
     meter: &mut Meter<'_, R>,
     alloc: Global,
     asked: &Asked,
-    split: u16,
+    by: Cut,
 ) -> Result<(), BenchFault> {
     let mut case = Serving {
-        kicking: Kicking::new(alloc, asked, split, Form::Direct)?,
+        kicking: Kicking::new(alloc, asked, by, Form::Direct)?,
     };
     let label = Label {
         kind: "serve",
         case: asked.case,
-        split,
+        split: by.split(),
         bytes: asked.len(),
         runs: runs_of(asked.len()),
     };

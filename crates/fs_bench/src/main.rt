@@ -2,8 +2,9 @@
 //! another host takes beside plain slice copies, page marks beside bare steps on atomic words, kicks of a device that
 //! threads share, and gathers of the pages that it wrote.
 //!
-//! Without an argument each case runs a few times, and the checksum of what was done is printed. An argument is how
-//! many samples are taken of each case; the times are then printed on standard error.
+//! Without an argument each case runs a few times, and the checksum of what was done is printed. The first argument is how
+//! many samples are taken of each case; the times are then printed on standard error. The second names the kinds of cases
+//! that run, with commas between them, as `41 kick,serve`.
 #![tactic(auto)]
 
 mod fault;
@@ -41,36 +42,57 @@ use std::thread::Threads;
 use std::time::Clock;
 use window::measure_windows;
 
-// How many samples of each case the first argument asks for.
-fn samples_asked<R: Env + Alloc>(rt: &R) -> io::Result<Option<usize>> {
-    match env::args(rt)?.nth(1) {
-        Some(text) => Ok(text.parse().ok()),
-        None => Ok(None),
-    }
+// How many samples of each case the first argument asks for, and which kinds the second names.
+#[derive(Drop)]
+struct Arguments {
+    samples: Option<usize>,
+    kinds: Option<String>,
+}
+
+fn read_arguments<R: Env + Alloc>(rt: &R, alloc: Global) -> io::Result<Arguments> {
+    let mut words = env::args(rt)?.skip(1);
+    let samples = match words.next() {
+        Some(text) => text.parse().ok(),
+        None => None,
+    };
+    let kinds = match words.next() {
+        Some(text) => Some(String::from_str(alloc, &text)?),
+        None => None,
+    };
+    Ok(Arguments { samples, kinds })
 }
 
 // Runs each family of cases, and answers the checksum.
 fn run<R: Clock + Eprint + Threads + Wait + Sync>(
     rt: &R,
     alloc: Global,
-    samples: Option<usize>,
+    arguments: Arguments,
 ) -> Result<u64, BenchFault> {
-    let mut meter = Meter::new(rt, alloc, samples);
+    let mut meter = Meter::new(rt, alloc, arguments.samples, arguments.kinds);
     measure_copies(&mut meter, alloc)?;
     measure_windows(&mut meter, alloc)?;
     measure_regions(&mut meter, alloc)?;
     measure_kicks(&mut meter, alloc)?;
     measure_mappings(&mut meter, alloc)?;
-    measure_pages(&mut meter, rt, alloc)?;
-    measure_shared::<Brand, _>(&mut meter, rt, alloc, Blank::new(8))?;
-    measure_harvests::<Brand, _>(&meter, rt, alloc, Blank::new(8))?;
-    measure_moves(&mut meter, alloc)?;
+    if meter.wants("pages") {
+        measure_pages(&mut meter, rt, alloc)?;
+    }
+    if meter.wants("shared") {
+        measure_shared::<Brand, _>(&mut meter, rt, alloc, Blank::new(8))?;
+        measure_harvests::<Brand, _>(&meter, rt, alloc, Blank::new(8))?;
+    }
+    if meter.wants("moving") {
+        measure_moves(&mut meter, alloc)?;
+    }
     Ok(meter.checksum())
 }
 
 fn main(rt: HostRuntime) -> ExitCode {
-    let samples = samples_asked(&rt).unwrap_or(None);
-    let printed = match run(&rt, rt.alloc(), samples) {
+    let arguments = read_arguments(&rt, rt.alloc()).unwrap_or(Arguments {
+        samples: None,
+        kinds: None,
+    });
+    let printed = match run(&rt, rt.alloc(), arguments) {
         Ok(checksum) => println!(rt; "checksum {checksum}"),
         Err(fault) => println!(rt; "{fault}"),
     };

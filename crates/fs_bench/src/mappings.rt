@@ -2,7 +2,7 @@
 
 use crate::fault::BenchFault;
 use crate::files::MemoryFiles;
-use crate::kick::{Ask, Asked, Form, Kicking, MEMORY, QUEUE_SIZE, RING};
+use crate::kick::{Ask, Asked, Cut, Form, Kicking, MEMORY, QUEUE_SIZE, RING};
 use crate::measure::{Case, Label, Meter};
 use fs_device::{Command, Machine};
 use std::alloc::Global;
@@ -106,7 +106,12 @@ struct Behind {
 impl Behind {
     // The IOMMU is off or on.
     fn new(alloc: Global, asked: &Asked, mapped: Mapped, on: bool) -> Result<Behind, BenchFault> {
-        let Kicking { guest, device, .. } = Kicking::new(alloc, asked, 1, Form::Direct)?;
+        let Kicking { guest, device, .. } = Kicking::new(
+            alloc,
+            asked,
+            Cut::Parts(1),
+            Form::Direct,
+        )?;
         let (mut host, mut mem) = guest.into_translated(alloc, MEMORY)?;
         match host.table_mut(mem.iommu().table()) {
             Some(table) => mapped.fill(table)?,

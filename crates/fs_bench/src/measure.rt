@@ -39,17 +39,33 @@ pub(crate) struct Meter<'a, R> {
     rt: &'a R,
     alloc: Global,
     samples: Option<usize>,
+    kinds: Option<String>,
     checksum: u64,
 }
 
 impl<'a, R: Clock + Eprint> Meter<'a, R> {
-    /// A meter that takes so many samples of each case, or none.
-    pub fn new(rt: &'a R, alloc: Global, samples: Option<usize>) -> Meter<'a, R> {
+    /// A meter that takes so many samples of each case, or none; of the kinds that are named, with commas between them, or
+    /// of all.
+    pub fn new(
+        rt: &'a R,
+        alloc: Global,
+        samples: Option<usize>,
+        kinds: Option<String>,
+    ) -> Meter<'a, R> {
         Meter {
             rt,
             alloc,
             samples,
+            kinds,
             checksum: 0,
+        }
+    }
+
+    /// Whether cases of a kind run.
+    pub fn wants(&self, kind: &str) -> bool {
+        match &self.kinds {
+            Some(kinds) => kinds.split(',').any(|named| named == kind),
+            None => true,
         }
     }
 
@@ -94,6 +110,9 @@ impl<'a, R: Clock + Eprint> Meter<'a, R> {
 
     /// Measures a case, or runs it a few times where no times are asked for.
     pub fn measure<C: Case>(&mut self, label: Label, case: &mut C) -> Result<(), BenchFault> {
+        if !self.wants(label.kind) {
+            return Ok(());
+        }
         let Some(count) = self.samples else {
             case.prepare(FEW);
             self.run_many(case, FEW);

@@ -1,16 +1,16 @@
 //! Kicks of a device that threads share: of one thread, and of four queues by one thread and by four.
 
 ghost use Rattle.std.specs.Prelude.{◌≡◌, ◌<◌};
-ghost use Rattle.device_shares.specs.Portion.{IsShareOf};
+ghost use Rattle.fs_shares.specs.Portion.{IsShareOf};
 
 use crate::fault::BenchFault;
 use crate::files::MemoryFiles;
 use crate::kick::{Ask, Asked, LIMIT, MEMORY, PAGE_SIZE, QUEUE_SIZE, RING};
 use crate::measure::{Case, Label, Meter, push_sample};
-use device_shares::Share;
 use fs_device::{Device, Machine};
 use fs_queue::{Queue, QueueLayout};
 use fs_shared::{Kicked, Outcome, SharedDevice};
+use fs_shares::Share;
 use guest_driver::ring::{Guest, Ring};
 use std::alloc::Global;
 use std::sync::Wait;

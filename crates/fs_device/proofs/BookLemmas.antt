@@ -7,10 +7,10 @@ use Rattle.fuse_wire.specs.declared.opcodes.Opcode.{Opcode}
 use Rattle.fuse_wire.specs.declared.opcodes.Opcode.TheVariants as op
 use Rattle.fuse_fs.specs.Calls.{FileCall, FileAnswer, Listed, FileRun, suits, kind_of}
 use Rattle.fuse_fs.specs.Calls as call
-use Rattle.fuse_segments.specs.declared.error.Error.{Error}
-use Rattle.fuse_segments.specs.declared.error.Error.TheVariants.{EncodeMessage}
-use Rattle.fuse_replies.specs.WholeReplies.{error_bytes, listing_bytes}
-use Rattle.fuse_calls.specs.Requests.{options_after, given_back}
+use Rattle.server_segments.specs.declared.error.Error.{Error}
+use Rattle.server_segments.specs.declared.error.Error.TheVariants.{EncodeMessage}
+use Rattle.server_replies.specs.WholeReplies.{error_bytes, listing_bytes}
+use Rattle.server_calls.specs.Requests.{options_after, given_back}
 use Rattle.fs_queue.specs.declared.fault.ChainFault.{ChainFault}
 use Rattle.fs_queue.specs.Queue.{Queue}
 use Rattle.fs_queue.specs.Taking.{Offer, IsRequest, CannotFetch, Refuses, Offers}
@@ -19,7 +19,7 @@ use Rattle.virtiofsd_fuse.specs.Grammar.{Meaning, IsFault, Replies, IsSilent, On
 use Rattle.virtiofsd_fuse.specs.Grammar as grammar
 use Rattle.virtiofsd_fuse.specs.Listings.{Listing, list_entries, readdir_call}
 use Rattle.virtiofsd_fuse.specs.Serving.{May, Served, Setting, setting, served, no_reply, answer_bytes, start_options, start_answered, list_ended}
-use Rattle.fuse_replies.proofs.ReplyLemmas.{length_reply, length_error}
+use Rattle.server_replies.proofs.ReplyLemmas.{length_reply, length_error}
 use Rattle.fs_device.specs.declared.error.DeviceError.{DeviceError}
 use Rattle.fs_device.specs.declared.refusal.Refusal.TheVariants as why
 use Rattle.fs_device.specs.Step.{State, Exchange, Calls, Exchanged, Exchanges, StepOf, faulty, served_exchange, EachSuits, calls_alone, answers_alone}

@@ -4,7 +4,7 @@ use Rattle.std.specs.Prelude.{IsTrue}
 use Rattle.fuse_fs.specs.declared.answers.Context.{Context}
 use Rattle.fuse_fs.specs.Calls.{FileCall, FileAnswer, suits, kind_of}
 use Rattle.fuse_fs.specs.Calls as call
-use Rattle.fuse_calls.specs.Requests.{entry_node, give_back, given_back}
+use Rattle.server_calls.specs.Requests.{entry_node, give_back, given_back}
 use Rattle.fs_device.specs.Step.{Calls, EachSuits, calls_alone}
 use Rattle.fs_device.specs.Books.{entry_count, forget_count}
 use Rattle.fs_device.proofs.MeaningLemmas.{no_entry, has_entry}

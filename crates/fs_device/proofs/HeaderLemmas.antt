@@ -12,15 +12,15 @@ use Rattle.fuse_wire.specs.declared.opcodes.Opcode.TheVariants as op
 use Rattle.fuse_wire.specs.Opcodes.{opcode_of}
 use Rattle.fuse_fs.specs.Calls.{FileCall, FileAnswer}
 use Rattle.fuse_fs.specs.Calls as call
-use Rattle.fuse_segments.specs.declared.error.Error.{Error}
-use Rattle.fuse_segments.specs.declared.error.Error.TheVariants.{DecodeMessage, EncodeMessage}
-use Rattle.fuse_requests.specs.Reading.{ReadFailure, Faults, Sends, Reading, and_then, needs, give, many, rest, reading_of, ◌>>=◌, ◌>>◌, within, last_name, two_names, name_and_value}
-use Rattle.fuse_requests.specs.Extras.{new_link, new_name}
-use Rattle.fuse_requests.specs.Fronts as fronts
-use Rattle.fuse_calls.specs.Requests as request
-use Rattle.fuse_calls.specs.Requests.{is_silent}
-use Rattle.fuse_replies.specs.WholeReplies.{reply_bytes, error_bytes, body_bytes, data_reply, told_bytes, listing_bytes, listing_answer, started_bytes}
-use Rattle.fuse_replies.proofs.ReplyLemmas.{length_reply, length_error}
+use Rattle.server_segments.specs.declared.error.Error.{Error}
+use Rattle.server_segments.specs.declared.error.Error.TheVariants.{DecodeMessage, EncodeMessage}
+use Rattle.server_requests.specs.Reading.{ReadFailure, Faults, Sends, Reading, and_then, needs, give, many, rest, reading_of, ◌>>=◌, ◌>>◌, within, last_name, two_names, name_and_value}
+use Rattle.server_requests.specs.Extras.{new_link, new_name}
+use Rattle.server_requests.specs.Fronts as fronts
+use Rattle.server_calls.specs.Requests as request
+use Rattle.server_calls.specs.Requests.{is_silent}
+use Rattle.server_replies.specs.WholeReplies.{reply_bytes, error_bytes, body_bytes, data_reply, told_bytes, listing_bytes, listing_answer, started_bytes}
+use Rattle.server_replies.proofs.ReplyLemmas.{length_reply, length_error}
 use Rattle.virtiofsd_fuse.specs.Grammar as grammar
 use Rattle.virtiofsd_fuse.specs.Grammar.{Meaning, IsFault, Replies, IsSilent, Asks, FileCommand, One, Starts, Lists, Given, given, one, row, row_of, refused, ended, meant, meaning, with_header}
 use Rattle.virtiofsd_fuse.specs.Listings as listings

@@ -1,4 +1,5 @@
 pub mod ServeLemmas
+pub mod WindowCuts
 pub mod AnsweringLemmas
 pub mod ReadingLemmas
 pub mod StepLemmas
@@ -12,6 +13,7 @@ pub mod NodeLemmas
 pub mod MeaningLemmas
 pub mod HeaderLemmas
 pub mod UsedLemmas
+pub mod StepByLemmas
 pub mod ListBooks
 pub mod GivenBack
 pub mod BookLemmas

@@ -8,7 +8,7 @@ use Rattle.fuse_fs.specs.declared.answers.Context.{Context}
 use Rattle.fuse_fs.specs.declared.answers.Entry.{Entry}
 use Rattle.fuse_fs.specs.Calls.{FileCall, FileAnswer, Listed, suits}
 use Rattle.fuse_fs.specs.Calls as call
-use Rattle.fuse_replies.specs.Entries.{Fit, GoesIn, IsFull, IsWrong, fit_of, entry_len, entry_bytes, no_node, is_dot}
+use Rattle.server_replies.specs.Entries.{Fit, GoesIn, IsFull, IsWrong, fit_of, entry_len, entry_bytes, no_node, is_dot}
 use Rattle.virtiofsd_fuse.specs.Listings.{Listing, Went, Next, placed, undo_call, with_entry, after_call, looked_up, list_entry, list_entries}
 use Rattle.fs_device.specs.Step.{Calls, EachSuits, calls_alone, answers_alone}
 use Rattle.fs_device.specs.Books.{entry_count, forget_count, nodes_listed}

@@ -20,16 +20,16 @@ use Rattle.fuse_fs.specs.Answers.{entry_out_of}
 use Rattle.fuse_fs.specs.Replies.{open_out_of}
 use Rattle.fuse_fs.specs.Calls.{FileCall, FileAnswer, Kind, kind_of, suits, is_of, NewLink}
 use Rattle.fuse_fs.specs.Calls as call
-use Rattle.fuse_segments.specs.declared.error.Error.TheVariants.{DecodeMessage, EncodeMessage}
-use Rattle.fuse_requests.specs.Reading.{ReadFailure, Faults, Sends, Reading, and_then, needs, give, many, rest, reading_of, ◌>>=◌, ◌>>◌, within, last_name, two_names, name_and_value}
-use Rattle.fuse_requests.specs.Extras.{new_link, new_name}
+use Rattle.server_segments.specs.declared.error.Error.TheVariants.{DecodeMessage, EncodeMessage}
+use Rattle.server_requests.specs.Reading.{ReadFailure, Faults, Sends, Reading, and_then, needs, give, many, rest, reading_of, ◌>>=◌, ◌>>◌, within, last_name, two_names, name_and_value}
+use Rattle.server_requests.specs.Extras.{new_link, new_name}
 use Rattle.virtiofsd_fuse.specs.Grammar as grammar
 use Rattle.virtiofsd_fuse.specs.Grammar.{Meaning, IsFault, Replies, IsSilent, Asks, One, Starts, Lists, Given, given, one, row, row_of, refused, ended, meant, meaning, with_header}
-use Rattle.fuse_calls.specs.Requests as request
-use Rattle.fuse_requests.specs.Fronts as fronts
+use Rattle.server_calls.specs.Requests as request
+use Rattle.server_requests.specs.Fronts as fronts
 use Rattle.virtiofsd_fuse.specs.Listings as listings
-use Rattle.fuse_replies.specs.WholeReplies.{error_bytes, reply_bytes}
-use Rattle.fuse_calls.specs.Requests.{is_silent}
+use Rattle.server_replies.specs.WholeReplies.{error_bytes, reply_bytes}
+use Rattle.server_calls.specs.Requests.{is_silent}
 use Rattle.virtiofsd_fuse.specs.Serving.{answer_bytes}
 use Rattle.fs_device.specs.Books.{entry_count, forget_count, forgets_meant, opcode_in, replies_entry, lists_nodes, nodes_of, nodes_in}
 use Rattle.fs_device.proofs.NodeLemmas.{drop_reply, drop_error, no_nodes, none_in_nothing, one_node}

@@ -13,11 +13,11 @@ use Rattle.fs_queue.specs.declared.fault.QueueError.TheVariants as stop
 use Rattle.fs_queue.specs.Queue.{Queue, fresh}
 use Rattle.fs_queue.specs.Taking.{Offer, IsRequest, CannotFetch, Refuses, Offers}
 use Rattle.fs_queue.specs.Taking as taking
-use Rattle.host_copies.specs.Harvested.{Page, harvested}
-use Rattle.host_copies.specs.Applying.{first_refused, pages_put}
-use Rattle.host_copies.proofs.CatchUpLemmas.{Tracks, pages_put-append}
-use Rattle.host_copies.proofs.TrackLemmas.{HavePlaces, harvest_is_host, harvest_placed, harvest-lengths, places-append, stale_marked, tracks_copy, tracks_harvest, tracks_store, tracks-sized}
-use Rattle.device_record.proofs.ReadingLemmas.{one_reading}
+use Rattle.vm_copies.specs.Harvested.{Page, harvested}
+use Rattle.vm_copies.specs.Applying.{first_refused, pages_put}
+use Rattle.vm_copies.proofs.CatchUpLemmas.{Tracks, pages_put-append}
+use Rattle.vm_copies.proofs.TrackLemmas.{HavePlaces, harvest_is_host, harvest_placed, harvest-lengths, places-append, stale_marked, tracks_copy, tracks_harvest, tracks_store, tracks-sized}
+use Rattle.fs_record.proofs.ReadingLemmas.{one_reading}
 use Rattle.virtiofsd_fuse.specs.Serving.{May}
 use Rattle.fs_device.specs.declared.error.DeviceError.{DeviceError}
 use Rattle.fs_device.specs.declared.error.DeviceError.TheVariants as device

@@ -14,9 +14,9 @@ use Rattle.fuse_fs.specs.declared.answers.Entry.{Entry}
 use Rattle.fuse_fs.specs.Answers.{entry_out_of}
 use Rattle.fuse_fs.specs.Replies.{dirent_of}
 use Rattle.fuse_fs.specs.Calls.{Listed}
-use Rattle.fuse_replies.specs.WholeReplies.{reply_bytes, error_bytes}
-use Rattle.fuse_replies.specs.Entries.{dirent_len, entry_len, dirent_bytes, node_bytes, entry_bytes, fit_of, GoesIn, IsFull, IsWrong, EIO, EOVERFLOW}
-use Rattle.fuse_replies.proofs.ReplyLemmas.{length_header, length_error}
+use Rattle.server_replies.specs.WholeReplies.{reply_bytes, error_bytes}
+use Rattle.server_replies.specs.Entries.{dirent_len, entry_len, dirent_bytes, node_bytes, entry_bytes, fit_of, GoesIn, IsFull, IsWrong, EIO, EOVERFLOW}
+use Rattle.server_replies.proofs.ReplyLemmas.{length_header, length_error}
 use Rattle.fs_device.specs.Books.{replies_entry, lists_nodes, first_node, name_len_of, nodes_listed, nodes_of, nodes_in}
 
 -- ---- what follows a header

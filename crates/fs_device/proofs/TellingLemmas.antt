@@ -12,7 +12,7 @@ use Rattle.fs_queue.specs.Queue.{Queue, fresh}
 use Rattle.fs_queue.specs.Taking.{Offer, IsRequest, CannotFetch, Refuses, Offers}
 use Rattle.fs_queue.specs.Taking as taking
 use Rattle.fuse_fs.specs.Calls.{FileCall, FileAnswer, FileRun}
-use Rattle.fuse_segments.specs.declared.error.Error.{Error}
+use Rattle.server_segments.specs.declared.error.Error.{Error}
 use Rattle.virtiofsd_fuse.specs.Grammar.{meaning}
 use Rattle.virtiofsd_fuse.specs.Serving.{May, Served, setting, served}
 use Rattle.fs_device.specs.declared.error.DeviceError.{DeviceError}

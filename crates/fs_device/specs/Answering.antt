@@ -1,18 +1,13 @@
 -- What the server's answer to one request comes to, for a chain that is told by lengths alone.
 use Rattle.std.specs.Prelude.{◌≡◌, ◌≤◌, ℕ, List, length, Option, Some, None}
-use Rattle.fs_queue.specs.Taking.{RequestAndRoom}
 use Rattle.virtiofsd_fuse.specs.declared.server.Server.{Server}
 use Rattle.virtiofsd_fuse.specs.Serving.{May}
 use Rattle.fs_device.specs.declared.serve.Reply.{Reply}
-use Rattle.fs_device.specs.Step.{Exchange, Calls}
-use Rattle.fs_device.specs.DeviceView.{request_of, server_state, AnswersRequest}
+use Rattle.fs_device.specs.Step.{Calls}
+use Rattle.fs_device.specs.DeviceView.{server_state, AnswersRequest}
 
 -- a request is answered into a room, by a reply that fits or a fault; or memory was wanting, and nothing changed
 abbrev pub IsAnswered : {F : Type 0} → May F → Server F → (request : List ℕ) → (room : ℕ) → Option Reply → Server F → Type 0
 IsAnswered may before request room (Some r) after =
     ((calls : Calls) × AnswersRequest may before.page_size (server_state before) request room calls r.bytes.items r.fault (server_state after)) × (length r.bytes.items ≤ room)
 IsAnswered may before request room None after = (after.options.0 ≡ before.options.0) × (after.fs ≡ before.fs)
-
--- the exchange of a chain with this head that was offered so: its request's bytes, and this reply or fault
-abbrev pub exchange_with : (head : ℕ) → RequestAndRoom → Reply → Exchange
-exchange_with head fetched r = record { head = head; request = request_of fetched; reply = r.bytes.items; fault = r.fault }

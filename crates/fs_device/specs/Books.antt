@@ -5,7 +5,7 @@ use Rattle.fuse_wire.specs.declared.opcodes.Opcode.{Opcode}
 use Rattle.fuse_wire.specs.declared.opcodes.Opcode.TheVariants as op
 use Rattle.fuse_wire.specs.Opcodes.{opcode_of}
 use Rattle.fuse_fs.specs.Calls.{FileCall, FileAnswer, Forget, BatchForget, HasEntry, Created}
-use Rattle.fuse_replies.specs.Entries.{entry_len}
+use Rattle.server_replies.specs.Entries.{entry_len}
 use Rattle.virtiofsd_fuse.specs.Grammar.{Meaning, Asks, One, meaning}
 use Rattle.virtiofsd_fuse.specs.Serving.{May}
 use Rattle.fs_device.specs.Step.{State}

@@ -1,7 +1,7 @@
 -- A device as its contracts see it.
 use Rattle.std.specs.Prelude.{ℕ, List}
 use Rattle.fs_queue.specs.Queue.{Queue}
-use Rattle.device_record.specs.Record.{Second, record_bytes}
+use Rattle.fs_record.specs.Record.{Second, record_bytes}
 
 -- its queues, the options that were agreed, the file system, the longest request and room, and the size of a guest's page
 pub record DeviceParts (F : Type 0) : Type 0 where

@@ -9,10 +9,10 @@ use Rattle.fs_queue.specs.declared.fault.QueueError.TheVariants as queue_error
 use Rattle.fs_queue.specs.Queue.{Queue, with_stop}
 use Rattle.fs_queue.specs.Chain.{path, found}
 use Rattle.fs_queue.specs.Taking.{Offer, Idle, Refuses, Offers, IsRequest, CannotFetch, offer}
-use Rattle.fuse_segments.specs.declared.error.Error.TheVariants as error
+use Rattle.server_segments.specs.declared.error.Error.TheVariants as error
 use Rattle.vm_values.specs.Fields as fields
-use Rattle.fuse_requests.specs.Reading.{reading_of}
-use Rattle.fuse_replies.specs.WholeReplies.{error_bytes}
+use Rattle.server_requests.specs.Reading.{reading_of}
+use Rattle.server_replies.specs.WholeReplies.{error_bytes}
 use Rattle.virtiofsd_fuse.specs.Examples.{zeros, le16, le32, le64, in_header_bytes}
 use Rattle.virtiofsd_fuse.specs.Grammar.{IsFault, Replies, meaning, meant}
 use Rattle.virtiofsd_fuse.specs.Serving.{May}

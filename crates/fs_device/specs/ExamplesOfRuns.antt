@@ -19,11 +19,11 @@ use Rattle.fs_queue.specs.Returning.{advanced}
 use Rattle.vm_values.specs.Fields as fields
 use Rattle.fuse_fs.specs.declared.answers.Entry.{Entry}
 use Rattle.fuse_fs.specs.Calls as files
-use Rattle.fuse_segments.specs.declared.error.Error.TheVariants.{EncodeMessage}
-use Rattle.fuse_requests.specs.Fronts.{counted}
-use Rattle.fuse_requests.specs.Reading.{reading_of, last_name}
-use Rattle.fuse_replies.specs.Entries.{no_node, fit_of, dirent_bytes, node_bytes}
-use Rattle.fuse_replies.specs.WholeReplies.{error_bytes, reply_bytes}
+use Rattle.server_segments.specs.declared.error.Error.TheVariants.{EncodeMessage}
+use Rattle.server_requests.specs.Fronts.{counted}
+use Rattle.server_requests.specs.Reading.{reading_of, last_name}
+use Rattle.server_replies.specs.Entries.{no_node, fit_of, dirent_bytes, node_bytes}
+use Rattle.server_replies.specs.WholeReplies.{error_bytes, reply_bytes}
 use Rattle.virtiofsd_fuse.specs.Examples.{le16, le32, le64, zeros, nobody, in_header_bytes}
 use Rattle.virtiofsd_fuse.specs.Grammar.{meaning, meant, row}
 use Rattle.virtiofsd_fuse.specs.Listings.{list_entries}
@@ -32,7 +32,7 @@ use Rattle.fs_device.specs.declared.error.DeviceError.TheVariants as device_erro
 use Rattle.fs_device.specs.declared.exchange.Fault.TheVariants as fault
 use Rattle.fs_device.specs.declared.refusal.Refusal.TheVariants as why
 use Rattle.fs_device.specs.Step.{State, Exchange, Exchanged, Step, after_return}
-use Rattle.host_copies.specs.Harvested.{block_pages, host_pages, harvested}
+use Rattle.vm_copies.specs.Harvested.{block_pages, host_pages, harvested}
 use Rattle.fs_device.specs.Run as run
 use Rattle.fs_device.specs.Run.{Command, Answer, Turn, Affects, Run, RunTold, KickRun, effect, with_ranges}
 use Rattle.fs_device.specs.Marks.{SameButMarks, SameEvents}

@@ -1,5 +1,6 @@
 pub mod DeviceParts
 pub mod Step
+pub mod StepBy
 pub mod DeviceView
 pub mod Answering
 pub mod Returned
@@ -21,5 +22,6 @@ pub mod Examples
 pub mod ExamplesOfRuns
 pub mod ExamplesOfMoves
 pub mod ExamplesOfMarks
+pub mod ExamplesOfLoads
 pub mod ReplyFront
 pub mod ShortWay

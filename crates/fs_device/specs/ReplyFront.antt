@@ -1,37 +1,49 @@
 -- What a chain is answered that is yet to be written: all of the reply, or its header, with the data in its place already.
-use Rattle.std.specs.Prelude.{◌≡◌, ℕ, Bool, true, false, List, length, Option}
-use Rattle.vm_memory_core.specs.Host.{Host}
-use Rattle.fs_queue.specs.declared.chain.Taken.{Taken}
+use Rattle.std.specs.Prelude.{◌≡◌, ℕ, Bool, true, false, List, length, map, Option}
+use Rattle.vm_memory_core.specs.Host.{Host, Place}
+use Rattle.vm_memory_core.specs.Window.{byte_in}
+use Rattle.fs_queue.specs.Windows.{Taken}
 use Rattle.fs_queue.specs.Taking.{RequestAndRoom}
 use Rattle.fs_queue.specs.Returning.{PutFrontLast}
 use Rattle.fs_queue.specs.Windows.{chain_places}
 use Rattle.virtiofsd_fuse.specs.declared.server.Server.{Server}
 use Rattle.virtiofsd_fuse.specs.Serving.{May}
 use Rattle.fs_device.specs.declared.exchange.Fault.{Fault}
+use Rattle.fs_device.specs.declared.reply_front.Answered.{Answered}
 use Rattle.fs_device.specs.declared.reply_front.Front.{Front}
-use Rattle.fs_device.specs.declared.reply_front.Front.TheVariants.{Header, Reply}
-use Rattle.fs_device.specs.declared.reply_front.ReplyFront.{ReplyFront}
+use Rattle.fs_device.specs.declared.reply_front.Front.TheVariants as front
+use Rattle.fs_device.specs.declared.serve.Reply.{Reply}
 use Rattle.fs_device.specs.Step.{Calls, Exchange}
-use Rattle.fs_device.specs.DeviceView.{ServesChain, request_of, server_state}
+use Rattle.fs_device.specs.DeviceView.{AnswersRequest, ServesChain, request_of, server_state}
 
 -- the bytes that are yet to be written
 abbrev pub front_bytes : Front → List ℕ
-front_bytes (Reply bytes) = bytes.items
-front_bytes (Header bytes) = bytes
+front_bytes (front.Reply bytes) = bytes.items
+front_bytes (front.Header bytes) = bytes
 
 -- whether they are the header's alone
 abbrev pub is_header : Front → Bool
-is_header (Reply bytes) = false
-is_header (Header bytes) = true
+is_header (front.Reply bytes) = false
+is_header (front.Header bytes) = true
+
+-- a reply that is yet to be written whole
+abbrev pub whole : Reply → Answered
+whole r = record { front = front.Reply r.bytes; len = length r.bytes.items; fault = r.fault }
 
 -- the exchange of a chain with this head that was offered so, by this reply or fault
 abbrev pub replied : (head : ℕ) → RequestAndRoom → (reply : List ℕ) → Option Fault → Exchange
 replied head fetched reply fault = record { head = head; request = request_of fetched; reply = reply; fault = fault }
 
+-- the request at some places is answered by a reply of this length, which stands in its room but for its front
+pub record AnswersAt {F : Type 0} (may : May F) (before : Server F) (old : Host) (request room : List Place) (a : Answered) (new : Host) (after : Server F) : Type 0 where
+  pub reply : List ℕ
+  pub len : length reply ≡ a.len
+  pub put : PutFrontLast old new room (front_bytes a.front) reply
+  pub served : (calls : Calls) × AnswersRequest may before.page_size (server_state before) (map (byte_in old) request) (length room) calls reply a.fault (server_state after)
+
 -- a chain is served by a reply of this length, which stands in its room but for its front
-pub record AnswersFront {F : Type 0} (may : May F) (before : Server F) (old : Host) (taken : Taken) (fetched : RequestAndRoom) (a : ReplyFront) (new : Host) (after : Server F) : Type 0 where
+pub record AnswersFront {F : Type 0} (may : May F) (before : Server F) (old : Host) (taken : Taken) (fetched : RequestAndRoom) (a : Answered) (new : Host) (after : Server F) : Type 0 where
   pub reply : List ℕ
   pub len : length reply ≡ a.len
   pub put : PutFrontLast old new (chain_places taken.chain) (front_bytes a.front) reply
-  pub request : a.request_len ≡ length (request_of fetched)
   pub served : (calls : Calls) × ServesChain may before.page_size (server_state before) taken.head fetched calls (replied taken.head fetched reply a.fault) (server_state after)

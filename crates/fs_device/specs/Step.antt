@@ -9,7 +9,7 @@ use Rattle.fs_queue.specs.Taking.{IsRequest, CannotFetch, Offer, Refuses, Offers
 use Rattle.fs_queue.specs.Taking as taking
 use Rattle.fs_queue.specs.Returning.{returned, wants_notice, advanced}
 use Rattle.fuse_fs.specs.Calls.{FileCall, FileAnswer, FileRun, suits}
-use Rattle.fuse_segments.specs.declared.error.Error.{Error}
+use Rattle.server_segments.specs.declared.error.Error.{Error}
 use Rattle.virtiofsd_fuse.specs.Grammar.{meaning}
 use Rattle.virtiofsd_fuse.specs.Serving.{May, Served, served, setting}
 use Rattle.fs_device.specs.declared.error.DeviceError.{DeviceError}

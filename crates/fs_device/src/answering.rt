@@ -1,139 +1,73 @@
-//! A chain is answered without its request's bytes being handed out: the data of a WRITE that stands in one window is
-//! read where it stands.
+//! A chain is answered without its request's bytes being handed out: the front of the request is copied, once, and asked
+//! which data may stay where it stands.
 
-ghost use Rattle.std.specs.Prelude.{◌≡◌, ◌≤◌, ◌<◌, ◌^◌, [], ◌++◌, ◌+◌, length, map, is_some, IfOk, IfSome, OnErr};
-ghost use Rattle.vm_memory_core.specs.Host.{lengths};
+ghost use Rattle.std.specs.Prelude.{◌≡◌, ◌↔◌, ℕ, ◌≤◌, ◌<◌, ◌^◌, ◌++◌, drop, length, map, IfNone, IfOk, IfSome, IsTrue, Ok, OnErr, []};
+ghost use Rattle.vm_memory_core.specs.Host.{lengths, shape};
 ghost use Rattle.vm_memory_core.specs.Window.{AllLieIn, byte_in, places};
 ghost use Rattle.vm_memory.specs.Memory.{Memory};
 ghost use Rattle.fs_queue.specs.Queue.{Queue};
 ghost use Rattle.fs_queue.specs.Taking.{RequestAndRoom};
-ghost use Rattle.fs_queue.specs.Windows.{IsTaken, TakenLiesIn, room_places};
+ghost use Rattle.fs_queue.specs.Windows.{HoldsChain, IsTaken, TakenLiesIn, room_places};
+ghost use Rattle.fs_device.specs.Answering.{IsAnswered};
+ghost use Rattle.fs_device.specs.DeviceView.{request_of};
+ghost use Rattle.fs_device.specs.ReplyFront.{AnswersAt, AnswersFront, front_bytes, is_header};
+ghost use Rattle.fs_device.specs.ShortWay.{IsFront, ReadsInPlace};
 
 use crate::exchange::Fault;
-use crate::serve::{Reply, answer, make_room};
+use crate::reading::read_in_place;
+use crate::reply_front::{Answered, Front};
+use crate::serve::{Reply, answer};
+use crate::windows::{copy_front, segments_behind};
 use fs_queue::{Chain, Taken};
 use fuse_fs::FileSystem;
-use fuse_wire::{InHeader, Opcode};
 use std::alloc::{AllocError, Global};
-use virtiofsd_fuse::{Reader, Server, Writer};
+use virtiofsd_fuse::{REQUEST_FRONT, Reader, Server, Writer, writes_data};
 use vm_memory_core::HostBlocks;
-use vm_values::ByteValued;
 
-/// How many bytes stand before the data of a WRITE: `struct fuse_in_header` and `struct fuse_write_in` (linux/fuse.h).
-const WRITE_HEADERS: usize = 80;
-
-/// What came of a chain that was taken: the length of its request in bytes, and its reply, or why there is none.
-#[derive(Drop)]
-pub(crate) struct Answered {
-    pub request_len: usize,
-    pub reply: Reply,
-}
-
-ghost use Rattle.fs_device.specs.Step.{Calls};
-ghost use Rattle.fs_device.specs.Answering.{IsAnswered, exchange_with};
-ghost use Rattle.fs_device.specs.DeviceView.{request_of, server_state, ServesChain};
-ghost use Rattle.fs_device.specs.ShortWay.{begins_a_write, is_one_of, is_write};
-ghost use Rattle.fuse_wire.specs.Opcodes.{opcode_of};
-
-// Whether a number is a WRITE's.
-#[inline(always)]
-fn names_write(opcode: u32) -> bool
-    ensures { result ≡ is_write (opcode_of opcode) }
-{
-    matches!(Opcode::try_from(opcode), Ok(Opcode::Write))
-}
-
-// Whether a request that begins so is a WRITE, by its header's opcode.
-#[inline(always)]
-fn is_write(headers: &[u8; WRITE_HEADERS]) -> bool
-    ensures { result ≡ begins_a_write headers.now }
-{
-    let head = InHeader::get_bytes(&headers[..InHeader::SIZE]);
-    names_write(head.opcode)
-}
-
-// The bytes of a request that stands in one window, where there are as many as stand before a WRITE's data; else none.
-#[inline(always)]
-#[tactic(auto, unfolding(vm_memory_core::specs::Window::AllLieIn), using(crate::proofs::AnsweringLemmas::not_one))]
-fn sole_bytes<'a, H: HostBlocks>(host: &'a H, chain: &Chain) -> Option<&'a [u8]>
-    requires lie { AllLieIn (lengths (H.host host.now)) chain.now.readable.items }
-    ensures bytes { IfSome result (λ b. b.now ≡ map (byte_in (H.host host.now)) (places chain.now.readable.items)) }
-    ensures some { is_some result ≡ is_one_of 80 chain.now.readable.items }
-    ensures long { IfSome result (λ b. 80 ≤ length b.now) }
-{
-    if chain.readable.len() != 1 {
-        return None;
-    }
-    let bytes = host.bytes(chain.readable[0]);
-    if bytes.len() >= WRITE_HEADERS {
-        Some(bytes)
-    } else {
-        None
-    }
-}
-
-// A reader of headers and of what stands behind them; nothing where memory was wanting.
-#[inline(always)]
-fn reader_of_both<'a>(alloc: Global, headers: &'a [u8], behind: &'a [u8]) -> Option<Reader<'a>>
-    requires { length headers.now + length behind.now < 2 ^ 64 }
-    ensures { IfSome result (λ r. r.left ≡ headers.now ++ behind.now) }
-{
-    let Ok(mut segments) = Vec::with_capacity(alloc, 2) else {
-        return None;
-    };
-    segments.push(headers).unwrap();
-    segments.push(behind).unwrap();
-    match Reader::new(segments) {
-        Ok(reader) => Some(reader),
-        Err(_) => None,
-    }
-}
-
-// Has the server answer a request by a copy of what stands before a WRITE's data, and by the rest, which is read where it
-// stands. Nothing where memory was wanting, and then nothing changed.
-#[inline(always)]
-fn answer_in_place<F: FileSystem>(
-    alloc: Global,
-    server: &mut Server<F>,
-    headers: &[u8; WRITE_HEADERS],
-    behind: &[u8],
-    room: Writer,
-) -> Option<Reply>
-    requires long { 80 + length behind.now < 2 ^ 64 }
-    requires unwritten { room.written ≡ [] }
-    requires short { room.free < 2 ^ 32 }
-    ensures answered { IsAnswered F.may server.old (headers.now ++ behind.now) room.free result server.new }
-    ensures page_size { server.new.page_size ≡ server.old.page_size }
-{
-    match reader_of_both(alloc, headers, behind) {
-        Some(reader) => answer(alloc, server, reader, room),
-        None => None,
-    }
-}
-
-// Has the server answer a chain's request. Of one in a single window that is long enough for a WRITE the headers are copied,
-// once: whether it is one is asked of the copy, and the copy is what is served. Any other is fetched whole. Nothing where
+// Has the server answer a request by a copy of its front, and by the rest, which is read where it stands. Nothing where
 // memory was wanting, and then nothing changed.
 #[inline(always)]
-fn answer_chain<F: FileSystem, H: HostBlocks>(
+fn answer_behind<F: FileSystem, H: HostBlocks>(
     alloc: Global,
     server: &mut Server<F>,
     host: &H,
     chain: &Chain,
+    front: &[u8],
     room: Writer,
 ) -> Option<Reply>
     requires lie { AllLieIn (lengths (H.host host.now)) chain.now.readable.items }
+    requires unwritten { room.written ≡ [] }
+    requires short { room.free < 2 ^ 32 }
+    ensures answered { IsAnswered F.may server.old (front.now ++ map (byte_in (H.host host.now)) (drop (length front.now) (places chain.now.readable.items))) room.free result server.new }
+    ensures page_size { server.new.page_size ≡ server.old.page_size }
+{
+    let segments = segments_behind(alloc, host, &chain.readable, front)?;
+    match Reader::new(segments) {
+        Ok(reader) => answer(alloc, server, reader, room),
+        Err(_) => None,
+    }
+}
+
+// Has the server answer a request that is longer than its front: the data of a WRITE stays where it stands, and any other is
+// fetched whole. Nothing where memory was wanting, and then nothing changed.
+#[inline(always)]
+fn answer_longer<F: FileSystem, H: HostBlocks>(
+    alloc: Global,
+    server: &mut Server<F>,
+    host: &H,
+    chain: &Chain,
+    front: &[u8],
+    room: Writer,
+) -> Option<Reply>
+    requires lie { AllLieIn (lengths (H.host host.now)) chain.now.readable.items }
+    requires front { IsFront (H.host host.now) (places chain.now.readable.items) front.now }
     requires unwritten { room.written ≡ [] }
     requires short { room.free < 2 ^ 32 }
     ensures answered { IsAnswered F.may server.old (map (byte_in (H.host host.now)) (places chain.now.readable.items)) room.free result server.new }
     ensures page_size { server.new.page_size ≡ server.old.page_size }
 {
-    if let Some(request) = sole_bytes(host, chain) {
-        let mut headers = [0; WRITE_HEADERS];
-        headers.copy_from_slice(&request[..WRITE_HEADERS]);
-        if is_write(&headers) {
-            return answer_in_place(alloc, server, &headers, &request[WRITE_HEADERS..], room);
-        }
+    if writes_data(alloc, front) {
+        return answer_behind(alloc, server, host, chain, front, room);
     }
     match host.fetch_windows(alloc, &chain.readable, chain.request_len()) {
         Ok(request) => answer(alloc, server, Reader::of_slice(alloc, &request), room),
@@ -141,38 +75,128 @@ fn answer_chain<F: FileSystem, H: HostBlocks>(
     }
 }
 
-/// Answers a chain that was taken. Nothing is refused once the file system was asked.
+// Has the server answer a chain's request, of which these are the first bytes, into a buffer. Nothing where memory was
+// wanting, and then nothing changed.
 #[inline(always)]
-pub(crate) fn answer_taken<F: FileSystem, H: HostBlocks>(
+fn answer_in_buffer<F: FileSystem, H: HostBlocks>(
     alloc: Global,
     server: &mut Server<F>,
     host: &H,
-    taken: &Taken,
-) -> Result<Answered, AllocError>
-    requires lies { TakenLiesIn (lengths (H.host host.now)) taken.now }
-    requires short { room_places taken.now.chain < 2 ^ 32 }
-    ensures exchange { (m : Memory) (q : Queue) (fetched : RequestAndRoom) → m.host ≡ H.host host.now → IsTaken m q fetched taken.now →
-        IfOk result (λ a. (a.request_len ≡ length (request_of fetched)) × ((calls : Calls) × ServesChain F.may server.old.page_size
-        (server_state server.old) taken.now.head fetched calls (exchange_with taken.now.head fetched a.reply) (server_state server.new))) }
-    ensures fits { IfOk result (λ a. length a.reply.bytes.items ≤ room_places taken.now.chain) }
-    ensures err { OnErr result ((server.new.options.0 ≡ server.old.options.0) × (server.new.fs ≡ server.old.fs)) }
+    chain: &Chain,
+    front: &[u8],
+) -> Option<Reply>
+    requires lie { AllLieIn (lengths (H.host host.now)) chain.now.readable.items }
+    requires front { IsFront (H.host host.now) (places chain.now.readable.items) front.now }
+    ensures answered { IsAnswered F.may server.old (map (byte_in (H.host host.now)) (places chain.now.readable.items)) (length (places chain.now.writable.items)) result server.new }
     ensures page_size { server.new.page_size ≡ server.old.page_size }
 {
-    let room = make_room(alloc, taken)?;
+    let Ok(room) = Writer::of_length(alloc, chain.room_len()) else {
+        return None;
+    };
+    if front.len() == chain.request_len() {
+        answer(alloc, server, Reader::of_slice(alloc, front), room)
+    } else {
+        answer_longer(alloc, server, host, chain, front, room)
+    }
+}
+
+// Has the server answer a chain's request, of which these are the first bytes: the data of a READ is put where it goes, if
+// that can be. Nothing where memory was wanting, and then nothing changed.
+#[inline(always)]
+fn answer_by_front<F: FileSystem, H: HostBlocks>(
+    alloc: Global,
+    server: &mut Server<F>,
+    host: &mut H,
+    chain: &Chain,
+    front: &[u8],
+) -> Option<Answered>
+    requires readable { AllLieIn (lengths (H.host host.old)) chain.now.readable.items }
+    requires writable { AllLieIn (lengths (H.host host.old)) chain.now.writable.items }
+    requires front { IsFront (H.host host.old) (places chain.now.readable.items) front.now }
+    ensures some { IfSome result (λ a. AnswersAt F.may server.old (H.host host.old) (places chain.now.readable.items) (places chain.now.writable.items) a (H.host host.new) server.new) }
+    ensures fits { IfSome result (λ a. (length (front_bytes a.front) ≤ length (places chain.now.writable.items)) × (a.len ≤ length (places chain.now.writable.items))) }
+    ensures way { IfSome result (λ a. IsTrue (is_header a.front) ↔ (IsTrue (F.reads_whole server.old.fs) × ReadsInPlace (H.host host.old) (Ok chain.now))) }
+    ensures none { IfNone result ((server.new.options.0 ≡ server.old.options.0) × (server.new.fs ≡ server.old.fs) × (H.host host.new ≡ H.host host.old)) }
+    ensures shape { shape (H.host host.new) ≡ shape (H.host host.old) }
+    ensures loan { H.IsSameLoan host.old host.new }
+    ensures page_size { server.new.page_size ≡ server.old.page_size }
+{
+    if let Some(answered) = read_in_place(alloc, server, host, chain, front) {
+        return Some(answered);
+    }
+    match answer_in_buffer(alloc, server, host, chain, front) {
+        Some(reply) => Some(Answered::whole(reply)),
+        None => None,
+    }
+}
+
+// Copies the front of a chain's request, and has the server answer it by that. Nothing where memory was wanting, and then
+// nothing changed.
+#[inline(always)]
+fn answer_chain<F: FileSystem, H: HostBlocks>(
+    alloc: Global,
+    server: &mut Server<F>,
+    host: &mut H,
+    chain: &Chain,
+) -> Option<Answered>
+    requires readable { AllLieIn (lengths (H.host host.old)) chain.now.readable.items }
+    requires writable { AllLieIn (lengths (H.host host.old)) chain.now.writable.items }
+    ensures some { IfSome result (λ a. AnswersAt F.may server.old (H.host host.old) (places chain.now.readable.items) (places chain.now.writable.items) a (H.host host.new) server.new) }
+    ensures fits { IfSome result (λ a. (length (front_bytes a.front) ≤ length (places chain.now.writable.items)) × (a.len ≤ length (places chain.now.writable.items))) }
+    ensures way { IfSome result (λ a. IsTrue (is_header a.front) ↔ (IsTrue (F.reads_whole server.old.fs) × ReadsInPlace (H.host host.old) (Ok chain.now))) }
+    ensures none { IfNone result ((server.new.options.0 ≡ server.old.options.0) × (server.new.fs ≡ server.old.fs) × (H.host host.new ≡ H.host host.old)) }
+    ensures shape { shape (H.host host.new) ≡ shape (H.host host.old) }
+    ensures loan { H.IsSameLoan host.old host.new }
+    ensures page_size { server.new.page_size ≡ server.old.page_size }
+{
+    let mut buffer = [0; REQUEST_FRONT];
+    let len = chain.request_len().min(REQUEST_FRONT);
+    copy_front(host, &chain.readable, &mut buffer[..len]);
+    answer_by_front(alloc, server, host, chain, &buffer[..len])
+}
+
+/// The length of the request of a chain that was taken, in bytes; a faulty chain has none.
+#[inline(always)]
+pub(crate) fn request_len(taken: &Taken) -> usize
+    ensures { (m : Memory) (fetched : RequestAndRoom) → HoldsChain m fetched taken.now.chain → result ≡ length (request_of fetched) }
+{
     match taken.chain() {
-        Err(fault) => Ok(Answered {
-            request_len: 0,
-            reply: Reply {
-                bytes: Vec::new(alloc),
+        Ok(chain) => chain.request_len(),
+        Err(_) => 0,
+    }
+}
+
+/// Answers a chain that was taken, with what is yet to be written of its reply. Nothing is refused once the file system was
+/// asked.
+#[inline(always)]
+pub(crate) fn answer_front<F: FileSystem, H: HostBlocks>(
+    alloc: Global,
+    server: &mut Server<F>,
+    host: &mut H,
+    taken: &Taken,
+) -> Result<Answered, AllocError>
+    requires lies { TakenLiesIn (lengths (H.host host.old)) taken.now }
+    ensures exchange { (m : Memory) (q : Queue) (fetched : RequestAndRoom) → m.host ≡ H.host host.old → IsTaken m q fetched taken.now →
+        IfOk result (λ a. AnswersFront F.may server.old (H.host host.old) taken.now fetched a (H.host host.new) server.new) }
+    ensures fits { IfOk result (λ a. (length (front_bytes a.front) ≤ room_places taken.now.chain) × (a.len ≤ room_places taken.now.chain)) }
+    ensures way { IfOk result (λ a. IsTrue (is_header a.front) ↔ (IsTrue (F.reads_whole server.old.fs) × ReadsInPlace (H.host host.old) taken.now.chain)) }
+    ensures err { OnErr result ((server.new.options.0 ≡ server.old.options.0) × (server.new.fs ≡ server.old.fs) × (H.host host.new ≡ H.host host.old)) }
+    ensures shape { shape (H.host host.new) ≡ shape (H.host host.old) }
+    ensures loan { H.IsSameLoan host.old host.new }
+    ensures page_size { server.new.page_size ≡ server.old.page_size }
+{
+    let chain = match taken.chain() {
+        Ok(chain) => chain,
+        Err(fault) => {
+            return Ok(Answered {
+                front: Front::Reply(Vec::new(alloc)),
+                len: 0,
                 fault: Some(Fault::Chain(fault)),
-            },
-        }),
-        Ok(chain) => match answer_chain(alloc, server, host, chain, room) {
-            Some(reply) => Ok(Answered {
-                request_len: chain.request_len(),
-                reply,
-            }),
-            None => Err(AllocError),
-        },
+            });
+        }
+    };
+    match answer_chain(alloc, server, host, chain) {
+        Some(answered) => Ok(answered),
+        None => Err(AllocError),
     }
 }

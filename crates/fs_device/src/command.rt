@@ -7,7 +7,7 @@ ghost use Rattle.fs_device.specs.Moving.{follows_image};
 use crate::queues::QueueRun;
 use crate::refusal::Refusal;
 use fs_queue::QueueLayout;
-use host_copies::HarvestedPage;
+use vm_copies::HarvestedPage;
 use vm_memory::GuestMemoryMmap;
 use vm_memory_core::{HostMemory, PageBitmap, Permissions};
 

@@ -4,7 +4,7 @@ ghost use Rattle.std.specs.Prelude.{ℕ, ◌≡◌, ◌≤◌, ◌<◌, ◌^◌,
 ghost use Rattle.vm_memory_core.specs.Host.{lengths, shape};
 ghost use Rattle.vm_memory.specs.Memory.{Memory};
 ghost use Rattle.fs_queue.specs.Windows.{TakenLiesIn};
-ghost use Rattle.device_record.specs.Record.{IsSavable};
+ghost use Rattle.fs_record.specs.Record.{IsSavable};
 
 use crate::error::DeviceError;
 use crate::exchange::Exchange;

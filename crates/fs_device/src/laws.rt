@@ -5,6 +5,7 @@ ghost use Rattle.fs_device.specs.Laws.{CutsDoNotMatter, OffersAreServedAlike};
 ghost use Rattle.fs_device.specs.Marks.{MarksDoNotMatter};
 ghost use Rattle.fs_device.specs.MarkedPages.{CommandsMark, StepsMark, WritesMark};
 ghost use Rattle.fs_device.specs.Moving.{CanMoveAgain, HasItsMarks, ImageCatchesUp, MovedIsLast, PagesHavePlaces, StaleIsMarked};
+ghost use Rattle.fs_device.specs.StepBy.{StepByIsStep, StepIsStepBy, StoresOnlyThere};
 ghost use Rattle.fs_device.specs.Telling.{CallsAreTold};
 ghost use Rattle.fs_device.specs.UsedLength.{LengthsAreTold};
 
@@ -22,6 +23,16 @@ pub fn law_cuts<F: FileSystem>()
 /// of it less what the driver gave back.
 pub fn law_books<F: FileSystem>()
     ensures { Balances F.may }
+{}
+
+/// A step is told by what it loads, what its calls are answered and what it stores, whatever the guest writes meanwhile.
+/// Whatever was loaded, it stores in the room that was walked, in the used element and in the used index alone (VIRTIO 1.2,
+/// 2.7.8). If one memory has all that was loaded, it is the step of the plain machine over that memory; and each step of
+/// the plain machine is one by such loads and stores.
+pub fn law_steps_by_loads<F: FileSystem>()
+    ensures is_step { StepByIsStep F.may }
+    ensures has { StepIsStepBy F.may }
+    ensures there { StoresOnlyThere F.may }
 {}
 
 /// All file calls of a run, in their order, are a run of the file system from its first state to its

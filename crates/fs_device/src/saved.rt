@@ -2,16 +2,14 @@
 
 ghost use Rattle.std.specs.Prelude.{◌≡◌, ◌≤◌, ◌^◌, ℕ, List, IsTrue, IfOk, IfErr, OnOk};
 ghost use Rattle.std.specs.Io.KnownBytes.{Consumes};
-ghost use Rattle.device_record.specs.Record.{HasKnownBits, IsRecordFor, IsSavable};
-ghost use Rattle.device_record.specs.Restoring.{RefusesRecord, LeavesSource};
-ghost use Rattle.device_record.specs.Streams.{GoesOut};
-ghost use Rattle.fuse_replies.specs.PageSizes.{is_page_size};
+ghost use Rattle.fs_record.specs.Record.{HasKnownBits, IsRecordFor, IsSavable};
+ghost use Rattle.fs_record.specs.Restoring.{RefusesRecord, LeavesSource};
+ghost use Rattle.fs_record.specs.Streams.{GoesOut};
+ghost use Rattle.server_replies.specs.PageSizes.{is_page_size};
 ghost use Rattle.fs_device.specs.DeviceParts.{device_bytes};
 
 use crate::device::Device;
-use device_record::{
-    RecordSink, RecordSource, RestoreError, WriteFault, restore_record, save_record,
-};
+use fs_record::{RecordSink, RecordSource, RestoreError, WriteFault, restore_record, save_record};
 use fuse_fs::FileSystem;
 use fuse_wire::FsOptions;
 use std::alloc::Global;

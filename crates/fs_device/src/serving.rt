@@ -1,12 +1,12 @@
-//! A chain is served, and what was exchanged is told by lengths alone.
+//! Serves one chain, and reports only lengths.
 
 ghost use Rattle.std.specs.Prelude.{◌≡◌};
 ghost use Rattle.vm_memory_core.specs.Host.{shape};
 
+use crate::answering::{answer_front, request_len};
 use crate::device::Device;
 use crate::error::DeviceError;
 use crate::exchange::Fault;
-use crate::reading::answer_front;
 use fs_queue::QueueError;
 use fuse_fs::FileSystem;
 use std::alloc::Global;
@@ -30,11 +30,11 @@ ghost use Rattle.fs_device.specs.Returned.{StepTold};
 
 impl<F: FileSystem> Device<F> {
     /// Serves the next chain of a queue, by its number from 0, as `process_one` does, and tells what was exchanged
-    /// without its bytes; None where no chain waits. The data of a WRITE whose request is one window isn't copied: the
-    /// file system reads it where it stands. Nor is that of a READ of 80 bytes (`struct fuse_in_header` and
-    /// `struct fuse_read_in`, linux/fuse.h) whose room is one window or two, of which what is behind the 16 bytes of the
-    /// reply's header is one, apart from these, where reads that fail put nothing in (`FileSystem::reads_whole`): the file
-    /// system puts it where it goes. The refusals are those of `process_one`.
+    /// without its bytes; None where no chain waits. The first `REQUEST_FRONT` bytes of the request are copied, or all of
+    /// a shorter one. The data of a WRITE, which stands behind these, isn't: the file system reads it where it stands, one
+    /// window after another. Nor is that of a READ of no more bytes, if none of what is behind the `REPLY_FRONT` bytes of
+    /// the reply's header in the room is one of these, where reads that fail put nothing in (`FileSystem::reads_whole`): the
+    /// file system puts it where it goes, one window after another. The refusals are those of `process_one`.
     pub fn serve_one<M: GuestMemory, H: HostBlocks>(
         &mut self,
         alloc: Global,
@@ -60,11 +60,12 @@ impl<F: FileSystem> Device<F> {
             return Err(DeviceError::Queue(QueueError::OutOfMemory));
         };
         let head = self.taken.head();
+        let request_len = request_len(&self.taken);
         let front = answered.front.bytes();
         let notify = self.queues[queue].give_back_front(host, &mut self.taken, front, answered.len);
         Ok(Some(Returned {
             head,
-            request_len: answered.request_len,
+            request_len,
             reply_len: answered.len,
             fault: answered.fault,
             notify,

@@ -7,7 +7,7 @@ use Rattle.fs_device.specs.declared.error.DeviceError.TheVariants.{NoSuchQueue}
 use Rattle.fs_device.specs.DeviceParts.{device_bytes}
 use Rattle.fs_device.specs.DeviceView.{state_of}
 use Rattle.fs_device.specs.Step.{State}
-use Rattle.owned_directory.specs.Directory.{Directory}
+use Rattle.fuse_directory.specs.Directory.{Directory}
 use Rattle.fs_device_c.specs.declared.device_making.FsLayout.{FsLayout}
 use Rattle.fs_device_c.specs.declared.device_refusal.DeviceRefusal.{DeviceRefusal}
 use Rattle.fs_device_c.specs.declared.device_refusal.DeviceRefusal.TheVariants.{Step, OutOfMemory, BadArgument, OtherLengths, ShortBuffer}

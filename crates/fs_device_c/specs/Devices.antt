@@ -3,14 +3,14 @@ use Rattle.std.specs.Prelude.{◌≡◌, ◌+◌, ℕ, zero, suc, Bool, true, fa
 use Rattle.std.specs.Prelude.{Option, Some, None, is_some, is_none}
 use Rattle.std.specs.List.{list_any}
 use Rattle.virtiofsd_fuse.specs.Serving.{May}
-use Rattle.device_record.specs.Numbers.{restore_error_number}
+use Rattle.fs_record.specs.Numbers.{restore_error_number}
 use Rattle.fs_device.specs.declared.error.DeviceError.{DeviceError}
 use Rattle.fs_device.specs.declared.exchange.Fault.{Fault}
 use Rattle.fs_device.specs.declared.serving.Returned.{Returned}
 use Rattle.fs_device.specs.CommandView.{KickLists}
 use Rattle.fs_device.specs.Refusing.{refusal_number}
 use Rattle.fs_device.specs.Step.{State, Exchange}
-use Rattle.owned_directory.specs.Directory.{Directory, DirectoryAnswers}
+use Rattle.fuse_directory.specs.Directory.{Directory, DirectoryAnswers}
 use Rattle.fs_device_c.specs.declared.device_refusal.DeviceRefusal.{DeviceRefusal}
 use Rattle.fs_device_c.specs.declared.device_refusal.DeviceRefusal.TheVariants.{Step, OutOfMemory, BadArgument, OtherLengths, ShortBuffer}
 use Rattle.fs_device_c.specs.declared.device_refusal.DeviceRefusal.TheVariants.{NoDevice, Record}

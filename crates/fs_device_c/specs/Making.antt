@@ -3,12 +3,12 @@ use Rattle.std.specs.Prelude.{◌≡◌, ◌≤◌, ◌<◌, ◌^◌, ℕ, false
 use Rattle.vm_bitmaps.specs.Pages.{pages_of}
 use Rattle.fs_queue.specs.Lawful.{layout_error}
 use Rattle.fs_queue.specs.Queue.{Queue, fresh}
-use Rattle.fuse_replies.specs.PageSizes.{is_page_size}
-use Rattle.device_record.specs.Record.{IsRecordFor}
-use Rattle.device_record.specs.Restoring.{LeavesSource, RefusesRecord}
-use Rattle.device_record.specs.declared.error.RestoreError.{RestoreError}
-use Rattle.owned_directory.specs.Files.{files_of}
-use Rattle.owned_directory.specs.declared.table.OwnedFile.{OwnedFile}
+use Rattle.server_replies.specs.PageSizes.{is_page_size}
+use Rattle.fs_record.specs.Record.{IsRecordFor}
+use Rattle.fs_record.specs.Restoring.{LeavesSource, RefusesRecord}
+use Rattle.fs_record.specs.declared.error.RestoreError.{RestoreError}
+use Rattle.fuse_directory.specs.Files.{files_of}
+use Rattle.fuse_directory.specs.declared.table.OwnedFile.{OwnedFile}
 use Rattle.fs_device_c.specs.declared.device_making.FsFile.{FsFile}
 use Rattle.fs_device_c.specs.declared.device_making.FsLayout.{FsLayout}
 use Rattle.fs_device_c.specs.declared.device_refusal.DeviceRefusal.{DeviceRefusal}

@@ -5,7 +5,7 @@ use Rattle.vm_memory_core.specs.Window.{Window, AllLieIn}
 use Rattle.vm_memory.specs.OneProof.{LiesIn-prop}
 use Rattle.fs_queue.specs.declared.chain.Chain.{Chain}
 use Rattle.fs_queue.specs.declared.chain.ReturnWindows.{ReturnWindows}
-use Rattle.fs_queue.specs.declared.chain.Taken.{Taken}
+use Rattle.fs_queue.specs.Windows.{Taken}
 use Rattle.fs_queue.specs.declared.fault.ChainFault.{ChainFault}
 use Rattle.fs_queue.specs.Windows.{ChainLiesIn, ReturnWindowsLieIn, TakenLiesIn}
 use mathlib.Core.HLevel.{×_prop}

@@ -3,7 +3,7 @@ use Rattle.std.specs.Prelude.{◌≡◌, ◌≤◌, ◌<◌, ◌⊎◌, ℕ, tru
 use Rattle.vm_bitmaps.specs.Pages.{pages_of}
 use Rattle.vm_memory.specs.Layout.{AreHeld}
 use Rattle.vm_memory.specs.Memory.{Memory}
-use Rattle.fs_queue.specs.declared.chain.Taken.{Taken}
+use Rattle.fs_queue.specs.Windows.{Taken}
 use Rattle.fs_queue.specs.Lawful.{layout_error}
 use Rattle.fs_queue.specs.Queue.{fresh}
 use Rattle.fs_queue.specs.Returning.{advanced, returned, wants_notice}

@@ -3,7 +3,7 @@ use Rattle.std.specs.Prelude.{◌≡◌, [], ◌<◌, ℕ, true, false, Bool, Li
 use Rattle.vm_memory_core.specs.Host.{Host}
 use Rattle.vm_memory_core.specs.Window.{places, byte_in}
 use Rattle.fs_queue.specs.declared.chain.Chain.{Chain}
-use Rattle.fs_queue.specs.declared.chain.Taken.{Taken}
+use Rattle.fs_queue.specs.Windows.{Taken}
 use Rattle.fs_queue.specs.declared.fault.ChainFault.{ChainFault}
 use Rattle.fs_queue.specs.declared.fault.QueueError.{QueueError}
 use Rattle.fs_queue.specs.Numbers.{chain_fault_number, queue_number}

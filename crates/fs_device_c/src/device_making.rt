@@ -1,8 +1,8 @@
 //! Devices that begin, or go on from a record.
 
 ghost use Rattle.std.specs.Prelude.{◌≡◌, ◌↔◌, ◌≤◌, ◌<◌, ◌^◌, [], All, IsTrue, false, length, map, replicate, IfErr, IfNone, IfOk, IfSome, OnOk, OnSome};
-ghost use Rattle.fuse_replies.specs.PageSizes.{is_page_size};
-ghost use Rattle.owned_directory.specs.Files.{files_of};
+ghost use Rattle.server_replies.specs.PageSizes.{is_page_size};
+ghost use Rattle.fuse_directory.specs.Files.{files_of};
 ghost use Rattle.vm_bitmaps.specs.Pages.{pages_of};
 ghost use Rattle.fs_device_c.specs.Lending.{CanBeLaidOut, laid_out, parts};
 ghost use Rattle.fs_device_c.specs.Making.{AreCopies, AreSettings, HasLayout, IsNewDevice, IsRestored};
@@ -15,8 +15,8 @@ use crate::refusal::Refusal;
 use crate::saved_bytes::SavedBytes;
 use fs_device::Device;
 use fs_queue::{Queue, QueueLayout};
+use fuse_directory::{OwnedFile, OwnedTable};
 use fuse_read_only::ReadOnly;
-use owned_directory::{OwnedFile, OwnedTable};
 use std::alloc::{AllocError, Global};
 use virtiofsd_fuse::Server;
 use vm_memory::GuestMemoryMmap;

@@ -11,7 +11,7 @@ pub enum DeviceRefusal {
     Step(DeviceError),
     /// Memory is wanting, and nothing was done.
     OutOfMemory,
-    /// An argument is none that the call takes.
+    /// An argument is invalid.
     BadArgument,
     /// The parts of memory that are lent don't have the lengths that they had at first.
     OtherLengths,

@@ -10,9 +10,9 @@ ghost use Rattle.fs_device_c.specs.Lending.{lent};
 ghost use Rattle.fs_device_c.specs.Devices.{DirectoryServes, Serves, nothing_served, with_returned};
 
 use fs_device::{Device, DeviceError, Returned};
+use fuse_directory::OwnedTable;
 use fuse_fs::FileSystem;
 use fuse_read_only::ReadOnly;
-use owned_directory::OwnedTable;
 use std::alloc::Global;
 use vm_memory::GuestMemoryMmap;
 use vm_memory_core::{HeldIn, HostBlocks, IoPages, LentMemory, PageBitmap};

@@ -4,8 +4,8 @@ ghost use Rattle.std.specs.Prelude.{◌≡◌, ◌<◌, ◌^◌, length};
 ghost use Rattle.vm_bitmaps.specs.Pages.{pages_of};
 
 use fs_device::Device;
+use fuse_directory::OwnedTable;
 use fuse_read_only::ReadOnly;
-use owned_directory::OwnedTable;
 use vm_memory::GuestMemoryMmap;
 use vm_memory_core::{IoPages, PageBitmap};
 

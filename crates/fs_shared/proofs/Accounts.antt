@@ -10,7 +10,7 @@ use Rattle.vm_atomic_bitmaps.specs.Passes.{Pass}
 use Rattle.vm_atomic_bitmaps.specs.Steps.{SettlesAll}
 use Rattle.vm_atomic_bitmaps.proofs.PassTotals.{length-each_tally}
 use Rattle.vm_memory_core.specs.Host.{Host, lengths}
-use Rattle.block_pages.specs.Pages.{page_of}
+use Rattle.vm_block_pages.specs.Pages.{page_of}
 use Rattle.fs_shared.specs.declared.entry.JournalEntry.{JournalEntry}
 use Rattle.fs_shared.specs.declared.entry.Receipt.{Receipt}
 use Rattle.fs_shared.specs.Audit.{AreAllReceipts, IsTold, Tells, times}

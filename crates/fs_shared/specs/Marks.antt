@@ -6,7 +6,7 @@ use Rattle.vm_atomic_bitmaps.specs.declared.counts.Tally.{Tally}
 use Rattle.vm_atomic_bitmaps.specs.Counts.{first_pass, tally_of, both_passes, IsWhole}
 use Rattle.vm_atomic_bitmaps.specs.Passes.{Pass, SharedPages}
 use Rattle.vm_memory_core.specs.Host.{Host, Place, byte_at, lengths}
-use Rattle.block_pages.specs.Pages.{first_page, page_of}
+use Rattle.vm_block_pages.specs.Pages.{first_page, page_of}
 use Rattle.fs_device.specs.declared.error.DeviceError.{DeviceError}
 use Rattle.fs_device.specs.declared.refusal.Refusal.{Refusal}
 use Rattle.fs_shared.specs.declared.entry.JournalEntry.{JournalEntry}

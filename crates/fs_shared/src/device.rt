@@ -6,7 +6,7 @@ ghost use Rattle.vm_bitmaps.specs.Words.{page_bit};
 ghost use Rattle.vm_atomic_bitmaps.specs.Counts.{both_passes, met_with};
 ghost use Rattle.vm_atomic_bitmaps.specs.Passes.{counting};
 ghost use Rattle.vm_atomic_bitmaps.specs.Steps.{SettlesAll};
-ghost use Rattle.device_shares.specs.Portion.{IsShareOf, MarksPages, counted, joined, kept_pass, new_pass};
+ghost use Rattle.fs_shares.specs.Portion.{IsShareOf, MarksPages, counted, joined, kept_pass, new_pass};
 ghost use Rattle.fs_device.specs.CommandView.{command_of};
 ghost use Rattle.fs_device.specs.MachineView.{machine_of};
 ghost use Rattle.fs_device.specs.Run.{GuestWrite, Kick, SetLayout};
@@ -21,8 +21,8 @@ use crate::harvest::{PageHarvest, clear_pages};
 use crate::share_error::ShareError;
 use crate::start::started;
 use crate::state::SharedState;
-use device_shares::Share;
 use fs_device::{DeviceError, Machine, Refusal};
+use fs_shares::Share;
 use fuse_fs::FileSystem;
 use std::alloc::Global;
 use std::marker::Model;
@@ -236,11 +236,11 @@ impl<L: Ledger, F: FileSystem, I: Iommu + Drop> SharedDevice<L, F, I> {
         }
     }
 
-    /// The same, and all pages that are still marked, in words of 64 pages each: page p is bit p mod 64 of word p / 64. What is
-    /// told of the words wants share and harvest to have every part of the passes, as they have once each share that was split
-    /// off is joined again. Then a page is set in them exactly where it was marked more often than gathered; and where `audit`
-    /// takes the receipts of all calls, whose pages the share has marked, each page of the bitmap in which the hosts differ is
-    /// set, or the harvest gathered it. Else device, share and harvest come back, and the words are as they were.
+    /// The same, and all pages that are still marked, in words of 64 pages each: page p is bit p mod 64 of word p / 64. What
+    /// follows holds once each share that was split off is joined back. A page is set in the words exactly if it was marked
+    /// more often than gathered. If `audit` takes the receipts of all calls, whose pages the share has marked, each page of the
+    /// bitmap in which the hosts differ is set, or the harvest gathered it. If the device doesn't come apart, then device, share
+    /// and harvest come back, and the words are as they were.
     pub fn into_parts_and_pages(
         self,
         share: Share<L>,

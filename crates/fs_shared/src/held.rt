@@ -1,15 +1,15 @@
 //! The calls on a state that is held under the lock, of which they leave a journal that replays.
 
 ghost use Rattle.std.specs.Prelude.{◌≡◌};
-ghost use Rattle.device_shares.specs.Portion.{counted};
+ghost use Rattle.fs_shares.specs.Portion.{counted};
 ghost use Rattle.fs_device.specs.Run.{GuestWrite, SetLayout};
 ghost use Rattle.fs_shared.specs.Calls.{did, did_kick};
 ghost use Rattle.fs_shared.specs.Shared.{ActsSome, KicksSome, ReadsSome};
 
 use crate::entry::{Kicked, Receipt};
 use crate::state::SharedState;
-use device_shares::Share;
 use fs_device::{DeviceError, Refusal};
+use fs_shares::Share;
 use fuse_fs::FileSystem;
 use std::alloc::Global;
 use std::sync::ledger::Ledger;

@@ -22,8 +22,8 @@ mod state;
 
 pub use auditing::audit;
 pub use device::SharedDevice;
-pub use device_shares::Share;
 pub use entry::{JournalEntry, Kicked, Outcome, Parts, Receipt, Start};
+pub use fs_shares::Share;
 pub use harvest::PageHarvest;
 pub use rounds::{Round, serve_round};
 pub use share_error::ShareError;

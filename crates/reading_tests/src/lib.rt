@@ -15,5 +15,3 @@ mod stand;
 mod translated;
 #[cfg(test)]
 mod ways;
-#[cfg(test)]
-mod windows;

@@ -82,22 +82,59 @@ const ONE_WINDOW: &[Row<'static>] = &[
     },
 ];
 
-// Rooms with more behind the header: the rest of the first part with the second, and two parts.
-const OTHERS: &[Row<'static>] = &[
+// Rooms with more windows behind the header: the rest of the first part with the second; two parts; a header over three parts,
+// the last of which has all of the data; and data right before the header.
+const SEVERAL: &[Row<'static>] = &[
     Row {
         asks: CDEF,
         room: &[(ROOM_AT, 18), (0x3000, 62)],
         data_room: 64,
         reply: CDEF_REPLY,
-        times: 1,
+        times: 2,
     },
     Row {
         asks: CDEF,
         room: &[(ROOM_AT, 16), (0x3000, 2), (0x4000, 62)],
         data_room: 64,
         reply: CDEF_REPLY,
+        times: 2,
+    },
+    Row {
+        asks: CDEF,
+        room: &[(ROOM_AT, 16), (ROOM_AT - 8, 8)],
+        data_room: 8,
+        reply: CDEF_REPLY,
         times: 1,
     },
+    Row {
+        asks: CDEF,
+        room: &[(ROOM_AT, 3), (0x3000, 11), (0x4000, 6)],
+        data_room: 4,
+        reply: CDEF_REPLY,
+        times: 1,
+    },
+];
+
+// Rooms whose bytes behind the header are its own in part, and what stands where the room begins, once the READ is answered by a
+// copy: over its last bytes by the last part alone, over its last byte, before it with a last byte over it that no data takes, and
+// over the last byte of a header in two parts.
+const OVER: &[(&[(u64, u32)], &[u8])] = &[
+    (
+        &[(ROOM_AT, 16), (0x3000, 2), (ROOM_AT + 12, 8)],
+        b"\x14\0\0\0\0\0\0\0\x07\0\0\0ef\0\0",
+    ),
+    (
+        &[(ROOM_AT, 16), (ROOM_AT + 15, 8)],
+        b"\x14\0\0\0\0\0\0\0\x07\0\0\0\0\0\0c",
+    ),
+    (
+        &[(ROOM_AT, 16), (ROOM_AT - 7, 8)],
+        b"\x14\0\0\0\0\0\0\0\x07\0\0\0\0\0\0\0",
+    ),
+    (
+        &[(ROOM_AT, 8), (0x3000, 8), (0x3007, 8)],
+        b"\x14\0\0\0\0\0\0\0",
+    ),
 ];
 
 // Serves a row's READ in a way: the reply, what is told of it, and the READ that the file system was asked for are the
@@ -157,23 +194,51 @@ fn data_behind_the_header_is_read_to_its_place(rt: HostRuntime) {
     }
 }
 
-// By both ways the file is asked to append.
-fn expect_appended(rt: &impl Abort, alloc: Global, says_whole: bool, rows: &[Row<'_>]) {
-    for row in rows {
-        let want = appended(row.times);
-        let one = served(rt, alloc, says_whole, Way::ServeOne, row, want);
-        let other = served(rt, alloc, says_whole, Way::ProcessOne, row, want);
-        one.expect_alike(rt, &other);
+#[test]
+fn data_in_several_windows_is_read_to_each_in_turn(rt: HostRuntime) {
+    for row in SEVERAL {
+        let want = filled(row.times);
+        let one = served(&rt, rt.alloc(), true, Way::ServeOne, row, want);
+        let other = served(&rt, rt.alloc(), true, Way::ProcessOne, row, appended(1));
+        one.expect_alike(&rt, &other);
+    }
+}
+
+// Serves a READ with such a room: what stands where the header was to be, once the data is over it in part.
+fn expect_over(
+    rt: &impl Abort,
+    alloc: Global,
+    way: Way,
+    room: &[(u64, u32)],
+    first: &[u8],
+) -> Stand {
+    let mut stand = Stand::new(rt, alloc, true, CDEF, room);
+    let told = stand.serve(rt, way);
+    expect_same(rt, told.reply_len, CDEF_REPLY.len());
+    let there = stand
+        .guest
+        .read(alloc, ROOM_AT, first.len())
+        .expect(rt, "a place");
+    expect_same(rt, there.as_slice(), first);
+    expect_same(rt, stand.device.server().fs().0.asked(), appended(1));
+    stand
+}
+
+#[test]
+fn data_over_the_header_is_copied(rt: HostRuntime) {
+    for (room, first) in OVER {
+        let one = expect_over(&rt, rt.alloc(), Way::ServeOne, room, first);
+        let other = expect_over(&rt, rt.alloc(), Way::ProcessOne, room, first);
+        one.expect_alike(&rt, &other);
     }
 }
 
 #[test]
-fn data_in_more_than_a_window_is_copied(rt: HostRuntime) {
-    expect_appended(&rt, rt.alloc(), true, OTHERS);
-}
-
-#[test]
 fn reads_that_may_fail_after_some_bytes_are_copied(rt: HostRuntime) {
-    expect_appended(&rt, rt.alloc(), false, ONE_WINDOW);
-    expect_appended(&rt, rt.alloc(), false, OTHERS);
+    for row in ONE_WINDOW {
+        let want = appended(row.times);
+        let one = served(&rt, rt.alloc(), false, Way::ServeOne, row, want);
+        let other = served(&rt, rt.alloc(), false, Way::ProcessOne, row, want);
+        one.expect_alike(&rt, &other);
+    }
 }

@@ -2,13 +2,13 @@
 
 ghost use Rattle.std.specs.Prelude.{◌≡◌};
 ghost use Rattle.std.specs.Thread.{IsSync};
-ghost use Rattle.device_shares.specs.Portion.{IsShareOf};
+ghost use Rattle.fs_shares.specs.Portion.{IsShareOf};
 
 use crate::stand::{LogMachine, expect_same, machine_of_four, ring};
 use call_log::CallLog;
-use device_shares::Share;
 use fs_device::{Answer, Command, HarvestedPage, harvest};
 use fs_shared::{JournalEntry, Kicked, Outcome, PageHarvest, Parts, Receipt, SharedDevice, audit};
+use fs_shares::Share;
 use std::alloc::Global;
 use std::marker::Brand;
 use std::process::Abort;

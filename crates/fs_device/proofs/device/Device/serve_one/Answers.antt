@@ -76,7 +76,7 @@ returns-clause-step g c =
     _ _ _ there kept at told.served
     (λ taken. c.give_back_front-notify.ensures.stored m takes.0 told.reply fronted told.len taken)
     (λ taken. c.give_back_front-notify.ensures.told m takes.0 told.reply fronted taken) c.give_back_front-notify.ensures.queue
-    c.self.view_is over c.answer_front.ensures.page_size c.head-head.ensures told.request (sym told.len) refl refl
+    c.self.view_is over c.answer_front.ensures.page_size c.head-head.ensures (c.request_len-request_len.ensures m takes.0 takes.2.chain) (sym told.len) refl refl
 
 pub returns-clause-loan : goal.returns-clause-loan
 returns-clause-loan g c = g.met.H.HostBlocks.composes _ _ _ c.answer_front.ensures.loan c.give_back_front-notify.ensures.loan
