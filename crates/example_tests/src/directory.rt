@@ -1,8 +1,11 @@
 //! The example's directory, as a guest reads it.
 
+ghost use Rattle.std.specs.Prelude.{◌≡◌, ◌<◌, length};
+
 use fs_device::{Answer, Command, Device, Machine};
-use fs_example::{File, FileTable, Monitor, MonitorError, read_file, run_directory};
+use fs_example::{Monitor, MonitorError, read_file, run_directory};
 use fs_queue::{Queue, QueueLayout};
+use fuse_directory::{OwnedFile, OwnedTable};
 use fuse_read_only::ReadOnly;
 use fuse_wire::{InitInCompat, InitOut, Opcode, OpenIn, ReadIn};
 use guest_driver::replies::body;
@@ -24,20 +27,30 @@ fn expect_same<T: PartialEq + Debug + Drop>(rt: &impl Abort, found: T, want: T) 
 // A file that takes two reads and a bit.
 const LONG: &[u8] = &[7; 0x2010];
 
-const FILES: [File<'static>; 3] = [
-    File {
-        name: b"a",
-        contents: b"hello",
-    },
-    File {
-        name: b"empty",
-        contents: b"",
-    },
-    File {
-        name: b"long",
-        contents: LONG,
-    },
-];
+// Each file's name and contents; they are the nodes from 2 on.
+const FILES: [(&[u8], &[u8]); 3] = [(b"a", b"hello"), (b"empty", b""), (b"long", LONG)];
+
+// The files of the directory.
+fn files(rt: &impl Abort, alloc: Global) -> Vec<OwnedFile>
+    ensures { length result.items ≡ 3 }
+{
+    let first = file(rt, alloc, 0);
+    let second = file(rt, alloc, 1);
+    let third = file(rt, alloc, 2);
+    Vec::from_array(alloc, [first, second, third]).expect(rt, "memory")
+}
+
+fn file(rt: &impl Abort, alloc: Global, index: usize) -> OwnedFile
+    requires { index < 3 }
+{
+    let (name, contents) = FILES[index];
+    OwnedFile::copied(alloc, name, contents).expect(rt, "memory")
+}
+
+// A monitor of them.
+fn monitor(rt: &impl Abort, alloc: Global) -> Monitor {
+    Monitor::new(alloc, files(rt, alloc)).expect(rt, "a monitor")
+}
 
 // The first entry of the listing (struct fuse_dirent): node 2, the place behind it, one byte of name, a regular file;
 // and the name, up to a multiple of 8.
@@ -47,12 +60,7 @@ const FIRST_ENTRY: [u8; 32] = [
 ];
 
 // What the reply to a request says: how many bytes follow its header, or its error.
-fn said(
-    rt: &impl Abort,
-    monitor: &mut Monitor<'_>,
-    request: &[u8],
-    unique: u64,
-) -> Result<usize, i32> {
+fn said(rt: &impl Abort, monitor: &mut Monitor, request: &[u8], unique: u64) -> Result<usize, i32> {
     let reply = monitor.ask(request).expect(rt, "a reply");
     let body = body(&reply, unique).expect(rt, "the reply to this request");
     body.map(|bytes| bytes.len())
@@ -76,9 +84,10 @@ fn open(
 
 #[test]
 fn a_guest_reads_each_file(rt: HostRuntime) {
-    for file in &FILES {
-        let bytes = read_file(rt.alloc(), &FILES, file.name).expect(&rt, "a file");
-        expect_same(&rt, bytes.as_slice(), file.contents);
+    for (name, contents) in FILES {
+        let files = files(&rt, rt.alloc());
+        let bytes = read_file(rt.alloc(), files, name).expect(&rt, "a file");
+        expect_same(&rt, bytes.as_slice(), contents);
     }
 }
 
@@ -87,21 +96,23 @@ fn a_guest_finds_no_other_name(rt: HostRuntime) {
     let longest = [b'a'; 255];
     for len in [0, 2, 255] {
         let name = &longest[..len];
-        let missing = read_file(rt.alloc(), &FILES, name);
+        let files = files(&rt, rt.alloc());
+        let missing = read_file(rt.alloc(), files, name);
         expect_same(&rt, matches!(missing, Err(MonitorError::Failed(-2))), true);
     }
 }
 
 #[test]
 fn a_name_of_256_bytes_is_refused(rt: HostRuntime) {
-    let long = read_file(rt.alloc(), &FILES, &[b'a'; 256]);
+    let files = files(&rt, rt.alloc());
+    let long = read_file(rt.alloc(), files, &[b'a'; 256]);
     expect_same(&rt, matches!(long, Err(MonitorError::LongName)), true);
 }
 
 #[test]
 fn a_read_that_has_no_room_fails_and_one_of_no_file_too(rt: HostRuntime) {
     let alloc = rt.alloc();
-    let mut monitor = Monitor::new(alloc, &FILES).expect(&rt, "a monitor");
+    let mut monitor = monitor(&rt, alloc);
     for (unique, node, size, want) in [
         (1, 4, 0x1000, Ok(0x1000)),
         (2, 4, 0x1001, Err(-5)),
@@ -117,7 +128,7 @@ fn a_read_that_has_no_room_fails_and_one_of_no_file_too(rt: HostRuntime) {
 #[test]
 fn a_file_is_opened_for_reading_alone(rt: HostRuntime) {
     let alloc = rt.alloc();
-    let mut monitor = Monitor::new(alloc, &FILES).expect(&rt, "a monitor");
+    let mut monitor = monitor(&rt, alloc);
     for (unique, opcode, node, flags, want) in [
         (1, Opcode::Open, 2, 0, Ok(16)),
         (2, Opcode::Open, 2, 1, Err(-30)),
@@ -146,7 +157,7 @@ fn blank(rt: &impl Abort, alloc: Global, opcode: Opcode, len: u32, unique: u64) 
 #[test]
 fn a_call_that_the_directory_has_not_has_the_default(rt: HostRuntime) {
     let alloc = rt.alloc();
-    let mut monitor = Monitor::new(alloc, &FILES).expect(&rt, "a monitor");
+    let mut monitor = monitor(&rt, alloc);
     for (unique, opcode, len, want) in [
         (1, Opcode::Release, 64, Ok(0)),
         (2, Opcode::Statfs, 40, Ok(80)),
@@ -165,7 +176,7 @@ const DO_READDIRPLUS: u32 = 1 << 13;
 #[test]
 fn a_listing_with_attributes_is_wanted_where_the_guest_can(rt: HostRuntime) {
     let alloc = rt.alloc();
-    let mut monitor = Monitor::new(alloc, &FILES).expect(&rt, "a monitor");
+    let mut monitor = monitor(&rt, alloc);
     for flags in [DO_READDIRPLUS, 0] {
         let record = InitInCompat {
             major: 7,
@@ -184,7 +195,7 @@ fn a_listing_with_attributes_is_wanted_where_the_guest_can(rt: HostRuntime) {
 #[test]
 fn a_request_that_has_no_place_is_refused(rt: HostRuntime) {
     let alloc = rt.alloc();
-    let mut monitor = Monitor::new(alloc, &FILES).expect(&rt, "a monitor");
+    let mut monitor = monitor(&rt, alloc);
     let mut request = Vec::new(alloc);
     request.resize(0xd001, 0).expect(&rt, "memory");
     let refused = monitor.ask(&request);
@@ -194,7 +205,7 @@ fn a_request_that_has_no_place_is_refused(rt: HostRuntime) {
 #[test]
 fn a_reply_is_that_to_its_request_alone(rt: HostRuntime) {
     let alloc = rt.alloc();
-    let mut monitor = Monitor::new(alloc, &FILES).expect(&rt, "a monitor");
+    let mut monitor = monitor(&rt, alloc);
     let request = read(alloc, 7, 2, 0, 0, 5).expect(&rt, "memory");
     let reply = monitor.ask(&request).expect(&rt, "a reply");
     let Some(Ok(bytes)) = body(&reply, 7) else {
@@ -218,7 +229,7 @@ fn a_guest_lists_the_names(rt: HostRuntime) {
         ..ReadIn::default()
     };
     let request = with_record(alloc, &head, &record).expect(&rt, "memory");
-    let mut monitor = Monitor::new(alloc, &FILES).expect(&rt, "a monitor");
+    let mut monitor = monitor(&rt, alloc);
     let reply = monitor.ask(&request).expect(&rt, "a reply");
     expect_same(&rt, reply.len(), 16 + 3 * 32);
     expect_same(&rt, reply.get(16..48), Some(FIRST_ENTRY.as_slice()));
@@ -233,16 +244,17 @@ const RING: Ring = Ring {
 };
 
 // A device over the directory, whose one queue is the ring.
-fn device(rt: &impl Abort, alloc: Global) -> Device<ReadOnly<FileTable<'static>>> {
+fn device(rt: &impl Abort, alloc: Global) -> Device<ReadOnly<OwnedTable>> {
     let layout = QueueLayout::new(RING.size, RING.desc, RING.avail, RING.used);
     let queue = Queue::new(layout.expect(rt, "a layout"));
     let queues = Vec::from_array(alloc, [queue]).expect(rt, "memory");
-    let server = Server::new(ReadOnly(FileTable::new(&FILES)), 4096);
+    let table = OwnedTable::new(alloc, files(rt, alloc)).expect(rt, "memory");
+    let server = Server::new(ReadOnly(table), 4096);
     Device::new(server, queues, 0x101000)
 }
 
 // A machine over the directory, whose guest reads the first five bytes of node 2.
-fn reading(rt: &impl Abort, alloc: Global) -> Machine<ReadOnly<FileTable<'static>>, TableIommu> {
+fn reading(rt: &impl Abort, alloc: Global) -> Machine<ReadOnly<OwnedTable>, TableIommu> {
     let regions = [(GuestAddress(0), 0x10000)];
     let mut guest = Guest::new(alloc, &regions, RING).expect(rt, "memory");
     let request = read(alloc, 1, 2, 0, 0, 5).expect(rt, "memory");

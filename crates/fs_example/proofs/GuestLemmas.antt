@@ -13,14 +13,14 @@ use Rattle.vm_memory.proofs.Places.{length-addresses}
 use Rattle.fs_queue.specs.Queue.{Queue, element_at, index_at}
 use Rattle.fs_queue.specs.Returning.{next_position, returned, writes}
 use Rattle.fuse_wire.specs.Records.{out_header}
-use Rattle.fuse_replies.proofs.ReplyLemmas.{length_header}
+use Rattle.server_replies.proofs.ReplyLemmas.{length_header}
 use Rattle.virtiofsd_fuse.specs.Grammar.{reply_bytes}
 use Rattle.fs_device.specs.declared.refusal.Refusal.{Refusal}
 use Rattle.fs_device.specs.declared.refusal.Refusal.TheVariants.{NoPlace}
 use Rattle.fs_device.specs.Step.{State, Exchanged, Step}
 use Rattle.fs_device.specs.Run as run
 use Rattle.fs_device.specs.Run.{Turn, Told, Command, Answer, Kicked, Kicks, KickRun, Run, RunTold, Effect, IsDecided, effect}
-use Rattle.fs_example.specs.Directory.{Directory, DirectoryAnswers}
+use Rattle.fuse_directory.specs.Directory.{Directory, DirectoryAnswers}
 use Rattle.fs_example.specs.Reading.{read_reply, wanted}
 use Rattle.fs_example.specs.GuestGets.{laid_over, GetsFile, KickGivesFile, kick_and_look, GuestGetsTheFile}
 use Rattle.fs_example.proofs.StoreLemmas.{all_keep, room_seen}

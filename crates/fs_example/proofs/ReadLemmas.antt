@@ -8,10 +8,10 @@ use Rattle.fs_queue.specs.Taking.{Offer}
 use Rattle.fs_queue.specs.Returning.{returned}
 use Rattle.fuse_fs.specs.declared.answers.Context.{Context}
 use Rattle.fuse_fs.specs.Calls.{FileCall, FileAnswer, FileRun, Failed, Bytes, Read}
-use Rattle.fuse_segments.specs.declared.error.Error.{Error}
-use Rattle.fuse_segments.specs.declared.error.Error.TheVariants.{EncodeMessage}
-use Rattle.fuse_replies.specs.Entries.{EIO}
-use Rattle.fuse_replies.proofs.ReplyLemmas.{length_reply, length_error}
+use Rattle.server_segments.specs.declared.error.Error.{Error}
+use Rattle.server_segments.specs.declared.error.Error.TheVariants.{EncodeMessage}
+use Rattle.server_replies.specs.Entries.{EIO}
+use Rattle.server_replies.proofs.ReplyLemmas.{length_reply, length_error}
 use Rattle.fuse_read_only.specs.ReadOnly.{ByOwn, is_own, default_answer}
 use Rattle.virtiofsd_fuse.specs.Grammar.{Meaning, Asks, One, IsFault, meaning, reply_bytes, error_bytes}
 use Rattle.virtiofsd_fuse.specs.Serving.{Setting, Served, served, setting, no_reply, replied, answer_bytes}
@@ -20,41 +20,45 @@ use Rattle.fs_device.specs.Step as step
 use Rattle.fs_device.specs.Step.{State, Calls, Exchange, Outcome, Idle, Refused, Exchanged, Step, StepOf, Exchanges, served_fault, calls_alone, answers_alone}
 use Rattle.fs_device.specs.Run.{Turn, Told, Command, Answer, RunTold}
 use Rattle.fs_device.specs.Telling.{calls_of, calls_told, IsMeant, IsServedBy, IsServed}
-use Rattle.fs_example.specs.declared.table.File.{File}
-use Rattle.fs_example.specs.declared.table.FileTable.{FileTable}
-use Rattle.fs_example.specs.Directory.{Directory, MayAnswer, DirectoryAnswers, directory_answer, file_at, bytes_at, bytes_in}
+use Rattle.fuse_directory.specs.declared.table.OwnedFile.{OwnedFile}
+use Rattle.fuse_directory.specs.Files.{files_of}
+use Rattle.fuse_directory.specs.declared.table.OwnedTable.{OwnedTable}
+use Rattle.fuse_directory.specs.Directory.{Answers, Directory, MayAnswer, DirectoryAnswers, file_at, bytes_at, bytes_in}
 use Rattle.fs_example.specs.Reading.{read_in_room, wanted, read_reply, GivesBytes, ReadsTrue, ReadsIntoRoom, ReadingRun}
 
--- what each call is answered, its own and the others
-abbrev whole_answer : List File → FileCall → FileAnswer
-whole_answer fs call = if is_own call then directory_answer fs call else default_answer call
-
--- each call has its answer
-abbrev Answered : List File → Calls → Type 0
-Answered fs calls = AllByRecursion (λ step. step.1 ≡ whole_answer fs step.0) calls
+-- each call has one of its answers, its own and the others
+abbrev Answered : List OwnedFile → Calls → Type 0
+Answered fs calls = AllByRecursion (λ step. ByOwn (is_own step.0) (Answers fs step.0 step.1) (step.1 ≡ default_answer step.0)) calls
 
 by_own : (own : Bool) (before after : Directory) (call : FileCall) (answer : FileAnswer) →
     ByOwn own (MayAnswer before.0 call answer after.0) ((answer ≡ default_answer call) × (after ≡ before)) →
-    (answer ≡ (if own then directory_answer before.0.files.now call else default_answer call)) × (after ≡ before)
-by_own true before after call answer made = (made.0, ap (λ (t : FileTable). record { 0 = t }) made.1)
+    ByOwn own (Answers (files_of before.0) call answer) (answer ≡ default_answer call) × (after ≡ before)
+by_own true before after call answer made = (made.0, ap (λ (t : OwnedTable). record { 0 = t }) made.1)
 by_own false before after call answer made = made
 
 one_answer : (before after : Directory) (call : FileCall) (answer : FileAnswer) → DirectoryAnswers before call answer after →
-    (answer ≡ whole_answer before.0.files.now call) × (after ≡ before)
+    ByOwn (is_own call) (Answers (files_of before.0) call answer) (answer ≡ default_answer call) × (after ≡ before)
 one_answer before after call answer made = by_own (is_own call) before after call answer made
 
-pub serves_each : (before : Directory) (calls : Calls) (after : Directory) → FileRun DirectoryAnswers before calls after → Answered before.0.files.now calls × (after ≡ before)
+-- a READ has one answer
+read_answered : (fs : List OwnedFile) (who : Context) (node handle room size offset flags : ℕ) (owner : Option ℕ) (call : FileCall) (answer : FileAnswer) →
+    call ≡ Read who node handle room size offset owner flags → ByOwn (is_own call) (Answers fs call answer) (answer ≡ default_answer call) →
+    answer ≡ bytes_at (file_at fs node) room size offset
+read_answered fs who node handle room size offset flags owner call answer same made =
+    subst (λ (c : FileCall). ByOwn (is_own c) (Answers fs c answer) (answer ≡ default_answer c)) same made
+
+pub serves_each : (before : Directory) (calls : Calls) (after : Directory) → FileRun DirectoryAnswers before calls after → Answered (files_of before.0) calls × (after ≡ before)
 serves_each before [] after same = (tt, same)
 serves_each before (step ∷ calls) after (between, suit, made, rest) =
     let others = serves_each between calls after rest in
     let own = one_answer before between step.0 step.1 made in
-    ((own.0, subst (λ (d : Directory). Answered d.0.files.now calls) own.1 others.0), others.1 ∙ own.1)
+    ((own.0, subst (λ (d : Directory). Answered (files_of d.0) calls) own.1 others.0), others.1 ∙ own.1)
 
-front_of : (fs : List File) (xs ys : Calls) → Answered fs (xs ++ ys) → Answered fs xs
+front_of : (fs : List OwnedFile) (xs ys : Calls) → Answered fs (xs ++ ys) → Answered fs xs
 front_of fs [] ys all = tt
 front_of fs (x ∷ xs) ys (own, all) = (own, front_of fs xs ys all)
 
-back_of : (fs : List File) (xs ys : Calls) → Answered fs (xs ++ ys) → Answered fs ys
+back_of : (fs : List OwnedFile) (xs ys : Calls) → Answered fs (xs ++ ys) → Answered fs ys
 back_of fs [] ys all = all
 back_of fs (x ∷ xs) ys (own, all) = back_of fs xs ys all
 
@@ -69,7 +73,7 @@ by_fit room calls options bytes false is low = refl
 whole_reply : (room : ℕ) (calls : List FileCall) (options : ℕ) (bytes : List ℕ) → length bytes ≤ room → (replied room calls options bytes).reply ≡ bytes
 whole_reply room calls options bytes low = by_fit room calls options bytes (nat_lt room (length bytes)) refl low
 
-module _ (fs : List File) (f : File) (s : Setting) (who : Context) (unique node handle size offset flags : ℕ) (owner : Option ℕ) (there : file_at fs node ≡ Some f) where
+module _ (fs : List OwnedFile) (f : OwnedFile) (s : Setting) (who : Context) (unique node handle size offset flags : ℕ) (owner : Option ℕ) (there : file_at fs node ≡ Some f) where
   abbrev reading : FileCall
   reading = Read who node handle (s.room - 16) size offset owner flags
 
@@ -103,7 +107,7 @@ module _ (fs : List File) (f : File) (s : Setting) (who : Context) (unique node 
       let list : (reading ∷ []) ≡ step.0 ∷ calls_alone calls = sym (asked_once s.options (nat_lt s.room (length bytes)) bytes) ∙ asks in
       let same : step.0 ≡ reading = cc in
       let answer : step.1 ≡ bytes_in (s.room - 16) (wanted f size offset) =
-      all.0 ∙ ap (whole_answer fs) same ∙ ap (λ (o : Option File). bytes_at o (s.room - 16) size offset) there in
+      read_answered fs who node handle (s.room - 16) size offset flags owner step.0 step.1 same all.0 ∙ ap (λ (o : Option OwnedFile). bytes_at o (s.room - 16) size offset) there in
       let is : bytes ≡ reply_by long = ap (answer_bytes unique reading) answer ∙ replies long in
       let low : length bytes ≤ s.room = subst (λ (l : List ℕ). length l ≤ s.room) (sym is) (fits long refl place) in
       whole_reply s.room (asked (nat_lt s.room (length bytes))) s.options bytes low ∙ is
@@ -151,7 +155,7 @@ step_into_room s after i calls x notice made q head request room unique node siz
     let asks : (served known m (answers_alone calls)).calls ≡ calls_alone calls = ap (λ (g : Served). g.calls) (sym done.serves.gives) ∙ done.serves.asks in
     let reply : done.given.reply ≡ read_reply (length room) unique (wanted f size offset) =
     ap (λ (g : Served). g.reply) done.serves.gives
-    ∙ read_served s.files.0.files.now f known who unique node handle size offset flags owner file calls m (means s.options (length room)) each.0 asks in (
+    ∙ read_served (files_of s.files.0) f known who unique node handle size offset flags owner file calls m (means s.options (length room)) each.0 asks in (
       ap (λ (y : Exchange). y.reply) done.returns.exchange ∙ reply,
       ap (λ (t : State Directory). t.memory) done.returns.state ∙ ap (returned s.memory q head room) reply,
     )
@@ -167,7 +171,7 @@ no_fault : (o : Option Error) → served_fault o ≡ None → o ≡ None
 no_fault None e = refl
 no_fault (Some x) e = absurd (cc)
 
-turn_true : (fs : List File) (t : Turn) → IsServed t → Answered fs t.calls → ReadsTrue fs t
+turn_true : (fs : List OwnedFile) (t : Turn) → IsServed t → Answered fs t.calls → ReadsTrue fs t
 turn_true fs t serves all unique node size offset f (who, handle, flags, owner, means) there well =
     let meant : IsMeant t = subst (λ (o : Option Fault). IsServedBy o t) well serves in
     let s = meant.0 in
@@ -181,11 +185,11 @@ turn_true fs t serves all unique node size offset f (who, handle, flags, owner, 
 
 -- ---- runs
 
-kick_true : (fs : List File) (told : Told) → AllByRecursion IsServed told → Answered fs (calls_of told) → AllByRecursion (ReadsTrue fs) told
+kick_true : (fs : List OwnedFile) (told : Told) → AllByRecursion IsServed told → Answered fs (calls_of told) → AllByRecursion (ReadsTrue fs) told
 kick_true fs [] serves all = tt
 kick_true fs (t ∷ told) (own, serves) all = (turn_true fs t own (front_of fs t.calls (calls_of told) all), kick_true fs told serves (back_of fs t.calls (calls_of told) all))
 
-all_true : (fs : List File) (tolds : List Told) → AllByRecursion (AllByRecursion IsServed) tolds → Answered fs (calls_told tolds) → AllByRecursion (AllByRecursion (ReadsTrue fs)) tolds
+all_true : (fs : List OwnedFile) (tolds : List Told) → AllByRecursion (AllByRecursion IsServed) tolds → Answered fs (calls_told tolds) → AllByRecursion (AllByRecursion (ReadsTrue fs)) tolds
 all_true fs [] serves all = tt
 all_true fs (told ∷ tolds) (own, serves) all =
     (kick_true fs told own (front_of fs (calls_of told) (calls_told tolds) all), all_true fs tolds serves (back_of fs (calls_of told) (calls_told tolds) all))
@@ -194,4 +198,4 @@ pub run_reads : (s after : State Directory) (events : List (Command × Answer)) 
     FileRun DirectoryAnswers s.files (calls_told tolds) after.files × AllByRecursion (AllByRecursion IsServed) tolds → ReadingRun s events after
 run_reads s after events tolds ran tells =
     let each = serves_each s.files (calls_told tolds) after.files tells.0 in
-    (tolds, ran, all_true s.files.0.files.now tolds tells.1 each.0, each.1)
+    (tolds, ran, all_true (files_of s.files.0) tolds tells.1 each.0, each.1)

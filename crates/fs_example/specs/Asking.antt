@@ -12,8 +12,9 @@ use Rattle.guest_driver.specs.Requests.{lookup_bytes, read_bytes}
 use Rattle.fs_device.specs.DeviceView.{state_of}
 use Rattle.fs_device.specs.Step.{State, Exchange, Exchanged}
 use Rattle.fs_example.specs.declared.monitor.Monitor.{Monitor}
-use Rattle.fs_example.specs.declared.table.File.{File}
-use Rattle.fs_example.specs.Directory.{Directory}
+use Rattle.fuse_directory.specs.declared.table.OwnedFile.{OwnedFile}
+use Rattle.fuse_directory.specs.Files.{files_of}
+use Rattle.fuse_directory.specs.Directory.{Directory}
 use Rattle.fs_example.specs.Driver.{offered, reply_at}
 use Rattle.fs_example.specs.Reading.{ReadingStep}
 
@@ -36,11 +37,11 @@ zeros size = memory_of (record { blocks = new_block size ∷ []; tables = []; io
 -- the machine of a new monitor over these files: 64 KiB of zeros, one queue of 4 descriptors of which no chain was returned (its
 -- table at 0, its available ring at 0x100 and its used ring at 0x200), no options agreed on, a limit of 1 MiB and 4 KiB, and
 -- pages of 4 KiB
-pub record IsNew (files : List File) (s : State Directory) : Type 0 where
+pub record IsNew (files : List OwnedFile) (s : State Directory) : Type 0 where
   pub memory : s.memory ≡ zeros 0x10000
   pub queues : s.queues ≡ fresh 4 0 0x100 0x200 ∷ []
   pub options : s.options ≡ 0
-  pub table : s.files.0.files.now ≡ files
+  pub table : (files_of s.files.0) ≡ files
   pub limit : s.limit ≡ 0x101000
   pub page_size : s.page_size ≡ 4096
 

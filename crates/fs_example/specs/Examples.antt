@@ -14,9 +14,9 @@ use Rattle.fs_queue.specs.Taking.{Offers, offer}
 use Rattle.fs_queue.specs.Taking as taking
 use Rattle.fs_queue.specs.Returning.{returned}
 use Rattle.fuse_fs.specs.Calls.{FileCall, Read}
-use Rattle.fuse_segments.specs.declared.error.Error.TheVariants.{EncodeMessage}
-use Rattle.fuse_requests.specs.Reading.{Faults, and_then, reading_of}
-use Rattle.fuse_replies.specs.WholeReplies.{error_bytes, reply_bytes}
+use Rattle.server_segments.specs.declared.error.Error.TheVariants.{EncodeMessage}
+use Rattle.server_requests.specs.Reading.{Faults, and_then, reading_of}
+use Rattle.server_replies.specs.WholeReplies.{error_bytes, reply_bytes}
 use Rattle.virtiofsd_fuse.specs.Examples.{nobody, zeros, le16, le32, le64, in_header_bytes}
 use Rattle.virtiofsd_fuse.specs.Grammar.{Asks, IsFault, One, ended, meaning, meant, row}
 use Rattle.fs_device.specs.Examples.{blank, descriptor_bytes, put, queue}

@@ -11,8 +11,9 @@ use Rattle.fs_queue.specs.Taking.{Offers, offer}
 use Rattle.fs_device.specs.Step.{State}
 use Rattle.fs_device.specs.Run as run
 use Rattle.fs_device.specs.Run.{Command, Answer, Kicked, Kick, Served, GuestRead, Run}
-use Rattle.fs_example.specs.declared.table.File.{File}
-use Rattle.fs_example.specs.Directory.{Directory, DirectoryAnswers, file_at}
+use Rattle.fuse_directory.specs.declared.table.OwnedFile.{OwnedFile}
+use Rattle.fuse_directory.specs.Files.{files_of}
+use Rattle.fuse_directory.specs.Directory.{Directory, DirectoryAnswers, file_at}
 use Rattle.fs_example.specs.Reading.{IsRead, read_reply, wanted}
 
 -- the place of a byte, whatever page a write of it marks
@@ -57,9 +58,9 @@ GetsFile m room k a n unique file got =
 -- a kick that found this state and took one chain, a READ of a file, gives it to the guest that then looks at the room
 abbrev pub KickGivesFile : State Directory → (i : ℕ) → Kicked → (a n : ℕ) → (got : List ℕ) → Type 0
 KickGivesFile s i kicked a n got =
-    (q : Queue) (head : ℕ) (request room : List ℕ) (unique node size offset k : ℕ) (f : File) →
+    (q : Queue) (head : ℕ) (request room : List ℕ) (unique node size offset k : ℕ) (f : OwnedFile) →
     length kicked.exchanges ≡ 1 → slice_get s.queues i ≡ Some q → offer s.memory s.limit q ≡ Offers head (taking.IsRequest request room) →
-    IsRead request unique node size offset → file_at s.files.0.files.now node ≡ Some f →
+    IsRead request unique node size offset → file_at (files_of s.files.0) node ≡ Some f →
     WritesApart s.memory q room → LooksAtRoom s.memory room k a n →
     GetsFile s.memory (length room) k a n unique (wanted f size offset) got
 

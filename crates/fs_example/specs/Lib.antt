@@ -1,5 +1,4 @@
 pub mod Asking
-pub mod Directory
 pub mod Driver
 pub mod Examples
 pub mod GuestGets

@@ -7,13 +7,14 @@ use Rattle.fs_queue.specs.Taking.{Offers, offer}
 use Rattle.fs_queue.specs.Returning.{returned}
 use Rattle.fuse_fs.specs.declared.answers.Context.{Context}
 use Rattle.fuse_fs.specs.Calls.{FileCall, Read}
-use Rattle.fuse_segments.specs.declared.error.Error.TheVariants.{EncodeMessage}
-use Rattle.fuse_replies.specs.Entries.{EIO}
+use Rattle.server_segments.specs.declared.error.Error.TheVariants.{EncodeMessage}
+use Rattle.server_replies.specs.Entries.{EIO}
 use Rattle.virtiofsd_fuse.specs.Grammar.{Meaning, IsFault, Asks, One, meaning, reply_bytes, error_bytes}
 use Rattle.fs_device.specs.Step.{State, Outcome, Idle, Refused, Exchanged, Calls, Step}
 use Rattle.fs_device.specs.Run.{Turn, Told, Command, Answer, RunTold}
-use Rattle.fs_example.specs.declared.table.File.{File}
-use Rattle.fs_example.specs.Directory.{Directory, file_at, DirectoryAnswers}
+use Rattle.fuse_directory.specs.declared.table.OwnedFile.{OwnedFile}
+use Rattle.fuse_directory.specs.Files.{files_of}
+use Rattle.fuse_directory.specs.Directory.{Directory, file_at, DirectoryAnswers}
 
 -- what a READ means: a fault, where its room has no place for the header of the reply
 abbrev pub read_in_room : (unique room : ℕ) → FileCall → Meaning
@@ -26,8 +27,8 @@ IsRead request unique node size offset =
     × ((options room : ℕ) → meaning options request room ≡ read_in_room unique room (Read who node handle (room - 16) size offset owner flags))
 
 -- the bytes of a file from an offset on, at most so many
-abbrev pub wanted : File → (size offset : ℕ) → List ℕ
-wanted f size offset = take size (drop offset f.contents.now)
+abbrev pub wanted : OwnedFile → (size offset : ℕ) → List ℕ
+wanted f size offset = take size (drop offset f.contents.items)
 
 -- the reply with these bytes; EIO where the room behind the header is too short; nothing where it has no place for one
 abbrev pub read_reply : (room unique : ℕ) → List ℕ → List ℕ
@@ -38,9 +39,9 @@ read_reply room unique bytes =
 -- where a step took a READ of a file from queue i, the reply was written over its chain's room, then what follows it
 abbrev pub ReadsIntoRoom : State Directory → (i : ℕ) → Outcome → State Directory → Type 0
 ReadsIntoRoom s i (Exchanged x notice) after =
-    (q : Queue) (head : ℕ) (request room : List ℕ) (unique node size offset : ℕ) (f : File) →
+    (q : Queue) (head : ℕ) (request room : List ℕ) (unique node size offset : ℕ) (f : OwnedFile) →
     slice_get s.queues i ≡ Some q → offer s.memory s.limit q ≡ Offers head (taking.IsRequest request room) →
-    IsRead request unique node size offset → file_at s.files.0.files.now node ≡ Some f →
+    IsRead request unique node size offset → file_at (files_of s.files.0) node ≡ Some f →
     (x.reply ≡ read_reply (length room) unique (wanted f size offset))
     × (after.memory ≡ returned s.memory q head room (read_reply (length room) unique (wanted f size offset)))
 ReadsIntoRoom s i Idle after = Unit {0}
@@ -51,17 +52,17 @@ abbrev pub ReadingStep : State Directory → (i : ℕ) → Outcome → State Dir
 ReadingStep s i outcome after = (calls : Calls) × Step DirectoryAnswers s i calls outcome after × ReadsIntoRoom s i outcome after
 
 -- the good reply with the bytes of the file from there on, at most so many; or EIO
-abbrev pub GivesBytes : (reply : List ℕ) → (unique size offset : ℕ) → File → Type 0
+abbrev pub GivesBytes : (reply : List ℕ) → (unique size offset : ℕ) → OwnedFile → Type 0
 GivesBytes reply unique size offset f = (reply ≡ reply_bytes unique (wanted f size offset)) ⊎ (reply ≡ error_bytes unique EIO)
 
 -- where an exchange without a fault read a file, the reply gives its bytes
-abbrev pub ReadsTrue : List File → Turn → Type 0
+abbrev pub ReadsTrue : List OwnedFile → Turn → Type 0
 ReadsTrue fs t =
-    (unique node size offset : ℕ) (f : File) → IsRead t.exchange.request unique node size offset → file_at fs node ≡ Some f →
+    (unique node size offset : ℕ) (f : OwnedFile) → IsRead t.exchange.request unique node size offset → file_at fs node ≡ Some f →
     t.exchange.fault ≡ None → GivesBytes t.exchange.reply unique size offset f
 
 -- a run in which each exchange reads so; the directory is as it was
 abbrev pub ReadingRun : State Directory → List (Command × Answer) → State Directory → Type 0
 ReadingRun s events after =
     (tolds : List Told) × RunTold DirectoryAnswers s events tolds after
-    × AllByRecursion (AllByRecursion (ReadsTrue s.files.0.files.now)) tolds × (after.files ≡ s.files)
+    × AllByRecursion (AllByRecursion (ReadsTrue (files_of s.files.0))) tolds × (after.files ≡ s.files)

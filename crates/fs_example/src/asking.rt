@@ -5,14 +5,14 @@ ghost use Rattle.vm_memory_core.specs.Host.{shape};
 ghost use Rattle.virtiofsd_fuse.specs.Grammar.{reply_bytes};
 ghost use Rattle.fs_device.specs.Step.{State};
 ghost use Rattle.fs_example.specs.Asking.{IsAsked, IsNew, ReadsFile, chains_of, layout_of, machine_of_monitor};
-ghost use Rattle.fs_example.specs.Directory.{Directory};
+ghost use Rattle.fuse_directory.specs.Directory.{Directory};
 
 use crate::driver::{AVAIL, DESC, QUEUE_SIZE, ROOM_LEN, USED, offer, reply};
 use crate::monitor::{Monitor, MonitorError};
 use crate::step::step_directory;
-use crate::table::{File, FileTable};
 use fs_device::{Device, LEAST_LIMIT};
 use fs_queue::{Queue, QueueLayout};
+use fuse_directory::{OwnedFile, OwnedTable};
 use fuse_read_only::ReadOnly;
 use fuse_wire::EntryOut;
 use guest_driver::replies::body;
@@ -32,11 +32,11 @@ const PIECE: u32 = ROOM_LEN - 16;
 // The longest name (NAME_MAX in linux/limits.h).
 const NAME_MAX: usize = 255;
 
-impl<'a> Monitor<'a> {
+impl Monitor {
     /// A guest with 64 KiB of zeros from 0 on, and a device of one queue of which no chain was returned.
-    pub fn new(alloc: Global, files: &'a [File<'a>]) -> Result<Monitor<'a>, MonitorError>
-        requires { length files.now < 2 ^ 32 }
-        ensures machine { IfOk result (λ monitor. IsNew files.now (machine_of_monitor monitor)) }
+    pub fn new(alloc: Global, files: Vec<OwnedFile>) -> Result<Monitor, MonitorError>
+        requires { length files.items < 2 ^ 32 }
+        ensures machine { IfOk result (λ monitor. IsNew files.items (machine_of_monitor monitor)) }
         ensures chains { IfOk result (λ monitor. chains_of monitor ≡ 0) }
     {
         let mut host = HostMemory::new(alloc);
@@ -44,7 +44,8 @@ impl<'a> Monitor<'a> {
         let mut queues = Vec::with_capacity(alloc, 1)?;
         let layout = QueueLayout::new(QUEUE_SIZE, DESC, AVAIL, USED)?;
         queues.push(Queue::new(layout)).unwrap();
-        let server = Server::new(ReadOnly(FileTable::new(files)), PAGE_SIZE);
+        let table = OwnedTable::new(alloc, files)?;
+        let server = Server::new(ReadOnly(table), PAGE_SIZE);
         let device = Device::new(server, queues, LEAST_LIMIT);
         Ok(Monitor {
             alloc,
@@ -135,10 +136,10 @@ fn told(reply: &[u8], unique: u64) -> Result<&[u8], MonitorError>
 }
 
 /// Reads one of the files by its name, as a guest of a new monitor does.
-pub fn read_file(alloc: Global, files: &[File], name: &[u8]) -> Result<Vec<u8>, MonitorError>
-    requires { length files.now < 2 ^ 32 }
+pub fn read_file(alloc: Global, files: Vec<OwnedFile>, name: &[u8]) -> Result<Vec<u8>, MonitorError>
+    requires { length files.items < 2 ^ 32 }
     ensures { IfOk result (λ contents. (before after : State Directory)
-        × IsNew files.now before × ReadsFile before 0 name.now contents.items after) }
+        × IsNew files.items before × ReadsFile before 0 name.now contents.items after) }
 {
     let mut monitor = Monitor::new(alloc, files)?;
     monitor.read_file(name)

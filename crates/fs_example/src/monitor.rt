@@ -4,9 +4,9 @@ ghost use Rattle.vm_memory_core.specs.Host.{lengths};
 ghost use Rattle.vm_memory.specs.Layout.{HostHolds};
 ghost use Rattle.vm_memory.specs.OneProof.{AreHeld-prop};
 
-use crate::table::FileTable;
 use fs_device::{Device, DeviceError};
 use fs_queue::QueueLayoutError;
+use fuse_directory::OwnedTable;
 use fuse_read_only::ReadOnly;
 use std::alloc::{AllocError, Global};
 use thiserror::Error;
@@ -37,11 +37,11 @@ pub enum MonitorError {
 
 /// A guest, and the device that serves it the files.
 #[derive(Drop)]
-pub struct Monitor<'a> {
+pub struct Monitor {
     pub(crate) alloc: Global,
     pub(crate) host: HostMemory<PageBitmap>,
     pub(crate) mem: GuestMemoryMmap,
-    pub(crate) device: Device<ReadOnly<FileTable<'a>>>,
+    pub(crate) device: Device<ReadOnly<OwnedTable>>,
     // How many chains the guest has offered, modulo 2^16.
     pub(crate) offered: u16,
     pub(crate) ghost held: { HostHolds host mem } by { AreHeld-prop (lengths host) mem },

@@ -7,9 +7,9 @@ ghost use Rattle.fs_device.specs.MachineView.{machine_of};
 ghost use Rattle.fs_example.specs.GuestGets.{GuestGetsTheFile};
 ghost use Rattle.fs_example.specs.Reading.{ReadingRun};
 
-use crate::table::FileTable;
 use fs_device::laws::law_calls;
 use fs_device::{Answer, Command, Machine};
+use fuse_directory::OwnedTable;
 use fuse_read_only::ReadOnly;
 use std::alloc::{AllocError, Global};
 use vm_memory::Iommu;
@@ -18,9 +18,9 @@ use vm_memory::Iommu;
 /// a file, its reply has the file's bytes, or is EIO. Where a kick takes one chain that reads a file, no byte is
 /// written twice as it goes back, and the guest looks at that chain's room next, it gets what stood there with the
 /// reply laid over: behind the header, where the room is long enough, the file's bytes.
-pub fn run_directory<'a, I: Iommu + Drop>(
+pub fn run_directory<I: Iommu + Drop>(
     alloc: Global,
-    machine: &mut Machine<ReadOnly<FileTable<'a>>, I>,
+    machine: &mut Machine<ReadOnly<OwnedTable>, I>,
     commands: Vec<Command>,
 ) -> Result<Vec<Answer>, AllocError>
     ensures run { IfOk result (λ answers. ReadingRun (machine_of machine.old)
@@ -30,6 +30,6 @@ pub fn run_directory<'a, I: Iommu + Drop>(
     ensures all { IfOk result (λ answers. length answers.items ≡ length commands.items) }
     ensures err { OnErr result (machine_of machine.new ≡ machine_of machine.old) }
 {
-    law_calls::<ReadOnly<FileTable<'a>>>();
+    law_calls::<ReadOnly<OwnedTable>>();
     machine.run(alloc, commands)
 }

@@ -5,8 +5,8 @@ ghost use Rattle.vm_memory_core.specs.Host.{shape};
 ghost use Rattle.fs_device.specs.DeviceView.{outcome_of, state_of};
 ghost use Rattle.fs_example.specs.Reading.{ReadingStep};
 
-use crate::table::FileTable;
 use fs_device::{Device, DeviceError, Exchange};
+use fuse_directory::OwnedTable;
 use fuse_read_only::ReadOnly;
 use std::alloc::Global;
 use vm_memory::GuestMemory;
@@ -15,9 +15,9 @@ use vm_memory_core::HostBlocks;
 /// Serves the next chain of a queue, as `Device::process_one`. Where that is a READ of a file, the reply with the
 /// file's bytes is written over the chain's room; EIO, where it is too short for them; or nothing, where it has no
 /// place for a header; and then the used element and the used index.
-pub fn step_directory<'a, M: GuestMemory, H: HostBlocks>(
+pub fn step_directory<M: GuestMemory, H: HostBlocks>(
     alloc: Global,
-    device: &mut Device<ReadOnly<FileTable<'a>>>,
+    device: &mut Device<ReadOnly<OwnedTable>>,
     host: &mut H,
     mem: &M,
     queue: usize,

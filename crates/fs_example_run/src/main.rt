@@ -7,23 +7,20 @@ mod guest;
 
 use crate::embedding::serve_guest;
 use crate::guest::Reader;
-use fs_example::{File, FileTable};
+use fuse_directory::{OwnedFile, OwnedTable};
 use fuse_read_only::ReadOnly;
+use std::alloc::{AllocError, Global};
 
-const FILES: [File<'static>; 2] = [
-    File {
-        name: b"hello.txt",
-        contents: b"Hello, guest!\n",
-    },
-    File {
-        name: b"empty.txt",
-        contents: b"",
-    },
-];
+// The files that the guest finds.
+fn files(alloc: Global) -> Result<OwnedTable, AllocError> {
+    let hello = OwnedFile::copied(alloc, b"hello.txt", b"Hello, guest!\n")?;
+    let empty = OwnedFile::copied(alloc, b"empty.txt", b"")?;
+    OwnedTable::new(alloc, Vec::from_array(alloc, [hello, empty])?)
+}
 
 fn main(rt: HostRuntime) -> anyhow::Result<()> {
     let mut guest = Reader::new(rt.alloc(), b"hello.txt");
-    let files = ReadOnly(FileTable::new(&FILES));
+    let files = ReadOnly(files(rt.alloc())?);
     serve_guest(rt.alloc(), files, &mut guest)?;
     println!(rt;
         "The guest was interrupted {} times, and has in its memory:",

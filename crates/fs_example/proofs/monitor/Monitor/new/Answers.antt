@@ -16,3 +16,6 @@ returns-clause-machine c =
       limit = grind (arith, common_steps);
       page_size = grind (arith, common_steps);
     }
+
+pub invariant_of-result : goal.invariant_of-result
+invariant_of-result c = record { held = c.in_ok-mem.ensures.held }

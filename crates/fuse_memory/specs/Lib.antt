@@ -1,0 +1,4 @@
+pub mod Contents
+pub mod Files
+pub mod Listing
+pub mod Memory

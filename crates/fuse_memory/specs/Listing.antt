@@ -1,0 +1,13 @@
+-- What a listing gives.
+use Rattle.std.specs.Prelude.{List, map, drop}
+use Rattle.fuse_fs.specs.Calls.{Listed}
+use Rattle.fuse_memory.specs.declared.listing.Entries.{Entries}
+use Rattle.fuse_memory.specs.declared.listing.OwnedEntry.{OwnedEntry}
+
+-- an entry, as it is listed
+abbrev pub listed_of : OwnedEntry → Listed
+listed_of e = record { ino = e.node; offset = e.offset; kind = e.kind; name = e.name.items }
+
+-- what is left of a listing
+abbrev pub rest_of : Entries → List Listed
+rest_of list = drop list.at (map listed_of list.entries.items)

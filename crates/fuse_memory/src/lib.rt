@@ -1,0 +1,12 @@
+//! A file system in memory, whose directories and files a guest makes, writes, moves and removes. It is meant to be
+//! copied: replace what it keeps, and keep its calls.
+#![tactic(auto)]
+
+mod contents;
+mod file_system;
+mod files;
+mod listing;
+mod nodes;
+
+pub use files::MemoryFiles;
+pub use listing::{Entries, OwnedEntry};

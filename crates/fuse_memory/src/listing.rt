@@ -1,0 +1,85 @@
+//! The entries of a directory, as a listing has them.
+
+ghost use Rattle.fuse_memory.specs.Listing.{rest_of};
+
+use crate::nodes::Name;
+use fuse_base::Errno;
+use fuse_fs::{DirEntry, DirectoryIterator};
+use std::alloc::Global;
+
+// The bytes of `struct fuse_dirent` before an entry's name.
+const DIRENT_LEN: usize = 24;
+
+/// An entry with a name of its own.
+#[derive(Drop)]
+pub struct OwnedEntry {
+    /// The node's number.
+    pub node: u64,
+    /// Where a listing goes on behind it.
+    pub offset: u64,
+    /// The kind of node (`DT_` in dirent.h).
+    pub kind: u32,
+    pub name: Vec<u8>,
+}
+
+/// Entries, which a listing gives one after another.
+#[derive(Drop)]
+pub struct Entries {
+    entries: Vec<OwnedEntry>,
+    // The one that is next.
+    at: usize,
+}
+
+impl DirectoryIterator for Entries {
+    ghost rest = { rest_of };
+
+    fn next(&mut self) -> Option<DirEntry<'_>> {
+        let at = self.at;
+        if at >= self.entries.len() {
+            return None;
+        }
+        self.at = at + 1;
+        let entry = &self.entries[at];
+        Some(DirEntry {
+            ino: entry.node,
+            offset: entry.offset,
+            type_: entry.kind,
+            name: &entry.name,
+        })
+    }
+}
+
+// The entries of a directory behind an offset: those that go into a reply of so many bytes, and at most one more. The
+// names are in the order of their offsets.
+pub(crate) fn list(
+    alloc: Global,
+    names: &[Name],
+    directory: u64,
+    size: u32,
+    offset: u64,
+) -> Result<Entries, Errno> {
+    let mut entries = Vec::new(alloc);
+    let mut room = size as usize;
+    for name in names {
+        if name.parent == directory && name.offset > offset && room > 0 {
+            let entry = entry_of(alloc, name)?;
+            room = room.saturating_sub(entry.name.len().saturating_add(DIRENT_LEN));
+            if entries.push(entry).is_err() {
+                return Err(Errno::ENOMEM);
+            }
+        }
+    }
+    Ok(Entries { entries, at: 0 })
+}
+
+fn entry_of(alloc: Global, name: &Name) -> Result<OwnedEntry, Errno> {
+    match Vec::from_slice(alloc, &name.name) {
+        Ok(copy) => Ok(OwnedEntry {
+            node: name.node,
+            offset: name.offset,
+            kind: name.kind,
+            name: copy,
+        }),
+        Err(_) => Err(Errno::ENOMEM),
+    }
+}
