@@ -99,10 +99,10 @@ pub record TakenLiesIn (lengths : List ℕ) (t : Taken) : Type 0 where
   pub return_windows : ReturnWindowsLieIn lengths t.return_windows
   pub chain : ChainLiesIn lengths t.chain
 
--- no byte can be read or written by a chain: it has no window, as a fault has none
+-- no byte can be read or written by a chain: it has no window, and no fault of a chain before is told
 abbrev pub LacksWindows : Result Chain ChainFault → Type 0
 LacksWindows (Ok c) = (c.readable.items ≡ []) × (c.writable.items ≡ [])
-LacksWindows (Err fault) = Unit {0}
+LacksWindows (Err fault) = ⊥
 
 -- nothing can be given back by it: it has no window of a return, and none of a chain
 abbrev pub IsEmpty : Taken → Type 0
