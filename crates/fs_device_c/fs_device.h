@@ -5,20 +5,20 @@
  * What is proved: each function, whenever its arguments are what their types say, returns, doesn't panic, reads and
  * writes only what it is lent, and does what its contract in src/queue_exports.rt or src/device_exports.rt says, in the
  * terms of the queue's and the device's own definitions. What isn't proved, since nobody checks C:
- *  - each pointer is good for its length, for this call: memory that may be read and, where the parameter isn't const,
+ *  - each pointer is good for its length, for this call: memory that may be read and, if the parameter isn't const,
  *    written; no two arguments overlap, but that const ones may. No pointer is NULL; what has
  *    length 0 may have any other, aligned as its type is.
  *  - buffers, words, `count` and `len` may be uninitialised: nothing looks at what stood in them. `taken`, `served` and
  *    `notify` are to be initialised (zeros will do), since a bool of the source is 0 or 1. Each call fills these five, also
- *    where it is refused.
+ *    if it is refused.
  *  - a handle is zeros, or what these functions left: it isn't copied and used twice. One call at a time on a handle, and
  *    all of them on one thread.
  *  - nobody else reads or writes the lent memory while a call runs: neither a vCPU nor a device. So stop the vCPUs for the
- *    call: the memory is lent to it alone. In the source a take reads the available index, the ring's entry, the descriptors
+ *    call: the memory is lent only to it. In the source a take reads the available index, the ring's entry, the descriptors
  *    and then the request; a return writes the reply, then the used element, then the used index, and reads the available
  *    flags last; a step of the device is both. But these are plain loads and stores, which a compiler or a processor may
  *    move or repeat, and no barrier stands between them: a vCPU that runs meanwhile may see the used index before the reply,
- *    and may not be told where it wants to be.
+ *    and may get no notification that it asked for.
  *  - that these declarations are the archive's: a script compares the functions' names with the archive, and parameters,
  *    structures and numbers with the source, by names and types.
  *
@@ -44,10 +44,10 @@ enum fs_status {
     FS_USED_UNREACHABLE = 6,
     FS_AVAIL_FLAGS_UNREACHABLE = 7,
     FS_DESCRIPTOR_UNREACHABLE = 8,
-    FS_TAKE_OUT_OF_MEMORY = 9,      /* memory is wanting; the chain waits as before */
+    FS_TAKE_OUT_OF_MEMORY = 9,      /* an allocation failed; the chain waits as before */
     FS_NO_SUCH_QUEUE = 10,          /* the device has no queue of this number */
     FS_NO_QUEUE = 64,               /* the handle holds none: before fs_queue_new, or after fs_queue_free */
-    FS_OUT_OF_MEMORY = 65,          /* memory is wanting, to make or restore one or to save; nothing was done. So says 89 too */
+    FS_OUT_OF_MEMORY = 65,          /* an allocation failed, to make or restore one or to save; nothing was done. So says 89 too */
     FS_BAD_ARGUMENT = 66,           /* nothing was done */
     FS_OTHER_LENGTHS = 67,          /* the parts aren't as long as they were; nothing was done */
     FS_TAKEN_BEFORE = 68,           /* a chain was taken, and not given back; nothing was done */
@@ -63,7 +63,7 @@ enum fs_status {
     FS_RECORD_BAD_QUEUE = 86,       /* one of its queues is none */
     FS_RECORD_BAD_OPTIONS = 87,     /* it has options that aren't known */
     FS_RECORD_READ_FAULT = 88,      /* never comes here: to read bytes in memory doesn't fail */
-    FS_RECORD_OUT_OF_MEMORY = 89,   /* memory is wanting for its queues: the record may be good, and the call be made again */
+    FS_RECORD_OUT_OF_MEMORY = 89,   /* an allocation for its queues failed: the record may be good, and the call be made again */
     FS_RECORD_MISMATCH = 90,        /* its page size or limit is another one */
 };
 
@@ -104,8 +104,8 @@ static inline const char *fs_status_name(uint32_t status) {
     }
 }
 
-/* A queue, or none: all zeros is none. The caller keeps it, passes its address, and looks at neither field. Its dirty pages
- * aren't told, and it is neither saved nor restored: a monitor that moves its guest does that by a device. */
+/* A queue, or none: all zeros is none. The caller keeps it, passes its address, and looks at neither field. It gathers no
+ * dirty pages, and it is neither saved nor restored: a monitor that moves its guest does that by a device. */
 struct fs_queue { void *at; bool full; };
 
 /* A chain that was taken: its head, the length of its request and of the room for its reply in bytes, and the number of
@@ -115,7 +115,7 @@ struct fs_taken { bool waits; uint16_t head; uint32_t fault; size_t request_len;
 /* A queue that begins: its size is a power of two, its parts stand at these guest addresses, aligned to 16, 2 and 4, and end
  * below 2^64. The guest's memory stands in two parts, each from a guest address on (as below and above a hole) and up to
  * 2^64 at most; a part of length 0 isn't there, and the second begins where the first ends, or behind. A request or a room
- * of more than `limit` bytes makes a chain faulty. No pointer is kept. Where it is refused the handle stays as it was:
+ * of more than `limit` bytes makes a chain faulty. No pointer is kept. If it is refused the handle stays as it was:
  * FS_OUT_OF_MEMORY, FS_BAD_ARGUMENT. */
 uint32_t fs_queue_new(struct fs_queue *queue, uint64_t low_base, uint8_t *low, size_t low_len, uint64_t high_base,
                       uint8_t *high, size_t high_len, uint16_t size, uint64_t desc, uint64_t avail, uint64_t used,
@@ -124,7 +124,7 @@ uint32_t fs_queue_new(struct fs_queue *queue, uint64_t low_base, uint8_t *low, s
 /* Frees the queue; then there is none. Of none it does nothing. */
 void fs_queue_free(struct fs_queue *queue);
 
-/* Takes the next chain, and copies its request to the front of a buffer; `taken` tells it, or that none waits. The parts
+/* Takes the next chain, and copies its request to the front of a buffer; `taken` says what it is, or that none waits. The parts
  * are as long as they were, and aren't written. */
 uint32_t fs_queue_take(struct fs_queue *queue, uint8_t *low, size_t low_len, uint8_t *high, size_t high_len,
                        uint8_t *buffer, size_t buffer_len, struct fs_taken *taken);
@@ -153,7 +153,7 @@ struct fs_served { uint32_t replied, silent, faulty; bool idle, notify; };
 /* A device that begins, in the place of what the handle held, over copies of these files: fewer than 2^32, the root is
  * node 1 and they are nodes 2, 3 and so on. It has 1 to 64 queues of these layouts. The guest's memory is in two parts, as
  * for fs_queue_new; its pages have page_size bytes, a power of two from 4096 to 65536. A request or a room of more than
- * `limit` bytes, from 0x101000 to 2^31, makes a chain faulty. No pointer is kept. Where it is refused the handle holds what
+ * `limit` bytes, from 0x101000 to 2^31, makes a chain faulty. No pointer is kept. If it is refused the handle holds what
  * it held: FS_OUT_OF_MEMORY, FS_BAD_ARGUMENT. */
 uint32_t fs_device_new(struct fs_device *device, uint64_t low_base, uint8_t *low, size_t low_len, uint64_t high_base,
                        uint8_t *high, size_t high_len, const struct fs_file *files, size_t file_count,
@@ -164,13 +164,13 @@ void fs_device_free(struct fs_device *device);
 
 /* Serves the next chains of a queue, numbered from 0, one after another: at most so many, until none waits or a step is
  * refused, and says what came of them. The parts are as long as they were. FS_NO_DEVICE and FS_OTHER_LENGTHS did nothing;
- * any other refusal, from 1 to 10, is of the step after those that are told, and a number from 2 to 8 stops the queue. Where
- * `most` is 0 no step comes: 0 is told then of a queue that isn't there, too, and of one that stopped. */
+ * any other refusal, from 1 to 10, is of the step after those that are counted, and a number from 2 to 8 stops the queue. If
+ * `most` is 0 no step comes: the answer is 0 then, also for a queue that isn't there or that stopped. */
 uint32_t fs_device_serve(struct fs_device *device, uint8_t *low, size_t low_len, uint8_t *high, size_t high_len,
                          size_t queue, uint16_t most, struct fs_served *served);
 
 /* Begins a queue anew with this layout, as a driver's reset does. Refused, in this order, by FS_NO_DEVICE, FS_BAD_ARGUMENT
- * where the layout is none, and FS_NO_SUCH_QUEUE. */
+ * if the layout isn't valid, and FS_NO_SUCH_QUEUE. */
 uint32_t fs_device_reset_queue(struct fs_device *device, size_t queue, const struct fs_layout *layout);
 
 /* Puts the dirty pages of part 0 (low) or 1 (high), of 4096 bytes each, at the front of some words, and clears them: page p
@@ -181,10 +181,10 @@ uint32_t fs_device_gather(struct fs_device *device, uint32_t part, uint64_t *wor
  * it is, also with FS_SHORT_BUFFER, which did nothing. Memory, its dirty pages and the files aren't in it. */
 uint32_t fs_device_save(struct fs_device *device, uint8_t *buffer, size_t buffer_len, size_t *len);
 
-/* A device that goes on from the record at the front of `saved`. All else is as for fs_device_new. It tells the first cause
+/* A device that goes on from the record at the front of `saved`. All else is as for fs_device_new. It answers the first cause
  * in this order: FS_BAD_ARGUMENT of page size, limit or the number of files; the record's refusal, from 81 on;
- * FS_BAD_ARGUMENT of the parts of memory. FS_OUT_OF_MEMORY may come where the first are good, and 89 of a good record.
- * FS_RECORD_TRUNCATED comes only where `saved` ends within the record's head, a queue or the limit. */
+ * FS_BAD_ARGUMENT of the parts of memory. FS_OUT_OF_MEMORY may come if the first are good, and 89 of a good record.
+ * FS_RECORD_TRUNCATED comes only if `saved` ends within the record's head, a queue or the limit. */
 uint32_t fs_device_restore(struct fs_device *device, uint64_t low_base, uint8_t *low, size_t low_len, uint64_t high_base,
                            uint8_t *high, size_t high_len, const struct fs_file *files, size_t file_count,
                            const uint8_t *saved, size_t saved_len, uint32_t page_size, uint32_t limit);

@@ -25,7 +25,7 @@ abbrev pub with_calls : List LoggedCall → List LoggedCall → List LoggedCall
 with_calls calls [] = calls
 with_calls calls (call ∷ more) = with_calls (kept calls call) more
 
--- what a call may be answered: a look-up finds node 2, or nothing (ENOENT); nothing is wanted of `init`; what isn't served
+-- what a call may be answered: a look-up finds node 2, or nothing (ENOENT); `init` asks for no option; what isn't served
 -- has its default, which mostly is that there is no such call (ENOSYS)
 abbrev pub MayAnswerLogged : FileCall → FileAnswer → Type 0
 MayAnswerLogged (Init capable) (Wants options) = options ≡ 0

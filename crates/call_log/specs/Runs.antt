@@ -1,5 +1,5 @@
 -- What a whole run writes down: the calls of INIT, LOOKUP, FORGET, BATCH_FORGET, READ and WRITE that the exchanged requests mean, and a forget
--- where the entry of a LOOKUP had no room.
+-- if the entry of a LOOKUP had no room.
 use Rattle.std.specs.Prelude.{◌≡◌, List, [], ◌∷◌, ◌++◌, map, flat_map, Option, Some, None}
 use Rattle.fuse_fs.specs.Calls.{FileCall}
 use Rattle.virtiofsd_fuse.specs.Grammar.{meaning}

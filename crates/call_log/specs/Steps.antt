@@ -14,7 +14,7 @@ pub record LeavesUsedLength {F : Type 0} (before : State F) (i used_length : ℕ
   pub offered : IsOffered before i exchange
   pub tells : TellsLength before.memory offered.queue exchange.head (room_of offered.fetched) exchange.reply used_length after
 
--- how a step ends, by the used length alone, which is that of the reply in bytes (VIRTIO 1.2, 2.7.8)
+-- how a step ends, by only the used length, which is that of the reply in bytes (VIRTIO 1.2, 2.7.8)
 abbrev pub told_length : Outcome → Result (Option ℕ) DeviceError
 told_length Idle = Ok None
 told_length (Exchanged x notice) = Ok (Some (length x.reply))

@@ -23,7 +23,7 @@ pub const HELLO: u64 = 2;
 pub const PATTERN: u64 = 3;
 
 /// The node of a file that has no name: of its bytes, which are those of `hello`, one read gives at most three, and
-/// where there are none that is EIO.
+/// if there are none, that is EIO.
 pub const BROKEN: u64 = 4;
 
 // The bytes of a file: those of `hello`, all at once or at most three a read, or the pattern.

@@ -16,7 +16,7 @@ use std::alloc::{AllocError, Global};
 use vm_memory::Iommu;
 
 /// Does commands one after another, as `Machine::run`, which this run is of. The log grows by the calls of its six kinds
-/// that the exchanged requests mean, and by a forget where the entry of a LOOKUP had no room, in the order of the
+/// that the exchanged requests mean, and by a forget if the entry of a LOOKUP had no room, in the order of the
 /// exchanges; nothing else that is done adds to it. For each node but 0, what the file system answered and was sent
 /// balances with what replies and requests say of it.
 pub fn run_logged<I: Iommu + Drop>(

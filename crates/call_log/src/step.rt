@@ -14,8 +14,8 @@ use vm_memory_core::HostBlocks;
 
 /// Serves the next chain of a queue, by its number from 0, as `Device::process_one`, with that call's refusals, and
 /// tells the used length that the driver finds, in bytes (VIRTIO 1.2, 2.7.8): above 0 it is the length in the reply's
-/// header (linux/fuse.h, `fuse_out_header.len`) and the number of bytes written over the chain's room; where it is 0 no
-/// byte of the room was written. None where no chain waits. Whatever it answers, memory, queues, options and files go
+/// header (linux/fuse.h, `fuse_out_header.len`) and the number of bytes written over the chain's room; if it is 0, no
+/// byte of the room was written. None if no chain waits. Whatever it answers, memory, queues, options and files go
 /// as by a step that ends so.
 pub fn used_length<M: GuestMemory, H: HostBlocks>(
     alloc: Global,

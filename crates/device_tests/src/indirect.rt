@@ -28,7 +28,7 @@ const ROOM: DriverDescriptor = DriverDescriptor {
 // They as a table.
 const BOTH: &[DriverDescriptor] = &[REQUEST, ROOM];
 
-// The request's first part, and what follows it where the table has more than these two.
+// The request's first part, and what follows it if the table has more than these two.
 const FRONT: DriverDescriptor = DriverDescriptor { len: 33, ..REQUEST };
 
 const BACK: DriverDescriptor = DriverDescriptor {

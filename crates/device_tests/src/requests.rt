@@ -142,7 +142,7 @@ fn reply_that_does_not_fit_leaves_the_room_as_it_was(rt: HostRuntime) {
     play(&rt, rt.alloc(), ACTS);
 }
 
-// What follows the header where this version is agreed on.
+// What follows the header if this version is agreed on.
 const AGREED: [u8; 64] = [
     7, 0, 0, 0, 38, 0, 0, 0, 0, 0, 2, 0, 1, 0, 0, 0, 0xff, 0xff, 0xfd, 0xbf, 0, 0, 16, 0, 1, 0, 0,
     0, 0, 1, 0, 0, 0, 0, 0, 0, 0, 0, 0, 0, 0, 0, 0, 0, 0, 0, 0, 0, 0, 0, 0, 0, 0, 0, 0, 0, 0, 0, 0,

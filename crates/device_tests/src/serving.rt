@@ -61,7 +61,7 @@ const FORGET: Request<'static> = Request::Forget { node: 5, count: 3 };
 // and over its own request; of a file that answers less, that fails after some bytes, and that fails at once; a room that
 // is too short, and one in no region; READ and its room as a Linux guest has them, its data over itself, with an empty part,
 // in a room of exactly 16 bytes, of a file that fails after some parts, and over its header in the last part alone; WRITE from
-// one part, with its room over its data, with a room that is too short, of fewer bytes than it tells; from two parts, from
+// one part, with its room over its data, with a room that is too short, of fewer bytes than it says; from two parts, from
 // a part of its own, of no data, and cut short by a byte; as a Linux guest has it, and with a header that is
 // cut.
 const ROWS: &[(Request<'static>, &[(u64, u32)], &[(u64, u32)])] = &[
@@ -147,7 +147,7 @@ fn long_stand(rt: &impl Abort, alloc: Global) -> Stand {
     Stand::over(rt, alloc, &[(GuestAddress(0), 0x10000)], LONG_RING)
 }
 
-// A step of a queue that is told by lengths alone.
+// A step of a queue that reports only lengths.
 fn serve(stand: &mut Stand, queue: usize) -> Result<Option<Returned>, DeviceError> {
     stand.device.serve_one(stand.alloc, &mut stand.guest.host, &stand.guest.mem, queue)
 }

@@ -24,7 +24,7 @@ const ROOM: DriverDescriptor = DriverDescriptor {
     next: 0,
 };
 
-// The request's first part, and what follows it where a table has the rest.
+// The request's first part, and what follows it if a table has the rest.
 const FRONT: DriverDescriptor = DriverDescriptor { len: 33, ..REQUEST };
 
 const BACK: DriverDescriptor = DriverDescriptor {

@@ -270,7 +270,7 @@ const LISTINGS: [Row; 5] = [
     },
 ];
 
-// What was found is what is wanted. One generic assertion for all tests: each assertion of its own costs a proof.
+// What was found is what is expected. One generic assertion for all tests: each assertion of its own costs a proof.
 fn expect_same<T: PartialEq + Debug + Drop>(rt: &impl Abort, found: T, want: T) {
     assert_eq!(rt; found, want);
 }
@@ -304,7 +304,7 @@ fn server(rt: &impl Abort, alloc: Global) -> Server<ReadOnly<OwnedTable>> {
     Server::new(ReadOnly(table), 4096)
 }
 
-// Each row's reply is what it wants.
+// Each row's reply is the expected one.
 fn expect_rows(rt: &impl Abort, alloc: Global, rows: &[Row]) {
     let mut server = server(rt, alloc);
     for (i, row) in rows.iter().enumerate() {

@@ -19,7 +19,7 @@ use vm_memory::TableIommu;
 use vm_memory_core::{GuestAddress, Permissions};
 use vm_values::ByteValued;
 
-// What was found is what is wanted. One generic assertion for all tests: each assertion of its own costs a proof.
+// What was found is what is expected. One generic assertion for all tests: each assertion of its own costs a proof.
 fn expect_same<T: PartialEq + Debug + Drop>(rt: &impl Abort, found: T, want: T) {
     assert_eq!(rt; found, want);
 }

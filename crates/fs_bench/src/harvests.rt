@@ -14,7 +14,7 @@ use std::sync::ledger::{Blank, Ledger};
 use std::thread::{Threads, for_each_mut, join};
 use std::time::{Clock, Instant};
 
-// The bytes of the guest where times are asked for: 1 GiB, which has 262144 pages.
+// The bytes of the guest for measured times: 1 GiB, which has 262144 pages.
 const GIB: usize = 0x40000000;
 
 // How often all words are gathered in one sample.
@@ -44,7 +44,7 @@ fn time_gathers<R: Clock>(rt: &R, harvest: &mut PageHarvest) -> Result<u64, Benc
     Ok(u64::try_from(elapsed.as_nanos()).unwrap_or(u64::MAX))
 }
 
-// Measures gathers, or makes them once where no times are asked for.
+// Measures gathers, or makes them once if no times are asked for.
 fn measure_gathers<R: Clock + Eprint>(
     meter: &Meter<'_, R>,
     rt: &R,
@@ -97,7 +97,7 @@ fn is_kicked(serving: &AtomicBool) -> bool {
     false
 }
 
-// Measures gathers while each worker kicks in a thread of its own, once one of them does. It is a fault where none does and
+// Measures gathers while each worker kicks in a thread of its own, once one of them does. It is a fault if none does and
 // times are asked for.
 fn measure_beside<L: Ledger + Send + Sync, R: Clock + Eprint + Threads + Wait + Sync>(
     meter: &Meter<'_, R>,

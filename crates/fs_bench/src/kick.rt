@@ -88,7 +88,7 @@ pub(crate) enum Cut {
 }
 
 impl Cut {
-    // The number that a line tells.
+    // The number on a line.
     fn split(self) -> u16 {
         match self {
             Cut::Linux => 0,
@@ -387,7 +387,7 @@ impl Case for Kicking {
     }
 }
 
-// The same, told by lengths alone.
+// The same, which reports only lengths.
 #[derive(Drop)]
 struct Serving {
     kicking: Kicking,
@@ -412,7 +412,7 @@ impl Case for Serving {
 }
 
 /// Measures kicks of a request that the server doesn't know, of GETATTR, LOOKUP, READDIRPLUS, READ and WRITE, each cut as
-/// Linux does and into ever more descriptors, in the queue's table (`kick`), there and told by lengths alone (`serve`), and
+/// Linux does and into ever more descriptors, in the queue's table (`kick`), there and reporting only lengths (`serve`), and
 /// in one of the chain's own (`indirect`); and chains of very many.
 pub(crate) fn measure_kicks<R: Clock + Eprint>(
     meter: &mut Meter<'_, R>,
@@ -483,7 +483,7 @@ fn runs_of(bytes: usize) -> u16 {
     if bytes > 0x3000 { 16 } else { QUEUE_SIZE }
 }
 
-// Measures one request whose exchange is told by lengths alone.
+// Measures one request of whose exchange only lengths are reported.
 fn measure_serve<R: Clock + Eprint>(
     meter: &mut Meter<'_, R>,
     alloc: Global,

@@ -4,7 +4,7 @@ use crate::fault::BenchFault;
 use std::alloc::{AllocError, Global};
 use std::time::{Clock, Instant};
 
-// How often a case runs where no times are asked for.
+// How often a case runs if no times are asked for.
 const FEW: u16 = 2;
 
 /// What is measured: it runs many times over.
@@ -33,7 +33,7 @@ pub(crate) fn push_sample(samples: &mut Vec<u64>, nanos: u64) -> Result<(), Allo
     Ok(())
 }
 
-/// Takes samples, and prints what comes of them where times are asked for.
+/// Takes samples, and prints what comes of them if times are asked for.
 #[derive(Drop)]
 pub(crate) struct Meter<'a, R> {
     rt: &'a R,
@@ -108,7 +108,7 @@ impl<'a, R: Clock + Eprint> Meter<'a, R> {
         Ok(())
     }
 
-    /// Measures a case, or runs it a few times where no times are asked for.
+    /// Measures a case, or runs it a few times if no times are asked for.
     pub fn measure<C: Case>(&mut self, label: Label, case: &mut C) -> Result<(), BenchFault> {
         if !self.wants(label.kind) {
             return Ok(());
@@ -126,7 +126,7 @@ impl<'a, R: Clock + Eprint> Meter<'a, R> {
         self.report(label, samples)
     }
 
-    /// Prints what comes of samples, where times are asked for.
+    /// Prints what comes of samples, if times are asked for.
     pub fn report(&self, label: Label, mut samples: Vec<u64>) -> Result<(), BenchFault> {
         if self.samples.is_none() {
             return Ok(());

@@ -282,7 +282,7 @@ impl Case for Setter<'_> {
     }
 }
 
-// The nanoseconds of a run of all cases, where each has a thread of its own.
+// The nanoseconds of a run of all cases, each in a thread of its own.
 fn time_threads<R: Clock + Threads + Sync, C: Case + Send>(
     rt: &R,
     cases: &mut [C],
@@ -300,7 +300,7 @@ fn time_threads<R: Clock + Threads + Sync, C: Case + Send>(
     Ok(u64::try_from(elapsed.as_nanos()).unwrap_or(u64::MAX))
 }
 
-// Measures cases side by side, or runs them once where no times are asked for.
+// Measures cases side by side, or runs them once if no times are asked for.
 fn measure_side_by_side<R: Clock + Eprint + Threads + Sync, C: Case + Send>(
     meter: &Meter<'_, R>,
     rt: &R,

@@ -208,7 +208,7 @@ fn new_worker<'a, L: Ledger, R>(
     }
 }
 
-// The nanoseconds that so many threads take for all workers. `Guest` where a kick was idle or refused.
+// The nanoseconds that so many threads take for all workers. `Guest` if a kick was idle or refused.
 fn time_workers<L: Ledger + Send + Sync, R: Clock + Threads + Wait + Sync>(
     rt: &R,
     workers: &mut [Worker<'_, L, R>],
@@ -234,7 +234,7 @@ fn time_workers<L: Ledger + Send + Sync, R: Clock + Threads + Wait + Sync>(
     Ok(u64::try_from(elapsed.as_nanos()).unwrap_or(u64::MAX))
 }
 
-// Measures all workers by so many threads, or runs them once where no times are asked for.
+// Measures all workers by so many threads, or runs them once if no times are asked for.
 fn measure_workers<L: Ledger + Send + Sync, R: Clock + Eprint + Threads + Wait + Sync>(
     meter: &Meter<'_, R>,
     rt: &R,

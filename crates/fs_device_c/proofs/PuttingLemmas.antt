@@ -8,7 +8,7 @@ use Rattle.fs_device_c.specs.Devices.{device_status, device_status_in}
 use Rattle.fs_device_c.specs.DeviceExports.{DeviceMade, PutsMade}
 
 module _ (Made : DeviceState → Type 0) (Refuses : DeviceRefusal → Type 0) (before : Option DeviceState) (status : ℕ) (after : Option DeviceState) where
-  -- it is one of which this holds, or memory is wanting for it, or why none was made is told
+  -- it is one of which this holds, or an allocation for it failed, or why none was made is told
   pub puts : (made : Result DeviceState DeviceRefusal) → PutsMade made before status after → IfOk made Made → IfErr made Refuses →
       ((s : DeviceState) → Made s → Refuses OutOfMemory) →
       (how : Option DeviceRefusal) × (status ≡ device_status_in how) × DeviceMade Made Refuses before how after

@@ -99,6 +99,6 @@ counts_low done = (
 pub told_idle : (listed : List (Exchange × Bool)) (most : ℕ) → length listed < most → counted listed true ≡ counted listed (ends_idle None (length listed) most)
 told_idle listed most low = let is : true ≡ nat_lt (length listed) most = grind (arith, nat_tests) in ap (counted listed) is
 
--- as many came as were wanted
+-- as many came as were asked for
 pub told_full : (listed : List (Exchange × Bool)) (most : ℕ) → length listed ≡ most → counted listed false ≡ counted listed (ends_idle None (length listed) most)
 told_full listed most all = let is : false ≡ nat_lt (length listed) most = grind (arith, nat_tests) in ap (counted listed) is

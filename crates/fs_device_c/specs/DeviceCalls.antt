@@ -44,7 +44,7 @@ AreDeviceParts s low high = (s.low_len ≡ low) × (s.high_len ≡ high) × AreH
 abbrev pub NothingServed : DeviceState → (low high : List ℕ) → FsServed → DeviceState → (low' high' : List ℕ) → Type 0
 NothingServed s low high told s' low' high' = IsSame s s' × (low' ≡ low) × (high' ≡ high) × (told ≡ nothing_served)
 
--- chains of a queue are served, by how it ends: refused where the parts are others, and then by a step, which may come after others
+-- chains of a queue are served, by how it ends: refused if the parts are others, and then by a step, which may come after others
 abbrev pub ServesSo : DeviceState → (low high : List ℕ) → (queue most : ℕ) → Option DeviceRefusal → FsServed → DeviceState → (low' high' : List ℕ) → Type 0
 ServesSo s low high queue most None told s' low' high' =
     AreDeviceParts s (length low) (length high) × IsOverSameParts s s'
@@ -58,7 +58,7 @@ ServesSo s low high queue most (Some _) told s' low' high' = ⊥
 
 -- ---- a queue begins anew
 
--- a queue begins anew with a layout: refused where that is none, and then where the queue is missing
+-- a queue begins anew with a layout: refused if that isn't valid, and then if the queue is missing
 abbrev pub ResetsSo : DeviceState → (queue : ℕ) → FsLayout → Option DeviceRefusal → DeviceState → Type 0
 ResetsSo s queue l None s' =
     (layout_error l.size l.desc l.avail l.used ≡ None) × (queue < length s.device.queues) × IsSameBeside s s'
@@ -88,7 +88,7 @@ GathersSo s (suc (suc part)) words how count s' words' = (how ≡ Some BadArgume
 
 -- ---- a record is saved
 
--- the device's record stands at the front of the buffer; or the buffer is too short, or memory is wanting
+-- the device's record stands at the front of the buffer; or the buffer is too short, or an allocation failed
 abbrev pub SavesSo : DeviceState → (buffer : List ℕ) → Option DeviceRefusal → (len : ℕ) → (buffer' : List ℕ) → Type 0
 SavesSo s buffer None len buffer' = (len ≡ length (device_bytes s.device)) × (buffer' ≡ device_bytes s.device ++ drop len buffer)
 SavesSo s buffer (Some ShortBuffer) len buffer' = (len ≡ length (device_bytes s.device)) × (length buffer < len) × (buffer' ≡ buffer)

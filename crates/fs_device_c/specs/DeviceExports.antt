@@ -16,7 +16,7 @@ last_of last status = if status == 0 then last else status
 
 -- ---- a device is made
 
--- a device that was made is put into a handle, unless memory is wanting for it; a refusal is told, and the handle holds what it held
+-- a device that was made is put into a handle, unless an allocation for it fails; a refusal is told, and the handle holds what it held
 abbrev pub PutsMade : Result DeviceState DeviceRefusal → (before : Option DeviceState) → (status : ℕ) → (after : Option DeviceState) → Type 0
 PutsMade (Ok s) before status after =
     ((status ≡ 0) × (after ≡ Some s)) ⊎ ((status ≡ device_status OutOfMemory) × (after ≡ before))

@@ -69,7 +69,7 @@ counted listed idle = record {
   notify = list_any (λ x. x.1) listed;
 }
 
--- no chain waits any more: fewer came than were wanted, and none was refused
+-- no chain waits any more: fewer came than were asked for, and none was refused
 abbrev pub ends_idle : Option DeviceError → (listed most : ℕ) → Bool
 ends_idle refused listed most = is_none refused && nat_lt listed most
 

@@ -39,7 +39,7 @@ StandApart (r ∷ rs) = fault_of (r ∷ rs) ≡ None
 abbrev pub CanBeLaidOut : Host → (low_base high_base : ℕ) → Type 0
 CanBeLaidOut h low_base high_base = PartFits (backing_over h 0) low_base × PartFits (backing_over h 1) high_base × StandApart (laid_out h low_base high_base)
 
--- a bad argument is refused only where this doesn't hold; memory may be wanting anyway
+-- a bad argument is refused only if this doesn't hold; an allocation may fail anyway
 abbrev pub RefusesUnless : (Holds : Type 0) → Refusal → Type 0
 RefusesUnless Holds BadArgument = Holds → ⊥
 RefusesUnless Holds OutOfMemory = Unit {0}

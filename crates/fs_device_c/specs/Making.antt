@@ -49,13 +49,13 @@ abbrev pub CanBegin : (low_base : ℕ) → (low : List ℕ) → (high_base : ℕ
 CanBegin low_base low high_base high files page_size limit =
     AreSettings page_size limit × (length files < 2 ^ 32) × CanBeLaidOut (parts low [] high []) low_base high_base
 
--- a bad argument is refused only where this doesn't hold; memory may be wanting anyway
+-- a bad argument is refused only if this doesn't hold; an allocation may fail anyway
 abbrev pub RefusesDeviceUnless : (Holds : Type 0) → DeviceRefusal → Type 0
 RefusesDeviceUnless Holds BadArgument = Holds → ⊥
 RefusesDeviceUnless Holds OutOfMemory = Unit {0}
 RefusesDeviceUnless Holds _ = ⊥
 
--- why no device begins: an argument is none that the call takes, or memory is wanting
+-- why no device begins: an argument is invalid, or an allocation failed
 abbrev pub RefusesNew : (low_base : ℕ) → (low : List ℕ) → (high_base : ℕ) → (high : List ℕ) → List FsFile → List FsLayout → (page_size limit : ℕ) →
     DeviceRefusal → Type 0
 RefusesNew low_base low high_base high files layouts page_size limit why =
@@ -99,13 +99,13 @@ abbrev pub BeginsWithRecord : (saved : List ℕ) → (page_size limit : ℕ) →
 BeginsWithRecord saved page_size limit =
     (taken rest : List ℕ) × (options : ℕ) × (queues : List Queue) × (saved ≡ taken ++ rest) × IsRecordFor taken page_size limit options queues
 
--- why there is none: by what stands there instead, to the end of the bytes where they are too few; to read them never fails
+-- why there is none: by what stands there instead, to the end of the bytes if they are too few; to read them never fails
 abbrev pub RefusesFront : (saved : List ℕ) → (page_size limit : ℕ) → RestoreError → Type 0
 RefusesFront saved page_size limit e =
     (taken rest : List ℕ) × (saved ≡ taken ++ rest) × RefusesRecord taken page_size limit e × LeavesSource e (Some rest) false false
 
--- why no device goes on, the first of these: page size, limit or files can't be so, the record is refused, or the parts make no layout; where the
--- first isn't so, memory may be wanting
+-- why no device goes on, the first of these: page size, limit or files can't be so, the record is refused, or the parts make no layout; if the
+-- first isn't so, an allocation may fail
 abbrev pub RefusesRestore : (low_base : ℕ) → (low : List ℕ) → (high_base : ℕ) → (high : List ℕ) → List FsFile → (saved : List ℕ) → (page_size limit : ℕ) →
     DeviceRefusal → Type 0
 RefusesRestore low_base low high_base high files saved page_size limit (Record e) =

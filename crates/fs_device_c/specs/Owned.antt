@@ -10,7 +10,7 @@ use Rattle.std_heap.specs.contracts.GlobalAllocator.TheImpl.{ghosts}
 use Rattle.fs_device_c.specs.contracts.device_state.DeviceState as device
 use Rattle.fs_device_c.specs.contracts.queue_state.QueueState as queue
 
--- what a queue's seat owns: the box behind its pointer, where it has one
+-- what a queue's seat owns: the box behind its pointer, if it has one
 abbrev pub queue_seat_owns : Global → Ptr → Option (queue.the_row).Denot → Fml
 queue_seat_owns alloc p None = ftrue
 queue_seat_owns alloc p (Some v) = box_owns (ghosts.dealloc_token alloc) queue.the_row p v

@@ -39,7 +39,7 @@ pub record IsNewQueue (low_base : ℕ) (low : List ℕ) (high_base : ℕ) (high 
   pub limited : s.limit ≡ limit
   pub pending : s.pending ≡ None
 
--- a bad argument is refused only where this doesn't hold; memory may be wanting anyway
+-- a bad argument is refused only if this doesn't hold; an allocation may fail anyway
 abbrev pub RefusesQueueUnless : (Holds : Type 0) → QueueRefusal → Type 0
 RefusesQueueUnless Holds BadArgument = Holds → ⊥
 RefusesQueueUnless Holds OutOfMemory = Unit {0}
@@ -99,7 +99,7 @@ RefusesTake s low high TakenBefore = IsSome s.pending
 RefusesTake s low high OtherLengths = (s.pending ≡ None) × (HasTheirPages s low high → ⊥)
 RefusesTake s low high _ = ⊥
 
--- what is taken, by how it ends: refused where a chain waits for its return, then where the parts are others, then by the queue, then where the
+-- what is taken, by how it ends: refused if a chain waits for its return, then if the parts are others, then by the queue, then if the
 -- buffer is too short
 abbrev pub TakesSo : QueueState → (low high buffer : List ℕ) → Option QueueRefusal → FsTaken → QueueState → (buffer' : List ℕ) → Type 0
 TakesSo s low high buffer None told s' buffer' =
@@ -156,7 +156,7 @@ KeptBack chain head low high reply OtherLengths = (chain.taken.head ≡ head) ×
 KeptBack chain head low high reply LongReply = (chain.taken.head ≡ head) × HadLengths chain low high × (room_places chain.taken.chain < reply)
 KeptBack chain head low high reply _ = ⊥
 
--- why no chain goes back, where the pages are those of the parts: none was taken, or the one that was is kept back
+-- why no chain goes back, if the pages are those of the parts: none was taken, or the one that was is kept back
 abbrev pub StaysTaken : Option Pending → (head low high reply : ℕ) → QueueRefusal → Type 0
 StaysTaken None head low high reply why = why ≡ NotTaken
 StaysTaken (Some chain) head low high reply why = KeptBack chain head low high reply why

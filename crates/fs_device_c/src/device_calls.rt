@@ -44,7 +44,7 @@ pub fn serve_device(
     }
 }
 
-/// Begins a queue anew, with this layout: BadArgument where it is none, or the device's refusal of a missing queue.
+/// Begins a queue anew, with this layout: BadArgument if it isn't valid, or the device's refusal of a missing queue.
 pub fn reset_queue(
     state: &mut DeviceState,
     queue: usize,
@@ -61,7 +61,7 @@ pub fn reset_queue(
     }
 }
 
-// Puts the marks of a part at the front of some words, and clears them: how many words there are, and ShortBuffer where
+// Puts the marks of a part at the front of some words, and clears them: how many words there are, and ShortBuffer if
 // that is more than are lent.
 fn gather_pages(
     pages: &mut IoPages<PageBitmap>,

@@ -188,7 +188,7 @@ pub extern "C" fn fs_device_save(
 
 /// A device that goes on from the record at the front of some bytes, in the place of what the handle held. All else is as
 /// of `fs_device_new`. Where it is refused, the handle holds what it held. `BadArgument` of page size, limit or the number
-/// of files is told before the record's refusal, and that before `BadArgument` of the parts.
+/// of files comes before the record's refusal, and that before `BadArgument` of the parts.
 #[unsafe(no_mangle)]
 pub extern "C" fn fs_device_restore(
     alloc: Global,

@@ -72,7 +72,7 @@ fn directory(alloc: Global, files: &[FsFile]) -> Result<ReadOnly<OwnedTable>, Al
     Ok(ReadOnly(table))
 }
 
-// A queue of which no chain was returned; None where it can't have this layout.
+// A queue of which no chain was returned; None if it can't have this layout.
 fn queue_of(layout: &FsLayout) -> Option<Queue>
     ensures queue { IfSome result (λ q. q ≡ queue_of layout.now) }
     ensures can { OnSome result (HasLayout layout.now) }
@@ -140,7 +140,7 @@ fn parts_of(
 }
 
 /// A device that begins, over copies of files, with queues of these layouts, for memory in two parts, each from a guest
-/// address on: BadArgument where it can't be so, or OutOfMemory. Nothing is written.
+/// address on: BadArgument if it can't be so, or OutOfMemory. Nothing is written.
 pub fn make_device(
     alloc: Global,
     low_base: u64,
@@ -188,8 +188,8 @@ pub fn make_device(
 }
 
 /// A device that goes on from a record that stands at the front of some bytes, over copies of files, for memory in two
-/// parts, each from a guest address on. The first of these is told: BadArgument of page size, limit or the number of
-/// files, the record's refusal, BadArgument of the parts; or OutOfMemory, where the first are good. Nothing is written.
+/// parts, each from a guest address on. It answers the first of these: BadArgument of page size, limit or the number of
+/// files, the record's refusal, BadArgument of the parts; or OutOfMemory, if the first are good. Nothing is written.
 pub fn restore_device(
     alloc: Global,
     low_base: u64,

@@ -9,13 +9,13 @@ use fs_device::{DeviceError, RestoreError};
 pub enum DeviceRefusal {
     /// A step is refused (`DeviceError::number`, from 1 to 10).
     Step(DeviceError),
-    /// Memory is wanting, and nothing was done.
+    /// An allocation failed, and nothing was done.
     OutOfMemory,
     /// An argument is invalid.
     BadArgument,
     /// The parts of memory that are lent don't have the lengths that they had at first.
     OtherLengths,
-    /// What is to be told is longer than the buffer.
+    /// The answer is longer than the buffer.
     ShortBuffer,
     /// The handle holds no device.
     NoDevice,
@@ -26,7 +26,7 @@ pub enum DeviceRefusal {
 impl DeviceRefusal {
     ghost use Rattle.fs_device_c.specs.Devices.{device_status};
 
-    /// The number that C is told.
+    /// The number that C gets.
     pub fn number(&self) -> u32
         ensures { result ≡ device_status self.now }
     {

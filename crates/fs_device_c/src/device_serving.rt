@@ -101,7 +101,7 @@ fn serve_chains<F: FileSystem, H: HostBlocks>(
 }
 
 /// Serves the next chains of a queue, at most so many, over two parts that are lent for it with their pages: what came of
-/// them, and why no more came, if that is a refusal. None where the parts aren't what the layout names, and then nothing was
+/// them, and why no more came, if that is a refusal. None if the parts aren't what the layout names, and then nothing was
 /// done.
 pub fn serve_over(
     alloc: Global,

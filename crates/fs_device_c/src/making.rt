@@ -85,7 +85,7 @@ fn clear_pages(alloc: Global, low: usize, high: usize) -> Result<Pages, AllocErr
     Ok((low_pages, high_pages))
 }
 
-/// The layout of two parts that are lent, each from a guest address on, and their clear pages: BadArgument where they make
+/// The layout of two parts that are lent, each from a guest address on, and their clear pages: BadArgument if they make
 /// none, or OutOfMemory. Nothing is written.
 pub fn lay_out(
     alloc: Global,

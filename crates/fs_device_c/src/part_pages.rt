@@ -9,7 +9,7 @@ use vm_memory_core::{IoPages, PageBitmap};
 // How many bytes a page has.
 const PAGE_BYTES: usize = 4096;
 
-// How many pages a word tells.
+// How many pages a word has.
 const WORD_PAGES: usize = 64;
 
 // A word of so many bits with one bit more.

@@ -162,7 +162,7 @@ pub fn give_chain(
     (told, None)
 }
 
-/// A queue with this layout, for memory in two parts, each from a guest address on: BadArgument where it can't be so, or
+/// A queue with this layout, for memory in two parts, each from a guest address on: BadArgument if it can't be so, or
 /// OutOfMemory. Nothing is written.
 pub fn make_queue(
     alloc: Global,

@@ -108,7 +108,7 @@ fn take_next<H: HostBlocks>(
 }
 
 /// The next chain of a queue over two parts that are lent for it with their pages, whose request is copied out. Nothing is
-/// written but the buffer. None where the parts aren't what the layout names, and then nothing was done.
+/// written but the buffer. None if the parts aren't what the layout names, and then nothing was done.
 pub fn take_over(
     alloc: Global,
     queue: &mut Queue,

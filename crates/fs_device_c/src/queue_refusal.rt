@@ -11,9 +11,9 @@ pub enum QueueRefusal {
     Queue(QueueError),
     /// The handle holds no queue.
     NoQueue,
-    /// Memory is wanting, and nothing was done.
+    /// An allocation failed, and nothing was done.
     OutOfMemory,
-    /// An argument is none that the call takes.
+    /// An argument is invalid.
     BadArgument,
     /// The parts of memory that are lent don't have the lengths that they had at first.
     OtherLengths,
@@ -30,7 +30,7 @@ pub enum QueueRefusal {
 impl QueueRefusal {
     ghost use Rattle.fs_device_c.specs.Queues.{queue_status};
 
-    /// The number that C is told.
+    /// The number that C gets.
     pub fn number(&self) -> u32
         ensures { result ≡ queue_status self.now }
     {

@@ -3,7 +3,7 @@
 /// Why memory can't be laid out.
 #[derive(Clone, Copy)]
 pub enum Refusal {
-    /// Memory is wanting.
+    /// An allocation failed.
     OutOfMemory,
     /// An argument is none that the call takes.
     BadArgument,

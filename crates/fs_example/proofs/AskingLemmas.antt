@@ -41,7 +41,7 @@ pub good_reply : (reply piece : List ℕ) (unique : ℕ) → reply ≡ good_head
 unfolding reply_bytes
 good_reply reply piece unique is = is
 
--- a piece is got by a request that is asked, where its reply is good
+-- a piece is got by a request that is asked, if its reply is good
 pub got_piece : (s after : State Directory) (chain chain' unique : ℕ) (request request' reply piece : List ℕ) → IsAsked s chain request reply after → chain ≡ chain' % 2 ^ 16 →
     request ≡ request' → reply ≡ reply_bytes unique piece → GetsPiece s chain' unique request' piece after
 got_piece s after chain chain' unique request request' reply piece asked number same good =

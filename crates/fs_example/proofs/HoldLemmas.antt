@@ -114,7 +114,7 @@ whichever : {F : Type 0} (b : Bool) (x y : Effect F) → HoldsItsBlocks x.1.memo
 whichever true x y p q = p
 whichever false x y p q = q
 
--- where the test says no, the second has what it needs
+-- if the test says no, the second has what it needs
 unless : {F : Type 0} (b : Bool) (x y : Effect F) → HoldsItsBlocks x.1.memory → (b ≡ false → HoldsItsBlocks y.1.memory) → HoldsItsBlocks (if b then x else y).1.memory
 unless true x y p q = p
 unless false x y p q = q refl

@@ -126,7 +126,7 @@ module _ (fs : List OwnedFile) (f : OwnedFile) (s : Setting) (who : Context) (un
       ap (λ (k : Meaning). (served s k (answers_alone calls)).reply) is
       ∙ by_header calls (nat_le 16 s.room) refl all (subst (λ (k : Meaning). (served s k (answers_alone calls)).calls ≡ calls_alone calls) is asks)
 
-  -- where the room has no place for a header, that is a fault
+  -- if the room has no place for a header, that is a fault
   has_place : (calls : Calls) (place : Bool) → (served s (if place then Asks (One unique reading) else IsFault EncodeMessage) (answers_alone calls)).fault ≡ None → place ≡ true
   has_place calls true well = refl
   has_place calls false well = absurd (cc)

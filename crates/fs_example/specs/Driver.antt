@@ -25,7 +25,7 @@ offered m chain request =
 abbrev pub element_of : (chain : ℕ) → ℕ
 element_of chain = 0x204 + 8 * ((chain + 3) % 4)
 
--- the reply to the chain of this number: where the used ring's index has come to it, and its element names descriptor 0 and no
+-- the reply to the chain of this number: if the used ring's index has come to it, and its element names descriptor 0 and no
 -- more bytes than the room has, so many bytes of the room
 abbrev pub reply_at : Memory → (chain : ℕ) → Option (List ℕ)
 reply_at m chain =

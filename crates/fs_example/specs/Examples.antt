@@ -59,7 +59,7 @@ offered = refl
 abbrev pub ell : List ℕ
 ell = 101 ∷ 108 ∷ 108 ∷ []
 
--- the memory after a step, where a room of 32 bytes had a reply
+-- the memory after a step, with a reply in a room of 32 bytes
 abbrev pub left : Memory
 left = returned (offering 32) queue 0 (addresses 0x2000 32) (read_reply 32 2 ell)
 
@@ -73,12 +73,12 @@ element_stands : bytes left 0x202 10 ≡ le16 1 ++ le32 0 ++ le32 19
 unfolding place addresses stored_all reply_bytes field_bytes
 element_stands = refl
 
--- a room of one byte less than the reply is told the error -5
+-- a room of one byte less than the reply gets the error -5
 short_room : read_reply 18 2 ell ≡ le32 16 ++ le32 (2 ^ 32 - 5) ++ le64 2
 unfolding error_bytes field_bytes
 short_room = refl
 
--- one without a place for a header is told nothing
+-- one without a place for a header gets nothing
 no_room : read_reply 15 2 ell ≡ []
 no_room = refl
 
@@ -135,7 +135,7 @@ own_pages : (layout : List Region) (as' : List ℕ) → map (place layout) as' �
 own_pages layout [] = refl
 own_pages layout (a ∷ as') = rw (own_pages layout as') (ap (λ (o : Option Place). o ∷ map (λ b. option_map bare (place layout b)) as') (own_page layout a))
 
--- where no table is used, a guest looks at a room by the room's own addresses
+-- if no table is used, a guest looks at a room by the room's own addresses
 looks_plainly : (m : Memory) (room : List ℕ) (k a n : ℕ) → m.translates ≡ false → take n (drop k room) ≡ addresses a n → LooksAtRoom m room k a n
 looks_plainly m room k a n off is =
     own_pages m.layout (addresses a n)

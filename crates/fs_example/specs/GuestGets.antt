@@ -49,7 +49,7 @@ laid_over [] (old ∷ olds) = old ∷ olds
 laid_over (new ∷ news) (old ∷ olds) = new ∷ laid_over news olds
 
 -- a guest that looks at its n bytes from a on, a room's from the k-th on, gets what stood there, with the reply from
--- its k-th byte on laid over; so behind the header, where the room is long enough, just the file's bytes from there on
+-- its k-th byte on laid over; so behind the header, if the room is long enough, just the file's bytes from there on
 abbrev pub GetsFile : Memory → (room k a n : ℕ) → (unique : ℕ) → (file : List ℕ) → (got : List ℕ) → Type 0
 GetsFile m room k a n unique file got =
     (got ≡ laid_over (drop k (read_reply room unique file)) (bytes (physical m) a n))

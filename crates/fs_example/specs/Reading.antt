@@ -16,7 +16,7 @@ use Rattle.fuse_directory.specs.declared.table.OwnedFile.{OwnedFile}
 use Rattle.fuse_directory.specs.Files.{files_of}
 use Rattle.fuse_directory.specs.Directory.{Directory, file_at, DirectoryAnswers}
 
--- what a READ means: a fault, where its room has no place for the header of the reply
+-- what a READ means: a fault, if its room has no place for the header of the reply
 abbrev pub read_in_room : (unique room : ℕ) → FileCall → Meaning
 read_in_room unique room call = if nat_le 16 room then Asks (One unique call) else IsFault EncodeMessage
 
@@ -30,13 +30,13 @@ IsRead request unique node size offset =
 abbrev pub wanted : OwnedFile → (size offset : ℕ) → List ℕ
 wanted f size offset = take size (drop offset f.contents.items)
 
--- the reply with these bytes; EIO where the room behind the header is too short; nothing where it has no place for one
+-- the reply with these bytes; EIO if the room behind the header is too short; nothing if it has no place for one
 abbrev pub read_reply : (room unique : ℕ) → List ℕ → List ℕ
 read_reply room unique bytes =
     if nat_le 16 room then (if nat_lt (room - 16) (length bytes) then error_bytes unique EIO else reply_bytes unique bytes)
     else []
 
--- where a step took a READ of a file from queue i, the reply was written over its chain's room, then what follows it
+-- if a step took a READ of a file from queue i, the reply was written over its chain's room, then what follows it
 abbrev pub ReadsIntoRoom : State Directory → (i : ℕ) → Outcome → State Directory → Type 0
 ReadsIntoRoom s i (Exchanged x notice) after =
     (q : Queue) (head : ℕ) (request room : List ℕ) (unique node size offset : ℕ) (f : OwnedFile) →
@@ -55,7 +55,7 @@ ReadingStep s i outcome after = (calls : Calls) × Step DirectoryAnswers s i cal
 abbrev pub GivesBytes : (reply : List ℕ) → (unique size offset : ℕ) → OwnedFile → Type 0
 GivesBytes reply unique size offset f = (reply ≡ reply_bytes unique (wanted f size offset)) ⊎ (reply ≡ error_bytes unique EIO)
 
--- where an exchange without a fault read a file, the reply gives its bytes
+-- if an exchange without a fault read a file, the reply gives its bytes
 abbrev pub ReadsTrue : List OwnedFile → Turn → Type 0
 ReadsTrue fs t =
     (unique node size offset : ℕ) (f : OwnedFile) → IsRead t.exchange.request unique node size offset → file_at fs node ≡ Some f →

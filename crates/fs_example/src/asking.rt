@@ -123,7 +123,7 @@ fn are_same(bytes: &[u8], others: &[u8]) -> bool
     *bytes == *others
 }
 
-// What follows the header of the reply to a request, unless that tells an error.
+// What follows the header of the reply to a request, unless that is an error.
 #[tactic(auto, using(crate::proofs::AskingLemmas::good_reply))]
 fn told(reply: &[u8], unique: u64) -> Result<&[u8], MonitorError>
     ensures { IfOk result (λ bytes. reply.now ≡ reply_bytes unique bytes.now) }

@@ -76,7 +76,7 @@ fn put_descriptor(
 
 /// Puts a request into memory and offers it as the queue's chain of this number, counted from 1 on modulo 2^16. Its
 /// head is descriptor 0; so is each entry of an available ring of zeros. An error of memory is that an address has no
-/// place: `InvalidGuestAddress`, or `PartialBuffer` where only some bytes have one.
+/// place: `InvalidGuestAddress`, or `PartialBuffer` if only some bytes have one.
 pub fn offer(
     host: &mut HostMemory<PageBitmap>,
     mem: &GuestMemoryMmap,
@@ -147,8 +147,8 @@ fn u32_at(
 }
 
 /// The reply to the request that was offered as the chain of this number, which was the last: what stands in its room,
-/// as many bytes as the used ring says. Nothing where the device has not returned the chain, or says that there are
-/// more bytes than the room has. `InvalidGuestAddress` or `PartialBuffer` where an address has no place, or
+/// as many bytes as the used ring says. Nothing if the device has not returned the chain, or says that there are
+/// more bytes than the room has. `InvalidGuestAddress` or `PartialBuffer` if an address has no place, or
 /// `OutOfMemory`.
 pub fn reply(
     alloc: Global,

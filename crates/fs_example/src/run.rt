@@ -14,10 +14,10 @@ use fuse_read_only::ReadOnly;
 use std::alloc::{AllocError, Global};
 use vm_memory::Iommu;
 
-/// Does commands one after another, as `Machine::run`. Whatever the guest does: where an exchange without a fault reads
+/// Does commands one after another, as `Machine::run`. Whatever the guest does: if an exchange without a fault reads
 /// a file, its reply has the file's bytes, or is EIO. Where a kick takes one chain that reads a file, no byte is
 /// written twice as it goes back, and the guest looks at that chain's room next, it gets what stood there with the
-/// reply laid over: behind the header, where the room is long enough, the file's bytes.
+/// reply laid over: behind the header, if the room is long enough, the file's bytes.
 pub fn run_directory<I: Iommu + Drop>(
     alloc: Global,
     machine: &mut Machine<ReadOnly<OwnedTable>, I>,

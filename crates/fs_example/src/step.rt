@@ -12,8 +12,8 @@ use std::alloc::Global;
 use vm_memory::GuestMemory;
 use vm_memory_core::HostBlocks;
 
-/// Serves the next chain of a queue, as `Device::process_one`. Where that is a READ of a file, the reply with the
-/// file's bytes is written over the chain's room; EIO, where it is too short for them; or nothing, where it has no
+/// Serves the next chain of a queue, as `Device::process_one`. If that is a READ of a file, the reply with the
+/// file's bytes is written over the chain's room; EIO, if it is too short for them; or nothing, if it has no
 /// place for a header; and then the used element and the used index.
 pub fn step_directory<M: GuestMemory, H: HostBlocks>(
     alloc: Global,

@@ -37,7 +37,7 @@ reads_front f rooms off (part ∷ parts) g (mid, some, low, gives, rest) =
     ∙ sym (take-add (length part) (length (concat parts)) there)
     ∙ ap (λ (n : ℕ). take n there) (sym (length-append part (concat parts)))
 
--- as many as there are and are wanted
+-- as many as there are and are asked for
 take_least : (size : ℕ) (xs : List ℕ) (b : Bool) → nat_le size (length xs) ≡ b → take (min (length xs) size) xs ≡ take size xs
 take_least size xs true is = let low = leb-true size (length xs) is in let same : min (length xs) size ≡ size = omega (arith, low) in ap (λ (n : ℕ). take n xs) same
 take_least size xs false is =
@@ -49,7 +49,7 @@ ended : (f : Contents) (rooms : List ℕ) (off total n : ℕ) (answer : Result �
 ended f rooms off total n (Ok m) g t is = let same : m ≡ n = cc in sym same ∙ t.0
 ended f rooms off total n (Err e) g t is = absurd (cc)
 
--- all that there is, or as many bytes as are wanted
+-- all that there is, or as many bytes as are asked for
 pub whole : (f : Contents) (rooms : List ℕ) (off size n : ℕ) (bytes : List ℕ) (answer : Result ℕ ℕ) (g : Contents) → ReadsSegments Gives f rooms off bytes answer g → answer ≡ Ok n →
     n ≡ min (length (drop off f.bytes.now)) size → (n ≡ length bytes) × (bytes ≡ take size (drop off f.bytes.now))
 whole f rooms off size n bytes answer g t is count =
@@ -58,9 +58,9 @@ whole f rooms off size n bytes answer g t is count =
     let front : bytes ≡ take (length bytes) there = subst (λ (l : List ℕ). l ≡ take (length l) there) t.whole (reads_front f rooms off t.parts t.mid t.reads) in
     (all, front ∙ ap (λ (k : ℕ). take k there) (sym all ∙ count) ∙ take_least size there (nat_le size (length there)) refl)
 
--- ---- how much of what is wanted comes
+-- ---- how much of what is asked for comes
 
--- where no segment is left behind a place, all lie before it
+-- if no segment is left behind a place, all lie before it
 past_all : (place : ℕ) (ns : List ℕ) → first (past place ns) ≡ 0 → sum ns ≤ place
 past_all place [] none = omega arith
 past_all place (n ∷ ns) none =
@@ -69,7 +69,7 @@ past_all place (n ∷ ns) none =
     (λ (l : n ≤ place). let ih = past_all (place - n) ns (ap first (sym (past_whole place n ns l)) ∙ none) in omega (arith, ih, l, sum-cons n ns))
     (cases_lt place n)
 
--- where one is left, not all do
+-- if one is left, not all do
 past_some : (place : ℕ) (ns : List ℕ) → 0 < first (past place ns) → place < sum ns
 past_some place [] some = let none = ap first (past_none place) in omega (arith, none, some)
 past_some place (n ∷ ns) some =
@@ -99,7 +99,7 @@ at_end : (k : ℕ) (xs : List ℕ) → 0 < k → take k xs ≡ [] → length xs 
 at_end k xs some none = omega (arith, some, ap length none, length-take k xs)
 
 module _ (f : Contents) (rooms : List ℕ) (off wanted : ℕ) (bytes : List ℕ) (g : Contents) (there : wanted ≤ length (drop off f.bytes.now)) where
-  -- where not as many bytes came as are wanted, there is no room for them
+  -- if fewer bytes came than are asked for, there is no room for them
   short_of : (n : ℕ) → ReadsSegments Gives f (up_to wanted rooms) off bytes (Ok n) g → (n ≡ wanted → ⊥) → sum rooms < wanted
   short_of n t other =
       let within : length bytes ≤ sum (up_to wanted rooms) = subst (λ (l : List ℕ). length l ≤ sum (up_to wanted rooms)) t.whole (reads_within f (up_to wanted rooms) off t.parts t.mid t.reads) in
@@ -131,7 +131,7 @@ module _ (f : Contents) (rooms : List ℕ) (off wanted : ℕ) (bytes : List ℕ)
       (λ (last : (off + length bytes < 2 ^ 64) × Gives t.mid (first (past (length bytes) (up_to wanted rooms))) (off + length bytes) (Err e) g). absurd (cc))
       t.ends.1
 
-  -- where there is room for all that is wanted, all of it comes
+  -- if there is room for all that is asked for, all of it comes
   pub all_comes : (answer : Result ℕ ℕ) → ReadsSegments Gives f (up_to wanted rooms) off bytes answer g → wanted ≤ sum rooms → off < 2 ^ 64 → length f.bytes.now < 2 ^ 64 → answer ≡ Ok wanted
   all_comes (Ok n) t room low small =
       let same : n ≡ wanted =

@@ -72,7 +72,7 @@ root_attr = attr_of 1 0 0x416d
 abbrev pub file_entry : (node : ℕ) → OwnedFile → Entry ℕ
 file_entry node f = record { inode = node; generation = 0; attr = file_attr node f; attr_timeout = second; entry_timeout = second }
 
--- the first file with a name, where the first of the table has this node
+-- the first file with a name, if the first of the table has this node
 abbrev pub found_from : List OwnedFile → (name : List ℕ) → (first : ℕ) → FileAnswer
 found_from [] name first = Failed ENOENT
 found_from (f ∷ fs) name first = if bytes_eq f.name.items name then HasEntry (file_entry first f) else found_from fs name (first + 1)
@@ -91,11 +91,11 @@ abbrev pub bytes_at : Option OwnedFile → (room size offset : ℕ) → FileAnsw
 bytes_at None room size offset = Failed ENOENT
 bytes_at (Some f) room size offset = bytes_in room (take size (drop offset f.contents.items))
 
--- whether a file is opened for reading alone (O_RDONLY of O_ACCMODE in fcntl.h)
+-- whether a file is opened for reading only (O_RDONLY of O_ACCMODE in fcntl.h)
 abbrev pub reads_only : (flags : ℕ) → Bool
 reads_only flags = bit_and flags 3 == 0
 
--- a file is opened without a handle, for reading alone
+-- a file is opened without a handle, for reading only
 abbrev pub opened_at : Option OwnedFile → (flags : ℕ) → FileAnswer
 opened_at None flags = Failed ENOENT
 opened_at (Some f) flags = if reads_only flags then Opened None 0 else Failed EROFS
@@ -106,7 +106,7 @@ abbrev pub listing_from : (first : ℕ) → List OwnedFile → List Listed
 listing_from first [] = []
 listing_from first (f ∷ fs) = record { ino = first; offset = first - 1; kind = 8; name = f.name.items } ∷ listing_from (first + 1) fs
 
--- of the guest's options the directory wants DO_READDIRPLUS (bit 13 in linux/fuse.h)
+-- of the guest's options the directory asks for DO_READDIRPLUS (bit 13 in linux/fuse.h)
 abbrev pub wanted_options : (capable : ℕ) → ℕ
 wanted_options capable = bit_and capable (2 ^ 13)
 

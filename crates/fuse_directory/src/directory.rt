@@ -19,7 +19,7 @@ const ROOT: u64 = 1;
 // The node of the first file.
 const FIRST: u64 = 2;
 
-// The bits of an open file's flags that say whether it is read or written, and reading alone (fcntl.h).
+// The bits of an open file's flags that say whether it is read or written, and those of reading only (fcntl.h).
 const O_ACCMODE: u32 = 3;
 
 const O_RDONLY: u32 = 0;
@@ -145,7 +145,7 @@ impl<'a> PositionedFile for Contents<'a> {
     }
 }
 
-// Puts so many bytes of contents from an offset on into a writer, or fails where there is no room for all of them.
+// Puts so many bytes of contents from an offset on into a writer, or fails if there is no room for all of them.
 fn put_bytes<W: ZeroCopyWriter>(
     w: &mut W,
     contents: &[u8],

@@ -15,7 +15,7 @@ pub struct OwnedFile {
 }
 
 impl OwnedFile {
-    /// A file with copies of these bytes. AllocError where memory is wanting.
+    /// A file with copies of these bytes. AllocError if an allocation fails.
     pub fn copied(alloc: Global, name: &[u8], contents: &[u8]) -> Result<OwnedFile, AllocError>
         ensures name { IfOk result (λ f. f.name.items ≡ name.now) }
         ensures contents { IfOk result (λ f. f.contents.items ≡ contents.now) }
@@ -45,7 +45,7 @@ pub struct Entries {
 impl OwnedTable {
     ghost use Rattle.fuse_directory.specs.Files.{files_of};
 
-    /// The table of these files. Of two with one name only the first is found. AllocError where memory is wanting.
+    /// The table of these files. Of two with one name only the first is found. AllocError if an allocation fails.
     pub fn new(alloc: Global, files: Vec<OwnedFile>) -> Result<OwnedTable, AllocError>
         requires { length files.items < 2 ^ 32 }
         ensures { IfOk result (λ t. files_of t ≡ files.items) }
@@ -64,7 +64,7 @@ impl OwnedTable {
         &self.files
     }
 
-    // Its entries from one on. AllocError where the table has as many sharers as can be.
+    // Its entries from one on. AllocError if the table has as many sharers as can be.
     pub(crate) fn entries(&self, at: u64) -> Result<Entries, AllocError>
         ensures at { IfOk result (λ e. e.at ≡ at) }
         ensures files { IfOk result (λ e. (arc_value e.files).items ≡ files_of self.now) }

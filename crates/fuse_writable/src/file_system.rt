@@ -23,7 +23,7 @@ pub trait WritableFileSystem {
     // From a state, a call may have this answer and leave that state.
     ghost may: { Self → FileCall → FileAnswer → Self → Type 0 };
 
-    /// The start of a conversation (FUSE_INIT): of the options that both sides can, those that the file system wants.
+    /// The start of a conversation (FUSE_INIT): of the options that both sides have, those that the file system asks for.
     fn init(&mut self, capable: FsOptions) -> Result<FsOptions, Errno>
         ensures may { may self.old (call.Init capable.0) (options_answer result) self.new };
 
@@ -98,7 +98,7 @@ pub trait WritableFileSystem {
     ) -> Result<(Option<u64>, OpenOptions), Errno>
         ensures may { may self.old (call.Open ctx inode kill_priv flags) (opened_answer (λ n. n) result) self.new };
 
-    /// Makes a file where there is none, and opens it (FUSE_CREATE). Where the reply has no room the entry is given back
+    /// Makes a file if there is none, and opens it (FUSE_CREATE). If the reply has no room the entry is given back
     /// by `forget`, but the handle isn't released: who hands out handles bounds how many a guest may leave open.
     fn create(
         &mut self,

@@ -1,5 +1,5 @@
 //! The flat bytes of FUSE requests that make, write, move, list and remove files (linux/fuse.h), as `requests` has those
-//! that find and read them. Where memory is wanting for them, that is AllocError.
+//! that find and read them. If an allocation fails, that is AllocError.
 
 ghost use Rattle.std.specs.Prelude.{◌≡◌, ◌<◌, ◌^◌, ◌+◌, ◌++◌, [], ◌∷◌, length, IfOk};
 ghost use Rattle.guest_driver.specs.Changes.{create_bytes, ended, followed_bytes, getattr_bytes, mkdir_bytes, named_bytes, open_bytes};

@@ -1,6 +1,6 @@
 //! A guest's memory with a split virtqueue in it, drawn entry by entry (VIRTIO 1.2, section 2.7). Addresses and lengths
 //! count bytes; all numbers stand little-endian. An access fails as `read_slice` and `write_slice` of the memory do:
-//! `InvalidGuestAddress` where no byte has a place, `PartialBuffer` where only some have.
+//! `InvalidGuestAddress` if no byte has a place, `PartialBuffer` if only some have.
 
 ghost use Rattle.std.specs.Prelude.{◌≡◌};
 ghost use Rattle.vm_memory_core.specs.Host.{lengths, shape};
@@ -97,7 +97,7 @@ impl Guest {
     }
 
     /// The memory behind an IOMMU that is off: no address is mapped, and the I/O pages are those below `io_end`, an I/O
-    /// address in bytes. AllocError where memory is wanting.
+    /// address in bytes. AllocError if an allocation fails.
     pub fn into_translated(
         self,
         alloc: Global,
@@ -116,13 +116,13 @@ impl Guest {
         Ok((host, mem))
     }
 
-    /// Puts bytes at an address. `InvalidGuestAddress` or `PartialBuffer` where not all have a place.
+    /// Puts bytes at an address. `InvalidGuestAddress` or `PartialBuffer` if not all have a place.
     pub fn put(&mut self, addr: u64, bytes: &[u8]) -> Result<(), GuestMemoryError> {
         self.mem
             .write_slice(&mut self.host, bytes, GuestAddress(addr))
     }
 
-    /// The `N` bytes from an address on. `InvalidGuestAddress` or `PartialBuffer` where not all are there.
+    /// The `N` bytes from an address on. `InvalidGuestAddress` or `PartialBuffer` if not all are there.
     pub fn bytes<const N: usize>(&self, addr: u64) -> Result<[u8; N], GuestMemoryError> {
         let mut bytes = [0; N];
         self.mem
@@ -130,7 +130,7 @@ impl Guest {
         Ok(bytes)
     }
 
-    /// So many bytes from an address on. `InvalidGuestAddress` or `PartialBuffer` where not all are there, or
+    /// So many bytes from an address on. `InvalidGuestAddress` or `PartialBuffer` if not all are there, or
     /// `OutOfMemory`.
     pub fn read(&self, alloc: Global, addr: u64, len: usize) -> Result<Vec<u8>, GuestMemoryError> {
         let mut bytes = Vec::new(alloc);
@@ -143,7 +143,7 @@ impl Guest {
     }
 
     /// Puts an entry of the descriptor table, 16 bytes (VIRTIO 1.2, 2.7.5). `InvalidGuestAddress` or `PartialBuffer`
-    /// where it has no place.
+    /// if it has no place.
     pub fn descriptor(
         &mut self,
         index: u16,
@@ -154,7 +154,7 @@ impl Guest {
     }
 
     /// Puts an entry, 16 bytes, of a table of descriptors that begins at an address. `InvalidGuestAddress` or
-    /// `PartialBuffer` where it has no place.
+    /// `PartialBuffer` if it has no place.
     pub fn descriptor_in(
         &mut self,
         table: u64,
@@ -168,7 +168,7 @@ impl Guest {
         self.put(at.wrapping_add(14), &descriptor.next.to_le_bytes())
     }
 
-    /// Puts the available ring's index, an le16 (VIRTIO 1.2, 2.7.6). `InvalidGuestAddress` or `PartialBuffer` where it
+    /// Puts the available ring's index, an le16 (VIRTIO 1.2, 2.7.6). `InvalidGuestAddress` or `PartialBuffer` if it
     /// has no place.
     pub fn set_available(&mut self, index: u16) -> Result<(), GuestMemoryError> {
         let at = self.ring.avail.wrapping_add(2);
@@ -177,7 +177,7 @@ impl Guest {
     }
 
     /// Makes a chain available, by its head: the next entry of the available ring, then its index, each an le16 (VIRTIO
-    /// 1.2, 2.7.6). `InvalidGuestAddress` or `PartialBuffer` where one of them has no place.
+    /// 1.2, 2.7.6). `InvalidGuestAddress` or `PartialBuffer` if one of them has no place.
     pub fn make_available(&mut self, head: u16) -> Result<(), GuestMemoryError> {
         let slot = u64::from(self.offered % self.ring.size.max(1));
         let at = self.ring.avail.wrapping_add(4 + 2 * slot);
@@ -186,7 +186,7 @@ impl Guest {
     }
 
     /// Offers a chain of the entries from `head` on: first a request's bytes, cut into these readable parts (address
-    /// and length in bytes), then these writable ones. `InvalidGuestAddress` or `PartialBuffer` where something that is
+    /// and length in bytes), then these writable ones. `InvalidGuestAddress` or `PartialBuffer` if something that is
     /// put has no place.
     pub fn chain(
         &mut self,
@@ -200,7 +200,7 @@ impl Guest {
     }
 
     /// Offers such a chain of the entries of a table of its own, which begins at an address and is named by the entry
-    /// `head` of the descriptor table (VIRTIO 1.2, 2.7.5.3). `InvalidGuestAddress` or `PartialBuffer` where something
+    /// `head` of the descriptor table (VIRTIO 1.2, 2.7.5.3). `InvalidGuestAddress` or `PartialBuffer` if something
     /// that is put has no place.
     pub fn indirect_chain(
         &mut self,
@@ -250,7 +250,7 @@ impl Guest {
         Ok(())
     }
 
-    /// The used ring's element in a slot, 8 bytes (VIRTIO 1.2, 2.7.8). `InvalidGuestAddress` or `PartialBuffer` where
+    /// The used ring's element in a slot, 8 bytes (VIRTIO 1.2, 2.7.8). `InvalidGuestAddress` or `PartialBuffer` if
     /// it isn't there.
     pub fn used(&self, slot: u16) -> Result<UsedElement, GuestMemoryError> {
         let at = self.ring.used.wrapping_add(4 + 8 * u64::from(slot));
@@ -259,15 +259,15 @@ impl Guest {
         Ok(UsedElement { id, len })
     }
 
-    /// The used ring's index, an le16 (VIRTIO 1.2, 2.7.8). `InvalidGuestAddress` or `PartialBuffer` where it isn't
+    /// The used ring's index, an le16 (VIRTIO 1.2, 2.7.8). `InvalidGuestAddress` or `PartialBuffer` if it isn't
     /// there.
     pub fn used_index(&self) -> Result<u16, GuestMemoryError> {
         let bytes = self.bytes(self.ring.used.wrapping_add(2))?;
         Ok(u16::from_le_bytes(bytes))
     }
 
-    /// The element of the chain that was returned last, where all that were offered are returned (VIRTIO 1.2, 2.7.8);
-    /// nothing where one isn't. At least one is to have been offered. `InvalidGuestAddress` or `PartialBuffer` where
+    /// The element of the chain that was returned last, if all that were offered are returned (VIRTIO 1.2, 2.7.8);
+    /// nothing if one isn't. At least one is to have been offered. `InvalidGuestAddress` or `PartialBuffer` if
     /// the used ring isn't there.
     pub fn last_used(&self) -> Result<Option<UsedElement>, GuestMemoryError> {
         if self.used_index()? != self.offered {
@@ -282,7 +282,7 @@ impl Guest {
         clear(&mut self.host);
     }
 
-    /// The marked pages, by block and number in it. AllocError where memory is wanting.
+    /// The marked pages, by block and number in it. AllocError if an allocation fails.
     pub fn marked(&self, alloc: Global) -> Result<Vec<(usize, usize)>, AllocError> {
         let mut pages = Vec::new(alloc);
         for block in 0..self.host.block_count() {

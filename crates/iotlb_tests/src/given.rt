@@ -9,7 +9,7 @@ use vm_values::GuestAddress;
 /// A mapping: the first I/O address, the first target, how many, and what may be done there.
 pub type MappingRow = (u64, u64, usize, Permissions);
 
-/// What was found is what is wanted. One generic assertion for all tests: each assertion of its own costs a proof.
+/// What was found is what is expected. One generic assertion for all tests: each assertion of its own costs a proof.
 pub fn expect_same<T: PartialEq + Debug + Drop>(rt: &impl Abort, found: T, want: T) {
     assert_eq!(rt; found, want);
 }
@@ -50,7 +50,7 @@ fn write_ranges(rt: &impl Abort, text: &mut String, name: &str, ranges: &[IovaRa
     }
 }
 
-/// Writes what a look-up answers: its pieces, or what misses and what lacks the permission.
+/// Writes what a look-up answers: its pieces, or what misses and what has no permission.
 pub fn write_found(
     rt: &impl Abort,
     text: &mut String,

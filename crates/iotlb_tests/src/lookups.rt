@@ -7,7 +7,7 @@ use vm_iotlb::Permissions::{No, Read, ReadWrite, Write};
 use vm_iotlb::{Iotlb, Permissions};
 use vm_values::GuestAddress;
 
-// A page for reading and writing, with 0x100 bytes in its middle that are elsewhere and for reading alone.
+// A page for reading and writing, with 0x100 bytes in its middle that are elsewhere and for reading only.
 fn with_a_hole(rt: &impl Abort, alloc: Global) -> Iotlb {
     let page = (0x1000, 0x8000, 0x1000, ReadWrite);
     table(rt, alloc, &[page, (0x1800, 0x4000, 0x100, Read)])

@@ -46,7 +46,7 @@ pub struct PlainTable {
     ranges: Vec<PlainRange>,
 }
 
-// Adds a range behind all others, as one with the last where it goes on.
+// Adds a range behind all others, as one with the last if it goes on.
 fn push_range(rt: &impl Abort, ranges: &mut Vec<PlainRange>, range: PlainRange) {
     if range.end <= range.start {
         return;

@@ -176,7 +176,7 @@ fn room_that_is_unmapped_is_out_of_reach(rt: HostRuntime) {
     expect_same(&rt, machine.device.server().fs().calls(), &[]);
 }
 
-// The cut request is exchanged with a reply so long or this fault where the room is mapped with this permission; these
+// The cut request is exchanged with a reply so long or this fault if the room is mapped with this permission; these
 // bytes stand where it is mapped, in the element and in the index, and of the first three I/O pages these are marked.
 fn expect_cut(
     rt: &impl Abort,

@@ -28,7 +28,7 @@ pub const ROOM_AT: u64 = 0x2000;
 /// The machine of a guest and a device whose file system logs its calls.
 pub type LogMachine = Machine<CallLog, TableIommu>;
 
-/// What was found is what is wanted. One generic assertion for all tests: each assertion of its own costs a proof.
+/// What was found is what is expected. One generic assertion for all tests: each assertion of its own costs a proof.
 pub fn expect_same<T: PartialEq + Debug + Drop>(rt: &impl Abort, found: T, want: T) {
     assert_eq!(rt; found, want);
 }

@@ -34,7 +34,7 @@ fn expect_read_slice(
     expect_same(rt, (answer, bytes), want);
 }
 
-// What is said of two where one is.
+// The error of an access to two bytes of which one has a place.
 const PARTIAL: VolatileMemoryError = PartialBuffer {
     expected: 2,
     completed: 1,

@@ -58,7 +58,7 @@ fn addresses_have_their_regions(rt: HostRuntime) {
     }
 }
 
-// An address has this offset and this place, and is there where it has an offset.
+// An address has this offset and this place, and is there if it has an offset.
 fn expect_address(
     rt: &impl Abort,
     mem: &GuestMemoryMmap,

@@ -32,7 +32,7 @@ pub const ENDS: &[(GuestAddress, usize)] = &[
     (GuestAddress(0xffff_ffff_ffff_f000), 0x1000),
 ];
 
-/// What was found is what is wanted. One generic assertion for all tests: each assertion of its own costs a proof.
+/// What was found is what is expected. One generic assertion for all tests: each assertion of its own costs a proof.
 pub fn expect_same<T: PartialEq + Debug + Drop>(rt: &impl Abort, found: T, want: T) {
     assert_eq!(rt; found, want);
 }

@@ -54,7 +54,7 @@ fn a_clone_translates_by_the_same_table(rt: HostRuntime) {
     expect_same(&rt, found, Ok(OVER_THE_CUT));
 }
 
-// A mapping for reading alone over the middle of one for both: 0x300 addresses from 0x1700 on lie over three.
+// A mapping for reading only over the middle of one for both: 0x300 addresses from 0x1700 on lie over three.
 const READ_ONLY_INSIDE: &[MappingRow] = &[
     (0x1000, 0x8000, 0x1000, ReadWrite),
     (0x1800, 0x4000, 0x100, Read),

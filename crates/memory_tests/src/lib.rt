@@ -1,5 +1,5 @@
-//! Tests of bitmaps, host memory and guest memory: worked examples, and each public function once where memory is
-//! ample.
+//! Tests of bitmaps, host memory and guest memory: worked examples, and each public function once with ample
+//! memory.
 #![tactic(auto)]
 
 #[cfg(test)]

@@ -50,7 +50,7 @@ HaveSamePart v w = w.parts * 2 ^ v.depth ≡ v.parts * 2 ^ w.depth
 abbrev pub HasHalf : PageCounts → Type 0
 HasHalf v = 2 * v.parts ≡ 2 ^ v.depth
 
--- each page is among those that were gathered or those that are left exactly where some list has it
+-- each page is among those that were gathered or those that are left exactly if some list has it
 abbrev pub NeitherLostNorInvented : {A : Type 0} → (size len : ℕ) → List (Vec ByteRange A) → (gathered left : List ℕ) → Type 0
 NeitherLostNorInvented size len lists gathered left = (p : ℕ) → p < len → max (page_bit gathered p) (page_bit left p) ≡ bit_of (is_in_lists size len lists p)
 
@@ -58,7 +58,7 @@ NeitherLostNorInvented size len lists gathered left = (p : ℕ) → p < len → 
 abbrev pub AreWordsOf : (len : ℕ) (words : List ℕ) → Type 0
 AreWordsOf len words = (length words ≡ div_ceil len 64) × ((p : ℕ) → len ≤ p → page_bit words p ≡ 0)
 
--- where two passes have every part together, the words of len pages are these
+-- if two passes have every part together, the words of len pages are these
 abbrev pub SettleTogether : (first second : PageCounts) → (len : ℕ) → (words : List ℕ) → Type 0
 SettleTogether v w len words = (p : ℕ) → p < len → Settles (both_of (tally_of v.pages p) (tally_of w.pages p)) (page_bit words p)
 

@@ -98,7 +98,7 @@ fn settle(
 
 /// Each list's ranges, in bytes, are marked by a thread of its own, while one more gathers each word as often as there
 /// are rounds. The pages that were gathered and those that are left are then just those that the lists have; without a
-/// round none was gathered. AllocError where memory is wanting.
+/// round none was gathered. AllocError if an allocation fails.
 pub fn mark_and_gather<R: Threads + Sync>(
     rt: &R,
     alloc: Global,

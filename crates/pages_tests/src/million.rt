@@ -19,7 +19,7 @@ const ROUNDS: usize = 20_000;
 // at once.
 const TRIES: usize = 100;
 
-// Each page by itself, again and again: from the first on where `up`, and from the last on otherwise.
+// Each page by itself, again and again: from the first on if `up`, and from the last on otherwise.
 fn marks(rt: &impl Abort, alloc: Global, up: bool) -> Vec<ByteRange> {
     let mut ranges = Vec::with_capacity(alloc, PAGES * TIMES).expect(rt, "memory");
     for _ in 0..TIMES {

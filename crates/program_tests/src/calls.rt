@@ -1,4 +1,4 @@
-//! What is printed of the file system's calls in one step, where they are many.
+//! What is printed of the file system's calls in one step, if there are many.
 
 use crate::transcript::expect_same;
 use std::alloc::Global;

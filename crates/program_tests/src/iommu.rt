@@ -1,4 +1,4 @@
-//! Kicks of a device behind the IOMMU, where what they need is mapped.
+//! Kicks of a device behind the IOMMU, with all that they need mapped.
 
 use crate::offered::check_offered;
 

@@ -175,7 +175,7 @@ fn returns_chains_whose_room_is_not_mapped(rt: HostRuntime) {
     check_offered(&rt, rt.alloc(), RETURNS_CHAINS_WHOSE_ROOM_IS_NOT_MAPPED);
 }
 
-// A request that is mapped for writing alone, for nothing, or not all of it, and an indirect table that is not mapped.
+// A request that is mapped for writing only, for nothing, or not all of it, and an indirect table that is not mapped.
 const RETURNS_CHAINS_WHOSE_REQUEST_IS_NOT_MAPPED: &[&[u8]] = &[
     b"\
 > map 0 0 0x10000 rw

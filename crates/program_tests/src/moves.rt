@@ -294,7 +294,7 @@ fn answers_the_same_when_it_moves_between_commands(rt: HostRuntime) {
     check_moving(&rt, rt.alloc(), SESSION);
 }
 
-// INIT agrees that a name may have a group behind it. So MKDIR's is read, and refused where its header is wrong; with a
+// INIT agrees that a name may have a group behind it. So MKDIR's is read, and refused if its header is wrong; with a
 // good one the file system is asked, which has no MKDIR.
 const GROUPS_AGREED: &[u8] = b"\
 > queue 4 0 0x100 0x200

@@ -23,7 +23,7 @@ page 0 0
 page 0 1
 ";
 
-/// Each of these transcripts goes on where that request waits.
+/// Each of these transcripts goes on from there, with that request waiting.
 pub fn check_offered(rt: &impl Abort, alloc: Global, ends: &[&[u8]]) {
     for end in ends {
         let mut transcript = Vec::new(alloc);

@@ -244,7 +244,7 @@ fn has_a_longest_request(rt: HostRuntime) {
     check_offered(&rt, rt.alloc(), HAS_A_LONGEST_REQUEST);
 }
 
-// The calls of each request stand before its end, and a kick ends where none is waiting.
+// The calls of each request stand before its end, and a kick ends once none waits.
 const PRINTS_THE_CALLS_OF_EACH_STEP: &[u8] = b"\
 > queue 4 0 0x100 0x200
 ok

@@ -2,7 +2,7 @@
 
 use crate::transcript::check;
 
-// Version 7.38, where flag 1 is agreed on; and 8.0, which is answered with what the server speaks, and without a call.
+// Version 7.38 with flag 1 agreed on; and 8.0, which is answered with what the server speaks, and without a call.
 const AGREES_ON_A_START: &[u8] = b"\
 > queue 4 0 0x100 0x200
 ok

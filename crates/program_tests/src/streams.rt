@@ -31,7 +31,7 @@ impl<'a> Read for SlowReader<'a> {
     }
 }
 
-// A writer that takes some bytes and then fails, or fails only where it is flushed.
+// A writer that takes some bytes and then fails, or fails only when it is flushed.
 #[derive(Drop)]
 struct FullWriter {
     room: usize,
@@ -85,7 +85,7 @@ fn ends_where_a_reader_fails(rt: HostRuntime) {
     check_reader(&rt, rt.alloc(), Some(ErrorKind::Interrupted), b"", 3);
 }
 
-// Runs a script whose writer has that much room, and may fail where it is flushed.
+// Runs a script whose writer has that much room, and may fail when it is flushed.
 fn check_writer(
     rt: &impl Abort,
     alloc: Global,
@@ -100,7 +100,7 @@ fn check_writer(
     expect_same(rt, (room, ended), (room, status));
 }
 
-// A writer with room for all that a script prints, for less, and one that fails where it is flushed.
+// A writer with room for all that a script prints, for less, and one that fails when it is flushed.
 fn check_writers(rt: &impl Abort, alloc: Global, script: &[u8], len: usize, status: u8) {
     check_writer(rt, alloc, script, len, true, status);
     check_writer(rt, alloc, script, len.saturating_sub(1), true, 3);

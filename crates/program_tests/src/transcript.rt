@@ -5,7 +5,7 @@ use std::fmt::Debug;
 use std::process::Abort;
 use virtio_fs_script::run_script;
 
-/// What was found is what is wanted. One generic assertion for all tests: each assertion of its own costs a proof.
+/// What was found is what is expected. One generic assertion for all tests: each assertion of its own costs a proof.
 pub fn expect_same<T: PartialEq + Debug + Drop>(rt: &impl Abort, found: T, want: T) {
     assert_eq!(rt; found, want);
 }

@@ -4,12 +4,12 @@ use std::fmt::Debug;
 use std::process::Abort;
 use vm_values::ByteValued;
 
-/// What was found is what is wanted. One generic assertion for all tests: each assertion of its own costs a proof.
+/// What was found is what is expected. One generic assertion for all tests: each assertion of its own costs a proof.
 pub fn expect_same<T: PartialEq + Debug + Drop>(rt: &impl Abort, found: T, want: T) {
     assert_eq!(rt; found, want);
 }
 
-/// In each pair what was found is what is wanted; where it isn't, the number of the pair stands first.
+/// In each pair what was found is what is expected; if it isn't, the number of the pair stands first.
 pub fn expect_pairs<T: PartialEq + Debug + Copy + Drop>(rt: &impl Abort, pairs: &[(T, T)]) {
     for (i, (found, want)) in pairs.iter().enumerate() {
         expect_same(rt, (i, *found), (i, *want));

@@ -300,7 +300,7 @@ const PLUS: &[Row] = &[
         calls: &["readdir 10 11 12 5 34 320 0", "lookup 10 11 12 5 a"],
         end: End::Reply(&["b0000000 00000000", UNIQUE, DOT_ENTRY, DOT]),
     },
-    // or is the reply where no entry went in
+    // or is the reply if no entry went in
     Row {
         request: &[
             "50000000 2c000000",

@@ -9,7 +9,7 @@ use virtiofsd_fuse::Error;
 // The rest of what INIT is answered.
 const ZEROS: &str = "00000000000000000000000000000000000000000000000000000000";
 
-// Requests that make a node, where no extension is agreed.
+// Requests that make a node, with no extension agreed on.
 const MADE: &[Row] = &[
     // SYMLINK
     Row {
@@ -40,7 +40,7 @@ const MADE: &[Row] = &[
         calls: &["mkdir 10 11 12 5 16877 34 a -"],
         end: End::Reply(&["90000000 00000000", UNIQUE, ENTRY_OUT]),
     },
-    // bytes behind the name are left where no extension is agreed
+    // bytes behind the name are left if no extension is agreed on
     Row {
         request: &["33000000 09000000", ASKER, "ed410000 22000000", "6100 62"],
         told: Told::Good,

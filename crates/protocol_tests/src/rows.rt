@@ -260,7 +260,7 @@ pub fn expect_rows(rt: &impl Abort, alloc: Global, rows: &[Row], change: Change)
     }
 }
 
-/// Each row whose reply begins with an entry holds, and where the room has a byte less, the entry is given back, however
+/// Each row whose reply begins with an entry holds, and if the room has a byte less, the entry is given back, however
 /// the room is cut.
 pub fn expect_entries(rt: &impl Abort, alloc: Global, rows: &[Row]) {
     for row in rows {

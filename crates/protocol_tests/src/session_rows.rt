@@ -121,9 +121,9 @@ fn options_are_agreed_without_a_reply(rt: HostRuntime) {
     expect_options(&rt, rt.alloc(), UNTOLD, 1);
 }
 
-// INIT of a file system that wants what there is.
+// INIT of a file system that asks for what there is.
 const WANTS_ALL: &[Row] = &[
-    // the file system wants all that the client has
+    // the file system asks for all that the client has
     Row {
         request: &[
             "38000000 1a000000",
@@ -144,7 +144,7 @@ const WANTS_ALL: &[Row] = &[
 
 // INIT 7.27 with SECURITY_CTX, CREATE_SUPP_GROUP, which is agreed unasked, and bit 35.
 const SECOND_WORD: &[Row] = &[
-    // the second word of flags is there where bit 30 is set; a bit that is none (35) is left out
+    // the second word of flags is there if bit 30 is set; a bit that is none (35) is left out
     Row {
         request: &[
             "68000000 1a000000",

@@ -105,7 +105,7 @@ fn streams_take_and_give_values(rt: HostRuntime) {
     expect_same(&rt, (value, input.len()), (0x0102, 1));
 }
 
-// The kind of the error, where there is one.
+// The kind of the error, if there is one.
 fn error_kind<T: Drop>(done: io::Result<T>) -> Option<ErrorKind> {
     match done {
         Ok(_) => None,

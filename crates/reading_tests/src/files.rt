@@ -69,7 +69,7 @@ pub struct ReadCall {
     pub room: usize,
 }
 
-/// Each node is the file. Its reads put nothing in where they fail, and it says so or doesn't.
+/// Each node is the file. Its reads put nothing in if they fail, and it says so or doesn't.
 #[derive(Drop)]
 pub struct AskedFiles {
     says_whole: bool,

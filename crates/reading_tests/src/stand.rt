@@ -84,7 +84,7 @@ pub fn asking(
     guest
 }
 
-/// Serves the READ that is available in one of the ways, and tells what was exchanged by lengths alone.
+/// Serves the READ that is available in one of the ways, and reports only the lengths of what was exchanged.
 pub fn serve<M: GuestMemory, H: HostBlocks>(
     rt: &impl Abort,
     alloc: Global,

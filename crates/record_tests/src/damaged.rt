@@ -60,7 +60,7 @@ fn each_refusal_comes_in_its_turn(rt: HostRuntime) {
     }
 }
 
-// The number of the refusal of these bytes; 0 where they are restored.
+// The number of the refusal of these bytes; 0 if they are restored.
 fn refusal(alloc: Global, bytes: &[u8], page_size: u32, limit: u32) -> u8 {
     match restore_record(alloc, &mut Stream::new(bytes), page_size, limit) {
         Ok(_) => 0,

@@ -25,7 +25,7 @@ pub const SECOND: &[u8] =
 /// What is restored from either.
 pub const RESTORED: &str = "options 0; queue 4 1 false 0 100 200";
 
-/// What was found is what is wanted. One generic assertion for all tests: each assertion of its own costs a proof.
+/// What was found is what is expected. One generic assertion for all tests: each assertion of its own costs a proof.
 pub fn expect_same<T: PartialEq + Debug + Drop>(rt: &impl Abort, found: T, want: T) {
     assert_eq!(rt; found, want);
 }

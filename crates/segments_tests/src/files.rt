@@ -68,7 +68,7 @@ impl PositionedFile for Disk {
     }
 }
 
-// What a reader answers where so many of its bytes are to be written at a place.
+// What a reader answers if so many of its bytes are to be written at a place.
 fn expect_lent(
     rt: &impl Abort,
     r: &mut Reader<'_>,
@@ -93,7 +93,7 @@ fn lends_the_front_of_the_first_segment(rt: HostRuntime) {
     expect_left(&rt, &r, 8, 16);
 }
 
-// What a writer answers where so many bytes are to be read from a place.
+// What a writer answers if so many bytes are to be read from a place.
 fn expect_filled(
     rt: &impl Abort,
     w: &mut Writer,

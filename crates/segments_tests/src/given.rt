@@ -7,7 +7,7 @@ use std::io::{Read, Write};
 use std::process::Abort;
 use vm_values::ByteValued;
 
-/// What was found is what is wanted. One generic assertion for all tests: each assertion of its own costs a proof.
+/// What was found is what is expected. One generic assertion for all tests: each assertion of its own costs a proof.
 pub fn expect_same<T: PartialEq + Debug + Drop>(rt: &impl Abort, found: T, want: T) {
     assert_eq!(rt; found, want);
 }

@@ -98,7 +98,7 @@ impl<L: Ledger, R: Wait> Worker<'_, L, R> {
     }
 }
 
-// What a thread brings back: its share, and its receipts where all calls ended as they have to.
+// What a thread brings back: its share, and its receipts if all calls ended as they have to.
 type Brought<L> = (Share<L>, Option<Vec<Receipt>>);
 
 // What a thread does at a queue.

@@ -96,7 +96,7 @@ fn rounds_leave_all_pages(rt: HostRuntime) {
     expect_round::<Brand, _>(&rt, alloc, Blank::new(1), 2, (2, 0x5, 0));
 }
 
-// One of two parts takes a device apart where the other was counted for nothing.
+// One of two parts takes a device apart if the other was counted for nothing.
 fn apart_by_one_of_two<L: Ledger>(rt: &impl Abort, alloc: Global, blank: Blank)
     requires name { blank.name ≡ L.name }
     requires ledger { blank.parts ≡ L.parts }

@@ -1,5 +1,5 @@
-//! Which pages the receipt of a kick tells: those of the bytes that the return wrote, by block, where windows cross pages and
-//! blocks and where the IOMMU is on.
+//! Which pages the receipt of a kick names: those of the bytes that the return wrote, by block, if windows cross pages and
+//! blocks, and with the IOMMU on.
 
 ghost use Rattle.std.specs.Prelude.{◌≡◌};
 

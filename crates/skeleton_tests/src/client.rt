@@ -26,7 +26,7 @@ pub const FATTR_SIZE: u32 = 1 << 3;
 // All requests have this number.
 const UNIQUE: u64 = 7;
 
-/// What was found is what is wanted. One generic assertion for all tests: each assertion of its own costs a proof.
+/// What was found is what is expected. One generic assertion for all tests: each assertion of its own costs a proof.
 pub fn expect_same<T: PartialEq + Debug + Drop>(rt: &impl Abort, found: T, want: T) {
     assert_eq!(rt; found, want);
 }

@@ -417,7 +417,7 @@ const DESTROY: Row = Row {
 
 const SESSIONS: &[Row] = &[
     INIT,
-    // both options are wanted, and one that the client doesn't have
+    // it asks for both options, and for one that the client doesn't have
     Row {
         told: Told::Wants(0x402),
         gives: Gives::Reply(&[

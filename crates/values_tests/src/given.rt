@@ -17,7 +17,7 @@ pub const ASKER: &str = "8877665544332211 0500000000000000 0a000000 0b000000 0c0
 /// The unique number of each request.
 pub const UNIQUE: &str = "8877665544332211";
 
-/// What was found is what is wanted. One generic assertion for all tests: each assertion of its own costs a proof.
+/// What was found is what is expected. One generic assertion for all tests: each assertion of its own costs a proof.
 pub fn expect_same<T: PartialEq + Debug + Drop>(rt: &impl Abort, found: T, want: T) {
     assert_eq!(rt; found, want);
 }

@@ -8,7 +8,7 @@ use server_phases::FileCall;
 /// Stands for a number that isn't there.
 pub const NONE: u64 = u64::MAX;
 
-/// Who asks where a call doesn't tell.
+/// Who asks, if a call doesn't tell.
 pub const NOBODY: [u64; 3] = [NONE; 3];
 
 const MOST_NUMBERS: usize = 16;
@@ -62,7 +62,7 @@ fn bare<'a>(name: &'a str, numbers: &[u64]) -> Said<'a> {
     in_words(name, NOBODY, numbers, (&[], &[]))
 }
 
-// The group of extensions, where there is one.
+// The group of extensions, if there is one.
 fn group(extra: &Extensions) -> u64 {
     extra.sup_gid.map_or(NONE, |gid| u64::from(gid.0))
 }

@@ -73,7 +73,7 @@ impl<'a> GuestMachine<'a> {
     }
 
     /// The guest as it goes on on another host; and how many bytes its device's record has. An IOMMU that is on is off
-    /// on the way. A machine that stays lacks memory.
+    /// on the way. A machine stays if an allocation fails.
     pub fn moved(self) -> Result<(GuestMachine<'a>, usize), Halt> {
         let GuestMachine {
             alloc,

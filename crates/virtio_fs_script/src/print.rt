@@ -129,7 +129,7 @@ fn error_name(error: &Error) -> &'static str {
     }
 }
 
-// The name of a fault, or a dash where there is none.
+// The name of a fault, or a dash if there is none.
 fn fault_name(fault: &Option<Fault>) -> &'static str {
     match fault {
         None => "-",

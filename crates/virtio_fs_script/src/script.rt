@@ -72,7 +72,7 @@ fn read_and_run<R: Read, W: Write>(
     run_lines(alloc, &script, writer)
 }
 
-// Prints why a script ended early, where a stream can still say it, and answers the status.
+// Prints why a script ended early, if a stream can still say it, and answers the status.
 fn print_halt<W: Write>(halt: Halt, writer: &mut W) -> u8 {
     if halt != Halt::Stream && writeln!(writer, "{halt}").is_err() {
         return Halt::Stream.status();

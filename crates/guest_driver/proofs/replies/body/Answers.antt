@@ -22,7 +22,7 @@ told_again : (error : ℤ) → Fits (i error) → to_z w32 (of_z w32 error) ≡ 
 unfolding Fits
 told_again error fits = to_z-of_z w32 error fits
 
--- it is 0 where they are
+-- it is 0 if they are
 no_error : (error : ℤ) → Fits (i error) → of_z w32 error ≡ 0 → error ≡ pos 0
 no_error error fits is = sym (told_again error fits) ∙ ap (to_z w32) is
 
