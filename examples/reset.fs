@@ -16,7 +16,7 @@ kick 0 0
 reset 0 4 0 0x100 0x200
 kick 0 1
 kick 0 1
-# A table has to stand at a multiple of 16 (badlayout 2), and there is one queue alone (refused 8).
+# A table has to stand at a multiple of 16 (badlayout 2), and there is only one queue (refused 8).
 reset 0 4 8 0x100 0x200
 reset 1 4 0 0x100 0x200
 # The used index, and the element of chain 0 without a byte.

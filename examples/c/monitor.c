@@ -12,7 +12,7 @@ enum { PAGE_SIZE = 4096, LIMIT = 0x101000, ROOM_LEN = 0x100 };
 #define HIGH nothing, 0
 static uint8_t nothing[1];
 
-/* Ends the example where a call answers another status. */
+/* Ends the example if a call answers another status. */
 static void expect(uint32_t status, uint32_t wanted) {
     if (status == wanted) return;
     fprintf(stderr, "%s, and not %s\n", fs_status_name(status), fs_status_name(wanted));
