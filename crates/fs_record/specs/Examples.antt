@@ -11,7 +11,7 @@ use Rattle.fs_record.specs.Record.{First, Second, head_of, head_error, is_queue,
 abbrev one_queue : Queue
 one_queue = record { size = 4; desc = 0; avail = 0x100; used = 0x200; position = 1; stopped = false }
 
--- its record in version 1, where nothing was agreed on
+-- its record in version 1, if nothing was agreed on
 first_record : record_bytes First 0 (one_queue ∷ []) ≡
     codes "VFSD" ++ 1 ∷ 0 ∷ 0 ∷ 0 ∷ 1 ∷ 0 ∷ 0 ∷ 0 ∷ 0 ∷ 0 ∷ 0 ∷ 0 ∷ 0 ∷ 0 ∷ 0 ∷ 0 ∷ 0 ∷ 0 ∷ 0 ∷ 0
     ∷ 4 ∷ 0 ∷ 1 ∷ 0 ∷ 0 ∷ 0 ∷ 0 ∷ 0 ∷ 0 ∷ 0 ∷ 0 ∷ 0 ∷ 0 ∷ 0 ∷ 0 ∷ 0

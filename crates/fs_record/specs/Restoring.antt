@@ -47,7 +47,7 @@ HasOtherLimit bytes page_size limit = (options count : ℕ) × (queues : List Qu
     × IsRecordFront front (Second page_size limit) options count queues × (length queues ≡ count)
     × (bytes ≡ front ++ spelled (limit_fields other)) × (other < 2 ^ 64) × (other ≢ limit)
 
--- what was read where nothing is restored, by the page size and the limit that a record has to go with
+-- what was read if nothing is restored, by the page size and the limit that a record has to go with
 abbrev pub RefusesRecord : List ℕ → (page_size limit : ℕ) → RestoreError → Type 0
 RefusesRecord bytes page_size limit Truncated = EndsWithin bytes page_size limit
 RefusesRecord bytes page_size limit BadMagic = IsBadHead bytes page_size BadMagic

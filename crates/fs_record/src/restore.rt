@@ -21,7 +21,7 @@ use vm_values::ByteValued;
 // How many queues a device has at most.
 const MAX_QUEUES: u32 = 64;
 
-// Fills a buffer with the next bytes; Truncated where there are too few, ReadFault where the source fails.
+// Fills a buffer with the next bytes; Truncated if there are too few, ReadFault if the source fails.
 fn fill<S: RecordSource>(source: &mut S, buf: &mut [u8]) -> Result<(), RestoreError>
     ensures ok { OnOk result (Consumes (S.left source.old) (S.left source.new) buf.new × (S.failed source.new ≡ S.failed source.old)) }
     ensures err { IfErr result (λ e. (part : List ℕ) × (length part < length buf.old) × Consumes (S.left source.old) (S.left source.new) part
@@ -38,7 +38,7 @@ fn fill<S: RecordSource>(source: &mut S, buf: &mut [u8]) -> Result<(), RestoreEr
     Ok(())
 }
 
-// The value that the next bytes spell; Truncated where there are too few, ReadFault where the source fails.
+// The value that the next bytes spell; Truncated if there are too few, ReadFault if the source fails.
 fn next_value<S: RecordSource, T: ByteValued>(source: &mut S) -> Result<T, RestoreError>
     ensures ok { IfOk result (λ x. Consumes (S.left source.old) (S.left source.new) (spelled (T.fields x)) × AllFit (T.fields x)
         × (S.failed source.new ≡ S.failed source.old)) }
@@ -50,7 +50,7 @@ fn next_value<S: RecordSource, T: ByteValued>(source: &mut S) -> Result<T, Resto
     Ok(T::get_bytes(&buffer[..T::SIZE]))
 }
 
-// The options of a known flag set, or None where another bit is set.
+// The options of a known flag set, or None if another bit is set.
 fn known(bits: u64) -> Option<FsOptions>
     ensures some { IfSome result (λ o. (o.0 ≡ bits) × HasKnownBits bits) }
     ensures none { IfNone result (¬ HasKnownBits bits) }
@@ -67,7 +67,7 @@ struct CheckedHead {
 }
 
 impl RecordHead {
-    // The record's version, or None where it is no known one.
+    // The record's version, or None if it is no known one.
     fn record_version(&self) -> Option<RecordVersion>
         ensures some { IfSome result (λ v. self.now.version ≡ version_number (told_by v 0 0)) }
         ensures none { IfNone result ((self.now.version == 1 || self.now.version == 2) ≡ false) }
@@ -113,7 +113,7 @@ impl RecordHead {
 }
 
 impl SavedQueue {
-    // The queue, or None where these are the numbers of none.
+    // The queue, or None if these are the numbers of none.
     fn queue(&self) -> Option<Queue>
         ensures some { IfSome result (λ q. (self.now ≡ saved q) × IsSavedQueue q) }
         ensures none { IfNone result (is_queue self.now ≡ false) }
@@ -152,7 +152,7 @@ fn read_queue<S: RecordSource>(source: &mut S, index: usize) -> Result<Queue, Re
     saved.queue().ok_or(RestoreError::BadQueue(index))
 }
 
-// Reads what stands behind the queues: in version 2 the limit, which is this one; Mismatch where it is another.
+// Reads what stands behind the queues: in version 2 the limit, which is this one; Mismatch if it is another.
 fn read_end<S: RecordSource>(
     source: &mut S,
     version: RecordVersion,
@@ -179,9 +179,9 @@ fn read_end<S: RecordSource>(
 /// The options and the queues of the record that stands next in a source; no byte behind the record is taken. Version 1
 /// tells no page size and no limit; version 2 tells both, and they have to be these: the bytes of a guest's page, and
 /// the greatest length of a request and of a room, in bytes. A refusal says what stands there instead: Truncated or
-/// ReadFault where the head's 24 bytes can't be had, then BadMagic, BadVersion, BadCount, BadReserved (version 1) or
-/// Mismatch (version 2), BadOptions and OutOfMemory; then for each queue Truncated or ReadFault where its 32 bytes can't
-/// be had, and BadQueue; and last, in version 2, Truncated or ReadFault where the limit's 8 bytes can't be had, and
+/// ReadFault if the head's 24 bytes can't be had, then BadMagic, BadVersion, BadCount, BadReserved (version 1) or
+/// Mismatch (version 2), BadOptions and OutOfMemory; then for each queue Truncated or ReadFault if its 32 bytes can't
+/// be had, and BadQueue; and last, in version 2, Truncated or ReadFault if the limit's 8 bytes can't be had, and
 /// Mismatch.
 pub fn restore_record<S: RecordSource>(
     alloc: Global,

@@ -59,7 +59,7 @@ fn saved(queue: &Queue) -> SavedQueue
 }
 
 /// Puts the record, of version 2, of some options and of 1 to 64 queues, with the bytes of a guest's page and the limit
-/// of requests and of rooms in bytes: a head of 24 bytes, 32 for each queue, and 8. WriteFault where the sink answers an
+/// of requests and of rooms in bytes: a head of 24 bytes, 32 for each queue, and 8. WriteFault if the sink answers an
 /// error or takes nothing: a part of the record went out, and not all of it.
 pub fn save_record<S: RecordSink>(
     sink: &mut S,

@@ -71,7 +71,7 @@ impl<L: Ledger> Share<L> {
         self.count == total
     }
 
-    /// Half of its parts, rounded down, with count 0 and half of its pass; None, changing nothing, where it has one part.
+    /// Half of its parts, rounded down, with count 0 and half of its pass; None, changing nothing, if it has one part.
     pub fn split(&mut self, bitmap: &AtomicBitmap) -> Option<Share<L>>
         requires { IsShareOf bitmap.now self.old }
         ensures half { IfSome result (λ s. s ≡ record { parts = self.old.parts / 2; count = 0; pass = new_pass self.old.pass }) }

@@ -55,7 +55,7 @@ fn push_runs<H: HostBlocks>(
     Ok(())
 }
 
-/// The runs of the bytes of some windows, in their order. AllocError where memory is wanting.
+/// The runs of the bytes of some windows, in their order. AllocError if an allocation fails.
 pub fn page_runs<H: HostBlocks>(
     alloc: Global,
     host: &H,

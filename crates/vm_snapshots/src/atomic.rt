@@ -110,7 +110,7 @@ impl<M: Drop> GuestMemoryLoadGuard<M> {
 
 impl<M: GuestMemory + Drop> GuestMemoryExclusiveGuard<'_, M> {
     /// Puts other memory in the place of the newest snapshot; older ones stay as they are with whoever holds them. An
-    /// error is want of memory: what was handed in comes back, and the newest snapshot stays.
+    /// error is a failed allocation: what was handed in comes back, and the newest snapshot stays.
     pub fn replace<R: Wait>(self, rt: &R, alloc: Global, memory: M) -> Result<(), M>
         ensures { IfErr result (λ m. m ≡ memory) }
     {
