@@ -90,8 +90,9 @@ fn add_return_windows<M: GuestMemory, H: HostBlocks>(
     Ok(None)
 }
 
-// How many bytes the descriptors of one direction have, or 2^64 - 1 where there are more.
-fn count_bytes(descriptors: &[Descriptor], write_only: bool) -> u64
+/// How many bytes the descriptors of a chain have in one direction: those that the device writes, or those that it reads.
+/// The answer is 2^64 - 1 where there are more. A chain with more than its limit in one of them is `OverLimit`.
+pub fn count_bytes(descriptors: &[Descriptor], write_only: bool) -> u64
     ensures { result ≡ min (total_len (of_direction write_only descriptors.now)) (2 ^ 64 - 1) }
 {
     let mut sum = 0u64;
