@@ -5,7 +5,7 @@ use Rattle.vm_memory.specs.Memory.{addresses, stored_all}
 use Rattle.fs_queue.specs.declared.fault.ChainFault.TheVariants as chain_fault
 use Rattle.fs_queue.specs.declared.fault.QueueError.TheVariants as queue_error
 use Rattle.fs_queue.specs.Taking.{Offers, Refuses, IsRequest, CannotFetch}
-use Rattle.fs_queue.specs.Loads.{Load, found_by}
+use Rattle.fs_queue.specs.Loads.{Load, found_exactly}
 use Rattle.fs_queue.specs.Returning.{Store}
 use Rattle.server_replies.specs.WholeReplies.{error_bytes}
 use Rattle.virtiofsd_fuse.specs.Examples.{le16, le32}
@@ -26,22 +26,22 @@ loads = loads_with (entry 0 (descriptor_bytes 0x1000 40 1 1) ∷ entry 16 (descr
 
 -- the memory that has the places holds none of these bytes
 offered : offered_by blank 0x101000 queue loads ≡ Some (Offers 0 (IsRequest request (addresses 0x2000 16)))
-unfolding place addresses stored_all found_by
+unfolding place addresses stored_all found_exactly
 offered = refl
 
--- entries that change while they are walked: the first was loaded with another next the second time
-changing : offered_by blank 0x101000 queue (loads_with (entry 0 (descriptor_bytes 0x1000 40 1 0) ∷ entry 0 (descriptor_bytes 0x1000 40 1 4) ∷ [])) ≡ Some (Offers 0 (CannotFetch chain_fault.NextOutOfTable))
-unfolding place addresses stored_all found_by
+-- entries that change while they are walked: the first was loaded with another next the second time; no request is loaded then
+changing : offered_by blank 0x101000 queue (record { index = Some (le16 1); entry = Some (le16 0); entries = entry 0 (descriptor_bytes 0x1000 40 1 0) ∷ entry 0 (descriptor_bytes 0x1000 40 1 4) ∷ []; request = [] }) ≡ Some (Offers 0 (CannotFetch chain_fault.NextOutOfTable))
+unfolding place addresses stored_all found_exactly
 changing = refl
 
 -- too few loads tell nothing
 cut_short : offered_by blank 0x101000 queue (loads_with (entry 0 (descriptor_bytes 0x1000 40 1 1) ∷ [])) ≡ None
-unfolding place addresses stored_all found_by
+unfolding place addresses stored_all found_exactly
 cut_short = refl
 
--- an index that is too far ahead
-too_far : offered_by blank 0x101000 queue (record loads { index = Some (le16 5) }) ≡ Some (Refuses queue_error.AvailTooFar)
-unfolding place addresses stored_all found_by
+-- an index that is too far ahead, after which nothing is loaded
+too_far : offered_by blank 0x101000 queue (record { index = Some (le16 5); entry = None; entries = []; request = [] }) ≡ Some (Refuses queue_error.AvailTooFar)
+unfolding place addresses stored_all found_exactly
 too_far = refl
 
 -- a reply of 4 bytes of which 2 are stored last: the data, the header, the element's halves, the index

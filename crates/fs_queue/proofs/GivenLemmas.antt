@@ -16,17 +16,12 @@ use Rattle.fs_queue.specs.Chain.{entry_address}
 use Rattle.fs_queue.specs.Loads.{Load, Ahead, Reads, Ends, step_by, ahead_at, ahead_after, found_by, IsEntryOf, AreEntriesOf}
 use Rattle.fs_queue.specs.Stepping.{joining, visit_of, load_of, steps_left, IfWants}
 use Rattle.fs_queue.proofs.WalkLemmas.{prepend, prepend-push, prepend-chain, prepend-fault, prepend-stop}
-use Rattle.fs_queue.proofs.StillLemmas.{still}
+use Rattle.fs_queue.proofs.StillLemmas.{ended, still}
 
 -- the chain so far, with the descriptor that joins it
 abbrev pub with_joining : List Descriptor → Option Descriptor → List Descriptor
 with_joining ds None = ds
 with_joining ds (Some d) = ds ++ d ∷ []
-
-ended : (size : ℕ) (ls : List Load) (f : Found) → found_by size ls (Ends f) ≡ Some f
-unfolding found_by
-ended size [] f = refl
-ended size (l ∷ ls) f = refl
 
 pushed : (ds : List Descriptor) (d : Descriptor) (o : Option Found) → option_map (prepend (ds ++ d ∷ [])) o ≡ option_map (prepend ds) (option_map (with_front d) o)
 pushed ds d None = refl

@@ -13,4 +13,5 @@ pub mod StillLemmas
 pub mod GivenLemmas
 pub mod RingLemmas
 pub mod OfferByLemmas
+pub mod ConfinedLemmas
 pub mod AnyLoadLemmas

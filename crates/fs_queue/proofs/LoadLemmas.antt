@@ -47,7 +47,7 @@ bytes_with a bs some fits =
     ∙ bytes_in-span (memory_with a (Some bs)).host 0 (length bs) 0 None (record { bytes = bs; marks = [] }) refl (omega arith)
     ∙ take_all (length bs) bs (omega arith)
 
--- where nothing is, nothing can be read
+-- if nothing is, nothing can be read
 pub reach_none : (a n : ℕ) → reach (memory_with a None) Read a (suc n) ≡ false
 unfolding addresses place
 reach_none a n = grind arith

@@ -72,7 +72,7 @@ lack_two m q None flags rest e = refl
 lack_two m q (Some used) None rest e = refl
 lack_two m q (Some used) (Some flags) rest e = e
 
--- once a head was found memory may be wanting
+-- once a head was found an allocation may fail
 pub lacks_memory : (m : Memory) (limit : ℕ) (l : QueueLayout) (position at : ℕ) → avail.Head at ≡ next_avail m (at_position l position) →
     IsTrue (may_lack_memory m (at_position l position) (offer m limit (at_position l position)))
 lacks_memory m limit l position at e =

@@ -25,7 +25,7 @@ pub have_read : (m : Memory) (a n : ℕ) (new : List ℕ) (r : Result Bool Alloc
 have_read m a n new (Ok found) fits h = λ all. h all ∙ ap (map (byte m)) (circular-is n a fits)
 have_read m a n new (Err e) fits h = tt
 
--- memory is wanting only where a range can't be translated
+-- an allocation is made, and may fail, only if a range can't be translated
 pub wanting : (m : Memory) (a n : ℕ) (r : Result Bool AllocError) → a + n < 2 ^ 64 → Checks m Read a n r → OnErr r (IsUnmapped m a n)
 wanting m a n (Ok found) fits h = tt
 wanting m a n (Err e) fits h = (

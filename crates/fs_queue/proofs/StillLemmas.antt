@@ -1,16 +1,18 @@
 -- a walk by loads, beside a walk in a memory
-use Rattle.std.proofs.Common.{◌≡◌, ℕ, Bool, true, false, zero, suc, ◌+◌, ◌-◌, ◌<◌, ◌≤◌, List, [], ◌∷◌, length, Option, Some, None, refl, ap, sym, ◌∙◌, arith}
-use Rattle.std.specs.Prelude.{if◌then◌else◌, nat_le, ◌==◌, option_map}
+use Rattle.std.proofs.Common.{◌≡◌, ℕ, Bool, true, false, zero, suc, ◌+◌, ◌-◌, ◌<◌, ◌≤◌, List, [], ◌∷◌, ◌++◌, length, Option, Some, None, refl, ap, sym, ◌∙◌, arith, append-nil}
+use Rattle.std.specs.Prelude.{if◌then◌else◌, nat_le, ◌==◌, ◌&&◌, option_map}
 use Rattle.std.proofs.lemmas.Bool.{eqb-true, eq-eqb, ltb-true}
 use Rattle.std.proofs.lemmas.Bool.Decides.{nat_tests}
 use Rattle.vm_iotlb.specs.declared.permissions.Permissions.TheVariants.{Read}
 use Rattle.vm_memory.specs.Memory.{Memory, bytes, reach}
 use Rattle.fs_queue.specs.declared.fault.ChainFault.TheVariants.{NextOutOfTable}
-use Rattle.fs_queue.specs.Chain.{Visit, WalkStep, Ordinary, Table, Faulty, Stops, walk_step, next_visit, onward, path, first_visit, after_walk_step, Found, IsChain, found}
+use Rattle.fs_queue.specs.Queue.{Queue}
+use Rattle.fs_queue.specs.Chain.{Visit, WalkStep, Ordinary, Table, Faulty, Stops, walk_step, next_visit, onward, path, first_visit, after_walk_step, Found, IsChain, found, chain}
 use Rattle.fs_queue.specs.Chain.{entry_address}
-use Rattle.fs_queue.specs.Loads.{Load, Ahead, Reads, Ends, holding, reads_entry, step_by, ahead_at, ahead_after, ahead_of_next, end_of, found_by, IsEntryOf, AreEntriesOf, Still, Finds, Confined, AreEntriesInTurn, found_in_turn, InTurn}
+use Rattle.fs_queue.specs.Loads.{Load, Ahead, Reads, Ends, holding, reads_entry, step_by, ahead_at, ahead_after, ahead_of_next, end_of, found_by, is_whole, found_exactly, chain_exactly, IsEntryOf, AreEntriesOf, Still, LeavesTheRest, Finds, Confined, AreEntriesInTurn, found_in_turn, InTurn}
 use Rattle.fs_queue.proofs.WalkLemmas.{found_step, tables_left}
 use Rattle.fs_queue.proofs.BoundLemmas.{walks_end, steps_left, Falls, falls, allowed}
+use Rattle.fs_queue.proofs.ReadLemmas.{length-bytes}
 use Rattle.fs_queue.proofs.LoadLemmas.{step_still}
 
 -- what is found ahead in a memory, by at most n steps
@@ -98,35 +100,79 @@ still m q head ls f are e =
     ∙ sym (at_found m q.size n (first_visit q head))
     ∙ ap (found m q.size) (walks_end m q head (suc n) (omega arith))
 
--- some loads that find what a memory has, and what a walk finds by them
-record HasLoads (m : Memory) (size : ℕ) (a : Ahead) (f : Found) : Type 0 where
-  loads : List Load
-  are : AreEntriesOf m loads
-  finds : found_by size loads a ≡ Some f
+-- just the loads of a walk, with more behind them
+pub ended : (size : ℕ) (ls : List Load) (f : Found) → found_by size ls (Ends f) ≡ Some f
+unfolding found_by
+ended size [] f = refl
+ended size (l ∷ ls) f = refl
+
+exact_step : (g : Found → Found) (x y : Option Found) (f : Found) (a b : Bool) → ((h : Found) → x ≡ Some h → y ≡ Some h) →
+    (if a && b then option_map g x else None) ≡ Some f → (if a then option_map g y else None) ≡ Some f
+exact_step g x y f false b more e = absurd (cc)
+exact_step g x y f true false more e = absurd (cc)
+exact_step g x y f true true more e = let got = mapped g x f e in ap (option_map g) (more got.0 got.1) ∙ ap Some got.2
+
+exact_from : (size : ℕ) (ls more : List Load) (a : Ahead) (f : Found) → found_exactly size ls a ≡ Some f → found_by size (ls ++ more) a ≡ Some f
+unfolding found_by found_exactly
+exact_from size [] more (Ends g) f e = ended size more g ∙ e
+exact_from size [] more (Reads v) f e = absurd (cc)
+exact_from size (l ∷ ls) more (Ends g) f e = absurd (cc)
+exact_from size (l ∷ ls) more (Reads v) f e =
+    let w = step_by size v l in
+    exact_step (after_walk_step w) (found_exactly size ls (ahead_after size v w)) (found_by size (ls ++ more) (ahead_after size v w)) f (l.address == entry_address v) (is_whole 16 l.came)
+    (λ h is. exact_from size ls more (ahead_after size v w) h is) e
+
+pub leaves_the_rest : LeavesTheRest
+leaves_the_rest q head ls more f e = exact_from q.size ls more (ahead_at q.size (first_visit q head)) f e
+
+-- just the loads that a memory has
+pub still_exactly : (m : Memory) (q : Queue) (head : ℕ) (ls : List Load) (f : Found) → AreEntriesOf m ls → chain_exactly ls q head ≡ Some f → f ≡ chain m q head
+still_exactly m q head ls f are e =
+    still m q head ls f are (ap (λ (x : List Load). found_by q.size x (ahead_at q.size (first_visit q head))) (sym (append-nil ls)) ∙ leaves_the_rest q head ls [] f e)
+
+-- some loads that find what a memory has, and what a walk finds by just them
+pub record HasLoads (m : Memory) (size : ℕ) (a : Ahead) (f : Found) : Type 0 where
+  pub loads : List Load
+  pub are : AreEntriesOf m loads
+  pub finds : found_exactly size loads a ≡ Some f
 
 finds_next : (m : Memory) (size k : ℕ) (w : WalkStep) (o : Option Visit) → Falls size (suc k) o →
     ((u : Visit) → u.earlier ≤ size → steps_left size u ≤ k → HasLoads m size (ahead_at size u) (found m size (path m size k u))) →
     (g : Found) × HasLoads m size (ahead_of_next size w o) g × (after_walk_step w g ≡ after_walk_step w (found m size (onward (path m size k) o)))
-unfolding found found_by
+unfolding found found_exactly
 finds_next m size k w None falls more = (end_of w, record { loads = []; are = tt; finds = refl }, sym (end_found w))
 finds_next m size k w (Some u) falls more = let fewer = falls.0 in (found m size (path m size k u), more u falls.1 (omega (arith, fewer)), refl)
 
 abbrev entry_in : Memory → Visit → Load
 entry_in m v = record { address = entry_address v; came = if reach m Read (entry_address v) 16 then Some (bytes m (entry_address v) 16) else None }
 
-finds_one : (m : Memory) (size k : ℕ) (v : Visit) (w : WalkStep) (g f : Found) (ls : List Load) → w ≡ step_by size v (entry_in m v) → found_by size ls (ahead_after size v w) ≡ Some g →
-    after_walk_step w g ≡ f → found_by size (entry_in m v ∷ ls) (Reads v) ≡ Some f
-unfolding found_by
+-- what a memory has is as long as it was asked for
+pub whole_in : (m : Memory) (a n : ℕ) → is_whole n (if reach m Read a n then Some (bytes m a n) else None) ≡ true
+whole_in m a n = by_reach (reach m Read a n)
+  where
+    by_reach : (b : Bool) → is_whole n (if b then Some (bytes m a n) else None) ≡ true
+    by_reach true = eq-eqb (length (bytes m a n)) n (length-bytes m a n)
+    by_reach false = refl
+
+true_and : (a b : Bool) → a ≡ true → b ≡ true → (a && b) ≡ true
+true_and true true p q = refl
+true_and true false p q = q
+true_and false b p q = p
+
+finds_one : (m : Memory) (size k : ℕ) (v : Visit) (w : WalkStep) (g f : Found) (ls : List Load) → w ≡ step_by size v (entry_in m v) → found_exactly size ls (ahead_after size v w) ≡ Some g →
+    after_walk_step w g ≡ f → found_exactly size (entry_in m v ∷ ls) (Reads v) ≡ Some f
+unfolding found_exactly
 finds_one m size k v w g f ls is rest e =
-    let at : (entry_address v == entry_address v) ≡ true = eq-eqb (entry_address v) (entry_address v) refl in
-    rw at (ap (λ (x : WalkStep). option_map (after_walk_step x) (found_by size ls (ahead_after size v x))) (sym is) ∙ ap (option_map (after_walk_step w)) rest ∙ ap Some e)
+    let at : ((entry_address v == entry_address v) && is_whole 16 (entry_in m v).came) ≡ true =
+    true_and (entry_address v == entry_address v) (is_whole 16 (entry_in m v).came) (eq-eqb (entry_address v) (entry_address v) refl) (whole_in m (entry_address v) 16) in
+    rw at (ap (λ (x : WalkStep). option_map (after_walk_step x) (found_exactly size ls (ahead_after size v x))) (sym is) ∙ ap (option_map (after_walk_step w)) rest ∙ ap Some e)
 
 falls_from : (size n k : ℕ) (o : Option Visit) → n ≤ k → Falls size n o → Falls size k o
 falls_from size n k None le h = tt
 falls_from size n k (Some u) le h = let fewer = h.0 in (omega (arith, fewer, le), h.1)
 
-finds_from : (m : Memory) (size n : ℕ) (v : Visit) → v.earlier ≤ size → steps_left size v ≤ n → HasLoads m size (ahead_at size v) (found m size (path m size n v))
-unfolding found_by
+pub finds_from : (m : Memory) (size n : ℕ) (v : Visit) → v.earlier ≤ size → steps_left size v ≤ n → HasLoads m size (ahead_at size v) (found m size (path m size n v))
+unfolding found_exactly
 finds_from m size zero v few le = absurd (none v.table.indirect le)
   where
     none : (b : Bool) → size - v.earlier + tables_left b ≤ 0 → ⊥

@@ -148,7 +148,7 @@ pub after-none : (o : Option (List Place)) → after [] o ≡ o
 after-none None = refl
 after-none (Some ps) = refl
 
--- its beginning, where no range was begun
+-- its beginning, if no range was begun
 pub direction_begun : (f : Where) (xs : List ℕ) → after [] (located f (addresses 0 0 ++ xs)) ≡ located f xs
 unfolding addresses
 direction_begun f xs = after-none (located f xs)

@@ -1,10 +1,10 @@
 -- What holds of a walk whatever its loads find, as a guest that writes meanwhile may have it (VIRTIO 1.2, 2.7.5).
-use Rattle.std.specs.Prelude.{◌≡◌, ◌⊎◌, ℕ, ◌+◌, ◌<◌, ◌≤◌, List, [], ◌∷◌, ◌++◌, length, map, Option, Some}
+use Rattle.std.specs.Prelude.{◌≡◌, ◌⊎◌, ℕ, ◌+◌, ◌<◌, ◌≤◌, List, [], ◌∷◌, ◌++◌, length, map, Option, Some, if◌then◌else◌}
 use Rattle.fs_queue.specs.declared.fault.ChainFault.TheVariants.{NextOutOfTable}
 use Rattle.fs_queue.specs.Queue.{Queue}
-use Rattle.fs_queue.specs.Chain.{Visit, WalkStep, Faulty, Stops, first_visit, Found, IsChain, HasFault, StopsQueue}
+use Rattle.fs_queue.specs.Chain.{Descriptor, Visit, WalkStep, Ordinary, Table, Faulty, Stops, next_visit, onward, first_visit, Found, IsChain, HasFault, StopsQueue}
 use Rattle.fs_queue.specs.Chain.{entry_address}
-use Rattle.fs_queue.specs.Loads.{Load, Ahead, Reads, Ends, step_by, ahead_at, ahead_after, chain_by}
+use Rattle.fs_queue.specs.Loads.{Load, Ahead, Reads, Ends, reads_entry, step_by, ahead_at, ahead_after, chain_by}
 
 -- what lies before the walk from a head
 abbrev pub ahead_of_head : Queue → ℕ → Ahead
@@ -30,25 +30,55 @@ LoadsEnd =
     (q : Queue) (head : ℕ) (came : List (Option (List ℕ))) → q.size + 2 ≤ length came →
     (f : Found) × (chain_by (loads_by q.size came (ahead_of_head q head)) q head ≡ Some f)
 
--- a step came to this by one of some loads
-pub record ReadIn (size : ℕ) (ls : List Load) (w : WalkStep) : Type 0 where
-  pub front : List Load
+-- the steps of a walk by some loads, from one on: each reads its entry by the next load, but for a last one past its table's end, which is at fault unread
+unfoldable pub steps_by : (size : ℕ) → List Load → Visit → List Visit
+steps_by size [] v = if reads_entry v then [] else v ∷ []
+steps_by size (l ∷ ls) v = v ∷ (if reads_entry v then onward (steps_by size ls) (next_visit v (step_by size v l)) else [])
+
+-- the descriptor that joins a chain by a step
+abbrev pub joined : WalkStep → List Descriptor
+joined (Ordinary d) = d ∷ []
+joined (Table table) = []
+joined (Faulty fault) = []
+joined Stops = []
+
+-- those that some loads tell, the k-th load at the k-th step, in their order
+abbrev pub joined_by : (size : ℕ) → List Visit → List Load → List Descriptor
+joined_by size [] ls = []
+joined_by size (v ∷ vs) [] = []
+joined_by size (v ∷ vs) (l ∷ ls) = joined (step_by size v l) ++ joined_by size vs ls
+
+-- the last step of a walk by some loads
+pub record LastStep (size : ℕ) (ls : List Load) (first : Visit) : Type 0 where
+  pub front : List Visit
+  pub last : Visit
+  pub steps : steps_by size ls first ≡ front ++ last ∷ []
+
+-- it came to this by the load that stands at the step's place, which is of the step's entry
+pub record ReadIn (size : ℕ) (ls : List Load) (first : Visit) (w : WalkStep) : Type 0 where
+  pub step : LastStep size ls first
+  pub before : List Load
   pub load : Load
   pub rest : List Load
-  pub among : ls ≡ front ++ load ∷ rest
-  pub step : Visit
-  pub entry : load.address ≡ entry_address step
-  pub tells : step_by size step load ≡ w
+  pub loads : ls ≡ before ++ load ∷ rest
+  pub place : length before ≡ length step.front
+  pub entry : load.address ≡ entry_address step.last
+  pub tells : step_by size step.last load ≡ w
 
--- a fault is told by the bytes of one of the loads, unless it is an entry past its table's end, which isn't loaded; a stop by a load that found no place
-abbrev pub IsReadIn : (size : ℕ) → List Load → Found → Type 0
-IsReadIn size ls (IsChain ds) = Unit {0}
-IsReadIn size ls (HasFault fault) = ReadIn size ls (Faulty fault) ⊎ (fault ≡ NextOutOfTable)
-IsReadIn size ls StopsQueue = ReadIn size ls Stops
+-- it is past its table's end, where nothing is loaded
+pub record PastTable (size : ℕ) (ls : List Load) (first : Visit) : Type 0 where
+  pub step : LastStep size ls first
+  pub past : step.last.table.entries ≤ step.last.index
+
+-- a chain is told by the bytes of the loads for its steps; a fault by those of the load for the walk's last step, unless that is past its table's end; a stop by a load for it that found no place
+abbrev pub IsReadIn : (size : ℕ) → List Load → (first : Visit) → Found → Type 0
+IsReadIn size ls first (IsChain ds) = ds ≡ joined_by size (steps_by size ls first) ls
+IsReadIn size ls first (HasFault fault) = ReadIn size ls first (Faulty fault) ⊎ ((fault ≡ NextOutOfTable) × PastTable size ls first)
+IsReadIn size ls first StopsQueue = ReadIn size ls first Stops
 
 -- so is what a walk by any loads finds
 abbrev pub EndsAreRead : Type 0
-EndsAreRead = (q : Queue) (head : ℕ) (ls : List Load) (f : Found) → chain_by ls q head ≡ Some f → IsReadIn q.size ls f
+EndsAreRead = (q : Queue) (head : ℕ) (ls : List Load) (f : Found) → chain_by ls q head ≡ Some f → IsReadIn q.size ls (first_visit q head) f
 
 -- the steps of a walk by some loads whose entries were loaded
 unfoldable pub visits_by : (size : ℕ) → List Load → Ahead → List Visit

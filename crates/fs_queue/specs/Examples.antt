@@ -40,7 +40,7 @@ queue = record { size = 1; desc = 0; avail = 0x10; used = 0x18; position = 0; st
 abbrev gives : List IotlbRange → Offer
 gives ranges = offer (memory ranges) 0x1000 queue
 
--- whether taking what it offers may be refused for want of memory
+-- whether taking what it offers may be refused since an allocation fails
 abbrev may_lack : List IotlbRange → Bool
 may_lack ranges = may_lack_memory (memory ranges) queue (gives ranges)
 
@@ -68,7 +68,7 @@ entry_nowhere : gives entry_elsewhere ≡ Refuses stop.RingEntryUnreachable
 unfolding offer place addresses table_kept path found
 entry_nowhere = refl
 
--- but nothing is wanted to say so
+-- but no memory is needed to say so
 entry_nowhere_takes : may_lack entry_elsewhere ≡ false
 unfolding offer place addresses table_kept path found may_all
 entry_nowhere_takes = refl

@@ -1,16 +1,17 @@
 -- Worked walks by loads that compute: a queue of four descriptors whose table begins at 0.
-use Rattle.std.specs.Prelude.{◌≡◌, ◌+◌, ℕ, true, List, [], ◌∷◌, length, map, Some, None, refl}
+use Rattle.std.specs.Prelude.{◌≡◌, ◌+◌, ℕ, true, List, [], ◌∷◌, ◌++◌, length, map, Some, None, refl}
 use Rattle.vm_memory.specs.Layout.{place}
 use Rattle.vm_memory.specs.Memory.{Memory, memory_of, addresses}
-use Rattle.fs_queue.specs.declared.fault.ChainFault.TheVariants.{NextOutOfTable}
-use Rattle.fs_queue.specs.Queue.{Queue, fresh}
-use Rattle.fs_queue.specs.NextAvail.{Idle, Head, next_avail}
-use Rattle.fs_queue.specs.declared.fault.QueueError.TheVariants.{AvailIndexUnreachable}
-use Rattle.fs_queue.specs.Taking.{Offers, Refuses, IsRequest}
+use Rattle.fs_queue.specs.declared.fault.ChainFault.TheVariants.{NextOutOfTable, OverLimit}
+use Rattle.fs_queue.specs.Queue.{Queue, fresh, with_stop}
+use Rattle.fs_queue.specs.NextAvail.{Head, next_avail}
+use Rattle.fs_queue.specs.NextAvail as avail
+use Rattle.fs_queue.specs.declared.fault.QueueError.TheVariants.{AvailIndexUnreachable, Stopped}
+use Rattle.fs_queue.specs.Taking.{Idle, Offers, Refuses, IsRequest, CannotFetch}
 use Rattle.fs_queue.specs.OfferLoads.{offer_by}
-use Rattle.fs_queue.specs.AnyLoads.{ahead_of_head, loads_by, visits_by}
-use Rattle.fs_queue.specs.Chain.{Visit, IsChain, HasFault, StopsQueue}
-use Rattle.fs_queue.specs.Loads.{Load, holding, chain_by, found_by, asks_entry, index_load, entry_load}
+use Rattle.fs_queue.specs.AnyLoads.{ahead_of_head, loads_by, steps_by, visits_by}
+use Rattle.fs_queue.specs.Chain.{Visit, first_visit, IsChain, HasFault, StopsQueue}
+use Rattle.fs_queue.specs.Loads.{Load, holding, chain_by, found_by, found_exactly, asks_entry, index_load, entry_load}
 
 abbrev queue : Queue
 queue = fresh 4 0 0x50 0x60
@@ -57,7 +58,7 @@ entry_tells : next_avail (holding (index_load queue (Some (1 ∷ 0 ∷ [])) ∷ 
 unfolding place addresses
 entry_tells = refl
 
-nothing_waits : next_avail (holding (index_load queue (Some (0 ∷ 0 ∷ [])) ∷ [])) queue ≡ Idle
+nothing_waits : next_avail (holding (index_load queue (Some (0 ∷ 0 ∷ [])) ∷ [])) queue ≡ avail.Idle
 unfolding place addresses
 nothing_waits = refl
 
@@ -80,12 +81,54 @@ two_visits = refl
 abbrev everywhere : Memory
 everywhere = memory_of (record { blocks = []; tables = []; io_marks = [] }) (record { start = 0; size = 0x100; block = 0 } ∷ [])
 
+-- the loads of a chain of one descriptor: entry 2, which names four bytes
+abbrev one_entry : List Load
+one_entry = loaded 0x20 (entry 0 0 0) ∷ []
+
 -- a request of four bytes is offered as it was loaded
-offered : offer_by everywhere 0x1000 queue (Some (1 ∷ 0 ∷ [])) (Some (2 ∷ 0 ∷ [])) (loaded 0x20 (entry 0 0 0) ∷ []) (9 ∷ 8 ∷ 7 ∷ 6 ∷ []) ≡ Some (Offers 2 (IsRequest (9 ∷ 8 ∷ 7 ∷ 6 ∷ []) []))
-unfolding place addresses found_by
+offered : offer_by everywhere 0x1000 queue (Some (1 ∷ 0 ∷ [])) (Some (2 ∷ 0 ∷ [])) one_entry (9 ∷ 8 ∷ 7 ∷ 6 ∷ []) ≡ Some (Offers 2 (IsRequest (9 ∷ 8 ∷ 7 ∷ 6 ∷ []) []))
+unfolding place addresses found_exactly
 offered = refl
+
+-- an index of four bytes is no load of a ring
+index_too_long : offer_by everywhere 0x1000 queue (Some (1 ∷ 0 ∷ 0 ∷ 0 ∷ [])) (Some (2 ∷ 0 ∷ [])) one_entry (9 ∷ 8 ∷ 7 ∷ 6 ∷ []) ≡ None
+unfolding place addresses
+index_too_long = refl
+
+-- nor is an entry of fewer than 16 bytes one of a table
+entry_too_short : offer_by everywhere 0x1000 queue (Some (1 ∷ 0 ∷ [])) (Some (2 ∷ 0 ∷ [])) (loaded 0x20 (9 ∷ 8 ∷ 7 ∷ 6 ∷ []) ∷ []) (9 ∷ 8 ∷ 7 ∷ 6 ∷ []) ≡ None
+unfolding place addresses found_exactly
+entry_too_short = refl
+
+-- the walk asks for no load behind its end
+one_too_many : offer_by everywhere 0x1000 queue (Some (1 ∷ 0 ∷ [])) (Some (2 ∷ 0 ∷ [])) (one_entry ++ one_entry) (9 ∷ 8 ∷ 7 ∷ 6 ∷ []) ≡ None
+unfolding place addresses found_exactly
+one_too_many = refl
+
+-- nor for the ring's entry where nothing waits
+unasked : offer_by everywhere 0x1000 queue (Some (0 ∷ 0 ∷ [])) (Some (2 ∷ 0 ∷ [])) [] [] ≡ None
+unfolding place addresses
+unasked = refl
+
+idle : offer_by everywhere 0x1000 queue (Some (0 ∷ 0 ∷ [])) None [] [] ≡ Some Idle
+unfolding place addresses
+idle = refl
+
+-- a request of more than the limit isn't loaded
+over_limit : offer_by everywhere 3 queue (Some (1 ∷ 0 ∷ [])) (Some (2 ∷ 0 ∷ [])) one_entry [] ≡ Some (Offers 2 (CannotFetch OverLimit))
+unfolding place addresses found_exactly
+over_limit = refl
+
+-- a stopped queue makes no load
+stopped : offer_by everywhere 0x1000 (with_stop queue) None None [] [] ≡ Some (Refuses Stopped)
+stopped = refl
 
 -- an index without a place is refused before all else
 index_lost : offer_by everywhere 0x1000 queue None None [] [] ≡ Some (Refuses AvailIndexUnreachable)
 unfolding place addresses
 index_lost = refl
+
+-- the steps of a walk: the last one, past the table's end, is loaded by none of them
+steps_past : map (λ (v : Visit). v.index) (steps_by 4 (loaded 0x20 (entry 0 1 4) ∷ loaded 0x40 (entry 0 0 0) ∷ []) (first_visit queue 2)) ≡ 2 ∷ 4 ∷ []
+unfolding place addresses steps_by
+steps_past = refl

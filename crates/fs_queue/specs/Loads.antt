@@ -1,5 +1,5 @@
 -- A walk through a chain whose entries come by loads, each of which may find another memory than the one before (VIRTIO 1.2, 2.7.5).
-use Rattle.std.specs.Prelude.{◌≡◌, ℕ, ◌+◌, ◌==◌, Bool, true, false, nat_lt, List, [], ◌∷◌, ◌++◌, length, map, Option, Some, None, option_map, unwrap_or, if◌then◌else◌}
+use Rattle.std.specs.Prelude.{◌≡◌, ℕ, ◌+◌, ◌==◌, ◌&&◌, Bool, true, false, nat_lt, List, [], ◌∷◌, ◌++◌, length, map, Option, Some, None, option_map, unwrap_or, if◌then◌else◌}
 use Rattle.vm_iotlb.specs.declared.permissions.Permissions.TheVariants.{Read}
 use Rattle.vm_memory.specs.Layout.{Region}
 use Rattle.vm_memory.specs.Memory.{Memory, memory_of, bytes, reach}
@@ -58,7 +58,7 @@ ahead_of_next size w (Some v) = ahead_at size v
 abbrev pub ahead_after : (size : ℕ) → Visit → WalkStep → Ahead
 ahead_after size v w = ahead_of_next size w (next_visit v w)
 
--- what a walk finds by some loads, of which it may leave the last; nothing where they end before it does, or one isn't what it asks for
+-- what a walk finds by some loads, of which it may leave the last; nothing if they end before it does, or one isn't what it asks for
 unfoldable pub found_by : (size : ℕ) → List Load → Ahead → Option Found
 found_by size [] (Ends found) = Some found
 found_by size [] (Reads v) = None
@@ -69,6 +69,27 @@ found_by size (l ∷ ls) (Reads v) =
 -- the walk from a head, by loads
 abbrev pub chain_by : List Load → Queue → ℕ → Option Found
 chain_by ls q head = found_by q.size ls (ahead_at q.size (first_visit q head))
+
+-- whether so many bytes came, or none did as one of their addresses has no place
+abbrev pub is_whole : (n : ℕ) → Option (List ℕ) → Bool
+is_whole n None = true
+is_whole n (Some bs) = length bs == n
+
+-- what a walk finds by just the loads that it asks for, each of the 16 bytes of an entry: nothing where one is missing, one more was made, or one has another address or length
+unfoldable pub found_exactly : (size : ℕ) → List Load → Ahead → Option Found
+found_exactly size [] (Ends found) = Some found
+found_exactly size [] (Reads v) = None
+found_exactly size (l ∷ ls) (Ends found) = None
+found_exactly size (l ∷ ls) (Reads v) =
+    if l.address == entry_address v && is_whole 16 l.came then option_map (after_walk_step (step_by size v l)) (found_exactly size ls (ahead_after size v (step_by size v l))) else None
+
+-- the walk from a head, by just its loads
+abbrev pub chain_exactly : List Load → Queue → ℕ → Option Found
+chain_exactly ls q head = found_exactly q.size ls (ahead_at q.size (first_visit q head))
+
+-- a walk that ends by just its loads also ends so where more were made after them
+abbrev pub LeavesTheRest : Type 0
+LeavesTheRest = (q : Queue) (head : ℕ) (ls more : List Load) (f : Found) → chain_exactly ls q head ≡ Some f → chain_by (ls ++ more) q head ≡ Some f
 
 -- a load of n bytes that found what a memory has there
 abbrev pub IsLoadOf : Memory → (n : ℕ) → Load → Type 0
@@ -92,6 +113,18 @@ abbrev pub Confined : Type 0
 Confined =
     (m n : Memory) (q : Queue) (head : ℕ) (ls : List Load) (f : Found) → AreEntriesOf m ls → AreEntriesOf n ls → chain_by ls q head ≡ Some f → chain m q head ≡ chain n q head
 
+-- how far some loads bring a walk, each just what it asks for: what lies ahead after them, as where a walk is cut off for want of memory
+unfoldable pub ahead_by : (size : ℕ) → List Load → Ahead → Option Ahead
+ahead_by size [] a = Some a
+ahead_by size (l ∷ ls) (Ends found) = None
+ahead_by size (l ∷ ls) (Reads v) = if l.address == entry_address v && is_whole 16 l.came then ahead_by size ls (ahead_after size v (step_by size v l)) else None
+
+-- where each load of a walk that is cut off found what a memory has, they are the first of those by which it finds the memory's chain
+abbrev pub CutOffIsStill : Type 0
+CutOffIsStill =
+    (m : Memory) (q : Queue) (head : ℕ) (ls : List Load) (a : Ahead) → AreEntriesOf m ls → ahead_by q.size ls (ahead_at q.size (first_visit q head)) ≡ Some a →
+    (more : List Load) × AreEntriesOf m more × (chain_exactly (ls ++ more) q head ≡ Some (chain m q head))
+
 -- the k-th load found what the k-th memory has
 abbrev pub AreEntriesInTurn : List Memory → List Load → Type 0
 AreEntriesInTurn ms [] = Unit {0}
@@ -110,9 +143,9 @@ abbrev pub InTurn : Type 0
 InTurn = (ms : List Memory) (q : Queue) (head : ℕ) (ls : List Load) (f : Found) → AreEntriesInTurn ms ls → chain_by ls q head ≡ Some f →
     found_in_turn q.size ms (ahead_at q.size (first_visit q head)) ≡ Some f
 
--- some loads that find what a memory has bring a walk to its end
+-- some loads that find what a memory has, and no others, bring a walk to its end
 abbrev pub Finds : Type 0
-Finds = (m : Memory) (q : Queue) (head : ℕ) → (ls : List Load) × AreEntriesOf m ls × (chain_by ls q head ≡ Some (chain m q head))
+Finds = (m : Memory) (q : Queue) (head : ℕ) → (ls : List Load) × AreEntriesOf m ls × (chain_exactly ls q head ≡ Some (chain m q head))
 
 -- whether what waits can't be told without the ring's entry, where that wasn't loaded
 abbrev pub asks_entry : NextAvail → Bool

@@ -123,7 +123,7 @@ pub record OrdinaryOverflows (m : Memory) (q : Queue) (v : Visit) : Type 0 where
   pub some : 0 < (entry_of m v).len
   pub past : 2 ^ 64 ≤ (entry_of m v).addr + (entry_of m v).len
 
--- the fault of a step: the first rule that it breaks (2.7.5 and 2.7.5.3.1). An ordinary one is TooLong where as many came before it as the queue has entries, with NEXT or without
+-- the fault of a step: the first rule that it breaks (2.7.5 and 2.7.5.3.1). An ordinary one is TooLong if as many came before it as the queue has entries, with NEXT or without
 abbrev pub StepHasFault : Memory → Queue → Visit → ChainFault → Type 0
 StepHasFault m q v NextOutOfTable = v.table.entries ≤ v.index
 StepHasFault m q v TableUnreachable = EntryIsUnreadable m v × (v.table.indirect ≡ true)

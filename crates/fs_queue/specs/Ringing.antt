@@ -1,6 +1,7 @@
 -- What the values of a walk say of the available ring, by the plain definitions.
-use Rattle.std.specs.Prelude.{◌≡◌, ℕ, List, [], ◌∷◌, Option, if◌then◌else◌}
+use Rattle.std.specs.Prelude.{◌≡◌, ℕ, true, List, [], ◌∷◌, Option, if◌then◌else◌}
 use Rattle.fs_queue.specs.declared.fault.QueueError.{QueueError}
+use Rattle.fs_queue.specs.declared.fault.QueueError.TheVariants.{Stopped}
 use Rattle.fs_queue.specs.declared.layout.QueueLayout.{QueueLayout}
 use Rattle.fs_queue.specs.declared.walk.RingEntryWalk.{RingEntryWalk}
 use Rattle.fs_queue.specs.declared.walk.Walk as code
@@ -42,6 +43,12 @@ stage_of (says.Refused e) = Told (Refused e)
 abbrev pub BeginsAt : QueueLayout → (position : ℕ) → code.Walk → Type 0
 BeginsAt l position (says.Index w) = (w.layout ≡ l) × (w.position ≡ position)
 BeginsAt l position _ = ⊥
+
+-- the walk of a queue: at its position, unless it is stopped
+abbrev pub BeginsWalk : Queue → code.Walk → Type 0
+BeginsWalk q (says.Index w) = at_position w.layout w.position ≡ q
+BeginsWalk q (says.Refused e) = (q.stopped ≡ true) × (e ≡ Stopped)
+BeginsWalk q _ = ⊥
 
 -- where a chain waits, its walk begins
 abbrev pub BeginsChain : QueueLayout → code.Walk → Type 0

@@ -74,7 +74,7 @@ on_next_avail m limit q (avail.Head head) = on_head m limit q head
 unfoldable pub offer : Memory → ℕ → Queue → Offer
 offer m limit q = if q.stopped then Refuses stop.Stopped else on_next_avail m limit q (next_avail m q)
 
--- whether a step may be refused for want of memory: not where the queue is stopped, nor before a head is found unless what is read of the ring isn't mapped throughout
+-- whether a step may be refused since an allocation fails: not where the queue is stopped, nor before a head is found unless what is read of the ring isn't mapped throughout
 abbrev pub may_lack_memory : Memory → Queue → Offer → Bool
 may_lack_memory m q Idle = false
 may_lack_memory m q (Refuses stop.Stopped) = false
@@ -84,7 +84,7 @@ may_lack_memory m q (Refuses stop.RingEntryUnreachable) = not (is_mapped m Read 
 may_lack_memory m q (Refuses stop.HeadOutOfTable) = false
 may_lack_memory m q _ = true
 
--- whether a refusal stops the queue: all but those of a stopped queue and for want of memory do
+-- whether a refusal stops the queue: all but those of a stopped queue and of a failed allocation do
 abbrev pub stops_queue : QueueError → Bool
 stops_queue stop.Stopped = false
 stops_queue stop.OutOfMemory = false

@@ -133,7 +133,7 @@ abbrev pub room_places : Result Chain ChainFault → ℕ
 room_places (Ok c) = length (places c.writable.items)
 room_places (Err fault) = 0
 
--- what taking answers: nothing waits, a chain as it was offered, or a refusal; want of memory only where it may come
+-- what taking answers: nothing waits, a chain as it was offered, or a refusal; a failed allocation only if it may come
 abbrev pub Takes : Memory → ℕ → Queue → Result (Option Taken) QueueError → Type 0
 Takes m limit q (Ok None) = offer m limit q ≡ Idle
 Takes m limit q (Ok (Some t)) = (fetched : RequestAndRoom) × (offer m limit q ≡ Offers t.head fetched) × IsTaken m q fetched t
@@ -146,7 +146,7 @@ taken_if t (Ok true) = Ok (Some t)
 taken_if t (Ok false) = Ok None
 taken_if t (Err e) = Err e
 
--- a stopped queue stays as it was, and so does one that lacked memory; each other refusal stops it
+-- a stopped queue stays as it was, and so does one whose allocation failed; each other refusal stops it
 abbrev pub after_taking : Queue → Result (Option Taken) QueueError → Queue
 after_taking q (Ok o) = q
 after_taking q (Err e) = after_refusal q e

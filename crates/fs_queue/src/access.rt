@@ -1,4 +1,4 @@
-//! Reads and windows of guest memory that want all of a range.
+//! Reads and windows of guest memory that need all of a range.
 
 ghost use Rattle.std.specs.Prelude.{◌≡◌, ◌+◌, ◌<◌, ◌^◌, IsTrue, IfOk, IfSome, OnErr};
 ghost use Rattle.std.specs.Prelude.{length, Some, None, if◌then◌else◌};
@@ -15,8 +15,8 @@ use vm_memory::GuestMemory;
 use vm_memory_core::{GuestAddress, HostBlocks, Permissions, Windows};
 use vm_values::{ByteValued, Le16};
 
-/// Reads a buffer full of bytes from an address on, or answers false where one of them isn't there. Memory is wanting
-/// only where a translation fails.
+/// Reads a buffer full of bytes from an address on, or answers false if one of them isn't there. It allocates
+/// only if a translation fails.
 #[inline(always)]
 pub(crate) fn read<M: GuestMemory, H: HostBlocks>(
     alloc: Global,
@@ -66,8 +66,8 @@ pub(crate) fn whole_bytes<'a, M: GuestMemory, H: HostBlocks>(
     }
 }
 
-/// Adds the windows of `len` addresses from `addr` on, for an access, or answers false where one of them has no place.
-/// An error is want of memory.
+/// Adds the windows of `len` addresses from `addr` on, for an access, or answers false if one of them has no place.
+/// An error is a failed allocation.
 #[inline(always)]
 pub(crate) fn add_windows<M: GuestMemory, H: HostBlocks>(
     alloc: Global,

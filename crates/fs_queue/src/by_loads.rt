@@ -118,7 +118,7 @@ fn bytes_of<'a, M: GuestMemory, H: HostBlocks>(
 }
 
 /// The walk through the chain of a head, whose ordinary descriptors take the place of those that a list has. An error is
-/// want of memory, for a chain of more than eight descriptors or where a translation fails.
+/// a failed allocation, for a chain of more than eight descriptors or if a translation fails.
 #[inline(always)]
 pub(crate) fn walk_chain<M: GuestMemory, H: HostBlocks>(
     alloc: Global,
@@ -167,7 +167,7 @@ fn pair_of(bytes: &[u8], offset: usize) -> [u8; 2]
     pair
 }
 
-// Loads two bytes from host memory. Memory is wanting only where a translation fails.
+// Loads two bytes from host memory. It allocates only if a translation fails.
 #[inline(always)]
 fn load_pair<M: GuestMemory, H: HostBlocks>(
     alloc: Global,
@@ -226,8 +226,8 @@ fn load_from_ring<M: GuestMemory, H: HostBlocks>(
     }
 }
 
-/// What waits at a position of a queue that isn't stopped: the walk as far as the loads of the ring bring it. Memory is
-/// wanting only where a translation fails.
+/// What waits at a position of a queue that isn't stopped: the walk as far as the loads of the ring bring it. It allocates
+/// only if a translation fails.
 #[inline(always)]
 pub(crate) fn walk_ring<M: GuestMemory, H: HostBlocks>(
     alloc: Global,

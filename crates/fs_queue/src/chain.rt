@@ -79,7 +79,7 @@ pub(crate) struct ReturnWindows {
 
 /// A place for a chain that was taken and not yet given back, or its fault, with the windows of its return and the
 /// descriptors that were walked. It is made once, and one chain after another is taken into it; its lists keep the
-/// memory that they grew to, also where a chain is faulty.
+/// memory that they grew to, also if a chain is faulty.
 #[derive(Drop)]
 pub struct Taken {
     pub(crate) head: u16,

@@ -29,8 +29,8 @@ fn ends_past(addr: u64, len: u64) -> bool
 
 impl QueueLayout {
     /// The layout of a queue of `size` descriptors, whose parts begin at these addresses. Refused, in this order:
-    /// `BadSize` where the size is no power of two, `Misaligned` where the table, the available ring or the used ring
-    /// isn't aligned to 16, 2 and 4 bytes, `EndOverflow` where one of them ends past 2^64 - 1.
+    /// `BadSize` if the size is no power of two, `Misaligned` if the table, the available ring or the used ring
+    /// isn't aligned to 16, 2 and 4 bytes, `EndOverflow` if one of them ends past 2^64 - 1.
     pub fn new(size: u16, desc: u64, avail: u64, used: u64) -> Result<QueueLayout, QueueLayoutError>
         ensures { MatchResult result
             (λ l. (layout_error size desc avail used ≡ None) × (l.size ≡ size) × (l.desc ≡ desc) × (l.avail ≡ avail) × (l.used ≡ used))

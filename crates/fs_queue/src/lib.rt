@@ -26,5 +26,6 @@ pub use layout::QueueLayout;
 pub use loads::{EntryLoad, walk_loads};
 pub use queue::Queue;
 pub use returning::{ElementStore, IndexStore, Return};
+pub use take::count_bytes;
 pub use walk::{IndexWalk, RingEntryWalk, Walk};
 pub use walk_step::DescriptorTable;

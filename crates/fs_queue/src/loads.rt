@@ -31,8 +31,8 @@ impl Model for EntryLoad {
 }
 
 /// The walk through the chain of a head by loads that are at hand, as a trace of a live queue holds them: its ordinary
-/// descriptors take the place of those that a list has. It may leave the last of the loads; the answer is none where they
-/// end before it does, or one isn't what it asks for. An error is want of memory, for a chain of more than eight.
+/// descriptors take the place of those that a list has. It may leave the last of the loads; the answer is none if they
+/// end before it does, or one isn't what it asks for. An error is a failed allocation, for a chain of more than eight.
 pub fn walk_loads(
     layout: QueueLayout,
     head: u16,

@@ -11,6 +11,7 @@ use crate::fault::QueueError;
 use crate::layout::QueueLayout;
 use crate::returning::Return;
 use crate::take::take_into;
+use crate::walk::Walk;
 use std::alloc::Global;
 use std::marker::Model;
 use vm_memory::GuestMemory;
@@ -41,8 +42,9 @@ impl Model for Queue {
 }
 
 ghost use Rattle.fs_queue.specs.Queue.{fresh, resumed};
-ghost use Rattle.fs_queue.specs.Taking.{RequestAndRoom, room_of};
-ghost use Rattle.fs_queue.specs.Returning.{returned, wants_notice, advanced, PutFrontLast};
+ghost use Rattle.fs_queue.specs.Ringing.{BeginsWalk};
+ghost use Rattle.fs_queue.specs.Taking.{RequestAndRoom, after_refusal, room_of};
+ghost use Rattle.fs_queue.specs.Returning.{returned, stores_after_reply, stores_of, wants_notice, advanced, PutFrontLast};
 ghost use Rattle.fs_queue.specs.Windows.{Takes, after_taking, taken_if, IsTaken, TakenLiesIn, ChainLiesIn, room_places, chain_places, HasItsWindows};
 ghost use Rattle.fs_queue.specs.Windows.{IsEmpty, IsEmptyUnlessTaken};
 
@@ -116,8 +118,44 @@ impl Queue {
         self.stopped
     }
 
+    /// The walk through what waits at the queue's position, by loads that another makes: it asks for the available index.
+    /// A stopped queue refuses it: `Stopped`.
+    pub fn begin_walk(&self) -> Walk
+        ensures { BeginsWalk self.now result }
+    {
+        if self.stopped {
+            Walk::Refused(QueueError::Stopped)
+        } else {
+            Walk::begin(self.layout, self.position)
+        }
+    }
+
+    /// Keeps what a walk refused: all refusals but `Stopped` and `OutOfMemory` stop the queue.
+    pub fn refuse(&mut self, error: QueueError)
+        ensures { self.new ≡ after_refusal self.old error }
+    {
+        if error.stops_queue() {
+            self.stopped = true;
+        }
+    }
+
+    /// The return of the chain at the queue's position, with this head, whose reply has `len` bytes.
+    pub fn begin_return(&self, head: u16, len: u32) -> Return
+        ensures stores { stores_of result ≡ stores_after_reply self.now head len }
+        ensures flags { result.flags ≡ self.now.avail }
+    {
+        Return::new(self.layout, self.position, head, len)
+    }
+
+    /// Goes on by the chain whose return was stored: the position is one more, modulo 2^16.
+    pub fn advance(&mut self)
+        ensures { self.new ≡ advanced self.old }
+    {
+        self.position = self.position.wrapping_add(1);
+    }
+
     /// Takes the chain that waits at the queue's position, with its windows, into a place whatever that had, or answers
-    /// false, where none waits (VIRTIO 1.2, 2.7.13 from the device's side); unless a chain was taken, the place is
+    /// false, if none waits (VIRTIO 1.2, 2.7.13 from the device's side); unless a chain was taken, the place is
     /// empty then: it has no windows, and its head says nothing. The position stays until the chain is given back. A
     /// request or a room of more than `limit` bytes makes a chain faulty. Refused, in this order: `Stopped`,
     /// `AvailIndexUnreachable`, then, where something waits, `AvailTooFar`, `RingEntryUnreachable`, `HeadOutOfTable`,
@@ -147,7 +185,7 @@ impl Queue {
         match take_into(alloc, self.layout, self.position, host, mem, limit, taken) {
             Ok(waits) => Ok(waits),
             Err(error) => {
-                self.stopped = error.stops_queue();
+                self.refuse(error);
                 taken.clear();
                 Err(error)
             }
@@ -207,7 +245,7 @@ impl Queue {
     {
         write_reply(host, taken, front);
         let back = Return::new(self.layout, self.position, taken.head(), len as u32);
-        self.position = self.position.wrapping_add(1);
+        self.advance();
         host.write_windows(taken.used_windows(), &back.used_bytes());
         let mut flags = [0u8; 2];
         host.read_windows(taken.flags_windows(), &mut flags);

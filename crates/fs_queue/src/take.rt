@@ -28,7 +28,7 @@ use vm_memory::GuestMemory;
 use vm_memory_core::{HostBlocks, Permissions, Windows};
 
 // Adds to an empty list the windows that a return at this position writes besides the room: of the used element, 8
-// bytes, then of the used index, 2 bytes. Or answers false where one of their addresses has no place.
+// bytes, then of the used index, 2 bytes. Or answers false if one of their addresses can't be reached.
 #[inline(always)]
 fn add_used<M: GuestMemory, H: HostBlocks>(
     alloc: Global,
@@ -90,8 +90,9 @@ fn add_return_windows<M: GuestMemory, H: HostBlocks>(
     Ok(None)
 }
 
-// How many bytes the descriptors of one direction have, or 2^64 - 1 where there are more.
-fn count_bytes(descriptors: &[Descriptor], write_only: bool) -> u64
+/// How many bytes the descriptors of a chain have in one direction: those that the device writes, or those that it reads.
+/// The answer is 2^64 - 1 where there are more. A chain with more than its limit in one of them is `OverLimit`.
+pub fn count_bytes(descriptors: &[Descriptor], write_only: bool) -> u64
     ensures { result ≡ min (total_len (of_direction write_only descriptors.now)) (2 ^ 64 - 1) }
 {
     let mut sum = 0u64;
@@ -123,7 +124,7 @@ struct AddressRange {
 }
 
 // Has a range grow by a descriptor's addresses, if they follow it. Else the range's windows are added to a list, and the
-// descriptor's addresses are the range; or the answer is false, where one of the former range's addresses has no place.
+// descriptor's addresses are the range; or the answer is false, if one of the former range's addresses has no place.
 #[inline(always)]
 fn extend_range<M: GuestMemory, H: HostBlocks>(
     alloc: Global,
@@ -155,7 +156,7 @@ fn extend_range<M: GuestMemory, H: HostBlocks>(
     Ok(found)
 }
 
-// Adds to an empty list the windows of the descriptors of one direction, in their order, or answers false where one of
+// Adds to an empty list the windows of the descriptors of one direction, in their order, or answers false if one of
 // their addresses has no place. Those whose addresses follow one another are looked up at once, and have one window
 // where one has them all.
 #[inline(always)]
@@ -187,8 +188,8 @@ fn add_direction<M: GuestMemory, H: HostBlocks>(
     add_windows(alloc, host, mem, range.start, range.len, access, windows)
 }
 
-// Adds to two empty lists the windows of a request and of its room, or answers which of them has an address without a
-// place: `RequestUnreachable`, then `RoomUnreachable`. An error is want of memory.
+// Adds to two empty lists the windows of a request and of its room, or answers which of them has an address that can't be reached:
+// `RequestUnreachable`, then `RoomUnreachable`. An error is a failed allocation.
 #[inline(always)]
 fn add_chain<M: GuestMemory, H: HostBlocks>(
     alloc: Global,
@@ -221,7 +222,7 @@ fn add_chain<M: GuestMemory, H: HostBlocks>(
     Ok(None)
 }
 
-// Fills a chain without windows, or answers which part of it has an address without a place. An error is want of memory.
+// Fills a chain without windows, or answers which part of it has an address without a place. An error is a failed allocation.
 #[inline(always)]
 fn fill_chain<M: GuestMemory, H: HostBlocks>(
     alloc: Global,
@@ -270,8 +271,8 @@ fn fill_chain<M: GuestMemory, H: HostBlocks>(
     }
 }
 
-// Puts the request and the room of a chain in its place, or answers its fault: `OverLimit` where one of them has more
-// than `limit` bytes, then `RequestUnreachable`, then `RoomUnreachable`. An error is want of memory.
+// Puts the request and the room of a chain in its place, or answers its fault: `OverLimit` if one of them has more
+// than `limit` bytes, then `RequestUnreachable`, then `RoomUnreachable`. An error is a failed allocation.
 #[inline(always)]
 fn hold_chain<M: GuestMemory, H: HostBlocks>(
     alloc: Global,
@@ -308,7 +309,7 @@ fn hold_chain<M: GuestMemory, H: HostBlocks>(
     )
 }
 
-/// Takes the chain that waits at a position of a queue that isn't stopped into an empty place; false where none waits.
+/// Takes the chain that waits at a position of a queue that isn't stopped into an empty place; false if none waits.
 /// The errors are those of `Queue::take` but `Stopped`, in the same order.
 #[inline(always)]
 pub(crate) fn take_into<M: GuestMemory, H: HostBlocks>(
