@@ -1,16 +1,14 @@
 -- steps told by loads and stores
-use Rattle.std.proofs.Common.{◌≡◌, ℕ, zero, suc, ◌+◌, ◌≤◌, List, [], ◌∷◌, ◌++◌, length, map, take, drop, refl, sym, ap, ◌∙◌, subst, arith, append-nil, take-append-drop, inl, inr, Bool, Option, Some, None}
+use Rattle.std.proofs.Common.{◌≡◌, ℕ, zero, suc, List, [], ◌∷◌, ◌++◌, length, map, take, drop, refl, sym, ap, ◌∙◌, subst, arith, append-nil, take-append-drop, inl, inr, Bool, Option, Some, None}
 use Rattle.std.specs.Prelude.{slice_get, flat_map}
 use Rattle.std.specs.List.{zip, AllByRecursion, Contains}
 use Rattle.std.proofs.lemmas.List.Concat.{flat_map-append}
 use Rattle.std.proofs.lemmas.List.Elements.{Contains-append_left, Contains-append_right}
-use Rattle.vm_iotlb.specs.declared.permissions.Permissions.TheVariants.{Read, Write}
-use Rattle.vm_memory_core.specs.Host.{Host, Place, changed_at}
+use Rattle.vm_iotlb.specs.declared.permissions.Permissions.TheVariants.{Write}
+use Rattle.vm_memory_core.specs.Host.{Place, changed_at}
 use Rattle.vm_memory_core.specs.Window.{put_all}
-use Rattle.vm_memory_core.proofs.WindowLemmas.{put_all-append}
-use Rattle.vm_memory.specs.Memory.{Memory, addresses, bytes, located, location, reach, stored_all}
+use Rattle.vm_memory.specs.Memory.{Memory, addresses, bytes, located, location, stored_all}
 use Rattle.vm_memory.proofs.Places.{stored_all-append}
-use Rattle.fs_queue.specs.declared.fault.ChainFault.{ChainFault}
 use Rattle.fs_queue.specs.declared.fault.QueueError.{QueueError}
 use Rattle.fs_queue.specs.declared.fault.QueueError.TheVariants as stop
 use Rattle.fs_queue.specs.Queue.{Queue, element_at, index_at}
@@ -19,13 +17,12 @@ use Rattle.fs_queue.specs.Taking as taking
 use Rattle.fs_queue.specs.OfferLoads.{HasLoads}
 use Rattle.fs_queue.proofs.OfferByLemmas.{offer_is_still, offer_finds}
 use Rattle.fs_queue.proofs.ReturnLemmas.{over, all_tables, same_location, stored_located, returns_by_stores}
-use Rattle.fs_queue.specs.Returning.{Store, writes_of, stores_after_reply, returned, writes, wants_notice, tells, advanced}
-use Rattle.room_writer.specs.Apart.{Apart}
+use Rattle.fs_queue.specs.Returning.{Store, writes_of, stores_after_reply, returned, wants_notice, tells, advanced}
 use Rattle.room_writer.proofs.ApartLemmas.{put_all_comm}
 use Rattle.virtiofsd_fuse.specs.Serving.{May}
 use Rattle.fs_device.specs.declared.error.DeviceError.TheVariants as device
-use Rattle.fs_device.specs.Step.{State, Exchange, Outcome, Idle, Refused, Exchanged, Calls, Unchanged, Acts, Exchanges, Returns, Step, StepOf, with_queue, faulty, served_exchange}
-use Rattle.fs_device.specs.StepBy.{StepLoads, AreStepLoadsOf, offered_by, byte_store, reply_stores, return_stores, after_stores, Effects, StoresNothing, ReturnsBy, ReturnsFaultyBy, AnswersBy, ExchangesBy, ActsBy, StepOfBy, StepBy, IsFrontApart, MayStoreLast, IsOfMemory, HasEffects, StepByIsStep, StepIsStepBy, StoresOnlyThere, return_addresses}
+use Rattle.fs_device.specs.Step.{State, Exchange, Outcome, Idle, Refused, Exchanged, Calls, Unchanged, Acts, Exchanges, Returns, StepOf, with_queue, faulty, served_exchange}
+use Rattle.fs_device.specs.StepBy.{StepLoads, AreStepLoadsOf, byte_store, reply_stores, return_stores, after_stores, Act, Effects, stores_among, return_acts, DoesNothing, FindFlags, ReturnsBy, ExchangesBy, ActsBy, StepOfBy, IsFrontApart, MayStoreLast, IsOfMemory, HasEffects, StepByIsStep, StepIsStepBy, StoresOnlyThere, return_addresses}
 
 some_same : {A : Type 0} (x y : A) → Some x ≡ Some y → x ≡ y
 some_same x y e = cc
@@ -94,6 +91,30 @@ stores_return m q head room reply n last =
     ∙ sym (stored_all-append (zip room reply) back m)
     ∙ ap (stored_all m) (sym (returns_by_stores q head room reply))
 
+-- the stores of a return are those among its acts
+among_return : (stores : List Store) (flags : List ℕ) → stores_among (return_acts stores flags) ≡ stores
+among_return [] flags = refl
+among_return (store ∷ stores) flags = ap (λ (l : List Store). store ∷ l) (among_return stores flags)
+
+-- one store, and then others
+stored_in_turn : (m : Memory) (store : Store) (stores : List Store) → after_stores m (store ∷ stores) ≡ after_stores (after_stores m (store ∷ [])) stores
+stored_in_turn m store stores =
+    stored_all-append (writes_of store) (flat_map writes_of stores) m
+    ∙ ap (λ (l : List (ℕ × ℕ)). stored_all (stored_all m l) (flat_map writes_of stores)) (sym (append-nil (writes_of store)))
+
+-- the flags that are loaded last are those that memory has after all stores
+flags_found : (m : Memory) (q : Queue) (stores : List Store) (flags : List ℕ) → FindFlags m q (return_acts stores flags) → flags ≡ bytes (after_stores m stores) q.avail 2
+unfolding stored_all
+flags_found m q [] flags found = found.0
+flags_found m q (store ∷ stores) flags found =
+    flags_found (after_stores m (store ∷ [])) q stores flags found ∙ ap (λ (k : Memory). bytes k q.avail 2) (sym (stored_in_turn m store stores))
+
+flags_find : (m : Memory) (q : Queue) (stores : List Store) (flags : List ℕ) → flags ≡ bytes (after_stores m stores) q.avail 2 → FindFlags m q (return_acts stores flags)
+unfolding stored_all
+flags_find m q [] flags is = (is, tt)
+flags_find m q (store ∷ stores) flags is =
+    flags_find (after_stores m (store ∷ [])) q stores flags (is ∙ ap (λ (k : Memory). bytes k q.avail 2) (stored_in_turn m store stores))
+
 -- whether the driver is told, by the flags as a memory has them
 told_by_flags : (m : Memory) (q : Queue) (flags : List ℕ) → flags ≡ bytes m q.avail 2 → tells flags ≡ wants_notice m q
 told_by_flags m q flags is = ap tells is
@@ -112,29 +133,33 @@ empty_last m (suc n) = inr (record { first = []; rest = []; first_places = refl;
 
 module _ {F : Type 0} (may : May F) (s : State F) (i : ℕ) (e : Effects) (after : State F) where
   abbrev stored : Memory
-  stored = after_stores s.memory e.stores
+  stored = after_stores s.memory (stores_among e.acts)
 
-  nothing_stored : StoresNothing e → stored ≡ s.memory
+  nothing_stored : DoesNothing e → stored ≡ s.memory
   unfolding stored_all
-  nothing_stored none = ap (λ (l : List Store). stored_all s.memory (flat_map writes_of l)) none
+  nothing_stored none = ap (λ (l : List Act). after_stores s.memory (stores_among l)) none
 
-  still : (calls : Calls) → Unchanged s calls after → StoresNothing e → Unchanged s calls (at after stored)
+  still : (calls : Calls) → Unchanged s calls after → DoesNothing e → Unchanged s calls (at after stored)
   still calls same none = record { same = ap (at after) (nothing_stored none) ∙ ap (λ (t : State F). at t s.memory) same.same; no_call = same.no_call }
 
-  refused_still : (q p : Queue) → after ≡ with_queue s i p → StoresNothing e → at after stored ≡ with_queue s i p
+  refused_still : (q p : Queue) → after ≡ with_queue s i p → DoesNothing e → at after stored ≡ with_queue s i p
   refused_still q p is none = ap (at after) (nothing_stored none) ∙ ap (λ (t : State F). at t s.memory) is
 
-  module _ (q : Queue) (flags : e.flags ≡ bytes (after_stores s.memory e.stores) q.avail 2) where
+  module _ (q : Queue) (flags : FindFlags s.memory q e.acts) where
     gone_back : (room : List ℕ) (expected : Exchange) (options : ℕ) (x : Exchange) (notice : Bool) → MayStoreLast s.memory room e.last →
         ReturnsBy s i q room expected options x notice e after → Returns s i q room expected options x notice (at after stored)
     gone_back room expected options x notice last back =
+        let stores : List Store = return_stores q expected.head room expected.reply e.last in
+        let among : stores_among e.acts ≡ stores = ap stores_among back.acts ∙ among_return stores back.flags in
         let memory : stored ≡ returned s.memory q expected.head room expected.reply =
-        ap (after_stores s.memory) back.stores ∙ stores_return s.memory q expected.head room expected.reply e.last last in
+        ap (after_stores s.memory) among ∙ stores_return s.memory q expected.head room expected.reply e.last last in
+        let found : back.flags ≡ bytes stored q.avail 2 =
+        flags_found s.memory q stores back.flags (subst (FindFlags s.memory q) back.acts flags) ∙ ap (λ (l : List Store). bytes (after_stores s.memory l) q.avail 2) (sym among) in
         record {
           exchange = back.exchange;
           state = ap (λ (t : State F). at t stored) back.state
               ∙ ap (at (record s { queues = changed_at s.queues i (λ _. advanced q); options = options; files = after.files })) memory;
-          told = back.told ∙ told_by_flags stored q e.flags flags;
+          told = back.told ∙ told_by_flags stored q back.flags found;
         }
 
     exchanges_still : (o : Offer) (calls : Calls) (x : Exchange) (notice : Bool) →
@@ -168,11 +193,11 @@ module _ {F : Type 0} (may : May F) (s : State F) (i : ℕ) (e : Effects) (after
     acts_still o calls (Exchanged x notice) last made = exchanges_still o calls x notice last made
 
 by_queue : {F : Type 0} (may : May F) (s : State F) (i : ℕ) (l : StepLoads) (calls : Calls) (outcome : Outcome) (e : Effects) (after : State F) → IsOfMemory s i l e →
-    (o : Option Queue) → slice_get s.queues i ≡ o → StepOfBy may s i o l calls outcome e after → StepOf may s i o calls outcome (at after (after_stores s.memory e.stores))
+    (o : Option Queue) → slice_get s.queues i ≡ o → StepOfBy may s i o l calls outcome e after → StepOf may s i o calls outcome (at after (after_stores s.memory (stores_among e.acts)))
 by_queue may s i l calls outcome e after one None there (is, same, none) = (is, still may s i e after calls same none)
 by_queue may s i l calls outcome e after one (Some q) there (offered, is, acts) =
     let meant : offered ≡ offer s.memory s.limit q = offer_is_still s.memory s.limit q l.index l.entry l.entries l.request offered (one.loads q there) is in
-    subst (λ (o : Offer). Acts may s i q o calls outcome (at after (after_stores s.memory e.stores))) meant
+    subst (λ (o : Offer). Acts may s i q o calls outcome (at after (after_stores s.memory (stores_among e.acts)))) meant
     (acts_still may s i e after q (one.flags q there) offered calls outcome (λ head request room same. one.apart q head request room there (is ∙ ap Some same)) acts)
 
 pub step_by_is_step : {F : Type 0} (may : May F) → StepByIsStep may
@@ -180,27 +205,31 @@ step_by_is_step may s i l calls outcome e after one made = by_queue may s i l ca
 
 -- ---- and each step is one by such loads
 
-abbrev effects_of : Memory → Queue → List Store → Effects
-effects_of m q stores = record { stores = stores; last = 0; flags = bytes (after_stores m stores) q.avail 2 }
+abbrev effects_of : List Act → Effects
+effects_of acts = record { acts = acts; last = 0 }
+
+abbrev flags_after : Memory → Queue → List Store → List ℕ
+flags_after m q stores = bytes (after_stores m stores) q.avail 2
 
 module _ {F : Type 0} (may : May F) (s : State F) (i : ℕ) (q : Queue) (there : slice_get s.queues i ≡ Some q) where
   same_queue : (p : Queue) → slice_get s.queues i ≡ Some p → q ≡ p
   same_queue p at = some_same q p (sym there ∙ at)
 
-  with_effects : (h : HasLoads s.memory s.limit q) (stores : List Store) (calls : Calls) (outcome : Outcome) (after : State F) → after.memory ≡ after_stores s.memory stores →
-      ActsBy may s i q (offer s.memory s.limit q) calls outcome (effects_of s.memory q stores) (at after s.memory) → HasEffects may s i calls outcome after
-  with_effects h stores calls outcome after memory acts =
+  with_effects : (h : HasLoads s.memory s.limit q) (did : List Act) (calls : Calls) (outcome : Outcome) (after : State F) → FindFlags s.memory q did →
+      after.memory ≡ after_stores s.memory (stores_among did) →
+      ActsBy may s i q (offer s.memory s.limit q) calls outcome (effects_of did) (at after s.memory) → HasEffects may s i calls outcome after
+  with_effects h did calls outcome after found memory acts =
       let l : StepLoads = record { index = h.index; entry = h.entry; entries = h.entries; request = h.request } in
       record {
         loads = l;
-        effects = effects_of s.memory q stores;
+        effects = effects_of did;
         are = record {
           loads = λ p at. subst (λ (r : Queue). AreStepLoadsOf s.memory r l) (same_queue p at) h.are;
-          flags = λ p at. ap (λ (r : Queue). bytes (after_stores s.memory stores) r.avail 2) (same_queue p at);
+          flags = λ p at. subst (λ (r : Queue). FindFlags s.memory r did) (same_queue p at) found;
           apart = λ p head request room at is. inl refl;
         };
         memory = memory;
-        step = subst (λ (o : Option Queue). StepOfBy may s i o l calls outcome (effects_of s.memory q stores) (at after s.memory)) (sym there)
+        step = subst (λ (o : Option Queue). StepOfBy may s i o l calls outcome (effects_of did) (at after s.memory)) (sym there)
             (offer s.memory s.limit q, h.offered, acts);
       }
 
@@ -212,11 +241,22 @@ module _ {F : Type 0} (may : May F) (s : State F) (i : ℕ) (q : Queue) (there :
   memory_back room expected options x notice after back =
       ap (λ (t : State F). t.memory) back.state ∙ sym (stores_return s.memory q expected.head room expected.reply 0 (inl refl))
 
+  abbrev back_acts : (room : List ℕ) → Exchange → List Act
+  back_acts room expected = return_acts (back_stores room expected) (flags_after s.memory q (back_stores room expected))
+
+  flags_back : (room : List ℕ) (expected : Exchange) → FindFlags s.memory q (back_acts room expected)
+  flags_back room expected = flags_find s.memory q (back_stores room expected) (flags_after s.memory q (back_stores room expected)) refl
+
+  acts_back : (room : List ℕ) (expected : Exchange) (after : State F) → after.memory ≡ after_stores s.memory (back_stores room expected) →
+      after.memory ≡ after_stores s.memory (stores_among (back_acts room expected))
+  acts_back room expected after is = is ∙ ap (after_stores s.memory) (sym (among_return (back_stores room expected) (flags_after s.memory q (back_stores room expected))))
+
   returns_by : (room : List ℕ) (expected : Exchange) (options : ℕ) (x : Exchange) (notice : Bool) (after : State F) → Returns s i q room expected options x notice after →
-      ReturnsBy s i q room expected options x notice (effects_of s.memory q (back_stores room expected)) (at after s.memory)
+      ReturnsBy s i q room expected options x notice (effects_of (back_acts room expected)) (at after s.memory)
   returns_by room expected options x notice after back = record {
     exchange = back.exchange;
-    stores = refl;
+    flags = flags_after s.memory q (back_stores room expected);
+    acts = refl;
     state = ap (λ (t : State F). at t s.memory) back.state;
     told = back.told ∙ ap (λ (m : Memory). wants_notice m q) (memory_back room expected options x notice after back);
   }
@@ -225,13 +265,15 @@ module _ {F : Type 0} (may : May F) (s : State F) (i : ℕ) (q : Queue) (there :
       Exchanges may s i q o calls x notice after → HasEffects may s i calls (Exchanged x notice) after
   exchange_by h (Offers head (CannotFetch why)) is calls x notice after made =
       let expected : Exchange = faulty head why in
-      with_effects h (back_stores [] expected) calls (Exchanged x notice) after (memory_back [] expected s.options x notice after made.returns)
-      (subst (λ (o : Offer). ExchangesBy may s i q o calls x notice (effects_of s.memory q (back_stores [] expected)) (at after s.memory)) is
+      with_effects h (back_acts [] expected) calls (Exchanged x notice) after (flags_back [] expected)
+      (acts_back [] expected after (memory_back [] expected s.options x notice after made.returns))
+      (subst (λ (o : Offer). ExchangesBy may s i q o calls x notice (effects_of (back_acts [] expected)) (at after s.memory)) is
       (record { no_call = made.no_call; files = made.files; returns = returns_by [] expected s.options x notice after made.returns }))
   exchange_by h (Offers head (IsRequest request room)) is calls x notice after made =
       let expected : Exchange = served_exchange head request made.given in
-      with_effects h (back_stores room expected) calls (Exchanged x notice) after (memory_back room expected made.given.options x notice after made.returns)
-      (subst (λ (o : Offer). ExchangesBy may s i q o calls x notice (effects_of s.memory q (back_stores room expected)) (at after s.memory)) is
+      with_effects h (back_acts room expected) calls (Exchanged x notice) after (flags_back room expected)
+      (acts_back room expected after (memory_back room expected made.given.options x notice after made.returns))
+      (subst (λ (o : Offer). ExchangesBy may s i q o calls x notice (effects_of (back_acts room expected)) (at after s.memory)) is
       (record { given = made.given; serves = made.serves; returns = returns_by room expected made.given.options x notice after made.returns }))
   exchange_by h taking.Idle is calls x notice after made = absurd made
   exchange_by h (Refuses error) is calls x notice after made = absurd made
@@ -244,17 +286,17 @@ module _ {F : Type 0} (may : May F) (s : State F) (i : ℕ) (q : Queue) (there :
   kept_memory after t is kept = ap (λ (u : State F). u.memory) is ∙ kept
 
   refused_by : (h : HasLoads s.memory s.limit q) (error : QueueError) (calls : Calls) (after : State F) → after ≡ with_queue s i (after_refusal q error) →
-      ActsBy may s i q (offer s.memory s.limit q) calls (Refused (device.Queue error)) (effects_of s.memory q []) (at after s.memory) →
+      ActsBy may s i q (offer s.memory s.limit q) calls (Refused (device.Queue error)) (effects_of []) (at after s.memory) →
       HasEffects may s i calls (Refused (device.Queue error)) after
-  refused_by h error calls after state acts = with_effects h [] calls (Refused (device.Queue error)) after (kept_memory after (with_queue s i (after_refusal q error)) state refl) acts
+  refused_by h error calls after state acts = with_effects h [] calls (Refused (device.Queue error)) after tt (kept_memory after (with_queue s i (after_refusal q error)) state refl) acts
 
   over_same : (after t : State F) → after ≡ t → at after s.memory ≡ at t s.memory
   over_same after t is = ap (λ (u : State F). at u s.memory) is
 
   acts_by : (h : HasLoads s.memory s.limit q) (calls : Calls) (outcome : Outcome) (after : State F) → Acts may s i q (offer s.memory s.limit q) calls outcome after → HasEffects may s i calls outcome after
-  acts_by h calls Idle after (offered, same) = with_effects h [] calls Idle after (kept_memory after s same.same refl) (offered, unchanged_by calls after same, refl)
+  acts_by h calls Idle after (offered, same) = with_effects h [] calls Idle after tt (kept_memory after s same.same refl) (offered, unchanged_by calls after same, refl)
   acts_by h calls (Refused (device.Queue stop.OutOfMemory)) after (lacks, same) =
-      with_effects h [] calls (Refused (device.Queue stop.OutOfMemory)) after (kept_memory after s same.same refl) (lacks, unchanged_by calls after same, refl)
+      with_effects h [] calls (Refused (device.Queue stop.OutOfMemory)) after tt (kept_memory after s same.same refl) (lacks, unchanged_by calls after same, refl)
   acts_by h calls (Refused (device.Queue stop.Stopped)) after (is, none, state) = refused_by h stop.Stopped calls after state (is, none, over_same after _ state, refl)
   acts_by h calls (Refused (device.Queue stop.AvailIndexUnreachable)) after (is, none, state) = refused_by h stop.AvailIndexUnreachable calls after state (is, none, over_same after _ state, refl)
   acts_by h calls (Refused (device.Queue stop.AvailTooFar)) after (is, none, state) = refused_by h stop.AvailTooFar calls after state (is, none, over_same after _ state, refl)
@@ -271,7 +313,7 @@ missing_by : {F : Type 0} (may : May F) (s : State F) (i : ℕ) (calls : Calls) 
 unfolding stored_all
 missing_by {F} may s i calls outcome after missing is same =
     let l : StepLoads = record { index = None; entry = None; entries = []; request = [] } in
-    let e : Effects = record { stores = []; last = 0; flags = [] } in
+    let e : Effects = record { acts = []; last = 0 } in
     record {
       loads = l;
       effects = e;
@@ -336,39 +378,42 @@ return_there q head room reply n =
     (both_there target _ _ (reply_there q room reply n) (used_there q room head reply))
 
 -- nothing goes anywhere
-none_there : (target : List ℕ) (stores : List Store) → stores ≡ [] → AllByRecursion (λ (w : ℕ × ℕ). Contains target w.0) (flat_map writes_of stores)
-none_there target stores none = subst (λ (l : List Store). AllByRecursion (λ (w : ℕ × ℕ). Contains target w.0) (flat_map writes_of l)) (sym none) tt
+none_there : (target : List ℕ) (acts : List Act) → acts ≡ [] → AllByRecursion (λ (w : ℕ × ℕ). Contains target w.0) (flat_map writes_of (stores_among acts))
+none_there target acts none = subst (λ (l : List Act). AllByRecursion (λ (w : ℕ × ℕ). Contains target w.0) (flat_map writes_of (stores_among l))) (sym none) tt
 
 module _ {F : Type 0} (may : May F) (s : State F) (i : ℕ) (q : Queue) (e : Effects) (after : State F) where
   abbrev There : Offer → Type 0
-  There o = AllByRecursion (λ (w : ℕ × ℕ). Contains (return_addresses q o) w.0) (flat_map writes_of e.stores)
+  There o = AllByRecursion (λ (w : ℕ × ℕ). Contains (return_addresses q o) w.0) (flat_map writes_of (stores_among e.acts))
+
+  among : (stores : List Store) (flags : List ℕ) → e.acts ≡ return_acts stores flags → stores_among e.acts ≡ stores
+  among stores flags is = ap stores_among is ∙ among_return stores flags
 
   exchange_there : (o : Offer) (calls : Calls) (x : Exchange) (notice : Bool) → ExchangesBy may s i q o calls x notice e after → There o
   exchange_there (Offers head (CannotFetch why)) calls x notice made =
-      subst (λ (l : List Store). AllByRecursion (λ (w : ℕ × ℕ). Contains (addresses (element_at q) 8 ++ addresses (index_at q) 2) w.0) (flat_map writes_of l)) (sym made.returns.stores)
+      subst (λ (l : List Store). AllByRecursion (λ (w : ℕ × ℕ). Contains (addresses (element_at q) 8 ++ addresses (index_at q) 2) w.0) (flat_map writes_of l)) (sym (among _ made.returns.flags made.returns.acts))
       (return_there q head [] [] e.last)
   exchange_there (Offers head (IsRequest request room)) calls x notice made =
-      subst (λ (l : List Store). AllByRecursion (λ (w : ℕ × ℕ). Contains (return_addresses q (Offers head (IsRequest request room))) w.0) (flat_map writes_of l)) (sym made.returns.stores)
+      subst (λ (l : List Store). AllByRecursion (λ (w : ℕ × ℕ). Contains (return_addresses q (Offers head (IsRequest request room))) w.0) (flat_map writes_of l)) (sym (among _ made.returns.flags made.returns.acts))
       (return_there q head room made.given.reply e.last)
   exchange_there taking.Idle calls x notice made = absurd made
   exchange_there (Refuses error) calls x notice made = absurd made
 
   acts_there : (o : Offer) (calls : Calls) (outcome : Outcome) → ActsBy may s i q o calls outcome e after → There o
-  acts_there o calls Idle made = none_there (return_addresses q o) e.stores made.2
-  acts_there o calls (Refused (device.Queue stop.OutOfMemory)) made = none_there (return_addresses q o) e.stores made.2
-  acts_there o calls (Refused (device.Queue stop.Stopped)) made = none_there (return_addresses q o) e.stores made.3
-  acts_there o calls (Refused (device.Queue stop.AvailIndexUnreachable)) made = none_there (return_addresses q o) e.stores made.3
-  acts_there o calls (Refused (device.Queue stop.AvailTooFar)) made = none_there (return_addresses q o) e.stores made.3
-  acts_there o calls (Refused (device.Queue stop.RingEntryUnreachable)) made = none_there (return_addresses q o) e.stores made.3
-  acts_there o calls (Refused (device.Queue stop.HeadOutOfTable)) made = none_there (return_addresses q o) e.stores made.3
-  acts_there o calls (Refused (device.Queue stop.UsedUnreachable)) made = none_there (return_addresses q o) e.stores made.3
-  acts_there o calls (Refused (device.Queue stop.AvailFlagsUnreachable)) made = none_there (return_addresses q o) e.stores made.3
-  acts_there o calls (Refused (device.Queue stop.DescriptorUnreachable)) made = none_there (return_addresses q o) e.stores made.3
+  acts_there o calls Idle made = none_there (return_addresses q o) e.acts made.2
+  acts_there o calls (Refused (device.Queue stop.OutOfMemory)) made = none_there (return_addresses q o) e.acts made.2
+  acts_there o calls (Refused (device.Queue stop.Stopped)) made = none_there (return_addresses q o) e.acts made.3
+  acts_there o calls (Refused (device.Queue stop.AvailIndexUnreachable)) made = none_there (return_addresses q o) e.acts made.3
+  acts_there o calls (Refused (device.Queue stop.AvailTooFar)) made = none_there (return_addresses q o) e.acts made.3
+  acts_there o calls (Refused (device.Queue stop.RingEntryUnreachable)) made = none_there (return_addresses q o) e.acts made.3
+  acts_there o calls (Refused (device.Queue stop.HeadOutOfTable)) made = none_there (return_addresses q o) e.acts made.3
+  acts_there o calls (Refused (device.Queue stop.UsedUnreachable)) made = none_there (return_addresses q o) e.acts made.3
+  acts_there o calls (Refused (device.Queue stop.AvailFlagsUnreachable)) made = none_there (return_addresses q o) e.acts made.3
+  acts_there o calls (Refused (device.Queue stop.DescriptorUnreachable)) made = none_there (return_addresses q o) e.acts made.3
   acts_there o calls (Refused device.NoSuchQueue) made = absurd made
   acts_there o calls (Exchanged x notice) made = exchange_there o calls x notice made
 
 pub stores_only_there : {F : Type 0} (may : May F) → StoresOnlyThere may
 stores_only_there may s i l calls outcome e after q o there is made =
     let found : StepOfBy may s i (Some q) l calls outcome e after = subst (λ (k : Option Queue). StepOfBy may s i k l calls outcome e after) there made in
-    subst (λ (k : Offer). AllByRecursion (λ (w : ℕ × ℕ). Contains (return_addresses q k) w.0) (flat_map writes_of e.stores)) (some_same found.0 o (sym found.1 ∙ is))
+    subst (λ (k : Offer). AllByRecursion (λ (w : ℕ × ℕ). Contains (return_addresses q k) w.0) (flat_map writes_of (stores_among e.acts))) (some_same found.0 o (sym found.1 ∙ is))
     (acts_there may s i q e after found.0 calls outcome found.2)

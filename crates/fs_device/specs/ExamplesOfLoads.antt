@@ -10,7 +10,7 @@ use Rattle.fs_queue.specs.Returning.{Store}
 use Rattle.server_replies.specs.WholeReplies.{error_bytes}
 use Rattle.virtiofsd_fuse.specs.Examples.{le16, le32}
 use Rattle.fs_device.specs.Examples.{blank, descriptor_bytes, queue, request}
-use Rattle.fs_device.specs.StepBy.{StepLoads, offered_by, byte_store, return_stores}
+use Rattle.fs_device.specs.StepBy.{StepLoads, offered_by, byte_store, return_stores, Stores, LoadsFlags, return_acts, FindFlags}
 
 -- an entry of the table at 0
 abbrev entry : (index : ℕ) → List ℕ → Load
@@ -49,3 +49,12 @@ returned_in_order : return_stores queue 0 (0x2000 ∷ 0x2001 ∷ 0x3000 ∷ 0x30
     ≡ byte_store (0x3000, 3) ∷ byte_store (0x3001, 4) ∷ byte_store (0x2000, 1) ∷ byte_store (0x2001, 2)
     ∷ record { address = 0x204; bytes = le32 0 } ∷ record { address = 0x208; bytes = le32 4 } ∷ record { address = 0x202; bytes = le16 1 } ∷ []
 returned_in_order = refl
+
+-- its flags are loaded behind all of them
+flags_behind : return_acts (record { address = 0x202; bytes = le16 1 } ∷ []) (le16 1) ≡ Stores (record { address = 0x202; bytes = le16 1 }) ∷ LoadsFlags (le16 1) ∷ []
+flags_behind = refl
+
+-- flags that a store wrote are found so behind it, and as they were before it (a ring at 0x100, whose flags are at 0x100)
+flags_as_stored : FindFlags blank queue (LoadsFlags (le16 0) ∷ Stores (record { address = 0x100; bytes = le16 1 }) ∷ LoadsFlags (le16 1) ∷ [])
+unfolding place addresses stored_all
+flags_as_stored = (refl, (refl, tt))

@@ -48,22 +48,37 @@ return_stores q head room reply n = reply_stores room reply n ++ stores_after_re
 abbrev pub after_stores : Memory → List Store → Memory
 after_stores m stores = stored_all m (flat_map writes_of stores)
 
--- what a step did to memory, and what it found of the flags then: its stores in order, how many bytes of a reply were stored last, and the two bytes of the available flags that were loaded after all stores (2.7.7)
-pub record Effects : Type 0 where
-  pub stores : List Store
-  pub last : ℕ
-  pub flags : List ℕ
+-- what a step does to memory once its calls are answered: a store, or a load of the two bytes of the available flags (2.7.7)
+pub data Act : Type 0 where
+  Stores : Store → Act
+  LoadsFlags : (found : List ℕ) → Act
 
--- nothing was stored
-abbrev pub StoresNothing : Effects → Type 0
-StoresNothing e = e.stores ≡ []
+-- its acts in order, and how many bytes of a reply were stored last
+pub record Effects : Type 0 where
+  pub acts : List Act
+  pub last : ℕ
+
+-- the stores among acts
+abbrev pub stores_among : List Act → List Store
+stores_among [] = []
+stores_among (Stores store ∷ acts) = store ∷ stores_among acts
+stores_among (LoadsFlags found ∷ acts) = stores_among acts
+
+-- the acts of a chain that goes back: all stores, and then the load of the flags (2.7.8, 2.7.7)
+abbrev pub return_acts : List Store → (flags : List ℕ) → List Act
+return_acts stores flags = map Stores stores ++ LoadsFlags flags ∷ []
+
+-- nothing was stored or loaded
+abbrev pub DoesNothing : Effects → Type 0
+DoesNothing e = e.acts ≡ []
 
 -- a chain goes back with this exchange; what memory holds then isn't told
 pub record ReturnsBy {F : Type 0} (before : State F) (i : ℕ) (q : Queue) (room : List ℕ) (expected : Exchange) (options : ℕ) (x : Exchange) (notice : Bool) (e : Effects) (after : State F) : Type 0 where
   pub exchange : x ≡ expected
-  pub stores : e.stores ≡ return_stores q expected.head room expected.reply e.last
+  pub flags : List ℕ
+  pub acts : e.acts ≡ return_acts (return_stores q expected.head room expected.reply e.last) flags
   pub state : after ≡ record before { queues = changed_at before.queues i (λ _. advanced q); options = options; files = after.files }
-  pub told : notice ≡ tells e.flags
+  pub told : notice ≡ tells flags
 
 -- a faulty chain goes back with nothing, and no call is made
 pub record ReturnsFaultyBy {F : Type 0} (before : State F) (i : ℕ) (q : Queue) (head : ℕ) (why : ChainFault) (calls : Calls) (x : Exchange) (notice : Bool) (e : Effects) (after : State F) : Type 0 where
@@ -86,17 +101,17 @@ ExchangesBy may before i q (Refuses error) calls x notice e after = ⊥
 
 -- what may happen at an offer
 abbrev pub ActsBy : {F : Type 0} → May F → State F → ℕ → Queue → Offer → Calls → Outcome → Effects → State F → Type 0
-ActsBy may before i q offered calls Idle e after = (offered ≡ taking.Idle) × Unchanged before calls after × StoresNothing e
+ActsBy may before i q offered calls Idle e after = (offered ≡ taking.Idle) × Unchanged before calls after × DoesNothing e
 ActsBy may before i q offered calls (Refused (device.Queue stop.OutOfMemory)) e after =
-    IsTrue (may_lack_memory before.memory q offered) × Unchanged before calls after × StoresNothing e
+    IsTrue (may_lack_memory before.memory q offered) × Unchanged before calls after × DoesNothing e
 ActsBy may before i q offered calls (Refused (device.Queue error)) e after =
-    (offered ≡ Refuses error) × (calls ≡ []) × (after ≡ with_queue before i (after_refusal q error)) × StoresNothing e
+    (offered ≡ Refuses error) × (calls ≡ []) × (after ≡ with_queue before i (after_refusal q error)) × DoesNothing e
 ActsBy may before i q offered calls (Refused device.NoSuchQueue) e after = ⊥
 ActsBy may before i q offered calls (Exchanged x notice) e after = ExchangesBy may before i q offered calls x notice e after
 
 -- a step on a queue that may be missing: its loads say what is offered
 abbrev pub StepOfBy : {F : Type 0} → May F → State F → ℕ → Option Queue → StepLoads → Calls → Outcome → Effects → State F → Type 0
-StepOfBy may before i None l calls outcome e after = (outcome ≡ Refused device.NoSuchQueue) × Unchanged before calls after × StoresNothing e
+StepOfBy may before i None l calls outcome e after = (outcome ≡ Refused device.NoSuchQueue) × Unchanged before calls after × DoesNothing e
 StepOfBy may before i (Some q) l calls outcome e after =
     (o : Offer) × (offered_by before.memory before.limit q l ≡ Some o) × ActsBy may before i q o calls outcome e after
 
@@ -118,10 +133,16 @@ pub record IsFrontApart (m : Memory) (room : List ℕ) (n : ℕ) : Type 0 where
 abbrev pub MayStoreLast : Memory → (room : List ℕ) → (n : ℕ) → Type 0
 MayStoreLast m room n = (n ≡ 0) ⊎ IsFrontApart m room n
 
--- the loads and the flags of a step are what one memory has, the flags after the stores, and what is stored last of the reply lies apart from the rest
+-- each load among acts finds what memory holds by then
+abbrev pub FindFlags : Memory → Queue → List Act → Type 0
+FindFlags m q [] = Unit {0}
+FindFlags m q (Stores store ∷ acts) = FindFlags (after_stores m (store ∷ [])) q acts
+FindFlags m q (LoadsFlags found ∷ acts) = (found ≡ bytes m q.avail 2) × FindFlags m q acts
+
+-- the loads of a step are what one memory has, the flags by then, and what is stored last of the reply lies apart from the rest
 pub record IsOfMemory {F : Type 0} (s : State F) (i : ℕ) (l : StepLoads) (e : Effects) : Type 0 where
   pub loads : (q : Queue) → slice_get s.queues i ≡ Some q → AreStepLoadsOf s.memory q l
-  pub flags : (q : Queue) → slice_get s.queues i ≡ Some q → e.flags ≡ bytes (after_stores s.memory e.stores) q.avail 2
+  pub flags : (q : Queue) → slice_get s.queues i ≡ Some q → FindFlags s.memory q e.acts
   pub apart : (q : Queue) (head : ℕ) (request room : List ℕ) → slice_get s.queues i ≡ Some q → offered_by s.memory s.limit q l ≡ Some (Offers head (IsRequest request room)) →
       MayStoreLast s.memory room e.last
 
@@ -129,14 +150,14 @@ pub record IsOfMemory {F : Type 0} (s : State F) (i : ℕ) (l : StepLoads) (e : 
 abbrev pub StepByIsStep : {F : Type 0} → May F → Type 0
 StepByIsStep {F} may =
     (s : State F) (i : ℕ) (l : StepLoads) (calls : Calls) (outcome : Outcome) (e : Effects) (after : State F) → IsOfMemory s i l e →
-    StepBy may s i l calls outcome e after → Step may s i calls outcome (record after { memory = after_stores s.memory e.stores })
+    StepBy may s i l calls outcome e after → Step may s i calls outcome (record after { memory = after_stores s.memory (stores_among e.acts) })
 
 -- and each step of the plain machine is one by such loads and stores
 pub record HasEffects {F : Type 0} (may : May F) (s : State F) (i : ℕ) (calls : Calls) (outcome : Outcome) (after : State F) : Type 0 where
   pub loads : StepLoads
   pub effects : Effects
   pub are : IsOfMemory s i loads effects
-  pub memory : after.memory ≡ after_stores s.memory effects.stores
+  pub memory : after.memory ≡ after_stores s.memory (stores_among effects.acts)
   pub step : StepBy may s i loads calls outcome effects (record after { memory = s.memory })
 
 abbrev pub StepIsStepBy : {F : Type 0} → May F → Type 0
@@ -152,4 +173,4 @@ return_addresses q (Refuses error) = []
 abbrev pub StoresOnlyThere : {F : Type 0} → May F → Type 0
 StoresOnlyThere {F} may =
     (s : State F) (i : ℕ) (l : StepLoads) (calls : Calls) (outcome : Outcome) (e : Effects) (after : State F) (q : Queue) (o : Offer) → slice_get s.queues i ≡ Some q →
-    offered_by s.memory s.limit q l ≡ Some o → StepBy may s i l calls outcome e after → AllByRecursion (λ (w : ℕ × ℕ). Contains (return_addresses q o) w.0) (flat_map writes_of e.stores)
+    offered_by s.memory s.limit q l ≡ Some o → StepBy may s i l calls outcome e after → AllByRecursion (λ (w : ℕ × ℕ). Contains (return_addresses q o) w.0) (flat_map writes_of (stores_among e.acts))
