@@ -326,7 +326,7 @@ module _ {F : Type 0} (s : State F) (h : Host) (same : without_marks s.memory.ho
   lack_alike command [] after t = (with_host s h, (subst IsTrue (takes_alike command) t.0, refl), unchanged_alike s h same after t.1)
   lack_alike command (x ∷ told) after t = absurd t
 
--- an answer that isn't want of memory
+-- an answer that isn't a failed allocation
 abbrev Suffices : Answer → Type 0
 Suffices (run.IsRefused why.OutOfMemory) = ⊥
 Suffices answer = Unit {0}

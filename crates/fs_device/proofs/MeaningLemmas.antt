@@ -153,7 +153,7 @@ by_entry n o c unique (call.Offset k) begins told kind no_bytes fits = not_true 
 by_entry n o c unique (call.Entries ds) begins told kind no_bytes fits = not_true (rw kind at fits)
 by_entry n o c unique (call.Wants options) begins told kind no_bytes fits = not_true (rw kind at fits)
 
--- where both hold, the first does
+-- if both hold, the first does
 first_holds : (a b : Bool) → (a && b) ≡ true → a ≡ true
 first_holds true b both = refl
 first_holds false b both = both

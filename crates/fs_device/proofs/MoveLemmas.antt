@@ -128,7 +128,7 @@ abbrev GoesOn : {F : Type 0} → Host → Effect F → Type 0
 GoesOn image (answer, after) =
     HeldIn (pages_put image (pages_of_answer answer)) after × HavePlaces (lengths image) (pages_of_answer answer) × (lengths (pages_put image (pages_of_answer answer)) ≡ lengths image)
 
--- where no page is answered
+-- if no page is answered
 goes : (image : Host) {on : Bool} {host : Host} → (on ≡ false) × Tracks image host →
     ((on ≡ false) × Tracks (pages_put image []) host) × HavePlaces (lengths image) [] × (lengths (pages_put image []) ≡ lengths image)
 unfolding pages_put first_refused

@@ -75,7 +75,7 @@ front_stored_last m room reply n apart =
     ∙ sym (stored_all-append (zip (take n room) (take n reply)) (zip (drop n room) (drop n reply)) m)
     ∙ ap (stored_all m) (sym (zip_cut n room reply))
 
--- so they may where none is
+-- so they may if none is
 reply_stored : (m : Memory) (room reply : List ℕ) (n : ℕ) → MayStoreLast m room n →
     stored_all m (zip (drop n room) (drop n reply) ++ zip (take n room) (take n reply)) ≡ stored_all m (zip room reply)
 reply_stored m room reply n (inl none) = rw none (ap (stored_all m) (append-nil (zip room reply)))

@@ -62,7 +62,7 @@ pub idles : {F : Type 0} (may : May F) (f : Fixed) (m : Memory) (queues : List Q
     Step may (state f m queues s) i [] Idle (state f m (set queues i q') s)
 idles may f m queues i q q' s there idle same = on_queue may (state f m queues s) i q [] Idle _ there (idle, record { same = unchanged f m queues i q q' s there same; no_call = refl })
 
--- memory is wanting once a chain is offered
+-- an allocation fails once a chain is offered
 pub lacks : {F : Type 0} (may : May F) (before after : State F) (i : ℕ) (q : Queue) (head : ℕ) (fetched : RequestAndRoom) → slice_get before.queues i ≡ Some q → offer before.memory before.limit q ≡ Offers head fetched →
     after ≡ before → Step may before i [] (Refused (device.Queue stop.OutOfMemory)) after
 lacks may before after i q head fetched there offered same =

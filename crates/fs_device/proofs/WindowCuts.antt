@@ -34,7 +34,7 @@ drop_both {X} xs ys n k r e f =
     ap (λ i. drop i (xs ++ ys)) more ∙ drop-append-add xs ys r ∙ ap (λ (p : List X). p ++ drop r ys) (sym (drop_all k xs (omega (arith, e, l)))))
     (cases_lt n (length xs))
 
--- some bytes of a window more, of n that are wanted of those that are left
+-- some bytes of a window more, of n that are asked for of those that are left
 pub front_more : (h : Host) (ws : List Window) (i n k : ℕ) (w : Window) (old piece new : List ℕ) → drop i ws ≡ w ∷ drop (i + 1) ws → k ≡ min w.len n →
     piece ≡ take k (map (byte_in h) (places_of w)) → new ≡ old ++ piece →
     new ++ map (byte_in h) (take (n - k) (places (drop (i + 1) ws))) ≡ old ++ map (byte_in h) (take n (places (drop i ws)))

@@ -1,4 +1,4 @@
--- What the server's answer to one request comes to, for a chain that is told by lengths alone.
+-- What the server's answer to one request comes to, for a chain of which only lengths are reported.
 use Rattle.std.specs.Prelude.{◌≡◌, ◌≤◌, ℕ, List, length, Option, Some, None}
 use Rattle.virtiofsd_fuse.specs.declared.server.Server.{Server}
 use Rattle.virtiofsd_fuse.specs.Serving.{May}
@@ -6,7 +6,7 @@ use Rattle.fs_device.specs.declared.serve.Reply.{Reply}
 use Rattle.fs_device.specs.Step.{Calls}
 use Rattle.fs_device.specs.DeviceView.{server_state, AnswersRequest}
 
--- a request is answered into a room, by a reply that fits or a fault; or memory was wanting, and nothing changed
+-- a request is answered into a room, by a reply that fits or a fault; or an allocation failed, and nothing changed
 abbrev pub IsAnswered : {F : Type 0} → May F → Server F → (request : List ℕ) → (room : ℕ) → Option Reply → Server F → Type 0
 IsAnswered may before request room (Some r) after =
     ((calls : Calls) × AnswersRequest may before.page_size (server_state before) request room calls r.bytes.items r.fault (server_state after)) × (length r.bytes.items ≤ room)

@@ -52,7 +52,7 @@ answer_of (told.TheVariants.Refused why) = IsRefused why
 abbrev pub KickLists : {F : Type 0} → May F → State F → (queue most : ℕ) → List (Exchange × Bool) → Option DeviceError → State F → Type 0
 KickLists may s i most listed refused after = (told : Told) × KickRun may s i most told refused after × (listed ≡ map shown told)
 
--- what serving a queue's chains answers: of a missing queue that alone; nothing is done where there is no room for so many exchanges
+-- what serving a queue's chains answers: of a missing queue that alone; nothing is done if there is no room for so many exchanges
 abbrev pub ServesQueue : {F : Type 0} → May F → State F → (queue most : ℕ) → Result QueueRun DeviceError → State F → Type 0
 ServesQueue may s i most (Ok run) after = (i < length s.queues) × KickLists may s i most (map exchanged_of run.done.items) run.refused after
 ServesQueue may s i most (Err device.NoSuchQueue) after = (slice_get s.queues i ≡ None) × (after ≡ s)

@@ -80,7 +80,7 @@ kick_of_missing : Run may (device with_one_request queue) ((run.Kick 1 0, run.Se
 unfolding RunTold
 kick_of_missing = ([] ∷ [], (device with_one_request queue, (refl, refl, refl), refl))
 
--- a kick may be refused for want of memory: its chain stays, and the next kick serves it
+-- a kick may be refused since an allocation fails: its chain stays, and the next kick serves it
 kick_lacks_memory : Run may (device with_one_request queue)
     ((run.Kick 0 9, run.IsRefused why.OutOfMemory) ∷ (run.Kick 0 1, run.Served (record { exchanges = (unknown_exchange, true) ∷ []; refused = None })) ∷ [])
     (after_reply with_one_request queue)

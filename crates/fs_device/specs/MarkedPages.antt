@@ -13,11 +13,11 @@ use Rattle.fs_device.specs.Step.{State, Exchange, Exchanged, Calls, Step}
 use Rattle.fs_device.specs.UsedLength.{IsOffered}
 use Rattle.fs_device.specs.Run.{Command, GuestWrite, Kick, Answer, Done, Served, Copied, Pages, Told, Performs}
 
--- the mark of a page of a block, where there is such a page
+-- the mark of a page of a block, if there is such a page
 abbrev pub block_mark : Host → (block page : ℕ) → Option Bool
 block_mark h block page = option_and_then (λ b. slice_get b.marks page) (slice_get h.blocks block)
 
--- the mark of a page of a set of I/O pages, where there is such a page
+-- the mark of a page of a set of I/O pages, if there is such a page
 abbrev pub io_mark : Host → (set page : ℕ) → Option Bool
 io_mark h set page = option_and_then (λ marks. slice_get marks page) (slice_get h.io_marks set)
 

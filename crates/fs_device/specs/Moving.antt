@@ -15,7 +15,7 @@ use Rattle.fs_device.specs.Run.{Command, NewBlock, Map, Unmap, UnmapAll, SetIomm
 abbrev pub IsStale : (image : Host) → List Page → (host : Host) → Place → Type 0
 IsStale image pages host p = byte_at (pages_put image pages) p ≢ byte_at host p
 
--- whether the page of a place is marked in its block, where there is such a page
+-- whether the page of a place is marked in its block, if there is such a page
 abbrev pub page_mark : Host → Place → Option Bool
 page_mark h p = option_and_then (λ b. slice_get b.marks (p.offset / 4096)) (slice_get h.blocks p.block)
 

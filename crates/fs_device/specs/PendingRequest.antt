@@ -22,13 +22,13 @@ pub record IsPending {F : Type 0} (s : State F) (pending : PendingRequest) : Typ
   pub taken : IsTaken s.memory queue fetched pending.taken
   pub request : pending.request.items ≡ request_of fetched
 
--- beginning is a whole step without a call where nothing waits or the step is refused; else the exchange of this queue was begun, and nothing changed
+-- beginning is a whole step without a call if nothing waits or the step is refused; else the exchange of this queue was begun, and nothing changed
 abbrev pub Begins : {F : Type 0} → May F → State F → ℕ → Result (Option PendingRequest) DeviceError → State F → Type 0
 Begins may before i (Ok None) after = Step may before i [] Idle after
 Begins may before i (Ok (Some pending)) after = (pending.queue ≡ i) × IsPending before pending × (after ≡ before)
 Begins may before i (Err e) after = Step may before i [] (Refused e) after
 
--- finishing is a whole step from the state in which the exchange was begun: the exchange, or want of memory, by which nothing changes and no call is made
+-- finishing is a whole step from the state in which the exchange was begun: the exchange, or a failed allocation, by which nothing changes and no call is made
 abbrev pub Finishes : {F : Type 0} → May F → State F → ℕ → Result (code.Exchange × Bool) AllocError → State F → Type 0
 Finishes may before i (Ok x) after = (calls : Calls) × Step may before i calls (Exchanged (exchange_of x.0) x.1) after
 Finishes may before i (Err e) after = Step may before i [] (Refused (device.Queue stop.OutOfMemory)) after

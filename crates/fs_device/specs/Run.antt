@@ -244,7 +244,7 @@ Kicks may s i most (Some q) told k after = KickRun may s i most told k.refused a
 
 -- ---- runs
 
--- a kick makes room for its exchanges: none where its queue is missing or it is for none
+-- a kick makes room for its exchanges: none if its queue is missing or it is for none
 abbrev pub kick_takes_memory : {F : Type 0} → State F → (queue most : ℕ) → Bool
 kick_takes_memory s queue most = nat_lt queue (length s.queues) && nat_lt 0 most
 
@@ -253,7 +253,7 @@ abbrev pub region_fits : (base block : ℕ) → Option Block → Bool
 region_fits base block None = false
 region_fits base block (Some b) = fits (record { start = base; size = length b.bytes; block = block })
 
--- whether a command takes memory, and so may be refused for want of it: a read, a block and a change of mappings only where they aren't refused anyway, a region only where its block is there and its last address fits
+-- whether a command takes memory, and so may be refused since an allocation fails: a read, a block and a change of mappings only if they aren't refused anyway, a region only if its block is there and its last address fits
 abbrev pub command_takes_memory : {F : Type 0} → State F → Command → Bool
 command_takes_memory s (GuestWrite a bs) = false
 command_takes_memory s (Map iova target n perm) = nat_lt 0 n && (ends_fit iova n && ends_fit target n)
@@ -281,7 +281,7 @@ Does may s (Kick queue most) told (Served k) after = Kicks may s queue most (sli
 Does may s (Kick queue most) told answer after = ⊥
 Does may s command told answer after = HasEffect s command told answer after
 
--- want of memory changes nothing
+-- a failed allocation changes nothing
 abbrev pub LacksMemory : {F : Type 0} → State F → Command → Told → State F → Type 0
 LacksMemory s command [] after = IsTrue (command_takes_memory s command) × (after ≡ s)
 LacksMemory s command (t ∷ ts) after = ⊥

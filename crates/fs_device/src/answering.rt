@@ -24,8 +24,8 @@ use std::alloc::{AllocError, Global};
 use virtiofsd_fuse::{REQUEST_FRONT, Reader, Server, Writer, writes_data};
 use vm_memory_core::HostBlocks;
 
-// Has the server answer a request by a copy of its front, and by the rest, which is read where it stands. Nothing where
-// memory was wanting, and then nothing changed.
+// Has the server answer a request by a copy of its front, and by the rest, which is read where it stands. Nothing if
+// an allocation failed, and then nothing changed.
 #[inline(always)]
 fn answer_behind<F: FileSystem, H: HostBlocks>(
     alloc: Global,
@@ -49,7 +49,7 @@ fn answer_behind<F: FileSystem, H: HostBlocks>(
 }
 
 // Has the server answer a request that is longer than its front: the data of a WRITE stays where it stands, and any other is
-// fetched whole. Nothing where memory was wanting, and then nothing changed.
+// fetched whole. Nothing if an allocation failed, and then nothing changed.
 #[inline(always)]
 fn answer_longer<F: FileSystem, H: HostBlocks>(
     alloc: Global,
@@ -75,8 +75,8 @@ fn answer_longer<F: FileSystem, H: HostBlocks>(
     }
 }
 
-// Has the server answer a chain's request, of which these are the first bytes, into a buffer. Nothing where memory was
-// wanting, and then nothing changed.
+// Has the server answer a chain's request, of which these are the first bytes, into a buffer. Nothing if an allocation
+// failed, and then nothing changed.
 #[inline(always)]
 fn answer_in_buffer<F: FileSystem, H: HostBlocks>(
     alloc: Global,
@@ -101,7 +101,7 @@ fn answer_in_buffer<F: FileSystem, H: HostBlocks>(
 }
 
 // Has the server answer a chain's request, of which these are the first bytes: the data of a READ is put where it goes, if
-// that can be. Nothing where memory was wanting, and then nothing changed.
+// that can be. Nothing if an allocation failed, and then nothing changed.
 #[inline(always)]
 fn answer_by_front<F: FileSystem, H: HostBlocks>(
     alloc: Global,
@@ -130,7 +130,7 @@ fn answer_by_front<F: FileSystem, H: HostBlocks>(
     }
 }
 
-// Copies the front of a chain's request, and has the server answer it by that. Nothing where memory was wanting, and then
+// Copies the front of a chain's request, and has the server answer it by that. Nothing if an allocation failed, and then
 // nothing changed.
 #[inline(always)]
 fn answer_chain<F: FileSystem, H: HostBlocks>(

@@ -28,7 +28,7 @@ pub enum Command {
     NewBlock {
         len: usize,
     },
-    /// All of a block lies in guest memory from an address on, once more where it lies there already.
+    /// All of a block lies in guest memory from an address on, once more if it lies there already.
     InsertRegion {
         base: u64,
         block: usize,

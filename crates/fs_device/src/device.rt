@@ -75,7 +75,7 @@ impl<F: FileSystem> Device<F> {
         }
     }
 
-    /// A queue by its number, from 0; none where there is no such queue.
+    /// A queue by its number, from 0; none if there is no such queue.
     pub fn queue(&self, queue: usize) -> Option<&Queue>
         ensures { option_map (λ q. q.now) result ≡ slice_get self.now.queues queue }
     {
@@ -130,8 +130,8 @@ impl<F: FileSystem> Device<F> {
         }
     }
 
-    /// Takes the next chain of a queue and all the memory that its exchange wants of the device: its request is read,
-    /// and there is room for its reply. None where no chain waits. The file system isn't asked. `NoSuchQueue` and
+    /// Takes the next chain of a queue and all the memory that its exchange needs of the device: its request is read,
+    /// and there is room for its reply. None if no chain waits. The file system isn't asked. `NoSuchQueue` and
     /// `QueueError::OutOfMemory` change nothing, nor does `Stopped`; every other `QueueError` stops the queue.
     #[inline]
     pub fn begin<M: GuestMemory, H: HostBlocks>(
@@ -163,8 +163,8 @@ impl<F: FileSystem> Device<F> {
     }
 
     /// Has the server answer what was begun, and gives the chain back (VIRTIO 1.2, 2.7.8): what was exchanged, and
-    /// whether the driver wants to be told (2.7.7). Only memory that the server wants before it asks the file system can
-    /// be lacking (`AllocError`); then nothing changes, and the chain may be begun again. Finish it while memory and queue
+    /// whether the driver wants to be told (2.7.7). Only memory that the server needs before it asks the file system can
+    /// fail to be allocated (`AllocError`); then nothing changes, and the chain may be begun again. Finish it while memory and queue
     /// are as `begin` left them: of another no more is said than that limits and other queues stay.
     #[inline]
     pub fn finish<H: HostBlocks>(
@@ -195,7 +195,7 @@ impl<F: FileSystem> Device<F> {
     }
 
     /// Serves the next chain of a queue, by its number from 0: what was exchanged, and whether the driver wants to be
-    /// told (VIRTIO 1.2, 2.7.7); None where no chain waits. `NoSuchQueue` and `QueueError::OutOfMemory` change nothing,
+    /// told (VIRTIO 1.2, 2.7.7); None if no chain waits. `NoSuchQueue` and `QueueError::OutOfMemory` change nothing,
     /// nor does `Stopped`; every other `QueueError` stops the queue, and the file system isn't asked.
     pub fn process_one<M: GuestMemory, H: HostBlocks>(
         &mut self,
@@ -226,7 +226,7 @@ impl<F: FileSystem> Device<F> {
     }
 
     /// Begins a queue anew, as a driver's reset does (VIRTIO 1.2, 2.6.1): its position is 0, and it isn't stopped.
-    /// `NoSuchQueue` where it is missing.
+    /// `NoSuchQueue` if it is missing.
     pub fn reset_queue(&mut self, queue: usize, layout: QueueLayout) -> Result<(), DeviceError>
         ensures missing { IfErr result (λ e. (e ≡ NoSuchQueue) × (slice_get self.old.queues queue ≡ None) × (self.new ≡ self.old)) }
         ensures there { OnOk result ((queue < length self.old.queues)

@@ -68,7 +68,7 @@ impl<F: FileSystem, I: Iommu + Drop> Machine<F, I> {
         }
     }
 
-    /// Other regions take the place of all that are there: `Done`, or refused `UnknownBlock` where one of them lies over a
+    /// Other regions take the place of all that are there: `Done`, or refused `UnknownBlock` if one of them lies over a
     /// block that the host doesn't have so, and then nothing changed.
     pub fn set_layout(&mut self, layout: GuestMemoryMmap) -> Answer
         ensures { Performs F.may (machine_of self.old) (SetLayout layout) [] (answer_of result) (machine_of self.new) }

@@ -36,7 +36,7 @@ pub struct Migrated<F, I: Iommu + Drop> {
     pub device_record: Vec<u8>,
 }
 
-/// A machine that wasn't moved, since memory was wanting. It goes on where it is; what was done, none of the commands
+/// A machine that wasn't moved, since an allocation failed. It goes on where it is; what was done, none of the commands
 /// or all, has its answers. Its blocks' marks may be gone, taken by the image and by harvests.
 #[derive(Drop)]
 pub struct Stayed<F, I: Iommu + Drop> {
@@ -97,7 +97,7 @@ impl<F: FileSystem> Device<F> {
 }
 
 impl<F: FileSystem, I: Iommu + Drop> Machine<F, I> {
-    // An image, commands and a last harvest, one after another; or the commands' answers, where memory was wanting.
+    // An image, commands and a last harvest, one after another; or the commands' answers, if an allocation failed.
     fn run_from_image(
         &mut self,
         alloc: Global,
@@ -173,7 +173,7 @@ impl<F: FileSystem, I: Iommu + Drop> Machine<F, I> {
     /// the image with all harvested pages put in, in order, and a device that goes on from its record. The IOMMU is off
     /// (`mem.get_iommu_enabled()`), and each command may follow an image (`Command::follows_image`). A command that is
     /// refused stops nothing. There the machine is as here after the last harvest, marks and all, and whatever runs
-    /// there could have run here. Where memory is wanting the machine stays, with none of the commands done or with
+    /// there could have run here. If an allocation fails the machine stays, with none of the commands done or with
     /// all. Either may be moved again.
     pub fn migrate(
         mut self,

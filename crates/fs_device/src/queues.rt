@@ -21,7 +21,7 @@ pub struct QueueRun {
 }
 
 impl QueueRun {
-    // Chains after which none waits, or none more was wanted.
+    // Chains after which none waits, or no more were asked for.
     pub(crate) fn ended(done: Vec<(Exchange, bool)>) -> QueueRun
         ensures { result ≡ record { done = done; refused = None } }
     {
@@ -42,7 +42,7 @@ impl QueueRun {
     }
 }
 
-// Room for so many exchanges: it takes no memory where none is wanted.
+// Room for so many exchanges: it takes no memory if none is asked for.
 fn room_for(alloc: Global, most: u16) -> Result<Vec<(Exchange, bool)>, AllocError>
     ensures items { IfOk result (λ done. done.items ≡ []) }
     ensures room { IfOk result (λ done. most ≤ vec_capacity done) }
@@ -61,7 +61,7 @@ ghost use Rattle.fs_device.specs.CommandView.{ServesQueue};
 impl<F: FileSystem> Device<F> {
     /// Serves the next chains of a queue, by its number from 0, one after another, until `most` are done, none waits or a
     /// step is refused, which `QueueRun` tells. `NoSuchQueue` comes first, whatever memory there is;
-    /// `QueueError::OutOfMemory` where there is no memory for a list of `most` exchanges, and then nothing was done.
+    /// `QueueError::OutOfMemory` if there is no memory for a list of `most` exchanges, and then nothing was done.
     #[tactic(auto, using(crate::proofs::KickLemmas::room_wanted))]
     pub fn process_queue<M: GuestMemory, H: HostBlocks>(
         &mut self,

@@ -48,7 +48,7 @@ impl<F: FileSystem, I: Iommu + Drop> Machine<F, I> {
         let _ = layout.write_slice(&mut self.host, bytes, GuestAddress(addr));
     }
 
-    /// The guest reads `len` bytes from a physical address on: `Bytes`, or refused `NoPlace` where it doesn't reach all of
+    /// The guest reads `len` bytes from a physical address on: `Bytes`, or refused `NoPlace` if it doesn't reach all of
     /// them, or `OutOfMemory`.
     pub fn guest_read(&self, alloc: Global, addr: u64, len: usize) -> Answer
         ensures { Performs F.may (machine_of self.now) (GuestRead addr len) [] (answer_of result) (machine_of self.now) }
@@ -63,7 +63,7 @@ impl<F: FileSystem, I: Iommu + Drop> Machine<F, I> {
         Answer::Bytes(bytes)
     }
 
-    /// The guest writes bytes from a physical address on: `Done`, or refused `NoPlace` where it doesn't reach all of them,
+    /// The guest writes bytes from a physical address on: `Done`, or refused `NoPlace` if it doesn't reach all of them,
     /// and then nothing changed.
     pub fn guest_write(&mut self, addr: u64, bytes: &[u8]) -> Answer
         ensures { Performs F.may (machine_of self.old) (GuestWrite addr bytes.now) [] (answer_of result) (machine_of self.new) }
@@ -129,7 +129,7 @@ impl<F: FileSystem, I: Iommu + Drop> Machine<F, I> {
     }
 
     /// Does commands one after another, and answers each, in order. Room for the answers is made before anything is done:
-    /// `AllocError` where there is none, and then nothing changed. A command that is refused stops nothing.
+    /// `AllocError` if there is none, and then nothing changed. A command that is refused stops nothing.
     pub fn run(&mut self, alloc: Global, commands: Vec<Command>) -> Result<Vec<Answer>, AllocError>
         ensures run { IfOk result (λ answers. Run F.may (machine_of self.old) (zip (map command_of commands.items) (map answer_of answers.items))
             (machine_of self.new)) }

@@ -26,7 +26,7 @@ impl<F: FileSystem> Device<F> {
     }
 
     /// Puts the device's record, of version 2, into a sink: its queues, the options that were agreed, the bytes of a
-    /// guest's page and the limit. WriteFault where the sink answers an error or takes nothing: a part of the record
+    /// guest's page and the limit. WriteFault if the sink answers an error or takes nothing: a part of the record
     /// went out, and not all of it.
     pub fn save<S: RecordSink>(&self, sink: &mut S) -> Result<(), WriteFault>
         ensures goes_out { GoesOut (device_bytes self.now) (S.sent sink.old) (S.failed sink.old) result (S.sent sink.new) (S.failed sink.new) }
@@ -43,7 +43,7 @@ impl<F: FileSystem> Device<F> {
 
     /// A device that goes on from the record, of version 1 or 2, that stands next in a source, over a file system that
     /// was carried over. The guest's pages have `page_size` bytes, a power of two from 4096 to 65536; the limit is from
-    /// 0x101000 to 2^31. Version 1 tells neither; Mismatch where version 2 tells another. Each refusal says what stands
+    /// 0x101000 to 2^31. Version 1 tells neither; Mismatch if version 2 tells another. Each refusal says what stands
     /// in the source, as `restore_record` does, and hands the file system back.
     pub fn restore<S: RecordSource>(
         alloc: Global,

@@ -58,14 +58,14 @@ pub(crate) fn make_room(alloc: Global, taken: &Taken) -> Result<Writer, AllocErr
     }
 }
 
-// Whether memory was wanting.
+// Whether an allocation failed.
 fn is_memory(error: Error) -> bool
     ensures { result ≡ is_memory error }
 {
     matches!(error, Error::OutOfMemory)
 }
 
-// Has the server answer what a reader has left into a writer's room; nothing where memory was wanting, and then nothing
+// Has the server answer what a reader has left into a writer's room; nothing if an allocation failed, and then nothing
 // changed.
 #[inline(always)]
 pub(crate) fn answer<F: FileSystem>(

@@ -30,7 +30,7 @@ ghost use Rattle.fs_device.specs.Returned.{StepTold};
 
 impl<F: FileSystem> Device<F> {
     /// Serves the next chain of a queue, by its number from 0, as `process_one` does, and tells what was exchanged
-    /// without its bytes; None where no chain waits. The first `REQUEST_FRONT` bytes of the request are copied, or all of
+    /// without its bytes; None if no chain waits. The first `REQUEST_FRONT` bytes of the request are copied, or all of
     /// a shorter one. The data of a WRITE, which stands behind these, isn't: the file system reads it where it stands, one
     /// window after another. Nor is that of a READ of no more bytes, if none of what is behind the `REPLY_FRONT` bytes of
     /// the reply's header in the room is one of these, where reads that fail put nothing in (`FileSystem::reads_whole`): the
