@@ -56,8 +56,8 @@ impl Contents {
         }
     }
 
-    // Takes the memory for a length, if it is within so many bytes, and an eighth more if that is too: a file that grows
-    // write by write is then seldom copied. EFBIG, ENOSPC and ENOMEM take none.
+    // Takes the memory for a length, if it is within so many bytes. A file that grows takes an eighth of what it holds more
+    // if that is within them too, since each growth copies the file. EFBIG, ENOSPC and ENOMEM take none.
     fn reserve(&mut self, len: u64, most: u64) -> Result<(), Errno>
         ensures ok { OnOk result (len ≤ vec_capacity self.new.bytes) }
         ensures bytes { self.new.bytes.items ≡ self.old.bytes.items }
@@ -66,14 +66,15 @@ impl Contents {
         if len > LONGEST {
             return Err(Errno::EFBIG);
         }
-        if len <= self.held() {
+        let held = self.held();
+        if len <= held {
             return Ok(());
         }
         if len > most {
             return Err(Errno::ENOSPC);
         }
-        let spare = (len / 8).min(most - len);
-        let more = len + spare - self.len();
+        let wanted = held.saturating_add(held / 8).min(most).max(len);
+        let more = wanted - self.len();
         self.bytes
             .reserve_exact(more as usize)
             .map_err(|_| Errno::ENOMEM)

@@ -33,9 +33,9 @@ pub struct MemoryFiles {
 
 impl MemoryFiles {
     /// A file system of an empty root, which belongs to user and group 0. The contents of its files take at most `limit`
-    /// bytes of memory, of which a file that grows may take an eighth more than it has bytes; beside them a file that
-    /// grows or is cut is held twice while it is copied. There are at most `most_nodes` files and directories, which
-    /// bounds all other memory: some 500 bytes for each. AllocError if memory is wanting.
+    /// bytes of memory: a file that grew may take an eighth more than it has bytes. While a file grows or is cut, it is
+    /// copied, and its copy counts for nothing. There are at most `most_nodes` files and directories. AllocError if memory
+    /// is wanting.
     pub fn new(alloc: Global, limit: u64, most_nodes: u64) -> Result<MemoryFiles, AllocError>
         ensures { IfOk result (λ files. Starts (files_of files)) }
     {
