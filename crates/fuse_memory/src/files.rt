@@ -15,7 +15,8 @@ pub(crate) const ROOT: u64 = 1;
 // The most bytes that a name has.
 const LONGEST_NAME: usize = 255;
 
-/// A file system in memory, empty at first. Each look-up goes through all names, so it is one of few files.
+/// A file system in memory, empty at first. Each look-up goes through all names, and each write through all nodes, so it
+/// is one of few files.
 #[derive(Drop)]
 pub struct MemoryFiles {
     pub(crate) alloc: Global,
@@ -87,7 +88,7 @@ impl MemoryFiles {
         }
     }
 
-    // Whether a node is a directory. ENOENT where there is none, and ENOTDIR where it is a file.
+    // Whether a node is a directory. ENOENT if there is none, and ENOTDIR if it is a file.
     pub(crate) fn test_directory(&self, number: u64) -> Result<(), Errno> {
         match self.node(number) {
             Some(node) if node.is_directory() => Ok(()),
@@ -96,7 +97,7 @@ impl MemoryFiles {
         }
     }
 
-    // The place of a name in a directory, where it has one. A directory that is removed has no names and gets none: ENOENT.
+    // The place of a name in a directory, if it has one. A directory that is removed has no names and gets none: ENOENT.
     pub(crate) fn find(&self, parent: u64, name: &[u8]) -> Result<Option<usize>, Errno>
         ensures { IfOk result (λ found. IfSome found (λ i. i < vec_len self.now.names)) }
     {
@@ -117,7 +118,7 @@ impl MemoryFiles {
         }
     }
 
-    // The place of a name that a directory has. ENOENT where it has none.
+    // The place of a name that a directory has. ENOENT if it has none.
     pub(crate) fn find_there(&self, parent: u64, name: &[u8]) -> Result<usize, Errno>
         ensures { IfOk result (λ i. i < vec_len self.now.names) }
     {
@@ -142,7 +143,7 @@ impl MemoryFiles {
         }
     }
 
-    // The guest holds a node so many times less. It goes where it has no name either.
+    // The guest holds a node so many times less. It goes if it has no name either.
     pub(crate) fn let_go(&mut self, number: u64, count: u64) {
         match self.nodes.get_mut(number as usize) {
             Some(Some(node)) => node.lookups = node.lookups.saturating_sub(count),
@@ -169,7 +170,7 @@ impl MemoryFiles {
         }
     }
 
-    // A number that no node has, with a place in the table. ENOSPC where there may be no more nodes.
+    // A number that no node has, with a place in the table. ENOSPC if there may be no more nodes.
     fn free_number(&mut self) -> Result<u64, Errno>
         ensures keeps { Keeps (files_of self.old) (files_of self.new) }
         ensures free { IfOk result (λ number. slice_get self.new.nodes.items number ≡ Some None) }
@@ -223,7 +224,7 @@ impl MemoryFiles {
         Ok(entry)
     }
 
-    // Takes a name away, and its node where the guest doesn't hold it.
+    // Takes a name away, and its node if the guest doesn't hold it.
     pub(crate) fn remove(&mut self, place: usize)
         requires { place < vec_len self.old.names }
     {
