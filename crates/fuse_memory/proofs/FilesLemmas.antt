@@ -1,11 +1,11 @@
 -- the table of nodes after one of them was changed
-use Rattle.std.proofs.Common.{◌≡◌, ℕ, zero, suc, ◌==◌, ◌<◌, List, [], ◌∷◌, length, set, get_or, Option, Some, None, refl, sym, ap, ◌∙◌, subst, arith, ⊎_elim}
+use Rattle.std.proofs.Common.{◌≡◌, ℕ, zero, suc, ◌==◌, ◌<◌, List, [], ◌∷◌, length, set, get_or, Option, Some, None, refl, sym, ap, ◌∙◌, arith, ⊎_elim}
 use Rattle.std.specs.Prelude.{slice_get, option_map}
 use Rattle.std.proofs.lemmas.Bool.{cases_eq, cond-false, cond-true, eq-eqb, ne_eqb}
 use Rattle.std.proofs.lemmas.Option.{slice_get_read}
 use Rattle.std.specs.Prelude.{◌≤◌, min, take, Result, Ok, Err, IfOk, OnErr}
 use Rattle.fuse_fs.specs.Answers.{written_answer}
-use Rattle.fuse_fs.specs.Calls.{FileAnswer, Failed}
+use Rattle.fuse_fs.specs.Calls.{Failed}
 use Rattle.fuse_memory.specs.Changes.{Changes, Keeps, written}
 use Rattle.fuse_memory.specs.Files.{DirectoryEntry, File, Nodes, file_at, file_of, node_at, there}
 use Rattle.fuse_memory.specs.Memory.{Writes, read_at}

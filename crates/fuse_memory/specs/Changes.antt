@@ -1,5 +1,5 @@
 -- What reads of files give, and what changes leave of them.
-use Rattle.std.specs.Prelude.{◌≡◌, ℕ, ◌==◌, bit_and, bit_or, List, [], take, drop, Option, Some, None, option_map, if◌then◌else◌}
+use Rattle.std.specs.Prelude.{◌≡◌, ℕ, ◌==◌, bit_and, bit_or, List, [], take, drop, Option, Some, option_map, if◌then◌else◌}
 use Rattle.fuse_fs.specs.Calls.{FileAnswer, Failed, Bytes}
 use Rattle.fuse_in.specs.declared.nodes.SetattrIn.{SetattrIn}
 use Rattle.fuse_memory.specs.Contents.{put, sized}

@@ -1,6 +1,6 @@
 //! The bytes of a file.
 
-ghost use Rattle.std.specs.Prelude.{◌≡◌, ℕ, ◌<◌, ◌≤◌, ◌+◌, [], List, length, take, drop, min, vec_len, vec_capacity, Ok, IfOk, OnOk, OnErr};
+ghost use Rattle.std.specs.Prelude.{◌≡◌, ℕ, ◌<◌, ◌≤◌, ◌+◌, [], List, length, take, drop, min, vec_capacity, Ok, IfOk, OnOk, OnErr};
 ghost use Rattle.fuse_memory.specs.Contents.{put, sized};
 ghost use Rattle.fuse_memory.specs.Transfers.{ReadGives, WriteGives};
 

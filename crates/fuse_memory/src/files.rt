@@ -1,6 +1,6 @@
 //! The table of nodes and the names.
 
-ghost use Rattle.std.specs.Prelude.{◌≡◌, ◌<◌, length, vec_len, slice_get, option_map, Some, None, IfNone, IfOk, IfSome, OnOk, OnErr};
+ghost use Rattle.std.specs.Prelude.{◌≡◌, ◌<◌, vec_len, slice_get, option_map, Some, None, IfNone, IfOk, IfSome};
 ghost use Rattle.fuse_memory.specs.Changes.{Keeps};
 ghost use Rattle.fuse_memory.specs.Files.{Starts, files_of, node_at};
 

@@ -1,4 +1,4 @@
-use Rattle.std.proofs.Common.{◌≡◌, ℕ, List, take, ap, refl, ◌∙◌, arith}
+use Rattle.std.proofs.Common.{◌≡◌, ℕ, take, ap, refl, ◌∙◌, arith}
 use Rattle.fuse_memory.specs.Contents.{put}
 use Rattle.fuse_memory.proofs.WriteLemmas.{wrote}
 use Rattle.fuse_memory.proofs.contents.Contents.write.Goals as goal
