@@ -1,1 +1,4 @@
+pub mod FilesLemmas
 pub mod ListingLemmas
+pub mod ReadLemmas
+pub mod WriteLemmas

@@ -1,6 +1,40 @@
--- The contents of files, by their nodes.
-use Rattle.std.specs.Prelude.{◌≡◌, ◌≢◌, ℕ, List, [], Option, Some, None, slice_get}
+-- The files as a guest sees them: what each node is, and which entries the directories have.
+use Rattle.std.specs.Prelude.{◌≡◌, ◌≢◌, ℕ, Bool, ◌==◌, bit_and, List, [], length, map, Option, Some, None, option_map, slice_get, if◌then◌else◌}
+use Rattle.fuse_base.specs.declared.records.Attr.{Attr}
+use Rattle.fuse_memory.specs.declared.files.MemoryFiles.{MemoryFiles}
+use Rattle.fuse_memory.specs.declared.nodes.Name.{Name}
 use Rattle.fuse_memory.specs.declared.nodes.Node.{Node}
+
+-- a file or a directory; a directory's contents are empty
+pub record File : Type 0 where
+  pub contents : List ℕ
+  pub mode : ℕ
+
+-- an entry of a directory: its name, the node that it names, and of what kind that is (d_type of dirent.h)
+pub record DirectoryEntry : Type 0 where
+  pub directory : ℕ
+  pub name : List ℕ
+  pub node : ℕ
+  pub kind : ℕ
+
+-- all files by the numbers of their nodes, and all entries in the order of listings
+pub record Files : Type 0 where
+  pub file : (node : ℕ) → Option File
+  pub entries : List DirectoryEntry
+
+-- whether a mode is that of a directory: of its bits S_IFMT (0o170000) says so S_IFDIR (0o40000, inode(7))
+abbrev pub is_directory : File → Bool
+is_directory f = bit_and f.mode 0xf000 == 0x4000
+
+-- attributes tell a file's size and mode
+abbrev pub Tells : File → Attr → Type 0
+Tells f attr = (attr.size ≡ length f.contents) × (attr.mode ≡ f.mode)
+
+-- ---- of what the code keeps
+
+-- a node as a file
+abbrev pub file_of : Node → File
+file_of node = record { contents = node.contents.bytes.items; mode = node.attr.mode }
 
 -- the nodes, each at the place of its number
 abbrev pub Nodes : Type 0
@@ -15,20 +49,20 @@ there None = None
 abbrev pub node_at : Nodes → (number : ℕ) → Option Node
 node_at nodes number = there (slice_get nodes number)
 
--- the contents of a node; a directory's are empty
-abbrev pub contents_of : Option Node → Option (List ℕ)
-contents_of (Some node) = Some node.contents.bytes.items
-contents_of None = None
+-- the file of a number
+abbrev pub file_at : Nodes → (number : ℕ) → Option File
+file_at nodes number = option_map file_of (node_at nodes number)
 
--- the contents of the node of a number
-abbrev pub contents_at : Nodes → (number : ℕ) → Option (List ℕ)
-contents_at nodes number = contents_of (node_at nodes number)
+-- a name as an entry
+abbrev pub entry_of : Name → DirectoryEntry
+entry_of entry = record { directory = entry.parent; name = entry.name.items; node = entry.node; kind = entry.kind }
 
--- no file changes
-pub record Keeps (before after : Nodes) : Type 0 where
-  pub same : (number : ℕ) → contents_at after number ≡ contents_at before number
+-- all files and entries
+abbrev pub files_of : MemoryFiles → Files
+files_of m = record { file = file_at m.nodes.items; entries = map entry_of m.names.items }
 
--- an empty root, which is node 1, and no other node
-pub record Starts (nodes : Nodes) : Type 0 where
-  pub root : contents_at nodes 1 ≡ Some []
-  pub others : (other : ℕ) → other ≢ 1 → contents_at nodes other ≡ None
+-- an empty root, which is node 1, and nothing else
+pub record Starts (files : Files) : Type 0 where
+  pub root : files.file 1 ≡ Some (record { contents = []; mode = 0x41ed })
+  pub others : (other : ℕ) → other ≢ 1 → files.file other ≡ None
+  pub entries : files.entries ≡ []

@@ -1,4 +1,6 @@
+pub mod Changes
 pub mod Contents
 pub mod Files
 pub mod Listing
 pub mod Memory
+pub mod Transfers

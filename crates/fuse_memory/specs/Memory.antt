@@ -1,32 +1,56 @@
--- What the calls of the file system in memory may answer and do, by the contents of its files. Of names, and of the calls
--- that change something, it says nothing.
-use Rattle.std.specs.Prelude.{◌≡◌, ⊤, ℕ, ◌==◌, bit_and, List, [], length, Option, Some, None, if◌then◌else◌}
-use Rattle.fuse_fs.specs.Calls.{FileCall, FileAnswer, Failed, HasAttr, Getattr, Release, Statfs, Opendir, Readdir}
-use Rattle.fuse_memory.specs.Contents.{sized}
-use Rattle.fuse_memory.specs.Files.{Nodes, contents_at, Keeps}
+-- What the calls of the file system in memory may answer and do.
+use Rattle.std.specs.Prelude.{◌≡◌, ◌≤◌, ⊤, ℕ, min, List, length, take, Option, Some, None}
+use Rattle.fuse_fs.specs.Calls.{FileCall, FileAnswer, Failed, HasAttr, Opened, Wrote}
+use Rattle.fuse_fs.specs.Calls.{Getattr, Setattr, Open, Read, Write, Release, Statfs, Opendir, Readdir}
+use Rattle.fuse_in.specs.declared.nodes.SetattrIn.{SetattrIn}
+use Rattle.fuse_memory.specs.Changes.{Changes, Keeps, attributes_set, opened, read_of, written}
+use Rattle.fuse_memory.specs.Files.{File, Files, Tells, files_of}
 use Rattle.fuse_memory.specs.declared.files.MemoryFiles.{MemoryFiles}
 
--- error numbers of Linux: no node has this number
+-- an error number of Linux: no node has this number
 abbrev pub ENOENT : ℕ
 ENOENT = 2
 
--- GETATTR: the size is that of the contents
-abbrev pub Tells : Option (List ℕ) → FileAnswer → Type 0
-Tells None answer = answer ≡ Failed ENOENT
-Tells (Some contents) (HasAttr attr time) = attr.size ≡ length contents
-Tells (Some contents) answer = ⊥
+-- GETATTR: size and mode are the file's
+abbrev pub Answers : Option File → FileAnswer → Type 0
+Answers None answer = answer ≡ Failed ENOENT
+Answers (Some f) (HasAttr attr time) = Tells f attr
+Answers (Some f) answer = ⊥
 
--- the contents after a SETATTR: with the flag FATTR_SIZE (8) they have another length
-abbrev pub cut : (valid size : ℕ) → List ℕ → List ℕ
-cut valid size old = if bit_and valid 8 == 8 then sized size old else old
+-- READ: a file's bytes from the offset on
+abbrev pub read_at : Option File → (most offset : ℕ) → FileAnswer
+read_at None most offset = Failed ENOENT
+read_at (Some f) most offset = read_of most offset f
 
--- the contents after an OPEN: with the flag O_TRUNC (512) they are empty
-abbrev pub emptied : (flags : ℕ) → List ℕ → List ℕ
-emptied flags old = if bit_and flags 512 == 0 then old else []
+-- SETATTR: the file has what is set, and the answer tells it; an error changes nothing
+abbrev pub Sets : Files → (node : ℕ) → (valid : ℕ) → SetattrIn → FileAnswer → Files → Type 0
+Sets before node valid to (Failed e) after = Keeps before after
+Sets before node valid to (HasAttr attr time) after =
+    Changes before node (attributes_set valid to) after × Answers (after.file node) (HasAttr attr time)
+Sets before node valid to answer after = ⊥
 
--- by the nodes before and after
-abbrev pub MayDo : Nodes → FileCall → FileAnswer → Nodes → Type 0
-MayDo before (Getattr who node handle) answer after = Tells (contents_at before node) answer × Keeps before after
+-- OPEN: the file is emptied if the flags say so; an error changes nothing
+abbrev pub Opens : Files → (node flags : ℕ) → FileAnswer → Files → Type 0
+Opens before node flags (Failed e) after = Keeps before after
+Opens before node flags (Opened handle options) after = Changes before node (opened flags) after
+Opens before node flags answer after = ⊥
+
+-- WRITE: so many of the bytes stand at the offset; an error changes nothing
+abbrev pub Writes : Files → (node : ℕ) → (bytes : List ℕ) → (size offset : ℕ) → FileAnswer → Files → Type 0
+Writes before node bytes size offset (Failed e) after = Keeps before after
+Writes before node bytes size offset (Wrote n) after =
+    (n ≤ min size (length bytes)) × Changes before node (written offset (take n bytes)) after
+Writes before node bytes size offset answer after = ⊥
+
+-- by the files before and after
+abbrev pub MayDo : Files → FileCall → FileAnswer → Files → Type 0
+MayDo before (Getattr who node handle) answer after = Answers (before.file node) answer × Keeps before after
+MayDo before (Setattr who node to handle valid) answer after = Sets before node valid to answer after
+MayDo before (Open who node kill flags) answer after = Opens before node flags answer after
+MayDo before (Read who node handle room size offset owner flags) answer after =
+    (answer ≡ read_at (before.file node) (min size room) offset) × Keeps before after
+MayDo before (Write who node handle bytes size offset owner delayed kill flags) answer after =
+    Writes before node bytes size offset answer after
 MayDo before (Statfs who node) answer after = Keeps before after
 MayDo before (Release who node flags handle flush unlock owner) answer after = Keeps before after
 MayDo before (Opendir who node flags) answer after = Keeps before after
@@ -35,4 +59,4 @@ MayDo before call answer after = ⊤
 
 -- the file system's relation
 abbrev pub May : MemoryFiles → FileCall → FileAnswer → MemoryFiles → Type 0
-May before call answer after = MayDo before.nodes.items call answer after.nodes.items
+May before call answer after = MayDo (files_of before) call answer (files_of after)

@@ -1,10 +1,11 @@
 //! The bytes of a file.
 
-ghost use Rattle.std.specs.Prelude.{⊤, ◌≡◌, ◌<◌, ◌≤◌, ◌+◌, ◌-◌, ◌^◌, ◌↔◌, [], length, take, drop, vec_len, Ok, Err, IfOk, OnOk, OnErr, IsOk};
-ghost use Rattle.fuse_memory.specs.Contents.{LENGTH_LIMIT, sized};
+ghost use Rattle.std.specs.Prelude.{◌≡◌, ℕ, ◌<◌, ◌≤◌, ◌+◌, [], List, length, take, drop, min, vec_capacity, Ok, IfOk, OnOk, OnErr};
+ghost use Rattle.fuse_memory.specs.Contents.{put, sized};
+ghost use Rattle.fuse_memory.specs.Transfers.{ReadGives, WriteGives};
 
 use fuse_base::Errno;
-use fuse_fs::{PositionedFile, WritevFlags, ZeroCopyReader};
+use fuse_fs::{PositionedFile, WritevFlags, ZeroCopyReader, ZeroCopyWriter};
 use std::alloc::Global;
 
 // The greatest length of a file (`off_t`).
@@ -14,6 +15,9 @@ const LONGEST: u64 = i64::MAX as u64;
 #[derive(Drop)]
 pub(crate) struct Contents {
     bytes: Vec<u8>,
+    // Of the write that is at work: how many bytes of memory the contents may take, and how many it has written.
+    most: u64,
+    written: u64,
 }
 
 impl Contents {
@@ -23,6 +27,8 @@ impl Contents {
     {
         Contents {
             bytes: Vec::new(alloc),
+            most: 0,
+            written: 0,
         }
     }
 
@@ -30,6 +36,13 @@ impl Contents {
         ensures { result ≡ length self.now.bytes.items }
     {
         self.bytes.len() as u64
+    }
+
+    // How many bytes of memory they take.
+    pub fn held(&self) -> u64
+        ensures { result ≡ vec_capacity self.now.bytes }
+    {
+        self.bytes.capacity() as u64
     }
 
     // The bytes from a place on.
@@ -43,55 +56,112 @@ impl Contents {
         }
     }
 
-    // Whether they may have a length, where there is room for so many bytes more.
-    fn test_len(&self, len: u64, room: u64) -> Result<(), Errno>
-        ensures { IsOk result ↔ ((len < LENGTH_LIMIT) × (len ≤ length self.now.bytes.items + room)) }
+    // Takes the memory for a length, if it is within so many bytes. A file that grows takes an eighth of what it holds more
+    // if that is within them too, since each growth copies the file. EFBIG, ENOSPC and ENOMEM take none.
+    fn reserve(&mut self, len: u64, most: u64) -> Result<(), Errno>
+        ensures ok { OnOk result (len ≤ vec_capacity self.new.bytes) }
+        ensures bytes { self.new.bytes.items ≡ self.old.bytes.items }
+        ensures written { self.new.written ≡ self.old.written }
     {
         if len > LONGEST {
             return Err(Errno::EFBIG);
         }
-        if len.saturating_sub(self.len()) > room {
+        let held = self.held();
+        if len <= held {
+            return Ok(());
+        }
+        if len > most {
             return Err(Errno::ENOSPC);
         }
-        Ok(())
+        let wanted = held.saturating_add(held / 8).min(most).max(len);
+        let more = wanted - self.len();
+        self.bytes
+            .reserve_exact(more as usize)
+            .map_err(|_| Errno::ENOMEM)
     }
 
-    /// Cuts them to a length or fills them up with zeros, where there is room for so many bytes more. EFBIG, ENOSPC and
-    /// ENOMEM change nothing.
+    /// Cuts them to a length, and gives back the memory behind it; or fills them up with zeros, if they take at most
+    /// `room` bytes more for it. EFBIG, ENOSPC and ENOMEM change nothing.
     pub fn set_len(&mut self, len: u64, room: u64) -> Result<(), Errno>
         ensures ok { OnOk result (self.new.bytes.items ≡ sized len self.old.bytes.items) }
         ensures err { OnErr result (self.new.bytes.items ≡ self.old.bytes.items) }
     {
-        self.test_len(len, room)?;
+        if len < self.len() {
+            self.bytes.truncate(len as usize);
+            self.bytes.shrink_to_fit();
+            return Ok(());
+        }
+        let most = self.held().saturating_add(room);
+        self.reserve(len, most)?;
         self.bytes
             .resize(len as usize, 0)
             .map_err(|_| Errno::ENOMEM)
     }
 
-    /// Writes what a reader has to a place, where there is room for so many bytes more, and answers how many. EFBIG,
-    /// ENOSPC and ENOMEM change nothing, since memory is asked for first.
+    // Puts bytes at an offset, and zeros into a gap before them, within the memory of the write that is at work. EFBIG,
+    // ENOSPC and ENOMEM change nothing.
+    fn put(&mut self, bytes: &[u8], off: u64) -> Result<(), Errno>
+        ensures ok { OnOk result (self.new.bytes.items ≡ put off bytes.now self.old.bytes.items) }
+        ensures err { OnErr result (self.new.bytes.items ≡ self.old.bytes.items) }
+        ensures written { self.new.written ≡ self.old.written }
+    {
+        if bytes.is_empty() {
+            return Ok(());
+        }
+        let end = off.checked_add(bytes.len() as u64).ok_or(Errno::EFBIG)?;
+        self.reserve(end, self.most)?;
+        let len = self.len().max(end);
+        self.bytes
+            .resize(len as usize, 0)
+            .map_err(|_| Errno::ENOMEM)?;
+        self.bytes[off as usize..end as usize].copy_from_slice(bytes);
+        Ok(())
+    }
+
+    /// Puts at most `size` bytes from an offset on into a writer, as many as it has room for, and answers how many. It
+    /// never fails.
+    pub fn read<W: ZeroCopyWriter>(
+        &mut self,
+        w: &mut W,
+        size: u32,
+        offset: u64,
+    ) -> Result<usize, Errno>
+        ensures bytes { (bytes : List ℕ) × W.Puts w.old bytes w.new × (W.room w.old ≡ W.room w.new + length bytes) × (result ≡ Ok (length bytes))
+            × (bytes ≡ take (min size (W.room w.old)) (drop offset self.old.bytes.items)) }
+        ensures same { self.new ≡ self.old }
+    {
+        let there = self.len().saturating_sub(offset);
+        let wanted = there.min(u64::from(size)).min(w.available_bytes() as u64);
+        w.read_from_file_at(self, wanted as usize, offset)
+    }
+
+    /// Writes what a reader has to an offset, if they take at most `room` bytes of memory more for it, and answers how
+    /// many bytes it wrote: fewer than there are if an error comes after some of them. EFBIG, ENOSPC and ENOMEM change
+    /// nothing.
     pub fn write<R: ZeroCopyReader>(
         &mut self,
         r: &mut R,
         size: u32,
         offset: u64,
         room: u64,
-    ) -> Result<u32, Errno> {
-        let end = offset.checked_add(u64::from(size)).ok_or(Errno::EFBIG)?;
-        self.test_len(end, room)?;
-        let more = end.saturating_sub(self.len());
-        if self.bytes.reserve(more as usize).is_err() {
-            return Err(Errno::ENOMEM);
+    ) -> Result<u32, Errno>
+        ensures within { IfOk result (λ n. n ≤ min size (length (R.left r.old))) }
+        ensures ok { IfOk result (λ n. self.new.bytes.items ≡ put offset (take n (R.left r.old)) self.old.bytes.items) }
+        ensures err { OnErr result (self.new.bytes.items ≡ self.old.bytes.items) }
+    {
+        self.most = self.held().saturating_add(room);
+        self.written = 0;
+        match r.write_to_file_at(self, size as usize, offset, None) {
+            Err(error) if self.written == 0 => Err(error),
+            _ => Ok(self.written as u32),
         }
-        let count = r.write_to_file_at(self, size as usize, offset, None)?;
-        u32::try_from(count).map_err(|_| Errno::EIO)
     }
 }
 
 impl PositionedFile for Contents {
-    ghost read_gives = { λ f most off answer g. (answer ≡ Ok (take most (drop off f.bytes.items))) × (g ≡ f) };
+    ghost read_gives = { ReadGives };
 
-    ghost write_gives = { λ f bytes off flags answer g. ⊤ };
+    ghost write_gives = { WriteGives };
 
     fn read_at(&mut self, buf: &mut [u8], off: u64) -> Result<usize, Errno> {
         let rest = self.rest(off);
@@ -113,15 +183,8 @@ impl PositionedFile for Contents {
         off: u64,
         _flags: Option<WritevFlags>,
     ) -> Result<usize, Errno> {
-        if buf.is_empty() {
-            return Ok(0);
-        }
-        let start = off as usize;
-        let end = start.checked_add(buf.len()).ok_or(Errno::EFBIG)?;
-        if end > self.bytes.len() && self.bytes.resize(end, 0).is_err() {
-            return Err(Errno::ENOMEM);
-        }
-        self.bytes[start..end].copy_from_slice(buf);
+        self.put(buf, off)?;
+        self.written = self.written.saturating_add(buf.len() as u64);
         Ok(buf.len())
     }
 }

@@ -60,18 +60,15 @@ impl WritableFileSystem for MemoryFiles {
         valid: SetattrValid,
     ) -> Result<(Attr, Timeout), Errno> {
         let room = self.room();
-        match self.nodes.get_mut(inode as usize) {
-            Some(Some(node)) => {
-                let before = node.contents.len();
-                let told = node.set(&attr, valid, room);
-                let after = node.contents.len();
-                self.count_bytes(before, after);
-                match told {
-                    Ok(told) => Ok((told, second())),
-                    Err(error) => Err(error),
-                }
+        let Some(place) = self.place(inode) else {
+            return Err(Errno::ENOENT);
+        };
+        match &mut self.nodes[place] {
+            Some(node) => {
+                let told = node.set(&attr, valid, room)?;
+                Ok((told, second()))
             }
-            _ => Err(Errno::ENOENT),
+            None => Err(Errno::ENOENT),
         }
     }
 
@@ -142,18 +139,15 @@ impl WritableFileSystem for MemoryFiles {
         _kill_priv: bool,
         flags: u32,
     ) -> Result<(Option<u64>, OpenOptions), Errno> {
-        match self.nodes.get_mut(inode as usize) {
-            Some(Some(node)) => {
-                let before = node.contents.len();
-                let opened = node.open(flags);
-                let after = node.contents.len();
-                self.count_bytes(before, after);
-                match opened {
-                    Ok(()) => defaults::open(),
-                    Err(error) => Err(error),
-                }
+        let Some(place) = self.place(inode) else {
+            return Err(Errno::ENOENT);
+        };
+        match &mut self.nodes[place] {
+            Some(node) => {
+                node.open(flags)?;
+                defaults::open()
             }
-            _ => Err(Errno::ENOENT),
+            None => Err(Errno::ENOENT),
         }
     }
 
@@ -183,10 +177,12 @@ impl WritableFileSystem for MemoryFiles {
         _lock_owner: Option<u64>,
         _flags: u32,
     ) -> Result<usize, Errno> {
-        match self.nodes.get_mut(inode as usize) {
-            Some(Some(node)) if node.is_directory() => Err(Errno::EISDIR),
-            Some(Some(node)) => defaults::read_whole(&mut node.contents, w, size as usize, offset),
-            _ => Err(Errno::ENOENT),
+        let Some(place) = self.place(inode) else {
+            return Err(Errno::ENOENT);
+        };
+        match &mut self.nodes[place] {
+            Some(node) => node.read(w, size, offset),
+            None => Err(Errno::ENOENT),
         }
     }
 
@@ -204,15 +200,12 @@ impl WritableFileSystem for MemoryFiles {
         _flags: u32,
     ) -> Result<u32, Errno> {
         let room = self.room();
-        match self.nodes.get_mut(inode as usize) {
-            Some(Some(node)) => {
-                let before = node.contents.len();
-                let count = node.write(r, size, offset, room);
-                let after = node.contents.len();
-                self.count_bytes(before, after);
-                count
-            }
-            _ => Err(Errno::ENOENT),
+        let Some(place) = self.place(inode) else {
+            return Err(Errno::ENOENT);
+        };
+        match &mut self.nodes[place] {
+            Some(node) => node.write(r, size, offset, room),
+            None => Err(Errno::ENOENT),
         }
     }
 

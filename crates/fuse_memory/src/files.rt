@@ -1,9 +1,10 @@
 //! The table of nodes and the names.
 
-ghost use Rattle.std.specs.Prelude.{◌≡◌, ◌<◌, length, vec_len, slice_get, option_map, Some, None, IfOk, IfSome, OnOk, OnErr};
-ghost use Rattle.fuse_memory.specs.Files.{Keeps, Starts, node_at};
+ghost use Rattle.std.specs.Prelude.{◌≡◌, ◌<◌, vec_len, slice_get, option_map, Some, None, IfNone, IfOk, IfSome};
+ghost use Rattle.fuse_memory.specs.Changes.{Keeps};
+ghost use Rattle.fuse_memory.specs.Files.{Starts, files_of, node_at};
 
-use crate::nodes::{DT_DIR, Name, Node, S_IFDIR, parent_of, place_of};
+use crate::nodes::{DT_DIR, Name, Node, S_IFDIR, place_of};
 use fuse_base::{Errno, GuestGid, GuestUid};
 use fuse_fs::{Context, Entry};
 use std::alloc::{AllocError, Global};
@@ -14,7 +15,8 @@ pub(crate) const ROOT: u64 = 1;
 // The most bytes that a name has.
 const LONGEST_NAME: usize = 255;
 
-/// A file system in memory, empty at first. Each look-up goes through all names, so it is one of few files.
+/// A file system in memory, empty at first. Each look-up goes through all names, and each write through all nodes, so it
+/// is one of few files.
 #[derive(Drop)]
 pub struct MemoryFiles {
     pub(crate) alloc: Global,
@@ -24,47 +26,44 @@ pub struct MemoryFiles {
     pub(crate) names: Vec<Name>,
     // How many names were made.
     made: u64,
-    // How many bytes all files have, and how many they may have.
-    pub(crate) used: u64,
+    // How many bytes of memory the contents of all files may take.
     pub(crate) limit: u64,
     // How many nodes there may be.
     pub(crate) most_nodes: u64,
 }
 
 impl MemoryFiles {
-    /// A file system of an empty root, which belongs to user and group 0, for at most so many bytes of contents and so
-    /// many nodes. AllocError where memory is wanting.
+    /// A file system of an empty root, which belongs to user and group 0. The contents of its files take at most `limit`
+    /// bytes of memory: a file that grew may take an eighth more than it has bytes. While a file grows or is cut, it is
+    /// copied, and its copy counts for nothing. There are at most `most_nodes` files and directories. AllocError if memory
+    /// is wanting.
     pub fn new(alloc: Global, limit: u64, most_nodes: u64) -> Result<MemoryFiles, AllocError>
-        ensures { IfOk result (λ files. Starts files.nodes.items) }
+        ensures { IfOk result (λ files. Starts (files_of files)) }
     {
         let nobody = Context {
             uid: GuestUid(0),
             gid: GuestGid(0),
             pid: 0,
         };
-        let root = Node::new(alloc, ROOT, 0, nobody, S_IFDIR | 0o755);
+        let root = Node::new(alloc, ROOT, 0, 0, nobody, S_IFDIR | 0o755);
         let nodes = Vec::from_array(alloc, [None, Some(root)])?;
         Ok(MemoryFiles {
             alloc,
             nodes,
             names: Vec::new(alloc),
             made: 0,
-            used: 0,
             limit,
             most_nodes,
         })
     }
 
-    // How many bytes more the files may have.
+    // How many bytes of memory more the contents of files may take.
     pub(crate) fn room(&self) -> u64 {
-        self.limit.saturating_sub(self.used)
-    }
-
-    // A file of so many bytes has so many now.
-    pub(crate) fn count_bytes(&mut self, before: u64, after: u64)
-        ensures { self.new.nodes ≡ self.old.nodes }
-    {
-        self.used = self.used.saturating_sub(before).saturating_add(after);
+        let mut room = self.limit;
+        for node in self.nodes.iter().flatten() {
+            room = room.saturating_sub(node.contents.held());
+        }
+        room
     }
 
     // The node of a number.
@@ -77,7 +76,19 @@ impl MemoryFiles {
         }
     }
 
-    // Whether a node is a directory. ENOENT where there is none, and ENOTDIR where it is a file.
+    // The place of a node in the table, if it isn't past the end.
+    pub(crate) fn place(&self, number: u64) -> Option<usize>
+        ensures some { IfSome result (λ place. (place ≡ number) × (place < vec_len self.now.nodes)) }
+        ensures none { IfNone result (node_at self.now.nodes.items number ≡ None) }
+    {
+        if number < self.nodes.len() as u64 {
+            Some(number as usize)
+        } else {
+            None
+        }
+    }
+
+    // Whether a node is a directory. ENOENT if there is none, and ENOTDIR if it is a file.
     pub(crate) fn test_directory(&self, number: u64) -> Result<(), Errno> {
         match self.node(number) {
             Some(node) if node.is_directory() => Ok(()),
@@ -86,7 +97,7 @@ impl MemoryFiles {
         }
     }
 
-    // The place of a name in a directory, where it has one. A directory that is removed has no names and gets none: ENOENT.
+    // The place of a name in a directory, if it has one. A directory that is removed has no names and gets none: ENOENT.
     pub(crate) fn find(&self, parent: u64, name: &[u8]) -> Result<Option<usize>, Errno>
         ensures { IfOk result (λ found. IfSome found (λ i. i < vec_len self.now.names)) }
     {
@@ -107,7 +118,7 @@ impl MemoryFiles {
         }
     }
 
-    // The place of a name that a directory has. ENOENT where it has none.
+    // The place of a name that a directory has. ENOENT if it has none.
     pub(crate) fn find_there(&self, parent: u64, name: &[u8]) -> Result<usize, Errno>
         ensures { IfOk result (λ i. i < vec_len self.now.names) }
     {
@@ -132,7 +143,7 @@ impl MemoryFiles {
         }
     }
 
-    // The guest holds a node so many times less. It goes where it has no name either.
+    // The guest holds a node so many times less. It goes if it has no name either.
     pub(crate) fn let_go(&mut self, number: u64, count: u64) {
         match self.nodes.get_mut(number as usize) {
             Some(Some(node)) => node.lookups = node.lookups.saturating_sub(count),
@@ -149,8 +160,6 @@ impl MemoryFiles {
         if node.attr.nlink > 0 || node.lookups > 0 {
             return;
         }
-        let len = node.contents.len();
-        self.count_bytes(len, 0);
         self.nodes[number as usize] = None;
     }
 
@@ -161,9 +170,9 @@ impl MemoryFiles {
         }
     }
 
-    // A number that no node has, with a place in the table. ENOSPC where there may be no more nodes.
+    // A number that no node has, with a place in the table. ENOSPC if there may be no more nodes.
     fn free_number(&mut self) -> Result<u64, Errno>
-        ensures keeps { Keeps self.old.nodes.items self.new.nodes.items }
+        ensures keeps { Keeps (files_of self.old) (files_of self.new) }
         ensures free { IfOk result (λ number. slice_get self.new.nodes.items number ≡ Some None) }
         ensures names { self.new.names ≡ self.old.names }
     {
@@ -208,14 +217,14 @@ impl MemoryFiles {
             offset,
         };
         self.names.push(entry).unwrap();
-        let mut made = Node::new(self.alloc, node, offset, ctx, mode);
+        let mut made = Node::new(self.alloc, node, parent, offset, ctx, mode);
         made.lookups = 1;
         let entry = made.entry(node);
         self.nodes[node as usize] = Some(made);
         Ok(entry)
     }
 
-    // Takes a name away, and its node where the guest doesn't hold it.
+    // Takes a name away, and its node if the guest doesn't hold it.
     pub(crate) fn remove(&mut self, place: usize)
         requires { place < vec_len self.old.names }
     {
@@ -227,19 +236,20 @@ impl MemoryFiles {
         self.drop_unused(number);
     }
 
-    // Whether a directory is another or lies in it, in any depth.
+    // Whether a directory is another or lies in it, in any depth. The walk goes up once, from parent to parent.
     pub(crate) fn lies_in(&self, directory: u64, other: u64) -> bool {
         let mut at = directory;
-        for _ in 0..self.names.len() {
+        for _ in 0..self.nodes.len() {
             if at == other {
                 return true;
             }
-            match parent_of(&self.names, at) {
-                Some(parent) => at = parent,
+            match self.node(at) {
+                Some(node) => at = node.parent,
                 None => return false,
             }
         }
-        at == other
+        // Each directory has one parent, up to the root, so a walk of more steps than there are nodes never comes.
+        true
     }
 
     // Whether a name may come in the place of another (rename(2)): a directory only of an empty one, and a file of a file.
@@ -260,13 +270,16 @@ impl MemoryFiles {
     // Gives an entry another directory and name. ENOMEM changes nothing.
     pub(crate) fn move_name(&mut self, place: usize, parent: u64, name: &[u8]) -> Result<(), Errno>
         requires { place < vec_len self.old.names }
-        ensures nodes { self.new.nodes ≡ self.old.nodes }
         ensures names { vec_len self.new.names ≡ vec_len self.old.names }
     {
         let name = copied(self.alloc, name)?;
         let entry = &mut self.names[place];
         entry.parent = parent;
         entry.name = name;
+        let number = entry.node;
+        if let Some(Some(node)) = self.nodes.get_mut(number as usize) {
+            node.parent = parent;
+        }
         Ok(())
     }
 }

@@ -1,12 +1,14 @@
 //! Files and directories, and the names that they have.
 
-ghost use Rattle.std.specs.Prelude.{◌≡◌, ◌<◌, ◌≤◌, [], length, take, IfOk, IfSome, OnOk, OnErr};
+ghost use Rattle.std.specs.Prelude.{◌≡◌, ℕ, ◌+◌, ◌<◌, ◌≤◌, [], List, length, take, min, IfOk, IfSome, OnOk, OnErr};
+ghost use Rattle.fuse_fs.specs.Answers.{data_answer};
+ghost use Rattle.fuse_memory.specs.Changes.{attributes_set, mode_set, opened, read_of, written};
 ghost use Rattle.fuse_memory.specs.Contents.{sized};
-ghost use Rattle.fuse_memory.specs.Memory.{cut, emptied};
+ghost use Rattle.fuse_memory.specs.Files.{Tells, file_of, is_directory};
 
 use crate::contents::Contents;
 use fuse_base::{Attr, Errno, SetattrValid};
-use fuse_fs::{Context, Entry, Timeout, ZeroCopyReader};
+use fuse_fs::{Context, Entry, Timeout, ZeroCopyReader, ZeroCopyWriter};
 use fuse_in::SetattrIn;
 use fuse_writable::Flags;
 use std::alloc::Global;
@@ -30,8 +32,10 @@ pub(crate) const DT_DIR: u32 = 4;
 /// A file or directory. A directory's contents are empty: its entries are the names that have it as their parent.
 #[derive(Drop)]
 pub(crate) struct Node {
-    /// Its attributes, but for its size. The number of links is 0 where it has no name any more.
+    /// Its attributes, but for its size. The number of links is 0 if it has no name any more.
     pub attr: Attr,
+    /// The directory that its name is in; the root has none, 0.
+    pub parent: u64,
     /// Which node of this number it is.
     pub generation: u64,
     /// How often the guest holds it.
@@ -60,32 +64,44 @@ pub(crate) fn second() -> Timeout {
 
 impl Node {
     // An empty file or directory of a mode, with one name. It takes no memory.
-    pub fn new(alloc: Global, number: u64, generation: u64, ctx: Context, mode: u32) -> Node
-        ensures { result.contents.bytes.items ≡ [] }
+    pub fn new(
+        alloc: Global,
+        number: u64,
+        parent: u64,
+        generation: u64,
+        ctx: Context,
+        mode: u32,
+    ) -> Node
+        ensures contents { result.contents.bytes.items ≡ [] }
+        ensures mode { result.attr.mode ≡ mode }
     {
         Node {
             attr: Attr {
                 ino: number,
-                mode: mode & (S_IFMT | PERMISSIONS),
+                mode,
                 nlink: 1,
                 uid: ctx.uid,
                 gid: ctx.gid,
                 blksize: 4096,
                 ..Attr::default()
             },
+            parent,
             generation,
             lookups: 0,
             contents: Contents::new(alloc),
         }
     }
 
-    pub fn is_directory(&self) -> bool {
+    pub fn is_directory(&self) -> bool
+        ensures { result ≡ is_directory (file_of self.now) }
+    {
         self.attr.mode & S_IFMT == S_IFDIR
     }
 
     // All of its attributes.
     pub fn told(&self) -> Attr
-        ensures { result.size ≡ length self.now.contents.bytes.items }
+        ensures size { result.size ≡ length self.now.contents.bytes.items }
+        ensures mode { result.mode ≡ self.now.attr.mode }
     {
         let size = self.contents.len();
         Attr {
@@ -108,11 +124,12 @@ impl Node {
         }
     }
 
-    // Sets what `valid` names, where there is room for so many bytes more, and answers all. An error changes nothing.
+    // Sets what `valid` names, if the file takes at most `room` bytes of memory more for it, and answers all attributes.
+    // An error changes nothing.
     pub fn set(&mut self, to: &SetattrIn, valid: SetattrValid, room: u64) -> Result<Attr, Errno>
-        ensures ok { IfOk result (λ attr. attr.size ≡ length self.new.contents.bytes.items) }
-        ensures contents { OnOk result (self.new.contents.bytes.items ≡ cut valid.0 to.now.size self.old.contents.bytes.items) }
-        ensures err { OnErr result (self.new.contents.bytes.items ≡ self.old.contents.bytes.items) }
+        ensures ok { OnOk result (file_of self.new ≡ attributes_set valid.0 to.now (file_of self.old)) }
+        ensures told { IfOk result (λ attr. Tells (file_of self.new) attr) }
+        ensures err { OnErr result (file_of self.new ≡ file_of self.old) }
     {
         if valid.contains(SetattrValid::SIZE) {
             self.set_len(to.size, room)?;
@@ -121,10 +138,11 @@ impl Node {
         Ok(self.told())
     }
 
-    // Gives a file a length, where there is room for so many bytes more. An error, as EISDIR, changes nothing.
-    pub fn set_len(&mut self, len: u64, room: u64) -> Result<(), Errno>
+    // Gives a file a length, if it takes at most `room` bytes of memory more for it. An error, as EISDIR, changes nothing.
+    fn set_len(&mut self, len: u64, room: u64) -> Result<(), Errno>
         ensures ok { OnOk result (self.new.contents.bytes.items ≡ sized len self.old.contents.bytes.items) }
         ensures err { OnErr result (self.new.contents.bytes.items ≡ self.old.contents.bytes.items) }
+        ensures attr { self.new.attr ≡ self.old.attr }
     {
         if self.is_directory() {
             return Err(Errno::EISDIR);
@@ -132,10 +150,10 @@ impl Node {
         self.contents.set_len(len, room)
     }
 
-    // Empties a file where the flags of an open say so. An error, as EISDIR, changes nothing.
+    // Empties a file if the flags of an open say so. An error, as EISDIR, changes nothing.
     pub fn open(&mut self, flags: u32) -> Result<(), Errno>
-        ensures ok { OnOk result (self.new.contents.bytes.items ≡ emptied flags self.old.contents.bytes.items) }
-        ensures err { OnErr result (self.new.contents.bytes.items ≡ self.old.contents.bytes.items) }
+        ensures ok { OnOk result (file_of self.new ≡ opened flags (file_of self.old)) }
+        ensures err { OnErr result (file_of self.new ≡ file_of self.old) }
     {
         if flags & O_TRUNC == 0 {
             return Ok(());
@@ -143,14 +161,37 @@ impl Node {
         self.set_len(0, 0)
     }
 
-    // Writes what a reader has to a file, where there is room for so many bytes more. An error, as EISDIR, changes nothing.
+    // Puts bytes of a file into a writer. EISDIR puts nothing in.
+    pub fn read<W: ZeroCopyWriter>(
+        &mut self,
+        w: &mut W,
+        size: u32,
+        offset: u64,
+    ) -> Result<usize, Errno>
+        ensures bytes { (bytes : List ℕ) × W.Puts w.old bytes w.new × (W.room w.old ≡ W.room w.new + length bytes)
+            × IfOk result (λ n. n ≡ length bytes) × OnErr result (length bytes ≡ 0)
+            × (data_answer result bytes ≡ read_of (min size (W.room w.old)) offset (file_of self.old)) }
+        ensures same { self.new ≡ self.old }
+    {
+        if self.is_directory() {
+            return Err(Errno::EISDIR);
+        }
+        self.contents.read(w, size, offset)
+    }
+
+    // Writes what a reader has to a file, if it takes at most `room` bytes of memory more for it. An error, as EISDIR,
+    // changes nothing.
     pub fn write<R: ZeroCopyReader>(
         &mut self,
         r: &mut R,
         size: u32,
         offset: u64,
         room: u64,
-    ) -> Result<u32, Errno> {
+    ) -> Result<u32, Errno>
+        ensures within { IfOk result (λ n. n ≤ min size (length (R.left r.old))) }
+        ensures ok { IfOk result (λ n. file_of self.new ≡ written offset (take n (R.left r.old)) (file_of self.old)) }
+        ensures err { OnErr result (file_of self.new ≡ file_of self.old) }
+    {
         if self.is_directory() {
             return Err(Errno::EISDIR);
         }
@@ -160,7 +201,9 @@ impl Node {
 
 // Attributes in which those are set that `valid` names, but the size. There is no clock: a time that is to be now stays
 // as it is.
-fn with_set(attr: Attr, to: &SetattrIn, valid: SetattrValid) -> Attr {
+fn with_set(attr: Attr, to: &SetattrIn, valid: SetattrValid) -> Attr
+    ensures { result.mode ≡ mode_set valid.0 to.now.mode attr.mode }
+{
     let mut attr = attr;
     if valid.contains(SetattrValid::MODE) {
         attr.mode = attr.mode & S_IFMT | to.mode & PERMISSIONS;
@@ -196,10 +239,4 @@ pub(crate) fn place_of(names: &[Name], parent: u64, name: &[u8]) -> Option<usize
         }
     }
     None
-}
-
-// The directory that a node is in.
-pub(crate) fn parent_of(names: &[Name], node: u64) -> Option<u64> {
-    let entry = names.iter().find(|entry| entry.node == node)?;
-    Some(entry.parent)
 }

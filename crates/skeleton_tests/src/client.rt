@@ -3,6 +3,7 @@
 ghost use Rattle.std.specs.Prelude.{◌<◌, ◌^◌, length};
 
 use fuse_memory::MemoryFiles;
+use fuse_wire::{AttrOut, EntryOut, WriteOut};
 use fuse_writable::Writable;
 use guest_driver::changes::{
     create, getattr, mkdir, open, opendir, readdirplus, rename, rmdir, setattr, statfs, unlink,
@@ -14,6 +15,7 @@ use std::alloc::{AllocError, Global};
 use std::fmt::Debug;
 use std::process::Abort;
 use virtiofsd_fuse::{Reader, Server, Writer};
+use vm_values::ByteValued;
 
 /// The node of the root.
 pub const ROOT: u64 = 1;
@@ -53,6 +55,60 @@ pub enum Ask<'a> {
     Opendir(u64),
     // The node, the offset behind which the listing goes on, and the room for it.
     Readdirplus(u64, u64, u32),
+}
+
+/// What a node's number, size, mode and links are.
+pub type Told = (u64, u64, u32, u32);
+
+/// What a request is to answer.
+#[derive(Clone, Copy)]
+pub enum Want<'a> {
+    // No error, and any bytes.
+    Done,
+    // This error.
+    Error(i32),
+    // An entry or attributes of this node.
+    Entry(Told),
+    Attr(Told),
+    // So many bytes are written.
+    Wrote(u32),
+    // These bytes.
+    Bytes(&'a [u8]),
+}
+
+impl<'a> Want<'a> {
+    // The error; 0 is none.
+    fn error(self) -> i32 {
+        match self {
+            Want::Error(error) => error,
+            _ => 0,
+        }
+    }
+}
+
+/// A request with its name and what it is to answer.
+pub type Row<'a> = (&'a str, Ask<'a>, Want<'a>);
+
+/// The first record of a reply.
+pub fn record<T: ByteValued>(rt: &impl Abort, body: &[u8]) -> T {
+    T::from_slice(&body[..T::SIZE.min(body.len())]).expect(rt, "a record")
+}
+
+/// What an entry tells of its node.
+pub fn entry(rt: &impl Abort, body: &[u8]) -> Told {
+    let told: EntryOut = record(rt, body);
+    (told.nodeid, told.attr.size, told.attr.mode, told.attr.nlink)
+}
+
+// What attributes tell of their node.
+fn attr(rt: &impl Abort, body: &[u8]) -> Told {
+    let told: AttrOut = record(rt, body);
+    (
+        told.attr.ino,
+        told.attr.size,
+        told.attr.mode,
+        told.attr.nlink,
+    )
 }
 
 // The bytes, which are no more than any test has.
@@ -138,14 +194,26 @@ impl Client {
         self.ask(rt, ask).expect(rt, "a good reply")
     }
 
-    /// Each request has this error; 0 is none.
-    pub fn expect_errors(&mut self, rt: &impl Abort, rows: &[(Ask<'_>, i32)]) {
-        for (i, (ask, want)) in rows.iter().enumerate() {
-            let found = match self.ask(rt, *ask) {
-                Ok(_) => 0,
-                Err(error) => error,
-            };
-            expect_same(rt, (i, found), (i, *want));
+    /// Each request has the answer that its row wants; a row that fails is named.
+    pub fn expect(&mut self, rt: &impl Abort, rows: &[Row<'_>]) {
+        for &(name, ask, want) in rows {
+            let answer = self.ask(rt, ask);
+            expect_answer(rt, name, answer, want);
         }
+    }
+}
+
+// An answer is the one that is wanted.
+fn expect_answer(rt: &impl Abort, name: &str, answer: Result<Vec<u8>, i32>, want: Want<'_>) {
+    match (answer, want) {
+        (Err(error), want) => expect_same(rt, (name, error), (name, want.error())),
+        (Ok(body), Want::Entry(want)) => expect_same(rt, (name, entry(rt, &body)), (name, want)),
+        (Ok(body), Want::Attr(want)) => expect_same(rt, (name, attr(rt, &body)), (name, want)),
+        (Ok(body), Want::Wrote(want)) => {
+            let wrote: WriteOut = record(rt, &body);
+            expect_same(rt, (name, wrote.size), (name, want));
+        }
+        (Ok(body), Want::Bytes(want)) => expect_same(rt, (name, body.as_slice()), (name, want)),
+        (Ok(_), want) => expect_same(rt, (name, 0), (name, want.error())),
     }
 }

@@ -1,100 +1,123 @@
 //! Files that are made, written, read, moved, listed and removed.
 
-use crate::client::{Ask, Client, FATTR_MODE, FATTR_SIZE, ROOT, expect_same};
-use fuse_wire::{AttrOut, EntryOut, OpenOut, StatfsOut, WriteOut};
-use std::process::Abort;
+use crate::client::{
+    Ask, Client, FATTR_MODE, FATTR_SIZE, ROOT, Row, Want, entry, expect_same, record,
+};
+use fuse_wire::{EntryOut, OpenOut, StatfsOut};
 use vm_values::ByteValued;
 
-// The first record of a reply.
-fn record<T: ByteValued>(rt: &impl Abort, body: &[u8]) -> T {
-    T::from_slice(&body[..T::SIZE.min(body.len())]).expect(rt, "a record")
-}
-
-// The node of an entry, its size, mode and links.
-fn entry(rt: &impl Abort, body: &[u8]) -> (u64, u64, u32, u32) {
-    let entry: EntryOut = record(rt, body);
+const WRITTEN: [Row<'static>; 8] = [
     (
-        entry.nodeid,
-        entry.attr.size,
-        entry.attr.mode,
-        entry.attr.nlink,
-    )
-}
-
-// A node's number, size, mode and links.
-fn attr(rt: &impl Abort, body: &[u8]) -> (u64, u64, u32, u32) {
-    let told: AttrOut = record(rt, body);
+        "make",
+        Ask::Create(ROOT, b"a", 0o644),
+        Want::Entry((2, 0, 0o100_644, 1)),
+    ),
+    ("write", Ask::Write(2, 0, b"hello"), Want::Wrote(5)),
     (
-        told.attr.ino,
-        told.attr.size,
-        told.attr.mode,
-        told.attr.nlink,
-    )
-}
+        "write behind a gap",
+        Ask::Write(2, 7, b"there"),
+        Want::Wrote(5),
+    ),
+    (
+        "read all",
+        Ask::Read(2, 0, 100),
+        Want::Bytes(b"hello\0\0there"),
+    ),
+    (
+        "write in the middle",
+        Ask::Write(2, 1, b"ALL"),
+        Want::Wrote(3),
+    ),
+    (
+        "read in the middle",
+        Ask::Read(2, 1, 4),
+        Want::Bytes(b"ALLo"),
+    ),
+    ("read at the end", Ask::Read(2, 12, 100), Want::Bytes(b"")),
+    ("read behind it", Ask::Read(2, 100, 100), Want::Bytes(b"")),
+];
 
 #[test]
 fn a_file_is_made_and_written_and_read(rt: HostRuntime) {
     let mut client = Client::new(&rt, rt.alloc(), 0x1000, 8);
-    let made = client.good(&rt, Ask::Create(ROOT, b"a", 0o644));
-    expect_same(&rt, entry(&rt, &made), (2, 0, 0o100_644, 1));
-    expect_same(&rt, made.len(), EntryOut::SIZE + OpenOut::SIZE);
-    let wrote: WriteOut = record(&rt, &client.good(&rt, Ask::Write(2, 0, b"hello")));
-    expect_same(&rt, wrote.size, 5);
-    let wrote: WriteOut = record(&rt, &client.good(&rt, Ask::Write(2, 7, b"there")));
-    expect_same(&rt, wrote.size, 5);
-    let all = client.good(&rt, Ask::Read(2, 0, 100));
-    expect_same(&rt, all.as_slice(), b"hello\0\0there");
-    client.good(&rt, Ask::Write(2, 1, b"ALL"));
-    let middle = client.good(&rt, Ask::Read(2, 1, 4));
-    expect_same(&rt, middle.as_slice(), b"ALLo");
-    let behind = client.good(&rt, Ask::Read(2, 12, 100));
-    expect_same(&rt, behind.len(), 0);
+    client.expect(&rt, &WRITTEN);
 }
+
+const CUT: [Row<'static>; 7] = [
+    ("make", Ask::Create(ROOT, b"a", 0o644), Want::Done),
+    ("write", Ask::Write(2, 0, b"hello"), Want::Wrote(5)),
+    (
+        "cut",
+        Ask::Setattr(2, FATTR_SIZE, 0, 2),
+        Want::Attr((2, 2, 0o100_644, 1)),
+    ),
+    (
+        "fill up, with another mode",
+        Ask::Setattr(2, FATTR_SIZE | FATTR_MODE, 0o600, 4),
+        Want::Attr((2, 4, 0o100_600, 1)),
+    ),
+    ("read all", Ask::Read(2, 0, 100), Want::Bytes(b"he\0\0")),
+    ("open and empty", Ask::Open(2, 0o1001), Want::Done),
+    ("read nothing", Ask::Read(2, 0, 100), Want::Bytes(b"")),
+];
 
 #[test]
 fn a_file_is_cut_and_filled_up(rt: HostRuntime) {
     let mut client = Client::new(&rt, rt.alloc(), 0x1000, 8);
-    client.good(&rt, Ask::Create(ROOT, b"a", 0o644));
-    client.good(&rt, Ask::Write(2, 0, b"hello"));
-    let cut = client.good(&rt, Ask::Setattr(2, FATTR_SIZE, 0, 2));
-    expect_same(&rt, attr(&rt, &cut), (2, 2, 0o100_644, 1));
-    client.good(&rt, Ask::Setattr(2, FATTR_SIZE | FATTR_MODE, 0o600, 4));
-    let told = client.good(&rt, Ask::Getattr(2));
-    expect_same(&rt, attr(&rt, &told), (2, 4, 0o100_600, 1));
-    let all = client.good(&rt, Ask::Read(2, 0, 100));
-    expect_same(&rt, all.as_slice(), b"he\0\0");
-    client.good(&rt, Ask::Open(2, 0o1001));
-    let none = client.good(&rt, Ask::Read(2, 0, 100));
-    expect_same(&rt, none.len(), 0);
+    client.expect(&rt, &CUT);
 }
+
+const MOVED: [Row<'static>; 7] = [
+    ("make", Ask::Create(ROOT, b"a", 0o644), Want::Done),
+    (
+        "make a directory",
+        Ask::Mkdir(ROOT, b"d", 0o755),
+        Want::Done,
+    ),
+    ("make in it", Ask::Create(3, b"b", 0o644), Want::Done),
+    (
+        "move over that",
+        Ask::Rename(ROOT, b"a", 3, b"b", 0),
+        Want::Done,
+    ),
+    (
+        "the new name",
+        Ask::Lookup(3, b"b"),
+        Want::Entry((2, 0, 0o100_644, 1)),
+    ),
+    ("the old name", Ask::Lookup(ROOT, b"a"), Want::Error(-2)),
+    (
+        "what was replaced",
+        Ask::Getattr(4),
+        Want::Attr((4, 0, 0o100_644, 0)),
+    ),
+];
 
 #[test]
 fn a_file_is_moved(rt: HostRuntime) {
     let mut client = Client::new(&rt, rt.alloc(), 0x1000, 8);
-    client.good(&rt, Ask::Create(ROOT, b"a", 0o644));
-    client.good(&rt, Ask::Mkdir(ROOT, b"d", 0o755));
-    client.good(&rt, Ask::Create(3, b"b", 0o644));
-    client.good(&rt, Ask::Rename(ROOT, b"a", 3, b"b", 0));
-    let found = client.good(&rt, Ask::Lookup(3, b"b"));
-    expect_same(&rt, entry(&rt, &found), (2, 0, 0o100_644, 1));
-    client.expect_errors(&rt, &[(Ask::Lookup(ROOT, b"a"), -2)]);
-    let replaced = client.good(&rt, Ask::Getattr(4));
-    expect_same(&rt, attr(&rt, &replaced), (4, 0, 0o100_644, 0));
+    client.expect(&rt, &MOVED);
 }
+
+// The guest holds node 2 twice: it was made and looked up.
+const HELD: [Row<'static>; 8] = [
+    ("make", Ask::Create(ROOT, b"a", 0o644), Want::Done),
+    ("look up", Ask::Lookup(ROOT, b"a"), Want::Done),
+    ("write", Ask::Write(2, 0, b"hello"), Want::Wrote(5)),
+    ("remove", Ask::Unlink(ROOT, b"a"), Want::Done),
+    ("let go once", Ask::Forget(2, 1), Want::Done),
+    ("read all", Ask::Read(2, 0, 100), Want::Bytes(b"hello")),
+    ("let go", Ask::Forget(2, 1), Want::Done),
+    ("read no node", Ask::Read(2, 0, 100), Want::Error(-2)),
+];
 
 #[test]
 fn a_file_that_is_removed_lives_while_it_is_held(rt: HostRuntime) {
     let mut client = Client::new(&rt, rt.alloc(), 0x1000, 8);
-    client.good(&rt, Ask::Create(ROOT, b"a", 0o644));
-    client.good(&rt, Ask::Lookup(ROOT, b"a"));
-    client.good(&rt, Ask::Write(2, 0, b"hello"));
-    client.good(&rt, Ask::Unlink(ROOT, b"a"));
-    client.good(&rt, Ask::Forget(2, 1));
-    let all = client.good(&rt, Ask::Read(2, 0, 100));
-    expect_same(&rt, all.as_slice(), b"hello");
-    client.good(&rt, Ask::Forget(2, 1));
-    client.expect_errors(&rt, &[(Ask::Read(2, 0, 100), -2)]);
-    let next: EntryOut = record(&rt, &client.good(&rt, Ask::Create(ROOT, b"b", 0o644)));
+    client.expect(&rt, &HELD);
+    let made = client.good(&rt, Ask::Create(ROOT, b"b", 0o644));
+    expect_same(&rt, made.len(), EntryOut::SIZE + OpenOut::SIZE);
+    let next: EntryOut = record(&rt, &made);
     expect_same(&rt, (next.nodeid, next.generation), (2, 2));
 }
 

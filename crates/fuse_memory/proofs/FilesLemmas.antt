@@ -1,0 +1,84 @@
+-- the table of nodes after one of them was changed
+use Rattle.std.proofs.Common.{◌≡◌, ℕ, zero, suc, ◌==◌, ◌<◌, List, [], ◌∷◌, length, set, get_or, Option, Some, None, refl, sym, ap, ◌∙◌, arith, ⊎_elim}
+use Rattle.std.specs.Prelude.{slice_get, option_map}
+use Rattle.std.proofs.lemmas.Bool.{cases_eq, cond-false, cond-true, eq-eqb, ne_eqb}
+use Rattle.std.proofs.lemmas.Option.{slice_get_read}
+use Rattle.std.specs.Prelude.{◌≤◌, min, take, Result, Ok, Err, IfOk, OnErr}
+use Rattle.fuse_fs.specs.Answers.{written_answer}
+use Rattle.fuse_fs.specs.Calls.{Failed}
+use Rattle.fuse_memory.specs.Changes.{Changes, Keeps, written}
+use Rattle.fuse_memory.specs.Files.{DirectoryEntry, File, Nodes, file_at, file_of, node_at, there}
+use Rattle.fuse_memory.specs.Memory.{Writes, read_at}
+use Rattle.fuse_memory.specs.declared.nodes.Node.{Node}
+
+get_set_same : {X : Type 0} (xs : List X) (i : ℕ) (y : X) → i < length xs → slice_get (set xs i y) i ≡ Some y
+get_set_same [] i y h = absurd (omega (arith, h))
+get_set_same (x ∷ xs) zero y h = refl
+get_set_same (x ∷ xs) (suc i) y h = get_set_same xs i y (omega (arith, h))
+
+get_set_other : {X : Type 0} (xs : List X) (i j : ℕ) (y : X) → (j ≡ i → ⊥) → slice_get (set xs i y) j ≡ slice_get xs j
+get_set_other [] i j y h = refl
+get_set_other (x ∷ xs) zero zero y h = absurd (h refl)
+get_set_other (x ∷ xs) zero (suc j) y h = refl
+get_set_other (x ∷ xs) (suc i) zero y h = refl
+get_set_other (x ∷ xs) (suc i) (suc j) y h = get_set_other xs i j y (λ e. h (ap suc e))
+
+-- a slot that is past the table
+pub no_file : (nodes : Nodes) (number : ℕ) → node_at nodes number ≡ None → file_at nodes number ≡ None
+no_file nodes number none = ap (λ (n : Option Node). option_map file_of n) none
+
+-- a read of no file
+pub none_read : (file : Option File) (most off : ℕ) → file ≡ None → Failed 2 ≡ read_at file most off
+none_read file most off none = sym (ap (λ (f : Option File). read_at f most off) none)
+
+-- a slot of the table was read
+module _ (nodes : Nodes) (entries : List DirectoryEntry) (place number : ℕ) (slot : Option Node) (at : place ≡ number) (low : place < length nodes) (read : slot ≡ get_or nodes place slot) where
+  -- which file that is
+  pub file_here : file_at nodes number ≡ option_map file_of slot
+  file_here = ap (λ (n : ℕ). file_at nodes n) (sym at) ∙ ap (λ (s : Option (Option Node)). option_map file_of (there s)) (slice_get_read nodes (length nodes) place slot refl low read)
+
+  -- what it is after a change
+  pub file_after : (new : Option Node) → file_at (set nodes place new) number ≡ option_map file_of new
+  file_after new = ap (λ (n : ℕ). file_at (set nodes place new) n) (sym at) ∙ ap (λ (s : Option (Option Node)). option_map file_of (there s)) (get_set_same nodes place new low)
+
+  file_other : (new : Option Node) (other : ℕ) → (other ≡ number → ⊥) → file_at (set nodes place new) other ≡ file_at nodes other
+  file_other new other apart =
+      ap (λ (s : Option (Option Node)). option_map file_of (there s)) (get_set_other nodes place other new (λ e. apart (e ∙ at)))
+
+  -- a slot that is the same file stays so
+  pub keeps : (new : Option Node) → option_map file_of new ≡ option_map file_of slot → Keeps (record { file = file_at nodes; entries = entries }) (record { file = file_at (set nodes place new); entries = entries })
+  keeps new same = record {
+    files = λ other.
+        ⊎_elim
+        (λ (e : other ≡ number). ap (λ (n : ℕ). file_at (set nodes place new) n) e ∙ file_after new ∙ same ∙ sym file_here ∙ ap (λ (n : ℕ). file_at nodes n) (sym e))
+        (λ (apart : other ≡ number → ⊥). file_other new other apart)
+        (cases_eq other number);
+    entries = refl;
+  }
+
+  -- a file that is changed
+  pub changes : (old new : Node) (change : File → File) → slot ≡ Some old → file_of new ≡ change (file_of old) →
+      Changes (record { file = file_at nodes; entries = entries }) number change (record { file = file_at (set nodes place (Some new)); entries = entries })
+  changes old new change is same =
+      let here : file_at nodes number ≡ Some (file_of old) = file_here ∙ ap (λ (s : Option Node). option_map file_of s) is in
+      record {
+        is = file_of old;
+        there = here;
+        files = λ other.
+            ⊎_elim
+            (λ (e : other ≡ number).
+            let before : file_at nodes other ≡ Some (file_of old) = ap (λ (n : ℕ). file_at nodes n) e ∙ here in
+            ap (λ (n : ℕ). file_at (set nodes place (Some new)) n) e ∙ file_after (Some new) ∙ ap Some same
+            ∙ sym (cond-true (other == number) (option_map change (file_at nodes other)) (file_at nodes other) (eq-eqb other number e) ∙ ap (λ (f : Option File). option_map change f) before))
+            (λ (apart : other ≡ number → ⊥).
+            file_other (Some new) other apart ∙ sym (cond-false (other == number) (option_map change (file_at nodes other)) (file_at nodes other) (ne_eqb other number apart)))
+            (cases_eq other number);
+        entries = refl;
+      }
+
+  -- a file that is written
+  pub writes : (old new : Node) (left : List ℕ) (size off : ℕ) (answer : Result ℕ ℕ) → slot ≡ Some old → IfOk answer (λ n. n ≤ min size (length left)) →
+      IfOk answer (λ n. file_of new ≡ written off (take n left) (file_of old)) → OnErr answer (file_of new ≡ file_of old) →
+      Writes (record { file = file_at nodes; entries = entries }) number left size off (written_answer answer) (record { file = file_at (set nodes place (Some new)); entries = entries })
+  writes old new left size off (Ok n) is within ok err = (within, changes old new (written off (take n left)) is ok)
+  writes old new left size off (Err e) is within ok err = keeps (Some new) (ap Some err ∙ ap (λ (s : Option Node). option_map file_of s) (sym is))
