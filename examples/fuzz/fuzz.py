@@ -10,7 +10,7 @@ import time
 from collections import Counter
 from pathlib import Path
 
-from guests import wraps
+from guests import long_script, wraps
 from machine import TooMuchWork, play
 from programs import Built, Tried
 from scripts import made, stored
@@ -36,19 +36,20 @@ class Fuzzer:
         self.differences = 0
 
     def run(self):
-        """The stored scripts, then those of one seed after another, until the time is up."""
+        """Plays scripts until the time is up, all fixed ones in any case, and answers the last seed."""
         store = stored()
-        named = [(f"stored script {index}", script) for index, script in enumerate(store)]
+        fixed = [(f"stored script {index}", script) for index, script in enumerate(store)]
+        fixed += [("a script of 1 MiB", long_script(0)), ("a script that is too long", long_script(1))]
         if self.end - time.monotonic() > SECONDS_TO_WRAP and self.program.prints_much:
-            named.append(("the script that wraps an index", wraps()))
-        for begin in range(0, len(named), self.program.batch):
-            self.compare(named[begin:begin + self.program.batch])
+            fixed.append(("a script that wraps an index", wraps()))
         seed = self.seed
-        while time.monotonic() < self.end and self.differences < MOST_DIFFERENCES:
-            seeds = range(seed, seed + self.program.batch)
-            self.compare([(f"seed {one}", made(one, store)) for one in seeds])
-            seed = seeds.stop
-        return seed
+        while fixed or time.monotonic() < self.end and self.differences < MOST_DIFFERENCES:
+            named, fixed = fixed[:self.program.batch], fixed[self.program.batch:]
+            while len(named) < self.program.batch:
+                named.append((f"seed {seed}", made(seed, store)))
+                seed += 1
+            self.compare(named)
+        return seed - 1
 
     def compare(self, named):
         """Plays scripts on both, and tells each difference."""
@@ -130,9 +131,9 @@ def main(arguments):
     program = Built(path) if path else Tried()
     say(f"seed {seed}" + ("" if path else ": a batch of scripts, which may take some minutes, for each build without proofs"))
     fuzzer = Fuzzer(program, seed, time.monotonic() + seconds)
-    after = fuzzer.run()
+    last = fuzzer.run()
     fuzzer.report()
-    say(f"seeds from {seed} to {after - 1}")
+    say(f"seeds from {seed} to {last}")
     return 1 if fuzzer.differences else 0
 
 

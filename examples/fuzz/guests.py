@@ -2,7 +2,7 @@
 
 import struct
 
-from make_requests import number, request, room_length
+from make_requests import INIT, number, request, room_length
 
 NEXT, WRITE, INDIRECT = 1, 2, 4
 SPAN = 0x3000
@@ -16,6 +16,7 @@ class Queue:
         self.size, self.desc, self.avail, self.used = size, desc, avail, used
         self.index = 0
         self.risky = False
+        self.free = list(range(size))
 
     def layout(self):
         """The words of the layout."""
@@ -36,6 +37,8 @@ class Guest:
         self.taken = []
         self.queues = []
         self.blocks = 0
+        self.session = rng.random() < 0.3
+        self.began = False
 
     def chance(self, part):
         """Whether something happens that happens so often."""
@@ -68,11 +71,13 @@ class Guest:
             address = self.start + rng.randrange(max(1, SPAN - length)) // alignment * alignment
             if all(address + length <= other or other + size <= address for other, size in self.taken):
                 break
-        if self.taken and self.chance(0.05):
+        if self.taken and self.chance(0.06):
             other, size = rng.choice(self.taken)
             address = max(0, other + rng.randint(-min(length, 20), size)) // alignment * alignment
         if self.chance(0.01):
             address = number(rng) // alignment * alignment
+        if self.chance(0.02):
+            address = max(0, self.start + SPAN - length + rng.choice([-1, 0, 0, 1]))
         address = min(address, 2**64 - 1) // alignment * alignment
         self.taken.append((address, length))
         return address
@@ -100,6 +105,12 @@ class Guest:
         if run:
             self.say(f"write {begin:#x} {run.hex()}")
 
+    def somewhere(self):
+        """A device's address in or beside something that is there."""
+        address, size = self.rng.choice(self.taken or [(self.start, SPAN)])
+        size = min(size, self.rng.choice([4, 16, 64, 2**20]))
+        return max(0, address + self.rng.randint(-1, size + 1))
+
     def make_queues(self):
         """Queues, one mostly, and lines that add none."""
         rng = self.rng
@@ -121,9 +132,13 @@ class Guest:
         parts = list(zip(cuts, cuts[1:]))
         if self.chance(0.15):
             rng.shuffle(parts)
+        hole = self.somewhere() - self.start if self.chance(0.06) else None
         for begin, end in parts:
             if self.chance(0.02):
                 continue
+            if hole is not None and begin < hole < end - 2:
+                self.region(self.base + begin, hole - begin)
+                begin = hole + rng.choice([1, 1, 2])
             self.region(self.base + begin, end - begin)
         if self.chance(0.1):
             self.change_regions()
@@ -180,7 +195,10 @@ class Guest:
     def descriptors(self, most):
         """The ordinary descriptors of a chain for a request, mostly no more than a number."""
         rng = self.rng
-        data, wanted = request(rng)
+        data, wanted = request(rng, self.session)
+        if self.session and not self.began:
+            data, wanted = INIT, 80
+            self.began = True
         parts = self.spread(len(data), 0, most - 1, data)
         room = room_length(rng, wanted)
         if room and (len(parts) < most or self.chance(0.3)) or self.chance(0.03):
@@ -189,7 +207,15 @@ class Guest:
             rng.shuffle(parts)
         if self.chance(0.08):
             self.spoil_part(rng.choice(parts))
+        if self.chance(0.004):
+            parts += self.longest()
         return parts
+
+    def longest(self):
+        """A room of the limit's length, or a byte longer, whose parts lie over one another."""
+        address = self.place(0x2000)
+        lengths = [0x2000] * 128 + [0x1000 + self.chance(0.5)]
+        return [[address, length, WRITE] for length in lengths]
 
     def spoil_part(self, part):
         """A number of a descriptor is another one."""
@@ -252,7 +278,10 @@ class Guest:
         if own > queue.size or self.chance(0.35):
             keep = rng.randint(0, min(queue.size - 1, own - 1)) if self.chance(0.3) else 0
             parts = parts[:keep] + [self.indirect(parts[keep:])]
-        indices = rng.sample(range(queue.size), len(parts))
+        if len(queue.free) < len(parts):
+            queue.free = list(range(queue.size))
+        indices = rng.sample(queue.free, len(parts))
+        queue.free = [index for index in queue.free if index not in indices]
         if self.chance(0.5):
             indices.sort()
         for index, entry in self.linked(parts, indices).items():
@@ -282,6 +311,7 @@ class Guest:
         if self.chance(0.9 if queue.risky else 0.1):
             self.reset(number_of)
         offers = min(rng.choice([1, 1, 1, 2, 3]), queue.size)
+        queue.free = list(range(queue.size))
         for _ in range(offers):
             self.offer(queue)
         if self.chance(0.015):
@@ -297,7 +327,7 @@ class Guest:
             self.say(f"read {self.base + rng.randrange(SPAN):#x} {rng.choice([0, 1, 16, 100, 4096])}")
         if self.chance(0.1):
             self.disturb()
-        if self.chance(0.5):
+        if self.chance(0.8):
             self.taken = self.taken[:3 * len(self.queues)]
 
     def disturb(self):
@@ -331,9 +361,9 @@ class Guest:
         """Mappings come and go, and the IOMMU is turned."""
         rng = self.rng
         kind = rng.randrange(8)
-        address = self.start + rng.randrange(SPAN)
+        address = self.somewhere() if self.chance(0.7) else self.start + rng.randrange(SPAN)
         if kind < 4:
-            target = self.base + address - self.start if kind < 2 else self.base + rng.randrange(SPAN)
+            target = (self.in_guest(address) or 0) + rng.choice([0, 0, 1]) if kind < 2 else self.base + rng.randrange(SPAN)
             length = rng.choice([0, 1, 2, 16, 0x100, 0x1000, number(rng)])
             self.say(f"map {address % 2**64:#x} {target % 2**64:#x} {length:#x} {rng.choice(['rw', 'rw', 'r', 'w', 'none'])}")
         elif kind < 6:
@@ -406,3 +436,9 @@ def wraps():
     for index in (0x8000, 0x0000, 0x0001):
         lines += [f"write 0x100002 {index.to_bytes(2, 'little').hex()}", "kick 0 65535", "read 0x200000 16"]
     return "\n".join(lines).encode() + b"\n"
+
+
+def long_script(more):
+    """A script of 1 MiB and so many bytes more, most of it a comment."""
+    begin = b"queue 4 0 0x100 0x200\nharvest\n#"
+    return begin + b"x" * (2**20 + more - len(begin))

@@ -27,6 +27,10 @@ REPLY_LENGTH = {
 FAVOURITES = ["lookup", "forget", "getattr", "read", "write", "readdir", "readdirplus", "init", "batch_forget"]
 
 
+# An INIT that agrees on groups of a request.
+INIT = struct.pack("<IIQQIIIHHIIIII44s", 104, 26, 1, 0, 0, 0, 0, 0, 0, 7, 38, 0x20000, 0x7BFFFFFB, 0xF, b"")
+
+
 def number(rng, width=8):
     """A number of so many bytes: small, near a boundary, or any."""
     kind = rng.random()
@@ -90,7 +94,7 @@ def read_fields(rng):
 
 def write_body(rng):
     """The body of WRITE, with its data."""
-    data = rng.randbytes(rng.choice([0, 1, 2, 5, 16, 100, 300]))
+    data = rng.randbytes(rng.choice([0, 1, 2, 5, 16, 100, 300, 1000]))
     values = fields(rng, "write")
     if rng.random() < 0.9:
         values[1] = rng.choice([0, 0, 1, 4, 5, 6, 10, 100, 4000, 4095, 4096, 4097])
@@ -143,10 +147,12 @@ def body(rng, kind):
     return data + extensions(rng) if kind in EXTENDED and rng.random() < 0.6 else data
 
 
-def request(rng):
-    """A request's bytes, and how many its reply would have."""
+def request(rng, session=False):
+    """A request's bytes, and how many its reply would have. In a session extensions are read."""
     opcode = rng.choice(list(NAMES))
-    if rng.random() < 0.45:
+    if session and rng.random() < 0.3:
+        opcode = rng.choice([number for number, kind in NAMES.items() if kind in EXTENDED])
+    elif rng.random() < 0.45:
         opcode = rng.choice([number for number, kind in NAMES.items() if kind in FAVOURITES])
     kind = NAMES[opcode]
     data = body(rng, kind)
@@ -154,8 +160,8 @@ def request(rng):
     if kind in ("read", "readdir", "readdirplus"):
         wanted = 16 + min(int.from_bytes(data[16:20], "little"), 5000)
     length = 40 + len(data)
-    if rng.random() < 0.08:
-        length = rng.choice([0, 39, 40, length - 1, length + 1, length - 8, length + 8, 0x101000, 0x101001, number(rng, 4)])
+    if rng.random() < 0.1:
+        length = rng.choice([0, 39, 40, 47, 48, 55, length - 1, length + 1, length - 8, length + 8, 0x101000, 0x101001, number(rng, 4)])
     if rng.random() < 0.04:
         opcode = rng.choice([0, 7, 19, 52, 4096, number(rng, 4)])
     node = rng.choice([1, 1, 1, 2, 2, 2, 0, 3, number(rng)])

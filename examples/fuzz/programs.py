@@ -48,7 +48,7 @@ class Built:
 class Tried:
     """The program built without proofs, once for a batch."""
 
-    batch = 150
+    batch = 300
     # More than 1 MiB is cut off.
     prints_much = False
 

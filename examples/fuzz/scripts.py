@@ -11,7 +11,7 @@ ROOT = Path(__file__).resolve().parents[2]
 GREATEST_REGION = 1 << 20
 LEAST_REFUSED = 1 << 62
 NUMBER = re.compile(rb"0x[0-9a-fA-F]+|[0-9]+")
-MALFORMED = [b" ", b"\t", b"\r", b"  ", b"-1", b"+1", b"0x", b"0X1", b"1_0", b"18446744073709551616", b"65536", b"0x10000", b"on", b"rwx", b"\xff", b"0g", b""]
+MALFORMED = [b" ", b"\t", b"\r", b"  ", b"-1", b"+1", b"0x", b"0X1", b"1_0", b"18446744073709551616", b"65536", b"0x10000", b"on", b"rwx", b"\xff", b"0g", b"", b"\0", b"\xc3\xa9"]
 
 
 def stored():
@@ -79,7 +79,7 @@ def change_number(rng, lines):
     others = NUMBER.findall(b"\n".join(line for line in [*lines[place:], *lines] if line[:1] not in b"w#"))
     near = [value + 1, value - 1, value + 16, value * 2, value ^ 1 << rng.randrange(16)]
     value = rng.choice([*near, number(rng), value_of(rng.choice(others))]) % 2**64
-    words[index] = b"%d" % value if rng.random() < 0.5 else b"0x%x" % value
+    words[index] = rng.choice([b"%d", b"%d", b"0x%x", b"0x%x", b"0x%X", b"0x%025x", b"%025d"]) % value
     return lines[:place] + [b" ".join(words)] + lines[place + 1:]
 
 
