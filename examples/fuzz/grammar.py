@@ -198,8 +198,15 @@ class Request:
         self.room = room
 
     def serve(self, name):
-        """The row of a request."""
-        return getattr(self, name)()
+        """The row of a request: its own, or what is read before a call that the file system doesn't have."""
+        if name not in DEFAULTS:
+            return getattr(self, name)()
+        record, names = DEFAULTS[name]
+        if record:
+            self.record(record)
+        if names:
+            names(self, self.counted(size_of(record) if record else 0))
+        raise Errno(ENOSYS)
 
     def record(self, name):
         """The next record's fields."""
@@ -344,116 +351,7 @@ class Request:
             return False
         raise Errno(EIO)
 
-    # Requests whose call is a default: they are read, and then there is no such call.
-
-    def missing(self):
-        """A call that the file system doesn't have."""
-        raise Errno(ENOSYS)
-
-    getlk = setlk = setlkw = bmap = ioctl = poll = notify_reply = missing
-    setup_mapping = remove_mapping = syncfs = tmpfile = readlink = missing
-
-    def setattr(self):
-        """A record."""
-        self.record("setattr")
-        self.missing()
-
-    def release(self):
-        """A record."""
-        self.record("release")
-        self.missing()
-
-    releasedir = release
-
-    def fsync(self):
-        """A record."""
-        self.record("fsync")
-        self.missing()
-
-    fsyncdir = fsync
-
-    def flush(self):
-        """A record."""
-        self.record("flush")
-        self.missing()
-
-    def access(self):
-        """A record."""
-        self.record("access")
-        self.missing()
-
-    def fallocate(self):
-        """A record."""
-        self.record("fallocate")
-        self.missing()
-
-    def lseek(self):
-        """A record."""
-        self.record("lseek")
-        self.missing()
-
-    def copy_file_range(self):
-        """A record."""
-        self.record("copy_file_range")
-        self.missing()
-
-    def unlink(self):
-        """A name."""
-        one_name(self.counted(0))
-        self.missing()
-
-    rmdir = removexattr = unlink
-
-    def link(self):
-        """A record and a name."""
-        self.record("link")
-        one_name(self.counted(8))
-        self.missing()
-
-    def rename(self):
-        """A record and two names."""
-        self.record("rename")
-        two_names(self.counted(8))
-        self.missing()
-
-    def rename2(self):
-        """A record and two names."""
-        self.record("rename2")
-        two_names(self.counted(16))
-        self.missing()
-
-    def symlink(self):
-        """Two names and extensions."""
-        name, rest = split_name(self.counted(0))
-        target, rest = split_name(rest)
-        self.made([name, target], rest)
-
-    def mknod(self):
-        """A record, a name and extensions."""
-        self.record("mknod")
-        self.named(16)
-
-    def mkdir(self):
-        """A record, a name and extensions."""
-        self.record("mkdir")
-        self.named(8)
-
-    def create(self):
-        """A record, a name and extensions."""
-        self.record("create")
-        self.named(16)
-
-    def named(self, read):
-        """A name and extensions behind a record of so many bytes."""
-        name, rest = split_name(self.counted(read))
-        self.made([name], rest)
-
-    def made(self, names, extensions):
-        """Something new by names, which are looked at behind the extensions."""
-        self.extensions(extensions)
-        if not all(name.endswith(b"\0") for name in names):
-            raise Fault("InvalidCString")
-        self.missing()
+    # Requests whose call the file system doesn't have, with a reading of their own.
 
     def setxattr(self):
         """A record, a name and its value."""
@@ -465,7 +363,7 @@ class Request:
             raise Fault("MissingParameter")
         if len(data) - end - 1 != size:
             raise Fault("InvalidXattrSize")
-        self.missing()
+        raise Errno(ENOSYS)
 
     def getxattr(self):
         """A record and a name."""
@@ -474,13 +372,23 @@ class Request:
         if size > LARGEST_BUFFER:
             raise Errno(ENOMEM)
         one_name(data)
-        self.missing()
+        raise Errno(ENOSYS)
 
     def listxattr(self):
         """A record."""
         if self.record("getxattr")[0] > LARGEST_BUFFER:
             raise Errno(ENOMEM)
-        self.missing()
+        raise Errno(ENOSYS)
+
+    def made(self, data, count):
+        """Something new by so many names, which are looked at behind the extensions."""
+        names = []
+        for _ in range(count):
+            name, data = split_name(data)
+            names.append(name)
+        self.extensions(data)
+        if not all(name.endswith(b"\0") for name in names):
+            raise Fault("InvalidCString")
 
     def extensions(self, data):
         """Extensions, where one of their kinds is agreed."""
@@ -526,3 +434,18 @@ def security_context(kind, body):
     end = body.find(b"\0", 8)
     if end < 0 or len(body) - end - 1 < size:
         raise Fault("DecodeMessage")
+
+
+# Requests whose call the file system doesn't have: the record that is read, and the names behind it.
+DEFAULTS = dict.fromkeys(
+    ["getlk", "setlk", "setlkw", "bmap", "ioctl", "poll", "notify_reply", "setup_mapping", "remove_mapping", "syncfs", "tmpfile",
+     "readlink"], (None, None))
+DEFAULTS |= {
+    name: (record, None) for name, record in {
+        "setattr": "setattr", "release": "release", "releasedir": "release", "fsync": "fsync", "fsyncdir": "fsync",
+        "flush": "flush", "access": "access", "fallocate": "fallocate", "lseek": "lseek",
+        "copy_file_range": "copy_file_range"}.items()}
+DEFAULTS |= dict.fromkeys(["unlink", "rmdir", "removexattr"], (None, lambda _, data: one_name(data)))
+DEFAULTS |= {name: (name, lambda _, data: two_names(data)) for name in ["rename", "rename2"]}
+DEFAULTS |= {name: (name, lambda request, data: request.made(data, 1)) for name in ["mknod", "mkdir", "create"]}
+DEFAULTS |= {"link": ("link", lambda _, data: one_name(data)), "symlink": (None, lambda request, data: request.made(data, 2))}

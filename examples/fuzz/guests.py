@@ -7,6 +7,8 @@ from make_requests import INIT, number, request, room_length
 NEXT, WRITE, INDIRECT = 1, 2, 4
 SPAN = 0x3000
 BASES = [0] * 6 + [0x10000, 2**32 - 0x2000, 2**40, 2**64 - SPAN, 2**64 - 0x10000]
+NO_COMMANDS = [
+    " ", "harvest ", "kick 0", "kick 0 65536", "read 0 -1", "write 0 0", "write 0 ", "queue 4 0 0 0", "iommu", "x", "read 0X0 1"]
 
 
 class Queue:
@@ -105,6 +107,13 @@ class Guest:
         if run:
             self.say(f"write {begin:#x} {run.hex()}")
 
+    def cut_span(self, count):
+        """Beginnings and ends of parts of the memory, which has so many cuts, at pages or anywhere."""
+        rng = self.rng
+        cuts = {rng.choice([rng.randrange(1, SPAN), 0x1000 * rng.randint(1, SPAN // 0x1000 - 1)]) for _ in range(count)}
+        places = sorted({0, SPAN, *cuts})
+        return list(zip(places, places[1:]))
+
     def somewhere(self):
         """A device's address in or beside something that is there."""
         address, size = self.rng.choice(self.taken or [(self.start, SPAN)])
@@ -118,7 +127,8 @@ class Guest:
             size = rng.choice([1, 2, 4, 4, 4, 8, 8, 8, 16, 16, 32, 64])
             queue = Queue(size, self.place(16 * size, 16), self.place(6 + 2 * size, 2), self.place(6 + 8 * size, 4))
             if self.chance(0.03):
-                self.say(f"queue {rng.choice([0, 3, size, 65535])} {queue.desc + rng.choice([0, 8]):#x} {queue.avail + 1:#x} {number(rng):#x}")
+                bad = rng.choice([0, 3, size, 65535])
+                self.say(f"queue {bad} {queue.desc + rng.choice([0, 8]):#x} {queue.avail + 1:#x} {number(rng):#x}")
             self.say("queue " + queue.layout())
             self.queues.append(queue)
         if self.chance(0.01):
@@ -128,8 +138,7 @@ class Guest:
     def make_regions(self):
         """Regions over the guest's memory, which may be cut, have gaps and lie over one block."""
         rng = self.rng
-        cuts = sorted({0, SPAN, *(rng.choice([rng.randrange(1, SPAN), 0x1000 * rng.randint(1, 2)]) for _ in range(rng.choice([0, 0, 1, 1, 2, 3])))})
-        parts = list(zip(cuts, cuts[1:]))
+        parts = self.cut_span(rng.choice([0, 0, 1, 1, 2, 3]))
         if self.chance(0.15):
             rng.shuffle(parts)
         hole = self.somewhere() - self.start if self.chance(0.06) else None
@@ -157,16 +166,17 @@ class Guest:
                 self.change_mappings()
             return
         pages = SPAN // 0x1000
-        cuts = sorted({0, SPAN, *(rng.choice([rng.randrange(1, SPAN), 0x1000 * rng.randint(1, pages)]) for _ in range(rng.choice([0, 0, 1, 2, 4])))})
+        cut = self.cut_span(rng.choice([0, 0, 1, 2, 4]))
         targets = list(range(pages))
-        if len(cuts) == 2 and self.chance(0.5):
+        if len(cut) == 1 and self.chance(0.5):
             rng.shuffle(targets)
             parts = [(0x1000 * page, 0x1000 * target, 0x1000) for page, target in enumerate(targets)]
         else:
-            parts = [(begin, begin, end - begin) for begin, end in zip(cuts, cuts[1:])]
+            parts = [(begin, begin, end - begin) for begin, end in cut]
         for begin, target, length in parts:
             self.pieces.append((self.start + begin, self.base + target, length))
-            self.say(f"map {self.start + begin:#x} {self.base + target:#x} {length:#x} {rng.choice(['rw'] * 30 + ['r', 'w', 'none'])}")
+            may = rng.choice(["rw"] * 30 + ["r", "w", "none"])
+            self.say(f"map {self.start + begin:#x} {self.base + target:#x} {length:#x} {may}")
         self.say("iommu on")
 
     # Chains.
@@ -181,6 +191,8 @@ class Guest:
     def spread(self, length, flag, most, data=None):
         """Descriptors for so many bytes, apart or one behind the other, and their data in memory."""
         together = self.place(length) if self.chance(0.4) else None
+        if flag == WRITE and self.chance(0.12):
+            together = self.somewhere()
         parts, done = [], 0
         for size in self.cut(length, most):
             address = self.place(size) if together is None else together + done
@@ -188,6 +200,8 @@ class Guest:
                 self.put(address, data[done:done + size])
             if size == 0 and self.chance(0.4):
                 address = number(self.rng)
+            elif parts and flag == WRITE and self.chance(0.06):
+                address = parts[-1][0] + self.rng.randint(0, 4)
             parts.append([address % 2**64, size, flag])
             done += size
         return parts
@@ -340,15 +354,16 @@ class Guest:
         rng = self.rng
         kind = rng.randrange(4)
         base, size = rng.choice(self.regions or [(self.base, SPAN)])
+        place = rng.choice([self.base + SPAN, base + size, base, number(rng)]) % 2**64
         if kind == 0:
             self.say(f"unregion {base:#x} {size + rng.choice([0, 0, 0, 1]):#x}")
             if self.chance(0.7) and self.blocks:
                 self.say(f"alias {base:#x} {rng.randrange(self.blocks)}")
             self.spoil_queues()
         elif kind == 1:
-            self.say(f"alias {rng.choice([self.base + SPAN, base + size, base, number(rng)]):#x} {rng.choice([0, 0, 1, self.blocks, number(rng)])}")
+            self.say(f"alias {place:#x} {rng.choice([0, 0, 1, self.blocks, number(rng)])}")
         elif kind == 2:
-            self.say(f"region {rng.choice([self.base + SPAN, base + size, base, number(rng)]) % 2**64:#x} {rng.choice([0, 1, 2, 0x800, 0x1000, 0x1001, 2**63, 2**64 - 1]):#x}")
+            self.say(f"region {place:#x} {rng.choice([0, 1, 2, 0x800, 0x1000, 0x1001, 2**63, 2**64 - 1]):#x}")
         else:
             self.say(f"unregion {number(rng):#x} {number(rng):#x}")
 
@@ -426,7 +441,7 @@ class Guest:
             if self.chance(0.8):
                 self.say(f"read {base:#x} {min(size, 2**64 - 1 - base):#x}")
         if self.chance(0.05):
-            self.say(self.rng.choice([" ", "harvest ", "kick 0", "kick 0 65536", "read 0 -1", "write 0 0", "write 0 ", "queue 4 0 0 0", "iommu", "x", "read 0X0 1"]))
+            self.say(self.rng.choice(NO_COMMANDS))
 
 
 def wraps():

@@ -188,7 +188,7 @@ def bad_layout(size, desc, avail, used):
 
 
 def walk(memory, queue, head):
-    """The chain that begins at a head: address, length and flags of each ordinary descriptor."""
+    """The chain that begins at a head (address, length and flags of each ordinary descriptor), and whether it ends in a table."""
     chain = []
     table, entries, index, inside = queue.desc, queue.size, head, False
     while True:
@@ -205,7 +205,7 @@ def walk(memory, queue, head):
             raise Fault("AddressOverflow")
         chain.append((address, length, flags))
         if not flags & NEXT:
-            return chain
+            return chain, inside
         index = follower
 
 
@@ -296,7 +296,8 @@ class Machine:
             raise Refused(USED_UNREACHABLE)
         memory.fetch(queue.avail, 2, FLAGS_UNREACHABLE)
         try:
-            chain = walk(memory, queue, head)
+            chain, inside = walk(memory, queue, head)
+            self.coverage["shape", "through a table" if inside else "direct"] += 1
             return head, element, used_index, request_and_room(memory, chain), None
         except Fault as fault:
             return head, element, used_index, (b"", []), fault
@@ -312,6 +313,7 @@ class Machine:
             except Fault as found:
                 fault = found
             self.count_request(reply, fault)
+            self.count_shape(room[:len(reply)], element + used_index)
         else:
             self.coverage["chain fault", str(fault)] += 1
         self.give_back(queue, head, element, used_index, room, reply)
@@ -336,6 +338,13 @@ class Machine:
             self.coverage["error answered", -int.from_bytes(reply[4:8], "little", signed=True)] += 1
         else:
             self.coverage["error answered", "silence"] += 1
+
+    def count_shape(self, written, used):
+        """Where the reply went, for the coverage."""
+        self.coverage["shape", "behind the IOMMU"] += self.memory.iommu
+        self.coverage["shape", "reply over itself"] += len(set(written)) < len(written)
+        self.coverage["shape", "reply over what is used"] += not set(written).isdisjoint(used)
+        self.coverage["shape", "reply in several blocks"] += len({block for block, _ in written}) > 1
 
 
 def call_lines(calls):

@@ -7,6 +7,8 @@ from grammar import NAMES, RECORDS
 BOUNDARIES = [0, 1, 2, 3, 4, 5, 7, 8, 15, 16, 17, 31, 32, 33, 63, 64, 127, 128, 255, 256, 4095, 4096, 4097, 65535, 65536]
 GREAT = [0x100000, 0x100001, 0x101000, 0x101001, 2**31, 2**32 - 1, 2**63 - 1, 2**63, 2**64 - 4096, 2**64 - 2, 2**64 - 1]
 
+SIZES = [0, 1, 3, 5, 16, 31, 32, 33, 63, 64, 65, 159, 160, 161, 319, 320, 321, 1000, 4096, 0x100000, 0x100001]
+
 # The records of requests whose name isn't theirs.
 RECORD_OF = {
     "readdir": "read", "readdirplus": "read", "opendir": "open", "releasedir": "release", "fsyncdir": "fsync",
@@ -48,7 +50,7 @@ def name(rng):
     text = rng.choice([b"a", b"a", b"a", b".", b"..", b"b", b"aa", b"", b"user.x", b"0123456789abcdef", b"0123456789abcdefg"])
     if rng.random() < 0.08:
         text = rng.randbytes(rng.randint(1, 40))
-    return text if rng.random() < 0.06 else text + b"\0"
+    return text if rng.random() < 0.09 else text + b"\0"
 
 
 def extensions(rng):
@@ -88,7 +90,7 @@ def read_fields(rng):
     if rng.random() < 0.85:
         values[1] = rng.choice([0, 0, 0, 1, 2, 3, 4, 5, 6, 4095, 4096, 4097])
     if rng.random() < 0.85:
-        values[2] = rng.choice([0, 1, 3, 5, 16, 31, 32, 33, 63, 64, 65, 159, 160, 161, 319, 320, 321, 1000, 4096, 0x100000, 0x100001])
+        values[2] = rng.choice(SIZES)
     return values
 
 
@@ -161,14 +163,15 @@ def request(rng, session=False):
         wanted = 16 + min(int.from_bytes(data[16:20], "little"), 5000)
     length = 40 + len(data)
     if rng.random() < 0.1:
-        length = rng.choice([0, 39, 40, 47, 48, 55, length - 1, length + 1, length - 8, length + 8, 0x101000, 0x101001, number(rng, 4)])
+        near = [length - 1, length + 1, length - 8, length + 8]
+        length = rng.choice([0, 39, 40, 47, 48, 55, 56, *near, 0x101000, 0x101001, number(rng, 4)])
     if rng.random() < 0.04:
         opcode = rng.choice([0, 7, 19, 52, 4096, number(rng, 4)])
     node = rng.choice([1, 1, 1, 2, 2, 2, 0, 3, number(rng)])
     if kind in ("read", "write") and rng.random() < 0.8:
         node = 2
-    header = struct.pack("<IIQQIIIHH", length % 2**32, opcode, number(rng), node, *(number(rng, 4) for _ in range(3)), number(rng, 2), 0)
-    data = header + data
+    ids = [number(rng, 4) for _ in range(3)]
+    data = struct.pack("<IIQQIIIHH", length % 2**32, opcode, number(rng), node, *ids, number(rng, 2), 0) + data
     if rng.random() < 0.05:
         data = data[:rng.randint(0, len(data))]
     if rng.random() < 0.08:
@@ -178,4 +181,5 @@ def request(rng, session=False):
 
 def room_length(rng, wanted):
     """The length of a room: just enough, a byte too few, more, or anything."""
-    return max(0, rng.choice([wanted] * 5 + [wanted + rng.randint(0, 300)] * 3 + [wanted - 1, wanted + 1, 144, 0, 15, 16, 17, rng.randint(0, 400)]))
+    lengths = [wanted] * 5 + [wanted + rng.randint(0, 300)] * 3 + [wanted - 1, wanted + 1, 144, 0, 15, 16, 17]
+    return max(0, rng.choice([*lengths, rng.randint(0, 400)]))

@@ -11,7 +11,10 @@ ROOT = Path(__file__).resolve().parents[2]
 GREATEST_REGION = 1 << 20
 LEAST_REFUSED = 1 << 62
 NUMBER = re.compile(rb"0x[0-9a-fA-F]+|[0-9]+")
-MALFORMED = [b" ", b"\t", b"\r", b"  ", b"-1", b"+1", b"0x", b"0X1", b"1_0", b"18446744073709551616", b"65536", b"0x10000", b"on", b"rwx", b"\xff", b"0g", b"", b"\0", b"\xc3\xa9"]
+MALFORMED = [
+    b" ", b"\t", b"\r", b"  ", b"-1", b"+1", b"0x", b"0X1", b"1_0", b"18446744073709551616", b"65536", b"0x10000", b"on", b"rwx",
+    b"\xff", b"0g", b"", b"\0", b"\xc3\xa9"]
+SHORT_LINES = [b"move", b"harvest", b"iommu on", b"iommu off", b"kick 0 1", b"kick 0 65535", b"# x", b""]
 
 
 def stored():
@@ -62,7 +65,8 @@ def changed(rng, script):
     """A script with a few changes, each of one line or one number."""
     lines = script.split(b"\n")[:-1]
     for _ in range(rng.choice([1, 1, 1, 2, 3, 6])):
-        change = rng.choice([change_number] * 5 + [change_hexadecimal] * 4 + [move_lines] * 2 + [spoil_line] * (rng.random() < 0.1))
+        changes = [change_number] * 5 + [change_hexadecimal] * 4 + [move_lines] * 2
+        change = spoil_line if rng.random() < 0.01 else rng.choice(changes)
         lines = change(rng, lines) or [b"harvest"]
     end = b"\n" if rng.random() < 0.95 else b""
     return b"\n".join(lines) + end
@@ -102,7 +106,8 @@ def change_hexadecimal(rng, lines):
     for _ in range(rng.choice([1, 1, 2])):
         if data:
             index = rng.randrange(len(data))
-            data[index] = rng.choice([0, 1, 2, 4, 7, 255, data[index] ^ 1 << rng.randrange(8), (data[index] + 1) % 256, rng.randrange(256)])
+            near = [data[index] ^ 1 << rng.randrange(8), (data[index] + 1) % 256]
+            data[index] = rng.choice([0, 1, 2, 4, 7, 255, *near, rng.randrange(256)])
     if rng.random() < 0.1:
         data = data[:rng.randint(1, len(data) or 1)] * rng.choice([1, 2])
     return lines[:place] + [head + b" " + data.hex().encode()] + lines[place + 1:]
@@ -119,7 +124,7 @@ def move_lines(rng, lines):
     if kind == 2:
         lines[first], lines[second] = lines[second], lines[first]
         return lines
-    return lines[:first] + [rng.choice([b"move", b"harvest", b"iommu on", b"iommu off", b"kick 0 1", b"kick 0 65535", b"# x", b""])] + lines[first:]
+    return lines[:first] + [rng.choice(SHORT_LINES)] + lines[first:]
 
 
 def spoil_line(rng, lines):
