@@ -1,0 +1,540 @@
+"""The plain machine: what a script prints, told by single addresses and whole lists. It shares nothing with the program."""
+
+import re
+from collections import Counter
+
+from grammar import Fault, Files, NAMES, Server
+
+LAST = 2**64 - 1
+LIMIT = 0x101000
+PAGE = 4096
+LONGEST_SCRIPT = 1 << 20
+# A block that no host has.
+TOO_LARGE = 1 << 47
+
+NEXT, WRITE, INDIRECT = 1, 2, 4
+# Refusals of a step.
+STOPPED, INDEX_UNREACHABLE, TOO_FAR, ENTRY_UNREACHABLE, HEAD_OUT, USED_UNREACHABLE, FLAGS_UNREACHABLE = range(1, 8)
+DESCRIPTOR_UNREACHABLE, NO_MEMORY, NO_QUEUE = 8, 9, 10
+# Refusals of other commands.
+NO_PLACE, EMPTY_BLOCK, UNKNOWN_BLOCK, BAD_REGION, OVERLAP, NO_REGION, BAD_MAPPING, NO_SUCH_QUEUE = range(1, 9)
+
+
+class Refused(Exception):
+    """A command or a step that is refused with a number."""
+
+    def __init__(self, number):
+        super().__init__(number)
+        self.number = number
+
+
+class TooMuchWork(Exception):
+    """A script that takes a plain machine too long."""
+
+
+class Block:
+    """Bytes of a host, all 0 at first, and the pages that were written."""
+
+    def __init__(self, size):
+        self.size = size
+        self.bytes = {}
+        self.marks = set()
+
+
+class Memory:
+    """Blocks, regions over them, and the table of the IOMMU."""
+
+    def __init__(self, work):
+        self.blocks = []
+        self.regions = []
+        self.table = []
+        self.iommu = False
+        self.work = work
+
+    def place(self, address):
+        """The block and the offset of a guest address, or None."""
+        self.work -= 1
+        if self.work < 0:
+            raise TooMuchWork
+        for base, size, block in self.regions:
+            if base <= address < base + size:
+                return self.blocks[block], address - base
+        return None
+
+    def target(self, address, access):
+        """The guest address that an I/O address is mapped to for an access, or None: the latest change of it decides."""
+        for iova, length, target, may in reversed(self.table):
+            if iova <= address < iova + length:
+                return target + (address - iova) if access in may else None
+        return None
+
+    def where(self, address, access):
+        """The place that the device's address has for an access, or None."""
+        if self.iommu:
+            address = self.target(address, access)
+        return None if address is None else self.place(address)
+
+    def places(self, address, length, access):
+        """The places of a range of the device's, or None where it can't be reached."""
+        if address + length > LAST:
+            return None
+        found = []
+        for one in range(address, address + length):
+            place = self.where(one, access)
+            if place is None:
+                return None
+            found.append(place)
+        return found
+
+    def fetch(self, address, length, refusal):
+        """The bytes that the device reads there."""
+        places = self.places(address, length, "r")
+        if places is None:
+            raise Refused(refusal)
+        return bytes_at(places)
+
+    def number(self, address, length, refusal):
+        """The little-endian number that the device reads there."""
+        return int.from_bytes(self.fetch(address, length, refusal), "little")
+
+    def store(self, places, data):
+        """The device writes bytes, in order. Behind an IOMMU it marks no page of a block."""
+        for (block, offset), byte in zip(places, data):
+            block.bytes[offset] = byte
+            if not self.iommu:
+                block.marks.add(offset // PAGE)
+
+    def guest_places(self, address, length):
+        """The places of a range of the guest's."""
+        if address + length > LAST:
+            raise Refused(NO_PLACE)
+        places = []
+        for one in range(address, address + length):
+            place = self.place(one)
+            if place is None:
+                raise Refused(NO_PLACE)
+            places.append(place)
+        return places
+
+    def guest_write(self, address, data):
+        """The guest writes, and marks the pages."""
+        for (block, offset), byte in zip(self.guest_places(address, len(data)), data):
+            block.bytes[offset] = byte
+            block.marks.add(offset // PAGE)
+
+    def new_block(self, size):
+        """One more block's number."""
+        if size == 0:
+            raise Refused(EMPTY_BLOCK)
+        if size >= TOO_LARGE:
+            raise Refused(NO_MEMORY)
+        self.blocks.append(Block(size))
+        return len(self.blocks) - 1
+
+    def insert(self, base, block):
+        """One more region over a whole block."""
+        if block >= len(self.blocks):
+            raise Refused(UNKNOWN_BLOCK)
+        size = self.blocks[block].size
+        if base + size - 1 > LAST:
+            raise Refused(BAD_REGION)
+        if any(base < other + length and other < base + size for other, length, _ in self.regions):
+            raise Refused(OVERLAP)
+        self.regions.append((base, size, block))
+
+    def remove(self, base, size):
+        """A region goes."""
+        kept = [region for region in self.regions if region[:2] != (base, size)]
+        if len(kept) == len(self.regions):
+            raise Refused(NO_REGION)
+        self.regions = kept
+
+    def map(self, iova, target, length, may):
+        """A range of I/O addresses is mapped."""
+        if iova + length > LAST or target + length > LAST:
+            raise Refused(BAD_MAPPING)
+        self.table.append((iova, length, target, may))
+
+    def unmap(self, iova, length):
+        """A range of I/O addresses isn't mapped any more."""
+        if iova + length > LAST:
+            raise Refused(BAD_MAPPING)
+        self.table.append((iova, length, 0, ""))
+
+
+def bytes_at(places):
+    """The bytes at places."""
+    return bytes(block.bytes.get(offset, 0) for block, offset in places)
+
+
+class Queue:
+    """A split virtqueue: where its areas stand, and how far it is."""
+
+    def __init__(self, size, desc, avail, used):
+        self.size, self.desc, self.avail, self.used = size, desc, avail, used
+        self.position = 0
+        self.stopped = False
+
+
+def bad_layout(size, desc, avail, used):
+    """The number of what is wrong with a layout, or None."""
+    if size == 0 or size > 32768 or size & (size - 1):
+        return 1
+    if desc % 16 or avail % 2 or used % 4:
+        return 2
+    if desc + 16 * size > LAST or avail + 6 + 2 * size > LAST or used + 6 + 8 * size > LAST:
+        return 3
+    return None
+
+
+def walk(memory, queue, head):
+    """The chain that begins at a head (address, length and flags of each ordinary descriptor), and whether it ends in a table."""
+    chain = []
+    table, entries, index, inside = queue.desc, queue.size, head, False
+    while True:
+        if index >= entries:
+            raise Fault("NextOutOfTable")
+        address, length, flags, follower = descriptor(memory, table + 16 * index, inside)
+        if flags & INDIRECT:
+            check_table(address, length, flags, inside)
+            table, entries, index, inside = address, length // 16, 0, True
+            continue
+        if len(chain) == queue.size:
+            raise Fault("TooLong")
+        if length > 0 and address + length > LAST:
+            raise Fault("AddressOverflow")
+        chain.append((address, length, flags))
+        if not flags & NEXT:
+            return chain, inside
+        index = follower
+
+
+def descriptor(memory, address, inside):
+    """The four numbers of a descriptor."""
+    try:
+        data = memory.fetch(address, 16, DESCRIPTOR_UNREACHABLE)
+    except Refused:
+        if inside:
+            raise Fault("TableUnreachable") from None
+        raise
+    parts = data[:8], data[8:12], data[12:14], data[14:]
+    return [int.from_bytes(part, "little") for part in parts]
+
+
+def check_table(address, length, flags, inside):
+    """Whether a descriptor may name an indirect table."""
+    if flags & NEXT:
+        raise Fault("IndirectWithNext")
+    if inside:
+        raise Fault("IndirectNested")
+    if length == 0 or length % 16:
+        raise Fault("IndirectLength")
+    if address + length > LAST:
+        raise Fault("AddressOverflow")
+
+
+def request_and_room(memory, chain):
+    """The bytes of the readable descriptors, and the places of the writable ones."""
+    readable = [part for part in chain if not part[2] & WRITE]
+    writable = [part for part in chain if part[2] & WRITE]
+    for parts in (readable, writable):
+        if sum(length for _, length, _ in parts) > LIMIT:
+            raise Fault("OverLimit")
+    request = all_places(memory, readable, "r", "RequestUnreachable")
+    room = all_places(memory, writable, "w", "RoomUnreachable")
+    return bytes_at(request), room
+
+
+def all_places(memory, parts, access, fault):
+    """The places of descriptors, joined."""
+    joined = []
+    for address, length, _ in parts:
+        places = memory.places(address, length, access) if length else []
+        if places is None:
+            raise Fault(fault)
+        joined += places
+    return joined
+
+
+class Machine:
+    """A guest's memory, a device with its queues, and a file system."""
+
+    def __init__(self, work, coverage):
+        self.memory = Memory(work)
+        self.queues = []
+        self.files = Files()
+        self.server = Server(self.files)
+        self.coverage = coverage
+
+    def step(self, queue):
+        """One chain goes back: the lines that it prints. None where none waits."""
+        if queue.stopped:
+            raise Refused(STOPPED)
+        try:
+            taken = self.take(queue)
+        except Refused:
+            queue.stopped = True
+            raise
+        return None if taken is None else self.serve(queue, *taken)
+
+    def take(self, queue):
+        """The head of the next chain, the places of its element and of the used index, and the chain or its fault."""
+        memory = self.memory
+        index = memory.number(queue.avail + 2, 2, INDEX_UNREACHABLE)
+        waiting = (index - queue.position) % 65536
+        if waiting == 0:
+            return None
+        if waiting > queue.size:
+            raise Refused(TOO_FAR)
+        slot = queue.position % queue.size
+        head = memory.number(queue.avail + 4 + 2 * slot, 2, ENTRY_UNREACHABLE)
+        if head >= queue.size:
+            raise Refused(HEAD_OUT)
+        element = memory.places(queue.used + 4 + 8 * slot, 8, "w")
+        used_index = memory.places(queue.used + 2, 2, "w")
+        if element is None or used_index is None:
+            raise Refused(USED_UNREACHABLE)
+        memory.fetch(queue.avail, 2, FLAGS_UNREACHABLE)
+        try:
+            chain, inside = walk(memory, queue, head)
+            self.coverage["shape", "through a table" if inside else "direct"] += 1
+            return head, element, used_index, request_and_room(memory, chain), None
+        except Fault as fault:
+            return head, element, used_index, (b"", []), fault
+
+    def serve(self, queue, head, element, used_index, chain, fault):
+        """The request is answered, and the chain goes back."""
+        request, room = chain
+        reply = b""
+        self.files.calls = []
+        if fault is None:
+            try:
+                reply = self.server.answer(request, len(room))
+            except Fault as found:
+                fault = found
+            self.count_request(reply, fault)
+            self.count_shape(room[:len(reply)], element + used_index)
+        else:
+            self.coverage["chain fault", str(fault)] += 1
+        self.give_back(queue, head, element, used_index, room, reply)
+        flags = self.memory.number(queue.avail, 2, FLAGS_UNREACHABLE)
+        name = "-" if fault is None else str(fault)
+        return call_lines(self.files.calls) + [f"done {head} {len(reply)} {name} {1 - flags % 2}"]
+
+    def give_back(self, queue, head, element, used_index, room, reply):
+        """The reply, the used element, the used index, in this order."""
+        queue.position = (queue.position + 1) % 65536
+        self.memory.store(room, reply)
+        self.memory.store(element, head.to_bytes(4, "little") + len(reply).to_bytes(4, "little"))
+        self.memory.store(used_index, queue.position.to_bytes(2, "little"))
+
+    def count_request(self, reply, fault):
+        """What was asked and how it ended, for the coverage."""
+        opcode = self.server.opcode
+        self.coverage["opcode", NAMES.get(opcode, "no opcode") if opcode is not None else "no header"] += 1
+        if fault is not None:
+            self.coverage["server fault", str(fault)] += 1
+        elif reply:
+            self.coverage["error answered", -int.from_bytes(reply[4:8], "little", signed=True)] += 1
+        else:
+            self.coverage["error answered", "silence"] += 1
+
+    def count_shape(self, written, used):
+        """Where the reply went, for the coverage."""
+        self.coverage["shape", "behind the IOMMU"] += self.memory.iommu
+        self.coverage["shape", "reply over itself"] += len(set(written)) < len(written)
+        self.coverage["shape", "reply over what is used"] += not set(written).isdisjoint(used)
+        self.coverage["shape", "reply in several blocks"] += len({block for block, _ in written}) > 1
+
+
+def call_lines(calls):
+    """Lines of the first 64 calls, and a count of the others."""
+    lines = [f"call {call}" for call in calls[:64]]
+    return lines + [f"more {len(calls) - 64}"] if len(calls) > 64 else lines
+
+
+class Player:
+    """Plays a script's lines on a machine of its own."""
+
+    COMMANDS = {
+        "queue": "smmm", "region": "mm", "alias": "mm", "unregion": "mm", "write": "mh", "read": "mm", "map": "mmmp",
+        "unmap": "mm", "iommu": "o", "kick": "ms", "reset": "msmmm", "harvest": "", "move": "",
+    }
+
+    def __init__(self, work):
+        self.coverage = Counter()
+        self.machine = Machine(work, self.coverage)
+        self.began = False
+        self.printed = []
+
+    def play(self, script):
+        """What the script prints, and its status."""
+        if len(script) > LONGEST_SCRIPT:
+            return b"script too long\n", 1
+        for number, line in enumerate(script.split(b"\n"), 1):
+            if line == b"" or line.startswith(b"#"):
+                continue
+            command = parse(line)
+            if command is None or not self.may_stand(command[0]):
+                self.coverage["command", "not a command"] += 1
+                self.printed.append(f"line {number}: not a command")
+                return self.text(), 1
+            self.command(*command)
+        return self.text(), 0
+
+    def text(self):
+        """What was printed."""
+        return "".join(line + "\n" for line in self.printed).encode()
+
+    def may_stand(self, name):
+        """Whether a command may stand here: queues come first, one at least and 64 at most."""
+        if name == "queue":
+            return not self.began and len(self.machine.queues) < 64
+        return len(self.machine.queues) > 0
+
+    def command(self, name, arguments):
+        """Plays one command."""
+        self.began = self.began or name != "queue"
+        self.coverage["command", name] += 1
+        try:
+            lines = getattr(self, name)(*arguments)
+        except Refused as refused:
+            self.coverage["refused " + name, refused.number] += 1
+            lines = [f"refused {refused.number}"]
+        self.printed += lines
+
+    def queue(self, *layout):
+        """One more queue."""
+        return self.laid_out(layout, self.machine.queues.append)
+
+    def laid_out(self, layout, done):
+        """A layout that is well is done with."""
+        bad = bad_layout(*layout)
+        if bad is not None:
+            self.coverage["bad layout", bad] += 1
+            return [f"badlayout {bad}"]
+        done(Queue(*layout))
+        return ["ok"]
+
+    def reset(self, index, *layout):
+        """A queue begins anew."""
+        return self.laid_out(layout, lambda queue: self.replace(index, queue))
+
+    def replace(self, index, queue):
+        """A queue is replaced."""
+        if index >= len(self.machine.queues):
+            raise Refused(NO_SUCH_QUEUE)
+        self.machine.queues[index] = queue
+
+    def region(self, base, size):
+        """A block and a region over it."""
+        block = self.machine.memory.new_block(size)
+        self.machine.memory.insert(base, block)
+        return [f"block {block}"]
+
+    def alias(self, base, block):
+        """One more region over a block."""
+        self.machine.memory.insert(base, block)
+        return ["ok"]
+
+    def unregion(self, base, size):
+        """A region goes."""
+        self.machine.memory.remove(base, size)
+        return ["ok"]
+
+    def write(self, address, data):
+        """The guest writes."""
+        self.machine.memory.guest_write(address, data)
+        return ["ok"]
+
+    def read(self, address, length):
+        """The guest reads."""
+        return ["bytes " + bytes_at(self.machine.memory.guest_places(address, length)).hex()]
+
+    def map(self, iova, target, length, may):
+        """I/O addresses are mapped."""
+        self.machine.memory.map(iova, target, length, may)
+        return ["ok"]
+
+    def unmap(self, iova, length):
+        """I/O addresses aren't mapped any more."""
+        self.machine.memory.unmap(iova, length)
+        return ["ok"]
+
+    def iommu(self, on):
+        """The IOMMU is turned on or off."""
+        self.machine.memory.iommu = on
+        return ["ok"]
+
+    def kick(self, index, most):
+        """At most so many chains are served."""
+        if index >= len(self.machine.queues):
+            raise Refused(NO_QUEUE)
+        lines = []
+        try:
+            for _ in range(most):
+                step = self.machine.step(self.machine.queues[index])
+                if step is None:
+                    break
+                lines += step
+        except Refused as refused:
+            self.coverage["refused kick", refused.number] += 1
+            return lines + [f"refused {refused.number}"]
+        return lines or ["idle"]
+
+    def harvest(self):
+        """The marked pages, whose marks are cleared."""
+        lines = []
+        for number, block in enumerate(self.machine.memory.blocks):
+            lines += [f"page {number} {page}" for page in sorted(block.marks)]
+            block.marks = set()
+        return lines or ["none"]
+
+    def move(self):
+        """The guest goes on elsewhere: no page is marked there."""
+        for block in self.machine.memory.blocks:
+            block.marks = set()
+        return [f"moved {32 + 32 * len(self.machine.queues)}"]
+
+
+def parse(line):
+    """A line's command and its arguments, or None."""
+    name, *words = line.split(b" ")
+    kinds = Player.COMMANDS.get(name.decode("latin-1"))
+    if kinds is None or len(words) != len(kinds):
+        return None
+    arguments = [ARGUMENTS[kind](word) for kind, word in zip(kinds, words)]
+    return None if None in arguments else (name.decode(), arguments)
+
+
+def number(word, most):
+    """A number up to a greatest one, or None."""
+    if re.fullmatch(rb"[0-9]+", word):
+        value = int(word.lstrip(b"0")[:21] or b"0")
+    elif re.fullmatch(rb"0x[0-9a-fA-F]+", word):
+        value = int(word, 16)
+    else:
+        return None
+    return value if value <= most else None
+
+
+def hexadecimal(word):
+    """Bytes, one at least, or None."""
+    return bytes.fromhex(word.decode()) if re.fullmatch(rb"(?:[0-9a-fA-F]{2})+", word) else None
+
+
+# What words mean, by the kinds of arguments: m is a number, s a short one, h bytes, p a permission, o a switch.
+ARGUMENTS = {
+    "m": lambda word: number(word, LAST),
+    "s": lambda word: number(word, 65535),
+    "h": hexadecimal,
+    "p": {b"none": "", b"r": "r", b"w": "w", b"rw": "rw"}.get,
+    "o": {b"on": True, b"off": False}.get,
+}
+
+
+def play(script, work=6_000_000):
+    """What a script prints, its status, and what it covered."""
+    player = Player(work)
+    printed, status = player.play(script)
+    return printed, status, player.coverage

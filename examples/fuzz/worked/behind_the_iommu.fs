@@ -1,0 +1,31 @@
+# A request in two pieces and a room elsewhere, behind the IOMMU.
+queue 4 0 0x100 0x200
+region 0 0x10000
+write 0x1000 28000000070000000100000000000000000000000000000000000000000000000000000000000000
+write 0x6014 0000000000000000000000000000000000000000
+write 0 0010000000000000280000000100010000200000000000001000000002000000
+write 0x100 000001000000
+harvest
+map 0 0 0x1000 rw
+map 0x1000 0x1000 0x14 r
+map 0x1014 0x6014 0xfec r
+map 0x2000 0x3000 0x1000 w
+iommu on
+kick 0 1
+read 0x3000 16
+read 0x202 10
+harvest
+# The room may be read alone.
+reset 0 4 0 0x100 0x200
+map 0x2000 0x3000 0x1000 r
+kick 0 1
+read 0x202 10
+harvest
+# The room's last byte is elsewhere, and it overlaps itself.
+reset 0 4 0 0x100 0x200
+map 0x2000 0x3000 0xf w
+map 0x200f 0x3000 1 w
+kick 0 1
+read 0x3000 16
+read 0x202 10
+harvest

@@ -1,0 +1,93 @@
+# A chain in a table of its own, and tables that aren't any.
+queue 4 0 0x100 0x200
+region 0 0x10000
+write 0x1000 28000000070000000100000000000000000000000000000000000000000000000000000000000000
+write 0x3000 0010000000000000280000000100010000200000000000001000000002000000
+# Two entries.
+write 0 00300000000000002000000004000000
+write 0x100 000001000000
+harvest
+kick 0 1
+read 0x2000 16
+read 0x202 10
+harvest
+reset 0 4 0 0x100 0x200
+write 0x100 000000000000
+harvest
+# WRITE says nothing beside INDIRECT.
+write 0 00300000000000002000000006000000
+write 0x100 000001000000
+harvest
+kick 0 1
+read 0x2000 16
+read 0x202 10
+harvest
+reset 0 4 0 0x100 0x200
+write 0x100 000000000000
+harvest
+# A length that is no multiple of 16.
+write 0 00300000000000002800000004000000
+write 0x100 000001000000
+harvest
+kick 0 1
+read 0x2000 16
+read 0x202 10
+harvest
+reset 0 4 0 0x100 0x200
+write 0x100 000000000000
+harvest
+# No entry.
+write 0 00300000000000000000000004000000
+write 0x100 000001000000
+harvest
+kick 0 1
+read 0x2000 16
+read 0x202 10
+harvest
+reset 0 4 0 0x100 0x200
+write 0x100 000000000000
+harvest
+# NEXT beside INDIRECT.
+write 0 00300000000000002000000005000100
+write 0x100 000001000000
+harvest
+kick 0 1
+read 0x2000 16
+read 0x202 10
+harvest
+reset 0 4 0 0x100 0x200
+write 0x100 000000000000
+harvest
+# One entry of two.
+write 0 00300000000000001000000004000000
+write 0x100 000001000000
+harvest
+kick 0 1
+read 0x2000 16
+read 0x202 10
+harvest
+reset 0 4 0 0x100 0x200
+write 0x100 000000000000
+harvest
+# No memory.
+write 0 00000200000000002000000004000000
+write 0x100 000001000000
+harvest
+kick 0 1
+read 0x2000 16
+read 0x202 10
+harvest
+reset 0 4 0 0x100 0x200
+write 0x100 000000000000
+harvest
+# A table past the last address.
+write 0 f0ffffffffffffff2000000004000000
+write 0x100 000001000000
+harvest
+kick 0 1
+read 0x2000 16
+read 0x202 10
+harvest
+reset 0 4 0 0x100 0x200
+write 0x100 000000000000
+harvest
