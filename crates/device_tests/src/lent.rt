@@ -9,8 +9,8 @@ ghost use Rattle.fs_device.specs.DeviceView.{outcome_of, state_of};
 
 use crate::stand::{ENOSYS_REPLY, LIMIT, REQUEST_AT, RING, ROOM_AT, UNKNOWN, expect_same, layout};
 use call_log::CallLog;
-use fs_device::{Device, DeviceError, Exchange};
-use fs_queue::Queue;
+use fs_device::{Device, DeviceError, Exchange, FetchedRequest};
+use fs_queue::{Queue, Taken};
 use guest_driver::Guest;
 use std::alloc::Global;
 use std::process::Abort;
@@ -199,7 +199,7 @@ fn step_over<F: FileSystem>(
 }
 
 #[test]
-fn begun_step_over_lent_slices_is_finished(rt: HostRuntime) {
+fn step_in_phases_over_lent_slices(rt: HostRuntime) {
     let alloc = rt.alloc();
     let guest = offered(&rt, alloc, ROOM_AT);
     let mut low = guest.read(alloc, 0, 0x1000).expect(&rt, "a region");
@@ -209,13 +209,13 @@ fn begun_step_over_lent_slices_is_finished(rt: HostRuntime) {
     let mem = regions_over(&rt, alloc, &host);
     assert!(rt; mem.is_held(&host));
     let mut device = one_queue(&rt, alloc);
-    let pending = device
-        .begin(alloc, &host, &mem, 0)
-        .expect(&rt, "no refusal")
-        .expect(&rt, "a chain that waits");
-    let (_, notify) = device
-        .finish(alloc, &mut host, pending)
-        .expect(&rt, "memory");
+    let mut taken = Taken::empty(alloc);
+    let Ok(true) = device.take(alloc, &host, &mem, 0, &mut taken) else {
+        panic!(rt; "a chain that waits");
+    };
+    let request = FetchedRequest::of(alloc, &host, &taken).expect(&rt, "memory");
+    let exchange = device.answer(alloc, &taken, request).expect(&rt, "memory");
+    let notify = device.give_back(&mut host, 0, &mut taken, &exchange.reply);
     end_loan(host);
     expect_same(&rt, notify, true);
     expect_same(&rt, high.get(0x1000..0x1010), Some(ENOSYS_REPLY.as_slice()));

@@ -12,7 +12,7 @@ mod longest;
 #[cfg(test)]
 mod numbers;
 #[cfg(test)]
-mod pending_request;
+mod phases;
 #[cfg(test)]
 mod queues;
 #[cfg(test)]

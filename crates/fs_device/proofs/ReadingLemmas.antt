@@ -1,6 +1,8 @@
 -- A READ whose data was put where it goes.
-use Rattle.std.proofs.Common.{◌≡◌, ℕ, ◌+◌, ◌≤◌, List, ◌++◌, length, map, take, drop, Ok, None, refl, sym, ap, subst, ◌∙◌, arith, length-append, set, Some, Bool, slice_get}
-use Rattle.std.proofs.lemmas.List.{length-drop}
+use Rattle.std.proofs.Common.{◌≡◌, ℕ, ◌+◌, ◌≤◌, ◌&&◌, nat_le, nat_lt, List, ◌++◌, length, map, take, drop, Ok, Err, None, refl, sym, ap, subst, ◌∙◌, arith, length-append, set, Some, Bool, true, false}
+use Rattle.std.specs.Prelude.{IsTrue, is_ok, if◌then◌else◌, slice_get}
+use Rattle.std.proofs.lemmas.Bool.Decides.{nat_tests}
+use Rattle.std.proofs.lemmas.List.{length-drop, length-map}
 use Rattle.vm_memory_core.specs.Host.{Host, Place}
 use Rattle.vm_memory_core.specs.Window.{byte_in, places, put_all}
 use Rattle.std.specs.List.{zip}
@@ -19,7 +21,13 @@ use Rattle.virtiofsd_fuse.specs.declared.reads.ReadReply.{ReadReply}
 use Rattle.virtiofsd_fuse.specs.declared.reads.ReadRequest.{ReadRequest}
 use Rattle.virtiofsd_fuse.specs.declared.server.Server.{Server}
 use Rattle.virtiofsd_fuse.specs.Grammar.{Meaning, meaning}
-use Rattle.virtiofsd_fuse.specs.ReadApart.{read_meaning}
+use Rattle.virtiofsd_fuse.specs.ReadApart.{is_read, read_meaning, read_request}
+use Rattle.fuse_in.specs.Shapes.{made}
+use Rattle.fuse_in.specs.Records.{in_header, read_in}
+use Rattle.fuse_in.specs.declared.session.InHeader.{InHeader}
+use Rattle.fuse_wire.specs.Opcodes.{opcode_of}
+use Rattle.server_segments.specs.declared.error.Error.TheVariants.{DecodeMessage}
+use Rattle.server_requests.specs.Reading.{Read, Reading, Faults, and_then, give, needs, reading_of, ◌>>=◌, ◌>>◌}
 use Rattle.virtiofsd_fuse.specs.Serving.{May, Handles, ServerHandles, setting}
 use Rattle.fs_device.specs.Step.{Calls}
 use Rattle.fs_device.specs.DeviceView.{AnswersRequest, ServesChain, request_of, server_state, state_of}
@@ -32,10 +40,46 @@ use Rattle.fs_device.specs.Returned.{StepTold}
 use Rattle.fs_device.specs.Step.{Exchange}
 use Rattle.fs_queue.specs.Returning.{advanced, returned, wants_notice}
 use Rattle.fs_queue.specs.Taking.{room_of}
-use Rattle.fs_queue.specs.Windows.{Takes}
+use Rattle.fs_device.specs.Phases.{HasTaken}
+use Rattle.fs_device.specs.ShortWay.{HoldARead, ReadsInPlace}
 use Rattle.fs_device.proofs.AnsweringLemmas.{request_held, told_step}
 use Rattle.fs_device.proofs.StepLemmas.{Fixed, exchanges}
 use Rattle.fs_device.proofs.ServeLemmas.{replied_ok, served_chain}
+
+not_below : (a n : ℕ) → nat_lt a n ≡ false → n ≤ a
+not_below a n is = grind (arith, nat_tests)
+
+-- if a reading that begins with n bytes gives something, there are as many, and what goes on gives something behind them
+begins_with : {A B : Type 0} (n : ℕ) (bytes : List ℕ) (make : List ℕ → A) (k : A × List ℕ → Read B) (test : Bool) → nat_lt (length bytes) n ≡ test →
+    IsTrue (is_ok (and_then (and_then {A = List ℕ × List ℕ} (if test then Err (Faults DecodeMessage) else Ok (take n bytes, drop n bytes)) (λ x. Ok (make x.0, x.1))) k)) →
+    (n ≤ length bytes) × IsTrue (is_ok (k (make (take n bytes), drop n bytes)))
+begins_with n bytes make k true is ok = absurd (cc)
+begins_with n bytes make k false is ok = (not_below (length bytes) n is, ok)
+
+-- a test that was needed held
+needed : {A B : Type 0} (test : Bool) (bytes : List ℕ) (p : Reading A) (k : A × List ℕ → Read B) →
+    IsTrue (is_ok (and_then (and_then {A = Unit {0} × List ℕ} (if test then Ok (tt, bytes) else Err (Faults DecodeMessage)) (λ x. p x.1)) k)) → IsTrue (is_ok (and_then (p bytes) k))
+needed true bytes p k ok = ok
+needed false bytes p k ok = absurd (cc)
+
+-- a READ has the bytes of its two records
+pub read_is_long : (bytes : List ℕ) → IsTrue (is_ok (read_request bytes)) → 80 ≤ length bytes
+unfolding reading_of
+read_is_long bytes ok =
+    let after : InHeader × List ℕ → Read ReadRequest =
+    λ x. (needs (nat_le x.0.len 0x101000 && is_read (opcode_of x.0.opcode)) (Faults DecodeMessage) >> reading_of read_in >>= λ r. give (record { header = x.0; «record» = r })) x.1 in
+    let head = begins_with 40 bytes (made in_header.parts in_header.make) after (nat_lt (length bytes) 40) refl ok in
+    let header = made in_header.parts in_header.make (take 40 bytes) in
+    let body = needed (nat_le header.len 0x101000 && is_read (opcode_of header.opcode)) (drop 40 bytes) (reading_of read_in) (λ x. give (record { header = header; «record» = x.0 }) x.1) head.1 in
+    let record_there =
+    begins_with 40 (drop 40 bytes) (made read_in.parts read_in.make) (λ x. give (record { header = header; «record» = x.0 }) x.1) (nat_lt (length (drop 40 bytes)) 40) refl body in
+    omega (arith, head.0, record_there.0, length-drop 40 bytes)
+
+-- a chain whose data may be put where it goes has a request of that length
+pub reads_eighty : (h : Host) (c : Chain) → ReadsInPlace h (Ok c) → length (places c.readable.items) ≡ 80
+reads_eighty h c (behind, holds) =
+    let held : HoldARead h (places c.readable.items) = holds in
+    omega (arith, held.0, read_is_long (map (byte_in h) (places c.readable.items)) held.1, length-map (places c.readable.items) (byte_in h))
 
 -- a room is the header's place and what follows it
 pub whole_room : (ps rest : List Place) → 16 ≤ length ps → rest ≡ drop 16 ps → 16 + length rest ≡ length ps
@@ -86,12 +130,12 @@ answers_chain may before after m h new q fetched t c a same taken is x =
     }
 
 -- a step that was given back, told by its head, its lengths, its fault and its notice
-pub told_return : {F : Type 0} (may : May F) (f : Fixed) (m m' n : Memory) (queues between : List Queue) (i : ℕ) (q p q' : Queue) (s s' : ℕ × F) (t : Taken) (takes : Takes m f.limit q (Ok (Some t))) (x : Exchange) (notice : Bool)
+pub told_return : {F : Type 0} (may : May F) (f : Fixed) (m m' n : Memory) (queues between : List Queue) (i : ℕ) (p q' : Queue) (s s' : ℕ × F) (t : Taken) (has : HasTaken m f.limit queues i t) (x : Exchange) (notice : Bool)
     (d : DeviceParts F) (page : ℕ) (r : Returned) →
-    slice_get queues i ≡ Some q → between ≡ queues → slice_get between i ≡ Some p → (calls : Calls) × ServesChain may f.page_size s t.head takes.0 calls x s' →
-    (IsTaken m p takes.0 t → m' ≡ returned m p t.head (room_of takes.0) x.reply) → (IsTaken m p takes.0 t → notice ≡ wants_notice m' p) → q' ≡ advanced p →
+    between ≡ queues → slice_get between i ≡ Some p → (calls : Calls) × ServesChain may f.page_size s t.head has.fetched calls x s' →
+    (IsTaken m p has.fetched t → m' ≡ returned m p t.head (room_of has.fetched) x.reply) → (IsTaken m p has.fetched t → notice ≡ wants_notice m' p) → q' ≡ advanced p →
     record { queues = queues; options = s.0; files = s.1; limit = f.limit; page_size = f.page_size } ≡ d → n ≡ m' → page ≡ f.page_size →
     r.head ≡ x.head → r.request_len ≡ length x.request → r.reply_len ≡ length x.reply → r.fault ≡ x.fault → r.notify ≡ notice →
     StepTold may (state_of m d) i (Ok (Some r)) (state_of n (record { queues = set between i q'; options = s'.0; files = s'.1; limit = f.limit; page_size = page }))
-told_return may f m m' n queues between i q p q' s s' t takes x notice d page r there kept at served stored told after is over same head request reply fault noticed =
-    rw (← is, over, same) (told_step may _ i x notice _ r (exchanges may f m m' queues between i q p q' s s' t takes x notice there kept at served stored told after) head request reply fault noticed)
+told_return may f m m' n queues between i p q' s s' t has x notice d page r kept at served stored told after is over same head request reply fault noticed =
+    rw (← is, over, same) (told_step may _ i x notice _ r (exchanges may f m m' queues between i p q' s s' t has x notice kept at served stored told after) head request reply fault noticed)

@@ -1,22 +1,21 @@
 -- a step of one queue is a step of the device
-use Rattle.std.proofs.Common.{◌≡◌, ℕ, Bool, zero, suc, List, [], ◌∷◌, set, refl, ap, sym, ◌∙◌, subst, Option, Some, None, Ok, Err}
+use Rattle.std.proofs.Common.{◌≡◌, ℕ, Bool, true, false, zero, suc, List, [], ◌∷◌, set, refl, ap, sym, ◌∙◌, subst, length, Option, Some, None, Ok, Err}
 use Rattle.std.specs.Prelude.{slice_get}
 use Rattle.vm_memory_core.specs.Host.{changed_at}
 use Rattle.vm_memory.specs.Memory.{Memory}
-use Rattle.fs_queue.specs.Windows.{Taken}
 use Rattle.fs_queue.specs.declared.fault.QueueError.{QueueError}
 use Rattle.fs_queue.specs.declared.fault.QueueError.TheVariants as stop
 use Rattle.fs_queue.specs.Queue.{Queue}
 use Rattle.fs_queue.specs.Taking.{RequestAndRoom, IsRequest, CannotFetch, Offer, Offers, offer, may_lack_memory, after_refusal, room_of}
 use Rattle.fs_queue.specs.Taking as taking
 use Rattle.fs_queue.specs.Returning.{returned, wants_notice, advanced}
-use Rattle.fs_queue.specs.Windows.{Takes, IsTaken, HoldsChain}
+use Rattle.fs_queue.specs.Windows.{IsTaken, Taken, Takes, after_taking, taken_if}
 use Rattle.virtiofsd_fuse.specs.Serving.{May}
-use Rattle.fs_device.specs.declared.pending_request.PendingRequest.{PendingRequest}
 use Rattle.fs_device.specs.declared.error.DeviceError.TheVariants as device
-use Rattle.fs_device.specs.Step.{State, Exchange, Outcome, Idle, Refused, Exchanged, Calls, Returns, Exchanges, Acts, StepOf, Step}
-use Rattle.fs_device.specs.PendingRequest.{IsPending}
-use Rattle.fs_device.specs.DeviceView.{request_of, ServesChain}
+use Rattle.fs_device.specs.Step.{State, Exchange, Outcome, Idle, Refused, Exchanged, Calls, ServesRequest, Exchanges, Acts, StepOf, Step, after_return}
+use Rattle.fs_device.specs.DeviceParts.{DeviceParts}
+use Rattle.fs_device.specs.DeviceView.{ServesChain, state_of}
+use Rattle.fs_device.specs.Phases.{GoesBack, HasTaken, TakesOrEnds}
 use Rattle.vm_memory_core.proofs.Stores.{changed_at-set}
 
 -- the other queues stay
@@ -86,80 +85,102 @@ pub refuses : {F : Type 0} (may : May F) (f : Fixed) (m : Memory) (queues : List
 refuses may f m queues i q q' s e there t after =
     on_queue may (state f m queues s) i q [] (Refused (device.Queue e)) _ there (refused may f m queues i q q' s e t there after)
 
--- a chain was taken, and its request was read
-pub is_pending : {F : Type 0} (f : Fixed) (m : Memory) (queues : List Queue) (q : Queue) (s : ℕ × F) (t : Taken) (b : PendingRequest) → slice_get queues b.queue ≡ Some q → Takes m f.limit q (Ok (Some t)) → b.taken ≡ t →
-    ((fetched : RequestAndRoom) → HoldsChain m fetched t.chain → b.request.items ≡ request_of fetched) → IsPending (state f m queues s) b
-is_pending f m queues q s t b there takes is request = record {
-  queue = q;
-  fetched = takes.0;
-  there = there;
-  offered = takes.1 ∙ ap (λ (x : Taken). Offers x.head takes.0) (sym is);
-  taken = subst (IsTaken m q takes.0) (sym is) takes.2;
-  request = request takes.0 takes.2.chain;
-}
+-- what a queue's taking answers is what the device's does
+pub takes_or_ends : {F : Type 0} (may : May F) (f : Fixed) (m : Memory) (queues : List Queue) (i : ℕ) (q q' : Queue) (s : ℕ × F) (t : Taken) (waits : Bool) → slice_get queues i ≡ Some q →
+    Takes m f.limit q (taken_if t (Ok waits)) → q' ≡ after_taking q (taken_if t (Ok waits)) → TakesOrEnds may (state f m queues s) i t (Ok waits) (state f m (set queues i q') s)
+takes_or_ends may f m queues i q q' s t true there takes same =
+    (record { queue = q; fetched = takes.0; there = there; offered = takes.1; taken = takes.2 }, unchanged f m queues i q q' s there same)
+takes_or_ends may f m queues i q q' s t false there idle same = idles may f m queues i q q' s there idle same
 
-returns : {F : Type 0} (f : Fixed) (m m' : Memory) (queues : List Queue) (i : ℕ) (q q' : Queue) (s s' : ℕ × F) (room : List ℕ) (expected x : Exchange) (options : ℕ) (notice : Bool) → x ≡ expected →
-    s'.0 ≡ options → m' ≡ returned m q expected.head room x.reply → notice ≡ wants_notice m' q → q' ≡ advanced q →
-    Returns (state f m queues s) i q room expected options x notice (state f m' (set queues i q') s')
-returns f m m' queues i q q' s s' room expected x options notice same agreed stored told after = record {
-  exchange = same;
-  state =
-      ap (λ (y : Memory). state f y (set queues i q') s') (stored ∙ ap (λ (y : Exchange). returned m q expected.head room y.reply) same)
-      ∙ ap (λ (l : List Queue). state f (returned m q expected.head room expected.reply) l s') (ap (set queues i) after ∙ sym (changed_at-set queues i (λ _. advanced q) (advanced q)))
-      ∙ ap (λ (o : ℕ). state f (returned m q expected.head room expected.reply) (changed_at queues i (λ _. advanced q)) (o, s'.1)) agreed;
-  told = told;
-}
+-- memory is wanting once a chain was taken
+pub lacks_taken : {F : Type 0} (may : May F) (s after : State F) (i : ℕ) (t : Taken) → HasTaken s.memory s.limit s.queues i t → after ≡ s → Step may s i [] (Refused (device.Queue stop.OutOfMemory)) after
+lacks_taken may s after i t has same = lacks may s after i has.queue t.head has.fetched has.there has.offered same
 
-goes_back : {F : Type 0} (may : May F) (f : Fixed) (m m' : Memory) (queues : List Queue) (i : ℕ) (q q' : Queue) (s s' : ℕ × F) (head : ℕ) (x : Exchange) (notice : Bool) (fetched : RequestAndRoom) (calls : Calls) →
-    ServesChain may f.page_size s head fetched calls x s' → m' ≡ returned m q head (room_of fetched) x.reply → notice ≡ wants_notice m' q → q' ≡ advanced q →
-    Exchanges may (state f m queues s) i q (Offers head fetched) calls x notice (state f m' (set queues i q') s')
-goes_back may f m m' queues i q q' s s' head x notice (CannotFetch why) calls served stored told after = record {
-  no_call = served.1;
-  files = ap (λ p. p.1) served.2;
-  returns = returns f m m' queues i q q' s s' [] _ x s.0 notice served.0 (ap (λ p. p.0) served.2) stored told after;
-}
-goes_back may f m m' queues i q q' s s' head x notice (IsRequest request room) calls served stored told after = record {
-  given = served.0;
-  serves = served.1;
-  returns = returns f m m' queues i q q' s s' room _ x _ notice served.2 served.3 stored told after;
-}
+-- a queue that gives a chain back is a device that does
+pub gives_back : {F : Type 0} (f : Fixed) (m m' : Memory) (queues : List Queue) (i : ℕ) (p q' : Queue) (s : ℕ × F) (t : Taken) (has : HasTaken m f.limit queues i t) (reply : List ℕ) (notice : Bool) → slice_get queues i ≡ Some p →
+    (IsTaken m p has.fetched t → m' ≡ returned m p t.head (room_of has.fetched) reply) → (IsTaken m p has.fetched t → notice ≡ wants_notice m' p) → q' ≡ advanced p →
+    GoesBack (state f m queues s) i t has reply notice (state f m' (set queues i q') s)
+gives_back f m m' queues i p q' s t has reply notice at stored told after =
+    let both : Some has.queue ≡ Some p = sym has.there ∙ at in
+    let same : has.queue ≡ p = cc in
+    let taken : IsTaken m p has.fetched t = subst (λ (o : Queue). IsTaken m o has.fetched t) same has.taken in record {
+      state =
+          ap (λ (y : Memory). state f y (set queues i q') s) (stored taken ∙ ap (λ (o : Queue). returned m o t.head (room_of has.fetched) reply) (sym same))
+          ∙ ap (λ (l : List Queue). state f (returned m has.queue t.head (room_of has.fetched) reply) l s)
+          (ap (set queues i) (after ∙ ap advanced (sym same)) ∙ sym (changed_at-set queues i (λ _. advanced has.queue) (advanced has.queue)));
+      told = told taken ∙ ap (wants_notice m') (sym same);
+    }
 
--- a chain that was offered is served and given back
-pub exchanged : {F : Type 0} (may : May F) (f : Fixed) (m m' : Memory) (queues : List Queue) (i : ℕ) (q q' : Queue) (s s' : ℕ × F) (head : ℕ) (fetched : RequestAndRoom) (x : Exchange) (notice : Bool) →
-    slice_get queues i ≡ Some q → offer m f.limit q ≡ Offers head fetched → (calls : Calls) × ServesChain may f.page_size s head fetched calls x s' →
-    m' ≡ returned m q head (room_of fetched) x.reply → notice ≡ wants_notice m' q → q' ≡ advanced q →
-    (calls : Calls) × Step may (state f m queues s) i calls (Exchanged x notice) (state f m' (set queues i q') s')
-exchanged may f m m' queues i q q' s s' head fetched x notice there offered served stored told after = (
+-- so it is, whatever chain was taken, by what a device is made of
+pub gives_back_parts : {F : Type 0} (f : Fixed) (m m' : Memory) (queues : List Queue) (i : ℕ) (p q' : Queue) (s : ℕ × F) (t : Taken) (d : DeviceParts F) (reply : List ℕ) (notice : Bool) →
+    record { queues = queues; options = s.0; files = s.1; limit = f.limit; page_size = f.page_size } ≡ d → slice_get queues i ≡ Some p →
+    ((fetched : RequestAndRoom) → IsTaken m p fetched t → m' ≡ returned m p t.head (room_of fetched) reply) → ((fetched : RequestAndRoom) → IsTaken m p fetched t → notice ≡ wants_notice m' p) → q' ≡ advanced p →
+    (has : HasTaken m d.limit d.queues i t) → GoesBack (state_of m d) i t has reply notice (state f m' (set queues i q') s)
+gives_back_parts {F} f m m' queues i p q' s t d reply notice is at stored told after =
+    subst (λ (e : DeviceParts F). (has : HasTaken m e.limit e.queues i t) → GoesBack (state_of m e) i t has reply notice (state f m' (set queues i q') s)) is
+    (λ has. gives_back f m m' queues i p q' s t has reply notice at (stored has.fetched) (told has.fetched) after)
+
+goes_back : {F : Type 0} (may : May F) (s after : State F) (i : ℕ) (q : Queue) (head : ℕ) (fetched : RequestAndRoom) (calls : Calls) (o : ℕ) (g : F) (x : Exchange) (notice : Bool) →
+    ServesChain may s.page_size (s.options, s.files) head fetched calls x (o, g) → after ≡ after_return s i q head (room_of fetched) x.reply o g → notice ≡ wants_notice after.memory q →
+    Exchanges may s i q (Offers head fetched) calls x notice after
+goes_back {F} may s after i q head (CannotFetch why) calls o g x notice served is told =
+    let files : after.files ≡ s.files = ap (λ (y : State F). y.files) is ∙ ap (λ (p : ℕ × F). p.1) served.2 in record {
+      no_call = served.1;
+      files = files;
+      returns = record {
+        exchange = served.0;
+        state =
+            is
+            ∙ ap (λ (p : ℕ × F). after_return s i q head [] x.reply p.0 p.1) served.2
+            ∙ ap (λ (y : Exchange). after_return s i q head [] y.reply s.options s.files) served.0
+            ∙ ap (λ (files : F). after_return s i q head [] [] s.options files) (sym files);
+        told = told;
+      };
+    }
+goes_back {F} may s after i q head (IsRequest request room) calls o g x notice served is told =
+    let files : after.files ≡ g = ap (λ (y : State F). y.files) is in
+    let given = served.0 in record {
+      given = given;
+      serves = subst (λ (files : F). ServesRequest may s.page_size s.options request (length room) s.files calls given files) (sym files) served.1;
+      returns = record {
+        exchange = served.2;
+        state =
+            is
+            ∙ ap (λ (y : Exchange). after_return s i q head room y.reply o g) served.2
+            ∙ ap (λ (n : ℕ). after_return s i q head room given.reply n g) served.3
+            ∙ ap (λ (files : F). after_return s i q head room given.reply given.options files) (sym files);
+        told = told;
+      };
+    }
+
+-- a chain that was taken, served and given back is a step
+pub step_by_phases : {F : Type 0} (may : May F) (s after : State F) (i : ℕ) (t : Taken) (has : HasTaken s.memory s.limit s.queues i t) (o : ℕ) (g : F) (x : Exchange) (notice : Bool) →
+    (calls : Calls) × ServesChain may s.page_size (s.options, s.files) t.head has.fetched calls x (o, g) → GoesBack (record s { options = o; files = g }) i t has x.reply notice after →
+    (calls : Calls) × Step may s i calls (Exchanged x notice) after
+step_by_phases may s after i t has o g x notice served back = (
   served.0,
-  on_queue may (state f m queues s) i q served.0 (Exchanged x notice) _ there
-      (subst (λ (o : Offer). Exchanges may (state f m queues s) i q o served.0 x notice (state f m' (set queues i q') s')) (sym offered)
-      (goes_back may f m m' queues i q q' s s' head x notice fetched served.0 served.1 stored told after)),
+  on_queue may s i has.queue served.0 (Exchanged x notice) after has.there
+      (subst (λ (offered : Offer). Exchanges may s i has.queue offered served.0 x notice after) (sym has.offered)
+      (goes_back may s after i has.queue t.head has.fetched served.0 o g x notice served.1 back.state back.told)),
 )
 
--- so is one that was begun
-pub finishes : {F : Type 0} (may : May F) (f : Fixed) (m m' : Memory) (queues : List Queue) (q q' : Queue) (s s' : ℕ × F) (x : Exchange) (notice : Bool) (b : PendingRequest) (is : IsPending (state f m queues s) b) →
-    slice_get queues b.queue ≡ Some q → (calls : Calls) × ServesChain may f.page_size s b.taken.head is.fetched calls x s' →
-    (IsTaken m q is.fetched b.taken → m' ≡ returned m q b.taken.head (room_of is.fetched) x.reply) → (IsTaken m q is.fetched b.taken → notice ≡ wants_notice m' q) → q' ≡ advanced q →
-    (calls : Calls) × Step may (state f m queues s) b.queue calls (Exchanged x notice) (state f m' (set queues b.queue q') s')
-finishes may f m m' queues q q' s s' x notice b is there served stored told after =
-    let both : Some is.queue ≡ Some q = sym is.there ∙ there in
-    let same : is.queue ≡ q = cc in
-    let taken : IsTaken m q is.fetched b.taken = subst (λ (p : Queue). IsTaken m p is.fetched b.taken) same is.taken in
-    let offered : offer m f.limit q ≡ Offers b.taken.head is.fetched = sym (ap (offer m f.limit) same) ∙ is.offered in
-    exchanged may f m m' queues b.queue q q' s s' b.taken.head is.fetched x notice there offered served (stored taken) (told taken) after
-
--- and one that was taken, by which the queues stayed as they were
-pub exchanges : {F : Type 0} (may : May F) (f : Fixed) (m m' : Memory) (queues between : List Queue) (i : ℕ) (q p q' : Queue) (s s' : ℕ × F) (t : Taken) (takes : Takes m f.limit q (Ok (Some t))) (x : Exchange) (notice : Bool) →
-    slice_get queues i ≡ Some q → between ≡ queues → slice_get between i ≡ Some p → (calls : Calls) × ServesChain may f.page_size s t.head takes.0 calls x s' →
-    (IsTaken m p takes.0 t → m' ≡ returned m p t.head (room_of takes.0) x.reply) → (IsTaken m p takes.0 t → notice ≡ wants_notice m' p) → q' ≡ advanced p →
+-- so it is by what a device is made of, whose queues stayed as they were while it was served
+pub exchanges : {F : Type 0} (may : May F) (f : Fixed) (m m' : Memory) (queues between : List Queue) (i : ℕ) (p q' : Queue) (s s' : ℕ × F) (t : Taken) (has : HasTaken m f.limit queues i t) (x : Exchange) (notice : Bool) →
+    between ≡ queues → slice_get between i ≡ Some p → (calls : Calls) × ServesChain may f.page_size s t.head has.fetched calls x s' →
+    (IsTaken m p has.fetched t → m' ≡ returned m p t.head (room_of has.fetched) x.reply) → (IsTaken m p has.fetched t → notice ≡ wants_notice m' p) → q' ≡ advanced p →
     (calls : Calls) × Step may (state f m queues s) i calls (Exchanged x notice) (state f m' (set between i q') s')
-exchanges {F} may f m m' queues between i q p q' s s' t takes x notice there kept at served stored told after =
-    let both : Some q ≡ Some p = sym there ∙ ap (λ (l : List Queue). slice_get l i) (sym kept) ∙ at in
-    let same : q ≡ p = cc in
-    let taken : IsTaken m p takes.0 t = subst (λ (o : Queue). IsTaken m o takes.0 t) same takes.2 in
-    let offered : offer m f.limit p ≡ Offers t.head takes.0 = ap (offer m f.limit) (sym same) ∙ takes.1 in
+exchanges {F} may f m m' queues between i p q' s s' t has x notice kept at served stored told after =
     let found : slice_get queues i ≡ Some p = ap (λ (l : List Queue). slice_get l i) (sym kept) ∙ at in
-    let done = exchanged may f m m' queues i p q' s s' t.head takes.0 x notice found offered served (stored taken) (told taken) after in (
+    let back = gives_back f m m' queues i p q' s' t has x.reply notice found stored told after in
+    let done = step_by_phases may (state f m queues s) (state f m' (set queues i q') s') i t has s'.0 s'.1 x notice served back in (
       done.0,
       subst (λ (l : List Queue). Step may (state f m queues s) i done.0 (Exchanged x notice) (state f m' (set l i q') s')) (sym kept) done.1,
     )
+
+-- a device that takes a chain, answers it and gives it back does a step
+pub step_of_device : {F : Type 0} (may : May F) (m m' : Memory) (d mid after : DeviceParts F) (i : ℕ) (t : Taken) (has : HasTaken m d.limit d.queues i t) (x : Exchange) (notice : Bool) →
+    (calls : Calls) × ServesChain may d.page_size (d.options, d.files) t.head has.fetched calls x (mid.options, mid.files) → mid ≡ record d { options = mid.options; files = mid.files } →
+    ((held : HasTaken m mid.limit mid.queues i t) → GoesBack (state_of m mid) i t held x.reply notice (state_of m' after)) → (calls : Calls) × Step may (state_of m d) i calls (Exchanged x notice) (state_of m' after)
+step_of_device {F} may m m' d mid after i t has x notice served same back =
+    step_by_phases may (state_of m d) (state_of m' after) i t has mid.options mid.files x notice served
+    (subst (λ (e : DeviceParts F). (held : HasTaken m e.limit e.queues i t) → GoesBack (state_of m e) i t held x.reply notice (state_of m' after)) same back has)

@@ -4,7 +4,7 @@ pub mod StepBy
 pub mod DeviceView
 pub mod Answering
 pub mod Returned
-pub mod PendingRequest
+pub mod Phases
 pub mod Refusing
 pub mod Run
 pub mod CommandView

@@ -1,7 +1,7 @@
 //! A chain is answered without its request's bytes being handed out: the front of the request is copied, once, and asked
 //! which data may stay where it stands.
 
-ghost use Rattle.std.specs.Prelude.{◌≡◌, ◌↔◌, ℕ, ◌≤◌, ◌<◌, ◌^◌, ◌++◌, drop, length, map, IfNone, IfOk, IfSome, IsTrue, Ok, OnErr, []};
+ghost use Rattle.std.specs.Prelude.{◌≡◌, ◌↔◌, ℕ, ◌≤◌, ◌<◌, ◌^◌, length, map, IfNone, IfOk, IfSome, IsTrue, Ok, OnErr, []};
 ghost use Rattle.vm_memory_core.specs.Host.{lengths, shape};
 ghost use Rattle.vm_memory_core.specs.Window.{AllLieIn, byte_in, places};
 ghost use Rattle.vm_memory.specs.Memory.{Memory};
@@ -36,15 +36,18 @@ fn answer_behind<F: FileSystem, H: HostBlocks>(
     room: Writer,
 ) -> Option<Reply>
     requires lie { AllLieIn (lengths (H.host host.now)) chain.now.readable.items }
+    requires front { IsFront (H.host host.now) (places chain.now.readable.items) front.now }
     requires unwritten { room.written ≡ [] }
     requires short { room.free < 2 ^ 32 }
-    ensures answered { IsAnswered F.may server.old (front.now ++ map (byte_in (H.host host.now)) (drop (length front.now) (places chain.now.readable.items))) room.free result server.new }
+    ensures answered { IsAnswered F.may server.old (map (byte_in (H.host host.now)) (places chain.now.readable.items)) room.free result server.new }
     ensures page_size { server.new.page_size ≡ server.old.page_size }
 {
     let segments = segments_behind(alloc, host, &chain.readable, front)?;
+    // for the proof: the segments are as long as the request, whose length is a usize.
+    let _len = chain.request_len();
     match Reader::new(segments) {
         Ok(reader) => answer(alloc, server, reader, room),
-        Err(_) => None,
+        Err(_) => unreachable!(),
     }
 }
 
@@ -100,38 +103,8 @@ fn answer_in_buffer<F: FileSystem, H: HostBlocks>(
     }
 }
 
-// Has the server answer a chain's request, of which these are the first bytes: the data of a READ is put where it goes, if
+// Copies the front of a chain's request, and has the server answer it by that: the data of a READ is put where it goes, if
 // that can be. Nothing if an allocation failed, and then nothing changed.
-#[inline(always)]
-fn answer_by_front<F: FileSystem, H: HostBlocks>(
-    alloc: Global,
-    server: &mut Server<F>,
-    host: &mut H,
-    chain: &Chain,
-    front: &[u8],
-) -> Option<Answered>
-    requires readable { AllLieIn (lengths (H.host host.old)) chain.now.readable.items }
-    requires writable { AllLieIn (lengths (H.host host.old)) chain.now.writable.items }
-    requires front { IsFront (H.host host.old) (places chain.now.readable.items) front.now }
-    ensures some { IfSome result (λ a. AnswersAt F.may server.old (H.host host.old) (places chain.now.readable.items) (places chain.now.writable.items) a (H.host host.new) server.new) }
-    ensures fits { IfSome result (λ a. (length (front_bytes a.front) ≤ length (places chain.now.writable.items)) × (a.len ≤ length (places chain.now.writable.items))) }
-    ensures way { IfSome result (λ a. IsTrue (is_header a.front) ↔ (IsTrue (F.reads_whole server.old.fs) × ReadsInPlace (H.host host.old) (Ok chain.now))) }
-    ensures none { IfNone result ((server.new.options.0 ≡ server.old.options.0) × (server.new.fs ≡ server.old.fs) × (H.host host.new ≡ H.host host.old)) }
-    ensures shape { shape (H.host host.new) ≡ shape (H.host host.old) }
-    ensures loan { H.IsSameLoan host.old host.new }
-    ensures page_size { server.new.page_size ≡ server.old.page_size }
-{
-    if let Some(answered) = read_in_place(alloc, server, host, chain, front) {
-        return Some(answered);
-    }
-    match answer_in_buffer(alloc, server, host, chain, front) {
-        Some(reply) => Some(Answered::whole(reply)),
-        None => None,
-    }
-}
-
-// Copies the front of a chain's request, and has the server answer it by that. Nothing if an allocation failed, and then
-// nothing changed.
 #[inline(always)]
 fn answer_chain<F: FileSystem, H: HostBlocks>(
     alloc: Global,
@@ -152,7 +125,14 @@ fn answer_chain<F: FileSystem, H: HostBlocks>(
     let mut buffer = [0; REQUEST_FRONT];
     let len = chain.request_len().min(REQUEST_FRONT);
     copy_front(host, &chain.readable, &mut buffer[..len]);
-    answer_by_front(alloc, server, host, chain, &buffer[..len])
+    let front = &buffer[..len];
+    if let Some(answered) = read_in_place(alloc, server, host, chain, front) {
+        return Some(answered);
+    }
+    match answer_in_buffer(alloc, server, host, chain, front) {
+        Some(reply) => Some(Answered::whole(reply)),
+        None => None,
+    }
 }
 
 /// The length of the request of a chain that was taken, in bytes; a faulty chain has none.

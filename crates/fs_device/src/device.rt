@@ -1,19 +1,17 @@
 //! The device: its queues are served one chain a step.
 
-ghost use Rattle.std.specs.Prelude.{ℕ, ◌≡◌, ◌≤◌, ◌<◌, ◌^◌, length, set, slice_get, IfErr, IfOk, IfSome, None, OnErr, OnOk, option_map};
-ghost use Rattle.vm_memory_core.specs.Host.{lengths, shape};
-ghost use Rattle.vm_memory.specs.Memory.{Memory};
-ghost use Rattle.fs_queue.specs.Windows.{TakenLiesIn};
+ghost use Rattle.std.specs.Prelude.{◌≡◌, ◌≤◌, ◌<◌, ◌^◌, length, set, slice_get, IfErr, None, OnOk, option_map};
+ghost use Rattle.vm_memory_core.specs.Host.{shape};
 ghost use Rattle.fs_record.specs.Record.{IsSavable};
 
 use crate::error::DeviceError;
 use crate::exchange::Exchange;
-use crate::pending_request::PendingRequest;
-use crate::serve::{serve, serve_taken};
-use fs_queue::{Queue, QueueError, QueueLayout, Taken};
+use crate::fetched_request::FetchedRequest;
+use crate::serve::serve;
+use fs_queue::{Queue, QueueLayout, Taken};
 use fuse_fs::FileSystem;
 use fuse_wire::FsOptions;
-use std::alloc::{AllocError, Global};
+use std::alloc::Global;
 use std::marker::Model;
 use virtiofsd_fuse::Server;
 use vm_memory::GuestMemory;
@@ -53,7 +51,6 @@ impl<F> Model for Device<F> {
 
 ghost use Rattle.fs_queue.specs.Queue.{fresh};
 ghost use Rattle.fs_device.specs.Step.{Calls, Step};
-ghost use Rattle.fs_device.specs.PendingRequest.{Begins, Finishes, IsPending};
 ghost use Rattle.fs_device.specs.DeviceView.{outcome_of, state_of};
 ghost use Rattle.fs_device.specs.declared.error.DeviceError.TheVariants.{NoSuchQueue};
 
@@ -130,70 +127,6 @@ impl<F: FileSystem> Device<F> {
         }
     }
 
-    /// Takes the next chain of a queue and all the memory that its exchange needs of the device: its request is read,
-    /// and there is room for its reply. None if no chain waits. The file system isn't asked. `NoSuchQueue` and
-    /// `QueueError::OutOfMemory` change nothing, nor does `Stopped`; every other `QueueError` stops the queue.
-    #[inline]
-    pub fn begin<M: GuestMemory, H: HostBlocks>(
-        &mut self,
-        alloc: Global,
-        host: &H,
-        mem: &M,
-        queue: usize,
-    ) -> Result<Option<PendingRequest>, DeviceError>
-        requires { M.IsHeld mem.now (H.host host.now) }
-        ensures begins { Begins F.may (state_of (M.memory mem.now (H.host host.now)) self.old) queue result
-            (state_of (M.memory mem.now (H.host host.now)) self.new) }
-        ensures lies { IfOk result (λ o. IfSome o (λ pending. TakenLiesIn (lengths (H.host host.now)) pending.taken)) }
-        ensures there { IfOk result (λ o. IfSome o (λ pending. pending.queue < length self.new.queues)) }
-    {
-        if queue >= self.queues.len() {
-            return Err(DeviceError::NoSuchQueue);
-        }
-        let mut taken = Taken::empty(alloc);
-        match self.queues[queue].take(alloc, host, mem, self.limit, &mut taken) {
-            Ok(true) => {}
-            Ok(false) => return Ok(None),
-            Err(error) => return Err(DeviceError::Queue(error)),
-        }
-        match PendingRequest::of(alloc, host, queue, taken) {
-            Ok(pending) => Ok(Some(pending)),
-            Err(_) => Err(DeviceError::Queue(QueueError::OutOfMemory)),
-        }
-    }
-
-    /// Has the server answer what was begun, and gives the chain back (VIRTIO 1.2, 2.7.8): what was exchanged, and
-    /// whether the driver wants to be told (2.7.7). Only memory that the server needs before it asks the file system can
-    /// fail to be allocated (`AllocError`); then nothing changes, and the chain may be begun again. Finish it while memory and queue
-    /// are as `begin` left them: of another no more is said than that limits and other queues stay.
-    #[inline]
-    pub fn finish<H: HostBlocks>(
-        &mut self,
-        alloc: Global,
-        host: &mut H,
-        pending: PendingRequest,
-    ) -> Result<(Exchange, bool), AllocError>
-        requires lies { TakenLiesIn (lengths (H.host host.old)) pending.taken }
-        requires there { pending.queue < length self.old.queues }
-        ensures finishes { (m : Memory) → m.host ≡ H.host host.old → IsPending (state_of m self.old) pending →
-            Finishes F.may (state_of m self.old) pending.queue result (state_of (record m { host = H.host host.new }) self.new) }
-        ensures lacks { OnErr result ((self.new ≡ self.old) × (H.host host.new ≡ H.host host.old)) }
-        ensures limits { (self.new.limit ≡ self.old.limit) × (self.new.page_size ≡ self.old.page_size) }
-        ensures others { (i : ℕ) → (i ≡ pending.queue → ⊥) → slice_get self.new.queues i ≡ slice_get self.old.queues i }
-        ensures shape { shape (H.host host.new) ≡ shape (H.host host.old) }
-        ensures loan { H.IsSameLoan host.old host.new }
-    {
-        let PendingRequest {
-            queue,
-            mut taken,
-            request,
-            room,
-        } = pending;
-        let exchange = serve(alloc, &mut self.server, &taken, request, room)?;
-        let notify = self.queues[queue].give_back(host, &mut taken, &exchange.reply);
-        Ok((exchange, notify))
-    }
-
     /// Serves the next chain of a queue, by its number from 0: what was exchanged, and whether the driver wants to be
     /// told (VIRTIO 1.2, 2.7.7); None if no chain waits. `NoSuchQueue` and `QueueError::OutOfMemory` change nothing,
     /// nor does `Stopped`; every other `QueueError` stops the queue, and the file system isn't asked.
@@ -210,17 +143,20 @@ impl<F: FileSystem> Device<F> {
         ensures shape { shape (H.host host.new) ≡ shape (H.host host.old) }
         ensures loan { H.IsSameLoan host.old host.new }
     {
-        if queue >= self.queues.len() {
-            return Err(DeviceError::NoSuchQueue);
+        let waits = Self::take_from(
+            alloc,
+            host,
+            mem,
+            self.limit,
+            &mut self.queues,
+            queue,
+            &mut self.taken,
+        )?;
+        if !waits {
+            return Ok(None);
         }
-        match self.queues[queue].take(alloc, host, mem, self.limit, &mut self.taken) {
-            Ok(true) => {}
-            Ok(false) => return Ok(None),
-            Err(error) => return Err(DeviceError::Queue(error)),
-        }
-        let Ok(exchange) = serve_taken(alloc, &mut self.server, host, &self.taken) else {
-            return Err(DeviceError::Queue(QueueError::OutOfMemory));
-        };
+        let request = FetchedRequest::of(alloc, host, &self.taken)?;
+        let exchange = serve(alloc, &mut self.server, &self.taken, request)?;
         let notify = self.queues[queue].give_back(host, &mut self.taken, &exchange.reply);
         Ok(Some((exchange, notify)))
     }

@@ -3,6 +3,7 @@
 ghost use Rattle.std.specs.Prelude.{◌≡◌};
 
 use fs_queue::QueueError;
+use std::alloc::AllocError;
 use thiserror::Error;
 
 /// Why a step is refused: by its queue (`QueueError`, of which `OutOfMemory` comes from the device too), or since that
@@ -26,5 +27,16 @@ impl DeviceError {
             DeviceError::Queue(error) => error.number(),
             DeviceError::NoSuchQueue => 10,
         }
+    }
+}
+
+ghost use Rattle.fs_queue.specs.declared.fault.QueueError.TheVariants.{OutOfMemory};
+ghost use Rattle.fs_device.specs.declared.error.DeviceError.TheVariants.{Queue};
+
+impl From<AllocError> for DeviceError {
+    ghost from_gives = { λ _ e. e ≡ Queue OutOfMemory };
+
+    fn from(_: AllocError) -> DeviceError {
+        DeviceError::Queue(QueueError::OutOfMemory)
     }
 }

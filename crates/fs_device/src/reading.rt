@@ -14,7 +14,7 @@ use fs_queue::Chain;
 use fuse_fs::FileSystem;
 use room_writer::{RoomLeft, RoomWriter, room_behind};
 use std::alloc::Global;
-use virtiofsd_fuse::{REPLY_FRONT, ReadReply, ReadRequest, Server};
+use virtiofsd_fuse::{REPLY_FRONT, REQUEST_FRONT, ReadReply, ReadRequest, Server};
 use vm_memory_core::HostBlocks;
 
 // Has a READ's data put into a room, which is what follows the place of the reply's header.
@@ -66,7 +66,10 @@ pub(crate) fn read_in_place<F: FileSystem, H: HostBlocks>(
     ensures loan { H.IsSameLoan host.old host.new }
     ensures page_size { server.new.page_size ≡ server.old.page_size }
 {
-    if front.len() != chain.request_len() || !server.fs().reads_whole() {
+    if chain.request_len() != REQUEST_FRONT {
+        return None;
+    }
+    if !server.fs().reads_whole() {
         return None;
     }
     let request = ReadRequest::of_bytes(alloc, front)?;

@@ -7,7 +7,6 @@ use crate::answering::{answer_front, request_len};
 use crate::device::Device;
 use crate::error::DeviceError;
 use crate::exchange::Fault;
-use fs_queue::QueueError;
 use fuse_fs::FileSystem;
 use std::alloc::Global;
 use vm_memory::GuestMemory;
@@ -48,17 +47,19 @@ impl<F: FileSystem> Device<F> {
         ensures shape { shape (H.host host.new) ≡ shape (H.host host.old) }
         ensures loan { H.IsSameLoan host.old host.new }
     {
-        if queue >= self.queues.len() {
-            return Err(DeviceError::NoSuchQueue);
+        let waits = Self::take_from(
+            alloc,
+            host,
+            mem,
+            self.limit,
+            &mut self.queues,
+            queue,
+            &mut self.taken,
+        )?;
+        if !waits {
+            return Ok(None);
         }
-        match self.queues[queue].take(alloc, host, mem, self.limit, &mut self.taken) {
-            Ok(true) => {}
-            Ok(false) => return Ok(None),
-            Err(error) => return Err(DeviceError::Queue(error)),
-        }
-        let Ok(answered) = answer_front(alloc, &mut self.server, host, &self.taken) else {
-            return Err(DeviceError::Queue(QueueError::OutOfMemory));
-        };
+        let answered = answer_front(alloc, &mut self.server, host, &self.taken)?;
         let head = self.taken.head();
         let request_len = request_len(&self.taken);
         let front = answered.front.bytes();

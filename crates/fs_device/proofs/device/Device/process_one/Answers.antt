@@ -1,81 +1,47 @@
-use Rattle.std.proofs.Common.{◌≡◌, ◌∙◌, [], ap, sym, set, vec_len, length-set, arith}
-use Rattle.std.proofs.lemmas.Option.{slice_get_past, slice_get_read}
-use Rattle.std.specs.Coded.{le_prop}
+use Rattle.std.proofs.Common.{◌≡◌, Err, [], ap, length, refl, rules}
+use Rattle.std.proofs.lemmas.Option.{slice_get_read}
 use Rattle.vm_memory.specs.Memory.{Memory}
-use Rattle.fs_device.proofs.StepLemmas.{Fixed, exchanges, idles, lacks, misses, refuses, set-same, unchanged}
+use Rattle.fs_queue.specs.declared.fault.QueueError.TheVariants as stop
+use Rattle.fs_device.specs.declared.error.DeviceError.TheVariants as device
+use Rattle.fs_device.specs.DeviceView.{exchange_of, server_state}
+use Rattle.fs_device.specs.Step.{State}
+use Rattle.fs_device.proofs.StepLemmas.{Fixed, exchanges, lacks_taken}
 use Rattle.fs_device.proofs.device.Device.process_one.Goals as goal
 
-pub returns-then-queue-len-clause-step : goal.returns-then-queue-len-clause-step
-returns-then-queue-len-clause-step g c = (
-  [],
-  rw (← c.self.view_is) (misses g.F.FileSystemBase.may _ c.args.queue (slice_get_past c.self.inside.queues.items c.args.queue (omega (arith, c.if-queue-len.true, c.len.ensures, c.self.inside.queues.ok.0)))),
-)
+pub returns-then-not-waits-clause-step : goal.returns-then-not-waits-clause-step
+returns-then-not-waits-clause-step g c =
+    let server = c.self.inside.server in
+    ([], rw (← c.self.view_is) (rw c.if-not-waits.true at c.in_ok-waits.ensures.takes server.options.0 server.page_size server.fs))
 
-pub returns-in-Ok-false-clause-step : goal.returns-in-Ok-false-clause-step
-returns-in-Ok-false-clause-step g c =
-    let there = slice_get_read c.self.inside.queues.items (vec_len c.self.inside.queues) c.args.queue _ c.self.inside.queues.ok.0 (omega arith) c.index_mut.ensures.value in
-    let fixed : Fixed = record { limit = c.self.inside.limit; page_size = c.self.inside.server.page_size } in (
-      [],
-      rw (← c.self.view_is) (idles g.F.FileSystemBase.may fixed (g.M.GuestMemory.memory c.args.mem.now (g.H.HostBlocks.host c.args.host.now)) c.self.inside.queues.items c.args.queue c.index_mut.result.now c.take.new.self (c.self.inside.server.options.0, c.self.inside.server.fs) there
-          (rw c.in-Ok-false.field-0-test at c.in-Ok-false.ensures.takes) (rw c.in-Ok-false.field-0-test at c.in-Ok-false.ensures.queue)),
-    )
+pub returns-in_err-request-clause-step : goal.returns-in_err-request-clause-step
+returns-in_err-request-clause-step g c =
+    let server = c.self.inside.server in
+    let taken = rw c.if-not-waits.false at c.in_ok-waits.ensures.takes server.options.0 server.page_size server.fs in
+    let failed : c.from_residual-in_err-request.result ≡ Err (device.Queue stop.OutOfMemory) = search rules in
+    rw failed ([], rw (← c.self.view_is) (lacks_taken g.F.FileSystemBase.may _ _ c.args.queue c.take_from.new.taken taken.0 taken.1))
 
-pub returns-in-Err-clause-step : goal.returns-in-Err-clause-step
-returns-in-Err-clause-step g c =
-    let there = slice_get_read c.self.inside.queues.items (vec_len c.self.inside.queues) c.args.queue _ c.self.inside.queues.ok.0 (omega arith) c.index_mut.ensures.value in
-    let fixed : Fixed = record { limit = c.self.inside.limit; page_size = c.self.inside.server.page_size } in (
-      [],
-      rw (← c.self.view_is) (refuses g.F.FileSystemBase.may fixed (g.M.GuestMemory.memory c.args.mem.now (g.H.HostBlocks.host c.args.host.now)) c.self.inside.queues.items c.args.queue c.index_mut.result.now c.take.new.self (c.self.inside.server.options.0, c.self.inside.server.fs) c.in-Err.error there
-          c.in-Err.ensures.takes c.in-Err.ensures.queue),
-    )
-
-pub returns-in_default-clause-step : goal.returns-in_default-clause-step
-returns-in_default-clause-step g c =
-    let m = g.M.GuestMemory.memory c.args.mem.now (g.H.HostBlocks.host c.args.host.now) in
-    let there = slice_get_read c.self.inside.queues.items (vec_len c.self.inside.queues) c.args.queue _ c.self.inside.queues.ok.0 (omega arith) c.index_mut.ensures.value in
-    let fixed : Fixed = record { limit = c.self.inside.limit; page_size = c.self.inside.server.page_size } in
-    let takes = rw c.in-Ok-true.field-0-test at c.in-Ok-true.ensures.takes in
-    let same = unchanged fixed m c.self.inside.queues.items c.args.queue c.index_mut.result.now c.take.new.self (c.self.inside.server.options.0, c.self.inside.server.fs) there (rw c.in-Ok-true.field-0-test at c.in-Ok-true.ensures.queue) in
-    let still = rw c.in_default.is at c.serve_taken.ensures.err in (
-      [],
-      rw (← c.self.view_is, still.0, still.1, c.serve_taken.ensures.page_size) (lacks g.F.FileSystemBase.may _ _ c.args.queue c.index_mut.result.now c.take.new.taken.head takes.0 there takes.1 same),
-    )
+pub returns-in_err-exchange-clause-step : goal.returns-in_err-exchange-clause-step
+returns-in_err-exchange-clause-step g c =
+    let server = c.self.inside.server in
+    let taken = rw c.if-not-waits.false at c.in_ok-waits.ensures.takes server.options.0 server.page_size server.fs in
+    let failed : c.from_residual-in_err-exchange.result ≡ Err (device.Queue stop.OutOfMemory) = search rules in
+    let still = c.in_err-exchange.ensures.err in
+    rw failed ([], rw (← c.self.view_is, still.0, still.1, c.serve.ensures.page_size) (lacks_taken g.F.FileSystemBase.may _ _ c.args.queue c.take_from.new.taken taken.0 taken.1))
 
 pub returns-clause-step : goal.returns-clause-step
 returns-clause-step g c =
     let m = g.M.GuestMemory.memory c.args.mem.now (g.H.HostBlocks.host c.args.host.now) in
     let host : m.host ≡ (g.H.HostBlocks.host c.args.host.now) = ap (λ (x : Memory). x.host) (g.met.M.GuestMemory.over c.args.mem.now (g.H.HostBlocks.host c.args.host.now) (g.H.HostBlocks.host c.args.host.now)) in
     let over = g.met.M.GuestMemory.over c.args.mem.now (g.H.HostBlocks.host c.args.host.now) (g.H.HostBlocks.host c.give_back-notify.new.host) in
-    let queues = c.self.inside.queues.items in
-    let there = slice_get_read queues (vec_len c.self.inside.queues) c.args.queue _ c.self.inside.queues.ok.0 (omega arith) c.index_mut.ensures.value in
-    let fixed : Fixed = record { limit = c.self.inside.limit; page_size = c.self.inside.server.page_size } in
-    let takes = rw c.in-Ok-true.field-0-test at c.in-Ok-true.ensures.takes in
-    let kept = ap (set queues c.args.queue) (rw c.in-Ok-true.field-0-test at c.in-Ok-true.ensures.queue) ∙ set-same queues c.args.queue c.index_mut.result.now there in
-    let at = slice_get_read (set queues c.args.queue c.take.new.self) (vec_len c.self.inside.queues) c.args.queue _ (c.self.inside.queues.ok.0 ∙ sym (length-set queues c.args.queue c.take.new.self)) (omega arith) c.index_mut-2.ensures.value in
-    rw (← c.self.view_is, over, c.serve_taken.ensures.page_size) (exchanges g.F.FileSystemBase.may fixed m _ queues (set queues c.args.queue c.take.new.self) c.args.queue c.index_mut.result.now c.index_mut-2.result.now
-    c.give_back-notify.new.self (c.self.inside.server.options.0, c.self.inside.server.fs) _ c.take.new.taken takes _ c.give_back-notify.result there kept at (c.in-Ok.ensures.exchange m c.index_mut.result.now takes.0 host takes.2)
-    (λ taken. rw c.deref.ensures.value at c.give_back-notify.ensures.stored m takes.0 host taken) (λ taken. c.give_back-notify.ensures.told m takes.0 host taken) c.give_back-notify.ensures.queue)
-
-pub returns-then-queue-len-clause-loan : goal.returns-then-queue-len-clause-loan
-returns-then-queue-len-clause-loan g c = g.met.H.HostBlocks.reflexive c.args.host.now
-
-pub returns-in-Ok-false-clause-loan : goal.returns-in-Ok-false-clause-loan
-returns-in-Ok-false-clause-loan g c = g.met.H.HostBlocks.reflexive c.args.host.now
-
-pub returns-in-Err-clause-loan : goal.returns-in-Err-clause-loan
-returns-in-Err-clause-loan g c = g.met.H.HostBlocks.reflexive c.args.host.now
-
-pub returns-in_default-clause-loan : goal.returns-in_default-clause-loan
-returns-in_default-clause-loan g c = g.met.H.HostBlocks.reflexive c.args.host.now
-
--- the numbers that the device keeps have one proof each
-pub same-self : goal.same-self
-same-self g c = λ i. record {
-  server = c.self.inside.server;
-  queues = c.self.inside.queues;
-  limit = c.self.inside.limit;
-  taken = c.self.inside.taken;
-  short = le_prop c.self-1.given.0 c.self.inside.short i;
-  some = le_prop c.self-1.given.1.0 c.self.inside.some i;
-  few = le_prop c.self-1.given.1.1.0 c.self.inside.few i;
-}
+    let server = c.self.inside.server in
+    let fixed : Fixed = record { limit = c.self.inside.limit; page_size = server.page_size } in
+    let taken = rw c.if-not-waits.false at c.in_ok-waits.ensures.takes server.options.0 server.page_size server.fs in
+    let has = taken.0 in
+    let between = c.take_from.new.queues.items in
+    let kept : between ≡ c.self.inside.queues.items = ap (λ (s : State g.row.F.Denot). s.queues) taken.1 in
+    let there = rw c.if-not-waits.false at c.in_ok-waits.ensures.there in
+    let at = slice_get_read between (length between) c.args.queue _ refl there c.index_mut.ensures.value in
+    rw (← c.self.view_is, over, c.serve.ensures.page_size) (exchanges g.F.FileSystemBase.may fixed m _ c.self.inside.queues.items between c.args.queue c.index_mut.result.now c.give_back-notify.new.self
+    (server.options.0, server.fs) (server_state c.serve.new.server) c.take_from.new.taken has (exchange_of c.in_ok-exchange.exchange) c.give_back-notify.result kept at
+    (c.in_ok-exchange.ensures.exchange m has.queue has.fetched has.taken (c.in_ok-request.ensures.bytes m has.fetched host has.taken.chain))
+    (λ taken. rw c.deref.ensures.value at c.give_back-notify.ensures.stored m has.fetched host taken) (λ taken. c.give_back-notify.ensures.told m has.fetched host taken) c.give_back-notify.ensures.queue)

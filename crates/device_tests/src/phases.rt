@@ -1,16 +1,21 @@
-//! Steps in two parts: an exchange is begun, and finished.
+//! Steps that are driven phase by phase.
 
 use crate::stand::{ENOSYS_REPLY, REQUEST_AT, RING, ROOM_AT, Request, Stand, UNKNOWN, expect_same};
 use call_log::LoggedCall;
-use fs_device::{DeviceError, Exchange, Fault, PendingRequest};
-use fs_queue::{ChainFault, QueueError};
+use fs_device::{DeviceError, Exchange, Fault, FetchedRequest};
+use fs_queue::{ChainFault, QueueError, Taken};
 use std::process::Abort;
 
-// Begins an exchange of a queue.
-fn begin(stand: &mut Stand, queue: usize) -> Result<Option<PendingRequest>, DeviceError> {
-    stand
-        .device
-        .begin(stand.alloc, &stand.guest.host, &stand.guest.mem, queue)
+// Takes the next chain of a queue, and lets it wait.
+fn take(stand: &mut Stand, queue: usize) -> Result<bool, DeviceError> {
+    let mut taken = Taken::empty(stand.alloc);
+    stand.device.take(
+        stand.alloc,
+        &stand.guest.host,
+        &stand.guest.mem,
+        queue,
+        &mut taken,
+    )
 }
 
 // The queue is as it was before its first exchange, and nothing was written.
@@ -20,32 +25,43 @@ fn expect_untouched(rt: &impl Abort, stand: &Stand) {
     stand.expect_marked(rt, &[]);
 }
 
-// The request of what was begun is as long as its chain's, and none of a faulty chain.
-fn expect_parts(rt: &impl Abort, pending: &PendingRequest) {
-    let len = match pending.taken().chain() {
+// The request that was fetched is as long as its chain's, and none of a faulty chain.
+fn expect_fetched(rt: &impl Abort, taken: &Taken, request: &FetchedRequest) {
+    let len = match taken.chain() {
         Ok(chain) => chain.request_len(),
         Err(_) => 0,
     };
-    expect_same(rt, pending.request().len(), len);
+    expect_same(rt, request.bytes().len(), len);
 }
 
-// The first exchange of a queue in two parts, between which nothing is written.
+// The first exchange of a queue, phase by phase: nothing is written before the last.
 fn exchange(rt: &impl Abort, stand: &mut Stand) -> (Exchange, bool) {
-    let pending = stand
+    let mut taken = Taken::empty(stand.alloc);
+    let Ok(true) = stand.device.take(
+        stand.alloc,
+        &stand.guest.host,
+        &stand.guest.mem,
+        0,
+        &mut taken,
+    )
+    else {
+        panic!(rt; "a chain that waits");
+    };
+    let request = FetchedRequest::of(stand.alloc, &stand.guest.host, &taken).expect(rt, "memory");
+    expect_fetched(rt, &taken, &request);
+    let exchange = stand
         .device
-        .begin(stand.alloc, &stand.guest.host, &stand.guest.mem, 0)
-        .expect(rt, "no refusal")
-        .expect(rt, "a chain that waits");
+        .answer(stand.alloc, &taken, request)
+        .expect(rt, "memory");
     expect_untouched(rt, stand);
-    expect_parts(rt, &pending);
-    stand
+    let notify = stand
         .device
-        .finish(stand.alloc, &mut stand.guest.host, pending)
-        .expect(rt, "memory")
+        .give_back(&mut stand.guest.host, 0, &mut taken, &exchange.reply);
+    (exchange, notify)
 }
 
 #[test]
-fn step_in_two_parts_answers_enosys(rt: HostRuntime) {
+fn step_in_phases_answers_enosys(rt: HostRuntime) {
     let mut stand = Stand::new(&rt, rt.alloc());
     stand.ask(&rt, UNKNOWN, 16);
     let (exchange, notify) = exchange(&rt, &mut stand);
@@ -62,12 +78,11 @@ fn step_in_two_parts_answers_enosys(rt: HostRuntime) {
 }
 
 #[test]
-fn file_system_is_asked_when_a_step_is_finished(rt: HostRuntime) {
+fn file_system_is_asked_by_the_answer(rt: HostRuntime) {
     let mut stand = Stand::new(&rt, rt.alloc());
     let request = Request::Forget { node: 5, count: 3 };
     stand.ask_cut(&rt, request, &[(REQUEST_AT, 48)], &[]);
-    let dropped = begin(&mut stand, 0).expect(&rt, "no refusal");
-    expect_same(&rt, dropped.is_some(), true);
+    expect_same(&rt, take(&mut stand, 0), Ok(true));
     stand.expect_calls(&rt, &[]);
     let (exchange, _) = exchange(&rt, &mut stand);
     expect_same(&rt, (exchange.reply.len(), exchange.fault), (0, None));
@@ -76,7 +91,7 @@ fn file_system_is_asked_when_a_step_is_finished(rt: HostRuntime) {
 }
 
 #[test]
-fn faulty_chain_is_given_back_in_two_parts(rt: HostRuntime) {
+fn faulty_chain_is_given_back_in_phases(rt: HostRuntime) {
     let mut stand = Stand::new(&rt, rt.alloc());
     let request = Request::Forget { node: 5, count: 3 };
     stand.ask_cut(&rt, request, &[(REQUEST_AT, 48)], &[(0x20000, 16)]);
@@ -90,14 +105,13 @@ fn faulty_chain_is_given_back_in_two_parts(rt: HostRuntime) {
 }
 
 #[test]
-fn idle_missing_or_stopped_queue_begins_nothing(rt: HostRuntime) {
+fn idle_missing_or_stopped_queue_offers_nothing(rt: HostRuntime) {
     let mut stand = Stand::new(&rt, rt.alloc());
-    let idle = begin(&mut stand, 0).expect(&rt, "no refusal");
-    expect_same(&rt, idle.is_none(), true);
-    let missing = begin(&mut stand, 1).err();
+    expect_same(&rt, take(&mut stand, 0), Ok(false));
+    let missing = take(&mut stand, 1).err();
     stand.put(&rt, RING.avail + 2, &[5, 0]);
-    let too_far = begin(&mut stand, 0).err();
-    let stopped = begin(&mut stand, 0).err();
+    let too_far = take(&mut stand, 0).err();
+    let stopped = take(&mut stand, 0).err();
     expect_same(
         &rt,
         [missing, too_far, stopped],
@@ -110,12 +124,10 @@ fn idle_missing_or_stopped_queue_begins_nothing(rt: HostRuntime) {
 }
 
 #[test]
-fn dropped_exchange_is_begun_again(rt: HostRuntime) {
+fn chain_that_was_not_given_back_waits_still(rt: HostRuntime) {
     let mut stand = Stand::new(&rt, rt.alloc());
     stand.ask(&rt, UNKNOWN, 16);
-    let dropped = begin(&mut stand, 0).expect(&rt, "no refusal");
-    expect_same(&rt, dropped.is_some(), true);
-    drop(dropped);
+    expect_same(&rt, take(&mut stand, 0), Ok(true));
     expect_untouched(&rt, &stand);
     let (exchange, _) = exchange(&rt, &mut stand);
     expect_same(&rt, exchange.reply.as_slice(), &ENOSYS_REPLY);

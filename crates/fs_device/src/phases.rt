@@ -1,0 +1,113 @@
+//! The phases of a step: a chain is taken into a place, its request is fetched (`FetchedRequest`) and answered, and it is
+//! given back. `process_one` and `serve_one` are drivers over them, and so is whoever does something of its own in between.
+
+ghost use Rattle.std.specs.Prelude.{◌≡◌, ℕ, ◌<◌, ◌≤◌, length, slice_get, IfOk, OnErr};
+ghost use Rattle.vm_memory_core.specs.Host.{lengths, shape};
+ghost use Rattle.vm_memory.specs.Memory.{Memory};
+ghost use Rattle.fs_queue.specs.Windows.{IsEmpty, TakenLiesIn, room_places};
+ghost use Rattle.fs_device.specs.DeviceView.{exchange_of, state_of};
+ghost use Rattle.fs_device.specs.Phases.{GoesBack, HasTaken, IfTaken, ServesTaken, TakesOrEnds, TakesFrom};
+
+use crate::device::Device;
+use crate::error::DeviceError;
+use crate::exchange::Exchange;
+use crate::fetched_request::FetchedRequest;
+use crate::serve::serve;
+use fs_queue::{Queue, Taken};
+use fuse_fs::FileSystem;
+use std::alloc::{AllocError, Global};
+use vm_memory::GuestMemory;
+use vm_memory_core::HostBlocks;
+
+impl<F: FileSystem> Device<F> {
+    // Takes the next chain of one of a device's queues into a place.
+    #[inline(always)]
+    pub(crate) fn take_from<M: GuestMemory, H: HostBlocks>(
+        alloc: Global,
+        host: &H,
+        mem: &M,
+        limit: u32,
+        queues: &mut Vec<Queue>,
+        queue: usize,
+        taken: &mut Taken,
+    ) -> Result<bool, DeviceError>
+        requires { M.IsHeld mem.now (H.host host.now) }
+        ensures takes { TakesFrom F.may (M.memory mem.now (H.host host.now)) limit queues.old.items queue taken.new result queues.new.items }
+        ensures lies { IfTaken (TakenLiesIn (lengths (H.host host.now))) taken.new result }
+        ensures there { IfTaken (λ t. queue < length queues.new.items) taken.new result }
+        ensures count { length queues.new.items ≡ length queues.old.items }
+    {
+        if queue >= queues.len() {
+            return Err(DeviceError::NoSuchQueue);
+        }
+        match queues[queue].take(alloc, host, mem, limit, taken) {
+            Ok(waits) => Ok(waits),
+            Err(error) => Err(DeviceError::Queue(error)),
+        }
+    }
+
+    /// Takes the next chain of a queue, by its number from 0, into a place that the caller keeps from chain to chain; false
+    /// if no chain waits. The file system isn't asked. `NoSuchQueue` and `QueueError::OutOfMemory` change nothing, nor
+    /// does `Stopped`; every other `QueueError` stops the queue. A chain that was taken and isn't given back waits still.
+    #[inline(always)]
+    pub fn take<M: GuestMemory, H: HostBlocks>(
+        &mut self,
+        alloc: Global,
+        host: &H,
+        mem: &M,
+        queue: usize,
+        taken: &mut Taken,
+    ) -> Result<bool, DeviceError>
+        requires { M.IsHeld mem.now (H.host host.now) }
+        ensures takes { TakesOrEnds F.may (state_of (M.memory mem.now (H.host host.now)) self.old) queue taken.new result
+            (state_of (M.memory mem.now (H.host host.now)) self.new) }
+        ensures lies { IfTaken (TakenLiesIn (lengths (H.host host.now))) taken.new result }
+        ensures there { IfTaken (λ t. queue < length self.new.queues) taken.new result }
+    {
+        Self::take_from(alloc, host, mem, self.limit, &mut self.queues, queue, taken)
+    }
+
+    /// Has the server answer a chain that was taken, by its request. Only memory that the server wants before it asks the
+    /// file system can be lacking (`AllocError`); then nothing changed.
+    #[inline(always)]
+    pub fn answer(
+        &mut self,
+        alloc: Global,
+        taken: &Taken,
+        request: FetchedRequest,
+    ) -> Result<Exchange, AllocError>
+        requires room { request.room.free ≡ room_places taken.now.chain }
+        ensures answers { IfOk result (λ x. ServesTaken F.may self.old.page_size (self.old.options, self.old.files) taken.now request.bytes.items
+            (exchange_of x) (self.new.options, self.new.files)) }
+        ensures fits { IfOk result (λ x. length x.reply.items ≤ room_places taken.now.chain) }
+        ensures lacks { OnErr result (self.new ≡ self.old) }
+        ensures same { self.new ≡ record self.old { options = self.new.options; files = self.new.files } }
+    {
+        serve(alloc, &mut self.server, taken, request)
+    }
+
+    /// Gives a chain that was taken back to its queue with a reply (VIRTIO 1.2, 2.7.8), and answers whether the driver wants
+    /// to be told (2.7.7). The place is emptied. Of a place that memory and queue have changed under no more is said than
+    /// that the rest of the device stays.
+    #[inline(always)]
+    pub fn give_back<H: HostBlocks>(
+        &mut self,
+        host: &mut H,
+        queue: usize,
+        taken: &mut Taken,
+        reply: &[u8],
+    ) -> bool
+        requires lies { TakenLiesIn (lengths (H.host host.old)) taken.old }
+        requires there { queue < length self.old.queues }
+        requires fits { length reply.now ≤ room_places taken.old.chain }
+        ensures returns { (m : Memory) (has : HasTaken m self.old.limit self.old.queues queue taken.old) → m.host ≡ H.host host.old →
+            GoesBack (state_of m self.old) queue taken.old has reply.now result (state_of (record m { host = H.host host.new }) self.new) }
+        ensures empty { IsEmpty taken.new }
+        ensures same { self.new ≡ record self.old { queues = self.new.queues } }
+        ensures others { (i : ℕ) → (i ≡ queue → ⊥) → slice_get self.new.queues i ≡ slice_get self.old.queues i }
+        ensures shape { shape (H.host host.new) ≡ shape (H.host host.old) }
+        ensures loan { H.IsSameLoan host.old host.new }
+    {
+        self.queues[queue].give_back(host, taken, reply)
+    }
+}
