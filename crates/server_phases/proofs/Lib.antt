@@ -1,3 +1,5 @@
+pub mod Fronts
+pub mod Gathered
 pub mod Meanings
 pub mod Plain
 pub mod Recorded

@@ -94,7 +94,7 @@ or_right : (a b : Bool) → b ≡ true → (a || b) ≡ true
 or_right true b e = refl
 or_right false b e = e
 
--- memory is wanting for what a call is handed
+-- an allocation fails for what a call is handed
 pub wants_handed : (options room : ℕ) (request : List ℕ) (options_before free : ℕ) (v : ReaderView) (result : Result ℕ Error)
     → options_before ≡ options → free ≡ 80 → v.left ≡ request → v.segments ≡ filled (length request ∷ []) → v.read ≡ 0
     → (may_take_memory options_before v free ≡ false → lacks_memory result ≡ false) → lacks_memory result ≡ true → may_want_memory options request room ≡ true
@@ -106,7 +106,7 @@ wants_handed options room request options_before free v result a b l s n memory 
     sym (ap (λ o. may_take_memory o v free) a ∙ ap (λ f. may_take_memory options v f) b ∙ ap (λ w. may_take_memory options w 80) whole) ∙ enough in
     or_left _ _ (header_takes options room 80 (past 40 (in_one_piece request).segments) (reading_of in_header request) ∙ here)
 
--- memory is wanting for the names of a call
+-- an allocation fails for the names of a call
 pub wants_names : (options room : ℕ) (request more : List ℕ) (h : InHeader) (command : FileCommand) → reading_of in_header request ≡ Ok (h, more)
     → meant (given h options room) more ≡ Asks command → has_name (first_call command) ≡ true → may_want_memory options request room ≡ true
 wants_names options room request more h command e m named =

@@ -76,9 +76,9 @@ failed_list : (s : Setting) (w : Waiting) (unique : ℕ) (call : FileCall) (with
 failed_list s w unique call with_nodes size errno given a b h =
     let bytes = error_bytes unique errno in
     let none = none_back (nat_lt s.room (length bytes)) [] refl in
-    let h1 : Placed s (record { unique = unique; context = w.context; awaits = awaits.Entries with_nodes size }) call (Failed errno) given =
-    subst (λ (u : ℕ). Placed s (record { unique = u; context = w.context; awaits = awaits.Entries with_nodes size }) call (Failed errno) given) a
-    (subst (λ (x : Awaits). Placed s (record { unique = w.unique; context = w.context; awaits = x }) call (Failed errno) given) b h) in
+    let h1 : Placed s (record { unique = unique; context = w.context; awaits = awaits.Entries with_nodes size; room = w.room }) call (Failed errno) given =
+    subst (λ (u : ℕ). Placed s (record { unique = u; context = w.context; awaits = awaits.Entries with_nodes size; room = w.room }) call (Failed errno) given) a
+    (subst (λ (x : Awaits). Placed s (record { unique = w.unique; context = w.context; awaits = x; room = w.room }) call (Failed errno) given) b h) in
     ap (λ (l : List FileCall). replied s.room (call ∷ l) s.options bytes) (sym none) ∙ h1
 
 pub single_gives : (s : Setting) (w : Waiting) (command : FileCommand) (bytes : List ℕ) (answer : made.FileAnswer) (given : Served) → WaitsFor w command
@@ -86,9 +86,9 @@ pub single_gives : (s : Setting) (w : Waiting) (command : FileCommand) (bytes : 
     → Placed s w (first_call command) (answer_of bytes answer) given → commanded s command (answer_of bytes answer ∷ []) ≡ given
 single_gives s w (One unique call) bytes answer given waits t taken plain single h =
     let a = answer_of bytes answer in
-    let h1 : Placed s (record { unique = unique; context = w.context; awaits = awaits_of call }) call a given =
-    subst (λ (u : ℕ). Placed s (record { unique = u; context = w.context; awaits = awaits_of call }) call a given) waits.0
-    (subst (λ (x : Awaits). Placed s (record { unique = w.unique; context = w.context; awaits = x }) call a given) waits.1 h) in
+    let h1 : Placed s (record { unique = unique; context = w.context; awaits = awaits_of call; room = w.room }) call a given =
+    subst (λ (u : ℕ). Placed s (record { unique = u; context = w.context; awaits = awaits_of call; room = w.room }) call a given) waits.0
+    (subst (λ (x : Awaits). Placed s (record { unique = w.unique; context = w.context; awaits = x; room = w.room }) call a given) waits.1 h) in
     rw (silent_same call, back_same w.context call a waits.2, options_same s.options call) h1
 single_gives s w (Starts unique capable readahead) bytes answer given waits t taken plain single h =
     let clash : Some (capable, readahead) ≡ None = ap wish_of (sym waits.1) ∙ single in absurd (cc)

@@ -40,7 +40,7 @@ reply_by : (t : Bool) (page_size options room : ℕ) (reply bytes : List ℕ) �
 reply_by true page_size options room reply bytes e = rw e refl
 reply_by false page_size options room reply bytes e = rw e refl
 
--- an immediate reply, where it has room
+-- an immediate reply, if it has room
 pub reply_told : (page_size options room : ℕ) (reply bytes : List ℕ) → IsTold (setting page_size options room) (Replies reply) bytes (told_reply room reply)
 reply_told page_size options room reply bytes = reply_by (nat_lt room (length reply)) page_size options room reply bytes refl
 
@@ -102,13 +102,13 @@ start_by (value.Init options) readahead bytes capable e = let same : options.0 �
 start_by call readahead bytes capable e = absurd (cc)
 
 -- a call that was written down is told with what it waits for
-pub call_is_told : (s : Setting) (h : InHeader) (all bytes : List ℕ) (command : FileCommand) (call : made.FileCall) (readahead : ℕ) → Says h all (Asks command)
+pub call_is_told : (s : Setting) (h : InHeader) (all bytes : List ℕ) (command : FileCommand) (call : made.FileCall) (readahead room : ℕ) → s.room ≡ room → Says h all (Asks command)
     → ((n : ℕ) → ReadsAhead all n → readahead ≡ n) → call_of [] call ≡ first_call command
-    → IsTold s (Asks command) bytes (asked.Call call (record { unique = h.unique; context = context_of h; awaits = awaits_for call readahead }))
-call_is_told s h all bytes (One unique c) call readahead says ahead e =
+    → IsTold s (Asks command) bytes (asked.Call call (record { unique = h.unique; context = context_of h; awaits = awaits_for call readahead; room = room }))
+call_is_told s h all bytes (One unique c) call readahead room place says ahead e =
     let w = plain_by call readahead bytes c e says.1.0 in
-    (One unique c, refl, w.1, w.2, (sym says.0, w.0, says.1.1, single c says.1.0))
-call_is_told s h all bytes (Starts unique capable n) call readahead says ahead e =
+    (One unique c, refl, w.1, w.2, (sym says.0, w.0, says.1.1, single c says.1.0), sym place)
+call_is_told s h all bytes (Starts unique capable n) call readahead room place says ahead e =
     let w = start_by call readahead bytes capable e in
-    (Starts unique capable n, refl, w.1, w.2, (sym says.0, w.0 ∙ ap (λ k. awaits.Wish capable k) (ahead n says.2), says.1))
-call_is_told s h all bytes (Lists unique l) call readahead says ahead e = absurd says
+    (Starts unique capable n, refl, w.1, w.2, (sym says.0, w.0 ∙ ap (λ k. awaits.Wish capable k) (ahead n says.2), says.1), sym place)
+call_is_told s h all bytes (Lists unique l) call readahead room place says ahead e = absurd says

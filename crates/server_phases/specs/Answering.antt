@@ -1,8 +1,8 @@
 -- What an answer gives: the reply, the options after it, and the call that gives an entry back.
-use Rattle.std.specs.Prelude.{◌≡◌, ℕ, Bool, true, false, not, ◌&&◌, nat_lt, nat_le, List, [], ◌∷◌, ◌++◌, length, Option, Some, None, if◌then◌else◌}
+use Rattle.std.specs.Prelude.{◌≡◌, ℕ, ◌+◌, ◌^◌, Bool, true, false, not, ◌&&◌, nat_lt, nat_le, List, [], ◌∷◌, ◌++◌, length, Option, Some, None, if◌then◌else◌}
 use Rattle.fuse_fs.specs.declared.answers.Context.{Context}
 use Rattle.fuse_fs.specs.Calls as call
-use Rattle.fuse_fs.specs.Calls.{Kind, IsDone, IsNeverGood, IsEntry, IsAttr, IsOpen, IsCreate, IsBytes, IsBytesOrCount, IsStats, IsWritten, IsOffset, IsEntries, IsWish, is_of}
+use Rattle.fuse_fs.specs.Calls.{Kind, IsDone, IsNeverGood, IsEntry, IsAttr, IsOpen, IsCreate, IsBytes, IsBytesOrCount, IsStats, IsWritten, IsOffset, IsEntries, IsWish, is_of, suits}
 use Rattle.fuse_values.specs.declared.answer.FileAnswer.{FileAnswer}
 use Rattle.fuse_values.specs.declared.answer.FileAnswer.TheVariants as value
 use Rattle.fuse_values.specs.Answers.{answer_of}
@@ -11,6 +11,8 @@ use Rattle.server_segments.specs.declared.error.Error.TheVariants.{EncodeMessage
 use Rattle.virtiofsd_fuse.specs.Grammar.{FileCommand}
 use Rattle.virtiofsd_fuse.specs.Serving.{Setting, Served, commanded}
 use Rattle.server_phases.specs.declared.answering.Answered.{Answered}
+use Rattle.server_phases.specs.declared.answering.Refused.{Refused}
+use Rattle.server_phases.specs.declared.answering.Refused.TheVariants as refused
 use Rattle.server_phases.specs.declared.answering.Sent.{Sent}
 use Rattle.server_phases.specs.declared.answering.Sent.TheVariants as sent
 use Rattle.server_phases.specs.declared.waiting.Awaits.{Awaits}
@@ -93,7 +95,17 @@ abbrev pub data_of : FileAnswer → Option ℕ
 data_of (value.Bytes len) = Some len
 data_of _ = None
 
--- the options that both sides can and the bytes to read ahead, where the options that are wanted are waited for
+-- the options that both sides have and the bytes to read ahead, if the wanted options are still awaited
 abbrev pub wish_of : Awaits → Option (ℕ × ℕ)
 wish_of (awaits.Wish capable readahead) = Some (capable, readahead)
 wish_of _ = None
+
+-- whether an answer is data whose reply has room, but more bytes than its header can tell (struct fuse_out_header, len: 32 bits)
+abbrev pub is_too_long : (room : ℕ) → FileAnswer → Bool
+is_too_long room (value.Bytes len) = nat_le (16 + len) room && nat_le (2 ^ 32) (16 + len)
+is_too_long room _ = false
+
+-- why an answer is refused: it isn't one that the call can have, or it is, and too long
+abbrev pub IsRefusedFor : Refused → call.FileCall → (room : ℕ) → (bytes : List ℕ) → FileAnswer → Type 0
+IsRefusedFor refused.OtherKind asked room bytes answer = suits asked (answer_of bytes answer) ≡ false
+IsRefusedFor refused.TooLong asked room bytes answer = (suits asked (answer_of bytes answer) ≡ true) × (is_too_long room answer ≡ true)

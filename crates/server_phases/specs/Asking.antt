@@ -1,5 +1,5 @@
 -- What a request asks, as it is told to who owns the files.
-use Rattle.std.specs.Prelude.{◌≡◌, ℕ, Bool, false, ◌||◌, List, [], ◌∷◌, length, nat_lt, Some, None, if◌then◌else◌}
+use Rattle.std.specs.Prelude.{◌≡◌, ◌==◌, ℕ, Bool, true, false, ◌||◌, ◌&&◌, List, [], ◌∷◌, length, take, nat_lt, nat_le, Some, None, if◌then◌else◌}
 use Rattle.fuse_values.specs.declared.call.FileCall.{FileCall}
 use Rattle.fuse_values.specs.declared.call.FileCall.TheVariants as value
 use Rattle.fuse_values.specs.Recording.{has_name}
@@ -8,11 +8,14 @@ use Rattle.fuse_fs.specs.Lengths.{filled}
 use Rattle.server_segments.specs.ReaderAndWriter.{ReaderView}
 use Rattle.virtiofsd_fuse.specs.WantOfMemory.{may_take_memory}
 use Rattle.server_segments.specs.declared.error.Error.TheVariants.{EncodeMessage}
+use Rattle.virtiofsd_fuse.specs.DataApart.{begins_a_write}
 use Rattle.virtiofsd_fuse.specs.Grammar.{Meaning, Asks, FileCommand, meaning}
 use Rattle.virtiofsd_fuse.specs.Serving.{Setting, served, Served, no_reply}
 use Rattle.server_phases.specs.declared.waiting.Waiting.{Waiting}
 use Rattle.server_phases.specs.declared.asking.Asked.{Asked}
 use Rattle.server_phases.specs.declared.asking.Asked.TheVariants as asked
+use Rattle.server_phases.specs.declared.asking.AskedFront.{AskedFront}
+use Rattle.server_phases.specs.declared.asking.AskedFront.TheVariants as asked_front
 use Rattle.server_phases.specs.Waiting.{WaitsFor, first_call}
 
 -- a WRITE says how many bytes of data it has
@@ -20,10 +23,10 @@ abbrev pub TellsData : (bytes : List ℕ) → FileCall → Type 0
 TellsData bytes (value.Write context node handle len size offset owner delayed kill flags) = len ≡ length bytes
 TellsData bytes _ = Unit {0}
 
--- the command that is asked for, the call that it makes first, and what is kept of it; bytes: the data of a WRITE
-abbrev pub AsksCall : Meaning → (bytes : List ℕ) → FileCall → Waiting → Type 0
-AsksCall m bytes made w =
-    (command : FileCommand) × (m ≡ Asks command) × (call_of bytes made ≡ first_call command) × TellsData bytes made × WaitsFor w command
+-- the command that is asked for, the call that it makes first, and what is kept of it with its room; bytes: the data of a WRITE
+abbrev pub AsksCall : Setting → Meaning → (bytes : List ℕ) → FileCall → Waiting → Type 0
+AsksCall s m bytes made w =
+    (command : FileCommand) × (m ≡ Asks command) × (call_of bytes made ≡ first_call command) × TellsData bytes made × WaitsFor w command × (w.room ≡ s.room)
 
 -- no call is made, and this is the reply
 abbrev pub all_reply : (options : ℕ) → List ℕ → Served
@@ -31,7 +34,7 @@ all_reply options reply = record { calls = []; options = options; reply = reply;
 
 -- what is told of a request with this meaning: its call, or what it is served without one
 abbrev pub IsTold : Setting → Meaning → (bytes : List ℕ) → Asked → Type 0
-IsTold s m bytes (asked.Call made w) = AsksCall m bytes made w
+IsTold s m bytes (asked.Call made w) = AsksCall s m bytes made w
 IsTold s m bytes (asked.Reply reply) = served s m [] ≡ all_reply s.options reply
 IsTold s m bytes asked.Silence = served s m [] ≡ all_reply s.options []
 IsTold s m bytes (asked.Fault e) = served s m [] ≡ no_reply [] s.options (Some e)
@@ -49,6 +52,28 @@ has_names _ = false
 abbrev pub in_one_piece : List ℕ → ReaderView
 in_one_piece request = record { left = request; segments = filled (length request ∷ []); read = 0 }
 
--- whether memory may be wanting: for what the call is handed, or for its names
+-- whether an allocation may fail: for what the call is handed, or for its names
 abbrev pub may_want_memory : (options : ℕ) → (request : List ℕ) → (room : ℕ) → Bool
 may_want_memory options request room = may_take_memory options (in_one_piece request) room || has_names (meaning options request room)
+
+-- the first bytes of a request
+abbrev pub IsFront : (front request : List ℕ) → Type 0
+IsFront front request = take (length front) request ≡ front
+
+-- whether the first bytes of a request of so many tell what it asks: all of them do, and of a WRITE those before its data
+abbrev pub front_tells : (front : List ℕ) → (len : ℕ) → Bool
+front_tells front len = length front == len || (nat_le 80 (length front) && nat_le (length front) len && begins_a_write front)
+
+-- whether they were told
+abbrev pub is_told : AskedFront → Bool
+is_told (asked_front.Told asked) = true
+is_told asked_front.More = false
+
+-- what is told by the first bytes of a request with this meaning
+abbrev pub IsToldByFront : Setting → Meaning → (bytes : List ℕ) → AskedFront → Type 0
+IsToldByFront s m bytes (asked_front.Told asked) = IsTold s m bytes asked
+IsToldByFront s m bytes asked_front.More = Unit {0}
+
+-- the bytes behind a header begin with the same record of a WRITE, or are cut short alike
+abbrev pub BeginsRecord : (front bytes : List ℕ) → Type 0
+BeginsRecord front bytes = take 40 front ≡ take 40 bytes

@@ -1,5 +1,6 @@
 pub mod Answering
 pub mod Apart
 pub mod Asking
+pub mod Gathering
 pub mod Saying
 pub mod Waiting

@@ -1,5 +1,5 @@
 -- What is kept of a request while its call waits for an answer.
-use Rattle.std.specs.Prelude.{◌≡◌, ℕ, []}
+use Rattle.std.specs.Prelude.{◌≡◌, ℕ, [], ◌≤◌, ◌^◌}
 use Rattle.std.specs.Prelude.{Bool, true, false, bit_and}
 use Rattle.fuse_fs.specs.declared.answers.Context.{Context}
 use Rattle.fuse_fs.specs.Calls.{FileCall, Init, Destroy, Lookup, Forget, BatchForget, Getattr, Setattr, Readlink, Symlink, Mknod, Mkdir, Link, Open, Read, Write}
@@ -67,7 +67,8 @@ abbrev pub WaitsFor : Waiting → FileCommand → Type 0
 WaitsFor w (One unique call) = (w.unique ≡ unique) × (w.awaits ≡ awaits_of call) × IsFor w.context call × (is_single call ≡ true)
 WaitsFor w (Starts unique capable readahead) =
     (w.unique ≡ unique) × (w.awaits ≡ awaits.Wish capable readahead) × (bit_and capable known_options ≡ capable)
-WaitsFor w (Lists unique l) = (w.unique ≡ unique) × (w.awaits ≡ awaits.Entries l.with_nodes l.size) × (l.context ≡ w.context)
+WaitsFor w (Lists unique l) =
+    (w.unique ≡ unique) × (w.awaits ≡ awaits.Entries l.with_nodes l.size) × (l.context ≡ w.context) × (l.size ≤ 2 ^ 20) × (16 ≤ w.room)
 
 -- the call that a command makes first
 abbrev pub first_call : FileCommand → FileCall

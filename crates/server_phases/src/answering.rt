@@ -1,6 +1,6 @@
 //! Answers to the calls of requests.
 
-ghost use Rattle.std.specs.Prelude.{◌≡◌, ℕ, ◌+◌, ◌<◌, ◌≤◌, ◌^◌, ◌++◌, [], ◌∷◌, List, length, true, false, nat_lt, nat_le, option_map};
+ghost use Rattle.std.specs.Prelude.{◌≡◌, ℕ, ◌+◌, ◌<◌, ◌≤◌, ◌^◌, ◌++◌, ◌&&◌, [], ◌∷◌, List, length, true, false, nat_lt, nat_le, option_map};
 ghost use Rattle.vm_values.specs.Fields.{spelled};
 ghost use Rattle.fuse_wire.specs.Records.{entry_out, open_out};
 ghost use Rattle.fuse_fs.specs.Calls.{FileCall, is_handle, Done, HasEntry, HasAttr, Opened, Created, Bytes, Count, Stats, Wrote, Offset};
@@ -8,7 +8,7 @@ ghost use Rattle.fuse_values.specs.Answers.{answer_of};
 ghost use Rattle.server_replies.specs.WholeReplies.{reply_bytes, told_bytes};
 ghost use Rattle.server_calls.specs.Requests.{entry_node, give_back};
 ghost use Rattle.virtiofsd_fuse.specs.Serving.{replied, undone};
-ghost use Rattle.server_phases.specs.Answering.{TellsBytes, takes, tells_nothing, fails_never, brings_entry, back_by, forget_call, served_by};
+ghost use Rattle.server_phases.specs.Answering.{TellsBytes, takes, tells_nothing, fails_never, brings_entry, back_by, forget_call, served_by, is_too_long};
 
 use crate::front::Front;
 use crate::waiting::{Awaits, Waiting};
@@ -23,7 +23,7 @@ use vm_values::ByteValued;
 /// What comes of a reply.
 #[derive(Drop)]
 pub enum Sent {
-    /// The reply: this front, and the data of the answer behind it. Empty where there is no reply.
+    /// The reply: this front, and the data of the answer behind it. Empty if there is no reply.
     Reply(Front),
     /// The reply is longer than its room (`Error::EncodeMessage`).
     NoRoom,
@@ -43,6 +43,16 @@ pub struct Answered {
 pub enum Refused {
     /// The call waits for another kind of answer, or for no error, or for less data.
     OtherKind,
+    /// The reply has room, but 2^32 bytes or more, which its header can't tell.
+    TooLong,
+}
+
+/// An answer that is refused.
+#[derive(Debug, Drop)]
+pub struct Refusal {
+    pub why: Refused,
+    /// The request, which waits still.
+    pub waiting: Waiting,
 }
 
 // A reply that is an entry.
@@ -238,14 +248,14 @@ pub(crate) fn placed(front: Front, room: usize, back: Option<(Context, u64)>) ->
 }
 
 // The reply to an answer without data.
-pub(crate) fn plain_answered(waiting: &Waiting, room: usize, answer: FileAnswer) -> Answered
-    ensures { let told = told_bytes (tells_nothing waiting.now.awaits) waiting.now.unique (answer_of [] answer) in
+pub(crate) fn plain_answered(waiting: &Waiting, answer: FileAnswer) -> Answered
+    ensures { let room = waiting.now.room in let told = told_bytes (tells_nothing waiting.now.awaits) waiting.now.unique (answer_of [] answer) in
         let back = back_by (brings_entry waiting.now.awaits) waiting.now.context (answer_of [] answer) in
         (options : ℕ) (call : FileCall) → replied room (call ∷ undone room told back) options told
         ≡ served_by (call ∷ forget_call result.forget) options result.sent [] }
 {
     let back = back_of(waiting, &answer);
-    placed(front_of(waiting, answer), room, back)
+    placed(front_of(waiting, answer), waiting.room, back)
 }
 
 // The header of a reply with so many bytes of data.
@@ -259,7 +269,7 @@ fn data_front(unique: u64, len: usize) -> Front
 
 // The reply to an answer that is data.
 pub(crate) fn data_answered(unique: u64, room: usize, len: usize) -> Answered
-    requires { room < 2 ^ 32 }
+    requires { nat_le (16 + len) room && nat_le (2 ^ 32) (16 + len) ≡ false }
     ensures { (options : ℕ) (call : FileCall) (bytes : List ℕ) → len ≡ length bytes
         → replied room (call ∷ undone room (reply_bytes unique bytes) []) options (reply_bytes unique bytes)
         ≡ served_by (call ∷ forget_call result.forget) options result.sent bytes }
@@ -281,6 +291,17 @@ fn has_room(room: usize, len: usize) -> bool
     ensures { result ≡ nat_le (16 + len) room }
 {
     OUT_HEADER_LEN <= room && len <= room - OUT_HEADER_LEN
+}
+
+/// Whether an answer is data whose reply has room, but more bytes than its header can tell.
+pub(crate) fn is_too_long(room: usize, answer: &FileAnswer) -> bool
+    ensures { result ≡ is_too_long room answer.now }
+{
+    match answer {
+        FileAnswer::Bytes { len } => has_room(room, *len)
+            && u32::MAX as usize - OUT_HEADER_LEN < *len,
+        _ => false,
+    }
 }
 
 // A front where it has room, of a call that gives nothing back.
@@ -314,7 +335,7 @@ fn is_count(count: u32) -> bool
     true
 }
 
-// Whether an open file's number has 64 bits, where there is one: any has.
+// Whether an open file's number has 64 bits, if there is one: any has.
 fn is_handle(handle: Option<u64>) -> bool
     ensures { result ≡ is_handle handle }
 {

@@ -7,7 +7,7 @@ use fuse_in::InHeader;
 use fuse_wire::Opcode;
 
 /// The longest request: 2^20 bytes of data, and one page.
-const MAX_REQUEST_LEN: u32 = 0x101000;
+pub(crate) const MAX_REQUEST_LEN: u32 = 0x101000;
 
 /// Which request has data, or a room that decides what it means.
 #[derive(Clone, Copy)]

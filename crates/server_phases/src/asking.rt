@@ -1,17 +1,20 @@
 //! What a request asks.
 
-ghost use Rattle.std.specs.Prelude.{◌≡◌, ℕ, ◌≤◌, [], List, Ok, Err, false, IfOk, OnOk, IfErr, drop, length};
+ghost use Rattle.std.specs.Prelude.{◌≡◌, ℕ, ◌≤◌, [], List, Ok, Err, true, false, IfOk, OnOk, IfErr, drop, length};
 ghost use Rattle.fuse_in.specs.Records.{in_header};
 ghost use Rattle.fuse_values.specs.Values.{call_of};
 ghost use Rattle.server_requests.specs.Reading.{reading_of};
 ghost use Rattle.server_calls.specs.Requests.{if_set, read_call, write_call};
-ghost use Rattle.virtiofsd_fuse.specs.Grammar.{Meaning, FileCommand, Asks, One, given, ended, read_row, read_asked, listing_row, listing_asked, write_row};
+ghost use Rattle.virtiofsd_fuse.specs.Grammar.{Meaning, FileCommand, Asks, One, given, ended, meant, meaning, read_row, read_asked, listing_row, listing_asked, write_row};
 ghost use Rattle.virtiofsd_fuse.specs.Serving.{Setting, setting, served, served_of};
 ghost use Rattle.server_segments.specs.Errors.{lacks_memory};
-ghost use Rattle.server_phases.specs.Asking.{IsTold, TellsData, told_reply};
+ghost use Rattle.server_phases.specs.Asking.{IsTold, TellsData, IsFront, BeginsRecord, told_reply};
+ghost use Rattle.fuse_wire.specs.Opcodes.{opcode_of};
+ghost use Rattle.virtiofsd_fuse.specs.DataApart.{begins_a_write, is_write};
 ghost use Rattle.server_phases.specs.Saying.{ReadsAhead, Says};
 ghost use Rattle.server_phases.specs.Waiting.{first_call};
 
+use crate::apart::MAX_REQUEST_LEN;
 use crate::front::Front;
 use crate::waiting::{Awaits, Waiting, awaits_for};
 use fuse_fs::Context;
@@ -24,6 +27,10 @@ use server_replies::replies::OUT_HEADER_LEN;
 use server_requests::records::read_record;
 use server_segments::{Error, Reader, Writer};
 use std::alloc::Global;
+use virtiofsd_fuse::REQUEST_FRONT;
+
+/// How many bytes a record of a WRITE has (`struct fuse_write_in`).
+pub(crate) const WRITE_IN_LEN: usize = 40;
 
 /// What a request asks.
 #[derive(Drop)]
@@ -38,8 +45,17 @@ pub enum Asked {
     Fault(Error),
 }
 
-// An immediate reply, where it has room.
-fn replied(room: usize, reply: Front) -> Asked
+/// What the first bytes of a request tell.
+#[derive(Drop)]
+pub enum AskedFront {
+    /// What the request asks.
+    Told(Asked),
+    /// Nothing yet: all of the request's bytes are wanted.
+    More,
+}
+
+// An immediate reply, if it has room.
+pub(crate) fn replied(room: usize, reply: Front) -> Asked
     ensures { result ≡ told_reply room reply }
 {
     if room < reply.bytes().len() {
@@ -62,6 +78,7 @@ fn ask_read(head: &InHeader, request: &ReadIn, room: usize) -> Asked
         unique: head.unique,
         context: Context::from(*head),
         awaits: Awaits::FileBytes { most },
+        room,
     };
     Asked::Call(read_value(head, request, most), waiting)
 }
@@ -123,19 +140,21 @@ fn ask_listing(head: &InHeader, request: &ReadIn, with_nodes: bool, room: usize)
             unique,
             context,
             awaits,
+            room,
         },
     )
 }
 
 // WRITE, by its record; so many bytes of data stand behind it.
-fn ask_write(head: &InHeader, request: &WriteIn, len: usize) -> Asked
-    ensures { (s : Setting) (bytes : List ℕ) → len ≡ length bytes
-        → IsTold s (Asks (One head.now.unique (write_call head.now request.now bytes))) bytes result }
+fn ask_write(head: &InHeader, request: &WriteIn, len: usize, room: usize) -> Asked
+    ensures { (page_size options : ℕ) (bytes : List ℕ) → len ≡ length bytes
+        → IsTold (setting page_size options room) (Asks (One head.now.unique (write_call head.now request.now bytes))) bytes result }
 {
     let waiting = Waiting {
         unique: head.unique,
         context: Context::from(*head),
         awaits: Awaits::Written,
+        room,
     };
     Asked::Call(write_value(head, request, len), waiting)
 }
@@ -177,8 +196,8 @@ pub(crate) fn readahead(alloc: Global, request: &[u8]) -> u32
 }
 
 // A call that was written down, with what is kept of its request.
-pub(crate) fn call_told(head: &InHeader, call: FileCall, readahead: u32) -> Asked
-    ensures { (s : Setting) (all bytes : List ℕ) (command : FileCommand) → Says head.now all (Asks command) → ((n : ℕ) → ReadsAhead all n → readahead ≡ n)
+pub(crate) fn call_told(head: &InHeader, call: FileCall, readahead: u32, room: usize) -> Asked
+    ensures { (s : Setting) (all bytes : List ℕ) (command : FileCommand) → s.room ≡ room → Says head.now all (Asks command) → ((n : ℕ) → ReadsAhead all n → readahead ≡ n)
         → call_of [] call ≡ first_call command → IsTold s (Asks command) bytes result }
 {
     let awaits = awaits_for(&call, readahead);
@@ -186,6 +205,7 @@ pub(crate) fn call_told(head: &InHeader, call: FileCall, readahead: u32) -> Aske
         unique: head.unique,
         context: Context::from(*head),
         awaits,
+        room,
     };
     Asked::Call(call, waiting)
 }
@@ -235,13 +255,40 @@ pub(crate) fn ask_listing_row(
     }
 }
 
-// WRITE: its record is read, and the data is what is left.
-pub(crate) fn ask_write_row(head: &InHeader, r: &mut Reader<'_>) -> Asked
-    ensures { (s : Setting) (options room : ℕ)
-        → IsTold s (ended head.now.unique (write_row (given head.now options room) r.old.left)) (drop 40 r.old.left) result }
+// WRITE: its record is read, behind which so many bytes of data stand, here or elsewhere.
+pub(crate) fn ask_write_row(head: &InHeader, len: usize, room: usize, r: &mut Reader<'_>) -> Asked
+    ensures { (page_size options : ℕ) (bytes : List ℕ) → BeginsRecord r.old.left bytes → len ≡ length (drop 40 bytes)
+        → IsTold (setting page_size options room) (ended head.now.unique (write_row (given head.now options room) bytes)) (drop 40 bytes) result }
 {
     match read_record(r) {
-        Ok(request) => ask_write(head, &request, r.available_bytes()),
+        Ok(request) => ask_write(head, &request, len, room),
         Err(error) => Asked::Fault(error),
     }
+}
+
+/// What a WRITE asks, by its bytes before the data; it has `len` bytes in all.
+pub(crate) fn ask_write_front(alloc: Global, front: &[u8], len: usize, room: usize) -> Asked
+    requires write { begins_a_write front.now ≡ true }
+    requires front { 80 ≤ length front.now }
+    requires len { 80 ≤ len }
+    ensures { (page_size options : ℕ) (request : List ℕ) → len ≡ length request → IsFront front.now request
+        → IsTold (setting page_size options room) (meaning options request room) (drop 80 request) result }
+{
+    let mut r = Reader::of_slice(alloc, front);
+    match read_record::<InHeader>(&mut r) {
+        Ok(head) => ask_write_head(&head, len - REQUEST_FRONT, room, &mut r),
+        Err(error) => Asked::Fault(error),
+    }
+}
+
+// WRITE: its header is read.
+fn ask_write_head(head: &InHeader, len: usize, room: usize, r: &mut Reader<'_>) -> Asked
+    requires { is_write (opcode_of head.now.opcode) ≡ true }
+    ensures { (page_size options : ℕ) (bytes : List ℕ) → BeginsRecord r.old.left bytes → len ≡ length (drop 40 bytes)
+        → IsTold (setting page_size options room) (meant (given head.now options room) bytes) (drop 40 bytes) result }
+{
+    if head.len > MAX_REQUEST_LEN {
+        return replied(room, Front::error(head.unique, Errno::ENOMEM));
+    }
+    ask_write_row(head, len, room, r)
 }

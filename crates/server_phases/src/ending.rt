@@ -1,14 +1,16 @@
 //! How a session answers the calls of requests.
 
-ghost use Rattle.std.specs.Prelude.{◌≡◌, ℕ, ◌<◌, ◌^◌, [], ◌∷◌, List, None, true, false, bit_and, IfOk, OnOk, OnErr};
+ghost use Rattle.std.specs.Prelude.{◌≡◌, ℕ, ◌<◌, ◌^◌, [], ◌∷◌, List, None, true, false, bit_and, IfOk, IfErr, OnOk, OnErr};
 ghost use Rattle.fuse_fs.specs.Calls.{FileCall, Init, suits};
 ghost use Rattle.fuse_values.specs.Answers.{answer_of};
 ghost use Rattle.virtiofsd_fuse.specs.Grammar.{FileCommand, known_options};
 ghost use Rattle.virtiofsd_fuse.specs.Serving.{setting, replied, agreed, start_options, start_answered};
-ghost use Rattle.server_phases.specs.Answering.{Gives, TellsBytes, takes, forget_call, served_by, data_of, wish_of, leaves_options};
+ghost use Rattle.server_phases.specs.Answering.{Gives, TellsBytes, takes, forget_call, served_by, data_of, wish_of, leaves_options, is_too_long, IsRefusedFor};
 ghost use Rattle.server_phases.specs.Waiting.{WaitsFor, first_call};
 
-use crate::answering::{Answered, Refused, data_answered, placed_alone, plain_answered, suits};
+use crate::answering::{
+    Answered, Refusal, Refused, data_answered, is_too_long, placed_alone, plain_answered, suits,
+};
 use crate::front::Front;
 use crate::session::{Session, known};
 use crate::waiting::{Awaits, Waiting};
@@ -17,7 +19,7 @@ use fuse_values::FileAnswer;
 use fuse_wire::FsOptions;
 use server_replies::init::start_bytes;
 
-// What both sides can, and the file system wants or is agreed on anyway.
+// What both sides have, and the file system asks for or is agreed on anyway.
 #[tactic(auto, using(virtiofsd_fuse::proofs::Options::some_known))]
 fn agree(capable: FsOptions, wanted: FsOptions) -> FsOptions
     requires { bit_and capable.0 known_options ≡ capable.0 }
@@ -49,7 +51,7 @@ fn data_of(answer: &FileAnswer) -> Option<usize>
     }
 }
 
-// The options and the bytes to read ahead where those that are wanted are waited for.
+// The options and the bytes to read ahead, if the wanted options are still awaited.
 fn wish_of(awaits: &Awaits) -> Option<(u64, u32)>
     ensures { result ≡ wish_of awaits.now }
 {
@@ -88,70 +90,80 @@ impl Session {
     }
 
     // An answer without data, but INIT's.
-    fn answer_single(&mut self, waiting: &Waiting, room: usize, answer: FileAnswer) -> Answered
+    fn answer_single(&mut self, waiting: &Waiting, answer: FileAnswer) -> Answered
         requires plain { data_of answer ≡ None }
         requires single { wish_of waiting.now.awaits ≡ None }
         ensures gives { (command : FileCommand) (bytes : List ℕ) → WaitsFor waiting.now command → TellsBytes bytes answer
             → takes waiting.now.awaits (answer_of bytes answer) ≡ true
-            → Gives (setting self.old.page_size self.old.options.0 room) command bytes answer result self.new.options.0 }
+            → Gives (setting self.old.page_size self.old.options.0 waiting.now.room) command bytes answer result self.new.options.0 }
         ensures page_size { self.new.page_size ≡ self.old.page_size }
     {
         self.options = left_options(self.options, &waiting.awaits);
-        plain_answered(waiting, room, answer)
+        plain_answered(waiting, answer)
     }
 
     // An answer without data.
-    fn answer_plain(&mut self, waiting: &Waiting, room: usize, answer: FileAnswer) -> Answered
+    fn answer_plain(&mut self, waiting: &Waiting, answer: FileAnswer) -> Answered
         requires plain { data_of answer ≡ None }
         ensures gives { (command : FileCommand) (bytes : List ℕ) → WaitsFor waiting.now command → TellsBytes bytes answer
             → takes waiting.now.awaits (answer_of bytes answer) ≡ true
-            → Gives (setting self.old.page_size self.old.options.0 room) command bytes answer result self.new.options.0 }
+            → Gives (setting self.old.page_size self.old.options.0 waiting.now.room) command bytes answer result self.new.options.0 }
         ensures page_size { self.new.page_size ≡ self.old.page_size }
     {
         match wish_of(&waiting.awaits) {
             Some((capable, readahead)) => {
-                self.start(waiting.unique, room, known(capable), readahead, &answer)
+                self.start(
+                    waiting.unique,
+                    waiting.room,
+                    known(capable),
+                    readahead,
+                    &answer,
+                )
             }
-            None => self.answer_single(waiting, room, answer),
+            None => self.answer_single(waiting, answer),
         }
     }
 
     // An answer that is waited for.
-    fn answer_taken(&mut self, waiting: &Waiting, room: usize, answer: FileAnswer) -> Answered
-        requires { room < 2 ^ 32 }
+    fn answer_taken(&mut self, waiting: &Waiting, answer: FileAnswer) -> Answered
+        requires { is_too_long waiting.now.room answer ≡ false }
         ensures gives { (command : FileCommand) (bytes : List ℕ) → WaitsFor waiting.now command → TellsBytes bytes answer
             → takes waiting.now.awaits (answer_of bytes answer) ≡ true
-            → Gives (setting self.old.page_size self.old.options.0 room) command bytes answer result self.new.options.0 }
+            → Gives (setting self.old.page_size self.old.options.0 waiting.now.room) command bytes answer result self.new.options.0 }
         ensures page_size { self.new.page_size ≡ self.old.page_size }
     {
         match data_of(&answer) {
-            Some(len) => data_answered(waiting.unique, room, len),
-            None => self.answer_plain(waiting, room, answer),
+            Some(len) => data_answered(waiting.unique, waiting.room, len),
+            None => self.answer_plain(waiting, answer),
         }
     }
 
-    /// Answers the call of a request that has this room for its reply, which is less than 2^32 bytes: the reply's front and
-    /// the options after it, by what the call's answer is served. An answer that the call can't have is refused, and
-    /// changes nothing.
-    pub fn answer(
-        &mut self,
-        waiting: &Waiting,
-        room: usize,
-        answer: FileAnswer,
-    ) -> Result<Answered, Refused>
-        requires { room < 2 ^ 32 }
-        ensures gives { IfOk result (λ given. (command : FileCommand) (bytes : List ℕ) → WaitsFor waiting.now command → TellsBytes bytes answer
-            → Gives (setting self.old.page_size self.old.options.0 room) command bytes answer given self.new.options.0) }
-        ensures taken { OnOk result ((command : FileCommand) (bytes : List ℕ) → WaitsFor waiting.now command → TellsBytes bytes answer
-            → suits (first_call command) (answer_of bytes answer) ≡ true) }
-        ensures refused { OnErr result ((command : FileCommand) (bytes : List ℕ) → WaitsFor waiting.now command → TellsBytes bytes answer
-            → suits (first_call command) (answer_of bytes answer) ≡ false) }
+    /// Answers the call of a request: the reply's front and the options after it, by what the call's answer is served. An
+    /// answer that the call can't have is refused (`OtherKind`), and one whose reply has room but no length that a header
+    /// tells (`TooLong`): that changes nothing, and the request waits still.
+    pub fn answer(&mut self, waiting: Waiting, answer: FileAnswer) -> Result<Answered, Refusal>
+        ensures gives { IfOk result (λ given. (command : FileCommand) (bytes : List ℕ) → WaitsFor waiting command → TellsBytes bytes answer
+            → Gives (setting self.old.page_size self.old.options.0 waiting.room) command bytes answer given self.new.options.0) }
+        ensures taken { OnOk result ((command : FileCommand) (bytes : List ℕ) → WaitsFor waiting command → TellsBytes bytes answer
+            → (suits (first_call command) (answer_of bytes answer) ≡ true) × (is_too_long waiting.room answer ≡ false)) }
+        ensures refused { IfErr result (λ r. (command : FileCommand) (bytes : List ℕ) → WaitsFor waiting command → TellsBytes bytes answer
+            → IsRefusedFor r.why (first_call command) waiting.room bytes answer) }
+        ensures given_back { IfErr result (λ r. r.waiting ≡ waiting) }
         ensures same { OnErr result (self.new ≡ self.old) }
         ensures page_size { self.new.page_size ≡ self.old.page_size }
     {
         if !suits(&waiting.awaits, &answer) {
-            return Err(Refused::OtherKind);
+            return Err(Refusal {
+                why: Refused::OtherKind,
+                waiting,
+            });
         }
-        Ok(self.answer_taken(waiting, room, answer))
+        if is_too_long(waiting.room, &answer) {
+            return Err(Refusal {
+                why: Refused::TooLong,
+                waiting,
+            });
+        }
+        Ok(self.answer_taken(&waiting, answer))
     }
 }

@@ -8,11 +8,12 @@ ghost use Rattle.server_replies.specs.PageSizes.{is_page_size};
 ghost use Rattle.virtiofsd_fuse.specs.Grammar.{given, meant, meaning, known_options};
 ghost use Rattle.virtiofsd_fuse.specs.Serving.{setting};
 ghost use Rattle.server_phases.specs.Apart.{apart_of};
-ghost use Rattle.server_phases.specs.Asking.{IsTold, may_want_memory};
+ghost use Rattle.server_phases.specs.Asking.{IsTold, IsFront, IsToldByFront, front_tells, is_told, may_want_memory};
 
 use crate::apart::{Apart, apart_of};
 use crate::asking::{
-    Asked, ask_listing_row, ask_read_row, ask_write_row, call_told, no_call, readahead,
+    Asked, AskedFront, WRITE_IN_LEN, ask_listing_row, ask_read_row, ask_write_front, ask_write_row,
+    call_told, no_call, readahead,
 };
 use bitflags::Flags;
 use fuse_in::InHeader;
@@ -21,7 +22,7 @@ use fuse_wire::FsOptions;
 use server_requests::records::read_record;
 use server_segments::{Error, Reader, Writer};
 use std::alloc::Global;
-use virtiofsd_fuse::Server;
+use virtiofsd_fuse::{REQUEST_FRONT, Server, writes_data};
 
 /// How many bytes the longest reply has that is made without a call: a header and `struct fuse_init_out`.
 pub const REPLY_WITHOUT_CALL_LEN: usize = 80;
@@ -106,7 +107,7 @@ impl Session {
         let answer = server.handle_message(alloc, r, w);
         match server.into_fs().into_told() {
             Recorded::Nothing => no_call(answer, room, w),
-            Recorded::Call(call) => Ok(call_told(head, call, readahead(alloc, request))),
+            Recorded::Call(call) => Ok(call_told(head, call, readahead(alloc, request), room)),
             Recorded::OutOfMemory => Err(Error::OutOfMemory),
             // No request that isn't told apart has data.
             Recorded::Transfer => Err(Error::OutOfMemory),
@@ -159,12 +160,44 @@ impl Session {
         match read_record::<InHeader>(&mut r) {
             Ok(head) => match apart_of(&head) {
                 Apart::Read => Ok(ask_read_row(&head, room, &mut r)),
-                Apart::Write => Ok(ask_write_row(&head, &mut r)),
+                Apart::Write => {
+                    let len = r.available_bytes().saturating_sub(WRITE_IN_LEN);
+                    Ok(ask_write_row(&head, len, room, &mut r))
+                }
                 Apart::Readdir => Ok(ask_listing_row(&head, false, room, &mut r)),
                 Apart::Readdirplus => Ok(ask_listing_row(&head, true, room, &mut r)),
                 Apart::Neither => self.ask_plain(alloc, &head, request, room, w),
             },
             Err(error) => Ok(Asked::Fault(error)),
         }
+    }
+
+    /// The same by the first bytes of a request that has `len` bytes in all: the data of a WRITE, behind the first 80
+    /// (`REQUEST_FRONT`), stays where it stands. Where they don't tell it, all bytes of the request are wanted.
+    pub fn ask_front(
+        &self,
+        alloc: Global,
+        front: &[u8],
+        len: usize,
+        room: usize,
+        w: &mut Writer,
+    ) -> Result<AskedFront, Error>
+        requires fresh { w.old.written ≡ [] }
+        requires place { w.old.free ≡ 80 }
+        ensures told { IfOk result (λ asked. (request : List ℕ) → len ≡ length request → IsFront front.now request
+            → IsToldByFront (setting self.now.page_size self.now.options.0 room) (meaning self.now.options.0 request room) (drop 80 request) asked) }
+        ensures more { IfOk result (λ asked. is_told asked ≡ front_tells front.now len) }
+        ensures err { IfErr result (λ e. e ≡ Error.OutOfMemory) }
+        ensures memory { IfErr result (λ e. (length front.now ≡ len) × (may_want_memory self.now.options.0 front.now room ≡ true)) }
+        ensures fresh { w.new.written ≡ [] }
+        ensures place { w.new.free ≡ 80 }
+    {
+        if front.len() == len {
+            return Ok(AskedFront::Told(self.ask(alloc, front, room, w)?));
+        }
+        if front.len() < REQUEST_FRONT || len < front.len() || !writes_data(alloc, front) {
+            return Ok(AskedFront::More);
+        }
+        Ok(AskedFront::Told(ask_write_front(alloc, front, len, room)))
     }
 }

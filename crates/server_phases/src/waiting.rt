@@ -41,21 +41,50 @@ pub enum Awaits {
     Written,
     /// A place in a file.
     Offset,
-    /// The options that are wanted, of those that both sides can; the client reads `readahead` bytes ahead.
+    /// The options that are asked for, of those that both sides have; the client reads `readahead` bytes ahead.
     Wish { capable: u64, readahead: u32 },
     /// The entries of a directory in `size` bytes, each with its node or without.
     Entries { with_nodes: bool, size: u32 },
 }
 
-/// What is kept of a request whose call waits for an answer; its bytes are wanted no more.
-#[derive(Clone, Copy, Debug)]
+/// What is kept of a request whose call waits for an answer; its bytes are wanted no more. `Session::ask` alone makes one,
+/// and who answers gives it up, so that a request is answered once.
+#[derive(Debug, Drop)]
 pub struct Waiting {
+    pub(crate) unique: u64,
+    pub(crate) context: Context,
+    pub(crate) awaits: Awaits,
+    pub(crate) room: usize,
+}
+
+impl Waiting {
     /// The client's number of the request (`unique` of `struct fuse_in_header`).
-    pub unique: u64,
+    pub fn unique(&self) -> u64
+        ensures { result ≡ self.now.unique }
+    {
+        self.unique
+    }
+
     /// Who asks.
-    pub context: Context,
+    pub fn context(&self) -> Context
+        ensures { result ≡ self.now.context }
+    {
+        self.context
+    }
+
     /// What the call waits for.
-    pub awaits: Awaits,
+    pub fn awaits(&self) -> Awaits
+        ensures { result ≡ self.now.awaits }
+    {
+        self.awaits
+    }
+
+    /// How many bytes the reply has room for, its header among them.
+    pub fn room(&self) -> usize
+        ensures { result ≡ self.now.room }
+    {
+        self.room
+    }
 }
 
 // What one call waits for.

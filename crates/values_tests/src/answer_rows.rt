@@ -1,18 +1,19 @@
 //! Answers to calls, and what they give: the reply, what is given back, and the options.
 
 use crate::answers::{ATTR_OUT, ENTRY_OUT, OPEN_OUT, STATFS_OUT, Told};
-use crate::given::{ASKER, Digits, UNIQUE, asked, expect_same, spelled};
+use crate::given::{ASKER, Digits, UNIQUE, UNIQUE_NUMBER, expect_same, spelled, waiting};
 use crate::said::who;
 use bitflags::Flags;
 use fuse_fs::Context;
 use fuse_wire::FsOptions;
-use server_phases::{Answered, Asked, Refused, Sent, Session, Waiting};
+use server_phases::{Answered, Refusal, Refused, Sent, Session};
 use std::alloc::Global;
 use std::process::Abort;
 
 /// An answer to the call of a request that has a room for its reply, and what it gives.
 #[derive(Clone, Copy)]
 struct Row {
+    name: &'static str,
     request: Digits,
     room: usize,
     told: Told,
@@ -31,14 +32,15 @@ enum Gives {
     /// The same, and node 2 is held once less.
     Back,
     /// It is refused.
-    Refused,
+    Refused(Refused),
 }
 
 // What was agreed before each row: BIG_WRITES.
 const BEFORE: u64 = 0x20;
 
-/// What was given, without its memory: the reply's front, if it has room, and who is to hold which node less.
-type Seen<'a> = Result<(Option<&'a [u8]>, Option<([u64; 3], u64)>), Refused>;
+/// What was given, without its memory: the reply's front, if it has room, and who is to hold which node less; or why the
+/// answer was refused, and which request waits still.
+type Seen<'a> = Result<(Option<&'a [u8]>, Option<([u64; 3], u64)>), (Refused, u64)>;
 
 // Who is to hold which node less.
 fn given_back(back: &(Context, u64)) -> ([u64; 3], u64) {
@@ -46,7 +48,7 @@ fn given_back(back: &(Context, u64)) -> ([u64; 3], u64) {
 }
 
 // What was given.
-fn shown(answered: &Result<Answered, Refused>) -> Seen<'_> {
+fn shown(answered: &Result<Answered, Refusal>) -> Seen<'_> {
     match answered {
         Ok(Answered { sent, forget }) => {
             let back = forget.as_ref().map(given_back);
@@ -55,7 +57,7 @@ fn shown(answered: &Result<Answered, Refused>) -> Seen<'_> {
                 Sent::NoRoom => Ok((None, back)),
             }
         }
-        Err(refused) => Err(*refused),
+        Err(refusal) => Err((refusal.why, refusal.waiting.unique())),
     }
 }
 
@@ -65,7 +67,7 @@ fn wanted(gives: Gives, reply: &[u8]) -> Seen<'_> {
         Gives::Reply(_) => Ok((Some(reply), None)),
         Gives::NoRoom => Ok((None, None)),
         Gives::Back => Ok((None, Some(([10, 11, 12], 2)))),
-        Gives::Refused => Err(Refused::OtherKind),
+        Gives::Refused(why) => Err((why, UNIQUE_NUMBER)),
     }
 }
 
@@ -77,40 +79,27 @@ fn reply_of(gives: Gives) -> Digits {
     }
 }
 
-// What is kept of a request that has a call.
-fn waiting(rt: &impl Abort, alloc: Global, session: &Session, row: &Row) -> Waiting {
-    match asked(rt, alloc, session, row.request, row.room) {
-        Asked::Call(_, waiting) => Some(waiting),
-        _ => None,
-    }
-    .expect(rt, "a call")
-}
-
 // A row holds in a session in which BIG_WRITES was agreed.
 fn expect_row(rt: &impl Abort, alloc: Global, row: &Row) {
     let mut session = Session::resume(4096, FsOptions::from_bits_retain(BEFORE));
-    let waiting = waiting(rt, alloc, &session, row);
-    assert!(rt; row.room <= 0xffff);
-    let found = session.answer(&waiting, row.room, row.told.answer());
+    let waiting = waiting(rt, alloc, &session, row.request, row.room);
+    let found = session.answer(waiting, row.told.answer());
     let reply = spelled(rt, alloc, reply_of(row.gives));
     let want = wanted(row.gives, &reply);
-    expect_same(rt, (row.request, shown(&found)), (row.request, want));
-    expect_same(rt, session.options().bits(), row.options);
-}
-
-// Each row holds.
-fn expect_given(rt: &impl Abort, alloc: Global, rows: &[Row]) {
-    for row in rows {
-        expect_row(rt, alloc, row);
-    }
+    let options = session.options().bits();
+    expect_same(
+        rt,
+        (row.name, shown(&found), options),
+        (row.name, want, row.options),
+    );
 }
 
 const EMPTY: Digits = &["10000000 00000000", UNIQUE];
 
 const EIO: Digits = &["10000000 fbffffff", UNIQUE];
 
-// LOOKUP of `a`
 const LOOKUP: Row = Row {
+    name: "LOOKUP of `a`",
     request: &["2a000000 01000000", ASKER, "6100"],
     room: 144,
     told: Told::Entry,
@@ -118,8 +107,8 @@ const LOOKUP: Row = Row {
     options: BEFORE,
 };
 
-// CREATE of `a`
 const CREATE: Row = Row {
+    name: "CREATE of `a`",
     request: &[
         "3a000000 23000000",
         ASKER,
@@ -134,61 +123,61 @@ const CREATE: Row = Row {
 
 const ENTRIES: &[Row] = &[
     LOOKUP,
-    // a room that is a byte too short, and none
     Row {
+        name: "LOOKUP in a room that is a byte too short",
         room: 143,
         gives: Gives::Back,
         ..LOOKUP
     },
     Row {
+        name: "LOOKUP in no room",
         room: 0,
         gives: Gives::Back,
         ..LOOKUP
     },
-    // an error
     Row {
+        name: "LOOKUP that failed",
         room: 16,
         told: Told::Failing,
         gives: Gives::Reply(EIO),
         ..LOOKUP
     },
     Row {
+        name: "LOOKUP that failed in a room a byte too short",
         room: 15,
         told: Told::Failing,
         gives: Gives::NoRoom,
         ..LOOKUP
     },
-    // answers of other kinds
     Row {
+        name: "LOOKUP answered as CREATE",
         told: Told::Created,
-        gives: Gives::Refused,
+        gives: Gives::Refused(Refused::OtherKind),
         ..LOOKUP
     },
     Row {
+        name: "LOOKUP answered that it is done",
         told: Told::Done,
-        gives: Gives::Refused,
+        gives: Gives::Refused(Refused::OtherKind),
         ..LOOKUP
     },
     CREATE,
     Row {
+        name: "CREATE in a room that is a byte too short",
         room: 159,
         gives: Gives::Back,
         ..CREATE
     },
     Row {
+        name: "CREATE answered as LOOKUP",
         told: Told::Entry,
-        gives: Gives::Refused,
+        gives: Gives::Refused(Refused::OtherKind),
         ..CREATE
     },
 ];
 
-#[test]
-fn entries_are_answered(rt: HostRuntime) {
-    expect_given(&rt, rt.alloc(), ENTRIES);
-}
-
-// READ of 35 bytes in a room for 5
 const READ: Row = Row {
+    name: "READ of 35 bytes in a room for 5",
     request: &[
         "50000000 0f000000",
         ASKER,
@@ -201,8 +190,8 @@ const READ: Row = Row {
     options: BEFORE,
 };
 
-// GETXATTR of `user.a` in 35 bytes
 const GETXATTR: Row = Row {
+    name: "GETXATTR of `user.a` in 35 bytes",
     request: &[
         "37000000 16000000",
         ASKER,
@@ -215,57 +204,81 @@ const GETXATTR: Row = Row {
     options: BEFORE,
 };
 
+// READLINK in a room of 2^32 bytes
+const READLINK: Row = Row {
+    name: "READLINK by as many bytes as a header tells",
+    request: &["28000000 05000000", ASKER],
+    room: 0x1_0000_0000,
+    told: Told::Bytes(0xffff_ffef),
+    gives: Gives::Reply(&["ffffffff 00000000", UNIQUE]),
+    options: BEFORE,
+};
+
 const DATA: &[Row] = &[
     READ,
-    // more than there was room for
     Row {
+        name: "READ with more bytes than it has room for",
         told: Told::Bytes(6),
-        gives: Gives::Refused,
+        gives: Gives::Refused(Refused::OtherKind),
         ..READ
     },
     Row {
+        name: "READ answered by a count",
         told: Told::Count(5),
-        gives: Gives::Refused,
+        gives: Gives::Refused(Refused::OtherKind),
         ..READ
     },
     Row {
+        name: "READ that failed",
         told: Told::Failing,
         gives: Gives::Reply(EIO),
         ..READ
     },
     GETXATTR,
     Row {
+        name: "GETXATTR by its count in a room that is a byte too short",
         room: 23,
         gives: Gives::NoRoom,
         ..GETXATTR
     },
     Row {
+        name: "GETXATTR by 8 bytes",
         told: Told::Bytes(8),
         gives: Gives::Reply(&["18000000 00000000", UNIQUE]),
         ..GETXATTR
     },
     Row {
+        name: "GETXATTR by 9 bytes, which have no room",
         told: Told::Bytes(9),
         gives: Gives::NoRoom,
         ..GETXATTR
     },
-    // READLINK
     Row {
+        name: "READLINK by 8 bytes",
         request: &["28000000 05000000", ASKER],
         told: Told::Bytes(8),
         gives: Gives::Reply(&["18000000 00000000", UNIQUE]),
         ..GETXATTR
     },
+    READLINK,
+    Row {
+        name: "READLINK by a byte more than a header tells",
+        told: Told::Bytes(0xffff_fff0),
+        gives: Gives::Refused(Refused::TooLong),
+        ..READLINK
+    },
+    Row {
+        name: "READLINK by as much, which has no room",
+        room: 0xffff_ffff,
+        told: Told::Bytes(0xffff_fff0),
+        gives: Gives::NoRoom,
+        ..READLINK
+    },
 ];
 
-#[test]
-fn data_is_answered_by_its_length(rt: HostRuntime) {
-    expect_given(&rt, rt.alloc(), DATA);
-}
-
 const PLAIN: &[Row] = &[
-    // GETATTR
     Row {
+        name: "GETATTR",
         request: &[
             "38000000 03000000",
             ASKER,
@@ -276,24 +289,24 @@ const PLAIN: &[Row] = &[
         gives: Gives::Reply(&["78000000 00000000", UNIQUE, ATTR_OUT]),
         options: BEFORE,
     },
-    // OPEN
     Row {
+        name: "OPEN",
         request: &["30000000 0e000000", ASKER, "02000000 00000000"],
         room: 32,
         told: Told::Opened,
         gives: Gives::Reply(&["20000000 00000000", UNIQUE, OPEN_OUT]),
         options: BEFORE,
     },
-    // STATFS
     Row {
+        name: "STATFS",
         request: &["28000000 11000000", ASKER],
         room: 96,
         told: Told::Stats,
         gives: Gives::Reply(&["60000000 00000000", UNIQUE, STATFS_OUT]),
         options: BEFORE,
     },
-    // WRITE of 3 bytes
     Row {
+        name: "WRITE of 3 bytes",
         request: &[
             "53000000 10000000",
             ASKER,
@@ -306,8 +319,8 @@ const PLAIN: &[Row] = &[
         gives: Gives::Reply(&["18000000 00000000", UNIQUE, "03000000 00000000"]),
         options: BEFORE,
     },
-    // LSEEK
     Row {
+        name: "LSEEK",
         request: &[
             "40000000 2e000000",
             ASKER,
@@ -318,8 +331,8 @@ const PLAIN: &[Row] = &[
         gives: Gives::Reply(&["18000000 00000000", UNIQUE, "0900000000000000"]),
         options: BEFORE,
     },
-    // RENAME of `a` to `b` in node 6
     Row {
+        name: "RENAME of `a` to `b` in node 6",
         request: &["34000000 0c000000", ASKER, "0600000000000000", "6100 6200"],
         room: 16,
         told: Told::Done,
@@ -328,13 +341,8 @@ const PLAIN: &[Row] = &[
     },
 ];
 
-#[test]
-fn records_are_answered(rt: HostRuntime) {
-    expect_given(&rt, rt.alloc(), PLAIN);
-}
-
-// FORGET
 const FORGET: Row = Row {
+    name: "FORGET",
     request: &["30000000 02000000", ASKER, "0700000000000000"],
     room: 0,
     told: Told::Done,
@@ -342,15 +350,15 @@ const FORGET: Row = Row {
     options: BEFORE,
 };
 
-// GETLK
 const GETLK: Row = Row {
+    name: "GETLK",
     request: &["28000000 1f000000", ASKER],
     room: 16,
     ..FORGET
 };
 
-// TMPFILE
 const TMPFILE: Row = Row {
+    name: "TMPFILE",
     request: &["28000000 33000000", ASKER],
     room: 16,
     told: Told::Failing,
@@ -360,36 +368,33 @@ const TMPFILE: Row = Row {
 
 const SILENT: &[Row] = &[
     FORGET,
-    // there is no error of it
     Row {
+        name: "FORGET that failed, as none does",
         told: Told::Failing,
-        gives: Gives::Refused,
+        gives: Gives::Refused(Refused::OtherKind),
         ..FORGET
     },
     GETLK,
     Row {
+        name: "GETLK that failed",
         told: Told::Failing,
         gives: Gives::Reply(EIO),
         ..GETLK
     },
     TMPFILE,
     Row {
+        name: "TMPFILE that is done, as none is",
         told: Told::Done,
-        gives: Gives::Refused,
+        gives: Gives::Refused(Refused::OtherKind),
         ..TMPFILE
     },
 ];
 
-#[test]
-fn silent_calls_are_answered(rt: HostRuntime) {
-    expect_given(&rt, rt.alloc(), SILENT);
-}
-
 // The rest of what INIT is answered.
 const ZEROS: &str = "00000000000000000000000000000000000000000000000000000000";
 
-// INIT 7.38 with readahead 0x20000, of ASYNC_READ (1), which is agreed unasked, and POSIX_LOCKS (2)
 const INIT: Row = Row {
+    name: "INIT 7.38 of ASYNC_READ (1), which is agreed unasked, and POSIX_LOCKS (2)",
     request: &[
         "38000000 1a000000",
         ASKER,
@@ -406,8 +411,8 @@ const INIT: Row = Row {
     options: 1,
 };
 
-// DESTROY
 const DESTROY: Row = Row {
+    name: "DESTROY",
     request: &["28000000 26000000", ASKER],
     room: 0,
     told: Told::Done,
@@ -417,8 +422,8 @@ const DESTROY: Row = Row {
 
 const SESSIONS: &[Row] = &[
     INIT,
-    // it asks for both options, and for one that the client doesn't have
     Row {
+        name: "INIT that wants both options, and one that the client doesn't have",
         told: Told::Wants(0x402),
         gives: Gives::Reply(&[
             "50000000 00000000",
@@ -429,35 +434,43 @@ const SESSIONS: &[Row] = &[
         options: 3,
         ..INIT
     },
-    // the reply has no room, and the options are agreed
     Row {
+        name: "INIT in a room that is a byte too short: the options are agreed",
         room: 79,
         gives: Gives::NoRoom,
         ..INIT
     },
-    // an error, or an answer of another kind, agrees nothing
     Row {
+        name: "INIT that failed",
         told: Told::Failing,
         gives: Gives::Reply(EIO),
         options: BEFORE,
         ..INIT
     },
     Row {
+        name: "INIT answered that it is done",
         told: Told::Done,
-        gives: Gives::Refused,
+        gives: Gives::Refused(Refused::OtherKind),
         options: BEFORE,
         ..INIT
     },
     DESTROY,
     Row {
+        name: "DESTROY that failed, as none does",
         told: Told::Failing,
-        gives: Gives::Refused,
+        gives: Gives::Refused(Refused::OtherKind),
         options: BEFORE,
         ..DESTROY
     },
 ];
 
+const TABLES: &[&[Row]] = &[ENTRIES, DATA, PLAIN, SILENT, SESSIONS];
+
 #[test]
-fn options_are_agreed_and_dropped(rt: HostRuntime) {
-    expect_given(&rt, rt.alloc(), SESSIONS);
+fn calls_are_answered(rt: HostRuntime) {
+    for rows in TABLES {
+        for row in *rows {
+            expect_row(&rt, rt.alloc(), row);
+        }
+    }
 }

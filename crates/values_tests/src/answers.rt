@@ -71,8 +71,8 @@ fn attr() -> Attr {
     }
 }
 
-// Node 2.
-fn entry() -> Entry<u64> {
+/// Node 2.
+pub fn entry() -> Entry<u64> {
     Entry {
         inode: 2,
         generation: 3,

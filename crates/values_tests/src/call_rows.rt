@@ -1,6 +1,6 @@
 //! Requests and what they are told: the call and what it waits for, or what there is without one.
 
-use crate::given::{ASKER, Digits, UNIQUE, asked, expect_same, spelled};
+use crate::given::{ASKER, Digits, UNIQUE, UNIQUE_NUMBER, asked, expect_same, spelled};
 use crate::said::{NOBODY, NONE, Said, call_said, in_words, who};
 use bitflags::Flags;
 use fuse_wire::FsOptions;
@@ -12,6 +12,7 @@ use std::process::Abort;
 /// A request in a room, and what it is told.
 #[derive(Clone, Copy)]
 struct Row {
+    name: &'static str,
     request: Digits,
     room: usize,
     told: Told,
@@ -55,9 +56,9 @@ fn shown(asked: &Asked) -> Seen<'_> {
     match asked {
         Asked::Call(call, waiting) => Seen::Call(
             call_said(call),
-            waiting.unique,
-            who(&waiting.context),
-            waiting.awaits,
+            waiting.unique(),
+            who(&waiting.context()),
+            waiting.awaits(),
         ),
         Asked::Reply(front) => Seen::Reply(front.bytes()),
         Asked::Silence => Seen::Silence,
@@ -67,7 +68,6 @@ fn shown(asked: &Asked) -> Seen<'_> {
 
 // What is to be told; `reply` is that of a row that has one.
 fn wanted(told: Told, reply: &[u8]) -> Seen<'_> {
-    const UNIQUE_NUMBER: u64 = 0x1122_3344_5566_7788;
     match told {
         Told::Call(name, numbers, texts, awaits) => {
             Seen::Call(
@@ -102,25 +102,25 @@ fn expect_told(rt: &impl Abort, alloc: Global, options: u64, rows: &[Row]) {
         let found = asked(rt, alloc, &session, row.request, row.room);
         let reply = spelled(rt, alloc, reply_of(row.told));
         let want = wanted(row.told, &reply);
-        expect_same(rt, (row.request, shown(&found)), (row.request, want));
+        expect_same(rt, (row.name, shown(&found)), (row.name, want));
     }
 }
 
 const NODES: &[Row] = &[
-    // LOOKUP of `a`
     Row {
+        name: "LOOKUP of `a`",
         request: &["2a000000 01000000", ASKER, "6100"],
         room: 144,
         told: Told::Call("lookup", &[5], (b"a", b""), Awaits::Entry),
     },
-    // FORGET
     Row {
+        name: "FORGET",
         request: &["30000000 02000000", ASKER, "0700000000000000"],
         room: 0,
         told: Told::Call("forget", &[5, 7], NO_TEXTS, Awaits::Forgotten),
     },
-    // BATCH_FORGET of two nodes
     Row {
+        name: "BATCH_FORGET of two nodes",
         request: &[
             "50000000 2a000000",
             ASKER,
@@ -130,8 +130,8 @@ const NODES: &[Row] = &[
         room: 0,
         told: Told::Call("batch_forget", &[6, 7, 8, 9], NO_TEXTS, Awaits::Forgotten),
     },
-    // GETATTR, by the handle that flag 1 says is there, and without
     Row {
+        name: "GETATTR by a handle (1)",
         request: &[
             "38000000 03000000",
             ASKER,
@@ -141,6 +141,7 @@ const NODES: &[Row] = &[
         told: Told::Call("getattr", &[5, 0x22], NO_TEXTS, Awaits::Attr),
     },
     Row {
+        name: "GETATTR by none (2)",
         request: &[
             "38000000 03000000",
             ASKER,
@@ -149,8 +150,8 @@ const NODES: &[Row] = &[
         room: 120,
         told: Told::Call("getattr", &[5, NONE], NO_TEXTS, Awaits::Attr),
     },
-    // SETATTR of mode and size, by a handle (64), with a bit that has no meaning
     Row {
+        name: "SETATTR of mode and size by a handle (64), with a bit without meaning",
         request: &[
             "80000000 04000000",
             ASKER,
@@ -184,28 +185,23 @@ const NODES: &[Row] = &[
             Awaits::Attr,
         ),
     },
-    // READLINK
     Row {
+        name: "READLINK",
         request: &["28000000 05000000", ASKER],
         room: 16,
         told: Told::Call("readlink", &[5], NO_TEXTS, Awaits::Bytes),
     },
-    // STATFS
     Row {
+        name: "STATFS",
         request: &["28000000 11000000", ASKER],
         room: 96,
         told: Told::Call("statfs", &[5], NO_TEXTS, Awaits::Stats),
     },
 ];
 
-#[test]
-fn requests_about_nodes_are_told(rt: HostRuntime) {
-    expect_told(&rt, rt.alloc(), 0, NODES);
-}
-
 const NAMES: &[Row] = &[
-    // RENAME of `a` to `bc` in node 6
     Row {
+        name: "RENAME of `a` to `bc` in node 6",
         request: &[
             "35000000 0c000000",
             ASKER,
@@ -215,8 +211,8 @@ const NAMES: &[Row] = &[
         room: 16,
         told: Told::Call("rename", &[5, 6, 0], (b"a", b"bc"), Awaits::Done),
     },
-    // RENAME2, of whose flags three are taken
     Row {
+        name: "RENAME2, of whose flags three are taken",
         request: &[
             "3d000000 2d000000",
             ASKER,
@@ -226,8 +222,8 @@ const NAMES: &[Row] = &[
         room: 16,
         told: Told::Call("rename", &[5, 6, 2], (b"a", b"bc"), Awaits::Done),
     },
-    // SETXATTR of `user.a` to two bytes, with XATTR_CREATE (1)
     Row {
+        name: "SETXATTR of `user.a` to two bytes, with XATTR_CREATE (1)",
         request: &[
             "39000000 15000000",
             ASKER,
@@ -242,8 +238,8 @@ const NAMES: &[Row] = &[
             Awaits::Done,
         ),
     },
-    // its size is told wrong
     Row {
+        name: "SETXATTR whose size is told wrong",
         request: &[
             "39000000 15000000",
             ASKER,
@@ -253,8 +249,8 @@ const NAMES: &[Row] = &[
         room: 16,
         told: Told::Fault(Error::InvalidXattrSize((3, 2))),
     },
-    // GETXATTR of `user.a` in 35 bytes
     Row {
+        name: "GETXATTR of `user.a` in 35 bytes",
         request: &[
             "37000000 16000000",
             ASKER,
@@ -264,28 +260,23 @@ const NAMES: &[Row] = &[
         room: 51,
         told: Told::Call("getxattr", &[5, 35], (b"user.a", b""), Awaits::BytesOrCount),
     },
-    // LOOKUP of a name without a zero byte
     Row {
+        name: "LOOKUP of a name without a zero byte",
         request: &["2a000000 01000000", ASKER, "6161"],
         room: 144,
         told: Told::Fault(Error::InvalidCString),
     },
 ];
 
-#[test]
-fn requests_with_names_are_told(rt: HostRuntime) {
-    expect_told(&rt, rt.alloc(), 0, NAMES);
-}
-
 const FILES: &[Row] = &[
-    // OPEN with O_RDWR (2), and FUSE_OPEN_KILL_SUIDGID (1)
     Row {
+        name: "OPEN with O_RDWR (2), and FUSE_OPEN_KILL_SUIDGID (1)",
         request: &["30000000 0e000000", ASKER, "02000000 01000000"],
         room: 32,
         told: Told::Call("open", &[5, 1, 2], NO_TEXTS, Awaits::Open),
     },
-    // CREATE of `a`
     Row {
+        name: "CREATE of `a`",
         request: &[
             "3a000000 23000000",
             ASKER,
@@ -300,8 +291,8 @@ const FILES: &[Row] = &[
             Awaits::Create,
         ),
     },
-    // READ of 35 bytes in a room for 5, without an owner of locks
     Row {
+        name: "READ of 35 bytes in a room for 5, without an owner of locks",
         request: &[
             "50000000 0f000000",
             ASKER,
@@ -316,8 +307,8 @@ const FILES: &[Row] = &[
             Awaits::FileBytes { most: 5 },
         ),
     },
-    // WRITE of 3 bytes, with an owner (2), not from the client's cache, and the set-user bits go (4)
     Row {
+        name: "WRITE of 3 bytes with an owner (2), by which the set-user bits go (4)",
         request: &[
             "53000000 10000000",
             ASKER,
@@ -333,8 +324,8 @@ const FILES: &[Row] = &[
             Awaits::Written,
         ),
     },
-    // LSEEK
     Row {
+        name: "LSEEK",
         request: &[
             "40000000 2e000000",
             ASKER,
@@ -343,8 +334,8 @@ const FILES: &[Row] = &[
         room: 24,
         told: Told::Call("lseek", &[5, 0x22, 0x23, 4], NO_TEXTS, Awaits::Offset),
     },
-    // READDIRPLUS in 512 bytes
     Row {
+        name: "READDIRPLUS in 512 bytes",
         request: &[
             "50000000 2c000000",
             ASKER,
@@ -362,8 +353,8 @@ const FILES: &[Row] = &[
             },
         ),
     },
-    // READDIR in a room below its size
     Row {
+        name: "READDIR in a room below its size",
         request: &[
             "50000000 1c000000",
             ASKER,
@@ -375,14 +366,9 @@ const FILES: &[Row] = &[
     },
 ];
 
-#[test]
-fn requests_about_files_are_told(rt: HostRuntime) {
-    expect_told(&rt, rt.alloc(), 0, FILES);
-}
-
 const OTHERS: &[Row] = &[
-    // INIT 7.38 with readahead 0x20000, of ASYNC_READ (1) and POSIX_LOCKS (2)
     Row {
+        name: "INIT 7.38 of ASYNC_READ (1) and POSIX_LOCKS (2)",
         request: &[
             "38000000 1a000000",
             ASKER,
@@ -398,74 +384,71 @@ const OTHERS: &[Row] = &[
             },
         ),
     },
-    // DESTROY
     Row {
+        name: "DESTROY",
         request: &["28000000 26000000", ASKER],
         room: 0,
         told: Told::Bare("destroy", &[], Awaits::End),
     },
-    // GETLK
     Row {
+        name: "GETLK",
         request: &["28000000 1f000000", ASKER],
         room: 16,
         told: Told::Bare("getlk", &[], Awaits::Silence),
     },
-    // TMPFILE
     Row {
+        name: "TMPFILE",
         request: &["28000000 33000000", ASKER],
         room: 16,
         told: Told::Bare("tmpfile", &[], Awaits::Refusal),
     },
-    // INTERRUPT
     Row {
+        name: "INTERRUPT",
         request: &["30000000 24000000", ASKER, "0700000000000000"],
         room: 16,
         told: Told::Silence,
     },
-    // SETUPMAPPING
     Row {
+        name: "SETUPMAPPING",
         request: &["28000000 30000000", ASKER],
         room: 16,
         told: Told::Reply(ENOSYS),
     },
-    // an opcode that is none (52), and no room for what is said of it
     Row {
+        name: "an opcode that is none (52)",
         request: &["28000000 34000000", ASKER],
         room: 16,
         told: Told::Reply(ENOSYS),
     },
     Row {
+        name: "the same, with no room for the reply",
         request: &["28000000 34000000", ASKER],
         room: 15,
         told: Told::Fault(Error::EncodeMessage),
     },
-    // a request that is too long
     Row {
+        name: "a request that is too long",
         request: &["01101000 11000000", ASKER],
         room: 16,
         told: Told::Reply(ENOMEM),
     },
-    // a header that is cut short, and a record
     Row {
+        name: "a header that is cut short",
         request: &["28000000 11000000", UNIQUE, "0500000000000000"],
         room: 96,
         told: Told::Fault(Error::DecodeMessage),
     },
     Row {
+        name: "a record that is cut short",
         request: &["50000000 0f000000", ASKER, "2200000000000000"],
         room: 21,
         told: Told::Fault(Error::DecodeMessage),
     },
 ];
 
-#[test]
-fn other_requests_are_told(rt: HostRuntime) {
-    expect_told(&rt, rt.alloc(), 0, OTHERS);
-}
-
 const EXTENDED: &[Row] = &[
-    // SETXATTR of `user.a` to two bytes by the longer record, of whose further flags one is known
     Row {
+        name: "SETXATTR by the longer record, of whose further flags one is known",
         request: &[
             "41000000 15000000",
             ASKER,
@@ -480,8 +463,8 @@ const EXTENDED: &[Row] = &[
             Awaits::Done,
         ),
     },
-    // CREATE of `a` with FUSE_OPEN_KILL_SUIDGID (1), by a process that has group 13 too
     Row {
+        name: "CREATE with FUSE_OPEN_KILL_SUIDGID (1) by a process that has group 13 too",
         request: &[
             "4a000000 23000000",
             ASKER,
@@ -499,8 +482,18 @@ const EXTENDED: &[Row] = &[
     },
 ];
 
-// SETXATTR_EXT (29) and CREATE_SUPP_GROUP (34) were agreed.
+// The tables, each with the options that were agreed: in the last SETXATTR_EXT (29) and CREATE_SUPP_GROUP (34).
+const TABLES: &[(u64, &[Row])] = &[
+    (0, NODES),
+    (0, NAMES),
+    (0, FILES),
+    (0, OTHERS),
+    (0x4_2000_0000, EXTENDED),
+];
+
 #[test]
-fn requests_are_told_by_what_was_agreed(rt: HostRuntime) {
-    expect_told(&rt, rt.alloc(), 0x4_2000_0000, EXTENDED);
+fn requests_are_told(rt: HostRuntime) {
+    for (options, rows) in TABLES {
+        expect_told(&rt, rt.alloc(), *options, rows);
+    }
 }

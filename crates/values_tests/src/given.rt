@@ -2,7 +2,7 @@
 
 ghost use Rattle.std.specs.Prelude.{◌≡◌, []};
 
-use server_phases::{Asked, Session};
+use server_phases::{Asked, Session, Waiting};
 use server_segments::Writer;
 use std::alloc::Global;
 use std::fmt::Debug;
@@ -17,7 +17,10 @@ pub const ASKER: &str = "8877665544332211 0500000000000000 0a000000 0b000000 0c0
 /// The unique number of each request.
 pub const UNIQUE: &str = "8877665544332211";
 
-/// What was found is what is expected. One generic assertion for all tests: each assertion of its own costs a proof.
+/// The same as a number.
+pub const UNIQUE_NUMBER: u64 = 0x1122_3344_5566_7788;
+
+/// What was found is what is wanted. One generic assertion for all tests: each assertion of its own costs a proof.
 pub fn expect_same<T: PartialEq + Debug + Drop>(rt: &impl Abort, found: T, want: T) {
     assert_eq!(rt; found, want);
 }
@@ -34,8 +37,8 @@ pub fn spelled(rt: &impl Abort, alloc: Global, digits: Digits) -> Vec<u8> {
     bytes
 }
 
-// A place for a reply without a call: 80 bytes.
-fn place(rt: &impl Abort, alloc: Global) -> Writer
+/// A place for a reply without a call: 80 bytes.
+pub fn place(rt: &impl Abort, alloc: Global) -> Writer
     ensures written { result.written ≡ [] }
     ensures free { result.free ≡ 80 }
 {
@@ -55,4 +58,19 @@ pub fn asked(
     session
         .ask(alloc, &request, room, &mut w)
         .expect(rt, "memory")
+}
+
+/// What is kept of a request that has a call.
+pub fn waiting(
+    rt: &impl Abort,
+    alloc: Global,
+    session: &Session,
+    request: Digits,
+    room: usize,
+) -> Waiting {
+    match asked(rt, alloc, session, request, room) {
+        Asked::Call(_, waiting) => Some(waiting),
+        _ => None,
+    }
+    .expect(rt, "a call")
 }

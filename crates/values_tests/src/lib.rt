@@ -8,6 +8,10 @@ mod answers;
 #[cfg(test)]
 mod call_rows;
 #[cfg(test)]
+mod front_rows;
+#[cfg(test)]
 mod given;
+#[cfg(test)]
+mod list_rows;
 #[cfg(test)]
 mod said;

@@ -13,5 +13,6 @@ returns c = λ page_size options more bytes. (
       c.if-room-lt-OUT_HEADER_LEN.false,
   ap (λ (who : Context). Readdir who c.args.head.now.nodeid c.args.request.now.fh c.args.request.now.size c.args.request.now.offset) c.from-context.ensures,
   tt,
-  (refl, refl, sym c.from-context.ensures),
+  (refl, refl, sym c.from-context.ensures, c.if-request-gt-MAX_BUFFER_SIZE.false, c.if-room-lt-OUT_HEADER_LEN.false),
+  refl,
 )

@@ -11,4 +11,5 @@ returns c = λ page_size options more bytes. (
   c.read_value.ensures.call bytes,
   c.read_value.ensures.data_apart bytes,
   (refl, refl, tt, refl),
+  refl,
 )

@@ -4,10 +4,11 @@ use Rattle.virtiofsd_fuse.specs.Grammar.{One}
 use Rattle.server_phases.proofs.asking.ask_write.Goals as goal
 
 pub returns : goal.returns
-returns c = λ s bytes e. (
+returns c = λ page_size options bytes e. (
   One c.args.head.now.unique (write_call c.args.head.now c.args.request.now bytes),
   refl,
   c.write_value.ensures.call bytes,
   c.write_value.ensures.data_apart bytes e,
   (refl, refl, tt, refl),
+  refl,
 )

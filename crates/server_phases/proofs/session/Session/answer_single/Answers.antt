@@ -8,7 +8,7 @@ use Rattle.server_phases.proofs.session.Session.answer_single.Goals as goal
 
 pub returns-clause-gives : goal.returns-clause-gives
 returns-clause-gives c = λ command bytes waits t taken.
-    let s = setting c.args.self.now.page_size c.args.self.now.options.0 c.args.room in
+    let s = setting c.args.self.now.page_size c.args.self.now.options.0 c.args.waiting.now.room in
     let w = c.args.waiting.now in
     let answer = c.args.answer in
     let given = c.plain_answered.result in

@@ -1,7 +1,7 @@
-use Rattle.std.proofs.Common.{sym, ap, ◌∙◌, refl, drop}
+use Rattle.std.proofs.Common.{sym, ap, ◌∙◌, refl, drop, ◌-◌}
+use Rattle.std.proofs.lemmas.List.{length-drop}
 use Rattle.fuse_in.specs.Records.{in_header}
 use Rattle.server_requests.specs.Reading.{reading_of}
-use Rattle.virtiofsd_fuse.specs.Serving.{setting}
 use Rattle.virtiofsd_fuse.proofs.Rows.{meaning_head, meaning_fault}
 use Rattle.server_phases.proofs.Plain.{means_read, means_write, means_readdir, means_readdirplus, data_behind, if_ok_map}
 use Rattle.server_phases.proofs.session.Session.ask.Goals as goal
@@ -21,7 +21,8 @@ returns-in-Write-clause-told c =
           (sym c.apart_of.ensures ∙ c.in-Write.is),
       sym (data_behind c.args.request.now c.read_record.new.r.left c.in-Ok.head (c.in-Ok.ensures.reads ∙ ap (reading_of in_header) c.of_slice-r.ensures.left)),
     )
-    (c.ask_write_row.ensures (setting s.page_size s.options.0 c.args.room) s.options.0 c.args.room)
+    (c.ask_write_row.ensures s.page_size s.options.0 c.read_record.new.r.left refl
+    (c.saturating_sub-len.ensures ∙ ap (λ n. n - 40) c.available_bytes.ensures.left ∙ sym (length-drop 40 c.read_record.new.r.left)))
 
 pub returns-in-Readdir-clause-told : goal.returns-in-Readdir-clause-told
 returns-in-Readdir-clause-told c =

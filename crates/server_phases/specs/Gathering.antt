@@ -1,0 +1,94 @@
+-- Listings that are answered entry by entry: what was brought, and what `served` says of it.
+use Rattle.std.specs.Prelude.{◌≡◌, ℕ, ◌+◌, ◌-◌, ◌≤◌, Bool, true, false, not, ◌&&◌, min, nat_lt, List, [], ◌∷◌, ◌++◌, length, take, drop, map, None, Result, Ok, Err, if◌then◌else◌}
+use Rattle.fuse_fs.specs.declared.answers.Entry.{Entry}
+use Rattle.fuse_fs.specs.Calls.{FileCall, FileAnswer, Listed, Lookup, HasEntry}
+use Rattle.server_replies.specs.Entries.{entry_len, entry_bytes, is_dot, no_node}
+use Rattle.virtiofsd_fuse.specs.Grammar.{FileCommand, Lists}
+use Rattle.virtiofsd_fuse.specs.Serving.{Served}
+use Rattle.server_phases.specs.declared.listing.Listing.{Listing}
+use Rattle.server_phases.specs.declared.listing.ListingReply.{ListingReply}
+use Rattle.server_phases.specs.declared.listing.NotAdded.{NotAdded}
+use Rattle.server_phases.specs.declared.listing.NotAdded.TheVariants as not_added
+
+-- an entry that is brought, and what its look-up gave, if it is looked up
+abbrev pub Brought : Type 0
+Brought = Listed × Entry ℕ
+
+-- whether an entry is looked up: in READDIRPLUS, but for `.` and `..`
+abbrev pub is_looked_up : (with_nodes : Bool) → Listed → Bool
+is_looked_up with_nodes d = with_nodes && not (is_dot d.name)
+
+-- the node that goes out with it
+abbrev pub node_of : Brought → Entry ℕ
+node_of e = if is_dot e.0.name then no_node e.0 else e.1
+
+-- its bytes in the list
+abbrev pub bytes_of : (with_nodes : Bool) → Brought → List ℕ
+bytes_of with_nodes e = entry_bytes with_nodes (node_of e) e.0
+
+-- the bytes of entries one behind another
+abbrev pub all_bytes : (with_nodes : Bool) → List Brought → List ℕ
+all_bytes with_nodes [] = []
+all_bytes with_nodes (e ∷ es) = bytes_of with_nodes e ++ all_bytes with_nodes es
+
+-- what the look-ups gave, in their order
+abbrev pub all_found : (with_nodes : Bool) → List Brought → List FileAnswer
+all_found with_nodes [] = []
+all_found with_nodes (e ∷ es) = (if is_looked_up with_nodes e.0 then HasEntry e.1 ∷ [] else []) ++ all_found with_nodes es
+
+-- the look-up that a listing makes of an entry
+abbrev pub look_up : FileCommand → Listed → List FileCall
+look_up (Lists unique l) d = if is_looked_up l.with_nodes d then Lookup l.context l.node d.name ∷ [] else []
+look_up command d = []
+
+-- the look-ups that it makes, in their order
+abbrev pub look_ups : FileCommand → List Brought → List FileCall
+look_ups command [] = []
+look_ups command (e ∷ es) = look_up command e.0 ++ look_ups command es
+
+-- the entries alone
+abbrev pub entries_of : List Brought → List Listed
+entries_of es = map (λ e. e.0) es
+
+-- the listing of a command that has this room: its entries may have as many bytes as were asked for and have room behind the header
+abbrev pub IsListingFor : Listing → (room : ℕ) → FileCommand → Type 0
+IsListingFor l room (Lists unique asked) =
+    (l.unique ≡ unique) × (l.with_nodes ≡ asked.with_nodes) × (l.most ≡ min asked.size (room - 16)) × (16 ≤ room)
+IsListingFor l room command = ⊥
+
+-- whether a command is a listing
+abbrev pub is_listing : FileCommand → Bool
+is_listing (Lists unique l) = true
+is_listing command = false
+
+-- the entries that were brought so far stand at the front of a list
+pub record Holds (l : Listing) (list : List ℕ) (es : List Brought) : Type 0 where
+  pub long : l.len ≡ length (all_bytes l.with_nodes es)
+  pub stands : take l.len list ≡ all_bytes l.with_nodes es
+
+-- what comes of an entry of the listing's kind: it has no place in what is left, or none in a list of this length; else it is in
+abbrev pub placed : Listing → (list_len : ℕ) → (name_len : ℕ) → Result (Unit {0}) NotAdded
+placed l list_len name_len =
+    if nat_lt (l.most - l.len) (entry_len l.with_nodes name_len) then Err not_added.Full
+    else if nat_lt list_len (l.len + entry_len l.with_nodes name_len) then Err not_added.ShortList
+    else Ok tt
+
+-- what comes of an entry without its node
+abbrev pub added_plain : Listing → (list_len : ℕ) → (name_len : ℕ) → Result (Unit {0}) NotAdded
+added_plain l list_len name_len = if l.with_nodes then Err not_added.OtherKind else placed l list_len name_len
+
+-- what comes of an entry with its node
+abbrev pub added_found : Listing → (list_len : ℕ) → (name_len : ℕ) → Result (Unit {0}) NotAdded
+added_found l list_len name_len = if l.with_nodes then placed l list_len name_len else Err not_added.OtherKind
+
+-- these bytes stand over those of a list from some place on
+abbrev pub put_at : (at : ℕ) → (bytes list : List ℕ) → List ℕ
+put_at at bytes list = take at list ++ bytes ++ drop (at + length bytes) list
+
+-- a listing but for how many bytes came
+abbrev pub StaysBut : (old new : Listing) → Type 0
+StaysBut old new = (new.unique ≡ old.unique) × (new.with_nodes ≡ old.with_nodes) × (new.most ≡ old.most)
+
+-- these calls were made, and this is the reply, of which so many bytes stand in the list
+abbrev pub served_list : List FileCall → (options : ℕ) → ListingReply → (list : List ℕ) → Served
+served_list calls options reply list = record { calls = calls; options = options; reply = reply.front ++ take reply.len list; fault = None }

@@ -1,0 +1,58 @@
+//! Entries of a directory, put over the bytes of a list.
+
+ghost use Rattle.std.specs.Prelude.{◌≡◌, ◌+◌, ◌<◌, ◌≤◌, ◌^◌, ◌++◌, length, true};
+ghost use Rattle.fuse_fs.specs.Answers.{listed};
+ghost use Rattle.server_replies.specs.Entries.{dirent_len, dirent_bytes};
+ghost use Rattle.server_phases.specs.Gathering.{bytes_of};
+
+use fuse_fs::replies::dirent;
+use fuse_fs::{DirEntry, Entry};
+use server_replies::entries::{is_dot, no_node, node_bytes};
+use vm_values::ByteValued;
+
+/// The length of `struct fuse_dirent` without its name.
+const DIRENT_LEN: usize = 24;
+
+/// The length of `struct fuse_dirent` with a name, and what fills it up to a multiple of 8.
+pub(crate) fn dirent_len(name: &[u8]) -> usize
+    ensures len { result ≡ dirent_len (length name.now) }
+    ensures behind { 24 + length name.now ≤ result }
+    ensures filled { result < 32 + length name.now }
+{
+    (DIRENT_LEN + name.len() + 7) / 8 * 8
+}
+
+// Puts `struct fuse_dirent` of an entry over these bytes.
+fn put_dirent(out: &mut [u8], entry: &DirEntry<'_>)
+    requires short { length entry.now.name.now < 2 ^ 32 }
+    requires place { length out.old ≡ dirent_len (length entry.now.name.now) }
+    ensures { out.new ≡ dirent_bytes (listed entry.now) }
+{
+    let (head, behind) = out.split_at_mut(DIRENT_LEN);
+    dirent(entry).put_bytes(head);
+    let (name, zeros) = behind.split_at_mut(entry.name.len());
+    name.copy_from_slice(entry.name);
+    zeros.copy_from_slice(&[0; 8][..zeros.len()]);
+}
+
+/// Puts an entry over these bytes, of which the node stands in front, where one is asked for.
+pub(crate) fn put_entry(out: &mut [u8], node: &[u8], entry: &DirEntry<'_>)
+    requires short { length entry.now.name.now < 2 ^ 32 }
+    requires place { length out.old ≡ length node.now + dirent_len (length entry.now.name.now) }
+    ensures { out.new ≡ node.now ++ dirent_bytes (listed entry.now) }
+{
+    let (front, behind) = out.split_at_mut(node.len());
+    front.copy_from_slice(node);
+    put_dirent(behind, entry);
+}
+
+/// The node that stands before an entry, as `struct fuse_entry_out`.
+pub(crate) fn node_front(entry: &DirEntry<'_>, node: Entry<u64>) -> [u8; 128]
+    ensures { result ++ dirent_bytes (listed entry.now) ≡ bytes_of true (listed entry.now, node) }
+{
+    if is_dot(entry.name) {
+        node_bytes(no_node::<u64>(entry))
+    } else {
+        node_bytes(node)
+    }
+}

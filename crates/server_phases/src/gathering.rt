@@ -1,0 +1,168 @@
+//! How a listing gathers its entries, and what it replies.
+
+ghost use Rattle.std.specs.Prelude.{◌≡◌, ℕ, ◌+◌, ◌-◌, ◌<◌, ◌≤◌, ◌^◌, ◌&&◌, [], ◌∷◌, ◌++◌, List, length, Ok, true, false, min, nat_lt, IfOk, IfErr, OnOk, OnErr, if◌then◌else◌};
+ghost use Rattle.fuse_fs.specs.Answers.{listed};
+ghost use Rattle.fuse_fs.specs.Calls.{Listed, Failed, Entries};
+ghost use Rattle.server_replies.specs.Entries.{dirent_bytes, entry_len, is_dot, no_node};
+ghost use Rattle.server_replies.specs.WholeReplies.{data_header};
+ghost use Rattle.virtiofsd_fuse.specs.Grammar.{FileCommand};
+ghost use Rattle.virtiofsd_fuse.specs.Serving.{Setting, commanded};
+ghost use Rattle.server_phases.specs.Gathering.{Brought, Holds, IsListingFor, StaysBut, is_listing, bytes_of, all_found, entries_of, look_up, look_ups, placed, added_plain, added_found, put_at, served_list};
+ghost use Rattle.server_phases.specs.Waiting.{WaitsFor, first_call};
+
+use crate::answering::{Refusal, Refused};
+use crate::entries::{dirent_len, node_front, put_entry};
+use crate::front::Front;
+use crate::listing::{Listing, ListingReply, NotAdded};
+use crate::waiting::{Awaits, Waiting};
+use fuse_fs::{DirEntry, Entry};
+use fuse_wire::Errno;
+use server_replies::init::MAX_BUFFER_SIZE;
+use server_replies::replies::{OUT_HEADER_LEN, data_header};
+
+// How many bytes of entries may come: as many as were asked for, and have room behind the header.
+fn most_bytes(size: u32, room: usize) -> usize
+    ensures most { size ≤ 2 ^ 20 → result ≡ min size (room - 16) }
+    ensures small { result ≤ 2 ^ 20 }
+{
+    let size = size.min(MAX_BUFFER_SIZE) as usize;
+    size.min(room.saturating_sub(OUT_HEADER_LEN))
+}
+
+// The reply that is so many bytes of the list.
+fn entries_reply(unique: u64, len: usize) -> ListingReply
+    requires { 16 + len < 2 ^ 32 }
+    ensures front { result.front ≡ data_header unique (Ok len) }
+    ensures len { result.len ≡ len }
+{
+    ListingReply {
+        front: Front::of_parts(&data_header(unique, Ok(len)), &[]),
+        len,
+    }
+}
+
+impl Listing {
+    /// The list of the entries that a READDIR or READDIRPLUS waits for: none so far. Another request is given back.
+    pub fn begin(waiting: Waiting) -> Result<Listing, Refusal>
+        ensures lists { IfOk result (λ l. (command : FileCommand) → WaitsFor waiting command → IsListingFor l waiting.room command) }
+        ensures empty { IfOk result (λ l. l.len ≡ 0) }
+        ensures taken { OnOk result ((command : FileCommand) → WaitsFor waiting command → is_listing command ≡ true) }
+        ensures refused { OnErr result ((command : FileCommand) → WaitsFor waiting command → is_listing command ≡ false) }
+        ensures given_back { IfErr result (λ r. (r.why ≡ Refused.OtherKind) × (r.waiting ≡ waiting)) }
+    {
+        match waiting.awaits {
+            Awaits::Entries { with_nodes, size } => Ok(Listing {
+                unique: waiting.unique,
+                with_nodes,
+                most: most_bytes(size, waiting.room),
+                len: 0,
+            }),
+            _ => Err(Refusal {
+                why: Refused::OtherKind,
+                waiting,
+            }),
+        }
+    }
+
+    /// How many bytes of entries may still come.
+    pub fn left(&self) -> usize
+        ensures { result ≡ self.now.most - self.now.len }
+    {
+        self.most - self.len
+    }
+
+    // Puts an entry behind the others, with these bytes of its node in front.
+    fn put(&mut self, list: &mut [u8], node: &[u8], entry: &DirEntry<'_>) -> Result<(), NotAdded>
+        requires { length node.now ≡ (if self.old.with_nodes then 128 else 0) }
+        ensures outcome { result ≡ placed self.old (length list.old) (length entry.now.name.now) }
+        ensures list { OnOk result (list.new ≡ put_at self.old.len (node.now ++ dirent_bytes (listed entry.now)) list.old) }
+        ensures len { OnOk result (self.new.len ≡ self.old.len + entry_len self.old.with_nodes (length entry.now.name.now)) }
+        ensures same { OnErr result ((self.new ≡ self.old) × (list.new ≡ list.old)) }
+        ensures stays { StaysBut self.old self.new }
+    {
+        let len = node.len() + dirent_len(entry.name);
+        if self.most - self.len < len {
+            return Err(NotAdded::Full);
+        }
+        let end = self.len + len;
+        if list.len() < end {
+            return Err(NotAdded::ShortList);
+        }
+        put_entry(&mut list[self.len..end], node, entry);
+        self.len = end;
+        Ok(())
+    }
+
+    /// Puts an entry of READDIR behind the others, with zeros up to a multiple of 8 bytes. `Full` where it has more bytes
+    /// than are left.
+    pub fn add(&mut self, list: &mut [u8], entry: &DirEntry<'_>) -> Result<(), NotAdded>
+        ensures outcome { result ≡ added_plain self.old (length list.old) (length entry.now.name.now) }
+        ensures holds { OnOk result ((es : List Brought) → Holds self.old list.old es → Holds self.new list.new (es ++ (listed entry.now, no_node (listed entry.now)) ∷ [])) }
+        ensures list { OnOk result (list.new ≡ put_at self.old.len (bytes_of false (listed entry.now, no_node (listed entry.now))) list.old) }
+        ensures len { OnOk result (self.new.len ≡ self.old.len + entry_len false (length entry.now.name.now)) }
+        ensures same { OnErr result ((self.new ≡ self.old) × (list.new ≡ list.old)) }
+        ensures stays { StaysBut self.old self.new }
+    {
+        if self.with_nodes {
+            return Err(NotAdded::OtherKind);
+        }
+        self.put(list, &[], entry)
+    }
+
+    /// Puts an entry of READDIRPLUS behind the others, with its node in front: `node` is what its look-up gave, and the
+    /// client holds it once more from then on. `.` and `..` aren't looked up: with them goes node 0, whatever is brought.
+    pub fn add_with_node(
+        &mut self,
+        list: &mut [u8],
+        entry: &DirEntry<'_>,
+        node: Entry<u64>,
+    ) -> Result<(), NotAdded>
+        ensures outcome { result ≡ added_found self.old (length list.old) (length entry.now.name.now) }
+        ensures holds { OnOk result ((es : List Brought) → Holds self.old list.old es → Holds self.new list.new (es ++ (listed entry.now, node) ∷ [])) }
+        ensures list { OnOk result (list.new ≡ put_at self.old.len (bytes_of true (listed entry.now, node)) list.old) }
+        ensures len { OnOk result (self.new.len ≡ self.old.len + entry_len true (length entry.now.name.now)) }
+        ensures same { OnErr result ((self.new ≡ self.old) × (list.new ≡ list.old)) }
+        ensures stays { StaysBut self.old self.new }
+    {
+        if !self.with_nodes {
+            return Err(NotAdded::OtherKind);
+        }
+        self.put(list, &node_front(entry, node), entry)
+    }
+
+    // Whether entries came with nodes, which are held.
+    fn brought_nodes(&self) -> bool
+        ensures { result ≡ self.now.with_nodes && nat_lt 0 self.now.len }
+    {
+        self.with_nodes && 0 < self.len
+    }
+
+    /// The reply: the entries so far. With none the directory has ended.
+    pub fn end(self) -> ListingReply
+        ensures gives { (s : Setting) (command : FileCommand) (list : List ℕ) (es : List Brought) → IsListingFor self s.room command → Holds self list es
+            → commanded s command (Entries (entries_of es) ∷ all_found self.with_nodes es)
+            ≡ served_list (first_call command ∷ look_ups command es) s.options result list }
+        ensures len { result.len ≡ self.len }
+    {
+        entries_reply(self.unique, self.len)
+    }
+
+    /// The reply where reading or a look-up failed: the error, and nothing of the list; but where READDIRPLUS has brought
+    /// entries, these, since their nodes are held.
+    pub fn fail(self, error: Errno) -> ListingReply
+        ensures alone { (self.with_nodes && nat_lt 0 self.len) ≡ false → (s : Setting) (command : FileCommand) (list : List ℕ) → IsListingFor self s.room command
+            → commanded s command (Failed error ∷ []) ≡ served_list (first_call command ∷ []) s.options result list }
+        ensures looked_up { self.with_nodes ≡ true → (s : Setting) (command : FileCommand) (list : List ℕ) (es : List Brought) (d : Listed)
+            → IsListingFor self s.room command → Holds self list es → is_dot d.name ≡ false
+            → commanded s command (Entries (entries_of es ++ d ∷ []) ∷ (all_found true es ++ Failed error ∷ []))
+            ≡ served_list (first_call command ∷ (look_ups command es ++ look_up command d)) s.options result list }
+    {
+        if self.brought_nodes() {
+            return entries_reply(self.unique, self.len);
+        }
+        ListingReply {
+            front: Front::error(self.unique, error),
+            len: 0,
+        }
+    }
+}
