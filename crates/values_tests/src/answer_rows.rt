@@ -4,7 +4,6 @@ use crate::answers::{ATTR_OUT, ENTRY_OUT, OPEN_OUT, STATFS_OUT, Told};
 use crate::given::{ASKER, Digits, UNIQUE, UNIQUE_NUMBER, expect_same, spelled, waiting};
 use crate::said::who;
 use bitflags::Flags;
-use fuse_fs::Context;
 use fuse_wire::FsOptions;
 use server_phases::{Answered, Refusal, Refused, Sent, Session};
 use std::alloc::Global;
@@ -42,16 +41,14 @@ const BEFORE: u64 = 0x20;
 /// answer was refused, and which request waits still.
 type Seen<'a> = Result<(Option<&'a [u8]>, Option<([u64; 3], u64)>), (Refused, u64)>;
 
-// Who is to hold which node less.
-fn given_back(back: &(Context, u64)) -> ([u64; 3], u64) {
-    (who(&back.0), back.1)
-}
-
 // What was given.
 fn shown(answered: &Result<Answered, Refusal>) -> Seen<'_> {
     match answered {
         Ok(Answered { sent, forget }) => {
-            let back = forget.as_ref().map(given_back);
+            let back = match forget {
+                Some((context, node)) => Some((who(context), *node)),
+                None => None,
+            };
             match sent {
                 Sent::Reply(front) => Ok((Some(front.bytes()), back)),
                 Sent::NoRoom => Ok((None, back)),

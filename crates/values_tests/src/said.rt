@@ -64,7 +64,10 @@ fn bare<'a>(name: &'a str, numbers: &[u64]) -> Said<'a> {
 
 // The group of extensions, if there is one.
 fn group(extra: &Extensions) -> u64 {
-    extra.sup_gid.map_or(NONE, |gid| u64::from(gid.0))
+    match extra.sup_gid {
+        Some(gid) => u64::from(gid.0),
+        None => NONE,
+    }
 }
 
 /// A call of a session or of nodes in words.
@@ -161,13 +164,12 @@ fn opening_said(call: &FileCall) -> Said<'_> {
             umask,
             extra,
         } => {
-            let bits = [*mode, *flags, *umask].map(u64::from);
             let numbers = [
                 *node,
-                bits[0],
+                u64::from(*mode),
                 u64::from(*kill),
-                bits[1],
-                bits[2],
+                u64::from(*flags),
+                u64::from(*umask),
                 group(extra),
             ];
             in_words("create", who(context), &numbers, (name, &[]))
@@ -189,16 +191,14 @@ fn file_said(call: &FileCall) -> Said<'_> {
             owner,
             flags,
         } => {
-            let bits = [*size, *flags].map(u64::from);
-            let owner = owner.unwrap_or(NONE);
             let numbers = [
                 *node,
                 *handle,
                 *room as u64,
-                bits[0],
+                u64::from(*size),
                 *offset,
-                owner,
-                bits[1],
+                owner.unwrap_or(NONE),
+                u64::from(*flags),
             ];
             nameless("read", context, &numbers)
         }
@@ -250,19 +250,16 @@ fn written_said(call: &FileCall) -> Said<'_> {
             kill,
             flags,
         } => {
-            let bits = [*size, *flags].map(u64::from);
-            let owner = owner.unwrap_or(NONE);
-            let ways = [*delayed, *kill].map(u64::from);
             let numbers = [
                 *node,
                 *handle,
                 *len as u64,
-                bits[0],
+                u64::from(*size),
                 *offset,
-                owner,
-                ways[0],
-                ways[1],
-                bits[1],
+                owner.unwrap_or(NONE),
+                u64::from(*delayed),
+                u64::from(*kill),
+                u64::from(*flags),
             ];
             nameless("write", context, &numbers)
         }
@@ -285,23 +282,21 @@ fn setattr_said<'a>(
     handle: Option<u64>,
     valid: SetattrValid,
 ) -> Said<'a> {
-    let nanos = [attr.atimensec, attr.mtimensec, attr.ctimensec].map(u64::from);
-    let modes = [attr.valid, attr.mode, attr.uid.0, attr.gid.0].map(u64::from);
     let numbers = [
         node,
-        modes[0],
+        u64::from(attr.valid),
         attr.fh,
         attr.size,
         attr.lock_owner,
         attr.atime,
         attr.mtime,
         attr.ctime,
-        nanos[0],
-        nanos[1],
-        nanos[2],
-        modes[1],
-        modes[2],
-        modes[3],
+        u64::from(attr.atimensec),
+        u64::from(attr.mtimensec),
+        u64::from(attr.ctimensec),
+        u64::from(attr.mode),
+        u64::from(attr.uid.0),
+        u64::from(attr.gid.0),
         handle.unwrap_or(NONE),
         u64::from(valid.bits()),
     ];
