@@ -1,11 +1,10 @@
 -- What a machine did, as it is kept for a journal and for a receipt.
 use Rattle.std.specs.Prelude.{◌≡◌, ◌≤◌, ◌+◌, ℕ, List, [], length, Option, Some, None, Result, Ok, Err, vec_capacity}
 use Rattle.fs_queue.specs.declared.fault.QueueError.TheVariants as stop
-use Rattle.fs_queue.specs.Windows.{room_places}
+use Rattle.fs_queue.specs.Windows.{Taken, room_places}
 use Rattle.virtiofsd_fuse.specs.Serving.{May}
 use Rattle.fs_device.specs.declared.error.DeviceError.{DeviceError}
 use Rattle.fs_device.specs.declared.error.DeviceError.TheVariants as device
-use Rattle.fs_device.specs.declared.pending_request.PendingRequest.{PendingRequest}
 use Rattle.fs_device.specs.declared.refusal.Refusal.{Refusal}
 use Rattle.fs_device.specs.declared.refusal.Refusal.TheVariants as why
 use Rattle.fs_device.specs.Step as step
@@ -45,12 +44,12 @@ ActKeeps may before command (Ok kept) after = Keeps may before command kept afte
 ActKeeps may before command (Err why.OutOfMemory) after = after ≡ before
 ActKeeps may before command (Err e) after = Affects before command (IsRefused e) before × (after ≡ before)
 
--- room for a copy of what is exchanged and for the pages of its return, where a chain was taken from blocks of these lengths
-pub record IsRoomFor (block_lengths : List ℕ) (pending : PendingRequest) (room : ReplyRoom) : Type 0 where
-  pub request : room.request.items ≡ pending.request.items
+-- room for a copy of what is exchanged and for the pages of its return, where a chain with this request was taken from blocks of these lengths
+pub record IsRoomFor (block_lengths : List ℕ) (t : Taken) (bytes : List ℕ) (room : ReplyRoom) : Type 0 where
+  pub request : room.request.items ≡ bytes
   pub reply : room.reply.items ≡ []
-  pub reply_fits : room_places pending.taken.chain ≤ vec_capacity room.reply
-  pub runs : AreReturnRuns block_lengths pending.taken room.runs
+  pub reply_fits : room_places t.chain ≤ vec_capacity room.reply
+  pub runs : AreReturnRuns block_lengths t room.runs
   pub pages : room.pages.items ≡ []
   pub pages_fit : length room.runs.room.items + length room.runs.used.items ≤ vec_capacity room.pages
   pub copy : room.pages_copy.items ≡ []

@@ -15,7 +15,7 @@ use crate::kept::journal_kept;
 use crate::kicking::kick_kept;
 use crate::state::SharedState;
 use fs_device::{Answer, DeviceError, Machine, Refusal};
-use fs_queue::QueueError;
+use fs_queue::{QueueError, Taken};
 use fs_shares::Share;
 use fuse_fs::FileSystem;
 use std::alloc::Global;
@@ -30,6 +30,7 @@ fn kick_into<L: Ledger, F: FileSystem, I: Iommu + Drop>(
     calls: &mut Book<L>,
     share: &mut Share<L>,
     queue: usize,
+    taken: &mut Taken,
 ) -> Result<Kicked, DeviceError>
     ensures kick { (start : State (Unit {0})) →
         KicksBy F.may (record { machine = machine_of machine.old; start = start; journal = journal_of journal.old.items }) queue result
@@ -43,7 +44,7 @@ fn kick_into<L: Ledger, F: FileSystem, I: Iommu + Drop>(
     if journal.reserve(1).is_err() {
         return Err(DeviceError::Queue(QueueError::OutOfMemory));
     }
-    match kick_kept(alloc, machine, queue) {
+    match kick_kept(alloc, machine, queue, taken) {
         Ok(Some(kept)) => {
             let options = machine.device.server().options();
             Ok(Kicked::Done(journal_kept(journal, calls, share, options, kept)))
@@ -129,6 +130,7 @@ impl<L: Ledger, F: FileSystem, I: Iommu + Drop> SharedState<L, F, I> {
             &mut self.calls,
             share,
             queue,
+            &mut self.taken,
         )
     }
 

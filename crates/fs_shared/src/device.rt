@@ -140,7 +140,7 @@ impl<L: Ledger, F: FileSystem, I: Iommu + Drop> SharedDevice<L, F, I> {
         ensures own { IsShareOf self.now share.new }
         ensures command { IfOk result (IfDone (λ r. command_of r.command ≡ Kick queue 1)) }
     {
-        let kicked = self.state.lock(rt).kick_held(alloc, share, queue);
+        let kicked = self.state.lock(rt).kick(alloc, share, queue);
         if let Ok(Kicked::Done(receipt)) = &kicked {
             share.mark(&self.bitmap, &receipt.pages);
         }
@@ -164,10 +164,7 @@ impl<L: Ledger, F: FileSystem, I: Iommu + Drop> SharedDevice<L, F, I> {
         ensures own { IsShareOf self.now share.new }
         ensures command { IfOk result (λ r. command_of r.command ≡ GuestWrite addr bytes.now) }
     {
-        let written = self
-            .state
-            .lock(rt)
-            .guest_write_held(alloc, share, addr, bytes);
+        let written = self.state.lock(rt).guest_write(alloc, share, addr, bytes);
         if let Ok(receipt) = &written {
             share.mark(&self.bitmap, &receipt.pages);
         }
@@ -190,7 +187,7 @@ impl<L: Ledger, F: FileSystem, I: Iommu + Drop> SharedDevice<L, F, I> {
         ensures own { IsShareOf self.now share.new }
         ensures command { IfOk result (λ r. command_of r.command ≡ SetLayout layout) }
     {
-        let laid = self.state.lock(rt).set_layout_held(alloc, share, layout);
+        let laid = self.state.lock(rt).set_layout(alloc, share, layout);
         if let Ok(receipt) = &laid {
             share.mark(&self.bitmap, &receipt.pages);
         }
@@ -207,7 +204,7 @@ impl<L: Ledger, F: FileSystem, I: Iommu + Drop> SharedDevice<L, F, I> {
     ) -> Result<Vec<u8>, Refusal>
         ensures does { ReadsSome F.may addr len result }
     {
-        self.state.lock(rt).guest_read_held(alloc, addr, len)
+        self.state.lock(rt).guest_read(alloc, addr, len)
     }
 
     /// The machine, its start and its journal, where a share's count is the journal's length: so it is where the share has

@@ -7,7 +7,7 @@ ghost use Rattle.fs_device.specs.Run.{Kick};
 ghost use Rattle.fs_device.specs.CommandView.{command_of};
 ghost use Rattle.fs_device.specs.DeviceView.{exchange_of};
 ghost use Rattle.fs_device.specs.MachineView.{machine_of};
-ghost use Rattle.fs_device.specs.PendingRequest.{IsPending};
+ghost use Rattle.fs_device.specs.Phases.{HasTaken};
 ghost use Rattle.fs_shared.specs.Held.{came_of};
 ghost use Rattle.fs_shared.specs.Replay.{Served, Stopped, is_journaled};
 ghost use Rattle.fs_shared.specs.ReturnRuns.{AreReturnPages};
@@ -15,7 +15,7 @@ ghost use Rattle.fs_shared.specs.ReturnRuns.{AreReturnPages};
 use crate::entry::Outcome;
 use crate::kept::{Event, Kept};
 use crate::return_pages::{ReturnRuns, return_pages, return_runs};
-use fs_device::{Command, DeviceError, Exchange, Machine, PendingRequest};
+use fs_device::{Command, DeviceError, Exchange, FetchedRequest, Machine};
 use fs_queue::{QueueError, Taken};
 use fuse_fs::FileSystem;
 use std::alloc::{AllocError, Global};
@@ -45,20 +45,22 @@ fn reply_buffer(alloc: Global, taken: &Taken) -> Result<Vec<u8>, AllocError>
     }
 }
 
-// Room for what is told of an exchange that was begun.
+// Room for what is told of the exchange of a chain that was taken, with a copy of its request.
+#[inline(always)]
 fn reply_room<H: HostBlocks>(
     alloc: Global,
     host: &H,
-    pending: &PendingRequest,
+    taken: &Taken,
+    request: &[u8],
 ) -> Result<ReplyRoom, AllocError>
-    requires { TakenLiesIn (lengths (H.host host.now)) pending.now.taken }
-    ensures { IfOk result (λ room. IsRoomFor (lengths (H.host host.now)) pending.now room) }
+    requires { TakenLiesIn (lengths (H.host host.now)) taken.now }
+    ensures { IfOk result (λ room. IsRoomFor (lengths (H.host host.now)) taken.now request.now room) }
 {
-    let runs = return_runs(alloc, host, pending.taken())?;
+    let runs = return_runs(alloc, host, taken)?;
     let most = runs.most_pages()?;
     Ok(ReplyRoom {
-        request: Vec::from_slice(alloc, pending.request())?,
-        reply: reply_buffer(alloc, pending.taken())?,
+        request: Vec::from_slice(alloc, request)?,
+        reply: reply_buffer(alloc, taken)?,
         runs,
         pages: Vec::with_capacity(alloc, most)?,
         pages_copy: Vec::with_capacity(alloc, most)?,
@@ -66,6 +68,7 @@ fn reply_room<H: HostBlocks>(
 }
 
 // An exchange of a queue with whether it is told, and the pages of its return, kept twice: they have room.
+#[inline(always)]
 fn kept_exchange(queue: usize, exchange: Exchange, notice: bool, room: ReplyRoom) -> Kept
     requires reply { room.reply.items ≡ [] }
     requires reply_fits { length exchange.reply.items ≤ vec_capacity room.reply }
@@ -110,22 +113,27 @@ fn kept_exchange(queue: usize, exchange: Exchange, notice: bool, room: ReplyRoom
     }
 }
 
-// Finishes an exchange that was begun on a queue. AllocError, which changes nothing, comes before the file system is asked.
+// Answers a chain that was taken from a queue, gives it back, and keeps what is told of it. AllocError, which changes
+// nothing, comes before the file system is asked.
+#[inline(always)]
 fn exchange_kept<F: FileSystem, I: Iommu + Drop>(
     alloc: Global,
     machine: &mut Machine<F, I>,
     queue: usize,
-    pending: PendingRequest,
+    taken: &mut Taken,
 ) -> Result<Kept, AllocError>
-    requires pending { IsPending (machine_of machine.old) pending }
-    requires queue { pending.queue ≡ queue }
-    requires lies { TakenLiesIn (lengths machine.old.host) pending.taken }
-    requires there { pending.queue < length machine.old.device.queues }
+    requires taken { let s = machine_of machine.old in HasTaken s.memory s.limit s.queues queue taken.old }
+    requires lies { TakenLiesIn (lengths machine.old.host) taken.old }
+    requires there { queue < length machine.old.device.queues }
     ensures keeps { IfOk result (λ kept. Keeps F.may (machine_of machine.old) (Kick queue 1) kept (machine_of machine.new)) }
     ensures lacks { OnErr result (machine_of machine.new ≡ machine_of machine.old) }
 {
-    let room = reply_room(alloc, &machine.host, &pending)?;
-    let (exchange, notice) = machine.device.finish(alloc, &mut machine.host, pending)?;
+    let request = FetchedRequest::of(alloc, &machine.host, taken)?;
+    let room = reply_room(alloc, &machine.host, taken, request.bytes())?;
+    let exchange = machine.device.answer(alloc, taken, request)?;
+    let notice = machine
+        .device
+        .give_back(&mut machine.host, queue, taken, &exchange.reply);
     Ok(kept_exchange(queue, exchange, notice, room))
 }
 
@@ -173,24 +181,26 @@ fn kept_refusal(alloc: Global, queue: usize, error: DeviceError) -> Result<Kept,
     }
 }
 
-/// Serves the next chain of a queue, and keeps what is told of it. None where nothing waits. A refusal that stops the
-/// queue is kept too, the others are answered; want of memory changes nothing.
+/// Serves the next chain of a queue, by a place that is kept from kick to kick, and keeps what is told of it. None where
+/// nothing waits. A refusal that stops the queue is kept too, the others are answered; want of memory changes nothing.
+#[inline(always)]
 pub(crate) fn kick_kept<F: FileSystem, I: Iommu + Drop>(
     alloc: Global,
     machine: &mut Machine<F, I>,
     queue: usize,
+    taken: &mut Taken,
 ) -> Result<Option<Kept>, DeviceError>
     ensures { KickKeeps F.may (machine_of machine.old) queue result (machine_of machine.new) }
 {
     match machine
         .device
-        .begin(alloc, &machine.host, &machine.mem, queue)
+        .take(alloc, &machine.host, &machine.mem, queue, taken)
     {
-        Ok(Some(pending)) => match exchange_kept(alloc, machine, queue, pending) {
+        Ok(true) => match exchange_kept(alloc, machine, queue, taken) {
             Ok(kept) => Ok(Some(kept)),
             Err(_) => Err(DeviceError::Queue(QueueError::OutOfMemory)),
         },
-        Ok(None) => Ok(None),
+        Ok(false) => Ok(None),
         Err(error) => match kept_refusal(alloc, queue, error) {
             Ok(kept) => Ok(Some(kept)),
             Err(error) => Err(error),

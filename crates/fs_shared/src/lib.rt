@@ -7,7 +7,6 @@ mod calls;
 mod device;
 mod entry;
 mod harvest;
-mod held;
 mod kept;
 mod kicking;
 pub mod laws;

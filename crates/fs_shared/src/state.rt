@@ -9,6 +9,7 @@ ghost use Rattle.fs_shared.specs.Laws.{HoldsReplay};
 
 use crate::entry::{JournalEntry, Parts, Start};
 use fs_device::Machine;
+use fs_queue::Taken;
 use fs_shares::Share;
 use fuse_fs::FileSystem;
 use std::alloc::Global;
@@ -24,6 +25,8 @@ pub struct SharedState<L: Ledger, F, I: Iommu + Drop> {
     pub(crate) start: Start,
     pub(crate) journal: Vec<JournalEntry>,
     pub(crate) calls: Book<L>,
+    // The place into which chains are taken, from kick to kick.
+    pub(crate) taken: Taken,
 }
 
 impl<L: Ledger, F, I: Iommu + Drop> Model for SharedState<L, F, I> {
@@ -81,6 +84,7 @@ impl<L: Ledger, F: FileSystem, I: Iommu + Drop> SharedState<L, F, I> {
             start,
             journal: Vec::new(alloc),
             calls,
+            taken: Taken::empty(alloc),
         }
     }
 
@@ -109,7 +113,7 @@ impl<L: Ledger, F: FileSystem, I: Iommu + Drop> SharedState<L, F, I> {
             machine,
             start,
             journal,
-            calls: _,
+            ..
         } = self;
         Parts {
             machine,
