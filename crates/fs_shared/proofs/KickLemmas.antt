@@ -114,7 +114,7 @@ idle_stays may s after i (Some q) t = t.1.same
 leaves : {F : Type 0} (may : May F) (s after : State F) (i : ℕ) (e : DeviceError) → Step may s i [] (Refused e) after → after ≡ s → Leaves may s i (Refused e) after
 leaves {F} may s after i e step same = (subst (λ (t : State F). Step may s i [] (Refused e) t) same step, same)
 
--- where nothing waits, nothing changes
+-- if nothing waits, nothing changes
 pub idle_leaves : {F : Type 0} (may : May F) (s after : State F) (i : ℕ) → Step may s i [] Idle after → Leaves may s i Idle after
 idle_leaves {F} may s after i step =
     let same = idle_stays may s after i (slice_get s.queues i) step in (subst (λ (t : State F). Step may s i [] Idle t) same step, same)

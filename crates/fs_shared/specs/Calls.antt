@@ -29,8 +29,8 @@ pub record Journals {F : Type 0} (may : May F) (before : Held F) (command : Comm
 abbrev pub Stays : {F : Type 0} → May F → Held F → ℕ → step.Outcome → Held F → Type 0
 Stays may before i outcome after = Step may before.machine i [] outcome before.machine × (after ≡ before)
 
--- a kick for one chain: nothing waits, the queue is stopped or it is missing only where the step says so;
--- want of memory changes nothing, and comes of a queue that is there
+-- a kick for one chain: nothing waits, the queue is stopped or it is missing only if the step says so;
+-- a failed allocation changes nothing, and comes of a queue that is there
 abbrev pub KicksBy : {F : Type 0} → May F → Held F → ℕ → Result (kicked.Kicked) DeviceError → Held F → Type 0
 KicksBy may before i (Ok (kicked.TheVariants.Done r)) after = Journals may before (Kick i 1) r after
 KicksBy may before i (Ok kicked.TheVariants.Idle) after = Stays may before i step.Idle after
@@ -39,7 +39,7 @@ KicksBy may before i (Err (device.Queue stop.Stopped)) after = Stays may before 
 KicksBy may before i (Err (device.Queue stop.OutOfMemory)) after = HasQueue before.machine i × (after ≡ before)
 KicksBy may before i (Err (device.Queue _)) after = ⊥
 
--- a guest's write or another layout: refused only where the machine refuses it so; want of memory changes nothing
+-- a guest's write or another layout: refused only if the machine refuses it so; a failed allocation changes nothing
 abbrev pub ActsBy : {F : Type 0} → May F → Held F → Command → Result Receipt Refusal → Held F → Type 0
 ActsBy may before command (Ok r) after = Journals may before command r after
 ActsBy may before command (Err why.OutOfMemory) after = after ≡ before

@@ -80,8 +80,8 @@ fn kept_write(alloc: Global, addr: u64, bytes: &[u8], pages: Vec<usize>) -> Resu
     })
 }
 
-/// The guest writes bytes from a physical address on, and what is told of it is kept: refused where it doesn't reach all
-/// of them, or for want of memory, and then nothing changes.
+/// The guest writes bytes from a physical address on, and what is told of it is kept: refused if it doesn't reach all
+/// of them, or since an allocation fails, and then nothing changes.
 pub(crate) fn write_kept<F: FileSystem, I: Iommu + Drop>(
     alloc: Global,
     machine: &mut Machine<F, I>,
@@ -118,8 +118,8 @@ fn layout_event(alloc: Global, layout: GuestMemoryMmap) -> Event
     }
 }
 
-/// Other regions take the place of all that are there, and what is told of it is kept: refused where one of them lies over
-/// a block that the host doesn't have so, or for want of memory, and then nothing changes.
+/// Other regions take the place of all that are there, and what is told of it is kept: refused if one of them lies over
+/// a block that the host doesn't have so, or since an allocation fails, and then nothing changes.
 pub(crate) fn layout_kept<F: FileSystem, I: Iommu + Drop>(
     alloc: Global,
     machine: &mut Machine<F, I>,

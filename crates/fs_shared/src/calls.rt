@@ -134,7 +134,7 @@ impl<L: Ledger, F: FileSystem, I: Iommu + Drop> SharedState<L, F, I> {
         )
     }
 
-    /// The guest writes bytes from a physical address on, and that is journaled; refused `NoPlace` where it doesn't reach all
+    /// The guest writes bytes from a physical address on, and that is journaled; refused `NoPlace` if it doesn't reach all
     /// of them, or `OutOfMemory`, and then nothing changes.
     pub fn guest_write(
         &mut self,
@@ -158,7 +158,7 @@ impl<L: Ledger, F: FileSystem, I: Iommu + Drop> SharedState<L, F, I> {
         )
     }
 
-    /// Other regions take the place of all that are there, and that is journaled; refused `UnknownBlock` where one of them lies
+    /// Other regions take the place of all that are there, and that is journaled; refused `UnknownBlock` if one of them lies
     /// over a block that the host doesn't have so, or `OutOfMemory`, and then nothing changes.
     pub fn set_layout(
         &mut self,
@@ -180,7 +180,7 @@ impl<L: Ledger, F: FileSystem, I: Iommu + Drop> SharedState<L, F, I> {
         )
     }
 
-    /// The guest reads `len` bytes from a physical address on; refused `NoPlace` where it doesn't reach all of them, or
+    /// The guest reads `len` bytes from a physical address on; refused `NoPlace` if it doesn't reach all of them, or
     /// `OutOfMemory`. Nothing changes, and nothing is journaled.
     pub fn guest_read(&mut self, alloc: Global, addr: u64, len: usize) -> Result<Vec<u8>, Refusal>
         ensures same { self.new ≡ self.old }

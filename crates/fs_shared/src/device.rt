@@ -55,7 +55,7 @@ ghost use Rattle.fs_shared.specs.declared.share_error.ShareError.TheVariants.{Ou
 impl<L: Ledger, F: FileSystem, I: Iommu + Drop> SharedDevice<L, F, I> {
     /// A device over a machine, with an empty journal, a share with every part of a new ledger, and a harvest that begins clear;
     /// `parts` says how many the ledger has, at least one. The host is copied, and the journal grows without bound: whoever goes
-    /// on for long takes the device apart and makes it anew. Refused `OutOfMemory` alone, where memory is wanting, and then blank
+    /// on for long takes the device apart and makes it anew. Refused only `OutOfMemory`, if an allocation fails, and then blank
     /// and machine come back.
     pub fn new(
         alloc: Global,
@@ -87,7 +87,7 @@ impl<L: Ledger, F: FileSystem, I: Iommu + Drop> SharedDevice<L, F, I> {
         Ok((SharedDevice { state, bitmap }, share, harvest))
     }
 
-    /// Half of a share's parts, rounded down, with count 0 and half of its pass; None, changing nothing, where it has one part.
+    /// Half of a share's parts, rounded down, with count 0 and half of its pass; None, changing nothing, if it has one part.
     pub fn split_share(&self, share: &mut Share<L>) -> Option<Share<L>>
         requires { IsShareOf self.now share.old }
         ensures half { IfSome result (λ s. s ≡ record { parts = share.old.parts / 2; count = 0; pass = new_pass share.old.pass }) }

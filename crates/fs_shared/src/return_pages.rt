@@ -23,7 +23,7 @@ pub(crate) struct ReturnRuns {
 }
 
 impl ReturnRuns {
-    /// The most pages that a return may write: as many as there are runs. AllocError where their number doesn't fit 64 bits,
+    /// The most pages that a return may write: as many as there are runs. AllocError if their number doesn't fit 64 bits,
     /// since no memory has so many.
     pub(crate) fn most_pages(&self) -> Result<usize, AllocError>
         ensures { IfOk result (λ most. most ≡ length self.now.room.items + length self.now.used.items) }

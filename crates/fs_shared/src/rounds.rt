@@ -174,7 +174,7 @@ fn go_round<L: Ledger, F: FileSystem + Drop, I: Iommu + Drop, R: Wait>(
 /// A round of a machine by one thread: a device is made over it (`SharedDevice::new`), a queue is kicked until nothing waits, a kick
 /// is refused or `most` chains were served, the harvest gathers, the queue is kicked so once more, and the device is taken apart.
 /// Where the receipts pass the audit, each page, below the number of pages of the host, in which the machine's host differs from
-/// the start's was gathered or is left. Refused `OutOfMemory` alone, where memory is wanting before anything was served, and then
+/// the start's was gathered or is left. Refused only `OutOfMemory`, if an allocation fails before anything was served, and then
 /// blank and machine come back.
 pub fn serve_round<L: Ledger, F: FileSystem + Drop, I: Iommu + Drop, R: Wait>(
     rt: &R,

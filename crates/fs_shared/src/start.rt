@@ -26,7 +26,7 @@ fn same_queues<F: FileSystem>(alloc: Global, device: &Device<F>) -> Result<Vec<Q
     Err(AllocError)
 }
 
-/// What a machine holds, but its file system. AllocError where memory is wanting.
+/// What a machine holds, but its file system. AllocError if an allocation fails.
 pub(crate) fn started<F: FileSystem, I: Iommu + Drop>(
     alloc: Global,
     machine: &Machine<F, I>,
