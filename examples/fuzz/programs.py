@@ -13,6 +13,7 @@ class Built:
     """A program that is built: short processes, a few side by side."""
 
     batch = 4
+    seconds_to_shrink = 120
     prints_much = True
 
     def __init__(self, path):
@@ -49,6 +50,7 @@ class Tried:
     """The program built without proofs, once for a batch."""
 
     batch = 300
+    seconds_to_shrink = 900
     # More than 1 MiB is cut off.
     prints_much = False
 
