@@ -17,7 +17,6 @@ from scripts import made, stored
 from shrink import shrunk
 
 FOLDER = Path(__file__).resolve().parent / "out"
-SECONDS_TO_SHRINK = 120
 # A run of so many seconds plays the script that wraps an index, which takes a while.
 SECONDS_TO_WRAP = 200
 MOST_DIFFERENCES = 10
@@ -36,20 +35,18 @@ class Fuzzer:
         self.differences = 0
 
     def run(self):
-        """Plays scripts until the time is up, all fixed ones in any case, and answers the last seed."""
+        """Plays scripts until the time is up, all fixed ones in any case. Each batch has a seed's, so that one can be played again."""
         store = stored()
         fixed = [(f"stored script {index}", script) for index, script in enumerate(store)]
         fixed += [("a script of 1 MiB", long_script(0)), ("a script that is too long", long_script(1))]
         if self.end - time.monotonic() > SECONDS_TO_WRAP and self.program.prints_much:
             fixed.append(("a script that wraps an index", wraps()))
-        seed = self.seed
+        size = self.program.batch
         while fixed or time.monotonic() < self.end and self.differences < MOST_DIFFERENCES:
-            named, fixed = fixed[:self.program.batch], fixed[self.program.batch:]
-            while len(named) < self.program.batch:
-                named.append((f"seed {seed}", made(seed, store)))
-                seed += 1
-            self.compare(named)
-        return seed - 1
+            played, fixed = fixed[:size - 1], fixed[size - 1:]
+            seeds = range(self.seed, self.seed + size - len(played))
+            self.compare([(f"seed {seed}", made(seed, store)) for seed in seeds] + played)
+            self.seed = seeds.stop
 
     def compare(self, named):
         """Plays scripts on both, and tells each difference."""
@@ -81,7 +78,7 @@ class Fuzzer:
         """Shrinks a script and tells what differs."""
         self.differences += 1
         say(f"\nDIFFERENCE: {name}")
-        small = shrunk(script, self.differ, self.program.batch, SECONDS_TO_SHRINK)
+        small = shrunk(script, self.differ, self.program.batch, self.program.seconds_to_shrink)
         FOLDER.mkdir(exist_ok=True)
         path = FOLDER / (name.replace(" ", "_") + ".fs")
         path.write_bytes(small)
@@ -131,9 +128,12 @@ def main(arguments):
     program = Built(path) if path else Tried()
     say(f"seed {seed}" + ("" if path else ": a batch of scripts, which may take some minutes, for each build without proofs"))
     fuzzer = Fuzzer(program, seed, time.monotonic() + seconds)
-    last = fuzzer.run()
+    try:
+        fuzzer.run()
+    except KeyboardInterrupt:
+        say("interrupted")
     fuzzer.report()
-    say(f"seeds from {seed} to {last}")
+    say(f"seeds from {seed} to {fuzzer.seed - 1}")
     return 1 if fuzzer.differences else 0
 
 

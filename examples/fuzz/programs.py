@@ -1,18 +1,27 @@
 """Runs scripts on the script program: a built one by a process each, or all of a batch by one `rt try`."""
 
 import re
+import resource
 import subprocess
 import tempfile
 from pathlib import Path
 
 CRATE = Path(__file__).resolve().parents[2] / "crates/virtio_fs_run"
+# A program that takes so many seconds of a processor, or waits as long for nothing, doesn't end.
 SECONDS = 120
+SECONDS_TO_WAIT = 3600
+
+
+def limit():
+    """Ends a process that takes too long, however busy the machine is."""
+    resource.setrlimit(resource.RLIMIT_CPU, (SECONDS, SECONDS))
 
 
 class Built:
     """A program that is built: short processes, a few side by side."""
 
     batch = 4
+    seconds_to_shrink = 120
     prints_much = True
 
     def __init__(self, path):
@@ -27,7 +36,7 @@ class Built:
         source, printed = tempfile.TemporaryFile(), tempfile.TemporaryFile()
         source.write(script)
         source.seek(0)
-        return subprocess.Popen([self.path], stdin=source, stdout=printed, stderr=subprocess.DEVNULL), printed
+        return subprocess.Popen([self.path], stdin=source, stdout=printed, stderr=subprocess.DEVNULL, preexec_fn=limit), printed
 
     def results(self, started):
         """What each script printed, and its status."""
@@ -36,7 +45,7 @@ class Built:
     def result(self, process, printed):
         """What one script printed, and its status."""
         try:
-            status = process.wait(SECONDS)
+            status = process.wait(SECONDS_TO_WAIT)
         except subprocess.TimeoutExpired:
             process.kill()
             status = "it didn't end"
@@ -49,6 +58,7 @@ class Tried:
     """The program built without proofs, once for a batch."""
 
     batch = 300
+    seconds_to_shrink = 900
     # More than 1 MiB is cut off.
     prints_much = False
 
