@@ -16,6 +16,7 @@ use Rattle.fs_queue.specs.Taking.{IsRequest, CannotFetch, Offer, Refuses, Offers
 use Rattle.fs_queue.specs.Taking as taking
 use Rattle.fs_queue.specs.OfferLoads.{HasLoads}
 use Rattle.fs_queue.proofs.OfferByLemmas.{offer_is_still, offer_finds}
+use Rattle.fs_queue.proofs.ReadLemmas.{length-bytes}
 use Rattle.fs_queue.proofs.ReturnLemmas.{over, all_tables, same_location, stored_located, returns_by_stores}
 use Rattle.fs_queue.specs.Returning.{Store, writes_of, stores_after_reply, returned, wants_notice, tells, advanced}
 use Rattle.room_writer.proofs.ApartLemmas.{put_all_comm}
@@ -256,6 +257,7 @@ module _ {F : Type 0} (may : May F) (s : State F) (i : ℕ) (q : Queue) (there :
   returns_by room expected options x notice after back = record {
     exchange = back.exchange;
     flags = flags_after s.memory q (back_stores room expected);
+    flags_len = length-bytes (after_stores s.memory (back_stores room expected)) q.avail 2;
     acts = refl;
     state = ap (λ (t : State F). at t s.memory) back.state;
     told = back.told ∙ ap (λ (m : Memory). wants_notice m q) (memory_back room expected options x notice after back);

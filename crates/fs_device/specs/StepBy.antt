@@ -76,6 +76,7 @@ DoesNothing e = e.acts ≡ []
 pub record ReturnsBy {F : Type 0} (before : State F) (i : ℕ) (q : Queue) (room : List ℕ) (expected : Exchange) (options : ℕ) (x : Exchange) (notice : Bool) (e : Effects) (after : State F) : Type 0 where
   pub exchange : x ≡ expected
   pub flags : List ℕ
+  pub flags_len : length flags ≡ 2
   pub acts : e.acts ≡ return_acts (return_stores q expected.head room expected.reply e.last) flags
   pub state : after ≡ record before { queues = changed_at before.queues i (λ _. advanced q); options = options; files = after.files }
   pub told : notice ≡ tells flags
