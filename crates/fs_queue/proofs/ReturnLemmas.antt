@@ -16,7 +16,7 @@ use Rattle.fs_queue.specs.declared.returning.Return.{Return}
 use Rattle.fs_queue.specs.declared.fault.ChainFault.{ChainFault}
 use Rattle.fs_queue.specs.Queue.{Queue, element_at, index_at}
 use Rattle.fs_queue.specs.Taking.{RequestAndRoom, IsRequest, CannotFetch, room_of}
-use Rattle.fs_queue.specs.Returning.{next_position, returned, wants_notice, tells, Store, stores_after_reply, stores_of, ReturnsByStores}
+use Rattle.fs_queue.specs.Returning.{next_position, put_back, returned, used_bytes, wants_notice, tells, Store, stores_after_reply, stores_of, ReturnsByStores}
 use Rattle.fs_queue.specs.Windows.{Taken, HoldsChain, IsTaken, chain_places, used_addresses}
 
 -- a memory over another host
@@ -125,6 +125,15 @@ joined _ = []
 pub used_bytes_are : (r : Return) (q : Queue) (head len : ℕ) (bs : List ℕ) → stores_of r ≡ stores_after_reply q head len → bs ≡ to_le_bytes w32 r.head.value ++ to_le_bytes w32 r.len.value ++ to_le_bytes w16 r.index.value →
     bs ≡ to_le_bytes w32 head ++ to_le_bytes w32 len ++ to_le_bytes w16 (next_position q)
 used_bytes_are r q head len bs is e = e ∙ ap joined is
+
+-- a reply, and then the bytes of a return, at the places that were taken
+pub put_back_is : (h0 h1 h2 : Host) (q : Queue) (t : Taken) (front bytes : List ℕ) (len : ℕ) (ws : List Window) → h1 ≡ put_all h0 (zip (chain_places t.chain) front) →
+    ws ≡ t.return_windows.used.items → bytes ≡ used_bytes q t.head len → h2 ≡ put_all h1 (zip (places ws) bytes) → h2 ≡ put_back h0 q t front len
+put_back_is h0 h1 h2 q t front bytes len ws a e1 e2 b =
+    b
+    ∙ ap (λ (h : Host). put_all h (zip (places ws) bytes)) a
+    ∙ ap (λ (v : List Window). put_all (put_all h0 (zip (chain_places t.chain) front)) (zip (places v) bytes)) e1
+    ∙ ap (λ (l : List ℕ). put_all (put_all h0 (zip (chain_places t.chain) front)) (zip (places t.return_windows.used.items) l)) e2
 
 -- the writes of a used element are those of its halves
 pub returns_by_stores : ReturnsByStores

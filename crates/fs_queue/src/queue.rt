@@ -44,7 +44,7 @@ impl Model for Queue {
 ghost use Rattle.fs_queue.specs.Queue.{fresh, resumed};
 ghost use Rattle.fs_queue.specs.Ringing.{BeginsWalk};
 ghost use Rattle.fs_queue.specs.Taking.{RequestAndRoom, after_refusal, room_of};
-ghost use Rattle.fs_queue.specs.Returning.{returned, stores_after_reply, stores_of, wants_notice, advanced, PutFrontLast};
+ghost use Rattle.fs_queue.specs.Returning.{returned, stores_after_reply, stores_of, put_back, tells_by, wants_notice, advanced, PutFrontLast};
 ghost use Rattle.fs_queue.specs.Windows.{Takes, after_taking, taken_if, IsTaken, TakenLiesIn, ChainLiesIn, room_places, chain_places, HasItsWindows};
 ghost use Rattle.fs_queue.specs.Windows.{IsEmpty, IsEmptyUnlessTaken};
 
@@ -196,6 +196,7 @@ impl Queue {
     /// le16 used index (VIRTIO 1.2, 2.7.8), and says whether the driver wants to be told: bit 0 of the available flags,
     /// read last, is clear (2.7.7). The chain was taken at this position, and the reply is no longer than its room,
     /// which is empty for a fault. The place is emptied: what lay in it can't be read, written or given back again.
+    /// Whatever was taken, and whatever changed since, bytes change at the places that the place holds alone.
     #[inline(always)]
     pub fn give_back<H: HostBlocks>(
         &mut self,
@@ -209,6 +210,8 @@ impl Queue {
             record m { host = H.host host.new } ≡ returned m self.old taken.old.head (room_of fetched) reply.now }
         ensures told { (m : Memory) (fetched : RequestAndRoom) → m.host ≡ H.host host.old → IsTaken m self.old fetched taken.old →
             result ≡ wants_notice (record m { host = H.host host.new }) self.old }
+        ensures puts { H.host host.new ≡ put_back (H.host host.old) self.old taken.old reply.now (length reply.now) }
+        ensures tells { result ≡ tells_by (H.host host.new) taken.old }
         ensures empty { IsEmpty taken.new }
         ensures queue { self.new ≡ advanced self.old }
         ensures shape { shape (H.host host.new) ≡ shape (H.host host.old) }
@@ -238,6 +241,8 @@ impl Queue {
         ensures told { (m : Memory) (fetched : RequestAndRoom) (reply : List ℕ) →
             PutFrontLast m.host (H.host host.old) (chain_places taken.old.chain) front.now reply → IsTaken m self.old fetched taken.old →
             result ≡ wants_notice (record m { host = H.host host.new }) self.old }
+        ensures puts { H.host host.new ≡ put_back (H.host host.old) self.old taken.old front.now len }
+        ensures tells { result ≡ tells_by (H.host host.new) taken.old }
         ensures empty { IsEmpty taken.new }
         ensures queue { self.new ≡ advanced self.old }
         ensures shape { shape (H.host host.new) ≡ shape (H.host host.old) }
