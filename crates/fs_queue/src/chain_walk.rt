@@ -8,8 +8,8 @@ use crate::layout::QueueLayout;
 use crate::walk_step::{DescriptorTable, WalkStep, indirect_step, ordinary_step, queue_table};
 use vm_values::ByteValued;
 
-/// A walk that asks for an entry of a table.
-#[derive(Clone, Copy, Debug)]
+/// A walk that asks for an entry of a table, once.
+#[derive(Debug, Drop)]
 pub struct ChainWalk {
     size: u16,
     table: DescriptorTable,
@@ -32,7 +32,7 @@ pub enum Walked {
 }
 
 /// How far a walk through a chain has come.
-#[derive(Clone, Copy, Debug)]
+#[derive(Debug, Drop)]
 pub enum Progress {
     /// It asks for an entry of a table.
     Wants(ChainWalk),
@@ -41,7 +41,7 @@ pub enum Progress {
 }
 
 /// What came of a load.
-#[derive(Clone, Copy, Debug)]
+#[derive(Debug, Drop)]
 pub struct Given {
     /// An ordinary descriptor, which joins the chain, or none.
     pub joins: Option<Descriptor>,
@@ -132,6 +132,7 @@ impl ChainWalk {
         ensures fewer { IfWants result.then (λ w. steps_left self.size (visit_of w) < steps_left self.size (visit_of self)) }
         ensures fits { IfSome result.joins (λ d. d.addr + d.len < 2 ^ 64) }
     {
+        let (size, table, earlier) = (self.size, self.table, self.earlier);
         match self.step(came) {
             WalkStep::Stops => Given {
                 joins: None,
@@ -141,14 +142,14 @@ impl ChainWalk {
                 joins: None,
                 then: Progress::Ends(Walked::Faulty(fault)),
             },
-            WalkStep::Table(table) => Given {
+            WalkStep::Table(indirect) => Given {
                 joins: None,
-                then: Self::at(self.size, table, 0, self.earlier),
+                then: Self::at(size, indirect, 0, earlier),
             },
             WalkStep::Ordinary(descriptor) => Given {
                 joins: Some(descriptor),
                 then: if descriptor.has_next() {
-                    Self::at(self.size, self.table, descriptor.next, self.earlier + 1)
+                    Self::at(size, table, descriptor.next, earlier + 1)
                 } else {
                     Progress::Ends(Walked::Chain)
                 },

@@ -9,7 +9,7 @@ use crate::layout::QueueLayout;
 
 /// A walk through what waits at a position of a queue: the load that it asks for next, or what it came to. Whoever drives
 /// it makes that load once, by a copy, and gives it the bytes, or that one of their addresses has no place.
-#[derive(Clone, Copy, Debug)]
+#[derive(Debug, Drop)]
 pub enum Walk {
     /// It asks for the available index.
     Index(IndexWalk),
@@ -23,15 +23,15 @@ pub enum Walk {
     Refused(QueueError),
 }
 
-/// A walk that asks for the available index.
-#[derive(Clone, Copy, Debug)]
+/// A walk that asks for the available index. It is used up by the bytes that it is given: each load is made once.
+#[derive(Debug, Drop)]
 pub struct IndexWalk {
     layout: QueueLayout,
     position: u16,
 }
 
-/// A walk that asks for the available ring's entry at its position.
-#[derive(Clone, Copy, Debug)]
+/// A walk that asks for the available ring's entry at its position, once.
+#[derive(Debug, Drop)]
 pub struct RingEntryWalk {
     layout: QueueLayout,
     position: u16,
