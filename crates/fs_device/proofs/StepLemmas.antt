@@ -15,16 +15,20 @@ use Rattle.fs_device.specs.declared.error.DeviceError.TheVariants as device
 use Rattle.fs_device.specs.Step.{State, Exchange, Outcome, Idle, Refused, Exchanged, Calls, ServesRequest, Exchanges, Acts, StepOf, Step, after_return}
 use Rattle.fs_device.specs.DeviceParts.{DeviceParts}
 use Rattle.fs_device.specs.DeviceView.{ServesChain, state_of}
-use Rattle.fs_device.specs.Phases.{GoesBack, HasTaken, TakesOrEnds}
+use Rattle.fs_queue.specs.Windows as queue
+use Rattle.fs_device.specs.Phases.{GoesBack, HasTaken, IsEmptyUnlessTaken, IsTakenFrom, TakesOrEnds}
 use Rattle.vm_memory_core.proofs.Stores.{changed_at-set}
 
--- the other queues stay
-pub others_stay : (l : List Queue) (n i : ℕ) (q : Queue) → (i ≡ n → ⊥) → slice_get (set l n q) i ≡ slice_get l i
-others_stay [] n i q apart = refl
-others_stay (x ∷ l) zero zero q apart = absurd (apart refl)
-others_stay (x ∷ l) zero (suc i) q apart = refl
-others_stay (x ∷ l) (suc n) zero q apart = refl
-others_stay (x ∷ l) (suc n) (suc i) q apart = others_stay l n i q (λ same. apart (ap suc same))
+-- a queue that goes on by one chain is set among the others
+advanced_at : (l : List Queue) (i : ℕ) (p q : Queue) → slice_get l i ≡ Some p → q ≡ advanced p → set l i q ≡ changed_at l i advanced
+advanced_at [] i p q there is = refl
+advanced_at (x ∷ l) zero p q there is = let same : x ≡ p = cc in ap (λ (y : Queue). y ∷ l) (is ∙ ap advanced (sym same))
+advanced_at (x ∷ l) (suc i) p q there is = ap (λ (r : List Queue). x ∷ r) (advanced_at l i p q there is)
+
+-- a place that a queue left empty is one that the device did
+pub empty_unless_taken : (t : Taken) (waits : Bool) → queue.IsEmptyUnlessTaken (Ok waits) t → IsEmptyUnlessTaken (Ok waits) t
+empty_unless_taken t true is = tt
+empty_unless_taken t false is = is
 
 pub set-same : (l : List Queue) (i : ℕ) (q : Queue) → slice_get l i ≡ Some q → set l i q ≡ l
 set-same [] i q e = refl
@@ -96,8 +100,20 @@ takes_or_ends may f m queues i q q' s t false there idle same = idles may f m qu
 pub lacks_taken : {F : Type 0} (may : May F) (s after : State F) (i : ℕ) (t : Taken) → HasTaken s.memory s.limit s.queues i t → after ≡ s → Step may s i [] (Refused (device.Queue stop.OutOfMemory)) after
 lacks_taken may s after i t has same = lacks may s after i has.queue t.head has.fetched has.there has.offered same
 
+-- the rest of a device stays as one of its queues goes on
+pub advanced_parts : {F : Type 0} (f : Fixed) (queues : List Queue) (i : ℕ) (p q' : Queue) (s : ℕ × F) (d : DeviceParts F) →
+    record { queues = queues; options = s.0; files = s.1; limit = f.limit; page_size = f.page_size } ≡ d → slice_get queues i ≡ Some p → q' ≡ advanced p →
+    record { queues = set queues i q'; options = s.0; files = s.1; limit = f.limit; page_size = f.page_size } ≡ record d { queues = changed_at d.queues i advanced }
+advanced_parts {F} f queues i p q' s d is at after =
+    let parts : List Queue → DeviceParts F = λ (l : List Queue). record { queues = l; options = s.0; files = s.1; limit = f.limit; page_size = f.page_size } in
+    subst (λ (e : DeviceParts F). parts (set queues i q') ≡ record e { queues = changed_at e.queues i advanced }) is (ap parts (advanced_at queues i p q' at after))
+
+-- a chain that was taken, whatever the queue offers
+abbrev pub taken_from : {m : Memory} → {limit : ℕ} → {queues : List Queue} → {i : ℕ} → {t : Taken} → HasTaken m limit queues i t → IsTakenFrom m queues i t
+taken_from has = record { queue = has.queue; fetched = has.fetched; there = has.there; taken = has.taken }
+
 -- a queue that gives a chain back is a device that does
-pub gives_back : {F : Type 0} (f : Fixed) (m m' : Memory) (queues : List Queue) (i : ℕ) (p q' : Queue) (s : ℕ × F) (t : Taken) (has : HasTaken m f.limit queues i t) (reply : List ℕ) (notice : Bool) → slice_get queues i ≡ Some p →
+pub gives_back : {F : Type 0} (f : Fixed) (m m' : Memory) (queues : List Queue) (i : ℕ) (p q' : Queue) (s : ℕ × F) (t : Taken) (has : IsTakenFrom m queues i t) (reply : List ℕ) (notice : Bool) → slice_get queues i ≡ Some p →
     (IsTaken m p has.fetched t → m' ≡ returned m p t.head (room_of has.fetched) reply) → (IsTaken m p has.fetched t → notice ≡ wants_notice m' p) → q' ≡ advanced p →
     GoesBack (state f m queues s) i t has reply notice (state f m' (set queues i q') s)
 gives_back f m m' queues i p q' s t has reply notice at stored told after =
@@ -115,9 +131,9 @@ gives_back f m m' queues i p q' s t has reply notice at stored told after =
 pub gives_back_parts : {F : Type 0} (f : Fixed) (m m' : Memory) (queues : List Queue) (i : ℕ) (p q' : Queue) (s : ℕ × F) (t : Taken) (d : DeviceParts F) (reply : List ℕ) (notice : Bool) →
     record { queues = queues; options = s.0; files = s.1; limit = f.limit; page_size = f.page_size } ≡ d → slice_get queues i ≡ Some p →
     ((fetched : RequestAndRoom) → IsTaken m p fetched t → m' ≡ returned m p t.head (room_of fetched) reply) → ((fetched : RequestAndRoom) → IsTaken m p fetched t → notice ≡ wants_notice m' p) → q' ≡ advanced p →
-    (has : HasTaken m d.limit d.queues i t) → GoesBack (state_of m d) i t has reply notice (state f m' (set queues i q') s)
+    (has : IsTakenFrom m d.queues i t) → GoesBack (state_of m d) i t has reply notice (state f m' (set queues i q') s)
 gives_back_parts {F} f m m' queues i p q' s t d reply notice is at stored told after =
-    subst (λ (e : DeviceParts F). (has : HasTaken m e.limit e.queues i t) → GoesBack (state_of m e) i t has reply notice (state f m' (set queues i q') s)) is
+    subst (λ (e : DeviceParts F). (has : IsTakenFrom m e.queues i t) → GoesBack (state_of m e) i t has reply notice (state f m' (set queues i q') s)) is
     (λ has. gives_back f m m' queues i p q' s t has reply notice at (stored has.fetched) (told has.fetched) after)
 
 goes_back : {F : Type 0} (may : May F) (s after : State F) (i : ℕ) (q : Queue) (head : ℕ) (fetched : RequestAndRoom) (calls : Calls) (o : ℕ) (g : F) (x : Exchange) (notice : Bool) →
@@ -155,7 +171,7 @@ goes_back {F} may s after i q head (IsRequest request room) calls o g x notice s
 
 -- a chain that was taken, served and given back is a step
 pub step_by_phases : {F : Type 0} (may : May F) (s after : State F) (i : ℕ) (t : Taken) (has : HasTaken s.memory s.limit s.queues i t) (o : ℕ) (g : F) (x : Exchange) (notice : Bool) →
-    (calls : Calls) × ServesChain may s.page_size (s.options, s.files) t.head has.fetched calls x (o, g) → GoesBack (record s { options = o; files = g }) i t has x.reply notice after →
+    (calls : Calls) × ServesChain may s.page_size (s.options, s.files) t.head has.fetched calls x (o, g) → GoesBack (record s { options = o; files = g }) i t (taken_from has) x.reply notice after →
     (calls : Calls) × Step may s i calls (Exchanged x notice) after
 step_by_phases may s after i t has o g x notice served back = (
   served.0,
@@ -171,7 +187,7 @@ pub exchanges : {F : Type 0} (may : May F) (f : Fixed) (m m' : Memory) (queues b
     (calls : Calls) × Step may (state f m queues s) i calls (Exchanged x notice) (state f m' (set between i q') s')
 exchanges {F} may f m m' queues between i p q' s s' t has x notice kept at served stored told after =
     let found : slice_get queues i ≡ Some p = ap (λ (l : List Queue). slice_get l i) (sym kept) ∙ at in
-    let back = gives_back f m m' queues i p q' s' t has x.reply notice found stored told after in
+    let back = gives_back f m m' queues i p q' s' t (taken_from has) x.reply notice found stored told after in
     let done = step_by_phases may (state f m queues s) (state f m' (set queues i q') s') i t has s'.0 s'.1 x notice served back in (
       done.0,
       subst (λ (l : List Queue). Step may (state f m queues s) i done.0 (Exchanged x notice) (state f m' (set l i q') s')) (sym kept) done.1,
@@ -180,7 +196,7 @@ exchanges {F} may f m m' queues between i p q' s s' t has x notice kept at serve
 -- a device that takes a chain, answers it and gives it back does a step
 pub step_of_device : {F : Type 0} (may : May F) (m m' : Memory) (d mid after : DeviceParts F) (i : ℕ) (t : Taken) (has : HasTaken m d.limit d.queues i t) (x : Exchange) (notice : Bool) →
     (calls : Calls) × ServesChain may d.page_size (d.options, d.files) t.head has.fetched calls x (mid.options, mid.files) → mid ≡ record d { options = mid.options; files = mid.files } →
-    ((held : HasTaken m mid.limit mid.queues i t) → GoesBack (state_of m mid) i t held x.reply notice (state_of m' after)) → (calls : Calls) × Step may (state_of m d) i calls (Exchanged x notice) (state_of m' after)
+    ((held : IsTakenFrom m mid.queues i t) → GoesBack (state_of m mid) i t held x.reply notice (state_of m' after)) → (calls : Calls) × Step may (state_of m d) i calls (Exchanged x notice) (state_of m' after)
 step_of_device {F} may m m' d mid after i t has x notice served same back =
     step_by_phases may (state_of m d) (state_of m' after) i t has mid.options mid.files x notice served
-    (subst (λ (e : DeviceParts F). (held : HasTaken m e.limit e.queues i t) → GoesBack (state_of m e) i t held x.reply notice (state_of m' after)) same back has)
+    (subst (λ (e : DeviceParts F). (held : IsTakenFrom m e.queues i t) → GoesBack (state_of m e) i t held x.reply notice (state_of m' after)) same back (taken_from has))

@@ -5,7 +5,7 @@ use Rattle.vm_memory.specs.Memory.{Memory}
 use Rattle.fs_queue.specs.Queue.{Queue}
 use Rattle.fs_queue.specs.Taking.{RequestAndRoom, Offers, offer, room_of}
 use Rattle.fs_queue.specs.Returning.{wants_notice}
-use Rattle.fs_queue.specs.Windows.{HoldsChain, IsTaken, Taken}
+use Rattle.fs_queue.specs.Windows.{HoldsChain, IsEmpty, IsTaken, Taken}
 use Rattle.virtiofsd_fuse.specs.Serving.{May}
 use Rattle.fs_device.specs.declared.error.DeviceError.{DeviceError}
 use Rattle.fs_device.specs.Step.{State, Exchange, Idle, Refused, Calls, Step, after_return}
@@ -17,6 +17,13 @@ pub record HasTaken (m : Memory) (limit : ℕ) (queues : List Queue) (i : ℕ) (
   pub fetched : RequestAndRoom
   pub there : slice_get queues i ≡ Some queue
   pub offered : offer m limit queue ≡ Offers t.head fetched
+  pub taken : IsTaken m queue fetched t
+
+-- the place has the windows of a chain that was taken from queue i, whatever the queue offers by now
+pub record IsTakenFrom (m : Memory) (queues : List Queue) (i : ℕ) (t : Taken) : Type 0 where
+  pub queue : Queue
+  pub fetched : RequestAndRoom
+  pub there : slice_get queues i ≡ Some queue
   pub taken : IsTaken m queue fetched t
 
 -- taking is a whole step without a call if nothing waits or the step is refused; else the chain of this queue was taken, and nothing changed
@@ -38,6 +45,12 @@ IfTaken P t (Ok true) = P t
 IfTaken P t (Ok false) = Unit {0}
 IfTaken P t (Err e) = Unit {0}
 
+-- a place is empty unless a chain was taken into it
+abbrev pub IsEmptyUnlessTaken : Result Bool DeviceError → Taken → Type 0
+IsEmptyUnlessTaken (Ok true) t = Unit {0}
+IsEmptyUnlessTaken (Ok false) t = IsEmpty t
+IsEmptyUnlessTaken (Err e) t = IsEmpty t
+
 -- these are the bytes of the request of a chain that was taken, in each memory of this host in which it was
 abbrev pub HoldsRequest : Host → Taken → (bytes : List ℕ) → Type 0
 HoldsRequest h t bytes = (m : Memory) (fetched : RequestAndRoom) → m.host ≡ h → HoldsChain m fetched t.chain → bytes ≡ request_of fetched
@@ -49,6 +62,6 @@ ServesTaken may page_size old t bytes x new =
     (calls : Calls) × ServesChain may page_size old t.head fetched calls x new
 
 -- the chain that was taken from queue i goes back to it with a reply over its room, and the driver is told or not (VIRTIO 1.2, 2.7.8 and 2.7.7)
-pub record GoesBack {F : Type 0} (before : State F) (i : ℕ) (t : Taken) (has : HasTaken before.memory before.limit before.queues i t) (reply : List ℕ) (notice : Bool) (after : State F) : Type 0 where
+pub record GoesBack {F : Type 0} (before : State F) (i : ℕ) (t : Taken) (has : IsTakenFrom before.memory before.queues i t) (reply : List ℕ) (notice : Bool) (after : State F) : Type 0 where
   pub state : after ≡ after_return before i has.queue t.head (room_of has.fetched) reply before.options before.files
   pub told : notice ≡ wants_notice after.memory has.queue

@@ -1,12 +1,14 @@
 //! The phases of a step: a chain is taken into a place, its request is fetched (`FetchedRequest`) and answered, and it is
 //! given back. `process_one` and `serve_one` are drivers over them, and so is whoever does something of its own in between.
 
-ghost use Rattle.std.specs.Prelude.{◌≡◌, ℕ, ◌<◌, ◌≤◌, length, slice_get, IfOk, OnErr};
-ghost use Rattle.vm_memory_core.specs.Host.{lengths, shape};
+ghost use Rattle.std.specs.Prelude.{◌≡◌, ℕ, ◌<◌, ◌≤◌, length, slice_get, Some, IfOk, OnErr};
+ghost use Rattle.vm_memory_core.specs.Host.{changed_at, lengths, shape};
 ghost use Rattle.vm_memory.specs.Memory.{Memory};
+ghost use Rattle.fs_queue.specs.Queue.{Queue};
+ghost use Rattle.fs_queue.specs.Returning.{advanced, put_back, tells_by};
 ghost use Rattle.fs_queue.specs.Windows.{IsEmpty, TakenLiesIn, room_places};
 ghost use Rattle.fs_device.specs.DeviceView.{exchange_of, state_of};
-ghost use Rattle.fs_device.specs.Phases.{GoesBack, HasTaken, IfTaken, ServesTaken, TakesOrEnds, TakesFrom};
+ghost use Rattle.fs_device.specs.Phases.{GoesBack, IfTaken, IsEmptyUnlessTaken, IsTakenFrom, ServesTaken, TakesOrEnds, TakesFrom};
 
 use crate::device::Device;
 use crate::error::DeviceError;
@@ -20,7 +22,7 @@ use vm_memory::GuestMemory;
 use vm_memory_core::HostBlocks;
 
 impl<F: FileSystem> Device<F> {
-    // Takes the next chain of one of a device's queues into a place.
+    // Takes the next chain of one of a device's queues into a place, which is empty unless a chain was taken.
     #[inline(always)]
     pub(crate) fn take_from<M: GuestMemory, H: HostBlocks>(
         alloc: Global,
@@ -36,8 +38,10 @@ impl<F: FileSystem> Device<F> {
         ensures lies { IfTaken (TakenLiesIn (lengths (H.host host.now))) taken.new result }
         ensures there { IfTaken (λ t. queue < length queues.new.items) taken.new result }
         ensures count { length queues.new.items ≡ length queues.old.items }
+        ensures empty { IsEmptyUnlessTaken result taken.new }
     {
         if queue >= queues.len() {
+            *taken = Taken::empty(alloc);
             return Err(DeviceError::NoSuchQueue);
         }
         match queues[queue].take(alloc, host, mem, limit, taken) {
@@ -47,8 +51,9 @@ impl<F: FileSystem> Device<F> {
     }
 
     /// Takes the next chain of a queue, by its number from 0, into a place that the caller keeps from chain to chain; false
-    /// if no chain waits. The file system isn't asked. `NoSuchQueue` and `QueueError::OutOfMemory` change nothing, nor
-    /// does `Stopped`; every other `QueueError` stops the queue. A chain that was taken and isn't given back waits still.
+    /// if no chain waits; unless a chain was taken, the place is empty then. The file system isn't asked. `NoSuchQueue` and
+    /// `QueueError::OutOfMemory` change nothing of the device, nor does `Stopped`; every other `QueueError` stops the
+    /// queue. A chain that was taken and isn't given back waits still.
     #[inline(always)]
     pub fn take<M: GuestMemory, H: HostBlocks>(
         &mut self,
@@ -63,6 +68,7 @@ impl<F: FileSystem> Device<F> {
             (state_of (M.memory mem.now (H.host host.now)) self.new) }
         ensures lies { IfTaken (TakenLiesIn (lengths (H.host host.now))) taken.new result }
         ensures there { IfTaken (λ t. queue < length self.new.queues) taken.new result }
+        ensures empty { IsEmptyUnlessTaken result taken.new }
     {
         Self::take_from(alloc, host, mem, self.limit, &mut self.queues, queue, taken)
     }
@@ -87,8 +93,9 @@ impl<F: FileSystem> Device<F> {
     }
 
     /// Gives a chain that was taken back to its queue with a reply (VIRTIO 1.2, 2.7.8), and answers whether the driver wants
-    /// to be told (2.7.7). The place is emptied. Of a place that memory and queue have changed under no more is said than
-    /// that the rest of the device stays.
+    /// to be told (2.7.7). The place is emptied, and the queue goes on by one chain. So it is too if the queue was stopped,
+    /// or the guest's bytes changed, since the chain was taken. A chain of another queue, or of this one before it was begun
+    /// anew, is stored where it was taken, and both rings are wrong then.
     #[inline(always)]
     pub fn give_back<H: HostBlocks>(
         &mut self,
@@ -100,11 +107,14 @@ impl<F: FileSystem> Device<F> {
         requires lies { TakenLiesIn (lengths (H.host host.old)) taken.old }
         requires there { queue < length self.old.queues }
         requires fits { length reply.now ≤ room_places taken.old.chain }
-        ensures returns { (m : Memory) (has : HasTaken m self.old.limit self.old.queues queue taken.old) → m.host ≡ H.host host.old →
+        ensures returns { (m : Memory) (has : IsTakenFrom m self.old.queues queue taken.old) → m.host ≡ H.host host.old →
             GoesBack (state_of m self.old) queue taken.old has reply.now result (state_of (record m { host = H.host host.new }) self.new) }
+        ensures puts { (q : Queue) → slice_get self.old.queues queue ≡ Some q →
+            H.host host.new ≡ put_back (H.host host.old) q taken.old reply.now (length reply.now) }
+        ensures tells { result ≡ tells_by (H.host host.new) taken.old }
         ensures empty { IsEmpty taken.new }
-        ensures same { self.new ≡ record self.old { queues = self.new.queues } }
-        ensures others { (i : ℕ) → (i ≡ queue → ⊥) → slice_get self.new.queues i ≡ slice_get self.old.queues i }
+        ensures count { length self.new.queues ≡ length self.old.queues }
+        ensures queues { self.new ≡ record self.old { queues = changed_at self.old.queues queue advanced } }
         ensures shape { shape (H.host host.new) ≡ shape (H.host host.old) }
         ensures loan { H.IsSameLoan host.old host.new }
     {

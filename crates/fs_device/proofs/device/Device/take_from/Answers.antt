@@ -1,6 +1,6 @@
 use Rattle.std.proofs.Common.{vec_len, arith}
 use Rattle.std.proofs.lemmas.Option.{slice_get_past, slice_get_read}
-use Rattle.fs_device.proofs.StepLemmas.{Fixed, misses, refuses, takes_or_ends}
+use Rattle.fs_device.proofs.StepLemmas.{Fixed, empty_unless_taken, misses, refuses, takes_or_ends}
 use Rattle.fs_device.proofs.device.Device.take_from.Goals as goal
 
 pub returns-then-queue-len-clause-takes : goal.returns-then-queue-len-clause-takes
@@ -22,3 +22,6 @@ returns-in-Err-clause-takes g c options page_size files =
     let fixed : Fixed = record { limit = c.args.limit; page_size = page_size } in
     refuses g.F.FileSystemBase.may fixed (g.M.GuestMemory.memory c.args.mem.now (g.H.HostBlocks.host c.args.host.now)) queues.items c.args.queue c.index_mut.result.now c.take.new.self (options, files) c.in-Err.error there
     c.in-Err.ensures.takes c.in-Err.ensures.queue
+
+pub returns-in-Ok-clause-empty : goal.returns-in-Ok-clause-empty
+returns-in-Ok-clause-empty g c = empty_unless_taken c.take.new.taken c.in-Ok.waits c.in-Ok.ensures.empty
