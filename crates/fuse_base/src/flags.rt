@@ -272,7 +272,7 @@ impl FsOptions {
     pub const AUTO_INVAL_DATA: Self = FlagSet(1 << 12, PhantomData);
     /// READDIRPLUS is served.
     pub const DO_READDIRPLUS: Self = FlagSet(1 << 13, PhantomData);
-    /// READDIRPLUS where it pays.
+    /// READDIRPLUS if it pays.
     pub const READDIRPLUS_AUTO: Self = FlagSet(1 << 14, PhantomData);
     /// Direct calls side by side.
     pub const ASYNC_DIO: Self = FlagSet(1 << 15, PhantomData);

@@ -111,7 +111,7 @@ filled-append (x ∷ xs) ys =
     (λ (z : x ≡ 0 → ⊥). filled_some x (xs ++ ys) z ∙ ap (λ s. x ∷ s) (filled-append xs ys) ∙ ap (λ s. s ++ filled ys) (sym (filled_some x xs z)))
     (cases_eq x 0)
 
--- the first segment, which is empty only where no other is left
+-- the first segment, which is empty only if no other is left
 pub first_of : (n : ℕ) (ns : List ℕ) → (n ≡ 0 → ns ≡ []) → first (filled (n ∷ ns)) ≡ n
 first_of n ns none =
     ⊎_elim

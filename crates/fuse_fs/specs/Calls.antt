@@ -141,7 +141,7 @@ never_fails (BatchForget c counts) = true
 never_fails Destroy = true
 never_fails _ = false
 
--- an open file's number, where there is one, has 64 bits
+-- an open file's number, if there is one, has 64 bits
 abbrev pub is_handle : Option ℕ → Bool
 is_handle None = true
 is_handle (Some handle) = nat_lt handle (2 ^ 64)

@@ -6,7 +6,7 @@ abbrev pub filled : List ℕ → List ℕ
 filled [] = []
 filled (n ∷ ns) = cond (n == 0) (filled ns) (n ∷ filled ns)
 
--- the first of these lengths; 0 where there is none
+-- the first of these lengths; 0 if there is none
 abbrev pub first : List ℕ → ℕ
 first [] = 0
 first (n ∷ ns) = n

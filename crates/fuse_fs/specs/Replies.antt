@@ -14,7 +14,7 @@ use Rattle.fuse_fs.specs.Times.{Duration}
 abbrev pub attr_out_of : Attr → Duration → AttrOut
 attr_out_of attr timeout = record { attr_valid = timeout.seconds; attr_valid_nsec = timeout.nanos; dummy = 0; attr = attr }
 
--- an open file's number; 0 where it has none
+-- an open file's number; 0 if it has none
 abbrev pub handle_or_0 : Option ℕ → ℕ
 handle_or_0 (Some handle) = handle
 handle_or_0 None = 0

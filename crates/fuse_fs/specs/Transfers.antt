@@ -31,7 +31,7 @@ MayRead F = F → ℕ → ℕ → Result (List ℕ) ℕ → F → Type 0
 abbrev pub MayWrite : Type 0 → Type 1
 MayWrite F = F → List ℕ → ℕ → Option ℕ → Result ℕ ℕ → F → Type 0
 
--- one read of at most this many bytes; none where that is 0
+-- one read of at most this many bytes; none if that is 0
 abbrev pub ReadsOnce : {F : Type 0} → MayRead F → F → (most off : ℕ) → List ℕ → Result ℕ ℕ → F → Type 0
 ReadsOnce may f most off bytes answer g =
     (moved answer ≡ length bytes)
@@ -60,7 +60,7 @@ pub record ReadsSegments {F : Type 0} (may : MayRead F) (f : F) (rooms : List �
   pub reads : ReadsOn may f rooms off parts mid
   pub ends : ReadsEnd may mid (past (length bytes) rooms) (off + length bytes) (length bytes) answer g
 
--- one write of the front of the first segment, cut to count; none where count is 0 or nothing is left
+-- one write of the front of the first segment, cut to count; none if count is 0 or nothing is left
 abbrev pub WritesOnce : {F : Type 0} → MayWrite F → F → (left segments : List ℕ) → (count off : ℕ) → Option ℕ → Result ℕ ℕ → F → Type 0
 WritesOnce may f left segments count off flags answer g =
     ((min count (first segments) ≡ 0) × (answer ≡ Ok 0) × (g ≡ f))

@@ -28,7 +28,7 @@ impl Model for Timeout {
 }
 
 impl Timeout {
-    /// A timeout; None where the nanoseconds are a second or more.
+    /// A timeout; None if the nanoseconds are a second or more.
     pub fn new(secs: u64, nanos: u32) -> Option<Timeout>
         ensures { SomeIff result (nanos < 10 ^ 9) (record { seconds = secs; nanos = nanos }) }
     {

@@ -16,7 +16,7 @@ use bitflags::Flags;
 use fuse_base::{Attr, Errno, FsOptions, OpenOptions, StatVfs};
 use std::io::{self, ErrorKind};
 
-/// Default of virtiofsd's `FileSystem::init`: of what both sides can, nothing is wanted. It never fails.
+/// Default of virtiofsd's `FileSystem::init`: of what both sides have, nothing is asked for. It never fails.
 pub fn init() -> Result<FsOptions, Errno>
     ensures { result ≡ Ok no_flags }
 {
@@ -141,7 +141,7 @@ pub fn read() -> Result<usize, Errno>
     Err(Errno::ENOSYS)
 }
 
-/// What a `FileSystem::read` may call that is to put nothing in where it fails (`FileSystem::reads_whole`), whatever its
+/// What a `FileSystem::read` may call that is to put nothing in if it fails (`FileSystem::reads_whole`), whatever its
 /// file does: an errno that comes after some bytes is no more than a short read, and their count is the answer.
 pub fn read_whole<F: PositionedFile, W: ZeroCopyWriter>(
     file: &mut F,

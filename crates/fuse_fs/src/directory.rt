@@ -24,7 +24,7 @@ pub trait DirectoryIterator: Drop {
     // What it still gives.
     ghost rest: { Self → List Listed };
 
-    /// The next entry; None where there is none left.
+    /// The next entry; None if there is none left.
     fn next(&mut self) -> Option<DirEntry<'_>>
         ensures entry { option_map listed result ≡ slice_get (rest self.old) 0 }
         ensures* after { sem 𝓛 (Rests Self.row self.entry (λ new. rest new ≡ drop 1 (rest self.old))) };

@@ -27,7 +27,7 @@ impl SecContext {
         }
     }
 
-    /// An equal value, in memory of its own; AllocError where memory is wanting.
+    /// An equal value, in memory of its own; AllocError if an allocation fails.
     pub fn try_clone(&self, alloc: Global) -> Result<SecContext, AllocError>
         ensures { IfOk result (λ copy. security_of copy ≡ security_of self.now) }
     {
@@ -41,14 +41,14 @@ impl SecContext {
 /// What a client tells beside a request that makes a node, where both sides agreed on it (virtiofsd's `Extensions`).
 #[derive(Debug, Default, Drop)]
 pub struct Extensions {
-    /// The new node's label, where one is told (FUSE_SECURITY_CTX).
+    /// The new node's label, if one is told (FUSE_SECURITY_CTX).
     pub secctx: Option<SecContext>,
     /// A group of the caller's besides its own (FUSE_CREATE_SUPP_GROUP).
     pub sup_gid: Option<GuestGid>,
 }
 
 impl Extensions {
-    /// An equal value, in memory of its own; AllocError where memory is wanting.
+    /// An equal value, in memory of its own; AllocError if an allocation fails.
     pub fn try_clone(&self, alloc: Global) -> Result<Extensions, AllocError>
         ensures { IfOk result (λ copy. extra_of copy ≡ extra_of self.now) }
     {

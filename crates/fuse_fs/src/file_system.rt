@@ -73,7 +73,7 @@ pub trait FileSystemBase {
 
 /// A file system, by what it may answer (virtiofsd's `FileSystem`). Each call's answer stands in the relation `may`,
 /// which the implementer names; what a call does where a file system has nothing of its own to do stands in `defaults`.
-/// Where a call fails, it answers an errno (errno.h, 1 to 4095) of the implementer's choice, which `may` has to allow:
+/// If a call fails, it answers an errno (errno.h, 1 to 4095) of the implementer's choice, which `may` has to allow:
 /// ENOSYS says that there is no such call. Beside each call stands its request in linux/fuse.h. Offsets, sizes and
 /// lengths count bytes, offsets from a file's start. The names of requests that the server hands in have no zero byte;
 /// those that READDIRPLUS looks up are the file system's own, as its listing gave them.
@@ -87,7 +87,7 @@ pub trait FileSystem: FileSystemBase {
     fn reads_whole(&self) -> bool
         ensures { result ≡ reads_whole self.now };
 
-    /// The start of a conversation (FUSE_INIT): of the options that both sides can, those that the file system wants.
+    /// The start of a conversation (FUSE_INIT): of the options that both sides have, those that the file system asks for.
     fn init(&mut self, capable: FsOptions) -> Result<FsOptions, Errno>
         ensures may { Self.may self.old (call.Init capable.0) (options_answer result) self.new };
 
@@ -215,7 +215,7 @@ pub trait FileSystem: FileSystemBase {
     ) -> Result<(Option<Self::Handle>, OpenOptions), Errno>
         ensures may { Self.may self.old (call.Open ctx (Self.Inode.number inode) kill_priv flags) (opened_answer Self.Handle.number result) self.new };
 
-    /// Makes a file where there is none, and opens it (FUSE_CREATE). Where the reply has no room the entry is given back
+    /// Makes a file if there is none, and opens it (FUSE_CREATE). If the reply has no room the entry is given back
     /// by `forget`, but the handle isn't released: who hands out handles bounds how many a guest may leave open.
     fn create(
         &mut self,

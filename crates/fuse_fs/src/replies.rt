@@ -23,7 +23,7 @@ pub fn attr_out(attr: Attr, timeout: Timeout) -> AttrOut
     }
 }
 
-/// An open file, as `struct fuse_open_out`, 16 bytes; the handle 0 where it has none.
+/// An open file, as `struct fuse_open_out`, 16 bytes; the handle 0 if it has none.
 pub fn open_out<H: FileNumber>(handle: Option<H>, options: OpenOptions) -> OpenOut
     ensures { result ≡ open_out_of (option_map H.number handle) options.0 }
 {

@@ -9,7 +9,7 @@ use std::io::{self, Read, Write};
 use std::sync::atomic::AtomicBool;
 
 /// A file system whose state can be carried over (virtiofsd's `SerializableFileSystem`). Each call does what the
-/// implementer's relation says; what a call does where there is nothing to carry over stands in `defaults`.
+/// implementer's relation says; what a call does if there is nothing to carry over stands in `defaults`.
 pub trait SerializableFileSystem {
     // How it may be made ready: before, after.
     ghost may_prepare: { Self → Self → Type 0 };

@@ -87,7 +87,7 @@ pub trait ZeroCopyWriter {
             × (rooms self.new ≡ past (length bytes) (rooms self.old)) × (sum (rooms self.old) ≡ room self.old)
             × ReadsSegments F.read_gives file.old (up_to count (rooms self.old)) off bytes result file.new };
 
-    // where nothing is done, nothing is put in
+    // if nothing is done, nothing is put in
     ghost puts_none: { (w : Self) → Puts w [] w };
 
     // what is put in after something

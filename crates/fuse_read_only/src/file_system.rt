@@ -10,7 +10,7 @@ use fuse_fs::{Context, DirectoryIterator, Entry, Timeout, ZeroCopyWriter};
 
 /// A file system that is read, by what it may answer. Its nodes and open files are numbers, and the root is node 1.
 /// Each call's answer stands in the relation `may`, which the implementer names; `ReadOnly` makes a `FileSystem` of it,
-/// in which all other calls have the answers of `defaults`. Where a call fails, it answers an errno (errno.h, 1 to
+/// in which all other calls have the answers of `defaults`. If a call fails, it answers an errno (errno.h, 1 to
 /// 4095) of the implementer's choice, which `may` has to allow. Beside each call stands its request in linux/fuse.h.
 /// What a guest forgets isn't told, so that a node keeps its number as long as the guest may name it.
 pub trait ReadOnlyFileSystem {
@@ -26,7 +26,7 @@ pub trait ReadOnlyFileSystem {
     // From a state, a call may have this answer and leave that state.
     ghost may: { Self → FileCall → FileAnswer → Self → Type 0 };
 
-    /// The start of a conversation: of the options that the guest can (FUSE_INIT), those that the file system wants.
+    /// The start of a conversation: of the options that the guest has (FUSE_INIT), those that the file system asks for.
     fn init(&mut self, capable: FsOptions) -> Result<FsOptions, Errno>
         ensures may { may self.old (call.Init capable.0) (options_answer result) self.new };
 

@@ -37,6 +37,6 @@ pub enum FileAnswer {
     Wrote(u32),
     /// A place in a file, in bytes from its start.
     Offset(u64),
-    /// The options that are wanted, of those that both sides can.
+    /// The options that are asked for, of those that both sides have.
     Wants(FsOptions),
 }

@@ -19,7 +19,7 @@ fn owned(alloc: Global, bytes: &[u8]) -> Result<Vec<u8>, AllocError>
     Ok(copy)
 }
 
-/// A call of `lookup` in memory of its own; AllocError where memory is wanting.
+/// A call of `lookup` in memory of its own; AllocError if an allocation fails.
 pub(crate) fn lookup_call(
     alloc: Global,
     context: Context,
@@ -36,7 +36,7 @@ pub(crate) fn lookup_call(
     })
 }
 
-/// A call of `symlink` in memory of its own; AllocError where memory is wanting.
+/// A call of `symlink` in memory of its own; AllocError if an allocation fails.
 pub(crate) fn symlink_call(
     alloc: Global,
     context: Context,
@@ -58,7 +58,7 @@ pub(crate) fn symlink_call(
     })
 }
 
-/// A call of `mknod` in memory of its own; AllocError where memory is wanting.
+/// A call of `mknod` in memory of its own; AllocError if an allocation fails.
 pub(crate) fn mknod_call(
     alloc: Global,
     context: Context,
@@ -83,7 +83,7 @@ pub(crate) fn mknod_call(
     })
 }
 
-/// A call of `mkdir` in memory of its own; AllocError where memory is wanting.
+/// A call of `mkdir` in memory of its own; AllocError if an allocation fails.
 pub(crate) fn mkdir_call(
     alloc: Global,
     context: Context,
@@ -106,7 +106,7 @@ pub(crate) fn mkdir_call(
     })
 }
 
-/// A call of `unlink` in memory of its own; AllocError where memory is wanting.
+/// A call of `unlink` in memory of its own; AllocError if an allocation fails.
 pub(crate) fn unlink_call(
     alloc: Global,
     context: Context,
@@ -123,7 +123,7 @@ pub(crate) fn unlink_call(
     })
 }
 
-/// A call of `rmdir` in memory of its own; AllocError where memory is wanting.
+/// A call of `rmdir` in memory of its own; AllocError if an allocation fails.
 pub(crate) fn rmdir_call(
     alloc: Global,
     context: Context,
@@ -140,7 +140,7 @@ pub(crate) fn rmdir_call(
     })
 }
 
-/// A call of `rename` in memory of its own; AllocError where memory is wanting.
+/// A call of `rename` in memory of its own; AllocError if an allocation fails.
 pub(crate) fn rename_call(
     alloc: Global,
     context: Context,
@@ -164,7 +164,7 @@ pub(crate) fn rename_call(
     })
 }
 
-/// A call of `link` in memory of its own; AllocError where memory is wanting.
+/// A call of `link` in memory of its own; AllocError if an allocation fails.
 pub(crate) fn link_call(
     alloc: Global,
     context: Context,
@@ -183,7 +183,7 @@ pub(crate) fn link_call(
     })
 }
 
-/// A call of `setxattr` in memory of its own; AllocError where memory is wanting.
+/// A call of `setxattr` in memory of its own; AllocError if an allocation fails.
 pub(crate) fn setxattr_call(
     alloc: Global,
     context: Context,
@@ -207,7 +207,7 @@ pub(crate) fn setxattr_call(
     })
 }
 
-/// A call of `getxattr` in memory of its own; AllocError where memory is wanting.
+/// A call of `getxattr` in memory of its own; AllocError if an allocation fails.
 pub(crate) fn getxattr_call(
     alloc: Global,
     context: Context,
@@ -226,7 +226,7 @@ pub(crate) fn getxattr_call(
     })
 }
 
-/// A call of `removexattr` in memory of its own; AllocError where memory is wanting.
+/// A call of `removexattr` in memory of its own; AllocError if an allocation fails.
 pub(crate) fn removexattr_call(
     alloc: Global,
     context: Context,
@@ -243,7 +243,7 @@ pub(crate) fn removexattr_call(
     })
 }
 
-/// A call of `create` in memory of its own; AllocError where memory is wanting.
+/// A call of `create` in memory of its own; AllocError if an allocation fails.
 pub(crate) fn create_call(
     alloc: Global,
     context: Context,

@@ -27,7 +27,7 @@ changed_comm (x ∷ l) zero (suc j) f g h = refl
 changed_comm (x ∷ l) (suc i) zero f g h = refl
 changed_comm {X} (x ∷ l) (suc i) (suc j) f g h = ap (λ (r : List X). x ∷ r) (changed_comm l i j f g (λ e. h (ap suc e)))
 
--- one value may be set at two places in either order, also where they are one
+-- one value may be set at two places in either order, also if they are one
 set_twice : {X : Type 0} (l : List X) (i j : ℕ) (a : X) → set (set l i a) j a ≡ set (set l j a) i a
 set_twice [] i j a = refl
 set_twice (x ∷ l) zero zero a = refl

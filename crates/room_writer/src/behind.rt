@@ -28,7 +28,7 @@ fn window_at(windows: &[VolatileSlice], index: usize, at: usize) -> (usize, usiz
 }
 
 impl<'a> RoomLeft<'a> {
-    // What follows the first bytes of a room, where it has as many; its length in bytes is told.
+    // What follows the first bytes of a room, if it has as many; its length in bytes is told.
     fn behind(windows: &'a [VolatileSlice], len: usize, count: usize) -> RoomLeft<'a>
         requires counted { len ≡ length (places windows.now) }
         requires enough { count ≤ len }

@@ -35,7 +35,7 @@ impl<'a, 'b, 'c, H: HostBlocks> RoomWriter<'a, 'b, 'c, H> {
     }
 
     // Puts in what one call of a file reads, at most `count` bytes, in the first window that has room; no call is made
-    // where there is no room or `count` is 0.
+    // if there is no room or `count` is 0.
     #[tactic(auto, unfolding(vm_memory_core::specs::Window::AllLieIn))]
     fn read_once<F: PositionedFile>(
         &mut self,

@@ -30,7 +30,7 @@ use Rattle.fuse_fs.specs.Calls.{FileCall, Access, CopyFileRange, Fallocate, Flus
 use Rattle.fuse_fs.specs.Calls.{Releasedir, Removexattr, Rmdir, Setattr, Statfs, Syncfs, Unlink, Read, Readdir, Link, Rename, Setxattr, Getxattr, Listxattr, BatchForget, Write, Extra}
 use Rattle.fuse_fs.specs.Calls.{Symlink, Mknod, Mkdir, Create, NewLink, Destroy, Getlk, Setlk, Setlkw, Bmap, Ioctl, Poll, NotifyReply}
 
--- a number that counts only where its flag is set
+-- a number that counts only if its flag is set
 abbrev pub if_set : Bool → ℕ → Option ℕ
 if_set test n = if test then Some n else None
 
@@ -223,7 +223,7 @@ entry_node (HasEntry e) = Some e.inode
 entry_node (Created e handle options) = Some e.inode
 entry_node _ = None
 
--- the call that gives a node back, where there is one
+-- the call that gives a node back, if there is one
 abbrev pub give_back : Context → (node : Option ℕ) → List FileCall
 give_back who None = []
 give_back who (Some node) = Forget who node 1 ∷ []

@@ -38,7 +38,7 @@ impl<I: FileNumber, H: FileNumber> EntryAnswer<I> for (Entry<I>, Option<H>, Open
     }
 }
 
-/// The node of the entry that was answered, where there is one.
+/// The node of the entry that was answered, if there is one.
 pub fn answered_node<I: FileNumber, A: EntryAnswer<I>>(answer: &Result<A, Errno>) -> Option<I>
     ensures { option_map I.number result ≡ entry_node (A.said answer.now) }
 {

@@ -16,7 +16,7 @@ use vm_values::ByteValued;
 /// An answer as the client is told of it.
 pub trait AsReply: Answer {
     /// Replies with a good one, whole or not at all: header and record (linux/fuse.h). Answers the reply's length in
-    /// bytes, 0 where there is none, and `EncodeMessage` where it has no room.
+    /// bytes, 0 if there is none, and `EncodeMessage` if it has no room.
     fn reply(self, w: &mut Writer, unique: u64) -> Result<usize, Error>
         requires fresh { w.old.written ≡ [] }
         requires room { w.old.free < 2 ^ 32 }
@@ -26,7 +26,7 @@ pub trait AsReply: Answer {
 }
 
 /// Replies with an answer: header and record, or the error, whole or not at all. Answers the reply's length in bytes, 0
-/// where there is none, and `EncodeMessage` where it has no room.
+/// if there is none, and `EncodeMessage` if it has no room.
 #[inline(always)]
 pub fn reply_answer<A: AsReply>(
     w: &mut Writer,

@@ -49,7 +49,7 @@ pub fn node_bytes<I: FileNumber>(node: Entry<I>) -> [u8; 128]
     bytes
 }
 
-// Writes an entry, of which the node stands in front, where one is asked for.
+// Writes an entry, of which the node stands in front, if one is asked for.
 fn write_entry(w: &mut Writer, node: &[u8], entry: &DirEntry<'_>)
     requires short { length entry.now.name.now < 2 ^ 32 }
     requires room { length node.now + dirent_len (length entry.now.name.now) ≤ w.old.free }
@@ -65,9 +65,9 @@ fn write_entry(w: &mut Writer, node: &[u8], entry: &DirEntry<'_>)
     append(w, &[0; 8][..zeros]);
 }
 
-/// Puts an entry in, where it has room, and answers how many bytes are left of the size then. Else it writes nothing
-/// and answers how the list ends: EOVERFLOW where the name has 2^32 bytes or more, no errno where the entry has more
-/// bytes than are left of the size, EIO where it has more than the writer has room for.
+/// Puts an entry in, if it has room, and answers how many bytes are left of the size then. Else it writes nothing
+/// and answers how the list ends: EOVERFLOW if the name has 2^32 bytes or more, no errno if the entry has more
+/// bytes than are left of the size, EIO if it has more than the writer has room for.
 #[tactic(auto, unfolding(crate::specs::Entries::fit_of))]
 pub fn put_entry(
     w: &mut Writer,

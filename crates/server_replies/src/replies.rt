@@ -44,7 +44,7 @@ pub fn append(w: &mut Writer, bytes: &[u8])
     w.write_all(bytes).unwrap();
 }
 
-/// Writes a good reply, whole or not at all: header and body. Answers its length in bytes, or `EncodeMessage` where it
+/// Writes a good reply, whole or not at all: header and body. Answers its length in bytes, or `EncodeMessage` if it
 /// has no room.
 #[tactic(auto, using(crate::proofs::ReplyLemmas::reply_long, crate::proofs::ReplyLemmas::reply_fits))]
 #[inline(always)]
@@ -65,7 +65,7 @@ pub fn reply(w: &mut Writer, unique: u64, body: &[u8]) -> Result<usize, Error>
     Ok(len)
 }
 
-// Writes a reply that is whole, where it has room.
+// Writes a reply that is whole, if it has room.
 #[inline(always)]
 #[tactic(auto, using(crate::proofs::ReplyLemmas::sent_long, crate::proofs::ReplyLemmas::sent_fits))]
 fn send(w: &mut Writer, reply: &[u8]) -> Result<usize, Error>
@@ -118,7 +118,7 @@ pub(crate) fn reply_record<T: ByteValued>(
     send(w, &buffer[..len])
 }
 
-/// Writes an error: a header with the error's number made negative. Answers 16, or `EncodeMessage` where it has no
+/// Writes an error: a header with the error's number made negative. Answers 16, or `EncodeMessage` if it has no
 /// room.
 pub fn reply_error(w: &mut Writer, unique: u64, error: Errno) -> Result<usize, Error>
     requires fresh { w.old.written ≡ [] }

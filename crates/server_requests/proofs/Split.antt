@@ -14,7 +14,7 @@ split_is ns n l s =
     let whole : nat_le n (sum ns) ≡ true = grind (arith, nat_tests) in
     rw (lt-ltb (first ns) n l, whole) refl
 
--- only for those memory is wanting
+-- only those allocate
 pub split_memory : {B : Type 0} (result : Result B Error) (ns : List ℕ) (n m : ℕ) → IfErr result (λ e. (e ≡ OutOfMemory) × (first ns < n)) → n ≤ sum ns → n ≡ m
     → is_split m ns ≡ false → IfErr result (λ e. is_memory e ≡ false)
 split_memory (Ok b) ns n m p s e h = tt

@@ -92,7 +92,7 @@ all_sent options sent =
     if takes_security options && not sent.was_sent then Err (Faults MissingExtension)
     else Ok (parts_of sent)
 
--- the bytes after the names; they are ignored where no kind of extension is agreed
+-- the bytes after the names; they are ignored if no kind of extension is agreed
 unfoldable pub extra_in : ℕ → List ℕ → Result Extra ReadFailure
 extra_in options bytes =
     if takes_security options || takes_group options

@@ -50,6 +50,6 @@ abbrev pub has_pairs : Read (List (ℕ × ℕ)) → Bool
 has_pairs (Ok x) = nat_lt 0 (length x.0)
 has_pairs (Err r) = false
 
--- the upper half of the client's options, read only where FUSE_INIT_EXT (bit 30 of `flags`) says that it stands there
+-- the upper half of the client's options, read only if FUSE_INIT_EXT (bit 30 of `flags`) says that it stands there
 abbrev pub flags2_of : InitInCompat → Reading ℕ
 flags2_of r = if has_bit r.flags 30 then (reading_of init_in_ext >>= λ more. give more.flags2) else give 0

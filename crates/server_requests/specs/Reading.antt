@@ -40,7 +40,7 @@ give x = λ bytes. Ok (x, bytes)
 abbrev pub refuse : {A : Type 0} → ReadFailure → Reading A
 refuse r = λ bytes. Err r
 
--- goes on only where the test holds
+-- goes on only if the test holds
 abbrev pub needs : Bool → ReadFailure → Reading (Unit {0})
 needs test r = λ bytes. if test then Ok (tt, bytes) else Err r
 
@@ -74,12 +74,12 @@ abbrev pub at_zero : List ℕ → Option (List ℕ × List ℕ)
 at_zero [] = None
 at_zero (b ∷ bs) = if b == 0 then Some ([], bs) else before_zero b (at_zero bs)
 
--- the bytes before the zero and those after it; e where there is none
+-- the bytes before the zero and those after it; e if there is none
 abbrev pub ended_or : Error → Option (List ℕ × List ℕ) → Read (List ℕ)
 ended_or e None = Err (Faults e)
 ended_or e (Some split) = Ok split
 
--- a name up to its zero byte; e where there is none
+-- a name up to its zero byte; e if there is none
 abbrev pub name_or : Error → Reading (List ℕ)
 name_or e = λ bytes. ended_or e (at_zero bytes)
 
@@ -87,12 +87,12 @@ name_or e = λ bytes. ended_or e (at_zero bytes)
 unfoldable pub last_name : Reading (List ℕ)
 last_name = name_or InvalidCString >>= λ name. rest >>= λ more. needs (length more == 0) (Faults InvalidCString) >> give name
 
--- where no zero byte is met, all bytes are the name
+-- if no zero byte is met, all bytes are the name
 abbrev pub name_by : List ℕ → Option (List ℕ × List ℕ) → Read (List ℕ × Bool)
 name_by bytes None = Ok ((bytes, false), [])
 name_by bytes (Some split) = Ok ((split.0, true), split.1)
 
--- a name up to its zero byte, or all bytes where there is none, and whether it has its zero byte
+-- a name up to its zero byte, or all bytes if there is none, and whether it has its zero byte
 unfoldable pub front_name : Reading (List ℕ × Bool)
 front_name = λ bytes. if length bytes == 0 then Err (Faults MissingParameter) else name_by bytes (at_zero bytes)
 

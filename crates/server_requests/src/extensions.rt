@@ -296,8 +296,8 @@ fn lacks_context(options: FsOptions, was_sent: bool) -> bool
 }
 
 /// The extensions that these bytes are (`struct fuse_ext_header` and what follows it, again and again), where they
-/// stand; none where no kind of them is agreed. `InvalidHeaderLength`, `DecodeMessage` or `MissingParameter` where they
-/// are malformed, `MissingExtension` where a security context was agreed and none is sent.
+/// stand; none if no kind of them is agreed. `InvalidHeaderLength`, `DecodeMessage` or `MissingParameter` if they
+/// are malformed, `MissingExtension` if a security context was agreed and none is sent.
 #[tactic(auto, using(crate::proofs::ExtraLemmas::extra_ignored))]
 pub(crate) fn received_extensions<'a>(
     options: FsOptions,

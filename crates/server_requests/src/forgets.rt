@@ -16,7 +16,7 @@ use std::alloc::Global;
 const FORGET_ONE_LEN: usize = 16;
 
 /// The next `count` pairs of a node and how many times less it is held (`struct fuse_forget_one`, 16 bytes each), or
-/// `DecodeMessage` where they are not all there. The memory for all of them is had first, where they are there.
+/// `DecodeMessage` if they are not all there. The memory for all of them is had first, where they are there.
 pub fn read_pairs<I: FileNumber>(
     alloc: Global,
     r: &mut Reader<'_>,

@@ -52,8 +52,8 @@ fn read_bytes<'a>(alloc: Global, r: &mut Reader<'a>, n: usize) -> Result<Request
 }
 
 /// As many bytes as the header's length, `len`, leaves after the header, 40 bytes, and `fixed` bytes of record.
-/// `InvalidHeaderLength` where it doesn't reach so far, `DecodeMessage` where fewer bytes are there, and `OutOfMemory`
-/// only where they stand in several segments.
+/// `InvalidHeaderLength` if it doesn't reach so far, `DecodeMessage` if fewer bytes are there, and `OutOfMemory`
+/// only if they stand in several segments.
 #[inline(always)]
 pub fn read_counted<'a>(
     alloc: Global,
@@ -86,8 +86,8 @@ pub struct WithBytes<'a, T> {
     pub bytes: RequestBytes<'a>,
 }
 
-/// A record, and as many bytes as the header's length, `len`, leaves after it. `DecodeMessage` where the record or
-/// these bytes aren't all there, `InvalidHeaderLength` where `len` ends before the record does, and `OutOfMemory` only
+/// A record, and as many bytes as the header's length, `len`, leaves after it. `DecodeMessage` if the record or
+/// these bytes aren't all there, `InvalidHeaderLength` if `len` ends before the record does, and `OutOfMemory` only
 /// where the bytes stand in several segments.
 pub fn read_with_bytes<'a, T: InRecord>(
     alloc: Global,
@@ -137,8 +137,8 @@ pub fn last_name(bytes: &[u8]) -> Result<&[u8], Error>
     }
 }
 
-/// The two names that these bytes are, each with a zero byte behind it: `MissingParameter` where the first isn't ended,
-/// `InvalidCString` where the second isn't, or more follows.
+/// The two names that these bytes are, each with a zero byte behind it: `MissingParameter` if the first isn't ended,
+/// `InvalidCString` if the second isn't, or more follows.
 #[tactic(auto, using(crate::proofs::NameLemmas::both_named, crate::proofs::NameLemmas::second_unnamed, crate::proofs::NameLemmas::first_missing))]
 pub fn two_names(bytes: &[u8]) -> Result<(&[u8], &[u8]), Error>
     ensures ok { IfOk result (λ p. Ok (p.0.now, p.1.now) ≡ value_of (two_names bytes.now)) }
@@ -153,7 +153,7 @@ pub fn two_names(bytes: &[u8]) -> Result<(&[u8], &[u8]), Error>
     }
 }
 
-/// The name and, behind its zero byte, the value that these bytes are. `MissingParameter` where the name isn't ended;
+/// The name and, behind its zero byte, the value that these bytes are. `MissingParameter` if the name isn't ended;
 /// the value has `size` bytes, else `InvalidXattrSize` tells both lengths.
 #[tactic(auto, using(crate::proofs::NameLemmas::valued, crate::proofs::NameLemmas::value_sized, crate::proofs::NameLemmas::value_unnamed))]
 pub fn name_and_value(bytes: &[u8], size: u32) -> Result<(&[u8], &[u8]), Error>
@@ -180,7 +180,7 @@ pub(crate) struct FrontName<'a> {
     pub rest: &'a [u8],
 }
 
-/// The name up to the first zero byte, or of all bytes where there is none.
+/// The name up to the first zero byte, or of all bytes if there is none.
 #[tactic(auto, using(crate::proofs::NameLemmas::front_empty, crate::proofs::NameLemmas::front_ended, crate::proofs::NameLemmas::front_endless))]
 pub(crate) fn front_name(bytes: &[u8]) -> Result<FrontName<'_>, Error>
     ensures reads { IfOk result (λ x. Ok ((x.name.now, x.ends), x.rest.now) ≡ front_name bytes.now) }

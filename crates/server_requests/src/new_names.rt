@@ -30,10 +30,10 @@ pub struct LinkParts<'a> {
     pub received: Received<'a>,
 }
 
-/// What these bytes say of a node that is made: its name, a zero byte, and extensions where they are agreed. Refused,
-/// in this order: `MissingParameter` where there is no byte; `InvalidHeaderLength`, `DecodeMessage` or
-/// `MissingParameter` where the extensions are malformed, and `MissingExtension` where a security context was agreed
-/// and none is sent; `InvalidCString` where the name has no zero byte.
+/// What these bytes say of a node that is made: its name, a zero byte, and extensions if they are agreed. Refused,
+/// in this order: `MissingParameter` if there is no byte; `InvalidHeaderLength`, `DecodeMessage` or
+/// `MissingParameter` if the extensions are malformed, and `MissingExtension` if a security context was agreed
+/// and none is sent; `InvalidCString` if the name has no zero byte.
 #[tactic(auto, using(crate::proofs::ExtraLemmas::new_name_cases))]
 pub fn new_name<'a>(options: FsOptions, bytes: &'a [u8]) -> Result<NewName<'a>, Error>
     ensures reads { IfOk result (λ x. Ok (x.name.now, parts_of (sent_of x.received)) ≡ value_of (new_name options.0 bytes.now)) }
@@ -65,8 +65,8 @@ fn both_end(first: bool, second: bool) -> bool
 }
 
 /// What these bytes say of a symbolic link that is made: its name and what it leads to, each with a zero byte behind
-/// it, and extensions where they are agreed. Refused, in this order: `MissingParameter` where no byte is left for one
-/// of the two; what is wrong with the extensions, as `new_name` has it; `InvalidCString` where one of the two has no
+/// it, and extensions if they are agreed. Refused, in this order: `MissingParameter` if no byte is left for one
+/// of the two; what is wrong with the extensions, as `new_name` has it; `InvalidCString` if one of the two has no
 /// zero byte.
 #[tactic(auto, using(crate::proofs::ExtraLemmas::new_link_cases))]
 pub fn new_link<'a>(options: FsOptions, bytes: &'a [u8]) -> Result<LinkParts<'a>, Error>

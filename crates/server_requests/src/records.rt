@@ -11,7 +11,7 @@ use server_segments::{Error, Reader};
 /// In `InitInCompat::flags`: the record goes on.
 const INIT_EXT: u32 = 1 << 30;
 
-/// The record that the next bytes spell, or `DecodeMessage` where there are too few.
+/// The record that the next bytes spell, or `DecodeMessage` if there are too few.
 #[inline(always)]
 pub fn read_record<T: InRecord>(r: &mut Reader<'_>) -> Result<T, Error>
     ensures reads { read_result result r.new.left ≡ reading_of T.shape r.old.left }
@@ -24,8 +24,8 @@ pub fn read_record<T: InRecord>(r: &mut Reader<'_>) -> Result<T, Error>
     }
 }
 
-/// The high 32 bits of the options that the client can, where INIT's record goes on with them (FUSE_INIT_EXT in `flags`
-/// of `struct fuse_init_in`); else 0, and no byte is read. `DecodeMessage` where the 48 bytes more aren't all there.
+/// The high 32 bits of the options that the client has, where INIT's record goes on with them (FUSE_INIT_EXT in `flags`
+/// of `struct fuse_init_in`); else 0, and no byte is read. `DecodeMessage` if the 48 bytes more aren't all there.
 pub fn read_flags2(request: &InitInCompat, r: &mut Reader<'_>) -> Result<u32, Error>
     ensures reads { read_result result r.new.left ≡ flags2_of request.now r.old.left }
     ensures fault { IfErr result (λ e. e ≡ Error.DecodeMessage) }

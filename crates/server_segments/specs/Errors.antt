@@ -20,12 +20,12 @@ error_number (SplitOutOfBounds offset) = 11
 error_number (IoError kind) = 12
 error_number OutOfMemory = 13
 
--- whether memory is wanting
+-- whether an allocation fails
 abbrev pub is_memory : Error → Bool
 is_memory OutOfMemory = true
 is_memory _ = false
 
--- whether an answer says that memory is wanting
+-- whether an answer says that an allocation fails
 abbrev pub lacks_memory : Result ℕ Error → Bool
 lacks_memory (Ok n) = false
 lacks_memory (Err e) = is_memory e

@@ -47,7 +47,7 @@ impl<'a> Model for Reader<'a> {
         × (length r.first.now ≡ 0 → r.later.items ≡ []) };
 }
 
-// A segment that isn't empty, where one is left: this one, or the next one of those behind it.
+// A segment that isn't empty, if one is left: this one, or the next one of those behind it.
 fn next_filled<'a>(segment: &'a [u8], later: &mut VecDeque<&'a [u8]>) -> &'a [u8]
     ensures all { all_of result.now later.new.items ≡ all_of segment.now later.old.items }
     ensures segments { filled (length result.now ∷ segment_lengths later.new.items) ≡ filled (length segment.now ∷ segment_lengths later.old.items) }
@@ -116,7 +116,7 @@ fn write_at(buf: &mut [u8], at: usize, bytes: &[u8])
 }
 
 impl<'a> Reader<'a> {
-    /// A reader of these segments, one after another. `DescriptorChainOverflow` where their lengths' sum doesn't fit
+    /// A reader of these segments, one after another. `DescriptorChainOverflow` if their lengths' sum doesn't fit
     /// usize.
     pub fn new(segments: Vec<&'a [u8]>) -> Result<Reader<'a>, Error>
         ensures ok { IfOk result
@@ -180,7 +180,7 @@ impl<'a> Reader<'a> {
         self.read
     }
 
-    // The first segment that isn't empty; an empty one where no byte is left.
+    // The first segment that isn't empty; an empty one if no byte is left.
     #[tactic(auto, using(fuse_fs::proofs::Lengths::first_of))]
     fn segment(&self) -> &'a [u8]
         ensures bytes { result.now ≡ take (first self.now.segments) self.now.left }
@@ -266,7 +266,7 @@ impl<'a> Reader<'a> {
     }
 
     /// Lends the front of the first segment that isn't empty, cut to `count` bytes, to one call of a file, and answers
-    /// how many it wrote; without a call 0, where nothing is left or `count` is 0. An errno is the file's own, and uses
+    /// how many it wrote; without a call 0, if nothing is left or `count` is 0. An errno is the file's own, and uses
     /// up nothing.
     pub fn write_to_file_at<F: PositionedFile>(
         &mut self,
@@ -296,7 +296,7 @@ impl<'a> Reader<'a> {
     }
 
     /// Splits what is left at a place, in bytes: what stands behind it goes to a reader of its own, with no byte read.
-    /// `SplitOutOfBounds` where the place is past the end, else `OutOfMemory`. A refusal changes nothing.
+    /// `SplitOutOfBounds` if the place is past the end, else `OutOfMemory`. A refusal changes nothing.
     #[tactic(auto, using(crate::proofs::Cutting::take_past, crate::proofs::Cutting::drop_past))]
     pub fn split_at(&mut self, alloc: Global, offset: usize) -> Result<Reader<'a>, Error>
         ensures left { OnOk result ((offset ≤ length self.old.left) × (self.new.left ≡ take offset self.old.left)) }

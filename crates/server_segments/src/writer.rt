@@ -97,7 +97,7 @@ fn behind(segments: &[usize], from: SegmentPlace, n: usize) -> SegmentPlace
     SegmentPlace { segment, used }
 }
 
-// The sum of the lengths, where it fits.
+// The sum of the lengths, if it fits.
 fn total(lengths: &[usize]) -> Option<usize>
     ensures some { IfSome result (λ n. n ≡ sum lengths.now) }
     ensures none { IfNone result (2 ^ 64 ≤ sum lengths.now) }
@@ -191,7 +191,7 @@ fn append_once<F: PositionedFile>(
 }
 
 impl Writer {
-    /// A writer with segments of these lengths, in bytes. `DescriptorChainOverflow` where their sum doesn't fit usize,
+    /// A writer with segments of these lengths, in bytes. `DescriptorChainOverflow` if their sum doesn't fit usize,
     /// else `OutOfMemory`.
     pub fn new(alloc: Global, lengths: &[usize]) -> Result<Writer, Error>
         ensures written { IfOk result (λ w. w.written ≡ []) }
@@ -207,7 +207,7 @@ impl Writer {
         Writer::over(alloc, room, segments)
     }
 
-    /// A writer with one segment of this length in bytes; with none where that is 0. `OutOfMemory` is its only error.
+    /// A writer with one segment of this length in bytes; with none if that is 0. `OutOfMemory` is its only error.
     pub fn of_length(alloc: Global, size: usize) -> Result<Writer, Error>
         ensures written { IfOk result (λ w. w.written ≡ []) }
         ensures room { IfOk result (λ w. (w.free ≡ size) × (w.segments ≡ filled (size ∷ []))) }
@@ -364,7 +364,7 @@ impl Writer {
     }
 
     /// Splits the room that is free at a place, in bytes: what stands behind it goes to a writer of its own, with no
-    /// byte written. `SplitOutOfBounds` where the place is past the end, else `OutOfMemory`. A refusal changes nothing.
+    /// byte written. `SplitOutOfBounds` if the place is past the end, else `OutOfMemory`. A refusal changes nothing.
     pub fn split_at(&mut self, alloc: Global, offset: usize) -> Result<Writer, Error>
         ensures written { self.new.written ≡ self.old.written }
         ensures free { OnOk result ((offset ≤ self.old.free) × (self.new.free ≡ offset)) }
@@ -422,7 +422,7 @@ impl Writer {
     }
 
     /// Writes what one call of a file reads into the first segment that has room, at most `count` bytes, and answers
-    /// how many; no call is made, and it answers 0, where there is no room or `count` is 0. An errno is the file's own,
+    /// how many; no call is made, and it answers 0, if there is no room or `count` is 0. An errno is the file's own,
     /// and uses up nothing.
     #[inline(always)]
     pub fn read_from_file_at<F: PositionedFile>(

@@ -198,7 +198,7 @@ read_told_apart room unique h left r (Err k) header bytes n e long none fits =
     let is : header ++ bytes ≡ error_bytes unique k = rw (e, nil_from_length bytes none) (append-nil (error_bytes unique k)) in
     ap Ok is ∙ sym (sent_fits room (error_bytes unique k) (rw (length_error unique k) enough))
 
--- how many bytes came of a read that put nothing in where it failed
+-- how many bytes came of a read that put nothing in if it failed
 pub moved_all : (answer : Result ℕ ℕ) (bytes : List ℕ) → IfOk answer (λ n. n ≡ length bytes) → OnErr answer (length bytes ≡ 0) → moved answer ≡ length bytes
 moved_all (Ok n) bytes long none = long
 moved_all (Err e) bytes long none = sym none

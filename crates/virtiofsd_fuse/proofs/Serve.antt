@@ -36,7 +36,7 @@ pub told_memory : (room : ℕ) (bytes : List ℕ) (result : Result ℕ Error) (w
 told_memory room bytes (Ok n) written h = refl
 told_memory room bytes (Err e) written h = memory_by (nat_lt room (length bytes)) bytes e h
 
--- where nothing is to be undone, no call comes after the reply
+-- if nothing is to be undone, no call comes after the reply
 none_undone : (t : Bool) (undo : List FileCall) → undo ≡ [] → cond t undo [] ≡ []
 none_undone true undo e = e
 none_undone false undo e = refl
@@ -73,7 +73,7 @@ module _ {F : Type 0} (may : F → FileCall → FileAnswer → F → Type 0) whe
   refused_by true s m e before written q h = rw q (refl, refl)
   refused_by false s m e before written q h = handles_fault s m e before written (h q) q
 
-  -- a fault, or memory is wanting and nothing is done
+  -- a fault, or an allocation fails and nothing is done
   pub handles_refusal : (s : Setting) (m : Meaning) (e : Error) (before : F) (written : List ℕ) → (is_memory e ≡ false → m ≡ IsFault e) → Handles may s m before (Err e) written s.options before
   handles_refusal s m e before written h = refused_by (is_memory e) s m e before written refl h
 

@@ -13,7 +13,7 @@ abbrev pub is_write : Option Opcode → Bool
 is_write (Some op.Write) = true
 is_write _ = false
 
--- the header of a WRITE, where a request begins with one (linux/fuse.h, struct fuse_in_header)
+-- the header of a WRITE, if a request begins with one (linux/fuse.h, struct fuse_in_header)
 abbrev pub write_header : Reading InHeader
 write_header = reading_of in_header >>= λ h. needs (is_write (opcode_of h.opcode)) (Faults DecodeMessage) >> give h
 

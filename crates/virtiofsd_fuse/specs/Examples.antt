@@ -91,7 +91,7 @@ abbrev told_options : List ℕ
 told_options =
     le32 7 ++ le32 38 ++ le32 0x20000 ++ le32 1 ++ le16 65535 ++ le16 49149 ++ le32 (2 ^ 20) ++ le32 1 ++ le16 256 ++ zeros 34
 
--- INIT of version 7.38 with one option, of which the file system wants none
+-- INIT of version 7.38 with one option, of which the file system asks for none
 start_means : (serve (init 7 38 0x20000 1) 80 (Wants 0 ∷ [])).reply ≡ answer_header 80 0 1 ++ told_options
 unfolding meaning meant reading_of row reply_bytes started_bytes field_bytes
 start_means = refl

@@ -38,7 +38,7 @@ pub data Meaning : Type 0 where
   IsSilent : Meaning
   Asks : FileCommand → Meaning
 
--- error numbers of Linux: the request is too long, or memory is wanting
+-- error numbers of Linux: the request is too long, or an allocation fails
 abbrev pub ENOMEM : ℕ
 ENOMEM = 12
 
@@ -68,7 +68,7 @@ one g call = give (Asks (One g.header.unique call))
 abbrev pub known_options : ℕ
 known_options = 0x117fbffffff
 
--- the options that are agreed on without being wanted, where the client can them
+-- the options that are agreed on without being asked for, if the client has them
 abbrev pub default_options : ℕ
 default_options = 0x10448449829
 
@@ -141,7 +141,7 @@ read_row g = reading_of read_in >>= λ r. read_asked g r
 abbrev pub write_row : Given → Reading Meaning
 write_row g = reading_of write_in >>= λ r. rest >>= λ bytes. one g (write_call g.header r bytes)
 
--- READDIR and READDIRPLUS want at most 2^20 bytes, and room for as many as they want; without a place for the header of the
+-- READDIR and READDIRPLUS ask for at most 2^20 bytes, and room for as many as they ask for; without a place for the header of the
 -- reply they are faults
 abbrev pub listing_asked : Bool → ReadIn → Given → Reading Meaning
 listing_asked with_nodes r g =

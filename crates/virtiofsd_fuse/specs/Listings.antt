@@ -36,7 +36,7 @@ pub record Went : Type 0 where
 abbrev pub nothing_more : List FileCall → Option ℕ → Went
 nothing_more calls error = record { calls = calls; bytes = []; error = error }
 
--- an entry at the front; undo: the call that takes its node back, where it has one and doesn't go in; next: the entries after it
+-- an entry at the front; undo: the call that takes its node back, if it has one and doesn't go in; next: the entries after it
 abbrev pub placed : Fit → List ℕ → List FileCall → Went → Went
 placed GoesIn bytes undo next = record { calls = next.calls; bytes = bytes ++ next.bytes; error = next.error }
 placed IsFull bytes undo next = nothing_more undo None

@@ -26,7 +26,7 @@ pub record Served : Type 0 where
 abbrev pub answer_bytes : ℕ → FileCall → FileAnswer → List ℕ
 answer_bytes unique call answer = told_bytes (is_silent call) unique answer
 
--- of what both sides can, what the file system wants and what is agreed on anyway
+-- of what both sides have, what the file system asks for and what is agreed on anyway
 abbrev pub agreed : (capable wanted : ℕ) → ℕ
 agreed capable wanted = bit_and capable (bit_or wanted default_options)
 
@@ -46,7 +46,7 @@ start_options options capable _ = options
 abbrev pub no_reply : List FileCall → ℕ → Option Error → Served
 no_reply calls options fault = record { calls = calls; options = options; reply = []; fault = fault }
 
--- the whole reply, or none where it is longer than the room
+-- the whole reply, or none if it is longer than the room
 abbrev pub replied : (room : ℕ) → List FileCall → ℕ → List ℕ → Served
 replied room calls options bytes =
     if nat_lt room (length bytes) then no_reply calls options (Some EncodeMessage)
@@ -120,7 +120,7 @@ pub record Serves {F : Type 0} (may : May F) (s : Setting) (m : Meaning) (before
   pub run : FileRun may before steps after
   pub gives : served s m (map (λ step. step.1) steps) ≡ served_of (map (λ step. step.0) steps) options result written
 
--- a request is served, or memory is wanting and nothing has changed
+-- a request is served, or an allocation fails and nothing has changed
 abbrev pub Handles : {F : Type 0} → May F → Setting → Meaning → F → Result ℕ Error → List ℕ → ℕ → F → Type 0
 Handles may s m before result written options after =
     MatchBool (lacks_memory result) ((options ≡ s.options) × (after ≡ before)) (Serves may s m before result written options after)
@@ -142,7 +142,7 @@ abbrev pub OpcodeHandles : {F : Type 0} → May F → Server F → (room : ℕ) 
 OpcodeHandles may before room head opcode bytes result written after =
     RowHandles may before room head (λ g. row g opcode) bytes result written after
 
--- what a row leaves besides: its writer, and the page size; memory is wanting only where the row takes some
+-- what a row leaves besides: its writer, and the page size; an allocation fails only if the row makes one
 abbrev pub Leaves : {F : Type 0} → (takes : Bool) → Result ℕ Error → (old new : WriterView) → (before after : Server F) → Type 0
 Leaves takes result old new before after =
     LeavesWriter result old new × (takes ≡ false → lacks_memory result ≡ false) × (after.page_size ≡ before.page_size)

@@ -1,4 +1,4 @@
--- Which requests may want memory: by what they hold, and by how it stands in segments.
+-- Which requests may allocate: by what they hold, and by how it stands in segments.
 use Rattle.std.specs.Prelude.{ℕ, Bool, false, ◌||◌, ◌&&◌, nat_le, List, Option, Some, None, Result, Ok, Err}
 use Rattle.fuse_in.specs.declared.session.InHeader.{InHeader}
 use Rattle.fuse_in.specs.Records.{in_header}

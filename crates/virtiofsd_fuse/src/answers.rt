@@ -17,7 +17,7 @@ use server_replies::answers::{AsReply, reply_answer};
 use server_segments::{Error, Writer};
 
 impl<F: FileSystem> Server<F> {
-    // Gives a node back, where there is one.
+    // Gives a node back, if there is one.
     fn give_back(&mut self, head: &InHeader, node: Option<F::Inode>)
         ensures run { FileRun F.may self.old.fs (all_done (give_back (context_of head.now) (option_map F.Inode.number node))) self.new.fs }
         ensures options { self.new.options ≡ self.old.options }
@@ -29,7 +29,7 @@ impl<F: FileSystem> Server<F> {
         }
     }
 
-    /// Replies with an answer that may have an entry. Where the reply has no room, the entry is given back, and the
+    /// Replies with an answer that may have an entry. If the reply has no room, the entry is given back, and the
     /// answer is `EncodeMessage`.
     pub(crate) fn reply_entry<A: AsReply + EntryAnswer<F::Inode>>(
         &mut self,

@@ -26,7 +26,7 @@ pub struct ReadRequest {
 }
 
 impl ReadRequest {
-    /// The READ that a request's bytes are; None where they are another request's, are cut short, or say a length that
+    /// The READ that a request's bytes are; None if they are another request's, are cut short, or say a length that
     /// is too great.
     pub fn of_bytes(alloc: Global, request: &[u8]) -> Option<ReadRequest>
         ensures some { is_some result ≡ is_ok (read_request request.now) }
@@ -72,7 +72,7 @@ pub struct ReadReply {
 }
 
 impl<F: FileSystem> Server<F> {
-    /// Serves a READ of which the data goes to a writer, for a file system whose reads put nothing in where they fail.
+    /// Serves a READ of which the data goes to a writer, for a file system whose reads put nothing in if they fail.
     /// The header of the reply is answered; with the data behind it, it is the reply.
     pub fn read_into<W: ZeroCopyWriter>(
         &mut self,

@@ -26,7 +26,7 @@ pub(crate) fn known(bits: u64) -> FsOptions
     FsOptions::from_bits_truncate(bits)
 }
 
-// What both sides can, and the file system wants or is agreed on anyway.
+// What both sides have, and the file system asks for or is agreed on anyway.
 #[tactic(auto, using(crate::proofs::Options::some_known))]
 fn agree(capable: FsOptions, wanted: FsOptions) -> FsOptions
     requires { bit_and capable.0 known_options ≡ capable.0 }

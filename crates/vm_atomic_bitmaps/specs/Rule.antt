@@ -13,7 +13,7 @@ abbrev pub total_by : (PageCounts → ℕ) → List PageCounts → ℕ
 total_by f [] = 0
 total_by f (v ∷ vs) = f v + total_by f vs
 
--- 1 where the pass marked page p
+-- 1 if the pass marked page p
 abbrev pub marks_at : (p : ℕ) → PageCounts → ℕ
 marks_at p v = bit_of (tally_of v.pages p).marked
 
@@ -29,9 +29,9 @@ off_at p v = (tally_of v.pages p).off
 pub record Counted (len : ℕ) (words : List ℕ) (views : List PageCounts) : Type 0 where
   -- no bit past the last page is set
   pub rest : (p : ℕ) → len ≤ p → page_bit words p ≡ 0
-  -- a page was set as often as it was cleared, and once more where it is set now
+  -- a page was set as often as it was cleared, and once more if it is set now
   pub bits : (p : ℕ) → p < len → total_by (on_at p) views ≡ total_by (off_at p) views + page_bit words p
-  -- some pass marked it exactly where some pass set it
+  -- some pass marked it exactly if some pass set it
   pub marks : (p : ℕ) → p < len → (0 < total_by (marks_at p) views) ↔ (0 < total_by (on_at p) views)
   -- no pass has seen it set or cleared more often than all passes did that
   pub bounded : (p : ℕ) → p < len → (id : ℕ) (v : PageCounts) → get_elem? views id ≡ some v

@@ -67,7 +67,7 @@ fn copy_words(closed: &Closed<(), Global>, words: &mut [u64])
 
 impl AtomicBitmap {
     /// A clear bitmap for `byte_size` bytes in pages of `page_size` bytes, with its first pass, which has every part
-    /// (vm-memory's `AtomicBitmap::new`). AllocError where memory is wanting.
+    /// (vm-memory's `AtomicBitmap::new`). AllocError if an allocation fails.
     pub fn new(
         alloc: Global,
         byte_size: usize,
@@ -212,8 +212,8 @@ impl AtomicBitmap {
         true
     }
 
-    /// Ends the sharing, and answers the words: page p is bit p mod 64 of word p / 64. An error, where memory is
-    /// wanting, hands bitmap and pass back as they were.
+    /// Ends the sharing, and answers the words: page p is bit p mod 64 of word p / 64. An error, if an allocation
+    /// fails, hands bitmap and pass back as they were.
     pub fn close(
         self,
         alloc: Global,

@@ -226,7 +226,7 @@ impl AtomicBitmap {
     }
 
     /// Takes all marks, in one step for each word: page p is bit p mod 64 of word p / 64 (vm-memory's
-    /// `AtomicBitmap::get_and_reset`). AllocError where memory is wanting; then nothing is taken.
+    /// `AtomicBitmap::get_and_reset`). AllocError if an allocation fails; then nothing is taken.
     pub fn get_and_reset(
         &self,
         alloc: Global,

@@ -163,7 +163,7 @@ run_is v top s m new o n final h le fits below last count inside before after =
       ]
     ])
 
--- where there are no pages, or no byte of the range exists, nothing is marked
+-- if there are no pages, or no byte of the range exists, nothing is marked
 nil_from : (m : List Bool) → length m ≡ 0 → ◌≡◌ {A = List Bool} [] m
 nil_from m e = sym (nil_from_length m e)
 

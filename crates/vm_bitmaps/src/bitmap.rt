@@ -38,7 +38,7 @@ pub trait NewBitmap: Bitmap + Drop {
     // how many marks the bitmap of some bytes has
     ghost count: { ℕ → ℕ };
 
-    /// A clear bitmap for `len` bytes (vm-memory's `NewBitmap::with_len`); AllocError where memory is wanting.
+    /// A clear bitmap for `len` bytes (vm-memory's `NewBitmap::with_len`); AllocError if an allocation fails.
     fn with_len(alloc: Global, len: usize) -> Result<Self, AllocError>
         ensures size { IfOk result (λ b. Self.page_size b ≡ 4096) }
         ensures base { IfOk result (λ b. Self.base b ≡ 0) }

@@ -85,7 +85,7 @@ impl PageBitmap {
     }
 
     /// Clear marks for `byte_size` bytes in pages of `page_size` bytes (vm-memory's `AtomicBitmap::new`); AllocError
-    /// where memory is wanting.
+    /// if an allocation fails.
     pub fn new(alloc: Global, byte_size: usize, page_size: NonZeroUsize) -> Result<Self, AllocError>
         ensures { IfOk result (λ b. b ≡ clear_set (non_zero_usize_get page_size) byte_size) }
     {
@@ -93,7 +93,7 @@ impl PageBitmap {
     }
 
     /// The same bytes, pages and marks once more, in memory of the allocator that this value was made with; AllocError
-    /// where it is wanting.
+    /// if that fails.
     pub fn try_clone(&self) -> Result<PageBitmap, AllocError>
         ensures { IfOk result (λ b. b ≡ self.now) }
     {

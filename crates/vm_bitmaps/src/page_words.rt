@@ -5,7 +5,7 @@ ghost use Rattle.vm_bitmaps.specs.Words.{WritesBits, WritesRun};
 
 use std::alloc::{AllocError, Global};
 
-/// So many words of 64 bits, all zero; AllocError where memory is wanting.
+/// So many words of 64 bits, all zero; AllocError if an allocation fails.
 pub fn zeros(alloc: Global, count: usize) -> Result<Vec<u64>, AllocError>
     ensures { IfOk result (λ words. words.items ≡ replicate count 0) }
 {

@@ -1,4 +1,4 @@
-//! Words with a summary: bit w mod 64 of summary word w / 64 is set exactly where word w isn't 0.
+//! Words with a summary: bit w mod 64 of summary word w / 64 is set exactly if word w isn't 0.
 
 ghost use Rattle.std.specs.Prelude.{◌≡◌, ◌≢◌, ℕ, ◌+◌, ◌*◌, ◌/◌, ◌^◌, ◌<◌, ◌≤◌, nat_lt, true, false, length, slice_index, replicate, if◌then◌else◌};
 ghost use Rattle.std.specs.Int.{bit_at};

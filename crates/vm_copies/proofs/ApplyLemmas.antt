@@ -33,7 +33,7 @@ some_first : (o : Option ApplyError) (later : Option ApplyError) (e : ApplyError
 some_first None later e h = absurd (cc)
 some_first (Some x) later e h = cc
 
--- one page further, where it has its place
+-- one page further, if it has its place
 pub has_place : (ls : List ℕ) (pages : List HarvestedPage) (i : ℕ) (p : HarvestedPage) (all : Option ApplyError) → i < length pages → p ≡ get_or pages i p →
     Ok tt ≡ applied (refused_by (slice_get ls p.block) i (page_view p)) → first_refused ls i (drop i (map page_view pages)) ≡ all →
     first_refused ls (i + 1) (drop (i + 1) (map page_view pages)) ≡ all

@@ -88,7 +88,7 @@ pub(crate) fn clear(host: &mut HostMemory<PageBitmap>)
     }
 }
 
-/// Each marked page with its bytes, by block and page; the marks are cleared. AllocError where memory is wanting; then
+/// Each marked page with its bytes, by block and page; the marks are cleared. AllocError if an allocation fails; then
 /// nothing changes.
 pub fn harvest(
     alloc: Global,

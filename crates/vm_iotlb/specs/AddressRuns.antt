@@ -13,7 +13,7 @@ abbrev pub may_pass : Permissions → Option Mapping → Bool
 may_pass access None = false
 may_pass access (Some to) = allows to.perm access
 
--- whether an address has a mapping, but one that lacks the permission
+-- whether an address has a mapping, but one that doesn't have the permission
 abbrev pub lacks : Permissions → Option Mapping → Bool
 lacks access None = false
 lacks access (Some to) = not (allows to.perm access)
@@ -23,7 +23,7 @@ abbrev pub misses : Option Mapping → Bool
 misses None = true
 misses (Some to) = false
 
--- what an address is mapped to; 0 where it has no mapping
+-- what an address is mapped to; 0 if it has no mapping
 abbrev pub target_of : Option Mapping → ℕ
 target_of None = 0
 target_of (Some to) = to.target
@@ -57,7 +57,7 @@ runs table a (suc n) = if go_together (table a) (table (a + 1)) then led_by a (r
 unfoldable pub missing : Table → ℕ → ℕ → List IovaRange
 missing table a n = filter (λ r. misses (table r.base.0)) (runs table a n)
 
--- the runs among n addresses from a on whose mapping lacks the permission
+-- the runs among n addresses from a on whose mapping doesn't have the permission
 unfoldable pub lacking : Table → Permissions → ℕ → ℕ → List IovaRange
 lacking table access a n = filter (λ r. lacks access (table r.base.0)) (runs table a n)
 
@@ -77,7 +77,7 @@ addresses_joined all = flat_map (λ p. range_with_len p.base.0 p.length) all
 abbrev pub targets : Table → ℕ → ℕ → List ℕ
 targets table a n = map (λ x. target_of (table x)) (range_with_len a n)
 
--- where the end of the asked range does not fit 64 bits, all of it is missing; memory may be wanting
+-- if the end of the asked range does not fit 64 bits, all of it is missing; an allocation may fail
 abbrev pub IsMissedWhole : (iova n : ℕ) → LookupError → Type 0
 IsMissedWhole iova n (Fails fails) = (fails.misses.items ≡ run_of iova n ∷ []) × (fails.access_fails.items ≡ [])
 IsMissedWhole iova n OutOfMemory = Unit {0}
@@ -87,7 +87,7 @@ abbrev pub IsStopped : Table → Permissions → (iova n : ℕ) → LookupError 
 IsStopped table access iova n (Fails fails) = (fails.misses.items ≡ missing table iova n) × (fails.access_fails.items ≡ lacking table access iova n)
 IsStopped table access iova n OutOfMemory = Unit {0}
 
--- a look-up gives the pieces exactly where the end fits 64 bits and an access may go through each address, and else what stands in its way; memory may be wanting for that
+-- a look-up gives the pieces exactly if the end fits 64 bits and an access may go through each address, and else what stands in its way; an allocation may fail for that
 abbrev pub LooksUp : Table → (iova n : ℕ) → Permissions → Result (List MappedRange) LookupError → Type 0
 LooksUp table iova n access (Ok all) = (iova + n < 2 ^ 64) × (may_all table access iova n ≡ true) × (all ≡ pieces table iova n) × (addresses_joined all ≡ targets table iova n)
 LooksUp table iova n access (Err error) =

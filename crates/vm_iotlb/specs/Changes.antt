@@ -7,7 +7,7 @@ use Rattle.vm_iotlb.specs.declared.error.IommuError.TheVariants.{CannotResolve, 
 use Rattle.vm_iotlb.specs.Table.{AreSame, mapped, unmapped}
 use Rattle.vm_iotlb.specs.Ranges.{table_kept}
 
--- n addresses from iova on are mapped to those from target on, unless an end does not fit 64 bits; memory may be wanting. What is refused changes nothing
+-- n addresses from iova on are mapped to those from target on, unless an end does not fit 64 bits; an allocation may fail. What is refused changes nothing
 abbrev pub SetsMapping : (iova target n : ℕ) → Permissions → (old new : List IotlbRange) → {X : Type 0} → Result X IommuError → Type 0
 SetsMapping iova target n perm old new (Ok done) = (iova + n < 2 ^ 64) × (target + n < 2 ^ 64) × AreSame (table_kept new) (mapped iova target n perm (table_kept old))
 SetsMapping iova target n perm old new (Err IommuMisconfigured) = ((2 ^ 64 ≤ iova + n) ⊎ (2 ^ 64 ≤ target + n)) × (new ≡ old)
@@ -15,7 +15,7 @@ SetsMapping iova target n perm old new (Err OutOfMemory) = (iova + n < 2 ^ 64) �
 SetsMapping iova target n perm old new (Err (CannotResolve range)) = ⊥
 SetsMapping iova target n perm old new (Err Fragmented) = ⊥
 
--- n addresses from iova on are taken out, unless their end does not fit 64 bits; memory may be wanting. What is refused changes nothing
+-- n addresses from iova on are taken out, unless their end does not fit 64 bits; an allocation may fail. What is refused changes nothing
 abbrev pub InvalidatesMapping : (iova n : ℕ) → (old new : List IotlbRange) → {X : Type 0} → Result X IommuError → Type 0
 InvalidatesMapping iova n old new (Ok done) = (iova + n < 2 ^ 64) × AreSame (table_kept new) (unmapped iova n (table_kept old))
 InvalidatesMapping iova n old new (Err IommuMisconfigured) = (2 ^ 64 ≤ iova + n) × (new ≡ old)

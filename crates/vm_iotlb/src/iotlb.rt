@@ -125,7 +125,7 @@ impl Iotlb {
     }
 
     /// What `length` I/O addresses are mapped to, if each may be accessed so (vm-memory's `Iotlb::lookup`). Only one
-    /// that fails takes memory: LookupError::Fails, or OutOfMemory where there is none to say it.
+    /// that fails takes memory: LookupError::Fails, or OutOfMemory if there is none to say it.
     #[inline]
     pub fn lookup(
         &self,

@@ -24,7 +24,7 @@ use vm_values::GuestAddress;
 pub struct IotlbFails {
     /// Addresses that have no mapping.
     pub misses: Vec<IovaRange>,
-    /// Addresses whose mapping lacks the permission.
+    /// Addresses whose mapping doesn't have the permission.
     pub access_fails: Vec<IovaRange>,
 }
 

@@ -79,7 +79,7 @@ fn law_ordered(ranges: &Ranges)
     let _len = ranges.len();
 }
 
-// Puts a range under its start. Only a new key can want memory.
+// Puts a range under its start. Only a new key can allocate.
 fn put(ranges: &mut Ranges, range: Option<IotlbRange>) -> Result<(), AllocError>
     ensures ok { OnOk result ((q : ℕ) → range_at ranges.new.entries q ≡ put_at range (range_at ranges.old.entries) q) }
     ensures err { OnErr result (ranges.new.entries ≡ ranges.old.entries) }

@@ -20,7 +20,7 @@ steps_of v s r t = Gives (v s) r (v t)
 no_error_of : (s : Slices) (e : GuestMemoryError) → s.left ≡ [] → first_error s ≡ Some e → ⊥
 no_error_of s e empty h = let none : error_of s.where_is s.left ≡ None = ap (error_of s.where_is) empty in cc
 
--- where no address is left, nothing comes
+-- if no address is left, nothing comes
 none_left : {S : Type 0} (v : S → Slices) (items : Items) (s t : S) → (v s).left ≡ [] → Yields (steps_of v) s items t → items ≡ []
 none_left v [] s t e y = refl
 none_left v (Ok w ∷ items) s t e y = let none = ap (next_len (v s).longest) e in absurd (omega (arith, y.1.0, y.1.1, none))

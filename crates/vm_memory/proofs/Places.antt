@@ -265,7 +265,7 @@ all_step : (o : Option Place) (k n : ℕ) (t : Bool) → t ≡ eqb k n → (is_s
 all_step None k n t e = sym (eqb-zero-suc n)
 all_step (Some p) k n t e = e ∙ sym (eqb-suc-suc k n)
 
--- all are reached exactly where each has a place
+-- all are reached exactly if each has a place
 pub list_all-reached : (xs : List ℕ) (f : Where) → list_all (λ a. is_some (f a)) xs ≡ eqb (reached f xs) (length xs)
 unfolding reached
 list_all-reached [] f = refl

@@ -19,13 +19,13 @@ some_step None r b e = refl
 some_step (Some p) None b e = e
 some_step (Some p) (Some ps) b e = e
 
--- each address has a place exactly where there are places of all
+-- each address has a place exactly if there are places of all
 pub all_located : (xs : List ℕ) (f : Where) → list_all (λ a. is_some (f a)) xs ≡ is_some (located f xs)
 unfolding located
 all_located [] f = refl
 all_located (x ∷ xs) f = some_step (f x) (located f xs) (list_all (λ a. is_some (f a)) xs) (all_located xs f)
 
--- as many are reached as there are exactly where there are places of all
+-- as many are reached as there are exactly if there are places of all
 pub count_located : (f : Where) (a n : ℕ) → eqb (reached f (circular a n)) n ≡ is_some (located f (circular a n))
 count_located f a n =
     ap (eqb (reached f (circular a n))) (sym (length-circular n a)) ∙ sym (list_all-reached (circular a n) f) ∙ all_located (circular a n) f
@@ -81,7 +81,7 @@ pub places_from-is : (m : Memory) (access : Permissions) (a n : ℕ) → a + n <
 places_from-is m access a n fits =
     rw (circular-is n a fits, below (a + n) fits) (mapped_places m m.translates (may_all (table_of m) access a n) access a n refl refl)
 
--- such a range is reached exactly where it has its places
+-- such a range is reached exactly if it has its places
 pub reach-from : (m : Memory) (access : Permissions) (a n : ℕ) → a + n < 2 ^ 64 → is_some (places_from m access a n) ≡ reach m access a n
 reach-from m access a n fits =
     ap is_some (places_from-is m access a n fits) ∙ sym (rw (below (a + n) fits) (all_located (addresses a n) (location m access)))

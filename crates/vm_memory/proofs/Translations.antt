@@ -1,4 +1,4 @@
--- translations where there is no table
+-- translations without a table
 use Rattle.std.proofs.Common.{◌≡◌, ℕ, zero, suc, ◌<◌, ◌^◌, false, List, [], Option, None, refl, arith}
 use Rattle.std.specs.Prelude.{Ok, unwrap_or}
 use Rattle.vm_iotlb.specs.declared.range.IotlbRange.{IotlbRange}

@@ -8,7 +8,7 @@ use Rattle.vm_memory.specs.declared.region.HostAddress.{HostAddress}
 use Rattle.vm_memory.specs.declared.error.GuestMemoryError.{GuestMemoryError}
 use Rattle.vm_memory.specs.declared.error.GuestMemoryError.TheVariants.{InvalidGuestAddress}
 
--- the greatest address, or 0 where there is none
+-- the greatest address, or 0 if there is none
 abbrev pub last_of : List Region → ℕ
 last_of [] = 0
 last_of (r ∷ rest) = max (last_address r) (last_of rest)

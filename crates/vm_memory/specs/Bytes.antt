@@ -38,7 +38,7 @@ reached_by layout addr n = unless_none addr n (places_at (place layout) (circula
 abbrev pub reached_from : Memory → Permissions → GuestAddress → (n : ℕ) → Result (List Place) GuestMemoryError
 reached_from m access addr n = unless_none addr n (places_at (location m access) (circular addr.0 n))
 
--- no places are reached, since the addresses aren't mapped throughout; memory may be wanting to say that
+-- no places are reached, since the addresses aren't mapped throughout; an allocation may fail to say that
 abbrev pub IsNotMapped : Memory → Permissions → (a n : ℕ) → Result (List Place) GuestMemoryError → Type 0
 IsNotMapped m access a n (Ok places) = ⊥
 IsNotMapped m access a n (Err e) = CannotGive m access a n e

@@ -30,7 +30,7 @@ abbrev pub unless : Option GuestRegionCollectionError → List Region → Result
 unless None regions = Ok regions
 unless (Some fault) regions = Err fault
 
--- some regions are a layout, or what is wrong with them; memory may be wanting
+-- some regions are a layout, or what is wrong with them; an allocation may fail
 abbrev pub Collects : List Region → Result (List Region) GuestRegionCollectionError → Type 0
 Collects regions (Ok layout) = (fault_of regions ≡ None) × (layout ≡ regions)
 Collects regions (Err NoMemoryRegion) = fault_of regions ≡ Some NoMemoryRegion

@@ -46,7 +46,7 @@ abbrev pub left_of : ℕ → Option Region → ℕ
 left_of a None = 0
 left_of a (Some r) = r.start + r.size - a
 
--- how many addresses from one on the region that has it still has; none where no region has it
+-- how many addresses from one on the region that has it still has; none if no region has it
 abbrev pub left_at : List Region → ℕ → ℕ
 left_at layout a = left_of a (region_at layout a)
 

@@ -88,7 +88,7 @@ stored_all m (write ∷ writes) = stored_all (stored m write) writes
 abbrev pub physical : Memory → Memory
 physical m = record m { translates = false }
 
--- a host under a layout, where no table is used
+-- a host under a layout, if no table is used
 abbrev pub memory_of : Host → List Region → Memory
 memory_of h layout = record { host = h; layout = layout; table = 0; io_pages = 0; translates = false }
 

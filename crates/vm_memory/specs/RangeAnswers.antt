@@ -8,7 +8,7 @@ use Rattle.vm_memory.specs.Memory.{Memory, byte, circular, is_mapped, places_fro
 use Rattle.vm_memory.specs.declared.error.GuestMemoryError.{GuestMemoryError}
 use Rattle.vm_memory.specs.declared.error.GuestMemoryError.TheVariants.{IommuError, OutOfMemory}
 
--- whether each of n addresses from a on has a place; memory may be wanting where they aren't mapped throughout
+-- whether each of n addresses from a on has a place; an allocation may fail if they aren't mapped throughout
 abbrev pub Checks : Memory → Permissions → (a n : ℕ) → Result Bool AllocError → Type 0
 Checks m access a n (Ok found) = found ≡ is_some (places_from m access a n)
 Checks m access a n (Err e) = is_mapped m access a n ≡ false
@@ -18,7 +18,7 @@ abbrev pub Reads : Memory → (a n : ℕ) → (new : List ℕ) → Result Bool A
 Reads m a n new (Ok found) = IsTrue found → new ≡ map (byte m) (circular a n)
 Reads m a n new (Err e) = Unit {0}
 
--- no windows of n addresses from a on are given, since they aren't mapped throughout; memory may be wanting to say that
+-- no windows of n addresses from a on are given, since they aren't mapped throughout; an allocation may fail to say that
 abbrev pub CannotGive : Memory → Permissions → (a n : ℕ) → GuestMemoryError → Type 0
 CannotGive m access a n (IommuError (CannotResolve range)) = (is_mapped m access a n ≡ false) × (range ≡ run_of a n)
 CannotGive m access a n OutOfMemory = is_mapped m access a n ≡ false

@@ -11,7 +11,7 @@ use Rattle.vm_iotlb.specs.AddressRuns.{addresses_joined, may_all, pieces, run_of
 abbrev pub CannotTranslate : Table → (iova n : ℕ) → Permissions → Type 0
 CannotTranslate table iova n access = (2 ^ 64 ≤ iova + n) ⊎ (may_all table access iova n ≡ false)
 
--- what n addresses from iova on are mapped to, piece by piece, or that they can't be translated; memory may be wanting to say that
+-- what n addresses from iova on are mapped to, piece by piece, or that they can't be translated; an allocation may fail to say that
 abbrev pub Translates : Table → (iova n : ℕ) → Permissions → Result (List MappedRange) IommuError → Type 0
 Translates table iova n access (Ok all) =
     (iova + n < 2 ^ 64) × (may_all table access iova n ≡ true) × (all ≡ pieces table iova n) × (addresses_joined all ≡ targets table iova n)

@@ -66,7 +66,7 @@ pub trait GuestMemoryBackend {
     fn iter(&self) -> RegionIter<'_, Self::R>
         ensures { result ≡ layout self.now };
 
-    /// The greatest address that a region has; 0 where there is no region.
+    /// The greatest address that a region has; 0 if there is no region.
     fn last_addr(&self) -> GuestAddress
         ensures { result.0 ≡ last_of (layout self.now) };
 
@@ -114,7 +114,7 @@ pub trait GuestMemoryBackend {
         }
     }
 
-    /// The window of `count` bytes from an address on, if its region has them: else InvalidGuestAddress where no region
+    /// The window of `count` bytes from an address on, if its region has them: else InvalidGuestAddress if no region
     /// has the address, or InvalidBackendAddress.
     #[inline]
     final fn get_slice(

@@ -89,8 +89,8 @@ pub trait GuestMemoryRegionBytes: GuestMemoryRegion + Bytes<MemoryRegionAddress>
 
 impl GuestMemoryRegionBytes for GuestRegionMmap {}
 
-/// A region's bytes by their offset from its first address: InvalidBackendAddress where the first isn't there,
-/// PartialBuffer where only some are.
+/// A region's bytes by their offset from its first address: InvalidBackendAddress if the first isn't there,
+/// PartialBuffer if only some are.
 impl Bytes<MemoryRegionAddress> for GuestRegionMmap {
     type E = GuestMemoryError;
 

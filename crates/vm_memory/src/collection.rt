@@ -72,7 +72,7 @@ impl<R: GuestMemoryRegion> GuestRegionCollection<R> {
         }
     }
 
-    /// The regions and one more, where it has no address in common with any that is there: else MemoryRegionOverlap, or
+    /// The regions and one more, if it has no address in common with any that is there: else MemoryRegionOverlap, or
     /// OutOfMemory (vm-memory's `GuestRegionCollection::insert_region`).
     pub fn insert_region(
         &self,
@@ -170,7 +170,7 @@ impl<R: GuestMemoryRegion> GuestRegionCollection<R> {
         ))
     }
 
-    /// The same regions once more; AllocError where memory is wanting.
+    /// The same regions once more; AllocError if an allocation fails.
     pub fn try_clone(&self) -> Result<GuestRegionCollection<R>, AllocError>
         ensures { IfOk result (λ m. m ≡ self.now) }
     {

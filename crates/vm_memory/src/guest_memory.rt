@@ -174,7 +174,7 @@ impl<R: GuestMemoryRegion> GuestRegionCollection<R> {
     }
 
     /// Reads a buffer full of bytes from an address on, where 0 comes after the greatest address. Where fewer are
-    /// there, these are read: PartialBuffer, or InvalidGuestAddress where none is (vm-memory's `Bytes::read_slice`).
+    /// there, these are read: PartialBuffer, or InvalidGuestAddress if none is (vm-memory's `Bytes::read_slice`).
     pub fn read_slice<B: NewBitmap>(
         &self,
         host: &HostMemory<B>,
@@ -191,7 +191,7 @@ impl<R: GuestMemoryRegion> GuestRegionCollection<R> {
     }
 
     /// Writes bytes from an address on, where 0 comes after the greatest address, and marks their pages. Where fewer
-    /// have a place, these are written: PartialBuffer, or InvalidGuestAddress where none has (vm-memory's
+    /// have a place, these are written: PartialBuffer, or InvalidGuestAddress if none has (vm-memory's
     /// `Bytes::write_slice`).
     pub fn write_slice<B: NewBitmap>(
         &self,

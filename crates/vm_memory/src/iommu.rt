@@ -18,8 +18,8 @@ pub trait Iommu {
         ensures { result ≡ number self.now };
 
     /// What `length` I/O addresses are mapped to, as long pieces as can be (vm-memory's `Iommu::translate`);
-    /// CannotResolve with the asked range where not each is mapped with the permission, or where its end doesn't fit.
-    /// Only one that fails takes memory, and answers OutOfMemory where there is none.
+    /// CannotResolve with the asked range if not each is mapped with the permission, or if its end doesn't fit.
+    /// Only one that fails takes memory, and answers OutOfMemory if there is none.
     fn translate<'a, H: HostBlocks>(
         &self,
         h: &'a H,

@@ -98,7 +98,7 @@ impl<M: GuestMemoryBackend + Drop, I: Iommu + Drop> IommuMemory<M, I> {
 
 impl<M: GuestMemoryBackend + Drop, I: Iommu + Clone> IommuMemory<M, I> {
     /// Another backend behind a clone of the IOMMU, with the same set of I/O pages (vm-memory's
-    /// `IommuMemory::with_replaced_backend`); AllocError where memory for the clone is wanting.
+    /// `IommuMemory::with_replaced_backend`); AllocError if the clone can't be allocated.
     pub fn with_replaced_backend(&self, new_backend: M) -> Result<IommuMemory<M, I>, AllocError>
         ensures backend { IfOk result (λ m. m.backend ≡ new_backend) }
         ensures iommu { IfOk result (λ m. I.is_clone self.now.iommu m.iommu) }

@@ -68,7 +68,7 @@ impl<'a, M: GuestMemoryBackend> GuestMemorySliceIterator for GuestMemorySlices<'
 }
 
 /// Guest memory as a device reaches it (vm-memory's `GuestMemory`). Of addresses that aren't translated, 0 comes after
-/// the greatest; translated ones have to be mapped throughout. Memory is taken only where a translation fails, or a
+/// the greatest; translated ones have to be mapped throughout. Memory is taken only if a translation fails, or a
 /// list grows.
 pub trait GuestMemory: HeldIn {
     ghost use Rattle.vm_memory.specs.MemorySlices.{slices_of};
@@ -83,7 +83,7 @@ pub trait GuestMemory: HeldIn {
     ghost longest: { Self → Host → Permissions → ℕ → ℕ };
 
     /// Whether each of `count` addresses from one on has a place, for an access (vm-memory's
-    /// `GuestMemory::check_range`). AllocError only where they aren't mapped throughout.
+    /// `GuestMemory::check_range`). AllocError only if they aren't mapped throughout.
     fn check_range<H: HostBlocks>(
         &self,
         alloc: Global,
@@ -95,7 +95,7 @@ pub trait GuestMemory: HeldIn {
         ensures { Checks (memory self.now (H.host h.now)) access addr.0 count result };
 
     /// The windows of `count` addresses from one on, for an access (vm-memory's `GuestMemory::get_slices`); IommuError
-    /// of CannotResolve where they aren't mapped throughout, or OutOfMemory.
+    /// of CannotResolve if they aren't mapped throughout, or OutOfMemory.
     fn get_slices<'a, H: HostBlocks>(
         &'a self,
         alloc: Global,
@@ -116,8 +116,8 @@ pub trait GuestMemory: HeldIn {
     fn physical_memory(&self) -> Option<&Self::PhysicalMemory>
         ensures { (h : Host) → option_map (λ m. Self.PhysicalMemory.layout m.now) result ≡ physical_layout (memory self.now h) };
 
-    /// Reads a buffer full of bytes from an address on, or answers false, where one of them isn't there. AllocError
-    /// only where they aren't mapped throughout.
+    /// Reads a buffer full of bytes from an address on, or answers false, if one of them isn't there. AllocError
+    /// only if they aren't mapped throughout.
     fn read_range<H: HostBlocks>(
         &self,
         alloc: Global,
@@ -129,8 +129,8 @@ pub trait GuestMemory: HeldIn {
         ensures found { Checks (memory self.now (H.host h.now)) Read addr.0 (length buffer.old) result }
         ensures bytes { Reads (memory self.now (H.host h.now)) addr.0 (length buffer.old) buffer.new result };
 
-    /// Adds the windows of `count` addresses from one on, joined, for an access, or answers false, where one of them
-    /// has no place. AllocError only where they aren't mapped throughout, or where the list has no room left.
+    /// Adds the windows of `count` addresses from one on, joined, for an access, or answers false, if one of them
+    /// has no place. AllocError only if they aren't mapped throughout, or if the list has no room left.
     fn push_windows<H: HostBlocks>(
         &self,
         alloc: Global,

@@ -29,7 +29,7 @@ impl Model for MmapRegion {
 }
 
 impl MmapRegion {
-    /// A new block of `size` zero bytes, none of whose pages is marked; Mmap where it would have none, or OutOfMemory.
+    /// A new block of `size` zero bytes, none of whose pages is marked; Mmap if it would have none, or OutOfMemory.
     pub fn new<B: NewBitmap>(
         _alloc: Global,
         h: &mut HostMemory<B>,
@@ -46,7 +46,7 @@ impl MmapRegion {
         }
     }
 
-    /// A block that the host has; None where it has no such block.
+    /// A block that the host has; None if it has no such block.
     pub fn of_block<B: NewBitmap>(h: &HostMemory<B>, b: usize) -> Option<MmapRegion>
         ensures { result ≡ backing_at h.now b }
     {
@@ -56,7 +56,7 @@ impl MmapRegion {
         }
     }
 
-    /// A block of host memory of any kind, if it has at least one byte; None where it has none, or isn't there.
+    /// A block of host memory of any kind, if it has at least one byte; None if it has none, or isn't there.
     pub fn over_block<H: HostBlocks>(h: &H, b: usize) -> Option<MmapRegion>
         ensures { result ≡ backing_over (H.host h.now) b }
     {

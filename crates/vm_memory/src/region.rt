@@ -171,7 +171,7 @@ impl GuestRegionMmap {
     }
 
     /// The region of `size` addresses from one on, over a new block (vm-memory's `GuestRegionMmap::from_range`): else
-    /// MmapRegion where it would have none, OutOfMemory, or InvalidGuestRegion where the last address does not fit 64
+    /// MmapRegion if it would have none, OutOfMemory, or InvalidGuestRegion if the last address does not fit 64
     /// bits; the block stays in the host then.
     pub fn from_range<B: NewBitmap>(
         alloc: Global,

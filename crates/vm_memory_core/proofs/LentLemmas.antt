@@ -21,7 +21,7 @@ none_is (Some m) false e = refl
 abbrev with_sets : Host → List (List Bool) → Host
 with_sets h sets = record h { io_marks = sets }
 
--- where there is no set of I/O pages, none is marked
+-- if there is no set of I/O pages, none is marked
 no_sets : (io : Option IoMarks) (h : Host) (offset n : ℕ) → h.io_marks ≡ [] → io_marked_by io h offset n ≡ h
 no_sets None h offset n none = refl
 no_sets (Some m) h offset n none =

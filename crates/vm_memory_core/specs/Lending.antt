@@ -28,10 +28,10 @@ module _ (B : RattleType) (g : BitmapMembers B.Denot) (h : MutBor Host) (number 
   abbrev pub pages_row : RattleType
   pages_row = io_pages_row B (record { count = g.count }) (record { page_size = g.page_size; base = g.base; marks = g.marks; Keeps = g.Keeps })
 
-  -- a table is lent; where there is none, the host stays as it is
+  -- a table is lent; if there is none, the host stays as it is
   abbrev pub LendsTable : Option (MutBor (List IotlbRange)) → Fml
   LendsTable r = LendsIf host_row table_row h r (with_table_at h.now number) h.now
 
-  -- a set of I/O pages is lent; where there is none, the host stays as it is
+  -- a set of I/O pages is lent; if there is none, the host stays as it is
   abbrev pub LendsIoPages : Option (MutBor (List Bool)) → Fml
   LendsIoPages r = LendsIf host_row pages_row h r (with_io_pages_at h.now number) h.now

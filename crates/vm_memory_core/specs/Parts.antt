@@ -11,7 +11,7 @@ pub record Elements : Type 0 where
   pub window : Window
   pub count : ℕ
 
--- the sum of two numbers of bytes, where it fits 64 bits
+-- the sum of two numbers of bytes, if it fits 64 bits
 abbrev pub end_of : (base offset : ℕ) → Result ℕ VolatileMemoryError
 end_of base offset = if nat_lt (base + offset) (2 ^ 64) then Ok (base + offset) else Err (Overflow base offset)
 
@@ -26,7 +26,7 @@ end_within len base offset =
 abbrev pub part_of : Window → (offset n : ℕ) → Window
 part_of w offset n = record w { offset = w.offset + offset; len = n }
 
--- n bytes of a window from an offset on, where it has them
+-- n bytes of a window from an offset on, if it has them
 abbrev pub sub_window : Window → (offset n : ℕ) → Result Window VolatileMemoryError
 sub_window w offset n =
     if nat_lt (offset + n) (2 ^ 64)

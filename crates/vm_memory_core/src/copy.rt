@@ -88,7 +88,7 @@ impl VolatileSlice {
     }
 
     /// Copies its first bytes, as many as both windows have, to another window and marks their pages: the
-    /// bytes that it had before, also where the two overlap (vm-memory's
+    /// bytes that it had before, also if the two overlap (vm-memory's
     /// `VolatileSlice::copy_to_volatile_slice`).
     pub fn copy_to_volatile_slice<B: NewBitmap>(&self, h: &mut HostMemory<B>, dest: VolatileSlice)
         requires source { LiesIn (lengths h.old) self.now }

@@ -176,7 +176,7 @@ impl<T: ByteValued> VolatileArrayRef<T> {
     }
 
     /// Copies its first bytes, as many as both have, to a window and marks their pages: the bytes that it had
-    /// before, also where the two overlap.
+    /// before, also if the two overlap.
     pub fn copy_to_volatile_slice<B: NewBitmap>(&self, h: &mut HostMemory<B>, dest: VolatileSlice)
         requires source { LiesIn (lengths h.old) self.now.window }
         requires dest { LiesIn (lengths h.old) dest }

@@ -54,8 +54,8 @@ impl<B: NewBitmap> HostMemory<B> {
         }
     }
 
-    /// A new block of `len` bytes, all zero, none of whose pages is marked: its number. AllocError where memory is
-    /// wanting; then nothing changes.
+    /// A new block of `len` bytes, all zero, none of whose pages is marked: its number. AllocError if an allocation
+    /// fails; then nothing changes.
     pub fn new_block(&mut self, len: usize) -> Result<usize, AllocError>
         requires { 0 < len }
         ensures number { IfOk result (λ b. b ≡ length self.old.blocks) }
@@ -69,7 +69,7 @@ impl<B: NewBitmap> HostMemory<B> {
         Ok(number)
     }
 
-    /// A new table, in which no I/O address is mapped: its number. AllocError where memory is wanting; then nothing
+    /// A new table, in which no I/O address is mapped: its number. AllocError if an allocation fails; then nothing
     /// changes.
     pub fn new_table(&mut self) -> Result<usize, AllocError>
         ensures number { IfOk result (λ t. t ≡ length self.old.tables) }
@@ -82,7 +82,7 @@ impl<B: NewBitmap> HostMemory<B> {
     }
 
     /// A new set of dirty I/O pages for the addresses below `byte_size`, none of which is marked: its number.
-    /// AllocError where memory is wanting; then nothing changes.
+    /// AllocError if an allocation fails; then nothing changes.
     pub fn new_io_bitmap(&mut self, byte_size: usize) -> Result<usize, AllocError>
         ensures number { IfOk result (λ i. i ≡ length self.old.io_marks) }
         ensures ok { IfOk result (λ _. self.new ≡ with_io_pages self.old (replicate (B.count byte_size) false)) }
@@ -94,14 +94,14 @@ impl<B: NewBitmap> HostMemory<B> {
         Ok(number)
     }
 
-    /// The table of this number; None where there is none.
+    /// The table of this number; None if there is none.
     pub fn table(&self, table: usize) -> Option<&Iotlb>
         ensures { option_map (λ t. t.now) result ≡ slice_get self.now.tables table }
     {
         self.tables.get(table)
     }
 
-    /// The table of this number, to be changed; None where there is none.
+    /// The table of this number, to be changed; None if there is none.
     pub fn table_mut(&mut self, table: usize) -> Option<&mut Iotlb>
         ensures* writes_back { sem 𝓛 (LendsTable B.row B.NewBitmap self.entry table result) }
         ensures value { option_map (λ t. t.now) result ≡ slice_get self.old.tables table }
@@ -109,14 +109,14 @@ impl<B: NewBitmap> HostMemory<B> {
         self.tables.get_mut(table)
     }
 
-    /// The set of dirty I/O pages of this number, of 4096 addresses each; None where there is none.
+    /// The set of dirty I/O pages of this number, of 4096 addresses each; None if there is none.
     pub fn io_bitmap(&self, set: usize) -> Option<&IoPages<B>>
         ensures { option_map (λ p. p.now) result ≡ slice_get self.now.io_marks set }
     {
         self.io_pages.get(set)
     }
 
-    /// The set of dirty I/O pages of this number, to be changed; None where there is none.
+    /// The set of dirty I/O pages of this number, to be changed; None if there is none.
     pub fn io_bitmap_mut(&mut self, set: usize) -> Option<&mut IoPages<B>>
         ensures* writes_back { sem 𝓛 (LendsIoPages B.row B.NewBitmap self.entry set result) }
         ensures value { option_map (λ p. p.now) result ≡ slice_get self.old.io_marks set }
@@ -131,7 +131,7 @@ impl<B: NewBitmap> HostMemory<B> {
         self.blocks.len()
     }
 
-    /// How many bytes a block has, which are never none; None where there is no such block.
+    /// How many bytes a block has, which are never none; None if there is no such block.
     pub fn block_len(&self, block: usize) -> Option<usize>
         ensures len { result ≡ option_map (λ b. length b.bytes) (slice_get self.now.blocks block) }
         ensures some { IfSome result (λ len. 0 < len) }
@@ -142,7 +142,7 @@ impl<B: NewBitmap> HostMemory<B> {
         }
     }
 
-    /// The byte at an offset of a block; None where there is none.
+    /// The byte at an offset of a block; None if there is none.
     pub fn byte_at(&self, block: usize, offset: usize) -> Option<u8>
         ensures { result ≡ byte_at self.now (record { block = block; offset = offset; io = None }) }
     {
@@ -246,7 +246,7 @@ impl<B: NewBitmap> HostMemory<B> {
         self.mark_io(dest, dest.len());
     }
 
-    /// The dirty pages of a block, of 4096 bytes each; None where there is no such block.
+    /// The dirty pages of a block, of 4096 bytes each; None if there is no such block.
     pub fn bitmap(&self, block: usize) -> Option<&B>
         ensures size { IfSome result (λ b. B.page_size b.now ≡ 4096) }
         ensures base { IfSome result (λ b. B.base b.now ≡ 0) }
@@ -258,7 +258,7 @@ impl<B: NewBitmap> HostMemory<B> {
         }
     }
 
-    /// The bytes of a block, and its dirty pages; None where there is no such block.
+    /// The bytes of a block, and its dirty pages; None if there is no such block.
     pub fn bytes_and_bitmap(&self, block: usize) -> Option<(&[u8], &B)>
         ensures bytes { option_map (λ p. p.0.now) result ≡ option_map (λ b. b.bytes) (slice_get self.now.blocks block) }
         ensures marks { option_map (λ p. B.marks p.1.now) result ≡ option_map (λ b. b.marks) (slice_get self.now.blocks block) }
@@ -317,8 +317,8 @@ fn cloned_tables(alloc: Global, tables: &[Iotlb]) -> Result<Vec<Iotlb>, AllocErr
 impl HostMemory<PageBitmap> {
     ghost use Rattle.vm_memory_core.specs.Host.{changed_at, unmarked, with_blocks};
 
-    /// The same memory once more: blocks with their bytes and marks, tables, and sets of I/O pages. AllocError where
-    /// memory is wanting.
+    /// The same memory once more: blocks with their bytes and marks, tables, and sets of I/O pages. AllocError if
+    /// an allocation fails.
     pub fn try_clone(&self) -> Result<HostMemory<PageBitmap>, AllocError>
         ensures { IfOk result (λ h. h ≡ self.now) }
     {
@@ -330,7 +330,7 @@ impl HostMemory<PageBitmap> {
         })
     }
 
-    /// Clears the marks of a block, or changes nothing where there is no such block.
+    /// Clears the marks of a block, or changes nothing if there is no such block.
     pub fn reset_bitmap(&mut self, block: usize) -> bool
         ensures found { IsTrue result ↔ (block < length self.old.blocks) }
         ensures cleared { self.new ≡ with_blocks self.old (changed_at self.old.blocks block unmarked) }

@@ -23,7 +23,7 @@ pub trait HostBlocks {
     // what that is; memory that is owned says nothing by it
     ghost IsSameLoan: { Self → Self → Type 0 };
 
-    /// How many bytes a block has; None where there is no such block.
+    /// How many bytes a block has; None if there is no such block.
     fn block_len(&self, block: usize) -> Option<usize>
         ensures { result ≡ option_map (λ b. length b.bytes) (slice_get (host self.now).blocks block) };
 
@@ -53,7 +53,7 @@ pub trait HostBlocks {
         ensures shape { shape (host self.new) ≡ shape (host self.old) }
         ensures loan { IsSameLoan self.old self.new };
 
-    /// The table of an IOMMU with this number; None where there is none.
+    /// The table of an IOMMU with this number; None if there is none.
     fn table(&self, table: usize) -> Option<&Iotlb>
         ensures { option_map (λ t. t.now) result ≡ slice_get (host self.now).tables table };
 
@@ -115,7 +115,7 @@ pub trait HostBlocks {
         }
     }
 
-    /// The bytes of the windows, joined; there are about `capacity` of them. AllocError where memory is wanting.
+    /// The bytes of the windows, joined; there are about `capacity` of them. AllocError if an allocation fails.
     #[tactic(auto, unfolding(crate::specs::Window::AllLieIn))]
     #[inline(always)]
     final fn fetch_windows(

@@ -27,7 +27,7 @@ impl<B: NewBitmap> Model for IoPages<B> {
 }
 
 impl<B: NewBitmap> IoPages<B> {
-    /// No page, of 4096 addresses, of those below `byte_size` is marked. AllocError where memory is wanting.
+    /// No page, of 4096 addresses, of those below `byte_size` is marked. AllocError if an allocation fails.
     pub fn with_len(alloc: Global, byte_size: usize) -> Result<IoPages<B>, AllocError>
         ensures { IfOk result (λ p. p ≡ replicate (B.count byte_size) false) }
     {

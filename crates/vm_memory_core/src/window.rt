@@ -117,7 +117,7 @@ impl VolatileSlice {
         }
     }
 
-    /// The I/O pages that writes of it mark; None where they mark those of its block.
+    /// The I/O pages that writes of it mark; None if they mark those of its block.
     pub fn io(&self) -> Option<IoMarks>
         ensures value { result ≡ self.now.io }
         ensures from { IfSome result (λ m. m.from ≤ self.now.offset) }
@@ -176,7 +176,7 @@ impl VolatileSlice {
         Ok(self.part(count, self.len - count))
     }
 
-    /// Its `count` bytes from an offset on; OutOfBounds, or Overflow where their end doesn't fit 64 bits (vm-memory's
+    /// Its `count` bytes from an offset on; OutOfBounds, or Overflow if their end doesn't fit 64 bits (vm-memory's
     /// `VolatileSlice::subslice`).
     pub fn subslice(
         &self,

@@ -47,17 +47,17 @@ pub trait Address: AddressValue
     fn mask(&self, mask: Self::V) -> Self::V
         ensures { Self.number result ≡ bit_and (address self.now) (Self.number mask) };
 
-    /// How far it lies above a base; none where it lies below.
+    /// How far it lies above a base; none if it lies below.
     fn checked_offset_from(&self, base: Self) -> Option<Self::V>
         ensures some { IsSome result ↔ (address base ≤ address self.now) }
         ensures value { IfSome result (λ n. Self.number n ≡ address self.now - address base) };
 
-    /// The address this far above; none where there is none.
+    /// The address this far above; none if there is none.
     fn checked_add(&self, other: Self::V) -> Option<Self>
         ensures some { IsSome result ↔ (address self.now + Self.number other < 2 ^ 64) }
         ensures value { IfSome result (λ a. address a ≡ address self.now + Self.number other) };
 
-    /// The address this far below; none where there is none.
+    /// The address this far below; none if there is none.
     fn checked_sub(&self, other: Self::V) -> Option<Self>
         ensures some { IsSome result ↔ (Self.number other ≤ address self.now) }
         ensures value { IfSome result (λ a. address a ≡ address self.now - Self.number other) };
@@ -77,12 +77,12 @@ pub trait Address: AddressValue
         requires { address base ≤ address self.now }
         ensures { Self.number result ≡ address self.now - address base };
 
-    /// The address this far above, where there is one.
+    /// The address this far above, if there is one.
     fn unchecked_add(&self, other: Self::V) -> Self
         requires { address self.now + Self.number other < 2 ^ 64 }
         ensures { address result ≡ address self.now + Self.number other };
 
-    /// The address this far below, where there is one.
+    /// The address this far below, if there is one.
     fn unchecked_sub(&self, other: Self::V) -> Self
         requires { Self.number other ≤ address self.now }
         ensures { address result ≡ address self.now - Self.number other };

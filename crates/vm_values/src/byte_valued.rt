@@ -40,7 +40,7 @@ pub trait ByteValued: Copy {
         Self::get_bytes(&zeros[..Self::SIZE])
     }
 
-    /// The value that these bytes spell, where there are `SIZE` of them (vm-memory's `ByteValued::from_slice`, by
+    /// The value that these bytes spell, if there are `SIZE` of them (vm-memory's `ByteValued::from_slice`, by
     /// value).
     final fn from_slice(bytes: &[u8]) -> Option<Self>
         ensures whole { IsSome result ↔ (length bytes.now ≡ SIZE) }
