@@ -49,7 +49,7 @@ fn make_room(alloc: Global, taken: &Taken) -> Result<Writer, AllocError>
 }
 
 impl FetchedRequest {
-    /// Fetches the request of a chain that was taken, and makes room for its reply. AllocError if memory is wanting. A
+    /// Fetches the request of a chain that was taken, and makes room for its reply. AllocError if an allocation fails. A
     /// faulty chain has no request and no room.
     #[inline(always)]
     pub fn of<H: HostBlocks>(

@@ -49,7 +49,7 @@ pub fn law_marks<F: FileSystem>()
 {}
 
 /// What an exchange writes (VIRTIO 1.2, 2.7.8): a used length above 0 is the length in the reply's header (linux/fuse.h,
-/// `fuse_out_header.len`) and the number of reply bytes that were written; where it is 0, nothing is written but the
+/// `fuse_out_header.len`) and the number of reply bytes that were written; if it is 0, nothing is written but the
 /// used element and the used index.
 pub fn law_used_length<F: FileSystem>()
     ensures { LengthsAreTold F.may }

@@ -1,5 +1,6 @@
 //! The phases of a step: a chain is taken into a place, its request is fetched (`FetchedRequest`) and answered, and it is
-//! given back. `process_one` and `serve_one` are drivers over them, and so is whoever does something of its own in between.
+//! given back. `process_one` and `serve_one` go by the functions behind them; a monitor that does something of its own in
+//! between goes by these.
 
 ghost use Rattle.std.specs.Prelude.{◌≡◌, ℕ, ◌<◌, ◌≤◌, length, slice_get, Some, IfOk, OnErr};
 ghost use Rattle.vm_memory_core.specs.Host.{changed_at, lengths, shape};

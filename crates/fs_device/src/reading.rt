@@ -44,8 +44,8 @@ fn read_to_room<F: FileSystem, H: HostBlocks>(
     reply
 }
 
-/// Answers a chain whose request begins so, where that is all of it and a READ, and none of the bytes behind the first 16
-/// of its room is one of those: the data is put there. None of any other chain, and where reads that fail may put something
+/// Answers a chain whose request begins so, if that is all of it and a READ, and none of the bytes behind the first 16
+/// of its room is one of those: the data is put there. None of any other chain, and if reads that fail may put something
 /// in; then nothing changed.
 #[inline(always)]
 pub(crate) fn read_in_place<F: FileSystem, H: HostBlocks>(

@@ -32,7 +32,7 @@ impl<F: FileSystem> Device<F> {
     /// without its bytes; None if no chain waits. The first `REQUEST_FRONT` bytes of the request are copied, or all of
     /// a shorter one. The data of a WRITE, which stands behind these, isn't: the file system reads it where it stands, one
     /// window after another. Nor is that of a READ of no more bytes, if none of what is behind the `REPLY_FRONT` bytes of
-    /// the reply's header in the room is one of these, where reads that fail put nothing in (`FileSystem::reads_whole`): the
+    /// the reply's header in the room is one of these, if reads that fail put nothing in (`FileSystem::reads_whole`): the
     /// file system puts it where it goes, one window after another. The refusals are those of `process_one`.
     pub fn serve_one<M: GuestMemory, H: HostBlocks>(
         &mut self,

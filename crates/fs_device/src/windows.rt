@@ -48,7 +48,7 @@ fn push_segment<'a>(segments: &mut Vec<&'a [u8]>, segment: &'a [u8])
     segments.push(segment).unwrap();
 }
 
-/// A front, and the bytes that follow as many of some windows, joined, where these stand; None if an allocation failed.
+/// A front, and the bytes that follow as many of some windows, joined, as they stand; None if an allocation failed.
 #[tactic(auto, unfolding(vm_memory_core::specs::Window::AllLieIn))]
 #[inline(always)]
 pub(crate) fn segments_behind<'a, H: HostBlocks>(

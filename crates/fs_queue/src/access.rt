@@ -42,7 +42,7 @@ pub(crate) fn le16_number(bytes: &[u8; 2]) -> u16
     Le16::get_bytes(bytes).to_native()
 }
 
-/// The bytes of some addresses that follow one another, where one window has all of them. None says nothing of them:
+/// The bytes of some addresses that follow one another, if one window has all of them. None says nothing of them:
 /// parts of the range are then read by themselves.
 #[inline(always)]
 pub(crate) fn whole_bytes<'a, M: GuestMemory, H: HostBlocks>(
@@ -66,7 +66,7 @@ pub(crate) fn whole_bytes<'a, M: GuestMemory, H: HostBlocks>(
     }
 }
 
-/// Adds the windows of `len` addresses from `addr` on, for an access, or answers false if one of them has no place.
+/// Adds the windows of `len` addresses from `addr` on, for an access, or answers false if one of them can't be reached.
 /// An error is a failed allocation.
 #[inline(always)]
 pub(crate) fn add_windows<M: GuestMemory, H: HostBlocks>(

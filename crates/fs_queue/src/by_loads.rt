@@ -40,7 +40,7 @@ fn load_entry<M: GuestMemory, H: HostBlocks>(
     }
 }
 
-// The bytes of a table, where one window has all of them. None says nothing of the table: each entry is then read by
+// The bytes of a table, if one window has all of them. None says nothing of the table: each entry is then read by
 // itself.
 #[inline(always)]
 fn table_bytes<'a, M: GuestMemory, H: HostBlocks>(
@@ -72,7 +72,7 @@ fn entry_of(bytes: &[u8], index: u16) -> [u8; 16]
     entry
 }
 
-// Loads an entry of a table, from the table's bytes where they are at hand.
+// Loads an entry of a table, from the table's bytes if they are at hand.
 #[inline(always)]
 fn load_from_table<M: GuestMemory, H: HostBlocks>(
     alloc: Global,
@@ -95,7 +95,7 @@ fn load_from_table<M: GuestMemory, H: HostBlocks>(
     }
 }
 
-// The bytes of a table, where one window has all of them; those of another may be at hand.
+// The bytes of a table, if one window has all of them; those of another may be at hand.
 #[inline(always)]
 fn bytes_of<'a, M: GuestMemory, H: HostBlocks>(
     alloc: Global,
@@ -188,7 +188,7 @@ fn load_pair<M: GuestMemory, H: HostBlocks>(
     }
 }
 
-// The bytes of the available ring, where one window has them, but for what follows its entries.
+// The bytes of the available ring, if one window has them, but for what follows its entries.
 #[inline(always)]
 fn ring_bytes<'a, M: GuestMemory, H: HostBlocks>(
     alloc: Global,
@@ -203,7 +203,7 @@ fn ring_bytes<'a, M: GuestMemory, H: HostBlocks>(
     whole_bytes(alloc, host, mem, layout.avail(), len)
 }
 
-// Loads two bytes of the available ring, from its bytes where they are at hand.
+// Loads two bytes of the available ring, from its bytes if they are at hand.
 #[inline(always)]
 fn load_from_ring<M: GuestMemory, H: HostBlocks>(
     alloc: Global,

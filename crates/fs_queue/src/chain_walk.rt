@@ -27,7 +27,7 @@ pub enum Walked {
     Chain,
     /// A faulty chain, which goes back unserved.
     Faulty(ChainFault),
-    /// An entry of the queue's own table has no place: `DescriptorUnreachable`, which stops the queue.
+    /// An entry of the queue's own table can't be reached: `DescriptorUnreachable`, which stops the queue.
     Stopped,
 }
 
@@ -102,7 +102,7 @@ impl ChainWalk {
         (self.table, self.index)
     }
 
-    // What the step comes to by the bytes that came, or that one of their addresses has no place.
+    // What the step comes to by the bytes that came, or without them if an address can't be reached.
     fn step(self, came: Option<[u8; 16]>) -> WalkStep
         ensures step { walk_step_of result ≡ step_by self.size (visit_of self) (load_of self came) }
         ensures fits { IfOrdinary result (λ d. d.addr + d.len < 2 ^ 64) }
@@ -124,7 +124,7 @@ impl ChainWalk {
         }
     }
 
-    /// Goes on by the bytes that came, or by that one of their addresses has no place. Each time fewer steps are left.
+    /// Goes on by the bytes that came, or without them if an address can't be reached. Each time fewer steps are left.
     pub fn give(self, came: Option<[u8; 16]>) -> Given
         ensures joins { result.joins ≡ joining (step_by self.size (visit_of self) (load_of self came)) }
         ensures then { ahead_of result.then ≡ ahead_after self.size (visit_of self) (step_by self.size (visit_of self) (load_of self came)) }

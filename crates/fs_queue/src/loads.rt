@@ -11,7 +11,7 @@ use crate::layout::QueueLayout;
 use std::alloc::AllocError;
 use std::marker::Model;
 
-/// A load of an entry: its address, and the bytes that came, or that one of their addresses has no place.
+/// A load of an entry: its address, and the bytes that came, or none if an address can't be reached.
 #[derive(Clone, Copy, Debug)]
 pub struct EntryLoad {
     /// The guest address of the entry.

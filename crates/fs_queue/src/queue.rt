@@ -158,7 +158,7 @@ impl Queue {
     /// false, if none waits (VIRTIO 1.2, 2.7.13 from the device's side); unless a chain was taken, the place is
     /// empty then: it has no windows, and its head says nothing. The position stays until the chain is given back. A
     /// request or a room of more than `limit` bytes makes a chain faulty. Refused, in this order: `Stopped`,
-    /// `AvailIndexUnreachable`, then, where something waits, `AvailTooFar`, `RingEntryUnreachable`, `HeadOutOfTable`,
+    /// `AvailIndexUnreachable`, then, if something waits, `AvailTooFar`, `RingEntryUnreachable`, `HeadOutOfTable`,
     /// `UsedUnreachable`, `AvailFlagsUnreachable`, `DescriptorUnreachable`. Want of memory is `OutOfMemory`. All of
     /// them but `Stopped` and `OutOfMemory` stop the queue.
     #[inline(always)]

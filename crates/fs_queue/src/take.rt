@@ -54,7 +54,7 @@ fn add_used<M: GuestMemory, H: HostBlocks>(
 }
 
 // Adds to empty lists the windows that a return at this position writes and reads besides the room, or answers which of
-// them has an address without a place: `UsedUnreachable` or `AvailFlagsUnreachable`.
+// them has an address that can't be reached: `UsedUnreachable` or `AvailFlagsUnreachable`.
 #[inline(always)]
 fn add_return_windows<M: GuestMemory, H: HostBlocks>(
     alloc: Global,
@@ -91,7 +91,7 @@ fn add_return_windows<M: GuestMemory, H: HostBlocks>(
 }
 
 /// How many bytes the descriptors of a chain have in one direction: those that the device writes, or those that it reads.
-/// The answer is 2^64 - 1 where there are more. A chain with more than its limit in one of them is `OverLimit`.
+/// The answer is 2^64 - 1 if there are more. A chain with more than its limit in one of them is `OverLimit`.
 pub fn count_bytes(descriptors: &[Descriptor], write_only: bool) -> u64
     ensures { result ≡ min (total_len (of_direction write_only descriptors.now)) (2 ^ 64 - 1) }
 {
@@ -124,7 +124,7 @@ struct AddressRange {
 }
 
 // Has a range grow by a descriptor's addresses, if they follow it. Else the range's windows are added to a list, and the
-// descriptor's addresses are the range; or the answer is false, if one of the former range's addresses has no place.
+// descriptor's addresses are the range; or the answer is false, if one of the former range's addresses can't be reached.
 #[inline(always)]
 fn extend_range<M: GuestMemory, H: HostBlocks>(
     alloc: Global,
@@ -157,8 +157,8 @@ fn extend_range<M: GuestMemory, H: HostBlocks>(
 }
 
 // Adds to an empty list the windows of the descriptors of one direction, in their order, or answers false if one of
-// their addresses has no place. Those whose addresses follow one another are looked up at once, and have one window
-// where one has them all.
+// their addresses can't be reached. Those whose addresses follow one another are looked up at once, and have one window
+// if one has them all.
 #[inline(always)]
 fn add_direction<M: GuestMemory, H: HostBlocks>(
     alloc: Global,
@@ -222,7 +222,7 @@ fn add_chain<M: GuestMemory, H: HostBlocks>(
     Ok(None)
 }
 
-// Fills a chain without windows, or answers which part of it has an address without a place. An error is a failed allocation.
+// Fills a chain without windows, or answers which part of it has an address that can't be reached. An error is a failed allocation.
 #[inline(always)]
 fn fill_chain<M: GuestMemory, H: HostBlocks>(
     alloc: Global,

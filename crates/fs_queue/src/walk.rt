@@ -8,7 +8,7 @@ use crate::fault::QueueError;
 use crate::layout::QueueLayout;
 
 /// A walk through what waits at a position of a queue: the load that it asks for next, or what it came to. Whoever drives
-/// it makes that load once, by a copy, and gives it the bytes, or that one of their addresses has no place.
+/// it makes that load once, by a copy, and gives it the bytes, or says that one of their addresses can't be reached.
 #[derive(Debug, Drop)]
 pub enum Walk {
     /// It asks for the available index.
@@ -69,7 +69,7 @@ impl IndexWalk {
         self.layout.avail() + 2
     }
 
-    /// Goes on by the bytes that came, or by that one of their addresses has no place (VIRTIO 1.2, 2.7.6 and 2.7.13).
+    /// Goes on by the bytes that came, or without them if an address can't be reached (VIRTIO 1.2, 2.7.6 and 2.7.13).
     /// Refused: `AvailIndexUnreachable`, then `AvailTooFar`.
     #[inline(always)]
     pub fn give(self, came: Option<[u8; 2]>) -> Walk
@@ -113,7 +113,7 @@ impl RingEntryWalk {
         self.layout.avail() + u64::from(entry_offset(self.layout, self.position))
     }
 
-    /// Goes on by the bytes that came, or by that one of their addresses has no place. Refused:
+    /// Goes on by the bytes that came, or without them if an address can't be reached. Refused:
     /// `RingEntryUnreachable`, then `HeadOutOfTable`.
     #[inline(always)]
     pub fn give(self, came: Option<[u8; 2]>) -> Walk

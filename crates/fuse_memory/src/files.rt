@@ -35,8 +35,8 @@ pub struct MemoryFiles {
 impl MemoryFiles {
     /// A file system of an empty root, which belongs to user and group 0. The contents of its files take at most `limit`
     /// bytes of memory: a file that grew may take an eighth more than it has bytes. While a file grows or is cut, it is
-    /// copied, and its copy counts for nothing. There are at most `most_nodes` files and directories. AllocError if memory
-    /// is wanting.
+    /// copied, and its copy counts for nothing. There are at most `most_nodes` files and directories. AllocError if an
+    /// allocation fails.
     pub fn new(alloc: Global, limit: u64, most_nodes: u64) -> Result<MemoryFiles, AllocError>
         ensures { IfOk result (λ files. Starts (files_of files)) }
     {
