@@ -1,5 +1,5 @@
 -- Listings that are answered entry by entry, and what `served` lists.
-use Rattle.std.proofs.Common.{◌≡◌, ◌+◌, ◌-◌, ◌<◌, ◌≤◌, ℕ, Bool, true, false, List, [], ◌∷◌, ◌++◌, length, take, drop, Ok, Err, Option, Some, None, cond, refl, sym, ap, ◌∙◌, arith, append_assoc, append-nil, length-append}
+use Rattle.std.proofs.Common.{◌≡◌, ◌+◌, ◌-◌, ◌<◌, ◌≤◌, ℕ, Bool, true, false, List, [], ◌∷◌, ◌++◌, length, take, drop, Ok, Err, Option, Some, None, cond, refl, sym, ap, subst, ◌∙◌, arith, append_assoc, append-nil, length-append}
 use Rattle.std.specs.Prelude.{◌^◌, ◌&&◌, nat_lt, nat_le, replicate, min, Result, OnOk}
 use Rattle.std.proofs.lemmas.Bool.{lt-ltb, le-ltb}
 use Rattle.std.proofs.lemmas.Bool.Decides.{nat_tests}
@@ -10,7 +10,7 @@ use Rattle.fuse_wire.specs.Records.{dirent}
 use Rattle.fuse_fs.specs.declared.answers.Entry.{Entry}
 use Rattle.fuse_fs.specs.Replies.{dirent_of}
 use Rattle.fuse_fs.specs.Calls.{FileCall, FileAnswer, Listed, Lookup, HasEntry, Failed, Entries}
-use Rattle.server_replies.specs.Entries.{GoesIn, dirent_len, entry_len, entry_bytes, dirent_bytes, node_bytes, fit_of, is_dot, no_node}
+use Rattle.server_replies.specs.Entries.{GoesIn, IsFull, dirent_len, entry_len, entry_bytes, dirent_bytes, node_bytes, fit_of, is_dot, no_node}
 use Rattle.server_replies.specs.WholeReplies.{reply_bytes, error_bytes, data_header}
 use Rattle.server_replies.proofs.ReplyLemmas.{length_reply, length_error}
 use Rattle.virtiofsd_fuse.specs.Grammar.{FileCommand, One, Starts, Lists}
@@ -19,7 +19,9 @@ use Rattle.virtiofsd_fuse.specs.Listings.{Went, Next, after_call, undo_call, wit
 use Rattle.virtiofsd_fuse.specs.Serving.{Setting, Served, commanded, replied, list_ended}
 use Rattle.server_phases.specs.declared.listing.Listing.{Listing}
 use Rattle.server_phases.specs.declared.listing.NotAdded.{NotAdded}
-use Rattle.server_phases.specs.Gathering.{Brought, Holds, IsListingFor, StaysBut, is_looked_up, node_of, bytes_of, all_bytes, all_found, entries_of, look_up, look_ups, put_at}
+use Rattle.server_phases.specs.declared.listing.NotAdded.TheVariants.{Full, ShortList}
+use Rattle.server_phases.specs.Gathering.{Brought, EndsList, Holds, IsListingFor, StaysBut, is_looked_up, node_of, bytes_of, all_bytes}
+use Rattle.server_phases.specs.Gathering.{all_found, found_of, entries_of, look_up, look_ups, node_given_back, placed, put_at}
 use Rattle.server_phases.specs.Waiting.{first_call}
 
 length_head : (d : Dirent) → length (spelled (dirent d)) ≡ 24
@@ -165,6 +167,69 @@ ends s l (Lists unique a) list es is holds =
     ap (λ b. commanded s (Lists unique a) (Entries (entries_of es) ∷ all_found b es)) is.1 ∙ ap (list_ended s unique a) all
     ∙ gives_list s.room s.options unique l.len (readdir_call a ∷ look_ups (Lists unique a) es) list (all_bytes a.with_nodes es) long stands (omega (arith, most, fits, place))
     ∙ ap (λ u. by_reply (readdir_call a ∷ look_ups (Lists unique a) es) s.options (data_header u (Ok l.len) ++ take l.len list)) (sym is.0)
+
+is_full : (n len left room : ℕ) → n < 2 ^ 32 → left < len → fit_of n len left room ≡ IsFull
+unfolding fit_of
+is_full n len left room s f =
+    let short : nat_le (2 ^ 32) n ≡ false = grind (arith, nat_tests) in
+    rw (short, lt-ltb left len f) refl
+
+left_out : (b : Bool) (d : Listed) (e : Entry ℕ) (undo : List FileCall) (next : Next) (left room : ℕ) (answers : List FileAnswer)
+    → length d.name < 2 ^ 32 → left < entry_len b (length d.name) → with_entry b d e undo next left room answers ≡ went undo [] None
+left_out b d e undo next left room answers s f = rw (is_full (length d.name) (entry_len b (length d.name)) left room s f) refl
+
+full_by : (b dot : Bool) (unique : ℕ) (l : asked.Listing) (e : Brought) (next : Next) (left room : ℕ) (answers : List FileAnswer)
+    → l.with_nodes ≡ b → is_dot e.0.name ≡ dot → length e.0.name < 2 ^ 32 → left < entry_len b (length e.0.name)
+    → list_entry l e.0 next left room (found_of l.with_nodes e ++ answers) ≡ went (look_up (Lists unique l) e.0 ++ node_given_back (Lists unique l) e) [] None
+full_by false dot unique l e next left room answers n t s f = rw n (left_out false e.0 (no_node e.0) [] next left room answers s f)
+full_by true true unique l e next left room answers n t s f = rw (n, t) (left_out true e.0 (no_node e.0) (undo_call l.context 0 ∷ []) next left room answers s f)
+full_by true false unique l e next left room answers n t s f =
+    rw (n, t) (ap (after_call (Lookup l.context l.node e.0.name)) (left_out true e.0 e.1 (undo_call l.context e.1.inode ∷ []) next left room answers s f))
+
+full_first : (unique : ℕ) (l : asked.Listing) (e : Brought) (behind : List Listed) (left room : ℕ) (answers : List FileAnswer)
+    → length e.0.name < 2 ^ 32 → left < entry_len l.with_nodes (length e.0.name)
+    → list_entries l (e.0 ∷ behind) left room (found_of l.with_nodes e ++ answers) ≡ went (look_up (Lists unique l) e.0 ++ node_given_back (Lists unique l) e) [] None
+unfolding list_entries
+full_first unique l e behind left room answers s f = full_by l.with_nodes (is_dot e.0.name) unique l e (list_entries l behind) left room answers refl refl s f
+
+-- an entry without a place ends the list
+pub full_ends : (l : Listing) (list : List ℕ) (e : Brought) → length e.0.name < 2 ^ 32 → l.most - l.len < entry_len l.with_nodes (length e.0.name) → EndsList l list e
+full_ends l list e short full s (One unique call) es behind answers is holds asked = absurd is
+full_ends l list e short full s (Starts unique capable readahead) es behind answers is holds asked = absurd is
+full_ends l list e short full s (Lists unique a) es behind answers is holds asked =
+    let b = a.with_nodes in
+    let command = Lists unique a in
+    let calls = look_ups command es ++ (look_up command e.0 ++ node_given_back command e) in
+    let long : l.len ≡ length (all_bytes b es) = holds.long ∙ ap (λ b. length (all_bytes b es)) is.1 in
+    let stands : take l.len list ≡ all_bytes b es = holds.stands ∙ ap (λ b. all_bytes b es) is.1 in
+    let most : l.most ≡ min a.size (s.room - 16) = is.2 in
+    let all_asked : a.size ≤ s.room - 16 = asked in
+    let no_place : l.most - l.len < entry_len b (length e.0.name) = subst (λ b. l.most - l.len < entry_len b (length e.0.name)) is.1 full in
+    let small = l.small in
+    let fits = l.fits in
+    let left = a.size - length (all_bytes b es) in
+    let one = full_first unique a e behind left (s.room - 16 - length (all_bytes b es)) answers short (omega (arith, long, most, all_asked, no_place)) in
+    let all = listed_all unique a es (e.0 ∷ behind) a.size (s.room - 16) (found_of b e ++ answers) _ (omega (arith, long, most, fits)) (omega (arith, long, most, fits)) (omega (arith, long, small, fits)) one in
+    let ended = ends s l command list es is holds in
+    ap (λ b. commanded s command (Entries (entries_of es ++ e.0 ∷ behind) ∷ (all_found b es ++ (found_of b e ++ answers)))) is.1
+    ∙ ap (list_ended s unique a) (all ∙ ap (λ x. went calls x None) (append-nil (all_bytes b es)))
+    ∙ gives_list s.room s.options unique l.len (readdir_call a ∷ calls) list (all_bytes b es) long stands (omega (arith, most, fits, is.3))
+    ∙ ap (λ u. by_reply (readdir_call a ∷ calls) s.options (data_header u (Ok l.len) ++ take l.len list)) (sym is.0)
+    ∙ sym (ap (λ (x : Served). record x { calls = x.calls ++ (look_up command e.0 ++ node_given_back command e) }) ended)
+
+abbrev outcome : Type 0
+outcome = Result (Unit {0}) NotAdded
+
+by_place : (t u : Bool) (full short put : outcome) → full ≡ Err Full → short ≡ Err ShortList → put ≡ Ok tt → cond t full (cond u short put) ≡ Err Full → t ≡ true
+by_place true u full short put f s p e = refl
+by_place false true full short put f s p e = absurd (cc)
+by_place false false full short put f s p e = absurd (cc)
+
+-- what comes of an entry is that it has no place
+pub placed_full : (l : Listing) (list_len name_len : ℕ) → placed l list_len name_len ≡ Err Full → l.most - l.len < entry_len l.with_nodes name_len
+placed_full l list_len name_len e =
+    let t = by_place (nat_lt (l.most - l.len) (entry_len l.with_nodes name_len)) (nat_lt list_len (l.len + entry_len l.with_nodes name_len)) (Err Full) (Err ShortList) (Ok tt) refl refl refl e in
+    grind (arith, nat_tests)
 
 -- an error alone
 pub fails_alone : (s : Setting) (l : Listing) (command : FileCommand) (list : List ℕ) (errno : ℕ) → IsListingFor l s.room command

@@ -1,10 +1,11 @@
 -- Listings that are answered entry by entry: what was brought, and what `served` says of it.
 use Rattle.std.specs.Prelude.{◌≡◌, ℕ, ◌+◌, ◌-◌, ◌≤◌, Bool, true, false, not, ◌&&◌, min, nat_lt, List, [], ◌∷◌, ◌++◌, length, take, drop, map, None, Result, Ok, Err, if◌then◌else◌}
 use Rattle.fuse_fs.specs.declared.answers.Entry.{Entry}
-use Rattle.fuse_fs.specs.Calls.{FileCall, FileAnswer, Listed, Lookup, HasEntry}
+use Rattle.fuse_fs.specs.Calls.{FileCall, FileAnswer, Listed, Lookup, HasEntry, Entries}
 use Rattle.server_replies.specs.Entries.{entry_len, entry_bytes, is_dot, no_node}
 use Rattle.virtiofsd_fuse.specs.Grammar.{FileCommand, Lists}
-use Rattle.virtiofsd_fuse.specs.Serving.{Served}
+use Rattle.virtiofsd_fuse.specs.Listings.{undo_call}
+use Rattle.virtiofsd_fuse.specs.Serving.{Served, Setting, commanded}
 use Rattle.server_phases.specs.declared.listing.Listing.{Listing}
 use Rattle.server_phases.specs.declared.listing.ListingReply.{ListingReply}
 use Rattle.server_phases.specs.declared.listing.NotAdded.{NotAdded}
@@ -31,10 +32,14 @@ abbrev pub all_bytes : (with_nodes : Bool) → List Brought → List ℕ
 all_bytes with_nodes [] = []
 all_bytes with_nodes (e ∷ es) = bytes_of with_nodes e ++ all_bytes with_nodes es
 
+-- what the look-up of an entry gave, if there was one
+abbrev pub found_of : (with_nodes : Bool) → Brought → List FileAnswer
+found_of with_nodes e = if is_looked_up with_nodes e.0 then HasEntry e.1 ∷ [] else []
+
 -- what the look-ups gave, in their order
 abbrev pub all_found : (with_nodes : Bool) → List Brought → List FileAnswer
 all_found with_nodes [] = []
-all_found with_nodes (e ∷ es) = (if is_looked_up with_nodes e.0 then HasEntry e.1 ∷ [] else []) ++ all_found with_nodes es
+all_found with_nodes (e ∷ es) = found_of with_nodes e ++ all_found with_nodes es
 
 -- the look-up that a listing makes of an entry
 abbrev pub look_up : FileCommand → Listed → List FileCall
@@ -45,6 +50,11 @@ look_up command d = []
 abbrev pub look_ups : FileCommand → List Brought → List FileCall
 look_ups command [] = []
 look_ups command (e ∷ es) = look_up command e.0 ++ look_ups command es
+
+-- the call that gives its node back, in READDIRPLUS: `.` and `..` have node 0
+abbrev pub node_given_back : FileCommand → Brought → List FileCall
+node_given_back (Lists unique l) e = if l.with_nodes then undo_call l.context (node_of e).inode ∷ [] else []
+node_given_back command e = []
 
 -- the entries alone
 abbrev pub entries_of : List Brought → List Listed
@@ -61,10 +71,23 @@ abbrev pub is_listing : FileCommand → Bool
 is_listing (Lists unique l) = true
 is_listing command = false
 
+-- whether the room has as many bytes behind the header as a listing asks for
+abbrev pub HasRoomAsked : (room : ℕ) → FileCommand → Type 0
+HasRoomAsked room (Lists unique l) = l.size ≤ room - 16
+HasRoomAsked room command = ⊥
+
 -- the entries that were brought so far stand at the front of a list
 pub record Holds (l : Listing) (list : List ℕ) (es : List Brought) : Type 0 where
   pub long : l.len ≡ length (all_bytes l.with_nodes es)
   pub stands : take l.len list ≡ all_bytes l.with_nodes es
+
+-- an entry that has no place ends the list, whatever is behind it: the reply is that of the entries before it, and its node is given back
+abbrev pub EndsList : Listing → (list : List ℕ) → Brought → Type 0
+EndsList l list e = (s : Setting) (command : FileCommand) (es : List Brought) (behind : List Listed) (answers : List FileAnswer)
+    → IsListingFor l s.room command → Holds l list es → HasRoomAsked s.room command →
+    let before = commanded s command (Entries (entries_of es) ∷ all_found l.with_nodes es) in
+    commanded s command (Entries (entries_of es ++ e.0 ∷ behind) ∷ (all_found l.with_nodes es ++ (found_of l.with_nodes e ++ answers)))
+    ≡ record before { calls = before.calls ++ (look_up command e.0 ++ node_given_back command e) }
 
 -- what comes of an entry of the listing's kind: it has no place in what is left, or none in a list of this length; else it is in
 abbrev pub placed : Listing → (list_len : ℕ) → (name_len : ℕ) → Result (Unit {0}) NotAdded

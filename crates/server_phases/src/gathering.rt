@@ -1,13 +1,13 @@
 //! How a listing gathers its entries, and what it replies.
 
-ghost use Rattle.std.specs.Prelude.{◌≡◌, ℕ, ◌+◌, ◌-◌, ◌<◌, ◌≤◌, ◌^◌, ◌&&◌, [], ◌∷◌, ◌++◌, List, length, Ok, true, false, min, nat_lt, IfOk, IfErr, OnOk, OnErr, if◌then◌else◌};
+ghost use Rattle.std.specs.Prelude.{◌≡◌, ℕ, ◌+◌, ◌-◌, ◌<◌, ◌≤◌, ◌^◌, ◌&&◌, [], ◌∷◌, ◌++◌, List, length, Ok, Err, true, false, min, nat_lt, IfOk, IfErr, OnOk, OnErr, if◌then◌else◌};
 ghost use Rattle.fuse_fs.specs.Answers.{listed};
 ghost use Rattle.fuse_fs.specs.Calls.{Listed, Failed, Entries};
 ghost use Rattle.server_replies.specs.Entries.{dirent_bytes, entry_len, is_dot, no_node};
 ghost use Rattle.server_replies.specs.WholeReplies.{data_header};
 ghost use Rattle.virtiofsd_fuse.specs.Grammar.{FileCommand};
 ghost use Rattle.virtiofsd_fuse.specs.Serving.{Setting, commanded};
-ghost use Rattle.server_phases.specs.Gathering.{Brought, Holds, IsListingFor, StaysBut, is_listing, bytes_of, all_found, entries_of, look_up, look_ups, placed, added_plain, added_found, put_at, served_list};
+ghost use Rattle.server_phases.specs.Gathering.{Brought, EndsList, Holds, IsListingFor, StaysBut, is_listing, bytes_of, all_found, entries_of, look_up, look_ups, placed, added_plain, added_found, put_at, served_list};
 ghost use Rattle.server_phases.specs.Waiting.{WaitsFor, first_call};
 
 use crate::answering::{Refusal, Refused};
@@ -93,13 +93,14 @@ impl Listing {
         Ok(())
     }
 
-    /// Puts an entry of READDIR behind the others, with zeros up to a multiple of 8 bytes. `Full` where it has more bytes
+    /// Puts an entry of READDIR behind the others, with zeros up to a multiple of 8 bytes. `Full` if it has more bytes
     /// than are left.
     pub fn add(&mut self, list: &mut [u8], entry: &DirEntry<'_>) -> Result<(), NotAdded>
         ensures outcome { result ≡ added_plain self.old (length list.old) (length entry.now.name.now) }
         ensures holds { OnOk result ((es : List Brought) → Holds self.old list.old es → Holds self.new list.new (es ++ (listed entry.now, no_node (listed entry.now)) ∷ [])) }
         ensures list { OnOk result (list.new ≡ put_at self.old.len (bytes_of false (listed entry.now, no_node (listed entry.now))) list.old) }
         ensures len { OnOk result (self.new.len ≡ self.old.len + entry_len false (length entry.now.name.now)) }
+        ensures full { result ≡ Err NotAdded.Full → length entry.now.name.now < 2 ^ 32 → EndsList self.old list.old (listed entry.now, no_node (listed entry.now)) }
         ensures same { OnErr result ((self.new ≡ self.old) × (list.new ≡ list.old)) }
         ensures stays { StaysBut self.old self.new }
     {
@@ -121,6 +122,7 @@ impl Listing {
         ensures holds { OnOk result ((es : List Brought) → Holds self.old list.old es → Holds self.new list.new (es ++ (listed entry.now, node) ∷ [])) }
         ensures list { OnOk result (list.new ≡ put_at self.old.len (bytes_of true (listed entry.now, node)) list.old) }
         ensures len { OnOk result (self.new.len ≡ self.old.len + entry_len true (length entry.now.name.now)) }
+        ensures full { result ≡ Err NotAdded.Full → length entry.now.name.now < 2 ^ 32 → EndsList self.old list.old (listed entry.now, node) }
         ensures same { OnErr result ((self.new ≡ self.old) × (list.new ≡ list.old)) }
         ensures stays { StaysBut self.old self.new }
     {
@@ -147,7 +149,7 @@ impl Listing {
         entries_reply(self.unique, self.len)
     }
 
-    /// The reply where reading or a look-up failed: the error, and nothing of the list; but where READDIRPLUS has brought
+    /// The reply if reading or a look-up failed: the error, and nothing of the list; but if READDIRPLUS has brought
     /// entries, these, since their nodes are held.
     pub fn fail(self, error: Errno) -> ListingReply
         ensures alone { (self.with_nodes && nat_lt 0 self.len) ≡ false → (s : Setting) (command : FileCommand) (list : List ℕ) → IsListingFor self s.room command

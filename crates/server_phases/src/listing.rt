@@ -21,7 +21,8 @@ pub struct Listing {
 pub enum NotAdded {
     /// READDIR brings entries without nodes, READDIRPLUS with them.
     OtherKind,
-    /// It has no place in what is left: the entries so far are the answer.
+    /// It has no place in what is left: the entries so far are the answer. In READDIRPLUS its node is given back, by
+    /// FORGET of 1.
     Full,
     /// The list ends before it.
     ShortList,
