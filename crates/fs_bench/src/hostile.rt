@@ -77,12 +77,7 @@ const ATTACKS: [(&str, Shape, usize, Option<Fault>); 13] = [
     ("overlap-1m", Shape::Overlap, 0x100010, None),
     ("windows-32768", Shape::Windows, 0x100000, None),
     ("table-32768", Shape::Table, 16, None),
-    (
-        "holes-16384",
-        Shape::Holes,
-        0,
-        Some(Fault::Chain(ChainFault::TableUnreachable)),
-    ),
+    ("holes-16384", Shape::Holes, 16, None),
 ];
 
 // The greatest limit that a device may have.
