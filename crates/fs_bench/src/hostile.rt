@@ -161,7 +161,7 @@ fn labelled(alloc: Global) -> Result<Vec<u8>, AllocError> {
 
 // BATCH_FORGET of so many nodes, each node 0 (`struct fuse_batch_forget_in`).
 fn forgets(alloc: Global, count: u32) -> Result<Vec<u8>, AllocError> {
-    let len = 48 + 16 * count;
+    let len = count.saturating_mul(16).saturating_add(48);
     let header = requests::header(len, 42, 1, 0);
     let mut request = requests::joined(alloc, &header, &count.to_le_bytes())?;
     request.resize(len as usize, 0)?;
@@ -369,13 +369,11 @@ impl Attack {
 
     // A kick that hands out its exchange's bytes.
     fn process(&mut self) -> (usize, Option<Fault>) {
-        let Machine {
-            host,
-            mem,
-            device,
-            ..
-        } = &mut self.machine;
-        match device.process_one(self.alloc, host, mem, 0) {
+        let machine = &mut self.machine;
+        match machine
+            .device
+            .process_one(self.alloc, &mut machine.host, &machine.mem, 0)
+        {
             Ok(Some((exchange, _))) => (exchange.reply.len(), exchange.fault),
             _ => (usize::MAX, None),
         }
@@ -383,13 +381,11 @@ impl Attack {
 
     // A kick that tells only lengths.
     fn serve(&mut self) -> (usize, Option<Fault>) {
-        let Machine {
-            host,
-            mem,
-            device,
-            ..
-        } = &mut self.machine;
-        match device.serve_one(self.alloc, host, mem, 0) {
+        let machine = &mut self.machine;
+        match machine
+            .device
+            .serve_one(self.alloc, &mut machine.host, &machine.mem, 0)
+        {
             Ok(Some(returned)) => (returned.reply_len, returned.fault),
             _ => (usize::MAX, None),
         }
