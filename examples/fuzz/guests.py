@@ -206,10 +206,14 @@ class Guest:
             done += size
         return parts
 
+    def request(self):
+        """A request's bytes, and how many its reply would have."""
+        return request(self.rng, self.session)
+
     def descriptors(self, most):
         """The ordinary descriptors of a chain for a request, mostly no more than a number."""
         rng = self.rng
-        data, wanted = request(rng, self.session)
+        data, wanted = self.request()
         if self.session and not self.began:
             data, wanted = INIT, 80
             self.began = True

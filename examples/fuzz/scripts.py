@@ -5,6 +5,7 @@ import re
 from pathlib import Path
 
 from guests import Guest
+from hostile import Hostile
 from make_requests import number
 
 ROOT = Path(__file__).resolve().parents[2]
@@ -54,7 +55,8 @@ def made(seed, store):
     rng = random.Random(seed)
     while True:
         kind = rng.random()
-        script = rng.choice(store) if kind < 0.12 else Guest(rng).script()
+        guest = Guest if kind < 0.5 else Hostile
+        script = rng.choice(store) if kind < 0.12 else guest(rng).script()
         if kind < 0.12 or kind > 0.72:
             script = changed(rng, script)
         if is_playable(script):

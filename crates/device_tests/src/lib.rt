@@ -22,6 +22,8 @@ mod requests;
 #[cfg(test)]
 mod resumed;
 #[cfg(test)]
+mod rooms;
+#[cfg(test)]
 mod serving;
 #[cfg(test)]
 mod stand;

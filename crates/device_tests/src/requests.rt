@@ -1,6 +1,6 @@
 //! Requests that ask the file system, each from the guest's bytes.
 
-use crate::stand::{Act, REQUEST_AT, ROOM_AT, Request, play};
+use crate::stand::{Act, REQUEST_AT, ROOM_AT, Request, Stand, expect_same, play};
 use call_log::files::HELLO;
 use call_log::{CallLog, LoggedCall};
 use fs_device::Fault;
@@ -81,6 +81,35 @@ fn entry_that_has_no_room_is_given_back(rt: HostRuntime) {
         Act::Used(0, (0, 0), 1),
     ];
     play(&rt, rt.alloc(), ACTS);
+}
+
+// LOOKUP of `a`, which has 42 bytes: what its header says, how many bytes are there, and why it isn't a request. Less than
+// a header; a name that is cut off; a name without its zero byte.
+const DAMAGED: &[(u8, u32, Error)] = &[
+    (39, 42, Error::InvalidHeaderLength),
+    (42, 41, Error::DecodeMessage),
+    (41, 42, Error::InvalidCString),
+];
+
+#[test]
+fn lookup_that_is_cut_asks_nothing(rt: HostRuntime) {
+    const UNSERVED: &[Act<'static>] = &[
+        Act::Calls(&[]),
+        Act::Used(0, (0, 0), 1),
+        Act::Has(ROOM_AT, &[0; 144]),
+    ];
+    for (len, there, error) in DAMAGED {
+        let mut stand = Stand::new(&rt, rt.alloc());
+        stand.ask_cut(&rt, LOOKUP_A, &[(REQUEST_AT, *there)], &[(ROOM_AT, 144)]);
+        stand.put(&rt, REQUEST_AT, &[*len]);
+        let (exchange, _) = stand.exchange(&rt);
+        expect_same(
+            &rt,
+            (*len, exchange.fault),
+            (*len, Some(Fault::Served(*error))),
+        );
+        stand.play(&rt, UNSERVED);
+    }
 }
 
 #[test]

@@ -24,8 +24,8 @@ pub(crate) const RING: Ring = Ring {
     used: 0x3000,
 };
 
-// A queue of the greatest size, its parts one after another.
-const LONG_RING: Ring = Ring {
+/// A queue of the greatest size, its parts one after another.
+pub(crate) const LONG_RING: Ring = Ring {
     size: 32768,
     desc: 0,
     avail: 0x80000,

@@ -1,6 +1,6 @@
 //! Measures windows of memory, memory of many regions, whole kicks, kicks behind an IOMMU and what a move to
 //! another host takes beside plain slice copies, page marks beside bare steps on atomic words, kicks of a device that
-//! threads share, and gathers of the pages that it wrote.
+//! threads share, gathers of the pages that it wrote, and kicks of guests that want them to be slow.
 //!
 //! Without an argument each case runs a few times, and the checksum of what was done is printed. The first argument is how
 //! many samples are taken of each case; the times are then printed on standard error. The second names the kinds of cases
@@ -10,6 +10,7 @@
 mod fault;
 mod files;
 mod harvests;
+mod hostile;
 mod kick;
 mod listing;
 mod mappings;
@@ -23,6 +24,7 @@ mod window;
 
 use fault::BenchFault;
 use harvests::measure_harvests;
+use hostile::measure_hostile;
 use kick::measure_kicks;
 use mappings::measure_mappings;
 use measure::Meter;
@@ -84,6 +86,7 @@ fn run<R: Clock + Eprint + Threads + Wait + Sync>(
     if meter.wants("moving") {
         measure_moves(&mut meter, alloc)?;
     }
+    measure_hostile(&mut meter, alloc)?;
     Ok(meter.checksum())
 }
 

@@ -1,7 +1,7 @@
 //! Records with bytes changed, or cut short.
 
 use crate::given::{
-    FIRST, LIMIT, PAGE_SIZE, RESTORED, SECOND, changed, expect_restored, expect_same,
+    FIRST, LIMIT, PAGE_SIZE, RESTORED, SECOND, changed, expect_restored, expect_same, restored,
 };
 use fs_record::{Stream, restore_record};
 use std::alloc::Global;
@@ -18,6 +18,7 @@ fn each_refusal_comes_in_its_turn(rt: HostRuntime) {
         (FIRST, &[(4, 3), (8, 0)], "BadVersion", 32),
         (FIRST, &[(8, 0), (12, 1)], "BadCount", 32),
         (FIRST, &[(8, 65), (12, 1)], "BadCount", 32),
+        (FIRST, &[(12, 1)], "BadReserved", 32),
         (FIRST, &[(12, 1), (19, 4)], "BadReserved", 32),
         (FIRST, &[(19, 4), (24, 3)], "BadOptions", 32),
         (FIRST, &[(24, 3)], "BadQueue(0)", 0),
@@ -57,6 +58,28 @@ fn each_refusal_comes_in_its_turn(rt: HostRuntime) {
     for (record, changes, want, left) in CASES {
         let bytes = changed(&rt, rt.alloc(), record, changes);
         expect_restored(&rt, rt.alloc(), &bytes, want, *left);
+    }
+}
+
+// What is damaged, the bytes that are others, and what comes of it in the worked record of either version.
+const DAMAGED: &[(&str, &[(usize, u8)], &str)] = &[
+    ("first byte", &[(0, 0)], "BadMagic"),
+    ("version", &[(4, 7)], "BadVersion"),
+    ("no queue", &[(8, 0)], "BadCount"),
+    ("65 queues", &[(8, 65)], "BadCount"),
+    ("option 26", &[(19, 4)], "BadOptions"),
+    ("a queue of 3", &[(24, 3)], "BadQueue(0)"),
+    ("magic and version", &[(0, 0), (4, 7)], "BadMagic"),
+];
+
+#[test]
+fn each_damage_is_refused_in_both_versions(rt: HostRuntime) {
+    for (name, changes, want) in DAMAGED {
+        for record in [FIRST, SECOND] {
+            let bytes = changed(&rt, rt.alloc(), record, changes);
+            let text = restored(&rt, rt.alloc(), &mut Stream::new(&bytes[..]));
+            expect_same(&rt, (*name, text.as_str()), (*name, *want));
+        }
     }
 }
 

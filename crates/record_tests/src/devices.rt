@@ -14,8 +14,8 @@ use std::process::Abort;
 use virtiofsd_fuse::Server;
 use vm_memory_core::GuestAddress;
 
-// A device, or why there is none; the file system comes back then.
-type Restored = Result<Device<CallLog>, (RestoreError, CallLog)>;
+/// A device, or why there is none; the file system comes back then.
+pub type Restored = Result<Device<CallLog>, (RestoreError, CallLog)>;
 
 // A device of one queue at position 1, with which option 0 was agreed.
 fn device(rt: &impl Abort, alloc: Global) -> Device<CallLog> {
@@ -45,8 +45,8 @@ fn with_high_limit(alloc: Global, bytes: &[u8]) -> Restored {
     Device::restore(alloc, &mut Stream::new(bytes), files, PAGE_SIZE, 0x200000)
 }
 
-// The record of a device.
-fn saved(rt: &impl Abort, alloc: Global, device: &Device<CallLog>) -> Vec<u8> {
+/// The record of a device.
+pub fn saved(rt: &impl Abort, alloc: Global, device: &Device<CallLog>) -> Vec<u8> {
     let mut sink = Stream::new(Vec::new(alloc));
     device.save(&mut sink).expect(rt, "memory");
     sink.into_inner()
@@ -98,8 +98,8 @@ fn serve(rt: &impl Abort, alloc: Global, device: &mut Device<CallLog>, guest: &m
     expect_same(rt, step.expect(rt, "no refusal").is_some(), true);
 }
 
-// A new device that served one request, of an opcode that no request has, with a room of 16 bytes.
-fn served(rt: &impl Abort, alloc: Global) -> Device<CallLog> {
+/// A new device that served one request, of an opcode that no request has, with a room of 16 bytes.
+pub fn served(rt: &impl Abort, alloc: Global) -> Device<CallLog> {
     let mut guest = Guest::new(alloc, &[(GuestAddress(0), 0x10000)], RING).expect(rt, "regions");
     let request = header(40, 7, 1, 0);
     let chained = guest.chain(0, &request, &[(0x1000, 40)], &[(0x2000, 16)]);
