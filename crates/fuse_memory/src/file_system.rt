@@ -2,7 +2,7 @@
 
 ghost use Rattle.fuse_memory.specs.Memory.{May};
 
-use crate::files::MemoryFiles;
+use crate::table::MemoryFiles;
 use crate::listing::{Entries, list};
 use crate::nodes::{DT_DIR, S_IFDIR, S_IFREG, second};
 use fuse_base::{Attr, Errno, FsOptions, OpenOptions, SetattrValid, StatVfs};
