@@ -1,12 +1,14 @@
 -- entries that are found, and what comes of them
-use Rattle.std.proofs.Common.{◌≡◌, ℕ, zero, suc, ◌+◌, ◌<◌, ◌==◌, Bool, true, false, cond, List, [], ◌∷◌, length, map, Option, Some, None, Result, Ok, Err, refl, sym, ap, ◌∙◌, subst, arith}
+use Rattle.std.proofs.Common.{◌≡◌, ℕ, zero, suc, ◌+◌, ◌<◌, ◌≤◌, ◌==◌, Bool, true, false, cond, List, [], ◌∷◌, length, map, Option, Some, None, Result, Ok, Err, refl, sym, ap, ◌∙◌, subst, arith}
 use Rattle.std.specs.Prelude.{nat_lt, not, ◌||◌, slice_get, option_map, unwrap_or}
 use Rattle.std.specs.List.{position, position_or_len, prefix_len}
 use Rattle.std.proofs.lemmas.List.{length-map}
-use Rattle.fuse_fs.specs.Calls.{FileAnswer}
-use Rattle.fuse_memory.specs.Files.{DirectoryEntry, File, Files}
+use Rattle.fuse_fs.specs.Calls.{FileAnswer, HasEntry}
+use Rattle.fuse_fs.specs.declared.answers.Entry.{Entry}
+use Rattle.fuse_memory.specs.Changes.{IsFree, Keeps, Makes, made_file}
+use Rattle.fuse_memory.specs.Files.{DirectoryEntry, File, Files, Tells}
 use Rattle.fuse_memory.specs.Lookups.{lies_in}
-use Rattle.fuse_memory.specs.Memory.{Holds, LooksUp, RemovesDirectory, Takes, Unlinks, cannot_rmdir, cannot_unlink}
+use Rattle.fuse_memory.specs.Memory.{Holds, LooksUp, MakesEntry, MakesNode, RemovesDirectory, Takes, Unlinks, cannot_rmdir, cannot_unlink}
 
 prefix_len-map : {A B : Type 0} (f : A → B) (p : B → Bool) (xs : List A) → prefix_len p (map f xs) ≡ prefix_len (λ x. p (f x)) xs
 prefix_len-map f p [] = refl
@@ -27,6 +29,25 @@ module _ (before after : Files) (found : Result ℕ ℕ) (place : ℕ) (entry : 
 
   pub removes_directory : (refused : Option ℕ) → cannot_rmdir before.entries entry ≡ refused → Takes before place entry refused answer after → RemovesDirectory before found answer after
   removes_directory refused why takes = subst (λ (r : Result ℕ ℕ). RemovesDirectory before r answer after) (sym is) (entry, there, subst (λ (r : Option ℕ). Takes before place entry r answer after) (sym why) takes)
+
+-- ---- a node that is made
+
+pub makes_node : (before after : Files) (directory : ℕ) (name : List ℕ) (mode : ℕ) (e : Entry ℕ) (node : ℕ) → e.inode ≡ node → IsFree before node → node ≤ before.most → Makes before node directory name mode after →
+    Tells (made_file directory mode) e.attr → MakesNode before directory name mode (HasEntry e) after
+makes_node before after directory name mode e node is free low makes told =
+    (subst (λ (n : ℕ). IsFree before n) (sym is) free, subst (λ (n : ℕ). n ≤ before.most) (sym is) low, subst (λ (n : ℕ). Makes before n directory name mode after) (sym is) makes, told)
+
+pub makes_entry : (before after : Files) (found : Result (Option ℕ) ℕ) (directory : ℕ) (name : List ℕ) (mode : ℕ) (answer : FileAnswer) → found ≡ Ok None → MakesNode before directory name mode answer after →
+    MakesEntry before found directory name mode answer after
+makes_entry before after found directory name mode answer none makes = subst (λ (r : Result (Option ℕ) ℕ). MakesEntry before r directory name mode answer after) (sym none) makes
+
+-- a number that is free still is if nothing changed
+pub free_before : (before after : Files) (node : ℕ) → Keeps before after → IsFree after node → IsFree before node
+free_before before after node keeps free = record {
+  from = free.from;
+  free = sym (keeps.files node) ∙ free.free;
+  taken = λ other from below none. free.taken other from below (keeps.files other ∙ none);
+}
 
 -- ---- a walk up, step by step
 

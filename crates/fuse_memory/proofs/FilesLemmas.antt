@@ -1,5 +1,5 @@
 -- the table of nodes after one of them was changed
-use Rattle.std.proofs.Common.{◌≡◌, ℕ, zero, suc, ◌==◌, ◌<◌, List, [], ◌∷◌, ◌++◌, length, drop, set, get_or, Option, Some, None, refl, sym, ap, ◌∙◌, arith, ⊎_elim}
+use Rattle.std.proofs.Common.{◌≡◌, ℕ, zero, suc, ◌==◌, ◌<◌, List, [], ◌∷◌, ◌++◌, length, drop, set, get_or, cond, Option, Some, None, refl, sym, ap, ◌∙◌, arith, ⊎_elim}
 use Rattle.std.specs.Prelude.{slice_get, option_and_then, option_map, map, remove}
 use Rattle.std.proofs.lemmas.Bool.{cases_eq, cond-false, cond-true, eq-eqb, ne_eqb}
 use Rattle.std.proofs.lemmas.List.{drop-map, map-append, take-map}
@@ -76,6 +76,15 @@ module _ (nodes : Nodes) (entries : List DirectoryEntry) (made most : ℕ) (plac
   file_other : (new : Option Node) (other : ℕ) → (other ≡ number → ⊥) → file_at (set nodes place new) other ≡ file_at nodes other
   file_other new other apart =
       ap (λ (s : Option (Option Node)). option_map file_of (there s)) (get_set_other nodes place other new (λ e. apart (e ∙ at)))
+
+  -- a file that comes into a slot
+  pub file_made : (new : Node) (file : File) → file_of new ≡ file → (other : ℕ) → file_at (set nodes place (Some new)) other ≡ cond (other == number) (Some file) (file_at nodes other)
+  file_made new file same other =
+      ⊎_elim
+      (λ (e : other ≡ number).
+      ap (λ (n : ℕ). file_at (set nodes place (Some new)) n) e ∙ file_after (Some new) ∙ ap Some same ∙ sym (cond-true (other == number) (Some file) (file_at nodes other) (eq-eqb other number e)))
+      (λ (apart : other ≡ number → ⊥). file_other (Some new) other apart ∙ sym (cond-false (other == number) (Some file) (file_at nodes other) (ne_eqb other number apart)))
+      (cases_eq other number)
 
   -- a slot that is the same file stays so
   pub keeps : (new : Option Node) → option_map file_of new ≡ option_map file_of slot → Keeps before (after new)

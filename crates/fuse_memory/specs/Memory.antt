@@ -106,6 +106,21 @@ as_entry answer = answer
 abbrev pub mode_of : (kind mode : ℕ) → ℕ
 mode_of kind mode = bit_or kind (bit_and mode 0xfff)
 
+-- RENAME: an entry moves, if no allocation fails
+abbrev pub MovesEntry : Files → (place : ℕ) → DirectoryEntry → (directory : ℕ) → (name : List ℕ) → FileAnswer → Files → Type 0
+MovesEntry before place entry directory name (Failed e) after = (e ≡ ENOMEM) × Keeps before after
+MovesEntry before place entry directory name Done after = Moves before place entry directory name after
+MovesEntry before place entry directory name answer after = ⊥
+
+-- in the place of another entry, which goes
+abbrev pub MovesOver : Files → (place : ℕ) → (entry : DirectoryEntry) → (directory : ℕ) → (name : List ℕ) → (other : ℕ) → (replaced : DirectoryEntry)
+    → (refused : Option ℕ) → FileAnswer → Files → Type 0
+MovesOver before place entry directory name other replaced (Some e) answer after = Fails before e answer after
+MovesOver before place entry directory name other replaced None Done after =
+    (between : Files) × Moves before place entry directory name between × Removes between other replaced after
+MovesOver before place entry directory name other replaced None (Failed e) after = (e ≡ ENOMEM) × Keeps before after
+MovesOver before place entry directory name other replaced None answer after = ⊥
+
 -- OPENDIR: without a handle
 abbrev pub directory_opened : Option ℕ → FileAnswer
 directory_opened None = Opened None 0

@@ -95,10 +95,11 @@ impl WritableFileSystem for MemoryFiles {
 
     fn rmdir(&mut self, _ctx: Context, parent: u64, name: &[u8]) -> Result<(), Errno> {
         let place = self.find_there(parent, name)?;
-        if self.names[place].kind != DT_DIR {
+        let entry = &self.names[place];
+        if entry.kind != DT_DIR {
             return Err(Errno::ENOTDIR);
         }
-        if !self.is_empty(self.names[place].node) {
+        if !self.is_empty(entry.node) {
             return Err(Errno::ENOTEMPTY);
         }
         self.remove(place);

@@ -205,7 +205,7 @@ impl MemoryFiles {
             kind: mode >> 12,
             offset,
         };
-        self.names.push(entry).unwrap();
+        self.names.push_reserved(entry);
         let mut made = Node::new(self.alloc, node, parent, offset, ctx, mode);
         made.lookups = 1;
         let entry = made.entry(node);
@@ -276,6 +276,9 @@ impl MemoryFiles {
 }
 
 // The same bytes in memory of their own.
-fn copied(alloc: Global, bytes: &[u8]) -> Result<Vec<u8>, Errno> {
+fn copied(alloc: Global, bytes: &[u8]) -> Result<Vec<u8>, Errno>
+    ensures ok { IfOk result (λ v. v.items ≡ bytes.now) }
+    ensures err { IfErr result (λ e. e ≡ ENOMEM) }
+{
     Vec::from_slice(alloc, bytes).map_err(|_| Errno::ENOMEM)
 }
