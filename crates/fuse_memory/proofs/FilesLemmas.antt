@@ -133,8 +133,8 @@ module _ (nodes : Nodes) (entries : List DirectoryEntry) (made most : ℕ) (plac
       }
 
   -- a file that is written
-  pub writes : (old new : Node) (left : List ℕ) (size off : ℕ) (answer : Result ℕ ℕ) → slot ≡ Some old → IfOk answer (λ n. n ≤ min size (length left)) →
+  pub writes : (old new : Node) (left : List ℕ) (size off : ℕ) (answer : Result ℕ ℕ) → slot ≡ Some old → IfOk answer (λ n. n ≤ min size (length left)) → IfOk answer (λ n. 0 < size → 0 < n) →
       IfOk answer (λ n. file_of new ≡ written off (take n left) (file_of old)) → OnErr answer (file_of new ≡ file_of old) →
       Writes before number left size off (written_answer answer) (after (Some new))
-  writes old new left size off (Ok n) is within ok err = (within, changes old new (written off (take n left)) is ok)
-  writes old new left size off (Err e) is within ok err = keeps (Some new) (ap Some err ∙ ap (λ (s : Option Node). option_map file_of s) (sym is))
+  writes old new left size off (Ok n) is within some ok err = (within, some, changes old new (written off (take n left)) is ok)
+  writes old new left size off (Err e) is within some ok err = keeps (Some new) (ap Some err ∙ ap (λ (s : Option Node). option_map file_of s) (sym is))

@@ -47,7 +47,7 @@ names_directory e = e.kind == 4
 abbrev pub cannot_replace : List DirectoryEntry → (moved replaced : DirectoryEntry) → Option ℕ
 cannot_replace entries moved replaced =
     if names_directory moved then
-        (if not (names_directory replaced) then Some ENOTDIR else if is_empty entries replaced.node then None else Some ENOTEMPTY)
+    (if not (names_directory replaced) then Some ENOTDIR else if is_empty entries replaced.node then None else Some ENOTEMPTY)
     else if names_directory replaced then Some EISDIR
     else None
 

@@ -39,11 +39,11 @@ Opens before node flags (Failed e) after = Keeps before after
 Opens before node flags (Opened handle options) after = Changes before node (opened flags) after
 Opens before node flags answer after = ⊥
 
--- WRITE: so many of the bytes stand at the offset; an error changes nothing
+-- WRITE: so many of the bytes stand at the offset, none only if none were asked for; an error changes nothing
 abbrev pub Writes : Files → (node : ℕ) → (bytes : List ℕ) → (size offset : ℕ) → FileAnswer → Files → Type 0
 Writes before node bytes size offset (Failed e) after = Keeps before after
 Writes before node bytes size offset (Wrote n) after =
-    (n ≤ min size (length bytes)) × Changes before node (written offset (take n bytes)) after
+    (n ≤ min size (length bytes)) × (0 < size → 0 < n) × Changes before node (written offset (take n bytes)) after
 Writes before node bytes size offset answer after = ⊥
 
 -- LOOKUP of an entry's node, or a node that is made: it is held once more, and the entry tells it

@@ -2,9 +2,9 @@
 
 ghost use Rattle.fuse_memory.specs.Memory.{May};
 
-use crate::table::MemoryFiles;
 use crate::listing::{Entries, list};
 use crate::nodes::{DT_DIR, S_IFDIR, S_IFREG, second};
+use crate::table::MemoryFiles;
 use fuse_base::{Attr, Errno, FsOptions, OpenOptions, SetattrValid, StatVfs};
 use fuse_fs::{Context, Entry, Extensions, Timeout, ZeroCopyReader, ZeroCopyWriter, defaults};
 use fuse_in::SetattrIn;

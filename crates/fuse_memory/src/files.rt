@@ -7,7 +7,6 @@ ghost use Rattle.fuse_memory.specs.Errors.{ENOMEM, ENOSPC};
 ghost use Rattle.fuse_memory.specs.Files.{Starts, entry_of, file_at, files_of, node_at};
 ghost use Rattle.fuse_memory.specs.Lookups.{find, is_empty, lies_in, needed, no_directory};
 ghost use Rattle.fuse_memory.specs.Memory.{Holds, MakesEntry};
-
 ghost use Rattle.fuse_memory.specs.declared.nodes.Name.{Name as NameRecord};
 
 use crate::nodes::{DT_DIR, Name, Node, S_IFDIR, forget, lose_name, move_to, place_of};

@@ -189,6 +189,7 @@ impl Node {
         room: u64,
     ) -> Result<u32, Errno>
         ensures within { IfOk result (λ n. n ≤ min size (length (R.left r.old))) }
+        ensures some { IfOk result (λ n. 0 < size → 0 < n) }
         ensures ok { IfOk result (λ n. file_of self.new ≡ written offset (take n (R.left r.old)) (file_of self.old)) }
         ensures err { OnErr result (file_of self.new ≡ file_of self.old) }
     {
@@ -275,7 +276,5 @@ pub(crate) fn move_to(slot: &mut Option<Node>, directory: u64)
 pub(crate) fn place_of(names: &[Name], parent: u64, name: &[u8]) -> Option<usize>
     ensures { result ≡ position (is_named parent name.now) (map entry_of names.now) }
 {
-    names
-        .iter()
-        .position(|entry| entry.parent == parent && entry.name.as_slice() == name)
+    names.iter().position(|entry| entry.parent == parent && entry.name.as_slice() == name)
 }
