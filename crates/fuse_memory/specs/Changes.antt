@@ -1,13 +1,10 @@
 -- What reads of files give, and what changes leave of them.
-use Rattle.std.specs.Prelude.{◌≡◌, ℕ, ◌==◌, bit_and, bit_or, List, [], take, drop, Option, Some, option_map, if◌then◌else◌}
+use Rattle.std.specs.Prelude.{◌≡◌, ◌≢◌, ℕ, ◌+◌, ◌-◌, ◌/◌, ◌^◌, ◌<◌, ◌≤◌, ◌==◌, ◌&&◌, min, bit_and, bit_or, List, [], ◌∷◌, ◌++◌, take, drop, remove, slice_set, Option, Some, None, option_map, option_and_then, if◌then◌else◌}
 use Rattle.fuse_fs.specs.Calls.{FileAnswer, Failed, Bytes}
 use Rattle.fuse_in.specs.declared.nodes.SetattrIn.{SetattrIn}
 use Rattle.fuse_memory.specs.Contents.{put, sized}
-use Rattle.fuse_memory.specs.Files.{File, Files, is_directory}
-
--- an error number of Linux: a directory isn't read
-abbrev pub EISDIR : ℕ
-EISDIR = 21
+use Rattle.fuse_memory.specs.Errors.{EISDIR}
+use Rattle.fuse_memory.specs.Files.{DirectoryEntry, File, Files, is_directory}
 
 -- a read of a file's bytes from an offset on, at most so many
 abbrev pub read_of : (most offset : ℕ) → File → FileAnswer
@@ -15,7 +12,7 @@ read_of most offset f = if is_directory f then Failed EISDIR else Bytes (take mo
 
 -- a file with other contents
 abbrev pub with_contents : List ℕ → File → File
-with_contents contents f = record { contents = contents; mode = f.mode }
+with_contents contents f = record f { contents = contents }
 
 -- a file in which bytes are written at an offset
 abbrev pub written : (offset : ℕ) → List ℕ → File → File
@@ -35,20 +32,86 @@ size_set valid size contents = if bit_and valid 8 == 8 then sized size contents 
 
 -- a file after a SETATTR
 abbrev pub attributes_set : (valid : ℕ) → SetattrIn → File → File
-attributes_set valid to f = record { contents = size_set valid to.size f.contents; mode = mode_set valid to.mode f.mode }
+attributes_set valid to f = record f { contents = size_set valid to.size f.contents; mode = mode_set valid to.mode f.mode }
+
+-- a file that the guest holds once more (as far as 64 bits count)
+abbrev pub held_more : File → File
+held_more f = record f { held = min (f.held + 1) (2 ^ 64 - 1) }
+
+-- a file in another directory
+abbrev pub in_directory : (directory : ℕ) → File → File
+in_directory directory f = record f { parent = directory }
+
+-- a file, which goes if it has no name and isn't held
+abbrev pub kept : File → Option File
+kept f = if f.links == 0 && f.held == 0 then None else Some f
+
+-- what is left of a file that the guest holds so many times less
+abbrev pub let_go : (count : ℕ) → File → Option File
+let_go count f = kept (record f { held = f.held - count })
+
+-- what is left of a file whose name is taken away
+abbrev pub unnamed : File → Option File
+unnamed f = kept (record f { links = 0 })
 
 -- each file after a change of one
 abbrev pub changed : Files → (node : ℕ) → (File → File) → (other : ℕ) → Option File
 changed before node change other = if other == node then option_map change (before.file other) else before.file other
 
+-- each file after a change of one, if that is there, which may go
+abbrev pub altered : Files → (node : ℕ) → (File → Option File) → (other : ℕ) → Option File
+altered before node change other = if other == node then option_and_then change (before.file other) else before.file other
+
+-- entries, how many were made, and how many nodes there may be stay
+pub record KeepsEntries (before after : Files) : Type 0 where
+  pub entries : after.entries ≡ before.entries
+  pub made : after.made ≡ before.made
+  pub most : after.most ≡ before.most
+
 -- nothing changes
 pub record Keeps (before after : Files) : Type 0 where
   pub files : (node : ℕ) → after.file node ≡ before.file node
-  pub entries : after.entries ≡ before.entries
+  pub rest : KeepsEntries before after
 
 -- one file is changed, no other is, and the entries stay
 pub record Changes (before : Files) (node : ℕ) (change : File → File) (after : Files) : Type 0 where
   pub is : File
   pub there : before.file node ≡ Some is
   pub files : (other : ℕ) → after.file other ≡ changed before node change other
-  pub entries : after.entries ≡ before.entries
+  pub rest : KeepsEntries before after
+
+-- one file is changed or goes, if it is there; no other is changed, and the entries stay
+pub record Alters (before : Files) (node : ℕ) (change : File → Option File) (after : Files) : Type 0 where
+  pub files : (other : ℕ) → after.file other ≡ altered before node change other
+  pub rest : KeepsEntries before after
+
+-- an entry goes, and the file that it names loses its name
+pub record Removes (before : Files) (place : ℕ) (entry : DirectoryEntry) (after : Files) : Type 0 where
+  pub files : (other : ℕ) → after.file other ≡ altered before entry.node unnamed other
+  pub entries : after.entries ≡ remove before.entries place
+  pub made : after.made ≡ before.made
+  pub most : after.most ≡ before.most
+
+-- an entry gets another directory and name, and the file that it names lies there
+pub record Moves (before : Files) (place : ℕ) (entry : DirectoryEntry) (directory : ℕ) (name : List ℕ) (after : Files) : Type 0 where
+  pub files : (other : ℕ) → after.file other ≡ changed before entry.node (in_directory directory) other
+  pub entries : after.entries ≡ slice_set before.entries place (record entry { directory = directory; name = name })
+  pub made : after.made ≡ before.made
+  pub most : after.most ≡ before.most
+
+-- the least number from 2 on that no node has
+pub record IsFree (before : Files) (node : ℕ) : Type 0 where
+  pub from : 2 ≤ node
+  pub free : before.file node ≡ None
+  pub taken : (other : ℕ) → 2 ≤ other → other < node → before.file other ≢ None
+
+-- an empty file of a mode, which has a name and is held once
+abbrev pub made_file : (directory mode : ℕ) → File
+made_file directory mode = record { contents = []; mode = mode; links = 1; parent = directory; held = 1 }
+
+-- a node is made under a name; its kind stands in the upper bits of its mode (S_IFMT)
+pub record Makes (before : Files) (node directory : ℕ) (name : List ℕ) (mode : ℕ) (after : Files) : Type 0 where
+  pub files : (other : ℕ) → after.file other ≡ (if other == node then Some (made_file directory mode) else before.file other)
+  pub entries : after.entries ≡ before.entries ++ record { directory = directory; name = name; node = node; kind = mode / 2 ^ 12 } ∷ []
+  pub made : after.made ≡ before.made + 1
+  pub most : after.most ≡ before.most

@@ -1,17 +1,21 @@
 -- What the calls of the file system in memory may answer and do.
-use Rattle.std.specs.Prelude.{◌≡◌, ◌≤◌, ⊤, ℕ, min, List, length, take, Option, Some, None}
-use Rattle.fuse_fs.specs.Calls.{FileCall, FileAnswer, Failed, HasAttr, Opened, Wrote}
-use Rattle.fuse_fs.specs.Calls.{Getattr, Setattr, Open, Read, Write, Release, Statfs, Opendir, Readdir}
+use Rattle.std.specs.Prelude.{◌≡◌, ◌≢◌, ◌≤◌, ◌<◌, ◌⊎◌, ⊤, ℕ, ◌+◌, ◌-◌, ◌^◌, Bool, true, false, ◌==◌, bit_and, bit_or, min, List, length, slice_get, Option, Some, None, Result, Ok, Err, take, if◌then◌else◌}
+use Rattle.fuse_fs.specs.Calls.{FileCall, FileAnswer, Failed, Done, HasEntry, HasAttr, Opened, Created, Wrote, Entries}
+use Rattle.fuse_fs.specs.Calls.{Lookup, Forget, Getattr, Setattr, Mkdir, Unlink, Rmdir, Rename, Open, Create, Read, Write, Release, Statfs, Opendir, Readdir}
+use Rattle.fuse_fs.specs.declared.answers.Entry.{Entry}
 use Rattle.fuse_in.specs.declared.nodes.SetattrIn.{SetattrIn}
-use Rattle.fuse_memory.specs.Changes.{Changes, Keeps, attributes_set, opened, read_of, written}
-use Rattle.fuse_memory.specs.Files.{File, Files, Tells, files_of}
-use Rattle.fuse_memory.specs.declared.files.MemoryFiles.{MemoryFiles}
+use Rattle.fuse_memory.specs.Changes.{Alters, Changes, IsFree, Keeps, Makes, Moves, Removes, attributes_set, held_more, let_go, made_file, opened, read_of, written}
+use Rattle.fuse_memory.specs.Errors.{EEXIST, EINVAL, EISDIR, ENOENT, ENOMEM, ENOSPC, ENOTDIR, ENOTEMPTY}
+use Rattle.fuse_memory.specs.Files.{DirectoryEntry, File, Files, Tells, files_of}
+use Rattle.fuse_memory.specs.Lookups.{cannot_replace, find, is_empty, lies_in, names_directory, needed, no_directory}
+use Rattle.fuse_memory.specs.declared.table.MemoryFiles.{MemoryFiles}
 
--- an error number of Linux: no node has this number
-abbrev pub ENOENT : ℕ
-ENOENT = 2
+-- a call fails, and nothing changes
+pub record Fails (before : Files) (errno : ℕ) (answer : FileAnswer) (after : Files) : Type 0 where
+  pub answers : answer ≡ Failed errno
+  pub keeps : Keeps before after
 
--- GETATTR: size and mode are the file's
+-- GETATTR: size, mode and links are the file's
 abbrev pub Answers : Option File → FileAnswer → Type 0
 Answers None answer = answer ≡ Failed ENOENT
 Answers (Some f) (HasAttr attr time) = Tells f attr
@@ -35,26 +39,121 @@ Opens before node flags (Failed e) after = Keeps before after
 Opens before node flags (Opened handle options) after = Changes before node (opened flags) after
 Opens before node flags answer after = ⊥
 
--- WRITE: so many of the bytes stand at the offset; an error changes nothing
+-- WRITE: so many of the bytes stand at the offset, none only if none were asked for; an error changes nothing
 abbrev pub Writes : Files → (node : ℕ) → (bytes : List ℕ) → (size offset : ℕ) → FileAnswer → Files → Type 0
 Writes before node bytes size offset (Failed e) after = Keeps before after
 Writes before node bytes size offset (Wrote n) after =
-    (n ≤ min size (length bytes)) × Changes before node (written offset (take n bytes)) after
+    (n ≤ min size (length bytes)) × (0 < size → 0 < n) × Changes before node (written offset (take n bytes)) after
 Writes before node bytes size offset answer after = ⊥
+
+-- LOOKUP of an entry's node, or a node that is made: it is held once more, and the entry tells it
+abbrev pub Holds : Files → (node : ℕ) → FileAnswer → Files → Type 0
+Holds before node (Failed e) after = (e ≡ ENOENT) × (before.file node ≡ None) × Keeps before after
+Holds before node (HasEntry e) after = (f : File) × (before.file node ≡ Some f) × (e.inode ≡ node) × Tells f e.attr × Changes before node held_more after
+Holds before node answer after = ⊥
+
+-- LOOKUP: the node that the name stands for
+abbrev pub LooksUp : Files → Result ℕ ℕ → FileAnswer → Files → Type 0
+LooksUp before (Err e) answer after = Fails before e answer after
+LooksUp before (Ok place) answer after =
+    (entry : DirectoryEntry) × (slice_get before.entries place ≡ Some entry) × Holds before entry.node answer after
+
+-- an entry is taken away, or there is a reason not to
+abbrev pub Takes : Files → (place : ℕ) → DirectoryEntry → (refused : Option ℕ) → FileAnswer → Files → Type 0
+Takes before place entry (Some e) answer after = Fails before e answer after
+Takes before place entry None answer after = (answer ≡ Done) × Removes before place entry after
+
+-- UNLINK: not that of a directory
+abbrev pub cannot_unlink : DirectoryEntry → Option ℕ
+cannot_unlink entry = if names_directory entry then Some EISDIR else None
+
+abbrev pub Unlinks : Files → Result ℕ ℕ → FileAnswer → Files → Type 0
+Unlinks before (Err e) answer after = Fails before e answer after
+Unlinks before (Ok place) answer after =
+    (entry : DirectoryEntry) × (slice_get before.entries place ≡ Some entry) × Takes before place entry (cannot_unlink entry) answer after
+
+-- RMDIR: that of an empty directory
+abbrev pub cannot_rmdir : List DirectoryEntry → DirectoryEntry → Option ℕ
+cannot_rmdir entries entry =
+    if names_directory entry then (if is_empty entries entry.node then None else Some ENOTEMPTY) else Some ENOTDIR
+
+abbrev pub RemovesDirectory : Files → Result ℕ ℕ → FileAnswer → Files → Type 0
+RemovesDirectory before (Err e) answer after = Fails before e answer after
+RemovesDirectory before (Ok place) answer after =
+    (entry : DirectoryEntry) × (slice_get before.entries place ≡ Some entry)
+    × Takes before place entry (cannot_rmdir before.entries entry) answer after
+
+-- MKDIR and CREATE in a directory that has no such entry: the node gets the least free number; no error but that an allocation fails,
+-- or that there may be no more nodes or were as many entries as 64 bits count
+abbrev pub MakesNode : Files → (directory : ℕ) → (name : List ℕ) → (mode : ℕ) → FileAnswer → Files → Type 0
+MakesNode before directory name mode (Failed e) after =
+    ((e ≡ ENOMEM) ⊎ ((e ≡ ENOSPC) × (((node : ℕ) × IsFree before node × (before.most < node)) ⊎ (before.made ≡ 2 ^ 64 - 1)))) × Keeps before after
+MakesNode before directory name mode (HasEntry e) after =
+    IsFree before e.inode × (e.inode ≤ before.most) × Makes before e.inode directory name mode after × Tells (made_file directory mode) e.attr
+MakesNode before directory name mode answer after = ⊥
+
+abbrev pub MakesEntry : Files → Result (Option ℕ) ℕ → (directory : ℕ) → (name : List ℕ) → (mode : ℕ) → FileAnswer → Files → Type 0
+MakesEntry before (Err e) directory name mode answer after = Fails before e answer after
+MakesEntry before (Ok (Some place)) directory name mode answer after = Fails before EEXIST answer after
+MakesEntry before (Ok None) directory name mode answer after = MakesNode before directory name mode answer after
+
+-- CREATE: the same, and the file is open without a handle
+abbrev pub as_entry : FileAnswer → FileAnswer
+as_entry (Created e handle options) = HasEntry e
+as_entry answer = answer
+
+-- a node's mode: the permissions of a request's (0o7777), and its kind
+abbrev pub mode_of : (kind mode : ℕ) → ℕ
+mode_of kind mode = bit_or kind (bit_and mode 0xfff)
+
+-- RENAME: an entry moves, if no allocation fails
+abbrev pub MovesEntry : Files → (place : ℕ) → DirectoryEntry → (directory : ℕ) → (name : List ℕ) → FileAnswer → Files → Type 0
+MovesEntry before place entry directory name (Failed e) after = (e ≡ ENOMEM) × Keeps before after
+MovesEntry before place entry directory name Done after = Moves before place entry directory name after
+MovesEntry before place entry directory name answer after = ⊥
+
+-- in the place of another entry, which goes
+abbrev pub MovesOver : Files → (place : ℕ) → (entry : DirectoryEntry) → (directory : ℕ) → (name : List ℕ) → (other : ℕ) → (replaced : DirectoryEntry)
+    → (refused : Option ℕ) → FileAnswer → Files → Type 0
+MovesOver before place entry directory name other replaced (Some e) answer after = Fails before e answer after
+MovesOver before place entry directory name other replaced None Done after =
+    (between : Files) × Moves before place entry directory name between × Removes between other replaced after
+MovesOver before place entry directory name other replaced None (Failed e) after = (e ≡ ENOMEM) × Keeps before after
+MovesOver before place entry directory name other replaced None answer after = ⊥
+
+-- OPENDIR: without a handle
+abbrev pub directory_opened : Option ℕ → FileAnswer
+directory_opened None = Opened None 0
+directory_opened (Some e) = Failed e
+
+-- READDIR: a listing, unless an allocation fails
+abbrev pub Lists : Option ℕ → FileAnswer → Type 0
+Lists (Some e) answer = answer ≡ Failed e
+Lists None (Failed e) = e ≡ ENOMEM
+Lists None (Entries listed) = ⊤
+Lists None answer = ⊥
 
 -- by the files before and after
 abbrev pub MayDo : Files → FileCall → FileAnswer → Files → Type 0
+MayDo before (Lookup who node name) answer after = LooksUp before (needed (find before node name)) answer after
+MayDo before (Forget who node count) answer after = Alters before node (let_go count) after
 MayDo before (Getattr who node handle) answer after = Answers (before.file node) answer × Keeps before after
 MayDo before (Setattr who node to handle valid) answer after = Sets before node valid to answer after
+MayDo before (Mkdir who node name mode umask extra) answer after =
+    MakesEntry before (find before node name) node name (mode_of 0x4000 mode) answer after
+MayDo before (Unlink who node name) answer after = Unlinks before (needed (find before node name)) answer after
+MayDo before (Rmdir who node name) answer after = RemovesDirectory before (needed (find before node name)) answer after
 MayDo before (Open who node kill flags) answer after = Opens before node flags answer after
+MayDo before (Create who node name mode kill flags umask extra) answer after =
+    MakesEntry before (find before node name) node name (mode_of 0x8000 mode) (as_entry answer) after
 MayDo before (Read who node handle room size offset owner flags) answer after =
     (answer ≡ read_at (before.file node) (min size room) offset) × Keeps before after
 MayDo before (Write who node handle bytes size offset owner delayed kill flags) answer after =
     Writes before node bytes size offset answer after
 MayDo before (Statfs who node) answer after = Keeps before after
 MayDo before (Release who node flags handle flush unlock owner) answer after = Keeps before after
-MayDo before (Opendir who node flags) answer after = Keeps before after
-MayDo before (Readdir who node handle size offset) answer after = Keeps before after
+MayDo before (Opendir who node flags) answer after = (answer ≡ directory_opened (no_directory (before.file node))) × Keeps before after
+MayDo before (Readdir who node handle size offset) answer after = Lists (no_directory (before.file node)) answer × Keeps before after
 MayDo before call answer after = ⊤
 
 -- the file system's relation

@@ -136,8 +136,8 @@ impl Contents {
     }
 
     /// Writes what a reader has to an offset, if they take at most `room` bytes of memory more for it, and answers how
-    /// many bytes it wrote: fewer than there are if an error comes after some of them. EFBIG, ENOSPC and ENOMEM change
-    /// nothing.
+    /// many bytes it wrote: fewer than there are if an error comes after some of them, and 0 only if the size is 0. EFBIG,
+    /// ENOSPC, ENOMEM, and EIO if the reader has none of the bytes, change nothing.
     pub fn write<R: ZeroCopyReader>(
         &mut self,
         r: &mut R,
@@ -146,6 +146,7 @@ impl Contents {
         room: u64,
     ) -> Result<u32, Errno>
         ensures within { IfOk result (λ n. n ≤ min size (length (R.left r.old))) }
+        ensures some { IfOk result (λ n. 0 < size → 0 < n) }
         ensures ok { IfOk result (λ n. self.new.bytes.items ≡ put offset (take n (R.left r.old)) self.old.bytes.items) }
         ensures err { OnErr result (self.new.bytes.items ≡ self.old.bytes.items) }
     {
@@ -153,6 +154,7 @@ impl Contents {
         self.written = 0;
         match r.write_to_file_at(self, size as usize, offset, None) {
             Err(error) if self.written == 0 => Err(error),
+            _ if self.written == 0 && size > 0 => Err(Errno::EIO),
             _ => Ok(self.written as u32),
         }
     }

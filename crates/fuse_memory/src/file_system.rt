@@ -2,9 +2,9 @@
 
 ghost use Rattle.fuse_memory.specs.Memory.{May};
 
-use crate::files::MemoryFiles;
 use crate::listing::{Entries, list};
 use crate::nodes::{DT_DIR, S_IFDIR, S_IFREG, second};
+use crate::table::MemoryFiles;
 use fuse_base::{Attr, Errno, FsOptions, OpenOptions, SetattrValid, StatVfs};
 use fuse_fs::{Context, Entry, Extensions, Timeout, ZeroCopyReader, ZeroCopyWriter, defaults};
 use fuse_in::SetattrIn;
@@ -95,10 +95,11 @@ impl WritableFileSystem for MemoryFiles {
 
     fn rmdir(&mut self, _ctx: Context, parent: u64, name: &[u8]) -> Result<(), Errno> {
         let place = self.find_there(parent, name)?;
-        if self.names[place].kind != DT_DIR {
+        let entry = &self.names[place];
+        if entry.kind != DT_DIR {
             return Err(Errno::ENOTDIR);
         }
-        if !self.is_empty(self.names[place].node) {
+        if !self.is_empty(entry.node) {
             return Err(Errno::ENOTEMPTY);
         }
         self.remove(place);

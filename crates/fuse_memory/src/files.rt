@@ -1,10 +1,16 @@
-//! The table of nodes and the names.
+//! What the calls do with the nodes and names.
 
-ghost use Rattle.std.specs.Prelude.{◌≡◌, ◌<◌, vec_len, slice_get, option_map, Some, None, IfNone, IfOk, IfSome};
-ghost use Rattle.fuse_memory.specs.Changes.{Keeps};
-ghost use Rattle.fuse_memory.specs.Files.{Starts, files_of, node_at};
+ghost use Rattle.std.specs.Prelude.{◌≡◌, ℕ, ◌+◌, ◌<◌, ◌≤◌, ◌⊎◌, vec_len, slice_get, option_map, map, Some, None, IfNone, IfErr, IfOk, IfSome, OnOk};
+ghost use Rattle.fuse_fs.specs.Answers.{entry_answer};
+ghost use Rattle.fuse_memory.specs.Changes.{Alters, IsFree, Keeps, Removes, let_go};
+ghost use Rattle.fuse_memory.specs.Errors.{ENOMEM, ENOSPC};
+ghost use Rattle.fuse_memory.specs.Files.{Starts, entry_of, file_at, files_of, node_at};
+ghost use Rattle.fuse_memory.specs.Lookups.{find, is_empty, lies_in, needed, no_directory};
+ghost use Rattle.fuse_memory.specs.Memory.{Holds, MakesEntry};
+ghost use Rattle.fuse_memory.specs.declared.nodes.Name.{Name as NameRecord};
 
-use crate::nodes::{DT_DIR, Name, Node, S_IFDIR, place_of};
+use crate::nodes::{DT_DIR, Name, Node, S_IFDIR, forget, lose_name, move_to, place_of};
+use crate::table::MemoryFiles;
 use fuse_base::{Errno, GuestGid, GuestUid};
 use fuse_fs::{Context, Entry};
 use std::alloc::{AllocError, Global};
@@ -15,30 +21,13 @@ pub(crate) const ROOT: u64 = 1;
 // The most bytes that a name has.
 const LONGEST_NAME: usize = 255;
 
-/// A file system in memory, empty at first. Each look-up goes through all names, and each write through all nodes, so it
-/// is one of few files.
-#[derive(Drop)]
-pub struct MemoryFiles {
-    pub(crate) alloc: Global,
-    // Node n at place n; none has number 0.
-    pub(crate) nodes: Vec<Option<Node>>,
-    // All entries of all directories, in the order of their offsets.
-    pub(crate) names: Vec<Name>,
-    // How many names were made.
-    made: u64,
-    // How many bytes of memory the contents of all files may take.
-    pub(crate) limit: u64,
-    // How many nodes there may be.
-    pub(crate) most_nodes: u64,
-}
-
 impl MemoryFiles {
     /// A file system of an empty root, which belongs to user and group 0. The contents of its files take at most `limit`
     /// bytes of memory: a file that grew may take an eighth more than it has bytes. While a file grows or is cut, it is
     /// copied, and its copy counts for nothing. There are at most `most_nodes` files and directories. AllocError if an
     /// allocation fails.
     pub fn new(alloc: Global, limit: u64, most_nodes: u64) -> Result<MemoryFiles, AllocError>
-        ensures { IfOk result (λ files. Starts (files_of files)) }
+        ensures { IfOk result (λ files. Starts most_nodes (files_of files)) }
     {
         let nobody = Context {
             uid: GuestUid(0),
@@ -89,7 +78,10 @@ impl MemoryFiles {
     }
 
     // Whether a node is a directory. ENOENT if there is none, and ENOTDIR if it is a file.
-    pub(crate) fn test_directory(&self, number: u64) -> Result<(), Errno> {
+    pub(crate) fn test_directory(&self, number: u64) -> Result<(), Errno>
+        ensures ok { OnOk result (no_directory (file_at self.now.nodes.items number) ≡ None) }
+        ensures err { IfErr result (λ e. no_directory (file_at self.now.nodes.items number) ≡ Some e) }
+    {
         match self.node(number) {
             Some(node) if node.is_directory() => Ok(()),
             Some(_) => Err(Errno::ENOTDIR),
@@ -99,10 +91,15 @@ impl MemoryFiles {
 
     // The place of a name in a directory, if it has one. A directory that is removed has no names and gets none: ENOENT.
     pub(crate) fn find(&self, parent: u64, name: &[u8]) -> Result<Option<usize>, Errno>
-        ensures { IfOk result (λ found. IfSome found (λ i. i < vec_len self.now.names)) }
+        ensures { result ≡ find (files_of self.now) parent name.now }
     {
-        self.test_directory(parent)?;
-        if !self.has_name(parent) {
+        let Some(node) = self.node(parent) else {
+            return Err(Errno::ENOENT);
+        };
+        if !node.is_directory() {
+            return Err(Errno::ENOTDIR);
+        }
+        if node.attr.nlink == 0 {
             return Err(Errno::ENOENT);
         }
         if name.len() > LONGEST_NAME {
@@ -111,16 +108,10 @@ impl MemoryFiles {
         Ok(place_of(&self.names, parent, name))
     }
 
-    fn has_name(&self, number: u64) -> bool {
-        match self.node(number) {
-            Some(node) => node.attr.nlink > 0,
-            None => false,
-        }
-    }
-
     // The place of a name that a directory has. ENOENT if it has none.
     pub(crate) fn find_there(&self, parent: u64, name: &[u8]) -> Result<usize, Errno>
-        ensures { IfOk result (λ i. i < vec_len self.now.names) }
+        ensures value { result ≡ needed (find (files_of self.now) parent name.now) }
+        ensures within { IfOk result (λ i. i < vec_len self.now.names) }
     {
         match self.find(parent, name)? {
             Some(place) => Ok(place),
@@ -128,39 +119,35 @@ impl MemoryFiles {
         }
     }
 
-    pub(crate) fn is_empty(&self, directory: u64) -> bool {
+    pub(crate) fn is_empty(&self, directory: u64) -> bool
+        ensures { result ≡ is_empty (map entry_of self.now.names.items) directory }
+    {
         self.names.iter().all(|entry| entry.parent != directory)
     }
 
-    // The guest holds a node once more.
-    pub(crate) fn hold(&mut self, number: u64) -> Result<Entry<u64>, Errno> {
-        match self.nodes.get_mut(number as usize) {
-            Some(Some(node)) => {
+    // The guest holds a node once more. ENOENT changes nothing.
+    pub(crate) fn hold(&mut self, number: u64) -> Result<Entry<u64>, Errno>
+        ensures may { Holds (files_of self.old) number (entry_answer (λ n. n) result) (files_of self.new) }
+    {
+        let Some(place) = self.place(number) else {
+            return Err(Errno::ENOENT);
+        };
+        match &mut self.nodes[place] {
+            Some(node) => {
                 node.lookups = node.lookups.saturating_add(1);
                 Ok(node.entry(number))
             }
-            _ => Err(Errno::ENOENT),
+            None => Err(Errno::ENOENT),
         }
     }
 
     // The guest holds a node so many times less. It goes if it has no name either.
-    pub(crate) fn let_go(&mut self, number: u64, count: u64) {
-        match self.nodes.get_mut(number as usize) {
-            Some(Some(node)) => node.lookups = node.lookups.saturating_sub(count),
-            _ => return,
+    pub(crate) fn let_go(&mut self, number: u64, count: u64)
+        ensures { Alters (files_of self.old) number (let_go count) (files_of self.new) }
+    {
+        if let Some(place) = self.place(number) {
+            forget(&mut self.nodes[place], count);
         }
-        self.drop_unused(number);
-    }
-
-    // A node goes that has no name and isn't held.
-    fn drop_unused(&mut self, number: u64) {
-        let Some(node) = self.node(number) else {
-            return;
-        };
-        if node.attr.nlink > 0 || node.lookups > 0 {
-            return;
-        }
-        self.nodes[number as usize] = None;
     }
 
     // A conversation begins, in which the guest holds nothing.
@@ -170,25 +157,24 @@ impl MemoryFiles {
         }
     }
 
-    // A number that no node has, with a place in the table. ENOSPC if there may be no more nodes.
+    // The least number that no node has, with a place in the table. ENOSPC if there may be no more nodes.
     fn free_number(&mut self) -> Result<u64, Errno>
         ensures keeps { Keeps (files_of self.old) (files_of self.new) }
-        ensures free { IfOk result (λ number. slice_get self.new.nodes.items number ≡ Some None) }
         ensures names { self.new.names ≡ self.old.names }
+        ensures free { IfOk result (λ number. IsFree (files_of self.new) number × (number ≤ self.new.most_nodes) × (number < vec_len self.new.nodes)) }
+        ensures err { IfErr result (λ e. (e ≡ ENOMEM) ⊎ ((e ≡ ENOSPC) × ((number : ℕ) × IsFree (files_of self.new) number × (self.new.most_nodes < number)))) }
     {
-        for number in ROOT as usize + 1..self.nodes.len() {
-            if self.nodes[number].is_none() {
-                return Ok(number as u64);
-            }
+        let mut number = ROOT as usize + 1;
+        while number < self.nodes.len() && self.nodes[number].is_some() {
+            number += 1;
         }
-        let number = self.nodes.len() as u64;
-        if number > self.most_nodes {
+        if number as u64 > self.most_nodes {
             return Err(Errno::ENOSPC);
         }
-        match self.nodes.push(None) {
-            Ok(()) => Ok(number),
-            Err(_) => Err(Errno::ENOMEM),
+        if number >= self.nodes.len() && self.nodes.push(None).is_err() {
+            return Err(Errno::ENOMEM);
         }
+        Ok(number as u64)
     }
 
     // Makes a node of a mode under a name, which the guest holds once. An error changes no file.
@@ -198,7 +184,9 @@ impl MemoryFiles {
         parent: u64,
         name: &[u8],
         mode: u32,
-    ) -> Result<Entry<u64>, Errno> {
+    ) -> Result<Entry<u64>, Errno>
+        ensures { MakesEntry (files_of self.old) (find (files_of self.old) parent name.now) parent name.now mode (entry_answer (λ n. n) result) (files_of self.new) }
+    {
         if self.find(parent, name)?.is_some() {
             return Err(Errno::EEXIST);
         }
@@ -216,7 +204,7 @@ impl MemoryFiles {
             kind: mode >> 12,
             offset,
         };
-        self.names.push(entry).unwrap();
+        self.names.push_reserved(entry);
         let mut made = Node::new(self.alloc, node, parent, offset, ctx, mode);
         made.lookups = 1;
         let entry = made.entry(node);
@@ -227,19 +215,21 @@ impl MemoryFiles {
     // Takes a name away, and its node if the guest doesn't hold it.
     pub(crate) fn remove(&mut self, place: usize)
         requires { place < vec_len self.old.names }
+        ensures { (name : NameRecord) → slice_get self.old.names.items place ≡ Some name → Removes (files_of self.old) place (entry_of name) (files_of self.new) }
     {
         let number = self.names.remove(place).node;
-        match self.nodes.get_mut(number as usize) {
-            Some(Some(node)) => node.attr.nlink = 0,
-            _ => return,
+        if let Some(place) = self.place(number) {
+            lose_name(&mut self.nodes[place]);
         }
-        self.drop_unused(number);
     }
 
-    // Whether a directory is another or lies in it, in any depth. The walk goes up once, from parent to parent.
-    pub(crate) fn lies_in(&self, directory: u64, other: u64) -> bool {
+    // Whether a directory is another or lies in it, in any depth. The walk goes up once, from parent to parent. Each
+    // directory on the way has a name, but the first two of a walk that ends may have none.
+    pub(crate) fn lies_in(&self, directory: u64, other: u64) -> bool
+        ensures { result ≡ lies_in (files_of self.now) (vec_len self.now.names + 2) directory other }
+    {
         let mut at = directory;
-        for _ in 0..self.nodes.len() {
+        for step in 0..self.names.len() + 2 {
             if at == other {
                 return true;
             }
@@ -248,7 +238,7 @@ impl MemoryFiles {
                 None => return false,
             }
         }
-        // Each directory has one parent, up to the root, so a walk of more steps than there are nodes never comes.
+        // Each directory has one parent, up to the root, so a walk of more steps than there are names never comes.
         true
     }
 
@@ -277,14 +267,17 @@ impl MemoryFiles {
         entry.parent = parent;
         entry.name = name;
         let number = entry.node;
-        if let Some(Some(node)) = self.nodes.get_mut(number as usize) {
-            node.parent = parent;
+        if let Some(place) = self.place(number) {
+            move_to(&mut self.nodes[place], parent);
         }
         Ok(())
     }
 }
 
 // The same bytes in memory of their own.
-fn copied(alloc: Global, bytes: &[u8]) -> Result<Vec<u8>, Errno> {
+fn copied(alloc: Global, bytes: &[u8]) -> Result<Vec<u8>, Errno>
+    ensures ok { IfOk result (λ v. v.items ≡ bytes.now) }
+    ensures err { IfErr result (λ e. e ≡ ENOMEM) }
+{
     Vec::from_slice(alloc, bytes).map_err(|_| Errno::ENOMEM)
 }

@@ -7,6 +7,7 @@ mod file_system;
 mod files;
 mod listing;
 mod nodes;
+mod table;
 
-pub use files::MemoryFiles;
 pub use listing::{Entries, OwnedEntry};
+pub use table::MemoryFiles;

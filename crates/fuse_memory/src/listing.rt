@@ -1,5 +1,7 @@
 //! The entries of a directory, as a listing has them.
 
+ghost use Rattle.std.specs.Prelude.{◌≡◌, IfErr};
+ghost use Rattle.fuse_memory.specs.Errors.{ENOMEM};
 ghost use Rattle.fuse_memory.specs.Listing.{rest_of};
 
 use crate::nodes::Name;
@@ -57,7 +59,9 @@ pub(crate) fn list(
     directory: u64,
     size: u32,
     offset: u64,
-) -> Result<Entries, Errno> {
+) -> Result<Entries, Errno>
+    ensures { IfErr result (λ e. e ≡ ENOMEM) }
+{
     let mut entries = Vec::new(alloc);
     let mut room = size as usize;
     for name in names {
@@ -72,7 +76,9 @@ pub(crate) fn list(
     Ok(Entries { entries, at: 0 })
 }
 
-fn entry_of(alloc: Global, name: &Name) -> Result<OwnedEntry, Errno> {
+fn entry_of(alloc: Global, name: &Name) -> Result<OwnedEntry, Errno>
+    ensures { IfErr result (λ e. e ≡ ENOMEM) }
+{
     match Vec::from_slice(alloc, &name.name) {
         Ok(copy) => Ok(OwnedEntry {
             node: name.node,

@@ -1,10 +1,11 @@
 //! Files and directories, and the names that they have.
 
-ghost use Rattle.std.specs.Prelude.{◌≡◌, ℕ, ◌+◌, ◌<◌, ◌≤◌, [], List, length, take, min, IfOk, IfSome, OnOk, OnErr};
+ghost use Rattle.std.specs.Prelude.{◌≡◌, ℕ, ◌+◌, ◌<◌, ◌≤◌, [], List, length, take, min, map, position, option_map, option_and_then, IfOk, OnOk, OnErr};
 ghost use Rattle.fuse_fs.specs.Answers.{data_answer};
-ghost use Rattle.fuse_memory.specs.Changes.{attributes_set, mode_set, opened, read_of, written};
+ghost use Rattle.fuse_memory.specs.Changes.{attributes_set, in_directory, kept, let_go, mode_set, opened, read_of, unnamed, written};
 ghost use Rattle.fuse_memory.specs.Contents.{sized};
-ghost use Rattle.fuse_memory.specs.Files.{Tells, file_of, is_directory};
+ghost use Rattle.fuse_memory.specs.Files.{Tells, entry_of, file_of, is_directory, slot_file};
+ghost use Rattle.fuse_memory.specs.Lookups.{is_named};
 
 use crate::contents::Contents;
 use fuse_base::{Attr, Errno, SetattrValid};
@@ -63,7 +64,7 @@ pub(crate) fn second() -> Timeout {
 }
 
 impl Node {
-    // An empty file or directory of a mode, with one name. It takes no memory.
+    // An empty file or directory of a mode, with one name, that the guest doesn't hold. It takes no memory.
     pub fn new(
         alloc: Global,
         number: u64,
@@ -72,8 +73,7 @@ impl Node {
         ctx: Context,
         mode: u32,
     ) -> Node
-        ensures contents { result.contents.bytes.items ≡ [] }
-        ensures mode { result.attr.mode ≡ mode }
+        ensures { file_of result ≡ record { contents = []; mode = mode; links = 1; parent = parent; held = 0 } }
     {
         Node {
             attr: Attr {
@@ -100,8 +100,7 @@ impl Node {
 
     // All of its attributes.
     pub fn told(&self) -> Attr
-        ensures size { result.size ≡ length self.now.contents.bytes.items }
-        ensures mode { result.mode ≡ self.now.attr.mode }
+        ensures { Tells (file_of self.now) result }
     {
         let size = self.contents.len();
         Attr {
@@ -113,7 +112,8 @@ impl Node {
 
     // What a look-up answers, by the node's number.
     pub fn entry(&self, number: u64) -> Entry<u64>
-        ensures { result.inode ≡ number }
+        ensures inode { result.inode ≡ number }
+        ensures told { Tells (file_of self.now) result.attr }
     {
         Entry {
             inode: number,
@@ -142,7 +142,7 @@ impl Node {
     fn set_len(&mut self, len: u64, room: u64) -> Result<(), Errno>
         ensures ok { OnOk result (self.new.contents.bytes.items ≡ sized len self.old.contents.bytes.items) }
         ensures err { OnErr result (self.new.contents.bytes.items ≡ self.old.contents.bytes.items) }
-        ensures attr { self.new.attr ≡ self.old.attr }
+        ensures rest { self.new ≡ record self.old { contents = self.new.contents } }
     {
         if self.is_directory() {
             return Err(Errno::EISDIR);
@@ -189,6 +189,7 @@ impl Node {
         room: u64,
     ) -> Result<u32, Errno>
         ensures within { IfOk result (λ n. n ≤ min size (length (R.left r.old))) }
+        ensures some { IfOk result (λ n. 0 < size → 0 < n) }
         ensures ok { IfOk result (λ n. file_of self.new ≡ written offset (take n (R.left r.old)) (file_of self.old)) }
         ensures err { OnErr result (file_of self.new ≡ file_of self.old) }
     {
@@ -202,7 +203,8 @@ impl Node {
 // Attributes in which those are set that `valid` names, but the size. There is no clock: a time that is to be now stays
 // as it is.
 fn with_set(attr: Attr, to: &SetattrIn, valid: SetattrValid) -> Attr
-    ensures { result.mode ≡ mode_set valid.0 to.now.mode attr.mode }
+    ensures mode { result.mode ≡ mode_set valid.0 to.now.mode attr.mode }
+    ensures links { result.nlink ≡ attr.nlink }
 {
     let mut attr = attr;
     if valid.contains(SetattrValid::MODE) {
@@ -229,14 +231,50 @@ fn with_set(attr: Attr, to: &SetattrIn, valid: SetattrValid) -> Attr
     attr
 }
 
+// The guest holds what is in a slot so many times less. It goes if it has no name either.
+pub(crate) fn forget(slot: &mut Option<Node>, count: u64)
+    ensures { slot_file slot.new ≡ option_and_then (let_go count) (slot_file slot.old) }
+{
+    if let Some(node) = slot {
+        node.lookups = node.lookups.saturating_sub(count);
+    }
+    drop_unused(slot);
+}
+
+// What is in a slot loses its name. It goes if the guest doesn't hold it.
+pub(crate) fn lose_name(slot: &mut Option<Node>)
+    ensures { slot_file slot.new ≡ option_and_then unnamed (slot_file slot.old) }
+{
+    if let Some(node) = slot {
+        node.attr.nlink = 0;
+    }
+    drop_unused(slot);
+}
+
+// A node goes that has no name and isn't held.
+fn drop_unused(slot: &mut Option<Node>)
+    ensures { slot_file slot.new ≡ option_and_then kept (slot_file slot.old) }
+{
+    if let Some(node) = slot
+        && node.attr.nlink == 0
+        && node.lookups == 0
+    {
+        *slot = None;
+    }
+}
+
+// What is in a slot lies in another directory.
+pub(crate) fn move_to(slot: &mut Option<Node>, directory: u64)
+    ensures { slot_file slot.new ≡ option_map (in_directory directory) (slot_file slot.old) }
+{
+    if let Some(node) = slot {
+        node.parent = directory;
+    }
+}
+
 // The place of a name among those of a directory.
 pub(crate) fn place_of(names: &[Name], parent: u64, name: &[u8]) -> Option<usize>
-    ensures { IfSome result (λ i. i < length names.now) }
+    ensures { result ≡ position (is_named parent name.now) (map entry_of names.now) }
 {
-    for i in 0..names.len() {
-        if names[i].parent == parent && names[i].name.as_slice() == name {
-            return Some(i);
-        }
-    }
-    None
+    names.iter().position(|entry| entry.parent == parent && entry.name.as_slice() == name)
 }
