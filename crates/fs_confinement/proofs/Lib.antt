@@ -1,0 +1,3 @@
+pub mod HostLemmas
+pub mod OfferLemmas
+-- pub mod RunLemmas

@@ -1,0 +1,2 @@
+pub mod ReadSet
+pub mod Confinement
