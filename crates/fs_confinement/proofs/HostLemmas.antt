@@ -4,12 +4,13 @@ use Rattle.std.specs.Prelude.{◌&&◌, ◌==◌, ◌≢◌, if◌then◌else◌
 use Rattle.std.specs.List.{flat_map, list_any}
 use Rattle.std.proofs.lemmas.Bool.{cases_eq, eq-eqb, ne_eqb}
 use Rattle.std.proofs.lemmas.Option.{slice_get-map}
+use Rattle.std.proofs.lemmas.List.{map-append}
 use Rattle.std.proofs.lemmas.List.Folds.{list_any-append}
 use Rattle.std.proofs.Math.Seq.{map-set_same}
 use Rattle.vm_iotlb.specs.declared.range.IotlbRange.{IotlbRange}
 use Rattle.vm_iotlb.specs.declared.permissions.Permissions.{Permissions}
-use Rattle.vm_iotlb.specs.declared.permissions.Permissions.TheVariants.{Write}
-use Rattle.vm_memory_core.specs.Host.{Host, Place, IoAddress, Block, changed_at, byte_at, marked, with_byte, with_mark_by}
+use Rattle.vm_iotlb.specs.declared.permissions.Permissions.TheVariants.{Read, Write}
+use Rattle.vm_memory_core.specs.Host.{Host, Place, IoAddress, Block, changed_at, byte_at, marked, with_block, with_byte, with_mark_by}
 use Rattle.vm_memory_core.specs.Window.{put_byte}
 use Rattle.vm_memory.specs.Memory.{Memory, location, stored_at, stored, stored_all}
 use Rattle.fs_confinement.specs.ReadSet.{place_if, places_for, is_at, is_among, byte_of}
@@ -281,3 +282,41 @@ stores_keep (w ∷ ws) m n same =
     subst (λ (where_is : Permissions → ℕ → Option Place).
     KeepDifference m.host n.host (stored_all (stored m w) ws).host (stored_all (stored n w) ws).host (place_if (location m Write w.0) ++ places_by (where_is Write) (map (λ w. w.0) ws)))
     (location_stays m w.1 (location m Write w.0)) (keep_both (place_if (location m Write w.0)) _ first later)
+
+-- where addresses are doesn't change by stores
+pub locations_stay : (ws : List (ℕ × ℕ)) (m : Memory) → location (stored_all m ws) ≡ location m
+unfolding stored_all
+locations_stay [] m = refl
+locations_stay (w ∷ ws) m = locations_stay ws (stored m w) ∙ location_stays m w.1 (location m Write w.0)
+
+-- hosts that agree on the places of some addresses do so after stores to them
+pub agree_stored : (ws : List (ℕ × ℕ)) (m n : Memory) → bare m ≡ bare n → (as' : List ℕ) → AgreeOn m.host n.host (places_for m Read as') →
+    AgreeOn (stored_all m ws).host (stored_all n ws).host (places_for (stored_all m ws) Read as')
+agree_stored ws m n same as' agree =
+    subst (λ (where_is : Permissions → ℕ → Option Place). AgreeOn (stored_all m ws).host (stored_all n ws).host (places_by (where_is Read) as')) (sym (locations_stay ws m))
+    (agree_later (places_for m Write (map (λ w. w.0) ws)) (places_for m Read as') (stores_keep ws m n same) agree)
+
+-- a new block is the same in both hosts, and no byte that was there changes
+block_kept : (l : List Block) (b : Block) (block offset byte : ℕ) → byte_in_block offset (slice_get l block) ≡ Some byte → byte_in_block offset (slice_get (l ++ b ∷ []) block) ≡ Some byte
+block_kept [] b block offset byte e = absurd (cc)
+block_kept (x ∷ l) b zero offset byte e = e
+block_kept (x ∷ l) b (suc block) offset byte e = block_kept l b block offset byte e
+
+more_same : (l k : List Block) (b : Block) (block offset : ℕ) → map zeroed l ≡ map zeroed k → byte_in_block offset (slice_get l block) ≡ byte_in_block offset (slice_get k block) →
+    byte_in_block offset (slice_get (l ++ b ∷ []) block) ≡ byte_in_block offset (slice_get (k ++ b ∷ []) block)
+more_same [] [] b block offset same e = refl
+more_same [] (y ∷ k) b block offset same e = absurd (cc)
+more_same (x ∷ l) [] b block offset same e = absurd (cc)
+more_same (x ∷ l) (y ∷ k) b zero offset same e = e
+more_same (x ∷ l) (y ∷ k) b (suc block) offset same e = more_same l k b block offset (cc) e
+
+pub block_keeps : (g h : Host) (b : Block) → without_bytes g ≡ without_bytes h → KeepDifference g h (with_block g b) (with_block h b) []
+block_keeps g h b same = record {
+  same = λ block offset e. more_same g.blocks h.blocks b block offset (ap (λ (k : Host). k.blocks) same) e;
+  new = λ block offset e. absurd (cc);
+  old = λ block offset byte e is. block_kept g.blocks b block offset byte is;
+  other_old = λ block offset byte e is. block_kept h.blocks b block offset byte is;
+}
+
+pub block_aside : (h : Host) (b : Block) → without_bytes (with_block h b) ≡ with_block (without_bytes h) (zeroed b)
+block_aside h b = ap (λ (blocks : List Block). record h { blocks = blocks }) (map-append zeroed h.blocks (b ∷ []))

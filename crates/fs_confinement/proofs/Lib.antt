@@ -1,3 +1,4 @@
 pub mod HostLemmas
 pub mod OfferLemmas
--- pub mod RunLemmas
+pub mod StepLemmas
+pub mod RunLemmas

@@ -51,7 +51,7 @@ module _ (m : Memory) (h : Host) (same : without_bytes m.host ≡ without_bytes 
   abbrev pub Agree : List ℕ → Type 0
   Agree as' = AgreeOn m.host h (places_for m Read as')
 
-  agree-append : (xs ys : List ℕ) → Agree (xs ++ ys) → Agree xs × Agree ys
+  pub agree-append : (xs ys : List ℕ) → Agree (xs ++ ys) → Agree xs × Agree ys
   agree-append xs ys all =
       let parts : AgreeOn m.host h (places_for m Read xs ++ places_for m Read ys) = subst (λ (ps : List Place). AgreeOn m.host h ps) (flat_map-append (λ a. place_if (location m Read a)) xs ys) all in
       (agree_front m.host h (places_for m Read xs) (places_for m Read ys) parts, agree_back m.host h (places_for m Read xs) (places_for m Read ys) parts)
