@@ -1,2 +1,3 @@
 pub mod ReadSet
 pub mod Confinement
+pub mod Hidden
