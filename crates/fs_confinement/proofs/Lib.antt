@@ -1,0 +1,5 @@
+pub mod HostLemmas
+pub mod OfferLemmas
+pub mod StepLemmas
+pub mod RunLemmas
+pub mod HiddenLemmas

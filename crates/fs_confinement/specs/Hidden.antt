@@ -1,0 +1,50 @@
+-- A block that no region shows is a secret: nothing that the device answers, stores or asks a file system tells what stands in it.
+use Rattle.std.specs.Prelude.{◌≡◌, ◌≢◌, ◌==◌, ◌&&◌, ℕ, Bool, false, not, IsTrue, List, map}
+use Rattle.std.specs.List.{list_all, list_any}
+use Rattle.vm_memory_core.specs.Host.{Host, Place}
+use Rattle.vm_memory.specs.Layout.{Region}
+use Rattle.virtiofsd_fuse.specs.Serving.{May}
+use Rattle.fs_device.specs.Step.{State}
+use Rattle.fs_device.specs.Run as run
+use Rattle.fs_device.specs.Run.{Command, Answer, Told, Run, RunTold}
+use Rattle.fs_confinement.specs.ReadSet.{is_among, byte_of, read_set, written_set}
+use Rattle.fs_confinement.specs.Confinement.{copies, SameButBytes, AllowsToo}
+
+-- whether a region is of a block
+abbrev pub is_of : (block : ℕ) → Region → Bool
+is_of block r = r.block == block
+
+-- whether no region of a layout is of a block
+abbrev pub hides : (block : ℕ) → List Region → Bool
+hides block layout = not (list_any (is_of block) layout)
+
+-- whether a command gives a block no region, and answers no bytes of all blocks
+abbrev pub leaves_hidden : (block : ℕ) → Command → Bool
+leaves_hidden block (run.InsertRegion base other) = not (other == block)
+leaves_hidden block (run.SetLayout layout) = hides block layout
+leaves_hidden block command = not (copies command)
+
+-- no region shows a block when these commands begin, and none of them shows it
+abbrev pub IsHidden : {F : Type 0} → (block : ℕ) → State F → List Command → Type 0
+IsHidden block s commands = IsTrue (hides block s.memory.layout) × IsTrue (list_all (leaves_hidden block) commands)
+
+-- two states that differ only in bytes of one block
+pub record DifferInBlock {F : Type 0} (block : ℕ) (a b : State F) : Type 0 where
+  pub rest : SameButBytes a b
+  pub others : (other offset : ℕ) → other ≢ block → byte_of a.memory.host other offset ≡ byte_of b.memory.host other offset
+
+-- a run neither reads nor writes the block
+pub record TouchesNothingOf {F : Type 0} (may : May F) (block : ℕ) (a after : State F) (events : List (Command × Answer)) (tolds : List Told) (ran : RunTold may a events tolds after) : Type 0 where
+  pub unread : (offset : ℕ) → is_among block offset (read_set may a events tolds after ran) ≡ false
+  pub unwritten : (offset : ℕ) → is_among block offset (written_set may a events tolds after ran) ≡ false
+
+-- so that run is allowed whatever stands in the block
+abbrev pub HiddenBlocksAreSecret : {F : Type 0} → May F → Type 0
+HiddenBlocksAreSecret {F} may =
+    (block : ℕ) (a after : State F) (events : List (Command × Answer)) (tolds : List Told) (ran : RunTold may a events tolds after) → IsHidden block a (map (λ e. e.0) events) →
+    TouchesNothingOf may block a after events tolds ran × ((b : State F) → DifferInBlock block a b → AllowsToo may a b after events tolds ran)
+
+-- the same answers may come whatever stands in a block, to a state that again differs only there
+abbrev pub KeepsSecret : {F : Type 0} → May F → (block : ℕ) → (before after : State F) → List (Command × Answer) → Type 0
+KeepsSecret {F} may block before after events =
+    (other : State F) → DifferInBlock block before other → (end : State F) × Run may other events end × DifferInBlock block after end

@@ -1,0 +1,3 @@
+pub mod ReadSet
+pub mod Confinement
+pub mod Hidden

@@ -1,0 +1,32 @@
+//! Runs beside blocks that the guest has no way to.
+
+ghost use Rattle.std.specs.Prelude.{◌≡◌, ℕ, length, map, zip, IfOk, OnErr};
+ghost use Rattle.fs_device.specs.CommandView.{answer_of, command_of};
+ghost use Rattle.fs_device.specs.MachineView.{machine_of};
+ghost use Rattle.fs_device.specs.Run.{Run};
+ghost use Rattle.fs_confinement.specs.Hidden.{IsHidden, KeepsSecret};
+
+use crate::laws::law_hidden_blocks;
+use fs_device::{Answer, Command, Machine};
+use fuse_fs::FileSystem;
+use std::alloc::{AllocError, Global};
+use vm_memory::Iommu;
+
+/// Does commands one after another, as `Machine::run`, which this run is of. What stands in a block that no region shows,
+/// neither before nor by these commands, is told by none of the answers, neither by a reply nor by whether the driver is
+/// told: with any other bytes there the same answers may come, and what the machine is then differs only there.
+pub fn run_beside_secrets<F: FileSystem, I: Iommu + Drop>(
+    alloc: Global,
+    machine: &mut Machine<F, I>,
+    commands: Vec<Command>,
+) -> Result<Vec<Answer>, AllocError>
+    ensures run { IfOk result (λ answers. Run F.may (machine_of machine.old) (zip (map command_of commands.items) (map answer_of answers.items))
+        (machine_of machine.new)) }
+    ensures all { IfOk result (λ answers. length answers.items ≡ length commands.items) }
+    ensures secret { IfOk result (λ answers. (block : ℕ) → IsHidden block (machine_of machine.old) (map command_of commands.items) →
+        KeepsSecret F.may block (machine_of machine.old) (machine_of machine.new) (zip (map command_of commands.items) (map answer_of answers.items))) }
+    ensures err { OnErr result (machine_of machine.new ≡ machine_of machine.old) }
+{
+    law_hidden_blocks::<F>();
+    machine.run(alloc, commands)
+}

@@ -1,0 +1,21 @@
+//! Laws of what a run reads, each the contract of a function that does nothing but call another.
+
+ghost use Rattle.fs_confinement.specs.Confinement.{Confinement};
+ghost use Rattle.fs_confinement.specs.Hidden.{HiddenBlocksAreSecret};
+
+use fuse_fs::FileSystem;
+
+/// What a run doesn't read doesn't matter to it: two states that differ only in bytes outside its read set allow it, with
+/// the same answers, exchanges, notices and calls, if no image and no harvest is among its commands. It reads and writes
+/// the same places there, and keeps the difference but for what it writes.
+pub fn law_confinement<F: FileSystem>()
+    ensures { Confinement F.may }
+{}
+
+/// What stands in a block that no region shows is a secret: no run without an image and a harvest that gives it no region
+/// reads or writes it, so each is allowed whatever stands there.
+pub fn law_hidden_blocks<F: FileSystem>()
+    ensures { HiddenBlocksAreSecret F.may }
+{
+    law_confinement::<F>();
+}
