@@ -1,5 +1,5 @@
 -- a run over a host that differs outside of what it reads
-use Rattle.std.proofs.Common.{◌≡◌, ℕ, Bool, true, false, not, ◌&&◌, List, [], ◌∷◌, ◌++◌, map, length, zip, Option, Some, None, refl, ap, sym, ◌∙◌, subst}
+use Rattle.std.proofs.Common.{◌≡◌, ℕ, Bool, true, false, not, ◌&&◌, List, [], ◌∷◌, map, length, zip, Option, Some, None, refl, ap, sym, ◌∙◌, subst}
 use Rattle.std.specs.Prelude.{◌==◌, IsTrue, if◌then◌else◌, slice_get, option_map, unwrap_or}
 use Rattle.std.specs.List.{list_all, list_any}
 use Rattle.std.proofs.lemmas.List.{length-map}
@@ -22,8 +22,8 @@ use Rattle.fs_device.specs.Step.{State, with_queue}
 use Rattle.fs_device.specs.Run as run
 use Rattle.fs_device.specs.Run.{Told, Command, Answer, Effect, Affects, ChangesTable, HasEffect, Does, IsDecided, Performs, LacksMemory, RunTold, effect}
 use Rattle.fs_device.specs.Run.{guest_read, guest_write, guest_written, make_block, insert, insert_block, remove_region, set_layout, is_known, has_len, some_overlap, reset, with_host, with_layout, with_ranges, region_fits, command_takes_memory, ends_fit, no}
-use Rattle.fs_confinement.specs.ReadSet.{places_for, Touched, nothing, and_then, guest_reads, guest_writes, plain_touches, command_touches, run_touches, written_set}
-use Rattle.fs_confinement.specs.Confinement.{zeroed, without_bytes, without_its_bytes, SameButBytes, AgreeOn, KeepDifference, copies, copies_nothing, AllowsToo, Confinement}
+use Rattle.fs_confinement.specs.ReadSet.{places_for, Touched, nothing, guest_reads, guest_writes, plain_touches, command_touches, run_touches}
+use Rattle.fs_confinement.specs.Confinement.{zeroed, without_bytes, without_its_bytes, SameButBytes, AgreeOn, KeepDifference, copies, copies_nothing, AllowsToo}
 use Rattle.fs_confinement.proofs.HostLemmas.{bare, nothing_differs, keep_both, agree_front, agree_back, agree_later, stores_aside, stores_keep, block_keeps, block_aside}
 use Rattle.fs_confinement.proofs.OfferLemmas.{bytes_same}
 use Rattle.fs_confinement.proofs.StepLemmas.{Follows, both_same, over_host, same_state, same_bare, stays, kicks_follow}

@@ -1,11 +1,9 @@
 -- a step over a host that differs outside of what it reads
-use Rattle.std.proofs.Common.{◌≡◌, ℕ, zero, suc, Bool, true, false, not, List, [], ◌∷◌, ◌++◌, length, map, Option, Some, None, refl, ap, sym, ◌∙◌, subst}
+use Rattle.std.proofs.Common.{◌≡◌, ℕ, zero, suc, Bool, not, List, [], ◌∷◌, ◌++◌, length, map, Option, Some, None, refl, ap, sym, ◌∙◌, subst}
 use Rattle.std.specs.Prelude.{IsTrue, slice_get}
-use Rattle.std.specs.List.{flat_map}
-use Rattle.std.proofs.lemmas.Grind.{flat_map-append}
 use Rattle.vm_iotlb.specs.declared.permissions.Permissions.TheVariants.{Read, Write}
 use Rattle.vm_memory_core.specs.Host.{Host, Place}
-use Rattle.vm_memory.specs.Memory.{Memory, addresses, is_mapped, location, stored_all}
+use Rattle.vm_memory.specs.Memory.{Memory, addresses, is_mapped}
 use Rattle.fs_queue.specs.declared.fault.QueueError.TheVariants as stop
 use Rattle.fs_queue.specs.Queue.{Queue, avail_index_at, ring_entry_at}
 use Rattle.fs_queue.specs.Returning.{writes, wants_notice}
@@ -17,9 +15,9 @@ use Rattle.fs_device.specs.declared.error.DeviceError.TheVariants as device
 use Rattle.fs_device.specs.MarkedPages.{returned_addresses}
 use Rattle.fs_device.specs.Step.{State, Exchange, Calls, Outcome, Idle, Refused, Exchanged, Exchanges, ServesRequest, Acts, StepOf, Step, Returns, after_return, faulty, served_exchange, with_queue}
 use Rattle.fs_device.specs.Run.{Told, KickEnds, KickRun, Kicks, Kicked, with_host}
-use Rattle.fs_confinement.specs.ReadSet.{place_if, places_for, offer_reads, flag_reads, room_in, step_writes, Touched, nothing, and_then, step_touches, end_touches, kick_touches, kicks_touch}
+use Rattle.fs_confinement.specs.ReadSet.{places_for, offer_reads, flag_reads, room_in, step_writes, Touched, and_then, step_touches, end_touches, kick_touches, kicks_touch}
 use Rattle.fs_confinement.specs.Confinement.{without_bytes, without_its_bytes, SameButBytes, AgreeOn, KeepDifference}
-use Rattle.fs_confinement.proofs.HostLemmas.{bare, same_hosts, same_places, nothing_differs, keep_both, agree_front, agree_back, agree_later, agree_stored, stores_aside, stores_keep}
+use Rattle.fs_confinement.proofs.HostLemmas.{bare, same_hosts, nothing_differs, keep_both, agree_front, agree_back, agree_later, agree_stored, stores_aside, stores_keep}
 use Rattle.fs_confinement.proofs.OfferLemmas.{Agree, agree-append, offer_same, offer_reads_same, notice_same}
 
 -- what can be done from another state ends in one that differs in bytes alone, and keeps the difference but for what is written
