@@ -22,7 +22,8 @@ use Rattle.fs_device.specs.declared.refusal.Refusal.TheVariants as why
 use Rattle.fs_device.specs.Step.{State, Exchange, Calls, Idle, Refused, Exchanged, Exchanges, StepOf, Outcome}
 use Rattle.fs_device.specs.Run as run
 use Rattle.fs_device.specs.Run.{Told, Command, Answer, Effect, KickEnds, KickRun, Kicks, Kicked, HasEffect, Does, Performs, Run, RunTold, Affects, IsDecided, effect, insert, insert_block, is_known, some_overlap, reset}
-use Rattle.fs_confinement.specs.ReadSet.{place_if, places_for, is_at, is_among, Touched, nothing, and_then, step_touches, end_touches, kick_touches, kicks_touch, guest_reads, guest_writes, plain_touches, command_touches, run_touches}
+use Rattle.fs_confinement.specs.ReadSet.{place_if, places_for, is_at, is_among, Touched, nothing, and_then, step_touches}
+use Rattle.fs_confinement.specs.ReadSet.{end_touches, kick_touches, kicks_touch, guest_reads, guest_writes, plain_touches, command_touches, run_touches}
 use Rattle.fs_confinement.specs.Confinement.{copies, copies_nothing, AgreeOn}
 use Rattle.fs_confinement.specs.Hidden.{is_of, leaves_hidden, IsHidden, DifferInBlock, TouchesNothingOf, HiddenBlocksAreSecret, KeepsSecret}
 
@@ -234,7 +235,8 @@ negated false e = refl
 by_effect : {F : Type 0} (block : ℕ) (x : Effect F) (answer : Answer) (after : State F) → (answer, after) ≡ x → StillHides block x → Hides block (layout_of after)
 by_effect block x answer after t e = subst (StillHides block) (sym t) e
 
-table_hides : {F : Type 0} (block : ℕ) (s : State F) (fit : Bool) (table : Table) (answer : Answer) (after : State F) → run.ChangesTable s fit table answer after → Hides block s.memory.layout → Hides block (layout_of after)
+table_hides : {F : Type 0} (block : ℕ) (s : State F) (fit : Bool) (table : Table) (answer : Answer) (after : State F) →
+    run.ChangesTable s fit table answer after → Hides block s.memory.layout → Hides block (layout_of after)
 table_hides {F} block s true table answer after t e = subst (λ (k : State F). Hides block (layout_of k)) (sym t.1.3) e
 table_hides block s false table answer after t e = by_effect block _ answer after t e
 

@@ -135,7 +135,8 @@ module _ (m : Memory) (h : Host) (same : without_bytes m.host ≡ without_bytes 
   -- ---- rings
 
   index_read : (q : Queue) (t0 t1 r2 t2 : Bool) (hd : ℕ) →
-      Agree (ring_reads q (if t0 then avail.Idle else if t1 then avail.Refused stop.AvailTooFar else if not r2 then avail.Refused stop.RingEntryUnreachable else if t2 then avail.Refused stop.HeadOutOfTable else avail.Head hd)) →
+      Agree (ring_reads q
+      (if t0 then avail.Idle else if t1 then avail.Refused stop.AvailTooFar else if not r2 then avail.Refused stop.RingEntryUnreachable else if t2 then avail.Refused stop.HeadOutOfTable else avail.Head hd)) →
       Agree (addresses (avail_index_at q) 2)
   index_read q true t1 r2 t2 hd agree = agree
   index_read q false true r2 t2 hd agree = agree
@@ -144,7 +145,8 @@ module _ (m : Memory) (h : Host) (same : without_bytes m.host ≡ without_bytes 
   index_read q false false true false hd agree = (agree-append (addresses (avail_index_at q) 2) (addresses (ring_entry_at q) 2) agree).0
 
   entry_read : (q : Queue) (t0 t1 r2 t2 : Bool) (hd : ℕ) → t0 ≡ false → t1 ≡ false → r2 ≡ true →
-      Agree (ring_reads q (if t0 then avail.Idle else if t1 then avail.Refused stop.AvailTooFar else if not r2 then avail.Refused stop.RingEntryUnreachable else if t2 then avail.Refused stop.HeadOutOfTable else avail.Head hd)) →
+      Agree (ring_reads q
+      (if t0 then avail.Idle else if t1 then avail.Refused stop.AvailTooFar else if not r2 then avail.Refused stop.RingEntryUnreachable else if t2 then avail.Refused stop.HeadOutOfTable else avail.Head hd)) →
       Agree (addresses (ring_entry_at q) 2)
   entry_read q false false true true hd none near there agree = (agree-append (addresses (avail_index_at q) 2) (addresses (ring_entry_at q) 2) agree).1
   entry_read q false false true false hd none near there agree = (agree-append (addresses (avail_index_at q) 2) (addresses (ring_entry_at q) 2) agree).1

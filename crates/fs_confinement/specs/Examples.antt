@@ -145,5 +145,6 @@ kick_writes = refl
 second_hidden : map (λ block. hides block small.memory.layout) (0 ∷ 1 ∷ []) ≡ false ∷ true ∷ []
 second_hidden = refl
 
-shown_by_region : map (leaves_hidden 1) (run.InsertRegion 64 0 ∷ run.InsertRegion 64 1 ∷ run.SetLayout (record { start = 0; size = 2; block = 1 } ∷ []) ∷ run.Image ∷ run.Kick 0 9 ∷ []) ≡ true ∷ false ∷ false ∷ false ∷ true ∷ []
+shown_by_region : map (leaves_hidden 1)
+    (run.InsertRegion 64 0 ∷ run.InsertRegion 64 1 ∷ run.SetLayout (record { start = 0; size = 2; block = 1 } ∷ []) ∷ run.Image ∷ run.Kick 0 9 ∷ []) ≡ true ∷ false ∷ false ∷ false ∷ true ∷ []
 shown_by_region = refl
