@@ -1,15 +1,15 @@
 -- a block that no region shows is touched by no run
 use Rattle.std.proofs.Common.{◌≡◌, ℕ, zero, suc, Bool, true, false, not, ◌&&◌, ◌||◌, List, [], ◌∷◌, ◌++◌, map, length, Option, Some, None, refl, ap, sym, ◌∙◌, subst, ⊎_elim}
 use Rattle.std.specs.Prelude.{◌==◌, ◌≢◌, IsTrue, if◌then◌else◌, slice_get, nat_lt, zip, Result, Ok, Err, IfOk}
-use Rattle.std.specs.List.{flat_map, filter, list_all, list_any}
+use Rattle.std.specs.List.{filter, list_all, list_any}
 use Rattle.std.specs.Option.{option_or}
-use Rattle.std.proofs.lemmas.Bool.{cases_eq, eq-eqb, eqb-true}
+use Rattle.std.proofs.lemmas.Bool.{cases_eq}
 use Rattle.std.proofs.lemmas.List.Folds.{list_any-append}
 use Rattle.vm_iotlb.specs.declared.permissions.Permissions.{Permissions}
 use Rattle.vm_iotlb.specs.declared.permissions.Permissions.TheVariants.{Read, Write}
 use Rattle.vm_iotlb.specs.Table.{Mapping, Table, allows, is_within, nothing_mapped}
-use Rattle.vm_memory_core.specs.Host.{Host, Block, Place}
-use Rattle.vm_memory.specs.Layout.{Region, fits, overlap, is_region, place, with_region, without_region}
+use Rattle.vm_memory_core.specs.Host.{Block, Place}
+use Rattle.vm_memory.specs.Layout.{Region, fits, overlap, is_region, place, with_region}
 use Rattle.vm_memory.specs.Memory.{Memory, addresses, for_io, location, physical, place_behind, reach, stored, stored_all, stored_at, table_of}
 use Rattle.fs_queue.specs.declared.fault.QueueError.TheVariants as stop
 use Rattle.fs_queue.specs.Queue.{Queue, fresh}
@@ -22,9 +22,10 @@ use Rattle.fs_device.specs.declared.refusal.Refusal.TheVariants as why
 use Rattle.fs_device.specs.Step.{State, Exchange, Calls, Idle, Refused, Exchanged, Exchanges, StepOf, Outcome}
 use Rattle.fs_device.specs.Run as run
 use Rattle.fs_device.specs.Run.{Told, Command, Answer, Effect, KickEnds, KickRun, Kicks, Kicked, HasEffect, Does, Performs, Run, RunTold, Affects, IsDecided, effect, insert, insert_block, is_known, some_overlap, reset}
-use Rattle.fs_confinement.specs.ReadSet.{place_if, places_for, is_at, is_among, byte_of, Touched, nothing, and_then, step_touches, end_touches, kick_touches, kicks_touch, guest_reads, guest_writes, plain_touches, command_touches, run_touches}
+use Rattle.fs_confinement.specs.ReadSet.{place_if, places_for, is_at, is_among, Touched, nothing, and_then, step_touches}
+use Rattle.fs_confinement.specs.ReadSet.{end_touches, kick_touches, kicks_touch, guest_reads, guest_writes, plain_touches, command_touches, run_touches}
 use Rattle.fs_confinement.specs.Confinement.{copies, copies_nothing, AgreeOn}
-use Rattle.fs_confinement.specs.Hidden.{is_of, hides, leaves_hidden, IsHidden, DifferInBlock, TouchesNothingOf, HiddenBlocksAreSecret, KeepsSecret}
+use Rattle.fs_confinement.specs.Hidden.{is_of, leaves_hidden, IsHidden, DifferInBlock, TouchesNothingOf, HiddenBlocksAreSecret, KeepsSecret}
 
 -- ---- places
 
@@ -173,9 +174,11 @@ unfolding KickRun kick_touches
 kick_misses may block s i most [] refused after is e = (end_misses block s i most refused e, subst (Hides block) (sym (end_layout may s i most refused after is)) e)
 kick_misses may block s i zero (x ∷ told) refused after is e = absurd is
 kick_misses may block s i (suc most) (x ∷ told) refused after (mid, step, rest) e =
-    let later = kick_misses may block mid i most told refused after rest (subst (Hides block) (sym (step_layout may s i (slice_get s.queues i) x.calls x.exchange x.notice mid step)) e) in
-    (misses_both block (step_touches s (slice_get s.queues i) (Exchanged x.exchange x.notice)) (kick_touches may mid i most told refused after rest)
-    (step_misses block s (slice_get s.queues i) (Exchanged x.exchange x.notice) e) later.0, later.1)
+    let later = kick_misses may block mid i most told refused after rest (subst (Hides block) (sym (step_layout may s i (slice_get s.queues i) x.calls x.exchange x.notice mid step)) e) in (
+      misses_both block (step_touches s (slice_get s.queues i) (Exchanged x.exchange x.notice)) (kick_touches may mid i most told refused after rest)
+          (step_misses block s (slice_get s.queues i) (Exchanged x.exchange x.notice) e) later.0,
+      later.1,
+    )
 
 kicks_miss : {F : Type 0} (may : May F) (block : ℕ) (s : State F) (i most : ℕ) (o : Option Queue) (told : Told) (k : Kicked) (after : State F) (ran : Kicks may s i most o told k after) →
     Hides block s.memory.layout → MissesAnd block (kicks_touch may s i most o told k after ran) (layout_of after)
@@ -232,7 +235,8 @@ negated false e = refl
 by_effect : {F : Type 0} (block : ℕ) (x : Effect F) (answer : Answer) (after : State F) → (answer, after) ≡ x → StillHides block x → Hides block (layout_of after)
 by_effect block x answer after t e = subst (StillHides block) (sym t) e
 
-table_hides : {F : Type 0} (block : ℕ) (s : State F) (fit : Bool) (table : Table) (answer : Answer) (after : State F) → run.ChangesTable s fit table answer after → Hides block s.memory.layout → Hides block (layout_of after)
+table_hides : {F : Type 0} (block : ℕ) (s : State F) (fit : Bool) (table : Table) (answer : Answer) (after : State F) →
+    run.ChangesTable s fit table answer after → Hides block s.memory.layout → Hides block (layout_of after)
 table_hides {F} block s true table answer after t e = subst (λ (k : State F). Hides block (layout_of k)) (sym t.1.3) e
 table_hides block s false table answer after t e = by_effect block _ answer after t e
 

@@ -3,3 +3,4 @@ pub mod OfferLemmas
 pub mod StepLemmas
 pub mod RunLemmas
 pub mod HiddenLemmas
+pub mod AnsweredLemmas

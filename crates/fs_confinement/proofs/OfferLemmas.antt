@@ -1,5 +1,5 @@
 -- what a queue offers depends on the places that are read for it
-use Rattle.std.proofs.Common.{◌≡◌, ℕ, zero, suc, ◌+◌, ◌*◌, Bool, true, false, ◌&&◌, not, List, [], ◌∷◌, ◌++◌, map, length, Option, Some, None, refl, ap, sym, ◌∙◌, subst}
+use Rattle.std.proofs.Common.{◌≡◌, ℕ, zero, suc, ◌+◌, Bool, true, false, ◌&&◌, not, List, [], ◌∷◌, ◌++◌, map, Option, Some, None, refl, ap, sym, ◌∙◌, subst}
 use Rattle.std.specs.Prelude.{◌-◌, ◌%◌, ◌^◌, ◌==◌, ◌||◌, nat_le, nat_lt, if◌then◌else◌, option_and_then, unwrap_or}
 use Rattle.std.specs.Int.{w16, from_le_bytes}
 use Rattle.std.specs.List.{flat_map, list_all}
@@ -9,15 +9,14 @@ use Rattle.vm_iotlb.specs.declared.permissions.Permissions.{Permissions}
 use Rattle.vm_iotlb.specs.declared.permissions.Permissions.TheVariants.{Read, Write}
 use Rattle.vm_memory_core.specs.Host.{Host, Place, byte_at}
 use Rattle.vm_memory.specs.Memory.{Memory, location, addresses, reach, byte, bytes}
-use Rattle.fs_queue.specs.declared.fault.ChainFault.TheVariants.{OverLimit, RequestUnreachable, RoomUnreachable, NextOutOfTable}
-use Rattle.fs_queue.specs.declared.fault.QueueError.{QueueError}
+use Rattle.fs_queue.specs.declared.fault.ChainFault.TheVariants.{OverLimit, RequestUnreachable, RoomUnreachable}
 use Rattle.fs_queue.specs.declared.fault.QueueError.TheVariants as stop
 use Rattle.fs_queue.specs.Queue.{Queue, avail_index_at, ring_entry_at, element_at, index_at, waiting, head, has_bit}
 use Rattle.fs_queue.specs.NextAvail.{NextAvail, next_avail}
 use Rattle.fs_queue.specs.NextAvail as avail
-use Rattle.fs_queue.specs.Chain.{Descriptor, Visit, entry_address, WalkStep, Faulty, walk_step, next_visit, onward, path, walk, first_visit, after_walk_step, Found, IsChain, HasFault, StopsQueue, found, chain}
-use Rattle.fs_queue.specs.Loads.{Load, reads_entry, step_by, IsEntryOf}
-use Rattle.fs_queue.specs.Taking.{RequestAndRoom, IsRequest, CannotFetch, readable, writable, total_len, all_reach, request_and_room, Offer, Idle, Refuses, Offers, offer_of, on_found, on_head, on_next_avail, offer}
+use Rattle.fs_queue.specs.Chain.{Descriptor, Visit, entry_address, WalkStep, walk_step, next_visit, onward, path, walk, first_visit, after_walk_step, Found, IsChain, HasFault, StopsQueue, found, chain}
+use Rattle.fs_queue.specs.Loads.{Load, reads_entry}
+use Rattle.fs_queue.specs.Taking.{RequestAndRoom, IsRequest, CannotFetch, readable, writable, total_len, all_reach, request_and_room, Offer, Idle, Refuses, Offers, offer_of, on_next_avail, offer}
 use Rattle.fs_queue.specs.Returning.{wants_notice}
 use Rattle.fs_queue.specs.Windows.{addresses_of}
 use Rattle.fs_queue.proofs.LoadLemmas.{step_still}
@@ -136,7 +135,8 @@ module _ (m : Memory) (h : Host) (same : without_bytes m.host ≡ without_bytes 
   -- ---- rings
 
   index_read : (q : Queue) (t0 t1 r2 t2 : Bool) (hd : ℕ) →
-      Agree (ring_reads q (if t0 then avail.Idle else if t1 then avail.Refused stop.AvailTooFar else if not r2 then avail.Refused stop.RingEntryUnreachable else if t2 then avail.Refused stop.HeadOutOfTable else avail.Head hd)) →
+      Agree (ring_reads q
+      (if t0 then avail.Idle else if t1 then avail.Refused stop.AvailTooFar else if not r2 then avail.Refused stop.RingEntryUnreachable else if t2 then avail.Refused stop.HeadOutOfTable else avail.Head hd)) →
       Agree (addresses (avail_index_at q) 2)
   index_read q true t1 r2 t2 hd agree = agree
   index_read q false true r2 t2 hd agree = agree
@@ -145,7 +145,8 @@ module _ (m : Memory) (h : Host) (same : without_bytes m.host ≡ without_bytes 
   index_read q false false true false hd agree = (agree-append (addresses (avail_index_at q) 2) (addresses (ring_entry_at q) 2) agree).0
 
   entry_read : (q : Queue) (t0 t1 r2 t2 : Bool) (hd : ℕ) → t0 ≡ false → t1 ≡ false → r2 ≡ true →
-      Agree (ring_reads q (if t0 then avail.Idle else if t1 then avail.Refused stop.AvailTooFar else if not r2 then avail.Refused stop.RingEntryUnreachable else if t2 then avail.Refused stop.HeadOutOfTable else avail.Head hd)) →
+      Agree (ring_reads q
+      (if t0 then avail.Idle else if t1 then avail.Refused stop.AvailTooFar else if not r2 then avail.Refused stop.RingEntryUnreachable else if t2 then avail.Refused stop.HeadOutOfTable else avail.Head hd)) →
       Agree (addresses (ring_entry_at q) 2)
   entry_read q false false true true hd none near there agree = (agree-append (addresses (avail_index_at q) 2) (addresses (ring_entry_at q) 2) agree).1
   entry_read q false false true false hd none near there agree = (agree-append (addresses (avail_index_at q) 2) (addresses (ring_entry_at q) 2) agree).1

@@ -1,5 +1,5 @@
 -- a run over a host that differs outside of what it reads
-use Rattle.std.proofs.Common.{◌≡◌, ℕ, Bool, true, false, not, ◌&&◌, List, [], ◌∷◌, ◌++◌, map, length, zip, Option, Some, None, refl, ap, sym, ◌∙◌, subst}
+use Rattle.std.proofs.Common.{◌≡◌, ℕ, Bool, true, false, not, ◌&&◌, List, [], ◌∷◌, map, length, zip, Option, Some, None, refl, ap, sym, ◌∙◌, subst}
 use Rattle.std.specs.Prelude.{◌==◌, IsTrue, if◌then◌else◌, slice_get, option_map, unwrap_or}
 use Rattle.std.specs.List.{list_all, list_any}
 use Rattle.std.proofs.lemmas.List.{length-map}
@@ -21,9 +21,10 @@ use Rattle.fs_device.specs.declared.refusal.Refusal.TheVariants as why
 use Rattle.fs_device.specs.Step.{State, with_queue}
 use Rattle.fs_device.specs.Run as run
 use Rattle.fs_device.specs.Run.{Told, Command, Answer, Effect, Affects, ChangesTable, HasEffect, Does, IsDecided, Performs, LacksMemory, RunTold, effect}
-use Rattle.fs_device.specs.Run.{guest_read, guest_write, guest_written, make_block, insert, insert_block, remove_region, set_layout, is_known, has_len, some_overlap, reset, with_host, with_layout, with_ranges, region_fits, command_takes_memory, ends_fit, no}
-use Rattle.fs_confinement.specs.ReadSet.{places_for, Touched, nothing, and_then, guest_reads, guest_writes, plain_touches, command_touches, run_touches, written_set}
-use Rattle.fs_confinement.specs.Confinement.{zeroed, without_bytes, without_its_bytes, SameButBytes, AgreeOn, KeepDifference, copies, copies_nothing, AllowsToo, Confinement}
+use Rattle.fs_device.specs.Run.{guest_read, guest_write, guest_written, make_block, insert, insert_block, remove_region, set_layout, is_known}
+use Rattle.fs_device.specs.Run.{has_len, some_overlap, reset, with_host, with_layout, with_ranges, region_fits, command_takes_memory, ends_fit, no}
+use Rattle.fs_confinement.specs.ReadSet.{places_for, Touched, nothing, guest_reads, guest_writes, plain_touches, command_touches, run_touches}
+use Rattle.fs_confinement.specs.Confinement.{zeroed, without_bytes, without_its_bytes, SameButBytes, AgreeOn, KeepDifference, copies, copies_nothing, AllowsToo}
 use Rattle.fs_confinement.proofs.HostLemmas.{bare, nothing_differs, keep_both, agree_front, agree_back, agree_later, stores_aside, stores_keep, block_keeps, block_aside}
 use Rattle.fs_confinement.proofs.OfferLemmas.{bytes_same}
 use Rattle.fs_confinement.proofs.StepLemmas.{Follows, both_same, over_host, same_state, same_bare, stays, kicks_follow}
@@ -224,7 +225,8 @@ module _ {F : Type 0} (s : State F) (h : Host) (same : without_bytes s.memory.ho
   unfolding effect
   affect_follows (run.GuestRead a n) answer after few agree t =
       subst (λ (ps : List Place). Follows (λ end. Affects (with_host s h) (run.GuestRead a n) answer end) s h after ps) (sym (reads_write_nothing a n answer))
-      (subst (λ (r : ℕ → ℕ → Bool). Follows (λ end. (answer, end) ≡ (if r a n then (run.Bytes (map (byte (physical (with_host s h).memory)) (addresses a n)), with_host s h) else no why.NoPlace (with_host s h))) s h after [])
+      (subst (λ (r : ℕ → ℕ → Bool).
+      Follows (λ end. (answer, end) ≡ (if r a n then (run.Bytes (map (byte (physical (with_host s h).memory)) (addresses a n)), with_host s h) else no why.NoPlace (with_host s h))) s h after [])
       (reach_same Read) (read_follows a n (reach (physical s.memory) Read a n) answer after agree t))
   affect_follows (run.GuestWrite a bs) answer after few agree t =
       subst (λ (r : ℕ → ℕ → Bool). Follows (λ end. (answer, end) ≡ (if r a (length bs) then (run.Done, record s { memory = guest_written (with_host s h).memory a bs }) else no why.NoPlace (with_host s h))) s h after
@@ -312,7 +314,8 @@ module _ {F : Type 0} (may : May F) where
   kick_answered : (s t : State F) → SameButBytes s t → (i most : ℕ) (told : Told) (answer : Answer) (after : State F) (done : Performs may s (run.Kick i most) told answer after) →
       AgreeOn s.memory.host t.memory.host (command_touches may s (run.Kick i most) told answer after done).read → CommandFollows s t (run.Kick i most) told answer after done
   kick_answered s t same i most told (run.Served k) after done agree =
-      over_host s t (λ (u : State F). AgreeOn s.memory.host u.memory.host (command_touches may s (run.Kick i most) told (run.Served k) after done).read → CommandFollows s u (run.Kick i most) told (run.Served k) after done) same
+      over_host s t
+      (λ (u : State F). AgreeOn s.memory.host u.memory.host (command_touches may s (run.Kick i most) told (run.Served k) after done).read → CommandFollows s u (run.Kick i most) told (run.Served k) after done) same
       (λ h is alike agree. kicks_follow may s (with_host s h) (same_state s h alike) i most (slice_get s.queues i) told k after done agree) agree
   kick_answered s t same i most told (run.IsRefused why.OutOfMemory) after done agree =
       over_host s t (λ (u : State F). CommandFollows s u (run.Kick i most) told (run.IsRefused why.OutOfMemory) after done) same

@@ -1,11 +1,9 @@
 -- a step over a host that differs outside of what it reads
-use Rattle.std.proofs.Common.{◌≡◌, ℕ, zero, suc, Bool, true, false, not, List, [], ◌∷◌, ◌++◌, length, map, Option, Some, None, refl, ap, sym, ◌∙◌, subst}
+use Rattle.std.proofs.Common.{◌≡◌, ℕ, zero, suc, Bool, not, List, [], ◌∷◌, ◌++◌, length, map, Option, Some, None, refl, ap, sym, ◌∙◌, subst}
 use Rattle.std.specs.Prelude.{IsTrue, slice_get}
-use Rattle.std.specs.List.{flat_map}
-use Rattle.std.proofs.lemmas.Grind.{flat_map-append}
 use Rattle.vm_iotlb.specs.declared.permissions.Permissions.TheVariants.{Read, Write}
 use Rattle.vm_memory_core.specs.Host.{Host, Place}
-use Rattle.vm_memory.specs.Memory.{Memory, addresses, is_mapped, location, stored_all}
+use Rattle.vm_memory.specs.Memory.{Memory, addresses, is_mapped}
 use Rattle.fs_queue.specs.declared.fault.QueueError.TheVariants as stop
 use Rattle.fs_queue.specs.Queue.{Queue, avail_index_at, ring_entry_at}
 use Rattle.fs_queue.specs.Returning.{writes, wants_notice}
@@ -17,9 +15,9 @@ use Rattle.fs_device.specs.declared.error.DeviceError.TheVariants as device
 use Rattle.fs_device.specs.MarkedPages.{returned_addresses}
 use Rattle.fs_device.specs.Step.{State, Exchange, Calls, Outcome, Idle, Refused, Exchanged, Exchanges, ServesRequest, Acts, StepOf, Step, Returns, after_return, faulty, served_exchange, with_queue}
 use Rattle.fs_device.specs.Run.{Told, KickEnds, KickRun, Kicks, Kicked, with_host}
-use Rattle.fs_confinement.specs.ReadSet.{place_if, places_for, offer_reads, flag_reads, room_in, step_writes, Touched, nothing, and_then, step_touches, end_touches, kick_touches, kicks_touch}
+use Rattle.fs_confinement.specs.ReadSet.{places_for, offer_reads, flag_reads, room_in, step_writes, Touched, and_then, step_touches, end_touches, kick_touches, kicks_touch}
 use Rattle.fs_confinement.specs.Confinement.{without_bytes, without_its_bytes, SameButBytes, AgreeOn, KeepDifference}
-use Rattle.fs_confinement.proofs.HostLemmas.{bare, same_hosts, same_places, nothing_differs, keep_both, agree_front, agree_back, agree_later, agree_stored, stores_aside, stores_keep}
+use Rattle.fs_confinement.proofs.HostLemmas.{bare, same_hosts, nothing_differs, keep_both, agree_front, agree_back, agree_later, agree_stored, stores_aside, stores_keep}
 use Rattle.fs_confinement.proofs.OfferLemmas.{Agree, agree-append, offer_same, offer_reads_same, notice_same}
 
 -- what can be done from another state ends in one that differs in bytes alone, and keeps the difference but for what is written
@@ -79,7 +77,8 @@ module _ {F : Type 0} (s : State F) (h : Host) (same : without_bytes s.memory.ho
       record {
         end = end;
         can = (record { exchange = r.exchange; state = refl; told = r.told ∙ notices_same after.memory end.memory alike q flags }, refl);
-        rest = ap without_its_bytes r.state ∙ ap (λ (m : Memory). record (after_return s i q expected.head room expected.reply options after.files) { memory = m }) (stores_aside ws s.memory (with_host s h).memory same_bare);
+        rest = ap without_its_bytes r.state
+            ∙ ap (λ (m : Memory). record (after_return s i q expected.head room expected.reply options after.files) { memory = m }) (stores_aside ws s.memory (with_host s h).memory same_bare);
         bytes = subst (λ (y : Exchange). KeepDifference s.memory.host h after.memory.host end.memory.host (places_for s.memory Write (returned_addresses q y.head room y.reply))) (sym r.exchange) kept;
       }
 
@@ -91,7 +90,8 @@ module _ {F : Type 0} (may : May F) (s : State F) (h : Host) (same : without_byt
       record { end = back.end; can = record { no_call = r.no_call; files = back.can.1 ∙ r.files; returns = back.can.0 }; rest = back.rest; bytes = back.bytes }
   exchange_follows i q (Offers head (IsRequest request room)) calls x notice after r agree =
       let back = return_follows s h same i q room (served_exchange head request r.given) r.given.options x notice after r.returns agree in
-      record { end = back.end; can = record { given = r.given; serves = subst (λ (f : F). ServesRequest may s.page_size s.options request (length room) s.files calls r.given f) (sym back.can.1) r.serves; returns = back.can.0 }; rest = back.rest; bytes = back.bytes }
+      let serves = subst (λ (f : F). ServesRequest may s.page_size s.options request (length room) s.files calls r.given f) (sym back.can.1) r.serves in
+      record { end = back.end; can = record { given = r.given; serves = serves; returns = back.can.0 }; rest = back.rest; bytes = back.bytes }
   exchange_follows i q taking.Idle calls x notice after r agree = absurd r
   exchange_follows i q (Refuses e) calls x notice after r agree = absurd r
 
@@ -121,7 +121,8 @@ module _ {F : Type 0} (may : May F) (s : State F) (h : Host) (same : without_byt
       let touched : step_touches (with_host s h) (Some q) outcome ≡ step_touches s (Some q) outcome =
       sym (ap (λ (xs : List ℕ). record { read = places_for s.memory Read (xs ++ flag_reads q outcome); written = places_for s.memory Write (step_writes q (offer s.memory s.limit q) outcome) }) reads
       ∙ ap (λ (k : Offer). record { read = places_for s.memory Read (offer_reads (with_host s h).memory s.limit q ++ flag_reads q outcome); written = places_for s.memory Write (step_writes q k outcome) }) is
-      ∙ ap (λ (k : Host). let m = record s.memory { host = k } in record { read = places_for m Read (offer_reads (with_host s h).memory s.limit q ++ flag_reads q outcome); written = places_for m Write (step_writes q (offer (with_host s h).memory s.limit q) outcome) }) same)
+      ∙ ap (λ (k : Host). let m = record s.memory { host = k } in
+      record { read = places_for m Read (offer_reads (with_host s h).memory s.limit q ++ flag_reads q outcome); written = places_for m Write (step_writes q (offer (with_host s h).memory s.limit q) outcome) }) same)
       in record {
         end = done.end;
         can = (subst (λ (k : Offer). Acts may (with_host s h) i q k calls outcome done.end) is done.can, touched);
@@ -175,7 +176,11 @@ module _ {F : Type 0} (may : May F) where
       (agree_later own.written later.read first.bytes (agree_back s.memory.host t.memory.host own.read later.read agree)) in
       record {
         end = others.end;
-        can = ((first.end, first.can.0, others.can.0), both_same (step_touches t (slice_get t.queues i) (Exchanged x.exchange x.notice)) own (kick_touches may first.end i most told refused others.end others.can.0) later first.can.1 others.can.1);
+        can = (
+          (first.end, first.can.0, others.can.0),
+          both_same (step_touches t (slice_get t.queues i) (Exchanged x.exchange x.notice)) own (kick_touches may first.end i most told refused others.end others.can.0) later
+              first.can.1 others.can.1,
+        );
         rest = others.rest;
         bytes = keep_both own.written later.written first.bytes others.bytes;
       }

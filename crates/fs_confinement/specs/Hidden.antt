@@ -1,7 +1,6 @@
 -- A block that no region shows is a secret: nothing that the device answers, stores or asks a file system tells what stands in it.
-use Rattle.std.specs.Prelude.{◌≡◌, ◌≢◌, ◌==◌, ◌&&◌, ℕ, Bool, false, not, IsTrue, List, map}
+use Rattle.std.specs.Prelude.{◌≡◌, ◌≢◌, ◌==◌, ℕ, Bool, false, not, IsTrue, List, map}
 use Rattle.std.specs.List.{list_all, list_any}
-use Rattle.vm_memory_core.specs.Host.{Host, Place}
 use Rattle.vm_memory.specs.Layout.{Region}
 use Rattle.virtiofsd_fuse.specs.Serving.{May}
 use Rattle.fs_device.specs.Step.{State}

@@ -1,3 +1,5 @@
 pub mod ReadSet
 pub mod Confinement
 pub mod Hidden
+pub mod Examples
+pub mod Answered

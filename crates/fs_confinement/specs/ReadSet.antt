@@ -1,7 +1,7 @@
 -- Which places of a host's blocks a run reads, and which it writes. A step reads the available ring's index and its next entry, the entries of descriptor tables that
 -- its walk visits, the request's bytes and, behind its stores, the available flags (VIRTIO 1.2, 2.7.5 to 2.7.8); a guest's read reads what it asks for. A room isn't read: a file may be lent its
 -- places to be filled, but what a file system answers is told by its own relation (`May`), which has its state and the call, and none of the bytes that a room held.
-use Rattle.std.specs.Prelude.{◌==◌, ◌&&◌, ℕ, zero, suc, Bool, List, [], ◌∷◌, ◌++◌, length, map, Option, Some, None, if◌then◌else◌, slice_get}
+use Rattle.std.specs.Prelude.{◌==◌, ◌&&◌, ℕ, zero, suc, Bool, List, [], ◌∷◌, ◌++◌, length, Option, Some, None, if◌then◌else◌, slice_get}
 use Rattle.std.specs.List.{flat_map, list_any}
 use Rattle.vm_iotlb.specs.declared.permissions.Permissions.{Permissions}
 use Rattle.vm_iotlb.specs.declared.permissions.Permissions.TheVariants.{Read, Write}

@@ -1,5 +1,6 @@
 //! Laws of what a run reads, each the contract of a function that does nothing but call another.
 
+ghost use Rattle.fs_confinement.specs.Answered.{AnswersAreSeen};
 ghost use Rattle.fs_confinement.specs.Confinement.{Confinement};
 ghost use Rattle.fs_confinement.specs.Hidden.{HiddenBlocksAreSecret};
 
@@ -19,3 +20,10 @@ pub fn law_hidden_blocks<F: FileSystem>()
 {
     law_confinement::<F>();
 }
+
+/// What goes over in a step: the calls are told by the request's bytes, the length of its room, the agreed options and
+/// what was answered before; none by what the room holds. The guest finds the reply, the used element and the used index
+/// there, which are told by the same and the answers; and all else in its memory is as it was.
+pub fn law_answers_are_seen<F: FileSystem>()
+    ensures { AnswersAreSeen F.may }
+{}

@@ -18,10 +18,28 @@ pub struct Asked {
     pub append_at: u64,
 }
 
-// The file, and how it was asked.
+/// The first bytes that buffers held which the file was lent to fill, one after another: it looks at each before it does.
+#[derive(Clone, Copy, Debug, Default, PartialEq, Eq)]
+pub struct Seen {
+    pub bytes: [u8; 16],
+    pub len: usize,
+}
+
+impl Seen {
+    /// The buffer's bytes too, as many as have room.
+    pub fn look(&mut self, buf: &[u8]) {
+        let from = self.len.min(16);
+        let count = buf.len().min(16 - from);
+        self.bytes[from..from + count].copy_from_slice(&buf[..count]);
+        self.len = from + count;
+    }
+}
+
+// The file, how it was asked, and what it saw.
 #[derive(Drop)]
 struct AskedFile {
     asked: Asked,
+    seen: Seen,
 }
 
 // The bytes from a place on.
@@ -37,6 +55,7 @@ impl PositionedFile for AskedFile {
 
     fn read_at(&mut self, buf: &mut [u8], off: u64) -> Result<usize, Errno> {
         self.asked.read_at = self.asked.read_at.wrapping_add(1);
+        self.seen.look(buf);
         let rest = rest(off);
         let count = rest.len().min(buf.len());
         buf[..count].copy_from_slice(&rest[..count]);
@@ -85,6 +104,7 @@ impl AskedFiles {
             says_whole,
             file: AskedFile {
                 asked: Asked::default(),
+                seen: Seen::default(),
             },
             reads: 0,
             last: ReadCall::default(),
@@ -94,6 +114,11 @@ impl AskedFiles {
     /// How the file was asked.
     pub fn asked(&self) -> Asked {
         self.file.asked
+    }
+
+    /// What the file saw in buffers that it was lent.
+    pub fn seen(&self) -> Seen {
+        self.file.seen
     }
 
     /// How many READs there were, and the last of them.

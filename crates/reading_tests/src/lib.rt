@@ -10,6 +10,8 @@ mod lent;
 #[cfg(test)]
 mod same;
 #[cfg(test)]
+mod seen;
+#[cfg(test)]
 mod stand;
 #[cfg(test)]
 mod translated;
