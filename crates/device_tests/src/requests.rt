@@ -5,7 +5,7 @@ use call_log::files::HELLO;
 use call_log::{CallLog, LoggedCall};
 use fs_device::Fault;
 use fs_device::laws::{law_cuts, law_steps_by_loads};
-use fs_queue::laws::{law_paths, law_walks_end};
+use fs_queue::laws::{law_any_loads, law_loads, law_paths, law_returns, law_walks_end};
 use std::process::Abort;
 use virtiofsd_fuse::Error;
 
@@ -61,6 +61,9 @@ fn read_is_the_same_however_it_is_cut(rt: HostRuntime) {
     law_steps_by_loads::<CallLog>();
     law_paths();
     law_walks_end();
+    law_loads();
+    law_any_loads();
+    law_returns();
 }
 
 const LOOKUP_A: Request<'static> = Request::Lookup { name: b"a" };
