@@ -5,7 +5,7 @@ use std::process::Abort;
 use std::rc::Rc;
 use std::sync::Arc;
 use vm_memory_core::HostMemory;
-use vm_snapshots::{GuestAddressSpace, GuestMemoryAtomic};
+use vm_snapshots::{AnyMemory, GuestAddressSpace, GuestMemoryAtomic};
 
 #[test]
 fn a_reference_lends_its_memory(rt: HostRuntime) {
@@ -37,7 +37,7 @@ fn an_arc_lends_its_memory(rt: HostRuntime) {
 fn memory_that_is_replaced_lends_the_newest(rt: HostRuntime) {
     let mut host: Host = HostMemory::new(rt.alloc());
     let mem = two_regions(&rt, rt.alloc(), &mut host);
-    let space = GuestMemoryAtomic::new(rt.alloc(), mem).expect(&rt, "memory");
+    let space = GuestMemoryAtomic::<_, AnyMemory>::new(rt.alloc(), mem).expect(&rt, "memory");
     expect_same(
         &rt,
         GuestAddressSpace::memory(&space, &rt, |mem| count(mem)),

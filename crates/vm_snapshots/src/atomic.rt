@@ -1,28 +1,38 @@
 //! Guest memory that is replaced while others use it (vm-memory's `GuestMemoryAtomic`).
 
-ghost use Rattle.std.specs.Prelude.{◌≡◌, IfErr, IfOk};
+ghost use Rattle.std.specs.Prelude.{◌≡◌, true, IfErr, IfOk};
 ghost use Rattle.std.specs.Arc.{arc_value};
 ghost use Rattle.std.specs.Fn.{FnOnceReturnsAt};
 
 use crate::address_space::GuestAddressSpace;
+use crate::law::MemoryLaw;
 use std::alloc::{AllocError, Global};
-use std::marker::Model;
+use std::marker::{Model, PhantomData};
 use std::ops::Deref;
-use std::sync::{Arc, Mutex, MutexGuard, RwLock, Wait};
+use std::sync::{Arc, Mutex, MutexGuard, RwLock, RwLockWriteGuard, Wait};
 use vm_memory::GuestMemory;
+
+// The newest snapshot, which was put there.
+#[derive(Drop)]
+struct Newest<M: Drop, L: MemoryLaw<M>> {
+    snapshot: Arc<M, Global>,
+    law: PhantomData<L>,
+    ghost was_put: { L.allows (arc_value snapshot) ≡ true },
+}
 
 // The newest snapshot, and the turn of those who replace it.
 #[derive(Drop)]
-struct Snapshots<M: Drop> {
-    newest: RwLock<Arc<M, Global>>,
+struct Snapshots<M: Drop, L: MemoryLaw<M>> {
+    newest: RwLock<Newest<M, L>>,
     turn: Mutex<()>,
 }
 
 /// Guest memory that many hold, and that one at a time replaces (vm-memory's `GuestMemoryAtomic`). Whoever asks for it
-/// has the newest snapshot, and keeps that one.
+/// has the newest snapshot, and keeps that one. Whatever is said of each memory that is put there (`MemoryLaw`) is so of
+/// each that is lent.
 #[derive(Drop)]
-pub struct GuestMemoryAtomic<M: Drop> {
-    shared: Arc<Snapshots<M>, Global>,
+pub struct GuestMemoryAtomic<M: Drop, L: MemoryLaw<M>> {
+    shared: Arc<Snapshots<M, L>, Global>,
 }
 
 /// A snapshot. It never changes, whatever replaces the memory meanwhile (vm-memory's `GuestMemoryLoadGuard`).
@@ -41,16 +51,38 @@ impl<M: Drop> Model for GuestMemoryLoadGuard<M> {
 
 /// The right to replace the memory, which one at a time has (vm-memory's `GuestMemoryExclusiveGuard`).
 #[derive(Drop)]
-pub struct GuestMemoryExclusiveGuard<'a, M: Drop> {
-    newest: &'a RwLock<Arc<M, Global>>,
+pub struct GuestMemoryExclusiveGuard<'a, M: Drop, L: MemoryLaw<M>> {
+    newest: &'a RwLock<Newest<M, L>>,
     turn: MutexGuard<'a, ()>,
 }
 
-impl<M: GuestMemory + Drop> GuestMemoryAtomic<M> {
+/// The newest snapshot, as it was put there. Whoever asks for memory waits until this is dropped, and then finds it.
+#[derive(Drop)]
+pub struct GuestMemoryReplaceGuard<'a, M: Drop, L: MemoryLaw<M>> {
+    newest: RwLockWriteGuard<'a, Newest<M, L>>,
+    turn: MutexGuard<'a, ()>,
+}
+
+impl<'a, M: Drop, L: MemoryLaw<M>> Model for GuestMemoryReplaceGuard<'a, M, L> {
+    ghost use Rattle.std.specs.Arc.{arc_value};
+    ghost use Rattle.std.specs.Sync.RwLock.{write_guard_value};
+
+    ghost Value = { M };
+
+    ghost view = { λ guard. arc_value (write_guard_value guard.newest).snapshot };
+}
+
+impl<M: GuestMemory + Drop, L: MemoryLaw<M>> GuestMemoryAtomic<M, L> {
     /// Memory that can be replaced, which is this one at first.
-    pub fn new(alloc: Global, memory: M) -> Result<GuestMemoryAtomic<M>, AllocError> {
+    pub fn new(alloc: Global, memory: M) -> Result<GuestMemoryAtomic<M, L>, AllocError>
+        requires { L.allows memory ≡ true }
+    {
+        let newest = Newest {
+            snapshot: Arc::new(alloc, memory)?,
+            law: PhantomData,
+        };
         let shared = Snapshots {
-            newest: RwLock::new(Arc::new(alloc, memory)?),
+            newest: RwLock::new(newest),
             turn: Mutex::new(()),
         };
         Ok(GuestMemoryAtomic {
@@ -59,22 +91,28 @@ impl<M: GuestMemory + Drop> GuestMemoryAtomic<M> {
     }
 
     /// The same memory, held once more: what replaces the one replaces the other (vm-memory's `clone`).
-    pub fn try_clone(&self) -> Result<GuestMemoryAtomic<M>, AllocError> {
+    pub fn try_clone(&self) -> Result<GuestMemoryAtomic<M, L>, AllocError>
+        ensures { IfOk result (λ other. arc_value other.shared ≡ arc_value self.now.shared) }
+    {
         Ok(GuestMemoryAtomic {
             shared: Arc::try_clone(&self.shared)?,
         })
     }
 
     /// The newest snapshot, once nobody is putting another in its place.
-    pub fn memory<R: Wait>(&self, rt: &R) -> Result<GuestMemoryLoadGuard<M>, AllocError> {
+    pub fn memory<R: Wait>(&self, rt: &R) -> Result<GuestMemoryLoadGuard<M>, AllocError>
+        ensures { IfOk result (λ guard. L.allows guard ≡ true) }
+    {
         let newest = self.shared.newest.read(rt);
         Ok(GuestMemoryLoadGuard {
-            snapshot: Arc::try_clone(&*newest)?,
+            snapshot: Arc::try_clone(&newest.snapshot)?,
         })
     }
 
     /// The right to replace the memory, once nobody else has it.
-    pub fn lock<R: Wait>(&self, rt: &R) -> GuestMemoryExclusiveGuard<'_, M> {
+    pub fn lock<R: Wait>(&self, rt: &R) -> GuestMemoryExclusiveGuard<'_, M, L>
+        ensures { result.newest.now ≡ (arc_value self.now.shared).newest }
+    {
         GuestMemoryExclusiveGuard {
             newest: &self.shared.newest,
             turn: self.shared.turn.lock(rt),
@@ -108,32 +146,50 @@ impl<M: Drop> GuestMemoryLoadGuard<M> {
     }
 }
 
-impl<M: GuestMemory + Drop> GuestMemoryExclusiveGuard<'_, M> {
-    /// Puts other memory in the place of the newest snapshot; older ones stay as they are with whoever holds them. An
-    /// error is a failed allocation: what was handed in comes back, and the newest snapshot stays.
-    pub fn replace<R: Wait>(self, rt: &R, alloc: Global, memory: M) -> Result<(), M>
-        ensures { IfErr result (λ m. m ≡ memory) }
+impl<'a, M: GuestMemory + Drop, L: MemoryLaw<M>> GuestMemoryExclusiveGuard<'a, M, L> {
+    /// Puts other memory in the place of the newest snapshot; older ones stay as they are with whoever holds them. Whoever
+    /// asks for memory waits until the answer is dropped. An error is a failed allocation: what was handed in comes back,
+    /// and the newest snapshot stays.
+    pub fn replace<R: Wait>(
+        self,
+        rt: &R,
+        alloc: Global,
+        memory: M,
+    ) -> Result<GuestMemoryReplaceGuard<'a, M, L>, M>
+        requires { L.allows memory ≡ true }
+        ensures put { IfOk result (λ guard. guard ≡ memory) }
+        ensures refused { IfErr result (λ m. m ≡ memory) }
     {
-        let GuestMemoryExclusiveGuard {
-            newest,
-            turn: _turn,
-        } = self;
+        let GuestMemoryExclusiveGuard { newest, turn } = self;
         match Arc::new(alloc, memory) {
             Ok(snapshot) => {
-                *newest.write(rt) = snapshot;
-                Ok(())
+                let mut newest = newest.write(rt);
+                *newest = Newest {
+                    snapshot,
+                    law: PhantomData,
+                };
+                Ok(GuestMemoryReplaceGuard { newest, turn })
             }
             Err(refused) => Err(refused.value),
         }
     }
 }
 
-impl<M: GuestMemory + Drop> GuestAddressSpace for GuestMemoryAtomic<M> {
+impl<M: Drop, L: MemoryLaw<M>> GuestMemoryReplaceGuard<'_, M, L> {
+    /// The memory that was put there.
+    pub fn get(&self) -> &M
+        ensures { result.now ≡ self.now }
+    {
+        &*self.newest.snapshot
+    }
+}
+
+impl<M: GuestMemory + Drop, L: MemoryLaw<M>> GuestAddressSpace for GuestMemoryAtomic<M, L> {
     type M = M;
 
-    ghost Lends = { λ space m. Unit {0} };
+    ghost Lends = { λ space m. L.allows m ≡ true };
 
     fn memory<R: Wait, T, F: FnOnce(&M) -> T>(&self, rt: &R, f: F) -> T {
-        f(&**self.shared.newest.read(rt))
+        f(&*self.shared.newest.read(rt).snapshot)
     }
 }

@@ -3,6 +3,10 @@
 
 mod address_space;
 mod atomic;
+mod law;
 
 pub use address_space::GuestAddressSpace;
-pub use atomic::{GuestMemoryAtomic, GuestMemoryExclusiveGuard, GuestMemoryLoadGuard};
+pub use atomic::{
+    GuestMemoryAtomic, GuestMemoryExclusiveGuard, GuestMemoryLoadGuard, GuestMemoryReplaceGuard,
+};
+pub use law::{AnyMemory, MemoryLaw};
