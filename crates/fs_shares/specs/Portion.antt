@@ -1,5 +1,5 @@
 -- What a share says.
-use Rattle.std.specs.Prelude.{◌≡◌, ℕ, ◌+◌, ◌<◌, ◌≤◌, Bool, true, if◌then◌else◌, List, length}
+use Rattle.std.specs.Prelude.{◌≡◌, ℕ, ◌+◌, ◌/◌, ◌<◌, ◌≤◌, Bool, true, if◌then◌else◌, List, length}
 use Rattle.std.specs.List.{Contains}
 use Rattle.vm_atomic_bitmaps.specs.declared.counts.Tally.{Tally}
 use Rattle.vm_atomic_bitmaps.specs.Counts.{tally_of, kept_half, new_half, both_passes}
@@ -45,3 +45,15 @@ pub record MarksPages (pages : List ℕ) (old new : List Tally) : Type 0 where
   pub off : (p : ℕ) → (tally_of new p).off ≡ (tally_of old p).off
   pub seen : (p : ℕ) → (tally_of new p).seen ≡ (tally_of old p).seen
   pub held : (p : ℕ) → (tally_of old p).held ≤ (tally_of new p).held
+
+-- a pass has seen each clear that it made
+abbrev pub HasSeenItsOwn : List Tally → Type 0
+HasSeenItsOwn taken = (page : ℕ) → (tally_of taken page).off ≤ (tally_of taken page).seen
+
+-- a pass has seen, of the pages of a word, each clear that another made: what it marks from now on is marked since
+abbrev pub HasSeen : (word : ℕ) → (taken seen : List Tally) → Type 0
+HasSeen word taken seen = (page : ℕ) → page / 64 ≡ word → (tally_of taken page).off ≤ (tally_of seen page).seen
+
+-- a pass knows of more marks of the page than another made clears, so a mark was not taken by that one
+abbrev pub IsMarkedSince : (taken marks : List Tally) → (page : ℕ) → Type 0
+IsMarkedSince taken marks page = (tally_of taken page).off < (tally_of marks page).held

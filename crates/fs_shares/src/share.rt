@@ -1,6 +1,6 @@
 //! A thread's share of a device.
 
-ghost use Rattle.std.specs.Prelude.{◌≡◌, ◌+◌, ◌<◌, ◌/◌, ◌^◌, ◌==◌, true, IfSome, IfNone};
+ghost use Rattle.std.specs.Prelude.{◌≡◌, ℕ, ◌+◌, ◌<◌, ◌/◌, ◌^◌, ◌==◌, true, IfSome, IfNone};
 ghost use Rattle.vm_atomic_bitmaps.specs.Counts.{met_with};
 ghost use Rattle.vm_atomic_bitmaps.specs.Passes.{IsPassOf, counting};
 
@@ -31,7 +31,7 @@ impl<L: Ledger> Model for Share<L> {
     ghost invariant = { λ s. (s.token.parts ≡ s.parts) × (s.count ≡ s.token.amount % (2 ^ 64)) × (0 < s.parts) × (L.parts < 2 ^ 64) };
 }
 
-ghost use Rattle.fs_shares.specs.Portion.{IsShareOf, MarksPages, Portion, counted, joined, kept_pass, new_pass};
+ghost use Rattle.fs_shares.specs.Portion.{HasSeen, HasSeenItsOwn, IsShareOf, MarksPages, Portion, counted, joined, kept_pass, new_pass};
 
 impl<L: Ledger> Share<L> {
     /// A share of so many parts of a ledger, by which nothing was counted, with a pass of the device's bitmap.
@@ -125,13 +125,15 @@ impl<L: Ledger> Share<L> {
         }
     }
 
-    /// Takes over what another pass of the device's bitmap has seen (`AtomicBitmap::meet_pass`). It always can.
+    /// Takes over what another pass of the device's bitmap has seen (`AtomicBitmap::meet_pass`). It always can. What is marked
+    /// from then on is marked since the other took the page.
     pub fn meet(&mut self, bitmap: &AtomicBitmap, other: &mut BitmapPass) -> bool
         requires own { IsShareOf bitmap.now self.old }
         requires other { IsPassOf bitmap.now other.old }
         ensures met { result ≡ true }
         ensures share { self.new ≡ record self.old { pass = counting self.old.pass (met_with other.old.counts.pages self.old.pass.counts.pages) } }
         ensures other { other.new ≡ other.old }
+        ensures seen { HasSeenItsOwn other.old.counts.pages → (word : ℕ) → HasSeen word other.old.counts.pages self.new.pass.counts.pages }
         ensures own { IsShareOf bitmap.now self.new }
     {
         bitmap.meet_pass(&mut self.pass, other)
