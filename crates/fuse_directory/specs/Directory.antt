@@ -1,6 +1,6 @@
 -- What the directory answers. The root is node 1, and the files are the nodes from 2 on, in the table's
 -- order.
-use Rattle.std.specs.Prelude.{◌≡◌, ℕ, ◌+◌, ◌-◌, Bool, ◌==◌, nat_lt, bit_and, ◌^◌, List, [], ◌∷◌, length, take, drop, Option, Some, None, if◌then◌else◌, slice_get}
+use Rattle.std.specs.Prelude.{◌≡◌, ◌≢◌, ◌⊎◌, ℕ, ◌+◌, ◌-◌, ◌<◌, Bool, ◌==◌, nat_lt, bit_and, ◌^◌, List, [], ◌∷◌, length, take, drop, Option, Some, None, if◌then◌else◌, slice_get}
 use Rattle.std.specs.Int.{div_ceil}
 use Rattle.std.specs.Str.{bytes_eq}
 use Rattle.fuse_base.specs.declared.records.Attr.{Attr}
@@ -121,9 +121,9 @@ directory_answer fs (Release who node flags handle flush unlock owner) = Done
 directory_answer fs (Opendir who node flags) = if node == 1 then Opened None 0 else Failed ENOENT
 directory_answer fs call = default_answer call
 
--- a listing: the root's entries behind an offset, unless the table has as many sharers as can be
+-- a listing: the root's entries behind an offset, unless one is left and the table has as many sharers as can be
 abbrev pub Lists : List OwnedFile → (node offset : ℕ) → FileAnswer → Type 0
-Lists fs node offset (Failed e) = e ≡ (if node == 1 then ENOMEM else ENOENT)
+Lists fs node offset (Failed e) = ((node ≡ 1) × (offset < length fs) × (e ≡ ENOMEM)) ⊎ ((node ≢ 1) × (e ≡ ENOENT))
 Lists fs node offset answer = (node ≡ 1) × (answer ≡ Entries (listing_from (offset + 2) (drop offset fs)))
 
 -- the answers of a call

@@ -1,8 +1,8 @@
 //! A read-only directory, as a file system.
 
 ghost use Rattle.std.specs.Prelude.{◌≡◌, ◌<◌, ◌^◌, ◌+◌, ◌++◌, ℕ, List, length, take, drop, option_map, slice_get, Some, Ok, IfOk, OnErr};
-ghost use Rattle.std.specs.Arc.{arc_value};
 ghost use Rattle.fuse_fs.specs.Answers.{data_answer, entry_answer, listed};
+ghost use Rattle.fuse_directory.specs.Files.{listed_files};
 ghost use Rattle.fuse_directory.specs.Directory.{EROFS, attr_of, bytes_in, file_entry, file_at, found_from, listing_from, MayAnswer};
 
 use crate::table::{Entries, OwnedFile, OwnedTable};
@@ -177,15 +177,15 @@ fn entry_at(files: &[OwnedFile], at: u64) -> DirEntry<'_>
 }
 
 impl DirectoryIterator for Entries {
-    ghost rest = { λ entries. listing_from (entries.at + 2) (drop entries.at (arc_value entries.files).items) };
+    ghost rest = { λ entries. listing_from (entries.at + 2) (drop entries.at (listed_files entries)) };
 
     fn next(&mut self) -> Option<DirEntry<'_>> {
         let at = self.at;
-        if at >= self.count() {
+        if at >= self.files().len() as u64 {
             return None;
         }
         self.at = at + 1;
-        Some(entry_at(&self.files, at))
+        Some(entry_at(self.files(), at))
     }
 }
 

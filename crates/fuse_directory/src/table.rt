@@ -1,6 +1,7 @@
 //! The table of files that the directory is, and its entries.
 
-ghost use Rattle.std.specs.Prelude.{◌≡◌, ◌<◌, ◌^◌, length, IfOk};
+ghost use Rattle.std.specs.Prelude.{◌≡◌, ◌+◌, ◌<◌, ◌^◌, length, drop, IfOk, OnErr};
+ghost use Rattle.std.specs.Option.{ForSome};
 ghost use Rattle.std.specs.Arc.{arc_value};
 
 use std::alloc::{AllocError, Global};
@@ -37,13 +38,14 @@ pub struct OwnedTable {
 /// The entries of the directory, from one on.
 #[derive(Drop)]
 pub struct Entries {
-    pub(crate) files: Arc<Vec<OwnedFile>>,
+    // None if no entry is left.
+    files: Option<Arc<Vec<OwnedFile>>>,
     pub(crate) at: u64,
-    pub ghost few: { length (arc_value files).items < 2 ^ 32 },
+    pub ghost few: { ForSome files (λ shared. length (arc_value shared).items < 2 ^ 32) },
 }
 
 impl OwnedTable {
-    ghost use Rattle.fuse_directory.specs.Files.{files_of};
+    ghost use Rattle.fuse_directory.specs.Files.{files_of, listed_files};
 
     /// The table of these files. Of two with one name only the first is found. AllocError if an allocation fails.
     pub fn new(alloc: Global, files: Vec<OwnedFile>) -> Result<OwnedTable, AllocError>
@@ -64,21 +66,30 @@ impl OwnedTable {
         &self.files
     }
 
-    // Its entries from one on. AllocError if the table has as many sharers as can be.
+    // Its entries from one on. AllocError if there is one, and the table has as many sharers as can be.
     pub(crate) fn entries(&self, at: u64) -> Result<Entries, AllocError>
         ensures at { IfOk result (λ e. e.at ≡ at) }
-        ensures files { IfOk result (λ e. (arc_value e.files).items ≡ files_of self.now) }
+        ensures files { IfOk result (λ e. drop at (listed_files e) ≡ drop at (files_of self.now)) }
+        ensures refused { OnErr result (at < length (files_of self.now)) }
     {
-        let files = Arc::try_clone(&self.files)?;
+        if at >= self.files().len() as u64 {
+            return Ok(Entries { files: None, at });
+        }
+        let files = Some(Arc::try_clone(&self.files)?);
         Ok(Entries { files, at })
     }
 }
 
 impl Entries {
-    // How many files the table has.
-    pub(crate) fn count(&self) -> u64
-        ensures { result ≡ length (arc_value self.now.files).items }
+    ghost use Rattle.fuse_directory.specs.Files.{listed_files};
+
+    // The files that it shares.
+    pub(crate) fn files(&self) -> &[OwnedFile]
+        ensures { result.now ≡ listed_files self.now }
     {
-        self.files.len() as u64
+        match &self.files {
+            Some(files) => files,
+            None => &[],
+        }
     }
 }

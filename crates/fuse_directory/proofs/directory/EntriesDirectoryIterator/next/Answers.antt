@@ -1,10 +1,22 @@
-use Rattle.std.proofs.Common.{refl, sym}
-use Rattle.std.specs.Arc.{arc_value}
+use Rattle.std.proofs.Common.{◌≡◌, ◌+◌, ◌<◌, drop, length, List, Some, refl, sym, subst}
+use Rattle.std.specs.Prelude.{slice_get}
+use Rattle.fuse_fs.specs.Answers.{listed}
+use Rattle.fuse_directory.specs.declared.table.OwnedFile.{OwnedFile}
+use Rattle.fuse_directory.specs.Directory.{listing_from}
+use Rattle.fuse_directory.specs.Files.{listed_files}
 use Rattle.fuse_directory.proofs.TableLemmas.{listing_goes_on}
 use Rattle.fuse_directory.proofs.directory.EntriesDirectoryIterator.next.Goals as goal
+
+pub entry_at-requires : goal.entry_at-requires
+entry_at-requires c =
+    let at = c.args.self.now.at in
+    let below : at < length (listed_files c.args.self.now) = subst (λ (fs : List OwnedFile). at < length fs) c.files.ensures c.if-at-files.false in
+    subst (λ (fs : List OwnedFile). at < length fs) (sym c.files-2.ensures) below
 
 pub returns : goal.returns
 returns c =
     let at = c.args.self.now.at in
-    let files = (arc_value c.args.self.now.files).items in
-    ((refl, (λ e. tt), listing_goes_on at files), record { entry = rw (sym c.deref.ensures, sym c.deref-2.ensures.value) c.entry_at.ensures; after = tt })
+    let entry = c.entry_at.result in (
+      (refl, (λ e. tt), listing_goes_on at (listed_files c.args.self.now)),
+      record { entry = subst (λ (fs : List OwnedFile). Some (listed entry) ≡ slice_get (listing_from (at + 2) (drop at fs)) 0) c.files-2.ensures c.entry_at.ensures; after = tt },
+    )
