@@ -12,5 +12,7 @@ pub mod Differing
 pub mod Gathering
 pub mod Accounts
 pub mod MarksKept
+pub mod SinceKept
+pub mod Splitting
 pub mod WholePasses
 pub mod RoundPages

@@ -1,6 +1,7 @@
 -- what a share marked in a round was gathered or is left at its end
-use Rattle.std.proofs.Common.{◌≡◌, ℕ, ◌+◌, ◌<◌, List, [], ◌∷◌, ◌++◌, refl, ap, sym, subst, inl, inr, arith}
-use Rattle.std.proofs.lemmas.List.Elements.{All-append, All-nil}
+use Rattle.std.proofs.Common.{◌≡◌, ℕ, ◌+◌, ◌/◌, ◌<◌, List, [], ◌∷◌, ◌++◌, Option, refl, ap, sym, subst, inl, inr, arith}
+use Rattle.std.specs.Prelude.{All}
+use Rattle.std.proofs.lemmas.List.Elements.{All-append, All-nil, All-weaker}
 use Rattle.vm_bitmaps.specs.Words.{page_bit}
 use Rattle.vm_atomic_bitmaps.specs.declared.counts.PageCounts.{PageCounts}
 use Rattle.vm_atomic_bitmaps.specs.declared.counts.Tally.{Tally}
@@ -10,14 +11,16 @@ use Rattle.fs_shares.specs.Portion.{MarksPages, kept_pass, new_pass}
 use Rattle.fs_shares.proofs.Marking.{none_by_new}
 use Rattle.vm_memory_core.specs.Host.{Host, lengths}
 use Rattle.vm_block_pages.specs.Pages.{page_of}
+use Rattle.fs_device.specs.Step.{State}
 use Rattle.fs_shared.specs.declared.entry.JournalEntry.{JournalEntry}
 use Rattle.fs_shared.specs.declared.entry.Receipt.{Receipt}
 use Rattle.fs_shared.specs.Audit.{AreAllReceipts}
 use Rattle.fs_shared.specs.Laws.{HaveSamePart}
-use Rattle.fs_shared.specs.Marks.{AccountsFor, Harvest, HasMarked, first_of}
-use Rattle.fs_shared.specs.Rounds.{TellsPages}
+use Rattle.fs_shared.specs.Marks.{AccountsFor, AccountsSince, Harvest, HasMarked, HasMarkedSince, first_of}
+use Rattle.fs_shared.specs.Rounds.{KeepsSince, LeavesSince, TellsPages, following}
 use Rattle.fs_shared.proofs.Gathering.{bit_below}
 use Rattle.fs_shared.proofs.MarksKept.{calls_keep, calls_mark, Told}
+use Rattle.fs_shared.proofs.SinceKept.{calls_keep_since, calls_mark_since, ToldSince}
 use Rattle.fs_shared.proofs.WholePasses.{halves_are_whole}
 
 -- nothing was told, so all that was told is marked
@@ -54,3 +57,31 @@ tells b share h journal receipts before after gathered left is taken mine accoun
       | inl here ↦ inr here
       | inr more ↦ inl (set_of_taken gathered page (tally_of (new_half (first_pass b.len)).pages page).off (tally_of h.pass.counts.pages page).off (none_by_new (first_pass b.len) page) (taken page below) more)
     ]
+
+-- receipts of earlier entries ask nothing
+pub all_earlier : (word first : ℕ) (taken pages : List Tally) (receipts : List Receipt) → All (λ r. r.number < first) receipts → HasMarkedSince word first taken pages receipts
+all_earlier word first taken pages receipts early =
+    All-weaker (λ (r : Receipt). r.number < first) (ToldSince word first taken pages) (λ r less late page here within told. absurd (omega arith)) receipts early
+
+-- a call that told nothing, and one that told a receipt more
+pub none_since : (receipts : List Receipt) (old new : List Tally) → MarksPages [] old new → KeepsSince old new receipts receipts
+none_since receipts old new m word first taken seen has = let kept = calls_keep_since word first taken receipts [] old new m in (kept.0 seen, kept.1 has)
+
+pub one_since : (receipts : List Receipt) (r : Receipt) (old new : List Tally) → MarksPages r.pages.items old new → KeepsSince old new receipts (receipts ++ r ∷ [])
+one_since receipts r old new m word first taken seen has =
+    let kept = calls_keep_since word first taken receipts r.pages.items old new m in
+    (kept.0 seen, All-append (ToldSince word first taken new) receipts (r ∷ []) (kept.1 has) (calls_mark_since word first taken r old new seen m))
+
+-- calls one after another
+pub since_then : (a b c : List Tally) (xs ys zs : List Receipt) → KeepsSince a b xs ys → KeepsSince b c ys zs → KeepsSince a c xs zs
+since_then a b c xs ys zs one two word first taken seen has = let k = one word first taken seen has in two word first taken k.0 k.1
+
+-- each page in which the machine differs from what it was at the gather is left
+pub leaves_since : (b : SharedPages) (share : Pass) (h : Harvest) (journal : List JournalEntry) (receipts : List Receipt) (after : State (Unit {0})) (left : List ℕ) (last : Option ℕ)
+    → h ≡ record { bitmap = b; pass = counting (new_pass (first_of b)) h.pass.counts.pages } → share ≡ counting (kept_pass (first_of b)) share.counts.pages
+    → AccountsSince share h journal after left → AreAllReceipts journal receipts
+    → ((word : ℕ) → HasMarkedSince word (following last) h.pass.counts.pages share.counts.pages receipts) → LeavesSince b.len last journal left after
+leaves_since b share h journal receipts after left last is mine accounts all marked since replays p apart below =
+    let page = page_of (lengths since.memory.host) p in
+    let whole = round_whole b.len h.pass.counts share.counts (ap (λ (g : Harvest). g.pass.counts) is) (ap (λ (q : Pass). q.counts) mine) in
+    accounts whole receipts all (page / 64) (following last) (marked (page / 64)) since replays p apart (subst (λ (n : ℕ). page < n) (sym (ap (λ (g : Harvest). g.bitmap.len) is)) below) refl

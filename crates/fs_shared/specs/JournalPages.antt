@@ -1,5 +1,5 @@
 -- Which pages of blocks a journal tells: those where the machine differs from the start lie among them.
-use Rattle.std.specs.Prelude.{◌≡◌, ◌≢◌, ℕ, List, flat_map}
+use Rattle.std.specs.Prelude.{◌≡◌, ◌≢◌, ℕ, List, drop, flat_map, take}
 use Rattle.std.specs.List.{Contains}
 use Rattle.vm_memory_core.specs.Host.{Host, Place, byte_at, lengths}
 use Rattle.vm_block_pages.specs.Pages.{page_of}
@@ -20,3 +20,9 @@ abbrev pub JournalsTellPages : Type 0
 JournalsTellPages =
     (start after : State (Unit {0})) (journal : List Entry) → Replays start journal after →
     DiffersWithin (joined_pages journal) start.memory.host after.memory.host
+
+-- the first entries lead to a state from which the others lead on
+abbrev pub JournalsSplit : Type 0
+JournalsSplit =
+    (start after : State (Unit {0})) (first : ℕ) (journal : List Entry) → Replays start journal after →
+    (since : State (Unit {0})) × Replays start (take first journal) since × Replays since (drop first journal) after

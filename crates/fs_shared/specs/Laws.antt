@@ -1,9 +1,9 @@
 -- What a file system may do is forgotten, each call keeps a journal that replays, what a share marked stays marked, and passes are joined to the whole.
-use Rattle.std.specs.Prelude.{◌≡◌, ℕ, ◌*◌, ◌^◌, ◌++◌, ◌∷◌, [], List, Result, length}
+use Rattle.std.specs.Prelude.{◌≡◌, ◌≢◌, ℕ, ◌*◌, ◌^◌, ◌<◌, ◌++◌, ◌∷◌, [], List, Result, length}
 use Rattle.vm_atomic_bitmaps.specs.declared.counts.PageCounts.{PageCounts}
 use Rattle.vm_atomic_bitmaps.specs.declared.counts.Tally.{Tally}
-use Rattle.vm_atomic_bitmaps.specs.Counts.{both_passes, first_pass, joined_with, kept_half, met_with, new_half, IsWhole}
-use Rattle.fs_shares.specs.Portion.{MarksPages}
+use Rattle.vm_atomic_bitmaps.specs.Counts.{both_passes, cleared_by, first_pass, in_word, joined_with, kept_half, met_with, new_half, IsWhole}
+use Rattle.fs_shares.specs.Portion.{HasSeen, MarksPages}
 use Rattle.virtiofsd_fuse.specs.Serving.{May}
 use Rattle.fs_device.specs.Step.{State, Calls, Outcome, Step}
 use Rattle.fs_device.specs.Run.{Command}
@@ -13,7 +13,7 @@ use Rattle.fs_shared.specs.declared.entry.Kicked.{Kicked}
 use Rattle.fs_shared.specs.declared.entry.Receipt.{Receipt}
 use Rattle.fs_shared.specs.Calls.{ActsBy, KicksBy}
 use Rattle.fs_shared.specs.Held.{Held}
-use Rattle.fs_shared.specs.Marks.{HasMarked}
+use Rattle.fs_shared.specs.Marks.{HasMarked, HasMarkedSince}
 use Rattle.fs_shared.specs.Replay.{Anything, forget, Plays, Replays}
 use Rattle.fs_shared.specs.Replay as replay
 
@@ -60,6 +60,41 @@ JoinsKeepMarks =
 -- a share that takes over what was seen keeps what it marked
 abbrev pub MeetsKeepMarks : Type 0
 MeetsKeepMarks = (receipts : List Receipt) (ts us : List Tally) → HasMarked ts receipts → HasMarked (met_with us ts) receipts
+
+-- what a call marks of a word, once its share has seen what a harvest took of it, is marked since
+abbrev pub CallsMarkSince : Type 0
+CallsMarkSince =
+    (word first : ℕ) (taken : List Tally) (r : Receipt) (old new : List Tally) → HasSeen word taken old → MarksPages r.pages.items old new →
+    HasMarkedSince word first taken new (r ∷ [])
+
+-- a call keeps what its share has seen, and what was marked since
+abbrev pub CallsKeepSince : Type 0
+CallsKeepSince =
+    (word first : ℕ) (taken : List Tally) (receipts : List Receipt) (pages : List ℕ) (old new : List Tally) → MarksPages pages old new →
+    (HasSeen word taken old → HasSeen word taken new) × (HasMarkedSince word first taken old receipts → HasMarkedSince word first taken new receipts)
+
+-- a receipt of an earlier entry asks nothing
+abbrev pub EarlierAsksNothing : Type 0
+EarlierAsksNothing = (word first : ℕ) (taken pages : List Tally) (r : Receipt) → r.number < first → HasMarkedSince word first taken pages (r ∷ [])
+
+-- two shares in one have marked since what either has
+abbrev pub JoinsKeepSince : Type 0
+JoinsKeepSince =
+    (word first : ℕ) (taken : List Tally) (receipts others : List Receipt) (ts us : List Tally) → length us ≡ length ts →
+    HasMarkedSince word first taken ts receipts → HasMarkedSince word first taken us others →
+    HasMarkedSince word first taken (joined_with us ts) (receipts ++ others)
+
+-- a share that takes over what was seen keeps what it marked since
+abbrev pub MeetsKeepSince : Type 0
+MeetsKeepSince =
+    (word first : ℕ) (taken : List Tally) (receipts : List Receipt) (ts us : List Tally) →
+    HasMarkedSince word first taken ts receipts → HasMarkedSince word first taken (met_with us ts) receipts
+
+-- a gather of another word leaves what was marked of this one since
+abbrev pub GathersKeepSince : Type 0
+GathersKeepSince =
+    (word other found first : ℕ) (taken pages : List Tally) (receipts : List Receipt) → word ≢ other →
+    HasMarkedSince word first taken pages receipts → HasMarkedSince word first (cleared_by (in_word other) found taken) pages receipts
 
 -- two passes have the same part of all
 abbrev pub HaveSamePart : PageCounts → PageCounts → Type 0

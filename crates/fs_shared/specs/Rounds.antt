@@ -1,11 +1,37 @@
 -- What a round of a device leaves of the pages that it wrote.
-use Rattle.std.specs.Prelude.{◌≡◌, ◌≢◌, ◌⊎◌, ℕ, ◌<◌, List}
+use Rattle.std.specs.Prelude.{◌≡◌, ◌≢◌, ◌⊎◌, ℕ, ◌+◌, ◌<◌, List, Option, Some, None, drop}
 use Rattle.vm_bitmaps.specs.Words.{page_bit}
+use Rattle.vm_atomic_bitmaps.specs.declared.counts.Tally.{Tally}
+use Rattle.fs_shares.specs.Portion.{HasSeen}
 use Rattle.vm_memory_core.specs.Host.{Host, Place, byte_at, lengths}
 use Rattle.vm_block_pages.specs.Pages.{page_of}
+use Rattle.fs_device.specs.Step.{State}
+use Rattle.fs_shared.specs.declared.entry.JournalEntry.{JournalEntry}
+use Rattle.fs_shared.specs.declared.entry.Receipt.{Receipt}
+use Rattle.fs_shared.specs.Held.{journal_of}
+use Rattle.fs_shared.specs.Marks.{HasMarkedSince}
+use Rattle.fs_shared.specs.Replay.{Replays}
 
 -- each page, of the first len ones, in which the hosts differ is set in the words that were gathered or in those that were left
 abbrev pub TellsPages : (len : ℕ) → (gathered left : List ℕ) → (before after : Host) → Type 0
 TellsPages len gathered left before after =
     (p : Place) → byte_at after p ≢ byte_at before p → page_of (lengths before) p < len →
     (page_bit gathered (page_of (lengths before) p) ≡ 1) ⊎ (page_bit left (page_of (lengths before) p) ≡ 1)
+
+-- the number of the entry that follows the last one of some
+abbrev pub following : Option ℕ → ℕ
+following None = 0
+following (Some last) = last + 1
+
+-- each page, of the first len ones, in which the machine differs from the state after the entries up to `last` is set in the words that were left
+abbrev pub LeavesSince : (len : ℕ) → (last : Option ℕ) → List JournalEntry → (left : List ℕ) → State (Unit {0}) → Type 0
+LeavesSince len last journal left after =
+    (since : State (Unit {0})) → Replays since (drop (following last) (journal_of journal)) after →
+    (p : Place) → byte_at after.memory.host p ≢ byte_at since.memory.host p → page_of (lengths since.memory.host) p < len →
+    page_bit left (page_of (lengths since.memory.host) p) ≡ 1
+
+-- calls of a share that has seen what another pass took keep that, and what they tell is marked since
+abbrev pub KeepsSince : (old new : List Tally) → (before after : List Receipt) → Type 0
+KeepsSince old new before after =
+    (word first : ℕ) (taken : List Tally) → HasSeen word taken old → HasMarkedSince word first taken old before →
+    HasSeen word taken new × HasMarkedSince word first taken new after

@@ -66,6 +66,10 @@ fn each_once(count: usize, receipts: &[Receipt]) -> bool
 /// Whether some receipts say all that a journal says: their numbers are 0 up to the journal's length, each once, and each
 /// has the command, the outcome and the pages of the entry of its number. Layouts are compared by the base, the length
 /// and the block of each region. It takes no memory, and looks at each receipt once for each entry.
+///
+/// The clauses of a `SharedDevice` can't name what lay under its lock: this finds, at run time, a receipt without an entry, an
+/// entry without a receipt, and a receipt that tells what another call did. It doesn't find a kick that is idle though a chain
+/// waits, nor bytes of a read that were made up: neither is journaled (`SharedState` promises both of what it holds).
 pub fn audit(journal: &[JournalEntry], receipts: &[Receipt]) -> bool
     ensures { IsTrue result ↔ AreAllReceipts journal.now receipts.now }
 {

@@ -6,7 +6,7 @@ ghost use Rattle.vm_bitmaps.specs.Words.{page_bit};
 ghost use Rattle.vm_atomic_bitmaps.specs.Counts.{both_passes, met_with};
 ghost use Rattle.vm_atomic_bitmaps.specs.Passes.{counting};
 ghost use Rattle.vm_atomic_bitmaps.specs.Steps.{SettlesAll};
-ghost use Rattle.fs_shares.specs.Portion.{IsShareOf, MarksPages, counted, joined, kept_pass, new_pass};
+ghost use Rattle.fs_shares.specs.Portion.{HasSeen, IsShareOf, MarksPages, counted, joined, kept_pass, new_pass};
 ghost use Rattle.fs_device.specs.CommandView.{command_of};
 ghost use Rattle.fs_device.specs.MachineView.{machine_of};
 ghost use Rattle.fs_device.specs.Run.{GuestWrite, Kick, SetLayout};
@@ -49,7 +49,7 @@ impl<L: Ledger, F, I: Iommu + Drop> Model for SharedDevice<L, F, I> {
     ghost view = { λ d. arc_value d.bitmap };
 }
 
-ghost use Rattle.fs_shared.specs.Marks.{AccountsFor, HasPagesOf, IsHarvestOf, first_of, kicked_pages, told_pages};
+ghost use Rattle.fs_shared.specs.Marks.{AccountsFor, AccountsSince, HasPagesOf, IsHarvestOf, LeavesMarked, first_of, kicked_pages, told_pages};
 ghost use Rattle.fs_shared.specs.declared.share_error.ShareError.TheVariants.{OutOfMemory};
 
 impl<L: Ledger, F: FileSystem, I: Iommu + Drop> SharedDevice<L, F, I> {
@@ -112,13 +112,15 @@ impl<L: Ledger, F: FileSystem, I: Iommu + Drop> SharedDevice<L, F, I> {
         share.join(&self.bitmap, other);
     }
 
-    /// A share takes over what a harvest has seen (`AtomicBitmap::meet_pass`). It always can, and waits for nobody.
+    /// A share takes over what a harvest has seen (`AtomicBitmap::meet_pass`), and so all that it took. It always can, and
+    /// waits for nobody. What the share's calls tell from then on is left by that gather (`laws::law_marks_since`).
     pub fn meet(&self, share: &mut Share<L>, harvest: &mut PageHarvest) -> bool
         requires share { IsShareOf self.now share.old }
         requires harvest { IsHarvestOf self.now harvest.old }
         ensures met { result ≡ true }
         ensures share { share.new ≡ record share.old { pass = counting share.old.pass (met_with harvest.old.pass.counts.pages share.old.pass.counts.pages) } }
         ensures harvest { harvest.new ≡ harvest.old }
+        ensures seen { (word : ℕ) → HasSeen word harvest.old.pass.counts.pages share.new.pass.counts.pages }
         ensures own { IsShareOf self.now share.new }
     {
         share.meet(&self.bitmap, &mut harvest.pass)
@@ -236,8 +238,9 @@ impl<L: Ledger, F: FileSystem, I: Iommu + Drop> SharedDevice<L, F, I> {
     /// The same, and all pages that are still marked, in words of 64 pages each: page p is bit p mod 64 of word p / 64. What
     /// follows holds once each share that was split off is joined back. A page is set in the words exactly if it was marked
     /// more often than gathered. If `audit` takes the receipts of all calls, whose pages the share has marked, each page of the
-    /// bitmap in which the hosts differ is set, or the harvest gathered it. If the device doesn't come apart, then device, share
-    /// and harvest come back, and the words are as they were.
+    /// bitmap in which the hosts differ is set, or the harvest gathered it; and each page that was written after the last gather of
+    /// its word is set, if the share met the harvest in between (`laws::law_marks_since`). If the device doesn't come apart, then
+    /// device, share and harvest come back, and the words are as they were.
     pub fn into_parts_and_pages(
         self,
         share: Share<L>,
@@ -255,6 +258,8 @@ impl<L: Ledger, F: FileSystem, I: Iommu + Drop> SharedDevice<L, F, I> {
         ensures settles { IfOk result (λ p. SettlesAll (both_passes harvest.pass.counts share.pass.counts) words.new) }
         ensures past { IfOk result (λ p. (page : ℕ) → self.len ≤ page → page_bit words.new page ≡ 0) }
         ensures gathered { IfOk result (λ p. AccountsFor share.pass harvest p.journal.items p.start.host p.machine.host words.new) }
+        ensures left { IfOk result (λ p. LeavesMarked share.pass harvest words.new) }
+        ensures since { IfOk result (λ p. AccountsSince share.pass harvest p.journal.items (forget (machine_of p.machine)) words.new) }
         ensures room { length words.new ≡ length words.old }
         ensures back { IfErr result (λ back. (back.0 ≡ self) × (back.1 ≡ share) × (back.2 ≡ harvest)) }
         ensures same { OnErr result (words.new ≡ words.old) }

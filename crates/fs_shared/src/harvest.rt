@@ -29,13 +29,14 @@ pub struct PageHarvest {
 impl Model for PageHarvest {
     ghost use Rattle.std.specs.Arc.{arc_value};
     ghost use Rattle.vm_atomic_bitmaps.specs.Passes.{IsPassOf};
+    ghost use Rattle.fs_shares.specs.Portion.{HasSeenItsOwn};
     ghost use Rattle.fs_shared.specs.Marks.{Harvest};
 
     ghost Value = { Harvest };
 
     ghost view = { λ h. record { bitmap = arc_value h.bitmap; pass = h.pass } };
 
-    ghost invariant = { λ h. IsPassOf (arc_value h.bitmap) h.pass };
+    ghost invariant = { λ h. IsPassOf (arc_value h.bitmap) h.pass × HasSeenItsOwn h.pass.counts.pages };
 }
 
 ghost use Rattle.fs_shared.specs.Marks.{HasPagesOf, first_of};
@@ -98,7 +99,8 @@ impl PageHarvest {
 
     // Takes in the pass of a share.
     pub(crate) fn take_in(&mut self, pass: BitmapPass)
-        requires { IsPassOf self.old.bitmap pass }
+        requires own { IsPassOf self.old.bitmap pass }
+        requires none { (p : ℕ) → (tally_of pass.counts.pages p).off ≡ 0 }
         ensures own { IsPassOf self.new.bitmap self.new.pass }
         ensures harvest { self.new ≡ record self.old { pass = record { name = self.old.pass.name; counts = both_passes self.old.pass.counts pass.counts } } }
     {

@@ -1,8 +1,9 @@
 //! Laws of the definitions, each the contract of a function that does nothing.
 
-ghost use Rattle.fs_shared.specs.JournalPages.{JournalsTellPages};
-ghost use Rattle.fs_shared.specs.Laws.{ActsReplay, CallsKeepMarks, CallsMark, EventsForget, HalvesAreWhole};
-ghost use Rattle.fs_shared.specs.Laws.{JoinsGiveBack, JoinsKeepMarks, KicksReplay, MeetsKeepMarks, StepsForget};
+ghost use Rattle.fs_shared.specs.JournalPages.{JournalsSplit, JournalsTellPages};
+ghost use Rattle.fs_shared.specs.Laws.{ActsReplay, CallsKeepMarks, CallsKeepSince, CallsMark, CallsMarkSince, EarlierAsksNothing, EventsForget};
+ghost use Rattle.fs_shared.specs.Laws.{GathersKeepSince, HalvesAreWhole, JoinsGiveBack, JoinsKeepMarks, JoinsKeepSince, KicksReplay};
+ghost use Rattle.fs_shared.specs.Laws.{MeetsKeepMarks, MeetsKeepSince, StepsForget};
 
 use fuse_fs::FileSystem;
 
@@ -22,9 +23,10 @@ pub fn law_replays<F: FileSystem>()
 {}
 
 /// Where a journal replays, the page of each byte that differs between the two hosts is among the entries' pages, with the
-/// IOMMU on or off.
+/// IOMMU on or off. The first entries lead to a state from which the others lead on.
 pub fn law_journal_pages()
-    ensures { JournalsTellPages }
+    ensures pages { JournalsTellPages }
+    ensures split { JournalsSplit }
 {}
 
 /// What the calls of a shared device tell is marked by their share, and stays so: in later calls, where the share takes in
@@ -34,6 +36,19 @@ pub fn law_marks_stay()
     ensures later { CallsKeepMarks }
     ensures joins { JoinsKeepMarks }
     ensures meets { MeetsKeepMarks }
+{}
+
+/// After a gather a share meets the harvest, and has then seen what that took (`SharedDevice::meet`). What its calls tell from
+/// then on is marked since, and stays so: in later calls, where the share takes in another or meets the harvest again, and
+/// where another word is gathered. A receipt of an earlier entry asks nothing. What was marked since the last gather of its
+/// word is set in the words that are left (`SharedDevice::into_parts_and_pages`).
+pub fn law_marks_since()
+    ensures calls { CallsMarkSince }
+    ensures later { CallsKeepSince }
+    ensures earlier { EarlierAsksNothing }
+    ensures joins { JoinsKeepSince }
+    ensures meets { MeetsKeepSince }
+    ensures gathers { GathersKeepSince }
 {}
 
 /// Whatever the calls counted meanwhile, which leaves parts alone: where each share that was split off is joined again, share

@@ -1,6 +1,6 @@
 //! A round of a device: it is made over a machine, serves a queue before and after a gather, and is taken apart again.
 
-ghost use Rattle.std.specs.Prelude.{◌≡◌, ◌+◌, ◌<◌, ◌≤◌, ◌*◌, ◌↔◌, [], IfErr, IfOk, IsTrue, length, vec_capacity, vec_len};
+ghost use Rattle.std.specs.Prelude.{◌≡◌, ◌+◌, ◌<◌, ◌≤◌, ◌*◌, ◌↔◌, [], All, IfErr, IfOk, IsTrue, length, vec_capacity, vec_len};
 ghost use Rattle.std.specs.Int.{div_ceil};
 ghost use Rattle.vm_atomic_bitmaps.specs.Passes.{counting};
 ghost use Rattle.vm_memory_core.specs.Host.{lengths};
@@ -11,7 +11,7 @@ ghost use Rattle.fs_shared.specs.Audit.{AreAllReceipts};
 ghost use Rattle.fs_shared.specs.Held.{fixed_of, journal_of, start_of};
 ghost use Rattle.fs_shared.specs.Marks.{HasMarked, first_of};
 ghost use Rattle.fs_shared.specs.Replay.{Replays, forget};
-ghost use Rattle.fs_shared.specs.Rounds.{TellsPages};
+ghost use Rattle.fs_shared.specs.Rounds.{KeepsSince, LeavesSince, TellsPages, following};
 ghost use Rattle.fs_shared.specs.declared.share_error.ShareError.TheVariants.{OutOfMemory};
 
 use crate::auditing::audit;
@@ -36,6 +36,8 @@ pub struct Round<F, I: Iommu + Drop> {
     pub receipts: Vec<Receipt>,
     /// Whether the receipts say all that the journal says (`audit`).
     pub is_audited: bool,
+    /// The greatest number of the receipts that were there as the harvest gathered: that of the last entry before.
+    pub last_before: Option<usize>,
     /// The pages that the harvest gathered between the kicks: page p is bit p mod 64 of word p / 64.
     pub gathered: Vec<u64>,
     /// The pages that were still marked at the end, in the same form.
@@ -84,6 +86,7 @@ fn kick_once<L: Ledger, F: FileSystem, I: Iommu + Drop, R: Wait>(
     requires room { vec_len receipts.old < vec_capacity receipts.old }
     ensures own { IsShareOf device.now share.new }
     ensures marked { HasMarked share.new.pass.counts.pages receipts.new.items }
+    ensures since { KeepsSince share.old.pass.counts.pages share.new.pass.counts.pages receipts.old.items receipts.new.items }
     ensures parts { share.new.parts ≡ share.old.parts }
     ensures pass { share.new.pass ≡ counting share.old.pass share.new.pass.counts.pages }
     ensures len { vec_len receipts.new ≤ vec_len receipts.old + 1 }
@@ -114,6 +117,7 @@ fn kick_often<L: Ledger, F: FileSystem, I: Iommu + Drop, R: Wait>(
     requires room { vec_len receipts.old + most ≤ vec_capacity receipts.old }
     ensures own { IsShareOf device.now share.new }
     ensures marked { HasMarked share.new.pass.counts.pages receipts.new.items }
+    ensures since { KeepsSince share.old.pass.counts.pages share.new.pass.counts.pages receipts.old.items receipts.new.items }
     ensures parts { share.new.parts ≡ share.old.parts }
     ensures pass { share.new.pass ≡ counting share.old.pass share.new.pass.counts.pages }
     ensures len { vec_len receipts.new ≤ vec_len receipts.old + most }
@@ -126,7 +130,29 @@ fn kick_often<L: Ledger, F: FileSystem, I: Iommu + Drop, R: Wait>(
     }
 }
 
-// Serves a queue of a new device before and after a gather, and takes the device apart.
+// The greater of two numbers, of which the first may be none.
+fn greater(one: Option<usize>, other: usize) -> Option<usize>
+    ensures one { following one ≤ following result }
+    ensures other { other < following result }
+{
+    match one {
+        Some(number) if other <= number => one,
+        _ => Some(other),
+    }
+}
+
+// The greatest number of some receipts.
+fn greatest_number(receipts: &[Receipt]) -> Option<usize>
+    ensures { All (λ r. r.number < following result) receipts.now }
+{
+    let mut greatest = None;
+    for receipt in receipts {
+        greatest = greater(greatest, receipt.number);
+    }
+    greatest
+}
+
+// Serves a queue of a new device before and after a gather, which the share is told of, and takes the device apart.
 fn go_round<L: Ledger, F: FileSystem + Drop, I: Iommu + Drop, R: Wait>(
     rt: &R,
     alloc: Global,
@@ -147,6 +173,8 @@ fn go_round<L: Ledger, F: FileSystem + Drop, I: Iommu + Drop, R: Wait>(
         (forget (machine_of result.parts.machine)) }
     ensures pages { IsTrue result.is_audited →
         TellsPages made.0.len result.gathered.items result.left.items result.parts.start.host result.parts.machine.host }
+    ensures since { IsTrue result.is_audited →
+        LeavesSince made.0.len result.last_before result.parts.journal.items result.left.items (forget (machine_of result.parts.machine)) }
 {
     let (device, mut share, mut harvest) = made;
     let RoundRoom {
@@ -155,7 +183,9 @@ fn go_round<L: Ledger, F: FileSystem + Drop, I: Iommu + Drop, R: Wait>(
         mut left,
     } = room;
     kick_often(rt, alloc, &device, &mut share, &mut receipts, queue, most);
+    let last_before = greatest_number(&receipts);
     harvest.gather_all(&mut gathered);
+    device.meet(&mut share, &mut harvest);
     kick_often(rt, alloc, &device, &mut share, &mut receipts, queue, most);
     let Ok(parts) = device.into_parts_and_pages(share, harvest, &mut left) else {
         // The share has every part.
@@ -166,15 +196,16 @@ fn go_round<L: Ledger, F: FileSystem + Drop, I: Iommu + Drop, R: Wait>(
         parts,
         receipts,
         is_audited,
+        last_before,
         gathered,
         left,
     }
 }
 
 /// A round of a machine by one thread: a device is made over it (`SharedDevice::new`), a queue is kicked until nothing waits, a kick
-/// is refused or `most` chains were served, the harvest gathers, the queue is kicked so once more, and the device is taken apart.
-/// Where the receipts pass the audit, each page, below the number of pages of the host, in which the machine's host differs from
-/// the start's was gathered or is left. Refused only `OutOfMemory`, if an allocation fails before anything was served, and then
+/// is refused or `most` chains were served, the harvest gathers, the share meets it, the queue is kicked so once more, and the device
+/// is taken apart. Where the receipts pass the audit, each page, below the number of pages of the host, in which the machine's host
+/// differs from the start's was gathered or is left; and each in which it differs from what it was at the gather is left. Refused only `OutOfMemory`, if an allocation fails before anything was served, and then
 /// blank and machine come back.
 pub fn serve_round<L: Ledger, F: FileSystem + Drop, I: Iommu + Drop, R: Wait>(
     rt: &R,
@@ -194,6 +225,8 @@ pub fn serve_round<L: Ledger, F: FileSystem + Drop, I: Iommu + Drop, R: Wait>(
         (journal_of round.parts.journal.items) (forget (machine_of round.parts.machine))) }
     ensures pages { IfOk result (λ round. IsTrue round.is_audited → TellsPages (first_page (lengths machine.host) (length (lengths machine.host)))
         round.gathered.items round.left.items round.parts.start.host round.parts.machine.host) }
+    ensures since { IfOk result (λ round. IsTrue round.is_audited → LeavesSince (first_page (lengths machine.host) (length (lengths machine.host)))
+        round.last_before round.parts.journal.items round.left.items (forget (machine_of round.parts.machine))) }
     ensures refused { IfErr result (λ back. back.0 ≡ OutOfMemory) }
     ensures blank { IfErr result (λ back. back.1 ≡ blank) }
     ensures machine { IfErr result (λ back. back.2 ≡ machine) }

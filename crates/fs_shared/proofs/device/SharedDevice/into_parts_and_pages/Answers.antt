@@ -9,7 +9,7 @@ use Rattle.fs_device.specs.MachineView.{machine_of}
 use Rattle.fs_shared.specs.Held.{fixed_of, journal_of, start_of}
 use Rattle.fs_shared.specs.Marks.{Harvest}
 use Rattle.fs_shared.specs.Replay.{forget}
-use Rattle.fs_shared.proofs.Accounts.{accounts}
+use Rattle.fs_shared.proofs.Accounts.{accounts, accounts_since, leaves_marked}
 use Rattle.fs_shared.proofs.Differing.{journals_tell_pages}
 use Rattle.fs_shared.proofs.device.SharedDevice.into_parts_and_pages.Goals as goal
 
@@ -47,3 +47,23 @@ returns-clause-settles g c =
     let taken : c.take_in.new.self.pass.counts ≡ both_passes h.pass.counts share.counts =
     ap (λ (n : Harvest). n.pass.counts) c.take_in.ensures.harvest ∙ ap (λ (q : Pass). both_passes h.pass.counts q.counts) told in
     subst (λ (v : PageCounts). SettlesAll v c.gather_all.new.words) taken c.gather_all.ensures.whole
+
+pub returns-clause-left : goal.returns-clause-left
+returns-clause-left g c =
+    let share = c.args.share.pass in
+    let h = c.args.harvest in
+    let told : c.into_pass.result ≡ share = c.into_pass.ensures ∙ ap (λ (s : Portion). s.pass) c.is_counted.ensures.share in
+    let taken : c.take_in.new.self.pass.counts ≡ both_passes h.pass.counts share.counts =
+    ap (λ (n : Harvest). n.pass.counts) c.take_in.ensures.harvest ∙ ap (λ (q : Pass). both_passes h.pass.counts q.counts) told in
+    let own : length c.take_in.new.self.pass.counts.pages ≡ h.bitmap.len = c.take_in.ensures.own.1 ∙ ap (λ (n : Harvest). n.bitmap.len) c.take_in.ensures.harvest in
+    let mine : length h.pass.counts.pages ≡ h.bitmap.len =
+    sym (length-each_tally (λ p t. both_of t (tally_of share.counts.pages p)) 0 h.pass.counts.pages) ∙ sym (ap (λ (v : PageCounts). length v.pages) taken) ∙ own in
+    leaves_marked share h c.gather_all.new.words mine c.requires.share.none_cleared (returns-clause-settles g c)
+
+pub returns-clause-since : goal.returns-clause-since
+returns-clause-since g c =
+    let p = c.open.result in
+    let share = c.args.share.pass in
+    let h = c.args.harvest in
+    let theirs : length share.counts.pages ≡ h.bitmap.len = c.requires.share.pass.1 ∙ sym (ap (λ (b : SharedPages). b.len) c.requires.harvest) in
+    accounts_since share h p.journal.items (forget (machine_of p.machine)) c.gather_all.new.words theirs (returns-clause-left g c)

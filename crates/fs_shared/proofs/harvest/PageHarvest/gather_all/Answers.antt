@@ -72,7 +72,7 @@ returns-clause-past c p beyond =
 pub returns-clause-whole : goal.returns-clause-whole
 returns-clause-whole c whole p within =
     let there = c.words-word-end.ensures ∙ ap (λ (b : SharedPages). div_ceil b.len 64) c.deref.ensures in
-    let own = c.self.invariant.1 in
+    let own = c.self.invariant.0.1 in
     let long : length c.args.self.now.pass.counts.pages ≡ length c.self.inside.pass.counts.pages = ap (λ (h : Harvest). length h.pass.counts.pages) (sym c.self.view_is) in
     let over = c.loop-word-test.false in
     c.loop-word.invariant.settled whole p within (omega arith)
@@ -80,7 +80,7 @@ returns-clause-whole c whole p within =
 pub returns-clause-taken : goal.returns-clause-taken
 returns-clause-taken c p below =
     let there = c.words-word-end.ensures ∙ ap (λ (b : SharedPages). div_ceil b.len 64) (c.deref.ensures ∙ ap (λ (h : Harvest). h.bitmap) c.self.view_is) in
-    let own = c.self.invariant.1 in
+    let own = c.self.invariant.0.1 in
     let long : length c.args.self.now.pass.counts.pages ≡ length c.self.inside.pass.counts.pages = ap (λ (h : Harvest). length h.pass.counts.pages) (sym c.self.view_is) in
     let same = ap (λ (h : Harvest). h.bitmap.len) c.self.view_is in
     let over = c.loop-word-test.false in
