@@ -5,13 +5,12 @@ ghost use Rattle.std.specs.Prelude.{⊤};
 use crate::fault::BenchFault;
 use crate::listing::ListedEntries;
 use bitflags::Flags;
-use fuse_wire::{
-    Attr, Errno, FsOptions, OpenOptions, SetattrIn, SetattrValid, SetxattrFlags, StatVfs,
-};
+use fuse_wire::{Attr, Errno, FsOptions, OpenOptions, SetattrIn, SetattrValid, StatVfs};
+use fuse_writable::{Writable, WritableFileSystem};
 use std::alloc::Global;
 use virtiofsd_fuse::{
-    Context, Entry, Extensions, FileSystem, FileSystemBase, GetxattrReply, ListxattrReply,
-    PositionedFile, Timeout, WritevFlags, ZeroCopyReader, ZeroCopyWriter, defaults,
+    Context, Entry, Extensions, PositionedFile, Timeout, WritevFlags, ZeroCopyReader,
+    ZeroCopyWriter, defaults,
 };
 
 // How many bytes the file has.
@@ -25,18 +24,18 @@ struct MemoryFile {
 
 /// A file system whose one file is node 2.
 #[derive(Drop)]
-pub(crate) struct MemoryFiles {
+pub(crate) struct OneFile {
     file: MemoryFile,
 }
 
-impl MemoryFiles {
-    /// The file system, whose file is made.
-    pub fn new(alloc: Global) -> Result<MemoryFiles, BenchFault> {
-        let bytes = vec![in alloc; 7; FILE_LEN]?;
-        Ok(MemoryFiles {
-            file: MemoryFile { bytes },
-        })
-    }
+/// The same, with the defaults for all calls that it lacks.
+pub(crate) type MemoryFiles = Writable<OneFile>;
+
+/// The file system, whose file is made.
+pub(crate) fn memory_files(alloc: Global) -> Result<MemoryFiles, BenchFault> {
+    let bytes = vec![in alloc; 7; FILE_LEN]?;
+    let file = MemoryFile { bytes };
+    Ok(Writable(OneFile { file }))
 }
 
 impl MemoryFile {
@@ -92,26 +91,10 @@ fn file_attr() -> Result<(Attr, Timeout), Errno> {
     Ok((attr, second))
 }
 
-impl FileSystemBase for MemoryFiles {
-    type Inode = u64;
-
-    type Handle = u64;
-
-    ghost may = { λ before call answer after. ⊤ };
-
-    fn forget(&mut self, _ctx: Context, _inode: u64, _count: u64) {}
-}
-
-impl FileSystem for MemoryFiles {
+impl WritableFileSystem for OneFile {
     type DirIter = ListedEntries;
 
-    ghost use Rattle.std.specs.Prelude.{true};
-
-    ghost reads_whole = { λ fs. true };
-
-    fn reads_whole(&self) -> bool {
-        true
-    }
+    ghost may = { λ before call answer after. ⊤ };
 
     fn init(&mut self, _capable: FsOptions) -> Result<FsOptions, Errno> {
         Ok(FsOptions::from_bits_retain(0))
@@ -128,38 +111,14 @@ impl FileSystem for MemoryFiles {
         })
     }
 
-    fn read<W: ZeroCopyWriter>(
-        &mut self,
-        _ctx: Context,
-        _inode: u64,
-        _handle: u64,
-        w: &mut W,
-        size: u32,
-        offset: u64,
-        _lock_owner: Option<u64>,
-        _flags: u32,
-    ) -> Result<usize, Errno> {
-        defaults::read_whole(&mut self.file, w, size as usize, offset)
-    }
-
-    fn destroy(&mut self) {
-        defaults::destroy(self);
-    }
-
-    fn batch_forget(&mut self, ctx: Context, requests: Vec<(u64, u64)>)
-        ensures may { ⊤ }
-    {
-        defaults::batch_forget(self, ctx, requests);
-    }
+    fn forget(&mut self, _ctx: Context, _inode: u64, _count: u64) {}
 
     fn getattr(
         &mut self,
         _ctx: Context,
         _inode: u64,
         _handle: Option<u64>,
-    ) -> Result<(Attr, Timeout), Errno>
-        ensures may { ⊤ }
-    {
+    ) -> Result<(Attr, Timeout), Errno> {
         file_attr()
     }
 
@@ -170,38 +129,8 @@ impl FileSystem for MemoryFiles {
         _attr: SetattrIn,
         _handle: Option<u64>,
         _valid: SetattrValid,
-    ) -> Result<(Attr, Timeout), Errno>
-        ensures may { ⊤ }
-    {
+    ) -> Result<(Attr, Timeout), Errno> {
         defaults::setattr()
-    }
-
-    fn readlink(&mut self, _ctx: Context, _inode: u64) -> Result<Vec<u8>, Errno> {
-        defaults::readlink()
-    }
-
-    fn symlink(
-        &mut self,
-        _ctx: Context,
-        _linkname: &[u8],
-        _parent: u64,
-        _name: &[u8],
-        _extensions: Extensions,
-    ) -> Result<Entry<u64>, Errno> {
-        defaults::symlink()
-    }
-
-    fn mknod(
-        &mut self,
-        _ctx: Context,
-        _parent: u64,
-        _name: &[u8],
-        _mode: u32,
-        _rdev: u32,
-        _umask: u32,
-        _extensions: Extensions,
-    ) -> Result<Entry<u64>, Errno> {
-        defaults::mknod()
     }
 
     fn mkdir(
@@ -236,16 +165,6 @@ impl FileSystem for MemoryFiles {
         defaults::rename()
     }
 
-    fn link(
-        &mut self,
-        _ctx: Context,
-        _inode: u64,
-        _newparent: u64,
-        _newname: &[u8],
-    ) -> Result<Entry<u64>, Errno> {
-        defaults::link()
-    }
-
     fn open(
         &mut self,
         _ctx: Context,
@@ -270,6 +189,20 @@ impl FileSystem for MemoryFiles {
         defaults::create()
     }
 
+    fn read<W: ZeroCopyWriter>(
+        &mut self,
+        _ctx: Context,
+        _inode: u64,
+        _handle: u64,
+        w: &mut W,
+        size: u32,
+        offset: u64,
+        _lock_owner: Option<u64>,
+        _flags: u32,
+    ) -> Result<usize, Errno> {
+        defaults::read_whole(&mut self.file, w, size as usize, offset)
+    }
+
     fn write<R: ZeroCopyReader>(
         &mut self,
         _ctx: Context,
@@ -287,38 +220,6 @@ impl FileSystem for MemoryFiles {
         Ok(u32::try_from(count).unwrap_or(u32::MAX))
     }
 
-    fn flush(
-        &mut self,
-        _ctx: Context,
-        _inode: u64,
-        _handle: u64,
-        _lock_owner: u64,
-    ) -> Result<(), Errno> {
-        defaults::flush()
-    }
-
-    fn fsync(
-        &mut self,
-        _ctx: Context,
-        _inode: u64,
-        _datasync: bool,
-        _handle: u64,
-    ) -> Result<(), Errno> {
-        defaults::fsync()
-    }
-
-    fn fallocate(
-        &mut self,
-        _ctx: Context,
-        _inode: u64,
-        _handle: u64,
-        _mode: u32,
-        _offset: u64,
-        _length: u64,
-    ) -> Result<(), Errno> {
-        defaults::fallocate()
-    }
-
     fn release(
         &mut self,
         _ctx: Context,
@@ -334,41 +235,6 @@ impl FileSystem for MemoryFiles {
 
     fn statfs(&mut self, _ctx: Context, _inode: u64) -> Result<StatVfs, Errno> {
         defaults::statfs()
-    }
-
-    fn setxattr(
-        &mut self,
-        _ctx: Context,
-        _inode: u64,
-        _name: &[u8],
-        _value: &[u8],
-        _flags: u32,
-        _extra_flags: SetxattrFlags,
-    ) -> Result<(), Errno> {
-        defaults::setxattr()
-    }
-
-    fn getxattr(
-        &mut self,
-        _ctx: Context,
-        _inode: u64,
-        _name: &[u8],
-        _size: u32,
-    ) -> Result<GetxattrReply, Errno> {
-        defaults::getxattr()
-    }
-
-    fn listxattr(
-        &mut self,
-        _ctx: Context,
-        _inode: u64,
-        _size: u32,
-    ) -> Result<ListxattrReply, Errno> {
-        defaults::listxattr()
-    }
-
-    fn removexattr(&mut self, _ctx: Context, _inode: u64, _name: &[u8]) -> Result<(), Errno> {
-        defaults::removexattr()
     }
 
     fn opendir(
@@ -389,91 +255,5 @@ impl FileSystem for MemoryFiles {
         _offset: u64,
     ) -> Result<ListedEntries, Errno> {
         Ok(ListedEntries::new())
-    }
-
-    fn fsyncdir(
-        &mut self,
-        _ctx: Context,
-        _inode: u64,
-        _datasync: bool,
-        _handle: u64,
-    ) -> Result<(), Errno> {
-        defaults::fsyncdir()
-    }
-
-    fn releasedir(
-        &mut self,
-        _ctx: Context,
-        _inode: u64,
-        _flags: u32,
-        _handle: u64,
-    ) -> Result<(), Errno> {
-        defaults::releasedir()
-    }
-
-    fn access(&mut self, _ctx: Context, _inode: u64, _mask: u32) -> Result<(), Errno> {
-        defaults::access()
-    }
-
-    fn lseek(
-        &mut self,
-        _ctx: Context,
-        _inode: u64,
-        _handle: u64,
-        _offset: u64,
-        _whence: u32,
-    ) -> Result<u64, Errno> {
-        defaults::lseek()
-    }
-
-    fn copyfilerange(
-        &mut self,
-        _ctx: Context,
-        _inode_in: u64,
-        _handle_in: u64,
-        _offset_in: u64,
-        _inode_out: u64,
-        _handle_out: u64,
-        _offset_out: u64,
-        _len: u64,
-        _flags: u64,
-    ) -> Result<u32, Errno> {
-        defaults::copyfilerange()
-    }
-
-    fn syncfs(&mut self, _ctx: Context, _inode: u64) -> Result<(), Errno> {
-        defaults::syncfs()
-    }
-
-    fn getlk(&mut self) -> Result<(), Errno> {
-        defaults::getlk()
-    }
-
-    fn setlk(&mut self) -> Result<(), Errno> {
-        defaults::setlk()
-    }
-
-    fn setlkw(&mut self) -> Result<(), Errno> {
-        defaults::setlkw()
-    }
-
-    fn ioctl(&mut self) -> Result<(), Errno> {
-        defaults::ioctl()
-    }
-
-    fn bmap(&mut self) -> Result<(), Errno> {
-        defaults::bmap()
-    }
-
-    fn poll(&mut self) -> Result<(), Errno> {
-        defaults::poll()
-    }
-
-    fn notify_reply(&mut self) -> Result<(), Errno> {
-        defaults::notify_reply()
-    }
-
-    fn tmpfile(&mut self) -> Errno {
-        defaults::tmpfile()
     }
 }

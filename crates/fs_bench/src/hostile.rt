@@ -1,7 +1,7 @@
 //! Kicks of guests that want them to be slow: each case is the most that a guest gets out of one kick in one way.
 
 use crate::fault::BenchFault;
-use crate::files::MemoryFiles;
+use crate::files::{MemoryFiles, memory_files};
 use crate::kick::{LONG_RING, MEMORY, PAGE_SIZE};
 use crate::measure::{Case, Label, Meter};
 use bitflags::Flags;
@@ -326,7 +326,7 @@ fn device(alloc: Global) -> Result<Device<MemoryFiles>, BenchFault> {
         return Err(BenchFault::Guest);
     };
     let agreed = FsOptions::from_bits_retain(SECURITY_CTX);
-    let server = Server::resume(MemoryFiles::new(alloc)?, PAGE_SIZE, agreed);
+    let server = Server::resume(memory_files(alloc)?, PAGE_SIZE, agreed);
     let mut queues = Vec::with_capacity(alloc, 1)?;
     queues.push(Queue::new(layout)).unwrap();
     Ok(Device::new(server, queues, MOST_LIMIT))

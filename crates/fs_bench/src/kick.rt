@@ -1,7 +1,7 @@
 //! Whole kicks: a chain is taken, served and given back.
 
 use crate::fault::BenchFault;
-use crate::files::MemoryFiles;
+use crate::files::{MemoryFiles, memory_files};
 use crate::measure::{Case, Label, Meter};
 use fs_device::Device;
 use fs_queue::{Queue, QueueLayout};
@@ -320,7 +320,7 @@ fn served(alloc: Global, ring: Ring) -> Result<Device<MemoryFiles>, BenchFault> 
     let Ok(layout) = QueueLayout::new(ring.size, ring.desc, ring.avail, ring.used) else {
         return Err(BenchFault::Guest);
     };
-    let files = MemoryFiles::new(alloc)?;
+    let files = memory_files(alloc)?;
     let mut queues = Vec::with_capacity(alloc, 1)?;
     queues.push(Queue::new(layout)).unwrap();
     Ok(Device::new(Server::new(files, PAGE_SIZE), queues, LIMIT))

@@ -1,7 +1,7 @@
 //! What moving to another host takes: images and harvests of 64 MiB of memory, and the record of 64 queues.
 
 use crate::fault::BenchFault;
-use crate::files::MemoryFiles;
+use crate::files::{MemoryFiles, memory_files};
 use crate::kick::{LIMIT, PAGE_SIZE, RING};
 use crate::measure::{Case, Label, Meter};
 use crate::plain::measure_copy;
@@ -112,7 +112,7 @@ impl Saving {
         if queues.is_empty() || queues.len() > QUEUES {
             return Err(BenchFault::Guest);
         }
-        let server = Server::new(MemoryFiles::new(alloc)?, PAGE_SIZE);
+        let server = Server::new(memory_files(alloc)?, PAGE_SIZE);
         Ok(Saving {
             alloc,
             device: Device::new(server, queues, LIMIT),
@@ -184,7 +184,7 @@ pub(crate) fn measure_moves<R: Clock + Eprint>(
     let mut saving = Saving::new(alloc)?;
     let record = saving.record();
     let bytes = record.len();
-    let files = Some(MemoryFiles::new(alloc)?);
+    let files = Some(memory_files(alloc)?);
     meter.measure(label("save-64", bytes, 1 << 8), &mut saving)?;
     meter.measure(
         label("restore-64", bytes, 1 << 8),

@@ -4,7 +4,7 @@ ghost use Rattle.std.specs.Prelude.{◌≡◌, ◌<◌};
 ghost use Rattle.fs_shares.specs.Portion.{IsShareOf};
 
 use crate::fault::BenchFault;
-use crate::files::MemoryFiles;
+use crate::files::{MemoryFiles, memory_files};
 use crate::kick::{Ask, Asked, LIMIT, MEMORY, PAGE_SIZE, QUEUE_SIZE, RING};
 use crate::measure::{Case, Label, Meter, push_sample};
 use fs_device::{Device, Machine};
@@ -79,7 +79,7 @@ fn device(alloc: Global) -> Result<Device<MemoryFiles>, BenchFault> {
     if queues.is_empty() || queues.len() > 64 {
         return Err(BenchFault::Guest);
     }
-    let server = Server::new(MemoryFiles::new(alloc)?, PAGE_SIZE);
+    let server = Server::new(memory_files(alloc)?, PAGE_SIZE);
     Ok(Device::new(server, queues, LIMIT))
 }
 

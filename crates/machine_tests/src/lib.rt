@@ -1,4 +1,5 @@
-//! Tests of whole runs of machines, and of what stands behind an IOMMU. Nothing else stands here.
+//! Tests of whole runs of machines, of what stands behind an IOMMU, and of READ whose data is put where it goes. Nothing else stands
+//! here.
 #![tactic(auto)]
 
 #[cfg(test)]
@@ -15,6 +16,8 @@ mod machines;
 mod mappings;
 #[cfg(test)]
 mod migrations;
+#[cfg(test)]
+mod reading;
 #[cfg(test)]
 mod stand;
 #[cfg(test)]

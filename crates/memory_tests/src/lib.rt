@@ -1,5 +1,5 @@
-//! Tests of bitmaps, host memory and guest memory: worked examples, and each public function once with ample
-//! memory.
+//! Tests of bitmaps and marks that threads share, host memory and its copies, an IOMMU's table, and guest memory: worked examples,
+//! and each public function once with ample memory.
 #![tactic(auto)]
 
 #[cfg(test)]
@@ -25,15 +25,21 @@ mod errors;
 #[cfg(test)]
 mod given;
 #[cfg(test)]
+mod host_copies;
+#[cfg(test)]
 mod io_pages;
 #[cfg(test)]
 mod iommu;
 #[cfg(test)]
 mod iommu_bytes;
 #[cfg(test)]
+mod iotlb;
+#[cfg(test)]
 mod joined;
 #[cfg(test)]
 mod lent;
+#[cfg(test)]
+mod page_marks;
 #[cfg(test)]
 mod permissions;
 #[cfg(test)]

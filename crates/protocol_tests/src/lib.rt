@@ -1,4 +1,5 @@
-//! Tests of the protocol's crates: values, records and numbers, file systems, and the server.
+//! Tests of the protocol's crates: values, records and numbers, readers and writers over segments, file systems, the server, and
+//! serving in two phases.
 #![tactic(auto)]
 
 #[cfg(test)]
@@ -28,11 +29,15 @@ mod node_rows;
 #[cfg(test)]
 mod numbers;
 #[cfg(test)]
+mod phases;
+#[cfg(test)]
 mod recorder;
 #[cfg(test)]
 mod records;
 #[cfg(test)]
 mod rows;
+#[cfg(test)]
+mod segments;
 #[cfg(test)]
 mod session_rows;
 #[cfg(test)]

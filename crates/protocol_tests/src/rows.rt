@@ -141,8 +141,8 @@ impl Change {
     }
 }
 
-// The bytes that digits spell.
-fn spelled(rt: &impl Abort, alloc: Global, digits: Digits) -> Vec<u8> {
+/// The bytes that digits spell.
+pub fn spelled(rt: &impl Abort, alloc: Global, digits: Digits) -> Vec<u8> {
     let mut bytes = Vec::new(alloc);
     for piece in digits {
         for word in piece.split(' ') {

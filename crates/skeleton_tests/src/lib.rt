@@ -1,8 +1,10 @@
-//! Tests of the file system in memory, through the server. Nothing else stands here.
+//! Tests of the file systems in memory, one that is written and one that is read, through the server. Nothing else stands here.
 #![tactic(auto)]
 
 #[cfg(test)]
 mod client;
+#[cfg(test)]
+mod directory;
 #[cfg(test)]
 mod errors;
 #[cfg(test)]

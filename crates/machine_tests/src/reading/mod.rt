@@ -1,0 +1,9 @@
+//! Tests of READ whose data is put where it goes, beside the same with a copy.
+
+mod files;
+mod flags;
+mod lent;
+mod seen;
+mod stand;
+mod translated;
+mod ways;
