@@ -16,6 +16,8 @@ mod mappings;
 #[cfg(test)]
 mod migrations;
 #[cfg(test)]
+mod secrets;
+#[cfg(test)]
 mod stand;
 #[cfg(test)]
 mod translated;
