@@ -372,10 +372,15 @@ zip_firsts (c ∷ cs) (a ∷ as') e = ap (λ (xs : List Command). c ∷ xs) (zip
 -- from an answered run, what another host allows
 pub keeps_secret : {F : Type 0} (may : May F) → HiddenBlocksAreSecret may → (block : ℕ) (before after : State F) (commands : List Command) (answers : List Answer) → length answers ≡ length commands →
     Run may before (zip commands answers) after → IsHidden block before commands → KeepsSecret may block before after (zip commands answers)
-keeps_secret may law block before after commands answers long (tolds, ran) hidden other differ =
+keeps_secret may law block before after commands answers long (tolds, ran) hidden =
     let firsts : map (λ e. e.0) (zip commands answers) ≡ commands = zip_firsts commands answers (sym long) in
-    let allows = (law block before after (zip commands answers) tolds ran (subst (IsHidden block before) (sym firsts) hidden)).1 other differ in
-    (allows.end, (tolds, allows.run), record { rest = allows.rest; others = λ k offset apart. allows.bytes.same k offset (differ.others k offset apart) })
+    let none = law block before after (zip commands answers) tolds ran (subst (IsHidden block before) (sym firsts) hidden) in (
+      tolds,
+      ran,
+      λ other differ.
+          let allows = none.1 other differ in
+          (allows.end, allows.run, record { rest = allows.rest; others = λ k offset apart. allows.bytes.same k offset (differ.others k offset apart) }),
+    )
 
 pub of_both : {X E : Type 0} (r : Result X E) (P Q R : X → Type 0) → IfOk r P → IfOk r Q → ((x : X) → P x → Q x → R x) → IfOk r R
 of_both (Ok x) P Q R p q gives = gives x p q

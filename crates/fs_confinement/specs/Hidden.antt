@@ -43,7 +43,8 @@ HiddenBlocksAreSecret {F} may =
     (block : ℕ) (a after : State F) (events : List (Command × Answer)) (tolds : List Told) (ran : RunTold may a events tolds after) → IsHidden block a (map (λ e. e.0) events) →
     TouchesNothingOf may block a after events tolds ran × ((b : State F) → DifferInBlock block a b → AllowsToo may a b after events tolds ran)
 
--- the same answers may come whatever stands in a block, to a state that again differs only there
+-- a run has exchanges, notices and calls behind its answers that may come with the same answers whatever stands in a block, and leave a state that again differs only there
 abbrev pub KeepsSecret : {F : Type 0} → May F → (block : ℕ) → (before after : State F) → List (Command × Answer) → Type 0
 KeepsSecret {F} may block before after events =
-    (other : State F) → DifferInBlock block before other → (end : State F) × Run may other events end × DifferInBlock block after end
+    (tolds : List Told) × RunTold may before events tolds after
+    × ((other : State F) → DifferInBlock block before other → (end : State F) × RunTold may other events tolds end × DifferInBlock block after end)

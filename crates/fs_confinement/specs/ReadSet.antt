@@ -115,6 +115,7 @@ pub record Touched : Type 0 where
   pub read : List Place
   pub written : List Place
 
+-- none
 abbrev pub nothing : Touched
 nothing = record { read = []; written = [] }
 

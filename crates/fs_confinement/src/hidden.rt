@@ -13,8 +13,9 @@ use std::alloc::{AllocError, Global};
 use vm_memory::Iommu;
 
 /// Does commands one after another, as `Machine::run`, which this run is of. What stands in a block that no region shows,
-/// neither before nor by these commands, is told by none of the answers, neither by a reply nor by whether the driver is
-/// told: with any other bytes there the same answers may come, and what the machine is then differs only there.
+/// neither before nor by these commands, is told by none of the answers, neither by a reply nor by a notice, and by none of
+/// the calls that the file system was asked: with any other bytes there the same may come, and what the machine is then
+/// differs only there.
 pub fn run_beside_secrets<F: FileSystem, I: Iommu + Drop>(
     alloc: Global,
     machine: &mut Machine<F, I>,

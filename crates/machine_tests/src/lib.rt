@@ -19,6 +19,8 @@ mod migrations;
 #[cfg(test)]
 mod reading;
 #[cfg(test)]
+mod secrets;
+#[cfg(test)]
 mod stand;
 #[cfg(test)]
 mod translated;

@@ -1,0 +1,63 @@
+//! What stands in a block that no region shows is told by nothing that a machine does.
+
+use crate::machines::{Row, bytes_of, expect_rows, machine, refusal_of};
+use crate::stand::{LogMachine, ROOM_AT, expect_same};
+use call_log::CallLog;
+use fs_confinement::laws::{law_answers_are_seen, law_confinement};
+use fs_confinement::run_beside_secrets;
+use fs_device::Command;
+use std::alloc::Global;
+use std::process::Abort;
+
+// `struct fuse_out_header` with ENOSYS, unique number 1.
+const UNKNOWN: &[u8] = b"\x10\0\0\0\xda\xff\xff\xff\x01\0\0\0\0\0\0\0";
+
+// A machine with a block that was written while a region showed it, and has no region any more. Its guest made one unknown
+// request available.
+fn hiding(rt: &impl Abort, alloc: Global, secret: &[u8]) -> LogMachine {
+    let mut machine = machine(rt, alloc, 1);
+    let rows = [
+        Row::NewBlock(0x1000, 1),
+        Row::Insert(0x20000, 1, 0),
+        Row::Write(0x20000, secret, 0),
+        Row::Remove(0x20000, 0x1000, 0),
+    ];
+    expect_rows(rt, alloc, &mut machine, &rows);
+    machine
+}
+
+// Serves the request beside a secret, and has the guest read where that was and what was replied.
+fn served_beside(rt: &impl Abort, alloc: Global, secret: &[u8]) -> LogMachine {
+    let mut machine = hiding(rt, alloc, secret);
+    let commands = [
+        Command::Kick { queue: 0, most: 9 },
+        Command::GuestRead {
+            addr: 0x20000,
+            len: 6,
+        },
+        Command::GuestRead {
+            addr: ROOM_AT,
+            len: 16,
+        },
+    ];
+    let commands = Vec::from_array(alloc, commands).expect(rt, "memory");
+    let mut answers = run_beside_secrets(alloc, &mut machine, commands).expect(rt, "memory");
+    let replied = answers.pop().expect(rt, "an answer");
+    expect_same(rt, bytes_of(&replied), Some(UNKNOWN));
+    let refused = answers.pop().expect(rt, "an answer");
+    expect_same(rt, refusal_of(&refused), Some(1));
+    machine
+}
+
+#[test]
+fn secrets_stay_where_they_are_and_change_nothing_else(rt: HostRuntime) {
+    let one = served_beside(&rt, rt.alloc(), b"secret");
+    let other = served_beside(&rt, rt.alloc(), b"hidden");
+    let first = [&one, &other].map(|machine| machine.host.byte_at(1, 0));
+    expect_same(&rt, first, [Some(b's'), Some(b'h')]);
+    let shown = one.host.bytes_and_bitmap(0).expect(&rt, "a block").0;
+    let others = other.host.bytes_and_bitmap(0).expect(&rt, "a block").0;
+    expect_same(&rt, shown, others);
+    law_confinement::<CallLog>();
+    law_answers_are_seen::<CallLog>();
+}
