@@ -11,13 +11,14 @@ from collections import Counter
 from pathlib import Path
 
 from guests import long_script, wraps
+from hostile import heavy
 from machine import TooMuchWork, play
 from programs import Built, Tried
 from scripts import made, stored
 from shrink import shrunk
 
 FOLDER = Path(__file__).resolve().parent / "out"
-# A run of so many seconds plays the script that wraps an index, which takes a while.
+# A run of so many seconds plays the scripts that take a while: of an index that wraps, and of kicks that cost much.
 SECONDS_TO_WRAP = 200
 MOST_DIFFERENCES = 10
 
@@ -40,7 +41,7 @@ class Fuzzer:
         fixed = [(f"stored script {index}", script) for index, script in enumerate(store)]
         fixed += [("a script of 1 MiB", long_script(0)), ("a script that is too long", long_script(1))]
         if self.end - time.monotonic() > SECONDS_TO_WRAP and self.program.prints_much:
-            fixed.append(("a script that wraps an index", wraps()))
+            fixed += [("a script that wraps an index", wraps()), ("a script of kicks that cost much", heavy())]
         size = self.program.batch
         while fixed or time.monotonic() < self.end and self.differences < MOST_DIFFERENCES:
             played, fixed = fixed[:size - 1], fixed[size - 1:]

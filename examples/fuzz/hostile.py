@@ -235,3 +235,25 @@ class Hostile(Guest):
         else:
             self.queue.risky = True
             self.say(f"kick {number_of} 1")
+
+
+def heavy():
+    """Kicks that cost as much as a script of few bytes can make them: loops, long lists and names of bytes that nobody wrote."""
+    size, avail, used, request = 32768, 0x100000, 0x120000, 0x200000
+    lines = [f"queue {size} 0 {avail:#x} {used:#x}", "region 0 0x400000"]
+    lines += ["write 0 " + struct.pack("<QIHH", 0, 0, NEXT, 0).hex()]
+    lengths = {1: 48 + 16 * 65536, 2: 0x101000}
+    for head, length in lengths.items():
+        lines.append(f"write {16 * head:#x} " + struct.pack("<QIHH", request, length, 0, 0).hex())
+    kicks = [(0, b"")] + [(1, header(lengths[1], 42, count)) for count in (65536, 65537)] + [(2, header(lengths[2], 1, 97))]
+    for index, (head, data) in enumerate(kicks):
+        if data:
+            lines.append(f"write {request:#x} " + data.hex())
+        lines.append(f"write {avail + 4 + 2 * index:#x} " + struct.pack("<H", head).hex())
+        lines += [f"write {avail + 2:#x} " + struct.pack("<H", index + 1).hex(), "kick 0 65535"]
+    return "\n".join([*lines, "harvest", f"read {used:#x} 40"]).encode() + b"\n"
+
+
+def header(length, opcode, behind):
+    """A request's header and the four bytes behind it."""
+    return struct.pack("<IIQQIIIHHI", length, opcode, 9, 1, 0, 0, 0, 0, 0, behind)

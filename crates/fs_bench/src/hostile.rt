@@ -458,6 +458,19 @@ fn measure_attack<R: Clock + Eprint>(
     }
 }
 
+// Measures kicks of each attack in one way.
+fn measure_attacks<R: Clock + Eprint>(
+    meter: &mut Meter<'_, R>,
+    alloc: Global,
+    kind: &'static str,
+) -> Result<(), BenchFault> {
+    for (case, shape, reply, fault) in ATTACKS {
+        let label = label(kind, case, reply);
+        measure_attack(meter, alloc, label, shape, (reply, fault))?;
+    }
+    Ok(())
+}
+
 /// Measures kicks of each attack by `process_one` (`hostile`) and by `serve_one` (`hostile-serve`), and a table of mappings
 /// that join and part.
 pub(crate) fn measure_hostile<R: Clock + Eprint>(
@@ -465,12 +478,8 @@ pub(crate) fn measure_hostile<R: Clock + Eprint>(
     alloc: Global,
 ) -> Result<(), BenchFault> {
     for kind in ["hostile", "hostile-serve"] {
-        if !meter.wants(kind) {
-            continue;
-        }
-        for (case, shape, reply, fault) in ATTACKS {
-            let label = label(kind, case, reply);
-            measure_attack(meter, alloc, label, shape, (reply, fault))?;
+        if meter.wants(kind) {
+            measure_attacks(meter, alloc, kind)?;
         }
     }
     let mut case = Parting {
