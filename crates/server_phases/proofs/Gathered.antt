@@ -1,7 +1,7 @@
 -- Listings that are answered entry by entry, and what `served` lists.
 use Rattle.std.proofs.Common.{◌≡◌, ◌+◌, ◌-◌, ◌<◌, ◌≤◌, ℕ, Bool, true, false, List, [], ◌∷◌, ◌++◌, length, take, drop, Ok, Err, Option, Some, None, cond, refl, sym, ap, subst, ◌∙◌, arith, append_assoc, append-nil, length-append}
-use Rattle.std.specs.Prelude.{◌^◌, ◌&&◌, nat_lt, nat_le, replicate, min, Result, OnOk}
-use Rattle.std.proofs.lemmas.Bool.{lt-ltb, le-ltb}
+use Rattle.std.specs.Prelude.{◌^◌, ◌&&◌, nat_lt, nat_le, replicate, Result, OnOk, IfErr}
+use Rattle.std.proofs.lemmas.Bool.{le-ltb}
 use Rattle.std.proofs.lemmas.Bool.Decides.{nat_tests}
 use Rattle.std.proofs.lemmas.List.{take_at, length-replicate}
 use Rattle.vm_values.specs.Fields.{field_bytes, spelled}
@@ -10,8 +10,8 @@ use Rattle.fuse_wire.specs.Records.{dirent}
 use Rattle.fuse_fs.specs.declared.answers.Entry.{Entry}
 use Rattle.fuse_fs.specs.Replies.{dirent_of}
 use Rattle.fuse_fs.specs.Calls.{FileCall, FileAnswer, Listed, Lookup, HasEntry, Failed, Entries}
-use Rattle.server_replies.specs.Entries.{GoesIn, IsFull, dirent_len, entry_len, entry_bytes, dirent_bytes, node_bytes, fit_of, is_dot, no_node}
-use Rattle.server_replies.specs.WholeReplies.{reply_bytes, error_bytes, data_header}
+use Rattle.server_replies.specs.Entries.{Fit, GoesIn, IsFull, IsWrong, EIO, EOVERFLOW, dirent_len, entry_len, entry_bytes, dirent_bytes, node_bytes, fit_of, is_dot, no_node}
+use Rattle.server_replies.specs.WholeReplies.{reply_bytes, error_bytes, listing_bytes, data_header}
 use Rattle.server_replies.proofs.ReplyLemmas.{length_reply, length_error}
 use Rattle.virtiofsd_fuse.specs.Grammar.{FileCommand, One, Starts, Lists}
 use Rattle.virtiofsd_fuse.specs.Listings as asked
@@ -19,10 +19,11 @@ use Rattle.virtiofsd_fuse.specs.Listings.{Went, Next, after_call, undo_call, wit
 use Rattle.virtiofsd_fuse.specs.Serving.{Setting, Served, commanded, replied, list_ended}
 use Rattle.server_phases.specs.declared.listing.Listing.{Listing}
 use Rattle.server_phases.specs.declared.listing.NotAdded.{NotAdded}
-use Rattle.server_phases.specs.declared.listing.NotAdded.TheVariants.{Full, ShortList}
-use Rattle.server_phases.specs.Gathering.{Brought, EndsList, Holds, IsListingFor, StaysBut, is_looked_up, node_of, bytes_of, all_bytes}
-use Rattle.server_phases.specs.Gathering.{all_found, found_of, entries_of, look_up, look_ups, node_given_back, placed, put_at}
+use Rattle.server_phases.specs.declared.listing.NotAdded.TheVariants.{TooLong, Full, NoRoom, ShortList}
+use Rattle.server_phases.specs.Gathering.{Brought, EndsList, FailsList, Holds, IsListingFor, StaysBut, is_looked_up, node_of, bytes_of, all_bytes}
+use Rattle.server_phases.specs.Gathering.{all_found, found_of, entries_of, look_up, look_ups, node_given_back, placed, put_at, error_of}
 use Rattle.server_phases.specs.Waiting.{first_call}
+use Rattle.server_phases.proofs.Plain.{if_err_map}
 
 length_head : (d : Dirent) → length (spelled (dirent d)) ≡ 24
 unfolding field_bytes
@@ -159,77 +160,160 @@ ends s l (Starts unique capable readahead) list es is holds = absurd is
 ends s l (Lists unique a) list es is holds =
     let long : l.len ≡ length (all_bytes a.with_nodes es) = holds.long ∙ ap (λ b. length (all_bytes b es)) is.1 in
     let stands : take l.len list ≡ all_bytes a.with_nodes es = holds.stands ∙ ap (λ b. all_bytes b es) is.1 in
-    let most : l.most ≡ min a.size (s.room - 16) = is.2 in
-    let place : 16 ≤ s.room = is.3 in
+    let size : l.size ≡ a.size = is.2 in
+    let room : l.room ≡ s.room - 16 = is.3 in
+    let place : 16 ≤ s.room = is.4 in
     let small = l.small in
+    let asked = l.asked in
     let fits = l.fits in
-    let all = listed_only unique a es a.size (s.room - 16) (omega (arith, long, most, fits)) (omega (arith, long, most, fits)) (omega (arith, long, small, fits)) in
+    let all = listed_only unique a es a.size (s.room - 16) (omega (arith, long, size, asked)) (omega (arith, long, room, fits)) (omega (arith, long, small, asked)) in
     ap (λ b. commanded s (Lists unique a) (Entries (entries_of es) ∷ all_found b es)) is.1 ∙ ap (list_ended s unique a) all
-    ∙ gives_list s.room s.options unique l.len (readdir_call a ∷ look_ups (Lists unique a) es) list (all_bytes a.with_nodes es) long stands (omega (arith, most, fits, place))
+    ∙ gives_list s.room s.options unique l.len (readdir_call a ∷ look_ups (Lists unique a) es) list (all_bytes a.with_nodes es) long stands (omega (arith, room, fits, place))
     ∙ ap (λ u. by_reply (readdir_call a ∷ look_ups (Lists unique a) es) s.options (data_header u (Ok l.len) ++ take l.len list)) (sym is.0)
 
-is_full : (n len left room : ℕ) → n < 2 ^ 32 → left < len → fit_of n len left room ≡ IsFull
-unfolding fit_of
-is_full n len left room s f =
-    let short : nat_le (2 ^ 32) n ≡ false = grind (arith, nat_tests) in
-    rw (short, lt-ltb left len f) refl
+-- how an entry doesn't go in that ends the list, by an error if there is one
+abbrev out : Option ℕ → Fit
+out None = IsFull
+out (Some errno) = IsWrong errno
 
-left_out : (b : Bool) (d : Listed) (e : Entry ℕ) (undo : List FileCall) (next : Next) (left room : ℕ) (answers : List FileAnswer)
-    → length d.name < 2 ^ 32 → left < entry_len b (length d.name) → with_entry b d e undo next left room answers ≡ went undo [] None
-left_out b d e undo next left room answers s f = rw (is_full (length d.name) (entry_len b (length d.name)) left room s f) refl
+left_out : (b : Bool) (d : Listed) (e : Entry ℕ) (undo : List FileCall) (next : Next) (left room : ℕ) (answers : List FileAnswer) (error : Option ℕ)
+    → fit_of (length d.name) (entry_len b (length d.name)) left room ≡ out error → with_entry b d e undo next left room answers ≡ went undo [] error
+left_out b d e undo next left room answers None f = rw f refl
+left_out b d e undo next left room answers (Some errno) f = rw f refl
 
-full_by : (b dot : Bool) (unique : ℕ) (l : asked.Listing) (e : Brought) (next : Next) (left room : ℕ) (answers : List FileAnswer)
-    → l.with_nodes ≡ b → is_dot e.0.name ≡ dot → length e.0.name < 2 ^ 32 → left < entry_len b (length e.0.name)
-    → list_entry l e.0 next left room (found_of l.with_nodes e ++ answers) ≡ went (look_up (Lists unique l) e.0 ++ node_given_back (Lists unique l) e) [] None
-full_by false dot unique l e next left room answers n t s f = rw n (left_out false e.0 (no_node e.0) [] next left room answers s f)
-full_by true true unique l e next left room answers n t s f = rw (n, t) (left_out true e.0 (no_node e.0) (undo_call l.context 0 ∷ []) next left room answers s f)
-full_by true false unique l e next left room answers n t s f =
-    rw (n, t) (ap (after_call (Lookup l.context l.node e.0.name)) (left_out true e.0 e.1 (undo_call l.context e.1.inode ∷ []) next left room answers s f))
+out_by : (b dot : Bool) (unique : ℕ) (l : asked.Listing) (e : Brought) (next : Next) (left room : ℕ) (answers : List FileAnswer) (error : Option ℕ)
+    → l.with_nodes ≡ b → is_dot e.0.name ≡ dot → fit_of (length e.0.name) (entry_len b (length e.0.name)) left room ≡ out error
+    → list_entry l e.0 next left room (found_of l.with_nodes e ++ answers) ≡ went (look_up (Lists unique l) e.0 ++ node_given_back (Lists unique l) e) [] error
+out_by false dot unique l e next left room answers error n t f = rw n (left_out false e.0 (no_node e.0) [] next left room answers error f)
+out_by true true unique l e next left room answers error n t f = rw (n, t) (left_out true e.0 (no_node e.0) (undo_call l.context 0 ∷ []) next left room answers error f)
+out_by true false unique l e next left room answers error n t f =
+    rw (n, t) (ap (after_call (Lookup l.context l.node e.0.name)) (left_out true e.0 e.1 (undo_call l.context e.1.inode ∷ []) next left room answers error f))
 
-full_first : (unique : ℕ) (l : asked.Listing) (e : Brought) (behind : List Listed) (left room : ℕ) (answers : List FileAnswer)
-    → length e.0.name < 2 ^ 32 → left < entry_len l.with_nodes (length e.0.name)
-    → list_entries l (e.0 ∷ behind) left room (found_of l.with_nodes e ++ answers) ≡ went (look_up (Lists unique l) e.0 ++ node_given_back (Lists unique l) e) [] None
+out_first : (unique : ℕ) (l : asked.Listing) (e : Brought) (behind : List Listed) (left room : ℕ) (answers : List FileAnswer) (error : Option ℕ)
+    → fit_of (length e.0.name) (entry_len l.with_nodes (length e.0.name)) left room ≡ out error
+    → list_entries l (e.0 ∷ behind) left room (found_of l.with_nodes e ++ answers) ≡ went (look_up (Lists unique l) e.0 ++ node_given_back (Lists unique l) e) [] error
 unfolding list_entries
-full_first unique l e behind left room answers s f = full_by l.with_nodes (is_dot e.0.name) unique l e (list_entries l behind) left room answers refl refl s f
+out_first unique l e behind left room answers error f = out_by l.with_nodes (is_dot e.0.name) unique l e (list_entries l behind) left room answers error refl refl f
 
--- an entry without a place ends the list
-pub full_ends : (l : Listing) (list : List ℕ) (e : Brought) → length e.0.name < 2 ^ 32 → l.most - l.len < entry_len l.with_nodes (length e.0.name) → EndsList l list e
-full_ends l list e short full s (One unique call) es behind answers is holds asked = absurd is
-full_ends l list e short full s (Starts unique capable readahead) es behind answers is holds asked = absurd is
-full_ends l list e short full s (Lists unique a) es behind answers is holds asked =
+-- how an entry fits what is left of a listing
+abbrev fit_in : Listing → (name_len : ℕ) → Fit
+fit_in l name_len = fit_of name_len (entry_len l.with_nodes name_len) (l.size - l.len) (l.room - l.len)
+
+-- behind entries that are in, one that doesn't go in ends the list
+out_behind : (s : Setting) (l : Listing) (unique : ℕ) (a : asked.Listing) (list : List ℕ) (es : List Brought) (e : Brought) (behind : List Listed) (answers : List FileAnswer)
+    (error : Option ℕ) → IsListingFor l s.room (Lists unique a) → Holds l list es → fit_in l (length e.0.name) ≡ out error
+    → list_entries a (entries_of es ++ e.0 ∷ behind) a.size (s.room - 16) (all_found a.with_nodes es ++ (found_of a.with_nodes e ++ answers))
+    ≡ went (look_ups (Lists unique a) es ++ (look_up (Lists unique a) e.0 ++ node_given_back (Lists unique a) e)) (all_bytes a.with_nodes es) error
+out_behind s l unique a list es e behind answers error is holds fit =
     let b = a.with_nodes in
+    let calls = look_up (Lists unique a) e.0 ++ node_given_back (Lists unique a) e in
+    let long : l.len ≡ length (all_bytes b es) = holds.long ∙ ap (λ b. length (all_bytes b es)) is.1 in
+    let size : l.size ≡ a.size = is.2 in
+    let room : l.room ≡ s.room - 16 = is.3 in
+    let small = l.small in
+    let asked = l.asked in
+    let fits = l.fits in
+    let left : l.size - l.len ≡ a.size - length (all_bytes b es) = omega (arith, size, long) in
+    let behind_it : l.room - l.len ≡ s.room - 16 - length (all_bytes b es) = omega (arith, room, long) in
+    let n = length e.0.name in
+    let here : fit_of n (entry_len b n) (a.size - length (all_bytes b es)) (s.room - 16 - length (all_bytes b es)) ≡ out error =
+    sym (ap (λ b. fit_of n (entry_len b n) (l.size - l.len) (l.room - l.len)) is.1 ∙ ap (λ x. fit_of n (entry_len a.with_nodes n) x (l.room - l.len)) left
+    ∙ ap (λ x. fit_of n (entry_len a.with_nodes n) (a.size - length (all_bytes a.with_nodes es)) x) behind_it) ∙ fit in
+    let one = out_first unique a e behind (a.size - length (all_bytes b es)) (s.room - 16 - length (all_bytes b es)) answers error here in
+    let all = listed_all unique a es (e.0 ∷ behind) a.size (s.room - 16) (found_of b e ++ answers) _ (omega (arith, long, size, asked)) (omega (arith, long, room, fits))
+    (omega (arith, long, small, asked)) one in
+    all ∙ ap (λ x. went (look_ups (Lists unique a) es ++ calls) x error) (append-nil (all_bytes b es))
+
+full_ends : (l : Listing) (list : List ℕ) (e : Brought) → fit_in l (length e.0.name) ≡ IsFull → EndsList l list e
+full_ends l list e full s (One unique call) es behind answers is holds = absurd is
+full_ends l list e full s (Starts unique capable readahead) es behind answers is holds = absurd is
+full_ends l list e full s (Lists unique a) es behind answers is holds =
     let command = Lists unique a in
     let calls = look_ups command es ++ (look_up command e.0 ++ node_given_back command e) in
-    let long : l.len ≡ length (all_bytes b es) = holds.long ∙ ap (λ b. length (all_bytes b es)) is.1 in
-    let stands : take l.len list ≡ all_bytes b es = holds.stands ∙ ap (λ b. all_bytes b es) is.1 in
-    let most : l.most ≡ min a.size (s.room - 16) = is.2 in
-    let all_asked : a.size ≤ s.room - 16 = asked in
-    let no_place : l.most - l.len < entry_len b (length e.0.name) = subst (λ b. l.most - l.len < entry_len b (length e.0.name)) is.1 full in
-    let small = l.small in
+    let long : l.len ≡ length (all_bytes a.with_nodes es) = holds.long ∙ ap (λ b. length (all_bytes b es)) is.1 in
+    let stands : take l.len list ≡ all_bytes a.with_nodes es = holds.stands ∙ ap (λ b. all_bytes b es) is.1 in
+    let room : l.room ≡ s.room - 16 = is.3 in
+    let place : 16 ≤ s.room = is.4 in
     let fits = l.fits in
-    let left = a.size - length (all_bytes b es) in
-    let one = full_first unique a e behind left (s.room - 16 - length (all_bytes b es)) answers short (omega (arith, long, most, all_asked, no_place)) in
-    let all = listed_all unique a es (e.0 ∷ behind) a.size (s.room - 16) (found_of b e ++ answers) _ (omega (arith, long, most, fits)) (omega (arith, long, most, fits)) (omega (arith, long, small, fits)) one in
     let ended = ends s l command list es is holds in
     ap (λ b. commanded s command (Entries (entries_of es ++ e.0 ∷ behind) ∷ (all_found b es ++ (found_of b e ++ answers)))) is.1
-    ∙ ap (list_ended s unique a) (all ∙ ap (λ x. went calls x None) (append-nil (all_bytes b es)))
-    ∙ gives_list s.room s.options unique l.len (readdir_call a ∷ calls) list (all_bytes b es) long stands (omega (arith, most, fits, is.3))
+    ∙ ap (list_ended s unique a) (out_behind s l unique a list es e behind answers None is holds full)
+    ∙ gives_list s.room s.options unique l.len (readdir_call a ∷ calls) list (all_bytes a.with_nodes es) long stands (omega (arith, room, fits, place))
     ∙ ap (λ u. by_reply (readdir_call a ∷ calls) s.options (data_header u (Ok l.len) ++ take l.len list)) (sym is.0)
     ∙ sym (ap (λ (x : Served). record x { calls = x.calls ++ (look_up command e.0 ++ node_given_back command e) }) ended)
+
+failed_fits : (t b : Bool) (unique errno room : ℕ) (bytes : List ℕ) → (b && nat_lt 0 (length bytes)) ≡ t → 16 + length bytes ≤ room
+    → length (listing_bytes unique b bytes (Some errno)) ≤ room
+failed_fits true b unique errno room bytes t f = rw t (omega (arith, length_reply unique bytes, f))
+failed_fits false b unique errno room bytes t f = rw t (omega (arith, length_error unique errno, f))
+
+-- a list that an error ended
+failed_told : (s : Setting) (l : Listing) (unique errno : ℕ) (a : asked.Listing) (calls : List FileCall) (list : List ℕ) (es : List Brought)
+    → IsListingFor l s.room (Lists unique a) → Holds l list es → list_ended s unique a (went calls (all_bytes a.with_nodes es) (Some errno))
+    ≡ by_reply (readdir_call a ∷ calls) s.options (listing_bytes l.unique l.with_nodes (all_bytes l.with_nodes es) (Some errno))
+failed_told s l unique errno a calls list es is holds =
+    let b = a.with_nodes in
+    let bytes = all_bytes b es in
+    let long : l.len ≡ length bytes = holds.long ∙ ap (λ b. length (all_bytes b es)) is.1 in
+    let room : l.room ≡ s.room - 16 = is.3 in
+    let place : 16 ≤ s.room = is.4 in
+    let fits = l.fits in
+    whole s.room s.options (readdir_call a ∷ calls) (listing_bytes unique b bytes (Some errno))
+    (failed_fits (b && nat_lt 0 (length bytes)) b unique errno s.room bytes refl (omega (arith, long, room, fits, place)))
+    ∙ ap (λ u. by_reply (readdir_call a ∷ calls) s.options (listing_bytes u b bytes (Some errno))) (sym is.0)
+    ∙ ap (λ b. by_reply (readdir_call a ∷ calls) s.options (listing_bytes l.unique b (all_bytes b es) (Some errno))) (sym is.1)
+
+wrong_fails : (l : Listing) (list : List ℕ) (e : Brought) (errno : ℕ) → fit_in l (length e.0.name) ≡ IsWrong errno → FailsList l list e errno
+wrong_fails l list e errno wrong s (One unique call) es behind answers is holds = absurd is
+wrong_fails l list e errno wrong s (Starts unique capable readahead) es behind answers is holds = absurd is
+wrong_fails l list e errno wrong s (Lists unique a) es behind answers is holds =
+    let command = Lists unique a in
+    ap (λ b. commanded s command (Entries (entries_of es ++ e.0 ∷ behind) ∷ (all_found b es ++ (found_of b e ++ answers)))) is.1
+    ∙ ap (list_ended s unique a) (out_behind s l unique a list es e behind answers (Some errno) is holds wrong)
+    ∙ failed_told s l unique errno a (look_ups command es ++ (look_up command e.0 ++ node_given_back command e)) list es is holds
 
 abbrev outcome : Type 0
 outcome = Result (Unit {0}) NotAdded
 
-by_place : (t u : Bool) (full short put : outcome) → full ≡ Err Full → short ≡ Err ShortList → put ≡ Ok tt → cond t full (cond u short put) ≡ Err Full → t ≡ true
-by_place true u full short put f s p e = refl
-by_place false true full short put f s p e = absurd (cc)
-by_place false false full short put f s p e = absurd (cc)
+-- what comes of an entry, and how it fits, by the same tests
+abbrev tested : (long full no_room short : Bool) → outcome
+tested long full no_room short = cond long (Err TooLong) (cond full (Err Full) (cond no_room (Err NoRoom) (cond short (Err ShortList) (Ok tt))))
 
--- what comes of an entry is that it has no place
-pub placed_full : (l : Listing) (list_len name_len : ℕ) → placed l list_len name_len ≡ Err Full → l.most - l.len < entry_len l.with_nodes name_len
-placed_full l list_len name_len e =
-    let t = by_place (nat_lt (l.most - l.len) (entry_len l.with_nodes name_len)) (nat_lt list_len (l.len + entry_len l.with_nodes name_len)) (Err Full) (Err ShortList) (Ok tt) refl refl refl e in
-    grind (arith, nat_tests)
+abbrev fit_tested : (long full no_room : Bool) → Fit
+fit_tested long full no_room = cond long (IsWrong EOVERFLOW) (cond full IsFull (cond no_room (IsWrong EIO) GoesIn))
+
+tested_full : (long full no_room short : Bool) → tested long full no_room short ≡ Err Full → fit_tested long full no_room ≡ IsFull
+tested_full true full no_room short e = absurd (cc)
+tested_full false true no_room short e = refl
+tested_full false false true short e = absurd (cc)
+tested_full false false false true e = absurd (cc)
+tested_full false false false false e = absurd (cc)
+
+tested_wrong : (long full no_room short : Bool) → IfErr (tested long full no_room short) (λ why. (errno : ℕ) → error_of why ≡ Some errno → fit_tested long full no_room ≡ IsWrong errno)
+tested_wrong true full no_room short = λ errno e. cc
+tested_wrong false true no_room short = λ errno e. absurd (cc)
+tested_wrong false false true short = λ errno e. cc
+tested_wrong false false false true = λ errno e. absurd (cc)
+tested_wrong false false false false = tt
+
+-- an entry that has no place ends the list
+pub placed_full : (r : outcome) (l : Listing) (list : List ℕ) (list_len : ℕ) (e : Brought) → r ≡ placed l list_len (length e.0.name) → r ≡ Err Full → EndsList l list e
+unfolding fit_of
+placed_full r l list list_len e outcome full =
+    let n = length e.0.name in
+    let len = entry_len l.with_nodes n in
+    full_ends l list e (tested_full (nat_le (2 ^ 32) n) (nat_lt (l.size - l.len) len) (nat_lt (l.room - l.len) len) (nat_lt list_len (l.len + len)) (sym outcome ∙ full))
+
+-- one that is an error fails it
+pub placed_wrong : (r : outcome) (l : Listing) (list : List ℕ) (list_len : ℕ) (e : Brought) → r ≡ placed l list_len (length e.0.name)
+    → IfErr r (λ why. (errno : ℕ) → error_of why ≡ Some errno → FailsList l list e errno)
+unfolding fit_of
+placed_wrong r l list list_len e outcome =
+    let n = length e.0.name in
+    let len = entry_len l.with_nodes n in
+    let wrong = tested_wrong (nat_le (2 ^ 32) n) (nat_lt (l.size - l.len) len) (nat_lt (l.room - l.len) len) (nat_lt list_len (l.len + len)) in
+    subst (λ (x : Result (Unit {0}) NotAdded). IfErr x (λ why. (errno : ℕ) → error_of why ≡ Some errno → FailsList l list e errno)) (sym outcome)
+    (if_err_map (placed l list_len n) _ _ wrong (λ why k errno is. wrong_fails l list e errno (k errno is)))
 
 -- an error alone
 pub fails_alone : (s : Setting) (l : Listing) (command : FileCommand) (list : List ℕ) (errno : ℕ) → IsListingFor l s.room command
@@ -237,7 +321,7 @@ pub fails_alone : (s : Setting) (l : Listing) (command : FileCommand) (list : Li
 fails_alone s l (One unique call) list errno is = absurd is
 fails_alone s l (Starts unique capable readahead) list errno is = absurd is
 fails_alone s l (Lists unique a) list errno is =
-    gives_error s.room s.options unique errno (readdir_call a ∷ []) list is.3
+    gives_error s.room s.options unique errno (readdir_call a ∷ []) list is.4
     ∙ ap (λ u. by_reply (readdir_call a ∷ []) s.options (error_bytes u errno ++ take 0 list)) (sym is.0)
 
 not_found : (unique errno : ℕ) (l : asked.Listing) (d : Listed) (left room : ℕ) → l.with_nodes ≡ true → is_dot d.name ≡ false
@@ -245,64 +329,42 @@ not_found : (unique errno : ℕ) (l : asked.Listing) (d : Listed) (left room : �
 unfolding list_entries
 not_found unique errno l d left room n t = rw (n, t) refl
 
--- a look-up that failed: what it is listed
-failed_list : (s : Setting) (l : Listing) (unique errno : ℕ) (a : asked.Listing) (list : List ℕ) (es : List Brought) (d : Listed)
-    → IsListingFor l s.room (Lists unique a) → Holds l list es → l.with_nodes ≡ true → is_dot d.name ≡ false
-    → list_entries a (entries_of es ++ d ∷ []) a.size (s.room - 16) (all_found true es ++ Failed errno ∷ [])
-    ≡ went (look_ups (Lists unique a) es ++ look_up (Lists unique a) d) (all_bytes true es) (Some errno)
-failed_list s l unique errno a list es d is holds n t =
-    let nodes : a.with_nodes ≡ true = sym is.1 ∙ n in
-    let long : l.len ≡ length (all_bytes a.with_nodes es) = holds.long ∙ ap (λ b. length (all_bytes b es)) is.1 in
-    let most : l.most ≡ min a.size (s.room - 16) = is.2 in
+-- a look-up failed: the error, but entries that came before it are the reply
+pub look_up_failed : (s : Setting) (l : Listing) (command : FileCommand) (list : List ℕ) (es : List Brought) (d : Listed) (errno : ℕ) → IsListingFor l s.room command
+    → Holds l list es → l.with_nodes ≡ true → is_dot d.name ≡ false
+    → commanded s command (Entries (entries_of es ++ d ∷ []) ∷ (all_found true es ++ Failed errno ∷ []))
+    ≡ by_reply (first_call command ∷ (look_ups command es ++ look_up command d)) s.options (listing_bytes l.unique l.with_nodes (all_bytes l.with_nodes es) (Some errno))
+look_up_failed s l (One unique call) list es d errno is holds n t = absurd is
+look_up_failed s l (Starts unique capable readahead) list es d errno is holds n t = absurd is
+look_up_failed s l (Lists unique a) list es d errno is holds n t =
+    let b = a.with_nodes in
+    let nodes : b ≡ true = sym is.1 ∙ n in
+    let calls = look_ups (Lists unique a) es ++ look_up (Lists unique a) d in
+    let long : l.len ≡ length (all_bytes b es) = holds.long ∙ ap (λ b. length (all_bytes b es)) is.1 in
+    let size : l.size ≡ a.size = is.2 in
+    let room : l.room ≡ s.room - 16 = is.3 in
     let small = l.small in
+    let asked = l.asked in
     let fits = l.fits in
-    let one = not_found unique errno a d (a.size - length (all_bytes a.with_nodes es)) (s.room - 16 - length (all_bytes a.with_nodes es)) nodes t in
-    let all = listed_all unique a es (d ∷ []) a.size (s.room - 16) (Failed errno ∷ []) _ (omega (arith, long, most, fits)) (omega (arith, long, most, fits)) (omega (arith, long, small, fits)) one in
-    ap (λ b. list_entries a (entries_of es ++ d ∷ []) a.size (s.room - 16) (all_found b es ++ Failed errno ∷ [])) (sym nodes) ∙ all
-    ∙ ap (λ b. went (look_ups (Lists unique a) es ++ look_up (Lists unique a) d) (all_bytes b es ++ []) (Some errno)) nodes
-    ∙ ap (λ x. went (look_ups (Lists unique a) es ++ look_up (Lists unique a) d) x (Some errno)) (append-nil (all_bytes true es))
+    let one = not_found unique errno a d (a.size - length (all_bytes b es)) (s.room - 16 - length (all_bytes b es)) nodes t in
+    let all = listed_all unique a es (d ∷ []) a.size (s.room - 16) (Failed errno ∷ []) _ (omega (arith, long, size, asked)) (omega (arith, long, room, fits))
+    (omega (arith, long, small, asked)) one in
+    ap (λ b. commanded s (Lists unique a) (Entries (entries_of es ++ d ∷ []) ∷ (all_found b es ++ Failed errno ∷ []))) (sym nodes)
+    ∙ ap (list_ended s unique a) (all ∙ ap (λ x. went calls x (Some errno)) (append-nil (all_bytes b es))) ∙ failed_told s l unique errno a calls list es is holds
 
-list_told : (s : Setting) (unique errno : ℕ) (a : asked.Listing) (calls : List FileCall) (bytes : List ℕ) → a.with_nodes ≡ true → nat_lt 0 (length bytes) ≡ true
-    → list_ended s unique a (went calls bytes (Some errno)) ≡ replied s.room (readdir_call a ∷ calls) s.options (reply_bytes unique bytes)
-list_told s unique errno a calls bytes n t = rw (n, t) refl
+-- the reply of an error behind entries whose nodes are held: these
+pub held_reply : (l : Listing) (list : List ℕ) (es : List Brought) (errno : ℕ) → Holds l list es → (l.with_nodes && nat_lt 0 l.len) ≡ true
+    → data_header l.unique (Ok l.len) ++ take l.len list ≡ listing_bytes l.unique l.with_nodes (all_bytes l.with_nodes es) (Some errno)
+held_reply l list es errno holds some =
+    let told : (l.with_nodes && nat_lt 0 (length (all_bytes l.with_nodes es))) ≡ true = sym (ap (λ n. l.with_nodes && nat_lt 0 n) holds.long) ∙ some in
+    rw told (sym (in_list l.unique l.len list (all_bytes l.with_nodes es) holds.long holds.stands))
 
-error_told : (s : Setting) (unique errno : ℕ) (a : asked.Listing) (calls : List FileCall) (bytes : List ℕ) → a.with_nodes ≡ true → nat_lt 0 (length bytes) ≡ false
-    → list_ended s unique a (went calls bytes (Some errno)) ≡ replied s.room (readdir_call a ∷ calls) s.options (error_bytes unique errno)
-error_told s unique errno a calls bytes n t = rw (n, t) refl
-
--- a look-up failed behind entries, which are the reply
-pub fails_behind : (s : Setting) (l : Listing) (command : FileCommand) (list : List ℕ) (es : List Brought) (d : Listed) (errno : ℕ) → IsListingFor l s.room command
-    → Holds l list es → l.with_nodes ≡ true → 0 < l.len → is_dot d.name ≡ false
-    → commanded s command (Entries (entries_of es ++ d ∷ []) ∷ (all_found true es ++ Failed errno ∷ []))
-    ≡ by_reply (first_call command ∷ (look_ups command es ++ look_up command d)) s.options (data_header l.unique (Ok l.len) ++ take l.len list)
-fails_behind s l (One unique call) list es d errno is holds n some t = absurd is
-fails_behind s l (Starts unique capable readahead) list es d errno is holds n some t = absurd is
-fails_behind s l (Lists unique a) list es d errno is holds n some t =
-    let calls = look_ups (Lists unique a) es ++ look_up (Lists unique a) d in
-    let long : l.len ≡ length (all_bytes true es) = holds.long ∙ ap (λ b. length (all_bytes b es)) n in
-    let stands : take l.len list ≡ all_bytes true es = holds.stands ∙ ap (λ b. all_bytes b es) n in
-    let most : l.most ≡ min a.size (s.room - 16) = is.2 in
-    let place : 16 ≤ s.room = is.3 in
-    let fits = l.fits in
-    ap (list_ended s unique a) (failed_list s l unique errno a list es d is holds n t)
-    ∙ list_told s unique errno a calls (all_bytes true es) (sym is.1 ∙ n) (lt-ltb 0 (length (all_bytes true es)) (omega (arith, long, some)))
-    ∙ gives_list s.room s.options unique l.len (readdir_call a ∷ calls) list (all_bytes true es) long stands (omega (arith, most, fits, place))
-    ∙ ap (λ u. by_reply (readdir_call a ∷ calls) s.options (data_header u (Ok l.len) ++ take l.len list)) (sym is.0)
-
--- the first look-up failed: its error is the reply
-pub fails_first : (s : Setting) (l : Listing) (command : FileCommand) (list : List ℕ) (es : List Brought) (d : Listed) (errno : ℕ) → IsListingFor l s.room command
-    → Holds l list es → l.with_nodes ≡ true → l.len ≤ 0 → is_dot d.name ≡ false
-    → commanded s command (Entries (entries_of es ++ d ∷ []) ∷ (all_found true es ++ Failed errno ∷ []))
-    ≡ by_reply (first_call command ∷ (look_ups command es ++ look_up command d)) s.options (error_bytes l.unique errno ++ take 0 list)
-fails_first s l (One unique call) list es d errno is holds n none t = absurd is
-fails_first s l (Starts unique capable readahead) list es d errno is holds n none t = absurd is
-fails_first s l (Lists unique a) list es d errno is holds n none t =
-    let calls = look_ups (Lists unique a) es ++ look_up (Lists unique a) d in
-    let long : l.len ≡ length (all_bytes true es) = holds.long ∙ ap (λ b. length (all_bytes b es)) n in
-    ap (list_ended s unique a) (failed_list s l unique errno a list es d is holds n t)
-    ∙ error_told s unique errno a calls (all_bytes true es) (sym is.1 ∙ n) (le-ltb 0 (length (all_bytes true es)) (omega (arith, long, none)))
-    ∙ gives_error s.room s.options unique errno (readdir_call a ∷ calls) list is.3
-    ∙ ap (λ u. by_reply (readdir_call a ∷ calls) s.options (error_bytes u errno ++ take 0 list)) (sym is.0)
+-- else the error
+pub error_reply : (l : Listing) (list : List ℕ) (es : List Brought) (errno : ℕ) → Holds l list es → (l.with_nodes && nat_lt 0 l.len) ≡ false
+    → error_bytes l.unique errno ++ take 0 list ≡ listing_bytes l.unique l.with_nodes (all_bytes l.with_nodes es) (Some errno)
+error_reply l list es errno holds none =
+    let told : (l.with_nodes && nat_lt 0 (length (all_bytes l.with_nodes es))) ≡ false = sym (ap (λ n. l.with_nodes && nat_lt 0 n) holds.long) ∙ none in
+    rw told (append-nil (error_bytes l.unique errno))
 
 all_bytes_more : (b : Bool) (es : List Brought) (e : Brought) → all_bytes b (es ++ e ∷ []) ≡ all_bytes b es ++ bytes_of b e
 all_bytes_more b [] e = append-nil (bytes_of b e)
@@ -333,11 +395,3 @@ pub held_more : (r : Result (Unit {0}) NotAdded) (old new : Listing) (list after
 held_more (Ok u) old new list after bytes d node stays len put same =
     λ es holds. holds_more old new list after es (d, node) stays len (put ∙ ap (λ (x : List ℕ). put_at old.len x list) same) holds
 held_more (Err e) old new list after bytes d node stays len put same = tt
-
-pub none_brought : (b : Bool) (n : ℕ) → (b && nat_lt 0 n) ≡ false → b ≡ true → n ≤ 0
-none_brought true n e nodes = grind (arith, nat_tests)
-none_brought false n e nodes = absurd (cc)
-
-pub some_brought : (b : Bool) (n : ℕ) → (b && nat_lt 0 n) ≡ true → 0 < n
-some_brought true n e = grind (arith, nat_tests)
-some_brought false n e = absurd (cc)

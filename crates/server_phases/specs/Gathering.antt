@@ -1,8 +1,9 @@
 -- Listings that are answered entry by entry: what was brought, and what `served` says of it.
-use Rattle.std.specs.Prelude.{◌≡◌, ℕ, ◌+◌, ◌-◌, ◌≤◌, Bool, true, false, not, ◌&&◌, min, nat_lt, List, [], ◌∷◌, ◌++◌, length, take, drop, map, None, Result, Ok, Err, if◌then◌else◌}
+use Rattle.std.specs.Prelude.{◌≡◌, ℕ, ◌+◌, ◌-◌, ◌^◌, ◌≤◌, Bool, true, false, not, ◌&&◌, nat_lt, nat_le, List, [], ◌∷◌, ◌++◌, length, take, drop, map, Option, Some, None, Result, Ok, Err, if◌then◌else◌}
 use Rattle.fuse_fs.specs.declared.answers.Entry.{Entry}
 use Rattle.fuse_fs.specs.Calls.{FileCall, FileAnswer, Listed, Lookup, HasEntry, Entries}
-use Rattle.server_replies.specs.Entries.{entry_len, entry_bytes, is_dot, no_node}
+use Rattle.server_replies.specs.Entries.{entry_len, entry_bytes, is_dot, no_node, EIO, EOVERFLOW}
+use Rattle.server_replies.specs.WholeReplies.{listing_bytes}
 use Rattle.virtiofsd_fuse.specs.Grammar.{FileCommand, Lists}
 use Rattle.virtiofsd_fuse.specs.Listings.{undo_call}
 use Rattle.virtiofsd_fuse.specs.Serving.{Served, Setting, commanded}
@@ -10,6 +11,7 @@ use Rattle.server_phases.specs.declared.listing.Listing.{Listing}
 use Rattle.server_phases.specs.declared.listing.ListingReply.{ListingReply}
 use Rattle.server_phases.specs.declared.listing.NotAdded.{NotAdded}
 use Rattle.server_phases.specs.declared.listing.NotAdded.TheVariants as not_added
+use Rattle.server_phases.specs.Waiting.{first_call}
 
 -- an entry that is brought, and what its look-up gave, if it is looked up
 abbrev pub Brought : Type 0
@@ -60,10 +62,10 @@ node_given_back command e = []
 abbrev pub entries_of : List Brought → List Listed
 entries_of es = map (λ e. e.0) es
 
--- the listing of a command that has this room: its entries may have as many bytes as were asked for and have room behind the header
+-- the listing of a command that has this room: how many bytes of entries were asked for, and how many have room behind the header
 abbrev pub IsListingFor : Listing → (room : ℕ) → FileCommand → Type 0
 IsListingFor l room (Lists unique asked) =
-    (l.unique ≡ unique) × (l.with_nodes ≡ asked.with_nodes) × (l.most ≡ min asked.size (room - 16)) × (16 ≤ room)
+    (l.unique ≡ unique) × (l.with_nodes ≡ asked.with_nodes) × (l.size ≡ asked.size) × (l.room ≡ room - 16) × (16 ≤ room)
 IsListingFor l room command = ⊥
 
 -- whether a command is a listing
@@ -71,28 +73,44 @@ abbrev pub is_listing : FileCommand → Bool
 is_listing (Lists unique l) = true
 is_listing command = false
 
--- whether the room has as many bytes behind the header as a listing asks for
-abbrev pub HasRoomAsked : (room : ℕ) → FileCommand → Type 0
-HasRoomAsked room (Lists unique l) = l.size ≤ room - 16
-HasRoomAsked room command = ⊥
-
 -- the entries that were brought so far stand at the front of a list
 pub record Holds (l : Listing) (list : List ℕ) (es : List Brought) : Type 0 where
   pub long : l.len ≡ length (all_bytes l.with_nodes es)
   pub stands : take l.len list ≡ all_bytes l.with_nodes es
 
--- an entry that has no place ends the list, whatever is behind it: the reply is that of the entries before it, and its node is given back
+-- an entry that has no place in the size that was asked for ends the list, whatever is behind it: the reply is that of the entries before it, and its node is given back
 abbrev pub EndsList : Listing → (list : List ℕ) → Brought → Type 0
 EndsList l list e = (s : Setting) (command : FileCommand) (es : List Brought) (behind : List Listed) (answers : List FileAnswer)
-    → IsListingFor l s.room command → Holds l list es → HasRoomAsked s.room command →
+    → IsListingFor l s.room command → Holds l list es →
     let before = commanded s command (Entries (entries_of es) ∷ all_found l.with_nodes es) in
     commanded s command (Entries (entries_of es ++ e.0 ∷ behind) ∷ (all_found l.with_nodes es ++ (found_of l.with_nodes e ++ answers)))
     ≡ record before { calls = before.calls ++ (look_up command e.0 ++ node_given_back command e) }
 
--- what comes of an entry of the listing's kind: it has no place in what is left, or none in a list of this length; else it is in
+-- an entry fails the list by an error, whatever is behind it: the reply is that of an error after the entries before it, and its node is given back
+abbrev pub FailsList : Listing → (list : List ℕ) → Brought → (errno : ℕ) → Type 0
+FailsList l list e errno = (s : Setting) (command : FileCommand) (es : List Brought) (behind : List Listed) (answers : List FileAnswer)
+    → IsListingFor l s.room command → Holds l list es →
+    commanded s command (Entries (entries_of es ++ e.0 ∷ behind) ∷ (all_found l.with_nodes es ++ (found_of l.with_nodes e ++ answers)))
+    ≡ record {
+      calls = first_call command ∷ (look_ups command es ++ (look_up command e.0 ++ node_given_back command e));
+      options = s.options;
+      reply = listing_bytes l.unique l.with_nodes (all_bytes l.with_nodes es) (Some errno);
+      fault = None;
+    }
+
+-- the error by which an entry that isn't in fails the list, if it does
+abbrev pub error_of : NotAdded → Option ℕ
+error_of not_added.NoRoom = Some EIO
+error_of not_added.TooLong = Some EOVERFLOW
+error_of _ = None
+
+-- what comes of an entry of the listing's kind: its name is too long, or it has no place in what is left of the size, or of the room, or in a list of
+-- this length; else it is in
 abbrev pub placed : Listing → (list_len : ℕ) → (name_len : ℕ) → Result (Unit {0}) NotAdded
 placed l list_len name_len =
-    if nat_lt (l.most - l.len) (entry_len l.with_nodes name_len) then Err not_added.Full
+    if nat_le (2 ^ 32) name_len then Err not_added.TooLong
+    else if nat_lt (l.size - l.len) (entry_len l.with_nodes name_len) then Err not_added.Full
+    else if nat_lt (l.room - l.len) (entry_len l.with_nodes name_len) then Err not_added.NoRoom
     else if nat_lt list_len (l.len + entry_len l.with_nodes name_len) then Err not_added.ShortList
     else Ok tt
 
@@ -110,7 +128,7 @@ put_at at bytes list = take at list ++ bytes ++ drop (at + length bytes) list
 
 -- a listing but for how many bytes came
 abbrev pub StaysBut : (old new : Listing) → Type 0
-StaysBut old new = (new.unique ≡ old.unique) × (new.with_nodes ≡ old.with_nodes) × (new.most ≡ old.most)
+StaysBut old new = (new.unique ≡ old.unique) × (new.with_nodes ≡ old.with_nodes) × (new.size ≡ old.size) × (new.room ≡ old.room)
 
 -- these calls were made, and this is the reply, of which so many bytes stand in the list
 abbrev pub served_list : List FileCall → (options : ℕ) → ListingReply → (list : List ℕ) → Served

@@ -1,13 +1,13 @@
 //! How a listing gathers its entries, and what it replies.
 
-ghost use Rattle.std.specs.Prelude.{◌≡◌, ℕ, ◌+◌, ◌-◌, ◌<◌, ◌≤◌, ◌^◌, ◌&&◌, [], ◌∷◌, ◌++◌, List, length, Ok, Err, true, false, min, nat_lt, IfOk, IfErr, OnOk, OnErr, if◌then◌else◌};
+ghost use Rattle.std.specs.Prelude.{◌≡◌, ℕ, ◌+◌, ◌-◌, ◌<◌, ◌≤◌, ◌^◌, ◌&&◌, [], ◌∷◌, ◌++◌, List, length, take, Some, Ok, Err, true, false, min, nat_lt, IfOk, IfErr, OnOk, OnErr, if◌then◌else◌};
 ghost use Rattle.fuse_fs.specs.Answers.{listed};
 ghost use Rattle.fuse_fs.specs.Calls.{Listed, Failed, Entries};
 ghost use Rattle.server_replies.specs.Entries.{dirent_bytes, entry_len, is_dot, no_node};
-ghost use Rattle.server_replies.specs.WholeReplies.{data_header};
+ghost use Rattle.server_replies.specs.WholeReplies.{data_header, listing_bytes};
 ghost use Rattle.virtiofsd_fuse.specs.Grammar.{FileCommand};
 ghost use Rattle.virtiofsd_fuse.specs.Serving.{Setting, commanded};
-ghost use Rattle.server_phases.specs.Gathering.{Brought, EndsList, Holds, IsListingFor, StaysBut, is_listing, bytes_of, all_found, entries_of, look_up, look_ups, placed, added_plain, added_found, put_at, served_list};
+ghost use Rattle.server_phases.specs.Gathering.{Brought, EndsList, Holds, IsListingFor, FailsList, StaysBut, is_listing, bytes_of, all_bytes, all_found, entries_of, look_up, look_ups, placed, added_plain, added_found, put_at, error_of, served_list};
 ghost use Rattle.server_phases.specs.Waiting.{WaitsFor, first_call};
 
 use crate::answering::{Refusal, Refused};
@@ -20,13 +20,12 @@ use fuse_wire::Errno;
 use server_replies::init::MAX_BUFFER_SIZE;
 use server_replies::replies::{OUT_HEADER_LEN, data_header};
 
-// How many bytes of entries may come: as many as were asked for, and have room behind the header.
-fn most_bytes(size: u32, room: usize) -> usize
-    ensures most { size ≤ 2 ^ 20 → result ≡ min size (room - 16) }
+// How many bytes of entries are asked for: no more than a listing may have.
+fn size_asked(size: u32) -> usize
+    ensures size { size ≤ 2 ^ 20 → result ≡ size }
     ensures small { result ≤ 2 ^ 20 }
 {
-    let size = size.min(MAX_BUFFER_SIZE) as usize;
-    size.min(room.saturating_sub(OUT_HEADER_LEN))
+    size.min(MAX_BUFFER_SIZE) as usize
 }
 
 // The reply that is so many bytes of the list.
@@ -38,6 +37,19 @@ fn entries_reply(unique: u64, len: usize) -> ListingReply
     ListingReply {
         front: Front::of_parts(&data_header(unique, Ok(len)), &[]),
         len,
+    }
+}
+
+impl NotAdded {
+    /// The error by which the listing fails, if it does.
+    pub fn error(self) -> Option<Errno>
+        ensures { result ≡ error_of self }
+    {
+        match self {
+            NotAdded::NoRoom => Some(Errno::EIO),
+            NotAdded::TooLong => Some(Errno::EOVERFLOW),
+            NotAdded::OtherKind | NotAdded::Full | NotAdded::ShortList => None,
+        }
     }
 }
 
@@ -54,7 +66,8 @@ impl Listing {
             Awaits::Entries { with_nodes, size } => Ok(Listing {
                 unique: waiting.unique,
                 with_nodes,
-                most: most_bytes(size, waiting.room),
+                size: size_asked(size),
+                room: waiting.room.saturating_sub(OUT_HEADER_LEN),
                 len: 0,
             }),
             _ => Err(Refusal {
@@ -66,9 +79,9 @@ impl Listing {
 
     /// How many bytes of entries may still come.
     pub fn left(&self) -> usize
-        ensures { result ≡ self.now.most - self.now.len }
+        ensures { result ≡ min self.now.size self.now.room - self.now.len }
     {
-        self.most - self.len
+        self.size.min(self.room) - self.len
     }
 
     // Puts an entry behind the others, with these bytes of its node in front.
@@ -80,9 +93,15 @@ impl Listing {
         ensures same { OnErr result ((self.new ≡ self.old) × (list.new ≡ list.old)) }
         ensures stays { StaysBut self.old self.new }
     {
+        if entry.name.len() > u32::MAX as usize {
+            return Err(NotAdded::TooLong);
+        }
         let len = node.len() + dirent_len(entry.name);
-        if self.most - self.len < len {
+        if self.size - self.len < len {
             return Err(NotAdded::Full);
+        }
+        if self.room - self.len < len {
+            return Err(NotAdded::NoRoom);
         }
         let end = self.len + len;
         if list.len() < end {
@@ -93,14 +112,14 @@ impl Listing {
         Ok(())
     }
 
-    /// Puts an entry of READDIR behind the others, with zeros up to a multiple of 8 bytes. `Full` if it has more bytes
-    /// than are left.
+    /// Puts an entry of READDIR behind the others, with zeros up to a multiple of 8 bytes.
     pub fn add(&mut self, list: &mut [u8], entry: &DirEntry<'_>) -> Result<(), NotAdded>
         ensures outcome { result ≡ added_plain self.old (length list.old) (length entry.now.name.now) }
         ensures holds { OnOk result ((es : List Brought) → Holds self.old list.old es → Holds self.new list.new (es ++ (listed entry.now, no_node (listed entry.now)) ∷ [])) }
         ensures list { OnOk result (list.new ≡ put_at self.old.len (bytes_of false (listed entry.now, no_node (listed entry.now))) list.old) }
         ensures len { OnOk result (self.new.len ≡ self.old.len + entry_len false (length entry.now.name.now)) }
-        ensures full { result ≡ Err NotAdded.Full → length entry.now.name.now < 2 ^ 32 → EndsList self.old list.old (listed entry.now, no_node (listed entry.now)) }
+        ensures full { result ≡ Err NotAdded.Full → EndsList self.old list.old (listed entry.now, no_node (listed entry.now)) }
+        ensures fails { IfErr result (λ why. (errno : ℕ) → error_of why ≡ Some errno → FailsList self.old list.old (listed entry.now, no_node (listed entry.now)) errno) }
         ensures same { OnErr result ((self.new ≡ self.old) × (list.new ≡ list.old)) }
         ensures stays { StaysBut self.old self.new }
     {
@@ -122,7 +141,8 @@ impl Listing {
         ensures holds { OnOk result ((es : List Brought) → Holds self.old list.old es → Holds self.new list.new (es ++ (listed entry.now, node) ∷ [])) }
         ensures list { OnOk result (list.new ≡ put_at self.old.len (bytes_of true (listed entry.now, node)) list.old) }
         ensures len { OnOk result (self.new.len ≡ self.old.len + entry_len true (length entry.now.name.now)) }
-        ensures full { result ≡ Err NotAdded.Full → length entry.now.name.now < 2 ^ 32 → EndsList self.old list.old (listed entry.now, node) }
+        ensures full { result ≡ Err NotAdded.Full → EndsList self.old list.old (listed entry.now, node) }
+        ensures fails { IfErr result (λ why. (errno : ℕ) → error_of why ≡ Some errno → FailsList self.old list.old (listed entry.now, node) errno) }
         ensures same { OnErr result ((self.new ≡ self.old) × (list.new ≡ list.old)) }
         ensures stays { StaysBut self.old self.new }
     {
@@ -149,9 +169,11 @@ impl Listing {
         entries_reply(self.unique, self.len)
     }
 
-    /// The reply if reading or a look-up failed: the error, and nothing of the list; but if READDIRPLUS has brought
-    /// entries, these, since their nodes are held.
+    /// The reply if reading, a look-up or an entry failed: the error, and nothing of the list; but if READDIRPLUS has
+    /// brought entries, these, since their nodes are held.
     pub fn fail(self, error: Errno) -> ListingReply
+        ensures reply { (list : List ℕ) (es : List Brought) → Holds self list es
+            → result.front ++ take result.len list ≡ listing_bytes self.unique self.with_nodes (all_bytes self.with_nodes es) (Some error) }
         ensures alone { (self.with_nodes && nat_lt 0 self.len) ≡ false → (s : Setting) (command : FileCommand) (list : List ℕ) → IsListingFor self s.room command
             → commanded s command (Failed error ∷ []) ≡ served_list (first_call command ∷ []) s.options result list }
         ensures looked_up { self.with_nodes ≡ true → (s : Setting) (command : FileCommand) (list : List ℕ) (es : List Brought) (d : Listed)

@@ -10,10 +10,14 @@ use crate::front::Front;
 pub struct Listing {
     pub(crate) unique: u64,
     pub(crate) with_nodes: bool,
-    pub(crate) most: usize,
+    /// How many bytes of entries were asked for.
+    pub(crate) size: usize,
+    /// How many bytes of them have room behind the header.
+    pub(crate) room: usize,
     pub(crate) len: usize,
-    ghost fits: { len ≤ most },
-    ghost small: { most ≤ 2 ^ 20 },
+    ghost asked: { len ≤ size },
+    ghost fits: { len ≤ room },
+    ghost small: { size ≤ 2 ^ 20 },
 }
 
 /// Why an entry isn't in the list: nothing has changed, and who looked it up undoes that.
@@ -21,9 +25,14 @@ pub struct Listing {
 pub enum NotAdded {
     /// READDIR brings entries without nodes, READDIRPLUS with them.
     OtherKind,
-    /// It has no place in what is left: the entries so far are the answer. In READDIRPLUS its node is given back, by
-    /// FORGET of 1.
+    /// It has no place in what is left of the size that was asked for: the entries so far are the answer (`Listing::end`). In
+    /// READDIRPLUS its node is given back, by FORGET of 1.
     Full,
+    /// It has a place in the size, but none in the room: the listing fails by EIO (`Listing::fail`). In READDIRPLUS its node
+    /// is given back, by FORGET of 1.
+    NoRoom,
+    /// Its name has 2^32 bytes or more: the same, by EOVERFLOW.
+    TooLong,
     /// The list ends before it.
     ShortList,
 }

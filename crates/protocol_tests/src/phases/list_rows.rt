@@ -46,6 +46,8 @@ const LIST_LEN: usize = 512;
 
 const FULL: Result<(), NotAdded> = Err(NotAdded::Full);
 
+const NO_ROOM: Result<(), NotAdded> = Err(NotAdded::NoRoom);
+
 // The same entries as they are brought and as they are listed: `.`, `a`, `..`, and names of 8 and 9 bytes.
 const DOT: Brought = Brought {
     ino: 1,
@@ -134,9 +136,48 @@ const PLAIN: &[Row] = &[
     Row {
         name: "READDIR of an entry that is a byte too long for its room",
         room: 79,
+        brought: &[
+            DOT,
+            Brought {
+                comes: NO_ROOM,
+                ..A
+            },
+        ],
+        end: End::Failed,
+        front: &["10000000 fbffffff", UNIQUE],
+        data: &[],
+        ..READDIR
+    },
+    Row {
+        name: "READDIR of an entry that is a byte too long for its size and for its room",
+        request: &[
+            "50000000 1c000000",
+            ASKER,
+            "2200000000000000 0000000000000000 3f000000 00000000",
+            "0000000000000000 00000000 00000000",
+        ],
+        room: 79,
         brought: &[DOT, Brought { comes: FULL, ..A }],
         front: &["30000000 00000000", UNIQUE],
         data: &[DOT_BYTES],
+        ..READDIR
+    },
+    Row {
+        name: "READDIR of an entry that its size holds, in a room of the size without a header",
+        request: &[
+            "50000000 1c000000",
+            ASKER,
+            "2200000000000000 0000000000000000 20000000 00000000",
+            "0000000000000000 00000000 00000000",
+        ],
+        room: 32,
+        brought: &[Brought {
+            comes: NO_ROOM,
+            ..A
+        }],
+        end: End::Failed,
+        front: &["10000000 fbffffff", UNIQUE],
+        data: &[],
         ..READDIR
     },
     Row {
@@ -233,17 +274,36 @@ const READDIRPLUS: Row = Row {
 const NODES: &[Row] = &[
     READDIRPLUS,
     Row {
-        name: "READDIRPLUS of an entry that is a byte too long for its room",
+        name: "READDIRPLUS of an entry that is a byte too long for its room, behind one that is held",
         room: 335,
         brought: &[
             DOT_PLUS,
             Brought {
-                comes: FULL,
+                comes: NO_ROOM,
                 ..A_PLUS
             },
         ],
+        end: End::Failed,
         front: &["b0000000 00000000", UNIQUE],
         data: &[DOT_ENTRY, DOT_BYTES],
+        ..READDIRPLUS
+    },
+    Row {
+        name: "READDIRPLUS of a first entry that its size holds, in a room of the size without a header",
+        request: &[
+            "50000000 2c000000",
+            ASKER,
+            "2200000000000000 0000000000000000 a0000000 00000000",
+            "0000000000000000 00000000 00000000",
+        ],
+        room: 160,
+        brought: &[Brought {
+            comes: NO_ROOM,
+            ..A_PLUS
+        }],
+        end: End::Failed,
+        front: &["10000000 fbffffff", UNIQUE],
+        data: &[],
         ..READDIRPLUS
     },
     Row {
@@ -331,4 +391,17 @@ fn entries_are_listed(rt: HostRuntime) {
             expect_row(&rt, rt.alloc(), row);
         }
     }
+}
+
+#[test]
+fn entries_have_errors(rt: HostRuntime) {
+    expect_same(
+        &rt,
+        [
+            NotAdded::NoRoom.error(),
+            NotAdded::TooLong.error(),
+            NotAdded::Full.error(),
+        ],
+        [Some(Errno::EIO), Some(Errno::EOVERFLOW), None],
+    );
 }

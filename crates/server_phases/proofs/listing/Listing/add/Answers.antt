@@ -2,7 +2,7 @@ use Rattle.std.proofs.Common.{length, sym, ap, ◌∙◌}
 use Rattle.fuse_fs.specs.Answers.{listed}
 use Rattle.server_replies.specs.Entries.{dirent_bytes, no_node}
 use Rattle.server_phases.specs.Gathering.{bytes_of}
-use Rattle.server_phases.proofs.Gathered.{full_ends, held_more, placed_full}
+use Rattle.server_phases.proofs.Gathered.{held_more, placed_full, placed_wrong}
 use Rattle.server_phases.proofs.listing.Listing.add.Goals as goal
 
 pub returns-clause-holds : goal.returns-clause-holds
@@ -12,6 +12,11 @@ returns-clause-holds c =
     (sym (ap (λ b. bytes_of b (d, no_node d)) c.if-self.false))
 
 pub returns-clause-full : goal.returns-clause-full
-returns-clause-full c = λ is short.
+returns-clause-full c =
     let d = listed c.args.entry.now in
-    full_ends c.args.self.now c.args.list.now (d, no_node d) short (placed_full c.args.self.now (length c.args.list.now) (length d.name) (sym c.put.ensures.outcome ∙ is))
+    placed_full c.put.result c.args.self.now c.args.list.now (length c.args.list.now) (d, no_node d) c.put.ensures.outcome
+
+pub returns-clause-fails : goal.returns-clause-fails
+returns-clause-fails c =
+    let d = listed c.args.entry.now in
+    placed_wrong c.put.result c.args.self.now c.args.list.now (length c.args.list.now) (d, no_node d) c.put.ensures.outcome
