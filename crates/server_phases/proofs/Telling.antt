@@ -1,20 +1,26 @@
 -- What is told of a request, by what it was served without a call, or by the call that was written down.
-use Rattle.std.proofs.Common.{◌≡◌, ◌≤◌, ℕ, Bool, true, false, List, [], ◌∷◌, length, Some, None, cond, refl, sym, ap, subst, ◌∙◌, arith}
+use Rattle.std.proofs.Common.{◌≡◌, ◌≤◌, ◌<◌, ℕ, Bool, true, false, List, [], ◌∷◌, length, Ok, Some, None, cond, refl, sym, ap, subst, ◌∙◌, arith}
 use Rattle.std.specs.Prelude.{nat_lt}
 use Rattle.std.proofs.lemmas.Bool.{le-ltb}
 use Rattle.fuse_in.specs.declared.session.InHeader.{InHeader}
+use Rattle.fuse_in.specs.Records.{in_header}
+use Rattle.fuse_fs.specs.declared.answers.Context.{Context}
 use Rattle.fuse_fs.specs.Answers.{context_of}
 use Rattle.fuse_fs.specs.Calls.{FileCall, Init, Readdir}
 use Rattle.fuse_values.specs.declared.call.FileCall as made
 use Rattle.fuse_values.specs.declared.call.FileCall.TheVariants as value
 use Rattle.fuse_values.specs.Values.{call_of}
+use Rattle.server_requests.specs.Reading.{reading_of}
+use Rattle.server_replies.specs.WholeReplies.{error_bytes}
+use Rattle.server_replies.proofs.ReplyLemmas.{length_error}
 use Rattle.server_segments.specs.declared.error.Error.{Error}
 use Rattle.server_segments.specs.declared.error.Error.TheVariants.{EncodeMessage}
 use Rattle.virtiofsd_fuse.specs.Grammar.{Meaning, IsFault, Replies, IsSilent, Asks, FileCommand, One, Starts, Lists}
 use Rattle.virtiofsd_fuse.specs.Serving.{Setting, Served, setting, served, no_reply, replied}
+use Rattle.server_phases.specs.declared.asking.Asked.{Asked}
 use Rattle.server_phases.specs.declared.asking.Asked.TheVariants as asked
 use Rattle.server_phases.specs.declared.waiting.Awaits.TheVariants as awaits
-use Rattle.server_phases.specs.Asking.{IsTold, TellsData, all_reply, told_reply}
+use Rattle.server_phases.specs.Asking.{IsTold, IsAskedBy, HasAsker, TellsData, all_reply, told_reply}
 use Rattle.server_phases.specs.Saying.{Says, ReadsAhead, is_plain}
 use Rattle.server_phases.specs.Waiting.{first_call, awaits_of, awaits_for, is_single}
 
@@ -35,34 +41,52 @@ fault_told page_size options room h all (Asks (One unique call)) e says g = let 
 fault_told page_size options room h all (Asks (Starts unique capable readahead)) e says g = let calls : Init capable ∷ [] ≡ [] = ap (λ (x : Served). x.calls) g in absurd (cc)
 fault_told page_size options room h all (Asks (Lists unique l)) e says g = absurd says
 
-reply_by : (t : Bool) (page_size options room : ℕ) (reply bytes : List ℕ) → nat_lt room (length reply) ≡ t
+reply_by : (t : Bool) (page_size options room : ℕ) (reply bytes : List ℕ) → nat_lt room (length reply) ≡ t → 0 < length reply
     → IsTold (setting page_size options room) (Replies reply) bytes (cond t (asked.Fault EncodeMessage) (asked.Reply reply))
-reply_by true page_size options room reply bytes e = rw e refl
-reply_by false page_size options room reply bytes e = rw e refl
+reply_by true page_size options room reply bytes e some = rw e refl
+reply_by false page_size options room reply bytes e some = (rw e refl, some)
 
 -- an immediate reply, if it has room
-pub reply_told : (page_size options room : ℕ) (reply bytes : List ℕ) → IsTold (setting page_size options room) (Replies reply) bytes (told_reply room reply)
-reply_told page_size options room reply bytes = reply_by (nat_lt room (length reply)) page_size options room reply bytes refl
+pub reply_told : (page_size options room : ℕ) (reply bytes : List ℕ) → 0 < length reply → IsTold (setting page_size options room) (Replies reply) bytes (told_reply room reply)
+reply_told page_size options room reply bytes some = reply_by (nat_lt room (length reply)) page_size options room reply bytes refl some
 
-nothing_told : (page_size options room : ℕ) (bytes : List ℕ) → IsTold (setting page_size options room) IsSilent bytes (told_reply room [])
-nothing_told page_size options room bytes = rw (le-ltb room 0 (omega arith)) refl
+-- the same of an error
+pub error_told : (page_size options room unique errno : ℕ) (bytes : List ℕ)
+    → IsTold (setting page_size options room) (Replies (error_bytes unique errno)) bytes (told_reply room (error_bytes unique errno))
+error_told page_size options room unique errno bytes = reply_told page_size options room (error_bytes unique errno) bytes (omega (arith, length_error unique errno))
+
+no_call_by : (t : Bool) (who : Context) (reply : List ℕ) → IsAskedBy who (cond t (asked.Fault EncodeMessage) (asked.Reply reply))
+no_call_by true who reply = tt
+no_call_by false who reply = tt
+
+-- it is no call
+pub reply_asks : (who : Context) (room : ℕ) (reply : List ℕ) → IsAskedBy who (told_reply room reply)
+reply_asks who room reply = no_call_by (nat_lt room (length reply)) who reply
+
+-- a call is asked by who sent the header
+pub has_asker : (request left : List ℕ) (head : InHeader) (a : Asked) → Ok (head, left) ≡ reading_of in_header request → IsAskedBy (context_of head) a → HasAsker request a
+has_asker request left head a reads by = λ h more e.
+    let both = reads ∙ e in
+    let pair : ◌≡◌ {A = InHeader × List ℕ} (head, left) (h, more) = cc in
+    let same : head ≡ h = ap (λ (x : InHeader × List ℕ). x.0) pair in
+    subst (λ (x : InHeader). IsAskedBy (context_of x) a) same by
 
 -- what was replied without a call
-pub written_told : (page_size options room : ℕ) (h : InHeader) (all bytes : List ℕ) (m : Meaning) (written : List ℕ) → Says h all m
+pub written_told : (page_size options room : ℕ) (h : InHeader) (all bytes : List ℕ) (m : Meaning) (written : List ℕ) → Says h all m → 0 < length written
     → served (setting page_size options 80) m [] ≡ all_reply options written → IsTold (setting page_size options room) m bytes (told_reply room written)
-written_told page_size options room h all bytes (IsFault f) written says g =
+written_told page_size options room h all bytes (IsFault f) written says some g =
     let same : Some f ≡ None = ap (λ (x : Served). x.fault) g in absurd (cc)
-written_told page_size options room h all bytes (Replies reply) written says g =
+written_told page_size options room h all bytes (Replies reply) written says some g =
     let same : reply ≡ written = ap (λ (x : Served). x.reply) (sym (fits 80 options reply says) ∙ g) in
-    subst (λ (w : List ℕ). IsTold (setting page_size options room) (Replies reply) bytes (told_reply room w)) same (reply_told page_size options room reply bytes)
-written_told page_size options room h all bytes IsSilent written says g =
-    let same : [] ≡ written = ap (λ (x : Served). x.reply) g in
-    subst (λ (w : List ℕ). IsTold (setting page_size options room) IsSilent bytes (told_reply room w)) same (nothing_told page_size options room bytes)
-written_told page_size options room h all bytes (Asks (One unique call)) written says g =
+    subst (λ (w : List ℕ). IsTold (setting page_size options room) (Replies reply) bytes (told_reply room w)) same
+    (reply_told page_size options room reply bytes (subst (λ (w : List ℕ). 0 < length w) (sym same) some))
+written_told page_size options room h all bytes IsSilent written says some g =
+    let same : 0 ≡ length written = ap (λ (x : Served). length x.reply) g in absurd (omega (arith, same, some))
+written_told page_size options room h all bytes (Asks (One unique call)) written says some g =
     let calls : call ∷ [] ≡ [] = ap (λ (x : Served). x.calls) g in absurd (cc)
-written_told page_size options room h all bytes (Asks (Starts unique capable readahead)) written says g =
+written_told page_size options room h all bytes (Asks (Starts unique capable readahead)) written says some g =
     let calls : Init capable ∷ [] ≡ [] = ap (λ (x : Served). x.calls) g in absurd (cc)
-written_told page_size options room h all bytes (Asks (Lists unique l)) written says g = absurd says
+written_told page_size options room h all bytes (Asks (Lists unique l)) written says some g = absurd says
 
 -- no reply
 pub silence_told : (page_size options room : ℕ) (h : InHeader) (all bytes : List ℕ) (m : Meaning) → Says h all m

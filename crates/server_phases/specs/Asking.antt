@@ -1,10 +1,15 @@
 -- What a request asks, as it is told to who owns the files.
-use Rattle.std.specs.Prelude.{◌≡◌, ◌==◌, ℕ, Bool, true, false, ◌||◌, ◌&&◌, List, [], ◌∷◌, length, take, nat_lt, nat_le, Some, None, if◌then◌else◌}
+use Rattle.std.specs.Prelude.{◌≡◌, ◌==◌, ◌<◌, ℕ, Bool, true, false, ◌||◌, ◌&&◌, List, [], ◌∷◌, length, take, nat_lt, nat_le, Some, None, Ok, if◌then◌else◌}
 use Rattle.fuse_values.specs.declared.call.FileCall.{FileCall}
 use Rattle.fuse_values.specs.declared.call.FileCall.TheVariants as value
 use Rattle.fuse_values.specs.Recording.{has_name}
 use Rattle.fuse_values.specs.Values.{call_of}
+use Rattle.fuse_in.specs.declared.session.InHeader.{InHeader}
+use Rattle.fuse_in.specs.Records.{in_header}
+use Rattle.fuse_fs.specs.declared.answers.Context.{Context}
+use Rattle.fuse_fs.specs.Answers.{context_of}
 use Rattle.fuse_fs.specs.Lengths.{filled}
+use Rattle.server_requests.specs.Reading.{reading_of}
 use Rattle.server_segments.specs.ReaderAndWriter.{ReaderView}
 use Rattle.virtiofsd_fuse.specs.WantOfMemory.{may_take_memory}
 use Rattle.server_segments.specs.declared.error.Error.TheVariants.{EncodeMessage}
@@ -35,9 +40,18 @@ all_reply options reply = record { calls = []; options = options; reply = reply;
 -- what is told of a request with this meaning: its call, or what it is served without one
 abbrev pub IsTold : Setting → Meaning → (bytes : List ℕ) → Asked → Type 0
 IsTold s m bytes (asked.Call made w) = AsksCall s m bytes made w
-IsTold s m bytes (asked.Reply reply) = served s m [] ≡ all_reply s.options reply
+IsTold s m bytes (asked.Reply reply) = (served s m [] ≡ all_reply s.options reply) × (0 < length reply)
 IsTold s m bytes asked.Silence = served s m [] ≡ all_reply s.options []
 IsTold s m bytes (asked.Fault e) = served s m [] ≡ no_reply [] s.options (Some e)
+
+-- what is kept of a call that is told names this one
+abbrev pub IsAskedBy : Context → Asked → Type 0
+IsAskedBy who (asked.Call made w) = w.context ≡ who
+IsAskedBy who asked = Unit {0}
+
+-- it names who sent the request (struct fuse_in_header: uid, gid, pid)
+abbrev pub HasAsker : (request : List ℕ) → Asked → Type 0
+HasAsker request asked = (h : InHeader) (more : List ℕ) → reading_of in_header request ≡ Ok (h, more) → IsAskedBy (context_of h) asked
 
 -- what is told of a reply without a call: it has room, or it is a fault
 abbrev pub told_reply : (room : ℕ) → List ℕ → Asked
@@ -73,6 +87,11 @@ is_told asked_front.More = false
 abbrev pub IsToldByFront : Setting → Meaning → (bytes : List ℕ) → AskedFront → Type 0
 IsToldByFront s m bytes (asked_front.Told asked) = IsTold s m bytes asked
 IsToldByFront s m bytes asked_front.More = Unit {0}
+
+-- what is kept of a call that they tell names who sent the request
+abbrev pub HasAskerByFront : (request : List ℕ) → AskedFront → Type 0
+HasAskerByFront request (asked_front.Told asked) = HasAsker request asked
+HasAskerByFront request asked_front.More = Unit {0}
 
 -- the bytes behind a header begin with the same record of a WRITE, or are cut short alike
 abbrev pub BeginsRecord : (front bytes : List ℕ) → Type 0

@@ -2,13 +2,14 @@
 
 ghost use Rattle.std.specs.Prelude.{◌≡◌, ℕ, ◌≤◌, [], List, Ok, Err, true, false, IfOk, OnOk, IfErr, drop, length};
 ghost use Rattle.fuse_in.specs.Records.{in_header};
+ghost use Rattle.fuse_fs.specs.Answers.{context_of};
 ghost use Rattle.fuse_values.specs.Values.{call_of};
 ghost use Rattle.server_requests.specs.Reading.{reading_of};
 ghost use Rattle.server_calls.specs.Requests.{if_set, read_call, write_call};
 ghost use Rattle.virtiofsd_fuse.specs.Grammar.{Meaning, FileCommand, Asks, One, given, ended, meant, meaning, read_row, read_asked, listing_row, listing_asked, write_row};
 ghost use Rattle.virtiofsd_fuse.specs.Serving.{Setting, setting, served, served_of};
 ghost use Rattle.server_segments.specs.Errors.{lacks_memory};
-ghost use Rattle.server_phases.specs.Asking.{IsTold, TellsData, IsFront, BeginsRecord, told_reply};
+ghost use Rattle.server_phases.specs.Asking.{IsTold, IsAskedBy, HasAsker, TellsData, IsFront, BeginsRecord, told_reply};
 ghost use Rattle.fuse_wire.specs.Opcodes.{opcode_of};
 ghost use Rattle.virtiofsd_fuse.specs.DataApart.{begins_a_write, is_write};
 ghost use Rattle.server_phases.specs.Saying.{ReadsAhead, Says};
@@ -67,8 +68,9 @@ pub(crate) fn replied(room: usize, reply: Front) -> Asked
 
 // READ, by its record.
 fn ask_read(head: &InHeader, request: &ReadIn, room: usize) -> Asked
-    ensures { (page_size options : ℕ) (more bytes : List ℕ)
+    ensures told { (page_size options : ℕ) (more bytes : List ℕ)
         → IsTold (setting page_size options room) (ended head.now.unique (read_asked (given head.now options room) request.now more)) bytes result }
+    ensures asker { IsAskedBy (context_of head.now) result }
 {
     if room < OUT_HEADER_LEN {
         return Asked::Fault(Error::EncodeMessage);
@@ -109,8 +111,9 @@ fn owner_if(told: bool, owner: u64) -> Option<u64>
 
 // READDIR and READDIRPLUS, by their record.
 fn ask_listing(head: &InHeader, request: &ReadIn, with_nodes: bool, room: usize) -> Asked
-    ensures { (page_size options : ℕ) (more bytes : List ℕ)
+    ensures told { (page_size options : ℕ) (more bytes : List ℕ)
         → IsTold (setting page_size options room) (ended head.now.unique (listing_asked with_nodes request.now (given head.now options room) more)) bytes result }
+    ensures asker { IsAskedBy (context_of head.now) result }
 {
     if request.size > MAX_BUFFER_SIZE {
         return replied(room, Front::error(head.unique, Errno::ENOMEM));
@@ -147,8 +150,9 @@ fn ask_listing(head: &InHeader, request: &ReadIn, with_nodes: bool, room: usize)
 
 // WRITE, by its record; so many bytes of data stand behind it.
 fn ask_write(head: &InHeader, request: &WriteIn, len: usize, room: usize) -> Asked
-    ensures { (page_size options : ℕ) (bytes : List ℕ) → len ≡ length bytes
+    ensures told { (page_size options : ℕ) (bytes : List ℕ) → len ≡ length bytes
         → IsTold (setting page_size options room) (Asks (One head.now.unique (write_call head.now request.now bytes))) bytes result }
+    ensures asker { IsAskedBy (context_of head.now) result }
 {
     let waiting = Waiting {
         unique: head.unique,
@@ -197,8 +201,9 @@ pub(crate) fn readahead(alloc: Global, request: &[u8]) -> u32
 
 // A call that was written down, with what is kept of its request.
 pub(crate) fn call_told(head: &InHeader, call: FileCall, readahead: u32, room: usize) -> Asked
-    ensures { (s : Setting) (all bytes : List ℕ) (command : FileCommand) → s.room ≡ room → Says head.now all (Asks command) → ((n : ℕ) → ReadsAhead all n → readahead ≡ n)
+    ensures told { (s : Setting) (all bytes : List ℕ) (command : FileCommand) → s.room ≡ room → Says head.now all (Asks command) → ((n : ℕ) → ReadsAhead all n → readahead ≡ n)
         → call_of [] call ≡ first_call command → IsTold s (Asks command) bytes result }
+    ensures asker { IsAskedBy (context_of head.now) result }
 {
     let awaits = awaits_for(&call, readahead);
     let waiting = Waiting {
@@ -217,6 +222,7 @@ pub(crate) fn no_call(answer: Result<usize, Error>, room: usize, w: &Writer) -> 
         → IfOk answer (λ n. n ≡ length w.now.written)
         → served (setting page_size options 80) m [] ≡ served_of [] options answer w.now.written
         → IsTold (setting page_size options room) m bytes asked) }
+    ensures asker { IfOk result (λ asked. (who : Context) → IsAskedBy who asked) }
     ensures enough { OnOk result (lacks_memory answer ≡ false) }
     ensures err { IfErr result (λ e. (e ≡ Error.OutOfMemory) × (answer ≡ Err e)) }
 {
@@ -230,8 +236,9 @@ pub(crate) fn no_call(answer: Result<usize, Error>, room: usize, w: &Writer) -> 
 
 // READ: its record is read.
 pub(crate) fn ask_read_row(head: &InHeader, room: usize, r: &mut Reader<'_>) -> Asked
-    ensures { (page_size options : ℕ) (bytes : List ℕ)
+    ensures told { (page_size options : ℕ) (bytes : List ℕ)
         → IsTold (setting page_size options room) (ended head.now.unique (read_row (given head.now options room) r.old.left)) bytes result }
+    ensures asker { IsAskedBy (context_of head.now) result }
 {
     match read_record(r) {
         Ok(request) => ask_read(head, &request, room),
@@ -246,8 +253,9 @@ pub(crate) fn ask_listing_row(
     room: usize,
     r: &mut Reader<'_>,
 ) -> Asked
-    ensures { (page_size options : ℕ) (bytes : List ℕ)
+    ensures told { (page_size options : ℕ) (bytes : List ℕ)
         → IsTold (setting page_size options room) (ended head.now.unique (listing_row with_nodes (given head.now options room) r.old.left)) bytes result }
+    ensures asker { IsAskedBy (context_of head.now) result }
 {
     match read_record(r) {
         Ok(request) => ask_listing(head, &request, with_nodes, room),
@@ -257,8 +265,9 @@ pub(crate) fn ask_listing_row(
 
 // WRITE: its record is read, behind which so many bytes of data stand, here or elsewhere.
 pub(crate) fn ask_write_row(head: &InHeader, len: usize, room: usize, r: &mut Reader<'_>) -> Asked
-    ensures { (page_size options : ℕ) (bytes : List ℕ) → BeginsRecord r.old.left bytes → len ≡ length (drop 40 bytes)
+    ensures told { (page_size options : ℕ) (bytes : List ℕ) → BeginsRecord r.old.left bytes → len ≡ length (drop 40 bytes)
         → IsTold (setting page_size options room) (ended head.now.unique (write_row (given head.now options room) bytes)) (drop 40 bytes) result }
+    ensures asker { IsAskedBy (context_of head.now) result }
 {
     match read_record(r) {
         Ok(request) => ask_write(head, &request, len, room),
@@ -271,8 +280,9 @@ pub(crate) fn ask_write_front(alloc: Global, front: &[u8], len: usize, room: usi
     requires write { begins_a_write front.now ≡ true }
     requires front { 80 ≤ length front.now }
     requires len { 80 ≤ len }
-    ensures { (page_size options : ℕ) (request : List ℕ) → len ≡ length request → IsFront front.now request
+    ensures told { (page_size options : ℕ) (request : List ℕ) → len ≡ length request → IsFront front.now request
         → IsTold (setting page_size options room) (meaning options request room) (drop 80 request) result }
+    ensures asker { (request : List ℕ) → IsFront front.now request → HasAsker request result }
 {
     let mut r = Reader::of_slice(alloc, front);
     match read_record::<InHeader>(&mut r) {
@@ -284,8 +294,9 @@ pub(crate) fn ask_write_front(alloc: Global, front: &[u8], len: usize, room: usi
 // WRITE: its header is read.
 fn ask_write_head(head: &InHeader, len: usize, room: usize, r: &mut Reader<'_>) -> Asked
     requires { is_write (opcode_of head.now.opcode) ≡ true }
-    ensures { (page_size options : ℕ) (bytes : List ℕ) → BeginsRecord r.old.left bytes → len ≡ length (drop 40 bytes)
+    ensures told { (page_size options : ℕ) (bytes : List ℕ) → BeginsRecord r.old.left bytes → len ≡ length (drop 40 bytes)
         → IsTold (setting page_size options room) (meant (given head.now options room) bytes) (drop 40 bytes) result }
+    ensures asker { IsAskedBy (context_of head.now) result }
 {
     if head.len > MAX_REQUEST_LEN {
         return replied(room, Front::error(head.unique, Errno::ENOMEM));

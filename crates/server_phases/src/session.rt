@@ -2,13 +2,14 @@
 
 ghost use Rattle.std.specs.Prelude.{◌≡◌, ◌+◌, ◌^◌, ◌<◌, [], List, ℕ, true, false, length, Ok, drop, IsTrue, IfOk, IfErr, OnOk, bit_and};
 ghost use Rattle.fuse_in.specs.Records.{in_header};
+ghost use Rattle.fuse_fs.specs.Answers.{context_of};
 ghost use Rattle.fuse_fs.specs.Lengths.{filled};
 ghost use Rattle.server_requests.specs.Reading.{reading_of};
 ghost use Rattle.server_replies.specs.PageSizes.{is_page_size};
 ghost use Rattle.virtiofsd_fuse.specs.Grammar.{given, meant, meaning, known_options};
 ghost use Rattle.virtiofsd_fuse.specs.Serving.{setting};
 ghost use Rattle.server_phases.specs.Apart.{apart_of};
-ghost use Rattle.server_phases.specs.Asking.{IsTold, IsFront, IsToldByFront, front_tells, is_told, may_want_memory};
+ghost use Rattle.server_phases.specs.Asking.{IsTold, IsAskedBy, HasAsker, HasAskerByFront, IsFront, IsToldByFront, front_tells, is_told, may_want_memory};
 
 use crate::apart::{Apart, apart_of};
 use crate::asking::{
@@ -97,6 +98,7 @@ impl Session {
         requires place { w.old.free ≡ 80 }
         ensures told { IfOk result (λ asked. (more bytes : List ℕ) → reading_of in_header request.now ≡ Ok (head.now, more) → apart_of head.now ≡ Apart.Neither
             → IsTold (setting self.now.page_size self.now.options.0 room) (meant (given head.now self.now.options.0 room) more) bytes asked) }
+        ensures asker { IfOk result (λ asked. IsAskedBy (context_of head.now) asked) }
         ensures err { IfErr result (λ e. e ≡ Error.OutOfMemory) }
         ensures memory { IfErr result (λ e. (more : List ℕ) → reading_of in_header request.now ≡ Ok (head.now, more) → apart_of head.now ≡ Apart.Neither
             → may_want_memory self.now.options.0 request.now room ≡ true) }
@@ -127,6 +129,7 @@ impl Session {
         requires place { w.old.free ≡ 80 }
         ensures told { IfOk result (λ asked. (more bytes : List ℕ) → reading_of in_header request.now ≡ Ok (head.now, more) → apart_of head.now ≡ Apart.Neither
             → IsTold (setting self.now.page_size self.now.options.0 room) (meant (given head.now self.now.options.0 room) more) bytes asked) }
+        ensures asker { IfOk result (λ asked. IsAskedBy (context_of head.now) asked) }
         ensures err { IfErr result (λ e. e ≡ Error.OutOfMemory) }
         ensures memory { IfErr result (λ e. (more : List ℕ) → reading_of in_header request.now ≡ Ok (head.now, more) → apart_of head.now ≡ Apart.Neither
             → may_want_memory self.now.options.0 request.now room ≡ true) }
@@ -151,6 +154,7 @@ impl Session {
         requires place { w.old.free ≡ 80 }
         ensures told { IfOk result (λ asked. IsTold (setting self.now.page_size self.now.options.0 room)
             (meaning self.now.options.0 request.now room) (drop 80 request.now) asked) }
+        ensures asker { IfOk result (λ asked. HasAsker request.now asked) }
         ensures err { IfErr result (λ e. e ≡ Error.OutOfMemory) }
         ensures memory { IfErr result (λ e. may_want_memory self.now.options.0 request.now room ≡ true) }
         ensures fresh { w.new.written ≡ [] }
@@ -173,7 +177,8 @@ impl Session {
     }
 
     /// The same by the first bytes of a request that has `len` bytes in all: the data of a WRITE, behind the first 80
-    /// (`REQUEST_FRONT`), stays where it stands. Where they don't tell it, all bytes of the request are wanted.
+    /// (`REQUEST_FRONT`), stays where it stands. If they don't tell it, all bytes of the request are wanted. A WRITE's `size`
+    /// is what its record tells, `len` how many bytes of data the request has: they may differ.
     pub fn ask_front(
         &self,
         alloc: Global,
@@ -186,6 +191,7 @@ impl Session {
         requires place { w.old.free ≡ 80 }
         ensures told { IfOk result (λ asked. (request : List ℕ) → len ≡ length request → IsFront front.now request
             → IsToldByFront (setting self.now.page_size self.now.options.0 room) (meaning self.now.options.0 request room) (drop 80 request) asked) }
+        ensures asker { IfOk result (λ asked. (request : List ℕ) → len ≡ length request → IsFront front.now request → HasAskerByFront request asked) }
         ensures more { IfOk result (λ asked. is_told asked ≡ front_tells front.now len) }
         ensures err { IfErr result (λ e. e ≡ Error.OutOfMemory) }
         ensures memory { IfErr result (λ e. (length front.now ≡ len) × (may_want_memory self.now.options.0 front.now room ≡ true)) }

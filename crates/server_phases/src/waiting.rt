@@ -47,8 +47,8 @@ pub enum Awaits {
     Entries { with_nodes: bool, size: u32 },
 }
 
-/// What is kept of a request whose call waits for an answer; its bytes are wanted no more. `Session::ask` alone makes one,
-/// and who answers gives it up, so that a request is answered once.
+/// What is kept of a request whose call waits for an answer; its bytes are wanted no more. `Session::ask` and
+/// `ask_front` alone make one, and who answers gives it up, so that each is answered once.
 #[derive(Debug, Drop)]
 pub struct Waiting {
     pub(crate) unique: u64,

@@ -3,11 +3,26 @@ use Rattle.fuse_fs.specs.declared.answers.Context.{Context}
 use Rattle.fuse_fs.specs.Calls.{Readdir}
 use Rattle.virtiofsd_fuse.specs.Grammar.{Lists, given}
 use Rattle.virtiofsd_fuse.specs.Listings.{listing_of}
-use Rattle.virtiofsd_fuse.proofs.Rows.{listing_asks}
+use Rattle.virtiofsd_fuse.proofs.Rows.{listing_asks, listing_long, listing_wide}
+use Rattle.server_phases.proofs.Telling.{error_told}
 use Rattle.server_phases.proofs.asking.ask_listing.Goals as goal
 
-pub returns : goal.returns
-returns c = λ page_size options more bytes. (
+pub returns-then-request-gt-MAX_BUFFER_SIZE-clause-told : goal.returns-then-request-gt-MAX_BUFFER_SIZE-clause-told
+returns-then-request-gt-MAX_BUFFER_SIZE-clause-told c = λ page_size options more bytes.
+    rw (listing_long c.args.with_nodes (given c.args.head.now options c.args.room) c.args.request.now more c.if-request-gt-MAX_BUFFER_SIZE.true, c.replied.ensures, c.error.ensures)
+    (error_told page_size options c.args.room c.args.head.now.unique 12 bytes)
+
+pub returns-then-room-request-clause-told : goal.returns-then-room-request-clause-told
+returns-then-room-request-clause-told c = λ page_size options more bytes.
+    rw (
+      listing_wide c.args.with_nodes (given c.args.head.now options c.args.room) c.args.request.now more c.if-request-gt-MAX_BUFFER_SIZE.false c.if-room-request.true,
+      c.replied-then-room-request.ensures,
+      c.error-then-room-request.ensures,
+    )
+    (error_told page_size options c.args.room c.args.head.now.unique 12 bytes)
+
+pub returns-clause-told : goal.returns-clause-told
+returns-clause-told c = λ page_size options more bytes. (
   Lists c.args.head.now.unique (listing_of c.args.with_nodes c.args.head.now c.args.request.now),
   listing_asks c.args.with_nodes (given c.args.head.now options c.args.room) c.args.request.now more c.if-request-gt-MAX_BUFFER_SIZE.false c.if-room-request.false
       c.if-room-lt-OUT_HEADER_LEN.false,

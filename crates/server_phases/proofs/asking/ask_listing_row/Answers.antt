@@ -1,5 +1,5 @@
 use Rattle.std.proofs.Common.{sym}
 use Rattle.server_phases.proofs.asking.ask_listing_row.Goals as goal
 
-pub returns-in-Ok : goal.returns-in-Ok
-returns-in-Ok c = λ page_size options bytes. rw (sym c.in-Ok.ensures.reads) (c.ask_listing.ensures page_size options c.read_record.new.r.left bytes)
+pub returns-in-Ok-clause-told : goal.returns-in-Ok-clause-told
+returns-in-Ok-clause-told c = λ page_size options bytes. rw (sym c.in-Ok.ensures.reads) (c.ask_listing.ensures.told page_size options c.read_record.new.r.left bytes)

@@ -4,8 +4,8 @@ use Rattle.virtiofsd_fuse.specs.Grammar.{One, given}
 use Rattle.virtiofsd_fuse.proofs.Rows.{read_asks}
 use Rattle.server_phases.proofs.asking.ask_read.Goals as goal
 
-pub returns : goal.returns
-returns c = λ page_size options more bytes. (
+pub returns-clause-told : goal.returns-clause-told
+returns-clause-told c = λ page_size options more bytes. (
   One c.args.head.now.unique (read_call c.args.head.now (c.args.room - 16) c.args.request.now),
   read_asks (given c.args.head.now options c.args.room) c.args.request.now more c.if-room-lt-OUT_HEADER_LEN.false,
   c.read_value.ensures.call bytes,

@@ -6,10 +6,11 @@ use Rattle.virtiofsd_fuse.proofs.Rows.{meaning_head}
 use Rattle.server_phases.specs.Asking.{BeginsRecord}
 use Rattle.server_phases.proofs.Fronts.{front_begins, record_begins, record_by_front}
 use Rattle.server_phases.proofs.Plain.{behind}
+use Rattle.server_phases.proofs.Telling.{has_asker}
 use Rattle.server_phases.proofs.asking.ask_write_front.Goals as goal
 
-pub returns-in-Ok : goal.returns-in-Ok
-returns-in-Ok c = λ page_size options request len is.
+pub returns-in-Ok-clause-told : goal.returns-in-Ok-clause-told
+returns-in-Ok-clause-told c = λ page_size options request len is.
     let front = c.args.front.now in
     let head = c.in-Ok.head in
     let left = c.read_record.new.r.left in
@@ -20,4 +21,13 @@ returns-in-Ok c = λ page_size options request len is.
     let joined : drop 40 (drop 40 request) ≡ drop 80 request = drop-drop 40 40 request in
     let count : c.args.len - 80 ≡ length (drop 40 (drop 40 request)) = rw (joined, length-drop 80 request, len) refl in
     rw (meaning_head options c.args.room request (drop 40 request) head begins, sym joined)
-    (c.ask_write_head.ensures page_size options (drop 40 request) (subst (λ (x : List ℕ). BeginsRecord x (drop 40 request)) same (record_begins front request is long)) count)
+    (c.ask_write_head.ensures.told page_size options (drop 40 request) (subst (λ (x : List ℕ). BeginsRecord x (drop 40 request)) same (record_begins front request is long)) count)
+
+pub returns-in-Ok-clause-asker : goal.returns-in-Ok-clause-asker
+returns-in-Ok-clause-asker c = λ request is.
+    let front = c.args.front.now in
+    let head = c.in-Ok.head in
+    let long = c.requires.front in
+    let reads : Ok (head, c.read_record.new.r.left) ≡ reading_of in_header front = c.in-Ok.ensures.reads ∙ ap (reading_of in_header) c.of_slice-r.ensures.left in
+    let begins = record_by_front in_header front request c.read_record.new.r.left head (front_begins 40 front request is (omega arith)) reads in
+    has_asker request (drop 40 request) head c.ask_write_head.result begins c.ask_write_head.ensures.asker

@@ -5,17 +5,17 @@ use Rattle.server_replies.specs.WholeReplies.{error_bytes}
 use Rattle.virtiofsd_fuse.specs.Grammar.{given, row}
 use Rattle.virtiofsd_fuse.proofs.Rows.{meant_long, meant_row}
 use Rattle.server_phases.proofs.Fronts.{write_is}
-use Rattle.server_phases.proofs.Telling.{reply_told}
+use Rattle.server_phases.proofs.Telling.{error_told, reply_asks}
 use Rattle.server_phases.proofs.asking.ask_write_head.Goals as goal
 
-pub returns-then-head-gt-MAX_REQUEST_LEN : goal.returns-then-head-gt-MAX_REQUEST_LEN
-returns-then-head-gt-MAX_REQUEST_LEN c = λ page_size options bytes begins len.
+pub returns-then-head-gt-MAX_REQUEST_LEN-clause-told : goal.returns-then-head-gt-MAX_REQUEST_LEN-clause-told
+returns-then-head-gt-MAX_REQUEST_LEN-clause-told c = λ page_size options bytes begins len.
     rw (meant_long (given c.args.head.now options c.args.room) bytes c.if-head-gt-MAX_REQUEST_LEN.true, c.replied.ensures, c.error.ensures)
-    (reply_told page_size options c.args.room (error_bytes c.args.head.now.unique 12) (drop 40 bytes))
+    (error_told page_size options c.args.room c.args.head.now.unique 12 (drop 40 bytes))
 
-pub returns : goal.returns
+pub returns-clause-told : goal.returns-clause-told
 unfolding row
-returns c = λ page_size options bytes begins len.
+returns-clause-told c = λ page_size options bytes begins len.
     rw (meant_row (given c.args.head.now options c.args.room) bytes (Some op.Write) c.if-head-gt-MAX_REQUEST_LEN.false
     (write_is (opcode_of c.args.head.now.opcode) c.requires))
-    (c.ask_write_row.ensures page_size options bytes begins len)
+    (c.ask_write_row.ensures.told page_size options bytes begins len)

@@ -44,7 +44,7 @@ returns-in-Call-clause-told c = λ more bytes e plain.
     let told = subst T (sym (c.into_told.ensures ∙ ap (λ (r : Recorder). r.told) c.into_fs.ensures) ∙ c.in-Call.is) went in
     let says = meant_says c.args.head.now s.options.0 c.args.room more plain in
     subst (λ (x : Meaning). IsTold (setting s.page_size s.options.0 c.args.room) x bytes c.call_told.result) (sym told.1)
-    (c.call_told.ensures (setting s.page_size s.options.0 c.args.room) more bytes told.0 refl (subst (Says c.args.head.now more) told.1 says)
+    (c.call_told.ensures.told (setting s.page_size s.options.0 c.args.room) more bytes told.0 refl (subst (Says c.args.head.now more) told.1 says)
     (λ n r. c.readahead.ensures c.args.head.now more n e r) told.2)
 
 pub returns-in-OutOfMemory-clause-memory : goal.returns-in-OutOfMemory-clause-memory
