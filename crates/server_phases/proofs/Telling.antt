@@ -4,7 +4,6 @@ use Rattle.std.specs.Prelude.{nat_lt}
 use Rattle.std.proofs.lemmas.Bool.{le-ltb}
 use Rattle.fuse_in.specs.declared.session.InHeader.{InHeader}
 use Rattle.fuse_in.specs.Records.{in_header}
-use Rattle.fuse_fs.specs.declared.answers.Context.{Context}
 use Rattle.fuse_fs.specs.Answers.{context_of}
 use Rattle.fuse_fs.specs.Calls.{FileCall, Init, Readdir}
 use Rattle.fuse_values.specs.declared.call.FileCall as made
@@ -55,15 +54,7 @@ pub error_told : (page_size options room unique errno : ℕ) (bytes : List ℕ)
     → IsTold (setting page_size options room) (Replies (error_bytes unique errno)) bytes (told_reply room (error_bytes unique errno))
 error_told page_size options room unique errno bytes = reply_told page_size options room (error_bytes unique errno) bytes (omega (arith, length_error unique errno))
 
-no_call_by : (t : Bool) (who : Context) (reply : List ℕ) → IsAskedBy who (cond t (asked.Fault EncodeMessage) (asked.Reply reply))
-no_call_by true who reply = tt
-no_call_by false who reply = tt
-
--- it is no call
-pub reply_asks : (who : Context) (room : ℕ) (reply : List ℕ) → IsAskedBy who (told_reply room reply)
-reply_asks who room reply = no_call_by (nat_lt room (length reply)) who reply
-
--- a call is asked by who sent the header
+-- what is kept of a call names who sent the header
 pub has_asker : (request left : List ℕ) (head : InHeader) (a : Asked) → Ok (head, left) ≡ reading_of in_header request → IsAskedBy (context_of head) a → HasAsker request a
 has_asker request left head a reads by = λ h more e.
     let both = reads ∙ e in

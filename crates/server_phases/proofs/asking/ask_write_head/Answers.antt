@@ -1,11 +1,10 @@
 use Rattle.std.proofs.Common.{Some, drop}
 use Rattle.fuse_wire.specs.declared.opcodes.Opcode.TheVariants as op
 use Rattle.fuse_wire.specs.Opcodes.{opcode_of}
-use Rattle.server_replies.specs.WholeReplies.{error_bytes}
 use Rattle.virtiofsd_fuse.specs.Grammar.{given, row}
 use Rattle.virtiofsd_fuse.proofs.Rows.{meant_long, meant_row}
 use Rattle.server_phases.proofs.Fronts.{write_is}
-use Rattle.server_phases.proofs.Telling.{error_told, reply_asks}
+use Rattle.server_phases.proofs.Telling.{error_told}
 use Rattle.server_phases.proofs.asking.ask_write_head.Goals as goal
 
 pub returns-then-head-gt-MAX_REQUEST_LEN-clause-told : goal.returns-then-head-gt-MAX_REQUEST_LEN-clause-told

@@ -1,4 +1,4 @@
-use Rattle.std.proofs.Common.{length, sym, ap, ◌∙◌}
+use Rattle.std.proofs.Common.{length, sym, ap}
 use Rattle.fuse_fs.specs.Answers.{listed}
 use Rattle.server_replies.specs.Entries.{dirent_bytes, no_node}
 use Rattle.server_phases.specs.Gathering.{bytes_of}
