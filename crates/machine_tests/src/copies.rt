@@ -25,8 +25,8 @@ fn harvest_of(rt: &impl Abort, alloc: Global, machine: &mut LogMachine) -> Vec<H
     pages
 }
 
-// The bytes of a host's first block.
-fn first_block(host: &HostMemory<PageBitmap>) -> Option<&[u8]> {
+/// The bytes of a host's first block.
+pub fn first_block(host: &HostMemory<PageBitmap>) -> Option<&[u8]> {
     match host.bytes_and_bitmap(0) {
         Some((bytes, _)) => Some(bytes),
         None => None,

@@ -1,5 +1,6 @@
 //! What stands in a block that no region shows is told by nothing that a machine does.
 
+use crate::copies::first_block;
 use crate::machines::{Row, bytes_of, expect_rows, machine, refusal_of};
 use crate::stand::{LogMachine, ROOM_AT, expect_same};
 use call_log::CallLog;
@@ -53,11 +54,9 @@ fn served_beside(rt: &impl Abort, alloc: Global, secret: &[u8]) -> LogMachine {
 fn secrets_stay_where_they_are_and_change_nothing_else(rt: HostRuntime) {
     let one = served_beside(&rt, rt.alloc(), b"secret");
     let other = served_beside(&rt, rt.alloc(), b"hidden");
-    let first = [&one, &other].map(|machine| machine.host.byte_at(1, 0));
-    expect_same(&rt, first, [Some(b's'), Some(b'h')]);
-    let shown = one.host.bytes_and_bitmap(0).expect(&rt, "a block").0;
-    let others = other.host.bytes_and_bitmap(0).expect(&rt, "a block").0;
-    expect_same(&rt, shown, others);
+    expect_same(&rt, one.host.byte_at(1, 0), Some(b's'));
+    expect_same(&rt, other.host.byte_at(1, 0), Some(b'h'));
+    expect_same(&rt, first_block(&one.host), first_block(&other.host));
     law_confinement::<CallLog>();
     law_answers_are_seen::<CallLog>();
 }
