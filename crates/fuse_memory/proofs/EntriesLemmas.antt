@@ -1,14 +1,17 @@
 -- entries that are found, and what comes of them
-use Rattle.std.proofs.Common.{◌≡◌, ℕ, zero, suc, ◌+◌, ◌<◌, ◌≤◌, ◌==◌, Bool, true, false, cond, List, [], ◌∷◌, length, map, Option, Some, None, Result, Ok, Err, refl, sym, ap, ◌∙◌, subst, arith}
+use Rattle.std.proofs.Common.{◌≡◌, ℕ, suc, ◌+◌, ◌≤◌, ◌==◌, Bool, true, false, cond, List, [], ◌∷◌, length, map, Option, Some, None, Result, Ok, Err, refl, sym, ap, ◌∙◌, subst}
 use Rattle.std.specs.Prelude.{nat_lt, not, ◌||◌, slice_get, option_map, unwrap_or}
 use Rattle.std.specs.List.{position, position_or_len, prefix_len}
 use Rattle.std.proofs.lemmas.List.{length-map}
-use Rattle.fuse_fs.specs.Calls.{FileAnswer, HasEntry}
+use Rattle.fuse_fs.specs.Answers.{done_answer}
+use Rattle.fuse_fs.specs.Calls.{FileAnswer, Done, Failed, HasEntry}
 use Rattle.fuse_fs.specs.declared.answers.Entry.{Entry}
-use Rattle.fuse_memory.specs.Changes.{IsFree, Keeps, Makes, made_file}
+use Rattle.fuse_memory.specs.Changes.{IsFree, Keeps, Makes, Moves, Removes, made_file}
+use Rattle.fuse_memory.specs.Errors.{EINVAL, ENOMEM}
 use Rattle.fuse_memory.specs.Files.{DirectoryEntry, File, Files, Tells}
 use Rattle.fuse_memory.specs.Lookups.{lies_in}
-use Rattle.fuse_memory.specs.Memory.{Holds, LooksUp, MakesEntry, MakesNode, RemovesDirectory, Takes, Unlinks, cannot_rmdir, cannot_unlink}
+use Rattle.fuse_memory.specs.Memory.{Holds, LooksUp, MakesEntry, MakesNode, MovesOver, RemovesDirectory, Renames, RenamesBy, RenamesOver, Takes, Unlinks}
+use Rattle.fuse_memory.specs.Memory.{cannot_lie_in, cannot_rmdir, cannot_unlink, is_at}
 
 prefix_len-map : {A B : Type 0} (f : A → B) (p : B → Bool) (xs : List A) → prefix_len p (map f xs) ≡ prefix_len (λ x. p (f x)) xs
 prefix_len-map f p [] = refl
@@ -29,6 +32,39 @@ module _ (before after : Files) (found : Result ℕ ℕ) (place : ℕ) (entry : 
 
   pub removes_directory : (refused : Option ℕ) → cannot_rmdir before.entries entry ≡ refused → Takes before place entry refused answer after → RemovesDirectory before found answer after
   removes_directory refused why takes = subst (λ (r : Result ℕ ℕ). RemovesDirectory before r answer after) (sym is) (entry, there, subst (λ (r : Option ℕ). Takes before place entry r answer after) (sym why) takes)
+
+-- ---- an entry that moves
+
+pub moves_over : (before between after : Files) (place : ℕ) (entry : DirectoryEntry) (directory : ℕ) (name : List ℕ) (other : ℕ) (replaced : DirectoryEntry) (refused : Option ℕ) → refused ≡ None →
+    Moves before place entry directory name between → Removes between other replaced after → MovesOver before place entry directory name other replaced refused Done after
+moves_over before between after place entry directory name other replaced refused none moves removes =
+    subst (λ (o : Option ℕ). MovesOver before place entry directory name other replaced o Done after) (sym none) (between, moves, removes)
+
+pub over_fails : (before after : Files) (place : ℕ) (entry : DirectoryEntry) (directory : ℕ) (name : List ℕ) (other : ℕ) (replaced : DirectoryEntry) (refused : Option ℕ) → refused ≡ None →
+    (result : Result (Unit {0}) ℕ) (e : ℕ) → result ≡ Err e → (e ≡ ENOMEM) × Keeps before after → MovesOver before place entry directory name other replaced refused (done_answer result) after
+over_fails before after place entry directory name other replaced refused none result e is fails =
+    subst (λ (r : Result (Unit {0}) ℕ). MovesOver before place entry directory name other replaced refused (done_answer r) after) (sym is)
+    (subst (λ (o : Option ℕ). MovesOver before place entry directory name other replaced o (Failed e) after) (sym none) fails)
+
+-- whether one directory lies in another, by the number of names
+pub lies : (files : Files) (count directory node : ℕ) (answer : Bool) → count ≡ length files.entries → answer ≡ lies_in files (count + 2) directory node →
+    cannot_lie_in files directory node ≡ cond answer (Some EINVAL) None
+lies files count directory node answer all is = ap (λ (n : ℕ). cond (lies_in files (n + 2) directory node) (Some EINVAL) None) (sym all) ∙ ap (λ (b : Bool). cond b (Some EINVAL) None) (sym is)
+
+module _ (before after : Files) (directory : ℕ) (name : List ℕ) (moved : Result ℕ ℕ) (target : Result (Option ℕ) ℕ) (known keep : Bool) (answer : FileAnswer) (is_known : known ≡ true)
+    (place : ℕ) (is_moved : moved ≡ Ok place)
+    (found : Option ℕ) (is_target : target ≡ Ok found) (entry : DirectoryEntry) (there : slice_get before.entries place ≡ Some entry) where
+  pub renames : (kept same : Bool) → keep ≡ kept → is_at place found ≡ same → RenamesOver before place entry directory name found kept same answer after →
+      RenamesBy before known moved target directory name keep answer after
+  renames kept same is_kept is_same over =
+      subst (λ (b : Bool). RenamesBy before b moved target directory name keep answer after) (sym is_known)
+      (subst (λ (r : Result ℕ ℕ). Renames before r target directory name keep answer after) (sym is_moved)
+      (subst (λ (r : Result (Option ℕ) ℕ). Renames before (Ok place) r directory name keep answer after) (sym is_target) (
+        entry,
+        there,
+        subst (λ (b : Bool). RenamesOver before place entry directory name found b (is_at place found) answer after) (sym is_kept)
+            (subst (λ (b : Bool). RenamesOver before place entry directory name found kept b answer after) (sym is_same) over),
+      )))
 
 -- ---- a node that is made
 

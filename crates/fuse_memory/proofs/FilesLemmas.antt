@@ -2,12 +2,12 @@
 use Rattle.std.proofs.Common.{◌≡◌, ℕ, zero, suc, ◌==◌, ◌<◌, List, [], ◌∷◌, ◌++◌, length, drop, set, get_or, cond, Option, Some, None, refl, sym, ap, ◌∙◌, arith, ⊎_elim}
 use Rattle.std.specs.Prelude.{slice_get, option_and_then, option_map, map, remove}
 use Rattle.std.proofs.lemmas.Bool.{cases_eq, cond-false, cond-true, eq-eqb, ne_eqb}
-use Rattle.std.proofs.lemmas.List.{drop-map, map-append, take-map}
+use Rattle.std.proofs.lemmas.List.{drop-map, map-append, map-set, take-map}
 use Rattle.std.proofs.lemmas.Option.{get_or_from_slice_get, slice_get-map, slice_get_read}
 use Rattle.std.specs.Prelude.{◌≤◌, min, take, Result, Ok, Err, IfOk, OnErr}
 use Rattle.fuse_fs.specs.Answers.{written_answer}
 use Rattle.fuse_fs.specs.Calls.{Failed}
-use Rattle.fuse_memory.specs.Changes.{Alters, Changes, Keeps, altered, kept, written}
+use Rattle.fuse_memory.specs.Changes.{Alters, Changes, Keeps, changed, written}
 use Rattle.fuse_memory.specs.Files.{DirectoryEntry, File, Files, Nodes, file_at, file_of, entry_of, node_at, there}
 use Rattle.fuse_memory.specs.Memory.{Writes, read_at}
 use Rattle.fuse_memory.specs.declared.nodes.Name.{Name}
@@ -18,7 +18,7 @@ get_set_same [] i y h = absurd (omega (arith, h))
 get_set_same (x ∷ xs) zero y h = refl
 get_set_same (x ∷ xs) (suc i) y h = get_set_same xs i y (omega (arith, h))
 
-get_set_other : {X : Type 0} (xs : List X) (i j : ℕ) (y : X) → (j ≡ i → ⊥) → slice_get (set xs i y) j ≡ slice_get xs j
+pub get_set_other : {X : Type 0} (xs : List X) (i j : ℕ) (y : X) → (j ≡ i → ⊥) → slice_get (set xs i y) j ≡ slice_get xs j
 get_set_other [] i j y h = refl
 get_set_other (x ∷ xs) zero zero y h = absurd (h refl)
 get_set_other (x ∷ xs) zero (suc j) y h = refl
@@ -29,12 +29,28 @@ get_set_other (x ∷ xs) (suc i) (suc j) y h = get_set_other xs i j y (λ e. h (
 pub entry_there : (names : List Name) (place : ℕ) (name : Name) → place < length names → name ≡ get_or names place name → slice_get (map entry_of names) place ≡ Some (entry_of name)
 entry_there names place name low read = slice_get-map entry_of names place ∙ ap (λ (n : Option Name). option_map entry_of n) (slice_get_read names (length names) place name refl low read)
 
+-- a name below the end is there
+pub some_there : (names : List Name) (place : ℕ) → place < length names → (name : Name) × (slice_get names place ≡ Some name) × (slice_get (map entry_of names) place ≡ Some (entry_of name))
+some_there [] place low = absurd (omega (arith, low))
+some_there (name ∷ names) zero low = (name, refl, refl)
+some_there (name ∷ names) (suc place) low = some_there names place (omega (arith, low))
+
 -- what is read at a place is what is there
 pub same_there : {X : Type 0} (xs : List X) (place : ℕ) (x y : X) → slice_get xs place ≡ Some x → y ≡ get_or xs place y → y ≡ x
 same_there xs place x y is read = read ∙ get_or_from_slice_get xs place x y is
 
+-- the entries after one of them was renamed
+pub entry_renamed : (names : List Name) (place : ℕ) (entry here new : Name) (directory : ℕ) (name : List ℕ) → slice_get names place ≡ Some entry → here ≡ get_or names place here →
+    entry_of new ≡ record (entry_of here) { directory = directory; name = name } → map entry_of (set names place new) ≡ set (map entry_of names) place (record (entry_of entry) { directory = directory; name = name })
+entry_renamed names place entry here new directory name is read renamed =
+    map-set entry_of names place new
+    ∙ ap (λ (e : DirectoryEntry). set (map entry_of names) place e)
+    (renamed ∙ ap (λ (n : Name). let e : DirectoryEntry = record (entry_of n) { directory = directory; name = name } in e) (same_there names place entry here is read))
+
 pub map-remove : {A B : Type 0} (f : A → B) (xs : List A) (i : ℕ) → map f (remove xs i) ≡ remove (map f xs) i
-map-remove {B = B} f xs i = map-append f (take i xs) (drop (suc i) xs) ∙ ap (λ (l : List B). l ++ map f (drop (suc i) xs)) (sym (take-map f i xs)) ∙ ap (λ (l : List B). take i (map f xs) ++ l) (sym (drop-map f (suc i) xs))
+map-remove {B = B} f xs i =
+    map-append f (take i xs) (drop (suc i) xs)
+    ∙ ap (λ (l : List B). l ++ map f (drop (suc i) xs)) (sym (take-map f i xs)) ∙ ap (λ (l : List B). take i (map f xs) ++ l) (sym (drop-map f (suc i) xs))
 
 -- a slot that is past the table
 pub no_file : (nodes : Nodes) (number : ℕ) → node_at nodes number ≡ None → file_at nodes number ≡ None
@@ -56,6 +72,16 @@ alters_none files number change none = record {
       (cases_eq other number);
   rest = record { entries = refl; made = refl; most = refl };
 }
+
+-- no file changes
+pub changed_none : (files : Files) (number : ℕ) (change : File → File) → files.file number ≡ None → (other : ℕ) → files.file other ≡ changed files number change other
+changed_none files number change none other =
+    ⊎_elim
+    (λ (e : other ≡ number).
+    let here : files.file other ≡ None = ap files.file e ∙ none in
+    here ∙ sym (cond-true (other == number) (option_map change (files.file other)) (files.file other) (eq-eqb other number e) ∙ ap (λ (f : Option File). option_map change f) here))
+    (λ (apart : other ≡ number → ⊥). sym (cond-false (other == number) (option_map change (files.file other)) (files.file other) (ne_eqb other number apart)))
+    (cases_eq other number)
 
 -- a slot of the table was read
 module _ (nodes : Nodes) (entries : List DirectoryEntry) (made most : ℕ) (place number : ℕ) (slot : Option Node) (at : place ≡ number) (low : place < length nodes) (read : slot ≡ get_or nodes place slot) where
@@ -111,6 +137,19 @@ module _ (nodes : Nodes) (entries : List DirectoryEntry) (made most : ℕ) (plac
         (cases_eq other number);
     rest = record { entries = refl; made = refl; most = refl };
   }
+
+  -- what one becomes, if it is there
+  pub changed_there : (new : Option Node) (change : File → File) → option_map file_of new ≡ option_map change (option_map file_of slot) → (other : ℕ) →
+      file_at (set nodes place new) other ≡ changed before number change other
+  changed_there new change same other =
+      ⊎_elim
+      (λ (e : other ≡ number).
+      let here : file_at nodes other ≡ option_map file_of slot = ap (λ (n : ℕ). file_at nodes n) e ∙ file_here in
+      ap (λ (n : ℕ). file_at (set nodes place new) n) e ∙ file_after new ∙ same
+      ∙ sym (cond-true (other == number) (option_map change (file_at nodes other)) (file_at nodes other) (eq-eqb other number e) ∙ ap (λ (f : Option File). option_map change f) here))
+      (λ (apart : other ≡ number → ⊥).
+      file_other new other apart ∙ sym (cond-false (other == number) (option_map change (file_at nodes other)) (file_at nodes other) (ne_eqb other number apart)))
+      (cases_eq other number)
 
   -- a file that is changed
   pub changes : (old new : Node) (change : File → File) → slot ≡ Some old → file_of new ≡ change (file_of old) →

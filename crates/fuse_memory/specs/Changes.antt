@@ -1,5 +1,6 @@
 -- What reads of files give, and what changes leave of them.
-use Rattle.std.specs.Prelude.{◌≡◌, ◌≢◌, ℕ, ◌+◌, ◌-◌, ◌/◌, ◌^◌, ◌<◌, ◌≤◌, ◌==◌, ◌&&◌, min, bit_and, bit_or, List, [], ◌∷◌, ◌++◌, take, drop, remove, slice_set, Option, Some, None, option_map, option_and_then, if◌then◌else◌}
+use Rattle.std.specs.Prelude.{◌≡◌, ◌≢◌, ℕ, ◌+◌, ◌-◌, ◌/◌, ◌^◌, ◌<◌, ◌≤◌, ◌==◌, ◌&&◌, min, bit_and, bit_or}
+use Rattle.std.specs.Prelude.{List, [], ◌∷◌, ◌++◌, take, drop, remove, slice_set, Option, Some, None, option_map, option_and_then, if◌then◌else◌}
 use Rattle.fuse_fs.specs.Calls.{FileAnswer, Failed, Bytes}
 use Rattle.fuse_in.specs.declared.nodes.SetattrIn.{SetattrIn}
 use Rattle.fuse_memory.specs.Contents.{put, sized}

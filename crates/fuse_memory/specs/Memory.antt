@@ -1,8 +1,7 @@
 -- What the calls of the file system in memory may answer and do.
-use Rattle.std.specs.Prelude.{◌≡◌, ◌≢◌, ◌≤◌, ◌<◌, ◌⊎◌, ⊤, ℕ, ◌+◌, ◌-◌, ◌^◌, Bool, true, false, ◌==◌, bit_and, bit_or, min, List, length, slice_get, Option, Some, None, Result, Ok, Err, take, if◌then◌else◌}
+use Rattle.std.specs.Prelude.{◌≡◌, ◌≤◌, ◌<◌, ◌⊎◌, ⊤, ℕ, ◌+◌, ◌-◌, ◌^◌, Bool, true, false, not, ◌==◌, bit_and, bit_or, min, List, length, slice_get, Option, Some, None, Result, Ok, Err, take, if◌then◌else◌}
 use Rattle.fuse_fs.specs.Calls.{FileCall, FileAnswer, Failed, Done, HasEntry, HasAttr, Opened, Created, Wrote, Entries}
 use Rattle.fuse_fs.specs.Calls.{Lookup, Forget, Getattr, Setattr, Mkdir, Unlink, Rmdir, Rename, Open, Create, Read, Write, Release, Statfs, Opendir, Readdir}
-use Rattle.fuse_fs.specs.declared.answers.Entry.{Entry}
 use Rattle.fuse_in.specs.declared.nodes.SetattrIn.{SetattrIn}
 use Rattle.fuse_memory.specs.Changes.{Alters, Changes, IsFree, Keeps, Makes, Moves, Removes, attributes_set, held_more, let_go, made_file, opened, read_of, written}
 use Rattle.fuse_memory.specs.Errors.{EEXIST, EINVAL, EISDIR, ENOENT, ENOMEM, ENOSPC, ENOTDIR, ENOTEMPTY}
@@ -106,20 +105,55 @@ as_entry answer = answer
 abbrev pub mode_of : (kind mode : ℕ) → ℕ
 mode_of kind mode = bit_or kind (bit_and mode 0xfff)
 
--- RENAME: an entry moves, if no allocation fails
-abbrev pub MovesEntry : Files → (place : ℕ) → DirectoryEntry → (directory : ℕ) → (name : List ℕ) → FileAnswer → Files → Type 0
-MovesEntry before place entry directory name (Failed e) after = (e ≡ ENOMEM) × Keeps before after
-MovesEntry before place entry directory name Done after = Moves before place entry directory name after
-MovesEntry before place entry directory name answer after = ⊥
+-- RENAME: an entry moves, or there is a reason not to; no other error but that an allocation fails
+abbrev pub MovesEntry : Files → (place : ℕ) → DirectoryEntry → (directory : ℕ) → (name : List ℕ) → (refused : Option ℕ) → FileAnswer → Files → Type 0
+MovesEntry before place entry directory name (Some e) answer after = Fails before e answer after
+MovesEntry before place entry directory name None (Failed e) after = (e ≡ ENOMEM) × Keeps before after
+MovesEntry before place entry directory name None Done after = Moves before place entry directory name after
+MovesEntry before place entry directory name None answer after = ⊥
 
--- in the place of another entry, which goes
-abbrev pub MovesOver : Files → (place : ℕ) → (entry : DirectoryEntry) → (directory : ℕ) → (name : List ℕ) → (other : ℕ) → (replaced : DirectoryEntry)
-    → (refused : Option ℕ) → FileAnswer → Files → Type 0
+-- in the place of another, which goes
+abbrev pub MovesOver : Files → (place : ℕ) → DirectoryEntry → (directory : ℕ) → (name : List ℕ) → (other : ℕ) → (replaced : DirectoryEntry) → (refused : Option ℕ) → FileAnswer → Files → Type 0
 MovesOver before place entry directory name other replaced (Some e) answer after = Fails before e answer after
+MovesOver before place entry directory name other replaced None (Failed e) after = (e ≡ ENOMEM) × Keeps before after
 MovesOver before place entry directory name other replaced None Done after =
     (between : Files) × Moves before place entry directory name between × Removes between other replaced after
-MovesOver before place entry directory name other replaced None (Failed e) after = (e ≡ ENOMEM) × Keeps before after
 MovesOver before place entry directory name other replaced None answer after = ⊥
+
+-- why a directory can't lie in another, if it can't: it would lie in itself
+abbrev pub cannot_lie_in : Files → (directory node : ℕ) → Option ℕ
+cannot_lie_in before directory node = if lies_in before (length before.entries + 2) directory node then Some EINVAL else None
+
+-- a refusal, or else another
+abbrev pub first_of_two : Option ℕ → Option ℕ → Option ℕ
+first_of_two (Some e) other = Some e
+first_of_two None other = other
+
+-- RENAME of an entry to a name that may be there: with RENAME_NOREPLACE (1 in linux/fs.h) it may not; to itself nothing is done
+abbrev pub RenamesOver : Files → (place : ℕ) → DirectoryEntry → (directory : ℕ) → (name : List ℕ) → (found : Option ℕ) → (keep same : Bool) → FileAnswer → Files → Type 0
+RenamesOver before place entry directory name None keep same answer after =
+    MovesEntry before place entry directory name (cannot_lie_in before directory entry.node) answer after
+RenamesOver before place entry directory name (Some other) true same answer after = Fails before EEXIST answer after
+RenamesOver before place entry directory name (Some other) false true answer after = (answer ≡ Done) × Keeps before after
+RenamesOver before place entry directory name (Some other) false false answer after =
+    (replaced : DirectoryEntry) × (slice_get before.entries other ≡ Some replaced)
+    × MovesOver before place entry directory name other replaced (first_of_two (cannot_lie_in before directory entry.node) (cannot_replace before.entries entry replaced)) answer after
+
+abbrev pub is_at : (place : ℕ) → Option ℕ → Bool
+is_at place (Some other) = other == place
+is_at place None = false
+
+abbrev pub Renames : Files → (moved : Result ℕ ℕ) → (target : Result (Option ℕ) ℕ) → (directory : ℕ) → (name : List ℕ) → (keep : Bool) → FileAnswer → Files → Type 0
+Renames before (Err e) target directory name keep answer after = Fails before e answer after
+Renames before (Ok place) (Err e) directory name keep answer after = Fails before e answer after
+Renames before (Ok place) (Ok found) directory name keep answer after =
+    (entry : DirectoryEntry) × (slice_get before.entries place ≡ Some entry)
+    × RenamesOver before place entry directory name found keep (is_at place found) answer after
+
+-- no other flag is known
+abbrev pub RenamesBy : Files → (known : Bool) → (moved : Result ℕ ℕ) → (target : Result (Option ℕ) ℕ) → (directory : ℕ) → (name : List ℕ) → (keep : Bool) → FileAnswer → Files → Type 0
+RenamesBy before false moved target directory name keep answer after = Fails before EINVAL answer after
+RenamesBy before true moved target directory name keep answer after = Renames before moved target directory name keep answer after
 
 -- OPENDIR: without a handle
 abbrev pub directory_opened : Option ℕ → FileAnswer
@@ -143,6 +177,8 @@ MayDo before (Mkdir who node name mode umask extra) answer after =
     MakesEntry before (find before node name) node name (mode_of 0x4000 mode) answer after
 MayDo before (Unlink who node name) answer after = Unlinks before (needed (find before node name)) answer after
 MayDo before (Rmdir who node name) answer after = RemovesDirectory before (needed (find before node name)) answer after
+MayDo before (Rename who old_dir old new_dir new flags) answer after =
+    RenamesBy before (bit_and flags 0xfffffffe == 0) (needed (find before old_dir old)) (find before new_dir new) new_dir new (not (bit_and flags 1 == 0)) answer after
 MayDo before (Open who node kill flags) answer after = Opens before node flags answer after
 MayDo before (Create who node name mode kill flags umask extra) answer after =
     MakesEntry before (find before node name) node name (mode_of 0x8000 mode) (as_entry answer) after

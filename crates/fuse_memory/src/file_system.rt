@@ -120,16 +120,10 @@ impl WritableFileSystem for MemoryFiles {
         }
         let moved = self.find_there(olddir, oldname)?;
         match self.find(newdir, newname)? {
+            None => self.move_to_new(moved, newdir, newname),
             Some(_) if flags & RENAME_NOREPLACE != 0 => Err(Errno::EEXIST),
-            Some(replaced) if replaced == moved => Ok(()),
-            _ if self.lies_in(newdir, self.names[moved].node) => Err(Errno::EINVAL),
-            None => self.move_name(moved, newdir, newname),
-            Some(replaced) => {
-                self.test_replaced(moved, replaced)?;
-                self.move_name(moved, newdir, newname)?;
-                self.remove(replaced);
-                Ok(())
-            }
+            Some(other) if other == moved => Ok(()),
+            Some(other) => self.move_over(moved, other, newdir, newname),
         }
     }
 

@@ -1,12 +1,12 @@
 //! What the calls do with the nodes and names.
 
-ghost use Rattle.std.specs.Prelude.{◌≡◌, ℕ, ◌+◌, ◌<◌, ◌≤◌, ◌⊎◌, vec_len, slice_get, option_map, map, Some, None, IfNone, IfErr, IfOk, IfSome, OnOk};
-ghost use Rattle.fuse_fs.specs.Answers.{entry_answer};
+ghost use Rattle.std.specs.Prelude.{◌≡◌, ◌≢◌, ℕ, ◌+◌, ◌<◌, ◌≤◌, ◌⊎◌, vec_len, slice_get, option_map, map, Some, None, IfNone, IfErr, IfOk, IfSome, OnOk};
+ghost use Rattle.fuse_fs.specs.Answers.{done_answer, entry_answer};
 ghost use Rattle.fuse_memory.specs.Changes.{Alters, IsFree, Keeps, Removes, let_go};
 ghost use Rattle.fuse_memory.specs.Errors.{ENOMEM, ENOSPC};
 ghost use Rattle.fuse_memory.specs.Files.{Starts, entry_of, file_at, files_of, node_at};
-ghost use Rattle.fuse_memory.specs.Lookups.{find, is_empty, lies_in, needed, no_directory};
-ghost use Rattle.fuse_memory.specs.Memory.{Holds, MakesEntry};
+ghost use Rattle.fuse_memory.specs.Lookups.{cannot_replace, find, is_empty, lies_in, needed, no_directory};
+ghost use Rattle.fuse_memory.specs.Memory.{Holds, MakesEntry, MovesEntry, MovesOver, cannot_lie_in, first_of_two};
 ghost use Rattle.fuse_memory.specs.declared.nodes.Name.{Name as NameRecord};
 
 use crate::nodes::{DT_DIR, Name, Node, S_IFDIR, forget, lose_name, move_to, place_of};
@@ -242,25 +242,31 @@ impl MemoryFiles {
         true
     }
 
-    // Whether a name may come in the place of another (rename(2)): a directory only of an empty one, and a file of a file.
-    pub(crate) fn test_replaced(&self, moved: usize, replaced: usize) -> Result<(), Errno>
-        requires moved { moved < vec_len self.now.names }
-        requires replaced { replaced < vec_len self.now.names }
+    // Why a name can't come in the place of another, if it can't (rename(2)): a directory only of an empty one, and a file
+    // only of a file.
+    pub(crate) fn cannot_replace(&self, moved: &Name, replaced: &Name) -> Option<Errno>
+        ensures { result ≡ cannot_replace (map entry_of self.now.names.items) (entry_of moved.now) (entry_of replaced.now) }
     {
-        let moved = self.names[moved].kind == DT_DIR;
-        let replaced = &self.names[replaced];
-        match (moved, replaced.kind == DT_DIR) {
-            (true, false) => Err(Errno::ENOTDIR),
-            (false, true) => Err(Errno::EISDIR),
-            (true, true) if !self.is_empty(replaced.node) => Err(Errno::ENOTEMPTY),
-            _ => Ok(()),
+        let directory = replaced.kind == DT_DIR;
+        if moved.kind != DT_DIR {
+            return if directory { Some(Errno::EISDIR) } else { None };
         }
+        if !directory {
+            return Some(Errno::ENOTDIR);
+        }
+        if self.is_empty(replaced.node) {
+            return None;
+        }
+        Some(Errno::ENOTEMPTY)
     }
 
     // Gives an entry another directory and name. ENOMEM changes nothing.
     pub(crate) fn move_name(&mut self, place: usize, parent: u64, name: &[u8]) -> Result<(), Errno>
         requires { place < vec_len self.old.names }
         ensures names { vec_len self.new.names ≡ vec_len self.old.names }
+        ensures moves { (entry : NameRecord) → slice_get self.old.names.items place ≡ Some entry →
+            MovesEntry (files_of self.old) place (entry_of entry) parent name.now None (done_answer result) (files_of self.new) }
+        ensures others { (other : ℕ) → other ≢ place → slice_get self.new.names.items other ≡ slice_get self.old.names.items other }
     {
         let name = copied(self.alloc, name)?;
         let entry = &mut self.names[place];
@@ -270,6 +276,51 @@ impl MemoryFiles {
         if let Some(place) = self.place(number) {
             move_to(&mut self.nodes[place], parent);
         }
+        Ok(())
+    }
+
+    // The same, unless a directory would lie in itself: EINVAL.
+    pub(crate) fn move_to_new(
+        &mut self,
+        place: usize,
+        parent: u64,
+        name: &[u8],
+    ) -> Result<(), Errno>
+        requires { place < vec_len self.old.names }
+        ensures { (entry : NameRecord) → slice_get self.old.names.items place ≡ Some entry →
+            MovesEntry (files_of self.old) place (entry_of entry) parent name.now
+            (cannot_lie_in (files_of self.old) parent entry.node) (done_answer result) (files_of self.new) }
+    {
+        if self.lies_in(parent, self.names[place].node) {
+            return Err(Errno::EINVAL);
+        }
+        self.move_name(place, parent, name)
+    }
+
+    // The same in the place of another entry, which goes.
+    pub(crate) fn move_over(
+        &mut self,
+        moved: usize,
+        replaced: usize,
+        parent: u64,
+        name: &[u8],
+    ) -> Result<(), Errno>
+        requires moved { moved < vec_len self.old.names }
+        requires replaced { replaced < vec_len self.old.names }
+        requires apart { replaced ≢ moved }
+        ensures { (entry other : NameRecord) → slice_get self.old.names.items moved ≡ Some entry → slice_get self.old.names.items replaced ≡ Some other →
+            MovesOver (files_of self.old) moved (entry_of entry) parent name.now replaced (entry_of other)
+            (first_of_two (cannot_lie_in (files_of self.old) parent entry.node) (cannot_replace (map entry_of self.old.names.items) (entry_of entry) (entry_of other)))
+            (done_answer result) (files_of self.new) }
+    {
+        if self.lies_in(parent, self.names[moved].node) {
+            return Err(Errno::EINVAL);
+        }
+        if let Some(error) = self.cannot_replace(&self.names[moved], &self.names[replaced]) {
+            return Err(error);
+        }
+        self.move_name(moved, parent, name)?;
+        self.remove(replaced);
         Ok(())
     }
 }

@@ -1,5 +1,5 @@
 use Rattle.std.proofs.Common.{◌∙◌, ap, arith, refl}
-use Rattle.std.specs.Prelude.{map, option_map}
+use Rattle.std.specs.Prelude.{map}
 use Rattle.fuse_memory.specs.Changes.{held_more}
 use Rattle.fuse_memory.specs.Files.{entry_of, file_of, slot_file}
 use Rattle.fuse_memory.proofs.FilesLemmas.{changes, file_here, keeps}
@@ -13,7 +13,8 @@ returns-in-Some-index_mut c =
     let slot = c.index_mut.result.now in
     let place = c.in-Some.ensures.some in
     let arm = c.in-Some-index_mut in
-    let done = changes nodes entries m.made m.most_nodes c.in-Some.place c.args.number slot place.0 (omega (arith, place.1)) c.index_mut.ensures.value arm.node (record arm.node { lookups = c.saturating_add-node.result }) held_more arm.is (grind arith) in
+    let done = changes nodes entries m.made m.most_nodes c.in-Some.place c.args.number slot place.0 (omega (arith, place.1)) c.index_mut.ensures.value
+    arm.node (record arm.node { lookups = c.saturating_add-node.result }) held_more arm.is (grind arith) in
     let here = file_here nodes entries m.made m.most_nodes c.in-Some.place c.args.number slot place.0 (omega (arith, place.1)) c.index_mut.ensures.value ∙ ap slot_file arm.is in
     let told = c.entry.ensures.told in
     record {

@@ -12,4 +12,5 @@ loop-step-preserved c =
     let step = c.loop-step.step in
     let more : all - step ≡ suc (all - (step + 1)) = omega arith in
     c.loop-step.invariant
-    ∙ walk_on (files_of m) (all - step) (all - (step + 1)) c.loop-step.at c.args.other more (file_of c.in-Some.node.now) (ne_eqb c.loop-step.at c.args.other c.if-at-other.false) (sym (ap (option_map file_of) c.in-Some.ensures))
+    ∙ walk_on (files_of m) (all - step) (all - (step + 1)) c.loop-step.at c.args.other more (file_of c.in-Some.node.now)
+    (ne_eqb c.loop-step.at c.args.other c.if-at-other.false) (sym (ap (option_map file_of) c.in-Some.ensures))

@@ -28,10 +28,13 @@ returns c =
     let entries : after.entries ≡ before ++ entry c.args.name.now ∷ [] =
     ap (map entry_of) c.push_reserved.ensures.items ∙ map-append entry_of n.names.items _ ∙ ap (λ l. l ++ entry c.in_ok-name.name.items ∷ []) all ∙ ap (λ (s : List ℕ). before ++ entry s ∷ []) c.in_ok-name.ensures.ok in
     makes_entry (files_of m) after _ c.args.parent c.args.name.now c.args.mode _ (sym c.find.ensures ∙ c.in_ok-find.was ∙ ap Ok none)
-    (makes_node (files_of m) after c.args.parent c.args.name.now c.args.mode (numbered (λ (n : ℕ). n) c.entry-entry.result) node c.entry-entry.ensures.inode (free_before (files_of m) (files_of n) node (record { files = keeps.files; rest = record { entries = all; made = keeps.rest.made; most = keeps.rest.most } }) free.0) (omega (arith, free.1, keeps.rest.most))
+    (makes_node (files_of m) after c.args.parent c.args.name.now c.args.mode (numbered (λ (n : ℕ). n) c.entry-entry.result) node c.entry-entry.ensures.inode
+    (free_before (files_of m) (files_of n) node (record { files = keeps.files; rest = record { entries = all; made = keeps.rest.made; most = keeps.rest.most } }) free.0)
+    (omega (arith, free.1, keeps.rest.most))
     (record {
       files = λ other.
-          file_made n.nodes.items (map entry_of n.names.items) n.made n.most_nodes node node c.index_mut.result.now refl (omega (arith, free.2)) c.index_mut.ensures.value new (made_file c.args.parent c.args.mode) file other
+          file_made n.nodes.items (map entry_of n.names.items) n.made n.most_nodes node node c.index_mut.result.now refl
+          (omega (arith, free.2)) c.index_mut.ensures.value new (made_file c.args.parent c.args.mode) file other
           ∙ ap (λ f. cond (other == node) (Some (made_file c.args.parent c.args.mode)) f) (keeps.files other);
       entries = entries;
       made = offset;

@@ -1,5 +1,5 @@
 use Rattle.std.proofs.Common.{◌≡◌, ◌∙◌, ap, arith, refl, sym}
-use Rattle.std.specs.Prelude.{map, remove}
+use Rattle.std.specs.Prelude.{map}
 use Rattle.fuse_memory.specs.Changes.{unnamed}
 use Rattle.fuse_memory.specs.Files.{entry_of, file_at, files_of, node_at}
 use Rattle.fuse_memory.proofs.FilesLemmas.{alters, alters_none, map-remove, no_file, same_there}
@@ -10,7 +10,8 @@ returns-in-Some c = λ name is.
     let m = c.args.self.now in
     let place = c.in-Some.ensures.some in
     let same = same_there m.names.items c.args.place name c.remove-number.result is c.remove-number.ensures.value in
-    let done = alters m.nodes.items (map entry_of m.names.items) m.made m.most_nodes c.in-Some.place name.node c.index_mut.result.now (place.0 ∙ ap (λ n. n.node) same) (omega (arith, place.1)) c.index_mut.ensures.value c.lose_name.new.slot unnamed c.lose_name.ensures in
+    let done = alters m.nodes.items (map entry_of m.names.items) m.made m.most_nodes c.in-Some.place name.node c.index_mut.result.now (place.0 ∙ ap (λ n. n.node) same)
+    (omega (arith, place.1)) c.index_mut.ensures.value c.lose_name.new.slot unnamed c.lose_name.ensures in
     record {
       files = done.files;
       entries = ap (map entry_of) c.remove-number.ensures.items ∙ map-remove entry_of m.names.items c.args.place;

@@ -1,0 +1,5 @@
+pub mod Places
+pub mod Making
+pub mod Walks
+pub mod Windows
+pub mod Laws

@@ -1,0 +1,152 @@
+-- What a walk over regions comes to by the loads so far (VIRTIO 1.2, 2.7.5, 2.7.6 and 2.7.13 from the device's side).
+use Rattle.std.specs.Prelude.{◌≡◌, ℕ, true, false, List, [], ◌∷◌, ◌++◌, All, length, Option, Some, None, option_map}
+use Rattle.vm_iotlb.specs.declared.permissions.Permissions.TheVariants.{Read}
+use Rattle.vm_memory.specs.Memory.{Memory, reach}
+use Rattle.fs_queue.specs.declared.fault.ChainFault.{ChainFault}
+use Rattle.fs_queue.specs.declared.chain_walk.Progress.{Progress}
+use Rattle.fs_queue.specs.declared.walk.Walk as code
+use Rattle.fs_queue.specs.declared.walk.Walk.TheVariants as waits
+use Rattle.fs_queue.specs.Queue.{Queue, avail_index_at, ring_entry_at}
+use Rattle.fs_queue.specs.NextAvail.{NextAvail, Head}
+use Rattle.fs_queue.specs.Chain.{Descriptor, with_front, entry_address, Found, first_visit}
+use Rattle.fs_queue.specs.Loads.{Load, Ahead, Reads, found_exactly, chain_exactly, asks_entry, ahead_at, is_whole}
+use Rattle.fs_queue.specs.OfferLoads.{waits_by, offer_by}
+use Rattle.fs_queue.specs.Taking.{readable, writable, total_len, IsRequest, CannotFetch, Offer, Idle, Refuses, Offers}
+use Rattle.fs_queue.specs.Ringing.{Told, by_index, stage_of, stage_at, IfRingEntry}
+use Rattle.fs_queue.specs.Stepping.{ahead_of, visit_of, IfWants}
+use Rattle.fs_queue.specs.Walking.{at_position}
+use Rattle.fs_queue.specs.Windows.{addresses_of}
+use Rattle.fs_regions.specs.Windows.{return_fault}
+use Rattle.fs_regions.specs.declared.walk.QueueWalk.{QueueWalk}
+use Rattle.fs_regions.specs.declared.walk.QueueWalk.TheVariants as at
+use Rattle.fs_regions.specs.declared.course.Course.{Course}
+use Rattle.fs_regions.specs.declared.step.Step as comes
+use Rattle.fs_regions.specs.declared.step.Step.TheVariants as step
+
+-- the loads of a walk so far: the available index, the available ring's entry, and the tables' entries; None where an address has no place, or nothing was loaded yet
+pub record Loaded : Type 0 where
+  pub index : Option (List ℕ)
+  pub entry : Option (List ℕ)
+  pub entries : List Load
+
+-- nothing yet
+abbrev pub nothing : Loaded
+nothing = record { index = None; entry = None; entries = [] }
+
+-- descriptors that stand before those of a chain
+abbrev pub standing_before : List Descriptor → Found → Found
+standing_before [] f = f
+standing_before (d ∷ ds) f = with_front d (standing_before ds f)
+
+-- some loads bring a walk from one place to another, and these descriptors join the chain by them: whatever is loaded then
+abbrev pub Brings : (size : ℕ) → List Load → (from : Ahead) → List Descriptor → (to : Ahead) → Type 0
+Brings size ls from ds to = (more : List Load) → found_exactly size (ls ++ more) from ≡ option_map (standing_before ds) (found_exactly size more to)
+
+-- what is loaded of the ring: the index, unless it has no place, and the entry where the index asks for it, unless that has none
+abbrev pub RingIsAsked : Memory → Queue → Loaded → Type 0
+RingIsAsked m q loaded =
+    (loaded.index ≡ None → reach m Read (avail_index_at q) 2 ≡ false)
+    × (loaded.entry ≡ None → asks_entry (by_index q loaded.index) ≡ true → reach m Read (ring_entry_at q) 2 ≡ false)
+
+-- the walk through a chain begins at its head
+abbrev pub BeginsAtHead : Queue → (head : ℕ) → Progress → Type 0
+BeginsAtHead q head progress = (ahead_of progress ≡ ahead_at q.size (first_visit q head)) × IfWants progress (λ w. w.size ≡ q.size)
+
+-- so it does where a chain waits
+abbrev pub BeginsIfChain : Queue → code.Walk → Type 0
+BeginsIfChain q (waits.Chain head progress) = BeginsAtHead q head progress
+BeginsIfChain q _ = Unit {0}
+
+-- the ring's loads tell this
+pub record TellsBy (m : Memory) (q : Queue) (loaded : Loaded) (walk : code.Walk) : Type 0 where
+  pub next : NextAvail
+  pub tells : stage_of walk ≡ Told next
+  pub by_loads : waits_by q loaded.index loaded.entry ≡ Some next
+  pub no_entries : loaded.entries ≡ []
+  pub asked : RingIsAsked m q loaded
+  pub begins : BeginsIfChain q walk
+
+-- the index was loaded, or has no place, and a walk came of it
+pub record StandsAfterIndex (m : Memory) (q : Queue) (index : Option (List ℕ)) (walk : code.Walk) : Type 0 where
+  pub stage : stage_of walk ≡ stage_at (by_index q index)
+  pub at : IfRingEntry walk (λ w. at_position w.layout w.position ≡ q)
+  pub whole : is_whole 2 index ≡ true
+  pub asked : index ≡ None → reach m Read (avail_index_at q) 2 ≡ false
+  pub begins : BeginsIfChain q walk
+
+-- the chain of this head waits, and its walk begins
+pub record HeadWaits (m : Memory) (q : Queue) (loaded : Loaded) (head : ℕ) (progress : Progress) : Type 0 where
+  pub by_loads : waits_by q loaded.index loaded.entry ≡ Some (Head head)
+  pub no_entries : loaded.entries ≡ []
+  pub asked : RingIsAsked m q loaded
+  pub begins : BeginsAtHead q head progress
+
+-- it waits, and its return has places
+pub record Waits (m : Memory) (q : Queue) (loaded : Loaded) (head : ℕ) : Type 0 where
+  pub by_loads : waits_by q loaded.index loaded.entry ≡ Some (Head head)
+  pub asked : RingIsAsked m q loaded
+  pub returns : return_fault m q ≡ None
+
+-- the queue of a course, which isn't stopped
+abbrev pub queue_of : Course → Queue
+queue_of c = at_position c.layout c.position
+
+-- a course goes through what waits at a queue's position
+abbrev pub IsCourseOf : Queue → (limit : ℕ) → Course → Type 0
+IsCourseOf q limit c = (queue_of c ≡ record q { stopped = false }) × (c.limit ≡ limit)
+
+-- what a walk asks for: the address, and how many bytes
+abbrev pub asked_by : QueueWalk → ℕ
+asked_by (at.Index w) = avail_index_at (at_position w.layout w.position)
+asked_by (at.RingEntry w) = ring_entry_at (at_position w.layout w.position)
+asked_by (at.Entry head w) = entry_address (visit_of w)
+
+abbrev pub asked_len : QueueWalk → ℕ
+asked_len (at.Index w) = 2
+asked_len (at.RingEntry w) = 2
+asked_len (at.Entry head w) = 16
+
+-- a walk stands where these loads bring it, with these descriptors
+abbrev pub StandsAt : Memory → Queue → Loaded → List Descriptor → QueueWalk → Type 0
+StandsAt m q loaded ds (at.Index w) = (at_position w.layout w.position ≡ q) × (loaded ≡ nothing) × (ds ≡ [])
+StandsAt m q loaded ds (at.RingEntry w) =
+    (at_position w.layout w.position ≡ q) × (option_map length loaded.index ≡ Some 2) × (asks_entry (by_index q loaded.index) ≡ true) × (loaded.entry ≡ None)
+    × (loaded.entries ≡ []) × (ds ≡ [])
+StandsAt m q loaded ds (at.Entry head w) =
+    Waits m q loaded head × (w.size ≡ q.size) × Brings q.size loaded.entries (ahead_at q.size (first_visit q head)) ds (Reads (visit_of w))
+
+-- what is asked for has a place
+abbrev pub IsThere : Memory → QueueWalk → Type 0
+IsThere m w = reach m Read (asked_by w) (asked_len w) ≡ true
+
+-- the loads with one more: these bytes came of what was asked for
+abbrev pub with_bytes : Loaded → QueueWalk → List ℕ → Loaded
+with_bytes loaded (at.Index w) bs = record loaded { index = Some bs }
+with_bytes loaded (at.RingEntry w) bs = record loaded { entry = Some bs }
+with_bytes loaded (at.Entry head w) bs = record loaded { entries = loaded.entries ++ record { address = entry_address (visit_of w); came = Some bs } ∷ [] }
+
+-- an entry without a place
+abbrev pub IsLost : Memory → Load → Type 0
+IsLost m l = (l.came ≡ None) × (reach m Read l.address 16 ≡ false)
+
+-- the walk from a head finds this by the entries so far, and, where the last one that was asked for has no place, by its loss
+abbrev pub FindsBy : Memory → Queue → Loaded → (head : ℕ) → Found → Type 0
+FindsBy m q loaded head found = (lost : List Load) × All (IsLost m) lost × (chain_exactly (loaded.entries ++ lost) q head ≡ Some found)
+
+-- this is offered by the loads so far, and, where the last entry that was asked for has no place, by its loss; with this request
+abbrev pub OffersBy : Memory → (limit : ℕ) → Queue → Loaded → (request : List ℕ) → Offer → Type 0
+OffersBy m limit q loaded request o =
+    RingIsAsked m q loaded × (lost : List Load) × All (IsLost m) lost × (offer_by m limit q loaded.index loaded.entry (loaded.entries ++ lost) request ≡ Some o)
+
+-- what is fetched of a chain with these descriptors
+abbrev pub FetchesBy : Memory → (limit : ℕ) → Queue → Loaded → List Descriptor → (head : ℕ) → Option ChainFault → Type 0
+FetchesBy m limit q loaded ds head (Some fault) = OffersBy m limit q loaded [] (Offers head (CannotFetch fault))
+FetchesBy m limit q loaded ds head None =
+    (request : List ℕ) → length request ≡ total_len (readable ds) → OffersBy m limit q loaded request (Offers head (IsRequest request (addresses_of (writable ds))))
+
+-- what a walk comes to by the loads so far
+abbrev pub ComesTo : Memory → (limit : ℕ) → Queue → Loaded → List Descriptor → comes.Step → Type 0
+ComesTo m limit q loaded ds (step.Load w) = StandsAt m q loaded ds w × IsThere m w
+ComesTo m limit q loaded ds step.Idle = OffersBy m limit q loaded [] Idle
+ComesTo m limit q loaded ds (step.Refused e) = OffersBy m limit q loaded [] (Refuses e)
+ComesTo m limit q loaded ds (step.Chain head fault) = FetchesBy m limit q loaded ds head fault

@@ -1,0 +1,104 @@
+//! Where the bytes of a chain and of its return stand.
+
+ghost use Rattle.std.specs.Prelude.{◌≡◌, ◌≤◌, [], ◌∷◌, true, IfSome, None};
+ghost use Rattle.fs_queue.specs.Taking.{all_reach, total_len};
+ghost use Rattle.fs_queue.specs.Walking.{at_position};
+ghost use Rattle.fs_queue.specs.Windows.{access_of, of_direction};
+ghost use Rattle.fs_regions.specs.Places.{places_in};
+ghost use Rattle.fs_regions.specs.Windows.{return_fault, why_not, IsWindowFrom};
+
+use crate::regions::GuestRegions;
+use fs_queue::{ChainFault, Descriptor, QueueError, QueueLayout, count_bytes};
+use vm_memory_core::VolatileSlice;
+
+/// Why a chain at a position of a queue can't go back: `UsedUnreachable` or `AvailFlagsUnreachable`; none if it can.
+pub(crate) fn return_fault(
+    regions: &GuestRegions,
+    layout: QueueLayout,
+    position: u16,
+) -> Option<QueueError>
+    ensures { result ≡ return_fault (places_in regions.now) (at_position layout position) }
+{
+    let slot = position % layout.size();
+    let element = layout.used() + 4 + 8 * u64::from(slot);
+    if !regions.reaches(element, 8) || !regions.reaches(layout.used() + 2, 2) {
+        return Some(QueueError::UsedUnreachable);
+    }
+    if !regions.reaches(layout.avail(), 2) {
+        return Some(QueueError::AvailFlagsUnreachable);
+    }
+    None
+}
+
+// Whether all bytes of a descriptor have places, if it is of this direction.
+fn has_descriptor(regions: &GuestRegions, descriptor: &Descriptor, write_only: bool) -> bool
+    ensures { result ≡ all_reach (places_in regions.now) (access_of write_only) (of_direction write_only (descriptor.now ∷ [])) }
+{
+    if descriptor.is_write_only() == write_only {
+        regions.reaches(descriptor.addr, descriptor.len as usize)
+    } else {
+        true
+    }
+}
+
+// Whether all bytes of one direction of a chain have places.
+fn has_bytes(regions: &GuestRegions, descriptors: &[Descriptor], write_only: bool) -> bool
+    ensures { result ≡ all_reach (places_in regions.now) (access_of write_only) (of_direction write_only descriptors.now) }
+{
+    for descriptor in descriptors {
+        if !has_descriptor(regions, descriptor, write_only) {
+            return false;
+        }
+    }
+    true
+}
+
+/// Why the request or the room of a chain can't be fetched: `OverLimit` if one of them has more than `limit` bytes, then `RequestUnreachable`,
+/// then `RoomUnreachable`; none if both can.
+pub fn chain_fault(
+    regions: &GuestRegions,
+    limit: u32,
+    descriptors: &[Descriptor],
+) -> Option<ChainFault>
+    ensures { result ≡ why_not (places_in regions.now) limit descriptors.now }
+{
+    let limit = u64::from(limit);
+    if count_bytes(descriptors, false) > limit || count_bytes(descriptors, true) > limit {
+        return Some(ChainFault::OverLimit);
+    }
+    if !has_bytes(regions, descriptors, false) {
+        return Some(ChainFault::RequestUnreachable);
+    }
+    if !has_bytes(regions, descriptors, true) {
+        return Some(ChainFault::RoomUnreachable);
+    }
+    None
+}
+
+/// The longest window that has the bytes of one direction of a chain from one on, in one descriptor and one region. None past their end, or where
+/// the first of them has no place.
+pub fn window_from(
+    regions: &GuestRegions,
+    descriptors: &[Descriptor],
+    write_only: bool,
+    from: u64,
+) -> Option<VolatileSlice>
+    ensures some { IfSome result (IsWindowFrom regions.now write_only descriptors.now from) }
+    ensures none { result ≡ None → all_reach (places_in regions.now) (access_of write_only) (of_direction write_only descriptors.now) ≡ true
+        → total_len (of_direction write_only descriptors.now) ≤ from }
+{
+    let mut skip = from;
+    for descriptor in descriptors {
+        if descriptor.is_write_only() == write_only {
+            let len = u64::from(descriptor.len);
+            if skip < len {
+                if skip > u64::MAX - descriptor.addr {
+                    return None;
+                }
+                return regions.window_at(descriptor.addr + skip, (len - skip) as usize);
+            }
+            skip -= len;
+        }
+    }
+    None
+}

@@ -1,0 +1,17 @@
+//! A guest's memory as regions that stand elsewhere: what a queue offers, by loads that another makes in them.
+#![tactic(auto)]
+
+mod chain;
+mod course;
+pub mod laws;
+mod region;
+mod regions;
+mod step;
+mod walk;
+
+pub use chain::{chain_fault, window_from};
+pub use course::Course;
+pub use region::MemoryRegion;
+pub use regions::{GuestRegions, RegionsError};
+pub use step::Step;
+pub use walk::QueueWalk;

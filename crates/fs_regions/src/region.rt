@@ -1,0 +1,80 @@
+//! A region of a guest's memory that stands somewhere else.
+
+ghost use Rattle.std.specs.Prelude.{◌≡◌};
+ghost use Rattle.fs_regions.specs.Places.{region_if};
+
+use std::marker::Model;
+use vm_memory::{GuestMemoryError, GuestMemoryRegion};
+use vm_memory_core::{GuestAddress, GuestUsize, MemoryRegionAddress, VolatileSlice};
+
+/// How many bytes a page has: regions are made of whole pages.
+const PAGE_SIZE: u64 = 4096;
+
+/// Whole pages of a guest's memory, from an address on, which whoever keeps them knows by a number.
+#[derive(Clone, Copy, Debug)]
+pub struct MemoryRegion {
+    start: u64,
+    size: u64,
+    number: usize,
+}
+
+impl Model for MemoryRegion {
+    ghost use Rattle.vm_memory.specs.Layout.{Region};
+    ghost use Rattle.fs_regions.specs.Places.{HasWholePages};
+
+    ghost Value = { Region };
+
+    ghost view = { λ r. record { start = r.start; size = r.size; block = r.number } };
+
+    ghost invariant = { λ r. HasWholePages (record { start = r.start; size = r.size; block = r.number }) };
+
+    ghost inverse = { λ r. record { start = r.start; size = r.size; number = r.block } };
+}
+
+impl MemoryRegion {
+    /// The region of `size` bytes from an address on, with this number. None if it is empty, ends past the last address, or one of
+    /// the two is no multiple of 4096.
+    pub fn new(start: u64, size: u64, number: usize) -> Option<MemoryRegion>
+        ensures { result ≡ region_if start size number }
+    {
+        if size == 0
+            || start % PAGE_SIZE != 0
+            || size % PAGE_SIZE != 0
+            || start > u64::MAX - (size - 1)
+        {
+            return None;
+        }
+        Some(MemoryRegion {
+            start,
+            size,
+            number,
+        })
+    }
+}
+
+impl GuestMemoryRegion for MemoryRegion {
+    ghost region = { λ r. r };
+
+    #[inline]
+    fn len(&self) -> GuestUsize {
+        self.size
+    }
+
+    #[inline]
+    fn start_addr(&self) -> GuestAddress {
+        GuestAddress(self.start)
+    }
+
+    #[inline]
+    fn get_slice(
+        &self,
+        offset: MemoryRegionAddress,
+        count: usize,
+    ) -> Result<VolatileSlice, GuestMemoryError> {
+        if offset.0 <= self.size && count as u64 <= self.size - offset.0 {
+            Ok(VolatileSlice::new(self.number, offset.0 as usize, count))
+        } else {
+            Err(GuestMemoryError::InvalidBackendAddress)
+        }
+    }
+}
