@@ -102,7 +102,7 @@ impl ChainWalk {
         (self.table, self.index)
     }
 
-    // What the step comes to by the bytes that came, or without them if an address can't be reached.
+    // What the step comes to. `came` has the entry's bytes, or is none if one of their addresses can't be reached.
     fn step(self, came: Option<[u8; 16]>) -> WalkStep
         ensures step { walk_step_of result ≡ step_by self.size (visit_of self) (load_of self came) }
         ensures fits { IfOrdinary result (λ d. d.addr + d.len < 2 ^ 64) }
@@ -124,7 +124,8 @@ impl ChainWalk {
         }
     }
 
-    /// Goes on by the bytes that came, or without them if an address can't be reached. Each time fewer steps are left.
+    /// Takes the entry's bytes, or none if one of their addresses can't be reached, and answers the next state of the walk.
+    /// Each time fewer steps are left.
     pub fn give(self, came: Option<[u8; 16]>) -> Given
         ensures joins { result.joins ≡ joining (step_by self.size (visit_of self) (load_of self came)) }
         ensures then { ahead_of result.then ≡ ahead_after self.size (visit_of self) (step_by self.size (visit_of self) (load_of self came)) }

@@ -23,7 +23,7 @@ pub enum Walk {
     Refused(QueueError),
 }
 
-/// A walk that asks for the available index. It is used up by the bytes that it is given: each load is made once.
+/// A walk that asks for the available index. `give` consumes it, so each load is made once.
 #[derive(Debug, Drop)]
 pub struct IndexWalk {
     layout: QueueLayout,
@@ -69,7 +69,7 @@ impl IndexWalk {
         self.layout.avail() + 2
     }
 
-    /// Goes on by the bytes that came, or without them if an address can't be reached (VIRTIO 1.2, 2.7.6 and 2.7.13).
+    /// Takes the index's bytes, or none if one of their addresses can't be reached (VIRTIO 1.2, 2.7.6 and 2.7.13).
     /// Refused: `AvailIndexUnreachable`, then `AvailTooFar`.
     #[inline(always)]
     pub fn give(self, came: Option<[u8; 2]>) -> Walk
@@ -113,7 +113,7 @@ impl RingEntryWalk {
         self.layout.avail() + u64::from(entry_offset(self.layout, self.position))
     }
 
-    /// Goes on by the bytes that came, or without them if an address can't be reached. Refused:
+    /// Takes the entry's bytes, or none if one of their addresses can't be reached. Refused:
     /// `RingEntryUnreachable`, then `HeadOutOfTable`.
     #[inline(always)]
     pub fn give(self, came: Option<[u8; 2]>) -> Walk

@@ -89,7 +89,7 @@ impl Course {
         }
     }
 
-    /// Goes on by the bytes of the load that a walk asked for. The descriptors that joined the chain so far stand in the list, which has
+    /// Takes the bytes of the load that a walk asked for, and answers the walk's next state. The descriptors that joined the chain so far stand in the list, which has
     /// room for one more.
     pub fn give(
         &self,
