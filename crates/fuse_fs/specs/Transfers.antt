@@ -18,10 +18,14 @@ abbrev pub read_answer : Result ℕ ℕ → List ℕ → Result (List ℕ) ℕ
 read_answer (Ok n) bytes = Ok bytes
 read_answer (Err e) bytes = Err e
 
--- what is answered where an errno that comes after some bytes is no more than a short read: their count
+-- what is answered if an errno that comes after some bytes is no more than a short count: how many they are
+abbrev pub short_answer : Result ℕ ℕ → (done : ℕ) → Result ℕ ℕ
+short_answer (Ok n) done = Ok n
+short_answer (Err e) done = if done == 0 then Err e else Ok done
+
+-- the same of a read, by the bytes that came
 abbrev pub whole_answer : Result ℕ ℕ → List ℕ → Result ℕ ℕ
-whole_answer (Ok n) bytes = Ok n
-whole_answer (Err e) bytes = if length bytes == 0 then Err e else Ok (length bytes)
+whole_answer answer bytes = short_answer answer (length bytes)
 
 -- what one read of a file may answer: before, how many bytes are asked for, the place, the answer, after
 abbrev pub MayRead : Type 0 → Type 1

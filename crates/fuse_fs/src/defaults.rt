@@ -2,16 +2,16 @@
 //! method to call. What a default doesn't take stays as it is: file system, writer, stream. ENOSYS is errno 38
 //! (errno.h).
 
-ghost use Rattle.std.specs.Prelude.{◌≡◌, ℕ, ◌+◌, List, length, Result, Ok, Err, IfOk, OnErr, None, Some, option_map};
+ghost use Rattle.std.specs.Prelude.{◌≡◌, ℕ, ◌+◌, ◌≤◌, List, length, take, drop, Result, Ok, Err, IfOk, OnErr, None, Some, option_map};
 ghost use Rattle.std.specs.Result.{result_err};
 ghost use Rattle.std.specs.IoError.{error_kind};
 ghost use Rattle.fuse_fs.specs.Answers.{ForgetsEach, pair_numbers, default_stats, no_flags};
 ghost use Rattle.fuse_fs.specs.Lengths.{past, up_to};
-ghost use Rattle.fuse_fs.specs.Transfers.{ReadsSegments, whole_answer};
+ghost use Rattle.fuse_fs.specs.Transfers.{ReadsSegments, Spends, short_answer, whole_answer};
 
 use crate::answers::{Context, Entry, GetxattrReply, ListxattrReply, Timeout};
 use crate::file_system::FileSystemBase;
-use crate::zero_copy::{PositionedFile, ZeroCopyWriter};
+use crate::zero_copy::{PositionedFile, WritevFlags, ZeroCopyReader, ZeroCopyWriter};
 use bitflags::Flags;
 use fuse_base::{Attr, Errno, FsOptions, OpenOptions, StatVfs};
 use std::io::{self, ErrorKind};
@@ -169,6 +169,30 @@ pub fn write() -> Result<u32, Errno>
     ensures { result ≡ Err 38 }
 {
     Err(Errno::ENOSYS)
+}
+
+/// What a `FileSystem::write` may call whose answer is to be a short count, whatever its file does, if an errno comes after
+/// some bytes: theirs. The file is lent one window of the guest's after another.
+pub fn write_whole<F: PositionedFile, R: ZeroCopyReader>(
+    file: &mut F,
+    r: &mut R,
+    count: usize,
+    off: u64,
+    flags: Option<WritevFlags>,
+) -> Result<usize, Errno>
+    ensures write { (n : ℕ) × (n ≤ length (R.left r.old)) × (R.left r.new ≡ drop n (R.left r.old)) × (R.segments r.new ≡ past n (R.segments r.old))
+        × (R.read r.new ≡ R.read r.old + n) × IfOk result (λ k. k ≡ n) × OnErr result (n ≡ 0)
+        × ((answer : Result ℕ ℕ) × (result ≡ short_answer answer n)
+        × Spends F.write_gives file.old (take count (R.left r.old)) (up_to count (R.segments r.old)) off (option_map (λ f. f.0) flags) n answer file.new) }
+{
+    let left = r.available_bytes();
+    match r.write_to_file_at(file, count, off, flags) {
+        Ok(n) => Ok(n),
+        Err(error) => {
+            let done = left - r.available_bytes();
+            if done == 0 { Err(error) } else { Ok(done) }
+        }
+    }
 }
 
 /// Default of virtiofsd's `FileSystem::flush`: no such call, ENOSYS.

@@ -134,6 +134,10 @@ pub trait ZeroCopyReader {
     // How many bytes were read.
     ghost read: { Self → ℕ };
 
+    /// How many bytes are left.
+    fn available_bytes(&self) -> usize
+        ensures { result ≡ length (left self.now) };
+
     /// Has a file write what is left at a place, in bytes from its start: it is lent one segment after another, until
     /// the count of bytes is done, nothing is left, or it answers 0 or an errno. Where a byte is left for a place past
     /// 2^64 - 1, that is EIO.
@@ -156,6 +160,10 @@ impl<Inner: ZeroCopyReader> ZeroCopyReader for &mut Inner {
     ghost segments = { λ r. Inner.segments r.now };
 
     ghost read = { λ r. Inner.read r.now };
+
+    fn available_bytes(&self) -> usize {
+        (**self).available_bytes()
+    }
 
     fn write_to_file_at<F: PositionedFile>(
         &mut self,

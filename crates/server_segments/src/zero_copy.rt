@@ -23,6 +23,10 @@ impl<'a> ZeroCopyReader for ZcReader<'a> {
 
     ghost read = { λ z. z.reader.read };
 
+    fn available_bytes(&self) -> usize {
+        self.reader.available_bytes()
+    }
+
     fn write_to_file_at<F: PositionedFile>(
         &mut self,
         file: &mut F,
