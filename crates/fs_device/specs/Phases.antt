@@ -1,5 +1,5 @@
 -- A step in its phases: a chain is taken into a place, its request is fetched and answered, and it is given back.
-use Rattle.std.specs.Prelude.{◌≡◌, ℕ, Bool, true, false, List, [], Some, Result, Ok, Err, slice_get}
+use Rattle.std.specs.Prelude.{◌≡◌, ℕ, Bool, true, false, List, [], Some, Result, Ok, Err, slice_get, MatchResult}
 use Rattle.vm_memory_core.specs.Host.{Host}
 use Rattle.vm_memory.specs.Memory.{Memory}
 use Rattle.fs_queue.specs.Queue.{Queue}
@@ -9,7 +9,8 @@ use Rattle.fs_queue.specs.Windows.{HoldsChain, IsEmpty, IsTaken, Taken}
 use Rattle.virtiofsd_fuse.specs.Serving.{May}
 use Rattle.fs_device.specs.declared.error.DeviceError.{DeviceError}
 use Rattle.fs_device.specs.Step.{State, Exchange, Idle, Refused, Calls, Step, after_return}
-use Rattle.fs_device.specs.DeviceView.{ServesChain, request_of}
+use Rattle.fs_device.specs.declared.exchange.Fault.TheVariants as fault
+use Rattle.fs_device.specs.DeviceView.{AnswersRequest, ServesChain, request_of}
 
 -- a chain was taken from queue i: over this memory, with this limit, the queue offers it, and the place has its windows
 pub record HasTaken (m : Memory) (limit : ℕ) (queues : List Queue) (i : ℕ) (t : Taken) : Type 0 where
@@ -60,6 +61,13 @@ abbrev pub ServesTaken : {F : Type 0} → May F → (page_size : ℕ) → ℕ ×
 ServesTaken may page_size old t bytes x new =
     (m : Memory) (q : Queue) (fetched : RequestAndRoom) → IsTaken m q fetched t → bytes ≡ request_of fetched →
     (calls : Calls) × ServesChain may page_size old t.head fetched calls x new
+
+-- whatever chain a request was fetched of: one that isn't faulty is served as these bytes mean in so much room, and a faulty one makes no call
+abbrev pub ServesBytes : {F : Type 0} → May F → (page_size : ℕ) → ℕ × F → Taken → (room : ℕ) → (bytes : List ℕ) → Exchange → ℕ × F → Type 0
+ServesBytes may page_size old t room bytes x new =
+    (x.head ≡ t.head) × (x.request ≡ bytes) × MatchResult t.chain
+    (λ c. (calls : Calls) × AnswersRequest may page_size old bytes room calls x.reply x.fault new)
+    (λ why. (x.reply ≡ []) × (x.fault ≡ Some (fault.Chain why)) × (new ≡ old))
 
 -- the chain that was taken from queue i goes back to it with a reply over its room, and the driver is told or not (VIRTIO 1.2, 2.7.8 and 2.7.7)
 pub record GoesBack {F : Type 0} (before : State F) (i : ℕ) (t : Taken) (has : IsTakenFrom before.memory before.queues i t) (reply : List ℕ) (notice : Bool) (after : State F) : Type 0 where

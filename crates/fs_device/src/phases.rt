@@ -7,9 +7,9 @@ ghost use Rattle.vm_memory_core.specs.Host.{changed_at, lengths, shape};
 ghost use Rattle.vm_memory.specs.Memory.{Memory};
 ghost use Rattle.fs_queue.specs.Queue.{Queue};
 ghost use Rattle.fs_queue.specs.Returning.{advanced, put_back, tells_by};
-ghost use Rattle.fs_queue.specs.Windows.{IsEmpty, TakenLiesIn, room_places};
+ghost use Rattle.fs_queue.specs.Windows.{HasItsWindows, IsEmpty, TakenLiesIn, room_places};
 ghost use Rattle.fs_device.specs.DeviceView.{exchange_of, state_of};
-ghost use Rattle.fs_device.specs.Phases.{GoesBack, IfTaken, IsEmptyUnlessTaken, IsTakenFrom, ServesTaken, TakesOrEnds, TakesFrom};
+ghost use Rattle.fs_device.specs.Phases.{GoesBack, IfTaken, IsEmptyUnlessTaken, IsTakenFrom, ServesBytes, ServesTaken, TakesOrEnds, TakesFrom};
 
 use crate::device::Device;
 use crate::error::DeviceError;
@@ -37,6 +37,7 @@ impl<F: FileSystem> Device<F> {
         requires { M.IsHeld mem.now (H.host host.now) }
         ensures takes { TakesFrom F.may (M.memory mem.now (H.host host.now)) limit queues.old.items queue taken.new result queues.new.items }
         ensures lies { IfTaken (TakenLiesIn (lengths (H.host host.now))) taken.new result }
+        ensures windows { (q : Queue) → slice_get queues.old.items queue ≡ Some q → IfTaken (HasItsWindows (M.memory mem.now (H.host host.now)) q) taken.new result }
         ensures there { IfTaken (λ t. queue < length queues.new.items) taken.new result }
         ensures count { length queues.new.items ≡ length queues.old.items }
         ensures empty { IsEmptyUnlessTaken result taken.new }
@@ -68,6 +69,7 @@ impl<F: FileSystem> Device<F> {
         ensures takes { TakesOrEnds F.may (state_of (M.memory mem.now (H.host host.now)) self.old) queue taken.new result
             (state_of (M.memory mem.now (H.host host.now)) self.new) }
         ensures lies { IfTaken (TakenLiesIn (lengths (H.host host.now))) taken.new result }
+        ensures windows { (q : Queue) → slice_get self.old.queues queue ≡ Some q → IfTaken (HasItsWindows (M.memory mem.now (H.host host.now)) q) taken.new result }
         ensures there { IfTaken (λ t. queue < length self.new.queues) taken.new result }
         ensures empty { IsEmptyUnlessTaken result taken.new }
     {
@@ -85,6 +87,8 @@ impl<F: FileSystem> Device<F> {
     ) -> Result<Exchange, AllocError>
         requires room { request.room.free ≡ room_places taken.now.chain }
         ensures answers { IfOk result (λ x. ServesTaken F.may self.old.page_size (self.old.options, self.old.files) taken.now request.bytes.items
+            (exchange_of x) (self.new.options, self.new.files)) }
+        ensures bytes { IfOk result (λ x. ServesBytes F.may self.old.page_size (self.old.options, self.old.files) taken.now (room_places taken.now.chain) request.bytes.items
             (exchange_of x) (self.new.options, self.new.files)) }
         ensures fits { IfOk result (λ x. length x.reply.items ≤ room_places taken.now.chain) }
         ensures lacks { OnErr result (self.new ≡ self.old) }

@@ -20,7 +20,7 @@ pub(crate) struct Reply {
 ghost use Rattle.virtiofsd_fuse.specs.Serving.{is_memory};
 ghost use Rattle.fs_device.specs.Answering.{IsAnswered};
 ghost use Rattle.fs_device.specs.DeviceView.{exchange_of, server_state};
-ghost use Rattle.fs_device.specs.Phases.{ServesTaken};
+ghost use Rattle.fs_device.specs.Phases.{ServesBytes, ServesTaken};
 
 // Whether an allocation failed.
 fn is_memory(error: Error) -> bool
@@ -72,6 +72,8 @@ pub(crate) fn serve<F: FileSystem>(
     requires { request.room.free ≡ room_places taken.now.chain }
     ensures exchange { IfOk result (λ x. ServesTaken F.may server.old.page_size (server_state server.old) taken.now request.bytes.items (exchange_of x)
         (server_state server.new)) }
+    ensures bytes { IfOk result (λ x. ServesBytes F.may server.old.page_size (server_state server.old) taken.now (room_places taken.now.chain) request.bytes.items
+        (exchange_of x) (server_state server.new)) }
     ensures fits { IfOk result (λ x. length x.reply.items ≤ room_places taken.now.chain) }
     ensures err { OnErr result ((server.new.options.0 ≡ server.old.options.0) × (server.new.fs ≡ server.old.fs)) }
     ensures page_size { server.new.page_size ≡ server.old.page_size }
