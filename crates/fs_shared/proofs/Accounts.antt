@@ -9,7 +9,6 @@ use Rattle.vm_atomic_bitmaps.specs.Counts.{both_of, both_passes, tally_of}
 use Rattle.vm_atomic_bitmaps.specs.Passes.{Pass}
 use Rattle.vm_atomic_bitmaps.specs.Steps.{SettlesAll}
 use Rattle.vm_atomic_bitmaps.proofs.PassTotals.{length-each_tally}
-use Rattle.fs_shares.specs.Portion.{IsMarkedSince}
 use Rattle.fs_shares.proofs.Since.{is_set}
 use Rattle.vm_memory_core.specs.Host.{Host, lengths}
 use Rattle.vm_block_pages.specs.Pages.{page_of}

@@ -1,8 +1,7 @@
 -- a journal's first entries lead to a state from which the others lead on
-use Rattle.std.proofs.Common.{◌≡◌, ℕ, zero, suc, List, [], ◌∷◌, drop, take, refl}
-use Rattle.fs_device.specs.Step.{State}
+use Rattle.std.proofs.Common.{zero, suc, [], ◌∷◌, refl}
 use Rattle.fs_shared.specs.JournalPages.{JournalsSplit}
-use Rattle.fs_shared.specs.Replay.{Entry, Replays}
+use Rattle.fs_shared.specs.Replay.{Replays}
 
 pub journals_split : JournalsSplit
 unfolding Replays

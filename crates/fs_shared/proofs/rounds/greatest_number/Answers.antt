@@ -1,4 +1,4 @@
-use Rattle.std.proofs.Common.{◌<◌, All, List, Option, ℕ, take, sym, subst, arith}
+use Rattle.std.proofs.Common.{◌<◌, All, List, take, subst, arith}
 use Rattle.std.proofs.lemmas.List.{take_all}
 use Rattle.std.proofs.lemmas.List.Elements.{All-more, All-weaker}
 use Rattle.fs_shared.specs.declared.entry.Receipt.{Receipt}

@@ -1,4 +1,4 @@
-use Rattle.std.proofs.Common.{◌≡◌, ◌+◌, ◌≤◌, ap, ◌∙◌, arith}
+use Rattle.std.proofs.Common.{ap, ◌∙◌, arith}
 use Rattle.vm_atomic_bitmaps.specs.Passes.{Pass, counting}
 use Rattle.fs_shared.proofs.RoundPages.{since_then}
 use Rattle.fs_shared.proofs.rounds.kick_often.Goals as goal
