@@ -7,7 +7,8 @@ ghost use Rattle.server_replies.specs.Entries.{dirent_bytes, entry_len, is_dot, 
 ghost use Rattle.server_replies.specs.WholeReplies.{data_header, listing_bytes};
 ghost use Rattle.virtiofsd_fuse.specs.Grammar.{FileCommand};
 ghost use Rattle.virtiofsd_fuse.specs.Serving.{Setting, commanded};
-ghost use Rattle.server_phases.specs.Gathering.{Brought, EndsList, Holds, IsListingFor, FailsList, StaysBut, is_listing, bytes_of, all_bytes, all_found, entries_of, look_up, look_ups, placed, added_plain, added_found, put_at, error_of, served_list};
+ghost use Rattle.server_phases.specs.Gathering.{Brought, EndsList, FailsList, Holds, IsListingFor, StaysBut, placed, added_plain, added_found, error_of, put_at, served_list};
+ghost use Rattle.server_phases.specs.Gathering.{is_listing, bytes_of, all_bytes, all_found, entries_of, look_up, look_ups};
 ghost use Rattle.server_phases.specs.Waiting.{WaitsFor, first_call};
 
 use crate::answering::{Refusal, Refused};
