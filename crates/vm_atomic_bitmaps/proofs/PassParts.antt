@@ -283,14 +283,15 @@ meets v u = λ i. record { pages = pages i; parts = parts i; depth = depth i }
     kept true = refl
     kept false = refl
 
-    one : (t w : Tally) → both_of t (only_seen w) ≡ record { marked = t.marked; on = t.on; off = t.off; held = max t.held w.held; seen = max t.seen w.seen }
+    one : (t w : Tally) → both_of t (only_seen w) ≡ record { marked = t.marked; on = t.on; off = t.off; held = max t.held w.held; seen = max t.seen w.seen; mark_steps = t.mark_steps; clear_steps = t.clear_steps }
     one t w = let on : t.on + 0 ≡ t.on = omega arith in let off : t.off + 0 ≡ t.off = omega arith in
-        λ i. record { marked = kept t.marked i; on = on i; off = off i; held = max t.held w.held; seen = max t.seen w.seen }
+        let marks : t.mark_steps + 0 ≡ t.mark_steps = omega arith in let clears : t.clear_steps + 0 ≡ t.clear_steps = omega arith in
+        λ i. record { marked = kept t.marked i; on = on i; off = off i; held = max t.held w.held; seen = max t.seen w.seen; mark_steps = marks i; clear_steps = clears i }
 
-    met : (p : ℕ) (t : Tally) → both_of t (tally_of (seen_of u.pages) p) ≡ record { marked = t.marked; on = t.on; off = t.off; held = max t.held (tally_of u.pages p).held; seen = max t.seen (tally_of u.pages p).seen }
+    met : (p : ℕ) (t : Tally) → both_of t (tally_of (seen_of u.pages) p) ≡ record { marked = t.marked; on = t.on; off = t.off; held = max t.held (tally_of u.pages p).held; seen = max t.seen (tally_of u.pages p).seen; mark_steps = t.mark_steps; clear_steps = t.clear_steps }
     met p t = ap (λ (w : Tally). both_of t w) (at_seen_of u.pages p) ∙ one t (tally_of u.pages p)
 
     pages : joined_with (seen_of u.pages) v.pages ≡ met_with u.pages v.pages
     pages = each_same (λ p t. both_of t (tally_of (seen_of u.pages) p))
-        (λ p t. record { marked = t.marked; on = t.on; off = t.off; held = max t.held (tally_of u.pages p).held; seen = max t.seen (tally_of u.pages p).seen })
+        (λ p t. record { marked = t.marked; on = t.on; off = t.off; held = max t.held (tally_of u.pages p).held; seen = max t.seen (tally_of u.pages p).seen; mark_steps = t.mark_steps; clear_steps = t.clear_steps })
         met 0 v.pages

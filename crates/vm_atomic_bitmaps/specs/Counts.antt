@@ -1,4 +1,4 @@
--- What passes count of each page: whether they marked it, how often they set and cleared it, and what they have seen.
+-- What passes count of each page: whether they marked it, how often they set and cleared it, what they have seen, and how many steps of theirs met it.
 use Rattle.std.specs.Prelude.{◌≡◌, ℕ, suc, ◌+◌, ◌-◌, ◌*◌, ◌/◌, ◌%◌, ◌^◌, max, Bool, true, false, cond, nat_eq, List, [], ◌∷◌, slice_index_or, replicate}
 use Rattle.std.specs.Int.{bit_at}
 use Rattle.vm_atomic_bitmaps.specs.declared.counts.Tally.{Tally}
@@ -6,7 +6,7 @@ use Rattle.vm_atomic_bitmaps.specs.declared.counts.PageCounts.{PageCounts}
 
 -- nothing is counted of the page
 abbrev pub no_tally : Tally
-no_tally = record { marked = false; on = 0; off = 0; held = 0; seen = 0 }
+no_tally = record { marked = false; on = 0; off = 0; held = 0; seen = 0; mark_steps = 0; clear_steps = 0 }
 
 -- what is counted of page p: nothing past the list
 abbrev pub tally_of : List Tally → (p : ℕ) → Tally
@@ -17,17 +17,17 @@ abbrev pub each_tally : (ℕ → Tally → Tally) → (k : ℕ) → List Tally �
 each_tally f k [] = []
 each_tally f k (t ∷ ts) = f k t ∷ each_tally f (suc k) ts
 
--- the tally of a page that a mark met, whose bit was `was`: the mark stands, and more marks than clears are known of
+-- the tally of a page that a mark met, whose bit was `was`: the mark stands, more marks than clears are known of, and the pass made one step more that marks it
 abbrev pub after_mark : (was : ℕ) → Tally → Tally
-after_mark was t = record { marked = true; on = t.on + (1 - was); off = t.off; held = max t.held (t.seen + 1); seen = t.seen }
+after_mark was t = record { marked = true; on = t.on + (1 - was); off = t.off; held = max t.held (t.seen + 1); seen = t.seen; mark_steps = t.mark_steps + 1; clear_steps = t.clear_steps }
 
--- the tally of a page that a gather or a clear met, whose bit was `was`: as many clears as marks are known of
+-- the tally of a page that a gather or a clear met, whose bit was `was`: as many clears as marks are known of, and the pass made one step more that clears it
 abbrev pub after_clearing : (was : ℕ) → Tally → Tally
-after_clearing was t = record { marked = t.marked; on = t.on; off = t.off + was; held = t.held; seen = max t.held (t.seen + was) }
+after_clearing was t = record { marked = t.marked; on = t.on; off = t.off + was; held = t.held; seen = max t.held (t.seen + was); mark_steps = t.mark_steps; clear_steps = t.clear_steps + 1 }
 
 -- the tally of a page that a read met, whose bit was `was`: as many marks as clears are known of, and `was` more
 abbrev pub after_read : (was : ℕ) → Tally → Tally
-after_read was t = record { marked = t.marked; on = t.on; off = t.off; held = max t.held (t.seen + was); seen = max t.seen (t.held - was) }
+after_read was t = record { marked = t.marked; on = t.on; off = t.off; held = max t.held (t.seen + was); seen = max t.seen (t.held - was); mark_steps = t.mark_steps; clear_steps = t.clear_steps }
 
 -- page p lies in word i
 abbrev pub in_word : (i p : ℕ) → Bool
@@ -51,15 +51,15 @@ read_by hit found = each_tally (λ p t. cond (hit p) (after_read (bit_at found (
 
 -- what two passes have counted of a page, in one
 abbrev pub both_of : Tally → Tally → Tally
-both_of t u = record { marked = cond t.marked true u.marked; on = t.on + u.on; off = t.off + u.off; held = max t.held u.held; seen = max t.seen u.seen }
+both_of t u = record { marked = cond t.marked true u.marked; on = t.on + u.on; off = t.off + u.off; held = max t.held u.held; seen = max t.seen u.seen; mark_steps = t.mark_steps + u.mark_steps; clear_steps = t.clear_steps + u.clear_steps }
 
 -- what a pass has seen of a page, without what it did
 abbrev pub only_seen : Tally → Tally
-only_seen t = record { marked = false; on = 0; off = 0; held = t.held; seen = t.seen }
+only_seen t = record { marked = false; on = 0; off = 0; held = t.held; seen = t.seen; mark_steps = 0; clear_steps = 0 }
 
 -- what a pass has counted of a page, with what another has seen of it
 abbrev pub met_of : Tally → Tally → Tally
-met_of t u = record { marked = t.marked; on = t.on; off = t.off; held = max t.held u.held; seen = max t.seen u.seen }
+met_of t u = record { marked = t.marked; on = t.on; off = t.off; held = max t.held u.held; seen = max t.seen u.seen; mark_steps = t.mark_steps; clear_steps = t.clear_steps }
 
 -- the tallies with those of another pass
 abbrev pub joined_with : List Tally → List Tally → List Tally

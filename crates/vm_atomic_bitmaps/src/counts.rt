@@ -4,13 +4,16 @@ use atomic_table::{Join, Play, Split, TableRule};
 use std::collections::LinkedList;
 
 /// What a pass has counted of one page: whether it marked it, how often it found it clear and set it (`on`), how often
-/// it found it set and cleared it (`off`), and how often all passes did the one and the other as far as it has seen.
+/// it found it set and cleared it (`off`), how often all passes did the one and the other as far as it has seen, and how
+/// many of its own steps were marks of it, and gathers or clears of it, whatever they found.
 pub struct Tally {
     pub marked: bool,
     pub on: u64,
     pub off: u64,
     pub held: u64,
     pub seen: u64,
+    pub mark_steps: u64,
+    pub clear_steps: u64,
 }
 
 /// What a pass has counted of each page, and its part of all passes: `parts` over 2 to the power of `depth`.
