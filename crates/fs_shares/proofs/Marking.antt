@@ -20,6 +20,8 @@ marks_none old = record {
   off = λ p. refl;
   seen = λ p. refl;
   held = λ p. omega arith;
+  steps = λ p within here. let below = here.1 in absurd (omega arith);
+  steps_kept = λ p. omega arith;
 }
 
 -- from t to u the page was not cleared, no clear more is known of, and a mark stands
@@ -28,9 +30,10 @@ record Onward (t u : Tally) : Type 0 where
   pub off : u.off ≡ t.off
   pub seen : u.seen ≡ t.seen
   pub held : t.held ≤ u.held
+  pub steps : t.mark_steps ≤ u.mark_steps
 
 onward_same : (t : Tally) → Onward t t
-onward_same t = record { kept = λ marked. marked; off = refl; seen = refl; held = omega arith }
+onward_same t = record { kept = λ marked. marked; off = refl; seen = refl; held = omega arith; steps = omega arith }
 
 -- one page more
 pub marks_more : (v : PageCounts) (pages : List ℕ) (x : ℕ) (old cur new : List Tally) → MarksPages pages old cur → Changes (ByMark v) (nat_eq x) cur new → MarksPages (pages ++ x ∷ []) old new
@@ -46,6 +49,12 @@ marks_more v pages x old cur new m c = record {
   off = λ p. (each p).off ∙ m.off p;
   seen = λ p. (each p).seen ∙ m.seen p;
   held = λ p. let first = m.held p in let second = (each p).held in omega arith;
+  steps = λ p within here. let k = m.count in
+      ⊎_elim
+      (λ (before : Contains pages p). let first = m.steps p within before in let second = (each p).steps in omega arith)
+      (λ (now : x ≡ p). let first = m.steps_kept p in let second = stepped p (omega arith) (subst (λ (q : ℕ). nat_eq x q ≡ true) now (at_own x)) in omega arith)
+      (Contains-push_cases pages x p here);
+  steps_kept = λ p. let first = m.steps_kept p in let second = (each p).steps in omega arith;
 }
   where
     at_own : (n : ℕ) → nat_eq n n ≡ true
@@ -54,8 +63,11 @@ marks_more v pages x old cur new m c = record {
     fresh : (p : ℕ) → p < length cur → nat_eq x p ≡ true → IsMarked (tally_of new p)
     fresh p within e = let was = c.changed p within e in subst IsMarked (sym was.3) (refl, omega arith)
 
+    stepped : (p : ℕ) → p < length cur → nat_eq x p ≡ true → (tally_of cur p).mark_steps < (tally_of new p).mark_steps
+    stepped p within e = subst (λ (t : Tally). (tally_of cur p).mark_steps < t.mark_steps) (sym (c.changed p within e).3) (omega arith)
+
     by_hit : (p : ℕ) → p < length cur → (b : Bool) → nat_eq x p ≡ b → Onward (tally_of cur p) (tally_of new p)
-    by_hit p within true e = subst (Onward (tally_of cur p)) (sym (c.changed p within e).3) (record { kept = λ marked. refl; off = refl; seen = refl; held = omega arith })
+    by_hit p within true e = subst (Onward (tally_of cur p)) (sym (c.changed p within e).3) (record { kept = λ marked. refl; off = refl; seen = refl; held = omega arith; steps = omega arith })
     by_hit p within false e = subst (Onward (tally_of cur p)) (sym (c.same p e)) (onward_same (tally_of cur p))
 
     each : (p : ℕ) → Onward (tally_of cur p) (tally_of new p)

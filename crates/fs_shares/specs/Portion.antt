@@ -36,7 +36,7 @@ joined s t = record { parts = s.parts + t.parts; count = s.count + t.count; pass
 abbrev pub IsMarked : Tally → Type 0
 IsMarked t = (t.marked ≡ true) × (t.seen < t.held)
 
--- pages were marked and none was cleared; the tallies of others, and of all past the last page, are as they were
+-- pages were marked, each by a step of its own, and none was cleared; the tallies of others, and of all past the last page, are as they were
 pub record MarksPages (pages : List ℕ) (old new : List Tally) : Type 0 where
   pub count : length new ≡ length old
   pub marked : (p : ℕ) → p < length old → Contains pages p → IsMarked (tally_of new p)
@@ -45,6 +45,8 @@ pub record MarksPages (pages : List ℕ) (old new : List Tally) : Type 0 where
   pub off : (p : ℕ) → (tally_of new p).off ≡ (tally_of old p).off
   pub seen : (p : ℕ) → (tally_of new p).seen ≡ (tally_of old p).seen
   pub held : (p : ℕ) → (tally_of old p).held ≤ (tally_of new p).held
+  pub steps : (p : ℕ) → p < length old → Contains pages p → (tally_of old p).mark_steps < (tally_of new p).mark_steps
+  pub steps_kept : (p : ℕ) → (tally_of old p).mark_steps ≤ (tally_of new p).mark_steps
 
 -- a pass has seen each clear that it made
 abbrev pub HasSeenItsOwn : List Tally → Type 0
