@@ -28,8 +28,8 @@ pub struct Chain {
 }
 
 impl Chain {
-    // A chain without bytes, whose windows take no memory.
-    pub(crate) fn empty(alloc: Global) -> Chain
+    /// A chain without bytes, whose windows take no memory.
+    pub fn empty(alloc: Global) -> Chain
         ensures readable { result.readable.items ≡ [] }
         ensures writable { result.writable.items ≡ [] }
     {
@@ -72,9 +72,24 @@ impl Chain {
 /// The windows of a used element, 8 bytes, and, after it, of the used index, 2 bytes, and those of the available flags,
 /// 2 bytes: almost always one each.
 #[derive(Drop)]
-pub(crate) struct ReturnWindows {
-    pub(crate) used: Windows,
-    pub(crate) flags: Windows,
+pub struct ReturnWindows {
+    /// Where the used element and then the used index are stored.
+    pub used: Windows,
+    /// Where the available flags are loaded.
+    pub flags: Windows,
+}
+
+impl ReturnWindows {
+    /// No windows; they take no memory.
+    pub fn empty(alloc: Global) -> ReturnWindows
+        ensures used { result.used.items ≡ [] }
+        ensures flags { result.flags.items ≡ [] }
+    {
+        ReturnWindows {
+            used: Windows::new(alloc),
+            flags: Windows::new(alloc),
+        }
+    }
 }
 
 /// A place for a chain that was taken and not yet given back, or its fault, with the windows of its return and the
@@ -108,10 +123,7 @@ impl Taken {
             head: 0,
             fault: None,
             chain: Chain::empty(alloc),
-            return_windows: ReturnWindows {
-                used: Windows::new(alloc),
-                flags: Windows::new(alloc),
-            },
+            return_windows: ReturnWindows::empty(alloc),
             descriptors: Descriptors::new(alloc),
         }
     }

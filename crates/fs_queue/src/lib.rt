@@ -18,7 +18,7 @@ mod walk;
 mod walk_step;
 mod written;
 
-pub use chain::{Chain, Taken};
+pub use chain::{Chain, ReturnWindows, Taken};
 pub use chain_walk::{ChainWalk, Given, Progress, Walked};
 pub use descriptor::{Descriptor, Descriptors};
 pub use fault::{ChainFault, QueueError, QueueLayoutError};
@@ -26,6 +26,6 @@ pub use layout::QueueLayout;
 pub use loads::{EntryLoad, walk_loads};
 pub use queue::Queue;
 pub use returning::{ElementStore, IndexStore, Return};
-pub use take::count_bytes;
+pub use take::{add_return_windows, count_bytes, hold_chain};
 pub use walk::{IndexWalk, RingEntryWalk, Walk};
 pub use walk_step::DescriptorTable;

@@ -53,10 +53,11 @@ fn add_used<M: GuestMemory, H: HostBlocks>(
     add_windows(alloc, host, mem, index, 2, Permissions::Write, windows)
 }
 
-// Adds to empty lists the windows that a return at this position writes and reads besides the room, or answers which of
-// them has an address that can't be reached: `UsedUnreachable` or `AvailFlagsUnreachable`.
+/// Adds to empty lists the windows that a return at this position writes and reads besides the room, or answers which of
+/// them has an address that can't be reached: `UsedUnreachable` or `AvailFlagsUnreachable`. An error is a failed
+/// allocation. `Queue::take` does so once a head is known, before the chain is walked.
 #[inline(always)]
-fn add_return_windows<M: GuestMemory, H: HostBlocks>(
+pub fn add_return_windows<M: GuestMemory, H: HostBlocks>(
     alloc: Global,
     layout: QueueLayout,
     host: &H,
@@ -271,10 +272,11 @@ fn fill_chain<M: GuestMemory, H: HostBlocks>(
     }
 }
 
-// Puts the request and the room of a chain in its place, or answers its fault: `OverLimit` if one of them has more
-// than `limit` bytes, then `RequestUnreachable`, then `RoomUnreachable`. An error is a failed allocation.
+/// Puts the request and the room of a chain that was walked in a place, or answers its fault: `OverLimit` if one of them has
+/// more than `limit` bytes, then `RequestUnreachable`, then `RoomUnreachable`. An error is a failed allocation.
+/// `Queue::take` does so with the descriptors that joined its walk.
 #[inline(always)]
-fn hold_chain<M: GuestMemory, H: HostBlocks>(
+pub fn hold_chain<M: GuestMemory, H: HostBlocks>(
     alloc: Global,
     host: &H,
     mem: &M,

@@ -1,3 +1,4 @@
 pub mod FillLemmas
 pub mod ApartLemmas
 pub mod BehindLemmas
+pub mod LentLemmas

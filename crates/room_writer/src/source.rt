@@ -31,14 +31,15 @@ impl<'a, F: PositionedFile> FileAt<'a, F> {
 impl<'a, F: PositionedFile> ReadVolatile for FileAt<'a, F> {
     type Error = Errno;
 
-    ghost gives = { λ old most answer new. F.read_gives old.file.now most old.off answer new.file.now × (new.file.ghost_name ≡ old.file.ghost_name) };
+    ghost gives = { λ old lent answer new. F.read_gives old.file.now (length lent) old.off answer new.file.now × (new.file.ghost_name ≡ old.file.ghost_name) };
 
     fn read_volatile(&mut self, buf: &mut [u8]) -> Result<usize, Errno> {
         self.file.read_at(buf, self.off)
     }
 }
 
-// Has one call of a file read to the first places of a window.
+// Has one call of a file read to the first places of a window. It is lent the window's bytes, and no other memory.
+#[tactic(auto, using(crate::proofs::LentLemmas::lent_length))]
 pub(crate) fn read_to_window<H: HostBlocks, F: PositionedFile>(
     host: &mut H,
     window: VolatileSlice,

@@ -106,7 +106,7 @@ impl<B: NewBitmap> Block<B> {
         requires { offset + len ≤ length self.old.bytes }
         ensures reads { (part : List ℕ) × (self.new.bytes ≡ take offset self.old.bytes ++ part ++ drop (offset + length part) self.old.bytes)
             × (self.new.marks ≡ marked_if mark self.old.marks offset (length part)) × (length part ≡ moved result) × (length part ≤ len)
-            × S.gives source.old len (read_answer result part) source.new }
+            × S.gives source.old (take len (drop offset self.old.bytes)) (read_answer result part) source.new }
         ensures fits { offset + moved result < 2 ^ 64 }
     {
         let answer = read_to(&mut self.bytes, offset, len, source);

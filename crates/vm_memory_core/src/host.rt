@@ -180,7 +180,7 @@ impl<B: NewBitmap> HostMemory<B> {
     ) -> Result<usize, S::Error>
         requires { LiesIn (lengths self.old) window }
         ensures reads { (part : List ℕ) × Stores self.old self.new (places_of window) part × (length part ≡ moved result) × (length part ≤ window.len)
-            × S.gives source.old window.len (read_answer result part) source.new }
+            × S.gives source.old (map (byte_in self.old) (places_of window)) (read_answer result part) source.new }
         ensures shape { shape self.new ≡ shape self.old }
     {
         let block = &mut self.blocks[window.block()];

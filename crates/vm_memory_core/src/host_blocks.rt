@@ -49,7 +49,7 @@ pub trait HostBlocks {
     ) -> Result<usize, S::Error>
         requires { LiesIn (lengths (host self.old)) window }
         ensures reads { (part : List ℕ) × Stores (host self.old) (host self.new) (places_of window) part × (length part ≡ moved result)
-            × (length part ≤ window.len) × S.gives source.old window.len (read_answer result part) source.new }
+            × (length part ≤ window.len) × S.gives source.old (map (byte_in (host self.old)) (places_of window)) (read_answer result part) source.new }
         ensures shape { shape (host self.new) ≡ shape (host self.old) }
         ensures loan { IsSameLoan self.old self.new };
 

@@ -68,7 +68,7 @@ fn read_block<B: NewBitmap, S: ReadVolatile>(
     requires { window.offset + window.len ≤ length block.old }
     ensures reads { (part : List ℕ) × (block.new ≡ take window.offset block.old ++ part ++ drop (window.offset + length part) block.old)
         × (pages.new ≡ marked_if (is_none window.io) pages.old window.offset (length part)) × (length part ≡ moved result) × (length part ≤ window.len)
-        × S.gives source.old window.len (read_answer result part) source.new }
+        × S.gives source.old (take window.len (drop window.offset block.old)) (read_answer result part) source.new }
     ensures fits { window.offset + moved result < 2 ^ 64 }
     ensures len { length block.new ≡ length block.old }
     ensures pages { length pages.new ≡ length pages.old }

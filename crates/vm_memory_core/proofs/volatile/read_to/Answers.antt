@@ -1,4 +1,4 @@
-use Rattle.std.proofs.Common.{arith, ◌∙◌, ◌≡◌, ◌≤◌, ◌-◌, ◌+◌, length, take, drop}
+use Rattle.std.proofs.Common.{arith, ◌∙◌, ◌≡◌, ◌≤◌, ◌-◌, ◌+◌, length, take}
 use Rattle.std.proofs.lemmas.List.{length-take-le}
 use Rattle.std.proofs.lemmas.List.Edits.{length-between}
 use Rattle.vm_memory_core.specs.Volatile.{moved}
@@ -16,5 +16,4 @@ returns-clause-reads g c =
     let size : length now ≡ k = c.read_volatile.auto.buf ∙ length-between a.block.now a.offset (a.offset + a.len) c.requires in
     let within : m ≤ length now = omega (arith, e.within, c.read_volatile.auto.buf) in
     let front : length (take m now) ≡ m = length-take-le m now within in
-    let whole : length (take k (drop a.offset a.block.now)) ≡ a.len = length-between a.block.now a.offset (a.offset + a.len) c.requires ∙ same in
-    (take m now, lands a.block.now now a.offset k m (k - m) (omega (arith, within, size)) size e.rest, front, omega (arith, front, within, size, same), rw (same_answer c.read_volatile.result now) (rw whole at e.gives))
+    (take m now, lands a.block.now now a.offset k m (k - m) (omega (arith, within, size)) size e.rest, front, omega (arith, front, within, size, same), rw (same_answer c.read_volatile.result now) (rw same at e.gives))

@@ -1,7 +1,7 @@
-use Rattle.std.proofs.Common.{◌≡◌, length, ap, arith, sym, ◌∙◌}
+use Rattle.std.proofs.Common.{◌≡◌, length, ap, arith, refl, sym, ◌∙◌}
 use Rattle.vm_memory_core.specs.Host.{Host, shape}
 use Rattle.vm_memory_core.specs.Putting.{io_marked}
-use Rattle.vm_memory_core.proofs.Stores.{put_parts, stored_at, shape-put_all}
+use Rattle.vm_memory_core.proofs.Stores.{loaded_at, put_parts, stored_at, shape-put_all}
 use Rattle.vm_memory_core.proofs.host.HostMemory.read_volatile_from.Goals as goal
 
 pub returns-clause-reads : goal.returns-clause-reads
@@ -16,7 +16,8 @@ returns-clause-reads g c =
     ∙ put_parts c.args.self.now c.args.window r.0 c.requires (omega (arith, r.4, c.len.ensures.len))
     (omega (arith, r.3, c.read_volatile_from-answer.ensures.fits, c.block_offset.ensures)) c.mark_io.ensures.from
     in
-    (r.0, stored, r.3, omega (arith, r.4, c.len.ensures.len), rw c.len.ensures.len at r.5)
+    let lent = loaded_at _ _ c.args.window _ _ _ _ _ c.block.ensures c.block_offset.ensures c.len.ensures.len c.self.view_is c.requires c.index_mut-block.ensures.value refl in
+    (r.0, stored, r.3, omega (arith, r.4, c.len.ensures.len), rw lent at r.5)
 
 pub returns-clause-shape : goal.returns-clause-shape
 returns-clause-shape g c = ap shape (returns-clause-reads g c).1 ∙ shape-put_all _ _
