@@ -1,4 +1,4 @@
-use Rattle.std.proofs.Common.{◌+◌, inr, refl, ◌∙◌, arith, ap, length}
+use Rattle.std.proofs.Common.{inr, refl, ◌∙◌, arith, ap, length}
 use Rattle.std.proofs.lemmas.Option.{slice_get-get_or}
 use Rattle.vm_memory_core.specs.Host.{Host}
 use Rattle.vm_memory.proofs.MakingLemmas.{no_range, all_more, grown_more, length-grown_by, regions_more, shared-push, refused_at}
