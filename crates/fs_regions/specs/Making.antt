@@ -6,10 +6,10 @@ use Rattle.vm_memory.specs.declared.error.GuestRegionCollectionError.TheVariants
 use Rattle.fs_regions.specs.declared.regions.RegionsError.{RegionsError}
 use Rattle.fs_regions.specs.declared.regions.RegionsError.TheVariants.{NoRegion, Unsorted, Overlap, OutOfMemory}
 
--- some regions are a memory, or the first thing that is wrong with them; an allocation may fail
+-- some regions are a memory, or the first thing that is wrong with them; an allocation may fail if nothing is
 abbrev pub Makes : List Region → Result (List Region) RegionsError → Type 0
 Makes regions (Ok memory) = (fault_of regions ≡ None) × (memory ≡ regions)
 Makes regions (Err NoRegion) = fault_of regions ≡ Some collection.NoMemoryRegion
 Makes regions (Err Unsorted) = fault_of regions ≡ Some collection.UnsortedMemoryRegions
 Makes regions (Err Overlap) = fault_of regions ≡ Some collection.MemoryRegionOverlap
-Makes regions (Err OutOfMemory) = Unit {0}
+Makes regions (Err OutOfMemory) = fault_of regions ≡ None

@@ -1,5 +1,5 @@
 -- layouts: the search for the region of an address
-use Rattle.std.proofs.Common.{max, subst, inl, inr, ◌≡◌, ℕ, Bool, true, false, ◌+◌, ◌-◌, ◌<◌, ◌≤◌, List, [], ◌∷◌, length, refl, ap, sym, ◌∙◌, arith, zero, suc, Option, Some, None}
+use Rattle.std.proofs.Common.{max, subst, inl, inr, ◌≡◌, ℕ, Bool, true, false, ◌+◌, ◌-◌, ◌<◌, ◌≤◌, List, [], ◌∷◌, length, refl, ap, sym, ◌∙◌, arith, zero, suc, Option, Some, None, Err}
 use Rattle.std.specs.Prelude.{slice_index_or, slice_get, nat_lt, if◌then◌else◌, get_or, drop, take, map, ◌++◌}
 use Rattle.std.specs.Option.{option_or}
 use Rattle.std.specs.Arc.{arc_value}
@@ -11,9 +11,9 @@ use Rattle.std.proofs.lemmas.List.{drop_more, drop_all, length-map, map-append, 
 use Rattle.vm_iotlb.specs.Table.{is_within}
 use Rattle.vm_memory.specs.Layout.{AreHeld, last_address, Region, region_at, start_at, regions_of, overlap, AllFrom, IsLawful, IsLayout}
 use Rattle.vm_memory.specs.Backend.{last_of}
-use Rattle.vm_memory.specs.Collecting.{fault_between, fault_after, fault_of}
+use Rattle.vm_memory.specs.Collecting.{fault_between, fault_after, fault_of, Collects}
 use Rattle.vm_memory.specs.declared.error.GuestRegionCollectionError.{GuestRegionCollectionError}
-use Rattle.vm_memory.specs.declared.error.GuestRegionCollectionError.TheVariants.{MemoryRegionOverlap, UnsortedMemoryRegions}
+use Rattle.vm_memory.specs.declared.error.GuestRegionCollectionError.TheVariants.{NoMemoryRegion, MemoryRegionOverlap, UnsortedMemoryRegions, OutOfMemory}
 use Rattle.vm_memory.proofs.Places.{within_false}
 
 within_lt : (r : Region) (a : ℕ) → r.start ≤ a → is_within r.start r.size a ≡ nat_lt (a - r.start) r.size
@@ -86,12 +86,11 @@ region_of l i = get_or l i no_region
 pub length-shared : {X Z : Type 0} (f : X → Region) (items : List (Arc X Z)) → length (regions_of f items) ≡ length items
 length-shared f items = length-map items (λ a. f (arc_value a))
 
--- a shared region by its number
-pub region_of-shared : {X Z : Type 0} (f : X → Region) (items : List (Arc X Z)) (i : ℕ) (arc : Arc X Z) (x : X) → i < length items → arc ≡ get_or items i arc → x ≡ arc_value arc →
-    region_of (regions_of f items) i ≡ f x
-region_of-shared f [] i arc x h e is = absurd (omega arith)
-region_of-shared f (item ∷ items) zero arc x h e is = ap (λ y. f (arc_value y)) (sym e) ∙ ap f (sym is)
-region_of-shared f (item ∷ items) (suc i) arc x h e is = region_of-shared f items i arc x (omega arith) e is
+-- the region of an item by its number
+pub region_of-map : {X : Type 0} (f : X → Region) (items : List X) (i : ℕ) (x : X) → i < length items → x ≡ get_or items i x → region_of (map f items) i ≡ f x
+region_of-map f [] i x h e = absurd (omega arith)
+region_of-map f (item ∷ items) zero x h e = ap f (sym e)
+region_of-map f (item ∷ items) (suc i) x h e = region_of-map f items i x (omega arith) e
 
 -- the first fault among neighbours from the i-th region's front one on
 abbrev pub fault_from : List Region → ℕ → Option GuestRegionCollectionError
@@ -158,6 +157,25 @@ faultless (r ∷ l) each e =
     let lawful : IsLawful r = each 0 (omega arith) in
     let more = ascending l r lawful (λ k within. each (suc k) (omega arith)) e in
     (lawful.0, lawful.2, more.0, more.1)
+
+-- what is wrong with regions is never a want of memory
+no_want : (down common : Bool) (o : Option GuestRegionCollectionError) → option_or (between down common) o ≡ Some OutOfMemory → o ≡ Some OutOfMemory
+no_want true common o e = absurd (cc)
+no_want false true o e = absurd (cc)
+no_want false false o e = e
+
+wants_none : (l : List Region) (r : Region) → fault_after r l ≡ Some OutOfMemory → ⊥
+unfolding fault_after
+wants_none [] r e = cc
+wants_none (s ∷ l) r e = wants_none l s (no_want (nat_lt s.start r.start) (overlap r s) (fault_after s l) e)
+
+-- regions with a fault are refused for it
+pub refused_for : (l : List Region) (fault : GuestRegionCollectionError) → fault_of l ≡ Some fault → Collects l (Err fault)
+refused_for l NoMemoryRegion is = is
+refused_for l MemoryRegionOverlap is = is
+refused_for l UnsortedMemoryRegions is = is
+refused_for [] OutOfMemory is = cc
+refused_for (r ∷ l) OutOfMemory is = absurd (wants_none l r is)
 
 -- one shared region more was copied
 pub copied_more : {X Z : Type 0} (f : X → Region) (items all new : List (Arc X Z)) (i : ℕ) (arc copy : Arc X Z) → i < length items → arc ≡ get_or items i arc → arc_value copy ≡ arc_value arc → new ≡ all ++ copy ∷ [] →

@@ -1,5 +1,5 @@
 -- regions made one after another
-use Rattle.std.proofs.Common.{subst, Option, Some, None, ◌≡◌, ℕ, Bool, true, false, ◌+◌, ◌^◌, ◌<◌, ◌≤◌, List, [], ◌∷◌, ◌++◌, length, get_or, take, refl, ap, sym, ◌∙◌, arith, map, append_assoc, length-append, suc}
+use Rattle.std.proofs.Common.{subst, inl, Option, Some, None, ◌≡◌, ℕ, Bool, true, false, ◌+◌, ◌^◌, ◌<◌, ◌≤◌, List, [], ◌∷◌, ◌++◌, length, get_or, take, refl, ap, sym, ◌∙◌, arith, map, append_assoc, length-append, suc}
 use Rattle.std.specs.Prelude.{◌&&◌, replicate, Result, Ok, Err}
 use Rattle.std.proofs.lemmas.Option.{slice_get-get_or}
 use Rattle.std.specs.List.{list_all}
@@ -120,4 +120,4 @@ refused_at count old now new xs i d x (MmapRegion mmap.Mmap) h at good before ma
 refused_at count old now new xs i d x (MmapRegion mmap.OutOfMemory) h at good before made = absurd made
 refused_at count old now new xs i d x InvalidGuestRegion h at good before made =
     (i, x, (good, slice_get-get_or xs i d h ∙ ap Some at), made.1, made.0, grown_more count old now new xs i d x h at before made.2)
-refused_at count old now new xs i d x OutOfMemory h at good before made = (i, good, made.1 ∙ before)
+refused_at count old now new xs i d x OutOfMemory h at good before made = (i, x, slice_get-get_or xs i d h ∙ ap Some at, made.0, inl (good, made.1 ∙ before))

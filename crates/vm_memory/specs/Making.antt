@@ -1,5 +1,5 @@
 -- What making blocks, regions and layouts answers, and what it leaves in the host.
-use Rattle.std.specs.Prelude.{◌≡◌, ℕ, ◌+◌, ◌<◌, ◌≤◌, ◌^◌, nat_le, nat_lt, Bool, true, false, ◌&&◌}
+use Rattle.std.specs.Prelude.{◌≡◌, ℕ, ◌+◌, ◌<◌, ◌≤◌, ◌^◌, nat_le, nat_lt, Bool, true, false, ◌&&◌, ◌⊎◌}
 use Rattle.std.specs.Prelude.{List, [], ◌∷◌, ◌++◌, length, map, take, replicate, Option, Some, None, if◌then◌else◌, option_map, slice_get, Result, Ok, Err}
 use Rattle.std.specs.List.{list_all}
 use Rattle.vm_values.specs.declared.address.GuestAddress.{GuestAddress}
@@ -72,7 +72,11 @@ grown_by count h ranges = with_blocks h (h.blocks ++ map (λ range. zero_block c
 abbrev pub IsFirstBad : List (GuestAddress × ℕ) → (k : ℕ) → GuestAddress × ℕ → Type 0
 IsFirstBad ranges k bad = (list_all is_good (take k ranges) ≡ true) × (slice_get ranges k ≡ Some bad)
 
--- regions over new blocks, one for each range up to the first that is refused; their blocks stay in the host
+-- the first k ranges are good, and the host has a new block for each
+abbrev pub AreBlocksMade : (count : ℕ → ℕ) → (before after : Host) → List (GuestAddress × ℕ) → (k : ℕ) → Type 0
+AreBlocksMade count before after ranges k = (list_all is_good (take k ranges) ≡ true) × (after ≡ grown_by count before (take k ranges))
+
+-- regions over new blocks, one for each range up to the first that is refused; their blocks stay in the host. An allocation may fail at a range that isn't empty, before its block is made or after
 abbrev pub AreRegionsMade : (count : ℕ → ℕ) → (before after : Host) → List (GuestAddress × ℕ)
     → Result (List Region) FromRangesError → Type 0
 AreRegionsMade count before after ranges (Ok regions) =
@@ -85,7 +89,8 @@ AreRegionsMade count before after ranges (Err InvalidGuestRegion) =
     (k : ℕ) × (bad : GuestAddress × ℕ) × IsFirstBad ranges k bad × (2 ^ 64 < bad.0.0 + bad.1) × (0 < bad.1)
     × (after ≡ grown_by count before (take (k + 1) ranges))
 AreRegionsMade count before after ranges (Err OutOfMemory) =
-    (k : ℕ) × (list_all is_good (take k ranges) ≡ true) × (after ≡ grown_by count before (take k ranges))
+    (k : ℕ) × (range : GuestAddress × ℕ) × (slice_get ranges k ≡ Some range) × (0 < range.1)
+    × (AreBlocksMade count before after ranges k ⊎ AreBlocksMade count before after ranges (k + 1))
 
 -- a layout of such regions, if there is no fault among them
 abbrev pub IsMadeOf : (count : ℕ → ℕ) → (before after : Host) → List (GuestAddress × ℕ) → Result (List Region) FromRangesError → Type 0

@@ -52,8 +52,11 @@ impl<R: GuestMemoryRegion> GuestRegionCollection<R> {
     ) -> Result<GuestRegionCollection<R>, GuestRegionCollectionError>
         ensures { Collects (map R.region regions.items) result }
     {
+        if let Some(fault) = fault_among(&regions) {
+            return Err(fault);
+        }
         match share(alloc, regions) {
-            Ok(regions) => GuestRegionCollection::from_arc_regions(alloc, regions),
+            Ok(regions) => Ok(GuestRegionCollection { alloc, regions }),
             Err(_) => Err(GuestRegionCollectionError::OutOfMemory),
         }
     }
@@ -288,9 +291,9 @@ fn fault_of_pair<R: GuestMemoryRegion>(first: &R, second: &R) -> Option<GuestReg
 }
 
 // What is wrong with some regions.
-fn fault_among<R: GuestMemoryRegion>(regions: &[Arc<R>]) -> Option<GuestRegionCollectionError>
-    ensures fault { result ≡ fault_of (regions_of R.region regions.now) }
-    ensures layout { result ≡ None → IsLayout (regions_of R.region regions.now) }
+fn fault_among<R: GuestMemoryRegion>(regions: &[R]) -> Option<GuestRegionCollectionError>
+    ensures fault { result ≡ fault_of (map R.region regions.now) }
+    ensures layout { result ≡ None → IsLayout (map R.region regions.now) }
 {
     let count = regions.len();
     if count == 0 {
@@ -299,7 +302,7 @@ fn fault_among<R: GuestMemoryRegion>(regions: &[Arc<R>]) -> Option<GuestRegionCo
     // Asked for its clause alone: the first region is lawful, as `fault_of_pair` says of each other one.
     let _ = regions[0].len();
     for at in 1..count {
-        match fault_of_pair(&*regions[at - 1], &*regions[at]) {
+        match fault_of_pair(&regions[at - 1], &regions[at]) {
             Some(fault) => return Some(fault),
             None => {}
         }

@@ -52,9 +52,7 @@ fn regions_over<B: NewBitmap>(
 ) -> Result<Vec<Arc<GuestRegionMmap>>, FromRangesError>
     ensures { AreRegionsMade B.count host.old host.new ranges.now (shared_regions (λ r. r) result) }
 {
-    let Ok(mut regions) = Vec::with_capacity(alloc, ranges.len()) else {
-        return Err(FromRangesError::OutOfMemory);
-    };
+    let mut regions = Vec::new(alloc);
     for range in ranges {
         match GuestRegionMmap::from_range(alloc, host, range.0, range.1) {
             Ok(region) => {

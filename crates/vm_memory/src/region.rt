@@ -1,6 +1,7 @@
 //! A region of guest addresses over a block of host memory (vm-memory's `GuestMemoryRegion` and `GuestRegionMmap`).
 
 ghost use Rattle.std.specs.Prelude.{◌≡◌, ◌+◌, ◌-◌, ◌<◌, nat_lt, IfOk};
+ghost use Rattle.std.specs.Arc.{arc_value};
 ghost use Rattle.vm_memory_core.specs.Host.{lengths};
 ghost use Rattle.vm_memory_core.specs.Window.{LiesIn};
 ghost use Rattle.vm_memory.specs.Layout.{IsLawful, Region, last_address};
@@ -11,6 +12,7 @@ use crate::error::{FromRangesError, GuestMemoryError, MmapRegionError};
 use crate::mmap::MmapRegion;
 use std::alloc::Global;
 use std::marker::Model;
+use std::sync::Arc;
 use vm_memory_core::{
     GuestAddress, GuestUsize, HostMemory, MemoryRegionAddress, NewBitmap, VolatileSlice,
 };
@@ -131,6 +133,30 @@ pub trait GuestMemoryRegion: Drop {
             }),
             Err(error) => Err(error),
         }
+    }
+}
+
+/// A region that others may share is one too.
+impl<R: GuestMemoryRegion> GuestMemoryRegion for Arc<R> {
+    ghost region = { λ r. R.region (arc_value r) };
+
+    #[inline]
+    fn len(&self) -> GuestUsize {
+        (**self).len()
+    }
+
+    #[inline]
+    fn start_addr(&self) -> GuestAddress {
+        (**self).start_addr()
+    }
+
+    #[inline]
+    fn get_slice(
+        &self,
+        offset: MemoryRegionAddress,
+        count: usize,
+    ) -> Result<VolatileSlice, GuestMemoryError> {
+        (**self).get_slice(offset, count)
     }
 }
 

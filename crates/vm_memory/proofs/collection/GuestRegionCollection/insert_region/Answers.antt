@@ -9,11 +9,9 @@ use Rattle.vm_memory.proofs.collection.GuestRegionCollection.insert_region.Goals
 pub invariant_of-result : goal.invariant_of-result
 invariant_of-result g c =
     let r : Region = g.R.GuestMemoryRegion.region (arc_value c.args.region) in
-    let first : g.R.GuestMemoryRegion.region c.deref.result.now ≡ r = ap g.R.GuestMemoryRegion.region c.deref.ensures in
-    let second : g.R.GuestMemoryRegion.region c.deref-2.result.now ≡ r = ap g.R.GuestMemoryRegion.region c.deref-2.ensures in
-    let lawful : IsLawful r = subst IsLawful first c.start_addr-start.ensures.lawful in
-    let start : c.start_addr-start.result.0 ≡ r.start = c.start_addr-start.ensures.start ∙ ap (λ (x : Region). x.start) first in
-    let last : c.last_addr-last.result.0 ≡ r.start + r.size - 1 = c.last_addr-last.ensures.last ∙ ap (λ (x : Region). x.start + x.size - 1) second in
+    let lawful : IsLawful r = c.start_addr-start.ensures.lawful in
+    let start : c.start_addr-start.result.0 ≡ r.start = c.start_addr-start.ensures.start in
+    let last : c.last_addr-last.result.0 ≡ r.start + r.size - 1 = c.last_addr-last.ensures.last in
     let apart : list_any (overlap r) c.args.self.now ≡ false = sym
     (any-block c.args.self.now r c.start_addr-start.result.0 (c.last_addr-last.result.0 - c.start_addr-start.result.0 + 1) (sym start) (omega arith)) ∙ sym c.if-collides.ensures in
     let left = ap (regions_of g.R.GuestMemoryRegion.region) c.in-Ok-insert.ensures.items ∙ shared-insert g.R.GuestMemoryRegion.region c.in-Ok.regions.items c.begun-at.result c.args.region
@@ -25,11 +23,9 @@ invariant_of-result g c =
 pub returns-in-Ok-insert : goal.returns-in-Ok-insert
 returns-in-Ok-insert g c =
     let r : Region = g.R.GuestMemoryRegion.region (arc_value c.args.region) in
-    let first : g.R.GuestMemoryRegion.region c.deref.result.now ≡ r = ap g.R.GuestMemoryRegion.region c.deref.ensures in
-    let second : g.R.GuestMemoryRegion.region c.deref-2.result.now ≡ r = ap g.R.GuestMemoryRegion.region c.deref-2.ensures in
-    let lawful : IsLawful r = subst IsLawful first c.start_addr-start.ensures.lawful in
-    let start : c.start_addr-start.result.0 ≡ r.start = c.start_addr-start.ensures.start ∙ ap (λ (x : Region). x.start) first in
-    let last : c.last_addr-last.result.0 ≡ r.start + r.size - 1 = c.last_addr-last.ensures.last ∙ ap (λ (x : Region). x.start + x.size - 1) second in
+    let lawful : IsLawful r = c.start_addr-start.ensures.lawful in
+    let start : c.start_addr-start.result.0 ≡ r.start = c.start_addr-start.ensures.start in
+    let last : c.last_addr-last.result.0 ≡ r.start + r.size - 1 = c.last_addr-last.ensures.last in
     let apart : list_any (overlap r) c.args.self.now ≡ false = sym
     (any-block c.args.self.now r c.start_addr-start.result.0 (c.last_addr-last.result.0 - c.start_addr-start.result.0 + 1) (sym start) (omega arith)) ∙ sym c.if-collides.ensures in
     let left = ap (regions_of g.R.GuestMemoryRegion.region) c.in-Ok-insert.ensures.items ∙ shared-insert g.R.GuestMemoryRegion.region c.in-Ok.regions.items c.begun-at.result c.args.region

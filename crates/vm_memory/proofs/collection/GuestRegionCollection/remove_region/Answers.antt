@@ -1,5 +1,5 @@
 use Rattle.std.proofs.Common.{◌≡◌, List, true, ◌-◌, ◌+◌, ◌<◌, length, arith, subst, sym, ap, ◌∙◌}
-use Rattle.std.specs.Prelude.{remove}
+use Rattle.std.specs.Prelude.{remove, is_some}
 use Rattle.vm_memory.specs.Layout.{Region, start_at, regions_of, is_region, IsLayout}
 use Rattle.vm_memory.proofs.LayoutLemmas.{start_at-get}
 use Rattle.vm_memory.proofs.ChangeLemmas.{none_begins, not_there, found_there, without-remove, layout_without, shared-remove, removed_item, is_not_start, is_not_size, is_this}
@@ -46,3 +46,9 @@ returns g c =
           ∙ removed_item g.R.GuestMemoryRegion.region c.in-Ok.regions.items c.args.self.now (c.begun-begun.result - 1) r c.remove-removed.result c.in-Ok.ensures c.region-last.ensures c.remove-removed.ensures.value,
       left,
     )
+
+pub returns-in_default : goal.returns-in_default
+returns-in_default g c =
+    let r : Region = g.R.GuestMemoryRegion.region c.region-last.result.now in
+    let this : is_region c.args.base.0 c.args.size r ≡ true = is_this r c.args.base.0 c.args.size (omega arith) (omega arith) in
+    ap is_some (found_there c.args.self.now (c.begun-begun.result - 1) c.args.base.0 c.args.size r c.begun-begun.ensures.layout c.region-last.ensures this)
