@@ -1,9 +1,17 @@
 //! Queues alone, and chains of a queue one after another.
 
-use crate::stand::{Act, LIMIT, RING, Stand, UNKNOWN, expect_same, layout, play};
-use fs_queue::{Queue, Taken};
+ghost use Rattle.std.specs.Prelude.{◌+◌, ◌<◌, ◌^◌, IfSome};
+ghost use Rattle.fs_queue.specs.Walking.{AllEndIn64Bits};
+
+use crate::stand::{Act, ENOSYS_REPLY, LIMIT, RING, Stand, UNKNOWN, expect_same, layout, play};
+use fs_queue::{
+    Chain, Descriptor, Descriptors, Progress, Queue, Return, ReturnWindows, Taken, Walk,
+    Walked, add_return_windows, hold_chain,
+};
 use std::alloc::Global;
 use std::process::Abort;
+use vm_memory_core::{HostMemory, PageBitmap};
+use vm_memory_core::HostBlocks;
 
 // A chain of 40 bytes of request and 16 of room, in two parts each.
 const CHAIN: Act<'static> = Act::Chains(
@@ -73,4 +81,97 @@ fn queue_serves_at_most_so_many(rt: HostRuntime) {
 #[test]
 fn queue_that_is_missing_serves_none(rt: HostRuntime) {
     play(&rt, rt.alloc(), &[Act::Lacks]);
+}
+
+// As many bytes of the guest's one block as a load wants, from an address on.
+fn load<const N: usize>(
+    rt: &impl Abort,
+    host: &HostMemory<PageBitmap>,
+    addr: u64,
+) -> Option<[u8; N]> {
+    let mut bytes = [0; N];
+    let there = host.read_block(0, addr as usize, &mut bytes);
+    expect_same(rt, there, true);
+    Some(bytes)
+}
+
+// Joins a descriptor to those of a chain that came before it.
+#[tactic(auto, using(crate::proofs::JoinLemmas::all_joined))]
+fn join(rt: &impl Abort, descriptors: &mut Descriptors, joins: Option<Descriptor>)
+    requires all { AllEndIn64Bits descriptors.old.items }
+    requires fits { IfSome joins (λ d. d.addr + d.len < 2 ^ 64) }
+    ensures all { AllEndIn64Bits descriptors.new.items }
+{
+    if let Some(descriptor) = joins {
+        descriptors.push(descriptor).expect(rt, "memory");
+    }
+}
+
+// What a walk that wants an entry comes to by it.
+fn step(
+    rt: &impl Abort,
+    host: &HostMemory<PageBitmap>,
+    progress: Progress,
+    descriptors: &mut Descriptors,
+) -> Progress
+    requires all { AllEndIn64Bits descriptors.old.items }
+    ensures all { AllEndIn64Bits descriptors.new.items }
+{
+    let Progress::Wants(walk) = progress else {
+        rt.abort();
+    };
+    let entry = load(rt, host, walk.address());
+    let given = walk.give(entry);
+    join(rt, descriptors, given.joins);
+    given.then
+}
+
+// The descriptors of the chain of a head, by loads of a guest's memory: four join it.
+#[tactic(auto, using(crate::proofs::JoinLemmas::all_none))]
+fn walked(rt: &impl Abort, alloc: Global, host: &HostMemory<PageBitmap>, first: Progress) -> Descriptors
+    ensures { AllEndIn64Bits result.items }
+{
+    let mut descriptors = Descriptors::new(alloc);
+    let second = step(rt, host, first, &mut descriptors);
+    let third = step(rt, host, second, &mut descriptors);
+    let fourth = step(rt, host, third, &mut descriptors);
+    match step(rt, host, fourth, &mut descriptors) {
+        Progress::Ends(Walked::Chain) => descriptors,
+        _ => rt.abort(),
+    }
+}
+
+#[test]
+fn chain_is_served_by_loads_and_stores(rt: HostRuntime) {
+    let (mut host, mem) = stand(&rt, rt.alloc()).guest.into_memory();
+    let mut queue = Queue::new(layout(&rt, RING));
+    let Walk::Index(index) = queue.begin_walk() else {
+        rt.abort();
+    };
+    let avail = load(&rt, &host, index.address());
+    let Walk::RingEntry(entry) = index.give(avail) else {
+        rt.abort();
+    };
+    let slot = load(&rt, &host, entry.address());
+    let Walk::Chain(head, first) = entry.give(slot) else {
+        rt.abort();
+    };
+    let mut back = ReturnWindows::empty(rt.alloc());
+    let position = queue.position();
+    let missing = add_return_windows(rt.alloc(), queue.layout(), &host, &mem, position, &mut back);
+    expect_same(&rt, missing.expect(&rt, "memory"), None);
+    let descriptors = walked(&rt, rt.alloc(), &host, first);
+    let mut chain = Chain::empty(rt.alloc());
+    let fault = hold_chain(rt.alloc(), &host, &mem, head, &descriptors, LIMIT, &mut chain);
+    expect_same(&rt, fault.expect(&rt, "memory"), None);
+    expect_same(&rt, (chain.request_len(), chain.room_len()), (40, 16));
+    host.write_windows(&chain.writable, &ENOSYS_REPLY);
+    let stores = queue.begin_return(head, 16);
+    expect_same(&rt, (stores.head.address, stores.head.value), (0x204, 0));
+    expect_same(&rt, (stores.len.address, stores.len.value), (0x208, 16));
+    expect_same(&rt, (stores.index.address, stores.index.value), (0x202, 1));
+    let mut flags = [9; 2];
+    host.read_windows(&back.flags, &mut flags);
+    queue.advance();
+    expect_same(&rt, (Return::tells(flags), queue.position()), (true, 1));
 }
