@@ -1,6 +1,6 @@
 -- Descriptors that join a chain.
 use Rattle.std.specs.Prelude.{ℕ, ◌+◌, ◌<◌, ◌^◌, List, [], ◌∷◌, ◌++◌}
-use Rattle.std.proofs.lemmas.List.Elements.{All-push}
+use Rattle.std.proofs.lemmas.List.Elements.{All-nil, All-push}
 use Rattle.fs_queue.specs.Chain.{Descriptor}
 use Rattle.fs_queue.specs.Walking.{AllEndIn64Bits}
 
@@ -12,4 +12,4 @@ all_joined ds d all fits = All-push (λ (x : Descriptor). x.addr + x.len < 2 ^ 6
 -- none does that doesn't
 pub all_none : AllEndIn64Bits []
 unfolding AllEndIn64Bits
-all_none = All-none
+all_none = All-nil (λ (x : Descriptor). x.addr + x.len < 2 ^ 64)
