@@ -4,7 +4,7 @@ use Rattle.std.specs.Prelude.{◌==◌, ◌||◌, nat_lt, nat_le, is_some, if◌
 use Rattle.std.specs.Int.{w16, from_le_bytes}
 use Rattle.std.specs.List.{list_all}
 use Rattle.std.proofs.lemmas.Bool.{and_parts, eqb-true, lt-ltb, ltb-true}
-use Rattle.std.proofs.lemmas.List.{length-map, map-append}
+use Rattle.std.proofs.lemmas.List.{map-append}
 use Rattle.vm_iotlb.specs.declared.permissions.Permissions.TheVariants.{Read, Write}
 use Rattle.vm_memory.specs.Memory.{Memory, addresses, byte, bytes, location, number, reach}
 use Rattle.fs_queue.specs.declared.fault.ChainFault.{ChainFault}
@@ -14,18 +14,18 @@ use Rattle.fs_queue.specs.declared.fault.QueueError.TheVariants as stop
 use Rattle.fs_queue.specs.Queue.{Queue, avail_index_at, ring_entry_at, element_at, index_at}
 use Rattle.fs_queue.specs.NextAvail.{NextAvail, next_avail}
 use Rattle.fs_queue.specs.NextAvail as avail
-use Rattle.fs_queue.specs.Chain.{Descriptor, Visit, entry_address, WalkStep, Faulty, walk_step, next_visit, onward, path, first_visit, after_walk_step, Found, IsChain, HasFault, StopsQueue, chain}
-use Rattle.fs_queue.specs.Taking.{RequestAndRoom, IsRequest, CannotFetch, readable, writable, total_len, all_reach, request_and_room, Offer, Idle, Refuses, Offers, offer_of, offer}
+use Rattle.fs_queue.specs.Chain.{Descriptor, Visit, entry_address, WalkStep, walk_step, next_visit, onward, path, first_visit, after_walk_step, Found, IsChain, HasFault, StopsQueue, chain}
+use Rattle.fs_queue.specs.Taking.{IsRequest, CannotFetch, readable, writable, total_len, all_reach, Offer, Idle, Refuses, Offers, offer_of, offer}
 use Rattle.fs_queue.specs.Windows.{addresses_of}
 use Rattle.fs_queue.specs.Loads.{Load, Ahead, Reads, Ends, holding, reads_entry, step_by, ahead_at, ahead_after, ahead_of_next, is_whole, found_exactly, chain_exactly, index_load, entry_load, asks_entry, IsEntryOf, AreEntriesOf, IsLoadOf}
-use Rattle.fs_queue.specs.OfferLoads.{without_request, without_chain, without_loads, without_entry, waits_by, with_request, with_loaded, on_waits, AreLoadsOf}
+use Rattle.fs_queue.specs.OfferLoads.{without_request, without_chain, without_loads, without_entry, waits_by, with_request, with_loaded, on_waits}
 use Rattle.fs_queue.proofs.BoundLemmas.{walks_end}
 use Rattle.fs_queue.proofs.LoadLemmas.{step_still}
 use Rattle.fs_queue.proofs.OfferByLemmas.{offer_is_still}
 use Rattle.fs_queue.proofs.ReadLemmas.{length-bytes}
-use Rattle.fs_queue.proofs.RingLemmas.{IsPair, pick, index_lost, index_tells, entry_says, entry_tells, ring_is_still}
+use Rattle.fs_queue.proofs.RingLemmas.{IsPair, pick, index_lost, index_tells, entry_tells, ring_is_still}
 use Rattle.fs_queue.proofs.StillLemmas.{IsSound, sound_at, sound_next, outside, mapped, still_exactly}
-use Rattle.fs_confinement.specs.ReadSet.{ring_reads, entry_reads, walk_reads, request_reads, chain_reads, waiting_reads, offer_reads}
+use Rattle.fs_confinement.specs.ReadSet.{ring_reads, entry_reads, walk_reads, request_reads, chain_reads, waiting_reads}
 use Rattle.fs_confinement.specs.ByLoads.{came_at, all_came, asked_by, request_came, WalksReadTheirLoads, OffersReadTheirLoads}
 
 -- ---- a walk
