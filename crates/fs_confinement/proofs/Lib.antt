@@ -4,3 +4,4 @@ pub mod StepLemmas
 pub mod RunLemmas
 pub mod HiddenLemmas
 pub mod AnsweredLemmas
+pub mod ByLoadsLemmas

@@ -1,4 +1,5 @@
 pub mod ReadSet
+pub mod ByLoads
 pub mod Confinement
 pub mod Hidden
 pub mod Examples

@@ -1,10 +1,19 @@
 //! Laws of what a run reads, each the contract of a function that does nothing but call another.
 
 ghost use Rattle.fs_confinement.specs.Answered.{AnswersAreSeen};
+ghost use Rattle.fs_confinement.specs.ByLoads.{OffersReadTheirLoads, WalksReadTheirLoads};
 ghost use Rattle.fs_confinement.specs.Confinement.{Confinement};
 ghost use Rattle.fs_confinement.specs.Hidden.{HiddenBlocksAreSecret};
 
 use fuse_fs::FileSystem;
+
+/// A step reads before its calls just where its loads came. By loads that find what a memory has, a walk's read set is the
+/// addresses of those whose bytes came, in their order; that of an offer is those of the index, of the ring's entry, of the
+/// tables' entries and of the request. There are such loads for each offer (`fs_queue::laws::law_loads`).
+pub fn law_reads_are_loads()
+    ensures walks { WalksReadTheirLoads }
+    ensures offers { OffersReadTheirLoads }
+{}
 
 /// What a run doesn't read doesn't matter to it: two states that differ only in bytes outside its read set allow it, with
 /// the same answers, exchanges, notices and calls, if no image and no harvest is among its commands. It reads and writes

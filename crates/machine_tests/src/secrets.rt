@@ -4,9 +4,10 @@ use crate::copies::first_block;
 use crate::machines::{Row, bytes_of, expect_rows, machine, refusal_of};
 use crate::stand::{LogMachine, ROOM_AT, expect_same};
 use call_log::CallLog;
-use fs_confinement::laws::{law_answers_are_seen, law_confinement};
+use fs_confinement::laws::{law_answers_are_seen, law_confinement, law_reads_are_loads};
 use fs_confinement::run_beside_secrets;
-use fs_device::Command;
+use fs_device::{Answer, Command, Fault};
+use guest_driver::requests::header;
 use std::alloc::Global;
 use std::process::Abort;
 
@@ -27,8 +28,22 @@ fn hiding(rt: &impl Abort, alloc: Global, secret: &[u8]) -> LogMachine {
     machine
 }
 
-// Serves the request beside a secret, and has the guest read where that was and what was replied.
-fn served_beside(rt: &impl Abort, alloc: Global, secret: &[u8]) -> LogMachine {
+// What a kick tells of its one exchange: head, request, reply and fault, and whether the driver is to be told.
+fn told(kicked: &Answer) -> Option<(u16, &[u8], &[u8], Option<Fault>, bool)> {
+    let Answer::Served(run) = kicked else {
+        return None;
+    };
+    if run.done.len() != 1 || run.refused.is_some() {
+        return None;
+    }
+    let (exchange, notice) = run.done.first()?;
+    let (request, reply) = (exchange.request.as_slice(), exchange.reply.as_slice());
+    Some((exchange.head, request, reply, exchange.fault, *notice))
+}
+
+// Serves the request beside a secret, and has the guest read where that was and what was replied. The kick's answer is
+// handed out.
+fn served_beside(rt: &impl Abort, alloc: Global, secret: &[u8]) -> (LogMachine, Answer) {
     let mut machine = hiding(rt, alloc, secret);
     let commands = [
         Command::Kick { queue: 0, most: 9 },
@@ -47,16 +62,22 @@ fn served_beside(rt: &impl Abort, alloc: Global, secret: &[u8]) -> LogMachine {
     expect_same(rt, bytes_of(&replied), Some(UNKNOWN));
     let refused = answers.pop().expect(rt, "an answer");
     expect_same(rt, refusal_of(&refused), Some(1));
-    machine
+    let kicked = answers.pop().expect(rt, "an answer");
+    (machine, kicked)
 }
 
 #[test]
 fn secrets_stay_where_they_are_and_change_nothing_else(rt: HostRuntime) {
-    let one = served_beside(&rt, rt.alloc(), b"secret");
-    let other = served_beside(&rt, rt.alloc(), b"hidden");
+    let (one, kicked) = served_beside(&rt, rt.alloc(), b"secret");
+    let (other, also_kicked) = served_beside(&rt, rt.alloc(), b"hidden");
+    let request = header(40, 7, 1, 0);
+    let exchanged = Some((0, request.as_slice(), UNKNOWN, None, true));
+    expect_same(&rt, told(&kicked), exchanged);
+    expect_same(&rt, told(&also_kicked), exchanged);
     expect_same(&rt, one.host.byte_at(1, 0), Some(b's'));
     expect_same(&rt, other.host.byte_at(1, 0), Some(b'h'));
     expect_same(&rt, first_block(&one.host), first_block(&other.host));
     law_confinement::<CallLog>();
     law_answers_are_seen::<CallLog>();
+    law_reads_are_loads();
 }
