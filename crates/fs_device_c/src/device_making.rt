@@ -13,7 +13,7 @@ use crate::device_state::DeviceState;
 use crate::making::{Pages, lay_out};
 use crate::refusal::Refusal;
 use crate::saved_bytes::SavedBytes;
-use fs_device::Device;
+use fs_device::{Device, LEAST_LIMIT};
 use fs_queue::{Queue, QueueLayout};
 use fuse_directory::{OwnedFile, OwnedTable};
 use fuse_read_only::ReadOnly;
@@ -26,6 +26,12 @@ const MOST_FILES: usize = 1 << 32;
 
 // A device has at most so many queues.
 const MOST_QUEUES: usize = 64;
+
+// A device's greatest limit.
+const MOST_LIMIT: u32 = 1 << 31;
+
+// The sizes that a guest's pages may have.
+const PAGE_SIZES: [u32; 5] = [4 << 10, 8 << 10, 16 << 10, 32 << 10, 64 << 10];
 
 /// A file as C hands it in. Its bytes are copied.
 #[repr(C)]
@@ -106,14 +112,14 @@ fn queues_of(alloc: Global, layouts: &[FsLayout]) -> Result<Vec<Queue>, DeviceRe
 fn is_page_size(bytes: u32) -> bool
     ensures { result ≡ is_page_size bytes }
 {
-    bytes == 4096 || bytes == 8192 || bytes == 16384 || bytes == 32768 || bytes == 65536
+    PAGE_SIZES.contains(&bytes)
 }
 
 // Whether a device can have this page size and this limit.
 fn are_settings(page_size: u32, limit: u32) -> bool
     ensures { IsTrue result ↔ AreSettings page_size limit }
 {
-    is_page_size(page_size) && limit >= 0x101000 && limit <= 0x8000_0000
+    is_page_size(page_size) && limit >= LEAST_LIMIT && limit <= MOST_LIMIT
 }
 
 // The layout of two parts that are lent, each from a guest address on, and their clear pages.

@@ -97,14 +97,16 @@ end_keeps may s i zero (Some e) after t = absurd t
 end_keeps may s i (suc most) None after t = idle_keeps may s i (slice_get s.queues i) [] after t
 end_keeps may s i (suc most) (Some e) after t = refused_keeps may s i (slice_get s.queues i) [] e after t
 
-kick_holds : {F : Type 0} (may : May F) (s : State F) (i most : ℕ) (told : Told) (refused : Option DeviceError) (after : State F) → KickRun may s i most told refused after → HoldsItsBlocks s.memory → HoldsItsBlocks after.memory
+kick_holds : {F : Type 0} (may : May F) (s : State F) (i most : ℕ) (told : Told) (refused : Option DeviceError) (after : State F) → KickRun may s i most told refused after → HoldsItsBlocks s.memory →
+    HoldsItsBlocks after.memory
 unfolding KickRun
 kick_holds may s i most [] refused after t held = held_same s.memory after.memory (end_keeps may s i most refused after t) held
 kick_holds may s i zero (x ∷ told) refused after t held = absurd t
 kick_holds may s i (suc most) (x ∷ told) refused after (mid, step, rest) held =
     kick_holds may mid i most told refused after rest (step_holds may s i (slice_get s.queues i) x.calls x.exchange x.notice mid step held)
 
-kicks_hold : {F : Type 0} (may : May F) (s : State F) (i most : ℕ) (o : Option Queue) (told : Told) (k : Kicked) (after : State F) → Kicks may s i most o told k after → HoldsItsBlocks s.memory → HoldsItsBlocks after.memory
+kicks_hold : {F : Type 0} (may : May F) (s : State F) (i most : ℕ) (o : Option Queue) (told : Told) (k : Kicked) (after : State F) → Kicks may s i most o told k after → HoldsItsBlocks s.memory →
+    HoldsItsBlocks after.memory
 kicks_hold may s i most None told k after t held = held_same s.memory after.memory (ap (λ s. s.memory) t.0) held
 kicks_hold may s i most (Some q) told k after t held = kick_holds may s i most told k.refused after t.0 held
 
@@ -119,7 +121,8 @@ unless : {F : Type 0} (b : Bool) (x y : Effect F) → HoldsItsBlocks x.1.memory 
 unless true x y p q = p
 unless false x y p q = q refl
 
-insert_holds : {F : Type 0} (s : State F) (r : Region) → (r.block < length (lengths s.memory.host)) × (slice_index_or (lengths s.memory.host) r.block 0 ≡ r.size) → HoldsItsBlocks s.memory → HoldsItsBlocks (insert s r).1.memory
+insert_holds : {F : Type 0} (s : State F) (r : Region) → (r.block < length (lengths s.memory.host)) × (slice_index_or (lengths s.memory.host) r.block 0 ≡ r.size) → HoldsItsBlocks s.memory →
+    HoldsItsBlocks (insert s r).1.memory
 insert_holds s r there held =
     whichever (not (fits r)) _ _ held (whichever (list_any (overlap r) s.memory.layout) _ _ held (held_with (lengths s.memory.host) r s.memory.layout there held))
 
@@ -239,7 +242,8 @@ does_hold may s (run.ResetQueue queue size desc avail used) told answer after t 
 does_hold may s run.Image told answer after t held = told_holds s run.Image told answer after t held
 does_hold may s run.Harvest told answer after t held = told_holds s run.Harvest told answer after t held
 
-performs_hold : {F : Type 0} (may : May F) (s : State F) (command : Command) (told : Told) (answer : Answer) (after : State F) → Performs may s command told answer after → HoldsItsBlocks s.memory → HoldsItsBlocks after.memory
+performs_hold : {F : Type 0} (may : May F) (s : State F) (command : Command) (told : Told) (answer : Answer) (after : State F) → Performs may s command told answer after → HoldsItsBlocks s.memory →
+    HoldsItsBlocks after.memory
 performs_hold may s command [] (run.IsRefused why.OutOfMemory) after t held = held_same s.memory after.memory (ap (λ s. s.memory) t.1) held
 performs_hold may s command (x ∷ told) (run.IsRefused why.OutOfMemory) after t held = absurd t
 performs_hold may s command told (run.IsRefused why.NoPlace) after t held = does_hold may s command told _ after t held

@@ -1,6 +1,7 @@
 -- A read worked out: a file with the bytes `hello`, which is node 2, and a guest that reads three bytes of it from the
 -- second on, and then looks at its memory.
-use Rattle.std.specs.Prelude.{◌≡◌, ℕ, ◌-◌, ◌^◌, Bool, true, false, not, ◌&&◌, List, [], ◌∷◌, ◌++◌, nat_le, map, take, drop, Option, Some, None, option_map, Ok, Err, refl, if◌then◌else◌}
+use Rattle.std.specs.Prelude.{◌≡◌, ℕ, ◌-◌, ◌^◌, Bool, true, false, not, ◌&&◌, List, [], ◌∷◌, ◌++◌, nat_le, map, take, drop, Option, Some, None}
+use Rattle.std.specs.Prelude.{option_map, Ok, Err, refl, if◌then◌else◌}
 use Rattle.std.specs.Option.{option_or}
 use Rattle.std.proofs.Common.{ap, sym, ◌∙◌}
 use Rattle.std.specs.List.{AllByRecursion, IsDistinct, list_all}

@@ -25,13 +25,15 @@ decided : {F : Type 0} (b : Bool) (answer : Answer) (s after : State F) (done ot
 decided true answer s after done other reaches is = is
 decided false answer s after done other reaches is = absurd (cc)
 
-write_done : {F : Type 0} (s after : State F) (a : ℕ) (bytes : List ℕ) (answer : Answer) → reach (physical s.memory) Write a (length bytes) ≡ true → Affects s (GuestWrite a bytes) answer after → Affects s (GuestWrite a bytes) Done after
+write_done : {F : Type 0} (s after : State F) (a : ℕ) (bytes : List ℕ) (answer : Answer) → reach (physical s.memory) Write a (length bytes) ≡ true → Affects s (GuestWrite a bytes) answer after →
+    Affects s (GuestWrite a bytes) Done after
 unfolding effect
 write_done {F} s after a bytes answer reaches is =
     let done = decided (reach (physical s.memory) Write a (length bytes)) answer s after (Done, record s { memory = guest_written s.memory a bytes }) (no why.NoPlace s) reaches is in
     rw reaches (ap (λ (e : Effect F). (Done, e.1)) done)
 
-pub write_performed : {F : Type 0} (may : May F) (s after : State F) (a : ℕ) (bytes : List ℕ) (answer : Answer) → reach (physical s.memory) Write a (length bytes) ≡ true → Performs may s (GuestWrite a bytes) [] answer after → Affects s (GuestWrite a bytes) Done after
+pub write_performed : {F : Type 0} (may : May F) (s after : State F) (a : ℕ) (bytes : List ℕ) (answer : Answer) → reach (physical s.memory) Write a (length bytes) ≡ true →
+    Performs may s (GuestWrite a bytes) [] answer after → Affects s (GuestWrite a bytes) Done after
 write_performed may s after a bytes (IsRefused why.OutOfMemory) reaches is = absurd (cc)
 write_performed may s after a bytes (IsRefused why.NoPlace) reaches is = write_done s after a bytes (IsRefused why.NoPlace) reaches is
 write_performed may s after a bytes (IsRefused why.EmptyBlock) reaches is = write_done s after a bytes (IsRefused why.EmptyBlock) reaches is
@@ -54,7 +56,8 @@ unfolding effect
 write_refused s a bytes misses = rw misses refl
 
 -- what is kept of it is an event
-pub write_keeps : {F : Type 0} (may : May F) (s after : State F) (a : ℕ) (bytes pages : List ℕ) (kept : Kept) → Affects s (GuestWrite a bytes) Done after → WritesPages (physical s.memory) (addresses a (length bytes)) pages →
+pub write_keeps : {F : Type 0} (may : May F) (s after : State F) (a : ℕ) (bytes pages : List ℕ) (kept : Kept) → Affects s (GuestWrite a bytes) Done after →
+    WritesPages (physical s.memory) (addresses a (length bytes)) pages →
     (command_of kept.entry.command ≡ GuestWrite a bytes) × (came_of kept.entry.outcome ≡ replay.Done) × (kept.entry.pages.items ≡ pages) →
     (command_of kept.receipt.command ≡ GuestWrite a bytes) × (came_of kept.receipt.outcome ≡ replay.Done) × (kept.receipt.pages.items ≡ pages) → Keeps may s (GuestWrite a bytes) kept after
 write_keeps may s after a bytes pages kept done are entry receipt = record {

@@ -55,14 +55,17 @@ unfolding stored_all
 stored_over [] m h = refl
 stored_over (w ∷ ws) m h = stored_over ws (stored m w) h ∙ stored_one m w.1 (location m Write w.0) h
 
-returns_keep : {F : Type 0} (s after : State F) (i : ℕ) (q : Queue) (room : List ℕ) (expected : Exchange) (options : ℕ) (x : Exchange) (notice : Bool) → Returns s i q room expected options x notice after → fixed_of s ≡ fixed_of after
+returns_keep : {F : Type 0} (s after : State F) (i : ℕ) (q : Queue) (room : List ℕ) (expected : Exchange) (options : ℕ) (x : Exchange) (notice : Bool) →
+    Returns s i q room expected options x notice after → fixed_of s ≡ fixed_of after
 returns_keep {F} s after i q room expected options x notice r =
     sym (
     ap (λ (m : State F). fixed_of m) r.state
-    ∙ ap (λ (m : Memory). record { table = m.table; io_pages = m.io_pages; translates = m.translates; limit = s.limit; page_size = s.page_size }) (stored_over (writes q expected.head room expected.reply) s.memory s.memory.host)
+    ∙ ap (λ (m : Memory). record { table = m.table; io_pages = m.io_pages; translates = m.translates; limit = s.limit; page_size = s.page_size })
+    (stored_over (writes q expected.head room expected.reply) s.memory s.memory.host)
     )
 
-exchanges_keep : {F : Type 0} (may : May F) (s after : State F) (i : ℕ) (q : Queue) (offered : Offer) (calls : Calls) (x : Exchange) (notice : Bool) → Exchanges may s i q offered calls x notice after → fixed_of s ≡ fixed_of after
+exchanges_keep : {F : Type 0} (may : May F) (s after : State F) (i : ℕ) (q : Queue) (offered : Offer) (calls : Calls) (x : Exchange) (notice : Bool) →
+    Exchanges may s i q offered calls x notice after → fixed_of s ≡ fixed_of after
 exchanges_keep may s after i q (Offers head (CannotFetch why)) calls x notice e = returns_keep s after i q [] _ s.options x notice e.returns
 exchanges_keep may s after i q (Offers head (IsRequest request room)) calls x notice e = returns_keep s after i q room _ e.given.options x notice e.returns
 exchanges_keep may s after i q taking.Idle calls x notice e = absurd e
@@ -118,7 +121,8 @@ layout_keeps {F} s after layout t =
     let next = either_keeps (fixed_of s) (not (list_all fits layout)) (no why.BadRegion s) (if some_overlap layout then no why.Overlap s else (run.Done, with_layout s layout)) refl last in
     sym (
     ap (λ (e : Effect F). fixed_of e.1) t
-    ∙ either_keeps (fixed_of s) (not (list_all (is_known s.memory.host) layout)) (no why.UnknownBlock s) (if not (list_all fits layout) then no why.BadRegion s else if some_overlap layout then no why.Overlap s else (run.Done, with_layout s layout)) refl next
+    ∙ either_keeps (fixed_of s) (not (list_all (is_known s.memory.host) layout)) (no why.UnknownBlock s)
+    (if not (list_all fits layout) then no why.BadRegion s else if some_overlap layout then no why.Overlap s else (run.Done, with_layout s layout)) refl next
     )
 
 -- so does an event

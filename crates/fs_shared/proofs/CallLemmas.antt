@@ -49,8 +49,10 @@ acts_keep may before after command (Err why.BadMapping) does = same_fixed before
 acts_keep may before after command (Err why.NoSuchQueue) does = same_fixed before after does.1
 
 -- from the start the journal replays to the machine after a kick that is told so
-pub kick_replays : {F : Type 0} (may : May F) (start : Start) (s after : State F) (before now : List Entry) (i : ℕ) (result : Result (kicked.Kicked) DeviceError) → Replays (start_of start (fixed_of s)) before (forget s) →
-    ((t : State (Unit {0})) → KicksBy may (record { machine = s; start = t; journal = before }) i result (record { machine = after; start = t; journal = now })) → Replays (start_of start (fixed_of after)) now (forget after)
+pub kick_replays : {F : Type 0} (may : May F) (start : Start) (s after : State F) (before now : List Entry) (i : ℕ) (result : Result (kicked.Kicked) DeviceError) →
+    Replays (start_of start (fixed_of s)) before (forget s) →
+    ((t : State (Unit {0})) → KicksBy may (record { machine = s; start = t; journal = before }) i result (record { machine = after; start = t; journal = now })) →
+    Replays (start_of start (fixed_of after)) now (forget after)
 kick_replays {F} may start s after before now i result held does =
     let t = start_of start (fixed_of s) in
     let old : Held F = record { machine = s; start = t; journal = before } in
@@ -69,7 +71,8 @@ kick_starts {F} may start s after before now i result does =
 
 -- so it is after a write or another layout
 pub act_replays : {F : Type 0} (may : May F) (start : Start) (s after : State F) (before now : List Entry) (command : Command) (result : Result Receipt Refusal) → Replays (start_of start (fixed_of s)) before (forget s) →
-    ((t : State (Unit {0})) → ActsBy may (record { machine = s; start = t; journal = before }) command result (record { machine = after; start = t; journal = now })) → Replays (start_of start (fixed_of after)) now (forget after)
+    ((t : State (Unit {0})) → ActsBy may (record { machine = s; start = t; journal = before }) command result (record { machine = after; start = t; journal = now })) →
+    Replays (start_of start (fixed_of after)) now (forget after)
 act_replays {F} may start s after before now command result held does =
     let t = start_of start (fixed_of s) in
     let old : Held F = record { machine = s; start = t; journal = before } in

@@ -74,7 +74,8 @@ layout_keeps {F} s after layout t =
     let last = either_host h (some_overlap layout) (no why.Overlap s) (run.Done, with_layout s layout) refl refl in
     let next = either_host h (not (list_all fits layout)) (no why.BadRegion s) (if some_overlap layout then no why.Overlap s else (run.Done, with_layout s layout)) refl last in
     ap (λ (e : Effect F). e.1.memory.host) t
-    ∙ either_host h (not (list_all (is_known h) layout)) (no why.UnknownBlock s) (if not (list_all fits layout) then no why.BadRegion s else if some_overlap layout then no why.Overlap s else (run.Done, with_layout s layout)) refl next
+    ∙ either_host h (not (list_all (is_known h) layout)) (no why.UnknownBlock s)
+    (if not (list_all fits layout) then no why.BadRegion s else if some_overlap layout then no why.Overlap s else (run.Done, with_layout s layout)) refl next
 
 -- ---- a kick
 
@@ -119,7 +120,8 @@ kick_keeps may s after i (Stopped e) pages p t = same_keeps pages p s.memory.hos
 
 -- ---- an entry, and a journal
 
-plays_keep : {F : Type 0} (may : May F) (s after : State F) (command : Command) (outcome : replay.Outcome) (pages : List ℕ) (p : Place) → Plays may s command outcome pages after → KeepsOr pages p s.memory.host after.memory.host
+plays_keep : {F : Type 0} (may : May F) (s after : State F) (command : Command) (outcome : replay.Outcome) (pages : List ℕ) (p : Place) → Plays may s command outcome pages after →
+    KeepsOr pages p s.memory.host after.memory.host
 unfolding effect
 plays_keep may s after (GuestWrite a bytes) outcome pages p t = write_keeps s after a bytes pages p (reach (physical s.memory) Write a (length bytes)) t.1 t.2
 plays_keep may s after (SetLayout layout) outcome pages p t = same_keeps pages p s.memory.host after.memory.host (layout_keeps s after layout t.1)

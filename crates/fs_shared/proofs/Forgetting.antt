@@ -78,7 +78,8 @@ abbrev effect_forgets : {F : Type 0} → Effect F → Effect (Unit {0})
 effect_forgets e = (e.0, forget e.1)
 
 -- by cases
-moves : {A B : Type 0} (f : A → B) (b : Bool) (x y : Answer × A) → ◌≡◌ {A = Answer × B} ((if◌then◌else◌ {A = Answer × A} b x y).0, f (if◌then◌else◌ {A = Answer × A} b x y).1) (if◌then◌else◌ {A = Answer × B} b (x.0, f x.1) (y.0, f y.1))
+moves : {A B : Type 0} (f : A → B) (b : Bool) (x y : Answer × A) →
+    ◌≡◌ {A = Answer × B} ((if◌then◌else◌ {A = Answer × A} b x y).0, f (if◌then◌else◌ {A = Answer × A} b x y).1) (if◌then◌else◌ {A = Answer × B} b (x.0, f x.1) (y.0, f y.1))
 moves f true x y = refl
 moves f false x y = refl
 
@@ -96,7 +97,8 @@ write_forgets {F} s a bytes =
 
 layout_forgets : {F : Type 0} (s : State F) (layout : List Region) → effect_forgets (set_layout s layout) ≡ set_layout (forget s) layout
 layout_forgets {F} s layout =
-    moves (λ (m : State F). forget m) (not (list_all (is_known s.memory.host) layout)) (no why.UnknownBlock s) (if not (list_all fits layout) then no why.BadRegion s else if some_overlap layout then no why.Overlap s else (run.Done, with_layout s layout))
+    moves (λ (m : State F). forget m) (not (list_all (is_known s.memory.host) layout)) (no why.UnknownBlock s)
+    (if not (list_all fits layout) then no why.BadRegion s else if some_overlap layout then no why.Overlap s else (run.Done, with_layout s layout))
     ∙ ap (λ (e : Effect (Unit {0})). if not (list_all (is_known s.memory.host) layout) then no why.UnknownBlock (forget s) else e) (
     moves (λ (m : State F). forget m) (not (list_all fits layout)) (no why.BadRegion s) (if some_overlap layout then no why.Overlap s else (run.Done, with_layout s layout))
     ∙ ap (λ (e : Effect (Unit {0})). if not (list_all fits layout) then no why.BadRegion (forget s) else e) (
@@ -113,7 +115,8 @@ unfolding effect
 decided_layout {F} s after layout t = ap (λ (e : Effect F). effect_forgets e) t ∙ layout_forgets s layout
 
 -- an event of a machine is one of what is left
-pub plays_forgets : {F : Type 0} (may : May F) (s after : State F) (command : Command) (outcome : replay.Outcome) (pages : List ℕ) → Plays may s command outcome pages after → Plays Anything (forget s) command outcome pages (forget after)
+pub plays_forgets : {F : Type 0} (may : May F) (s after : State F) (command : Command) (outcome : replay.Outcome) (pages : List ℕ) → Plays may s command outcome pages after →
+    Plays Anything (forget s) command outcome pages (forget after)
 plays_forgets may s after (GuestWrite a bytes) outcome pages t = (t.0, decided_write s after a bytes t.1, t.2)
 plays_forgets may s after (SetLayout layout) outcome pages t = (t.0, decided_layout s after layout t.1, t.2)
 plays_forgets may s after (Kick i most) outcome pages t = (t.0, kicked_forgets may s after i outcome pages t.1)

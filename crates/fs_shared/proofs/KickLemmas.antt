@@ -43,7 +43,8 @@ request_of_exchange may s after i q head (IsRequest request room) calls x notice
 
 -- what is kept of an exchange is an event
 module _ {F : Type 0} (may : May F) (s after : State F) (i : ℕ) (calls : Calls) (x : Exchange) (notice : Bool) (t : Taken) (has : HasTaken s.memory s.limit s.queues i t) (request : List ℕ) (room : ReplyRoom)
-    (is_request : request ≡ request_of has.fetched) (is_room : IsRoomFor (lengths s.memory.host) t request room) (ten : length (places t.return_windows.used.items) ≡ 10) (step : Step may s i calls (Exchanged x notice) after) where
+    (is_request : request ≡ request_of has.fetched) (is_room : IsRoomFor (lengths s.memory.host) t request room) (ten : length (places t.return_windows.used.items) ≡ 10)
+    (step : Step may s i calls (Exchanged x notice) after) where
   request_is : x.request ≡ request
   request_is =
       let found = step_offers may s after i calls x notice step in

@@ -27,7 +27,8 @@ unfolding effect
 affects s after a n answer is = either (reach (physical s.memory) Read a n) answer s after (bytes (physical s.memory) a n) is
 
 -- nothing else
-pub read_told : {F : Type 0} (may : May F) (s after : State F) (a n : ℕ) (answer : told.Answer) → ((read : Vec ℕ Global) → answer ≡ told.TheVariants.Bytes read → ⊥) → ((e : Refusal) → answer ≡ told.TheVariants.Refused e → ⊥) →
+pub read_told : {F : Type 0} (may : May F) (s after : State F) (a n : ℕ) (answer : told.Answer) → ((read : Vec ℕ Global) → answer ≡ told.TheVariants.Bytes read → ⊥) →
+    ((e : Refusal) → answer ≡ told.TheVariants.Refused e → ⊥) →
     Performs may s (GuestRead a n) [] (answer_of answer) after → ⊥
 read_told may s after a n (told.TheVariants.Bytes read) unread unrefused is = unread read refl
 read_told may s after a n (told.TheVariants.Refused e) unread unrefused is = unrefused e refl

@@ -40,7 +40,8 @@ returns-clause-pages g c audited =
     let same : h ≡ taken_by = c.meet.ensures.harvest in
     let was = c.gather_all.ensures.harvest ∙ ap (λ (n : Harvest). record n { pass = counting n.pass taken_by.pass.counts.pages }) c.requires.harvest in
     let is = subst (λ (n : Harvest). n ≡ record { bitmap = b; pass = counting (new_pass (first_of b)) n.pass.counts.pages }) (sym same) was in
-    let took = subst (λ (n : Harvest). (p : ℕ) → p < n.bitmap.len → (tally_of taken_by.pass.counts.pages p).off ≡ (tally_of n.pass.counts.pages p).off + page_bit gathered p) c.requires.harvest c.gather_all.ensures.taken in
+    let took = subst (λ (n : Harvest). (p : ℕ) → p < n.bitmap.len → (tally_of taken_by.pass.counts.pages p).off ≡ (tally_of n.pass.counts.pages p).off + page_bit gathered p) c.requires.harvest
+    c.gather_all.ensures.taken in
     let taken = subst (λ (n : Harvest). (p : ℕ) → p < b.len → (tally_of n.pass.counts.pages p).off ≡ (tally_of (new_pass (first_of b)).counts.pages p).off + page_bit gathered p) (sym same) took in
     let mine = c.kick_often-2.ensures.pass ∙ ap (λ (q : Pass). counting q share.counts.pages)
     (ap (λ (s : Portion). s.pass) c.meet.ensures.share ∙ ap (λ (q : Pass). counting q met) (c.kick_often.ensures.pass ∙ ap (λ (s : Portion). counting s.pass first) c.requires.share)) in
