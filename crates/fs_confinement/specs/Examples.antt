@@ -1,20 +1,22 @@
 -- Worked read sets that compute: what a step reads, a step with its return, and runs over small memories.
 use Rattle.std.specs.Prelude.{◌≡◌, ℕ, true, false, List, [], ◌∷◌, ◌++◌, map, Some, None, refl}
-use Rattle.vm_iotlb.specs.declared.permissions.Permissions.TheVariants.{Read, ReadWrite}
+use Rattle.vm_iotlb.specs.declared.permissions.Permissions.TheVariants.{Read, Write, ReadWrite}
 use Rattle.vm_iotlb.specs.Ranges.{table_kept}
 use Rattle.vm_memory_core.specs.Host.{Place, new_block}
 use Rattle.vm_memory.specs.Layout.{place}
 use Rattle.vm_memory.specs.Memory.{Memory, addresses, io_memory, memory_of, stored_all}
+use Rattle.fs_queue.specs.declared.fault.QueueError.TheVariants as queue_error
 use Rattle.fs_queue.specs.Queue.{with_stop}
 use Rattle.fs_queue.specs.Chain.{path, found}
 use Rattle.fs_queue.specs.Taking.{offer}
 use Rattle.virtiofsd_fuse.specs.Examples.{le16}
 use Rattle.fs_device.specs.Step.{State, Exchanged}
+use Rattle.fs_device.specs.declared.error.DeviceError.TheVariants as device_error
 use Rattle.fs_device.specs.declared.refusal.Refusal.TheVariants as why
 use Rattle.fs_device.specs.Run as run
 use Rattle.fs_device.specs.Run.{Command, Answer, Turn, KickRun, RunTold, effect}
 use Rattle.fs_device.specs.Examples.{blank, queue, put, descriptor_bytes, with_one_request, with_descriptors, Nothing, may, device, unknown_exchange, after_reply, one_step}
-use Rattle.fs_confinement.specs.ReadSet.{is_among, offer_reads, flag_reads, places_for, kick_touches, run_touches}
+use Rattle.fs_confinement.specs.ReadSet.{is_among, offer_reads, flag_reads, places_for, nothing, kick_touches, run_touches}
 use Rattle.fs_confinement.specs.Hidden.{hides, leaves_hidden}
 
 -- ---- what a step reads before its calls; the queue's table is at 0, its rings are at 0x100 and 0x200
@@ -57,6 +59,22 @@ no_room_read : reads (put with_one_request 16 (descriptor_bytes 0x20000 16 2 0))
 unfolding offer place addresses stored_all path found
 no_room_read = refl
 
+-- a descriptor that leads to itself is read at each step: four times as one of the chain, and once more, where the chain is too long
+loop_read : reads (put with_one_request 0 (descriptor_bytes 0x1000 40 1 0))
+    ≡ addresses 0x102 2 ++ addresses 0x104 2 ++ addresses 0 16 ++ addresses 0 16 ++ addresses 0 16 ++ addresses 0 16 ++ addresses 0 16
+unfolding offer place addresses stored_all path found
+loop_read = refl
+
+-- a table has no place: the descriptor that names it is read, and none of its entries
+no_table_read : reads (put with_one_request 0 (descriptor_bytes 0x20000 32 4 0)) ≡ addresses 0x102 2 ++ addresses 0x104 2 ++ addresses 0 16
+unfolding offer place addresses stored_all path found
+no_table_read = refl
+
+-- one byte more than the limit: both descriptors are read, and no request
+over_limit_read : offer_reads with_one_request 39 queue ≡ addresses 0x102 2 ++ addresses 0x104 2 ++ addresses 0 16 ++ addresses 16 16
+unfolding offer place addresses stored_all path found
+over_limit_read = refl
+
 -- a stopped queue reads nothing
 stopped_read : offer_reads with_one_request 0x101000 (with_stop queue) ≡ []
 unfolding offer
@@ -77,6 +95,22 @@ twice =
 one_place : map (λ a. is_among 0 9 (places_for twice Read (a ∷ []))) (0 ∷ 1 ∷ 5 ∷ 9 ∷ []) ≡ false ∷ true ∷ true ∷ false ∷ []
 unfolding place table_kept
 one_place = refl
+
+-- a request at an I/O address that is mapped to 0x1000, and all else to itself
+abbrev translated : Memory
+translated =
+    record (put with_one_request 0 (descriptor_bytes 0x8000 40 1 1)) {
+      host = record (put with_one_request 0 (descriptor_bytes 0x8000 40 1 1)).host {
+        tables = (record { start = 0; end = 0x1000; target = 0; perm = ReadWrite } ∷ record { start = 0x2000; end = 0x3000; target = 0x2000; perm = Write }
+            ∷ record { start = 0x8000; end = 0x9000; target = 0x1000; perm = Read } ∷ []) ∷ [];
+      };
+      translates = true;
+    }
+
+-- it is read where it is mapped to
+translated_read : map (λ a. is_among 0 a (places_for translated Read (reads translated))) (0x1000 ∷ 0x1027 ∷ 0x1028 ∷ 0x8000 ∷ 0x2000 ∷ []) ≡ true ∷ true ∷ false ∷ false ∷ false ∷ []
+unfolding offer place addresses stored_all path found table_kept
+translated_read = refl
 
 -- ---- runs
 
@@ -139,6 +173,34 @@ kick_writes : (kick_touches may (device with_one_request queue) 0 1 (turn ∷ []
     ≡ map at (addresses 0x2000 16 ++ addresses 0x204 8 ++ addresses 0x202 2)
 unfolding kick_touches served offer place addresses stored_all path found
 kick_writes = refl
+
+-- what is read for one chain
+abbrev all_read : List ℕ
+all_read = addresses 0x102 2 ++ addresses 0x104 2 ++ addresses 0 16 ++ addresses 16 16 ++ addresses 0x1000 40
+
+-- and it reads what its step reads, and the flags
+kick_reads : (kick_touches may (device with_one_request queue) 0 1 (turn ∷ []) None (after_reply with_one_request queue) served).read ≡ map at (all_read ++ addresses 0x100 2)
+unfolding kick_touches served offer place addresses stored_all path found
+kick_reads = refl
+
+-- a kick for no chain touches nothing
+none_served : KickRun may (device with_one_request queue) 0 0 [] None (device with_one_request queue)
+unfolding KickRun
+none_served = refl
+
+none_touched : kick_touches may (device with_one_request queue) 0 0 [] None (device with_one_request queue) none_served ≡ nothing
+unfolding kick_touches
+none_touched = refl
+
+-- one that ends for want of memory counts as if it had read all that it was offered, and writes nothing
+lacking : KickRun may (device with_one_request queue) 0 1 [] (Some (device_error.Queue queue_error.OutOfMemory)) (device with_one_request queue)
+unfolding KickRun offer place addresses stored_all path found
+lacking = (refl, record { same = refl; no_call = refl })
+
+lacking_touches : kick_touches may (device with_one_request queue) 0 1 [] (Some (device_error.Queue queue_error.OutOfMemory)) (device with_one_request queue) lacking
+    ≡ record { read = map at all_read; written = [] }
+unfolding kick_touches offer place addresses stored_all path found
+lacking_touches = refl
 
 -- ---- blocks that no region shows
 
