@@ -1,8 +1,9 @@
-//! Kicks of guests that want them to be slow: each case is the most that a guest gets out of one kick in one way.
+//! Kicks of guests that want them to be slow. Each case measures the kick of one chain that a guest may leave; that no other
+//! chain costs more isn't shown here.
 
 use crate::fault::BenchFault;
 use crate::files::{MemoryFiles, memory_files};
-use crate::kick::{LONG_RING, MEMORY, PAGE_SIZE};
+use crate::kick::{LIMIT, LONG_RING, MEMORY, PAGE_SIZE, write};
 use crate::measure::{Case, Label, Meter};
 use bitflags::Flags;
 use fs_device::{Command, Device, Fault, Machine};
@@ -26,6 +27,8 @@ enum Shape {
     Bytes,
     /// READ into such bytes.
     RoomOfBytes,
+    /// WRITE out of such bytes.
+    WriteOfBytes,
     /// A descriptor that names itself.
     Loop,
     /// A table whose last descriptor names another table.
@@ -38,10 +41,14 @@ enum Shape {
     Label,
     /// A room of 2^31 bytes, which are the same two MiB again and again.
     Room,
+    /// Such a request, which is more than the device's limit.
+    Request,
     /// READ of 1 MiB, each page of which lies half over the next.
     Overlap,
     /// READ of 1 MiB through as many mappings as descriptors would go.
     Windows,
+    /// A request and a room of 31 descriptors each, which all lie over as many mappings of one byte.
+    OverlapWindows,
     /// A chain of two in a table that lies over such mappings, all of them there.
     Table,
     /// The same, every second of them missing.
@@ -49,7 +56,7 @@ enum Shape {
 }
 
 // Under which name, what the guest leaves, how many bytes of reply there are, and why there are none.
-const ATTACKS: [(&str, Shape, usize, Option<Fault>); 13] = [
+const ATTACKS: [(&str, Shape, usize, Option<Fault>); 16] = [
     (
         "empty-32768",
         Shape::Empty,
@@ -58,6 +65,7 @@ const ATTACKS: [(&str, Shape, usize, Option<Fault>); 13] = [
     ),
     ("bytes-32767", Shape::Bytes, 16, None),
     ("room-of-bytes-32767", Shape::RoomOfBytes, 32767, None),
+    ("write-of-bytes-32766", Shape::WriteOfBytes, 24, None),
     (
         "loop",
         Shape::Loop,
@@ -74,8 +82,15 @@ const ATTACKS: [(&str, Shape, usize, Option<Fault>); 13] = [
     ("name-1m", Shape::Name, 144, None),
     ("label-1m", Shape::Label, 16, None),
     ("room-2g", Shape::Room, 16, None),
+    (
+        "request-2g",
+        Shape::Request,
+        0,
+        Some(Fault::Chain(ChainFault::OverLimit)),
+    ),
     ("overlap-1m", Shape::Overlap, 0x100010, None),
     ("windows-32768", Shape::Windows, 0x100000, None),
+    ("overlap-windows-2m", Shape::OverlapWindows, 16, None),
     ("table-32768", Shape::Table, 16, None),
     ("holes-16384", Shape::Holes, 16, None),
 ];
@@ -99,7 +114,8 @@ const SMALL_ROOM: u64 = 0x380000;
 // How far from each other the bytes are that don't touch.
 const APART: u64 = 64;
 
-// From which I/O address on there are mappings of so many bytes each, how many, and how many addresses that are.
+// From which I/O address on there are mappings of so many bytes each, unless of one, how many, and how many addresses that
+// are.
 const MAPPED: u64 = 0x800000;
 
 const PIECE: u64 = 32;
@@ -121,20 +137,27 @@ fn spaced(
     step: u64,
     count: u64,
 ) -> Result<Vec<(u64, u32)>, AllocError> {
-    let mut parts = Vec::new(alloc);
+    behind(Vec::new(alloc), addr, len, step, count)
+}
+
+// The same behind other parts.
+fn behind(
+    mut parts: Vec<(u64, u32)>,
+    addr: u64,
+    len: u32,
+    step: u64,
+    count: u64,
+) -> Result<Vec<(u64, u32)>, AllocError> {
     for k in 0..count {
         parts.push((addr.wrapping_add(step.wrapping_mul(k)), len))?;
     }
     Ok(parts)
 }
 
-// A room for a header, and 256 pages, each of which lies half over the next.
-fn overlapping(alloc: Global) -> Result<Vec<(u64, u32)>, AllocError> {
-    let mut room = spaced(alloc, SMALL_ROOM, 16, 0, 1)?;
-    for page in 0..256u64 {
-        room.push((MUCH.wrapping_add(0x800 * page), 0x1000))?;
-    }
-    Ok(room)
+// A header's part, and 31 that each lie over all mappings of one byte.
+fn over_pieces(alloc: Global, addr: u64, len: u32) -> Result<Vec<(u64, u32)>, AllocError> {
+    let header = spaced(alloc, addr, len, 0, 1)?;
+    behind(header, MAPPED, PIECES as u32, 0, 31)
 }
 
 // A request of the longest length: a header, a front, and bytes of 7 with a zero byte behind them if they are a name.
@@ -187,6 +210,14 @@ fn put_read(
     Ok(())
 }
 
+// WRITE of bytes that don't touch, behind its records.
+fn put_write(guest: &mut Guest, alloc: Global) -> Result<(), BenchFault> {
+    let request = write(alloc, 32766)?;
+    let parts = behind(spaced(alloc, LITTLE, 80, 0, 1)?, MUCH, 1, APART, 32766)?;
+    guest.chain(0, &request, &parts, &[(SMALL_ROOM, 24)])?;
+    Ok(())
+}
+
 // A table in which each descriptor is empty but the last, which names a table.
 fn put_nested(guest: &mut Guest) -> Result<(), BenchFault> {
     let last = LONG_RING.size - 1;
@@ -229,17 +260,18 @@ fn put_table(guest: &mut Guest) -> Result<(), BenchFault> {
         next: 0,
     };
     guest.put(LITTLE, &unknown())?;
-    guest.descriptor_in(target(0), 0, request)?;
-    guest.descriptor_in(target(0), 1, room)?;
+    let table = target(0, PIECE);
+    guest.descriptor_in(table, 0, request)?;
+    guest.descriptor_in(table, 1, room)?;
     guest.descriptor(0, table_at(MAPPED, ALL_PIECES))?;
     guest.make_available(0)?;
     Ok(())
 }
 
-// Where a piece is mapped to: the last comes first, so no two join.
-fn target(piece: u64) -> u64 {
+// Where a piece of so many bytes is mapped to: the last comes first, so no two join.
+fn target(piece: u64, len: u64) -> u64 {
     let from_last = PIECES.wrapping_sub(1).wrapping_sub(piece);
-    MUCH.wrapping_add(PIECE.wrapping_mul(from_last))
+    MUCH.wrapping_add(len.wrapping_mul(from_last))
 }
 
 // So many bytes are mapped to an address.
@@ -275,6 +307,11 @@ impl Shape {
             Shape::Forgets => put_whole(guest, &forgets(alloc, 65535)?)?,
             Shape::Name => put_whole(guest, &longest(alloc, 1, &[], true)?)?,
             Shape::Label => put_whole(guest, &labelled(alloc)?)?,
+            Shape::WriteOfBytes => put_write(guest, alloc)?,
+            Shape::Request => {
+                let parts = spaced(alloc, MUCH, 0x200000, 0, 1024)?;
+                guest.chain(0, &unknown(), &parts, &[(SMALL_ROOM, 16)])?;
+            }
             Shape::Table | Shape::Holes => put_table(guest)?,
             _ => self.put_room(guest, alloc)?,
         }
@@ -289,8 +326,15 @@ impl Shape {
                 put_read(guest, alloc, 32751, &room)
             }
             Shape::Overlap => {
-                let room = overlapping(alloc)?;
+                let header = spaced(alloc, SMALL_ROOM, 16, 0, 1)?;
+                let room = behind(header, MUCH, 0x1000, 0x800, 256)?;
                 put_read(guest, alloc, 0x100000, &room)
+            }
+            Shape::OverlapWindows => {
+                let parts = over_pieces(alloc, LITTLE, 40)?;
+                let room = over_pieces(alloc, SMALL_ROOM, 16)?;
+                guest.chain(0, &unknown(), &parts, &room)?;
+                Ok(())
             }
             Shape::Windows => put_read(guest, alloc, ALL_PIECES - 16, &[(MAPPED, ALL_PIECES)]),
             _ => {
@@ -303,24 +347,39 @@ impl Shape {
 
     // Whether the IOMMU is on.
     fn is_translated(self) -> bool {
-        matches!(self, Shape::Windows | Shape::Table | Shape::Holes)
+        matches!(
+            self,
+            Shape::Windows | Shape::OverlapWindows | Shape::Table | Shape::Holes
+        )
     }
 
     // All that the guest has is mapped to itself, and piece by piece behind it, or every second piece.
     fn map(self, table: &mut Iotlb) -> Result<(), BenchFault> {
         map(table, 0, 0, MEMORY)?;
+        let len = match self {
+            Shape::OverlapWindows => 1,
+            _ => PIECE,
+        };
         for piece in 0..PIECES {
             if piece % 2 == 0 || !matches!(self, Shape::Holes) {
-                let iova = MAPPED.wrapping_add(PIECE.wrapping_mul(piece));
-                map(table, iova, target(piece), PIECE as usize)?;
+                let iova = MAPPED.wrapping_add(len.wrapping_mul(piece));
+                map(table, iova, target(piece, len), len as usize)?;
             }
         }
         Ok(())
     }
+
+    // How many bytes a request may have, and how many a room.
+    fn limit(self) -> u32 {
+        match self {
+            Shape::Request => LIMIT,
+            _ => MOST_LIMIT,
+        }
+    }
 }
 
-// A device whose one queue is of the greatest size, with the greatest limit, to which security contexts are sent.
-fn device(alloc: Global) -> Result<Device<MemoryFiles>, BenchFault> {
+// A device whose one queue is of the greatest size, with this limit, to which security contexts are sent.
+fn device(alloc: Global, limit: u32) -> Result<Device<MemoryFiles>, BenchFault> {
     let ring = LONG_RING;
     let Ok(layout) = QueueLayout::new(ring.size, ring.desc, ring.avail, ring.used) else {
         return Err(BenchFault::Guest);
@@ -329,7 +388,7 @@ fn device(alloc: Global) -> Result<Device<MemoryFiles>, BenchFault> {
     let server = Server::resume(memory_files(alloc)?, PAGE_SIZE, agreed);
     let mut queues = Vec::with_capacity(alloc, 1)?;
     queues.push(Queue::new(layout)).unwrap();
-    Ok(Device::new(server, queues, MOST_LIMIT))
+    Ok(Device::new(server, queues, limit))
 }
 
 // A guest that has the same kicked over and over. The last kick's length of the reply, and why there was none.
@@ -360,7 +419,7 @@ impl Attack {
         }
         Ok(Attack {
             alloc,
-            machine: Machine::new(host, mem, device(alloc)?),
+            machine: Machine::new(host, mem, device(alloc, shape.limit())?),
             lengths_alone,
             available: 0,
             last: (0, None),

@@ -233,8 +233,8 @@ fn readdirplus(alloc: Global) -> Result<Vec<u8>, AllocError> {
     requests::with_record(alloc, &header, &record)
 }
 
-// WRITE of so many bytes from the file's start.
-fn write(alloc: Global, size: u32) -> Result<Vec<u8>, AllocError> {
+/// WRITE of so many bytes from the file's start, in 80 bytes and those.
+pub(crate) fn write(alloc: Global, size: u32) -> Result<Vec<u8>, AllocError> {
     let header = requests::header(size.saturating_add(80), 16, 1, 2);
     let record = WriteIn {
         size,
