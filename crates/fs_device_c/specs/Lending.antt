@@ -43,3 +43,8 @@ CanBeLaidOut h low_base high_base = PartFits (backing_over h 0) low_base × Part
 abbrev pub RefusesUnless : (Holds : Type 0) → Refusal → Type 0
 RefusesUnless Holds BadArgument = Holds → ⊥
 RefusesUnless Holds OutOfMemory = Unit {0}
+
+-- a bad argument is refused only if this doesn't hold, and an allocation fails only if it does
+abbrev pub RefusesExactly : (Holds : Type 0) → Refusal → Type 0
+RefusesExactly Holds BadArgument = Holds → ⊥
+RefusesExactly Holds OutOfMemory = Holds

@@ -3,7 +3,7 @@
 ghost use Rattle.std.specs.Prelude.{◌≡◌, ◌≤◌, ◌<◌, ◌^◌, ◌++◌, false, length, replicate, [], IfErr, IfOk, OnOk};
 ghost use Rattle.vm_bitmaps.specs.Pages.{pages_of};
 ghost use Rattle.vm_memory.specs.Making.{backing_over};
-ghost use Rattle.fs_device_c.specs.Lending.{CanBeLaidOut, PartFits, RefusesUnless, StandApart, laid_out, parts, region_in};
+ghost use Rattle.fs_device_c.specs.Lending.{CanBeLaidOut, PartFits, RefusesExactly, RefusesUnless, StandApart, laid_out, parts, region_in};
 
 use crate::refusal::Refusal;
 use std::alloc::{AllocError, Global};
@@ -22,7 +22,7 @@ fn add_part<H: HostBlocks>(
 ) -> Result<(), Refusal>
     ensures put { OnOk result (regions.new.items ≡ regions.old.items ++ region_in (backing_over (H.host host.now) block) base) }
     ensures fits { OnOk result (PartFits (backing_over (H.host host.now) block) base) }
-    ensures refused { IfErr result (RefusesUnless (PartFits (backing_over (H.host host.now) block) base)) }
+    ensures refused { IfErr result (RefusesExactly (PartFits (backing_over (H.host host.now) block) base)) }
 {
     let Some(mapping) = MmapRegion::over_block(host, block) else {
         return Ok(());
@@ -40,7 +40,7 @@ fn add_part<H: HostBlocks>(
 fn collected(alloc: Global, regions: Vec<GuestRegionMmap>) -> Result<GuestMemoryMmap, Refusal>
     ensures collected { IfOk result (λ m. m ≡ regions.items) }
     ensures apart { OnOk result (StandApart regions.items) }
-    ensures refused { IfErr result (RefusesUnless (StandApart regions.items)) }
+    ensures refused { IfErr result (RefusesExactly (StandApart regions.items)) }
 {
     if regions.is_empty() {
         return Ok(GuestMemoryMmap::new(alloc));
