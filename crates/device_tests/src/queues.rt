@@ -5,13 +5,12 @@ ghost use Rattle.fs_queue.specs.Walking.{AllEndIn64Bits};
 
 use crate::stand::{Act, ENOSYS_REPLY, LIMIT, RING, Stand, UNKNOWN, expect_same, layout, play};
 use fs_queue::{
-    Chain, Descriptor, Descriptors, Progress, Queue, Return, ReturnWindows, Taken, Walk,
-    Walked, add_return_windows, hold_chain,
+    Chain, Descriptor, Descriptors, Progress, Queue, Return, ReturnWindows, Taken, Walk, Walked,
+    add_return_windows, hold_chain,
 };
 use std::alloc::Global;
 use std::process::Abort;
-use vm_memory_core::{HostMemory, PageBitmap};
-use vm_memory_core::HostBlocks;
+use vm_memory_core::{HostBlocks, HostMemory, PageBitmap};
 
 // A chain of 40 bytes of request and 16 of room, in two parts each.
 const CHAIN: Act<'static> = Act::Chains(
@@ -128,7 +127,12 @@ fn step(
 
 // The descriptors of the chain of a head, by loads of a guest's memory: four join it.
 #[tactic(auto, using(crate::proofs::JoinLemmas::all_none))]
-fn walked(rt: &impl Abort, alloc: Global, host: &HostMemory<PageBitmap>, first: Progress) -> Descriptors
+fn walked(
+    rt: &impl Abort,
+    alloc: Global,
+    host: &HostMemory<PageBitmap>,
+    first: Progress,
+) -> Descriptors
     ensures { AllEndIn64Bits result.items }
 {
     let mut descriptors = Descriptors::new(alloc);
@@ -164,7 +168,15 @@ fn chain_is_served_by_loads_and_stores(rt: HostRuntime) {
     }
     let descriptors = walked(&rt, rt.alloc(), &host, first);
     let mut chain = Chain::empty(rt.alloc());
-    match hold_chain(rt.alloc(), &host, &mem, head, &descriptors, LIMIT, &mut chain) {
+    match hold_chain(
+        rt.alloc(),
+        &host,
+        &mem,
+        head,
+        &descriptors,
+        LIMIT,
+        &mut chain,
+    ) {
         Ok(None) => {}
         _ => rt.abort(),
     }
