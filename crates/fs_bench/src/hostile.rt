@@ -1,6 +1,8 @@
 //! Kicks of guests that want them to be slow. Each case measures the kick of one chain that a guest may leave; that no other
 //! chain costs more isn't shown here.
 
+ghost use Rattle.std.specs.Prelude.{◌≤◌, ◌^◌};
+
 use crate::fault::BenchFault;
 use crate::files::{MemoryFiles, memory_files};
 use crate::kick::{LIMIT, LONG_RING, MEMORY, PAGE_SIZE, write};
@@ -370,7 +372,10 @@ impl Shape {
     }
 
     // How many bytes a request may have, and how many a room.
-    fn limit(self) -> u32 {
+    fn limit(self) -> u32
+        ensures low { 0x101000 ≤ result }
+        ensures high { result ≤ 2 ^ 31 }
+    {
         match self {
             Shape::Request => LIMIT,
             _ => MOST_LIMIT,
@@ -379,7 +384,10 @@ impl Shape {
 }
 
 // A device whose one queue is of the greatest size, with this limit, to which security contexts are sent.
-fn device(alloc: Global, limit: u32) -> Result<Device<MemoryFiles>, BenchFault> {
+fn device(alloc: Global, limit: u32) -> Result<Device<MemoryFiles>, BenchFault>
+    requires low { 0x101000 ≤ limit }
+    requires high { limit ≤ 2 ^ 31 }
+{
     let ring = LONG_RING;
     let Ok(layout) = QueueLayout::new(ring.size, ring.desc, ring.avail, ring.used) else {
         return Err(BenchFault::Guest);
