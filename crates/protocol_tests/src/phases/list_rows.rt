@@ -405,3 +405,15 @@ fn entries_have_errors(rt: HostRuntime) {
         [Some(Errno::EIO), Some(Errno::EOVERFLOW), None],
     );
 }
+
+#[test]
+fn listing_has_the_room_that_was_asked_for(rt: HostRuntime) {
+    let session = Session::new(4096);
+    let kept = waiting(&rt, rt.alloc(), &session, READDIR.request, 90);
+    expect_same(&rt, (session.page_size(), kept.room()), (4096, 90));
+    let mut listing = Listing::begin(kept).expect(&rt, "a listing");
+    expect_same(&rt, listing.left(), 64);
+    let mut list = [0xff; LIST_LEN];
+    let comes = bring(&mut listing, &mut list, &DOT);
+    expect_same(&rt, (comes, listing.left()), (Ok(()), 32));
+}

@@ -4,17 +4,18 @@ ghost use Rattle.std.specs.Prelude.{⊤};
 
 use crate::given::expect_same;
 use crate::segments::given::{expect_left, expect_room, expect_written, reader, writer};
-use fuse_fs::{PositionedFile, WritevFlags, ZeroCopyReader, ZeroCopyWriter};
+use fuse_fs::{PositionedFile, WritevFlags, ZeroCopyReader, ZeroCopyWriter, defaults};
 use fuse_wire::Errno;
 use server_segments::{Reader, Writer, ZcReader, ZcWriter};
 use std::process::Abort;
 
-// A file of 64 bytes that writes down how much it was lent last, how often and where.
+// A file of 64 bytes that writes down how much it was lent last, how often and where. It takes only so many calls.
 #[derive(Drop)]
 struct Disk {
     bytes: [u8; 64],
     lent: usize,
     calls: u8,
+    most: u8,
     last: u64,
     fails: bool,
 }
@@ -25,6 +26,7 @@ impl Disk {
             bytes: [0; 64],
             lent: 0,
             calls: 0,
+            most: 255,
             last: 0,
             fails: false,
         }
@@ -34,7 +36,7 @@ impl Disk {
         self.lent = lent;
         self.last = off;
         self.calls = self.calls.saturating_add(1);
-        if self.fails {
+        if self.fails || self.calls > self.most {
             Err(Errno::EINVAL)
         } else {
             Ok(())
@@ -148,6 +150,21 @@ fn files_are_read_on(rt: HostRuntime) {
     let second = z.read_from_file_at(&mut disk, 20, 0);
     expect_same(&rt, (first, second, disk.last), (Ok(14), Ok(10), 2));
     expect_written(&rt, z.writer, &[9; 24]);
+}
+
+#[test]
+fn errno_after_some_bytes_is_a_short_count(rt: HostRuntime) {
+    let mut z = ZcReader {
+        reader: reader(&rt, rt.alloc(), &[7; 24], &[16, 8]),
+    };
+    let mut disk = Disk::new();
+    disk.most = 1;
+    let first = defaults::write_whole(&mut disk, &mut z, 24, 0, None);
+    expect_left(&rt, &z.reader, 8, 16);
+    let second = defaults::write_whole(&mut disk, &mut z, 24, 16, None);
+    expect_left(&rt, &z.reader, 8, 16);
+    let answers = (first, second, disk.lent);
+    expect_same(&rt, answers, (Ok(16), Err(Errno::EINVAL), 8));
 }
 
 // A file without an end, of which each byte is 1.
