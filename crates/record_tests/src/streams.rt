@@ -13,7 +13,7 @@ use std::io::{self, ErrorKind, Read, Write};
 use std::process::Abort;
 use virtiofsd_fuse::FileSystemBase;
 
-// A reader that gives a byte a call, and after so many calls fails in this way.
+// A reader that gives a byte a call, and after so many calls fails once in this way: asked again, it would go on.
 #[derive(Drop)]
 struct SlowReader<'a> {
     bytes: &'a [u8],
@@ -24,6 +24,7 @@ struct SlowReader<'a> {
 impl<'a> Read for SlowReader<'a> {
     fn read(&mut self, buffer: &mut [u8]) -> io::Result<usize> {
         if self.calls == 0 {
+            self.calls = usize::MAX;
             return Err(io::Error::from(self.fails));
         }
         self.calls -= 1;
@@ -38,18 +39,23 @@ impl<'a> Read for SlowReader<'a> {
     }
 }
 
-// A writer that takes a byte a call, and after so many calls fails or takes nothing.
+// A writer that takes a byte a call, and after so many calls once fails in this way, or takes nothing: asked again, it would go
+// on.
 #[derive(Drop)]
 struct SlowWriter {
     taken: Vec<u8>,
     calls: usize,
-    fails: bool,
+    fails: Option<ErrorKind>,
 }
 
 impl Write for SlowWriter {
     fn write(&mut self, bytes: &[u8]) -> io::Result<usize> {
-        if self.calls == 0 && self.fails {
-            return Err(io::Error::from(ErrorKind::BrokenPipe));
+        if self.calls == 0 {
+            self.calls = usize::MAX;
+            return match self.fails {
+                Some(kind) => Err(io::Error::from(kind)),
+                None => Ok(0),
+            };
         }
         let n = bytes.len().min(self.calls).min(1);
         self.calls -= n;
@@ -62,8 +68,15 @@ impl Write for SlowWriter {
     }
 }
 
-// An interrupted read is an error like another.
+// A call that was interrupted is an error like another.
 const FAILS: [ErrorKind; 2] = [ErrorKind::Interrupted, ErrorKind::BrokenPipe];
+
+// How a writer fails; it takes nothing where no error is named.
+const WRITE_FAILS: [Option<ErrorKind>; 3] = [
+    None,
+    Some(ErrorKind::Interrupted),
+    Some(ErrorKind::BrokenPipe),
+];
 
 #[test]
 fn a_reader_fails_at_each_call(rt: HostRuntime) {
@@ -118,7 +131,7 @@ fn a_reader_that_fails_hands_the_file_system_back(rt: HostRuntime) {
 fn a_record_that_was_cut_is_written_again(rt: HostRuntime) {
     let device = served(&rt, rt.alloc());
     for calls in 0..64usize {
-        for fails in [false, true] {
+        for fails in WRITE_FAILS {
             let mut sink = Stream::new(SlowWriter {
                 taken: Vec::new(rt.alloc()),
                 calls,
@@ -138,7 +151,7 @@ fn written(
     rt: &impl Abort,
     alloc: Global,
     calls: usize,
-    fails: bool,
+    fails: Option<ErrorKind>,
 ) -> (Result<(), WriteFault>, Vec<u8>) {
     let layout = QueueLayout::new(4, 0, 0x100, 0x200).expect(rt, "a layout");
     let queues = [Queue::resume(layout, 1, false)];
@@ -160,7 +173,7 @@ fn written(
 #[test]
 fn a_writer_fails_at_each_call(rt: HostRuntime) {
     for calls in 0..65usize {
-        for fails in [false, true] {
+        for fails in WRITE_FAILS {
             let (result, taken) = written(&rt, rt.alloc(), calls, fails);
             let want = if calls < 64 { Err(WriteFault) } else { Ok(()) };
             expect_same(
