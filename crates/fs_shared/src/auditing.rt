@@ -1,6 +1,6 @@
 //! Whether receipts say all that a journal says.
 
-ghost use Rattle.std.specs.Prelude.{◌≡◌, ◌↔◌, ◌<◌, ℕ, IsTrue, All};
+ghost use Rattle.std.specs.Prelude.{◌≡◌, ◌↔◌, ◌<◌, ℕ, IsTrue, All, length};
 ghost use Rattle.fs_shared.specs.Audit.{AreAllReceipts, IsTold, Tells, times};
 
 use crate::entry::{JournalEntry, Receipt};
@@ -51,10 +51,28 @@ fn all_told(journal: &[JournalEntry], receipts: &[Receipt]) -> bool
     true
 }
 
-// Whether each number below a count is that of one receipt.
+// Whether the numbers of some receipts are 0, 1 and so on, in this order.
+fn ascend(receipts: &[Receipt]) -> bool
+    ensures { IsTrue result → (number : ℕ) → number < length receipts.now → times number receipts.now ≡ 1 }
+{
+    let mut next = 0;
+    for receipt in receipts {
+        if receipt.number != next {
+            return false;
+        }
+        next += 1;
+    }
+    true
+}
+
+// Whether each number below a count is that of one receipt. It passes receipts that ascend once, and others once for each
+// number.
 fn each_once(count: usize, receipts: &[Receipt]) -> bool
     ensures { IsTrue result ↔ ((number : ℕ) → number < count → times number receipts.now ≡ 1) }
 {
+    if receipts.len() == count && ascend(receipts) {
+        return true;
+    }
     for number in 0..count {
         if times(receipts, number) != 1 {
             return false;
@@ -65,7 +83,8 @@ fn each_once(count: usize, receipts: &[Receipt]) -> bool
 
 /// Whether some receipts say all that a journal says: their numbers are 0 up to the journal's length, each once, and each
 /// has the command, the outcome and the pages of the entry of its number. Layouts are compared by the base, the length
-/// and the block of each region. It takes no memory, and looks at each receipt once for each entry.
+/// and the block of each region. It takes no memory. It passes receipts that stand in the order of their numbers once, and others once for each
+/// entry.
 ///
 /// The clauses of a `SharedDevice` can't name what lay under its lock: this finds, at run time, a receipt without an entry, an
 /// entry without a receipt, and a receipt that tells what another call did. It doesn't find a kick that is idle though a chain

@@ -100,6 +100,7 @@ const NOTHING: Other = Other::Nothing;
 fn audit_takes_each_receipt_once(rt: HostRuntime) {
     const ROWS: &[Row<'static>] = &[
         (&[(2, 2, NOTHING), (0, 0, NOTHING), (1, 1, NOTHING)], true),
+        (&[(0, 0, NOTHING), (1, 1, NOTHING), (2, 2, NOTHING)], true),
         (&[(0, 0, NOTHING), (1, 1, NOTHING)], false),
         (&[(1, 1, NOTHING), (2, 2, NOTHING)], false),
         (
