@@ -1,0 +1,7 @@
+pub mod Answers
+pub mod Asking
+pub mod Listings
+pub mod Numbers
+pub mod Orders
+pub mod Returns
+pub mod Walks

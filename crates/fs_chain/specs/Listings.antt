@@ -1,0 +1,79 @@
+-- Listings that are answered entry by entry: what is told of an entry, and what is kept of a reply.
+use Rattle.std.specs.Prelude.{◌≡◌, ℕ, ◌++◌, ◌&&◌, [], ◌∷◌, List, true, false, nat_lt, take, Some, Result, Ok, Err}
+use Rattle.fuse_fs.specs.Calls.{Entries, Failed, Listed}
+use Rattle.server_replies.specs.Entries.{is_dot}
+use Rattle.server_replies.specs.WholeReplies.{listing_bytes}
+use Rattle.virtiofsd_fuse.specs.Grammar.{FileCommand}
+use Rattle.virtiofsd_fuse.specs.Serving.{Setting, commanded}
+use Rattle.server_phases.specs.declared.listing.Listing.{Listing}
+use Rattle.server_phases.specs.declared.listing.ListingReply.{ListingReply}
+use Rattle.server_phases.specs.declared.listing.NotAdded as reason
+use Rattle.server_phases.specs.declared.listing.NotAdded.TheVariants as not_added
+use Rattle.server_phases.specs.Gathering.{Brought, EndsList, FailsList, Holds, IsListingFor, StaysBut, all_bytes, all_found, entries_of, error_of, look_up, look_ups, served_list}
+use Rattle.server_phases.specs.Waiting.{first_call}
+use Rattle.fs_chain.specs.declared.error.ChainError.{ChainError}
+use Rattle.fs_chain.specs.declared.error.ChainError.TheVariants as error
+use Rattle.fs_chain.specs.declared.listing.Added.{Added}
+use Rattle.fs_chain.specs.declared.listing.Added.TheVariants as added
+use Rattle.fs_chain.specs.declared.state.Out.{Out}
+use Rattle.fs_chain.specs.declared.state.State as state
+use Rattle.fs_chain.specs.declared.state.State.TheVariants as at
+
+-- what is told of an entry
+abbrev pub told_added : Result (Unit {0}) reason.NotAdded → Result Added ChainError
+told_added (Ok done) = Ok added.In
+told_added (Err not_added.OtherKind) = Err error.OtherKind
+told_added (Err not_added.Full) = Ok added.Full
+told_added (Err not_added.NoRoom) = Ok added.NoRoom
+told_added (Err not_added.TooLong) = Ok added.TooLong
+told_added (Err not_added.ShortList) = Err error.ShortBuffer
+
+-- what an entry changes in a listing and its list, and what follows if it isn't in
+pub record Adds (old new : Listing) (list list' : List ℕ) (e : Brought) (outcome : Result (Unit {0}) reason.NotAdded) : Type 0 where
+  pub holds : outcome ≡ Ok tt → (es : List Brought) → Holds old list es → Holds new list' (es ++ e ∷ [])
+  pub full : outcome ≡ Err not_added.Full → EndsList old list e
+  pub fails : (why : reason.NotAdded) (errno : ℕ) → outcome ≡ Err why → error_of why ≡ Some errno → FailsList old list e errno
+  pub same : (why : reason.NotAdded) → outcome ≡ Err why → (new ≡ old) × (list' ≡ list)
+  pub stays : StaysBut old new
+
+-- an entry is brought to the listing that is answered, of which this comes; to no other
+abbrev pub AddsTo : (old new : state.State) → (list list' : List ℕ) → Brought → (outcome : Listing → Result (Unit {0}) reason.NotAdded) → Result Added ChainError → Type 0
+AddsTo (at.Lists out l) new list list' e outcome told =
+    (told ≡ told_added (outcome l)) × ((now : Listing) × (new ≡ at.Lists out now) × Adds l now list list' e (outcome l))
+AddsTo (at.Waits out w) new list list' e outcome told = (told ≡ Err error.OtherKind) × (new ≡ at.Waits out w) × (list' ≡ list)
+AddsTo old new list list' e outcome told = (told ≡ Err error.WrongOrder) × (new ≡ old) × (list' ≡ list)
+
+-- a listing's reply is kept: its front, and how many bytes of the list are its data
+abbrev pub answered_by : Out → ListingReply → state.State
+answered_by out reply = at.Answered out (record { front = Some reply.front; behind = reply.len })
+
+-- the reply to a listing of these entries
+abbrev pub IsListReply : Listing → ListingReply → Type 0
+IsListReply l reply =
+    (s : Setting) (command : FileCommand) (list : List ℕ) (es : List Brought) → IsListingFor l s.room command → Holds l list es
+    → commanded s command (Entries (entries_of es) ∷ all_found l.with_nodes es) ≡ served_list (first_call command ∷ look_ups command es) s.options reply list
+
+-- how a listing ends that failed by an error: the error alone, or, if READDIRPLUS has brought entries, these, since their nodes are held
+pub record IsFailedReply (l : Listing) (errno : ℕ) (reply : ListingReply) : Type 0 where
+  pub bytes : (list : List ℕ) (es : List Brought) → Holds l list es
+      → reply.front ++ take reply.len list ≡ listing_bytes l.unique l.with_nodes (all_bytes l.with_nodes es) (Some errno)
+  pub alone : (l.with_nodes && nat_lt 0 l.len) ≡ false → (s : Setting) (command : FileCommand) (list : List ℕ) → IsListingFor l s.room command
+      → commanded s command (Failed errno ∷ []) ≡ served_list (first_call command ∷ []) s.options reply list
+  pub looked_up : l.with_nodes ≡ true → (s : Setting) (command : FileCommand) (list : List ℕ) (es : List Brought) (d : Listed)
+      → IsListingFor l s.room command → Holds l list es → is_dot d.name ≡ false
+      → commanded s command (Entries (entries_of es ++ d ∷ []) ∷ (all_found true es ++ Failed errno ∷ []))
+      ≡ served_list (first_call command ∷ (look_ups command es ++ look_up command d)) s.options reply list
+
+-- a listing that is answered ends by its reply; no other call does
+abbrev pub RepliesBy : (Listing → ListingReply → Type 0) → (old new : state.State) → Result ℕ ChainError → Type 0
+RepliesBy P (at.Lists out l) new told = (reply : ListingReply) × (told ≡ Ok reply.len) × (new ≡ answered_by out reply) × P l reply
+RepliesBy P (at.Waits out w) new told = (told ≡ Err error.OtherKind) × (new ≡ at.Waits out w)
+RepliesBy P old new told = (told ≡ Err error.WrongOrder) × (new ≡ old)
+
+-- by the entries so far
+abbrev pub Ends : (old new : state.State) → Result ℕ ChainError → Type 0
+Ends old new told = RepliesBy IsListReply old new told
+
+-- by an error
+abbrev pub Fails : (errno : ℕ) → (old new : state.State) → Result ℕ ChainError → Type 0
+Fails errno old new told = RepliesBy (λ l reply. IsFailedReply l errno reply) old new told

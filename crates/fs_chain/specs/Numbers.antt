@@ -1,0 +1,15 @@
+-- The numbers that tell errors apart.
+use Rattle.std.specs.Prelude.{ℕ}
+use Rattle.fs_chain.specs.declared.error.ChainError.{ChainError}
+use Rattle.fs_chain.specs.declared.error.ChainError.TheVariants as error
+
+-- why a call did nothing
+abbrev pub chain_error_number : ChainError → ℕ
+chain_error_number error.OutOfMemory = 9
+chain_error_number error.BadArgument = 66
+chain_error_number error.ShortBuffer = 69
+chain_error_number error.LongReply = 71
+chain_error_number error.WrongOrder = 73
+chain_error_number error.OtherQueue = 74
+chain_error_number error.OtherKind = 75
+chain_error_number error.ChainOut = 76

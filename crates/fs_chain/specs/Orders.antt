@@ -1,0 +1,110 @@
+-- Which calls go on from where a chain is, and which do nothing.
+use Rattle.std.specs.Prelude.{ℕ, ◌+◌, ◌-◌, ◌^◌, min, [], Bool, true, false, not, ◌==◌, ◌&&◌, ◌||◌, nat_lt, length, List, Option, Some, None, if◌then◌else◌}
+use Rattle.fs_regions.specs.declared.course.Course.{Course}
+use Rattle.fs_regions.specs.declared.walk.QueueWalk.{QueueWalk}
+use Rattle.fs_regions.specs.Walks.{asked_len}
+use Rattle.fs_chain.specs.declared.queue.KeptQueue.{KeptQueue}
+use Rattle.fs_chain.specs.declared.state.Out.{Out}
+use Rattle.fs_chain.specs.declared.state.Reply.{Reply}
+use Rattle.fs_chain.specs.declared.state.State as state
+use Rattle.fs_chain.specs.declared.state.State.TheVariants as at
+use Rattle.fs_chain.specs.declared.error.ChainError.{ChainError}
+use Rattle.fs_chain.specs.declared.error.ChainError.TheVariants.{BadArgument, ShortBuffer, WrongOrder, OtherQueue, OtherKind, ChainOut}
+
+-- whether a course goes through what waits at a queue's position
+abbrev pub is_at : KeptQueue → Course → Bool
+is_at q c =
+    q.position == c.position && q.layout.size == c.layout.size && q.layout.desc == c.layout.desc && q.layout.avail == c.layout.avail && q.layout.used == c.layout.used
+
+-- whether a chain is out of a queue as it stands
+abbrev pub is_out_of : KeptQueue → Out → Bool
+is_out_of q out = q.out && is_at q out.course
+
+-- whether a chain is out, of any queue
+abbrev pub is_out : state.State → Bool
+is_out at.Free = false
+is_out (at.Walking course walk) = false
+is_out _ = true
+
+-- of a walk that asks for a load
+abbrev pub IfWalking : state.State → (QueueWalk → Type 0) → Type 0
+IfWalking (at.Walking course walk) P = P walk
+IfWalking _ P = Unit {0}
+
+-- a walk asks for a load
+abbrev pub IsWalking : state.State → Type 0
+IsWalking (at.Walking course walk) = Unit {0}
+IsWalking _ = ⊥
+
+-- why the next walks can't go over another memory, with this limit
+abbrev pub memory_error : state.State → (limit : ℕ) → Option ChainError
+memory_error at.Free limit = if nat_lt limit 0x101000 || nat_lt (2 ^ 31) limit then Some BadArgument else None
+memory_error _ limit = Some ChainOut
+
+-- why a walk can't begin, by so many bytes
+abbrev pub begin_error : KeptQueue → (len : ℕ) → Option ChainError
+begin_error q len = if not (len == 0) then Some BadArgument else if q.out then Some ChainOut else None
+
+-- why a walk can't go on
+abbrev pub give_error : KeptQueue → Course → (asked len : ℕ) → Option ChainError
+give_error q course asked len =
+    if not (len == asked) then Some BadArgument else if not (is_at q course) then Some OtherQueue else if q.out then Some ChainOut else None
+
+-- why a call of a walk does nothing, but for memory that is wanting
+abbrev pub walk_error : state.State → KeptQueue → (len : ℕ) → Option ChainError
+walk_error at.Free q len = begin_error q len
+walk_error (at.Walking course walk) q len = give_error q course (asked_len walk) len
+walk_error _ q len = Some WrongOrder
+
+-- why a request can't be asked by so many bytes
+abbrev pub ask_error : state.State → (len : ℕ) → Option ChainError
+ask_error (at.Taken out) len = if nat_lt out.request_len len then Some BadArgument else None
+ask_error _ len = Some WrongOrder
+
+-- why no answer can be taken, whatever it is
+abbrev pub answer_error : state.State → Option ChainError
+answer_error (at.Waits out waiting) = None
+answer_error (at.Lists out listing) = Some OtherKind
+answer_error _ = Some WrongOrder
+
+-- why no listing goes on
+abbrev pub listing_error : state.State → Option ChainError
+listing_error (at.Lists out listing) = None
+listing_error (at.Waits out waiting) = Some OtherKind
+listing_error _ = Some WrongOrder
+
+-- the front of a reply; none has no bytes
+abbrev pub front_in : Option (List ℕ) → List ℕ
+front_in None = []
+front_in (Some front) = front
+
+abbrev pub front_of : Reply → List ℕ
+front_of r = front_in r.front
+
+abbrev pub front_len : Reply → ℕ
+front_len r = length (front_of r)
+
+-- how many bytes a reply has in the room of its chain, its data among them, as le32
+abbrev pub reply_len : Out → Reply → ℕ
+reply_len out r = min (min (front_len r + r.behind) out.room_len) (2 ^ 32 - 1)
+
+-- why a chain can't go back, by a buffer of so many bytes
+abbrev pub return_error : state.State → KeptQueue → (len : ℕ) → Option ChainError
+return_error (at.Answered out reply) q len =
+    if not (is_out_of q out) then Some OtherQueue else if nat_lt len (front_len reply) then Some ShortBuffer else None
+return_error _ q len = Some WrongOrder
+
+-- why no return can be ended
+abbrev pub end_error : state.State → KeptQueue → Option ChainError
+end_error (at.Returning out) q = if is_out_of q out then None else Some OtherQueue
+end_error _ q = Some WrongOrder
+
+-- why a chain can't be given up
+abbrev pub give_up_error : state.State → KeptQueue → Option ChainError
+give_up_error at.Free q = None
+give_up_error (at.Walking course walk) q = None
+give_up_error (at.Returning out) q = Some WrongOrder
+give_up_error (at.Taken out) q = if is_out_of q out then None else Some OtherQueue
+give_up_error (at.Waits out waiting) q = if is_out_of q out then None else Some OtherQueue
+give_up_error (at.Lists out listing) q = if is_out_of q out then None else Some OtherQueue
+give_up_error (at.Answered out reply) q = if is_out_of q out then None else Some OtherQueue

@@ -1,0 +1,107 @@
+-- What a walk comes to, and what is kept of it.
+use Rattle.std.specs.Prelude.{◌≡◌, ℕ, ◌-◌, ◌^◌, min, [], List, Bool, true, false, Option, Some, None}
+use Rattle.fs_queue.specs.declared.fault.QueueError.{QueueError}
+use Rattle.fs_queue.specs.declared.fault.QueueError.TheVariants.{Stopped}
+use Rattle.fs_queue.specs.Chain.{Descriptor}
+use Rattle.fs_queue.specs.Taking.{total_len}
+use Rattle.fs_queue.specs.Windows.{of_direction}
+use Rattle.fs_regions.specs.declared.course.Course.{Course}
+use Rattle.fs_regions.specs.declared.step.Step as comes
+use Rattle.fs_regions.specs.declared.step.Step.TheVariants as step
+use Rattle.fs_regions.specs.declared.walk.QueueWalk.{QueueWalk}
+use Rattle.fs_regions.specs.Places.{places_in}
+use Rattle.fs_regions.specs.Walks.{Loaded, nothing, asked_len, queue_of, with_bytes, StandsAt, ComesTo}
+use Rattle.fs_chain.specs.declared.queue.KeptQueue.{KeptQueue}
+use Rattle.fs_chain.specs.declared.state.Out.{Out}
+use Rattle.fs_chain.specs.declared.state.Reply.{Reply}
+use Rattle.fs_chain.specs.declared.state.State as state
+use Rattle.fs_chain.specs.declared.state.State.TheVariants as at
+use Rattle.fs_chain.specs.declared.walking.Walked as walked
+use Rattle.fs_chain.specs.declared.walking.Walked.TheVariants as tells
+use Rattle.fs_chain.specs.declared.workbench.Workbench.{Workbench}
+
+-- how many bytes some descriptors have in one direction, counted in 64 bits
+abbrev pub count : (write_only : Bool) → List Descriptor → ℕ
+count write_only ds = min (total_len (of_direction write_only ds)) (2 ^ 64 - 1)
+
+-- the course through what waits at a queue's position
+abbrev pub course_of : KeptQueue → (limit : ℕ) → Course
+course_of q limit = record { layout = q.layout; position = q.position; limit = limit }
+
+-- a chain without a fault, out of its queue, with these descriptors
+abbrev pub out_of : Course → (head : ℕ) → List Descriptor → Out
+out_of course head ds = record { course = course; head = head; request_len = count false ds; room_len = count true ds }
+
+-- a faulty chain, out of its queue: nothing is read or written of it
+abbrev pub faulty_out : Course → (head : ℕ) → Out
+faulty_out course head = record { course = course; head = head; request_len = 0; room_len = 0 }
+
+-- no reply
+abbrev pub no_reply : Reply
+no_reply = record { front = None; behind = 0 }
+
+-- what is told of a walk that came to this, with these descriptors
+abbrev pub told_of : List Descriptor → comes.Step → walked.Walked
+told_of ds (step.Load walk) = tells.Load (asked_len walk)
+told_of ds step.Idle = tells.Idle
+told_of ds (step.Refused e) = tells.Refused e
+told_of ds (step.Chain head None) = tells.Chain head (count false ds) (count true ds)
+told_of ds (step.Chain head (Some fault)) = tells.Faulty head fault
+
+-- where the chain is then
+abbrev pub state_after : Course → List Descriptor → comes.Step → state.State
+state_after course ds (step.Load walk) = at.Walking course walk
+state_after course ds step.Idle = at.Free
+state_after course ds (step.Refused e) = at.Free
+state_after course ds (step.Chain head None) = at.Taken (out_of course head ds)
+state_after course ds (step.Chain head (Some fault)) = at.Answered (faulty_out course head) no_reply
+
+-- the queue then
+abbrev pub queue_after : KeptQueue → comes.Step → KeptQueue
+queue_after q (step.Refused e) = record q { stopped = Some e }
+queue_after q (step.Chain head fault) = record q { out = true }
+queue_after q _ = q
+
+-- the descriptors that are kept of those that were gathered: a faulty chain has no windows
+abbrev pub left_of : comes.Step → List Descriptor → List Descriptor
+left_of (step.Chain head (Some fault)) ds = []
+left_of _ ds = ds
+
+-- all of the handle stays but where its chain is, and the chain's descriptors
+abbrev pub IsAllBut : (old new : Workbench) → Type 0
+IsAllBut old new = (new.regions ≡ old.regions) × (new.limit ≡ old.limit)
+
+-- handle and queue keep what a walk on this course came to, and this is told of it
+abbrev pub Keeps : Course → comes.Step → (old new : Workbench) → (before after : KeptQueue) → walked.Walked → Type 0
+Keeps course came old new before after told =
+    (told ≡ told_of new.descriptors.items came) × (new.state ≡ state_after course new.descriptors.items came) × (after ≡ queue_after before came) × IsAllBut old new
+
+-- a walk begins: by no load it comes to what is kept and told
+abbrev pub BeginsOn : Course → (old new : Workbench) → (before after : KeptQueue) → walked.Walked → Type 0
+BeginsOn course old new before after told =
+    (came : comes.Step) × Keeps course came old new before after told
+    × ComesTo (places_in old.regions) course.limit (queue_of course) nothing new.descriptors.items came
+
+-- a walk goes on by the bytes of a load: whatever was loaded before, it comes to what is kept and told
+abbrev pub GoesOn : Course → QueueWalk → (bytes : List ℕ) → (old new : Workbench) → (before after : KeptQueue) → walked.Walked → Type 0
+GoesOn course walk bytes old new before after told =
+    (came : comes.Step) × Keeps course came old new before after told
+    × ((loaded : Loaded) → StandsAt (places_in old.regions) (queue_of course) loaded old.descriptors.items walk
+    → ComesTo (places_in old.regions) course.limit (queue_of course) (with_bytes loaded walk bytes) new.descriptors.items came)
+
+-- a stopped queue refuses each walk
+abbrev pub BeginsUnless : (stopped : Option QueueError) → (old new : Workbench) → (before after : KeptQueue) → walked.Walked → Type 0
+BeginsUnless (Some why) old new before after told = (told ≡ tells.Refused Stopped) × (new ≡ old) × (after ≡ before)
+BeginsUnless None old new before after told = BeginsOn (course_of before old.limit) old new before after told
+
+abbrev pub Begins : (old new : Workbench) → (before after : KeptQueue) → walked.Walked → Type 0
+Begins old new before after told = BeginsUnless before.stopped old new before after told
+
+-- a walk goes on from where its chain is, by the bytes of the load that it asked for, and by none at its beginning
+abbrev pub WalksFrom : state.State → (bytes : List ℕ) → (old new : Workbench) → (before after : KeptQueue) → walked.Walked → Type 0
+WalksFrom at.Free bytes old new before after told = Begins old new before after told
+WalksFrom (at.Walking course walk) bytes old new before after told = GoesOn course walk bytes old new before after told
+WalksFrom _ bytes old new before after told = ⊥
+
+abbrev pub WalksOn : (bytes : List ℕ) → (old new : Workbench) → (before after : KeptQueue) → walked.Walked → Type 0
+WalksOn bytes old new before after told = WalksFrom old.state bytes old new before after told

@@ -1,0 +1,126 @@
+//! The answer to a chain's call.
+
+ghost use Rattle.std.specs.Prelude.{◌≡◌, IfOk, IfErr, OnOk, OnErr};
+ghost use Rattle.virtiofsd_fuse.specs.Serving.{setting};
+ghost use Rattle.fs_chain.specs.Answers.{AnswerFails, CanBeGiven, IfWaits, IsGiven, IsRefused, IsWaiting, data_len, error_of, fits, replied_of, reply_of};
+ghost use Rattle.fs_chain.specs.Walks.{IsAllBut};
+ghost use Rattle.fs_chain.specs.declared.state.State.TheVariants as at;
+
+use crate::error::ChainError;
+use crate::state::{Out, Reply, State};
+use crate::workbench::Workbench;
+use fuse_fs::Context;
+use server_phases::{Answered, FileAnswer, Refused, Sent, Session, Waiting};
+use std::mem;
+
+/// What comes of an answer.
+#[derive(Clone, Copy, Debug)]
+pub struct Replied {
+    /// Whether the room holds such a reply. If not, the chain goes back with none.
+    pub has_room: bool,
+    /// Who is to hold which node less by one: the guest isn't told of the entry that was answered.
+    pub forget: Option<(Context, u64)>,
+}
+
+// How many bytes of data an answer has.
+fn data_len(answer: &FileAnswer) -> usize
+    ensures { result ≡ data_len answer.now }
+{
+    match answer {
+        FileAnswer::Bytes { len } => *len,
+        _ => 0,
+    }
+}
+
+// Why an answer is refused, as a call's error.
+fn error_of(why: Refused) -> ChainError
+    ensures { result ≡ error_of why }
+{
+    match why {
+        Refused::OtherKind => ChainError::OtherKind,
+        Refused::TooLong => ChainError::LongReply,
+    }
+}
+
+// The reply with so many bytes of data behind its front, or none; and whether it has room.
+fn reply_of(sent: Sent, behind: usize) -> (Reply, bool)
+    ensures { result ≡ (reply_of sent behind, fits sent) }
+{
+    match sent {
+        Sent::Reply(front) => {
+            let front = Some(front);
+            (Reply { front, behind }, true)
+        }
+        Sent::NoRoom => {
+            let front = None;
+            (Reply { front, behind: 0 }, false)
+        }
+    }
+}
+
+impl Workbench {
+    // Keeps the reply of an answer.
+    fn keep_answered(&mut self, out: Out, answered: Answered, behind: usize) -> Replied
+        ensures told { result ≡ replied_of answered }
+        ensures kept { self.new ≡ record self.old { state = at.Answered out (reply_of answered.sent behind) } }
+    {
+        let (reply, has_room) = reply_of(answered.sent, behind);
+        self.state = State::Answered(out, reply);
+        Replied {
+            has_room,
+            forget: answered.forget,
+        }
+    }
+
+    // Answers a call that waits.
+    fn answer_waiting(
+        &mut self,
+        session: &mut Session,
+        out: Out,
+        waiting: Waiting,
+        answer: FileAnswer,
+    ) -> Result<Replied, ChainError>
+        ensures given { IfOk result (λ told. IsGiven (setting session.old.page_size session.old.options.0 waiting.room) waiting answer out session.new.options.0 told self.new.state) }
+        ensures taken { OnOk result (CanBeGiven waiting answer) }
+        ensures refused { IfErr result (λ e. IsRefused waiting answer e) }
+        ensures same { OnErr result ((self.new ≡ record self.old { state = at.Waits out waiting }) × (session.new ≡ session.old)) }
+        ensures page_size { session.new.page_size ≡ session.old.page_size }
+        ensures stays { IsAllBut self.old self.new × (self.new.descriptors ≡ self.old.descriptors) }
+    {
+        let behind = data_len(&answer);
+        match session.answer(waiting, answer) {
+            Ok(answered) => Ok(self.keep_answered(out, answered, behind)),
+            Err(refusal) => {
+                let why = refusal.why;
+                self.state = State::Waits(out, refusal.waiting);
+                Err(error_of(why))
+            }
+        }
+    }
+
+    /// Answers a chain's call. A listing is answered entry by entry, or by `fail`: else `OtherKind`.
+    pub fn answer(
+        &mut self,
+        session: &mut Session,
+        answer: FileAnswer,
+    ) -> Result<Replied, ChainError>
+        ensures given { IfOk result (λ told. IfWaits self.old.state (λ out w. IsGiven (setting session.old.page_size session.old.options.0 w.room) w answer out session.new.options.0 told self.new.state)) }
+        ensures taken { OnOk result (IsWaiting self.old.state × IfWaits self.old.state (λ out w. CanBeGiven w answer)) }
+        ensures refused { IfErr result (λ e. AnswerFails self.old.state answer e) }
+        ensures same { OnErr result ((self.new ≡ self.old) × (session.new ≡ session.old)) }
+        ensures page_size { session.new.page_size ≡ session.old.page_size }
+        ensures stays { IsAllBut self.old self.new × (self.new.descriptors ≡ self.old.descriptors) }
+    {
+        match mem::replace(&mut self.state, State::Free) {
+            State::Waits(out, waiting) => self.answer_waiting(session, out, waiting, answer),
+            State::Lists(out, listing) => {
+                self.state = State::Lists(out, listing);
+                Err(ChainError::OtherKind)
+            }
+            other => {
+                self.state = other;
+                Err(ChainError::WrongOrder)
+            }
+        }
+    }
+}

@@ -1,0 +1,162 @@
+//! What a chain's request asks.
+
+ghost use Rattle.std.specs.Prelude.{◌≡◌, ◌⊎◌, ℕ, List, Ok, Err, Some, None, true, IfErr, IfOk, OnOk, OnErr, drop, length, if◌then◌else◌};
+ghost use Rattle.fuse_fs.specs.Answers.{context_of};
+ghost use Rattle.fuse_fs.specs.declared.answers.Context.{Context};
+ghost use Rattle.fuse_in.specs.Records.{in_header};
+ghost use Rattle.fuse_in.specs.declared.session.InHeader.{InHeader};
+ghost use Rattle.server_requests.specs.Reading.{reading_of};
+ghost use Rattle.virtiofsd_fuse.specs.Grammar.{Meaning, meaning};
+ghost use Rattle.virtiofsd_fuse.specs.Serving.{Setting, setting};
+ghost use Rattle.server_phases.specs.Asking.{AsksCall, HasAskerByFront, IsAskedBy, IsFront, IsTold, IsToldByFront, is_told, may_want_memory};
+ghost use Rattle.fs_chain.specs.Asking.{IfTaken, IsKeptFor, KeepsCall, TellsMeaning, wanted, wanted_after, wanted_by};
+ghost use Rattle.fs_chain.specs.Orders.{ask_error};
+ghost use Rattle.fs_chain.specs.Walks.{IsAllBut};
+ghost use Rattle.fs_chain.specs.declared.state.State.TheVariants as at;
+
+use crate::error::ChainError;
+use crate::state::{Out, Reply, State};
+use crate::workbench::Workbench;
+use server_phases::{Asked, AskedFront, FileCall, Front, Listing, Session, Waiting};
+use server_segments::Error;
+use std::mem;
+
+/// How many bytes of a request tell that it is a WRITE, and what it asks.
+const REQUEST_FRONT: usize = 80;
+
+/// What a request asks.
+#[derive(Drop)]
+pub enum Told {
+    /// This call, whose answer is waited for.
+    Call(FileCall),
+    /// So many bytes of the request are wanted, from its start.
+    More(usize),
+    /// No call: the reply is known, or there is none.
+    Nothing,
+    /// No call, and there is no reply: the fault.
+    Fault(Error),
+}
+
+// Where a chain is whose call waits: a listing gathers entries.
+fn waiting_state(out: Out, waiting: Waiting) -> State
+    ensures keeps { (s : Setting) (m : Meaning) (bytes : List ℕ) (made : FileCall) → AsksCall s m bytes made waiting → KeepsCall s m bytes made out result }
+    ensures asker { IsKeptFor waiting.context result }
+{
+    match Listing::begin(waiting) {
+        Ok(listing) => State::Lists(out, listing),
+        Err(refusal) => State::Waits(out, refusal.waiting),
+    }
+}
+
+// Where a chain is that goes back with this reply, or with none.
+fn answered_state(out: Out, front: Option<Front>) -> State
+    ensures { result ≡ at.Answered out (record { front = front; behind = 0 }) }
+{
+    State::Answered(out, Reply { front, behind: 0 })
+}
+
+// How many bytes of a request are wanted after so many of them.
+fn wanted(len: usize, whole: usize) -> usize
+    ensures { result ≡ wanted len whole }
+{
+    if len < REQUEST_FRONT {
+        whole.min(REQUEST_FRONT)
+    } else {
+        whole
+    }
+}
+
+impl Workbench {
+    // Keeps what a request asks, and tells it.
+    fn keep_asked(&mut self, out: Out, asked: Asked) -> Told
+        ensures tells { (s : Setting) (m : Meaning) (bytes : List ℕ) → IsTold s m bytes asked → TellsMeaning s m bytes out result self.new.state }
+        ensures asker { (who : Context) → IsAskedBy who asked → IsKeptFor who self.new.state }
+        ensures told { wanted_by result ≡ None }
+        ensures same { IsAllBut self.old self.new × (self.new.descriptors ≡ self.old.descriptors) }
+    {
+        match asked {
+            Asked::Call(call, waiting) => {
+                self.state = waiting_state(out, waiting);
+                Told::Call(call)
+            }
+            Asked::Reply(front) => {
+                self.state = answered_state(out, Some(front));
+                Told::Nothing
+            }
+            Asked::Silence => {
+                self.state = answered_state(out, None);
+                Told::Nothing
+            }
+            Asked::Fault(error) => {
+                self.state = answered_state(out, None);
+                Told::Fault(error)
+            }
+        }
+    }
+
+    // Keeps what the first bytes of a request tell.
+    fn keep_front(&mut self, out: Out, len: usize, asked: AskedFront) -> Told
+        ensures tells { (s : Setting) (m : Meaning) (bytes : List ℕ) → IsToldByFront s m bytes asked → TellsMeaning s m bytes out result self.new.state }
+        ensures asker { (request : List ℕ) → HasAskerByFront request asked → (h : InHeader) (more : List ℕ) → reading_of in_header request ≡ Ok (h, more) → IsKeptFor (context_of h) self.new.state }
+        ensures wanted { wanted_by result ≡ (if is_told asked then None else Some (wanted len out.request_len)) }
+        ensures same { IsAllBut self.old self.new × (self.new.descriptors ≡ self.old.descriptors) }
+    {
+        match asked {
+            AskedFront::Told(asked) => self.keep_asked(out, asked),
+            AskedFront::More => {
+                self.state = State::Taken(out);
+                Told::More(wanted(len, out.request_len))
+            }
+        }
+    }
+
+    // Asks by some first bytes of a request.
+    fn ask_out(&mut self, session: &Session, out: Out, request: &[u8]) -> Result<Told, ChainError>
+        ensures error { IfErr result (λ e. (ask_error (at.Taken out) (length request.now) ≡ Some e)
+            ⊎ ((e ≡ ChainError.OutOfMemory) × (length request.now ≡ out.request_len) × (may_want_memory session.now.options.0 request.now out.room_len ≡ true))) }
+        ensures ok { OnOk result (ask_error (at.Taken out) (length request.now) ≡ None) }
+        ensures tells { IfOk result (λ told. (whole : List ℕ) → out.request_len ≡ length whole → IsFront request.now whole
+            → TellsMeaning (setting session.now.page_size session.now.options.0 out.room_len) (meaning session.now.options.0 whole out.room_len) (drop 80 whole) out told self.new.state) }
+        ensures asker { OnOk result ((whole : List ℕ) → out.request_len ≡ length whole → IsFront request.now whole
+            → (h : InHeader) (more : List ℕ) → reading_of in_header whole ≡ Ok (h, more) → IsKeptFor (context_of h) self.new.state) }
+        ensures wanted { IfOk result (λ told. wanted_by told ≡ wanted_after request.now out.request_len) }
+        ensures same { IsAllBut self.old self.new × (self.new.descriptors ≡ self.old.descriptors) }
+        ensures stays { OnErr result (self.new.state ≡ at.Taken out) }
+    {
+        let len = out.request_len;
+        if len < request.len() {
+            self.state = State::Taken(out);
+            return Err(ChainError::BadArgument);
+        }
+        match session.ask_front(self.alloc, request, len, out.room_len, &mut self.place) {
+            Ok(asked) => Ok(self.keep_front(out, request.len(), asked)),
+            Err(_) => {
+                self.state = State::Taken(out);
+                Err(ChainError::OutOfMemory)
+            }
+        }
+    }
+
+    /// Tells what a chain's request asks, by its first bytes. A call that is told waits for its answer.
+    pub fn ask(&mut self, session: &Session, request: &[u8]) -> Result<Told, ChainError>
+        ensures error { IfErr result (λ e. (ask_error self.old.state (length request.now) ≡ Some e)
+            ⊎ ((e ≡ ChainError.OutOfMemory) × (ask_error self.old.state (length request.now) ≡ None))) }
+        ensures memory { result ≡ Err ChainError.OutOfMemory → IfTaken self.old.state (λ out. (length request.now ≡ out.request_len) × (may_want_memory session.now.options.0 request.now out.room_len ≡ true)) }
+        ensures ok { OnOk result (ask_error self.old.state (length request.now) ≡ None) }
+        ensures tells { IfOk result (λ told. IfTaken self.old.state (λ out. (whole : List ℕ) → out.request_len ≡ length whole → IsFront request.now whole
+            → TellsMeaning (setting session.now.page_size session.now.options.0 out.room_len) (meaning session.now.options.0 whole out.room_len) (drop 80 whole) out told self.new.state)) }
+        ensures asker { OnOk result (IfTaken self.old.state (λ out. (whole : List ℕ) → out.request_len ≡ length whole → IsFront request.now whole
+            → (h : InHeader) (more : List ℕ) → reading_of in_header whole ≡ Ok (h, more) → IsKeptFor (context_of h) self.new.state)) }
+        ensures wanted { IfOk result (λ told. IfTaken self.old.state (λ out. wanted_by told ≡ wanted_after request.now out.request_len)) }
+        ensures same { IsAllBut self.old self.new × (self.new.descriptors ≡ self.old.descriptors) }
+        ensures stays { OnErr result (self.new.state ≡ self.old.state) }
+    {
+        match mem::replace(&mut self.state, State::Free) {
+            State::Taken(out) => self.ask_out(session, out, request),
+            other => {
+                self.state = other;
+                Err(ChainError::WrongOrder)
+            }
+        }
+    }
+}

@@ -1,0 +1,43 @@
+//! Why a call did nothing.
+
+ghost use Rattle.std.specs.Prelude.{◌≡◌};
+ghost use Rattle.fs_chain.specs.Numbers.{chain_error_number};
+
+/// Why a call did nothing: what was there before is there still.
+#[derive(Clone, Copy, Debug, PartialEq, Eq)]
+pub enum ChainError {
+    /// An allocation failed; the call may be made again.
+    OutOfMemory,
+    /// A number that can't be, or bytes of another length than was asked for.
+    BadArgument,
+    /// The buffer is too short.
+    ShortBuffer,
+    /// More data than a reply can tell.
+    LongReply,
+    /// The chain isn't where this call goes on from.
+    WrongOrder,
+    /// The chain isn't out of this queue as it stands.
+    OtherQueue,
+    /// The call wants an answer of another kind.
+    OtherKind,
+    /// The queue has a chain out, or the handle has one.
+    ChainOut,
+}
+
+impl ChainError {
+    /// The number that tells the error apart.
+    pub fn number(&self) -> u8
+        ensures { result ≡ chain_error_number self.now }
+    {
+        match self {
+            ChainError::OutOfMemory => 9,
+            ChainError::BadArgument => 66,
+            ChainError::ShortBuffer => 69,
+            ChainError::LongReply => 71,
+            ChainError::WrongOrder => 73,
+            ChainError::OtherQueue => 74,
+            ChainError::OtherKind => 75,
+            ChainError::ChainOut => 76,
+        }
+    }
+}

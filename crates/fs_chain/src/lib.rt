@@ -1,0 +1,25 @@
+//! One chain of a queue from its walk to its return, by a handle that touches no memory, no file and no clock.
+#![tactic(auto)]
+
+mod answering;
+mod asking;
+mod error;
+mod giving_up;
+mod going_on;
+mod listing;
+mod queue;
+mod returning;
+mod state;
+mod walking;
+mod workbench;
+
+pub use answering::Replied;
+pub use asking::Told;
+pub use error::ChainError;
+pub use fs_regions::{GuestRegions, MemoryRegion, RegionsError};
+pub use listing::Added;
+pub use queue::KeptQueue;
+pub use returning::Stores;
+pub use state::{Out, Reply, State};
+pub use walking::Walked;
+pub use workbench::Workbench;

@@ -1,0 +1,39 @@
+//! Where a chain is between its walk and its return.
+
+use fs_regions::{Course, QueueWalk};
+use server_phases::{Front, Listing, Waiting};
+
+/// A chain that is out of its queue.
+#[derive(Clone, Copy, Debug)]
+pub struct Out {
+    pub(crate) course: Course,
+    pub(crate) head: u16,
+    pub(crate) request_len: usize,
+    pub(crate) room_len: usize,
+}
+
+/// A reply: its front, or that there is none, and how many bytes of data stand behind it.
+#[derive(Drop)]
+pub struct Reply {
+    pub(crate) front: Option<Front>,
+    pub(crate) behind: usize,
+}
+
+/// Where a chain is.
+#[derive(Drop)]
+pub enum State {
+    /// No chain: the handle is free for a walk.
+    Free,
+    /// It is walked.
+    Walking(Course, QueueWalk),
+    /// It is out of its queue, and its request wasn't asked.
+    Taken(Out),
+    /// Its call waits for an answer.
+    Waits(Out, Waiting),
+    /// Its listing gathers entries.
+    Lists(Out, Listing),
+    /// Its reply is known.
+    Answered(Out, Reply),
+    /// The stores of its return were told.
+    Returning(Out),
+}

@@ -1,0 +1,159 @@
+//! The walk through what waits in a queue.
+
+ghost use Rattle.std.specs.Prelude.{◌≡◌, [], true, Some, None, IfErr, IfOk, OnOk, OnErr, length};
+ghost use Rattle.fs_chain.specs.Orders.{begin_error};
+ghost use Rattle.fs_chain.specs.Walks.{told_of, state_after, queue_after, left_of, Begins, IsAllBut};
+ghost use Rattle.fs_chain.specs.declared.state.State.TheVariants as at;
+
+use crate::error::ChainError;
+use crate::queue::KeptQueue;
+use crate::state::{Out, Reply, State};
+use crate::workbench::Workbench;
+use fs_queue::{ChainFault, QueueError, count_bytes};
+use fs_regions::{Course, QueueWalk, Step};
+use std::mem;
+
+/// What a walk comes to.
+#[derive(Clone, Copy, Debug, PartialEq, Eq)]
+pub enum Walked {
+    /// A load of so many bytes is asked for.
+    Load(usize),
+    /// Nothing waits.
+    Idle,
+    /// The queue refuses what waits, and is stopped by it.
+    Refused(QueueError),
+    /// A chain is out of the queue.
+    Chain {
+        /// The index of its first descriptor in the queue's table.
+        head: u16,
+        /// How many bytes its request has.
+        request_len: usize,
+        /// How many bytes of reply there is room for.
+        room_len: usize,
+    },
+    /// A faulty chain is out of the queue: it goes back with no reply.
+    Faulty {
+        /// The index of its first descriptor in the queue's table.
+        head: u16,
+        /// What is wrong with it.
+        fault: ChainFault,
+    },
+}
+
+impl Workbench {
+    // A chain without a fault is out of its queue.
+    fn take(&mut self, queue: &mut KeptQueue, course: Course, head: u16) -> Walked
+        ensures told { result ≡ told_of self.old.descriptors.items (Step.Chain head None) }
+        ensures kept { self.new ≡ record self.old { state = state_after course self.old.descriptors.items (Step.Chain head None) } }
+        ensures queue { queue.new ≡ record queue.old { out = true } }
+    {
+        let request_len = count_bytes(&self.descriptors, false) as usize;
+        let room_len = count_bytes(&self.descriptors, true) as usize;
+        queue.out = true;
+        self.state = State::Taken(Out {
+            course,
+            head,
+            request_len,
+            room_len,
+        });
+        Walked::Chain {
+            head,
+            request_len,
+            room_len,
+        }
+    }
+
+    // A faulty chain is out of its queue: it has no windows, and no reply.
+    fn take_faulty(
+        &mut self,
+        queue: &mut KeptQueue,
+        course: Course,
+        head: u16,
+        fault: ChainFault,
+    ) -> Walked
+        ensures told { result ≡ Walked.Faulty head fault }
+        ensures state { self.new.state ≡ state_after course self.new.descriptors.items (Step.Chain head (Some fault)) }
+        ensures empty { self.new.descriptors.items ≡ [] }
+        ensures same { IsAllBut self.old self.new }
+        ensures queue { queue.new ≡ record queue.old { out = true } }
+    {
+        self.descriptors.clear();
+        queue.out = true;
+        let out = Out {
+            course,
+            head,
+            request_len: 0,
+            room_len: 0,
+        };
+        let reply = Reply {
+            front: None,
+            behind: 0,
+        };
+        self.state = State::Answered(out, reply);
+        Walked::Faulty { head, fault }
+    }
+
+    /// Keeps what a walk comes to, and tells it.
+    pub(crate) fn settle(&mut self, queue: &mut KeptQueue, course: Course, step: Step) -> Walked
+        requires free { self.old.state ≡ at.Free }
+        ensures told { result ≡ told_of self.new.descriptors.items step }
+        ensures state { self.new.state ≡ state_after course self.new.descriptors.items step }
+        ensures left { self.new.descriptors.items ≡ left_of step self.old.descriptors.items }
+        ensures same { IsAllBut self.old self.new }
+        ensures queue { queue.new ≡ queue_after queue.old step }
+    {
+        match step {
+            Step::Load(walk) => {
+                let len = walk.len();
+                self.state = State::Walking(course, walk);
+                Walked::Load(len)
+            }
+            Step::Idle => Walked::Idle,
+            Step::Refused(error) => {
+                queue.stopped = Some(error);
+                Walked::Refused(error)
+            }
+            Step::Chain(head, None) => self.take(queue, course, head),
+            Step::Chain(head, Some(fault)) => self.take_faulty(queue, course, head, fault),
+        }
+    }
+
+    // Begins a walk through what waits at the queue's position.
+    fn begin_course(&mut self, queue: &mut KeptQueue) -> Walked
+        requires free { self.old.state ≡ at.Free }
+        requires goes { queue.old.stopped ≡ None }
+        ensures begins { Begins self.old self.new queue.old queue.new result }
+    {
+        let course = Course {
+            layout: queue.layout,
+            position: queue.position,
+            limit: self.limit,
+        };
+        let step = course.begin(&self.regions, &mut self.descriptors);
+        self.settle(queue, course, step)
+    }
+
+    /// Begins a walk, by no bytes.
+    pub(crate) fn begin_walk(
+        &mut self,
+        queue: &mut KeptQueue,
+        loaded: &[u8],
+    ) -> Result<Walked, ChainError>
+        requires free { self.old.state ≡ at.Free }
+        ensures error { IfErr result (λ e. begin_error queue.old (length loaded.now) ≡ Some e) }
+        ensures ok { OnOk result (begin_error queue.old (length loaded.now) ≡ None) }
+        ensures same { OnErr result ((self.new ≡ self.old) × (queue.new ≡ queue.old)) }
+        ensures begins { IfOk result (λ walked. Begins self.old self.new queue.old queue.new walked) }
+    {
+        if !loaded.is_empty() {
+            return Err(ChainError::BadArgument);
+        }
+        if queue.out {
+            return Err(ChainError::ChainOut);
+        }
+        match queue.stopped {
+            Some(_) => Ok(Walked::Refused(QueueError::Stopped)),
+            None => Ok(self.begin_course(queue)),
+        }
+    }
+}

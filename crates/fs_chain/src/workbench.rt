@@ -1,0 +1,131 @@
+//! The handle: a workbench for one chain at a time.
+
+ghost use Rattle.std.specs.Prelude.{◌≡◌, ◌≤◌, [], Some, None, IfOk, IfErr, IfSome, OnOk, OnErr, OnSome, true, false};
+ghost use Rattle.fs_queue.specs.Taking.{all_reach, total_len};
+ghost use Rattle.fs_queue.specs.Windows.{access_of, of_direction};
+ghost use Rattle.fs_regions.specs.Places.{places_in};
+ghost use Rattle.fs_regions.specs.Windows.{IsWindowFrom};
+ghost use Rattle.fs_chain.specs.Orders.{is_out, memory_error};
+ghost use Rattle.fs_chain.specs.declared.state.State.TheVariants as at;
+
+use crate::error::ChainError;
+use crate::state::State;
+use fs_queue::Descriptors;
+use fs_regions::{GuestRegions, window_from};
+use server_segments::Writer;
+use std::alloc::Global;
+use vm_memory_core::VolatileSlice;
+
+/// The least limit of a request and of a room: a request of 2^20 bytes of data, and a page.
+const LEAST_LIMIT: u32 = 0x101000;
+
+/// The greatest limit.
+const MOST_LIMIT: u32 = 1 << 31;
+
+/// How many bytes the longest reply has that is made without a call.
+const REPLY_WITHOUT_CALL: usize = 80;
+
+/// A workbench for one chain at a time: from the walk that finds it to the stores that give it back.
+#[derive(Drop)]
+pub struct Workbench {
+    pub(crate) alloc: Global,
+    pub(crate) regions: GuestRegions,
+    pub(crate) limit: u32,
+    pub(crate) descriptors: Descriptors,
+    pub(crate) place: Writer,
+    pub(crate) state: State,
+    ghost fresh: { place.written ≡ [] },
+    ghost room: { place.free ≡ 80 },
+}
+
+impl Workbench {
+    /// A workbench over no memory.
+    pub fn new(alloc: Global) -> Result<Workbench, ChainError>
+        ensures ok { IfOk result (λ w. (w.regions ≡ []) × (w.limit ≡ 0x101000) × (w.descriptors.items ≡ []) × (w.state ≡ at.Free)) }
+        ensures err { IfErr result (λ e. e ≡ ChainError.OutOfMemory) }
+    {
+        match Writer::new(alloc, &[REPLY_WITHOUT_CALL]) {
+            Ok(place) => Ok(Workbench {
+                alloc,
+                regions: GuestRegions::none(alloc),
+                limit: LEAST_LIMIT,
+                descriptors: Descriptors::new(alloc),
+                place,
+                state: State::Free,
+            }),
+            Err(_) => Err(ChainError::OutOfMemory),
+        }
+    }
+
+    /// Over which memory the next walks go, and how many bytes a request or a room has at most: from 0x101000 to 2^31, else `BadArgument`.
+    /// `ChainOut` unless the handle is free.
+    pub fn set_memory(&mut self, regions: GuestRegions, limit: u32) -> Result<(), ChainError>
+        ensures error { IfErr result (λ e. memory_error self.old.state limit ≡ Some e) }
+        ensures ok { OnOk result (memory_error self.old.state limit ≡ None) }
+        ensures same { OnErr result (self.new ≡ self.old) }
+        ensures set { OnOk result ((self.new.regions ≡ regions) × (self.new.limit ≡ limit) × (self.new.state ≡ self.old.state)) }
+    {
+        match self.state {
+            State::Free => self.take_memory(regions, limit),
+            _ => Err(ChainError::ChainOut),
+        }
+    }
+
+    // Keeps memory and limit, if the limit is one.
+    fn take_memory(&mut self, regions: GuestRegions, limit: u32) -> Result<(), ChainError>
+        ensures error { IfErr result (λ e. memory_error at.Free limit ≡ Some e) }
+        ensures ok { OnOk result (memory_error at.Free limit ≡ None) }
+        ensures same { OnErr result (self.new ≡ self.old) }
+        ensures set { OnOk result ((self.new.regions ≡ regions) × (self.new.limit ≡ limit) × (self.new.state ≡ self.old.state)) }
+    {
+        if limit < LEAST_LIMIT || MOST_LIMIT < limit {
+            return Err(ChainError::BadArgument);
+        }
+        self.regions = regions;
+        self.limit = limit;
+        Ok(())
+    }
+
+    /// Whether a chain is out of its queue.
+    pub fn is_out(&self) -> bool
+        ensures { result ≡ is_out self.now.state }
+    {
+        !matches!(self.state, State::Free | State::Walking(_, _))
+    }
+
+    // The longest window of one direction of the chain that is out, from a byte on.
+    fn window(&self, write_only: bool, from: u64) -> Option<VolatileSlice>
+        ensures some { IfSome result (IsWindowFrom self.now.regions write_only self.now.descriptors.items from) }
+        ensures out { OnSome result (is_out self.now.state ≡ true) }
+        ensures none { result ≡ None → is_out self.now.state ≡ true
+            → all_reach (places_in self.now.regions) (access_of write_only) (of_direction write_only self.now.descriptors.items) ≡ true
+            → total_len (of_direction write_only self.now.descriptors.items) ≤ from }
+    {
+        if !self.is_out() {
+            return None;
+        }
+        window_from(&self.regions, &self.descriptors, write_only, from)
+    }
+
+    /// The longest window of a chain's request from a byte on; none past its end, or if no chain is out.
+    pub fn request_window(&self, from: u64) -> Option<VolatileSlice>
+        ensures some { IfSome result (IsWindowFrom self.now.regions false self.now.descriptors.items from) }
+        ensures out { OnSome result (is_out self.now.state ≡ true) }
+        ensures none { result ≡ None → is_out self.now.state ≡ true
+            → all_reach (places_in self.now.regions) (access_of false) (of_direction false self.now.descriptors.items) ≡ true
+            → total_len (of_direction false self.now.descriptors.items) ≤ from }
+    {
+        self.window(false, from)
+    }
+
+    /// The longest window of a chain's room from a byte on; none past its end, or if no chain is out.
+    pub fn room_window(&self, from: u64) -> Option<VolatileSlice>
+        ensures some { IfSome result (IsWindowFrom self.now.regions true self.now.descriptors.items from) }
+        ensures out { OnSome result (is_out self.now.state ≡ true) }
+        ensures none { result ≡ None → is_out self.now.state ≡ true
+            → all_reach (places_in self.now.regions) (access_of true) (of_direction true self.now.descriptors.items) ≡ true
+            → total_len (of_direction true self.now.descriptors.items) ≤ from }
+    {
+        self.window(true, from)
+    }
+}
