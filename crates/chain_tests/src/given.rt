@@ -1,0 +1,97 @@
+//! What the tests share: a queue, a workbench, and a chain that asks for a name.
+
+use fs_chain::{GuestRegions, KeptQueue, MemoryRegion, Walked, Workbench};
+use fs_queue::QueueLayout;
+use server_phases::Session;
+use std::alloc::Global;
+use std::fmt::Debug;
+use std::process::Abort;
+
+/// What was found is what is wanted.
+pub fn expect_same<T: PartialEq + Debug + Drop>(rt: &impl Abort, found: T, want: T) {
+    assert_eq!(rt; found, want);
+}
+
+/// A workbench over one page at 0.
+pub fn workbench(rt: &impl Abort, alloc: Global) -> Workbench {
+    let mut regions = Vec::new(alloc);
+    let region = MemoryRegion::new(0, 0x1000, 0).expect(rt, "a region");
+    regions.push(region).expect(rt, "memory");
+    let memory = GuestRegions::of_regions(alloc, regions).expect(rt, "memory");
+    let mut workbench = Workbench::new(alloc).expect(rt, "memory");
+    workbench.set_memory(memory, 0x101000).expect(rt, "memory");
+    workbench
+}
+
+/// A queue of four descriptors: its table at 0, its rings at 0x50 and 0x60.
+pub fn queue(rt: &impl Abort) -> KeptQueue {
+    KeptQueue {
+        layout: QueueLayout::new(4, 0, 0x50, 0x60).expect(rt, "a layout"),
+        position: 0xffff,
+        out: false,
+        stopped: None,
+    }
+}
+
+/// A session of pages of 4096 bytes in which nothing was agreed.
+pub fn session() -> Session {
+    Session::new(4096)
+}
+
+/// The loads of a chain of head 1: 46 bytes at 0x100, and a room of 144 bytes at 0x200.
+pub const LOADS: &[&[u8]] = &[
+    &[0, 0],
+    &[1, 0],
+    &[0, 1, 0, 0, 0, 0, 0, 0, 46, 0, 0, 0, 1, 0, 2, 0],
+    &[0, 2, 0, 0, 0, 0, 0, 0, 144, 0, 0, 0, 2, 0, 0, 0],
+];
+
+/// LOOKUP of `hello` in node 1: unique number 7, user 10, group 11, process 12.
+pub const LOOKUP: &[u8] = &[
+    46, 0, 0, 0, 1, 0, 0, 0, 7, 0, 0, 0, 0, 0, 0, 0, 1, 0, 0, 0, 0, 0, 0, 0, 10, 0, 0, 0, 11, 0, 0,
+    0, 12, 0, 0, 0, 0, 0, 0, 0, b'h', b'e', b'l', b'l', b'o', 0,
+];
+
+/// The same with a request of 80 bytes.
+pub const LOADS_OF_80: &[&[u8]] = &[
+    &[0, 0],
+    &[1, 0],
+    &[0, 1, 0, 0, 0, 0, 0, 0, 80, 0, 0, 0, 1, 0, 2, 0],
+    &[0, 2, 0, 0, 0, 0, 0, 0, 144, 0, 0, 0, 2, 0, 0, 0],
+];
+
+/// The same as the first with a room of 20 bytes.
+pub const LOADS_OF_SMALL_ROOM: &[&[u8]] = &[
+    &[0, 0],
+    &[1, 0],
+    &[0, 1, 0, 0, 0, 0, 0, 0, 46, 0, 0, 0, 1, 0, 2, 0],
+    &[0, 2, 0, 0, 0, 0, 0, 0, 20, 0, 0, 0, 2, 0, 0, 0],
+];
+
+/// The loads of a chain of head 1 that goes on behind the table's end.
+pub const LOADS_OF_FAULTY: &[&[u8]] = &[
+    &[0, 0],
+    &[1, 0],
+    &[0, 1, 0, 0, 0, 0, 0, 0, 46, 0, 0, 0, 1, 0, 4, 0],
+];
+
+/// READDIR of at most 64 bytes from the beginning of the directory that is open as 3: node 1, unique number 7.
+pub const READDIR: &[u8] = &[
+    80, 0, 0, 0, 28, 0, 0, 0, 7, 0, 0, 0, 0, 0, 0, 0, 1, 0, 0, 0, 0, 0, 0, 0, 10, 0, 0, 0, 11, 0,
+    0, 0, 12, 0, 0, 0, 0, 0, 0, 0, 3, 0, 0, 0, 0, 0, 0, 0, 0, 0, 0, 0, 0, 0, 0, 0, 64, 0, 0, 0, 0,
+    0, 0, 0, 0, 0, 0, 0, 0, 0, 0, 0, 0, 0, 0, 0, 0, 0, 0, 0,
+];
+
+/// What a walk comes to by some loads.
+pub fn take(
+    rt: &impl Abort,
+    workbench: &mut Workbench,
+    queue: &mut KeptQueue,
+    loads: &[&[u8]],
+) -> Walked {
+    let mut walked = workbench.walk(queue, &[]).expect(rt, "a walk");
+    for load in loads {
+        walked = workbench.walk(queue, load).expect(rt, "a walk");
+    }
+    walked
+}

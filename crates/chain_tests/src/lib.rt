@@ -1,0 +1,9 @@
+//! Tests of one chain from its walk to its return.
+#![tactic(auto)]
+
+#[cfg(test)]
+mod given;
+#[cfg(test)]
+mod orders;
+#[cfg(test)]
+mod returns;
