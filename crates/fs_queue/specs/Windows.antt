@@ -128,6 +128,10 @@ unreachable_of m ds = unreachable (located (location m Read) (addresses_of (read
 abbrev pub HasNoWindows : Chain → Type 0
 HasNoWindows c = (c.readable.items ≡ []) × (c.writable.items ≡ [])
 
+-- a return without a window
+abbrev pub HasNoReturnWindows : ReturnWindows → Type 0
+HasNoReturnWindows windows = (windows.used.items ≡ []) × (windows.flags.items ≡ [])
+
 -- how many bytes of reply a chain has room for
 abbrev pub room_places : Result Chain ChainFault → ℕ
 room_places (Ok c) = length (places c.writable.items)
