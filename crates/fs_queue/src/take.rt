@@ -3,7 +3,7 @@
 
 ghost use Rattle.std.specs.Prelude.{ℕ, ◌≡◌, ◌+◌, ◌-◌, ◌<◌, ◌≤◌, ◌^◌, ◌++◌, List, []};
 ghost use Rattle.std.specs.Prelude.{min, false, true, None, Some, Ok, if◌then◌else◌};
-ghost use Rattle.std.specs.Prelude.{IfNone, IfOk, IfSome, IsTrue, OnErr};
+ghost use Rattle.std.specs.Prelude.{IfErr, IfNone, IfOk, IfSome, IsTrue, OnErr};
 ghost use Rattle.vm_iotlb.specs.declared.permissions.Permissions.TheVariants.{Read, Write};
 ghost use Rattle.vm_memory_core.specs.Host.{lengths};
 ghost use Rattle.vm_memory_core.specs.Window.{places, AllLieIn};
@@ -13,13 +13,16 @@ ghost use Rattle.fs_queue.specs.Taking.{total_len, request_and_room, stops_queue
 ghost use Rattle.fs_queue.specs.Windows.{of_direction, access_of, addresses_of, used_addresses, return_places_of};
 ghost use Rattle.fs_queue.specs.Windows.{return_places_at, room_places, ReturnWindowsLieIn, ChainLiesIn, TakenLiesIn};
 ghost use Rattle.fs_queue.specs.Windows.{HoldsChain, HoldsWindows, HasItsWindows, HasNoReturnWindows, HasNoWindows, IsEmpty, Takes, taken_if, unless_faulty, unreachable_of};
-ghost use Rattle.fs_queue.specs.Chain.{IsChain};
+ghost use Rattle.fs_queue.specs.Windows.{HoldsFound, RefusesFound};
+ghost use Rattle.fs_queue.specs.Chain.{IsChain, chain, first_visit};
+ghost use Rattle.fs_queue.specs.Loads.{ahead_at};
+ghost use Rattle.fs_queue.specs.Stepping.{ahead_of, IfWants};
 
 use crate::access::add_windows;
 use crate::by_loads::{walk_chain, walk_ring};
 use crate::chain::{Chain, ReturnWindows, Taken};
-use crate::chain_walk::Walked;
-use crate::descriptor::Descriptor;
+use crate::chain_walk::{Progress, Walked};
+use crate::descriptor::{Descriptor, Descriptors};
 use crate::fault::{ChainFault, QueueError};
 use crate::layout::QueueLayout;
 use crate::walk::Walk;
@@ -348,6 +351,43 @@ pub fn hold_chain<M: GuestMemory, H: HostBlocks>(
     )
 }
 
+// Walks the chain of a head, and puts its request and its room in a place, or answers its fault. Refused are
+// `DescriptorUnreachable` and `OutOfMemory`.
+#[inline(always)]
+fn walk_and_hold<M: GuestMemory, H: HostBlocks>(
+    alloc: Global,
+    layout: QueueLayout,
+    host: &H,
+    mem: &M,
+    head: u16,
+    first: Progress,
+    limit: u32,
+    descriptors: &mut Descriptors,
+    kept: &mut Chain,
+) -> Result<Option<ChainFault>, QueueError>
+    requires held { M.IsHeld mem.now (H.host host.now) }
+    requires at { ahead_of first ≡ ahead_at layout.size (first_visit (at_position layout 0) head) }
+    requires size { IfWants first (λ w. w.size ≡ layout.size) }
+    ensures fetched { let m = M.memory mem.now (H.host host.now) in
+        IfOk result (λ fault. HoldsFound m limit (chain m (at_position layout 0) head) (unless_faulty fault kept.new)) }
+    ensures refused { IfErr result (RefusesFound (chain (M.memory mem.now (H.host host.now)) (at_position layout 0) head)) }
+    ensures windows { let m = M.memory mem.now (H.host host.now) in
+        IfOk result (λ fault. HoldsWindows m head (unless_faulty fault kept.new) (chain m (at_position layout 0) head)) }
+    ensures lie { IfOk result (λ fault. ChainLiesIn (lengths (H.host host.now)) (unless_faulty fault kept.new)) }
+    ensures short { IfOk result (λ fault. room_places (unless_faulty fault kept.new) ≤ limit) }
+{
+    match walk_chain(alloc, layout, host, mem, head, first, descriptors) {
+        Ok(Walked::Chain) => {}
+        Ok(Walked::Faulty(fault)) => return Ok(Some(fault)),
+        Ok(Walked::Stopped) => return Err(QueueError::DescriptorUnreachable),
+        Err(_) => return Err(QueueError::OutOfMemory),
+    }
+    match hold_chain(alloc, host, mem, head, descriptors, limit, kept) {
+        Ok(fault) => Ok(fault),
+        Err(_) => Err(QueueError::OutOfMemory),
+    }
+}
+
 /// Takes the chain that waits at a position of a queue that isn't stopped into an empty place; false if none waits.
 /// The errors are those of `Queue::take` but `Stopped`, in the same order.
 #[inline(always)]
@@ -368,10 +408,10 @@ pub(crate) fn take_into<M: GuestMemory, H: HostBlocks>(
     ensures short { IfOk (taken_if taken.new result) (λ o. IfSome o (λ t. room_places t.chain ≤ limit)) }
     ensures idle { IfOk result (λ waits. waits ≡ false → IsEmpty taken.new) }
 {
-    let (head, progress) = match walk_ring(alloc, layout, position, host, mem) {
+    let (head, first) = match walk_ring(alloc, layout, position, host, mem) {
         Ok(Walk::Idle) => return Ok(false),
         Ok(Walk::Refused(error)) => return Err(error),
-        Ok(Walk::Chain(head, progress)) => (head, progress),
+        Ok(Walk::Chain(head, first)) => (head, first),
         Ok(Walk::Index(_) | Walk::RingEntry(_)) => unreachable!(),
         Err(_) => return Err(QueueError::OutOfMemory),
     };
@@ -387,31 +427,15 @@ pub(crate) fn take_into<M: GuestMemory, H: HostBlocks>(
         Ok(Some(error)) => return Err(error),
         Err(_) => return Err(QueueError::OutOfMemory),
     }
-    match walk_chain(
+    match walk_and_hold(
         alloc,
         layout,
         host,
         mem,
         head,
-        progress,
-        &mut taken.descriptors,
-    ) {
-        Ok(Walked::Chain) => {}
-        Ok(Walked::Faulty(fault)) => {
-            taken.head = head;
-            taken.fault = Some(fault);
-            return Ok(true);
-        }
-        Ok(Walked::Stopped) => return Err(QueueError::DescriptorUnreachable),
-        Err(_) => return Err(QueueError::OutOfMemory),
-    }
-    match hold_chain(
-        alloc,
-        host,
-        mem,
-        head,
-        &taken.descriptors,
+        first,
         limit,
+        &mut taken.descriptors,
         &mut taken.chain,
     ) {
         Ok(fault) => {
@@ -419,6 +443,6 @@ pub(crate) fn take_into<M: GuestMemory, H: HostBlocks>(
             taken.fault = fault;
             Ok(true)
         }
-        Err(_) => Err(QueueError::OutOfMemory),
+        Err(error) => Err(error),
     }
 }
