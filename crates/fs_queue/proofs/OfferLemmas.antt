@@ -1,11 +1,15 @@
 -- what a queue offers, by what was found on the way
-use Rattle.std.proofs.Common.{◌≡◌, ℕ, true, false, ◌+◌, ◌*◌, ◌%◌, ◌^◌, ◌<◌, ◌&&◌, not, List, refl, ap, sym, ◌∙◌, arith, Option, Some, None, Err}
+use Rattle.std.proofs.Common.{◌≡◌, ℕ, true, false, ◌+◌, ◌*◌, ◌%◌, ◌^◌, ◌<◌, ◌&&◌, not, List, refl, ap, sym, ◌∙◌, arith, Option, Some, None, Ok, Err, Result}
 use Rattle.std.specs.Prelude.{IsTrue, is_some, if◌then◌else◌}
 use Rattle.std.proofs.lemmas.Nat.{mod_below}
 use Rattle.vm_memory_core.specs.Host.{Place}
+use Rattle.vm_memory_core.specs.Window.{places}
 use Rattle.vm_iotlb.specs.declared.permissions.Permissions.TheVariants.{Read, Write}
 use Rattle.vm_memory.specs.Memory.{Memory, addresses, located, location, reach}
 use Rattle.fs_queue.specs.declared.layout.QueueLayout.{QueueLayout}
+use Rattle.fs_queue.specs.declared.chain.Chain.{Chain}
+use Rattle.fs_queue.specs.declared.chain.ReturnWindows.{ReturnWindows}
+use Rattle.fs_queue.specs.declared.fault.ChainFault.{ChainFault}
 use Rattle.fs_queue.specs.declared.fault.QueueError.{QueueError}
 use Rattle.fs_queue.specs.declared.fault.QueueError.TheVariants as stop
 use Rattle.fs_queue.specs.Queue.{Queue, element_at, index_at}
@@ -13,8 +17,8 @@ use Rattle.fs_queue.specs.Walking.{at_position}
 use Rattle.fs_queue.specs.Chain.{Found, IsChain, HasFault, StopsQueue, chain}
 use Rattle.fs_queue.specs.NextAvail.{next_avail}
 use Rattle.fs_queue.specs.NextAvail as avail
-use Rattle.fs_queue.specs.Taking.{Offer, Refuses, offer_of, on_head, on_next_avail, offer, may_lack_memory, stops_queue}
-use Rattle.fs_queue.specs.Windows.{ReturnPlaces, Lacks, Takes, return_places_found, return_places_at, used_addresses}
+use Rattle.fs_queue.specs.Taking.{Offer, Offers, Refuses, RequestAndRoom, CannotFetch, request_and_room, offer_of, on_head, on_next_avail, offer, may_lack_memory, stops_queue}
+use Rattle.fs_queue.specs.Windows.{ReturnPlaces, Lacks, Takes, HoldsChain, HoldsFound, HoldsReturnWindows, RefusesFound, return_places_found, return_places_at, used_addresses}
 use Rattle.fs_queue.specs.Windows as held
 use Rattle.fs_queue.proofs.TakeLemmas.{reach-each, reach-range, list_all-append}
 use Rattle.vm_memory.proofs.RangeLemmas.{all_located}
@@ -108,3 +112,36 @@ refuses m limit q stop.HeadOutOfTable stops is = is
 refuses m limit q stop.UsedUnreachable stops is = is
 refuses m limit q stop.AvailFlagsUnreachable stops is = is
 refuses m limit q stop.DescriptorUnreachable stops is = is
+
+-- so is a refusal of the walk
+pub refused_found : (m : Memory) (limit : ℕ) (l : QueueLayout) (position at : ℕ) (a b : List Place) (e : QueueError) → avail.Head at ≡ next_avail m (at_position l position) →
+    held.Holds a b ≡ return_places_at m (at_position l position) → RefusesFound (chain m (at_position l position) at) e → Takes m limit (at_position l position) (Err e)
+refused_found m limit l position at a b stop.OutOfMemory head places r = lacks_memory m limit l position at head
+refused_found m limit l position at a b stop.DescriptorUnreachable head places r = offer_found m limit l position at a b StopsQueue head places (sym r)
+refused_found m limit l position at a b stop.Stopped head places r = absurd r
+refused_found m limit l position at a b stop.AvailIndexUnreachable head places r = absurd r
+refused_found m limit l position at a b stop.AvailTooFar head places r = absurd r
+refused_found m limit l position at a b stop.RingEntryUnreachable head places r = absurd r
+refused_found m limit l position at a b stop.HeadOutOfTable head places r = absurd r
+refused_found m limit l position at a b stop.UsedUnreachable head places r = absurd r
+refused_found m limit l position at a b stop.AvailFlagsUnreachable head places r = absurd r
+
+-- what is fetched by what a walk found, if it has its windows
+fetched_of : (m : Memory) (limit at : ℕ) (f : Found) (c : Result Chain ChainFault) → HoldsFound m limit f c →
+    (fetched : RequestAndRoom) × (offer_of m limit at f ≡ Offers at fetched) × HoldsChain m fetched c
+fetched_of m limit at (IsChain ds) c h = (request_and_room m limit ds, refl, h)
+fetched_of m limit at (HasFault fault) c h = (CannotFetch fault, refl, h)
+fetched_of m limit at StopsQueue c h = absurd h
+
+-- a chain that was walked and has its windows is taken
+pub taken_found : (m : Memory) (limit : ℕ) (l : QueueLayout) (position at : ℕ) (w : ReturnWindows) (c : Result Chain ChainFault) → avail.Head at ≡ next_avail m (at_position l position) →
+    held.Holds (places w.used.items) (places w.flags.items) ≡ return_places_at m (at_position l position) → HoldsFound m limit (chain m (at_position l position) at) c →
+    Takes m limit (at_position l position) (Ok (Some (record { head = at; chain = c; return_windows = w })))
+taken_found m limit l position at w c head found h =
+    let both = found_return_places _ _ _ _ found in
+    let kept : HoldsReturnWindows m (at_position l position) w = record { used = both.0; flags = both.1 } in
+    let fetched = fetched_of m limit at (chain m (at_position l position) at) c h in (
+      fetched.0,
+      offer_found m limit l position at _ _ (chain m (at_position l position) at) head found refl ∙ fetched.1,
+      record { return_windows = kept; chain = fetched.2 },
+    )

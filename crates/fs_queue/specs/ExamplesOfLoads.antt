@@ -9,9 +9,9 @@ use Rattle.fs_queue.specs.NextAvail as avail
 use Rattle.fs_queue.specs.declared.fault.QueueError.TheVariants.{AvailIndexUnreachable, Stopped}
 use Rattle.fs_queue.specs.Taking.{Idle, Offers, Refuses, IsRequest, CannotFetch}
 use Rattle.fs_queue.specs.OfferLoads.{offer_by}
-use Rattle.fs_queue.specs.AnyLoads.{ahead_of_head, loads_by, steps_by, visits_by}
-use Rattle.fs_queue.specs.Chain.{Visit, first_visit, IsChain, HasFault, StopsQueue}
-use Rattle.fs_queue.specs.Loads.{Load, holding, chain_by, found_by, found_exactly, asks_entry, index_load, entry_load}
+use Rattle.fs_queue.specs.AnyLoads.{ahead_of_head, joined_by, loads_by, steps_by, visits_by}
+use Rattle.fs_queue.specs.Chain.{Visit, first_visit, own_table, IsChain, HasFault, StopsQueue}
+use Rattle.fs_queue.specs.Loads.{Load, Reads, Ends, AreEntriesInTurn, ahead_by, found_in_turn, holding, chain_by, found_by, found_exactly, asks_entry, index_load, entry_load}
 
 abbrev queue : Queue
 queue = fresh 4 0 0x50 0x60
@@ -132,3 +132,54 @@ index_lost = refl
 steps_past : map (λ (v : Visit). v.index) (steps_by 4 (loaded 0x20 (entry 0 1 4) ∷ loaded 0x40 (entry 0 0 0) ∷ []) (first_visit queue 2)) ≡ 2 ∷ 4 ∷ []
 unfolding place addresses steps_by
 steps_past = refl
+
+-- two loads of entry 2, which the guest wrote between them
+abbrev first_came : Load
+first_came = loaded 0x20 (entry 0 1 2)
+
+abbrev then_came : Load
+then_came = loaded 0x20 (entry 8 0 0)
+
+-- each found what another memory has
+one_memory_each : AreEntriesInTurn (holding (first_came ∷ []) ∷ holding (then_came ∷ []) ∷ []) (first_came ∷ then_came ∷ [])
+unfolding place addresses
+one_memory_each = (refl, (refl, tt))
+
+-- and a walk that reads one memory after the other finds the chain of which no memory has both
+walked_in_turn : found_in_turn 4 (holding (first_came ∷ []) ∷ holding (then_came ∷ []) ∷ []) (ahead_of_head queue 2)
+    ≡ Some (IsChain (record { addr = 0x40; len = 4; flags = 1; next = 2 } ∷ record { addr = 0x48; len = 4; flags = 0; next = 0 } ∷ []))
+unfolding place addresses found_in_turn
+walked_in_turn = refl
+
+-- too few memories tell nothing
+too_few_memories : found_in_turn 4 (holding (first_came ∷ []) ∷ []) (ahead_of_head queue 2) ≡ None
+unfolding place addresses found_in_turn
+too_few_memories = refl
+
+-- a walk that is cut off after its first load would have asked for entry 3
+cut_off : ahead_by 4 (loaded 0x20 (entry 0 1 3) ∷ []) (ahead_of_head queue 2) ≡ Some (Reads (record { table = own_table queue; index = 3; earlier = 1 }))
+unfolding place addresses ahead_by
+cut_off = refl
+
+-- one load brings a chain of one descriptor to its end
+not_cut_off : ahead_by 4 one_entry (ahead_of_head queue 2) ≡ Some (Ends (IsChain []))
+unfolding place addresses ahead_by
+not_cut_off = refl
+
+-- a load of another entry than the next brings a walk nowhere
+cut_off_elsewhere : ahead_by 4 (loaded 0x20 (entry 0 1 3) ∷ loaded 0x10 (entry 0 1 0) ∷ []) (ahead_of_head queue 2) ≡ None
+unfolding place addresses ahead_by
+cut_off_elsewhere = refl
+
+-- the descriptors that loads tell, in their order
+two_joined : joined_by 4 (steps_by 4 (first_came ∷ then_came ∷ []) (first_visit queue 2)) (first_came ∷ then_came ∷ [])
+    ≡ record { addr = 0x40; len = 4; flags = 1; next = 2 } ∷ record { addr = 0x48; len = 4; flags = 0; next = 0 } ∷ []
+unfolding place addresses steps_by
+two_joined = refl
+
+-- one that names a table doesn't join
+no_table_joined : joined_by 4 (steps_by 4 (loaded 0x20 (0x40 ∷ 0 ∷ 0 ∷ 0 ∷ 0 ∷ 0 ∷ 0 ∷ 0 ∷ 16 ∷ 0 ∷ 0 ∷ 0 ∷ 4 ∷ 0 ∷ 0 ∷ 0 ∷ []) ∷ loaded 0x40 (entry 8 0 0) ∷ []) (first_visit queue 2))
+    (loaded 0x20 (0x40 ∷ 0 ∷ 0 ∷ 0 ∷ 0 ∷ 0 ∷ 0 ∷ 0 ∷ 16 ∷ 0 ∷ 0 ∷ 0 ∷ 4 ∷ 0 ∷ 0 ∷ 0 ∷ []) ∷ loaded 0x40 (entry 8 0 0) ∷ [])
+    ≡ record { addr = 0x48; len = 4; flags = 0; next = 0 } ∷ []
+unfolding place addresses steps_by
+no_table_joined = refl

@@ -13,8 +13,8 @@ use Rattle.fs_queue.specs.declared.fault.QueueError.TheVariants as stop
 use Rattle.fs_queue.specs.declared.chain.Chain.{Chain}
 use Rattle.fs_queue.specs.declared.chain.ReturnWindows.{ReturnWindows}
 use Rattle.fs_queue.specs.Queue.{Queue, element_at, index_at}
-use Rattle.fs_queue.specs.Chain.{Descriptor, Found, IsChain, chain}
-use Rattle.fs_queue.specs.Taking.{readable, writable, RequestAndRoom, IsRequest, CannotFetch, Idle, Refuses, Offers, offer, may_lack_memory, after_refusal}
+use Rattle.fs_queue.specs.Chain.{Descriptor, Found, IsChain, HasFault, StopsQueue, chain}
+use Rattle.fs_queue.specs.Taking.{readable, writable, request_and_room, RequestAndRoom, IsRequest, CannotFetch, Idle, Refuses, Offers, offer, may_lack_memory, after_refusal}
 
 -- the places of the used element and the used index, and of the available flags (2.7.8 and 2.7.7), or which of them has an address without a place
 pub data ReturnPlaces : Type 0 where
@@ -65,6 +65,18 @@ HoldsChain m (IsRequest request room) (Ok c) =
     (request ≡ map (byte_in m.host) (places c.readable.items)) × (located (location m Write) room ≡ Some (places c.writable.items))
 HoldsChain m (CannotFetch why) (Err fault) = fault ≡ why
 HoldsChain m _ _ = ⊥
+
+-- windows of what is fetched by what a walk found, or why it can't be
+abbrev pub HoldsFound : Memory → ℕ → Found → Result Chain ChainFault → Type 0
+HoldsFound m limit (IsChain ds) c = HoldsChain m (request_and_room m limit ds) c
+HoldsFound m limit (HasFault fault) c = HoldsChain m (CannotFetch fault) c
+HoldsFound m limit StopsQueue c = ⊥
+
+-- a walk that found this may be refused so: it stopped the queue, or an allocation failed
+abbrev pub RefusesFound : Found → QueueError → Type 0
+RefusesFound found stop.OutOfMemory = Unit {0}
+RefusesFound found stop.DescriptorUnreachable = found ≡ StopsQueue
+RefusesFound found _ = ⊥
 
 -- a place for a chain that was taken: the chain or its fault, and the windows of its return
 pub record Taken : Type 0 where
@@ -127,6 +139,10 @@ unreachable_of m ds = unreachable (located (location m Read) (addresses_of (read
 -- a chain without a window
 abbrev pub HasNoWindows : Chain → Type 0
 HasNoWindows c = (c.readable.items ≡ []) × (c.writable.items ≡ [])
+
+-- a return without a window
+abbrev pub HasNoReturnWindows : ReturnWindows → Type 0
+HasNoReturnWindows windows = (windows.used.items ≡ []) × (windows.flags.items ≡ [])
 
 -- how many bytes of reply a chain has room for
 abbrev pub room_places : Result Chain ChainFault → ℕ

@@ -90,6 +90,16 @@ impl ReturnWindows {
             flags: Windows::new(alloc),
         }
     }
+
+    // Takes the windows away. The lists keep their memory.
+    #[inline(always)]
+    pub(crate) fn clear(&mut self)
+        ensures used { self.new.used.items ≡ [] }
+        ensures flags { self.new.flags.items ≡ [] }
+    {
+        self.used.clear();
+        self.flags.clear();
+    }
 }
 
 /// A place for a chain that was taken and not yet given back, or its fault, with the windows of its return and the
@@ -133,8 +143,7 @@ impl Taken {
     pub(crate) fn clear(&mut self)
         ensures { IsEmpty self.new }
     {
-        self.return_windows.used.clear();
-        self.return_windows.flags.clear();
+        self.return_windows.clear();
         self.fault = None;
         self.chain.clear();
     }

@@ -3,7 +3,7 @@
 
 ghost use Rattle.std.specs.Prelude.{ℕ, ◌≡◌, ◌+◌, ◌-◌, ◌<◌, ◌≤◌, ◌^◌, ◌++◌, List, []};
 ghost use Rattle.std.specs.Prelude.{min, false, true, None, Some, Ok, if◌then◌else◌};
-ghost use Rattle.std.specs.Prelude.{IfNone, IfOk, IfSome, IsTrue};
+ghost use Rattle.std.specs.Prelude.{IfErr, IfNone, IfOk, IfSome, IsTrue, OnErr};
 ghost use Rattle.vm_iotlb.specs.declared.permissions.Permissions.TheVariants.{Read, Write};
 ghost use Rattle.vm_memory_core.specs.Host.{lengths};
 ghost use Rattle.vm_memory_core.specs.Window.{places, AllLieIn};
@@ -12,14 +12,17 @@ ghost use Rattle.fs_queue.specs.Walking.{AllEndIn64Bits, at_position};
 ghost use Rattle.fs_queue.specs.Taking.{total_len, request_and_room, stops_queue};
 ghost use Rattle.fs_queue.specs.Windows.{of_direction, access_of, addresses_of, used_addresses, return_places_of};
 ghost use Rattle.fs_queue.specs.Windows.{return_places_at, room_places, ReturnWindowsLieIn, ChainLiesIn, TakenLiesIn};
-ghost use Rattle.fs_queue.specs.Windows.{HoldsChain, HoldsWindows, HasItsWindows, HasNoWindows, IsEmpty, Takes, taken_if, unless_faulty, unreachable_of};
-ghost use Rattle.fs_queue.specs.Chain.{IsChain};
+ghost use Rattle.fs_queue.specs.Windows.{HoldsChain, HoldsWindows, HasItsWindows, HasNoReturnWindows, HasNoWindows, IsEmpty, Takes, taken_if, unless_faulty, unreachable_of};
+ghost use Rattle.fs_queue.specs.Windows.{HoldsFound, RefusesFound};
+ghost use Rattle.fs_queue.specs.Chain.{IsChain, chain, first_visit};
+ghost use Rattle.fs_queue.specs.Loads.{ahead_at};
+ghost use Rattle.fs_queue.specs.Stepping.{ahead_of, IfWants};
 
 use crate::access::add_windows;
 use crate::by_loads::{walk_chain, walk_ring};
 use crate::chain::{Chain, ReturnWindows, Taken};
-use crate::chain_walk::Walked;
-use crate::descriptor::Descriptor;
+use crate::chain_walk::{Progress, Walked};
+use crate::descriptor::{Descriptor, Descriptors};
 use crate::fault::{ChainFault, QueueError};
 use crate::layout::QueueLayout;
 use crate::walk::Walk;
@@ -53,11 +56,10 @@ fn add_used<M: GuestMemory, H: HostBlocks>(
     add_windows(alloc, host, mem, index, 2, Permissions::Write, windows)
 }
 
-/// Adds to empty lists the windows that a return at this position writes and reads besides the room, or answers which of
-/// them has an address that can't be reached: `UsedUnreachable` or `AvailFlagsUnreachable`. An error is a failed
-/// allocation. `Queue::take` does so once a head is known, before the chain is walked.
+// Adds to empty lists the windows of a return, or answers which of them has an address that can't be reached; then the lists
+// may have windows of what came before it.
 #[inline(always)]
-pub fn add_return_windows<M: GuestMemory, H: HostBlocks>(
+fn add_used_and_flags<M: GuestMemory, H: HostBlocks>(
     alloc: Global,
     layout: QueueLayout,
     host: &H,
@@ -66,8 +68,7 @@ pub fn add_return_windows<M: GuestMemory, H: HostBlocks>(
     windows: &mut ReturnWindows,
 ) -> Result<Option<QueueError>, AllocError>
     requires held { M.IsHeld mem.now (H.host host.now) }
-    requires used { windows.old.used.items ≡ [] }
-    requires flags { windows.old.flags.items ≡ [] }
+    requires none { HasNoReturnWindows windows.old }
     ensures places { let m = M.memory mem.now (H.host host.now) in
         IfOk result (λ missing. return_places_of missing windows.new ≡ return_places_at m (at_position layout position)) }
     ensures lie { IfOk result (λ missing. IfNone missing (ReturnWindowsLieIn (lengths (H.host host.now)) windows.new)) }
@@ -89,6 +90,40 @@ pub fn add_return_windows<M: GuestMemory, H: HostBlocks>(
         return Ok(Some(QueueError::AvailFlagsUnreachable));
     }
     Ok(None)
+}
+
+/// Adds to empty lists the windows that a return at this position writes and reads besides the room, or answers which of
+/// them has an address that can't be reached: `UsedUnreachable` or `AvailFlagsUnreachable`. An error is a failed
+/// allocation. At either the lists stay empty. `Queue::take` does so once a head is known, before the chain is walked.
+#[inline(always)]
+pub fn add_return_windows<M: GuestMemory, H: HostBlocks>(
+    alloc: Global,
+    layout: QueueLayout,
+    host: &H,
+    mem: &M,
+    position: u16,
+    windows: &mut ReturnWindows,
+) -> Result<Option<QueueError>, AllocError>
+    requires held { M.IsHeld mem.now (H.host host.now) }
+    requires none { HasNoReturnWindows windows.old }
+    ensures places { let m = M.memory mem.now (H.host host.now) in
+        IfOk result (λ missing. return_places_of missing windows.new ≡ return_places_at m (at_position layout position)) }
+    ensures lie { IfOk result (λ missing. IfNone missing (ReturnWindowsLieIn (lengths (H.host host.now)) windows.new)) }
+    ensures stops { IfOk result (λ missing. IfSome missing (λ e. IsTrue (stops_queue e))) }
+    ensures missing_is_empty { IfOk result (λ missing. IfSome missing (λ e. HasNoReturnWindows windows.new)) }
+    ensures failed_is_empty { OnErr result (HasNoReturnWindows windows.new) }
+{
+    match add_used_and_flags(alloc, layout, host, mem, position, windows) {
+        Ok(None) => Ok(None),
+        Ok(Some(missing)) => {
+            windows.clear();
+            Ok(Some(missing))
+        }
+        Err(error) => {
+            windows.clear();
+            Err(error)
+        }
+    }
 }
 
 /// How many bytes the descriptors of a chain have in one direction: those that the device writes, or those that it reads.
@@ -224,6 +259,7 @@ fn add_chain<M: GuestMemory, H: HostBlocks>(
 }
 
 // Fills a chain without windows, or answers which part of it has an address that can't be reached. An error is a failed allocation.
+// Then the chain still has no windows.
 #[inline(always)]
 fn fill_chain<M: GuestMemory, H: HostBlocks>(
     alloc: Global,
@@ -244,6 +280,8 @@ fn fill_chain<M: GuestMemory, H: HostBlocks>(
     ensures fault { IfOk result (λ fault. fault ≡ unreachable_of (M.memory mem.now (H.host host.now)) descriptors.now) }
     ensures windows { IfOk result (λ fault. IfNone fault (HoldsWindows (M.memory mem.now (H.host host.now)) head (Ok chain.new) (IsChain descriptors.now))) }
     ensures lie { IfOk result (λ fault. IfNone fault (ChainLiesIn (lengths (H.host host.now)) (Ok chain.new))) }
+    ensures faulty_is_empty { IfOk result (λ fault. IfSome fault (λ why. HasNoWindows chain.new)) }
+    ensures failed_is_empty { OnErr result (HasNoWindows chain.new) }
 {
     match add_chain(
         alloc,
@@ -273,8 +311,8 @@ fn fill_chain<M: GuestMemory, H: HostBlocks>(
 }
 
 /// Puts the request and the room of a chain that was walked in a place, or answers its fault: `OverLimit` if one of them has
-/// more than `limit` bytes, then `RequestUnreachable`, then `RoomUnreachable`. An error is a failed allocation.
-/// `Queue::take` does so with the descriptors that joined its walk.
+/// more than `limit` bytes, then `RequestUnreachable`, then `RoomUnreachable`. An error is a failed allocation. At a fault
+/// and at an error the place has no windows, whatever it had. `Queue::take` does so with the descriptors that joined its walk.
 #[inline(always)]
 pub fn hold_chain<M: GuestMemory, H: HostBlocks>(
     alloc: Global,
@@ -292,13 +330,15 @@ pub fn hold_chain<M: GuestMemory, H: HostBlocks>(
     ensures lie { IfOk result (λ fault. ChainLiesIn (lengths (H.host host.now)) (unless_faulty fault chain.new)) }
     ensures windows { IfOk result (λ fault. HoldsWindows (M.memory mem.now (H.host host.now)) head (unless_faulty fault chain.new) (IsChain descriptors.now)) }
     ensures short { IfOk result (λ fault. room_places (unless_faulty fault chain.new) ≤ limit) }
+    ensures faulty_is_empty { IfOk result (λ fault. IfSome fault (λ why. HasNoWindows chain.new)) }
+    ensures failed_is_empty { OnErr result (HasNoWindows chain.new) }
 {
+    chain.clear();
     let request_len = count_bytes(descriptors, false);
     let room_len = count_bytes(descriptors, true);
     if request_len > u64::from(limit) || room_len > u64::from(limit) {
         return Ok(Some(ChainFault::OverLimit));
     }
-    chain.clear();
     fill_chain(
         alloc,
         host,
@@ -309,6 +349,43 @@ pub fn hold_chain<M: GuestMemory, H: HostBlocks>(
         room_len as usize,
         chain,
     )
+}
+
+// Walks the chain of a head, and puts its request and its room in a place, or answers its fault. Refused are
+// `DescriptorUnreachable` and `OutOfMemory`.
+#[inline(always)]
+fn walk_and_hold<M: GuestMemory, H: HostBlocks>(
+    alloc: Global,
+    layout: QueueLayout,
+    host: &H,
+    mem: &M,
+    head: u16,
+    first: Progress,
+    limit: u32,
+    descriptors: &mut Descriptors,
+    kept: &mut Chain,
+) -> Result<Option<ChainFault>, QueueError>
+    requires held { M.IsHeld mem.now (H.host host.now) }
+    requires at { ahead_of first ≡ ahead_at layout.size (first_visit (at_position layout 0) head) }
+    requires size { IfWants first (λ w. w.size ≡ layout.size) }
+    ensures fetched { let m = M.memory mem.now (H.host host.now) in
+        IfOk result (λ fault. HoldsFound m limit (chain m (at_position layout 0) head) (unless_faulty fault kept.new)) }
+    ensures refused { IfErr result (RefusesFound (chain (M.memory mem.now (H.host host.now)) (at_position layout 0) head)) }
+    ensures windows { let m = M.memory mem.now (H.host host.now) in
+        IfOk result (λ fault. HoldsWindows m head (unless_faulty fault kept.new) (chain m (at_position layout 0) head)) }
+    ensures lie { IfOk result (λ fault. ChainLiesIn (lengths (H.host host.now)) (unless_faulty fault kept.new)) }
+    ensures short { IfOk result (λ fault. room_places (unless_faulty fault kept.new) ≤ limit) }
+{
+    match walk_chain(alloc, layout, host, mem, head, first, descriptors) {
+        Ok(Walked::Chain) => {}
+        Ok(Walked::Faulty(fault)) => return Ok(Some(fault)),
+        Ok(Walked::Stopped) => return Err(QueueError::DescriptorUnreachable),
+        Err(_) => return Err(QueueError::OutOfMemory),
+    }
+    match hold_chain(alloc, host, mem, head, descriptors, limit, kept) {
+        Ok(fault) => Ok(fault),
+        Err(_) => Err(QueueError::OutOfMemory),
+    }
 }
 
 /// Takes the chain that waits at a position of a queue that isn't stopped into an empty place; false if none waits.
@@ -331,10 +408,10 @@ pub(crate) fn take_into<M: GuestMemory, H: HostBlocks>(
     ensures short { IfOk (taken_if taken.new result) (λ o. IfSome o (λ t. room_places t.chain ≤ limit)) }
     ensures idle { IfOk result (λ waits. waits ≡ false → IsEmpty taken.new) }
 {
-    let (head, progress) = match walk_ring(alloc, layout, position, host, mem) {
+    let (head, first) = match walk_ring(alloc, layout, position, host, mem) {
         Ok(Walk::Idle) => return Ok(false),
         Ok(Walk::Refused(error)) => return Err(error),
-        Ok(Walk::Chain(head, progress)) => (head, progress),
+        Ok(Walk::Chain(head, first)) => (head, first),
         Ok(Walk::Index(_) | Walk::RingEntry(_)) => unreachable!(),
         Err(_) => return Err(QueueError::OutOfMemory),
     };
@@ -350,31 +427,15 @@ pub(crate) fn take_into<M: GuestMemory, H: HostBlocks>(
         Ok(Some(error)) => return Err(error),
         Err(_) => return Err(QueueError::OutOfMemory),
     }
-    match walk_chain(
+    match walk_and_hold(
         alloc,
         layout,
         host,
         mem,
         head,
-        progress,
-        &mut taken.descriptors,
-    ) {
-        Ok(Walked::Chain) => {}
-        Ok(Walked::Faulty(fault)) => {
-            taken.head = head;
-            taken.fault = Some(fault);
-            return Ok(true);
-        }
-        Ok(Walked::Stopped) => return Err(QueueError::DescriptorUnreachable),
-        Err(_) => return Err(QueueError::OutOfMemory),
-    }
-    match hold_chain(
-        alloc,
-        host,
-        mem,
-        head,
-        &taken.descriptors,
+        first,
         limit,
+        &mut taken.descriptors,
         &mut taken.chain,
     ) {
         Ok(fault) => {
@@ -382,6 +443,6 @@ pub(crate) fn take_into<M: GuestMemory, H: HostBlocks>(
             taken.fault = fault;
             Ok(true)
         }
-        Err(_) => Err(QueueError::OutOfMemory),
+        Err(error) => Err(error),
     }
 }

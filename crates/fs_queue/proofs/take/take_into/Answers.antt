@@ -1,9 +1,7 @@
 use Rattle.std.proofs.Common.{◌≡◌, ◌∙◌, ap, sym, refl}
 use Rattle.fs_queue.specs.Walking.{at_position}
-use Rattle.fs_queue.specs.Chain.{IsChain, HasFault, StopsQueue}
-use Rattle.fs_queue.specs.Taking.{CannotFetch, request_and_room, may_lack_memory, on_next_avail}
-use Rattle.fs_queue.specs.Windows.{HoldsReturnWindows}
-use Rattle.fs_queue.proofs.OfferLemmas.{offer_next_avail, offer_lacks, offer_found, lacks_memory, found_return_places, refuses}
+use Rattle.fs_queue.specs.Taking.{may_lack_memory, on_next_avail}
+use Rattle.fs_queue.proofs.OfferLemmas.{offer_next_avail, offer_lacks, lacks_memory, refuses, refused_found, taken_found}
 use Rattle.fs_queue.specs.NextAvail.{NextAvail, Idle}
 use Rattle.fs_queue.specs.Ringing.{Stage, AsksIndex, AsksEntry, Told}
 use Rattle.fs_queue.proofs.take.take_into.Goals as goal
@@ -44,39 +42,15 @@ pub returns-in-Err-add_return_windows-clause-takes : goal.returns-in-Err-add_ret
 returns-in-Err-add_return_windows-clause-takes g c =
     lacks_memory (g.M.GuestMemory.memory c.args.mem.now (g.H.HostBlocks.host c.args.host.now)) c.args.limit c.args.layout c.args.position c.in-Ok-Chain.head (untold _ _ (rw c.in-Ok-Chain.field-0-is at c.in-Ok-Chain.ensures.told))
 
-pub returns-in-Err-walk_chain-clause-takes : goal.returns-in-Err-walk_chain-clause-takes
-returns-in-Err-walk_chain-clause-takes g c =
-    lacks_memory (g.M.GuestMemory.memory c.args.mem.now (g.H.HostBlocks.host c.args.host.now)) c.args.limit c.args.layout c.args.position c.in-Ok-Chain.head (untold _ _ (rw c.in-Ok-Chain.field-0-is at c.in-Ok-Chain.ensures.told))
-
-pub returns-in-Err-hold_chain-clause-takes : goal.returns-in-Err-hold_chain-clause-takes
-returns-in-Err-hold_chain-clause-takes g c =
-    lacks_memory (g.M.GuestMemory.memory c.args.mem.now (g.H.HostBlocks.host c.args.host.now)) c.args.limit c.args.layout c.args.position c.in-Ok-Chain.head (untold _ _ (rw c.in-Ok-Chain.field-0-is at c.in-Ok-Chain.ensures.told))
-
-pub returns-in-Ok-Stopped-clause-takes : goal.returns-in-Ok-Stopped-clause-takes
-returns-in-Ok-Stopped-clause-takes g c =
-    offer_found (g.M.GuestMemory.memory c.args.mem.now (g.H.HostBlocks.host c.args.host.now)) c.args.limit c.args.layout c.args.position c.in-Ok-Chain.head _ _ StopsQueue (untold _ _ (rw c.in-Ok-Chain.field-0-is at c.in-Ok-Chain.ensures.told))
-    (rw c.in-Ok-None.field-0-is at c.in-Ok-None.ensures.places) (rw c.in-Ok-Stopped.field-0-is at c.in-Ok-Stopped.ensures.chain)
-
-pub returns-in-Ok-Faulty-clause-takes : goal.returns-in-Ok-Faulty-clause-takes
-returns-in-Ok-Faulty-clause-takes g c =
-    let m = g.M.GuestMemory.memory c.args.mem.now (g.H.HostBlocks.host c.args.host.now) in
-    let avail = untold _ _ (rw c.in-Ok-Chain.field-0-is at c.in-Ok-Chain.ensures.told) in
-    let places = rw c.in-Ok-None.field-0-is at c.in-Ok-None.ensures.places in
-    let both = found_return_places _ _ _ _ places in
-    let kept : HoldsReturnWindows m (at_position c.args.layout c.args.position) c.add_return_windows.new.windows = record { used = both.0; flags = both.1 } in (
-      CannotFetch c.in-Ok-Faulty.fault,
-      offer_found m c.args.limit c.args.layout c.args.position c.in-Ok-Chain.head _ _ (HasFault c.in-Ok-Faulty.fault) avail places (rw c.in-Ok-Faulty.field-0-is at c.in-Ok-Faulty.ensures.chain),
-      record { return_windows = kept; chain = refl },
-    )
+pub returns-in-Err-walk_and_hold-clause-takes : goal.returns-in-Err-walk_and_hold-clause-takes
+returns-in-Err-walk_and_hold-clause-takes g c =
+    refused_found (g.M.GuestMemory.memory c.args.mem.now (g.H.HostBlocks.host c.args.host.now)) c.args.limit c.args.layout c.args.position c.in-Ok-Chain.head _ _ _
+    (untold _ _ (rw c.in-Ok-Chain.field-0-is at c.in-Ok-Chain.ensures.told)) (rw c.in-Ok-None.field-0-is at c.in-Ok-None.ensures.places) c.in-Err-walk_and_hold.ensures.refused
 
 pub returns-in-Ok-clause-takes : goal.returns-in-Ok-clause-takes
 returns-in-Ok-clause-takes g c =
-    let m = g.M.GuestMemory.memory c.args.mem.now (g.H.HostBlocks.host c.args.host.now) in
-    let avail = untold _ _ (rw c.in-Ok-Chain.field-0-is at c.in-Ok-Chain.ensures.told) in
-    let places = rw c.in-Ok-None.field-0-is at c.in-Ok-None.ensures.places in
-    let both = found_return_places _ _ _ _ places in
-    let kept : HoldsReturnWindows m (at_position c.args.layout c.args.position) c.add_return_windows.new.windows = record { used = both.0; flags = both.1 } in (
-      request_and_room m c.args.limit c.walk_chain.new.descriptors.items,
-      offer_found m c.args.limit c.args.layout c.args.position c.in-Ok-Chain.head _ _ (IsChain c.walk_chain.new.descriptors.items) avail places (rw c.in-Ok-Chain-walk_chain.field-0-is at c.in-Ok-Chain-walk_chain.ensures.chain),
-      record { return_windows = kept; chain = rw c.deref.ensures at c.in-Ok.ensures.fetched },
-    )
+    taken_found (g.M.GuestMemory.memory c.args.mem.now (g.H.HostBlocks.host c.args.host.now)) c.args.limit c.args.layout c.args.position c.in-Ok-Chain.head _ _
+    (untold _ _ (rw c.in-Ok-Chain.field-0-is at c.in-Ok-Chain.ensures.told)) (rw c.in-Ok-None.field-0-is at c.in-Ok-None.ensures.places) c.in-Ok.ensures.fetched
+
+pub returns-in-Ok-clause-windows : goal.returns-in-Ok-clause-windows
+returns-in-Ok-clause-windows g c = c.in-Ok.ensures.windows
