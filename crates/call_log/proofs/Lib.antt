@@ -1,3 +1,2 @@
-pub mod ForgetLemmas
 pub mod LogLemmas
 pub mod StepLemmas

@@ -1,3 +1,4 @@
 pub mod Log
+pub mod LogLaws
 pub mod Runs
 pub mod Steps

@@ -1,19 +1,17 @@
 //! The file system: three files that never change, and a log that grows by each call.
 
 ghost use Rattle.std.specs.Prelude.{◌≡◌, ⊤, [], option_map};
-ghost use Rattle.fuse_fs.specs.Answers.{attr_answer, pair_numbers};
+ghost use Rattle.fuse_fs.specs.Answers.{attr_answer};
 ghost use Rattle.fuse_fs.specs.Calls as call;
 ghost use Rattle.call_log.specs.Log.{MayLog, kept};
 
 use crate::log::{LoggedCall, MOST_CALLS};
 use arrayvec::ArrayVec;
 use bitflags::Flags;
-use fuse_wire::{
-    Attr, Errno, FsOptions, OpenOptions, SetattrIn, SetattrValid, SetxattrFlags, StatVfs,
-};
+use fuse_wire::{Attr, Errno, FsOptions};
 use virtiofsd_fuse::{
-    Context, Entry, Extensions, FileSystem, FileSystemBase, GetxattrReply, ListxattrReply,
-    NoEntries, PositionedFile, Timeout, WritevFlags, ZeroCopyReader, ZeroCopyWriter, defaults,
+    ChangesNothing, Context, Entry, FewCalls, FileSystemBase, NoEntries, OpensNothing,
+    PositionedFile, Timeout, WritevFlags, ZeroCopyReader, ZeroCopyWriter, defaults,
 };
 
 /// The node of the file `a`, which is `hello`.
@@ -171,7 +169,7 @@ impl FileSystemBase for CallLog {
     }
 }
 
-impl FileSystem for CallLog {
+impl FewCalls for CallLog {
     type DirIter = NoEntries;
 
     ghost use Rattle.std.specs.Prelude.{true};
@@ -202,6 +200,17 @@ impl FileSystem for CallLog {
         })
     }
 
+    fn getattr(
+        &mut self,
+        _ctx: Context,
+        _inode: u64,
+        _handle: Option<u64>,
+    ) -> Result<(Attr, Timeout), Errno>
+        ensures may { MayLog self.old (call.Getattr _ctx _inode (option_map (λ n. n) _handle)) (attr_answer result) self.new }
+    {
+        defaults::getattr()
+    }
+
     fn read<W: ZeroCopyWriter>(
         &mut self,
         _ctx: Context,
@@ -218,132 +227,15 @@ impl FileSystem for CallLog {
         defaults::read_whole(&mut file, w, size as usize, offset)
     }
 
-    fn destroy(&mut self) {
-        defaults::destroy(self);
-    }
-
-    fn batch_forget(&mut self, ctx: Context, requests: Vec<(u64, u64)>)
-        ensures may { MayLog self.old (call.BatchForget ctx (pair_numbers (λ n. n) requests.items)) call.Done self.new }
-    {
-        defaults::batch_forget(self, ctx, requests);
-    }
-
-    fn getattr(
+    fn readdir(
         &mut self,
         _ctx: Context,
         _inode: u64,
-        _handle: Option<u64>,
-    ) -> Result<(Attr, Timeout), Errno>
-        ensures may { MayLog self.old (call.Getattr _ctx _inode (option_map (λ n. n) _handle)) (attr_answer result) self.new }
-    {
-        defaults::getattr()
-    }
-
-    fn setattr(
-        &mut self,
-        _ctx: Context,
-        _inode: u64,
-        _attr: SetattrIn,
-        _handle: Option<u64>,
-        _valid: SetattrValid,
-    ) -> Result<(Attr, Timeout), Errno>
-        ensures may { MayLog self.old (call.Setattr _ctx _inode _attr (option_map (λ n. n) _handle) _valid.0) (attr_answer result) self.new }
-    {
-        defaults::setattr()
-    }
-
-    fn readlink(&mut self, _ctx: Context, _inode: u64) -> Result<Vec<u8>, Errno> {
-        defaults::readlink()
-    }
-
-    fn symlink(
-        &mut self,
-        _ctx: Context,
-        _linkname: &[u8],
-        _parent: u64,
-        _name: &[u8],
-        _extensions: Extensions,
-    ) -> Result<Entry<u64>, Errno> {
-        defaults::symlink()
-    }
-
-    fn mknod(
-        &mut self,
-        _ctx: Context,
-        _parent: u64,
-        _name: &[u8],
-        _mode: u32,
-        _rdev: u32,
-        _umask: u32,
-        _extensions: Extensions,
-    ) -> Result<Entry<u64>, Errno> {
-        defaults::mknod()
-    }
-
-    fn mkdir(
-        &mut self,
-        _ctx: Context,
-        _parent: u64,
-        _name: &[u8],
-        _mode: u32,
-        _umask: u32,
-        _extensions: Extensions,
-    ) -> Result<Entry<u64>, Errno> {
-        defaults::mkdir()
-    }
-
-    fn unlink(&mut self, _ctx: Context, _parent: u64, _name: &[u8]) -> Result<(), Errno> {
-        defaults::unlink()
-    }
-
-    fn rmdir(&mut self, _ctx: Context, _parent: u64, _name: &[u8]) -> Result<(), Errno> {
-        defaults::rmdir()
-    }
-
-    fn rename(
-        &mut self,
-        _ctx: Context,
-        _olddir: u64,
-        _oldname: &[u8],
-        _newdir: u64,
-        _newname: &[u8],
-        _flags: u32,
-    ) -> Result<(), Errno> {
-        defaults::rename()
-    }
-
-    fn link(
-        &mut self,
-        _ctx: Context,
-        _inode: u64,
-        _newparent: u64,
-        _newname: &[u8],
-    ) -> Result<Entry<u64>, Errno> {
-        defaults::link()
-    }
-
-    fn open(
-        &mut self,
-        _ctx: Context,
-        _inode: u64,
-        _kill_priv: bool,
-        _flags: u32,
-    ) -> Result<(Option<u64>, OpenOptions), Errno> {
-        defaults::open()
-    }
-
-    fn create(
-        &mut self,
-        _ctx: Context,
-        _parent: u64,
-        _name: &[u8],
-        _mode: u32,
-        _kill_priv: bool,
-        _flags: u32,
-        _umask: u32,
-        _extensions: Extensions,
-    ) -> Result<(Entry<u64>, Option<u64>, OpenOptions), Errno> {
-        defaults::create()
+        _handle: u64,
+        _size: u32,
+        _offset: u64,
+    ) -> Result<NoEntries, Errno> {
+        defaults::readdir()
     }
 
     fn write<R: ZeroCopyReader>(
@@ -360,199 +252,28 @@ impl FileSystem for CallLog {
         _flags: u32,
     ) -> Result<u32, Errno> {
         self.note(LoggedCall::Write { node: inode });
-        match r.write_to_file_at(&mut self.written, size as usize, offset, None) {
+        match defaults::write_whole(&mut self.written, r, size as usize, offset, None) {
             Ok(n) => u32::try_from(n).map_err(|_| Errno::EIO),
             Err(error) => Err(error),
         }
     }
 
-    fn flush(
-        &mut self,
-        _ctx: Context,
-        _inode: u64,
-        _handle: u64,
-        _lock_owner: u64,
-    ) -> Result<(), Errno> {
-        defaults::flush()
-    }
+    ghost use Rattle.std.proofs.Common.{refl};
+    ghost use Rattle.call_log.specs.LogLaws.{rare_unlogged, forgets_logged};
 
-    fn fsync(
-        &mut self,
-        _ctx: Context,
-        _inode: u64,
-        _datasync: bool,
-        _handle: u64,
-    ) -> Result<(), Errno> {
-        defaults::fsync()
-    }
+    ghost lacks_rare = { rare_unlogged };
 
-    fn fallocate(
-        &mut self,
-        _ctx: Context,
-        _inode: u64,
-        _handle: u64,
-        _mode: u32,
-        _offset: u64,
-        _length: u64,
-    ) -> Result<(), Errno> {
-        defaults::fallocate()
-    }
+    ghost forgets_each = { λ s t who counts each. (forgets_logged s who counts t each, refl) };
+}
 
-    fn release(
-        &mut self,
-        _ctx: Context,
-        _inode: u64,
-        _flags: u32,
-        _handle: u64,
-        _flush: bool,
-        _flock_release: bool,
-        _lock_owner: Option<u64>,
-    ) -> Result<(), Errno> {
-        defaults::release()
-    }
+impl OpensNothing for CallLog {
+    ghost use Rattle.call_log.specs.LogLaws.{opening_unlogged};
 
-    fn statfs(&mut self, _ctx: Context, _inode: u64) -> Result<StatVfs, Errno> {
-        defaults::statfs()
-    }
+    ghost lacks_opening = { opening_unlogged };
+}
 
-    fn setxattr(
-        &mut self,
-        _ctx: Context,
-        _inode: u64,
-        _name: &[u8],
-        _value: &[u8],
-        _flags: u32,
-        _extra_flags: SetxattrFlags,
-    ) -> Result<(), Errno> {
-        defaults::setxattr()
-    }
+impl ChangesNothing for CallLog {
+    ghost use Rattle.call_log.specs.LogLaws.{changing_unlogged};
 
-    fn getxattr(
-        &mut self,
-        _ctx: Context,
-        _inode: u64,
-        _name: &[u8],
-        _size: u32,
-    ) -> Result<GetxattrReply, Errno> {
-        defaults::getxattr()
-    }
-
-    fn listxattr(
-        &mut self,
-        _ctx: Context,
-        _inode: u64,
-        _size: u32,
-    ) -> Result<ListxattrReply, Errno> {
-        defaults::listxattr()
-    }
-
-    fn removexattr(&mut self, _ctx: Context, _inode: u64, _name: &[u8]) -> Result<(), Errno> {
-        defaults::removexattr()
-    }
-
-    fn opendir(
-        &mut self,
-        _ctx: Context,
-        _inode: u64,
-        _flags: u32,
-    ) -> Result<(Option<u64>, OpenOptions), Errno> {
-        defaults::opendir()
-    }
-
-    fn readdir(
-        &mut self,
-        _ctx: Context,
-        _inode: u64,
-        _handle: u64,
-        _size: u32,
-        _offset: u64,
-    ) -> Result<NoEntries, Errno> {
-        defaults::readdir()
-    }
-
-    fn fsyncdir(
-        &mut self,
-        _ctx: Context,
-        _inode: u64,
-        _datasync: bool,
-        _handle: u64,
-    ) -> Result<(), Errno> {
-        defaults::fsyncdir()
-    }
-
-    fn releasedir(
-        &mut self,
-        _ctx: Context,
-        _inode: u64,
-        _flags: u32,
-        _handle: u64,
-    ) -> Result<(), Errno> {
-        defaults::releasedir()
-    }
-
-    fn access(&mut self, _ctx: Context, _inode: u64, _mask: u32) -> Result<(), Errno> {
-        defaults::access()
-    }
-
-    fn lseek(
-        &mut self,
-        _ctx: Context,
-        _inode: u64,
-        _handle: u64,
-        _offset: u64,
-        _whence: u32,
-    ) -> Result<u64, Errno> {
-        defaults::lseek()
-    }
-
-    fn copyfilerange(
-        &mut self,
-        _ctx: Context,
-        _inode_in: u64,
-        _handle_in: u64,
-        _offset_in: u64,
-        _inode_out: u64,
-        _handle_out: u64,
-        _offset_out: u64,
-        _len: u64,
-        _flags: u64,
-    ) -> Result<u32, Errno> {
-        defaults::copyfilerange()
-    }
-
-    fn syncfs(&mut self, _ctx: Context, _inode: u64) -> Result<(), Errno> {
-        defaults::syncfs()
-    }
-
-    fn getlk(&mut self) -> Result<(), Errno> {
-        defaults::getlk()
-    }
-
-    fn setlk(&mut self) -> Result<(), Errno> {
-        defaults::setlk()
-    }
-
-    fn setlkw(&mut self) -> Result<(), Errno> {
-        defaults::setlkw()
-    }
-
-    fn ioctl(&mut self) -> Result<(), Errno> {
-        defaults::ioctl()
-    }
-
-    fn bmap(&mut self) -> Result<(), Errno> {
-        defaults::bmap()
-    }
-
-    fn poll(&mut self) -> Result<(), Errno> {
-        defaults::poll()
-    }
-
-    fn notify_reply(&mut self) -> Result<(), Errno> {
-        defaults::notify_reply()
-    }
-
-    fn tmpfile(&mut self) -> Errno {
-        defaults::tmpfile()
-    }
+    ghost lacks_changing = { changing_unlogged };
 }

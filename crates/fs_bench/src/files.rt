@@ -5,12 +5,11 @@ ghost use Rattle.std.specs.Prelude.{⊤};
 use crate::fault::BenchFault;
 use crate::listing::ListedEntries;
 use bitflags::Flags;
-use fuse_wire::{Attr, Errno, FsOptions, OpenOptions, SetattrIn, SetattrValid, StatVfs};
-use fuse_writable::{Writable, WritableFileSystem};
+use fuse_wire::{Attr, Errno, FsOptions};
 use std::alloc::Global;
 use virtiofsd_fuse::{
-    Context, Entry, Extensions, PositionedFile, Timeout, WritevFlags, ZeroCopyReader,
-    ZeroCopyWriter, defaults,
+    ChangesNothing, Context, Entry, FewCalls, FileSystemBase, OpensNothing, PositionedFile,
+    Timeout, WritevFlags, ZeroCopyReader, ZeroCopyWriter, defaults,
 };
 
 // How many bytes the file has.
@@ -24,18 +23,15 @@ struct MemoryFile {
 
 /// A file system whose one file is node 2.
 #[derive(Drop)]
-pub(crate) struct OneFile {
+pub(crate) struct MemoryFiles {
     file: MemoryFile,
 }
-
-/// The same, with the defaults for all calls that it lacks.
-pub(crate) type MemoryFiles = Writable<OneFile>;
 
 /// The file system, whose file is made.
 pub(crate) fn memory_files(alloc: Global) -> Result<MemoryFiles, BenchFault> {
     let bytes = vec![in alloc; 7; FILE_LEN]?;
     let file = MemoryFile { bytes };
-    Ok(Writable(OneFile { file }))
+    Ok(MemoryFiles { file })
 }
 
 impl MemoryFile {
@@ -91,10 +87,26 @@ fn file_attr() -> Result<(Attr, Timeout), Errno> {
     Ok((attr, second))
 }
 
-impl WritableFileSystem for OneFile {
-    type DirIter = ListedEntries;
+impl FileSystemBase for MemoryFiles {
+    type Inode = u64;
+
+    type Handle = u64;
 
     ghost may = { λ before call answer after. ⊤ };
+
+    fn forget(&mut self, _ctx: Context, _inode: u64, _count: u64) {}
+}
+
+impl FewCalls for MemoryFiles {
+    type DirIter = ListedEntries;
+
+    ghost use Rattle.std.specs.Prelude.{true};
+
+    ghost reads_whole = { λ fs. true };
+
+    fn reads_whole(&self) -> bool {
+        true
+    }
 
     fn init(&mut self, _capable: FsOptions) -> Result<FsOptions, Errno> {
         Ok(FsOptions::from_bits_retain(0))
@@ -111,82 +123,15 @@ impl WritableFileSystem for OneFile {
         })
     }
 
-    fn forget(&mut self, _ctx: Context, _inode: u64, _count: u64) {}
-
     fn getattr(
         &mut self,
         _ctx: Context,
         _inode: u64,
         _handle: Option<u64>,
-    ) -> Result<(Attr, Timeout), Errno> {
+    ) -> Result<(Attr, Timeout), Errno>
+        ensures may { ⊤ }
+    {
         file_attr()
-    }
-
-    fn setattr(
-        &mut self,
-        _ctx: Context,
-        _inode: u64,
-        _attr: SetattrIn,
-        _handle: Option<u64>,
-        _valid: SetattrValid,
-    ) -> Result<(Attr, Timeout), Errno> {
-        defaults::setattr()
-    }
-
-    fn mkdir(
-        &mut self,
-        _ctx: Context,
-        _parent: u64,
-        _name: &[u8],
-        _mode: u32,
-        _umask: u32,
-        _extensions: Extensions,
-    ) -> Result<Entry<u64>, Errno> {
-        defaults::mkdir()
-    }
-
-    fn unlink(&mut self, _ctx: Context, _parent: u64, _name: &[u8]) -> Result<(), Errno> {
-        defaults::unlink()
-    }
-
-    fn rmdir(&mut self, _ctx: Context, _parent: u64, _name: &[u8]) -> Result<(), Errno> {
-        defaults::rmdir()
-    }
-
-    fn rename(
-        &mut self,
-        _ctx: Context,
-        _olddir: u64,
-        _oldname: &[u8],
-        _newdir: u64,
-        _newname: &[u8],
-        _flags: u32,
-    ) -> Result<(), Errno> {
-        defaults::rename()
-    }
-
-    fn open(
-        &mut self,
-        _ctx: Context,
-        _inode: u64,
-        _kill_priv: bool,
-        _flags: u32,
-    ) -> Result<(Option<u64>, OpenOptions), Errno> {
-        defaults::open()
-    }
-
-    fn create(
-        &mut self,
-        _ctx: Context,
-        _parent: u64,
-        _name: &[u8],
-        _mode: u32,
-        _kill_priv: bool,
-        _flags: u32,
-        _umask: u32,
-        _extensions: Extensions,
-    ) -> Result<(Entry<u64>, Option<u64>, OpenOptions), Errno> {
-        defaults::create()
     }
 
     fn read<W: ZeroCopyWriter>(
@@ -203,6 +148,17 @@ impl WritableFileSystem for OneFile {
         defaults::read_whole(&mut self.file, w, size as usize, offset)
     }
 
+    fn readdir(
+        &mut self,
+        _ctx: Context,
+        _inode: u64,
+        _handle: u64,
+        _size: u32,
+        _offset: u64,
+    ) -> Result<ListedEntries, Errno> {
+        Ok(ListedEntries::new())
+    }
+
     fn write<R: ZeroCopyReader>(
         &mut self,
         _ctx: Context,
@@ -216,44 +172,19 @@ impl WritableFileSystem for OneFile {
         _kill_priv: bool,
         _flags: u32,
     ) -> Result<u32, Errno> {
-        let count = r.write_to_file_at(&mut self.file, size as usize, offset, None)?;
+        let count = defaults::write_whole(&mut self.file, r, size as usize, offset, None)?;
         Ok(u32::try_from(count).unwrap_or(u32::MAX))
     }
 
-    fn release(
-        &mut self,
-        _ctx: Context,
-        _inode: u64,
-        _flags: u32,
-        _handle: u64,
-        _flush: bool,
-        _flock_release: bool,
-        _lock_owner: Option<u64>,
-    ) -> Result<(), Errno> {
-        defaults::release()
-    }
+    ghost lacks_rare = { λ fs c rare. record {} };
 
-    fn statfs(&mut self, _ctx: Context, _inode: u64) -> Result<StatVfs, Errno> {
-        defaults::statfs()
-    }
+    ghost forgets_each = { λ fs after who counts each. record {} };
+}
 
-    fn opendir(
-        &mut self,
-        _ctx: Context,
-        _inode: u64,
-        _flags: u32,
-    ) -> Result<(Option<u64>, OpenOptions), Errno> {
-        defaults::opendir()
-    }
+impl OpensNothing for MemoryFiles {
+    ghost lacks_opening = { λ fs c opening. record {} };
+}
 
-    fn readdir(
-        &mut self,
-        _ctx: Context,
-        _inode: u64,
-        _handle: u64,
-        _size: u32,
-        _offset: u64,
-    ) -> Result<ListedEntries, Errno> {
-        Ok(ListedEntries::new())
-    }
+impl ChangesNothing for MemoryFiles {
+    ghost lacks_changing = { λ fs c changing. record {} };
 }

@@ -1,5 +1,6 @@
 pub mod Answers
 pub mod Calls
+pub mod Lacked
 pub mod Lengths
 pub mod Replies
 pub mod Serializing

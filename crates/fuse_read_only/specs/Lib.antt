@@ -1,1 +1,2 @@
 pub mod ReadOnly
+pub mod ReadOnlyLaws

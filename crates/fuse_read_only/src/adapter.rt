@@ -1,17 +1,16 @@
 //! A file system that is read, as one of all calls.
 
 ghost use Rattle.std.specs.Prelude.{◌≡◌, option_map};
-ghost use Rattle.fuse_fs.specs.Answers.{attr_answer, pair_numbers};
+ghost use Rattle.fuse_fs.specs.Answers.{attr_answer};
 ghost use Rattle.fuse_fs.specs.Calls as call;
 ghost use Rattle.fuse_read_only.specs.ReadOnly.{MayAnswer};
 
 use crate::file_system::ReadOnlyFileSystem;
-use fuse_base::{Attr, Errno, FsOptions, OpenOptions, SetattrValid, SetxattrFlags, StatVfs};
+use fuse_base::{Attr, Errno, FsOptions, OpenOptions};
 use fuse_fs::{
-    Context, Entry, Extensions, FileSystem, FileSystemBase, GetxattrReply, ListxattrReply, Timeout,
-    ZeroCopyReader, ZeroCopyWriter, defaults,
+    ChangesNothing, Context, Entry, FewCalls, FileSystemBase, OpenCalls, Timeout, ZeroCopyReader,
+    ZeroCopyWriter, defaults,
 };
-use fuse_in::SetattrIn;
 
 /// The file system of all calls that these files are: the calls of `ReadOnlyFileSystem` go to them, and each other call
 /// has the answer of `defaults` and changes nothing.
@@ -28,7 +27,7 @@ impl<T: ReadOnlyFileSystem> FileSystemBase for ReadOnly<T> {
     fn forget(&mut self, _ctx: Context, _inode: u64, _count: u64) {}
 }
 
-impl<T: ReadOnlyFileSystem> FileSystem for ReadOnly<T> {
+impl<T: ReadOnlyFileSystem> FewCalls for ReadOnly<T> {
     type DirIter = T::DirIter;
 
     ghost reads_whole = { λ fs. T.reads_whole fs.0 };
@@ -56,16 +55,6 @@ impl<T: ReadOnlyFileSystem> FileSystem for ReadOnly<T> {
         self.0.getattr(ctx, inode, handle)
     }
 
-    fn open(
-        &mut self,
-        ctx: Context,
-        inode: u64,
-        kill_priv: bool,
-        flags: u32,
-    ) -> Result<(Option<u64>, OpenOptions), Errno> {
-        self.0.open(ctx, inode, kill_priv, flags)
-    }
-
     fn read<W: ZeroCopyWriter>(
         &mut self,
         ctx: Context,
@@ -79,6 +68,53 @@ impl<T: ReadOnlyFileSystem> FileSystem for ReadOnly<T> {
     ) -> Result<usize, Errno> {
         self.0
             .read(ctx, inode, handle, w, size, offset, lock_owner, flags)
+    }
+
+    fn readdir(
+        &mut self,
+        ctx: Context,
+        inode: u64,
+        handle: u64,
+        size: u32,
+        offset: u64,
+    ) -> Result<T::DirIter, Errno> {
+        self.0.readdir(ctx, inode, handle, size, offset)
+    }
+
+    fn write<R: ZeroCopyReader>(
+        &mut self,
+        _ctx: Context,
+        _inode: u64,
+        _handle: u64,
+        _r: &mut R,
+        _size: u32,
+        _offset: u64,
+        _lock_owner: Option<u64>,
+        _delayed_write: bool,
+        _kill_priv: bool,
+        _flags: u32,
+    ) -> Result<u32, Errno> {
+        defaults::write()
+    }
+
+    ghost use Rattle.std.proofs.Common.{ap, refl};
+    ghost use Rattle.fuse_read_only.specs.ReadOnly.{is_own_group};
+    ghost use Rattle.fuse_read_only.specs.ReadOnlyLaws.{by_default, forgets_nothing};
+
+    ghost lacks_rare = { λ s c rare. by_default T.may s c (ap is_own_group rare) };
+
+    ghost forgets_each = { λ s t who counts each. (refl, forgets_nothing T.may s who counts t each) };
+}
+
+impl<T: ReadOnlyFileSystem> OpenCalls for ReadOnly<T> {
+    fn open(
+        &mut self,
+        ctx: Context,
+        inode: u64,
+        kill_priv: bool,
+        flags: u32,
+    ) -> Result<(Option<u64>, OpenOptions), Errno> {
+        self.0.open(ctx, inode, kill_priv, flags)
     }
 
     fn release(
@@ -102,295 +138,12 @@ impl<T: ReadOnlyFileSystem> FileSystem for ReadOnly<T> {
     ) -> Result<(Option<u64>, OpenOptions), Errno> {
         self.0.opendir(ctx, inode, flags)
     }
+}
 
-    fn readdir(
-        &mut self,
-        ctx: Context,
-        inode: u64,
-        handle: u64,
-        size: u32,
-        offset: u64,
-    ) -> Result<T::DirIter, Errno> {
-        self.0.readdir(ctx, inode, handle, size, offset)
-    }
+impl<T: ReadOnlyFileSystem> ChangesNothing for ReadOnly<T> {
+    ghost use Rattle.std.proofs.Common.{ap};
+    ghost use Rattle.fuse_read_only.specs.ReadOnly.{is_own_group};
+    ghost use Rattle.fuse_read_only.specs.ReadOnlyLaws.{by_default};
 
-    fn destroy(&mut self) {
-        defaults::destroy(self);
-    }
-
-    fn batch_forget(&mut self, ctx: Context, requests: Vec<(u64, u64)>)
-        ensures may { MayAnswer T.may self.old (call.BatchForget ctx (pair_numbers (λ n. n) requests.items)) call.Done self.new }
-    {
-        defaults::batch_forget(self, ctx, requests);
-    }
-
-    fn setattr(
-        &mut self,
-        _ctx: Context,
-        _inode: u64,
-        _attr: SetattrIn,
-        _handle: Option<u64>,
-        _valid: SetattrValid,
-    ) -> Result<(Attr, Timeout), Errno>
-        ensures may { MayAnswer T.may self.old (call.Setattr _ctx _inode _attr (option_map (λ n. n) _handle) _valid.0) (attr_answer result) self.new }
-    {
-        defaults::setattr()
-    }
-
-    fn readlink(&mut self, _ctx: Context, _inode: u64) -> Result<Vec<u8>, Errno> {
-        defaults::readlink()
-    }
-
-    fn symlink(
-        &mut self,
-        _ctx: Context,
-        _linkname: &[u8],
-        _parent: u64,
-        _name: &[u8],
-        _extensions: Extensions,
-    ) -> Result<Entry<u64>, Errno> {
-        defaults::symlink()
-    }
-
-    fn mknod(
-        &mut self,
-        _ctx: Context,
-        _parent: u64,
-        _name: &[u8],
-        _mode: u32,
-        _rdev: u32,
-        _umask: u32,
-        _extensions: Extensions,
-    ) -> Result<Entry<u64>, Errno> {
-        defaults::mknod()
-    }
-
-    fn mkdir(
-        &mut self,
-        _ctx: Context,
-        _parent: u64,
-        _name: &[u8],
-        _mode: u32,
-        _umask: u32,
-        _extensions: Extensions,
-    ) -> Result<Entry<u64>, Errno> {
-        defaults::mkdir()
-    }
-
-    fn unlink(&mut self, _ctx: Context, _parent: u64, _name: &[u8]) -> Result<(), Errno> {
-        defaults::unlink()
-    }
-
-    fn rmdir(&mut self, _ctx: Context, _parent: u64, _name: &[u8]) -> Result<(), Errno> {
-        defaults::rmdir()
-    }
-
-    fn rename(
-        &mut self,
-        _ctx: Context,
-        _olddir: u64,
-        _oldname: &[u8],
-        _newdir: u64,
-        _newname: &[u8],
-        _flags: u32,
-    ) -> Result<(), Errno> {
-        defaults::rename()
-    }
-
-    fn link(
-        &mut self,
-        _ctx: Context,
-        _inode: u64,
-        _newparent: u64,
-        _newname: &[u8],
-    ) -> Result<Entry<u64>, Errno> {
-        defaults::link()
-    }
-
-    fn create(
-        &mut self,
-        _ctx: Context,
-        _parent: u64,
-        _name: &[u8],
-        _mode: u32,
-        _kill_priv: bool,
-        _flags: u32,
-        _umask: u32,
-        _extensions: Extensions,
-    ) -> Result<(Entry<u64>, Option<u64>, OpenOptions), Errno> {
-        defaults::create()
-    }
-
-    fn write<R: ZeroCopyReader>(
-        &mut self,
-        _ctx: Context,
-        _inode: u64,
-        _handle: u64,
-        _r: &mut R,
-        _size: u32,
-        _offset: u64,
-        _lock_owner: Option<u64>,
-        _delayed_write: bool,
-        _kill_priv: bool,
-        _flags: u32,
-    ) -> Result<u32, Errno> {
-        defaults::write()
-    }
-
-    fn flush(
-        &mut self,
-        _ctx: Context,
-        _inode: u64,
-        _handle: u64,
-        _lock_owner: u64,
-    ) -> Result<(), Errno> {
-        defaults::flush()
-    }
-
-    fn fsync(
-        &mut self,
-        _ctx: Context,
-        _inode: u64,
-        _datasync: bool,
-        _handle: u64,
-    ) -> Result<(), Errno> {
-        defaults::fsync()
-    }
-
-    fn fallocate(
-        &mut self,
-        _ctx: Context,
-        _inode: u64,
-        _handle: u64,
-        _mode: u32,
-        _offset: u64,
-        _length: u64,
-    ) -> Result<(), Errno> {
-        defaults::fallocate()
-    }
-
-    fn statfs(&mut self, _ctx: Context, _inode: u64) -> Result<StatVfs, Errno> {
-        defaults::statfs()
-    }
-
-    fn setxattr(
-        &mut self,
-        _ctx: Context,
-        _inode: u64,
-        _name: &[u8],
-        _value: &[u8],
-        _flags: u32,
-        _extra_flags: SetxattrFlags,
-    ) -> Result<(), Errno> {
-        defaults::setxattr()
-    }
-
-    fn getxattr(
-        &mut self,
-        _ctx: Context,
-        _inode: u64,
-        _name: &[u8],
-        _size: u32,
-    ) -> Result<GetxattrReply, Errno> {
-        defaults::getxattr()
-    }
-
-    fn listxattr(
-        &mut self,
-        _ctx: Context,
-        _inode: u64,
-        _size: u32,
-    ) -> Result<ListxattrReply, Errno> {
-        defaults::listxattr()
-    }
-
-    fn removexattr(&mut self, _ctx: Context, _inode: u64, _name: &[u8]) -> Result<(), Errno> {
-        defaults::removexattr()
-    }
-
-    fn fsyncdir(
-        &mut self,
-        _ctx: Context,
-        _inode: u64,
-        _datasync: bool,
-        _handle: u64,
-    ) -> Result<(), Errno> {
-        defaults::fsyncdir()
-    }
-
-    fn releasedir(
-        &mut self,
-        _ctx: Context,
-        _inode: u64,
-        _flags: u32,
-        _handle: u64,
-    ) -> Result<(), Errno> {
-        defaults::releasedir()
-    }
-
-    fn access(&mut self, _ctx: Context, _inode: u64, _mask: u32) -> Result<(), Errno> {
-        defaults::access()
-    }
-
-    fn lseek(
-        &mut self,
-        _ctx: Context,
-        _inode: u64,
-        _handle: u64,
-        _offset: u64,
-        _whence: u32,
-    ) -> Result<u64, Errno> {
-        defaults::lseek()
-    }
-
-    fn copyfilerange(
-        &mut self,
-        _ctx: Context,
-        _inode_in: u64,
-        _handle_in: u64,
-        _offset_in: u64,
-        _inode_out: u64,
-        _handle_out: u64,
-        _offset_out: u64,
-        _len: u64,
-        _flags: u64,
-    ) -> Result<u32, Errno> {
-        defaults::copyfilerange()
-    }
-
-    fn syncfs(&mut self, _ctx: Context, _inode: u64) -> Result<(), Errno> {
-        defaults::syncfs()
-    }
-
-    fn getlk(&mut self) -> Result<(), Errno> {
-        defaults::getlk()
-    }
-
-    fn setlk(&mut self) -> Result<(), Errno> {
-        defaults::setlk()
-    }
-
-    fn setlkw(&mut self) -> Result<(), Errno> {
-        defaults::setlkw()
-    }
-
-    fn ioctl(&mut self) -> Result<(), Errno> {
-        defaults::ioctl()
-    }
-
-    fn bmap(&mut self) -> Result<(), Errno> {
-        defaults::bmap()
-    }
-
-    fn poll(&mut self) -> Result<(), Errno> {
-        defaults::poll()
-    }
-
-    fn notify_reply(&mut self) -> Result<(), Errno> {
-        defaults::notify_reply()
-    }
-
-    fn tmpfile(&mut self) -> Errno {
-        defaults::tmpfile()
-    }
+    ghost lacks_changing = { λ s c changing. by_default T.may s c (ap is_own_group changing) };
 }

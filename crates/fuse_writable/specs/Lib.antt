@@ -1,1 +1,2 @@
 pub mod Writable
+pub mod WritableLaws

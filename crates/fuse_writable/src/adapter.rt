@@ -1,15 +1,15 @@
 //! A file system that is written, as one of all calls.
 
 ghost use Rattle.std.specs.Prelude.{◌≡◌, option_map};
-ghost use Rattle.fuse_fs.specs.Answers.{attr_answer, pair_numbers};
+ghost use Rattle.fuse_fs.specs.Answers.{attr_answer};
 ghost use Rattle.fuse_fs.specs.Calls as call;
 ghost use Rattle.fuse_writable.specs.Writable.{MayAnswer};
 
 use crate::file_system::WritableFileSystem;
-use fuse_base::{Attr, Errno, FsOptions, OpenOptions, SetattrValid, SetxattrFlags, StatVfs};
+use fuse_base::{Attr, Errno, FsOptions, OpenOptions, SetattrValid, StatVfs};
 use fuse_fs::{
-    Context, Entry, Extensions, FileSystem, FileSystemBase, GetxattrReply, ListxattrReply, Timeout,
-    ZeroCopyReader, ZeroCopyWriter, defaults,
+    ChangeCalls, Context, Entry, Extensions, FewCalls, FileSystemBase, OpenCalls, Timeout,
+    ZeroCopyReader, ZeroCopyWriter,
 };
 use fuse_in::SetattrIn;
 
@@ -30,7 +30,7 @@ impl<T: WritableFileSystem> FileSystemBase for Writable<T> {
     }
 }
 
-impl<T: WritableFileSystem> FileSystem for Writable<T> {
+impl<T: WritableFileSystem> FewCalls for Writable<T> {
     type DirIter = T::DirIter;
 
     ghost use Rattle.std.specs.Prelude.{true};
@@ -60,16 +60,6 @@ impl<T: WritableFileSystem> FileSystem for Writable<T> {
         self.0.getattr(ctx, inode, handle)
     }
 
-    fn open(
-        &mut self,
-        ctx: Context,
-        inode: u64,
-        kill_priv: bool,
-        flags: u32,
-    ) -> Result<(Option<u64>, OpenOptions), Errno> {
-        self.0.open(ctx, inode, kill_priv, flags)
-    }
-
     fn read<W: ZeroCopyWriter>(
         &mut self,
         ctx: Context,
@@ -83,6 +73,64 @@ impl<T: WritableFileSystem> FileSystem for Writable<T> {
     ) -> Result<usize, Errno> {
         self.0
             .read(ctx, inode, handle, w, size, offset, lock_owner, flags)
+    }
+
+    fn readdir(
+        &mut self,
+        ctx: Context,
+        inode: u64,
+        handle: u64,
+        size: u32,
+        offset: u64,
+    ) -> Result<T::DirIter, Errno> {
+        self.0.readdir(ctx, inode, handle, size, offset)
+    }
+
+    fn write<R: ZeroCopyReader>(
+        &mut self,
+        ctx: Context,
+        inode: u64,
+        handle: u64,
+        r: &mut R,
+        size: u32,
+        offset: u64,
+        lock_owner: Option<u64>,
+        delayed_write: bool,
+        kill_priv: bool,
+        flags: u32,
+    ) -> Result<u32, Errno> {
+        self.0.write(
+            ctx,
+            inode,
+            handle,
+            r,
+            size,
+            offset,
+            lock_owner,
+            delayed_write,
+            kill_priv,
+            flags,
+        )
+    }
+
+    ghost use Rattle.std.proofs.Common.{ap, refl};
+    ghost use Rattle.fuse_writable.specs.Writable.{is_own_group};
+    ghost use Rattle.fuse_writable.specs.WritableLaws.{by_default, forgets_each};
+
+    ghost lacks_rare = { λ s c rare. by_default T.may s c (ap is_own_group rare) };
+
+    ghost forgets_each = { λ s t who counts each. (refl, forgets_each T.may s who counts t each) };
+}
+
+impl<T: WritableFileSystem> OpenCalls for Writable<T> {
+    fn open(
+        &mut self,
+        ctx: Context,
+        inode: u64,
+        kill_priv: bool,
+        flags: u32,
+    ) -> Result<(Option<u64>, OpenOptions), Errno> {
+        self.0.open(ctx, inode, kill_priv, flags)
     }
 
     fn release(
@@ -106,28 +154,9 @@ impl<T: WritableFileSystem> FileSystem for Writable<T> {
     ) -> Result<(Option<u64>, OpenOptions), Errno> {
         self.0.opendir(ctx, inode, flags)
     }
+}
 
-    fn readdir(
-        &mut self,
-        ctx: Context,
-        inode: u64,
-        handle: u64,
-        size: u32,
-        offset: u64,
-    ) -> Result<T::DirIter, Errno> {
-        self.0.readdir(ctx, inode, handle, size, offset)
-    }
-
-    fn destroy(&mut self) {
-        defaults::destroy(self);
-    }
-
-    fn batch_forget(&mut self, ctx: Context, requests: Vec<(u64, u64)>)
-        ensures may { MayAnswer T.may self.old (call.BatchForget ctx (pair_numbers (λ n. n) requests.items)) call.Done self.new }
-    {
-        defaults::batch_forget(self, ctx, requests);
-    }
-
+impl<T: WritableFileSystem> ChangeCalls for Writable<T> {
     fn setattr(
         &mut self,
         ctx: Context,
@@ -139,34 +168,6 @@ impl<T: WritableFileSystem> FileSystem for Writable<T> {
         ensures may { MayAnswer T.may self.old (call.Setattr ctx inode attr (option_map (λ n. n) handle) valid.0) (attr_answer result) self.new }
     {
         self.0.setattr(ctx, inode, attr, handle, valid)
-    }
-
-    fn readlink(&mut self, _ctx: Context, _inode: u64) -> Result<Vec<u8>, Errno> {
-        defaults::readlink()
-    }
-
-    fn symlink(
-        &mut self,
-        _ctx: Context,
-        _linkname: &[u8],
-        _parent: u64,
-        _name: &[u8],
-        _extensions: Extensions,
-    ) -> Result<Entry<u64>, Errno> {
-        defaults::symlink()
-    }
-
-    fn mknod(
-        &mut self,
-        _ctx: Context,
-        _parent: u64,
-        _name: &[u8],
-        _mode: u32,
-        _rdev: u32,
-        _umask: u32,
-        _extensions: Extensions,
-    ) -> Result<Entry<u64>, Errno> {
-        defaults::mknod()
     }
 
     fn mkdir(
@@ -201,16 +202,6 @@ impl<T: WritableFileSystem> FileSystem for Writable<T> {
         self.0.rename(ctx, olddir, oldname, newdir, newname, flags)
     }
 
-    fn link(
-        &mut self,
-        _ctx: Context,
-        _inode: u64,
-        _newparent: u64,
-        _newname: &[u8],
-    ) -> Result<Entry<u64>, Errno> {
-        defaults::link()
-    }
-
     fn create(
         &mut self,
         ctx: Context,
@@ -225,187 +216,7 @@ impl<T: WritableFileSystem> FileSystem for Writable<T> {
         self.0.create(ctx, parent, name, mode, kill_priv, flags, umask, extensions)
     }
 
-    fn write<R: ZeroCopyReader>(
-        &mut self,
-        ctx: Context,
-        inode: u64,
-        handle: u64,
-        r: &mut R,
-        size: u32,
-        offset: u64,
-        lock_owner: Option<u64>,
-        delayed_write: bool,
-        kill_priv: bool,
-        flags: u32,
-    ) -> Result<u32, Errno> {
-        self.0.write(
-            ctx,
-            inode,
-            handle,
-            r,
-            size,
-            offset,
-            lock_owner,
-            delayed_write,
-            kill_priv,
-            flags,
-        )
-    }
-
-    fn flush(
-        &mut self,
-        _ctx: Context,
-        _inode: u64,
-        _handle: u64,
-        _lock_owner: u64,
-    ) -> Result<(), Errno> {
-        defaults::flush()
-    }
-
-    fn fsync(
-        &mut self,
-        _ctx: Context,
-        _inode: u64,
-        _datasync: bool,
-        _handle: u64,
-    ) -> Result<(), Errno> {
-        defaults::fsync()
-    }
-
-    fn fallocate(
-        &mut self,
-        _ctx: Context,
-        _inode: u64,
-        _handle: u64,
-        _mode: u32,
-        _offset: u64,
-        _length: u64,
-    ) -> Result<(), Errno> {
-        defaults::fallocate()
-    }
-
     fn statfs(&mut self, ctx: Context, inode: u64) -> Result<StatVfs, Errno> {
         self.0.statfs(ctx, inode)
-    }
-
-    fn setxattr(
-        &mut self,
-        _ctx: Context,
-        _inode: u64,
-        _name: &[u8],
-        _value: &[u8],
-        _flags: u32,
-        _extra_flags: SetxattrFlags,
-    ) -> Result<(), Errno> {
-        defaults::setxattr()
-    }
-
-    fn getxattr(
-        &mut self,
-        _ctx: Context,
-        _inode: u64,
-        _name: &[u8],
-        _size: u32,
-    ) -> Result<GetxattrReply, Errno> {
-        defaults::getxattr()
-    }
-
-    fn listxattr(
-        &mut self,
-        _ctx: Context,
-        _inode: u64,
-        _size: u32,
-    ) -> Result<ListxattrReply, Errno> {
-        defaults::listxattr()
-    }
-
-    fn removexattr(&mut self, _ctx: Context, _inode: u64, _name: &[u8]) -> Result<(), Errno> {
-        defaults::removexattr()
-    }
-
-    fn fsyncdir(
-        &mut self,
-        _ctx: Context,
-        _inode: u64,
-        _datasync: bool,
-        _handle: u64,
-    ) -> Result<(), Errno> {
-        defaults::fsyncdir()
-    }
-
-    fn releasedir(
-        &mut self,
-        _ctx: Context,
-        _inode: u64,
-        _flags: u32,
-        _handle: u64,
-    ) -> Result<(), Errno> {
-        defaults::releasedir()
-    }
-
-    fn access(&mut self, _ctx: Context, _inode: u64, _mask: u32) -> Result<(), Errno> {
-        defaults::access()
-    }
-
-    fn lseek(
-        &mut self,
-        _ctx: Context,
-        _inode: u64,
-        _handle: u64,
-        _offset: u64,
-        _whence: u32,
-    ) -> Result<u64, Errno> {
-        defaults::lseek()
-    }
-
-    fn copyfilerange(
-        &mut self,
-        _ctx: Context,
-        _inode_in: u64,
-        _handle_in: u64,
-        _offset_in: u64,
-        _inode_out: u64,
-        _handle_out: u64,
-        _offset_out: u64,
-        _len: u64,
-        _flags: u64,
-    ) -> Result<u32, Errno> {
-        defaults::copyfilerange()
-    }
-
-    fn syncfs(&mut self, _ctx: Context, _inode: u64) -> Result<(), Errno> {
-        defaults::syncfs()
-    }
-
-    fn getlk(&mut self) -> Result<(), Errno> {
-        defaults::getlk()
-    }
-
-    fn setlk(&mut self) -> Result<(), Errno> {
-        defaults::setlk()
-    }
-
-    fn setlkw(&mut self) -> Result<(), Errno> {
-        defaults::setlkw()
-    }
-
-    fn ioctl(&mut self) -> Result<(), Errno> {
-        defaults::ioctl()
-    }
-
-    fn bmap(&mut self) -> Result<(), Errno> {
-        defaults::bmap()
-    }
-
-    fn poll(&mut self) -> Result<(), Errno> {
-        defaults::poll()
-    }
-
-    fn notify_reply(&mut self) -> Result<(), Errno> {
-        defaults::notify_reply()
-    }
-
-    fn tmpfile(&mut self) -> Errno {
-        defaults::tmpfile()
     }
 }

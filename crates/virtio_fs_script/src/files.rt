@@ -5,14 +5,11 @@ ghost use Rattle.virtio_fs_script.specs.Root.{root_entries};
 
 use crate::calls::{Call, FirstCalls};
 use bitflags::Flags;
-use fuse_wire::{
-    Attr, Errno, FsOptions, OpenOptions, SetattrIn, SetattrValid, SetxattrFlags, StatVfs,
-};
+use fuse_wire::{Attr, Errno, FsOptions};
 use std::cell::Cell;
 use virtiofsd_fuse::{
-    Context, DirEntry, DirectoryIterator, Entry, Extensions, FileSystem, FileSystemBase,
-    GetxattrReply, ListxattrReply, PositionedFile, Timeout, WritevFlags, ZeroCopyReader,
-    ZeroCopyWriter, defaults,
+    ChangesNothing, Context, DirEntry, DirectoryIterator, Entry, FewCalls, FileSystemBase,
+    OpensNothing, PositionedFile, Timeout, WritevFlags, ZeroCopyReader, ZeroCopyWriter, defaults,
 };
 
 // The root's node.
@@ -194,7 +191,7 @@ impl<'a> FileSystemBase for LoggingFiles<'a> {
     }
 }
 
-impl<'a> FileSystem for LoggingFiles<'a> {
+impl<'a> FewCalls for LoggingFiles<'a> {
     type DirIter = RootEntries;
 
     ghost use Rattle.std.specs.Prelude.{false};
@@ -224,6 +221,22 @@ impl<'a> FileSystem for LoggingFiles<'a> {
         })
     }
 
+    fn getattr(
+        &mut self,
+        _ctx: Context,
+        inode: u64,
+        _handle: Option<u64>,
+    ) -> Result<(Attr, Timeout), Errno>
+        ensures may { ⊤ }
+    {
+        self.note(Call::Getattr { node: inode });
+        match inode {
+            ROOT => Ok((root_attr(), timeout())),
+            FILE => Ok((self.file_attr(), timeout())),
+            _ => Err(Errno::ENOENT),
+        }
+    }
+
     fn read<W: ZeroCopyWriter>(
         &mut self,
         _ctx: Context,
@@ -242,20 +255,19 @@ impl<'a> FileSystem for LoggingFiles<'a> {
         w.read_from_file_at(&mut self.contents, size as usize, offset)
     }
 
-    fn getattr(
+    fn readdir(
         &mut self,
         _ctx: Context,
         inode: u64,
-        _handle: Option<u64>,
-    ) -> Result<(Attr, Timeout), Errno>
-        ensures may { ⊤ }
-    {
-        self.note(Call::Getattr { node: inode });
-        match inode {
-            ROOT => Ok((root_attr(), timeout())),
-            FILE => Ok((self.file_attr(), timeout())),
-            _ => Err(Errno::ENOENT),
+        _handle: u64,
+        _size: u32,
+        offset: u64,
+    ) -> Result<RootEntries, Errno> {
+        self.note(Call::Readdir { node: inode });
+        if inode != ROOT {
+            return Err(Errno::ENOENT);
         }
+        Ok(RootEntries { at: offset })
     }
 
     // Whether the file can hold what is asked is seen before a byte is taken.
@@ -279,318 +291,19 @@ impl<'a> FileSystem for LoggingFiles<'a> {
         if !fits(offset, size as usize) {
             return Err(file_too_large());
         }
-        let count = r.write_to_file_at(&mut self.contents, size as usize, offset, None)?;
+        let count = defaults::write_whole(&mut self.contents, r, size as usize, offset, None)?;
         Ok(count.min(size as usize) as u32)
     }
 
-    fn readdir(
-        &mut self,
-        _ctx: Context,
-        inode: u64,
-        _handle: u64,
-        _size: u32,
-        offset: u64,
-    ) -> Result<RootEntries, Errno> {
-        self.note(Call::Readdir { node: inode });
-        if inode != ROOT {
-            return Err(Errno::ENOENT);
-        }
-        Ok(RootEntries { at: offset })
-    }
+    ghost lacks_rare = { λ s c rare. record {} };
 
-    fn destroy(&mut self) {
-        defaults::destroy(self);
-    }
+    ghost forgets_each = { λ s t who counts each. record {} };
+}
 
-    fn batch_forget(&mut self, ctx: Context, requests: Vec<(u64, u64)>)
-        ensures may { ⊤ }
-    {
-        defaults::batch_forget(self, ctx, requests);
-    }
+impl<'a> OpensNothing for LoggingFiles<'a> {
+    ghost lacks_opening = { λ s c opening. record {} };
+}
 
-    fn setattr(
-        &mut self,
-        _ctx: Context,
-        _inode: u64,
-        _attr: SetattrIn,
-        _handle: Option<u64>,
-        _valid: SetattrValid,
-    ) -> Result<(Attr, Timeout), Errno>
-        ensures may { ⊤ }
-    {
-        defaults::setattr()
-    }
-
-    fn readlink(&mut self, _ctx: Context, _inode: u64) -> Result<Vec<u8>, Errno> {
-        defaults::readlink()
-    }
-
-    fn symlink(
-        &mut self,
-        _ctx: Context,
-        _linkname: &[u8],
-        _parent: u64,
-        _name: &[u8],
-        _extensions: Extensions,
-    ) -> Result<Entry<u64>, Errno> {
-        defaults::symlink()
-    }
-
-    fn mknod(
-        &mut self,
-        _ctx: Context,
-        _parent: u64,
-        _name: &[u8],
-        _mode: u32,
-        _rdev: u32,
-        _umask: u32,
-        _extensions: Extensions,
-    ) -> Result<Entry<u64>, Errno> {
-        defaults::mknod()
-    }
-
-    fn mkdir(
-        &mut self,
-        _ctx: Context,
-        _parent: u64,
-        _name: &[u8],
-        _mode: u32,
-        _umask: u32,
-        _extensions: Extensions,
-    ) -> Result<Entry<u64>, Errno> {
-        defaults::mkdir()
-    }
-
-    fn unlink(&mut self, _ctx: Context, _parent: u64, _name: &[u8]) -> Result<(), Errno> {
-        defaults::unlink()
-    }
-
-    fn rmdir(&mut self, _ctx: Context, _parent: u64, _name: &[u8]) -> Result<(), Errno> {
-        defaults::rmdir()
-    }
-
-    fn rename(
-        &mut self,
-        _ctx: Context,
-        _olddir: u64,
-        _oldname: &[u8],
-        _newdir: u64,
-        _newname: &[u8],
-        _flags: u32,
-    ) -> Result<(), Errno> {
-        defaults::rename()
-    }
-
-    fn link(
-        &mut self,
-        _ctx: Context,
-        _inode: u64,
-        _newparent: u64,
-        _newname: &[u8],
-    ) -> Result<Entry<u64>, Errno> {
-        defaults::link()
-    }
-
-    fn open(
-        &mut self,
-        _ctx: Context,
-        _inode: u64,
-        _kill_priv: bool,
-        _flags: u32,
-    ) -> Result<(Option<u64>, OpenOptions), Errno> {
-        defaults::open()
-    }
-
-    fn create(
-        &mut self,
-        _ctx: Context,
-        _parent: u64,
-        _name: &[u8],
-        _mode: u32,
-        _kill_priv: bool,
-        _flags: u32,
-        _umask: u32,
-        _extensions: Extensions,
-    ) -> Result<(Entry<u64>, Option<u64>, OpenOptions), Errno> {
-        defaults::create()
-    }
-
-    fn flush(
-        &mut self,
-        _ctx: Context,
-        _inode: u64,
-        _handle: u64,
-        _lock_owner: u64,
-    ) -> Result<(), Errno> {
-        defaults::flush()
-    }
-
-    fn fsync(
-        &mut self,
-        _ctx: Context,
-        _inode: u64,
-        _datasync: bool,
-        _handle: u64,
-    ) -> Result<(), Errno> {
-        defaults::fsync()
-    }
-
-    fn fallocate(
-        &mut self,
-        _ctx: Context,
-        _inode: u64,
-        _handle: u64,
-        _mode: u32,
-        _offset: u64,
-        _length: u64,
-    ) -> Result<(), Errno> {
-        defaults::fallocate()
-    }
-
-    fn release(
-        &mut self,
-        _ctx: Context,
-        _inode: u64,
-        _flags: u32,
-        _handle: u64,
-        _flush: bool,
-        _flock_release: bool,
-        _lock_owner: Option<u64>,
-    ) -> Result<(), Errno> {
-        defaults::release()
-    }
-
-    fn statfs(&mut self, _ctx: Context, _inode: u64) -> Result<StatVfs, Errno> {
-        defaults::statfs()
-    }
-
-    fn setxattr(
-        &mut self,
-        _ctx: Context,
-        _inode: u64,
-        _name: &[u8],
-        _value: &[u8],
-        _flags: u32,
-        _extra_flags: SetxattrFlags,
-    ) -> Result<(), Errno> {
-        defaults::setxattr()
-    }
-
-    fn getxattr(
-        &mut self,
-        _ctx: Context,
-        _inode: u64,
-        _name: &[u8],
-        _size: u32,
-    ) -> Result<GetxattrReply, Errno> {
-        defaults::getxattr()
-    }
-
-    fn listxattr(
-        &mut self,
-        _ctx: Context,
-        _inode: u64,
-        _size: u32,
-    ) -> Result<ListxattrReply, Errno> {
-        defaults::listxattr()
-    }
-
-    fn removexattr(&mut self, _ctx: Context, _inode: u64, _name: &[u8]) -> Result<(), Errno> {
-        defaults::removexattr()
-    }
-
-    fn opendir(
-        &mut self,
-        _ctx: Context,
-        _inode: u64,
-        _flags: u32,
-    ) -> Result<(Option<u64>, OpenOptions), Errno> {
-        defaults::opendir()
-    }
-
-    fn fsyncdir(
-        &mut self,
-        _ctx: Context,
-        _inode: u64,
-        _datasync: bool,
-        _handle: u64,
-    ) -> Result<(), Errno> {
-        defaults::fsyncdir()
-    }
-
-    fn releasedir(
-        &mut self,
-        _ctx: Context,
-        _inode: u64,
-        _flags: u32,
-        _handle: u64,
-    ) -> Result<(), Errno> {
-        defaults::releasedir()
-    }
-
-    fn access(&mut self, _ctx: Context, _inode: u64, _mask: u32) -> Result<(), Errno> {
-        defaults::access()
-    }
-
-    fn lseek(
-        &mut self,
-        _ctx: Context,
-        _inode: u64,
-        _handle: u64,
-        _offset: u64,
-        _whence: u32,
-    ) -> Result<u64, Errno> {
-        defaults::lseek()
-    }
-
-    fn copyfilerange(
-        &mut self,
-        _ctx: Context,
-        _inode_in: u64,
-        _handle_in: u64,
-        _offset_in: u64,
-        _inode_out: u64,
-        _handle_out: u64,
-        _offset_out: u64,
-        _len: u64,
-        _flags: u64,
-    ) -> Result<u32, Errno> {
-        defaults::copyfilerange()
-    }
-
-    fn syncfs(&mut self, _ctx: Context, _inode: u64) -> Result<(), Errno> {
-        defaults::syncfs()
-    }
-
-    fn getlk(&mut self) -> Result<(), Errno> {
-        defaults::getlk()
-    }
-
-    fn setlk(&mut self) -> Result<(), Errno> {
-        defaults::setlk()
-    }
-
-    fn setlkw(&mut self) -> Result<(), Errno> {
-        defaults::setlkw()
-    }
-
-    fn ioctl(&mut self) -> Result<(), Errno> {
-        defaults::ioctl()
-    }
-
-    fn bmap(&mut self) -> Result<(), Errno> {
-        defaults::bmap()
-    }
-
-    fn poll(&mut self) -> Result<(), Errno> {
-        defaults::poll()
-    }
-
-    fn notify_reply(&mut self) -> Result<(), Errno> {
-        defaults::notify_reply()
-    }
-
-    fn tmpfile(&mut self) -> Errno {
-        defaults::tmpfile()
-    }
+impl<'a> ChangesNothing for LoggingFiles<'a> {
+    ghost lacks_changing = { λ s c changing. record {} };
 }

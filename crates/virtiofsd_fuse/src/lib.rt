@@ -16,9 +16,10 @@ mod xattrs;
 
 pub use data_apart::{REPLY_FRONT, REQUEST_FRONT, writes_data};
 pub use fuse_fs::{
-    Context, DirEntry, DirectoryIterator, Entry, Extensions, FileNumber, FileSystem,
-    FileSystemBase, GetxattrReply, ListxattrReply, NoEntries, PositionedFile, SecContext,
-    SerializableFileSystem, Timeout, WritevFlags, ZeroCopyReader, ZeroCopyWriter, defaults,
+    ChangeCalls, ChangesNothing, Context, DirEntry, DirectoryIterator, Entry, Extensions, FewCalls,
+    FileNumber, FileSystem, FileSystemBase, GetxattrReply, ListxattrReply, NoEntries, OpenCalls,
+    OpensNothing, PositionedFile, SecContext, SerializableFileSystem, Timeout, WritevFlags,
+    ZeroCopyReader, ZeroCopyWriter, defaults,
 };
 pub use reads::{ReadReply, ReadRequest};
 pub use server::Server;
