@@ -1,6 +1,8 @@
 -- one load after another
-use Rattle.std.proofs.Common.{◌≡◌, ℕ, Bool, ◌+◌, List, [], ◌∷◌, ◌++◌, Option, Some, None, refl, ap, sym, ◌∙◌, append_assoc, append-nil}
-use Rattle.std.specs.Prelude.{if◌then◌else◌, option_map}
+use Rattle.std.proofs.Common.{◌≡◌, ℕ, Bool, true, false, ◌+◌, ◌<◌, ◌≤◌, ◌⊎◌, inl, inr, arith, length, length-append, leb-true, leb-false, nat_le, subst, Result, Ok, Err, List, [], ◌∷◌, ◌++◌, Option, Some, None, refl, ap, sym, ◌∙◌, append_assoc, append-nil}
+use Rattle.std.specs.Prelude.{if◌then◌else◌, option_map, IfOk, IsSomeAnd, OnErr}
+use Rattle.std.specs.declared.alloc.AllocError.{AllocError}
+use Rattle.fs_queue.specs.Windows.{IsLongChain}
 use Rattle.std.proofs.lemmas.Bool.{eq-eqb, ne_eqb}
 use Rattle.vm_iotlb.specs.declared.permissions.Permissions.TheVariants.{Read}
 use Rattle.vm_memory.specs.Memory.{Memory, bytes, reach}
@@ -102,6 +104,91 @@ came_given m size start ds w at came joins a own at-is is joins-is a-is c =
 pub wants_size : (p : code.Progress) (a b : ℕ) → a ≡ b → IfWants p (λ w. w.size ≡ a) → IfWants p (λ w. w.size ≡ b)
 wants_size (says.Wants w) a b e h = h ∙ e
 wants_size (says.Ends walked) a b e h = tt
+
+-- the descriptors that joined are those of a list, if it kept them, and else more than it had room for
+pub record KeptOf (room : ℕ) (kept : Bool) (items joined : List Descriptor) : Type 0 where
+  pub same : kept ≡ true → joined ≡ items
+  pub long : kept ≡ false → room < length joined
+
+grows : (ds : List Descriptor) (o : Option Descriptor) → length ds ≤ length (with_joining ds o)
+grows ds None = omega arith
+grows ds (Some d) = omega (arith, length-append ds (d ∷ []))
+
+stays_long : (room : ℕ) (kept : Bool) (joined items : List Descriptor) (joins : Option Descriptor) → KeptOf room kept items joined → (kept ≡ false) ⊎ (room < length (with_joining items joins)) →
+    room < length (with_joining joined joins)
+stays_long room true joined items joins k (inl e) = absurd (cc)
+stays_long room true joined items joins k (inr more) = rw (k.same refl) more
+stays_long room false joined items joins k either = let l = k.long refl in let g = grows joined joins in omega (arith, l, g)
+
+-- a list that takes no more has as many as it has room for
+pub by_room : (items : List Descriptor) (d : Descriptor) (capacity room : ℕ) → (length items + 1 ≤ capacity → false ≡ true) → room ≤ capacity → room < length (items ++ d ∷ [])
+by_room items d capacity room full there =
+    elim (nat_le (length items + 1) capacity) as (λ b. nat_le (length items + 1) capacity ≡ b → room < length (items ++ d ∷ [])) [
+      | true ↦ λ e. let no = full (leb-true (length items + 1) capacity e) in absurd (cc)
+      | false ↦ λ e. omega (arith, length-append items (d ∷ []), leb-false (length items + 1) capacity e, there)
+    ] refl
+
+-- one more descriptor, if one joins
+pub kept_joining : (room : ℕ) (kept kept' : Bool) (items items' joined : List Descriptor) (joins : Option Descriptor) → (kept' ≡ true → (kept ≡ true) × (items' ≡ with_joining items joins)) →
+    (kept' ≡ false → (kept ≡ false) ⊎ (room < length (with_joining items joins))) → KeptOf room kept items joined → KeptOf room kept' items' (with_joining joined joins)
+kept_joining room kept kept' items items' joined joins keeps loses k = record {
+  same = λ t. let s = keeps t in ap (λ (ds : List Descriptor). with_joining ds joins) (k.same s.0) ∙ sym s.1;
+  long = λ f. stays_long room kept joined items joins k (loses f);
+}
+
+pub kept_none : (room : ℕ) → KeptOf room true [] []
+kept_none room = record { same = λ _. refl; long = λ e. absurd (cc) }
+
+-- some loads brought a walk so far, and its descriptors are these, if they were kept
+abbrev pub CameKept : Memory → (size : ℕ) → (start : Ahead) → (room : ℕ) → (kept : Bool) → (items : List Descriptor) → Ahead → Type 0
+CameKept m size start room kept items a = (joined : List Descriptor) × KeptOf room kept items joined × Came m size start joined a
+
+pub came_kept : (m : Memory) (size : ℕ) (start : Ahead) (room : ℕ) (kept kept' : Bool) (items items' : List Descriptor) (w : ChainWalk) (at : ℕ) (came : Option (List ℕ)) (joins : Option Descriptor) (a : Ahead) →
+    w.size ≡ size → at ≡ entry_address (visit_of w) → came ≡ (if reach m Read at 16 then Some (bytes m at 16) else None) → joins ≡ joining (step_by w.size (visit_of w) (load_of w came)) →
+    a ≡ ahead_after w.size (visit_of w) (step_by w.size (visit_of w) (load_of w came)) → (kept' ≡ true → (kept ≡ true) × (items' ≡ with_joining items joins)) →
+    (kept' ≡ false → (kept ≡ false) ⊎ (room < length (with_joining items joins))) →
+    CameKept m size start room kept items (Reads (visit_of w)) → CameKept m size start room kept' items' a
+came_kept m size start room kept kept' items items' w at came joins a own at-is is joins-is a-is keeps loses c = (
+  with_joining c.0 joins,
+  kept_joining room kept kept' items items' c.0 joins keeps loses c.1,
+  came_given m size start c.0 w at came joins a own at-is is joins-is a-is c.2,
+)
+
+-- what a walk came to, by the descriptors that joined it
+pub kept_found : (room : ℕ) (kept : Bool) (items joined : List Descriptor) (w : walked.Walked) → (w ≡ comes_to.Chain → kept ≡ true) → KeptOf room kept items joined → found_of w items ≡ found_of w joined
+kept_found room kept items joined comes_to.Chain k c = ap IsChain (sym (c.same (k refl)))
+kept_found room kept items joined (comes_to.Faulty fault) k c = refl
+kept_found room kept items joined comes_to.Stopped k c = refl
+
+pub lost_found : (room : ℕ) (kept : Bool) (items joined : List Descriptor) (w : walked.Walked) → w ≡ comes_to.Chain → kept ≡ false → KeptOf room kept items joined → IsLongChain room (found_of w joined)
+lost_found room kept items joined comes_to.Chain is lost c = (joined, refl, c.long lost)
+lost_found room kept items joined (comes_to.Faulty fault) is lost c = absurd (cc)
+lost_found room kept items joined comes_to.Stopped is lost c = absurd (cc)
+
+-- what a walk answers that ended so
+pub answered_end : (m : Memory) (q : Queue) (head room : ℕ) (kept : Bool) (items : List Descriptor) (w : walked.Walked) (r : Result walked.Walked AllocError) →
+    IfOk r (λ x. (x ≡ w) × (w ≡ comes_to.Chain → kept ≡ true)) → CameKept m q.size (ahead_at q.size (first_visit q head)) room kept items (Ends (found_of w [])) →
+    IfOk r (λ x. found_of x items ≡ chain m q head)
+answered_end m q head room kept items w (Ok x) told c =
+    ap (λ (y : walked.Walked). found_of y items) told.0 ∙ kept_found room kept items c.0 w told.1 c.1 ∙ came_end m q head c.0 w c.2
+answered_end m q head room kept items w (Err e) told c = tt
+
+pub failed_end : (m : Memory) (q : Queue) (head room : ℕ) (kept : Bool) (items : List Descriptor) (w : walked.Walked) (r : Result walked.Walked AllocError) → OnErr r ((w ≡ comes_to.Chain) × (kept ≡ false)) →
+    CameKept m q.size (ahead_at q.size (first_visit q head)) room kept items (Ends (found_of w [])) → OnErr r (IsLongChain room (chain m q head))
+failed_end m q head room kept items w (Ok x) lost c = tt
+failed_end m q head room kept items w (Err e) lost c = subst (IsLongChain room) (came_end m q head c.0 w c.2) (lost_found room kept items c.0 w lost.0 lost.1 c.1)
+
+-- what a walk by loads at hand answers that ended so
+pub listed_end : (room : ℕ) (kept : Bool) (items joined : List Descriptor) (w : walked.Walked) (f : Option Found) (r : Result (Option walked.Walked) AllocError) →
+    IfOk r (λ o. (o ≡ Some w) × (w ≡ comes_to.Chain → kept ≡ true)) → KeptOf room kept items joined → Some (found_of w joined) ≡ f → IfOk r (λ o. option_map (λ x. found_of x items) o ≡ f)
+listed_end room kept items joined w f (Ok o) told k is =
+    ap (λ (y : Option walked.Walked). option_map (λ x. found_of x items) y) told.0 ∙ ap Some (kept_found room kept items joined w told.1 k) ∙ is
+listed_end room kept items joined w f (Err e) told k is = tt
+
+pub listed_lost : (room : ℕ) (kept : Bool) (items joined : List Descriptor) (w : walked.Walked) (f : Option Found) (r : Result (Option walked.Walked) AllocError) →
+    OnErr r ((w ≡ comes_to.Chain) × (kept ≡ false)) → KeptOf room kept items joined → Some (found_of w joined) ≡ f → OnErr r (IsSomeAnd f (IsLongChain room))
+listed_lost room kept items joined w f (Ok o) lost k is = tt
+listed_lost room kept items joined w f (Err e) lost k is = subst (λ (o : Option Found). IsSomeAnd o (IsLongChain room)) is (lost_found room kept items joined w lost.0 lost.1 k)
 
 -- a load of another address
 pub other_load : (size : ℕ) (v : Visit) (l : Load) (ls : List Load) → (l.address ≡ entry_address v → ⊥) → found_by size (l ∷ ls) (Reads v) ≡ None

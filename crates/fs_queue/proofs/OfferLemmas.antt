@@ -18,7 +18,7 @@ use Rattle.fs_queue.specs.Chain.{Found, IsChain, HasFault, StopsQueue, chain}
 use Rattle.fs_queue.specs.NextAvail.{next_avail}
 use Rattle.fs_queue.specs.NextAvail as avail
 use Rattle.fs_queue.specs.Taking.{Offer, Offers, Refuses, RequestAndRoom, CannotFetch, request_and_room, offer_of, on_head, on_next_avail, offer, may_lack_memory, stops_queue}
-use Rattle.fs_queue.specs.Windows.{ReturnPlaces, Lacks, Takes, HoldsChain, HoldsFound, HoldsReturnWindows, RefusesFound, return_places_found, return_places_at, used_addresses}
+use Rattle.fs_queue.specs.Windows.{ReturnPlaces, Lacks, Takes, HoldsChain, HoldsFound, HoldsReturnWindows, RefusesFound, Stays, missing_of, return_places_found, return_places_at, used_addresses}
 use Rattle.fs_queue.specs.Windows as held
 use Rattle.fs_queue.proofs.TakeLemmas.{reach-each, reach-range, list_all-append}
 use Rattle.vm_memory.proofs.RangeLemmas.{all_located}
@@ -66,22 +66,41 @@ pub offer_head : (m : Memory) (limit : ℕ) (l : QueueLayout) (position at : ℕ
 offer_head m limit l position at e =
     offer_next_avail m limit (at_position l position) refl ∙ sym (ap (on_next_avail m limit (at_position l position)) e) ∙ on_head-return_places m limit l position at
 
-lack_of : (m : Memory) (q : Queue) (limit h : ℕ) (f : Found) → may_lack_memory m q (offer_of m limit h f) ≡ true
-lack_of m q limit h (IsChain ds) = refl
-lack_of m q limit h (HasFault fault) = refl
-lack_of m q limit h StopsQueue = refl
+stays_offered : (m : Memory) (limit h : ℕ) (f : Found) → Stays f → may_lack_memory (offer_of m limit h f) ≡ true
+stays_offered m limit h (IsChain ds) stays = refl
+stays_offered m limit h (HasFault fault) stays = refl
+stays_offered m limit h StopsQueue stays = absurd stays
 
-lack_two : (m : Memory) (q : Queue) (used flags : Option (List Place)) (rest : Offer) → may_lack_memory m q rest ≡ true → may_lack_memory m q (on_return_places (return_places_found used flags) rest) ≡ true
-lack_two m q None flags rest e = refl
-lack_two m q (Some used) None rest e = refl
-lack_two m q (Some used) (Some flags) rest e = e
+nothing_missing : (p : ReturnPlaces) (rest : Offer) → missing_of p ≡ None → on_return_places p rest ≡ rest
+nothing_missing (held.Holds used flags) rest e = refl
+nothing_missing (Lacks e) rest none = absurd (cc)
 
--- once a head was found an allocation may fail
+-- if the return can be written and the walk doesn't stop the queue, a chain is offered
 pub lacks_memory : (m : Memory) (limit : ℕ) (l : QueueLayout) (position at : ℕ) → avail.Head at ≡ next_avail m (at_position l position) →
-    IsTrue (may_lack_memory m (at_position l position) (offer m limit (at_position l position)))
-lacks_memory m limit l position at e =
+    missing_of (return_places_at m (at_position l position)) ≡ None → Stays (chain m (at_position l position) at) → IsTrue (may_lack_memory (offer m limit (at_position l position)))
+lacks_memory m limit l position at e none stays =
+    ap may_lack_memory (offer_head m limit l position at e ∙ nothing_missing _ _ none) ∙ stays_offered m limit at (chain m (at_position l position) at) stays
+
+by_places : (used flags : Option (List Place)) →
+    missing_of (return_places_found used flags)
+    ≡ (if not (is_some used) then Some stop.UsedUnreachable else if not (is_some flags) then Some stop.AvailFlagsUnreachable else None)
+by_places None flags = refl
+by_places (Some used) None = refl
+by_places (Some used) (Some flags) = refl
+
+-- which part of a return is missing, by whether its addresses have places
+pub missing_reached : (m : Memory) (l : QueueLayout) (position : ℕ) →
     let q = at_position l position in
-    ap (may_lack_memory m q) (offer_head m limit l position at e) ∙ lack_two m q _ _ _ (lack_of m q limit at (chain m q at))
+    missing_of (return_places_at m q)
+    ≡ (if not (reach m Write (element_at q) 8 && reach m Write (index_at q) 2) then Some stop.UsedUnreachable
+    else if not (reach m Read q.avail 2) then Some stop.AvailFlagsUnreachable else None)
+missing_reached m l position =
+    let r1 = used_reached m (at_position l position) (element_fits l position) (omega (arith, l.used_ring)) in
+    let r2 = reach-range m Read l.avail 2 (omega (arith, l.available)) in
+    rw (r1, r2) (by_places (located (location m Write) (used_addresses (at_position l position))) (located (location m Read) (addresses l.avail 2)))
+
+held_missing : (p : ReturnPlaces) (a b : List Place) → held.Holds a b ≡ p → missing_of p ≡ None
+held_missing p a b e = sym (ap missing_of e)
 
 -- the windows of the return are those of their addresses
 pub found_return_places : (used flags : List Place) (o1 o2 : Option (List Place)) → held.Holds used flags ≡ return_places_found o1 o2 → (o1 ≡ Some used) × (o2 ≡ Some flags)
@@ -113,18 +132,23 @@ refuses m limit q stop.UsedUnreachable stops is = is
 refuses m limit q stop.AvailFlagsUnreachable stops is = is
 refuses m limit q stop.DescriptorUnreachable stops is = is
 
--- so is a refusal of the walk
+-- so is a refusal of the walk, if the return can be written
+pub refused_walk : (m : Memory) (limit : ℕ) (l : QueueLayout) (position at : ℕ) (e : QueueError) → avail.Head at ≡ next_avail m (at_position l position) →
+    missing_of (return_places_at m (at_position l position)) ≡ None → RefusesFound (chain m (at_position l position) at) e → Takes m limit (at_position l position) (Err e)
+refused_walk m limit l position at stop.OutOfMemory head none r = lacks_memory m limit l position at head none r
+refused_walk m limit l position at stop.DescriptorUnreachable head none r =
+    offer_head m limit l position at head ∙ nothing_missing _ _ none ∙ ap (offer_of m limit at) r
+refused_walk m limit l position at stop.Stopped head none r = absurd r
+refused_walk m limit l position at stop.AvailIndexUnreachable head none r = absurd r
+refused_walk m limit l position at stop.AvailTooFar head none r = absurd r
+refused_walk m limit l position at stop.RingEntryUnreachable head none r = absurd r
+refused_walk m limit l position at stop.HeadOutOfTable head none r = absurd r
+refused_walk m limit l position at stop.UsedUnreachable head none r = absurd r
+refused_walk m limit l position at stop.AvailFlagsUnreachable head none r = absurd r
+
 pub refused_found : (m : Memory) (limit : ℕ) (l : QueueLayout) (position at : ℕ) (a b : List Place) (e : QueueError) → avail.Head at ≡ next_avail m (at_position l position) →
     held.Holds a b ≡ return_places_at m (at_position l position) → RefusesFound (chain m (at_position l position) at) e → Takes m limit (at_position l position) (Err e)
-refused_found m limit l position at a b stop.OutOfMemory head places r = lacks_memory m limit l position at head
-refused_found m limit l position at a b stop.DescriptorUnreachable head places r = offer_found m limit l position at a b StopsQueue head places (sym r)
-refused_found m limit l position at a b stop.Stopped head places r = absurd r
-refused_found m limit l position at a b stop.AvailIndexUnreachable head places r = absurd r
-refused_found m limit l position at a b stop.AvailTooFar head places r = absurd r
-refused_found m limit l position at a b stop.RingEntryUnreachable head places r = absurd r
-refused_found m limit l position at a b stop.HeadOutOfTable head places r = absurd r
-refused_found m limit l position at a b stop.UsedUnreachable head places r = absurd r
-refused_found m limit l position at a b stop.AvailFlagsUnreachable head places r = absurd r
+refused_found m limit l position at a b e head places r = refused_walk m limit l position at e head (held_missing _ a b places) r
 
 -- what is fetched by what a walk found, if it has its windows
 fetched_of : (m : Memory) (limit at : ℕ) (f : Found) (c : Result Chain ChainFault) → HoldsFound m limit f c →

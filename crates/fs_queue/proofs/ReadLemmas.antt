@@ -1,37 +1,26 @@
 -- reads of ranges, by the addresses that were reached
-use Rattle.std.proofs.Common.{◌≡◌, ℕ, Bool, ◌+◌, ◌^◌, ◌<◌, List, [], ◌∷◌, ◌++◌, length, map, take, drop, ap, sym, ◌∙◌, Ok, Err, None}
-use Rattle.std.specs.Prelude.{is_some, IsTrue, IfOk, OnErr, Result, if◌then◌else◌}
-use Rattle.std.specs.declared.alloc.AllocError.{AllocError}
+use Rattle.std.proofs.Common.{◌≡◌, ℕ, Bool, false, ◌+◌, ◌^◌, ◌<◌, List, [], ◌∷◌, ◌++◌, length, map, take, drop, ap, sym, ◌∙◌, None}
+use Rattle.std.specs.Prelude.{is_some, IsTrue, if◌then◌else◌}
 use Rattle.std.specs.Int.{w16, w32, w64, from_le_bytes, to_le_bytes}
 use Rattle.std.proofs.lemmas.Nat.{from_le_bytes-to_le_bytes_2, from_le_bytes-to_le_bytes_4, from_le_bytes-to_le_bytes_8}
 use Rattle.std.proofs.lemmas.List.{take_at, drop_at, map-append, length-map}
 use Rattle.vm_values.specs.Fields.{AllFit, spelled}
 use Rattle.vm_values.specs.Fields as fields
-use Rattle.vm_iotlb.specs.declared.permissions.Permissions.TheVariants.{Read}
-use Rattle.vm_memory.specs.Memory.{Memory, addresses, circular, located, location, reach, byte, bytes, number}
-use Rattle.vm_memory.specs.RangeAnswers.{Checks, Reads}
+use Rattle.vm_iotlb.specs.declared.permissions.Permissions.{Permissions}
+use Rattle.vm_memory.specs.Memory.{Memory, addresses, circular, located, is_mapped, location, reach, byte, bytes, number}
 use Rattle.vm_memory.proofs.Places.{circular-is, length-addresses, addresses-append}
 use Rattle.vm_memory.proofs.RangeLemmas.{reach-from}
 use Rattle.fs_queue.specs.Records.{descriptor}
 use Rattle.fs_queue.specs.Chain.{Descriptor, descriptor_at}
-use Rattle.fs_queue.specs.NextAvail.{IsUnmapped}
 
--- what a memory answers for a range that ends below 2^64
-pub checked : (m : Memory) (a n : ℕ) (r : Result Bool AllocError) → a + n < 2 ^ 64 → Checks m Read a n r → IfOk r (λ found. found ≡ reach m Read a n)
-checked m a n (Ok found) fits h = h ∙ reach-from m Read a n fits
-checked m a n (Err e) fits h = tt
+-- it wants memory only of a range that isn't mapped throughout, so not each address has a place
+pub unreached : (m : Memory) (access : Permissions) (a n : ℕ) → a + n < 2 ^ 64 → is_mapped m access a n ≡ false → false ≡ reach m access a n
+unreached m access a n fits un =
+    sym (ap (λ b. is_some (if b then located (location m access) (circular a n) else None)) un) ∙ reach-from m access a n fits
 
-pub have_read : (m : Memory) (a n : ℕ) (new : List ℕ) (r : Result Bool AllocError) → a + n < 2 ^ 64 → Reads m a n new r → IfOk r (λ found. IsTrue found → new ≡ bytes m a n)
-have_read m a n new (Ok found) fits h = λ all. h all ∙ ap (map (byte m)) (circular-is n a fits)
-have_read m a n new (Err e) fits h = tt
-
--- an allocation is made, and may fail, only if a range can't be translated
-pub wanting : (m : Memory) (a n : ℕ) (r : Result Bool AllocError) → a + n < 2 ^ 64 → Checks m Read a n r → OnErr r (IsUnmapped m a n)
-wanting m a n (Ok found) fits h = tt
-wanting m a n (Err e) fits h = (
-  h,
-  sym (reach-from m Read a n fits) ∙ ap (λ b. is_some (if b then located (location m Read) (circular a n) else None)) h,
-)
+-- what is read of a range that ends below 2^64
+pub have_read : (m : Memory) (a n : ℕ) (found : Bool) (new : List ℕ) → a + n < 2 ^ 64 → (IsTrue found → new ≡ map (byte m) (circular a n)) → IsTrue found → new ≡ bytes m a n
+have_read m a n found new fits h all = h all ∙ ap (map (byte m)) (circular-is n a fits)
 
 -- the front and the rest of a range's bytes
 bytes-append : (m : Memory) (a j k : ℕ) → bytes m a (j + k) ≡ bytes m a j ++ bytes m (a + j) k

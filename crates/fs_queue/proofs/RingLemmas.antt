@@ -262,24 +262,6 @@ pub entry_read : (q : Queue) (bs cs : List ℕ) (n : ℕ) → length bs ≡ 2 �
 entry_read q bs cs n len fits len' fits' is =
     ap (from_le_bytes w16) ((has_second (avail_index_at q) (ring_entry_at q) (Some bs) (Some cs) (len, fits) (len', fits') (omega arith)).same cs refl) ∙ sym is
 
--- in a memory whose index asks for an entry that can't be reached, that is why nothing waits
-pub asked_lost : (m : Memory) (q : Queue) (i : Option (List ℕ)) → IsLoadOf m 2 (index_load q i) → asks_entry (next_avail (holding (index_load q i ∷ [])) q) ≡ true →
-    reach m Read (ring_entry_at q) 2 ≡ false → next_avail m q ≡ Refused RingEntryUnreachable
-asked_lost m q i is asks lost =
-    by_reach (reach m Read (avail_index_at q) 2) refl
-  where
-    by_reach : (b : Bool) → reach m Read (avail_index_at q) 2 ≡ b → next_avail m q ≡ Refused RingEntryUnreachable
-    by_reach false e =
-        let none : i ≡ None = is ∙ (rw e refl) in
-        let other = ap asks_entry (index_lost q i none) in
-        absurd (cc)
-    by_reach true e =
-        let came : i ≡ Some (bytes m (avail_index_at q) 2) = is ∙ (rw e refl) in
-        let pair = from_memory m (avail_index_at q) true e in
-        let still = ring_is_still m q (Some (bytes m (avail_index_at q) 2)) None (rw e refl) (rw lost refl) in
-        sym still.both
-        ∙ entry_tells q (bytes m (avail_index_at q) 2) None pair.0 pair.1 tt (ap (λ (o : Option (List ℕ)). asks_entry (next_avail (holding (index_load q o ∷ [])) q)) (sym came) ∙ asks)
-
 -- what the code tells of a memory whose index asks for the entry
 pub asked_told : (m : Memory) (q : Queue) (i e : Option (List ℕ)) (stage : Stage) → IsLoadOf m 2 (index_load q i) → IsLoadOf m 2 (entry_load q e) →
     asks_entry (next_avail (holding (index_load q i ∷ [])) q) ≡ true →

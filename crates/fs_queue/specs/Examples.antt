@@ -3,7 +3,6 @@ use Rattle.std.specs.Prelude.{◌≡◌, ℕ, ◌+◌, Bool, true, false, List, 
 use Rattle.vm_iotlb.specs.declared.permissions.Permissions.{Permissions}
 use Rattle.vm_iotlb.specs.declared.permissions.Permissions.TheVariants.{Read, Write, ReadWrite}
 use Rattle.vm_iotlb.specs.declared.range.IotlbRange.{IotlbRange}
-use Rattle.vm_iotlb.specs.AddressRuns.{may_all}
 use Rattle.vm_iotlb.specs.Ranges.{table_kept}
 use Rattle.vm_memory.specs.Layout.{place}
 use Rattle.vm_memory.specs.Memory.{Memory, addresses, io_memory, memory_of}
@@ -42,7 +41,7 @@ gives ranges = offer (memory ranges) 0x1000 queue
 
 -- whether taking what it offers may be refused since an allocation fails
 abbrev may_lack : List IotlbRange → Bool
-may_lack ranges = may_lack_memory (memory ranges) queue (gives ranges)
+may_lack ranges = may_lack_memory (gives ranges)
 
 -- all may be read and written
 room_offered : gives (range 0 0x2c ReadWrite ∷ []) ≡ Offers 0 (IsRequest [] (addresses 0x28 4))
@@ -54,9 +53,9 @@ entry_unmapped : gives (range 0 0x14 ReadWrite ∷ []) ≡ Refuses stop.RingEntr
 unfolding offer place addresses table_kept path found
 entry_unmapped = refl
 
--- why it isn't takes memory to say
-entry_unmapped_takes : may_lack (range 0 0x14 ReadWrite ∷ []) ≡ true
-unfolding offer place addresses table_kept path found may_all
+-- want of memory doesn't hide that
+entry_unmapped_takes : may_lack (range 0 0x14 ReadWrite ∷ []) ≡ false
+unfolding offer place addresses table_kept path found
 entry_unmapped_takes = refl
 
 -- the ring's entry is mapped to where no region is
@@ -68,9 +67,9 @@ entry_nowhere : gives entry_elsewhere ≡ Refuses stop.RingEntryUnreachable
 unfolding offer place addresses table_kept path found
 entry_nowhere = refl
 
--- but no memory is needed to say so
+-- nor that
 entry_nowhere_takes : may_lack entry_elsewhere ≡ false
-unfolding offer place addresses table_kept path found may_all
+unfolding offer place addresses table_kept path found
 entry_nowhere_takes = refl
 
 -- the used ring may only be read
@@ -87,6 +86,11 @@ flags_unmapped = refl
 room_not_written : gives (range 0 0x28 ReadWrite ∷ range 0x28 0x2c Read ∷ []) ≡ Offers 0 (CannotFetch RoomUnreachable)
 unfolding offer place addresses table_kept path found
 room_not_written = refl
+
+-- such a chain goes back unserved, and want of memory may keep it waiting
+room_not_written_takes : may_lack (range 0 0x28 ReadWrite ∷ range 0x28 0x2c Read ∷ []) ≡ true
+unfolding offer place addresses table_kept path found
+room_not_written_takes = refl
 
 -- it need not be read, nor need the used ring
 room_written : gives (range 0 0x18 Read ∷ range 0x18 0x2c Write ∷ []) ≡ Offers 0 (IsRequest [] (addresses 0x28 4))

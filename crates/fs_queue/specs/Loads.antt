@@ -58,7 +58,7 @@ ahead_of_next size w (Some v) = ahead_at size v
 abbrev pub ahead_after : (size : ℕ) → Visit → WalkStep → Ahead
 ahead_after size v w = ahead_of_next size w (next_visit v w)
 
--- what a walk finds by some loads, of which it may leave the last; nothing if they end before it does, or one isn't what it asks for
+-- what a walk finds by some loads, of which it may leave the last; nothing if they end before it does, or one isn't at the address that it asks for
 unfoldable pub found_by : (size : ℕ) → List Load → Ahead → Option Found
 found_by size [] (Ends found) = Some found
 found_by size [] (Reads v) = None

@@ -1,7 +1,7 @@
 -- What a queue that isn't stopped finds in its available ring (VIRTIO 1.2, 2.7.6 and 2.7.13 from the device's side).
-use Rattle.std.specs.Prelude.{◌≡◌, ℕ, false, not, nat_le, nat_lt, ◌==◌, if◌then◌else◌}
+use Rattle.std.specs.Prelude.{ℕ, not, nat_le, nat_lt, ◌==◌, if◌then◌else◌}
 use Rattle.vm_iotlb.specs.declared.permissions.Permissions.TheVariants.{Read}
-use Rattle.vm_memory.specs.Memory.{Memory, is_mapped, reach}
+use Rattle.vm_memory.specs.Memory.{Memory, reach}
 use Rattle.fs_queue.specs.declared.fault.QueueError.{QueueError}
 use Rattle.fs_queue.specs.declared.fault.QueueError.TheVariants.{AvailIndexUnreachable, AvailTooFar, RingEntryUnreachable, HeadOutOfTable}
 use Rattle.fs_queue.specs.Queue.{Queue, avail_index_at, waiting, ring_entry_at, head}
@@ -21,7 +21,3 @@ next_avail m q =
     else if not (reach m Read (ring_entry_at q) 2) then Refused RingEntryUnreachable
     else if nat_le q.size (head m q) then Refused HeadOutOfTable
     else Head (head m q)
-
--- n addresses from a on are translated and not mapped throughout, so not each can be read
-abbrev pub IsUnmapped : Memory → (a n : ℕ) → Type 0
-IsUnmapped m a n = (is_mapped m Read a n ≡ false) × (reach m Read a n ≡ false)

@@ -3,12 +3,12 @@ use Rattle.std.specs.Prelude.{ℕ, Bool, true, false, not, ◌&&◌, ◌||◌, n
 use Rattle.std.specs.List.{list_all}
 use Rattle.vm_iotlb.specs.declared.permissions.Permissions.{Permissions}
 use Rattle.vm_iotlb.specs.declared.permissions.Permissions.TheVariants.{Read, Write}
-use Rattle.vm_memory.specs.Memory.{Memory, is_mapped, reach, bytes, addresses}
+use Rattle.vm_memory.specs.Memory.{Memory, reach, bytes, addresses}
 use Rattle.fs_queue.specs.declared.fault.ChainFault.{ChainFault}
 use Rattle.fs_queue.specs.declared.fault.ChainFault.TheVariants.{OverLimit, RequestUnreachable, RoomUnreachable}
 use Rattle.fs_queue.specs.declared.fault.QueueError.{QueueError}
 use Rattle.fs_queue.specs.declared.fault.QueueError.TheVariants as stop
-use Rattle.fs_queue.specs.Queue.{Queue, avail_index_at, ring_entry_at, element_at, index_at, with_stop}
+use Rattle.fs_queue.specs.Queue.{Queue, element_at, index_at, with_stop}
 use Rattle.fs_queue.specs.Chain.{Descriptor, is_writable, Found, IsChain, HasFault, StopsQueue, chain}
 use Rattle.fs_queue.specs.NextAvail.{NextAvail, next_avail}
 use Rattle.fs_queue.specs.NextAvail as avail
@@ -74,15 +74,10 @@ on_next_avail m limit q (avail.Head head) = on_head m limit q head
 unfoldable pub offer : Memory → ℕ → Queue → Offer
 offer m limit q = if q.stopped then Refuses stop.Stopped else on_next_avail m limit q (next_avail m q)
 
--- whether a step may be refused since an allocation fails: not where the queue is stopped, nor before a head is found unless what is read of the ring isn't mapped throughout
-abbrev pub may_lack_memory : Memory → Queue → Offer → Bool
-may_lack_memory m q Idle = false
-may_lack_memory m q (Refuses stop.Stopped) = false
-may_lack_memory m q (Refuses stop.AvailIndexUnreachable) = not (is_mapped m Read (avail_index_at q) 2)
-may_lack_memory m q (Refuses stop.AvailTooFar) = false
-may_lack_memory m q (Refuses stop.RingEntryUnreachable) = not (is_mapped m Read (ring_entry_at q) 2)
-may_lack_memory m q (Refuses stop.HeadOutOfTable) = false
-may_lack_memory m q _ = true
+-- whether a step may be refused since an allocation fails: only if a chain is offered, so that no other refusal is hidden
+abbrev pub may_lack_memory : Offer → Bool
+may_lack_memory (Offers head fetched) = true
+may_lack_memory _ = false
 
 -- whether a refusal stops the queue: all but those of a stopped queue and of a failed allocation do
 abbrev pub stops_queue : QueueError → Bool

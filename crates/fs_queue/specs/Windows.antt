@@ -1,5 +1,5 @@
 -- What is kept of a chain that was taken: the windows of its descriptors and of its return, each address translated by itself.
-use Rattle.std.specs.Prelude.{◌≡◌, ℕ, Bool, true, false, IsTrue, List, [], ◌++◌, length, map, Option, Some, None, Result, Ok, Err}
+use Rattle.std.specs.Prelude.{◌≡◌, ◌<◌, ◌≤◌, ℕ, Bool, true, false, IsTrue, List, [], ◌++◌, length, map, Option, Some, None, Result, Ok, Err}
 use Rattle.vm_iotlb.specs.declared.permissions.Permissions.{Permissions}
 use Rattle.vm_iotlb.specs.declared.permissions.Permissions.TheVariants.{Read, Write}
 use Rattle.std.specs.List.{flat_map}
@@ -14,7 +14,7 @@ use Rattle.fs_queue.specs.declared.chain.Chain.{Chain}
 use Rattle.fs_queue.specs.declared.chain.ReturnWindows.{ReturnWindows}
 use Rattle.fs_queue.specs.Queue.{Queue, element_at, index_at}
 use Rattle.fs_queue.specs.Chain.{Descriptor, Found, IsChain, HasFault, StopsQueue, chain}
-use Rattle.fs_queue.specs.Taking.{readable, writable, request_and_room, RequestAndRoom, IsRequest, CannotFetch, Idle, Refuses, Offers, offer, may_lack_memory, after_refusal}
+use Rattle.fs_queue.specs.Taking.{readable, writable, total_len, request_and_room, RequestAndRoom, IsRequest, CannotFetch, Idle, Refuses, Offers, offer, may_lack_memory, after_refusal}
 
 -- the places of the used element and the used index, and of the available flags (2.7.8 and 2.7.7), or which of them has an address without a place
 pub data ReturnPlaces : Type 0 where
@@ -34,6 +34,11 @@ used_addresses q = addresses (element_at q) 8 ++ addresses (index_at q) 2
 -- those of a queue: the element and the index to be written, the flags to be read
 abbrev pub return_places_at : Memory → Queue → ReturnPlaces
 return_places_at m q = return_places_found (located (location m Write) (used_addresses q)) (located (location m Read) (addresses q.avail 2))
+
+-- which of them is missing, if one is
+abbrev pub missing_of : ReturnPlaces → Option QueueError
+missing_of (Holds used flags) = None
+missing_of (Lacks e) = Some e
 
 -- those of the windows of a return, unless something is missing
 abbrev pub return_places_of : Option QueueError → ReturnWindows → ReturnPlaces
@@ -72,9 +77,23 @@ HoldsFound m limit (IsChain ds) c = HoldsChain m (request_and_room m limit ds) c
 HoldsFound m limit (HasFault fault) c = HoldsChain m (CannotFetch fault) c
 HoldsFound m limit StopsQueue c = ⊥
 
--- a walk that found this may be refused so: it stopped the queue, or an allocation failed
+-- neither a request nor its room has more bytes than a limit
+abbrev pub KeepsLimit : (limit : ℕ) → List Descriptor → Type 0
+KeepsLimit limit ds = (total_len (readable ds) ≤ limit) × (total_len (writable ds) ≤ limit)
+
+-- a walk ended with a chain of more descriptors than there is room for
+abbrev pub IsLongChain : (room : ℕ) → Found → Type 0
+IsLongChain room found = (ds : List Descriptor) × (found ≡ IsChain ds) × (room < length ds)
+
+-- a walk ended with a chain or a fault, so it didn't stop the queue
+abbrev pub Stays : Found → Type 0
+Stays (IsChain ds) = Unit {0}
+Stays (HasFault fault) = Unit {0}
+Stays StopsQueue = ⊥
+
+-- a walk that found this may be refused so: it stopped the queue, or it didn't and an allocation failed
 abbrev pub RefusesFound : Found → QueueError → Type 0
-RefusesFound found stop.OutOfMemory = Unit {0}
+RefusesFound found stop.OutOfMemory = Stays found
 RefusesFound found stop.DescriptorUnreachable = found ≡ StopsQueue
 RefusesFound found _ = ⊥
 
@@ -153,7 +172,7 @@ room_places (Err fault) = 0
 abbrev pub Takes : Memory → ℕ → Queue → Result (Option Taken) QueueError → Type 0
 Takes m limit q (Ok None) = offer m limit q ≡ Idle
 Takes m limit q (Ok (Some t)) = (fetched : RequestAndRoom) × (offer m limit q ≡ Offers t.head fetched) × IsTaken m q fetched t
-Takes m limit q (Err stop.OutOfMemory) = IsTrue (may_lack_memory m q (offer m limit q))
+Takes m limit q (Err stop.OutOfMemory) = IsTrue (may_lack_memory (offer m limit q))
 Takes m limit q (Err e) = offer m limit q ≡ Refuses e
 
 -- what is answered by whether a chain was taken, and what was taken then

@@ -1,13 +1,12 @@
 //! Reads and windows of guest memory that need all of a range.
 
-ghost use Rattle.std.specs.Prelude.{◌≡◌, ◌+◌, ◌<◌, ◌^◌, IsTrue, IfOk, IfSome, OnErr};
+ghost use Rattle.std.specs.Prelude.{◌≡◌, ◌+◌, ◌<◌, ◌^◌, IsTrue, IfOk, IfSome};
 ghost use Rattle.std.specs.Prelude.{length, Some, None, if◌then◌else◌};
 ghost use Rattle.std.specs.Int.{w16, from_le_bytes};
 ghost use Rattle.vm_iotlb.specs.declared.permissions.Permissions.TheVariants.{Read};
 ghost use Rattle.vm_memory_core.specs.Host.{lengths};
 ghost use Rattle.vm_memory_core.specs.Window.{places, AllLieIn};
 ghost use Rattle.vm_memory.specs.Memory.{addresses, after, bytes, located, location, number, reach};
-ghost use Rattle.fs_queue.specs.NextAvail.{IsUnmapped};
 ghost use Rattle.fs_queue.specs.Walking.{AreTheBytes};
 
 use std::alloc::{AllocError, Global};
@@ -15,8 +14,8 @@ use vm_memory::GuestMemory;
 use vm_memory_core::{GuestAddress, HostBlocks, Permissions, Windows};
 use vm_values::{ByteValued, Le16};
 
-/// Reads a buffer full of bytes from an address on, or answers false if one of them isn't there. It allocates
-/// only if a translation fails.
+/// Reads a buffer full of bytes from an address on, or answers false if one of them isn't there. A translation that fails
+/// may want memory: without it, it fails all the same.
 #[inline(always)]
 pub(crate) fn read<M: GuestMemory, H: HostBlocks>(
     alloc: Global,
@@ -24,14 +23,34 @@ pub(crate) fn read<M: GuestMemory, H: HostBlocks>(
     mem: &M,
     addr: u64,
     buffer: &mut [u8],
-) -> Result<bool, AllocError>
+) -> bool
     requires fits { addr + length buffer.old < 2 ^ 64 }
     requires held { M.IsHeld mem.now (H.host host.now) }
-    ensures found { IfOk result (λ found. found ≡ reach (M.memory mem.now (H.host host.now)) Read addr (length buffer.old)) }
-    ensures bytes { IfOk result (λ found. IsTrue found → buffer.new ≡ bytes (M.memory mem.now (H.host host.now)) addr (length buffer.old)) }
-    ensures unmapped { OnErr result (IsUnmapped (M.memory mem.now (H.host host.now)) addr (length buffer.old)) }
+    ensures found { result ≡ reach (M.memory mem.now (H.host host.now)) Read addr (length buffer.old) }
+    ensures bytes { IsTrue result → buffer.new ≡ bytes (M.memory mem.now (H.host host.now)) addr (length buffer.old) }
 {
-    mem.read_range(alloc, host, GuestAddress(addr), buffer)
+    match mem.read_range(alloc, host, GuestAddress(addr), buffer) {
+        Ok(found) => found,
+        Err(_) => false,
+    }
+}
+
+/// Whether each of some addresses that follow one another has a place, for an access.
+pub(crate) fn reaches<M: GuestMemory, H: HostBlocks>(
+    alloc: Global,
+    host: &H,
+    mem: &M,
+    addr: u64,
+    len: usize,
+    access: Permissions,
+) -> bool
+    requires fits { addr + len < 2 ^ 64 }
+    ensures { result ≡ reach (M.memory mem.now (H.host host.now)) access addr len }
+{
+    match mem.check_range(alloc, host, GuestAddress(addr), len, access) {
+        Ok(found) => found,
+        Err(_) => false,
+    }
 }
 
 // The number that two bytes spell as le16.

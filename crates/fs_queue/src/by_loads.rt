@@ -7,8 +7,9 @@ ghost use Rattle.fs_queue.specs.Chain.{chain, first_visit};
 ghost use Rattle.fs_queue.specs.Loads.{ahead_at};
 ghost use Rattle.fs_queue.specs.Stepping.{ahead_of, IfWants};
 ghost use Rattle.fs_queue.specs.Ringing.{stage_of, Told, BeginsChain, IfRefuses};
-ghost use Rattle.fs_queue.specs.NextAvail.{next_avail, IsUnmapped};
-ghost use Rattle.fs_queue.specs.Taking.{may_lack_memory, on_next_avail, stops_queue};
+ghost use Rattle.fs_queue.specs.NextAvail.{next_avail};
+ghost use Rattle.fs_queue.specs.Taking.{stops_queue};
+ghost use Rattle.fs_queue.specs.Windows.{IsLongChain};
 ghost use Rattle.fs_queue.specs.Walking.{at_position, found_of, AllEndIn64Bits, AreTheRing, AreTheTable, EndsIn64Bits};
 
 use crate::access::{read, whole_bytes};
@@ -27,16 +28,16 @@ fn load_entry<M: GuestMemory, H: HostBlocks>(
     host: &H,
     mem: &M,
     addr: u64,
-) -> Result<Option<[u8; 16]>, AllocError>
+) -> Option<[u8; 16]>
     requires fits { addr + 16 < 2 ^ 64 }
     requires held { M.IsHeld mem.now (H.host host.now) }
-    ensures { let m = M.memory mem.now (H.host host.now) in IfOk result (λ o. o ≡ (if reach m Read addr 16 then Some (bytes m addr 16) else None)) }
+    ensures { let m = M.memory mem.now (H.host host.now) in result ≡ (if reach m Read addr 16 then Some (bytes m addr 16) else None) }
 {
     let mut bytes = [0u8; 16];
-    if read(alloc, host, mem, addr, &mut bytes)? {
-        Ok(Some(bytes))
+    if read(alloc, host, mem, addr, &mut bytes) {
+        Some(bytes)
     } else {
-        Ok(None)
+        None
     }
 }
 
@@ -81,16 +82,16 @@ fn load_from_table<M: GuestMemory, H: HostBlocks>(
     table: DescriptorTable,
     whole: Option<&[u8]>,
     index: u16,
-) -> Result<Option<[u8; 16]>, AllocError>
+) -> Option<[u8; 16]>
     requires held { M.IsHeld mem.now (H.host host.now) }
     requires ends { EndsIn64Bits table }
     requires index { index < table.entries }
     requires whole { IfSome whole (λ b. AreTheTable (M.memory mem.now (H.host host.now)) table b.now) }
     ensures { let m = M.memory mem.now (H.host host.now) in let a = table.address + 16 * index in
-        IfOk result (λ o. o ≡ (if reach m Read a 16 then Some (bytes m a 16) else None)) }
+        result ≡ (if reach m Read a 16 then Some (bytes m a 16) else None) }
 {
     match whole {
-        Some(bytes) => Ok(Some(entry_of(bytes, index))),
+        Some(bytes) => Some(entry_of(bytes, index)),
         None => load_entry(alloc, host, mem, table.address + 16 * u64::from(index)),
     }
 }
@@ -118,7 +119,8 @@ fn bytes_of<'a, M: GuestMemory, H: HostBlocks>(
 }
 
 /// The walk through the chain of a head, whose ordinary descriptors take the place of those that a list has. An error is
-/// a failed allocation, for a chain of more than eight descriptors or if a translation fails.
+/// a failed allocation, for a chain of more descriptors than the list has room for: the walk goes on without keeping them,
+/// so that none of its faults and no stop is hidden by it.
 #[inline(always)]
 pub(crate) fn walk_chain<M: GuestMemory, H: HostBlocks>(
     alloc: Global,
@@ -134,22 +136,27 @@ pub(crate) fn walk_chain<M: GuestMemory, H: HostBlocks>(
     requires size { IfWants first (λ w. w.size ≡ layout.size) }
     ensures chain { IfOk result (λ w. found_of w descriptors.new.items ≡ chain (M.memory mem.now (H.host host.now)) (at_position layout 0) head) }
     ensures fit { OnOk result (AllEndIn64Bits descriptors.new.items) }
+    ensures memory { OnErr result (IsLongChain descriptors.old.capacity (chain (M.memory mem.now (H.host host.now)) (at_position layout 0) head)) }
 {
     descriptors.clear();
+    let mut kept = true;
     let mut whole_of = queue_table(layout);
     let mut whole = table_bytes(alloc, host, mem, whole_of);
     let mut progress = first;
     'steps: loop {
         match progress {
-            Progress::Ends(walked) => return Ok(walked),
+            Progress::Ends(walked) => return walked.if_kept(kept),
             Progress::Wants(walk) => {
                 let (table, index) = walk.entry();
                 whole = bytes_of(alloc, host, mem, table, whole_of, whole);
                 whole_of = table;
-                let came = load_from_table(alloc, host, mem, table, whole, index)?;
+                let came = load_from_table(alloc, host, mem, table, whole, index);
                 let given = walk.give(came);
                 if let Some(descriptor) = given.joins {
-                    descriptors.push(descriptor)?;
+                    match descriptors.push(descriptor) {
+                        Ok(()) => {}
+                        Err(_) => kept = false,
+                    }
                 }
                 progress = given.then;
             }
@@ -167,24 +174,23 @@ fn pair_of(bytes: &[u8], offset: usize) -> [u8; 2]
     pair
 }
 
-// Loads two bytes from host memory. It allocates only if a translation fails.
+// Loads two bytes from host memory.
 #[inline(always)]
 fn load_pair<M: GuestMemory, H: HostBlocks>(
     alloc: Global,
     host: &H,
     mem: &M,
     addr: u64,
-) -> Result<Option<[u8; 2]>, AllocError>
+) -> Option<[u8; 2]>
     requires fits { addr + 2 < 2 ^ 64 }
     requires held { M.IsHeld mem.now (H.host host.now) }
-    ensures bytes { let m = M.memory mem.now (H.host host.now) in IfOk result (λ o. o ≡ (if reach m Read addr 2 then Some (bytes m addr 2) else None)) }
-    ensures unmapped { OnErr result (IsUnmapped (M.memory mem.now (H.host host.now)) addr 2) }
+    ensures { let m = M.memory mem.now (H.host host.now) in result ≡ (if reach m Read addr 2 then Some (bytes m addr 2) else None) }
 {
     let mut pair = [0u8; 2];
-    if read(alloc, host, mem, addr, &mut pair)? {
-        Ok(Some(pair))
+    if read(alloc, host, mem, addr, &mut pair) {
+        Some(pair)
     } else {
-        Ok(None)
+        None
     }
 }
 
@@ -212,22 +218,20 @@ fn load_from_ring<M: GuestMemory, H: HostBlocks>(
     mem: &M,
     ring: Option<&[u8]>,
     offset: u32,
-) -> Result<Option<[u8; 2]>, AllocError>
+) -> Option<[u8; 2]>
     requires held { M.IsHeld mem.now (H.host host.now) }
     requires inside { offset + 2 ≤ 4 + 2 * layout.size }
     requires ring { IfSome ring (λ b. AreTheRing (M.memory mem.now (H.host host.now)) layout b.now) }
-    ensures bytes { let m = M.memory mem.now (H.host host.now) in let a = layout.avail + offset in
-        IfOk result (λ o. o ≡ (if reach m Read a 2 then Some (bytes m a 2) else None)) }
-    ensures unmapped { OnErr result (IsUnmapped (M.memory mem.now (H.host host.now)) (layout.avail + offset) 2) }
+    ensures { let m = M.memory mem.now (H.host host.now) in let a = layout.avail + offset in
+        result ≡ (if reach m Read a 2 then Some (bytes m a 2) else None) }
 {
     match ring {
-        Some(bytes) => Ok(Some(pair_of(bytes, offset as usize))),
+        Some(bytes) => Some(pair_of(bytes, offset as usize)),
         None => load_pair(alloc, host, mem, layout.avail() + u64::from(offset)),
     }
 }
 
-/// What waits at a position of a queue that isn't stopped: the walk as far as the loads of the ring bring it. It allocates
-/// only if a translation fails.
+/// What waits at a position of a queue that isn't stopped: the walk as far as the loads of the ring bring it.
 #[inline(always)]
 pub(crate) fn walk_ring<M: GuestMemory, H: HostBlocks>(
     alloc: Global,
@@ -235,22 +239,20 @@ pub(crate) fn walk_ring<M: GuestMemory, H: HostBlocks>(
     position: u16,
     host: &H,
     mem: &M,
-) -> Result<Walk, AllocError>
+) -> Walk
     requires { M.IsHeld mem.now (H.host host.now) }
-    ensures told { IfOk result (λ w. stage_of w ≡ Told (next_avail (M.memory mem.now (H.host host.now)) (at_position layout position))) }
-    ensures chain { IfOk result (BeginsChain layout) }
-    ensures stops { IfOk result (λ w. IfRefuses w (λ e. IsTrue (stops_queue e))) }
-    ensures memory { OnErr result ((limit : ℕ) → let m = M.memory mem.now (H.host host.now) in let q = at_position layout position in
-        IsTrue (may_lack_memory m q (on_next_avail m limit q (next_avail m q)))) }
+    ensures told { stage_of result ≡ Told (next_avail (M.memory mem.now (H.host host.now)) (at_position layout position)) }
+    ensures chain { BeginsChain layout result }
+    ensures stops { IfRefuses result (λ e. IsTrue (stops_queue e)) }
 {
     let ring = ring_bytes(alloc, layout, host, mem);
-    let index = load_from_ring(alloc, layout, host, mem, ring, 2)?;
+    let index = load_from_ring(alloc, layout, host, mem, ring, 2);
     match IndexWalk::new(layout, position).give(index) {
         Walk::RingEntry(walk) => {
             let offset = entry_offset(layout, position);
-            let entry = load_from_ring(alloc, layout, host, mem, ring, offset)?;
-            Ok(walk.give(entry))
+            let entry = load_from_ring(alloc, layout, host, mem, ring, offset);
+            walk.give(entry)
         }
-        told => Ok(told),
+        told => told,
     }
 }

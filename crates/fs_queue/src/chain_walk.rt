@@ -1,11 +1,12 @@
 //! The walk through a chain of descriptors by loads that another makes: it touches no memory (VIRTIO 1.2, 2.7.5).
 
-ghost use Rattle.std.specs.Prelude.{◌≡◌, ◌+◌, ◌*◌, ◌<◌, ◌≤◌, ◌^◌, IfSome, true, false};
+ghost use Rattle.std.specs.Prelude.{◌≡◌, ◌+◌, ◌*◌, ◌<◌, ◌≤◌, ◌^◌, IfOk, IfSome, OnErr, true, false};
 
 use crate::descriptor::Descriptor;
 use crate::fault::ChainFault;
 use crate::layout::QueueLayout;
 use crate::walk_step::{DescriptorTable, WalkStep, indirect_step, ordinary_step, queue_table};
+use std::alloc::AllocError;
 use vm_values::ByteValued;
 
 /// A walk that asks for an entry of a table, once.
@@ -29,6 +30,21 @@ pub enum Walked {
     Faulty(ChainFault),
     /// An entry of the queue's own table can't be reached: `DescriptorUnreachable`, which stops the queue.
     Stopped,
+}
+
+impl Walked {
+    ghost use Rattle.fs_queue.specs.declared.chain_walk.Walked.TheVariants as ended;
+
+    // What a walk answers that ended so: a chain only if its descriptors were kept.
+    pub(crate) fn if_kept(self, kept: bool) -> Result<Walked, AllocError>
+        ensures same { IfOk result (λ w. (w ≡ self) × (self ≡ ended.Chain → kept ≡ true)) }
+        ensures lost { OnErr result ((self ≡ ended.Chain) × (kept ≡ false)) }
+    {
+        match self {
+            Walked::Chain if !kept => Err(AllocError),
+            _ => Ok(self),
+        }
+    }
 }
 
 /// How far a walk through a chain has come.

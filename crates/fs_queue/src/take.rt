@@ -1,24 +1,25 @@
 //! What is taken of a chain: windows with its request and its room, and those of its return (VIRTIO 1.2, 2.7.5 to
 //! 2.7.8).
 
-ghost use Rattle.std.specs.Prelude.{ℕ, ◌≡◌, ◌+◌, ◌-◌, ◌<◌, ◌≤◌, ◌^◌, ◌++◌, List, []};
+ghost use Rattle.std.specs.Prelude.{ℕ, ◌≡◌, ◌+◌, ◌-◌, ◌<◌, ◌≤◌, ◌^◌, ◌++◌, ◌&&◌, List, []};
 ghost use Rattle.std.specs.Prelude.{min, false, true, None, Some, Ok, if◌then◌else◌};
 ghost use Rattle.std.specs.Prelude.{IfErr, IfNone, IfOk, IfSome, IsTrue, OnErr};
 ghost use Rattle.vm_iotlb.specs.declared.permissions.Permissions.TheVariants.{Read, Write};
 ghost use Rattle.vm_memory_core.specs.Host.{lengths};
 ghost use Rattle.vm_memory_core.specs.Window.{places, AllLieIn};
-ghost use Rattle.vm_memory.specs.Memory.{addresses, after, located, location};
+ghost use Rattle.vm_memory.specs.Memory.{addresses, after, located, location, reach};
+ghost use Rattle.fs_queue.specs.Queue.{element_at, index_at};
 ghost use Rattle.fs_queue.specs.Walking.{AllEndIn64Bits, at_position};
 ghost use Rattle.fs_queue.specs.Taking.{total_len, request_and_room, stops_queue};
 ghost use Rattle.fs_queue.specs.Windows.{of_direction, access_of, addresses_of, used_addresses, return_places_of};
-ghost use Rattle.fs_queue.specs.Windows.{return_places_at, room_places, ReturnWindowsLieIn, ChainLiesIn, TakenLiesIn};
+ghost use Rattle.fs_queue.specs.Windows.{missing_of, return_places_at, room_places, ReturnWindowsLieIn, ChainLiesIn, TakenLiesIn};
 ghost use Rattle.fs_queue.specs.Windows.{HoldsChain, HoldsWindows, HasItsWindows, HasNoReturnWindows, HasNoWindows, IsEmpty, Takes, taken_if, unless_faulty, unreachable_of};
-ghost use Rattle.fs_queue.specs.Windows.{HoldsFound, RefusesFound};
+ghost use Rattle.fs_queue.specs.Windows.{HoldsFound, KeepsLimit, RefusesFound};
 ghost use Rattle.fs_queue.specs.Chain.{IsChain, chain, first_visit};
 ghost use Rattle.fs_queue.specs.Loads.{ahead_at};
 ghost use Rattle.fs_queue.specs.Stepping.{ahead_of, IfWants};
 
-use crate::access::add_windows;
+use crate::access::{add_windows, reaches};
 use crate::by_loads::{walk_chain, walk_ring};
 use crate::chain::{Chain, ReturnWindows, Taken};
 use crate::chain_walk::{Progress, Walked};
@@ -92,9 +93,47 @@ fn add_used_and_flags<M: GuestMemory, H: HostBlocks>(
     Ok(None)
 }
 
+// Whether each address of the used element and of the used index has a place to be written.
+fn reaches_used<M: GuestMemory, H: HostBlocks>(
+    alloc: Global,
+    layout: QueueLayout,
+    host: &H,
+    mem: &M,
+    position: u16,
+) -> bool
+    ensures { let m = M.memory mem.now (H.host host.now) in let q = at_position layout position in
+        result ≡ (reach m Write (element_at q) 8 && reach m Write (index_at q) 2) }
+{
+    let element = layout.used() + 4 + 8 * u64::from(position % layout.size());
+    let index = layout.used() + 2;
+    reaches(alloc, host, mem, element, 8, Permissions::Write)
+        && reaches(alloc, host, mem, index, 2, Permissions::Write)
+}
+
+// Which part of a return at this position has an address that can't be reached, if one has: looked at by itself, without a list.
+#[tactic(auto, using(crate::proofs::OfferLemmas::missing_reached))]
+fn missing_in_return<M: GuestMemory, H: HostBlocks>(
+    alloc: Global,
+    layout: QueueLayout,
+    host: &H,
+    mem: &M,
+    position: u16,
+) -> Option<QueueError>
+    ensures missing { result ≡ missing_of (return_places_at (M.memory mem.now (H.host host.now)) (at_position layout position)) }
+    ensures stops { IfSome result (λ e. IsTrue (stops_queue e)) }
+{
+    if !reaches_used(alloc, layout, host, mem, position) {
+        Some(QueueError::UsedUnreachable)
+    } else if !reaches(alloc, host, mem, layout.avail(), 2, Permissions::Read) {
+        Some(QueueError::AvailFlagsUnreachable)
+    } else {
+        None
+    }
+}
+
 /// Adds to empty lists the windows that a return at this position writes and reads besides the room, or answers which of
 /// them has an address that can't be reached: `UsedUnreachable` or `AvailFlagsUnreachable`. An error is a failed
-/// allocation. At either the lists stay empty. `Queue::take` does so once a head is known, before the chain is walked.
+/// allocation, if all can be reached. At either the lists stay empty. `Queue::take` does so once a head is known, before the chain is walked.
 #[inline(always)]
 pub fn add_return_windows<M: GuestMemory, H: HostBlocks>(
     alloc: Global,
@@ -112,6 +151,7 @@ pub fn add_return_windows<M: GuestMemory, H: HostBlocks>(
     ensures stops { IfOk result (λ missing. IfSome missing (λ e. IsTrue (stops_queue e))) }
     ensures missing_is_empty { IfOk result (λ missing. IfSome missing (λ e. HasNoReturnWindows windows.new)) }
     ensures failed_is_empty { OnErr result (HasNoReturnWindows windows.new) }
+    ensures memory { OnErr result (missing_of (return_places_at (M.memory mem.now (H.host host.now)) (at_position layout position)) ≡ None) }
 {
     match add_used_and_flags(alloc, layout, host, mem, position, windows) {
         Ok(None) => Ok(None),
@@ -121,7 +161,10 @@ pub fn add_return_windows<M: GuestMemory, H: HostBlocks>(
         }
         Err(error) => {
             windows.clear();
-            Err(error)
+            match missing_in_return(alloc, layout, host, mem, position) {
+                Some(missing) => Ok(Some(missing)),
+                None => Err(error),
+            }
         }
     }
 }
@@ -311,7 +354,7 @@ fn fill_chain<M: GuestMemory, H: HostBlocks>(
 }
 
 /// Puts the request and the room of a chain that was walked in a place, or answers its fault: `OverLimit` if one of them has
-/// more than `limit` bytes, then `RequestUnreachable`, then `RoomUnreachable`. An error is a failed allocation. At a fault
+/// more than `limit` bytes, then `RequestUnreachable`, then `RoomUnreachable`. An error is a failed allocation, if neither has more. At a fault
 /// and at an error the place has no windows, whatever it had. `Queue::take` does so with the descriptors that joined its walk.
 #[inline(always)]
 pub fn hold_chain<M: GuestMemory, H: HostBlocks>(
@@ -332,6 +375,7 @@ pub fn hold_chain<M: GuestMemory, H: HostBlocks>(
     ensures short { IfOk result (λ fault. room_places (unless_faulty fault chain.new) ≤ limit) }
     ensures faulty_is_empty { IfOk result (λ fault. IfSome fault (λ why. HasNoWindows chain.new)) }
     ensures failed_is_empty { OnErr result (HasNoWindows chain.new) }
+    ensures memory { OnErr result (KeepsLimit limit descriptors.now) }
 {
     chain.clear();
     let request_len = count_bytes(descriptors, false);
@@ -388,6 +432,27 @@ fn walk_and_hold<M: GuestMemory, H: HostBlocks>(
     }
 }
 
+// Why a chain isn't taken if memory is wanting for the windows of its return: its walk stops the queue, or it is that.
+fn refusal_without_return<M: GuestMemory, H: HostBlocks>(
+    alloc: Global,
+    layout: QueueLayout,
+    host: &H,
+    mem: &M,
+    head: u16,
+    first: Progress,
+    descriptors: &mut Descriptors,
+) -> QueueError
+    requires held { M.IsHeld mem.now (H.host host.now) }
+    requires at { ahead_of first ≡ ahead_at layout.size (first_visit (at_position layout 0) head) }
+    requires size { IfWants first (λ w. w.size ≡ layout.size) }
+    ensures { RefusesFound (chain (M.memory mem.now (H.host host.now)) (at_position layout 0) head) result }
+{
+    match walk_chain(alloc, layout, host, mem, head, first, descriptors) {
+        Ok(Walked::Stopped) => QueueError::DescriptorUnreachable,
+        Ok(Walked::Chain | Walked::Faulty(_)) | Err(_) => QueueError::OutOfMemory,
+    }
+}
+
 /// Takes the chain that waits at a position of a queue that isn't stopped into an empty place; false if none waits.
 /// The errors are those of `Queue::take` but `Stopped`, in the same order.
 #[inline(always)]
@@ -409,11 +474,10 @@ pub(crate) fn take_into<M: GuestMemory, H: HostBlocks>(
     ensures idle { IfOk result (λ waits. waits ≡ false → IsEmpty taken.new) }
 {
     let (head, first) = match walk_ring(alloc, layout, position, host, mem) {
-        Ok(Walk::Idle) => return Ok(false),
-        Ok(Walk::Refused(error)) => return Err(error),
-        Ok(Walk::Chain(head, first)) => (head, first),
-        Ok(Walk::Index(_) | Walk::RingEntry(_)) => unreachable!(),
-        Err(_) => return Err(QueueError::OutOfMemory),
+        Walk::Idle => return Ok(false),
+        Walk::Refused(error) => return Err(error),
+        Walk::Chain(head, first) => (head, first),
+        Walk::Index(_) | Walk::RingEntry(_) => unreachable!(),
     };
     match add_return_windows(
         alloc,
@@ -425,7 +489,10 @@ pub(crate) fn take_into<M: GuestMemory, H: HostBlocks>(
     ) {
         Ok(None) => {}
         Ok(Some(error)) => return Err(error),
-        Err(_) => return Err(QueueError::OutOfMemory),
+        Err(_) => {
+            let descriptors = &mut taken.descriptors;
+            return Err(refusal_without_return(alloc, layout, host, mem, head, first, descriptors));
+        }
     }
     match walk_and_hold(
         alloc,

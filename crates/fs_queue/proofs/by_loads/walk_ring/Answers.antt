@@ -1,11 +1,9 @@
-use Rattle.std.proofs.Common.{◌≡◌, ◌+◌, ◌∙◌, ap, sym, refl, subst, length, Bool, List, Some, None, Result, Ok, Err, ℕ, true, false}
-use Rattle.std.specs.Prelude.{OnErr, IsTrue, if◌then◌else◌}
+use Rattle.std.proofs.Common.{◌≡◌, ◌∙◌, ap, refl, subst, length, Bool, List, Some, None, ℕ, true, false}
+use Rattle.std.specs.Prelude.{if◌then◌else◌}
 use Rattle.vm_iotlb.specs.declared.permissions.Permissions.TheVariants.{Read}
-use Rattle.vm_memory.specs.Memory.{Memory, bytes, is_mapped, reach}
-use Rattle.fs_queue.specs.declared.fault.QueueError.TheVariants.{RingEntryUnreachable}
+use Rattle.vm_memory.specs.Memory.{bytes, reach}
 use Rattle.fs_queue.specs.Queue.{Queue, ring_entry_at}
-use Rattle.fs_queue.specs.NextAvail.{Refused, next_avail, IsUnmapped}
-use Rattle.fs_queue.specs.Taking.{may_lack_memory, on_next_avail}
+use Rattle.fs_queue.specs.NextAvail.{next_avail}
 use Rattle.fs_queue.specs.Walking.{at_position}
 use Rattle.fs_queue.specs.declared.layout.QueueLayout.{QueueLayout}
 use Rattle.fs_queue.specs.declared.walk.RingEntryWalk.{RingEntryWalk}
@@ -14,19 +12,8 @@ use Rattle.fs_queue.specs.declared.walk.Walk.TheVariants as says
 use Rattle.fs_queue.specs.NextAvail.{NextAvail}
 use Rattle.fs_queue.specs.Loads.{asks_entry}
 use Rattle.fs_queue.specs.Ringing.{AsksEntry, Told, by_index, by_entry, stage_at, stage_of}
-use Rattle.fs_queue.proofs.RingLemmas.{ring_is_still, asked_lost, asked_told}
+use Rattle.fs_queue.proofs.RingLemmas.{ring_is_still, asked_told}
 use Rattle.fs_queue.proofs.by_loads.walk_ring.Goals as goal
-
-on_err : {A E : Type 0} (r : Result A E) (P : Type 0) → P → OnErr r P
-on_err (Ok x) P p = tt
-on_err (Err e) P p = p
-
--- the entry isn't mapped throughout
-lacks : (m : Memory) (q : Queue) (limit at : ℕ) → next_avail m q ≡ Refused RingEntryUnreachable → at ≡ ring_entry_at q → IsUnmapped m at 2 →
-    IsTrue (may_lack_memory m q (on_next_avail m limit q (next_avail m q)))
-lacks m q limit at next here un =
-    let unmapped : is_mapped m Read (ring_entry_at q) 2 ≡ false = ap (λ a. is_mapped m Read a 2) (sym here) ∙ un.0 in
-    rw (next, unmapped) refl
 
 -- a queue by its layout and position
 placed : (l k : QueueLayout) (p r : ℕ) → l ≡ k → p ≡ r → at_position l p ≡ at_position k r
@@ -53,41 +40,28 @@ told_alone r n k other e same = by_test (asks_entry n) refl e
     by_test true asks h = let w = is_entry r h in absurd (other w.0 w.1)
     by_test false asks h = h ∙ ap Told (same asks)
 
-pub returns-in_err-entry-in-RingEntry-clause-memory : goal.returns-in_err-entry-in-RingEntry-clause-memory
-returns-in_err-entry-in-RingEntry-clause-memory g c =
-    let m = g.M.GuestMemory.memory c.args.mem.now (g.H.HostBlocks.host c.args.host.now) in
-    let q = at_position c.args.layout c.args.position in
-    let here = placed _ _ _ _ c.new.ensures.layout c.new.ensures.position in
-    let asks = asked (by_index q c.in_ok-index.index) (c.in-RingEntry.ensures.stage ∙ ap (λ x. stage_at (by_index x c.in_ok-index.index)) here) in
-    let lost = ap (λ a. reach m Read a 2) (sym c.entry_offset-offset.ensures.at) ∙ c.in_err-entry-in-RingEntry.ensures.unmapped.1 in
-    let may : (limit : ℕ) → IsTrue (may_lack_memory m q (on_next_avail m limit q (next_avail m q))) =
-    λ limit. lacks m q limit (c.args.layout.avail + c.entry_offset-offset.result) (asked_lost m q c.in_ok-index.index c.in_ok-index.ensures.bytes asks lost)
-    c.entry_offset-offset.ensures.at c.in_err-entry-in-RingEntry.ensures.unmapped in
-    on_err _ _ may
-
-pub returns-in_ok-entry-in-RingEntry-clause-told : goal.returns-in_ok-entry-in-RingEntry-clause-told
-returns-in_ok-entry-in-RingEntry-clause-told g c =
+pub returns-in-RingEntry-clause-told : goal.returns-in-RingEntry-clause-told
+returns-in-RingEntry-clause-told g c =
     let m = g.M.GuestMemory.memory c.args.mem.now (g.H.HostBlocks.host c.args.host.now) in
     let q = at_position c.args.layout c.args.position in
     let here = placed _ _ _ _ c.new.ensures.layout c.new.ensures.position in
     let there = placed _ _ _ _ c.in-RingEntry.ensures.same.0 c.in-RingEntry.ensures.same.1 ∙ here in
-    let asks = asked (by_index q c.in_ok-index.index) (c.in-RingEntry.ensures.stage ∙ ap (λ x. stage_at (by_index x c.in_ok-index.index)) here) in
+    let asks = asked (by_index q c.load_from_ring-index.result) (c.in-RingEntry.ensures.stage ∙ ap (λ x. stage_at (by_index x c.load_from_ring-index.result)) here) in
     let tells = subst (λ (x : Queue). (index : List ℕ) → length index ≡ 2 → asks_entry (by_index x (Some index)) ≡ true →
-    stage_of c.give-in-RingEntry.result ≡ Told (by_entry x (Some index) c.in_ok-entry-in-RingEntry.entry)) there c.give-in-RingEntry.ensures.tells in
-    asked_told m q c.in_ok-index.index c.in_ok-entry-in-RingEntry.entry _ c.in_ok-index.ensures.bytes
-    (c.in_ok-entry-in-RingEntry.ensures.bytes ∙ ap (λ a. if reach m Read a 2 then Some (bytes m a 2) else None) c.entry_offset-offset.ensures.at) asks tells
+    stage_of c.give-in-RingEntry.result ≡ Told (by_entry x (Some index) c.load_from_ring-entry.result)) there c.give-in-RingEntry.ensures.tells in
+    asked_told m q c.load_from_ring-index.result c.load_from_ring-entry.result _ c.load_from_ring-index.ensures
+    (c.load_from_ring-entry.ensures ∙ ap (λ a. if reach m Read a 2 then Some (bytes m a 2) else None) c.entry_offset-offset.ensures.at) asks tells
 
 pub returns-in_default : goal.returns-in_default
 returns-in_default g c =
     let m = g.M.GuestMemory.memory c.args.mem.now (g.H.HostBlocks.host c.args.host.now) in
     let q = at_position c.args.layout c.args.position in
     let here = placed _ _ _ _ c.new.ensures.layout c.new.ensures.position in
-    let still = ring_is_still m q c.in_ok-index.index (if reach m Read (ring_entry_at q) 2 then Some (bytes m (ring_entry_at q) 2) else None) c.in_ok-index.ensures.bytes refl in
+    let still = ring_is_still m q c.load_from_ring-index.result (if reach m Read (ring_entry_at q) 2 then Some (bytes m (ring_entry_at q) 2) else None) c.load_from_ring-index.ensures refl in
     record {
       told =
-          told_alone c.give.result (by_index q c.in_ok-index.index) (next_avail m q) c.in_default.not-RingEntry
-          (c.give.ensures.stage ∙ ap (λ x. stage_at (by_index x c.in_ok-index.index)) here) still.alone;
+          told_alone c.give.result (by_index q c.load_from_ring-index.result) (next_avail m q) c.in_default.not-RingEntry
+          (c.give.ensures.stage ∙ ap (λ x. stage_at (by_index x c.load_from_ring-index.result)) here) still.alone;
       chain = rw c.new.ensures.layout at c.give.ensures.chain;
       stops = c.give.ensures.stops;
-      memory = tt;
     }
