@@ -22,7 +22,7 @@ use Rattle.fs_device.specs.Step.{State, with_queue}
 use Rattle.fs_device.specs.Run as run
 use Rattle.fs_device.specs.Run.{Told, Command, Answer, Effect, Affects, ChangesTable, HasEffect, Does, IsDecided, Performs, LacksMemory, RunTold, effect}
 use Rattle.fs_device.specs.Run.{guest_read, guest_write, guest_written, make_block, insert, insert_block, remove_region, set_layout, is_known}
-use Rattle.fs_device.specs.Run.{has_len, some_overlap, reset, with_host, with_layout, with_ranges, region_fits, command_takes_memory, ends_fit, no}
+use Rattle.fs_device.specs.Run.{has_len, some_overlap, reset, with_host, with_layout, with_ranges, goes_in, block_goes_in, command_takes_memory, ends_fit, no}
 use Rattle.fs_confinement.specs.ReadSet.{places_for, Touched, nothing, guest_reads, guest_writes, plain_touches, command_touches, run_touches}
 use Rattle.fs_confinement.specs.Confinement.{zeroed, without_bytes, without_its_bytes, SameButBytes, AgreeOn, KeepDifference, copies, copies_nothing, AllowsToo}
 use Rattle.fs_confinement.proofs.HostLemmas.{bare, nothing_differs, keep_both, agree_front, agree_back, agree_later, stores_aside, stores_keep, block_keeps, block_aside}
@@ -64,11 +64,11 @@ known_kept h r = ap (has_len r.size) (slice_get-map zeroed h.blocks r.block) ∙
 long_alike : (b c : Block) → Some (zeroed b) ≡ Some (zeroed c) → length b.bytes ≡ length c.bytes
 long_alike b c is = sym (zeros_kept b.bytes) ∙ ap (λ (o : Option Block). unwrap_or (option_map (λ b. length b.bytes) o) 0) is ∙ zeros_kept c.bytes
 
-fits_alike : (base block : ℕ) (o p : Option Block) → option_map zeroed o ≡ option_map zeroed p → region_fits base block o ≡ region_fits base block p
-fits_alike base block None None is = refl
-fits_alike base block None (Some c) is = absurd (cc)
-fits_alike base block (Some b) None is = absurd (cc)
-fits_alike base block (Some b) (Some c) is = ap (λ (n : ℕ). fits (record { start = base; size = n; block = block })) (long_alike b c is)
+goes_alike : (layout : List Region) (base block : ℕ) (o p : Option Block) → option_map zeroed o ≡ option_map zeroed p → block_goes_in layout base block o ≡ block_goes_in layout base block p
+goes_alike layout base block None None is = refl
+goes_alike layout base block None (Some c) is = absurd (cc)
+goes_alike layout base block (Some b) None is = absurd (cc)
+goes_alike layout base block (Some b) (Some c) is = ap (λ (n : ℕ). goes_in layout (record { start = base; size = n; block = block })) (long_alike b c is)
 
 -- the addresses that are written
 zip_firsts : (as' bs : List ℕ) → length as' ≡ length bs → map (λ (w : ℕ × ℕ). w.0) (zip as' bs) ≡ as'
@@ -253,7 +253,7 @@ module _ {F : Type 0} (s : State F) (h : Host) (same : without_bytes s.memory.ho
 
   takes_alike : (command : Command) → command_takes_memory s command ≡ command_takes_memory (with_host s h) command
   takes_alike (run.GuestRead a n) = ap (λ (r : ℕ → ℕ → Bool). r a n) (reach_same Read)
-  takes_alike (run.InsertRegion base block) = fits_alike base block _ _ (there_alike block)
+  takes_alike (run.InsertRegion base block) = goes_alike s.memory.layout base block _ _ (there_alike block)
   takes_alike _ = refl
 
   lack_follows : (command : Command) (told : Told) (after : State F) → LacksMemory s command told after → Follows (λ end. LacksMemory (with_host s h) command told end) s h after []

@@ -1,13 +1,13 @@
 -- a step over a host that differs outside of what it reads
-use Rattle.std.proofs.Common.{◌≡◌, ℕ, zero, suc, Bool, not, List, [], ◌∷◌, ◌++◌, length, map, Option, Some, None, refl, ap, sym, ◌∙◌, subst}
+use Rattle.std.proofs.Common.{◌≡◌, ℕ, zero, suc, Bool, List, [], ◌∷◌, ◌++◌, length, map, Option, Some, None, refl, ap, sym, ◌∙◌, subst}
 use Rattle.std.specs.Prelude.{IsTrue, slice_get}
 use Rattle.vm_iotlb.specs.declared.permissions.Permissions.TheVariants.{Read, Write}
 use Rattle.vm_memory_core.specs.Host.{Host, Place}
-use Rattle.vm_memory.specs.Memory.{Memory, addresses, is_mapped}
+use Rattle.vm_memory.specs.Memory.{Memory, addresses}
 use Rattle.fs_queue.specs.declared.fault.QueueError.TheVariants as stop
-use Rattle.fs_queue.specs.Queue.{Queue, avail_index_at, ring_entry_at}
+use Rattle.fs_queue.specs.Queue.{Queue}
 use Rattle.fs_queue.specs.Returning.{writes, wants_notice}
-use Rattle.fs_queue.specs.Taking.{Offer, IsRequest, CannotFetch, Refuses, Offers, offer, may_lack_memory, after_refusal}
+use Rattle.fs_queue.specs.Taking.{Offer, IsRequest, CannotFetch, Refuses, Offers, offer, after_refusal}
 use Rattle.fs_queue.specs.Taking as taking
 use Rattle.virtiofsd_fuse.specs.Serving.{May}
 use Rattle.fs_device.specs.declared.error.DeviceError.{DeviceError}
@@ -34,11 +34,6 @@ same_rest {F} s t same = ap (λ (k : State F). with_host k t.memory.host) same
 -- so what can be done over another host can be done from it
 pub over_host : {F : Type 0} (s t : State F) (P : State F → Type 0) → SameButBytes s t → ((h : Host) → h ≡ t.memory.host → without_bytes s.memory.host ≡ without_bytes h → P (with_host s h)) → P t
 over_host {F} s t P same each = subst P (same_rest s t same) (each t.memory.host refl (ap (λ (k : State F). k.memory.host) same))
-
-lacks_alike : (m : Memory) (h : Host) → without_bytes m.host ≡ without_bytes h → (q : Queue) (o : Offer) → may_lack_memory m q o ≡ may_lack_memory (record m { host = h }) q o
-lacks_alike m h same q (Refuses stop.AvailIndexUnreachable) = ap (λ (k : Host). not (is_mapped (record m { host = k }) Read (avail_index_at q) 2)) same
-lacks_alike m h same q (Refuses stop.RingEntryUnreachable) = ap (λ (k : Host). not (is_mapped (record m { host = k }) Read (ring_entry_at q) 2)) same
-lacks_alike m h same q _ = refl
 
 -- memories that differ in bytes alone want the same notices, if they agree on the flags
 notices_same : (m n : Memory) → bare m ≡ bare n → (q : Queue) → AgreeOn m.host n.host (places_for m Read (addresses q.avail 2)) → wants_notice m q ≡ wants_notice n q
@@ -101,7 +96,7 @@ module _ {F : Type 0} (may : May F) (s : State F) (h : Host) (same : without_byt
   act_follows i q o calls (Exchanged x notice) after t agree = exchange_follows i q o calls x notice after t agree
   act_follows i q o calls (Refused device.NoSuchQueue) after t agree = absurd t
   act_follows i q o calls (Refused (device.Queue stop.OutOfMemory)) after t agree =
-      stays s h same _ after t.1.same (subst IsTrue (lacks_alike s.memory h same q o) t.0, record { same = refl; no_call = t.1.no_call })
+      stays s h same _ after t.1.same (t.0, record { same = refl; no_call = t.1.no_call })
   act_follows i q o calls (Refused (device.Queue e)) after t agree =
       let stopped = with_queue s i (after_refusal q e) in record {
         end = with_host stopped h;

@@ -1,5 +1,5 @@
 -- kicks end, or go on by one exchange
-use Rattle.std.proofs.Common.{◌≡◌, ℕ, Bool, true, zero, suc, ◌<◌, ◌&&◌, nat_lt, ◌++◌, List, [], ◌∷◌, append_assoc, append-nil, arith, sym, refl, ap, subst, Option, Some, None, length, set}
+use Rattle.std.proofs.Common.{◌≡◌, ℕ, Bool, true, false, zero, suc, ◌<◌, ◌&&◌, nat_lt, ◌++◌, List, [], ◌∷◌, append_assoc, append-nil, arith, sym, refl, ap, subst, Option, Some, None, length, set}
 use Rattle.std.specs.Prelude.{slice_get}
 use Rattle.std.proofs.lemmas.Option.{slice_get-get_or}
 use Rattle.std.proofs.lemmas.Bool.Decides.{nat_tests}
@@ -10,9 +10,10 @@ use Rattle.virtiofsd_fuse.specs.Serving.{May}
 use Rattle.fs_device.specs.declared.error.DeviceError.{DeviceError}
 use Rattle.fs_device.specs.declared.error.DeviceError.TheVariants as device
 use Rattle.fs_device.specs.Step.{State, Exchange, Calls, Idle, Refused, Exchanged, StepOf, Step}
-use Rattle.fs_device.specs.Run.{Turn, KickRun, Done, reset}
+use Rattle.fs_device.specs.Run.{Turn, KickRun, Done, reset, is_open}
 use Rattle.fs_device.specs.CommandView.{KickLists}
-use Rattle.fs_device.proofs.StepLemmas.{Fixed, state}
+use Rattle.fs_queue.specs.Taking.{Refuses, offer}
+use Rattle.fs_device.proofs.StepLemmas.{Fixed, state, refuses, unchanged}
 use Rattle.vm_memory_core.proofs.Stores.{changed_at-set}
 
 -- a step that is idle makes no call
@@ -73,9 +74,23 @@ goes_on may s mid next i most (suc left) more done x calls goes some step rest r
     subst (λ (xs : List (Exchange × Bool)). KickLists may s i most xs refused after) (sym (append_assoc done (x ∷ []) rest))
     (goes (x ∷ rest) refused after (turn ∷ told, (next, step, subst (λ (n : ℕ). KickRun may next i n told refused after) same run), ap (λ (xs : List (Exchange × Bool)). x ∷ xs) is))
 
--- a kick of a queue that is there, for some exchanges, takes memory
-pub room_wanted : (i n most : ℕ) → i < n → 0 < most → (nat_lt i n && nat_lt 0 most) ≡ true
-room_wanted i n most there some = grind (arith, nat_tests)
+-- a kick of a queue that is there and isn't stopped, for some exchanges, takes memory
+pub room_wanted : (o : Option Queue) (q : Queue) (most : ℕ) → o ≡ Some q → q.stopped ≡ false → 0 < most → (is_open o && nat_lt 0 most) ≡ true
+room_wanted o q most there runs some = rw (there, runs) (grind (arith, nat_tests))
+
+-- a kick of a stopped queue, for some exchanges, ends at once
+pub ends_stopped : {F : Type 0} (may : May F) (s : State F) (i most : ℕ) (q : Queue) → slice_get s.queues i ≡ Some q → q.stopped ≡ true → 0 < most →
+    KickLists may s i most [] (Some (device.Queue stop.Stopped)) s
+unfolding KickRun offer
+ends_stopped may s i zero q there stopped some = absurd (omega arith)
+ends_stopped {F} may s i (suc most) q there stopped some =
+    let f : Fixed = record { limit = s.limit; page_size = s.page_size } in
+    let offered : offer s.memory s.limit q ≡ Refuses stop.Stopped = rw stopped refl in (
+      [],
+      subst (λ (t : State F). Step may s i [] (Refused (device.Queue stop.Stopped)) t) (unchanged f s.memory s.queues i q q (s.options, s.files) there refl)
+          (refuses may f s.memory s.queues i q q (s.options, s.files) stop.Stopped there offered refl),
+      refl,
+    )
 
 -- a queue that is there begins anew
 pub reset_there : {F : Type 0} (f : Fixed) (m : Memory) (queues : List Queue) (s : ℕ × F) (i : ℕ) (anew : Queue) → i < length queues →

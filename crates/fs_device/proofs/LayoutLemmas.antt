@@ -3,19 +3,22 @@ use Rattle.std.proofs.Common.{◌≡◌, ℕ, zero, suc, Bool, true, false, ◌+
 use Rattle.std.specs.declared.alloc.AllocError.{AllocError}
 use Rattle.std.specs.Result.{IfOk, OnErr}
 use Rattle.std.proofs.lemmas.List.{map-append}
-use Rattle.std.specs.Prelude.{option_map, Result, Ok, Err, replicate, ◌==◌, ◌||◌, not, nat_lt, cond, find, slice_get, slice_index_or, if◌then◌else◌}
+use Rattle.std.specs.Prelude.{option_map, IsSome, IsTrue, Result, Ok, Err, replicate, ◌==◌, ◌||◌, not, nat_lt, cond, find, slice_get, slice_index_or, if◌then◌else◌}
 use Rattle.std.specs.List.{list_all, list_any}
 use Rattle.std.proofs.lemmas.Bool.{eqb-true, and_parts}
 use Rattle.std.proofs.lemmas.Bool.Decides.{nat_tests}
 use Rattle.vm_memory_core.specs.Host.{Block, Host, lengths, with_block}
-use Rattle.vm_memory.specs.Layout.{Region, fits, with_region, is_region, without_region, IsLayout, AreHeld}
+use Rattle.vm_memory.specs.Collecting.{Removes}
+use Rattle.vm_memory.specs.declared.error.GuestRegionCollectionError.{GuestRegionCollectionError}
+use Rattle.vm_memory.specs.declared.error.GuestRegionCollectionError.TheVariants as fault
+use Rattle.vm_memory.specs.Layout.{Region, fits, overlap, with_region, is_region, without_region, IsLayout, AreHeld}
 use Rattle.vm_bitmaps.specs.Pages.{pages_of}
 use Rattle.vm_memory_core.specs.Host.{page_count}
 use Rattle.vm_memory.specs.Layout.{Backing}
 use Rattle.vm_memory.specs.Making.{backing_at, region_over}
 use Rattle.fs_device.specs.declared.refusal.Refusal.TheVariants as why
 use Rattle.fs_device.specs.Step.{State}
-use Rattle.fs_device.specs.Run.{is_known, has_len, some_overlap, insert_block, insert, no}
+use Rattle.fs_device.specs.Run.{is_known, has_len, some_overlap, goes_in, block_goes_in, insert_block, insert, no}
 use Rattle.vm_memory.proofs.ChangeLemmas.{above_all}
 use Rattle.vm_memory.proofs.LayoutLemmas.{HasBlock}
 
@@ -81,6 +84,24 @@ found_none p (y ∷ l) e =
       | true ↦ λ here. absurd (cc)
       | false ↦ λ more. found_none p l more
     ] e
+
+found_some : {X : Type 0} (p : X → Bool) (l : List X) → IsSome (find p l) → list_any p l ≡ true
+found_some p [] e = absurd (cc)
+found_some p (y ∷ l) e =
+    elim (p y) as (λ b. IsSome (if b then Some y else find p l) → (b || list_any p l) ≡ true) [
+      | true ↦ λ here. refl
+      | false ↦ λ more. found_some p l more
+    ] e
+
+-- a region that isn't taken out is there unless the layout has none
+pub lacks_room : (base size : ℕ) (l : List Region) (e : GuestRegionCollectionError) → (e ≡ fault.NoMemoryRegion → ⊥) → Removes base size l (Err e) → IsTrue (list_any (is_region base size) l)
+lacks_room base size l fault.NoMemoryRegion other is = absurd (other refl)
+lacks_room base size l fault.MemoryRegionOverlap other is = absurd is
+lacks_room base size l fault.UnsortedMemoryRegions other is = absurd is
+lacks_room base size l fault.OutOfMemory other is = found_some (is_region base size) l is
+
+pub has_none : (base size : ℕ) (l : List Region) (e : GuestRegionCollectionError) → e ≡ fault.NoMemoryRegion → Removes base size l (Err e) → list_any (is_region base size) l ≡ false
+has_none base size l e none is = found_none (is_region base size) l (subst (λ (k : GuestRegionCollectionError). Removes base size l (Err k)) none is)
 
 -- ---- known blocks
 
@@ -167,6 +188,21 @@ within base m r e =
       | true ↦ λ some. (refl, cc)
       | false ↦ λ some. absurd (cc)
     ] e
+
+goes_of : (layout : List Region) (base block : ℕ) (m : Backing) (o : Option Block) → Some m ≡ option_map (with_number block) o → block_goes_in layout base block o ≡ goes_in layout (over base m)
+goes_of layout base block m None e = absurd (cc)
+goes_of layout base block m (Some b) e =
+    let same : with_number block b ≡ m = cc in
+    ap (λ (k : Backing). goes_in layout (over base k)) same
+
+-- it may be there too
+pub goes : (h : Host) (layout : List Region) (base block : ℕ) (m : Backing) (r : Region) → Some m ≡ backing_at h block → Some r ≡ region_over m base → list_any (overlap r) layout ≡ false →
+    IsTrue (block_goes_in layout base block (slice_get h.blocks block))
+goes h layout base block m r there made apart =
+    let is = within base m r made in
+    let alone : list_any (overlap (over base m)) layout ≡ false = subst (λ (k : Region). list_any (overlap k) layout ≡ false) (sym is.1) apart in
+    let enters : goes_in layout (over base m) ≡ true = rw (is.0, alone) refl in
+    goes_of layout base block m (slice_get h.blocks block) there ∙ enters
 
 has_in : (blocks : List Block) (block : ℕ) (m : Backing) (o : Option Block) → slice_get blocks block ≡ o → Some m ≡ option_map (with_number block) o →
     (m.block < length (lengths_in blocks)) × (slice_index_or (lengths_in blocks) m.block 0 ≡ m.size)

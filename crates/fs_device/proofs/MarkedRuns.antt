@@ -11,11 +11,11 @@ use Rattle.vm_iotlb.specs.Table.{Table, mapped, unmapped, nothing_mapped}
 use Rattle.vm_memory_core.specs.Host.{Host, Block, unmarked, cleared, with_block, new_block}
 use Rattle.vm_memory_core.specs.Lending.{with_table_at}
 use Rattle.vm_memory.specs.Layout.{Region, fits, overlap, is_region, with_region, without_region}
-use Rattle.vm_memory.specs.Memory.{Memory, addresses, is_mapped, reach, physical, table_in, table_of}
+use Rattle.vm_memory.specs.Memory.{Memory, addresses, reach, physical, table_in, table_of}
 use Rattle.fs_queue.specs.declared.fault.QueueError.TheVariants as stop
-use Rattle.fs_queue.specs.Queue.{Queue, fresh, avail_index_at, ring_entry_at}
+use Rattle.fs_queue.specs.Queue.{Queue, fresh}
 use Rattle.fs_queue.specs.Returning.{writes}
-use Rattle.fs_queue.specs.Taking.{Offer, IsRequest, CannotFetch, Refuses, Offers, offer, may_lack_memory, after_refusal}
+use Rattle.fs_queue.specs.Taking.{Offer, IsRequest, CannotFetch, Refuses, Offers, offer, after_refusal}
 use Rattle.fs_queue.specs.Taking as taking
 use Rattle.virtiofsd_fuse.specs.Serving.{May}
 use Rattle.fs_device.specs.declared.error.DeviceError.{DeviceError}
@@ -25,7 +25,7 @@ use Rattle.fs_device.specs.declared.refusal.Refusal.TheVariants as why
 use Rattle.fs_device.specs.Step.{State, Exchange, Calls, Outcome, Idle, Refused, Exchanged, Exchanges, Acts, StepOf, Step, Returns, after_return, faulty, served_exchange, with_queue}
 use Rattle.fs_device.specs.Run as run
 use Rattle.fs_device.specs.Run.{Told, Command, Answer, Effect, KickEnds, KickRun, Kicks, Kicked, Affects, ChangesTable, HasEffect, Does, IsDecided, Performs, LacksMemory, RunTold, effect}
-use Rattle.fs_device.specs.Run.{guest_read, guest_write, make_block, insert, insert_block, remove_region, set_layout, is_known, has_len, some_overlap, reset, with_host, with_layout, with_ranges, region_fits, command_takes_memory, ends_fit, no}
+use Rattle.fs_device.specs.Run.{guest_read, guest_write, make_block, insert, insert_block, remove_region, set_layout, is_known, has_len, some_overlap, reset, with_host, with_layout, with_ranges, goes_in, block_goes_in, command_takes_memory, ends_fit, no}
 use Rattle.fs_device.specs.Marks.{without_marks, without_its_marks, SameButMarks, SameAnswer, SameEvents}
 use Rattle.fs_device.proofs.MarkLemmas.{unmarked_memory, stores_aside, bytes_same, offers_same, notices_same}
 
@@ -42,11 +42,6 @@ over_host : {F : Type 0} (s t : State F) (P : State F → Type 0) → SameButMar
 over_host {F} s t P same each = subst P (same_rest s t same) (each t.memory.host (ap (λ (k : State F). k.memory.host) same))
 
 -- ---- steps
-
-lacks_alike : (m : Memory) (h : Host) → without_marks m.host ≡ without_marks h → (q : Queue) (o : Offer) → may_lack_memory m q o ≡ may_lack_memory (record m { host = h }) q o
-lacks_alike m h same q (Refuses stop.AvailIndexUnreachable) = ap (λ (k : Host). not (is_mapped (record m { host = k }) Read (avail_index_at q) 2)) same
-lacks_alike m h same q (Refuses stop.RingEntryUnreachable) = ap (λ (k : Host). not (is_mapped (record m { host = k }) Read (ring_entry_at q) 2)) same
-lacks_alike m h same q _ = refl
 
 module _ {F : Type 0} (s : State F) (h : Host) (same : without_marks s.memory.host ≡ without_marks h) where
   same_state : SameButMarks s (with_host s h)
@@ -97,7 +92,7 @@ module _ {F : Type 0} (may : May F) (s : State F) (h : Host) (same : without_mar
   act_alike i q o calls (Exchanged x notice) after t = exchange_alike i q o calls x notice after t
   act_alike i q o calls (Refused device.NoSuchQueue) after t = absurd t
   act_alike i q o calls (Refused (device.Queue stop.OutOfMemory)) after t =
-      (with_host s h, (subst IsTrue (lacks_alike s.memory h same q o) t.0, record { same = refl; no_call = t.1.no_call }), unchanged_alike s h same after t.1.same)
+      (with_host s h, (t.0, record { same = refl; no_call = t.1.no_call }), unchanged_alike s h same after t.1.same)
   act_alike i q o calls (Refused (device.Queue e)) after t =
       let stopped = with_queue s i (after_refusal q e) in (with_host stopped h, (t.0, t.1, refl), ap without_its_marks t.2 ∙ ap (with_host stopped) same)
 
@@ -272,16 +267,16 @@ same_answer _ = refl
 answered_so : {F : Type 0} (Can : Answer → State F → Type 0) (answer : Answer) (after : State F) → Matched (Can answer) after → AnsweredAlike Can answer after
 answered_so Can answer after m = (answer, m.0, same_answer answer, m.1, m.2)
 
-fits_alike : (base block : ℕ) (o p : Option Block) → option_map unmarked o ≡ option_map unmarked p → region_fits base block o ≡ region_fits base block p
-fits_alike base block None None is = refl
-fits_alike base block None (Some c) is = absurd (cc)
-fits_alike base block (Some b) None is = absurd (cc)
-fits_alike base block (Some b) (Some c) is =
-    ap (λ (n : ℕ). fits (record { start = base; size = n; block = block })) (ap (λ (o : Option Block). unwrap_or (option_map (λ b. length b.bytes) o) 0) is)
+goes_alike : (layout : List Region) (base block : ℕ) (o p : Option Block) → option_map unmarked o ≡ option_map unmarked p → block_goes_in layout base block o ≡ block_goes_in layout base block p
+goes_alike layout base block None None is = refl
+goes_alike layout base block None (Some c) is = absurd (cc)
+goes_alike layout base block (Some b) None is = absurd (cc)
+goes_alike layout base block (Some b) (Some c) is =
+    ap (λ (n : ℕ). goes_in layout (record { start = base; size = n; block = block })) (ap (λ (o : Option Block). unwrap_or (option_map (λ b. length b.bytes) o) 0) is)
 
 module _ {F : Type 0} (s : State F) (h : Host) (same : without_marks s.memory.host ≡ without_marks h) where
   takes_alike : (command : Command) → command_takes_memory s command ≡ command_takes_memory (with_host s h) command
-  takes_alike (run.InsertRegion base block) = fits_alike base block _ _ (there_alike s h same block)
+  takes_alike (run.InsertRegion base block) = goes_alike s.memory.layout base block _ _ (there_alike s h same block)
   takes_alike _ = refl
 
   change_alike : (fit : Bool) (table : Table) (answer : Answer) (after : State F) → ChangesTable s fit table answer after → Matched (λ end. ChangesTable (with_host s h) fit table answer end) after

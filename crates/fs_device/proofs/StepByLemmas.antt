@@ -195,7 +195,7 @@ module _ {F : Type 0} (may : May F) (s : State F) (i : ℕ) (e : Effects) (after
 
 by_queue : {F : Type 0} (may : May F) (s : State F) (i : ℕ) (l : StepLoads) (calls : Calls) (outcome : Outcome) (e : Effects) (after : State F) → IsOfMemory s i l e →
     (o : Option Queue) → slice_get s.queues i ≡ o → StepOfBy may s i o l calls outcome e after → StepOf may s i o calls outcome (at after (after_stores s.memory (stores_among e.acts)))
-by_queue may s i l calls outcome e after one None there (is, same, none) = (is, still may s i e after calls same none)
+by_queue may s i l calls outcome e after one None there (is, same, none, loaded) = (is, still may s i e after calls same none)
 by_queue may s i l calls outcome e after one (Some q) there (offered, is, acts) =
     let meant : offered ≡ offer s.memory s.limit q = offer_is_still s.memory s.limit q l.index l.entry l.entries l.request offered (one.loads q there) is in
     subst (λ (o : Offer). Acts may s i q o calls outcome (at after (after_stores s.memory (stores_among e.acts)))) meant
@@ -326,7 +326,7 @@ missing_by {F} may s i calls outcome after missing is same =
       };
       memory = ap (λ (t : State F). t.memory) same.same;
       step = subst (λ (o : Option Queue). StepOfBy may s i o l calls outcome e (at after s.memory)) (sym missing)
-          (is, record { same = ap (λ (t : State F). at t s.memory) same.same; no_call = same.no_call }, refl);
+          (is, record { same = ap (λ (t : State F). at t s.memory) same.same; no_call = same.no_call }, refl, refl);
     }
 
 by_found : {F : Type 0} (may : May F) (s : State F) (i : ℕ) (calls : Calls) (outcome : Outcome) (after : State F) (o : Option Queue) → slice_get s.queues i ≡ o →

@@ -69,7 +69,7 @@ idles may f m queues i q q' s there idle same = on_queue may (state f m queues s
 pub lacks : {F : Type 0} (may : May F) (before after : State F) (i : ℕ) (q : Queue) (head : ℕ) (fetched : RequestAndRoom) → slice_get before.queues i ≡ Some q → offer before.memory before.limit q ≡ Offers head fetched →
     after ≡ before → Step may before i [] (Refused (device.Queue stop.OutOfMemory)) after
 lacks may before after i q head fetched there offered same =
-    on_queue may before i q [] (Refused (device.Queue stop.OutOfMemory)) after there (ap (may_lack_memory before.memory q) offered, record { same = same; no_call = refl })
+    on_queue may before i q [] (Refused (device.Queue stop.OutOfMemory)) after there (ap may_lack_memory offered, record { same = same; no_call = refl })
 
 refused : {F : Type 0} (may : May F) (f : Fixed) (m : Memory) (queues : List Queue) (i : ℕ) (q q' : Queue) (s : ℕ × F) (e : QueueError) → Takes m f.limit q (Err e) → slice_get queues i ≡ Some q →
     q' ≡ after_refusal q e → Acts may (state f m queues s) i q (offer m f.limit q) [] (Refused (device.Queue e)) (state f m (set queues i q') s)

@@ -1,16 +1,23 @@
 -- A step told by loads and stores, worked out: a request of an opcode that no request has, with a room of 16 bytes.
-use Rattle.std.specs.Prelude.{◌≡◌, ℕ, List, [], ◌∷◌, ◌++◌, Option, Some, None, refl}
+use Rattle.std.specs.Prelude.{◌≡◌, ℕ, true, List, [], ◌∷◌, ◌++◌, Option, Some, None, refl}
+use Rattle.std.proofs.Common.{inl}
 use Rattle.vm_memory.specs.Layout.{place}
 use Rattle.vm_memory.specs.Memory.{addresses, stored_all}
 use Rattle.fs_queue.specs.declared.fault.ChainFault.TheVariants as chain_fault
 use Rattle.fs_queue.specs.declared.fault.QueueError.TheVariants as queue_error
-use Rattle.fs_queue.specs.Taking.{Offers, Refuses, IsRequest, CannotFetch}
+use Rattle.fs_queue.specs.Taking.{Idle, Offers, Refuses, IsRequest, CannotFetch}
 use Rattle.fs_queue.specs.Loads.{Load, found_exactly}
-use Rattle.fs_queue.specs.Returning.{Store}
+use Rattle.fs_queue.specs.Queue.{with_stop}
+use Rattle.fs_queue.specs.Returning.{Store, advanced}
 use Rattle.server_replies.specs.WholeReplies.{error_bytes}
 use Rattle.virtiofsd_fuse.specs.Examples.{le16, le32}
-use Rattle.fs_device.specs.Examples.{blank, descriptor_bytes, queue, request}
-use Rattle.fs_device.specs.StepBy.{StepLoads, offered_by, byte_store, return_stores, Stores, LoadsFlags, return_acts, FindFlags}
+use Rattle.vm_values.specs.Fields as fields
+use Rattle.server_requests.specs.Reading.{reading_of}
+use Rattle.virtiofsd_fuse.specs.Grammar.{meaning, meant}
+use Rattle.fs_device.specs.declared.error.DeviceError.TheVariants as device_error
+use Rattle.fs_device.specs.Step.{Exchanged, Refused}
+use Rattle.fs_device.specs.Examples.{blank, descriptor_bytes, device, may, queue, request, unknown_exchange, unknown_reply}
+use Rattle.fs_device.specs.StepBy.{StepBy, StepLoads, Effects, offered_by, byte_store, return_stores, Stores, LoadsFlags, return_acts, FindFlags, MayStoreLast, return_addresses, stores_among}
 
 -- an entry of the table at 0
 abbrev entry : (index : ℕ) → List ℕ → Load
@@ -58,3 +65,47 @@ flags_behind = refl
 flags_as_stored : FindFlags blank queue (LoadsFlags (le16 0) ∷ Stores (record { address = 0x100; bytes = le16 1 }) ∷ LoadsFlags (le16 1) ∷ [])
 unfolding place addresses stored_all
 flags_as_stored = (refl, (refl, tt))
+
+-- a load of the flags is no store
+stores_alone : stores_among (LoadsFlags (le16 0) ∷ Stores (byte_store (0x2000, 7)) ∷ LoadsFlags (le16 1) ∷ Stores (byte_store (0x2001, 8)) ∷ []) ≡ byte_store (0x2000, 7) ∷ byte_store (0x2001, 8) ∷ []
+stores_alone = refl
+
+-- a chain that goes back is stored in its room, and then in the used element and the used index
+return_with_room : return_addresses queue (Offers 0 (IsRequest [] (0x2000 ∷ 0x2001 ∷ []))) ≡ 0x2000 ∷ 0x2001 ∷ 0x204 ∷ 0x205 ∷ 0x206 ∷ 0x207 ∷ 0x208 ∷ 0x209 ∷ 0x20a ∷ 0x20b ∷ 0x202 ∷ 0x203 ∷ []
+unfolding addresses
+return_with_room = refl
+
+-- a faulty one has no room
+return_without_room : return_addresses queue (Offers 0 (CannotFetch chain_fault.TooLong)) ≡ 0x204 ∷ 0x205 ∷ 0x206 ∷ 0x207 ∷ 0x208 ∷ 0x209 ∷ 0x20a ∷ 0x20b ∷ 0x202 ∷ 0x203 ∷ []
+unfolding addresses
+return_without_room = refl
+
+-- nothing goes back where nothing waits
+nothing_goes_back : return_addresses queue Idle ≡ []
+nothing_goes_back = refl
+
+-- a room that has a byte twice may be stored over as long as none of its first bytes is stored last
+none_last : MayStoreLast blank (0x2000 ∷ 0x2000 ∷ []) 0
+none_last = inl refl
+
+-- a whole step by these loads: the reply to the unknown request, the element and the index are stored, and then the flags say that the driver is told
+abbrev stored_in_order : Effects
+stored_in_order = record { acts = return_acts (return_stores queue 0 (addresses 0x2000 16) unknown_reply 0) (le16 0); last = 0 }
+
+step_by_loads : StepBy may (device blank queue) 0 loads [] (Exchanged unknown_exchange true) stored_in_order (record (device blank queue) { queues = advanced queue ∷ [] })
+unfolding place addresses stored_all found_exactly meaning reading_of meant error_bytes fields.field_bytes
+step_by_loads = (
+  Offers 0 (IsRequest request (addresses 0x2000 16)),
+  offered,
+  record {
+    given = record { calls = []; options = 0; reply = unknown_reply; fault = None };
+    serves = record { gives = refl; asks = refl; run = refl };
+    returns = record { exchange = refl; flags = le16 0; flags_len = refl; acts = refl; state = refl; told = refl };
+  },
+)
+
+-- one that is refused stores nothing and loads no flags
+step_stops : StepBy may (device blank queue) 0 (record { index = Some (le16 5); entry = None; entries = []; request = [] }) [] (Refused (device_error.Queue queue_error.AvailTooFar))
+    (record { acts = []; last = 0 }) (device blank (with_stop queue))
+unfolding place addresses stored_all found_exactly
+step_stops = (Refuses queue_error.AvailTooFar, too_far, (refl, refl, refl, refl))

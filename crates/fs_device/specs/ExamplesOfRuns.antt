@@ -34,7 +34,7 @@ use Rattle.fs_device.specs.declared.refusal.Refusal.TheVariants as why
 use Rattle.fs_device.specs.Step.{State, Exchange, Exchanged, Step, after_return}
 use Rattle.vm_copies.specs.Harvested.{block_pages, host_pages, harvested}
 use Rattle.fs_device.specs.Run as run
-use Rattle.fs_device.specs.Run.{Command, Answer, Turn, Affects, Run, RunTold, KickRun, effect, with_ranges}
+use Rattle.fs_device.specs.Run.{Command, Answer, Turn, Affects, Run, RunTold, KickRun, command_takes_memory, effect, with_ranges}
 use Rattle.fs_device.specs.Marks.{SameButMarks, SameEvents}
 use Rattle.fs_device.specs.Books.{answered, sent, written, accepted, nodes_listed}
 use Rattle.fs_device.specs.Examples.{blank, queue, put, descriptor_bytes, request, with_one_request, Nothing, may, device, unknown_reply, unknown_exchange, after_reply, one_step}
@@ -86,6 +86,10 @@ kick_lacks_memory : Run may (device with_one_request queue)
     (after_reply with_one_request queue)
 unfolding RunTold KickRun
 kick_lacks_memory = ([] ∷ (unknown_turn ∷ []) ∷ [], (device with_one_request queue, (refl, refl), (after_reply with_one_request queue, ((after_reply with_one_request queue, one_step, refl), refl), refl)))
+
+-- of a stopped queue it takes no memory
+stopped_takes_none : command_takes_memory (device far (with_stop queue)) (run.Kick 0 9) ≡ false
+stopped_takes_none = refl
 
 -- no more than was asked for, where two wait
 abbrev two_wait : Memory
@@ -358,13 +362,15 @@ inserts_nothing_past_it : answers small (run.NewBlock 2 ∷ []) (run.InsertRegio
 unfolding effect
 inserts_nothing_past_it = refl
 
--- a command that is refused anyway takes no memory: no place, an empty block, no such block, and ends past the greatest address
-takes_none_to_refuse : map (run.command_takes_memory small) (run.GuestRead 32 1 ∷ run.NewBlock 0 ∷ run.InsertRegion 0x20000 7 ∷ run.InsertRegion (2 ^ 64 - 31) 0 ∷ run.Unmap (2 ^ 64 - 1) 1 ∷ []) ≡ false ∷ false ∷ false ∷ false ∷ false ∷ []
+-- a command that is refused anyway takes no memory: no place, an empty block, no such block, ends past the greatest address, a second place,
+-- and no region of this base, nor of this size
+takes_none_to_refuse : map (run.command_takes_memory small) (run.GuestRead 32 1 ∷ run.NewBlock 0 ∷ run.InsertRegion 0x20000 7 ∷ run.InsertRegion (2 ^ 64 - 31) 0 ∷ run.Unmap (2 ^ 64 - 1) 1
+    ∷ run.InsertRegion 31 0 ∷ run.RemoveRegion 1 32 ∷ run.RemoveRegion 0 31 ∷ []) ≡ false ∷ false ∷ false ∷ false ∷ false ∷ false ∷ false ∷ false ∷ []
 unfolding place addresses
 takes_none_to_refuse = refl
 
 -- the same commands take some where they may be done
-takes_some_to_do : map (run.command_takes_memory small) (run.GuestRead 31 1 ∷ run.NewBlock 1 ∷ run.InsertRegion (2 ^ 64 - 32) 0 ∷ run.Unmap (2 ^ 64 - 2) 1 ∷ []) ≡ true ∷ true ∷ true ∷ true ∷ []
+takes_some_to_do : map (run.command_takes_memory small) (run.GuestRead 31 1 ∷ run.NewBlock 1 ∷ run.InsertRegion (2 ^ 64 - 32) 0 ∷ run.Unmap (2 ^ 64 - 2) 1 ∷ run.InsertRegion 32 0 ∷ run.RemoveRegion 0 32 ∷ []) ≡ true ∷ true ∷ true ∷ true ∷ true ∷ true ∷ []
 unfolding place addresses
 takes_some_to_do = refl
 

@@ -1,11 +1,16 @@
 -- A step in its phases: a chain is taken into a place, its request is fetched and answered, and it is given back.
-use Rattle.std.specs.Prelude.{◌≡◌, ℕ, Bool, true, false, List, [], Some, Result, Ok, Err, slice_get, MatchResult}
+use Rattle.std.specs.Prelude.{◌≡◌, ℕ, Bool, IsTrue, true, false, List, [], ◌∷◌, length, Some, Result, Ok, Err, slice_get, MatchResult}
 use Rattle.vm_memory_core.specs.Host.{Host}
 use Rattle.vm_memory.specs.Memory.{Memory}
 use Rattle.fs_queue.specs.Queue.{Queue}
 use Rattle.fs_queue.specs.Taking.{RequestAndRoom, Offers, offer, room_of}
 use Rattle.fs_queue.specs.Returning.{wants_notice}
-use Rattle.fs_queue.specs.Windows.{HoldsChain, IsEmpty, IsTaken, Taken}
+use Rattle.fs_queue.specs.declared.chain.Chain.{Chain}
+use Rattle.fs_queue.specs.declared.fault.ChainFault.{ChainFault}
+use Rattle.fs_queue.specs.Windows.{HoldsChain, IsEmpty, IsTaken, Taken, room_places}
+use Rattle.server_segments.specs.ReaderAndWriter.{ReaderView}
+use Rattle.fuse_fs.specs.Lengths.{filled}
+use Rattle.virtiofsd_fuse.specs.WantOfMemory.{may_take_memory}
 use Rattle.virtiofsd_fuse.specs.Serving.{May}
 use Rattle.fs_device.specs.declared.error.DeviceError.{DeviceError}
 use Rattle.fs_device.specs.Step.{State, Exchange, Idle, Refused, Calls, Step, after_return}
@@ -55,6 +60,19 @@ IsEmptyUnlessTaken (Err e) t = IsEmpty t
 -- these are the bytes of the request of a chain that was taken, in each memory of this host in which it was
 abbrev pub HoldsRequest : Host → Taken → (bytes : List ℕ) → Type 0
 HoldsRequest h t bytes = (m : Memory) (fetched : RequestAndRoom) → m.host ≡ h → HoldsChain m fetched t.chain → bytes ≡ request_of fetched
+
+-- a chain has no fault
+abbrev pub IsUnfaulty : Result Chain ChainFault → Type 0
+IsUnfaulty (Ok c) = Unit {0}
+IsUnfaulty (Err fault) = ⊥
+
+-- a request in one segment
+abbrev pub in_one_segment : List ℕ → ReaderView
+in_one_segment bytes = record { left = bytes; segments = filled (length bytes ∷ []); read = 0 }
+
+-- memory may be wanting to answer a chain that was taken: it has no fault, and the server may want some for its request
+abbrev pub MayLackToAnswer : (options : ℕ) → Taken → (bytes : List ℕ) → Type 0
+MayLackToAnswer options t bytes = IsUnfaulty t.chain × IsTrue (may_take_memory options (in_one_segment bytes) (room_places t.chain))
 
 -- the chain that was taken is served by this exchange, if these are the bytes of its request; a faulty chain makes no call
 abbrev pub ServesTaken : {F : Type 0} → May F → (page_size : ℕ) → ℕ × F → Taken → (bytes : List ℕ) → Exchange → ℕ × F → Type 0

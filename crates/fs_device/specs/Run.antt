@@ -244,16 +244,25 @@ Kicks may s i most (Some q) told k after = KickRun may s i most told k.refused a
 
 -- ---- runs
 
--- a kick makes room for its exchanges: none if its queue is missing or it is for none
+-- whether a queue is there and isn't stopped
+abbrev pub is_open : Option Queue → Bool
+is_open None = false
+is_open (Some q) = not q.stopped
+
+-- a kick makes room for its exchanges: none if its queue is missing or stopped, or if it is for none
 abbrev pub kick_takes_memory : {F : Type 0} → State F → (queue most : ℕ) → Bool
-kick_takes_memory s queue most = nat_lt queue (length s.queues) && nat_lt 0 most
+kick_takes_memory s queue most = is_open (slice_get s.queues queue) && nat_lt 0 most
 
--- whether a block is there, and the region from an address on that is all of it has a last address that fits
-abbrev pub region_fits : (base block : ℕ) → Option Block → Bool
-region_fits base block None = false
-region_fits base block (Some b) = fits (record { start = base; size = length b.bytes; block = block })
+-- whether a region may be there too: its last address fits, and no address gets a second place
+abbrev pub goes_in : List Region → Region → Bool
+goes_in layout r = fits r && not (list_any (overlap r) layout)
 
--- whether a command takes memory, and so may be refused since an allocation fails: a read, a block and a change of mappings only if they aren't refused anyway, a region only if its block is there and its last address fits
+-- whether a block is there, and the region from an address on that is all of it may be there too
+abbrev pub block_goes_in : List Region → (base block : ℕ) → Option Block → Bool
+block_goes_in layout base block None = false
+block_goes_in layout base block (Some b) = goes_in layout (record { start = base; size = length b.bytes; block = block })
+
+-- whether a command takes memory, and so may be refused since an allocation fails: a read, a block, a region more or less and a change of mappings only if they aren't refused anyway
 abbrev pub command_takes_memory : {F : Type 0} → State F → Command → Bool
 command_takes_memory s (GuestWrite a bs) = false
 command_takes_memory s (Map iova target n perm) = nat_lt 0 n && (ends_fit iova n && ends_fit target n)
@@ -265,8 +274,8 @@ command_takes_memory s (ResetQueue queue size desc avail used) = false
 command_takes_memory s (SetLayout layout) = false
 command_takes_memory s (GuestRead a n) = reach (physical s.memory) Read a n
 command_takes_memory s (NewBlock n) = nat_lt 0 n
-command_takes_memory s (InsertRegion base block) = region_fits base block (slice_get s.memory.host.blocks block)
-command_takes_memory s (RemoveRegion base size) = true
+command_takes_memory s (InsertRegion base block) = block_goes_in s.memory.layout base block (slice_get s.memory.host.blocks block)
+command_takes_memory s (RemoveRegion base size) = list_any (is_region base size) s.memory.layout
 command_takes_memory s Image = true
 command_takes_memory s Harvest = true
 

@@ -119,10 +119,10 @@ Exchanges may before i q (Offers head (IsRequest request room)) calls x notice a
 Exchanges may before i q taking.Idle calls x notice after = ⊥
 Exchanges may before i q (Refuses e) calls x notice after = ⊥
 
--- what may happen at an offer: a step may be refused since an allocation fails, and then nothing changes and no call is made
+-- what may happen at an offer: a step may be refused since an allocation fails, if a chain is offered, and then nothing changes and no call is made
 abbrev pub Acts : {F : Type 0} → May F → State F → ℕ → Queue → Offer → Calls → Outcome → State F → Type 0
 Acts may before i q offered calls Idle after = (offered ≡ taking.Idle) × Unchanged before calls after
-Acts may before i q offered calls (Refused (device.Queue stop.OutOfMemory)) after = IsTrue (may_lack_memory before.memory q offered) × Unchanged before calls after
+Acts may before i q offered calls (Refused (device.Queue stop.OutOfMemory)) after = IsTrue (may_lack_memory offered) × Unchanged before calls after
 Acts may before i q offered calls (Refused (device.Queue e)) after = (offered ≡ Refuses e) × (calls ≡ []) × (after ≡ with_queue before i (after_refusal q e))
 Acts may before i q offered calls (Refused device.NoSuchQueue) after = ⊥
 Acts may before i q offered calls (Exchanged x notice) after = Exchanges may before i q offered calls x notice after

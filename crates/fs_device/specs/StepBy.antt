@@ -104,15 +104,19 @@ ExchangesBy may before i q (Refuses error) calls x notice e after = ⊥
 abbrev pub ActsBy : {F : Type 0} → May F → State F → ℕ → Queue → Offer → Calls → Outcome → Effects → State F → Type 0
 ActsBy may before i q offered calls Idle e after = (offered ≡ taking.Idle) × Unchanged before calls after × DoesNothing e
 ActsBy may before i q offered calls (Refused (device.Queue stop.OutOfMemory)) e after =
-    IsTrue (may_lack_memory before.memory q offered) × Unchanged before calls after × DoesNothing e
+    IsTrue (may_lack_memory offered) × Unchanged before calls after × DoesNothing e
 ActsBy may before i q offered calls (Refused (device.Queue error)) e after =
     (offered ≡ Refuses error) × (calls ≡ []) × (after ≡ with_queue before i (after_refusal q error)) × DoesNothing e
 ActsBy may before i q offered calls (Refused device.NoSuchQueue) e after = ⊥
 ActsBy may before i q offered calls (Exchanged x notice) e after = ExchangesBy may before i q offered calls x notice e after
 
--- a step on a queue that may be missing: its loads say what is offered
+-- no load was made
+abbrev pub LoadsNothing : StepLoads → Type 0
+LoadsNothing l = l ≡ record { index = None; entry = None; entries = []; request = [] }
+
+-- a step on a queue that may be missing, for which nothing is loaded: its loads say what is offered
 abbrev pub StepOfBy : {F : Type 0} → May F → State F → ℕ → Option Queue → StepLoads → Calls → Outcome → Effects → State F → Type 0
-StepOfBy may before i None l calls outcome e after = (outcome ≡ Refused device.NoSuchQueue) × Unchanged before calls after × DoesNothing e
+StepOfBy may before i None l calls outcome e after = (outcome ≡ Refused device.NoSuchQueue) × Unchanged before calls after × DoesNothing e × LoadsNothing l
 StepOfBy may before i (Some q) l calls outcome e after =
     (o : Offer) × (offered_by before.memory before.limit q l ≡ Some o) × ActsBy may before i q o calls outcome e after
 

@@ -1,6 +1,6 @@
 //! A request that was fetched, before the server is asked.
 
-ghost use Rattle.std.specs.Prelude.{◌≡◌, [], IfOk};
+ghost use Rattle.std.specs.Prelude.{◌≡◌, [], IfOk, OnErr};
 ghost use Rattle.vm_memory_core.specs.Host.{lengths};
 ghost use Rattle.fs_queue.specs.Windows.{TakenLiesIn, room_places};
 
@@ -18,13 +18,14 @@ pub struct FetchedRequest {
     pub ghost unwritten: { room.written ≡ [] },
 }
 
-ghost use Rattle.fs_device.specs.Phases.{HoldsRequest};
+ghost use Rattle.fs_device.specs.Phases.{HoldsRequest, IsUnfaulty};
 
 // The bytes of a chain's request. A faulty chain has none, and takes no memory.
 #[inline(always)]
 fn fetch_bytes<H: HostBlocks>(alloc: Global, host: &H, taken: &Taken) -> Result<Vec<u8>, AllocError>
     requires { TakenLiesIn (lengths (H.host host.now)) taken.now }
-    ensures { IfOk result (λ bytes. HoldsRequest (H.host host.now) taken.now bytes.items) }
+    ensures holds { IfOk result (λ bytes. HoldsRequest (H.host host.now) taken.now bytes.items) }
+    ensures memory { OnErr result (IsUnfaulty taken.now.chain) }
 {
     match taken.chain() {
         Ok(chain) => host.fetch_windows(alloc, &chain.readable, chain.request_len()),
@@ -37,6 +38,7 @@ fn fetch_bytes<H: HostBlocks>(alloc: Global, host: &H, taken: &Taken) -> Result<
 fn make_room(alloc: Global, taken: &Taken) -> Result<Writer, AllocError>
     ensures unwritten { IfOk result (λ room. room.written ≡ []) }
     ensures counted { IfOk result (λ room. room.free ≡ room_places taken.now.chain) }
+    ensures memory { OnErr result (IsUnfaulty taken.now.chain) }
 {
     let chain = match taken.chain() {
         Ok(chain) => chain,
@@ -50,7 +52,7 @@ fn make_room(alloc: Global, taken: &Taken) -> Result<Writer, AllocError>
 
 impl FetchedRequest {
     /// Fetches the request of a chain that was taken, and makes room for its reply. AllocError if an allocation fails. A
-    /// faulty chain has no request and no room.
+    /// faulty chain has no request and no room, and takes no memory.
     #[inline(always)]
     pub fn of<H: HostBlocks>(
         alloc: Global,
@@ -60,6 +62,7 @@ impl FetchedRequest {
         requires { TakenLiesIn (lengths (H.host host.now)) taken.now }
         ensures bytes { IfOk result (λ request. HoldsRequest (H.host host.now) taken.now request.bytes.items) }
         ensures room { IfOk result (λ request. request.room.free ≡ room_places taken.now.chain) }
+        ensures memory { OnErr result (IsUnfaulty taken.now.chain) }
     {
         Ok(FetchedRequest {
             bytes: fetch_bytes(alloc, host, taken)?,

@@ -1,6 +1,8 @@
 //! What a machine does to its blocks and its layout.
 
-ghost use Rattle.std.specs.Prelude.{[]};
+ghost use Rattle.std.specs.Prelude.{◌≡◌, []};
+ghost use Rattle.std.specs.List.{list_any};
+ghost use Rattle.vm_memory.specs.Layout.{overlap};
 ghost use Rattle.fs_device.specs.Run.{Performs, NewBlock, InsertRegion, RemoveRegion, SetLayout};
 ghost use Rattle.fs_device.specs.CommandView.{answer_of};
 ghost use Rattle.fs_device.specs.MachineView.{machine_of};
@@ -11,8 +13,30 @@ use crate::refusal::Refusal;
 use fuse_fs::FileSystem;
 use std::alloc::Global;
 use std::sync::Arc;
-use vm_memory::{GuestMemoryMmap, GuestRegionCollectionError, GuestRegionMmap, Iommu, MmapRegion};
+use vm_memory::{
+    GuestMemoryBackend, GuestMemoryMmap, GuestMemoryRegion, GuestRegionCollectionError,
+    GuestRegionMmap, Iommu, MmapRegion,
+};
 use vm_memory_core::GuestAddress;
+
+// Whether two regions have an address in common.
+fn overlap(one: &GuestRegionMmap, other: &GuestRegionMmap) -> bool
+    ensures { result ≡ overlap one.now other.now }
+{
+    one.start_addr().0 <= other.last_addr().0 && other.start_addr().0 <= one.last_addr().0
+}
+
+// Whether a region has an address in common with one of a layout.
+fn overlaps_any(region: &GuestRegionMmap, layout: &GuestMemoryMmap) -> bool
+    ensures { result ≡ list_any (overlap region.now) layout.now }
+{
+    for other in layout.iter() {
+        if overlap(region, other) {
+            return true;
+        }
+    }
+    false
+}
 
 impl<F: FileSystem, I: Iommu + Drop> Machine<F, I> {
     pub(crate) fn new_block(&mut self, len: usize) -> Answer
@@ -36,17 +60,18 @@ impl<F: FileSystem, I: Iommu + Drop> Machine<F, I> {
         let Some(region) = GuestRegionMmap::new(region, GuestAddress(base)) else {
             return Answer::Refused(Refusal::BadRegion);
         };
+        if overlaps_any(&region, self.mem.get_backend()) {
+            return Answer::Refused(Refusal::Overlap);
+        }
         let Ok(region) = Arc::new(alloc, region) else {
             return Answer::Refused(Refusal::OutOfMemory);
         };
+        // It overlaps none, so it isn't refused but for want of memory.
         match self.mem.get_backend().insert_region(region) {
             Ok(layout) => {
                 self.mem.set_backend(layout);
                 Answer::Done
             }
-            Err(GuestRegionCollectionError::MemoryRegionOverlap) => Answer::Refused(
-                Refusal::Overlap,
-            ),
             Err(_) => Answer::Refused(Refusal::OutOfMemory),
         }
     }
@@ -63,8 +88,10 @@ impl<F: FileSystem, I: Iommu + Drop> Machine<F, I> {
                 self.mem.set_backend(layout);
                 Answer::Done
             }
-            Err(GuestRegionCollectionError::NoMemoryRegion) => Answer::Refused(Refusal::NoRegion),
-            Err(_) => Answer::Refused(Refusal::OutOfMemory),
+            Err(error) => match error {
+                GuestRegionCollectionError::NoMemoryRegion => Answer::Refused(Refusal::NoRegion),
+                _ => Answer::Refused(Refusal::OutOfMemory),
+            },
         }
     }
 

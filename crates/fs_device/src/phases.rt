@@ -9,7 +9,7 @@ ghost use Rattle.fs_queue.specs.Queue.{Queue};
 ghost use Rattle.fs_queue.specs.Returning.{advanced, put_back, tells_by};
 ghost use Rattle.fs_queue.specs.Windows.{HasItsWindows, IsEmpty, TakenLiesIn, room_places};
 ghost use Rattle.fs_device.specs.DeviceView.{exchange_of, state_of};
-ghost use Rattle.fs_device.specs.Phases.{GoesBack, IfTaken, IsEmptyUnlessTaken, IsTakenFrom, ServesBytes, ServesTaken, TakesOrEnds, TakesFrom};
+ghost use Rattle.fs_device.specs.Phases.{GoesBack, IfTaken, IsEmptyUnlessTaken, IsTakenFrom, MayLackToAnswer, ServesBytes, ServesTaken, TakesOrEnds, TakesFrom};
 
 use crate::device::Device;
 use crate::error::DeviceError;
@@ -77,7 +77,7 @@ impl<F: FileSystem> Device<F> {
     }
 
     /// Has the server answer a chain that was taken, by its request. Only memory that the server wants before it asks the
-    /// file system can be lacking (`AllocError`); then nothing changed.
+    /// file system can be lacking (`AllocError`), none for a faulty chain; then nothing changed.
     #[inline(always)]
     pub fn answer(
         &mut self,
@@ -92,6 +92,7 @@ impl<F: FileSystem> Device<F> {
             (exchange_of x) (self.new.options, self.new.files)) }
         ensures fits { IfOk result (λ x. length x.reply.items ≤ room_places taken.now.chain) }
         ensures lacks { OnErr result (self.new ≡ self.old) }
+        ensures memory { OnErr result (MayLackToAnswer self.old.options taken.now request.bytes.items) }
         ensures same { self.new ≡ record self.old { options = self.new.options; files = self.new.files } }
     {
         serve(alloc, &mut self.server, taken, request)

@@ -60,7 +60,7 @@ ghost use Rattle.fs_device.specs.CommandView.{ServesQueue};
 
 impl<F: FileSystem> Device<F> {
     /// Serves the next chains of a queue, by its number from 0, one after another, until `most` are done, none waits or a
-    /// step is refused, which `QueueRun` tells. `NoSuchQueue` comes first, whatever memory there is;
+    /// step is refused, which `QueueRun` tells. `NoSuchQueue` comes first, whatever memory there is, and a stopped queue needs none;
     /// `QueueError::OutOfMemory` if there is no memory for a list of `most` exchanges, and then nothing was done.
     #[tactic(auto, using(crate::proofs::KickLemmas::room_wanted))]
     pub fn process_queue<M: GuestMemory, H: HostBlocks>(
@@ -79,6 +79,10 @@ impl<F: FileSystem> Device<F> {
     {
         if queue >= self.queues.len() {
             return Err(DeviceError::NoSuchQueue);
+        }
+        if self.queues[queue].is_stopped() && most > 0 {
+            let stopped = DeviceError::Queue(QueueError::Stopped);
+            return Ok(QueueRun::refused(Vec::new(alloc), stopped));
         }
         let Ok(mut done) = room_for(alloc, most) else {
             return Err(DeviceError::Queue(QueueError::OutOfMemory));

@@ -1,6 +1,6 @@
 //! What is exchanged for a chain that was taken.
 
-ghost use Rattle.std.specs.Prelude.{◌≡◌, ◌≤◌, ◌<◌, ◌^◌, [], length, IfOk, OnErr};
+ghost use Rattle.std.specs.Prelude.{◌≡◌, ◌≤◌, ◌<◌, ◌^◌, [], false, length, IfOk, IsSome, OnErr};
 ghost use Rattle.fs_queue.specs.Windows.{room_places};
 
 use crate::exchange::{Exchange, Fault};
@@ -20,7 +20,8 @@ pub(crate) struct Reply {
 ghost use Rattle.virtiofsd_fuse.specs.Serving.{is_memory};
 ghost use Rattle.fs_device.specs.Answering.{IsAnswered};
 ghost use Rattle.fs_device.specs.DeviceView.{exchange_of, server_state};
-ghost use Rattle.fs_device.specs.Phases.{ServesBytes, ServesTaken};
+ghost use Rattle.fs_device.specs.Phases.{MayLackToAnswer, ServesBytes, ServesTaken};
+ghost use Rattle.virtiofsd_fuse.specs.WantOfMemory.{may_take_memory};
 
 // Whether an allocation failed.
 fn is_memory(error: Error) -> bool
@@ -41,6 +42,7 @@ pub(crate) fn answer<F: FileSystem>(
     requires unwritten { room.written ≡ [] }
     requires short { room.free < 2 ^ 32 }
     ensures answered { IsAnswered F.may server.old request.entry.left room.free result server.new }
+    ensures memory { may_take_memory server.old.options.0 request.entry room.free ≡ false → IsSome result }
     ensures page_size { server.new.page_size ≡ server.old.page_size }
 {
     let mut writer = room;
@@ -76,6 +78,7 @@ pub(crate) fn serve<F: FileSystem>(
         (exchange_of x) (server_state server.new)) }
     ensures fits { IfOk result (λ x. length x.reply.items ≤ room_places taken.now.chain) }
     ensures err { OnErr result ((server.new.options.0 ≡ server.old.options.0) × (server.new.fs ≡ server.old.fs)) }
+    ensures memory { OnErr result (MayLackToAnswer server.old.options.0 taken.now request.bytes.items) }
     ensures page_size { server.new.page_size ≡ server.old.page_size }
 {
     let FetchedRequest { bytes, room } = request;

@@ -1,8 +1,10 @@
-use Rattle.std.proofs.Common.{◌≡◌, sym, refl, subst}
+use Rattle.std.proofs.Common.{◌≡◌, ◌∙◌, List, false, sym, refl, subst}
+use Rattle.std.specs.List.{list_any}
 use Rattle.vm_memory_core.specs.Host.{lengths}
+use Rattle.vm_memory.specs.Layout.{Region, overlap}
 use Rattle.fs_device.specs.Run.{effect}
 use Rattle.fs_device.specs.MachineView.{machine_of}
-use Rattle.fs_device.proofs.LayoutLemmas.{held_with, unknown, known, past_end, within, has_block}
+use Rattle.fs_device.proofs.LayoutLemmas.{held_with, unknown, known, past_end, within, goes, has_block}
 use Rattle.fs_device.proofs.machine.Machine.insert_region.Goals as goal
 use Rattle.vm_memory.proofs.LayoutLemmas.{HasBlock}
 
@@ -23,7 +25,7 @@ invariant_of-self g c =
     let there = lengths c.args.self.now.host in
     let here = subst (HasBlock there) (sym new) (has_block c.args.self.now.host c.args.base c.args.block c.in-Some.region c.in-Some-new.region c.in-Some.ensures c.in-Some-new.ensures) in
     let held = c.args.self.now.held in
-    record { held = rw (c.set_backend.ensures, c.in-Ok-insert_region.ensures.1, c.get_backend.ensures) (held_with there r c.args.self.now.mem.backend here held.0, held.1, held.2) }
+    record { held = rw (c.set_backend.ensures, c.in-Ok-insert_region.ensures.1, c.get_backend-2.ensures) (held_with there r c.args.self.now.mem.backend here held.0, held.1, held.2) }
 
 pub returns-in-Ok-insert_region : goal.returns-in-Ok-insert_region
 unfolding effect
@@ -31,13 +33,22 @@ returns-in-Ok-insert_region g c =
     let m = c.in-Some.region in
     let new = c.in-Ok.ensures.ok in
     let is = within c.args.base m c.in-Some-new.region c.in-Some-new.ensures in
-    rw (known (machine_of c.args.self.now) c.args.base c.args.block m c.in-Some.ensures, is.0, is.1, ← new, ← c.get_backend.ensures, c.in-Ok-insert_region.ensures.0, c.set_backend.ensures, c.in-Ok-insert_region.ensures.1) refl
+    rw (known (machine_of c.args.self.now) c.args.base c.args.block m c.in-Some.ensures, is.0, is.1, ← new, ← c.get_backend-2.ensures, c.in-Ok-insert_region.ensures.0, c.set_backend.ensures, c.in-Ok-insert_region.ensures.1) refl
 
-pub returns-in-Err-MemoryRegionOverlap : goal.returns-in-Err-MemoryRegionOverlap
+pub returns-then-overlaps_any : goal.returns-then-overlaps_any
 unfolding effect
-returns-in-Err-MemoryRegionOverlap g c =
+returns-then-overlaps_any g c =
     let m = c.in-Some.region in
-    let new = c.in-Ok.ensures.ok in
     let is = within c.args.base m c.in-Some-new.region c.in-Some-new.ensures in
-    let common = rw c.in-Err-MemoryRegionOverlap.field-0-is at c.in-Err-MemoryRegionOverlap.ensures in
-    rw (known (machine_of c.args.self.now) c.args.base c.args.block m c.in-Some.ensures, is.0, is.1, ← new, ← c.get_backend.ensures, common) refl
+    let common = sym c.overlaps_any.ensures ∙ c.if-overlaps_any.true in
+    rw (known (machine_of c.args.self.now) c.args.base c.args.block m c.in-Some.ensures, is.0, is.1, ← c.get_backend.ensures, common) refl
+
+pub returns-in_default-new-2 : goal.returns-in_default-new-2
+returns-in_default-new-2 g c =
+    let apart = subst (λ (l : List Region). list_any (overlap c.in-Some-new.region) l ≡ false) c.get_backend.ensures (sym c.overlaps_any.ensures ∙ c.if-overlaps_any.false) in
+    (goes c.args.self.now.host c.args.self.now.mem.backend c.args.base c.args.block c.in-Some.region c.in-Some-new.region c.in-Some.ensures c.in-Some-new.ensures apart, refl)
+
+pub returns-in-Err : goal.returns-in-Err
+returns-in-Err g c =
+    let apart = subst (λ (l : List Region). list_any (overlap c.in-Some-new.region) l ≡ false) c.get_backend.ensures (sym c.overlaps_any.ensures ∙ c.if-overlaps_any.false) in
+    (goes c.args.self.now.host c.args.self.now.mem.backend c.args.base c.args.block c.in-Some.region c.in-Some-new.region c.in-Some.ensures c.in-Some-new.ensures apart, refl)
