@@ -1,20 +1,20 @@
 -- what is told of a guest's write and of another layout
-use Rattle.std.proofs.Common.{◌≡◌, ℕ, Bool, true, false, List, [], length, ap, sym, refl, ◌∙◌, subst, Err}
-use Rattle.std.specs.Prelude.{if◌then◌else◌, not}
+use Rattle.std.proofs.Common.{◌≡◌, ℕ, Bool, true, false, List, [], length, ap, sym, refl, ◌∙◌}
+use Rattle.std.specs.Prelude.{if◌then◌else◌}
 use Rattle.std.specs.List.{list_all}
 use Rattle.vm_iotlb.specs.declared.permissions.Permissions.TheVariants.{Write}
-use Rattle.vm_memory.specs.Layout.{Region, fits}
+use Rattle.vm_memory_core.specs.Host.{lengths}
+use Rattle.vm_memory.specs.Layout.{Region, fits, AreHeld, IsLayout}
 use Rattle.vm_memory.specs.Memory.{addresses, physical, reach}
 use Rattle.virtiofsd_fuse.specs.Serving.{May}
-use Rattle.fs_device.specs.declared.command.Answer as told
-use Rattle.fs_device.specs.declared.refusal.Refusal.{Refusal}
 use Rattle.fs_device.specs.declared.refusal.Refusal.TheVariants as why
 use Rattle.fs_device.specs.Step.{State}
-use Rattle.fs_device.specs.Run.{GuestWrite, SetLayout, Affects, Answer, Done, Bytes, NewBlockIs, Served, Copied, Pages, IsRefused, Effect, Performs, effect, guest_written, is_known, no, some_overlap, with_layout}
-use Rattle.fs_device.specs.CommandView.{answer_of, command_of}
+use Rattle.fs_device.specs.Run.{GuestWrite, SetLayout, Affects, Answer, Done, Bytes, NewBlockIs, Served, Copied, Pages, IsRefused, Effect, Performs, effect, guest_written, is_known, no, set_layout, some_overlap, with_layout}
+use Rattle.fs_device.proofs.LayoutLemmas.{all_apart, all_fit, all_known, not_known}
+use Rattle.fs_device.specs.CommandView.{command_of}
 use Rattle.fs_shared.specs.declared.kept.Kept.{Kept}
-use Rattle.fs_shared.specs.Held.{came_of}
-use Rattle.fs_shared.specs.Keeping.{ActKeeps, Keeps}
+use Rattle.fs_shared.specs.Held.{WouldDo, came_of}
+use Rattle.fs_shared.specs.Keeping.{Keeps}
 use Rattle.fs_shared.specs.Replay as replay
 use Rattle.fs_shared.specs.Replay.{WritesPages}
 
@@ -55,6 +55,11 @@ pub write_refused : {F : Type 0} (s : State F) (a : ℕ) (bytes : List ℕ) → 
 unfolding effect
 write_refused s a bytes misses = rw misses refl
 
+-- the machine makes it if it reaches
+pub write_would : {F : Type 0} (s : State F) (a : ℕ) (bytes : List ℕ) → reach (physical s.memory) Write a (length bytes) ≡ true → WouldDo s (GuestWrite a bytes)
+unfolding effect
+write_would s a bytes reaches = (record s { memory = guest_written s.memory a bytes }, rw reaches refl)
+
 -- what is kept of it is an event
 pub write_keeps : {F : Type 0} (may : May F) (s after : State F) (a : ℕ) (bytes pages : List ℕ) (kept : Kept) → Affects s (GuestWrite a bytes) Done after →
     WritesPages (physical s.memory) (addresses a (length bytes)) pages →
@@ -70,60 +75,44 @@ write_keeps may s after a bytes pages kept done are entry receipt = record {
 
 -- ---- another layout
 
-layout_refuses : {F : Type 0} (known fit overlap : Bool) (e : Refusal) (s after : State F) (done : State F) →
-    (IsRefused e, after) ≡ (if◌then◌else◌ {A = Effect F} (not known) (no why.UnknownBlock s) (if not fit then no why.BadRegion s else if overlap then no why.Overlap s else (Done, done))) → after ≡ s
-layout_refuses {F} false fit overlap e s after done is = ap (λ (f : Effect F). f.1) is
-layout_refuses {F} true false overlap e s after done is = ap (λ (f : Effect F). f.1) is
-layout_refuses {F} true true true e s after done is = ap (λ (f : Effect F). f.1) is
-layout_refuses {F} true true false e s after done is =
-    let no : IsRefused e ≡ Done = ap (λ (f : Effect F). f.0) is in
-    absurd (cc)
-
-layout_stays : {F : Type 0} (s after : State F) (layout : List Region) (e : Refusal) → Affects s (SetLayout layout) (IsRefused e) after → Affects s (SetLayout layout) (IsRefused e) s × (after ≡ s)
+-- the machine takes it if the host has all its blocks
+pub layout_would : {F : Type 0} (s : State F) (layout : List Region) → list_all (is_known s.memory.host) layout ≡ true → list_all fits layout ≡ true → some_overlap layout ≡ false → WouldDo s (SetLayout layout)
 unfolding effect
-layout_stays {F} s after layout e is =
-    let same = layout_refuses (list_all (is_known s.memory.host) layout) (list_all fits layout) (some_overlap layout) e s after (with_layout s layout) is in
-    (subst (λ (t : State F). Affects s (SetLayout layout) (IsRefused e) t) same is, same)
+layout_would s layout known fit apart = (with_layout s layout, rw (known, fit, apart) refl)
 
--- a refusal of another layout changes nothing
-pub layout_refused : {F : Type 0} (may : May F) (s after : State F) (layout : List Region) (e : Refusal) → Performs may s (SetLayout layout) [] (IsRefused e) after → ActKeeps may s (SetLayout layout) (Err e) after
-layout_refused may s after layout why.OutOfMemory is = absurd (cc)
-layout_refused may s after layout why.NoPlace is = layout_stays s after layout why.NoPlace is
-layout_refused may s after layout why.EmptyBlock is = layout_stays s after layout why.EmptyBlock is
-layout_refused may s after layout why.UnknownBlock is = layout_stays s after layout why.UnknownBlock is
-layout_refused may s after layout why.BadRegion is = layout_stays s after layout why.BadRegion is
-layout_refused may s after layout why.Overlap is = layout_stays s after layout why.Overlap is
-layout_refused may s after layout why.NoRegion is = layout_stays s after layout why.NoRegion is
-layout_refused may s after layout why.BadMapping is = layout_stays s after layout why.BadMapping is
-layout_refused may s after layout why.NoSuchQueue is = layout_stays s after layout why.NoSuchQueue is
+pub layout_held : {F : Type 0} (s : State F) (layout : List Region) → AreHeld (lengths s.memory.host) layout → IsLayout layout → WouldDo s (SetLayout layout)
+layout_held s layout held sound = layout_would s layout (all_known s.memory.host layout held) (all_fit layout sound) (all_apart layout sound)
 
--- what another layout is answered, and what a read is
-abbrev pub IsDoneOrRefused : Answer → Type 0
-IsDoneOrRefused Done = Unit {0}
-IsDoneOrRefused (IsRefused e) = Unit {0}
-IsDoneOrRefused answer = ⊥
-
-layout_answers : {F : Type 0} (known fit overlap : Bool) (answer : Answer) (s after : State F) (done : State F) →
-    (answer, after) ≡ (if◌then◌else◌ {A = Effect F} (not known) (no why.UnknownBlock s) (if not fit then no why.BadRegion s else if overlap then no why.Overlap s else (Done, done))) → IsDoneOrRefused answer
-layout_answers {F} false fit overlap answer s after done is = subst (λ (f : Effect F). IsDoneOrRefused f.0) (sym is) tt
-layout_answers {F} true false overlap answer s after done is = subst (λ (f : Effect F). IsDoneOrRefused f.0) (sym is) tt
-layout_answers {F} true true true answer s after done is = subst (λ (f : Effect F). IsDoneOrRefused f.0) (sym is) tt
-layout_answers {F} true true false answer s after done is = subst (λ (f : Effect F). IsDoneOrRefused f.0) (sym is) tt
-
-layout_told : {F : Type 0} (s after : State F) (layout : List Region) (answer : Answer) → Affects s (SetLayout layout) answer after → IsDoneOrRefused answer
+-- else it is refused
+pub layout_refused : {F : Type 0} (s : State F) (layout : List Region) → (AreHeld (lengths s.memory.host) layout → ⊥) → Affects s (SetLayout layout) (IsRefused why.UnknownBlock) s
 unfolding effect
-layout_told s after layout answer is = layout_answers (list_all (is_known s.memory.host) layout) (list_all fits layout) (some_overlap layout) answer s after (with_layout s layout) is
+layout_refused s layout none = rw (not_known s.memory.host layout none) refl
 
--- what isn't refused is done
-pub layout_done : {F : Type 0} (may : May F) (s after : State F) (layout : List Region) (a : told.Answer) → ((e : Refusal) → a ≡ told.TheVariants.Refused e → ⊥) →
-    Performs may s (SetLayout layout) [] (answer_of a) after → Affects s (SetLayout layout) Done after
-layout_done may s after layout told.TheVariants.Done other is = is
-layout_done may s after layout (told.TheVariants.Refused e) other is = absurd (other e refl)
-layout_done may s after layout (told.TheVariants.Bytes bs) other is = absurd (layout_told s after layout (Bytes bs.items) is)
-layout_done may s after layout (told.TheVariants.Block n) other is = absurd (layout_told s after layout (NewBlockIs n) is)
-layout_done may s after layout (told.TheVariants.Served k) other is = absurd (layout_told s after layout _ is)
-layout_done may s after layout (told.TheVariants.Copied h) other is = absurd (layout_told s after layout _ is)
-layout_done may s after layout (told.TheVariants.Pages ps) other is = absurd (layout_told s after layout _ is)
+-- what the machine would do it does
+does_so : {F : Type 0} (decided : Effect F) (answer : Answer) (next after : State F) → (Done, next) ≡ decided → (answer, after) ≡ decided → (Done, after) ≡ decided
+does_so {F} decided answer next after would is = ap {B = Effect F} (λ (e : Effect F). (Done, e.1)) (is ∙ sym would) ∙ would
+
+layout_does : {F : Type 0} (s after : State F) (layout : List Region) (answer : Answer) → WouldDo s (SetLayout layout) → Affects s (SetLayout layout) answer after → Affects s (SetLayout layout) Done after
+unfolding effect
+layout_does s after layout answer would is = does_so (set_layout s layout) answer would.0 after would.1 is
+
+pub layout_performed : {F : Type 0} (may : May F) (s after : State F) (layout : List Region) (answer : Answer) → WouldDo s (SetLayout layout) → Performs may s (SetLayout layout) [] answer after →
+    Affects s (SetLayout layout) Done after
+layout_performed may s after layout (IsRefused why.OutOfMemory) would is = absurd (cc)
+layout_performed may s after layout (IsRefused why.NoPlace) would is = layout_does s after layout (IsRefused why.NoPlace) would is
+layout_performed may s after layout (IsRefused why.EmptyBlock) would is = layout_does s after layout (IsRefused why.EmptyBlock) would is
+layout_performed may s after layout (IsRefused why.UnknownBlock) would is = layout_does s after layout (IsRefused why.UnknownBlock) would is
+layout_performed may s after layout (IsRefused why.BadRegion) would is = layout_does s after layout (IsRefused why.BadRegion) would is
+layout_performed may s after layout (IsRefused why.Overlap) would is = layout_does s after layout (IsRefused why.Overlap) would is
+layout_performed may s after layout (IsRefused why.NoRegion) would is = layout_does s after layout (IsRefused why.NoRegion) would is
+layout_performed may s after layout (IsRefused why.BadMapping) would is = layout_does s after layout (IsRefused why.BadMapping) would is
+layout_performed may s after layout (IsRefused why.NoSuchQueue) would is = layout_does s after layout (IsRefused why.NoSuchQueue) would is
+layout_performed may s after layout Done would is = layout_does s after layout Done would is
+layout_performed may s after layout (Bytes bs) would is = layout_does s after layout (Bytes bs) would is
+layout_performed may s after layout (NewBlockIs n) would is = layout_does s after layout (NewBlockIs n) would is
+layout_performed may s after layout (Served k) would is = layout_does s after layout (Served k) would is
+layout_performed may s after layout (Copied h) would is = layout_does s after layout (Copied h) would is
+layout_performed may s after layout (Pages ps) would is = layout_does s after layout (Pages ps) would is
 
 -- what is kept of it is an event
 pub layout_keeps : {F : Type 0} (may : May F) (s after : State F) (layout : List Region) (kept : Kept) → Affects s (SetLayout layout) Done after →

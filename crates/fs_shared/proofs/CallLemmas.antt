@@ -38,7 +38,7 @@ kicks_keep may before after i (Err (device.Queue stop.DescriptorUnreachable)) do
 -- so does a write or another layout
 pub acts_keep : {F : Type 0} (may : May F) (before after : Held F) (command : Command) (result : Result Receipt Refusal) → ActsBy may before command result after → fixed_of before.machine ≡ fixed_of after.machine
 acts_keep may before after command (Ok r) does = plays_keeps may before.machine after.machine command (came_of r.outcome) r.pages.items does.plays
-acts_keep may before after command (Err why.OutOfMemory) does = same_fixed before after does
+acts_keep may before after command (Err why.OutOfMemory) does = same_fixed before after does.1
 acts_keep may before after command (Err why.NoPlace) does = same_fixed before after does.1
 acts_keep may before after command (Err why.EmptyBlock) does = same_fixed before after does.1
 acts_keep may before after command (Err why.UnknownBlock) does = same_fixed before after does.1

@@ -1,12 +1,13 @@
 -- what is told of a kick
-use Rattle.std.proofs.Common.{◌≡◌, ℕ, Bool, false, List, [], length, ap, sym, refl, ◌∙◌, subst, Option, Some, None, Err}
-use Rattle.std.specs.Prelude.{IsSome, IsTrue, slice_get}
+use Rattle.std.proofs.Common.{◌≡◌, ℕ, Bool, true, false, List, [], length, ap, sym, refl, ◌∙◌, subst, Option, Some, None, Err}
+use Rattle.std.specs.Prelude.{IsSomeAnd, IsTrue, slice_get}
 use Rattle.vm_memory_core.specs.Host.{lengths}
 use Rattle.vm_memory_core.specs.Window.{places}
 use Rattle.vm_memory_core.proofs.Stores.{changed_at-set}
 use Rattle.fs_queue.specs.declared.fault.QueueError.TheVariants as stop
 use Rattle.fs_queue.specs.Queue.{Queue}
-use Rattle.fs_queue.specs.Taking.{RequestAndRoom, IsRequest, CannotFetch, Offers, offer}
+use Rattle.vm_memory.specs.Memory.{Memory}
+use Rattle.fs_queue.specs.Taking.{Offer, RequestAndRoom, IsRequest, CannotFetch, Offers, Refuses, offer, may_lack_memory}
 use Rattle.fs_queue.specs.Windows.{IsTaken, Taken}
 use Rattle.virtiofsd_fuse.specs.Serving.{May}
 use Rattle.fs_device.specs.declared.error.DeviceError.{DeviceError}
@@ -21,7 +22,7 @@ use Rattle.fs_device.proofs.StepLemmas.{set-same}
 use Rattle.fs_device.proofs.UsedLemmas.{step_offers}
 use Rattle.fs_shared.specs.declared.kept.Kept.{Kept}
 use Rattle.fs_shared.specs.declared.kicking.ReplyRoom.{ReplyRoom}
-use Rattle.fs_shared.specs.Held.{HasQueue, came_of}
+use Rattle.fs_shared.specs.Held.{HasOpenQueue, came_of}
 use Rattle.fs_shared.specs.Keeping.{IsRoomFor, Keeps, KickKeeps, Leaves}
 use Rattle.fs_shared.specs.Replay.{ExchangesPages, Kicked, Outcome, Served, Stopped, is_journaled}
 use Rattle.fs_shared.specs.ReturnRuns.{AreReturnPages}
@@ -92,6 +93,28 @@ stopped_stays may s after i None there t = t.1.same
 stopped_stays {F} may s after i (Some q) there t =
     t.2 ∙ ap (λ (qs : List Queue). record s { queues = qs }) (changed_at-set s.queues i (λ _. q) q ∙ set-same s.queues i q there)
 
+-- and so a stopped queue does
+is_refused : (m : Memory) (limit : ℕ) (q : Queue) → q.stopped ≡ true → offer m limit q ≡ Refuses stop.Stopped
+unfolding offer
+is_refused m limit q stopped = rw stopped refl
+
+stopped_step : {F : Type 0} (may : May F) (s : State F) (i : ℕ) (q : Queue) → slice_get s.queues i ≡ Some q → q.stopped ≡ true → Step may s i [] (Refused (device.Queue stop.Stopped)) s
+stopped_step {F} may s i q there stopped =
+    subst (λ (o : Option Queue). StepOf may s i o [] (Refused (device.Queue stop.Stopped)) s) (sym there)
+    (is_refused s.memory s.limit q stopped, refl, sym (ap (λ (qs : List Queue). record s { queues = qs }) (changed_at-set s.queues i (λ _. q) q ∙ set-same s.queues i q there)))
+
+-- a kick of a missing queue or of a stopped one
+pub missing_kick : {F : Type 0} (may : May F) (s : State F) (i : ℕ) → slice_get s.queues i ≡ None → KickKeeps may s i (Err device.NoSuchQueue) s
+missing_kick {F} may s i none =
+    (subst (λ (o : Option Queue). StepOf may s i o [] (Refused device.NoSuchQueue) s) (sym none) (refl, record { same = refl; no_call = refl }), refl)
+
+pub stopped_kick : {F : Type 0} (may : May F) (s : State F) (i : ℕ) (q : Queue) → slice_get s.queues i ≡ Some q → q.stopped ≡ true → KickKeeps may s i (Err (device.Queue stop.Stopped)) s
+stopped_kick may s i q there stopped = (stopped_step may s i q there stopped, refl)
+
+-- one that is there
+pub is_open : {F : Type 0} (s : State F) (i : ℕ) (q : Queue) → slice_get s.queues i ≡ Some q → q.stopped ≡ false → HasOpenQueue s i
+is_open s i q there free = subst (λ (o : Option Queue). IsSomeAnd o (λ q. q.stopped ≡ false)) (sym there) free
+
 missing_stays : {F : Type 0} (may : May F) (s after : State F) (i : ℕ) (o : Option Queue) → StepOf may s i o [] (Refused device.NoSuchQueue) after → after ≡ s
 missing_stays may s after i None t = t.1.same
 missing_stays may s after i (Some q) t = absurd t
@@ -100,13 +123,24 @@ lacking_stays : {F : Type 0} (may : May F) (s after : State F) (i : ℕ) (o : Op
 lacking_stays may s after i None t = t.1.same
 lacking_stays may s after i (Some q) t = t.1.same
 
-lacking_there : {F : Type 0} (may : May F) (s after : State F) (i : ℕ) (o : Option Queue) → StepOf may s i o [] (Refused (device.Queue stop.OutOfMemory)) after → IsSome o
+lacking_there : {F : Type 0} (may : May F) (s after : State F) (i : ℕ) (o : Option Queue) → StepOf may s i o [] (Refused (device.Queue stop.OutOfMemory)) after → IsSomeAnd o (λ q. q.stopped ≡ false)
 lacking_there may s after i None t = absurd (cc)
-lacking_there may s after i (Some q) t = refl
+lacking_there may s after i (Some q) t =
+    elim q.stopped as (λ b. q.stopped ≡ b → b ≡ false) [
+      | true ↦ λ stopped. let no : false ≡ true = subst (λ (o : Offer). IsTrue (may_lack_memory o)) (is_refused s.memory s.limit q stopped) t.0 in absurd (cc)
+      | false ↦ λ free. refl
+    ] refl
 
--- a queue of which a chain was taken is there
-pub taken_there : {F : Type 0} (s : State F) (i : ℕ) (t : Taken) → HasTaken s.memory s.limit s.queues i t → HasQueue s i
-taken_there s i t has = subst (λ (o : Option Queue). IsSome o) (sym has.there) refl
+not_stopped : (m : Memory) (limit : ℕ) (q : Queue) (head : ℕ) (f : RequestAndRoom) → offer m limit q ≡ Offers head f → q.stopped ≡ false
+not_stopped m limit q head f is =
+    elim q.stopped as (λ b. q.stopped ≡ b → b ≡ false) [
+      | true ↦ λ stopped. let no : Refuses stop.Stopped ≡ Offers head f = sym (is_refused m limit q stopped) ∙ is in absurd (cc)
+      | false ↦ λ free. refl
+    ] refl
+
+-- a queue of which a chain was taken is there, and isn't stopped
+pub taken_open : {F : Type 0} (s : State F) (i : ℕ) (t : Taken) → HasTaken s.memory s.limit s.queues i t → HasOpenQueue s i
+taken_open s i t has = subst (λ (o : Option Queue). IsSomeAnd o (λ q. q.stopped ≡ false)) (sym has.there) (not_stopped s.memory s.limit has.queue t.head has.fetched has.offered)
 
 idle_stays : {F : Type 0} (may : May F) (s after : State F) (i : ℕ) (o : Option Queue) → StepOf may s i o [] Idle after → after ≡ s
 idle_stays may s after i None t = t.1.same

@@ -41,7 +41,7 @@ kicks_replay may before after i (Err (device.Queue stop.DescriptorUnreachable)) 
 
 pub acts_replay : {F : Type 0} (may : May F) (before after : Held F) (command : Command) (result : Result Receipt Refusal) → HoldsReplay before → ActsBy may before command result after → HoldsReplay after
 acts_replay may before after command (Ok r) held does = journaled may before after command r held does
-acts_replay may before after command (Err why.OutOfMemory) held does = stayed before after held does
+acts_replay may before after command (Err why.OutOfMemory) held does = stayed before after held does.1
 acts_replay may before after command (Err why.NoPlace) held does = stayed before after held does.1
 acts_replay may before after command (Err why.EmptyBlock) held does = stayed before after held does.1
 acts_replay may before after command (Err why.UnknownBlock) held does = stayed before after held does.1

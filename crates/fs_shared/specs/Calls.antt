@@ -14,7 +14,7 @@ use Rattle.fs_device.specs.CommandView.{command_of}
 use Rattle.fs_shared.specs.declared.entry.Kicked as kicked
 use Rattle.fs_shared.specs.declared.entry.Receipt.{Receipt}
 use Rattle.fs_shared.specs.Replay.{Plays}
-use Rattle.fs_shared.specs.Held.{HasQueue, Held, came_of}
+use Rattle.fs_shared.specs.Held.{HasOpenQueue, Held, WouldDo, came_of}
 
 -- one entry more, which is what the call did, and the receipt of it
 pub record Journals {F : Type 0} (may : May F) (before : Held F) (command : Command) (r : Receipt) (after : Held F) : Type 0 where
@@ -30,19 +30,20 @@ abbrev pub Stays : {F : Type 0} → May F → Held F → ℕ → step.Outcome �
 Stays may before i outcome after = Step may before.machine i [] outcome before.machine × (after ≡ before)
 
 -- a kick for one chain: nothing waits, the queue is stopped or it is missing only if the step says so;
--- a failed allocation changes nothing, and comes of a queue that is there
+-- a failed allocation changes nothing, and comes of a queue that is there and isn't stopped
 abbrev pub KicksBy : {F : Type 0} → May F → Held F → ℕ → Result (kicked.Kicked) DeviceError → Held F → Type 0
 KicksBy may before i (Ok (kicked.TheVariants.Done r)) after = Journals may before (Kick i 1) r after
 KicksBy may before i (Ok kicked.TheVariants.Idle) after = Stays may before i step.Idle after
 KicksBy may before i (Err device.NoSuchQueue) after = Stays may before i (step.Refused device.NoSuchQueue) after
 KicksBy may before i (Err (device.Queue stop.Stopped)) after = Stays may before i (step.Refused (device.Queue stop.Stopped)) after
-KicksBy may before i (Err (device.Queue stop.OutOfMemory)) after = HasQueue before.machine i × (after ≡ before)
+KicksBy may before i (Err (device.Queue stop.OutOfMemory)) after = HasOpenQueue before.machine i × (after ≡ before)
 KicksBy may before i (Err (device.Queue _)) after = ⊥
 
--- a guest's write or another layout: refused only if the machine refuses it so; a failed allocation changes nothing
+-- a guest's write or another layout: refused only if the machine refuses it so; a failed allocation changes nothing, and comes only where the
+-- machine would make the change
 abbrev pub ActsBy : {F : Type 0} → May F → Held F → Command → Result Receipt Refusal → Held F → Type 0
 ActsBy may before command (Ok r) after = Journals may before command r after
-ActsBy may before command (Err why.OutOfMemory) after = after ≡ before
+ActsBy may before command (Err why.OutOfMemory) after = WouldDo before.machine command × (after ≡ before)
 ActsBy may before command (Err e) after = Affects before.machine command (IsRefused e) before.machine × (after ≡ before)
 
 -- a guest's read: what the machine answers to it, and nothing changes

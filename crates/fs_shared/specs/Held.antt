@@ -1,6 +1,8 @@
 -- What lies under the lock, and what its journal says.
-use Rattle.std.specs.Prelude.{ℕ, Bool, List, map, IsSome, slice_get}
+use Rattle.std.specs.Prelude.{◌≡◌, ℕ, Bool, false, List, map, IsSomeAnd, slice_get}
 use Rattle.fs_device.specs.Step.{State}
+use Rattle.fs_device.specs.Run as run
+use Rattle.fs_device.specs.Run.{Command, Affects}
 use Rattle.fs_device.specs.CommandView.{command_of}
 use Rattle.fs_device.specs.DeviceView.{exchange_of}
 use Rattle.fs_shared.specs.declared.entry.Outcome as told
@@ -8,9 +10,13 @@ use Rattle.fs_shared.specs.declared.entry.JournalEntry.{JournalEntry}
 use Rattle.fs_shared.specs.declared.entry.Start.{Start}
 use Rattle.fs_shared.specs.Replay.{Outcome, Done, Served, Stopped, Entry}
 
--- there is a queue of this number
-abbrev pub HasQueue : {F : Type 0} → State F → ℕ → Type 0
-HasQueue s i = IsSome (slice_get s.queues i)
+-- there is a queue of this number, and it isn't stopped
+abbrev pub HasOpenQueue : {F : Type 0} → State F → ℕ → Type 0
+HasOpenQueue s i = IsSomeAnd (slice_get s.queues i) (λ q. q.stopped ≡ false)
+
+-- the machine makes this change if it is asked for
+abbrev pub WouldDo : {F : Type 0} → State F → Command → Type 0
+WouldDo {F} s command = (next : State F) × Affects s command run.Done next
 
 -- what came of a call
 abbrev pub came_of : told.Outcome → Outcome

@@ -5,15 +5,13 @@ use Rattle.fs_queue.specs.Windows.{Taken, room_places}
 use Rattle.virtiofsd_fuse.specs.Serving.{May}
 use Rattle.fs_device.specs.declared.error.DeviceError.{DeviceError}
 use Rattle.fs_device.specs.declared.error.DeviceError.TheVariants as device
-use Rattle.fs_device.specs.declared.refusal.Refusal.{Refusal}
-use Rattle.fs_device.specs.declared.refusal.Refusal.TheVariants as why
 use Rattle.fs_device.specs.Step as step
 use Rattle.fs_device.specs.Step.{State, Step}
-use Rattle.fs_device.specs.Run.{Command, Kick, Affects, IsRefused}
+use Rattle.fs_device.specs.Run.{Command, Kick}
 use Rattle.fs_device.specs.CommandView.{command_of}
 use Rattle.fs_shared.specs.declared.kept.Kept.{Kept}
 use Rattle.fs_shared.specs.declared.kicking.ReplyRoom.{ReplyRoom}
-use Rattle.fs_shared.specs.Held.{HasQueue, came_of}
+use Rattle.fs_shared.specs.Held.{HasOpenQueue, came_of}
 use Rattle.fs_shared.specs.Replay.{Plays}
 use Rattle.fs_shared.specs.ReturnRuns.{AreReturnRuns}
 
@@ -35,14 +33,8 @@ KickKeeps may before i (Ok (Some kept)) after = Keeps may before (Kick i 1) kept
 KickKeeps may before i (Ok None) after = Leaves may before i step.Idle after
 KickKeeps may before i (Err device.NoSuchQueue) after = Leaves may before i (step.Refused device.NoSuchQueue) after
 KickKeeps may before i (Err (device.Queue stop.Stopped)) after = Leaves may before i (step.Refused (device.Queue stop.Stopped)) after
-KickKeeps may before i (Err (device.Queue stop.OutOfMemory)) after = HasQueue before i × (after ≡ before)
+KickKeeps may before i (Err (device.Queue stop.OutOfMemory)) after = HasOpenQueue before i × (after ≡ before)
 KickKeeps may before i (Err (device.Queue _)) after = ⊥
-
--- a guest's write or another layout of a machine, by cases on the answer
-abbrev pub ActKeeps : {F : Type 0} → May F → State F → Command → Result Kept Refusal → State F → Type 0
-ActKeeps may before command (Ok kept) after = Keeps may before command kept after
-ActKeeps may before command (Err why.OutOfMemory) after = after ≡ before
-ActKeeps may before command (Err e) after = Affects before command (IsRefused e) before × (after ≡ before)
 
 -- room for a copy of what is exchanged and for the pages of its return, where a chain with this request was taken from blocks of these lengths
 pub record IsRoomFor (block_lengths : List ℕ) (t : Taken) (bytes : List ℕ) (room : ReplyRoom) : Type 0 where

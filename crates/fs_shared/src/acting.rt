@@ -1,18 +1,18 @@
 //! A guest's write and another layout, of which what is told is kept twice. It has room before anything changes.
 
-ghost use Rattle.std.specs.Prelude.{◌≡◌, [], true, IfOk, length};
+ghost use Rattle.std.specs.Prelude.{◌≡◌, [], true, IfOk, OnErr, length};
 ghost use Rattle.vm_iotlb.specs.declared.permissions.Permissions.TheVariants.{Write};
-ghost use Rattle.vm_memory.specs.Memory.{addresses, memory_of, reach};
+ghost use Rattle.vm_memory.specs.Memory.{addresses, memory_of, physical, reach};
 ghost use Rattle.fs_device.specs.Run.{GuestWrite, SetLayout};
 ghost use Rattle.fs_device.specs.CommandView.{command_of};
 ghost use Rattle.fs_device.specs.MachineView.{machine_of};
-ghost use Rattle.fs_shared.specs.Held.{came_of};
-ghost use Rattle.fs_shared.specs.Keeping.{ActKeeps};
+ghost use Rattle.fs_shared.specs.Held.{WouldDo, came_of};
+ghost use Rattle.fs_shared.specs.Keeping.{Keeps};
 ghost use Rattle.fs_shared.specs.Replay.{Done, WritesPages};
 
 use crate::entry::Outcome;
 use crate::kept::{Event, Kept};
-use fs_device::{Answer, Command, Machine, Refusal};
+use fs_device::{Command, Machine};
 use fuse_fs::FileSystem;
 use std::alloc::{AllocError, Global};
 use vm_block_pages::{page_runs, written_pages};
@@ -80,26 +80,21 @@ fn kept_write(alloc: Global, addr: u64, bytes: &[u8], pages: Vec<usize>) -> Resu
     })
 }
 
-/// The guest writes bytes from a physical address on, and what is told of it is kept: refused if it doesn't reach all
-/// of them, or since an allocation fails, and then nothing changes.
+/// The guest writes bytes that it reaches, from a physical address on, and what is told of it is kept; AllocError if an
+/// allocation fails, and then nothing changes.
 pub(crate) fn write_kept<F: FileSystem, I: Iommu + Drop>(
     alloc: Global,
     machine: &mut Machine<F, I>,
     addr: u64,
     bytes: &[u8],
-) -> Result<Kept, Refusal>
-    ensures { ActKeeps F.may (machine_of machine.old) (GuestWrite addr bytes.now) result (machine_of machine.new) }
+) -> Result<Kept, AllocError>
+    requires reaches { reach (physical (machine_of machine.old).memory) Write addr (length bytes.now) ≡ true }
+    ensures keeps { IfOk result (λ kept. Keeps F.may (machine_of machine.old) (GuestWrite addr bytes.now) kept (machine_of machine.new)) }
+    ensures lacks { OnErr result (machine_of machine.new ≡ machine_of machine.old) }
 {
-    if !machine.reaches(addr, bytes.len(), Permissions::Write) {
-        return Err(Refusal::NoPlace);
-    }
     let layout = machine.mem.get_backend();
-    let Ok(pages) = write_pages(alloc, &machine.host, layout, addr, bytes.len()) else {
-        return Err(Refusal::OutOfMemory);
-    };
-    let Ok(kept) = kept_write(alloc, addr, bytes, pages) else {
-        return Err(Refusal::OutOfMemory);
-    };
+    let pages = write_pages(alloc, &machine.host, layout, addr, bytes.len())?;
+    let kept = kept_write(alloc, addr, bytes, pages)?;
     // It reaches, so it isn't refused.
     let _ = machine.guest_write(addr, bytes);
     Ok(kept)
@@ -118,23 +113,23 @@ fn layout_event(alloc: Global, layout: GuestMemoryMmap) -> Event
     }
 }
 
-/// Other regions take the place of all that are there, and what is told of it is kept: refused if one of them lies over
-/// a block that the host doesn't have so, or since an allocation fails, and then nothing changes.
+/// Other regions, whose blocks the host has, take the place of all that are there, and what is told of it is kept;
+/// AllocError if an allocation fails, and then nothing changes.
 pub(crate) fn layout_kept<F: FileSystem, I: Iommu + Drop>(
     alloc: Global,
     machine: &mut Machine<F, I>,
     layout: GuestMemoryMmap,
-) -> Result<Kept, Refusal>
-    ensures { ActKeeps F.may (machine_of machine.old) (SetLayout layout) result (machine_of machine.new) }
+) -> Result<Kept, AllocError>
+    requires { WouldDo (machine_of machine.old) (SetLayout layout) }
+    ensures keeps { IfOk result (λ kept. Keeps F.may (machine_of machine.old) (SetLayout layout) kept (machine_of machine.new)) }
+    ensures lacks { OnErr result (machine_of machine.new ≡ machine_of machine.old) }
 {
-    let (Ok(first), Ok(second)) = (layout.try_clone(), layout.try_clone()) else {
-        return Err(Refusal::OutOfMemory);
-    };
-    match machine.set_layout(layout) {
-        Answer::Refused(refusal) => Err(refusal),
-        _ => Ok(Kept {
-            entry: layout_event(alloc, first),
-            receipt: layout_event(alloc, second),
-        }),
-    }
+    let first = layout.try_clone()?;
+    let second = layout.try_clone()?;
+    // The host has its blocks, so it isn't refused.
+    let _ = machine.set_layout(layout);
+    Ok(Kept {
+        entry: layout_event(alloc, first),
+        receipt: layout_event(alloc, second),
+    })
 }

@@ -1,12 +1,13 @@
 //! The calls on what lies under the lock. Each is one event, and is journaled with its receipt or changes nothing.
 
-ghost use Rattle.std.specs.Prelude.{◌≡◌, vec_len};
+ghost use Rattle.std.specs.Prelude.{◌≡◌, IfErr, OnOk, Err, vec_len};
 ghost use Rattle.fs_shares.specs.Portion.{counted};
 ghost use Rattle.fs_device.specs.MachineView.{machine_of};
 ghost use Rattle.fs_device.specs.Run.{GuestWrite, SetLayout};
 ghost use Rattle.fs_device.specs.Step.{State};
 ghost use Rattle.fs_shared.specs.Calls.{ActsBy, KicksBy, ReadsBy, did, did_kick};
-ghost use Rattle.fs_shared.specs.Held.{journal_of};
+ghost use Rattle.fs_shared.specs.Held.{HasOpenQueue, journal_of};
+ghost use Rattle.fs_shared.specs.Keeping.{KickKeeps};
 ghost use Rattle.fs_shared.specs.Laws.{HoldsReplay};
 
 use crate::acting::{layout_kept, write_kept};
@@ -21,6 +22,26 @@ use fuse_fs::FileSystem;
 use std::alloc::Global;
 use std::sync::ledger::{Book, Ledger};
 use vm_memory::{GuestMemoryMmap, Iommu};
+use vm_memory_core::Permissions;
+
+// Whether a queue takes chains: else what its kick is refused for, since it is missing or stopped.
+fn takes_chains<F: FileSystem, I: Iommu + Drop>(
+    machine: &Machine<F, I>,
+    queue: usize,
+) -> Result<(), DeviceError>
+    ensures open { OnOk result (HasOpenQueue (machine_of machine.now) queue) }
+    ensures closed { IfErr result (λ e. KickKeeps F.may (machine_of machine.now) queue (Err e) (machine_of machine.now)) }
+{
+    match machine.device.queue(queue) {
+        Some(queue) => {
+            if queue.is_stopped() {
+                return Err(DeviceError::Queue(QueueError::Stopped));
+            }
+            Ok(())
+        }
+        None => Err(DeviceError::NoSuchQueue),
+    }
+}
 
 // Serves the next chain of a queue of a machine, and journals what came of it. The entry has room before a chain is taken.
 fn kick_into<L: Ledger, F: FileSystem, I: Iommu + Drop>(
@@ -38,8 +59,8 @@ fn kick_into<L: Ledger, F: FileSystem, I: Iommu + Drop>(
     ensures total { calls.old.total ≡ vec_len journal.old → calls.new.total ≡ vec_len journal.new }
     ensures share { share.new ≡ counted share.old (did_kick result) }
 {
-    if machine.device.queue(queue).is_none() {
-        return Err(DeviceError::NoSuchQueue);
+    if let Err(error) = takes_chains(machine, queue) {
+        return Err(error);
     }
     if journal.reserve(1).is_err() {
         return Err(DeviceError::Queue(QueueError::OutOfMemory));
@@ -55,6 +76,7 @@ fn kick_into<L: Ledger, F: FileSystem, I: Iommu + Drop>(
 }
 
 // Writes a guest's bytes, and journals that. The entry has room before anything is written.
+#[tactic(auto, using(crate::proofs::ActLemmas::write_refused))]
 fn write_into<L: Ledger, F: FileSystem, I: Iommu + Drop>(
     alloc: Global,
     machine: &mut Machine<F, I>,
@@ -70,6 +92,9 @@ fn write_into<L: Ledger, F: FileSystem, I: Iommu + Drop>(
     ensures total { calls.old.total ≡ vec_len journal.old → calls.new.total ≡ vec_len journal.new }
     ensures share { share.new ≡ counted share.old (did result) }
 {
+    if !machine.reaches(addr, bytes.len(), Permissions::Write) {
+        return Err(Refusal::NoPlace);
+    }
     if journal.reserve(1).is_err() {
         return Err(Refusal::OutOfMemory);
     }
@@ -78,11 +103,12 @@ fn write_into<L: Ledger, F: FileSystem, I: Iommu + Drop>(
             let options = machine.device.server().options();
             Ok(journal_kept(journal, calls, share, options, kept))
         }
-        Err(refusal) => Err(refusal),
+        Err(_) => Err(Refusal::OutOfMemory),
     }
 }
 
 // Takes another layout, and journals that. The entry has room before anything is changed.
+#[tactic(auto, using(crate::proofs::ActLemmas::layout_refused))]
 fn layout_into<L: Ledger, F: FileSystem, I: Iommu + Drop>(
     alloc: Global,
     machine: &mut Machine<F, I>,
@@ -97,6 +123,9 @@ fn layout_into<L: Ledger, F: FileSystem, I: Iommu + Drop>(
     ensures total { calls.old.total ≡ vec_len journal.old → calls.new.total ≡ vec_len journal.new }
     ensures share { share.new ≡ counted share.old (did result) }
 {
+    if !machine.host.holds(&layout) {
+        return Err(Refusal::UnknownBlock);
+    }
     if journal.reserve(1).is_err() {
         return Err(Refusal::OutOfMemory);
     }
@@ -105,7 +134,7 @@ fn layout_into<L: Ledger, F: FileSystem, I: Iommu + Drop>(
             let options = machine.device.server().options();
             Ok(journal_kept(journal, calls, share, options, kept))
         }
-        Err(refusal) => Err(refusal),
+        Err(_) => Err(Refusal::OutOfMemory),
     }
 }
 
