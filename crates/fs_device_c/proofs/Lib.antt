@@ -1,4 +1,5 @@
 mod DeviceAsBox
+pub mod LayingLemmas
 pub mod PuttingLemmas
 mod QueueAsBox
 pub mod ServedLemmas

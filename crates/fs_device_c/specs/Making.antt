@@ -49,17 +49,17 @@ abbrev pub CanBegin : (low_base : ℕ) → (low : List ℕ) → (high_base : ℕ
 CanBegin low_base low high_base high files page_size limit =
     AreSettings page_size limit × (length files < 2 ^ 32) × CanBeLaidOut (parts low [] high []) low_base high_base
 
--- a bad argument is refused only if this doesn't hold; an allocation may fail anyway
-abbrev pub RefusesDeviceUnless : (Holds : Type 0) → DeviceRefusal → Type 0
-RefusesDeviceUnless Holds BadArgument = Holds → ⊥
-RefusesDeviceUnless Holds OutOfMemory = Unit {0}
-RefusesDeviceUnless Holds _ = ⊥
+-- a bad argument is refused only if this doesn't hold, and an allocation fails only if it does
+abbrev pub RefusesDeviceExactly : (Holds : Type 0) → DeviceRefusal → Type 0
+RefusesDeviceExactly Holds BadArgument = Holds → ⊥
+RefusesDeviceExactly Holds OutOfMemory = Holds
+RefusesDeviceExactly Holds _ = ⊥
 
--- why no device begins: an argument is invalid, or an allocation failed
+-- why no device begins: an argument is invalid, or all are good and an allocation failed
 abbrev pub RefusesNew : (low_base : ℕ) → (low : List ℕ) → (high_base : ℕ) → (high : List ℕ) → List FsFile → List FsLayout → (page_size limit : ℕ) →
     DeviceRefusal → Type 0
 RefusesNew low_base low high_base high files layouts page_size limit why =
-    RefusesDeviceUnless (CanBegin low_base low high_base high files page_size limit × AreQueues layouts) why
+    RefusesDeviceExactly (CanBegin low_base low high_base high files page_size limit × AreQueues layouts) why
 
 -- its memory is in two parts, each from a guest address on, of which no page is dirty
 pub record HasParts (low_base : ℕ) (low : List ℕ) (high_base : ℕ) (high : List ℕ) (s : DeviceState) : Type 0 where

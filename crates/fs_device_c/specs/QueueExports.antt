@@ -39,11 +39,11 @@ pub record IsNewQueue (low_base : ℕ) (low : List ℕ) (high_base : ℕ) (high 
   pub limited : s.limit ≡ limit
   pub pending : s.pending ≡ None
 
--- a bad argument is refused only if this doesn't hold; an allocation may fail anyway
-abbrev pub RefusesQueueUnless : (Holds : Type 0) → QueueRefusal → Type 0
-RefusesQueueUnless Holds BadArgument = Holds → ⊥
-RefusesQueueUnless Holds OutOfMemory = Unit {0}
-RefusesQueueUnless Holds _ = ⊥
+-- a bad argument is refused only if this doesn't hold, and an allocation fails only if it does
+abbrev pub RefusesQueueExactly : (Holds : Type 0) → QueueRefusal → Type 0
+RefusesQueueExactly Holds BadArgument = Holds → ⊥
+RefusesQueueExactly Holds OutOfMemory = Holds
+RefusesQueueExactly Holds _ = ⊥
 
 -- a refusal, and the handle stays as it was; or a new queue
 abbrev pub QueueMade : (low_base : ℕ) → (low : List ℕ) → (high_base : ℕ) → (high : List ℕ) → (size desc avail used limit : ℕ) →
@@ -52,7 +52,7 @@ QueueMade low_base low high_base high size desc avail used limit before None Non
 QueueMade low_base low high_base high size desc avail used limit before None (Some s) =
     IsNewQueue low_base low high_base high size desc avail used limit s
 QueueMade low_base low high_base high size desc avail used limit before (Some refusal) after =
-    RefusesQueueUnless (CanHaveQueue low_base low high_base high size desc avail used) refusal × (after ≡ before)
+    RefusesQueueExactly (CanHaveQueue low_base low high_base high size desc avail used) refusal × (after ≡ before)
 
 -- a queue is made in the place of what the handle held
 abbrev pub MakesQueue : (low_base : ℕ) → (low : List ℕ) → (high_base : ℕ) → (high : List ℕ) → (size desc avail used limit : ℕ) →

@@ -6,7 +6,7 @@ ghost use Rattle.fuse_directory.specs.Files.{files_of};
 ghost use Rattle.vm_bitmaps.specs.Pages.{pages_of};
 ghost use Rattle.fs_device_c.specs.Lending.{CanBeLaidOut, laid_out, parts};
 ghost use Rattle.fs_device_c.specs.Making.{AreCopies, AreSettings, HasLayout, IsNewDevice, IsRestored};
-ghost use Rattle.fs_device_c.specs.Making.{RefusesDeviceUnless, RefusesNew, RefusesRestore, queue_of};
+ghost use Rattle.fs_device_c.specs.Making.{RefusesDeviceExactly, RefusesNew, RefusesRestore, queue_of};
 
 use crate::device_refusal::DeviceRefusal;
 use crate::device_state::DeviceState;
@@ -90,19 +90,29 @@ fn queue_of(layout: &FsLayout) -> Option<Queue>
     }
 }
 
-// Queues of which no chain was returned.
-fn queues_of(alloc: Global, layouts: &[FsLayout]) -> Result<Vec<Queue>, DeviceRefusal>
-    ensures ok { IfOk result (λ queues. queues.items ≡ map queue_of layouts.now) }
-    ensures can { OnOk result (All HasLayout layouts.now) }
-    ensures err { IfErr result (RefusesDeviceUnless (All HasLayout layouts.now)) }
+// Whether queues can have these layouts.
+fn are_layouts(layouts: &[FsLayout]) -> bool
+    ensures { IsTrue result ↔ All HasLayout layouts.now }
 {
-    let Ok(mut queues) = Vec::with_capacity(alloc, layouts.len()) else {
-        return Err(DeviceRefusal::OutOfMemory);
-    };
     for layout in layouts {
         match queue_of(layout) {
-            Some(queue) => queues.push(queue).unwrap(),
-            None => return Err(DeviceRefusal::BadArgument),
+            Some(_) => {}
+            None => return false,
+        }
+    }
+    true
+}
+
+// Queues of which no chain was returned.
+fn queues_of(alloc: Global, layouts: &[FsLayout]) -> Result<Vec<Queue>, AllocError>
+    requires { All HasLayout layouts.now }
+    ensures { IfOk result (λ queues. queues.items ≡ map queue_of layouts.now) }
+{
+    let mut queues = Vec::with_capacity(alloc, layouts.len())?;
+    for layout in layouts {
+        match queue_of(layout) {
+            Some(queue) => queues.push(queue)?,
+            None => unreachable!(),
         }
     }
     Ok(queues)
@@ -134,7 +144,7 @@ fn parts_of(
     ensures low_pages { IfOk result (λ r. r.1.0 ≡ replicate (pages_of 4096 (length low.old)) false) }
     ensures high_pages { IfOk result (λ r. r.1.1 ≡ replicate (pages_of 4096 (length high.old)) false) }
     ensures can { OnOk result (CanBeLaidOut (parts low.old [] high.old []) low_base high_base) }
-    ensures refused { IfErr result (RefusesDeviceUnless (CanBeLaidOut (parts low.old [] high.old []) low_base high_base)) }
+    ensures refused { IfErr result (RefusesDeviceExactly (CanBeLaidOut (parts low.old [] high.old []) low_base high_base)) }
     ensures low { low.new ≡ low.old }
     ensures high { high.new ≡ high.old }
 {
@@ -146,7 +156,7 @@ fn parts_of(
 }
 
 /// A device that begins, over copies of files, with queues of these layouts, for memory in two parts, each from a guest
-/// address on: BadArgument if it can't be so, or OutOfMemory. Nothing is written.
+/// address on: BadArgument if it can't be so, else OutOfMemory if an allocation fails. Nothing is written.
 pub fn make_device(
     alloc: Global,
     low_base: u64,
@@ -166,20 +176,20 @@ pub fn make_device(
     if !are_settings(page_size, limit) || files.len() >= MOST_FILES {
         return Err(DeviceRefusal::BadArgument);
     }
-    if layouts.is_empty() || layouts.len() > MOST_QUEUES {
+    let queue_count = layouts.len();
+    if queue_count == 0 || queue_count > MOST_QUEUES || !are_layouts(layouts) {
         return Err(DeviceRefusal::BadArgument);
     }
-    let queues = match queues_of(alloc, layouts) {
-        Ok(queues) => queues,
-        Err(refusal) => return Err(refusal),
-    };
-    let Ok(fs) = directory(alloc, files) else {
-        return Err(DeviceRefusal::OutOfMemory);
-    };
     let (low_len, high_len) = (low.len(), high.len());
     let (mem, pages) = match parts_of(alloc, low_base, low, high_base, high) {
         Ok(parts) => parts,
         Err(refusal) => return Err(refusal),
+    };
+    let Ok(queues) = queues_of(alloc, layouts) else {
+        return Err(DeviceRefusal::OutOfMemory);
+    };
+    let Ok(fs) = directory(alloc, files) else {
+        return Err(DeviceRefusal::OutOfMemory);
     };
     let (low_pages, high_pages) = pages;
     let device = Device::new(Server::new(fs, page_size), queues, limit);

@@ -1,6 +1,6 @@
 //! The layout of memory in two parts.
 
-ghost use Rattle.std.specs.Prelude.{◌≡◌, ◌≤◌, ◌<◌, ◌^◌, ◌++◌, false, length, replicate, [], IfErr, IfOk, OnOk};
+ghost use Rattle.std.specs.Prelude.{◌≡◌, ◌≤◌, ◌<◌, ◌+◌, ◌^◌, ◌++◌, ◌⊎◌, ◌↔◌, false, length, replicate, [], IfErr, IfOk, IsTrue, OnOk};
 ghost use Rattle.vm_bitmaps.specs.Pages.{pages_of};
 ghost use Rattle.vm_memory.specs.Making.{backing_over};
 ghost use Rattle.fs_device_c.specs.Lending.{CanBeLaidOut, PartFits, RefusesExactly, RefusesUnless, StandApart, laid_out, parts, region_in};
@@ -85,8 +85,29 @@ fn clear_pages(alloc: Global, low: usize, high: usize) -> Result<Pages, AllocErr
     Ok((low_pages, high_pages))
 }
 
+// Whether the last of so many addresses from one on fits 64 bits.
+fn fits(base: u64, len: usize) -> bool
+    ensures { IsTrue result ↔ ((len ≡ 0) ⊎ (base + len ≤ 2 ^ 64)) }
+{
+    len == 0 || len as u64 - 1 <= u64::MAX - base
+}
+
+// Whether two parts, each from a guest address on, make a layout: both fit, and the low one ends before the high one begins, unless one is empty.
+#[tactic(auto, using(crate::proofs::LayingLemmas::laid_by_numbers))]
+fn can_be_laid_out(low_base: u64, low: &[u8], high_base: u64, high: &[u8]) -> bool
+    ensures { IsTrue result ↔ CanBeLaidOut (parts low.now [] high.now []) low_base high_base }
+{
+    let (low_len, high_len) = (low.len(), high.len());
+    if !fits(low_base, low_len) || !fits(high_base, high_len) {
+        return false;
+    }
+    low_len == 0
+        || high_len == 0
+        || (low_base <= high_base && low_len as u64 <= high_base - low_base)
+}
+
 /// The layout of two parts that are lent, each from a guest address on, and their clear pages: BadArgument if they make
-/// none, or OutOfMemory. Nothing is written.
+/// none, else OutOfMemory if an allocation fails. Nothing is written.
 pub fn lay_out(
     alloc: Global,
     low_base: u64,
@@ -98,10 +119,13 @@ pub fn lay_out(
     ensures low_pages { IfOk result (λ r. r.1.0 ≡ replicate (pages_of 4096 (length low.old)) false) }
     ensures high_pages { IfOk result (λ r. r.1.1 ≡ replicate (pages_of 4096 (length high.old)) false) }
     ensures can { OnOk result (CanBeLaidOut (parts low.old [] high.old []) low_base high_base) }
-    ensures refused { IfErr result (RefusesUnless (CanBeLaidOut (parts low.old [] high.old []) low_base high_base)) }
+    ensures refused { IfErr result (RefusesExactly (CanBeLaidOut (parts low.old [] high.old []) low_base high_base)) }
     ensures low { low.new ≡ low.old }
     ensures high { high.new ≡ high.old }
 {
+    if !can_be_laid_out(low_base, low, high_base, high) {
+        return Err(Refusal::BadArgument);
+    }
     let Ok((mut low_pages, mut high_pages)) = clear_pages(alloc, low.len(), high.len()) else {
         return Err(Refusal::OutOfMemory);
     };

@@ -4,7 +4,7 @@ ghost use Rattle.std.specs.Prelude.{◌≡◌, ◌∷◌, [], ◌↔◌, ◌≤�
 ghost use Rattle.vm_bitmaps.specs.Pages.{pages_of};
 ghost use Rattle.fs_queue.specs.Windows.{TakenLiesIn, room_places};
 ghost use Rattle.fs_device_c.specs.QueueExports.{CanHaveQueue, HadLengths, HasTheirPages, IsNewQueue};
-ghost use Rattle.fs_device_c.specs.QueueExports.{GivesSo, KeptBack, RefusesQueueUnless, RefusesTake, TakesSo};
+ghost use Rattle.fs_device_c.specs.QueueExports.{GivesSo, KeptBack, RefusesQueueExactly, RefusesTake, TakesSo};
 
 use crate::making::{Pages, lay_out};
 use crate::queue_lending::{FsTaken, give_back_over, take_over};
@@ -162,8 +162,8 @@ pub fn give_chain(
     (told, None)
 }
 
-/// A queue with this layout, for memory in two parts, each from a guest address on: BadArgument if it can't be so, or
-/// OutOfMemory. Nothing is written.
+/// A queue with this layout, for memory in two parts, each from a guest address on: BadArgument if it can't be so, else
+/// OutOfMemory if an allocation fails. Nothing is written.
 pub fn make_queue(
     alloc: Global,
     low_base: u64,
@@ -177,7 +177,7 @@ pub fn make_queue(
     limit: u32,
 ) -> Result<QueueState, QueueRefusal>
     ensures made { IfOk result (IsNewQueue low_base low.old high_base high.old size desc avail used limit) }
-    ensures refused { IfErr result (RefusesQueueUnless (CanHaveQueue low_base low.old high_base high.old size desc avail used)) }
+    ensures refused { IfErr result (RefusesQueueExactly (CanHaveQueue low_base low.old high_base high.old size desc avail used)) }
     ensures low { low.new ≡ low.old }
     ensures high { high.new ≡ high.old }
 {
