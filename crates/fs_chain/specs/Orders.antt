@@ -108,3 +108,32 @@ give_up_error (at.Taken out) q = if is_out_of q out then None else Some OtherQue
 give_up_error (at.Waits out waiting) q = if is_out_of q out then None else Some OtherQueue
 give_up_error (at.Lists out listing) q = if is_out_of q out then None else Some OtherQueue
 give_up_error (at.Answered out reply) q = if is_out_of q out then None else Some OtherQueue
+
+-- whether no chain is walked, and none is out
+abbrev pub is_free : state.State → Bool
+is_free at.Free = true
+is_free _ = false
+
+-- whether the stores of a return were told
+abbrev pub is_returning : state.State → Bool
+is_returning (at.Returning out) = true
+is_returning _ = false
+
+-- whether a listing gathers entries
+abbrev pub is_listing : state.State → Bool
+is_listing (at.Lists out listing) = true
+is_listing _ = false
+
+-- how many bytes of a load a walk asks for: 0 if there is none
+abbrev pub load_len : state.State → ℕ
+load_len (at.Walking course walk) = asked_len walk
+load_len _ = 0
+
+-- how many bytes of reply a chain has room for: 0 if none is out
+abbrev pub room_len : state.State → ℕ
+room_len (at.Taken out) = out.room_len
+room_len (at.Waits out waiting) = out.room_len
+room_len (at.Lists out listing) = out.room_len
+room_len (at.Answered out reply) = out.room_len
+room_len (at.Returning out) = out.room_len
+room_len _ = 0

@@ -1,4 +1,4 @@
-//! How a walk goes on by the bytes of a load, and where these bytes stand.
+//! A walk is given the bytes that it asked for; where these bytes stand.
 
 ghost use Rattle.std.specs.Prelude.{◌≡◌, ◌⊎◌, ◌<◌, ◌+◌, ◌-◌, Some, None, IfErr, IfOk, OnOk, OnErr, IfSome, OnSome, length, min};
 ghost use Rattle.smallvec.specs.SmallVec.{HasRoomFor};
@@ -61,7 +61,7 @@ impl Workbench {
         }
     }
 
-    // Goes on by the bytes of a load.
+    // Gives the walk the bytes of the load that it asked for.
     fn give(
         &mut self,
         queue: &mut KeptQueue,
@@ -78,7 +78,7 @@ impl Workbench {
         self.settle(queue, course, step)
     }
 
-    // Goes on by the bytes of a load, if it can.
+    // Gives the walk these bytes, if it asked for so many and its queue is this one.
     fn go_on(
         &mut self,
         queue: &mut KeptQueue,

@@ -7,6 +7,7 @@ mod error;
 mod giving_up;
 mod going_on;
 mod listing;
+mod looking;
 mod queue;
 mod returning;
 mod state;

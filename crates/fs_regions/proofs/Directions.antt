@@ -102,6 +102,17 @@ part a k n r more =
     none_left : (i j : ℕ) → j ≡ i → i - j ≡ 0
     none_left i j same = omega (arith, same)
 
+-- the addresses that a descriptor has from the byte on that is skipped to
+pub range_of : (l : List Region) (b : Bool) (ds : List Descriptor) (from skip : ℕ) (d : Descriptor) (rest : List Descriptor) → beq (is_writable d) b ≡ true → skip < d.len
+    → Skips l b ds from skip (d ∷ rest) → take (d.len - skip) (drop from (addresses_of (of_direction b ds))) ≡ addresses (d.addr + skip) (d.len - skip)
+range_of l b ds from skip d rest this less s =
+    let same = direction b true d rest this in
+    let bytes : drop from (addresses_of (of_direction b ds)) ≡ drop skip (addresses_of (d ∷ of_direction b rest)) = rw same at s.bytes in
+    let whole : d.len ≡ skip + (d.len - skip + 0) = omega (arith, less) in
+    ap (take (d.len - skip)) bytes
+    ∙ ap (λ n. take (d.len - skip) (drop skip (addresses d.addr n ++ addresses_of (of_direction b rest)))) whole
+    ∙ part d.addr skip (d.len - skip) 0 (addresses_of (of_direction b rest))
+
 pub window_of : (l : List Region) (b : Bool) (ds : List Descriptor) (from skip : ℕ) (d : Descriptor) (rest : List Descriptor) (w : Window) → beq (is_writable d) b ≡ true → skip < d.len → Skips l b ds from skip (d ∷ rest) →
     IsWindowAt (place l) (d.addr + skip) (d.len - skip) w → IsWindowFrom l b ds from w
 window_of l b ds from skip d rest w this less s at =

@@ -1,9 +1,9 @@
 -- Where the bytes of a chain's request and room stand.
-use Rattle.std.specs.Prelude.{◌≡◌, ℕ, ◌<◌, ◌≤◌, ◌&&◌, ◌||◌, ◌+◌, not, Bool, List, nat_lt, take, drop, Option, Some, None, if◌then◌else◌}
+use Rattle.std.specs.Prelude.{◌≡◌, ℕ, ◌<◌, ◌≤◌, ◌&&◌, ◌||◌, ◌+◌, ◌%◌, ◌^◌, not, Bool, List, nat_lt, take, drop, Option, Some, None, if◌then◌else◌}
 use Rattle.vm_iotlb.specs.declared.permissions.Permissions.TheVariants.{Read, Write}
 use Rattle.vm_memory_core.specs.Window.{Window, places_of}
 use Rattle.vm_memory.specs.Layout.{Region, place}
-use Rattle.vm_memory.specs.Memory.{Memory, located, reach}
+use Rattle.vm_memory.specs.Memory.{Memory, addresses, located, reach}
 use Rattle.fs_queue.specs.declared.fault.ChainFault.{ChainFault}
 use Rattle.fs_queue.specs.declared.fault.ChainFault.TheVariants.{OverLimit, RequestUnreachable, RoomUnreachable}
 use Rattle.fs_queue.specs.declared.fault.QueueError.{QueueError}
@@ -33,3 +33,8 @@ abbrev pub IsWindowFrom : List Region → (write_only : Bool) → List Descripto
 IsWindowFrom regions write_only ds from w =
     (0 < w.len) × (from + w.len ≤ total_len (of_direction write_only ds))
     × (located (place regions) (take w.len (drop from (addresses_of (of_direction write_only ds)))) ≡ Some (places_of w))
+
+-- so many addresses, not none, that the bytes of one direction have from one on; the first is told modulo 2^64
+abbrev pub IsRangeFrom : (write_only : Bool) → List Descriptor → (from guest len : ℕ) → Type 0
+IsRangeFrom write_only ds from guest len =
+    (0 < len) × (a : ℕ) × (guest ≡ a % 2 ^ 64) × (take len (drop from (addresses_of (of_direction write_only ds))) ≡ addresses a len)

@@ -5,7 +5,7 @@ ghost use Rattle.fs_queue.specs.Taking.{all_reach, total_len};
 ghost use Rattle.fs_queue.specs.Walking.{at_position};
 ghost use Rattle.fs_queue.specs.Windows.{access_of, of_direction};
 ghost use Rattle.fs_regions.specs.Places.{places_in};
-ghost use Rattle.fs_regions.specs.Windows.{return_fault, why_not, IsWindowFrom};
+ghost use Rattle.fs_regions.specs.Windows.{return_fault, why_not, IsRangeFrom, IsWindowFrom};
 
 use crate::regions::GuestRegions;
 use fs_queue::{ChainFault, Descriptor, QueueError, QueueLayout, count_bytes};
@@ -96,6 +96,25 @@ pub fn window_from(
                     return None;
                 }
                 return regions.window_at(descriptor.addr + skip, (len - skip) as usize);
+            }
+            skip -= len;
+        }
+    }
+    None
+}
+
+/// The guest's addresses of the bytes of one direction of a chain from one on, as far as their descriptor goes: the first one, modulo 2^64, and how many.
+/// None past their end.
+pub fn range_from(descriptors: &[Descriptor], write_only: bool, from: u64) -> Option<(u64, u64)>
+    ensures some { IfSome result (λ r. IsRangeFrom write_only descriptors.now from r.0 r.1) }
+    ensures none { result ≡ None → total_len (of_direction write_only descriptors.now) ≤ from }
+{
+    let mut skip = from;
+    for descriptor in descriptors {
+        if descriptor.is_write_only() == write_only {
+            let len = u64::from(descriptor.len);
+            if skip < len {
+                return Some((descriptor.addr.wrapping_add(skip), len - skip));
             }
             skip -= len;
         }

@@ -9,7 +9,7 @@ mod regions;
 mod step;
 mod walk;
 
-pub use chain::{chain_fault, window_from};
+pub use chain::{chain_fault, range_from, window_from};
 pub use course::Course;
 pub use region::MemoryRegion;
 pub use regions::{GuestRegions, RegionsError};

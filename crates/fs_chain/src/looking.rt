@@ -1,0 +1,85 @@
+//! What may be asked of a handle at any time, and changes nothing.
+
+ghost use Rattle.std.specs.Prelude.{◌≡◌, ◌<◌, ◌≤◌, IfSome, OnSome, None, true, min};
+ghost use Rattle.vm_memory.specs.Layout.{left_at, place};
+ghost use Rattle.vm_memory.specs.Slices.{IsWindowAt};
+ghost use Rattle.fs_queue.specs.Taking.{total_len};
+ghost use Rattle.fs_queue.specs.Windows.{of_direction};
+ghost use Rattle.fs_regions.specs.Walks.{asked_len};
+ghost use Rattle.fs_regions.specs.Windows.{IsRangeFrom};
+ghost use Rattle.fs_chain.specs.Orders.{is_free, is_listing, is_out, is_returning, load_len, room_len};
+
+use crate::state::State;
+use crate::workbench::Workbench;
+use fs_regions::range_from;
+use vm_memory_core::VolatileSlice;
+
+impl Workbench {
+    /// The longest window of at most `most` bytes from a guest address on. None if the address has no place.
+    pub fn window_at(&self, addr: u64, most: usize) -> Option<VolatileSlice>
+        requires { 0 < most }
+        ensures none { result ≡ None → place self.now.regions addr ≡ None }
+        ensures some { IfSome result (IsWindowAt (place self.now.regions) addr most) }
+        ensures longest { IfSome result (λ w. w.len ≡ min most (left_at self.now.regions addr)) }
+    {
+        self.regions.window_at(addr, most)
+    }
+
+    /// Whether no chain is walked, and none is out.
+    pub fn is_free(&self) -> bool
+        ensures { result ≡ is_free self.now.state }
+    {
+        matches!(self.state, State::Free)
+    }
+
+    /// Whether the stores of a return were told.
+    pub fn is_returning(&self) -> bool
+        ensures { result ≡ is_returning self.now.state }
+    {
+        matches!(self.state, State::Returning(_))
+    }
+
+    /// Whether the chain's call is a listing that is answered entry by entry.
+    pub fn is_listing(&self) -> bool
+        ensures { result ≡ is_listing self.now.state }
+    {
+        matches!(self.state, State::Lists(_, _))
+    }
+
+    /// How many bytes of a load a walk asks for; 0 if no walk asks.
+    pub fn load_len(&self) -> usize
+        ensures { result ≡ load_len self.now.state }
+    {
+        match &self.state {
+            State::Walking(_, walk) => walk.len(),
+            _ => 0,
+        }
+    }
+
+    /// How many bytes of reply the chain has room for; 0 if none is out.
+    pub fn room_len(&self) -> usize
+        ensures { result ≡ room_len self.now.state }
+    {
+        match &self.state {
+            State::Taken(out)
+            | State::Waits(out, _)
+            | State::Lists(out, _)
+            | State::Answered(out, _)
+            | State::Returning(out) => out.room_len,
+            State::Free | State::Walking(_, _) => 0,
+        }
+    }
+
+    /// The guest's addresses of the room's bytes from one on, as far as their descriptor goes: the first one, modulo 2^64, and how many. None past their
+    /// end, or if no chain is out.
+    pub fn room_range(&self, from: u64) -> Option<(u64, u64)>
+        ensures some { IfSome result (λ r. IsRangeFrom true self.now.descriptors.items from r.0 r.1) }
+        ensures out { OnSome result (is_out self.now.state ≡ true) }
+        ensures none { result ≡ None → is_out self.now.state ≡ true → total_len (of_direction true self.now.descriptors.items) ≤ from }
+    {
+        if !self.is_out() {
+            return None;
+        }
+        range_from(&self.descriptors, true, from)
+    }
+}

@@ -1,0 +1,6 @@
+pub mod BenchLemmas
+mod ChainAsBox
+pub mod MemoryLemmas
+pub mod QueueLemmas
+pub mod RangeLemmas
+pub mod WindowLemmas

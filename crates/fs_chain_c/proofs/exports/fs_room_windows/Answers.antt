@@ -1,0 +1,6 @@
+use Rattle.std.proofs.Common.{rules, refl}
+use Rattle.fs_chain_c.proofs.BenchLemmas.{on_bench}
+use Rattle.fs_chain_c.proofs.exports.fs_room_windows.Goals as goal
+
+pub returns : goal.returns
+returns c = on_bench _ _ c.args.chain.now.seat.value c.of_box.result.seat.value c.in-Some.bench.value c.in-Some.bench.value (search rules) (search rules) (search rules, refl)

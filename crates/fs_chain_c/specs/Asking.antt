@@ -1,0 +1,110 @@
+-- What C is told of a request, and what comes of an answer.
+use Rattle.std.specs.Prelude.{◌≡◌, ◌⊎◌, ℕ, List, length, drop, bit_and, Option, Some, None, Result, Ok, Err, IfOk, IfErr, OnOk, OnErr, if◌then◌else◌}
+use Rattle.fuse_values.specs.declared.answer.FileAnswer.{FileAnswer}
+use Rattle.fuse_values.specs.declared.answer.FileAnswer.TheVariants as answer
+use Rattle.fuse_values.specs.declared.call.FileCall.{FileCall}
+use Rattle.fuse_values.specs.declared.call.FileCall.TheVariants as value
+use Rattle.server_phases.specs.Asking.{IsFront}
+use Rattle.server_phases.specs.declared.session.Session.{Session}
+use Rattle.server_segments.specs.Errors.{error_number}
+use Rattle.virtiofsd_fuse.specs.Grammar.{known_options, meaning}
+use Rattle.virtiofsd_fuse.specs.Serving.{setting}
+use Rattle.fs_chain.specs.declared.answering.Replied.{Replied}
+use Rattle.fs_chain.specs.declared.asking.Told as told
+use Rattle.fs_chain.specs.declared.asking.Told.TheVariants as tells
+use Rattle.fs_chain.specs.declared.error.ChainError.{ChainError}
+use Rattle.fs_chain.specs.declared.error.ChainError.TheVariants.{BadArgument, OutOfMemory}
+use Rattle.fs_chain.specs.declared.workbench.Workbench.{Workbench}
+use Rattle.fs_chain.specs.Answers.{AnswerFails, CanBeGiven, IfWaits, IsGiven, IsWaiting}
+use Rattle.fs_chain.specs.Asking.{IfTaken, TellsMeaning, wanted_after, wanted_by}
+use Rattle.fs_chain.specs.Numbers.{chain_error_number}
+use Rattle.fs_chain.specs.Orders.{ask_error, room_len}
+use Rattle.fs_chain.specs.Walks.{IsAllBut}
+use Rattle.fs_chain_c.specs.declared.bench.Bench.{Bench}
+use Rattle.fs_chain_c.specs.declared.call.FsCall.{FsCall}
+use Rattle.fs_chain_c.specs.declared.device.FsDevice.{FsDevice}
+use Rattle.fs_chain_c.specs.Calls.{call_fields, low, no_call, numbered}
+use Rattle.fs_chain_c.specs.Memory.{IsDevice}
+
+-- ---- an answer
+
+-- what comes of an answer in a session: what is given of it, or why it is refused, and then nothing changes
+pub record Answers (w : Workbench) (s : Session) (a : FileAnswer) (told : Result Replied ChainError) (w' : Workbench) (s' : Session) : Type 0 where
+  pub given : IfOk told (λ r. IfWaits w.state (λ out waiting.
+      IsGiven (setting s.page_size s.options.0 waiting.room) waiting a out s'.options.0 r w'.state))
+  pub taken : OnOk told (IsWaiting w.state × IfWaits w.state (λ out waiting. CanBeGiven waiting a))
+  pub refused : IfErr told (λ e. AnswerFails w.state a e)
+  pub same : OnErr told ((w' ≡ w) × (s' ≡ s))
+  pub page_size : s'.page_size ≡ s.page_size
+  pub stays : IsAllBut w w' × (w'.descriptors ≡ w.descriptors)
+
+-- what is told of what comes of it: done, that the room holds no such reply (35), or why it is refused
+abbrev pub replied_status : Result Replied ChainError → ℕ
+replied_status (Ok r) = if r.has_room then 0 else 35
+replied_status (Err e) = chain_error_number e
+
+-- a bench's call is answered
+abbrev pub AnswersBench : Bench → FileAnswer → (status : ℕ) → Bench → Type 0
+AnswersBench b a status b' =
+    (told : Result Replied ChainError) × Answers b.workbench b.session a told b'.workbench b'.session × (status ≡ replied_status told) × (b'.part ≡ b.part)
+
+-- ---- a request
+
+-- the answer to a call that nobody waits for, or that no file system of C's has: ENOSYS, as by its default
+abbrev pub answer_unasked : FileCall → Option FileAnswer
+answer_unasked (value.Forget context node count) = Some answer.Done
+answer_unasked (value.BatchForget context counts) = Some answer.Done
+answer_unasked value.Getlk = Some (answer.Failed 38)
+answer_unasked value.Setlk = Some (answer.Failed 38)
+answer_unasked value.Setlkw = Some (answer.Failed 38)
+answer_unasked value.Bmap = Some (answer.Failed 38)
+answer_unasked value.Ioctl = Some (answer.Failed 38)
+answer_unasked value.Poll = Some (answer.Failed 38)
+answer_unasked value.NotifyReply = Some (answer.Failed 38)
+answer_unasked value.TmpFile = Some (answer.Failed 38)
+answer_unasked _ = None
+
+-- such a call is answered at once; others wait
+abbrev pub Settles : Bench → Option FileAnswer → Bench → Type 0
+Settles b None b' = b' ≡ b
+Settles b (Some a) b' = (status : ℕ) × AnswersBench b a status b'
+
+-- a workbench is asked by the first bytes of a request, and tells this: all requests that begin so, and are as long as its chain's, mean it
+pub record Asks (w : Workbench) (s : Session) (request : List ℕ) (made : told.Told) (w' : Workbench) : Type 0 where
+  pub can : ask_error w.state (length request) ≡ None
+  pub tells : IfTaken w.state (λ out. (all : List ℕ) → out.request_len ≡ length all → IsFront request all
+      → TellsMeaning (setting s.page_size s.options.0 out.room_len) (meaning s.options.0 all out.room_len) (drop 80 all) out made w'.state)
+  pub wanted : IfTaken w.state (λ out. wanted_by made ≡ wanted_after request out.request_len)
+  pub stays : IsAllBut w w' × (w'.descriptors ≡ w.descriptors)
+
+-- it can't be asked: it isn't where a request is asked, more bytes came than the request has, or memory is wanting
+pub record CannotAsk (w : Workbench) (request : List ℕ) (e : ChainError) (w' : Workbench) : Type 0 where
+  pub why : (ask_error w.state (length request) ≡ Some e) ⊎ ((e ≡ OutOfMemory) × (ask_error w.state (length request) ≡ None))
+  pub stays : IsAllBut w w' × (w'.descriptors ≡ w.descriptors) × (w'.state ≡ w.state)
+
+-- the session that goes on with a device's numbers; bits of no option are dropped
+abbrev pub IsSessionOf : FsDevice → Session → Type 0
+IsSessionOf d s = (s.page_size ≡ d.page_size) × (s.options.0 ≡ bit_and d.options known_options)
+
+-- what C is told of what a request asks: the call, how many bytes are wanted (34), nothing, or the fault
+abbrev pub TellsAsked : Bench → (request : List ℕ) → told.Told → FsCall → (status : ℕ) → Bench → Type 0
+TellsAsked b request (tells.Call made) call status b' =
+    (status ≡ 0) × (call ≡ call_fields request b.session.options.0 (room_len b.workbench.state) made) × Settles b (answer_unasked made) b'
+TellsAsked b request (tells.More n) call status b' = (status ≡ 34) × (call ≡ numbered request (record no_call { needed = low n })) × (b' ≡ b)
+TellsAsked b request tells.Nothing call status b' = (status ≡ 0) × (call ≡ numbered request no_call) × (b' ≡ b)
+TellsAsked b request (tells.Fault e) call status b' =
+    (status ≡ 0) × (call ≡ numbered request (record no_call { fault = error_number e })) × (b' ≡ b)
+
+-- a bench that was asked: by its workbench, in the session of the device
+abbrev pub AsksSo : Bench → FsDevice → (request : List ℕ) → FsCall → (status : ℕ) → Bench → Type 0
+AsksSo b d request call status b' =
+    (asked : Bench) × (made : told.Told) × IsSessionOf d asked.session × (asked.part ≡ b.part)
+    × Asks b.workbench asked.session request made asked.workbench × TellsAsked asked request made call status b'
+
+-- a bench is asked by the first bytes of a request; a bad argument, if the device's numbers are none
+abbrev pub AsksBench : Bench → FsDevice → (request : List ℕ) → FsCall → (status : ℕ) → Bench → Type 0
+AsksBench b d request call status b' =
+    ((IsDevice d → ⊥) × (status ≡ chain_error_number BadArgument) × (call ≡ no_call) × (b' ≡ b))
+    ⊎ (IsDevice d × (e : ChainError) × CannotAsk b.workbench request e b'.workbench × (status ≡ chain_error_number e) × (call ≡ no_call)
+    × (b'.session ≡ b.session) × (b'.part ≡ b.part))
+    ⊎ (IsDevice d × AsksSo b d request call status b')

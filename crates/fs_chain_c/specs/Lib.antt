@@ -1,0 +1,13 @@
+pub mod Asking
+pub mod Benches
+pub mod Calls
+pub mod Listing
+pub mod Memory
+pub mod Owned
+pub mod Queues
+pub mod Ranges
+pub mod Records
+pub mod Replies
+pub mod Returning
+pub mod Walking
+pub mod Windows

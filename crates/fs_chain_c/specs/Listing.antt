@@ -1,0 +1,117 @@
+-- Listings that C answers entry by entry.
+use Rattle.std.specs.Prelude.{◌≡◌, ◌==◌, ◌/◌, ◌%◌, ◌&&◌, nat_le, ℕ, Bool, true, false, List, length, Option, Some, None, Result, Ok, Err, if◌then◌else◌}
+use Rattle.fuse_fs.specs.Calls.{Listed}
+use Rattle.fuse_fs.specs.declared.answers.Entry.{Entry}
+use Rattle.fuse_values.specs.declared.answer.FileAnswer.TheVariants as answer
+use Rattle.server_replies.specs.Entries.{no_node}
+use Rattle.server_phases.specs.declared.listing.Listing.{Listing}
+use Rattle.server_phases.specs.declared.listing.NotAdded as reason
+use Rattle.server_phases.specs.Gathering.{Brought, added_found, added_plain}
+use Rattle.fs_chain.specs.declared.error.ChainError.{ChainError}
+use Rattle.fs_chain.specs.declared.error.ChainError.TheVariants.{BadArgument, WrongOrder}
+use Rattle.fs_chain.specs.declared.listing.Added.{Added}
+use Rattle.fs_chain.specs.declared.listing.Added.TheVariants as added
+use Rattle.fs_chain.specs.Listings.{AddsTo, Ends, Fails}
+use Rattle.fs_chain.specs.Numbers.{chain_error_number}
+use Rattle.fs_chain.specs.Orders.{is_listing}
+use Rattle.fs_chain.specs.Walks.{IsAllBut}
+use Rattle.fs_chain_c.specs.declared.answers.FsEntry.{FsEntry}
+use Rattle.fs_chain_c.specs.declared.bench.Bench.{Bench}
+use Rattle.fs_chain_c.specs.Asking.{AnswersBench}
+use Rattle.fs_chain_c.specs.Benches.{OnBench}
+
+-- all but where the chain is stays
+abbrev pub IsAllButPlace : Bench → Bench → Type 0
+IsAllButPlace b b' =
+    IsAllBut b.workbench b'.workbench × (b'.workbench.descriptors ≡ b.workbench.descriptors) × (b'.session ≡ b.session) × (b'.part ≡ b.part)
+
+-- ---- entries
+
+-- what is told of an entry: it is in the list, it is full (36), or the listing fails (37); or why it isn't taken
+abbrev pub added_status : Result Added ChainError → ℕ
+added_status (Ok added.In) = 0
+added_status (Ok added.Full) = 36
+added_status (Ok added.NoRoom) = 37
+added_status (Ok added.TooLong) = 37
+added_status (Err e) = chain_error_number e
+
+-- an entry is brought to a bench's listing
+abbrev pub AddsBench : Bench → Brought → (outcome : Listing → Result (Unit {0}) reason.NotAdded) → (list : List ℕ) → (status : ℕ) → Bench → (list' : List ℕ) → Type 0
+AddsBench b e outcome list status b' list' =
+    (told : Result Added ChainError) × AddsTo b.workbench.state b'.workbench.state list list' e outcome told × IsAllButPlace b b' × (status ≡ added_status told)
+
+-- whether a name has a length that a directory's may have
+abbrev pub is_name : List ℕ → Bool
+is_name name = nat_le 1 (length name) && nat_le (length name) 255
+
+-- an entry, as it is listed
+abbrev pub listed_as : (name : List ℕ) → (ino offset type : ℕ) → Listed
+listed_as name ino offset type = record { ino = ino; offset = offset; kind = type; name = name }
+
+-- an entry of READDIR is brought; a bad argument, if it has no name
+abbrev pub AddsEntry : (is : Bool) → Listed → Option Bench → (list : List ℕ) → (status : ℕ) → Option Bench → (list' : List ℕ) → Type 0
+AddsEntry false d before list status after list' = (status ≡ chain_error_number BadArgument) × (after ≡ before) × (list' ≡ list)
+AddsEntry true d before list status after list' =
+    OnBench (λ b b'. AddsBench b (d, no_node d) (λ l. added_plain l (length list) (length d.name)) list status b' list')
+    ((status ≡ chain_error_number WrongOrder) × (list' ≡ list)) before after
+
+-- the kind of an entry with these attributes: the bits of S_IFMT
+abbrev pub type_of : FsEntry → ℕ
+type_of e = e.attr.mode / 4096 % 16
+
+-- an entry of READDIRPLUS is brought; a bad argument, if it has no name, or a time isn't one
+abbrev pub AddsNode : (is : Bool) → Listed → Option (Entry ℕ) → Option Bench → (list : List ℕ) → (status : ℕ) → Option Bench → (list' : List ℕ) → Type 0
+AddsNode true d (Some entry) before list status after list' =
+    OnBench (λ b b'. AddsBench b (d, entry) (λ l. added_found l (length list) (length d.name)) list status b' list')
+    ((status ≡ chain_error_number WrongOrder) × (list' ≡ list)) before after
+AddsNode true d None before list status after list' = (status ≡ chain_error_number BadArgument) × (after ≡ before) × (list' ≡ list)
+AddsNode false d entry before list status after list' = (status ≡ chain_error_number BadArgument) × (after ≡ before) × (list' ≡ list)
+
+-- ---- the reply
+
+-- what is told of how a listing ends: done, or that it is answered by the entries that it has (38) though it failed, or why it doesn't end
+abbrev pub ended_status : Result ℕ ChainError → ℕ
+ended_status (Ok n) = 0
+ended_status (Err e) = chain_error_number e
+
+abbrev pub failed_status : Result ℕ ChainError → ℕ
+failed_status (Ok n) = if n == 0 then 0 else 38
+failed_status (Err e) = chain_error_number e
+
+-- how many bytes of the list are the data
+abbrev pub ended_len : Result ℕ ChainError → ℕ
+ended_len (Ok n) = n
+ended_len (Err e) = 0
+
+-- a bench's listing ends by the entries so far
+abbrev pub EndsBench : Bench → (status len : ℕ) → Bench → Type 0
+EndsBench b status len b' =
+    (told : Result ℕ ChainError) × Ends b.workbench.state b'.workbench.state told × IsAllButPlace b b' × (status ≡ ended_status told) × (len ≡ ended_len told)
+
+-- a handle's listing ends so
+abbrev pub EndsList : Option Bench → (status len : ℕ) → Option Bench → Type 0
+EndsList before status len after = OnBench (λ b b'. EndsBench b status len b') ((status ≡ chain_error_number WrongOrder) × (len ≡ 0)) before after
+
+-- a bench's listing fails by an errno
+abbrev pub FailsListing : (errno : ℕ) → Bench → (status : ℕ) → Bench → Type 0
+FailsListing errno b status b' =
+    (told : Result ℕ ChainError) × Fails errno b.workbench.state b'.workbench.state told × IsAllButPlace b b' × (status ≡ failed_status told)
+
+-- a bench's call fails by an errno: a listing by what it has, another call by its answer
+abbrev pub FailsBench : (listing : Bool) → (errno : ℕ) → Bench → (status : ℕ) → Bench → Type 0
+FailsBench true errno b status b' = FailsListing errno b status b'
+FailsBench false errno b status b' = AnswersBench b (answer.Failed errno) status b'
+
+-- the errno of a number, from 1 to 4095
+abbrev pub errno_of : ℕ → Option ℕ
+errno_of n = if nat_le 1 n && nat_le n 4095 then Some n else None
+
+-- a handle's call fails by an errno, or is done (0), or the number is a bad argument
+abbrev pub RepliesBy : (errno : Option ℕ) → (done : Bool) → Option Bench → (status : ℕ) → Option Bench → Type 0
+RepliesBy (Some errno) done before status after =
+    OnBench (λ b b'. FailsBench (is_listing b.workbench.state) errno b status b') (status ≡ chain_error_number WrongOrder) before after
+RepliesBy None true before status after = OnBench (λ b b'. AnswersBench b answer.Done status b') (status ≡ chain_error_number WrongOrder) before after
+RepliesBy None false before status after = (status ≡ chain_error_number BadArgument) × (after ≡ before)
+
+abbrev pub RepliesError : (error : ℕ) → Option Bench → (status : ℕ) → Option Bench → Type 0
+RepliesError error before status after = RepliesBy (errno_of error) (error == 0) before status after

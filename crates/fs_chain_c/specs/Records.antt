@@ -1,0 +1,101 @@
+-- The record of a device and its queues, as C has them.
+use Rattle.std.specs.Prelude.{◌≡◌, ◌==◌, ◌≤◌, ◌<◌, ◌+◌, ◌++◌, ℕ, false, not, List, All, map, length, drop, Option, Some, None, if◌then◌else◌}
+use Rattle.fs_queue.specs.Queue.{Queue, resumed}
+use Rattle.fs_record.specs.Numbers.{restore_error_number}
+use Rattle.fs_record.specs.Record.{HasKnownBits, IsRecordFor, Second, record_bytes}
+use Rattle.fs_record.specs.Restoring.{LeavesSource, RefusesRecord}
+use Rattle.fs_record.specs.declared.error.RestoreError.{RestoreError}
+use Rattle.fs_chain.specs.declared.error.ChainError.{ChainError}
+use Rattle.fs_chain.specs.declared.error.ChainError.TheVariants.{BadArgument, ChainOut, OutOfMemory, ShortBuffer}
+use Rattle.fs_chain.specs.Numbers.{chain_error_number}
+use Rattle.fs_chain_c.specs.declared.device.FsDevice.{FsDevice}
+use Rattle.fs_chain_c.specs.declared.queue.FsQueue.{FsQueue}
+use Rattle.fs_chain_c.specs.Memory.{IsDevice}
+use Rattle.fs_chain_c.specs.Queues.{IsQueue}
+
+-- the queue that a record has of these numbers
+abbrev pub queue_of : FsQueue → Queue
+queue_of q = resumed q.size q.desc q.avail q.used q.position (not (q.stopped == 0))
+
+-- no chain is out of it
+abbrev pub HasNoneOut : FsQueue → Type 0
+HasNoneOut q = q.out ≡ 0
+
+-- ---- a record is saved
+
+-- what may have a record: a device with known options, and 1 to 64 queues
+abbrev pub CanSave : FsDevice → List FsQueue → Type 0
+CanSave d qs = IsDevice d × HasKnownBits d.options × (1 ≤ length qs) × (length qs ≤ 64) × All IsQueue qs
+
+-- the bytes of the record, of version 2
+abbrev pub bytes_of : FsDevice → List FsQueue → List ℕ
+bytes_of d qs = record_bytes (Second d.page_size d.limit) d.options (map queue_of qs)
+
+-- the record stands at the front of a buffer, or why not
+abbrev pub SavesSo : FsDevice → List FsQueue → (buffer : List ℕ) → Option ChainError → (len : ℕ) → (buffer' : List ℕ) → Type 0
+SavesSo d qs buffer None len buffer' =
+    CanSave d qs × All HasNoneOut qs × (len ≡ length (bytes_of d qs)) × (buffer' ≡ bytes_of d qs ++ drop len buffer)
+SavesSo d qs buffer (Some ShortBuffer) len buffer' =
+    CanSave d qs × All HasNoneOut qs × (len ≡ length (bytes_of d qs)) × (length buffer < len) × (buffer' ≡ buffer)
+SavesSo d qs buffer (Some BadArgument) len buffer' = (CanSave d qs → ⊥) × (len ≡ 0) × (buffer' ≡ buffer)
+SavesSo d qs buffer (Some ChainOut) len buffer' = (All HasNoneOut qs → ⊥) × (len ≡ 0) × (buffer' ≡ buffer)
+SavesSo d qs buffer (Some OutOfMemory) len buffer' = (len ≡ 0) × (buffer' ≡ buffer)
+SavesSo d qs buffer (Some _) len buffer' = ⊥
+
+-- what is told of it
+abbrev pub saved_status : Option ChainError → ℕ
+saved_status None = 0
+saved_status (Some e) = chain_error_number e
+
+abbrev pub Saves : FsDevice → List FsQueue → (buffer : List ℕ) → (status len : ℕ) → (buffer' : List ℕ) → Type 0
+Saves d qs buffer status len buffer' = (how : Option ChainError) × (status ≡ saved_status how) × SavesSo d qs buffer how len buffer'
+
+-- ---- a record is read
+
+-- the numbers of a queue of a record: what stopped it isn't told, so it is 1
+abbrev pub numbers_of : Queue → FsQueue
+numbers_of q = record {
+  desc = q.desc;
+  avail = q.avail;
+  used = q.used;
+  size = q.size;
+  position = q.position;
+  out = 0;
+  stopped = if q.stopped then 1 else 0;
+}
+
+-- a record stands at the front of some bytes, which goes with the device's page size and limit
+abbrev pub HasRecord : FsDevice → (saved : List ℕ) → (options : ℕ) → List Queue → Type 0
+HasRecord d saved options qs = (taken rest : List ℕ) × (saved ≡ taken ++ rest) × IsRecordFor taken d.page_size d.limit options qs
+
+-- none does
+abbrev pub HasNoRecord : FsDevice → (saved : List ℕ) → RestoreError → Type 0
+HasNoRecord d saved e =
+    (taken rest : List ℕ) × (saved ≡ taken ++ rest) × RefusesRecord taken d.page_size d.limit e × LeavesSource e (Some rest) false false
+
+-- how reading it ends
+pub data Outcome : Type 0 where
+  Read : (options : ℕ) → List Queue → Outcome
+  NoPlace : (options : ℕ) → List Queue → Outcome
+  NoRecord : RestoreError → Outcome
+  NoDevice : Outcome
+
+-- what is told of it
+abbrev pub read_status : Outcome → ℕ
+read_status (Read options qs) = 0
+read_status (NoPlace options qs) = chain_error_number ShortBuffer
+read_status (NoRecord e) = 80 + restore_error_number e
+read_status NoDevice = chain_error_number BadArgument
+
+-- and done: device and queues go on from the record, or stay as they are
+abbrev pub ReadsSo : FsDevice → List FsQueue → (saved : List ℕ) → Outcome → (count : ℕ) → FsDevice → List FsQueue → Type 0
+ReadsSo d queues saved (Read options qs) count d' queues' =
+    IsDevice d × HasRecord d saved options qs × (count ≡ length qs) × (d' ≡ record d { options = options })
+    × (queues' ≡ map numbers_of qs ++ drop (length qs) queues)
+ReadsSo d queues saved (NoPlace options qs) count d' queues' =
+    IsDevice d × HasRecord d saved options qs × (count ≡ length qs) × (length queues < count) × (d' ≡ d) × (queues' ≡ queues)
+ReadsSo d queues saved (NoRecord e) count d' queues' = IsDevice d × HasNoRecord d saved e × (count ≡ 0) × (d' ≡ d) × (queues' ≡ queues)
+ReadsSo d queues saved NoDevice count d' queues' = (IsDevice d → ⊥) × (count ≡ 0) × (d' ≡ d) × (queues' ≡ queues)
+
+abbrev pub Restores : FsDevice → List FsQueue → (saved : List ℕ) → (status count : ℕ) → FsDevice → List FsQueue → Type 0
+Restores d queues saved status count d' queues' = (how : Outcome) × (status ≡ read_status how) × ReadsSo d queues saved how count d' queues'

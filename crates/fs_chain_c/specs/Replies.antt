@@ -1,0 +1,106 @@
+-- What the answers of C say, and what comes of them.
+use Rattle.std.specs.Prelude.{◌≡◌, ◌==◌, ◌&&◌, ◌||◌, ◌^◌, nat_lt, ℕ, Bool, List, Option, Some, None, if◌then◌else◌}
+use Rattle.fuse_base.specs.declared.records.Attr.{Attr}
+use Rattle.fuse_fs.specs.declared.answers.Entry.{Entry}
+use Rattle.fuse_values.specs.declared.answer.FileAnswer.{FileAnswer}
+use Rattle.fuse_values.specs.declared.answer.FileAnswer.TheVariants as answer
+use Rattle.fs_chain.specs.declared.error.ChainError.TheVariants.{BadArgument, WrongOrder}
+use Rattle.fs_chain.specs.Numbers.{chain_error_number}
+use Rattle.fs_chain_c.specs.declared.answers.FsEntry.{FsEntry}
+use Rattle.fs_chain_c.specs.declared.answers.FsStatfs.{FsStatfs}
+use Rattle.fs_chain_c.specs.declared.bench.Bench.{Bench}
+use Rattle.fs_chain_c.specs.declared.call.FsAttr.{FsAttr}
+use Rattle.fs_chain_c.specs.Asking.{AnswersBench, AsksBench}
+use Rattle.fs_chain_c.specs.Benches.{OnBench}
+use Rattle.fs_chain_c.specs.Calls.{no_call}
+use Rattle.fs_chain_c.specs.declared.call.FsCall.{FsCall}
+use Rattle.fs_chain_c.specs.declared.device.FsDevice.{FsDevice}
+
+-- attributes as the core has them
+abbrev pub attr_of : FsAttr → Attr
+attr_of a = record {
+  ino = a.ino;
+  size = a.size;
+  blocks = a.blocks;
+  atime = a.atime;
+  mtime = a.mtime;
+  ctime = a.ctime;
+  atimensec = a.atime_nanos;
+  mtimensec = a.mtime_nanos;
+  ctimensec = a.ctime_nanos;
+  mode = a.mode;
+  nlink = a.nlink;
+  uid = record { 0 = a.uid };
+  gid = record { 0 = a.gid };
+  rdev = a.rdev;
+  blksize = a.block_size;
+  flags = a.flags;
+}
+
+-- whether nanoseconds are less than a second
+abbrev pub are_nanos : ℕ → Bool
+are_nanos n = nat_lt n (10 ^ 9)
+
+-- what a name stands for, unless a time isn't one
+abbrev pub entry_of : FsEntry → Option (Entry ℕ)
+entry_of e =
+    if are_nanos e.attr_nanos && are_nanos e.entry_nanos then Some (record {
+      inode = e.node;
+      generation = e.generation;
+      attr = attr_of e.attr;
+      attr_timeout = record { seconds = e.attr_secs; nanos = e.attr_nanos };
+      entry_timeout = record { seconds = e.entry_secs; nanos = e.entry_nanos };
+    }) else None
+
+-- the answers: an entry, a file that was made, attributes, a file that was opened
+abbrev pub entry_said : Option (Entry ℕ) → Option FileAnswer
+entry_said None = None
+entry_said (Some e) = Some (answer.HasEntry e)
+
+abbrev pub create_said : Option (Entry ℕ) → (handle flags : ℕ) → Option FileAnswer
+create_said None handle flags = None
+create_said (Some e) handle flags = Some (answer.Created e (Some handle) (record { 0 = flags; 1 = record {} }))
+
+abbrev pub attr_said : FsAttr → (secs nanos : ℕ) → Option FileAnswer
+attr_said a secs nanos = if are_nanos nanos then Some (answer.HasAttr (attr_of a) (record { seconds = secs; nanos = nanos })) else None
+
+abbrev pub open_said : (handle flags : ℕ) → FileAnswer
+open_said handle flags = answer.Opened (Some handle) (record { 0 = flags; 1 = record {} })
+
+abbrev pub statfs_said : FsStatfs → FileAnswer
+statfs_said s = answer.Stats (record {
+  f_blocks = s.blocks;
+  f_bfree = s.bfree;
+  f_bavail = s.bavail;
+  f_files = s.files;
+  f_ffree = s.ffree;
+  f_bsize = s.bsize;
+  f_namemax = s.namelen;
+  f_frsize = s.frsize;
+})
+
+-- the options that are wished for
+abbrev pub wish_said : ℕ → FileAnswer
+wish_said wanted = answer.Wants (record { 0 = wanted; 1 = record {} })
+
+-- a handle's call is answered by this; a bad argument, if C's numbers are no answer
+abbrev pub MayReply : Option FileAnswer → Option Bench → (status : ℕ) → Option Bench → Type 0
+MayReply None before status after = (status ≡ chain_error_number BadArgument) × (after ≡ before)
+MayReply (Some a) before status after = OnBench (λ b b'. AnswersBench b a status b') (status ≡ chain_error_number WrongOrder) before after
+
+-- the same by an answer that is always one
+abbrev pub Replies : FileAnswer → Option Bench → (status : ℕ) → Option Bench → Type 0
+Replies a before status after = OnBench (λ b b'. AnswersBench b a status b') (status ≡ chain_error_number WrongOrder) before after
+
+-- an INIT is answered, and the device has the options that were agreed
+abbrev pub Starts : (wanted : ℕ) → Option Bench → FsDevice → (status : ℕ) → Option Bench → FsDevice → Type 0
+Starts wanted before d status after d' =
+    OnBench
+    (λ b b'. AnswersBench b (wish_said wanted) status b'
+    × (d' ≡ (if status == 0 || status == 35 then record d { options = b'.session.options.0 } else d)))
+    ((status ≡ chain_error_number WrongOrder) × (d' ≡ d)) before after
+
+-- a handle's chain is asked
+abbrev pub AsksChain : Option Bench → FsDevice → (request : List ℕ) → (status : ℕ) → FsCall → Option Bench → Type 0
+AsksChain before d request status call after =
+    OnBench (λ b b'. AsksBench b d request call status b') ((status ≡ chain_error_number WrongOrder) × (call ≡ no_call)) before after

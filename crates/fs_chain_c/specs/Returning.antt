@@ -1,0 +1,109 @@
+-- How a chain goes back, as C is told, and how it is given up.
+use Rattle.std.specs.Prelude.{◌≡◌, ◌⊎◌, ◌+◌, ◌%◌, ◌^◌, ℕ, true, false, List, [], length, min, Some, None}
+use Rattle.std.specs.Int.{w16, to_le_bytes}
+use Rattle.vm_memory_core.specs.Window.{Window}
+use Rattle.vm_memory.specs.Layout.{Region, left_at, place}
+use Rattle.vm_memory.specs.Slices.{IsWindowAt}
+use Rattle.fs_queue.specs.Returning.{tells}
+use Rattle.fs_chain.specs.declared.error.ChainError.{ChainError}
+use Rattle.fs_chain.specs.declared.error.ChainError.TheVariants.{BadArgument, OtherQueue, WrongOrder}
+use Rattle.fs_chain.specs.declared.queue.KeptQueue.{KeptQueue}
+use Rattle.fs_chain.specs.declared.returning.Stores.{Stores}
+use Rattle.fs_chain.specs.declared.state.State.TheVariants as at
+use Rattle.fs_chain.specs.Numbers.{chain_error_number}
+use Rattle.fs_chain.specs.Orders.{end_error, give_up_error, is_out, is_returning, return_error}
+use Rattle.fs_chain.specs.Returns.{IfAnswered, ReturnsBy, put_front}
+use Rattle.fs_chain_c.specs.declared.bench.Bench.{Bench}
+use Rattle.fs_chain_c.specs.declared.queue.FsQueue.{FsQueue}
+use Rattle.fs_chain_c.specs.declared.returning.FsStores.{FsStores}
+use Rattle.fs_chain_c.specs.Queues.{IsKept, IsQueue, put, out_number}
+use Rattle.fs_chain_c.specs.Walking.{host_at}
+
+-- ---- a return is told
+
+-- nothing is to be stored
+abbrev pub no_stores : FsStores
+no_stores = record { front_len = 0; id_at = 0; len_at = 0; id = 0; len = 0; index_at = 0; index = 0; seen_at = 0 }
+
+-- so many bytes from a guest address on stand here from one on
+abbrev pub StandsHere : List Region → (guest len here : ℕ) → Type 0
+StandsHere regions guest len here = (v : Window) × IsWindowAt (place regions) guest len v × (v.len ≡ len) × (here ≡ host_at v)
+
+-- the stores of a return, told by where they are made here
+abbrev pub TellsStores : List Region → Stores → FsStores → Type 0
+TellsStores regions s told =
+    (told.front_len ≡ s.front_len) × StandsHere regions s.used.head.address 4 told.id_at × (told.id ≡ s.used.head.value)
+    × StandsHere regions s.used.len.address 4 told.len_at × (told.len ≡ s.used.len.value)
+    × StandsHere regions s.used.index.address 2 told.index_at × (told.index ≡ s.used.index.value)
+    × StandsHere regions s.used.flags 2 told.seen_at
+
+-- they don't: their first one has no place, or their region ends before them
+abbrev pub IsNotHere : List Region → (guest len : ℕ) → Type 0
+IsNotHere regions guest len =
+    (place regions guest ≡ None) ⊎ ((v : Window) × IsWindowAt (place regions) guest len v × (v.len ≡ min len (left_at regions guest)) × (v.len ≡ len → ⊥))
+
+-- some of the stores have no place
+abbrev pub HaveNoPlaces : List Region → Stores → Type 0
+HaveNoPlaces regions s =
+    IsNotHere regions s.used.head.address 4 ⊎ IsNotHere regions s.used.len.address 4 ⊎ IsNotHere regions s.used.index.address 2
+    ⊎ IsNotHere regions s.used.flags 2
+
+-- a chain whose reply is known goes back by these stores, with the front at the front of the buffer; if they have no places, that is told by 77
+abbrev pub ReturnsSo : Bench → (front : List ℕ) → FsStores → (status : ℕ) → Bench → (front' : List ℕ) → Type 0
+ReturnsSo b front told status b' front' =
+    (s : Stores) × IfAnswered b.workbench.state (λ out reply. b'.workbench ≡ record (b.workbench) { state = at.Returning out }) × (b'.part ≡ b.part)
+    × IfAnswered b.workbench.state (λ out reply. ReturnsBy out reply s) × IfAnswered b.workbench.state (λ out reply. front' ≡ put_front reply front)
+    × (((status ≡ 0) × TellsStores b'.workbench.regions s told) ⊎ ((status ≡ 77) × (told ≡ no_stores) × HaveNoPlaces b'.workbench.regions s))
+
+-- over the core's queue; refused by its error, and nothing is done
+abbrev pub ReturnsKept : Bench → KeptQueue → (front : List ℕ) → FsStores → (status : ℕ) → Bench → (front' : List ℕ) → Type 0
+ReturnsKept b k front told status b' front' =
+    ((return_error b.workbench.state k (length front) ≡ None) × ReturnsSo b front told status b' front')
+    ⊎ ((e : ChainError) × (return_error b.workbench.state k (length front) ≡ Some e) × (status ≡ chain_error_number e)
+    × (told ≡ no_stores) × (b' ≡ b) × (front' ≡ front))
+
+-- over a queue of C's; a bad argument, if its numbers are none
+abbrev pub ReturnsBench : Bench → FsQueue → (front : List ℕ) → FsStores → (status : ℕ) → Bench → (front' : List ℕ) → Type 0
+ReturnsBench b q front told status b' front' =
+    ((IsQueue q → ⊥) × (status ≡ chain_error_number BadArgument) × (told ≡ no_stores) × (b' ≡ b) × (front' ≡ front))
+    ⊎ (IsQueue q × (k : KeptQueue) × IsKept q k × ReturnsKept b k front told status b' front')
+
+-- ---- a return ends
+
+-- the handle is free, and nothing came of a load
+abbrev pub IsFreed : Bench → Bench → Type 0
+IsFreed b b' = (b'.workbench ≡ record (b.workbench) { state = at.Free }) × (b'.part.items ≡ [])
+
+-- the queue isn't told, and the handle is free all the same
+abbrev pub FreesOther : Bench → FsQueue → (status : ℕ) → Bench → FsQueue → Type 0
+FreesOther b q status b' q' = (status ≡ chain_error_number OtherQueue) × IsFreed b b' × (q' ≡ q)
+
+-- the stores are made, of the core's queue: it goes on by one; or they were another queue's
+abbrev pub EndsKept : Bench → FsQueue → KeptQueue → (seen notify status : ℕ) → Bench → FsQueue → Type 0
+EndsKept b q k seen notify status b' q' =
+    ((end_error b.workbench.state k ≡ None) × (status ≡ 0) × (notify ≡ out_number (tells (to_le_bytes w16 seen))) × IsFreed b b'
+    × (q' ≡ put q (record k { out = false; position = (k.position + 1) % 2 ^ 16 })))
+    ⊎ ((e : ChainError) × (end_error b.workbench.state k ≡ Some e) × (notify ≡ 0) × FreesOther b q status b' q')
+
+-- a return ends over a queue of C's, which is another one if its numbers are none; refused if its stores weren't told
+abbrev pub EndsBench : Bench → FsQueue → (seen notify status : ℕ) → Bench → FsQueue → Type 0
+EndsBench b q seen notify status b' q' =
+    ((is_returning b.workbench.state ≡ false) × (status ≡ chain_error_number WrongOrder) × (notify ≡ 0) × (b' ≡ b) × (q' ≡ q))
+    ⊎ ((is_returning b.workbench.state ≡ true) × (IsQueue q → ⊥) × (notify ≡ 0) × FreesOther b q status b' q')
+    ⊎ ((is_returning b.workbench.state ≡ true) × IsQueue q × (k : KeptQueue) × IsKept q k × EndsKept b q k seen notify status b' q')
+
+-- ---- a chain is given up
+
+-- over the core's queue, which hands it out again; or it is another queue's
+abbrev pub DropsKept : Bench → FsQueue → KeptQueue → (status : ℕ) → Bench → FsQueue → Type 0
+DropsKept b q k status b' q' =
+    ((give_up_error b.workbench.state k ≡ None) × (status ≡ 0) × IsFreed b b' × (q' ≡ put q (record k { out = false })))
+    ⊎ ((e : ChainError) × (give_up_error b.workbench.state k ≡ Some e) × FreesOther b q status b' q')
+
+-- over a queue of C's, which is another one if its numbers are none; refused if its stores were told, and done by nothing if none is out
+abbrev pub DropsBench : Bench → FsQueue → (status : ℕ) → Bench → FsQueue → Type 0
+DropsBench b q status b' q' =
+    ((is_returning b.workbench.state ≡ true) × (status ≡ chain_error_number WrongOrder) × (b' ≡ b) × (q' ≡ q))
+    ⊎ ((is_out b.workbench.state ≡ false) × (status ≡ 0) × IsFreed b b' × (q' ≡ q))
+    ⊎ ((is_returning b.workbench.state ≡ false) × (is_out b.workbench.state ≡ true) × (IsQueue q → ⊥) × FreesOther b q status b' q')
+    ⊎ ((is_returning b.workbench.state ≡ false) × (is_out b.workbench.state ≡ true) × IsQueue q × (k : KeptQueue) × IsKept q k × DropsKept b q k status b' q')

@@ -1,0 +1,102 @@
+//! What a chain's request asks.
+
+ghost use Rattle.std.specs.Prelude.{◌≡◌};
+ghost use Rattle.fs_chain_c.specs.Asking.{AnswersBench, AsksBench, Settles, TellsAsked, answer_unasked};
+
+use crate::bench::Bench;
+use crate::call::FsCall;
+use crate::device::FsDevice;
+use crate::fields::{call_fields, numbered};
+use bitflags::Flags;
+use fs_chain::{ChainError, Told};
+use fuse_base::{Errno, FsOptions};
+use fuse_values::{FileAnswer, FileCall};
+use server_phases::Session;
+
+/// More of the request is wanted.
+const MORE: u32 = 34;
+
+/// The answer is taken, but the room holds no such reply.
+pub const NO_ROOM: u32 = 35;
+
+/// Answers the call that waits, and says a status.
+pub fn answer_bench(bench: &mut Bench, answer: FileAnswer) -> u32
+    ensures { AnswersBench bench.old answer result bench.new }
+{
+    match bench.workbench.answer(&mut bench.session, answer) {
+        Ok(replied) => { if replied.has_room { 0 } else { NO_ROOM } }
+        Err(error) => u32::from(error.number()),
+    }
+}
+
+// The answer to a call that nobody waits for, or that no file system of C's has: ENOSYS, as by its default.
+fn answer_unasked(call: &FileCall) -> Option<FileAnswer>
+    ensures { result ≡ answer_unasked call.now }
+{
+    match call {
+        FileCall::Forget { .. } | FileCall::BatchForget { .. } => Some(FileAnswer::Done),
+        FileCall::Getlk
+        | FileCall::Setlk
+        | FileCall::Setlkw
+        | FileCall::Bmap
+        | FileCall::Ioctl
+        | FileCall::Poll
+        | FileCall::NotifyReply
+        | FileCall::TmpFile => Some(FileAnswer::Failed(Errno::ENOSYS)),
+        _ => None,
+    }
+}
+
+// Answers a call at once, if there is an answer.
+fn settle(bench: &mut Bench, answer: Option<FileAnswer>)
+    ensures { Settles bench.old answer bench.new }
+{
+    match answer {
+        Some(answer) => {
+            let _status = answer_bench(bench, answer);
+        }
+        None => {}
+    }
+}
+
+// Tells what a request asks.
+fn tell(bench: &mut Bench, request: &[u8], told: Told) -> (FsCall, u32)
+    ensures { TellsAsked bench.old request.now told result.0 result.1 bench.new }
+{
+    let mut call = FsCall::none();
+    match told {
+        Told::Call(made) => {
+            let options = bench.session.options().bits();
+            let fields = call_fields(request, options, bench.workbench.room_len(), &made);
+            settle(bench, answer_unasked(&made));
+            (fields, 0)
+        }
+        Told::More(needed) => {
+            call.needed = needed.min(u32::MAX as usize) as u32;
+            (numbered(request, call), MORE)
+        }
+        Told::Nothing => (numbered(request, call), 0),
+        Told::Fault(error) => {
+            call.fault = u32::from(error.number());
+            (numbered(request, call), 0)
+        }
+    }
+}
+
+/// Tells what a request asks, by its first bytes.
+pub fn ask_bench(bench: &mut Bench, device: &FsDevice, request: &[u8]) -> (FsCall, u32)
+    ensures { AsksBench bench.old device.now request.now result.0 result.1 bench.new }
+{
+    if !device.is_lawful() {
+        return (FsCall::none(), u32::from(ChainError::BadArgument.number()));
+    }
+    let options = FsOptions::from_bits_retain(device.options);
+    let session = Session::resume(device.page_size, options);
+    match bench.workbench.ask(&session, request) {
+        Ok(told) => {
+            bench.session = session;
+            tell(bench, request, told)
+        }
+        Err(error) => (FsCall::none(), u32::from(error.number())),
+    }
+}

@@ -1,0 +1,301 @@
+//! What a request asks, as C is told: the fields of its call.
+
+ghost use Rattle.std.specs.Prelude.{◌≡◌, ◌-◌};
+ghost use Rattle.fs_chain_c.specs.Calls.{asker, attr_told, behind, data_len, listing, low, no_call, sized, span};
+
+use fuse_fs::Context;
+use fuse_in::SetattrIn;
+
+/// A place in the request's bytes.
+#[repr(C)]
+#[derive(Clone, Copy)]
+pub struct FsSpan {
+    /// Where it begins.
+    pub at: u32,
+    /// How many bytes it has.
+    pub len: u32,
+}
+
+/// A node's attributes; in a call, those that are to be set.
+#[repr(C)]
+#[derive(Clone, Copy)]
+pub struct FsAttr {
+    /// The number that `stat` tells.
+    pub ino: u64,
+    /// How many bytes it has.
+    pub size: u64,
+    /// How many units of 512 bytes it takes.
+    pub blocks: u64,
+    /// When it was read last, in seconds.
+    pub atime: u64,
+    /// When it was written last, in seconds.
+    pub mtime: u64,
+    /// When it changed last, in seconds.
+    pub ctime: u64,
+    /// Nanoseconds of `atime`.
+    pub atime_nanos: u32,
+    /// Nanoseconds of `mtime`.
+    pub mtime_nanos: u32,
+    /// Nanoseconds of `ctime`.
+    pub ctime_nanos: u32,
+    /// Its kind and permissions.
+    pub mode: u32,
+    /// How many names it has.
+    pub nlink: u32,
+    /// Its user.
+    pub uid: u32,
+    /// Its group.
+    pub gid: u32,
+    /// Its device, if it is one.
+    pub rdev: u32,
+    /// How many bytes are best read at a time.
+    pub block_size: u32,
+    /// FUSE_ATTR_ bits.
+    pub flags: u32,
+}
+
+/// What the file system is asked. The fields that a kind doesn't have are 0.
+#[repr(C)]
+#[derive(Clone, Copy)]
+pub struct FsCall {
+    /// The call's number (FS_CALL_).
+    pub kind: u32,
+    /// What it waits for (FS_ANSWER_).
+    pub answer: u32,
+    /// The number of the request, as the guest wrote it.
+    pub opcode: u32,
+    /// 0.
+    pub error: u32,
+    /// Why there is no reply, if no call is made (FS_REQUEST_), or 0.
+    pub fault: u32,
+    /// The guest's number of the request.
+    pub unique: u64,
+    /// Who asks: the user.
+    pub uid: u32,
+    /// The group.
+    pub gid: u32,
+    /// The process.
+    pub pid: u32,
+    /// How many bytes of the request are wanted, if more are.
+    pub needed: u32,
+    /// Of which node.
+    pub node: u64,
+    /// Of which open file.
+    pub handle: u64,
+    /// From where on.
+    pub offset: u64,
+    /// How many bytes.
+    pub size: u64,
+    /// Whose locks.
+    pub owner: u64,
+    /// What the guest can.
+    pub options: u64,
+    /// How many times, or how many pairs.
+    pub count: u64,
+    /// The other node.
+    pub node2: u64,
+    /// The other open file.
+    pub handle2: u64,
+    /// From where on in the other.
+    pub offset2: u64,
+    /// The name.
+    pub name: FsSpan,
+    /// The other name.
+    pub name2: FsSpan,
+    /// The value, what a link leads to, or the pairs.
+    pub value: FsSpan,
+    /// Where data stands, in the room or the request.
+    pub data_at: u64,
+    /// How many bytes of data there are, or have room.
+    pub data_len: u64,
+    /// Flags of the call.
+    pub flags: u32,
+    /// Kind and permissions.
+    pub mode: u32,
+    /// The permissions that are taken away.
+    pub umask: u32,
+    /// The device.
+    pub rdev: u32,
+    /// Which attributes are set (FATTR_).
+    pub valid: u32,
+    /// Whether there is an open file.
+    pub has_handle: u8,
+    /// Whether there is an owner of locks.
+    pub has_owner: u8,
+    /// Whether it comes from a cache.
+    pub delayed: u8,
+    /// Whether set-user and set-group bits go.
+    pub kill_priv: u8,
+    /// Whether data is to be flushed.
+    pub flush: u8,
+    /// Whether locks go.
+    pub unlock: u8,
+    /// Whether the data alone.
+    pub data_only: u8,
+    /// The attributes to be set.
+    pub attr: FsAttr,
+}
+
+// No place.
+const NOWHERE: FsSpan = FsSpan { at: 0, len: 0 };
+
+// No attributes.
+const NO_ATTR: FsAttr = FsAttr {
+    ino: 0,
+    size: 0,
+    blocks: 0,
+    atime: 0,
+    mtime: 0,
+    ctime: 0,
+    atime_nanos: 0,
+    mtime_nanos: 0,
+    ctime_nanos: 0,
+    mode: 0,
+    nlink: 0,
+    uid: 0,
+    gid: 0,
+    rdev: 0,
+    block_size: 0,
+    flags: 0,
+};
+
+// No call: all is 0.
+const NO_CALL: FsCall = FsCall {
+    kind: 0,
+    answer: 0,
+    opcode: 0,
+    error: 0,
+    fault: 0,
+    unique: 0,
+    uid: 0,
+    gid: 0,
+    pid: 0,
+    needed: 0,
+    node: 0,
+    handle: 0,
+    offset: 0,
+    size: 0,
+    owner: 0,
+    options: 0,
+    count: 0,
+    node2: 0,
+    handle2: 0,
+    offset2: 0,
+    name: NOWHERE,
+    name2: NOWHERE,
+    value: NOWHERE,
+    data_at: 0,
+    data_len: 0,
+    flags: 0,
+    mode: 0,
+    umask: 0,
+    rdev: 0,
+    valid: 0,
+    has_handle: 0,
+    has_owner: 0,
+    delayed: 0,
+    kill_priv: 0,
+    flush: 0,
+    unlock: 0,
+    data_only: 0,
+    attr: NO_ATTR,
+};
+
+impl FsCall {
+    /// No call.
+    pub fn none() -> FsCall
+        ensures { result ≡ no_call }
+    {
+        NO_CALL
+    }
+}
+
+/// How many bytes a reply's header has: data stands behind it.
+pub(crate) const HEADER: u64 = 16;
+
+/// How many bytes of a WRITE stand before its data.
+pub(crate) const WRITE_FRONT: u64 = 80;
+
+// A number in 32 bits: the greatest, if it has none.
+fn low(n: usize) -> u32
+    ensures { result ≡ low n }
+{
+    n.min(u32::MAX as usize) as u32
+}
+
+// A call of a kind that waits for this kind of answer.
+pub(crate) fn asker(kind: u32, answer: u32, who: &Context, node: u64) -> FsCall
+    ensures { result ≡ asker kind answer who.now node }
+{
+    let mut told = NO_CALL;
+    told.kind = kind;
+    told.answer = answer;
+    told.uid = who.uid.0;
+    told.gid = who.gid.0;
+    told.pid = who.pid.cast_unsigned();
+    told.node = node;
+    told
+}
+
+// A place in a request.
+pub(crate) fn span(at: usize, len: usize) -> FsSpan
+    ensures { result ≡ span at len }
+{
+    FsSpan {
+        at: low(at),
+        len: low(len),
+    }
+}
+
+// Where stands what comes behind a name.
+pub(crate) fn behind(at: usize, len: usize) -> usize
+    ensures { result ≡ behind at len }
+{
+    at.saturating_add(len.saturating_add(1))
+}
+
+// What GETXATTR and LISTXATTR wait for.
+pub(crate) fn sized(size: u32) -> u32
+    ensures { result ≡ sized size }
+{
+    if size == 0 { 7 } else { 6 }
+}
+
+// How many bytes stand behind a reply's header in a room.
+pub(crate) fn behind_header(room: usize) -> u64
+    ensures { result ≡ room - 16 }
+{
+    (room as u64).saturating_sub(HEADER)
+}
+
+// How many bytes of data have room, of those that are asked for.
+pub(crate) fn data_len(size: u32, room: usize) -> u64
+    ensures { result ≡ data_len size room }
+{
+    u64::from(size).min(behind_header(room))
+}
+
+// READDIR or READDIRPLUS.
+pub(crate) fn listing(opcode: u32) -> u32
+    ensures { result ≡ listing opcode }
+{
+    if opcode == 44 { 44 } else { 28 }
+}
+
+// The attributes that SETATTR sets.
+pub(crate) fn attr_told(attr: &SetattrIn) -> FsAttr
+    ensures { result ≡ attr_told attr.now }
+{
+    let mut told = NO_ATTR;
+    told.size = attr.size;
+    told.atime = attr.atime;
+    told.mtime = attr.mtime;
+    told.ctime = attr.ctime;
+    told.atime_nanos = attr.atimensec;
+    told.mtime_nanos = attr.mtimensec;
+    told.ctime_nanos = attr.ctimensec;
+    told.mode = attr.mode;
+    told.uid = attr.uid.0;
+    told.gid = attr.gid.0;
+    told
+}

@@ -1,0 +1,42 @@
+//! What all queues share, as numbers that C keeps.
+
+ghost use Rattle.std.specs.Prelude.{◌≡◌, ◌↔◌, IsTrue};
+ghost use Rattle.server_replies.specs.PageSizes.{is_page_size};
+ghost use Rattle.fs_chain_c.specs.Memory.{IsDevice};
+
+/// A limit is no less.
+const LEAST_LIMIT: u32 = 0x101000;
+
+/// A limit is no greater.
+const MOST_LIMIT: u32 = 1 << 31;
+
+/// The sizes that a guest's pages may have.
+const PAGE_SIZES: [u32; 5] = [4 << 10, 8 << 10, 16 << 10, 32 << 10, 64 << 10];
+
+/// What all queues share.
+#[repr(C)]
+#[derive(Clone, Copy)]
+pub struct FsDevice {
+    /// How many bytes the guest's pages have.
+    pub page_size: u32,
+    /// How many bytes a request or a room has at most.
+    pub limit: u32,
+    /// The options that INIT agreed on.
+    pub options: u64,
+}
+
+// Whether pages may have so many bytes.
+fn is_page_size(bytes: u32) -> bool
+    ensures { result ≡ is_page_size bytes }
+{
+    PAGE_SIZES.contains(&bytes)
+}
+
+impl FsDevice {
+    /// Whether page size and limit are such.
+    pub fn is_lawful(&self) -> bool
+        ensures { IsTrue result ↔ IsDevice self.now }
+    {
+        is_page_size(self.page_size) && self.limit >= LEAST_LIMIT && self.limit <= MOST_LIMIT
+    }
+}

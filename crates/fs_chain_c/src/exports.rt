@@ -1,0 +1,184 @@
+//! The functions on a chain that C calls. Each answers 0, or a number that says why not.
+
+ghost use Rattle.std.specs.Prelude.{◌≡◌, false, true, None};
+ghost use Rattle.fs_chain_c.specs.Benches.{Drops, Ends, Returns, SetsMemory, TellsStretches, Walks};
+
+use crate::device::FsDevice;
+use crate::handle::FsChain;
+use crate::memory::FsRegion;
+use crate::queue::FsQueue;
+use crate::returning::{FsStores, drop_bench, end_bench, return_bench};
+use crate::setting::{make_bench, set_bench};
+use crate::walking::{FsStep, walk_bench};
+use crate::windows::{FsWindow, fill};
+use fs_chain::ChainError;
+use std::alloc::Global;
+
+/// The header's number.
+const VERSION: u32 = 2;
+
+/// What is told of a handle that has no workbench.
+pub(crate) fn wrong_order() -> u32
+    ensures { result ≡ 73 }
+{
+    u32::from(ChainError::WrongOrder.number())
+}
+
+/// The number of the header that the archive goes with.
+#[unsafe(no_mangle)]
+pub extern "C" fn fs_version() -> u32
+    ensures { result ≡ 2 }
+{
+    VERSION
+}
+
+/// Over which memory the chain's next walks go, and the device's limit. A handle without a workbench gets one.
+#[unsafe(no_mangle)]
+pub extern "C" fn fs_chain_set_memory(
+    alloc: Global,
+    chain: &mut FsChain,
+    device: &FsDevice,
+    regions: &[FsRegion],
+) -> u32
+    ensures { SetsMemory chain.old.seat.value device.now regions.now result chain.new.seat.value }
+{
+    match chain.take(alloc) {
+        Some(mut bench) => {
+            let status = set_bench(alloc, &mut bench, device, regions);
+            *chain = FsChain::of_box(bench);
+            status
+        }
+        None => {
+            let (made, status) = make_bench(alloc, device, regions);
+            match made {
+                Some(bench) => {
+                    *chain = FsChain::of_box(bench);
+                    status
+                }
+                None => status,
+            }
+        }
+    }
+}
+
+/// Frees what a handle holds; then it has no workbench. The queue of a chain that is out isn't told.
+#[unsafe(no_mangle)]
+pub extern "C" fn fs_chain_free(alloc: Global, chain: &mut FsChain)
+    ensures { chain.new.seat.value ≡ None }
+{
+    *chain = FsChain::empty(alloc);
+}
+
+/// Takes the next chain of a queue: at first without bytes, then with those of each load that was told.
+#[unsafe(no_mangle)]
+pub extern "C" fn fs_walk(
+    alloc: Global,
+    chain: &mut FsChain,
+    queue: &mut FsQueue,
+    loaded: &[u8],
+    step: &mut FsStep,
+) -> u32
+    ensures { Walks chain.old.seat.value queue.old loaded.now result step.new chain.new.seat.value queue.new }
+{
+    let Some(mut bench) = chain.take(alloc) else {
+        *step = FsStep::nothing();
+        return wrong_order();
+    };
+    let (told, status) = walk_bench(&mut bench, queue, loaded);
+    *step = told;
+    *chain = FsChain::of_box(bench);
+    status
+}
+
+/// Gives a chain up; the queue hands it out again at its next walk.
+#[unsafe(no_mangle)]
+pub extern "C" fn fs_drop(alloc: Global, chain: &mut FsChain, queue: &mut FsQueue) -> u32
+    ensures { Drops chain.old.seat.value queue.old result chain.new.seat.value queue.new }
+{
+    let Some(mut bench) = chain.take(alloc) else {
+        return 0;
+    };
+    let status = drop_bench(&mut bench, queue);
+    *chain = FsChain::of_box(bench);
+    status
+}
+
+/// Where the bytes of a chain's request stand from one on, at most so many: how many windows are filled.
+#[unsafe(no_mangle)]
+pub extern "C" fn fs_request_windows(
+    alloc: Global,
+    chain: &mut FsChain,
+    from: u64,
+    len: u64,
+    windows: &mut [FsWindow],
+) -> usize
+    ensures { TellsStretches chain.old.seat.value false from len windows.old result chain.new.seat.value windows.new }
+{
+    let Some(bench) = chain.take(alloc) else {
+        return 0;
+    };
+    let count = fill(&bench.workbench, false, from, len, windows);
+    *chain = FsChain::of_box(bench);
+    count
+}
+
+/// Where the bytes of a chain's room stand from one on, at most so many: how many windows are filled.
+#[unsafe(no_mangle)]
+pub extern "C" fn fs_room_windows(
+    alloc: Global,
+    chain: &mut FsChain,
+    from: u64,
+    len: u64,
+    windows: &mut [FsWindow],
+) -> usize
+    ensures { TellsStretches chain.old.seat.value true from len windows.old result chain.new.seat.value windows.new }
+{
+    let Some(bench) = chain.take(alloc) else {
+        return 0;
+    };
+    let count = fill(&bench.workbench, true, from, len, windows);
+    *chain = FsChain::of_box(bench);
+    count
+}
+
+/// Says how a chain goes back: its reply's front at the front of a buffer, and the stores. From here on it can't be given up.
+#[unsafe(no_mangle)]
+pub extern "C" fn fs_return(
+    alloc: Global,
+    chain: &mut FsChain,
+    queue: &FsQueue,
+    front: &mut [u8],
+    stores: &mut FsStores,
+) -> u32
+    ensures { Returns chain.old.seat.value queue.now front.old result stores.new chain.new.seat.value front.new }
+{
+    let Some(mut bench) = chain.take(alloc) else {
+        *stores = FsStores::nothing();
+        return wrong_order();
+    };
+    let (told, status) = return_bench(&mut bench, queue, front);
+    *stores = told;
+    *chain = FsChain::of_box(bench);
+    status
+}
+
+/// The stores are made, and these are the available flags: the queue goes on by one, and whether the driver wants to be told.
+#[unsafe(no_mangle)]
+pub extern "C" fn fs_returned(
+    alloc: Global,
+    chain: &mut FsChain,
+    queue: &mut FsQueue,
+    seen: u16,
+    notify: &mut u8,
+) -> u32
+    ensures { Ends chain.old.seat.value queue.old seen result notify.new chain.new.seat.value queue.new }
+{
+    let Some(mut bench) = chain.take(alloc) else {
+        *notify = 0;
+        return wrong_order();
+    };
+    let (told, status) = end_bench(&mut bench, queue, seen);
+    *notify = told;
+    *chain = FsChain::of_box(bench);
+    status
+}

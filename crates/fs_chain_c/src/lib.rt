@@ -1,0 +1,37 @@
+//! One chain of a virtio-fs device from its walk to its return, for monitors in C: a static library, whose header is pitskhomu.h in examples/chain.
+#![tactic(auto)]
+
+mod answers;
+mod asking;
+mod bench;
+mod call;
+mod device;
+mod exports;
+mod fields;
+mod handle;
+mod kinds;
+mod listing;
+mod memory;
+mod parts;
+mod queue;
+mod ranges;
+mod record;
+mod replies;
+mod returning;
+mod saved_bytes;
+mod seat;
+mod setting;
+mod walking;
+mod windows;
+
+pub use exports::{
+    fs_chain_free, fs_chain_set_memory, fs_drop, fs_request_windows, fs_return, fs_returned,
+    fs_room_windows, fs_version, fs_walk,
+};
+pub use listing::{fs_add_direntry, fs_add_direntry_plus, fs_reply_entries, fs_reply_err};
+pub use ranges::fs_room_ranges;
+pub use record::{fs_restore, fs_save};
+pub use replies::{
+    fs_ask, fs_reply_attr, fs_reply_create, fs_reply_data, fs_reply_entry, fs_reply_init,
+    fs_reply_lseek, fs_reply_open, fs_reply_statfs, fs_reply_write, fs_reply_xattr,
+};

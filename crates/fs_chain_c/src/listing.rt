@@ -1,0 +1,225 @@
+//! Listings that C answers entry by entry, and errors.
+
+ghost use Rattle.std.specs.Prelude.{◌≡◌, true, length};
+ghost use Rattle.fuse_fs.specs.Answers.{listed};
+ghost use Rattle.server_replies.specs.Entries.{no_node};
+ghost use Rattle.server_phases.specs.Gathering.{added_found, added_plain};
+ghost use Rattle.fs_chain_c.specs.Listing.{AddsBench, AddsEntry, AddsNode, EndsBench, EndsList, FailsBench, FailsListing, RepliesError, added_status, errno_of, is_name, listed_as, type_of};
+ghost use Rattle.fs_chain.specs.Orders.{is_listing};
+ghost use Rattle.fs_chain_c.specs.Benches.{OnBench};
+ghost use Rattle.fs_chain_c.specs.Replies.{entry_of};
+
+use crate::answers::{FsEntry, entry_of};
+use crate::asking::answer_bench;
+use crate::bench::Bench;
+use crate::exports::wrong_order;
+use crate::handle::FsChain;
+use crate::replies::reply;
+use fs_chain::{Added, ChainError};
+use fuse_base::Errno;
+use fuse_fs::{DirEntry, Entry};
+use fuse_values::FileAnswer;
+use std::alloc::Global;
+
+/// The entry isn't in the list: the entries so far are the answer.
+const FULL: u32 = 36;
+
+/// It isn't in the list, and the listing fails.
+const LIST_FAILS: u32 = 37;
+
+/// The listing that failed is answered by the entries so far.
+const ENTRIES: u32 = 38;
+
+/// The longest name.
+const NAME_MAX: usize = 255;
+
+// What is told of an entry.
+fn added_status(told: Result<Added, ChainError>) -> u32
+    ensures { result ≡ added_status told }
+{
+    match told {
+        Ok(Added::In) => 0,
+        Ok(Added::Full) => FULL,
+        Ok(Added::NoRoom) | Ok(Added::TooLong) => LIST_FAILS,
+        Err(error) => u32::from(error.number()),
+    }
+}
+
+// Whether a name has a length that a directory's may have.
+fn is_name(name: &[u8]) -> bool
+    ensures { result ≡ is_name name.now }
+{
+    1 <= name.len() && name.len() <= NAME_MAX
+}
+
+// Brings an entry of READDIR.
+fn add_bench(bench: &mut Bench, list: &mut [u8], entry: &DirEntry<'_>) -> u32
+    ensures { AddsBench bench.old (listed entry.now, no_node (listed entry.now)) (λ l. added_plain l (length list.old) (length entry.now.name.now)) list.old result bench.new list.new }
+{
+    added_status(bench.workbench.add(list, entry))
+}
+
+// Brings an entry of READDIRPLUS.
+fn add_node_bench(bench: &mut Bench, list: &mut [u8], entry: &DirEntry<'_>, node: Entry<u64>) -> u32
+    ensures { AddsBench bench.old (listed entry.now, node) (λ l. added_found l (length list.old) (length entry.now.name.now)) list.old result bench.new list.new }
+{
+    added_status(bench.workbench.add_with_node(list, entry, node))
+}
+
+/// Puts an entry of READDIR behind those before it.
+#[unsafe(no_mangle)]
+pub extern "C" fn fs_add_direntry(
+    alloc: Global,
+    chain: &mut FsChain,
+    list: &mut [u8],
+    name: &[u8],
+    ino: u64,
+    next_offset: u64,
+    type_: u32,
+) -> u32
+    ensures { AddsEntry (is_name name.now) (listed_as name.now ino next_offset type_) chain.old.seat.value list.old result chain.new.seat.value list.new }
+{
+    if !is_name(name) {
+        return u32::from(ChainError::BadArgument.number());
+    }
+    let Some(mut bench) = chain.take(alloc) else {
+        return wrong_order();
+    };
+    let entry = DirEntry {
+        ino,
+        offset: next_offset,
+        type_,
+        name,
+    };
+    let status = add_bench(&mut bench, list, &entry);
+    *chain = FsChain::of_box(bench);
+    status
+}
+
+// Puts an entry of READDIRPLUS with its node behind those before it.
+fn add_node(
+    alloc: Global,
+    chain: &mut FsChain,
+    list: &mut [u8],
+    entry: &DirEntry<'_>,
+    node: Option<Entry<u64>>,
+) -> u32
+    ensures { AddsNode true (listed entry.now) node chain.old.seat.value list.old result chain.new.seat.value list.new }
+{
+    let Some(node) = node else {
+        return u32::from(ChainError::BadArgument.number());
+    };
+    let Some(mut bench) = chain.take(alloc) else {
+        return wrong_order();
+    };
+    let status = add_node_bench(&mut bench, list, entry, node);
+    *chain = FsChain::of_box(bench);
+    status
+}
+
+/// Puts an entry of READDIRPLUS, with its node, behind those before it.
+#[unsafe(no_mangle)]
+pub extern "C" fn fs_add_direntry_plus(
+    alloc: Global,
+    chain: &mut FsChain,
+    list: &mut [u8],
+    name: &[u8],
+    entry: &FsEntry,
+    next_offset: u64,
+) -> u32
+    ensures { AddsNode (is_name name.now) (listed_as name.now entry.now.attr.ino next_offset (type_of entry.now)) (entry_of entry.now)
+        chain.old.seat.value list.old result chain.new.seat.value list.new }
+{
+    if !is_name(name) {
+        return u32::from(ChainError::BadArgument.number());
+    }
+    let listed = DirEntry {
+        ino: entry.attr.ino,
+        offset: next_offset,
+        type_: entry.attr.mode / 4096 % 16,
+        name,
+    };
+    add_node(alloc, chain, list, &listed, entry_of(entry))
+}
+
+// Replies the entries so far: a status, and how many bytes of the list are the data.
+fn end_bench(bench: &mut Bench) -> (u32, u64)
+    ensures { EndsBench bench.old result.0 result.1 bench.new }
+{
+    match bench.workbench.end() {
+        Ok(len) => (0, len as u64),
+        Err(error) => (u32::from(error.number()), 0),
+    }
+}
+
+/// Replies the entries so far: how many bytes of the list are the data.
+#[unsafe(no_mangle)]
+pub extern "C" fn fs_reply_entries(alloc: Global, chain: &mut FsChain, len: &mut u64) -> u32
+    ensures { EndsList chain.old.seat.value result len.new chain.new.seat.value }
+{
+    let Some(mut bench) = chain.take(alloc) else {
+        *len = 0;
+        return wrong_order();
+    };
+    let (status, told) = end_bench(&mut bench);
+    *len = told;
+    *chain = FsChain::of_box(bench);
+    status
+}
+
+// A listing fails by an errno.
+fn fail_listing(bench: &mut Bench, error: Errno) -> u32
+    ensures { FailsListing error bench.old result bench.new }
+{
+    match bench.workbench.fail(error) {
+        Ok(behind) => { if behind == 0 { 0 } else { ENTRIES } }
+        Err(error) => u32::from(error.number()),
+    }
+}
+
+// A bench's call fails by an errno.
+fn fail_bench(bench: &mut Bench, error: Errno) -> u32
+    ensures { FailsBench (is_listing bench.old.workbench.state) error bench.old result bench.new }
+{
+    if bench.workbench.is_listing() {
+        fail_listing(bench, error)
+    } else {
+        answer_bench(bench, FileAnswer::Failed(error))
+    }
+}
+
+// The errno of a number.
+fn errno_of(number: u32) -> Option<Errno>
+    ensures { result ≡ errno_of number }
+{
+    Errno::new(number)
+}
+
+// A handle's call fails by an errno.
+fn fail_chain(alloc: Global, chain: &mut FsChain, error: Errno) -> u32
+    ensures { OnBench (λ b b'. FailsBench (is_listing b.workbench.state) error b result b') (result ≡ 73) chain.old.seat.value chain.new.seat.value }
+{
+    let Some(mut bench) = chain.take(alloc) else {
+        return wrong_order();
+    };
+    let status = fail_bench(&mut bench, error);
+    *chain = FsChain::of_box(bench);
+    status
+}
+
+/// A chain's call is done (0), or fails by an errno.
+#[unsafe(no_mangle)]
+pub extern "C" fn fs_reply_err(alloc: Global, chain: &mut FsChain, error: u32) -> u32
+    ensures { RepliesError error chain.old.seat.value result chain.new.seat.value }
+{
+    match errno_of(error) {
+        Some(errno) => fail_chain(alloc, chain, errno),
+        None => {
+            if error == 0 {
+                reply(alloc, chain, FileAnswer::Done)
+            } else {
+                u32::from(ChainError::BadArgument.number())
+            }
+        }
+    }
+}

@@ -1,0 +1,89 @@
+//! Queues as numbers that C keeps.
+
+ghost use Rattle.std.specs.Prelude.{◌≡◌, IfSome, IfNone, OnSome};
+ghost use Rattle.fs_chain_c.specs.Queues.{IsKept, IsQueue, put, stop_number, stop_of};
+
+use fs_chain::KeptQueue;
+use fs_queue::{QueueError, QueueLayout};
+
+/// A queue: numbers that C keeps.
+#[repr(C)]
+#[derive(Clone, Copy)]
+pub struct FsQueue {
+    /// The guest address of its descriptor table.
+    pub desc: u64,
+    /// The guest address of its available ring.
+    pub avail: u64,
+    /// The guest address of its used ring.
+    pub used: u64,
+    /// How many descriptors it has.
+    pub size: u16,
+    /// How many of its chains were returned, modulo 2^16.
+    pub position: u16,
+    /// How many chains are out: 0 or 1.
+    pub out: u16,
+    /// The refusal that stopped it, from 2 to 8, 1 if a record tells that one did, or 0.
+    pub stopped: u16,
+}
+
+// The refusal that a number tells of a queue, if it tells one; 0 is none.
+fn stop_of(number: u16) -> Option<Option<QueueError>>
+    ensures { result ≡ stop_of number }
+{
+    match number {
+        0 => Some(None),
+        1 => Some(Some(QueueError::Stopped)),
+        2 => Some(Some(QueueError::AvailIndexUnreachable)),
+        3 => Some(Some(QueueError::AvailTooFar)),
+        4 => Some(Some(QueueError::RingEntryUnreachable)),
+        5 => Some(Some(QueueError::HeadOutOfTable)),
+        6 => Some(Some(QueueError::UsedUnreachable)),
+        7 => Some(Some(QueueError::AvailFlagsUnreachable)),
+        8 => Some(Some(QueueError::DescriptorUnreachable)),
+        _ => None,
+    }
+}
+
+// The number of the refusal that stopped a queue; 0 is none.
+fn stop_number(stopped: &Option<QueueError>) -> u16
+    ensures { result ≡ stop_number stopped.now }
+{
+    match stopped {
+        Some(error) => u16::from(error.number()),
+        None => 0,
+    }
+}
+
+impl FsQueue {
+    /// The queue as the core has it; None if these are no queue's numbers.
+    pub fn kept(&self) -> Option<KeptQueue>
+        ensures kept { IfSome result (IsKept self.now) }
+        ensures is { OnSome result (IsQueue self.now) }
+        ensures none { IfNone result (IsQueue self.now → ⊥) }
+    {
+        let Ok(layout) = QueueLayout::new(self.size, self.desc, self.avail, self.used) else {
+            return None;
+        };
+        let Some(stopped) = stop_of(self.stopped) else {
+            return None;
+        };
+        if self.out > 1 {
+            return None;
+        }
+        Some(KeptQueue {
+            layout,
+            position: self.position,
+            out: self.out == 1,
+            stopped,
+        })
+    }
+
+    /// Puts back what a call changed of a queue.
+    pub fn put(&mut self, kept: &KeptQueue)
+        ensures { self.new ≡ put self.old kept.now }
+    {
+        self.position = kept.position;
+        self.out = u16::from(kept.out);
+        self.stopped = stop_number(&kept.stopped);
+    }
+}

@@ -1,0 +1,73 @@
+//! Where a room's bytes stand for the guest.
+
+ghost use Rattle.std.specs.Prelude.{◌≡◌, ◌<◌, ◌≤◌, ◌-◌, ◌^◌, min, IfSome, None};
+ghost use Rattle.fs_chain_c.specs.Ranges.{FillsRanges, IsRange, RoomEnds, TellsRanges};
+
+use crate::handle::FsChain;
+use fs_chain::Workbench;
+use std::alloc::Global;
+
+/// A stretch of the guest's addresses.
+#[repr(C)]
+#[derive(Clone, Copy)]
+pub struct FsRange {
+    /// The first one.
+    pub guest: u64,
+    /// How many there are.
+    pub len: u64,
+}
+
+// The stretch of the room's bytes from one on, at most so many.
+fn range(workbench: &Workbench, from: u64, most: u64) -> Option<FsRange>
+    requires { 0 < most }
+    ensures some { IfSome result (IsRange workbench.now from most) }
+    ensures none { result ≡ None → RoomEnds workbench.now from }
+    ensures low { IfSome result (λ r. r.len ≤ most) }
+    ensures some_bytes { IfSome result (λ r. 0 < r.len) }
+{
+    match workbench.room_range(from) {
+        Some((guest, len)) => {
+            let len = len.min(most);
+            Some(FsRange { guest, len })
+        }
+        None => None,
+    }
+}
+
+// Puts the stretches of the room's bytes from one on, at most so many and none past 2^64 - 1, over the first ranges of some: how many there are.
+fn fill_ranges(workbench: &Workbench, from: u64, most: u64, ranges: &mut [FsRange]) -> usize
+    ensures { FillsRanges workbench.now from (min most (2 ^ 64 - 1 - from)) ranges.old ranges.new result }
+{
+    let (mut at, mut left) = (from, most.min(u64::MAX - from));
+    for k in 0..ranges.len() {
+        if left == 0 {
+            return k;
+        }
+        let Some(range) = range(workbench, at, left) else {
+            return k;
+        };
+        ranges[k] = range;
+        left -= range.len;
+        at += range.len;
+    }
+    ranges.len()
+}
+
+/// The guest's addresses of the bytes of a chain's room from one on, at most so many: how many ranges are filled.
+#[unsafe(no_mangle)]
+pub extern "C" fn fs_room_ranges(
+    alloc: Global,
+    chain: &mut FsChain,
+    from: u64,
+    len: u64,
+    ranges: &mut [FsRange],
+) -> usize
+    ensures { TellsRanges chain.old.seat.value from len ranges.old result chain.new.seat.value ranges.new }
+{
+    let Some(bench) = chain.take(alloc) else {
+        return 0;
+    };
+    let count = fill_ranges(&bench.workbench, from, len, ranges);
+    *chain = FsChain::of_box(bench);
+    count
+}

@@ -1,0 +1,192 @@
+//! The record of a device and its queues.
+
+ghost use Rattle.std.specs.Prelude.{◌≡◌, ◌⊎◌, ◌++◌, ◌≤◌, All, Err, IfErr, IfOk, IfSome, None, OnOk, drop, length, map};
+ghost use Rattle.fs_chain.specs.declared.error.ChainError.TheVariants.{BadArgument, ChainOut, OutOfMemory};
+ghost use Rattle.fs_record.specs.Record.{HasKnownBits};
+ghost use Rattle.fs_chain_c.specs.Queues.{IsQueue};
+ghost use Rattle.fs_chain_c.specs.Records.{HasNoneOut, Restores, Saves, SavesSo, numbers_of, queue_of, saved_status};
+
+use crate::device::FsDevice;
+use crate::queue::FsQueue;
+use crate::saved_bytes::SavedBytes;
+use bitflags::Flags;
+use fs_chain::ChainError;
+use fs_queue::Queue;
+use fs_record::{Stream, restore_record, save_record};
+use fuse_base::FsOptions;
+use std::alloc::Global;
+
+/// A record has no more queues.
+const MOST_QUEUES: usize = 64;
+
+/// So much more than its number is a record's refusal.
+const OF_RECORD: u32 = 80;
+
+// The queue that a record has of some numbers: `BadArgument` if they are none, `ChainOut` if a chain is out.
+fn queue_of(queue: &FsQueue) -> Result<Queue, ChainError>
+    ensures ok { IfOk result (λ q. q ≡ queue_of queue.now) }
+    ensures is { OnOk result (IsQueue queue.now × HasNoneOut queue.now) }
+    ensures bad { result ≡ Err BadArgument → IsQueue queue.now → ⊥ }
+    ensures out { result ≡ Err ChainOut → HasNoneOut queue.now → ⊥ }
+    ensures err { IfErr result (λ e. (e ≡ BadArgument) ⊎ (e ≡ ChainOut)) }
+{
+    let Some(kept) = queue.kept() else {
+        return Err(ChainError::BadArgument);
+    };
+    if queue.out != 0 {
+        return Err(ChainError::ChainOut);
+    }
+    Ok(Queue::resume(kept.layout, queue.position, queue.stopped != 0))
+}
+
+// The queues that a record has, in the same order.
+fn queues_of(alloc: Global, queues: &[FsQueue]) -> Result<Vec<Queue>, ChainError>
+    ensures ok { IfOk result (λ made. made.items ≡ map queue_of queues.now) }
+    ensures are { OnOk result (All IsQueue queues.now) }
+    ensures none_out { OnOk result (All HasNoneOut queues.now) }
+    ensures bad { result ≡ Err BadArgument → All IsQueue queues.now → ⊥ }
+    ensures out { result ≡ Err ChainOut → All HasNoneOut queues.now → ⊥ }
+    ensures err { IfErr result (λ e. (e ≡ BadArgument) ⊎ (e ≡ ChainOut) ⊎ (e ≡ OutOfMemory)) }
+{
+    let Ok(mut made) = Vec::with_capacity(alloc, queues.len()) else {
+        return Err(ChainError::OutOfMemory);
+    };
+    for queue in queues {
+        match queue_of(queue) {
+            Ok(queue) => {
+                if made.push(queue).is_err() {
+                    return Err(ChainError::OutOfMemory);
+                }
+            }
+            Err(error) => return Err(error),
+        }
+    }
+    Ok(made)
+}
+
+// The options with these bits; None if one of them is no option's.
+fn options_of(bits: u64) -> Option<FsOptions>
+    ensures some { IfSome result (λ o. (o.0 ≡ bits) × HasKnownBits bits) }
+    ensures none { result ≡ None → HasKnownBits bits → ⊥ }
+{
+    let options = FsOptions::from_bits_truncate(bits);
+    if options.bits() == bits {
+        Some(options)
+    } else {
+        None
+    }
+}
+
+// Puts the record at the front of a buffer: how long it is.
+fn save(
+    alloc: Global,
+    device: &FsDevice,
+    queues: &[FsQueue],
+    buffer: &mut [u8],
+) -> (usize, Option<ChainError>)
+    ensures { SavesSo device.now queues.now buffer.old result.1 result.0 buffer.new }
+{
+    if !device.is_lawful() || queues.is_empty() || queues.len() > MOST_QUEUES {
+        return (0, Some(ChainError::BadArgument));
+    }
+    let Some(options) = options_of(device.options) else {
+        return (0, Some(ChainError::BadArgument));
+    };
+    let queues = match queues_of(alloc, queues) {
+        Ok(queues) => queues,
+        Err(error) => return (0, Some(error)),
+    };
+    let mut sink = Stream::new(Vec::new(alloc));
+    if save_record(&mut sink, options, &queues, device.page_size, device.limit).is_err() {
+        return (0, Some(ChainError::OutOfMemory));
+    }
+    let bytes = sink.into_inner();
+    let len = bytes.len();
+    if len > buffer.len() {
+        return (len, Some(ChainError::ShortBuffer));
+    }
+    buffer[..len].copy_from_slice(&bytes);
+    (len, None)
+}
+
+// What is told of a record that was saved, or why it wasn't.
+fn saved_status(refused: Option<ChainError>) -> u32
+    ensures { result ≡ saved_status refused }
+{
+    match refused {
+        Some(error) => u32::from(error.number()),
+        None => 0,
+    }
+}
+
+/// Puts the record of a device and its queues at the front of a buffer: how long it is.
+#[unsafe(no_mangle)]
+pub extern "C" fn fs_save(
+    alloc: Global,
+    device: &FsDevice,
+    queues: &[FsQueue],
+    buffer: &mut [u8],
+    len: &mut usize,
+) -> u32
+    ensures { Saves device.now queues.now buffer.old result len.new buffer.new }
+{
+    let (told, refused) = save(alloc, device, queues, buffer);
+    *len = told;
+    saved_status(refused)
+}
+
+// The numbers of a queue of a record.
+fn numbers_of(queue: &Queue) -> FsQueue
+    ensures { result ≡ numbers_of queue.now }
+{
+    let layout = queue.layout();
+    FsQueue {
+        desc: layout.desc(),
+        avail: layout.avail(),
+        used: layout.used(),
+        size: layout.size(),
+        position: queue.position(),
+        out: 0,
+        stopped: u16::from(queue.is_stopped()),
+    }
+}
+
+// Puts the numbers of a record's queues over the first of some.
+fn put_queues(queues: &mut [FsQueue], restored: &[Queue])
+    requires { length restored.now ≤ length queues.old }
+    ensures { queues.new ≡ map numbers_of restored.now ++ drop (length restored.now) queues.old }
+{
+    for k in 0..restored.len() {
+        queues[k] = numbers_of(&restored[k]);
+    }
+}
+
+/// Reads a record into the device's options and the queues: how many queues it has.
+#[unsafe(no_mangle)]
+pub extern "C" fn fs_restore(
+    alloc: Global,
+    device: &mut FsDevice,
+    queues: &mut [FsQueue],
+    saved: &[u8],
+    count: &mut usize,
+) -> u32
+    ensures { Restores device.old queues.old saved.now result count.new device.new queues.new }
+{
+    *count = 0;
+    if !device.is_lawful() {
+        return u32::from(ChainError::BadArgument.number());
+    }
+    let mut source = SavedBytes(saved);
+    match restore_record(alloc, &mut source, device.page_size, device.limit) {
+        Ok((options, restored)) => {
+            *count = restored.len();
+            if restored.len() > queues.len() {
+                return u32::from(ChainError::ShortBuffer.number());
+            }
+            put_queues(queues, &restored);
+            device.options = options.bits();
+            0
+        }
+        Err(error) => OF_RECORD + u32::from(error.number()),
+    }
+}

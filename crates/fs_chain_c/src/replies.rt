@@ -1,0 +1,178 @@
+//! The functions by which C asks and answers. Each answers 0, or a number that says why not.
+
+ghost use Rattle.std.specs.Prelude.{◌≡◌};
+ghost use Rattle.fuse_values.specs.declared.answer.FileAnswer.TheVariants as answer;
+ghost use Rattle.fs_chain_c.specs.Replies.{AsksChain, MayReply, Replies, Starts, attr_said, create_said, entry_of, entry_said, open_said, statfs_said, wish_said};
+
+use crate::answers::{
+    FsEntry, FsStatfs, attr_said, create_said, entry_of, entry_said, open_said, statfs_said,
+    wish_said,
+};
+use crate::asking::{NO_ROOM, answer_bench, ask_bench};
+use crate::call::{FsAttr, FsCall};
+use crate::device::FsDevice;
+use crate::exports::wrong_order;
+use crate::handle::FsChain;
+use bitflags::Flags;
+use fs_chain::ChainError;
+use fuse_values::FileAnswer;
+use std::alloc::Global;
+
+/// Answers the call of a handle's chain.
+pub(crate) fn reply(alloc: Global, chain: &mut FsChain, said: FileAnswer) -> u32
+    ensures { Replies said chain.old.seat.value result chain.new.seat.value }
+{
+    let Some(mut bench) = chain.take(alloc) else {
+        return wrong_order();
+    };
+    let status = answer_bench(&mut bench, said);
+    *chain = FsChain::of_box(bench);
+    status
+}
+
+// The same, if there is an answer.
+fn may_reply(alloc: Global, chain: &mut FsChain, said: Option<FileAnswer>) -> u32
+    ensures { MayReply said chain.old.seat.value result chain.new.seat.value }
+{
+    match said {
+        Some(said) => reply(alloc, chain, said),
+        None => u32::from(ChainError::BadArgument.number()),
+    }
+}
+
+/// Tells what a chain's request asks, by its first bytes.
+#[unsafe(no_mangle)]
+pub extern "C" fn fs_ask(
+    alloc: Global,
+    chain: &mut FsChain,
+    device: &FsDevice,
+    request: &[u8],
+    call: &mut FsCall,
+) -> u32
+    ensures { AsksChain chain.old.seat.value device.now request.now result call.new chain.new.seat.value }
+{
+    let Some(mut bench) = chain.take(alloc) else {
+        *call = FsCall::none();
+        return wrong_order();
+    };
+    let (told, status) = ask_bench(&mut bench, device, request);
+    *call = told;
+    *chain = FsChain::of_box(bench);
+    status
+}
+
+/// Answers a call that wants an entry.
+#[unsafe(no_mangle)]
+pub extern "C" fn fs_reply_entry(alloc: Global, chain: &mut FsChain, entry: &FsEntry) -> u32
+    ensures { MayReply (entry_said (entry_of entry.now)) chain.old.seat.value result chain.new.seat.value }
+{
+    may_reply(alloc, chain, entry_said(entry_of(entry)))
+}
+
+/// Answers CREATE.
+#[unsafe(no_mangle)]
+pub extern "C" fn fs_reply_create(
+    alloc: Global,
+    chain: &mut FsChain,
+    entry: &FsEntry,
+    handle: u64,
+    open_flags: u32,
+) -> u32
+    ensures { MayReply (create_said (entry_of entry.now) handle open_flags) chain.old.seat.value result chain.new.seat.value }
+{
+    may_reply(
+        alloc,
+        chain,
+        create_said(entry_of(entry), handle, open_flags),
+    )
+}
+
+/// Answers GETATTR and SETATTR.
+#[unsafe(no_mangle)]
+pub extern "C" fn fs_reply_attr(
+    alloc: Global,
+    chain: &mut FsChain,
+    attr: &FsAttr,
+    secs: u64,
+    nanos: u32,
+) -> u32
+    ensures { MayReply (attr_said attr.now secs nanos) chain.old.seat.value result chain.new.seat.value }
+{
+    may_reply(alloc, chain, attr_said(attr, secs, nanos))
+}
+
+/// Answers OPEN and OPENDIR.
+#[unsafe(no_mangle)]
+pub extern "C" fn fs_reply_open(
+    alloc: Global,
+    chain: &mut FsChain,
+    handle: u64,
+    open_flags: u32,
+) -> u32
+    ensures { Replies (open_said handle open_flags) chain.old.seat.value result chain.new.seat.value }
+{
+    reply(alloc, chain, open_said(handle, open_flags))
+}
+
+/// Answers a call that wants data: so many bytes, which stand in the room behind the header.
+#[unsafe(no_mangle)]
+pub extern "C" fn fs_reply_data(alloc: Global, chain: &mut FsChain, len: u64) -> u32
+    ensures { Replies (answer.Bytes len) chain.old.seat.value result chain.new.seat.value }
+{
+    let len = len as usize;
+    reply(alloc, chain, FileAnswer::Bytes { len })
+}
+
+/// Answers GETXATTR and LISTXATTR with size 0: how many bytes there are.
+#[unsafe(no_mangle)]
+pub extern "C" fn fs_reply_xattr(alloc: Global, chain: &mut FsChain, len: u32) -> u32
+    ensures { Replies (answer.Count len) chain.old.seat.value result chain.new.seat.value }
+{
+    reply(alloc, chain, FileAnswer::Count(len))
+}
+
+/// Answers WRITE and COPY_FILE_RANGE: how many bytes were written.
+#[unsafe(no_mangle)]
+pub extern "C" fn fs_reply_write(alloc: Global, chain: &mut FsChain, count: u32) -> u32
+    ensures { Replies (answer.Wrote count) chain.old.seat.value result chain.new.seat.value }
+{
+    reply(alloc, chain, FileAnswer::Wrote(count))
+}
+
+/// Answers STATFS.
+#[unsafe(no_mangle)]
+pub extern "C" fn fs_reply_statfs(alloc: Global, chain: &mut FsChain, statfs: &FsStatfs) -> u32
+    ensures { Replies (statfs_said statfs.now) chain.old.seat.value result chain.new.seat.value }
+{
+    reply(alloc, chain, statfs_said(statfs))
+}
+
+/// Answers LSEEK.
+#[unsafe(no_mangle)]
+pub extern "C" fn fs_reply_lseek(alloc: Global, chain: &mut FsChain, offset: u64) -> u32
+    ensures { Replies (answer.Offset offset) chain.old.seat.value result chain.new.seat.value }
+{
+    reply(alloc, chain, FileAnswer::Offset(offset))
+}
+
+/// Answers INIT: of the options that the guest can, these are wished for besides what is agreed on anyway. The device has then what was
+/// agreed.
+#[unsafe(no_mangle)]
+pub extern "C" fn fs_reply_init(
+    alloc: Global,
+    chain: &mut FsChain,
+    device: &mut FsDevice,
+    wanted: u64,
+) -> u32
+    ensures { Starts wanted chain.old.seat.value device.old result chain.new.seat.value device.new }
+{
+    let Some(mut bench) = chain.take(alloc) else {
+        return wrong_order();
+    };
+    let status = answer_bench(&mut bench, wish_said(wanted));
+    if status == 0 || status == NO_ROOM {
+        device.options = bench.session.options().bits();
+    }
+    *chain = FsChain::of_box(bench);
+    status
+}

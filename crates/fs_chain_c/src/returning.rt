@@ -1,0 +1,203 @@
+//! How a chain goes back to its queue, and how it is given up.
+
+ghost use Rattle.std.specs.Prelude.{◌≡◌, ◌<◌, true, None, IfSome};
+ghost use Rattle.fs_chain.specs.Orders.{is_out};
+ghost use Rattle.fs_chain_c.specs.Returning.{DropsBench, DropsKept, EndsBench, EndsKept, HaveNoPlaces, IsFreed, IsNotHere, ReturnsBench, ReturnsKept, StandsHere, TellsStores, no_stores};
+
+use crate::bench::Bench;
+use crate::queue::FsQueue;
+use crate::walking::{NO_PLACE, host_at};
+use fs_chain::{ChainError, KeptQueue, Stores, Workbench};
+
+/// What is stored for a return, and loaded after it, in this order.
+#[repr(C)]
+#[derive(Clone, Copy)]
+pub struct FsStores {
+    /// How many bytes of the front go over the room's first.
+    pub front_len: usize,
+    /// Where the used element's first half stands: 4 bytes.
+    pub id_at: usize,
+    /// Where its second half stands: 4 bytes.
+    pub len_at: usize,
+    /// What is stored there: the chain's number.
+    pub id: u32,
+    /// How many bytes the reply has.
+    pub len: u32,
+    /// Where the used index stands: 2 bytes.
+    pub index_at: usize,
+    /// What is stored there, by a store that releases.
+    pub index: u16,
+    /// Where the available flags stand: 2 bytes, loaded after a full barrier.
+    pub seen_at: usize,
+}
+
+impl FsStores {
+    /// Nothing is to be stored.
+    pub fn nothing() -> FsStores
+        ensures { result ≡ no_stores }
+    {
+        FsStores {
+            front_len: 0,
+            id_at: 0,
+            len_at: 0,
+            id: 0,
+            len: 0,
+            index_at: 0,
+            index: 0,
+            seen_at: 0,
+        }
+    }
+}
+
+// Where so many bytes from a guest address on stand here; None if they don't stand in one piece.
+fn here(workbench: &Workbench, guest: u64, len: usize) -> Option<usize>
+    requires { 0 < len }
+    ensures some { IfSome result (StandsHere workbench.now.regions guest len) }
+    ensures none { result ≡ None → IsNotHere workbench.now.regions guest len }
+{
+    match workbench.window_at(guest, len) {
+        Some(window) => {
+            if window.len() == len {
+                Some(host_at(&window))
+            } else {
+                None
+            }
+        }
+        None => None,
+    }
+}
+
+// The stores of a return, told by where they are made here; None if some have no places.
+fn told_stores(workbench: &Workbench, stores: &Stores) -> Option<FsStores>
+    ensures some { IfSome result (TellsStores workbench.now.regions stores.now) }
+    ensures none { result ≡ None → HaveNoPlaces workbench.now.regions stores.now }
+{
+    let used = &stores.used;
+    let Some(id_at) = here(workbench, used.head.address, 4) else {
+        return None;
+    };
+    let Some(len_at) = here(workbench, used.len.address, 4) else {
+        return None;
+    };
+    let Some(index_at) = here(workbench, used.index.address, 2) else {
+        return None;
+    };
+    let Some(seen_at) = here(workbench, used.flags, 2) else {
+        return None;
+    };
+    Some(FsStores {
+        front_len: stores.front_len,
+        id_at,
+        len_at,
+        id: used.head.value,
+        len: used.len.value,
+        index_at,
+        index: used.index.value,
+        seen_at,
+    })
+}
+
+// Tells how a chain goes back to the core's queue.
+fn return_kept(bench: &mut Bench, kept: &KeptQueue, front: &mut [u8]) -> (FsStores, u32)
+    ensures { ReturnsKept bench.old kept.now front.old result.0 result.1 bench.new front.new }
+{
+    match bench.workbench.begin_return(kept, front) {
+        Ok(stores) => match told_stores(&bench.workbench, &stores) {
+            Some(told) => (told, 0),
+            None => (FsStores::nothing(), NO_PLACE),
+        },
+        Err(error) => (FsStores::nothing(), u32::from(error.number())),
+    }
+}
+
+/// Tells how a chain goes back: the reply's front at the front of a buffer, and the stores.
+pub fn return_bench(bench: &mut Bench, queue: &FsQueue, front: &mut [u8]) -> (FsStores, u32)
+    ensures { ReturnsBench bench.old queue.now front.old result.0 result.1 bench.new front.new }
+{
+    match queue.kept() {
+        Some(kept) => return_kept(bench, &kept, front),
+        None => (
+            FsStores::nothing(),
+            u32::from(ChainError::BadArgument.number()),
+        ),
+    }
+}
+
+// Frees a handle; no queue is told.
+fn free(bench: &mut Bench)
+    ensures { IsFreed bench.old bench.new }
+{
+    bench.workbench.abandon();
+    bench.part.clear();
+}
+
+// Ends the return of a chain of the core's queue.
+fn end_kept(bench: &mut Bench, queue: &mut FsQueue, mut kept: KeptQueue, seen: u16) -> (u8, u32)
+    ensures { EndsKept bench.old queue.old kept seen result.0 result.1 bench.new queue.new }
+{
+    match bench.workbench.end_return(&mut kept, seen.to_le_bytes()) {
+        Ok(told) => {
+            queue.put(&kept);
+            free(bench);
+            (u8::from(told), 0)
+        }
+        Err(_) => {
+            free(bench);
+            (0, u32::from(ChainError::OtherQueue.number()))
+        }
+    }
+}
+
+/// The stores are made: whether the driver wants to be told (1 or 0), and a status.
+pub fn end_bench(bench: &mut Bench, queue: &mut FsQueue, seen: u16) -> (u8, u32)
+    ensures { EndsBench bench.old queue.old seen result.0 result.1 bench.new queue.new }
+{
+    if !bench.workbench.is_returning() {
+        return (0, u32::from(ChainError::WrongOrder.number()));
+    }
+    match queue.kept() {
+        Some(kept) => end_kept(bench, queue, kept, seen),
+        None => {
+            free(bench);
+            (0, u32::from(ChainError::OtherQueue.number()))
+        }
+    }
+}
+
+// Gives up a chain that is out, over the core's queue.
+fn drop_kept(bench: &mut Bench, queue: &mut FsQueue, mut kept: KeptQueue) -> u32
+    requires { is_out bench.old.workbench.state ≡ true }
+    ensures { DropsKept bench.old queue.old kept result bench.new queue.new }
+{
+    match bench.workbench.give_up(&mut kept) {
+        Ok(()) => {
+            queue.put(&kept);
+            free(bench);
+            0
+        }
+        Err(_) => {
+            free(bench);
+            u32::from(ChainError::OtherQueue.number())
+        }
+    }
+}
+
+/// Gives a chain up; the queue hands it out again at its next walk.
+pub fn drop_bench(bench: &mut Bench, queue: &mut FsQueue) -> u32
+    ensures { DropsBench bench.old queue.old result bench.new queue.new }
+{
+    if bench.workbench.is_returning() {
+        return u32::from(ChainError::WrongOrder.number());
+    }
+    if !bench.workbench.is_out() {
+        free(bench);
+        return 0;
+    }
+    match queue.kept() {
+        Some(kept) => drop_kept(bench, queue, kept),
+        None => {
+            free(bench);
+            u32::from(ChainError::OtherQueue.number())
+        }
+    }
+}

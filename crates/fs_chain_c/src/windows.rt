@@ -1,0 +1,66 @@
+//! Where a chain's bytes stand.
+
+ghost use Rattle.std.specs.Prelude.{◌≡◌, ◌<◌, ◌≤◌, ◌-◌, ◌^◌, min, true, IfSome, None};
+ghost use Rattle.fs_chain_c.specs.Windows.{Fills, HasNoMore, IsStretch};
+
+use crate::walking::host_at;
+use fs_chain::Workbench;
+
+/// A stretch of memory here, laid out as `struct iovec` is.
+#[repr(C)]
+#[derive(Clone, Copy)]
+pub struct FsWindow {
+    /// Where it stands.
+    pub at: usize,
+    /// How many bytes it has.
+    pub len: usize,
+}
+
+// The stretch of the bytes of one direction from one on, at most so many.
+fn stretch(workbench: &Workbench, write_only: bool, from: u64, most: u64) -> Option<FsWindow>
+    requires { 0 < most }
+    ensures some { IfSome result (IsStretch workbench.now write_only from most) }
+    ensures none { result ≡ None → HasNoMore workbench.now write_only from }
+    ensures low { IfSome result (λ s. s.len ≤ most) }
+    ensures some_bytes { IfSome result (λ s. 0 < s.len) }
+{
+    let window = if write_only {
+        workbench.room_window(from)
+    } else {
+        workbench.request_window(from)
+    };
+    match window {
+        Some(window) => {
+            let at = host_at(&window);
+            let len = (window.len() as u64).min(most) as usize;
+            Some(FsWindow { at, len })
+        }
+        None => None,
+    }
+}
+
+/// Puts the stretches of the bytes of one direction from one on, at most so many and none past 2^64 - 1, over the first windows of some:
+/// how many there are.
+pub fn fill(
+    workbench: &Workbench,
+    write_only: bool,
+    from: u64,
+    most: u64,
+    windows: &mut [FsWindow],
+) -> usize
+    ensures { Fills workbench.now write_only from (min most (2 ^ 64 - 1 - from)) windows.old windows.new result }
+{
+    let (mut at, mut left) = (from, most.min(u64::MAX - from));
+    for k in 0..windows.len() {
+        if left == 0 {
+            return k;
+        }
+        let Some(stretch) = stretch(workbench, write_only, at, left) else {
+            return k;
+        };
+        windows[k] = stretch;
+        left -= stretch.len as u64;
+        at += stretch.len as u64;
+    }
+    windows.len()
+}
