@@ -1,0 +1,21 @@
+/* What the checks share: the front-end that asks, its last reply, and whether something came out otherwise. */
+#ifndef CHECKS_H
+#define CHECKS_H
+#include "front.h"
+
+enum { ROOT = 1 };
+
+extern struct front front;
+extern struct reply reply;
+extern _Atomic bool over; /* other threads stop */
+extern int failed;
+
+/* An error of a reply, and whether something holds; a difference is told, and the checks go on. */
+void expect(const char *what, int got, int wanted);
+void check(const char *what, bool holds);
+
+/* In escape.c: nothing outside the directory can be reached; nothing of one that mayn't be changed is. */
+void escape(const char *dir);
+void readonly(void);
+
+#endif

@@ -1,0 +1,368 @@
+/* A clumsy author: calls of pitskhomu.h in any order, with numbers by chance, over a guest's memory by chance. clumsy
+ * SECONDS Pointers are good for their lengths, as the header asks; nothing else is. Checked after each call: the
+ * status has a name; what is to be loaded, stored and moved lies in regions that were told; no buffer is written
+ * beyond its end; a refusal changes no number. */
+#include "access.h"
+#include "chance.h"
+#include <stdio.h>
+#include <stdlib.h>
+#include <string.h>
+#include <time.h>
+
+enum { MEMORY_LEN = 1 << 18, SIZE = 16, CHAINS = 3, QUEUES = 2, TAIL = 64, REGIONS = 6, BUFFER = 3000 };
+enum { DESC = 0, AVAIL = 0x1000, USED = 0x2000, TABLES = 0x3000, REQUESTS = 0x8000, ROOMS = 0x10000 };
+#define FAR_AWAY (1ull << 40)
+
+/* A chain with the regions that it was told last, and what it said last. */
+struct bench {
+    struct fs_chain chain;
+    struct fs_region regions[REGIONS];
+    size_t region_count, have;
+    uint64_t request_len, room_len; /* of the chain that is out */
+    struct fs_step step;
+    struct fs_call call;
+    uint8_t *request;
+};
+
+static uint8_t *memory;
+static struct bench benches[CHAINS];
+static struct fs_queue queues[QUEUES];
+static struct fs_device device = FS_DEVICE;
+static uint64_t calls, taken, asked, returned;
+
+static _Noreturn void wrong(const char *what, uint64_t number) {
+    fprintf(stderr, "FAILED: %s (%llu) after %llu calls\n", what, (unsigned long long)number,
+            (unsigned long long)calls);
+    abort();
+}
+
+static uint32_t named(uint32_t status) {
+    calls++;
+    if (!*fs_status_name(status)) wrong("a status has no name", status);
+    return status;
+}
+
+/* ------------------------------------------------------------- buffers with a tail that nobody may write to */
+
+static uint8_t buffer[BUFFER + TAIL];
+
+static void begin_buffer(size_t len) { memset(buffer + len, 0xa5, TAIL); }
+
+static void check_buffer(size_t len) {
+    for (size_t k = 0; k < TAIL; k++)
+        if (buffer[len + k] != 0xa5) wrong("a byte is written behind a buffer", k);
+}
+
+/* ------------------------------------------------------------- places */
+
+/* Whether each byte lies in a region: regions may touch here. */
+static bool is_told(const struct bench *b, uintptr_t at, uint64_t len) {
+    for (size_t turn = 0; turn <= b->region_count && len > 0; turn++) {
+        for (size_t k = 0; k < b->region_count; k++) {
+            uint64_t offset = at - b->regions[k].host, left = b->regions[k].len - offset;
+            if (at < b->regions[k].host || offset >= b->regions[k].len) continue;
+            if (left >= len) return true;
+            at += (uintptr_t)left;
+            len -= left;
+        }
+    }
+    return len == 0;
+}
+
+static void check_windows(const struct bench *b, const struct fs_window *windows, size_t count, size_t most,
+                          uint64_t len) {
+    uint64_t sum = 0;
+    if (count > most) wrong("too many windows", count);
+    for (size_t k = 0; k < count; k++) {
+        if (windows[k].len == 0 || !is_told(b, windows[k].at, windows[k].len)) wrong("a window lies outside", k);
+        sum += windows[k].len;
+    }
+    if (sum > len) wrong("windows cover too much", sum);
+}
+
+/* ------------------------------------------------------------- the guest, by chance */
+
+static void put(uint64_t at, uint64_t value, size_t len) { memcpy(memory + at, &value, len); }
+
+static void descriptor(uint64_t table, unsigned k, uint64_t addr, uint64_t len, uint64_t flags, uint64_t next) {
+    uint64_t at = table + 16 * (uint64_t)k;
+    if (at + 16 > MEMORY_LEN) return;
+    put(at, addr, 8), put(at + 8, len, 4), put(at + 12, flags, 2), put(at + 14, next, 2);
+}
+
+static uint64_t some_address(void) {
+    return ONE_OF(below(MEMORY_LEN), ROOMS + below(0x8000), REQUESTS + below(0x8000), MEMORY_LEN - below(64),
+                  FAR_AWAY + below(8192), UINT64_MAX - below(64), TABLES + below(0x3000));
+}
+
+static void some_chain(unsigned head) {
+    uint64_t at = REQUESTS + 0x200 * below(32), table = DESC;
+    unsigned k = head, parts = (unsigned)below(5);
+    size_t len = some_request(memory + at);
+    if (below(2)) {
+        table = TABLES + 0x100 * below(32) + (below(8) ? 0 : below(16));
+        descriptor(DESC, head, table, below(8) ? 16 * (1 + (uint64_t)parts) : below(500), 4, 0);
+        k = 0;
+    }
+    descriptor(table, k, at, len, parts ? 1 : 0, k + 1);
+    for (unsigned n = 1; n <= parts; n++)
+        descriptor(table, k + n, below(6) ? ROOMS + 0x1000 * below(40) : some_address(),
+                   ONE_OF(16, 64, 128, 144, 4096, 0, below(90000)), n < parts ? 3 : 2, k + n + 1);
+    if (below(6) == 0) descriptor(table, (unsigned)below(20), some_address(), below(5000), below(8), below(20));
+}
+
+static uint16_t available(void) {
+    uint16_t value;
+    memcpy(&value, memory + AVAIL + 2, 2);
+    return value;
+}
+
+static void stir_guest(const struct fs_queue *queue) {
+    unsigned head = (unsigned)below(SIZE);
+    some_chain(head);
+    put(AVAIL + 4 + 2u * (available() % SIZE), below(60) ? head : below(40), 2);
+    uint16_t behind = (uint16_t)(available() - queue->position);
+    if (behind < SIZE || below(100) == 0) put(AVAIL + 2, available() + 1u, 2);
+    if (below(300) == 0) put(AVAIL + 2, chance(), 2);
+}
+
+/* ------------------------------------------------------------- numbers that are lent */
+
+static void some_queue(struct fs_queue *queue) {
+    *queue = (struct fs_queue){.desc = DESC, .avail = AVAIL, .used = USED, .size = SIZE, .position = available()};
+    if (below(6) == 0) queue->desc = some_address();
+    if (below(6) == 0) queue->avail = some_address();
+    if (below(6) == 0) queue->used = some_address();
+    if (below(6) == 0) queue->size = (uint16_t)ONE_OF(0, 1, 3, 32768, chance());
+    if (below(6) == 0) queue->position = (uint16_t)chance();
+    if (below(9) == 0) queue->out = (uint16_t)below(4);
+    if (below(9) == 0) queue->stopped = (uint16_t)below(12);
+}
+
+/* Regions over the memory, some with a second one far away for the guest, or with what none may have. */
+static void tell_memory(struct bench *b) {
+    struct fs_region regions[REGIONS] = {{0, MEMORY_LEN, (uintptr_t)memory}};
+    size_t count = 1 + below(3);
+    uintptr_t host = (uintptr_t)memory;
+    if (below(2)) {
+        regions[0].len = MEMORY_LEN / 2;
+        regions[1] = (struct fs_region){MEMORY_LEN / 2, MEMORY_LEN / 2, host + MEMORY_LEN / 2};
+    } else {
+        regions[1] = (struct fs_region){FAR_AWAY, 4096 * (1 + below(2)), host + 4096 * below(8)};
+    }
+    regions[2] = (struct fs_region){UINT64_MAX - 4095, 4096, host + 4096 * below(8)};
+    if (below(20) == 0) regions[below(3)].len = ONE_OF(0, 4095, UINT64_MAX, chance());
+    if (below(20) == 0) regions[below(3)].guest = ONE_OF(0, 1, 4096, UINT64_MAX, chance());
+    if (below(30) == 0) count = ONE_OF(0, 65, 3);
+    if (count > REGIONS) return;
+    struct fs_device lent = device;
+    if (below(30) == 0) lent.limit = (uint32_t)ONE_OF(0, 0x100fff, 1u << 31, chance());
+    uint32_t status = named(fs_chain_set_memory(&b->chain, &lent, regions, count));
+    if (status == FS_DONE) {
+        memcpy(b->regions, regions, sizeof regions);
+        b->region_count = count;
+    }
+}
+
+/* ------------------------------------------------------------- calls */
+
+/* Which of the two says that nothing was done leaves the numbers as they were. */
+static void check_same(uint32_t status, const struct fs_queue *before, const struct fs_queue *after) {
+    if (status >= 64 && memcmp(before, after, sizeof *before) != 0) wrong("a refusal changes a queue", status);
+}
+
+static uint32_t do_walk(struct bench *b, struct fs_queue *queue) {
+    static uint8_t bytes[FS_LOAD_MAX];
+    size_t len = below(30) ? b->step.len : below(FS_LOAD_MAX + 1);
+    struct fs_queue before = *queue;
+    struct fs_step step;
+    if (len == b->step.len && len > 0 && is_told(b, b->step.at, len)) memcpy(bytes, (const void *)b->step.at, len);
+    if (below(500) == 0)
+        for (size_t k = 0; k < len; k++) bytes[k] = (uint8_t)chance();
+    uint32_t status = named(fs_walk(&b->chain, queue, bytes, len, &step));
+    check_same(status, &before, queue);
+    if (status != FS_BAD_ARGUMENT) b->step = step; /* else the load is wanted still */
+    if (status == FS_LOAD && (b->step.len == 0 || b->step.len > FS_LOAD_MAX || !is_told(b, b->step.at, b->step.len)))
+        wrong("a load lies outside", b->step.len);
+    if (status != FS_DONE) return status;
+    taken++;
+    b->have = 0;
+    b->request_len = b->step.request_len;
+    b->room_len = b->step.room_len;
+    return status;
+}
+
+/* Nothing is to be loaded after it. */
+static void do_drop(struct bench *b, struct fs_queue *queue) {
+    (void)named(fs_drop(&b->chain, queue));
+    b->step = (struct fs_step){0};
+}
+
+/* Walks on until there is a chain or none. What stands in the way goes out of it now and then. */
+static void walk_on(struct bench *b, struct fs_queue *queue) {
+    uint32_t status;
+    while ((status = do_walk(b, queue)) == FS_LOAD) {}
+    if (status == FS_DONE || status == FS_IDLE || below(3) > 0) return;
+    for (size_t k = 0; k < QUEUES; k++) do_drop(b, &queues[k]);
+    some_queue(queue);
+    if (b->region_count == 0) tell_memory(b);
+}
+
+static void do_ask(struct bench *b) {
+    size_t want = (size_t)(b->request_len < FS_FIRST ? b->request_len : FS_FIRST);
+    if (b->call.needed > want && b->have > 0) want = b->call.needed;
+    if (below(20) == 0) want = below(4096);
+    if (want > FS_REQUEST_MAX) return;
+    gather(&b->chain, b->request, 0, want);
+    b->have = want;
+    uint32_t status = named(fs_ask(&b->chain, &device, b->request, want, &b->call));
+    if (status == FS_DONE) asked++;
+    const struct fs_span *spans[] = {&b->call.name, &b->call.name2, &b->call.value};
+    for (size_t k = 0; k < 3; k++)
+        if ((uint64_t)spans[k]->at + spans[k]->len > want) wrong("a span lies behind the request", k);
+    if (b->call.name.len && b->request[b->call.name.at + b->call.name.len])
+        wrong("a name has no zero byte behind it", b->call.kind);
+    if (b->call.kind == FS_CALL_BATCH_FORGET && 16 * b->call.count > b->call.value.len)
+        wrong("pairs lie behind the request", b->call.count);
+    if (b->call.answer == FS_ANSWER_DATA && b->call.data_len > b->room_len)
+        wrong("data is longer than the room", b->call.data_len);
+}
+
+static void do_windows(struct bench *b) {
+    struct fs_window windows[5];
+    uint64_t from = ONE_OF(0, 16, below(5000), chance()), len = ONE_OF(1, 16, below(100000), UINT64_MAX);
+    size_t most = below(6), count;
+    count = fs_request_windows(&b->chain, from, len, windows, most);
+    check_windows(b, windows, count, most, len);
+    count = fs_room_windows(&b->chain, from, len, windows, most);
+    check_windows(b, windows, count, most, len);
+    calls += 2;
+}
+
+static struct fs_entry some_entry(void) {
+    struct fs_entry entry = {.node = below(3), .entry_secs = 1, .attr = {.ino = 7, .mode = 0100644}};
+    if (below(10) == 0) entry.entry_nanos = (uint32_t)chance();
+    return entry;
+}
+
+static void do_entries(struct bench *b) {
+    struct fs_entry entry = some_entry();
+    size_t len = below(BUFFER), name_len = below(300);
+    uint64_t listed;
+    uint8_t name[300];
+    memset(name, 'n', sizeof name);
+    begin_buffer(len);
+    for (uint64_t k = below(6); k > 0; k--) {
+        (void)named(fs_add_direntry(&b->chain, buffer, len, name, name_len, 7, k, 8));
+        (void)named(fs_add_direntry_plus(&b->chain, buffer, len, name, name_len, &entry, k));
+    }
+    check_buffer(len);
+    if (below(2) == 0) {
+        (void)named(fs_reply_entries(&b->chain, &listed));
+        if (listed > b->room_len) wrong("a list is longer than the room", listed);
+    }
+}
+
+/* The answer that is waited for, or another one. */
+static void do_reply(struct bench *b) {
+    struct fs_entry entry = some_entry();
+    struct fs_attr attr = {.ino = 1};
+    struct fs_statfs statfs = {.bsize = 4096};
+    switch (below(3) ? b->call.answer : below(14)) {
+    case FS_ANSWER_DONE: (void)named(fs_reply_err(&b->chain, 0)); break;
+    case FS_ANSWER_ENTRY: (void)named(fs_reply_entry(&b->chain, &entry)); break;
+    case FS_ANSWER_ATTR:
+        (void)named(fs_reply_attr(&b->chain, &attr, 1, (uint32_t)ONE_OF(0, 999999999, 1000000000, chance())));
+        break;
+    case FS_ANSWER_OPEN: (void)named(fs_reply_open(&b->chain, chance(), 0)); break;
+    case FS_ANSWER_CREATE: (void)named(fs_reply_create(&b->chain, &entry, chance(), 0)); break;
+    case FS_ANSWER_DATA:
+        (void)named(fs_reply_data(&b->chain, below(4) ? below(b->call.data_len + 1) : chance()));
+        break;
+    case FS_ANSWER_XATTR: (void)named(fs_reply_xattr(&b->chain, (uint32_t)chance())); break;
+    case FS_ANSWER_STATFS: (void)named(fs_reply_statfs(&b->chain, &statfs)); break;
+    case FS_ANSWER_WRITE:
+        (void)named(fs_reply_write(&b->chain, (uint32_t)(below(4) ? below(b->call.size + 1) : chance())));
+        break;
+    case FS_ANSWER_LSEEK: (void)named(fs_reply_lseek(&b->chain, chance())); break;
+    case FS_ANSWER_ENTRIES: do_entries(b); break;
+    case FS_ANSWER_INIT: (void)named(fs_reply_init(&b->chain, &device, chance())); break;
+    default: (void)named(fs_reply_err(&b->chain, (uint32_t)ONE_OF(2, 38, 4095, 4096, 0, chance()))); break;
+    }
+}
+
+static void check_stores(const struct bench *b, const struct fs_queue *queue, const struct fs_stores *stores) {
+    uint64_t element = queue->used + 4 + 8 * (uint64_t)(queue->position & (queue->size - 1u));
+    if (!is_told(b, stores->id_at, 4) || !is_told(b, stores->len_at, 4) || !is_told(b, stores->index_at, 2) ||
+        !is_told(b, stores->seen_at, 2))
+        wrong("a store lies outside", element);
+    if (stores->len_at - stores->id_at != 4 && b->region_count == 1) wrong("the element's halves lie apart", element);
+    if (stores->index != (uint16_t)(queue->position + 1)) wrong("another index", stores->index);
+    if (stores->front_len > stores->len || stores->len > b->room_len)
+        wrong("the reply is longer than the room", stores->len);
+}
+
+static void do_return(struct bench *b, struct fs_queue *queue) {
+    struct fs_stores stores;
+    struct fs_queue before = *queue;
+    size_t len = below(20) ? FS_FRONT_MAX : below(FS_FRONT_MAX);
+    uint8_t notify;
+    begin_buffer(len);
+    uint32_t status = named(fs_return(&b->chain, queue, buffer, len, &stores));
+    check_buffer(len);
+    check_same(status, &before, queue);
+    if (status == FS_DONE) {
+        check_stores(b, queue, &stores);
+        scatter(&b->chain, 0, buffer, stores.front_len);
+    }
+    if (below(10) == 0) do_drop(b, queue);
+    before = *queue;
+    status = named(fs_returned(&b->chain, below(20) ? queue : &queues[below(QUEUES)], (uint16_t)chance(), &notify));
+    if (status == FS_DONE) returned++;
+    if (notify > 1) wrong("neither 0 nor 1", notify);
+}
+
+/* One call, or a chain's calls in their order with slips among them. */
+static void stumble(void) {
+    struct bench *b = &benches[below(CHAINS)];
+    struct fs_queue *queue = &queues[below(QUEUES)];
+    stir_guest(queue);
+    switch (below(40)) {
+    case 0: tell_memory(b); break;
+    case 1: some_queue(queue); break;
+    case 2: do_windows(b); break;
+    case 3: do_drop(b, queue); break;
+    case 4:
+        if (below(20) == 0) fs_chain_free(&b->chain), b->region_count = 0;
+        break;
+    case 5: do_reply(b); break;
+    case 6: (void)do_walk(b, queue); break;
+    case 7: do_ask(b); break;
+    case 8: do_return(b, queue); break;
+    default:
+        walk_on(b, queue);
+        for (int k = 0; k < 3; k++) do_ask(b);
+        if (below(8) == 0) do_windows(b);
+        do_reply(b);
+        do_reply(b);
+        do_return(b, queue);
+    }
+}
+
+int main(int argc, char **argv) {
+    if (argc < 2) return fprintf(stderr, "usage: clumsy SECONDS\n"), 2;
+    time_t end = time(NULL) + (time_t)strtoul(argv[1], NULL, 10);
+    chance_begin((uint64_t)end * 0x9e3779b97f4a7c15u | 1);
+    memory = aligned_alloc(4096, MEMORY_LEN);
+    if (!memory) return 1;
+    memset(memory, 0, MEMORY_LEN);
+    for (size_t k = 0; k < CHAINS; k++)
+        if (!(benches[k].request = malloc(FS_REQUEST_MAX))) return 1;
+    for (size_t k = 0; k < QUEUES; k++) some_queue(&queues[k]);
+    while (calls % 1024 > 40 || time(NULL) < end) stumble();
+    for (size_t k = 0; k < CHAINS; k++) fs_chain_free(&benches[k].chain), free(benches[k].request);
+    free(memory);
+    printf("clumsy author: %llu calls, %llu chains taken, %llu asked, %llu returned\n", (unsigned long long)calls,
+           (unsigned long long)taken, (unsigned long long)asked, (unsigned long long)returned);
+    return 0;
+}

@@ -1,0 +1,173 @@
+# What a guest does with what is shared, in functions by name. Lines that the host compares begin with a word in
+# capitals.
+
+# A line of commands is echoed and run; a status other than 0 is told.
+run() {
+    echo "# $*"
+    eval "$*" || echo "[status $?]"
+}
+mount_it() { run mount -t virtiofs shared /mnt; }
+drop() { echo 3 > /proc/sys/vm/drop_caches; }
+sum_of() { sha256sum | sed 's/ .*//'; }
+names() { (cd "$1" && find . | sort | sed 's/^/NAME /'); }
+sums() { (cd "$1" && find . -type f | sort | while read -r f; do echo "SUM $(sha256sum "$f")"; done); }
+kilobytes() { sed -n 's/MemTotal: *\([0-9]*\).*/\1/p' /proc/meminfo; }
+
+# Bytes by chance are written in three ways, and read back when no cache has them. The host sums the files.
+write_back() {
+    head -c 5000001 /dev/urandom > /tmp/r
+    cp /tmp/r /mnt/work/copy
+    dd if=/tmp/r of=/mnt/work/direct bs=1M oflag=direct conv=fsync 2> /tmp/dd || cat /tmp/dd
+    dd if=/tmp/r of=/mnt/work/odd bs=4097 conv=fsync 2> /tmp/dd || cat /tmp/dd
+    sync
+    drop
+    for f in copy direct odd; do
+        cmp /tmp/r /mnt/work/$f && echo "SAME $f"
+        echo "WROTE $(sum_of < /tmp/r) $f"
+    done
+}
+
+# Four read the same file at once, past the guest's cache, and two others make and remove files.
+at_once() {
+    for k in 1 2 3 4; do
+        dd if=/mnt/files/m8 bs=1M iflag=direct 2> /tmp/dd.$k | sum_of | sed 's/^/READER /' &
+    done
+    for k in 1 2; do
+        (
+            i=0
+            while [ $i -lt 60 ]; do
+                echo $i > /mnt/work/t$k && rm /mnt/work/t$k || echo "FAILED $k"
+                i=$((i + 1))
+            done
+        ) &
+    done
+    wait
+}
+
+scenario_whole() {
+    mount_it
+    run cat /mnt/files/greeting
+    run 'echo READ $(cat /mnt/files/none 2>&1)'
+    names /mnt/files
+    sums /mnt/files
+    drop
+    echo "MANY $(ls -la /mnt/files/many | wc -l)"
+    write_back
+    drop
+    at_once
+    ask calls /mnt/work/calls | sed 's/^/CALL /'
+    run ask stat 10000 /mnt/files/m1
+    echo "BIG $(dd if=/mnt/files/big bs=1M 2> /tmp/dd | sum_of)"
+    run umount /mnt
+    run rmmod virtiofs
+    run insmod /mod/virtiofs.ko
+    mount_it
+    echo "AGAIN $(sum_of < /mnt/files/m8)"
+    run umount /mnt
+    mount_it
+    run cat /mnt/files/greeting
+    run umount /mnt
+}
+
+# The host stops and resumes the guest meanwhile: each time the rings stop and go on where they stood.
+scenario_pause() {
+    mount_it
+    echo READY
+    i=0
+    while [ $i -lt 16 ]; do
+        drop
+        echo "READER $(dd if=/mnt/files/m8 bs=256k iflag=direct 2> /tmp/dd | sum_of)"
+        ask missing 300 /mnt/none | grep -v ' 0 failed'
+        head -c 300000 /dev/urandom > /tmp/r
+        cp /tmp/r /mnt/work/w
+        drop
+        cmp /tmp/r /mnt/work/w || echo "OTHER BYTES"
+        i=$((i + 1))
+    done
+    run umount /mnt
+}
+
+# The guest reboots in the middle of reading, and reads again.
+scenario_reboot() {
+    mount_it
+    echo "READER $(sum_of < /mnt/files/m8)"
+    if [ ! -e /mnt/work/rebooted ]; then
+        echo > /mnt/work/rebooted
+        (while :; do dd if=/mnt/files/m8 of=/dev/null bs=1M iflag=direct 2> /tmp/dd; done) &
+        sleep 2
+        reboot -f
+        sleep 60
+    fi
+    echo "AGAIN $(sum_of < /mnt/files/m1)"
+    run umount /mnt
+}
+
+# The module goes and comes back, and so does the device in the middle of reading, mounted as it is.
+scenario_unbind() {
+    local at=/sys/bus/virtio/drivers/virtiofs device
+    device=$(basename $at/virtio*)
+    for k in 1 2 3; do
+        mount_it
+        echo "READER $(sum_of < /mnt/files/m8)"
+        run umount /mnt
+        run rmmod virtiofs
+        run insmod /mod/virtiofs.ko
+    done
+    mount_it
+    dd if=/mnt/files/big of=/dev/null bs=1M 2> /tmp/dd &
+    sleep 0.3
+    run "echo $device > $at/unbind"
+    wait
+    cat /mnt/files/m1 > /tmp/m1 2> /tmp/none && echo "STILL THERE"
+    run umount /mnt
+    run "echo $device > $at/bind"
+    mount_it
+    echo "READER $(sum_of < /mnt/files/m8)"
+    run umount /mnt
+}
+
+# The host plugs memory in meanwhile, and the guest reads into it.
+scenario_hotplug() {
+    echo online > /sys/devices/system/memory/auto_online_blocks
+    mount_it
+    echo READY
+    i=0
+    while [ $i -lt 100 ] && [ "$(kilobytes)" -lt 400000 ]; do
+        drop
+        echo "READER $(dd if=/mnt/files/m8 bs=256k iflag=direct 2> /tmp/dd | sum_of)"
+        i=$((i + 1))
+    done
+    [ "$(kilobytes)" -gt 400000 ] && echo "PLUGGED in"
+    dd if=/dev/zero of=/tmp/zeros bs=1M count=180 2> /tmp/dd
+    echo "BIG $(dd if=/mnt/files/big bs=32M iflag=direct 2> /tmp/dd | sum_of)"
+    run umount /mnt
+}
+
+# Nothing can be changed, and all can be read.
+scenario_readonly() {
+    mount_it
+    sums /mnt/files
+    for command in 'echo x > /mnt/files/greeting' 'echo x > /mnt/new' 'mkdir /mnt/d' 'rm /mnt/files/greeting' \
+        'mv /mnt/files/greeting /mnt/g' 'ln /mnt/files/greeting /mnt/g' 'ln -s a /mnt/l' \
+        'chmod 600 /mnt/files/greeting' 'touch /mnt/files/greeting' 'truncate -s 1 /mnt/files/greeting' \
+        'rmdir /mnt/files/many' 'mknod /mnt/p p'; do
+        eval "$command" 2>&1 | grep -q 'Read-only file system' && echo "REFUSED $command" || echo "NOT REFUSED $command"
+    done
+    run umount /mnt
+}
+
+# What is timed, in the guest's own seconds.
+scenario_times() {
+    mount_it
+    drop
+    ask read 1048576 /mnt/files/big
+    ask read 1048576 /mnt/files/big direct
+    ask write 1048576 /mnt/work/written
+    ask write 1048576 /mnt/work/written direct
+    ask stat 10000 /mnt/files/m1
+    ask missing 10000 /mnt/none
+    ask open 5000 /mnt/files/m1
+    drop
+    ask list 1 /mnt/files/many
+    run umount /mnt
+}
