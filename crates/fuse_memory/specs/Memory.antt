@@ -139,10 +139,12 @@ RenamesOver before place entry directory name (Some other) false false answer af
     (replaced : DirectoryEntry) × (slice_get before.entries other ≡ Some replaced)
     × MovesOver before place entry directory name other replaced (first_of_two (cannot_lie_in before directory entry.node) (cannot_replace before.entries entry replaced)) answer after
 
+-- whether what stands under the new name is the moved entry itself
 abbrev pub is_at : (place : ℕ) → Option ℕ → Bool
 is_at place (Some other) = other == place
 is_at place None = false
 
+-- the first error of the two look-ups is answered, the moved name's before the new one's; else the entry moves by what stands there
 abbrev pub Renames : Files → (moved : Result ℕ ℕ) → (target : Result (Option ℕ) ℕ) → (directory : ℕ) → (name : List ℕ) → (keep : Bool) → FileAnswer → Files → Type 0
 Renames before (Err e) target directory name keep answer after = Fails before e answer after
 Renames before (Ok place) (Err e) directory name keep answer after = Fails before e answer after

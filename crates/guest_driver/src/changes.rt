@@ -19,12 +19,12 @@ fn recorded<T: ByteValued>(
     opcode: u32,
     unique: u64,
     node: u64,
-    record: &T,
+    asked: &T,
 ) -> Result<Vec<u8>, AllocError>
-    ensures { IfOk result (λ all. all.items ≡ record_bytes opcode unique node T.SIZE (T.fields record.now)) }
+    ensures { IfOk result (λ all. all.items ≡ record_bytes opcode unique node T.SIZE (T.fields asked.now)) }
 {
     let len = (IN_HEADER_LEN + T::SIZE) as u32;
-    with_record(alloc, &header(len, opcode, unique, node), record)
+    with_record(alloc, &header(len, opcode, unique, node), asked)
 }
 
 // A request of a record with bytes behind it.
@@ -33,14 +33,14 @@ fn followed<T: ByteValued>(
     opcode: u32,
     unique: u64,
     node: u64,
-    record: &T,
+    asked: &T,
     behind: &[u8],
 ) -> Result<Vec<u8>, AllocError>
     requires { length behind.now < 2 ^ 31 }
-    ensures { IfOk result (λ all. all.items ≡ followed_bytes opcode unique node T.SIZE (T.fields record.now) behind.now) }
+    ensures { IfOk result (λ all. all.items ≡ followed_bytes opcode unique node T.SIZE (T.fields asked.now) behind.now) }
 {
     let len = (IN_HEADER_LEN + T::SIZE + behind.len()) as u32;
-    let mut all = with_record(alloc, &header(len, opcode, unique, node), record)?;
+    let mut all = with_record(alloc, &header(len, opcode, unique, node), asked)?;
     all.extend_from_slice(behind)?;
     Ok(all)
 }
