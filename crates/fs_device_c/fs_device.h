@@ -125,11 +125,14 @@ uint32_t fs_queue_new(struct fs_queue *queue, uint64_t low_base, uint8_t *low, s
 void fs_queue_free(struct fs_queue *queue);
 
 /* Takes the next chain, and copies its request to the front of a buffer; `taken` says what it is, or that none waits. The parts
- * are as long as they were, and aren't written. */
+ * are as long as they were, and aren't written. Refused, in this order, by FS_NO_QUEUE, FS_TAKEN_BEFORE, FS_OTHER_LENGTHS, the
+ * queue's own from 1 to 9, FS_SHORT_BUFFER (`taken` says how long the request is: call again). */
 uint32_t fs_queue_take(struct fs_queue *queue, uint8_t *low, size_t low_len, uint8_t *high, size_t high_len,
                        uint8_t *buffer, size_t buffer_len, struct fs_taken *taken);
 
-/* Gives the chain that was taken back with its reply, and says whether the driver wants to be told (2.7.7). */
+/* Gives the chain that was taken back with its reply, and says whether the driver wants to be told (2.7.7). Refused, in this
+ * order, by FS_NO_QUEUE, FS_OTHER_LENGTHS (other parts than the queue's), FS_NOT_TAKEN, FS_OTHER_LENGTHS (other parts than the
+ * chain's), FS_LONG_REPLY; the chain stays taken then. */
 uint32_t fs_queue_give_back(struct fs_queue *queue, uint8_t *low, size_t low_len, uint8_t *high, size_t high_len,
                             uint16_t head, const uint8_t *reply, size_t reply_len, bool *notify);
 
