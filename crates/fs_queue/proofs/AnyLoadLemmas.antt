@@ -3,9 +3,11 @@ use Rattle.std.proofs.Common.{◌≡◌, ℕ, Bool, true, false, zero, suc, ◌+
 use Rattle.std.specs.Prelude.{if◌then◌else◌, ◌==◌, ◌&&◌, option_map}
 use Rattle.vm_memory.specs.Memory.{Memory}
 use Rattle.std.proofs.lemmas.Bool.{eqb-true, eq-eqb, ltb-false, lt-ltb}
-use Rattle.fs_queue.specs.Chain.{Descriptor, DescriptorTable, Visit, WalkStep, Ordinary, Table, Faulty, Stops, walk_step, next_visit, onward, first_visit, after_walk_step, with_front, Found, IsChain, HasFault, StopsQueue}
+use Rattle.fs_queue.specs.Chain.{Descriptor, DescriptorTable, Visit, WalkStep, Ordinary, Table, Faulty, Stops, walk_step, next_visit, onward, first_visit}
+use Rattle.fs_queue.specs.Chain.{after_walk_step, with_front, Found, IsChain, HasFault, StopsQueue}
 use Rattle.fs_queue.specs.Chain.{entry_address}
-use Rattle.fs_queue.specs.Loads.{Load, Ahead, Reads, Ends, holding, reads_entry, step_by, ahead_at, ahead_after, ahead_of_next, found_by, is_whole, found_exactly, ahead_by, AreEntriesOf, CutOffIsStill}
+use Rattle.fs_queue.specs.Loads.{Load, Ahead, Reads, Ends, holding, reads_entry, step_by, ahead_at, ahead_after, ahead_of_next, found_by, is_whole, found_exactly}
+use Rattle.fs_queue.specs.Loads.{ahead_by, AreEntriesOf, CutOffIsStill}
 use Rattle.fs_queue.specs.AnyLoads.{load_at, loads_by, FewLoads, LoadsEnd, steps_by, joined, joined_by, LastStep, ReadIn, PastTable, IsReadIn, EndsAreRead, visits_by, OneForEach, Once, EntriesApart}
 use Rattle.fs_queue.proofs.WalkLemmas.{tables_left}
 use Rattle.fs_queue.proofs.BoundLemmas.{steps_left, Falls, falls, allowed}

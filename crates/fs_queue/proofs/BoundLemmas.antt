@@ -6,7 +6,8 @@ use Rattle.vm_iotlb.specs.declared.permissions.Permissions.TheVariants.{Read}
 use Rattle.vm_memory.specs.Memory.{Memory, reach}
 use Rattle.fs_queue.specs.declared.fault.ChainFault.{ChainFault}
 use Rattle.fs_queue.specs.Queue.{Queue}
-use Rattle.fs_queue.specs.Chain.{Descriptor, DescriptorTable, Visit, WalkStep, Ordinary, Table, Faulty, Stops, descriptor_at, has_next, walk_step, walk_step_at, indirect_step, ordinary_step, is_indirect, ends_in_64_bits, next_visit, onward, path, first_visit, walk}
+use Rattle.fs_queue.specs.Chain.{Descriptor, DescriptorTable, Visit, WalkStep, Ordinary, Table, Faulty, Stops, descriptor_at, has_next, walk_step, walk_step_at}
+use Rattle.fs_queue.specs.Chain.{indirect_step, ordinary_step, is_indirect, ends_in_64_bits, next_visit, onward, path, first_visit, walk}
 use Rattle.fs_queue.proofs.WalkLemmas.{tables_left}
 
 -- how many steps a walk may have from one on, in the chain of a queue of this size

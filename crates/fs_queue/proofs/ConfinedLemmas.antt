@@ -43,8 +43,10 @@ chain_alike m n limit head bs ds (reads, writes) =
     let s = flat_map (λ d. bytes n d.addr d.len) (readable ds) in
     ap (option_map (Offers head))
     (fetched_alike bs r s room over (all_reach m Read (readable ds)) (all_reach m Write (writable ds)) (same_lengths m n (readable ds))
-    ∙ ap (λ c. with_request bs (if over then CannotFetch OverLimit else if not c then CannotFetch RequestUnreachable else if not (all_reach m Write (writable ds)) then CannotFetch RoomUnreachable else IsRequest s room)) reads
-    ∙ ap (λ c. with_request bs (if over then CannotFetch OverLimit else if not (all_reach n Read (readable ds)) then CannotFetch RequestUnreachable else if not c then CannotFetch RoomUnreachable else IsRequest s room)) writes)
+    ∙ ap (λ c. with_request bs (if over then CannotFetch OverLimit else if not c then CannotFetch RequestUnreachable
+    else if not (all_reach m Write (writable ds)) then CannotFetch RoomUnreachable else IsRequest s room)) reads
+    ∙ ap (λ c. with_request bs (if over then CannotFetch OverLimit else if not (all_reach n Read (readable ds)) then CannotFetch RequestUnreachable
+    else if not c then CannotFetch RoomUnreachable else IsRequest s room)) writes)
 
 found_alike : (m n : Memory) (limit head : ℕ) (bs : List ℕ) (o : Option Found) → ((ds : List Descriptor) → o ≡ Some (IsChain ds) → SameReachOfChain m n ds) →
     option_and_then (λ f. with_loaded bs (offer_of m limit head f)) o ≡ option_and_then (λ f. with_loaded bs (offer_of n limit head f)) o

@@ -1,5 +1,6 @@
 -- one load after another
-use Rattle.std.proofs.Common.{◌≡◌, ℕ, Bool, true, false, ◌+◌, ◌<◌, ◌≤◌, ◌⊎◌, inl, inr, arith, length, length-append, leb-true, leb-false, nat_le, subst, Result, Ok, Err, List, [], ◌∷◌, ◌++◌, Option, Some, None, refl, ap, sym, ◌∙◌, append_assoc, append-nil}
+use Rattle.std.proofs.Common.{◌≡◌, ℕ, Bool, true, false, ◌+◌, ◌<◌, ◌≤◌, ◌⊎◌, inl, inr, arith, length, length-append, leb-true, leb-false, nat_le, subst, Result, Ok}
+use Rattle.std.proofs.Common.{Err, List, [], ◌∷◌, ◌++◌, Option, Some, None, refl, ap, sym, ◌∙◌, append_assoc, append-nil}
 use Rattle.std.specs.Prelude.{if◌then◌else◌, option_map, IfOk, IsSomeAnd, OnErr}
 use Rattle.std.specs.declared.alloc.AllocError.{AllocError}
 use Rattle.fs_queue.specs.Windows.{IsLongChain}
@@ -86,7 +87,8 @@ pub ended_by : (size : ℕ) (ls : List Load) (w : walked.Walked) (ds : List Desc
 ended_by size ls w ds = ap Some (sym (prepended w ds)) ∙ sym (ap (option_map (prepend ds)) (ended size ls (found_of w [])))
 
 -- a walk that ended found what the memory has
-pub came_end : (m : Memory) (q : Queue) (head : ℕ) (ds : List Descriptor) (w : walked.Walked) → Came m q.size (ahead_at q.size (first_visit q head)) ds (Ends (found_of w [])) → found_of w ds ≡ chain m q head
+pub came_end : (m : Memory) (q : Queue) (head : ℕ) (ds : List Descriptor) (w : walked.Walked) → Came m q.size (ahead_at q.size (first_visit q head)) ds
+    (Ends (found_of w [])) → found_of w ds ≡ chain m q head
 came_end m q head ds w c =
     still m q head c.loads (found_of w ds) c.are
     (ap (λ (ls : List Load). found_by q.size ls (ahead_at q.size (first_visit q head))) (sym (append-nil c.loads)) ∙ c.so_far [] ∙ sym (ended_by q.size [] w ds))
@@ -143,7 +145,8 @@ kept_none room = record { same = λ _. refl; long = λ e. absurd (cc) }
 abbrev pub CameKept : Memory → (size : ℕ) → (start : Ahead) → (room : ℕ) → (kept : Bool) → (items : List Descriptor) → Ahead → Type 0
 CameKept m size start room kept items a = (joined : List Descriptor) × KeptOf room kept items joined × Came m size start joined a
 
-pub came_kept : (m : Memory) (size : ℕ) (start : Ahead) (room : ℕ) (kept kept' : Bool) (items items' : List Descriptor) (w : ChainWalk) (at : ℕ) (came : Option (List ℕ)) (joins : Option Descriptor) (a : Ahead) →
+pub came_kept : (m : Memory) (size : ℕ) (start : Ahead) (room : ℕ) (kept kept' : Bool) (items items' : List Descriptor) (w : ChainWalk) (at : ℕ)
+    (came : Option (List ℕ)) (joins : Option Descriptor) (a : Ahead) →
     w.size ≡ size → at ≡ entry_address (visit_of w) → came ≡ (if reach m Read at 16 then Some (bytes m at 16) else None) → joins ≡ joining (step_by w.size (visit_of w) (load_of w came)) →
     a ≡ ahead_after w.size (visit_of w) (step_by w.size (visit_of w) (load_of w came)) → (kept' ≡ true → (kept ≡ true) × (items' ≡ with_joining items joins)) →
     (kept' ≡ false → (kept ≡ false) ⊎ (room < length (with_joining items joins))) →
@@ -155,12 +158,14 @@ came_kept m size start room kept kept' items items' w at came joins a own at-is 
 )
 
 -- what a walk came to, by the descriptors that joined it
-pub kept_found : (room : ℕ) (kept : Bool) (items joined : List Descriptor) (w : walked.Walked) → (w ≡ comes_to.Chain → kept ≡ true) → KeptOf room kept items joined → found_of w items ≡ found_of w joined
+pub kept_found : (room : ℕ) (kept : Bool) (items joined : List Descriptor) (w : walked.Walked) → (w ≡ comes_to.Chain → kept ≡ true) → KeptOf room kept items joined →
+    found_of w items ≡ found_of w joined
 kept_found room kept items joined comes_to.Chain k c = ap IsChain (sym (c.same (k refl)))
 kept_found room kept items joined (comes_to.Faulty fault) k c = refl
 kept_found room kept items joined comes_to.Stopped k c = refl
 
-pub lost_found : (room : ℕ) (kept : Bool) (items joined : List Descriptor) (w : walked.Walked) → w ≡ comes_to.Chain → kept ≡ false → KeptOf room kept items joined → IsLongChain room (found_of w joined)
+pub lost_found : (room : ℕ) (kept : Bool) (items joined : List Descriptor) (w : walked.Walked) → w ≡ comes_to.Chain → kept ≡ false → KeptOf room kept items joined →
+    IsLongChain room (found_of w joined)
 lost_found room kept items joined comes_to.Chain is lost c = (joined, refl, c.long lost)
 lost_found room kept items joined (comes_to.Faulty fault) is lost c = absurd (cc)
 lost_found room kept items joined comes_to.Stopped is lost c = absurd (cc)
@@ -173,7 +178,8 @@ answered_end m q head room kept items w (Ok x) told c =
     ap (λ (y : walked.Walked). found_of y items) told.0 ∙ kept_found room kept items c.0 w told.1 c.1 ∙ came_end m q head c.0 w c.2
 answered_end m q head room kept items w (Err e) told c = tt
 
-pub failed_end : (m : Memory) (q : Queue) (head room : ℕ) (kept : Bool) (items : List Descriptor) (w : walked.Walked) (r : Result walked.Walked AllocError) → OnErr r ((w ≡ comes_to.Chain) × (kept ≡ false)) →
+pub failed_end : (m : Memory) (q : Queue) (head room : ℕ) (kept : Bool) (items : List Descriptor) (w : walked.Walked) (r : Result walked.Walked AllocError) →
+    OnErr r ((w ≡ comes_to.Chain) × (kept ≡ false)) →
     CameKept m q.size (ahead_at q.size (first_visit q head)) room kept items (Ends (found_of w [])) → OnErr r (IsLongChain room (chain m q head))
 failed_end m q head room kept items w (Ok x) lost c = tt
 failed_end m q head room kept items w (Err e) lost c = subst (IsLongChain room) (came_end m q head c.0 w c.2) (lost_found room kept items c.0 w lost.0 lost.1 c.1)

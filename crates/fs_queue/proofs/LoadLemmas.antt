@@ -114,7 +114,8 @@ step_spelled size v bs d inside fits len is fit =
 still_at : (m : Memory) (size : ℕ) (v : Visit) (b : Bool) → v.index < v.table.entries → reach m Read (entry_address v) 16 ≡ b →
     walk_step (memory_with (entry_address v) (if b then Some (bytes m (entry_address v) 16) else None)) size v ≡ walk_step m size v
 still_at m size v true inside there =
-    let fits : entry_address v + 16 < 2 ^ 64 = ltb-true (entry_address v + 16) (2 ^ 64) (and_parts (nat_lt (entry_address v + 16) (2 ^ 64)) (list_all (λ x. is_some (location m Read x)) (addresses (entry_address v) 16)) there).0 in
+    let fits : entry_address v + 16 < 2 ^ 64 = ltb-true (entry_address v + 16) (2 ^ 64)
+    (and_parts (nat_lt (entry_address v + 16) (2 ^ 64)) (list_all (λ x. is_some (location m Read x)) (addresses (entry_address v) 16)) there).0 in
     let came = step_came size v (bytes m (entry_address v) 16) inside fits (length-bytes m (entry_address v) 16) in
     came.1 ∙ ap (λ (x : Descriptor). step_at size v (Some x)) (same_entry (memory_with (entry_address v) (Some (bytes m (entry_address v) 16))) m (entry_address v) came.0)
     ∙ sym (step_reads m size v inside ∙ ap (λ b. step_at size v (if b then Some (descriptor_at m (entry_address v)) else None)) there)

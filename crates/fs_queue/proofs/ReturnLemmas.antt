@@ -122,7 +122,8 @@ joined (a ∷ b ∷ c ∷ []) = a.bytes ++ b.bytes ++ c.bytes
 joined _ = []
 
 -- those of a return
-pub used_bytes_are : (r : Return) (q : Queue) (head len : ℕ) (bs : List ℕ) → stores_of r ≡ stores_after_reply q head len → bs ≡ to_le_bytes w32 r.head.value ++ to_le_bytes w32 r.len.value ++ to_le_bytes w16 r.index.value →
+pub used_bytes_are : (r : Return) (q : Queue) (head len : ℕ) (bs : List ℕ) → stores_of r ≡ stores_after_reply q head len →
+    bs ≡ to_le_bytes w32 r.head.value ++ to_le_bytes w32 r.len.value ++ to_le_bytes w16 r.index.value →
     bs ≡ to_le_bytes w32 head ++ to_le_bytes w32 len ++ to_le_bytes w16 (next_position q)
 used_bytes_are r q head len bs is e = e ∙ ap joined is
 

@@ -93,7 +93,8 @@ same_avail h m q r1 r2 p s =
     let e = number h w16 (ring_entry_at q) in
     ap (λ b. told q b w (reach h Read (ring_entry_at q) 2) e) r1
     ∙ ap (λ c. told q (reach m Read (avail_index_at q) 2) w c e) r2
-    ∙ told_by q (reach m Read (avail_index_at q) 2) (reach m Read (ring_entry_at q) 2) (bytes h (avail_index_at q) 2) (bytes m (avail_index_at q) 2) (bytes h (ring_entry_at q) 2) (bytes m (ring_entry_at q) 2) p s
+    ∙ told_by q (reach m Read (avail_index_at q) 2) (reach m Read (ring_entry_at q) 2) (bytes h (avail_index_at q) 2) (bytes m (avail_index_at q) 2)
+    (bytes h (ring_entry_at q) 2) (bytes m (ring_entry_at q) 2) p s
 
 same_alone : (h m : Memory) (q : Queue) → reach h Read (avail_index_at q) 2 ≡ reach m Read (avail_index_at q) 2 → reach h Read (ring_entry_at q) 2 ≡ false →
     (reach m Read (avail_index_at q) 2 ≡ true → bytes h (avail_index_at q) 2 ≡ bytes m (avail_index_at q) 2) → asks_entry (next_avail h q) ≡ false → next_avail h q ≡ next_avail m q
@@ -103,7 +104,8 @@ same_alone h m q r1 r2 p asks =
     let here : next_avail h q ≡ told q (reach m Read (avail_index_at q) 2) w false e =
     ap (λ b. told q b w (reach h Read (ring_entry_at q) 2) e) r1 ∙ ap (λ c. told q (reach m Read (avail_index_at q) 2) w c e) r2 in
     here ∙ told_alone q (reach m Read (avail_index_at q) 2) (reach m Read (ring_entry_at q) 2) e (number m w16 (ring_entry_at q)) w (ap asks_entry (sym here) ∙ asks)
-    ∙ told_by q (reach m Read (avail_index_at q) 2) (reach m Read (ring_entry_at q) 2) (bytes h (avail_index_at q) 2) (bytes m (avail_index_at q) 2) (bytes m (ring_entry_at q) 2) (bytes m (ring_entry_at q) 2) p (λ _. refl)
+    ∙ told_by q (reach m Read (avail_index_at q) 2) (reach m Read (ring_entry_at q) 2) (bytes h (avail_index_at q) 2) (bytes m (avail_index_at q) 2)
+    (bytes m (ring_entry_at q) 2) (bytes m (ring_entry_at q) 2) p (λ _. refl)
 
 -- ---- a memory of the two loads
 
@@ -207,7 +209,8 @@ ring_still_at m q i e is es =
     let re : is_some e ≡ reach m Read b 2 = ap is_some es ∙ reached m b (reach m Read b 2) in
     record {
       alone = λ asks. same_alone (holding (index_load q i ∷ [])) m q (one.there ∙ ri) lacks.there (λ t. one.same (bytes m a 2) (is ∙ (rw t refl))) asks;
-      both = same_avail (holding (index_load q i ∷ entry_load q e ∷ [])) m q (first.there ∙ ri) (second.there ∙ re) (λ t. first.same (bytes m a 2) (is ∙ (rw t refl))) (λ t. second.same (bytes m b 2) (es ∙ (rw t refl)));
+      both = same_avail (holding (index_load q i ∷ entry_load q e ∷ [])) m q (first.there ∙ ri) (second.there ∙ re) (λ t. first.same (bytes m a 2) (is ∙ (rw t refl)))
+          (λ t. second.same (bytes m b 2) (es ∙ (rw t refl)));
     }
 
 pub ring_is_still : RingIsStill
@@ -220,7 +223,8 @@ index_lost q i is =
     let one = has_one (avail_index_at q) i (rw is tt) in
     rw (one.there ∙ ap is_some is) refl
 
-pub index_tells : (q : Queue) (i : Option (List ℕ)) (bs : List ℕ) (n w : ℕ) → i ≡ Some bs → length bs ≡ 2 → avail_index_at q + 2 < 2 ^ 64 → n ≡ from_le_bytes w16 bs → w ≡ (n + (2 ^ 16 - q.position)) % 2 ^ 16 →
+pub index_tells : (q : Queue) (i : Option (List ℕ)) (bs : List ℕ) (n w : ℕ) → i ≡ Some bs → length bs ≡ 2 → avail_index_at q + 2 < 2 ^ 64 → n ≡ from_le_bytes w16 bs →
+    w ≡ (n + (2 ^ 16 - q.position)) % 2 ^ 16 →
     next_avail (holding (index_load q i ∷ [])) q ≡ pick true (w == 0) (nat_lt q.size w) (Refused RingEntryUnreachable)
 index_tells q i bs n w is len fits n-is w-is =
     let a = avail_index_at q in

@@ -9,7 +9,8 @@ use Rattle.fs_queue.specs.declared.fault.ChainFault.TheVariants.{NextOutOfTable}
 use Rattle.fs_queue.specs.Queue.{Queue}
 use Rattle.fs_queue.specs.Chain.{Visit, WalkStep, Ordinary, Table, Faulty, Stops, walk_step, next_visit, onward, path, first_visit, after_walk_step, Found, IsChain, found, chain}
 use Rattle.fs_queue.specs.Chain.{entry_address}
-use Rattle.fs_queue.specs.Loads.{Load, Ahead, Reads, Ends, holding, reads_entry, step_by, ahead_at, ahead_after, ahead_of_next, end_of, found_by, is_whole, found_exactly, chain_exactly, IsEntryOf, AreEntriesOf, Still, LeavesTheRest, Finds, Confined, AreEntriesInTurn, found_in_turn, InTurn}
+use Rattle.fs_queue.specs.Loads.{Load, Ahead, Reads, Ends, holding, reads_entry, step_by, ahead_at, ahead_after, ahead_of_next, end_of, found_by, is_whole}
+use Rattle.fs_queue.specs.Loads.{found_exactly, chain_exactly, IsEntryOf, AreEntriesOf, Still, LeavesTheRest, Finds, Confined, AreEntriesInTurn, found_in_turn, InTurn}
 use Rattle.fs_queue.proofs.WalkLemmas.{found_step, tables_left}
 use Rattle.fs_queue.proofs.BoundLemmas.{walks_end, steps_left, Falls, falls, allowed}
 use Rattle.fs_queue.proofs.ReadLemmas.{length-bytes}
@@ -202,7 +203,8 @@ finds m q head =
 pub confined : Confined
 confined m n q head ls f here there e = sym (still m q head ls f here e) ∙ still n q head ls f there e
 
-in_turn_step : (ms : List Memory) (m : Memory) (size : ℕ) (v : Visit) (l : Load) (ls : List Load) (f : Found) (b : Bool) → v.index < v.table.entries → (l.address == entry_address v) ≡ b → IsEntryOf m l →
+in_turn_step : (ms : List Memory) (m : Memory) (size : ℕ) (v : Visit) (l : Load) (ls : List Load) (f : Found) (b : Bool) → v.index < v.table.entries →
+    (l.address == entry_address v) ≡ b → IsEntryOf m l →
     ((x : Found) → found_by size ls (ahead_after size v (step_by size v l)) ≡ Some x → found_in_turn size ms (ahead_after size v (step_by size v l)) ≡ Some x) →
     (if b then option_map (after_walk_step (step_by size v l)) (found_by size ls (ahead_after size v (step_by size v l))) else None) ≡ Some f →
     option_map (after_walk_step (walk_step m size v)) (found_in_turn size ms (ahead_after size v (walk_step m size v))) ≡ Some f

@@ -1,6 +1,7 @@
 -- the descriptors of one direction, one at a time, and what a queue offers by its parts
 use mathlib.Core.Bool.{beq}
-use Rattle.std.proofs.Common.{◌≡◌, ℕ, Bool, true, false, ◌+◌, ◌^◌, ◌<◌, ◌≤◌, ◌&&◌, ◌||◌, ◌++◌, not, nat_lt, List, [], ◌∷◌, drop, map, filter, length, refl, ap, sym, ◌∙◌, arith, suc, Option, Some, None, append-nil, append_assoc, length-append}
+use Rattle.std.proofs.Common.{◌≡◌, ℕ, Bool, true, false, ◌+◌, ◌^◌, ◌<◌, ◌≤◌, ◌&&◌, ◌||◌, ◌++◌, not, nat_lt, List, [], ◌∷◌, drop, map, filter, length, refl, ap, sym}
+use Rattle.std.proofs.Common.{◌∙◌, arith, suc, Option, Some, None, append-nil, append_assoc, length-append}
 use Rattle.std.specs.Prelude.{if◌then◌else◌, is_some, Result, Ok, Err, IsOk, IfOk, IfNone}
 use Rattle.std.specs.declared.alloc.AllocError.{AllocError}
 use Rattle.std.specs.List.{list_all, flat_map}
@@ -232,7 +233,8 @@ pub length-direction : (f : Where) (ds : List Descriptor) (ps : List Place) → 
 length-direction f ds ps e = length-located (addresses_of ds) f ps (sym e) ∙ length-addresses_of ds
 
 missing : (m : Memory) (limit : ℕ) (ds : List Descriptor) (fault : ChainFault) (r w : Option (List Place)) → AllEndIn64Bits ds → total_len (readable ds) ≤ limit → total_len (writable ds) ≤ limit →
-    r ≡ located (location m Read) (addresses_of (readable ds)) → w ≡ located (location m Write) (addresses_of (writable ds)) → Some fault ≡ unreachable r w → request_and_room m limit ds ≡ CannotFetch fault
+    r ≡ located (location m Read) (addresses_of (readable ds)) → w ≡ located (location m Write) (addresses_of (writable ds)) → Some fault ≡ unreachable r w →
+    request_and_room m limit ds ≡ CannotFetch fault
 missing m limit ds fault None w all a b er ew e =
     let same : fault ≡ RequestUnreachable = cc in
     request_unreachable m limit ds all a b er ∙ ap CannotFetch (sym same)
@@ -248,12 +250,14 @@ cannot_fetch m limit ds fault all a b e =
     missing m limit ds fault (located (location m Read) (addresses_of (readable ds))) (located (location m Write) (addresses_of (writable ds))) all a b refl refl e
 
 -- what is fetched of a chain that has its windows
-pub holds_fetched : (m : Memory) (limit : ℕ) (ds : List Descriptor) (head : ℕ) (chain : Result Chain ChainFault) → AllEndIn64Bits ds → total_len (readable ds) ≤ limit → total_len (writable ds) ≤ limit →
+pub holds_fetched : (m : Memory) (limit : ℕ) (ds : List Descriptor) (head : ℕ) (chain : Result Chain ChainFault) → AllEndIn64Bits ds → total_len (readable ds) ≤ limit →
+    total_len (writable ds) ≤ limit →
     IsOk chain → HoldsWindows m head chain (IsChain ds) → HoldsChain m (request_and_room m limit ds) chain
 holds_fetched m limit ds head (Ok c) all a b ok h = rw (fetched_all m limit ds _ _ all a b (sym h.1) (sym h.2)) (refl, h.2)
 holds_fetched m limit ds head (Err fault) all a b ok h = absurd (cc)
 
-pub room_within : (m : Memory) (limit : ℕ) (ds : List Descriptor) (head : ℕ) (chain : Result Chain ChainFault) → total_len (writable ds) ≤ limit → IsOk chain → HoldsWindows m head chain (IsChain ds) → room_places chain ≤ limit
+pub room_within : (m : Memory) (limit : ℕ) (ds : List Descriptor) (head : ℕ) (chain : Result Chain ChainFault) → total_len (writable ds) ≤ limit → IsOk chain →
+    HoldsWindows m head chain (IsChain ds) → room_places chain ≤ limit
 room_within m limit ds head (Ok c) b ok h =
     let w = length-direction (location m Write) (writable ds) _ (sym h.2) in
     omega (arith, w)
@@ -261,12 +265,14 @@ room_within m limit ds head (Err fault) b ok h = absurd (cc)
 
 -- ---- by what filling a chain answers
 
-filled_fetched : (m : Memory) (limit : ℕ) (ds : List Descriptor) (head : ℕ) (c : Chain) (fault : Option ChainFault) → AllEndIn64Bits ds → total_len (readable ds) ≤ limit → total_len (writable ds) ≤ limit →
+filled_fetched : (m : Memory) (limit : ℕ) (ds : List Descriptor) (head : ℕ) (c : Chain) (fault : Option ChainFault) → AllEndIn64Bits ds →
+    total_len (readable ds) ≤ limit → total_len (writable ds) ≤ limit →
     fault ≡ unreachable_of m ds → IfNone fault (HoldsWindows m head (Ok c) (IsChain ds)) → HoldsChain m (request_and_room m limit ds) (unless_faulty fault c)
 filled_fetched m limit ds head c None all a b is h = holds_fetched m limit ds head (Ok c) all a b refl h
 filled_fetched m limit ds head c (Some fault) all a b is h = rw (cannot_fetch m limit ds fault all a b is) refl
 
-pub fetched : (m : Memory) (limit : ℕ) (ds : List Descriptor) (head : ℕ) (c : Chain) (r : Result (Option ChainFault) AllocError) → AllEndIn64Bits ds → total_len (readable ds) ≤ limit → total_len (writable ds) ≤ limit →
+pub fetched : (m : Memory) (limit : ℕ) (ds : List Descriptor) (head : ℕ) (c : Chain) (r : Result (Option ChainFault) AllocError) → AllEndIn64Bits ds →
+    total_len (readable ds) ≤ limit → total_len (writable ds) ≤ limit →
     IfOk r (λ fault. fault ≡ unreachable_of m ds) → IfOk r (λ fault. IfNone fault (HoldsWindows m head (Ok c) (IsChain ds))) →
     IfOk r (λ fault. HoldsChain m (request_and_room m limit ds) (unless_faulty fault c))
 fetched m limit ds head c (Ok fault) all a b is h = filled_fetched m limit ds head c fault all a b is h
@@ -296,6 +302,7 @@ filled_lies : (lengths : List ℕ) (c : Chain) (fault : Option ChainFault) → I
 filled_lies lengths c None h = h
 filled_lies lengths c (Some fault) h = tt
 
-pub lies : (lengths : List ℕ) (c : Chain) (r : Result (Option ChainFault) AllocError) → IfOk r (λ fault. IfNone fault (ChainLiesIn lengths (Ok c))) → IfOk r (λ fault. ChainLiesIn lengths (unless_faulty fault c))
+pub lies : (lengths : List ℕ) (c : Chain) (r : Result (Option ChainFault) AllocError) → IfOk r (λ fault. IfNone fault (ChainLiesIn lengths (Ok c))) →
+    IfOk r (λ fault. ChainLiesIn lengths (unless_faulty fault c))
 lies lengths c (Ok fault) h = filled_lies lengths c fault h
 lies lengths c (Err e) h = tt

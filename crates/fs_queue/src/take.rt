@@ -432,7 +432,7 @@ fn walk_and_hold<M: GuestMemory, H: HostBlocks>(
     }
 }
 
-// Why a chain isn't taken if memory is wanting for the windows of its return: its walk stops the queue, or it is that.
+// Why a chain isn't taken if memory is wanting for the windows of its return: its walk stops the queue, else that want.
 fn refusal_without_return<M: GuestMemory, H: HostBlocks>(
     alloc: Global,
     layout: QueueLayout,

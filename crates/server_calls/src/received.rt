@@ -15,6 +15,7 @@ pub fn received<T>(answer: Result<T, Errno>) -> Result<T, Errno>
     match answer {
         Ok(value) => Ok(value),
         Err(error) => {
+            // for the proof: an `Errno` has a number of its range.
             let _number = error.raw();
             Err(error)
         }
@@ -31,6 +32,7 @@ pub(crate) fn received_entry<I: FileNumber>(
 {
     match received(answer) {
         Ok(entry) => {
+            // for the proof: a node number fits 64 bits.
             let _number = entry.inode.as_number();
             Ok(entry)
         }
@@ -45,6 +47,7 @@ fn received_handle<H: FileNumber>(handle: Option<H>) -> Option<H>
 {
     match handle {
         Some(handle) => {
+            // for the proof: a handle fits 64 bits.
             let _number = handle.as_number();
             Some(handle)
         }
@@ -77,6 +80,7 @@ pub(crate) fn received_file<I: FileNumber, H: FileNumber>(
 {
     match received(answer) {
         Ok((entry, handle, options)) => {
+            // for the proof: a node number fits 64 bits.
             let _number = entry.inode.as_number();
             Ok((entry, received_handle(handle), options))
         }

@@ -17,6 +17,7 @@ pub fn make_init_call<F: FileSystem>(fs: &mut F, capable: FsOptions) -> Result<F
 {
     match received(fs.init(capable)) {
         Ok(wanted) => {
+            // for the proof: options fit 64 bits.
             let _bits = wanted.bits();
             Ok(wanted)
         }

@@ -298,7 +298,8 @@ settles_all len words views id v at_id r all p l =
 
     alone : (f : PageCounts → ℕ) → ((w : PageCounts) → IsIdle w → f w ≡ 0) → total_by f views ≡ f v
     alone f zero_of = total_alone (weight r.shared.unit) f views id v at_id
-        (r.shared.whole ∙ sym (ap (λ (n : ℕ). n * 2 ^ (r.shared.unit - v.depth)) all ∙ sym (pow-add 2 v.depth (r.shared.unit - v.depth)) ∙ ap (λ (n : ℕ). 2 ^ n) (let d = r.shared.fits id v at_id in omega arith)))
+        (r.shared.whole ∙ sym (ap (λ (n : ℕ). n * 2 ^ (r.shared.unit - v.depth)) all ∙ sym (pow-add 2 v.depth (r.shared.unit - v.depth))
+        ∙ ap (λ (n : ℕ). 2 ^ n) (let d = r.shared.fits id v at_id in omega arith)))
         (λ j u e z. zero_of u (r.shared.idle j u e (none_of u.parts (r.shared.unit - u.depth) z)))
 
 settles : (len : ℕ) (s : State (Unit {0}) PageCounts) (id : ℕ) (v : PageCounts) (i : ℕ) → length v.pages ≡ len → get_elem? s.views id ≡ some v → PageAccount len s.words s.views
@@ -398,14 +399,16 @@ begins len words count clear = (
   record {
     counted = record {
       rest = λ p l. zero_bit p;
-      bits = λ p l. let z = zero_bit p in let t = first_at p in let a : on_at p (first_pass len) ≡ 0 = ap (λ (t : Tally). t.on) t in let b : off_at p (first_pass len) ≡ 0 = ap (λ (t : Tally). t.off) t in omega arith;
+      bits = λ p l. let z = zero_bit p in let t = first_at p in let a : on_at p (first_pass len) ≡ 0 = ap (λ (t : Tally). t.on) t in let b : off_at p (first_pass len)
+          ≡ 0 = ap (λ (t : Tally). t.off) t in omega arith;
       marks = λ p l. let t = first_at p in
           let a : on_at p (first_pass len) ≡ 0 = ap (λ (t : Tally). t.on) t in
           let b : marks_at p (first_pass len) ≡ 0 = ap (λ (t : Tally). bit_of t.marked) t in
           ((λ h. absurd (omega arith)), (λ h. absurd (omega arith)));
       bounded = λ p l j v e. ⊎_elim
           (λ (z : get_elem? [] j ≡ some v). absurd (some-ne-none v (sym z)))
-          (λ (z : first_pass len ≡ v). subst (λ (q : PageCounts). ((tally_of q.pages p).held ≤ total_by (on_at p) (first_pass len ∷ [])) × ((tally_of q.pages p).seen ≤ total_by (off_at p) (first_pass len ∷ []))) z
+          (λ (z : first_pass len ≡ v). subst (λ (q : PageCounts). ((tally_of q.pages p).held ≤ total_by (on_at p) (first_pass len ∷ [])) ×
+          ((tally_of q.pages p).seen ≤ total_by (off_at p) (first_pass len ∷ []))) z
           (let t = first_at p in
           let a : (tally_of (first_pass len).pages p).held ≡ 0 = ap (λ (t : Tally). t.held) t in
           let b : (tally_of (first_pass len).pages p).seen ≡ 0 = ap (λ (t : Tally). t.seen) t in
@@ -414,7 +417,8 @@ begins len words count clear = (
     };
     shared = record {
       unit = 0;
-      fits = λ j v e. ⊎_elim (λ (z : get_elem? [] j ≡ some v). absurd (some-ne-none v (sym z))) (λ (z : first_pass len ≡ v). subst (λ (q : PageCounts). q.depth ≤ 0) z (omega arith)) (at_snoc [] (first_pass len) v j e);
+      fits = λ j v e. ⊎_elim (λ (z : get_elem? [] j ≡ some v). absurd (some-ne-none v (sym z)))
+          (λ (z : first_pass len ≡ v). subst (λ (q : PageCounts). q.depth ≤ 0) z (omega arith)) (at_snoc [] (first_pass len) v j e);
       whole = refl;
       idle = λ j v e none. ⊎_elim
           (λ (z : get_elem? [] j ≡ some v). absurd (some-ne-none v (sym z)))

@@ -115,9 +115,11 @@ gathers_word Change l w found says =
 -- the words with the bits that were found
 pub is_gathered : (words : List ℕ) (w found p : ℕ) (t : Tally) → w < length words → p / 64 ≡ w → ByGathering (set words w found) p t (after_clearing (bit_at found (p % 64)) t)
 unfolding page_bit
-is_gathered words w found p t inside here = ap (λ (b : ℕ). after_clearing b t) (sym (ap (λ (k : ℕ). bit_at k (p % 64)) (ap (λ (k : ℕ). get_or (set words w found) k 0) here ∙ get_or-set_same words w found 0 inside)))
+is_gathered words w found p t inside here = ap (λ (b : ℕ). after_clearing b t)
+    (sym (ap (λ (k : ℕ). bit_at k (p % 64)) (ap (λ (k : ℕ). get_or (set words w found) k 0) here ∙ get_or-set_same words w found 0 inside)))
 
-pub run_as : (C D : ℕ → Tally → Tally → Type 0) (old new : List Tally) (first end : ℕ) → ((p : ℕ) (t u : Tally) → p < end → C p t u → D p t u) → ChangesRun C old new first end → ChangesRun D old new first end
+pub run_as : (C D : ℕ → Tally → Tally → Type 0) (old new : List Tally) (first end : ℕ) → ((p : ℕ) (t u : Tally) → p < end → C p t u → D p t u) →
+    ChangesRun C old new first end → ChangesRun D old new first end
 run_as C D old new first end h r = record {
   count = r.count;
   inside = λ p a b c. h p (tally_of old p) (tally_of new p) b (r.inside p a b c);
@@ -136,7 +138,8 @@ picks_not w m p h =
     ])
 
 pub cleared_not : (w m found : ℕ) (l : List Tally) → m < 2 ^ 64 → cleared_by (picks w (bit_not w64 m) 0) found l ≡ cleared_by (picks w m 1) found l
-cleared_not w m found l h = each_same (λ p t. cond (picks w (bit_not w64 m) 0 p) (after_clearing (bit_at found (p % 64)) t) t) (λ p t. cond (picks w m 1 p) (after_clearing (bit_at found (p % 64)) t) t)
+cleared_not w m found l h = each_same (λ p t. cond (picks w (bit_not w64 m) 0 p) (after_clearing (bit_at found (p % 64)) t) t)
+    (λ p t. cond (picks w m 1 p) (after_clearing (bit_at found (p % 64)) t) t)
     (λ p t. ap (λ (b : Bool). cond b (after_clearing (bit_at found (p % 64)) t) t) (picks_not w m p h)) 0 l
 
 pub none_of_past : (len w a b : ℕ) → b ≤ 64 → 64 * w + b ≤ len → (m : ℕ) → m ≡ 2 ^ b - 2 ^ a → NoneBeyond len w m

@@ -15,7 +15,8 @@ use Rattle.vm_atomic_bitmaps.proofs.PassTotals.{total_set, total_snoc, total_par
 
 -- where the pass's pages stay, and a new one has counted nothing, and seen no more than it
 counted_fork : (len : ℕ) (words : List ℕ) (views : List PageCounts) (id : ℕ) (v v' u : PageCounts) → get_elem? views id ≡ some v → ((p : ℕ) → tally_of v'.pages p ≡ tally_of v.pages p)
-    → IsIdle u → ((p : ℕ) → ((tally_of u.pages p).held ≤ (tally_of v.pages p).held) × ((tally_of u.pages p).seen ≤ (tally_of v.pages p).seen)) → Counted len words views → Counted len words (set views id v' ++ u ∷ [])
+    → IsIdle u → ((p : ℕ) → ((tally_of u.pages p).held ≤ (tally_of v.pages p).held) × ((tally_of u.pages p).seen ≤ (tally_of v.pages p).seen)) →
+    Counted len words views → Counted len words (set views id v' ++ u ∷ [])
 counted_fork len words views id v v' u at_id same idle less c = record {
   rest = c.rest;
   bits = λ p l. let b = c.bits p l in let x = ons p in let y = offs p in omega arith;
@@ -73,7 +74,8 @@ finer k m v h =
     assoc : (a b c : ℕ) → a * (b * c) ≡ a * b * c
     assoc a b c = omega arith
 
-finer_total : (k m : ℕ) (views : List PageCounts) → ((id : ℕ) (v : PageCounts) → get_elem? views id ≡ some v → v.depth ≤ k) → total_by (weight k) views ≡ 2 ^ k → total_by (weight (k + m)) views ≡ 2 ^ (k + m)
+finer_total : (k m : ℕ) (views : List PageCounts) → ((id : ℕ) (v : PageCounts) → get_elem? views id ≡ some v → v.depth ≤ k) → total_by (weight k) views ≡ 2 ^ k →
+    total_by (weight (k + m)) views ≡ 2 ^ (k + m)
 finer_total k m views fits whole =
     total_times (2 ^ m) (weight k) (weight (k + m)) views (λ id v e. finer k m v (fits id v e)) ∙ ap (λ (n : ℕ). n * 2 ^ m) whole ∙ sym (pow-add 2 k m)
 
@@ -161,7 +163,8 @@ module _ (len : ℕ) (words : List ℕ) (views : List PageCounts) (id : ℕ) (v 
   joint = set (set views id (both_passes v u)) other spent
 
   was_other : get_elem? views other ≡ some u
-  was_other = ⊎_elim (λ (z : (other ≡ id) × (both_passes v u ≡ u)). absurd (apart z.0)) (λ (z : (other ≢ id) × (get_elem? views other ≡ some u)). z.1) (at_set views id other (both_passes v u) u at_other)
+  was_other = ⊎_elim (λ (z : (other ≡ id) × (both_passes v u ≡ u)). absurd (apart z.0)) (λ (z : (other ≢ id) × (get_elem? views other ≡ some u)). z.1)
+      (at_set views id other (both_passes v u) u at_other)
 
   joint_sum : (f : PageCounts → ℕ) → f spent ≡ 0 → total_by f joint + f u + f v ≡ total_by f views + f (both_passes v u)
   joint_sum f z =
@@ -208,7 +211,8 @@ module _ (len : ℕ) (words : List ℕ) (views : List PageCounts) (id : ℕ) (v 
         let m = c.marks p l in
         let x = ons p l in
         let a = joint_sum (marks_at p) refl in
-        let b : marks_at p (both_passes v u) ≡ max (marks_at p v) (marks_at p u) = ap (λ (t : Tally). bit_of t.marked) (at_joint p l) ∙ either_of (tally_of v.pages p).marked (tally_of u.pages p).marked in
+        let b : marks_at p (both_passes v u) ≡ max (marks_at p v) (marks_at p u) = ap (λ (t : Tally). bit_of t.marked) (at_joint p l)
+        ∙ either_of (tally_of v.pages p).marked (tally_of u.pages p).marked in
         let part = total_part (marks_at p) joint id (both_passes v u) there in (
           (λ h. let r = m.0 (omega arith) in omega arith),
           (λ h. let r = m.1 (omega arith) in omega arith),
@@ -283,15 +287,39 @@ meets v u = λ i. record { pages = pages i; parts = parts i; depth = depth i }
     kept true = refl
     kept false = refl
 
-    one : (t w : Tally) → both_of t (only_seen w) ≡ record { marked = t.marked; on = t.on; off = t.off; held = max t.held w.held; seen = max t.seen w.seen; mark_steps = t.mark_steps; clear_steps = t.clear_steps }
+    one : (t w : Tally) → both_of t (only_seen w) ≡ record {
+      marked = t.marked;
+      on = t.on;
+      off = t.off;
+      held = max t.held w.held;
+      seen = max t.seen w.seen;
+      mark_steps = t.mark_steps;
+      clear_steps = t.clear_steps;
+    }
     one t w = let on : t.on + 0 ≡ t.on = omega arith in let off : t.off + 0 ≡ t.off = omega arith in
         let marks : t.mark_steps + 0 ≡ t.mark_steps = omega arith in let clears : t.clear_steps + 0 ≡ t.clear_steps = omega arith in
         λ i. record { marked = kept t.marked i; on = on i; off = off i; held = max t.held w.held; seen = max t.seen w.seen; mark_steps = marks i; clear_steps = clears i }
 
-    met : (p : ℕ) (t : Tally) → both_of t (tally_of (seen_of u.pages) p) ≡ record { marked = t.marked; on = t.on; off = t.off; held = max t.held (tally_of u.pages p).held; seen = max t.seen (tally_of u.pages p).seen; mark_steps = t.mark_steps; clear_steps = t.clear_steps }
+    met : (p : ℕ) (t : Tally) → both_of t (tally_of (seen_of u.pages) p) ≡ record {
+      marked = t.marked;
+      on = t.on;
+      off = t.off;
+      held = max t.held (tally_of u.pages p).held;
+      seen = max t.seen (tally_of u.pages p).seen;
+      mark_steps = t.mark_steps;
+      clear_steps = t.clear_steps;
+    }
     met p t = ap (λ (w : Tally). both_of t w) (at_seen_of u.pages p) ∙ one t (tally_of u.pages p)
 
     pages : joined_with (seen_of u.pages) v.pages ≡ met_with u.pages v.pages
     pages = each_same (λ p t. both_of t (tally_of (seen_of u.pages) p))
-        (λ p t. record { marked = t.marked; on = t.on; off = t.off; held = max t.held (tally_of u.pages p).held; seen = max t.seen (tally_of u.pages p).seen; mark_steps = t.mark_steps; clear_steps = t.clear_steps })
+        (λ p t. record {
+          marked = t.marked;
+          on = t.on;
+          off = t.off;
+          held = max t.held (tally_of u.pages p).held;
+          seen = max t.seen (tally_of u.pages p).seen;
+          mark_steps = t.mark_steps;
+          clear_steps = t.clear_steps;
+        })
         met 0 v.pages

@@ -1,5 +1,6 @@
 -- The pages that bytes lie in are those that the exact bitmap marks, and clears, for them.
-use Rattle.std.proofs.Common.{◌≡◌, ◌⊎◌, ℕ, zero, ◌+◌, ◌-◌, ◌/◌, ◌^◌, ◌<◌, ◌≤◌, Bool, true, false, cond, not, ltb, List, length, get_or, replicate, map, refl, sym, ap, ◌∙◌, inl, inr, ⊎_elim, min, arith}
+use Rattle.std.proofs.Common.{◌≡◌, ◌⊎◌, ℕ, zero, ◌+◌, ◌-◌, ◌/◌, ◌^◌, ◌<◌, ◌≤◌, Bool, true, false, cond, not, ltb, List, length, get_or, replicate, map, refl, sym, ap}
+use Rattle.std.proofs.Common.{◌∙◌, inl, inr, ⊎_elim, min, arith}
 use Rattle.std.specs.List.{range_with_len}
 use Rattle.std.proofs.lemmas.Bool.{cases_lt, lt-ltb, le-ltb, true≢false}
 use Rattle.std.proofs.lemmas.List.{length-replicate, get_or-replicate}

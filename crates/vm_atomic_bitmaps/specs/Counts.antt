@@ -51,7 +51,15 @@ read_by hit found = each_tally (λ p t. cond (hit p) (after_read (bit_at found (
 
 -- what two passes have counted of a page, in one
 abbrev pub both_of : Tally → Tally → Tally
-both_of t u = record { marked = cond t.marked true u.marked; on = t.on + u.on; off = t.off + u.off; held = max t.held u.held; seen = max t.seen u.seen; mark_steps = t.mark_steps + u.mark_steps; clear_steps = t.clear_steps + u.clear_steps }
+both_of t u = record {
+  marked = cond t.marked true u.marked;
+  on = t.on + u.on;
+  off = t.off + u.off;
+  held = max t.held u.held;
+  seen = max t.seen u.seen;
+  mark_steps = t.mark_steps + u.mark_steps;
+  clear_steps = t.clear_steps + u.clear_steps;
+}
 
 -- what a pass has seen of a page, without what it did
 abbrev pub only_seen : Tally → Tally

@@ -1,9 +1,11 @@
 -- writing runs of pages in words
-use Rattle.std.proofs.Common.{◌≡◌, ℕ, zero, suc, ◌+◌, ◌-◌, ◌*◌, ◌/◌, ◌%◌, ◌^◌, ◌<◌, ◌≤◌, inl, inr, Bool, true, false, List, ◌++◌, length, get_or, set, take, drop, replicate, ap, sym, ◌∙◌, arith, bit_and, bit_or, ◌≢◌}
+use Rattle.std.proofs.Common.{◌≡◌, ℕ, zero, suc, ◌+◌, ◌-◌, ◌*◌, ◌/◌, ◌%◌, ◌^◌, ◌<◌, ◌≤◌, inl, inr, Bool, true, false, List, ◌++◌, length, get_or, set, take, drop}
+use Rattle.std.proofs.Common.{replicate, ap, sym, ◌∙◌, arith, bit_and, bit_or, ◌≢◌}
 use Rattle.std.specs.Int.{bit_at, w64, bit_not}
 use Rattle.std.proofs.lemmas.Nat.{pow-add, pow_pos, shl_whole}
 use Rattle.std.proofs.lemmas.Nat.Bits.{ones_shr, bit_at_or, bit_at_and, bit_at_not, bit_at-lt, bit_at_above, bit_at_mask_inside, bit_at_mask_below, bit_at_mask_above, bit_at_ones, bit_at-zero}
-use Rattle.std.proofs.lemmas.List.{get_or-set_same, get_or-set_other, get_or-take, get_or-drop, get_or-append_right, get_or_append_left, get_or-replicate, length-replicate, length-append, length-take-le}
+use Rattle.std.proofs.lemmas.List.{get_or-set_same, get_or-set_other, get_or-take, get_or-drop, get_or-append_right, get_or_append_left, get_or-replicate}
+use Rattle.std.proofs.lemmas.List.{length-replicate, length-append, length-take-le}
 use Rattle.std.proofs.lemmas.Bool.{cases_lt, cases_eq}
 use Rattle.vm_bitmaps.specs.Words.{page_bit, bit_of, WritesRun, WritesBits}
 

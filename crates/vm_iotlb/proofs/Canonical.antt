@@ -11,10 +11,12 @@ use Rattle.vm_iotlb.proofs.RunLemmas.{together_in, apart}
 none_some : (m : Mapping) → ◌≡◌ {A = Option Mapping} None (Some m) → ⊥
 none_some m e = cc
 
-fields_same : (a b c d e f : ℕ) (p q : Permissions) → a ≡ b → c ≡ d → e ≡ f → p ≡ q → ◌≡◌ {A = IotlbRange} (record { start = a; end = c; target = e; perm = p }) (record { start = b; end = d; target = f; perm = q })
+fields_same : (a b c d e f : ℕ) (p q : Permissions) → a ≡ b → c ≡ d → e ≡ f → p ≡ q → ◌≡◌ {A = IotlbRange} (record { start = a; end = c; target = e; perm = p })
+    (record { start = b; end = d; target = f; perm = q })
 fields_same a b c d e f p q x y z w = rw (x, y, z, w) refl
 
-starts_after : (r : IotlbRange) (l : List IotlbRange) (s : IotlbRange) (m : List IotlbRange) → AreRanges (r ∷ l) → AreRanges (s ∷ m) → AreSame (table_kept (r ∷ l)) (table_kept (s ∷ m)) → s.start ≤ r.start
+starts_after : (r : IotlbRange) (l : List IotlbRange) (s : IotlbRange) (m : List IotlbRange) → AreRanges (r ∷ l) → AreRanges (s ∷ m) →
+    AreSame (table_kept (r ∷ l)) (table_kept (s ∷ m)) → s.start ≤ r.start
 starts_after r l s m are is same =
     elim (cases_lt r.start s.start) [
       | inl low ↦
@@ -24,7 +26,8 @@ starts_after r l s m are is same =
       | inr high ↦ high
     ]
 
-ends_after : (r : IotlbRange) (l : List IotlbRange) (s : IotlbRange) (m : List IotlbRange) → AreRanges (r ∷ l) → AreRanges (s ∷ m) → AreSame (table_kept (r ∷ l)) (table_kept (s ∷ m)) → r.start ≡ s.start → s.end ≤ r.end
+ends_after : (r : IotlbRange) (l : List IotlbRange) (s : IotlbRange) (m : List IotlbRange) → AreRanges (r ∷ l) → AreRanges (s ∷ m) →
+    AreSame (table_kept (r ∷ l)) (table_kept (s ∷ m)) → r.start ≡ s.start → s.end ≤ r.end
 ends_after r l s m are is same start =
     elim (cases_lt r.end s.end) [
       | inl low ↦
@@ -48,7 +51,8 @@ tails_same r l s m are is same end = λ a.
       | inr high ↦ sym (table_out r l a high) ∙ same a ∙ table_out s m a (omega arith)
     ]
 
-heads_same : (r : IotlbRange) (l : List IotlbRange) (s : IotlbRange) (m : List IotlbRange) → AreRanges (r ∷ l) → AreRanges (s ∷ m) → AreSame (table_kept (r ∷ l)) (table_kept (s ∷ m)) → (r ≡ s) × (r.end ≡ s.end)
+heads_same : (r : IotlbRange) (l : List IotlbRange) (s : IotlbRange) (m : List IotlbRange) → AreRanges (r ∷ l) → AreRanges (s ∷ m) →
+    AreSame (table_kept (r ∷ l)) (table_kept (s ∷ m)) → (r ≡ s) × (r.end ≡ s.end)
 heads_same r l s m are is same =
     let back : AreSame (table_kept (s ∷ m)) (table_kept (r ∷ l)) = λ a. sym (same a) in
     let low = starts_after r l s m are is same in

@@ -22,7 +22,8 @@ one_about es x r s k keyed are one two low high from to =
       ]
     ]
 
-pub old_part : (es : List (ℕ × IotlbRange)) (lo hi q : ℕ) (r : IotlbRange) → AreKeyed es → AreRanges (values_of es) → range_at es q ≡ Some r → (r.end ≤ lo) ⊎ (hi ≤ r.start) → Part (range_at es) lo hi q r
+pub old_part : (es : List (ℕ × IotlbRange)) (lo hi q : ℕ) (r : IotlbRange) → AreKeyed es → AreRanges (values_of es) → range_at es q ≡ Some r →
+    (r.end ≤ lo) ⊎ (hi ≤ r.start) → Part (range_at es) lo hi q r
 old_part es lo hi q r keyed are at out =
     let is = is_at_key es q r keyed are at in
     record { whole = r; at = ap (range_at es) (sym is.0) ∙ at; key = is.0; some = is.1.0; low = omega arith; high = omega arith; target = omega arith; perm = refl; out = out; cut = inl refl }
@@ -133,7 +134,18 @@ left_part es s hi q (Some b) g r keyed are reaches low old at =
     elim (cases_eq b.start q) [
       | inl same ↦
           let one = some_one cut r (sym (put_here cut g q same) ∙ at) in
-          rw (sym one) (record { whole = b; at = reaches.2; key = sym same; some = reaches.0; low = omega arith; high = reaches.1; target = omega arith; perm = refl; out = inl (omega arith); cut = inl refl })
+          rw (sym one) (record {
+            whole = b;
+            at = reaches.2;
+            key = sym same;
+            some = reaches.0;
+            low = omega arith;
+            high = reaches.1;
+            target = omega arith;
+            perm = refl;
+            out = inl (omega arith);
+            cut = inl refl;
+          })
       | inr apart ↦
           let this = sym old ∙ sym (put_apart cut g q apart) ∙ at in
           let is = is_at_key es q r keyed are this in

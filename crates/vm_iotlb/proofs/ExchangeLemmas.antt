@@ -23,14 +23,18 @@ pub record Part (g : ℕ → Option IotlbRange) (lo hi q : ℕ) (r : IotlbRange)
   pub out : (r.end ≤ lo) ⊎ (hi ≤ r.start)
   pub cut : (r.start ≡ whole.start) ⊎ (r.start ≡ hi)
 
-parts_precede : (es : List (ℕ × IotlbRange)) (lo hi j k : ℕ) (r s : IotlbRange) → AreKeyed es → AreRanges (values_of es) → lo < hi → Part (range_at es) lo hi j r → Part (range_at es) lo hi k s → j < k → Precedes r s
+parts_precede : (es : List (ℕ × IotlbRange)) (lo hi j k : ℕ) (r s : IotlbRange) → AreKeyed es → AreRanges (values_of es) → lo < hi → Part (range_at es) lo hi j r →
+    Part (range_at es) lo hi k s → j < k → Precedes r s
 parts_precede es lo hi j k r s keyed are span one two order =
     elim (cases_lt one.whole.start two.whole.start) [
       | inl less ↦
           let pair = pair_at es one.whole.start two.whole.start one.whole two.whole keyed are one.at two.at less in (
             omega (arith, one.high, pair.0, two.low),
-            λ goes. pair.1
-                (omega (arith, one.high, pair.0, two.low, goes.0), omega (arith, one.high, one.low, one.some, one.target, two.target, pair.0, two.low, goes.0, goes.1), sym one.perm ∙ goes.2 ∙ two.perm),
+            λ goes. pair.1 (
+              omega (arith, one.high, pair.0, two.low, goes.0),
+              omega (arith, one.high, one.low, one.some, one.target, two.target, pair.0, two.low, goes.0, goes.1),
+              sym one.perm ∙ goes.2 ∙ two.perm,
+            ),
           )
       | inr more ↦ elim (cases_lt two.whole.start one.whole.start) [
         | inl less ↦
@@ -61,7 +65,8 @@ abbrev pub IsEither : (g : ℕ → Option IotlbRange) → (lo hi : ℕ) → Opti
 IsEither g lo hi new q r = ((new ≡ Some r) × (q ≡ r.start)) ⊎ Part g lo hi q r
 
 pub exchanged_ranges : (es fs : List (ℕ × IotlbRange)) (lo hi : ℕ) (new : Option IotlbRange) → AreKeyed es → AreRanges (values_of es) → lo < hi → IsStrictlySortedBy nat_cmp (keys_of fs) →
-    ((r : IotlbRange) → new ≡ Some r → Stands (range_at es) lo hi r) → ((q : ℕ) (r : IotlbRange) → range_at fs q ≡ Some r → IsEither (range_at es) lo hi new q r) → AreKeyed fs × AreRanges (values_of fs)
+    ((r : IotlbRange) → new ≡ Some r → Stands (range_at es) lo hi r) → ((q : ℕ) (r : IotlbRange) → range_at fs q ≡ Some r → IsEither (range_at es) lo hi new q r) →
+    AreKeyed fs × AreRanges (values_of fs)
 exchanged_ranges es fs lo hi new keyed are span sorted stands either =
     ranges_from_at fs sorted (λ k r at. elim (either k r at) [
       | inl is ↦ (is.1, (stands r is.0).0)
@@ -89,7 +94,8 @@ exchanged_ranges es fs lo hi new keyed are span sorted stands either =
 
 -- ---- tables
 
-pub in_at : (es : List (ℕ × IotlbRange)) (k a : ℕ) (r : IotlbRange) → AreKeyed es → AreRanges (values_of es) → range_at es k ≡ Some r → r.start ≤ a → a < r.end → table_kept (values_of es) a ≡ Some (mapping_in r a)
+pub in_at : (es : List (ℕ × IotlbRange)) (k a : ℕ) (r : IotlbRange) → AreKeyed es → AreRanges (values_of es) → range_at es k ≡ Some r → r.start ≤ a → a < r.end →
+    table_kept (values_of es) a ≡ Some (mapping_in r a)
 in_at es k a r keyed are at low high =
     let tail = tail_at es k r keyed are at in
     tail.3 a (omega (arith, tail.2)) ∙ table_inside r tail.0 a low high
@@ -105,7 +111,8 @@ find_at (e ∷ es) a keyed are =
     (has.0, has.1, at_rest e es has.0 (λ equal. omega (arith, keyed.0, are.0.0)) ∙ has.2, has.3, has.4) in
     let down : (Has es a → ⊥) → (e.1.start ≤ a → a < e.1.end → ⊥) → Has (e ∷ es) a → ⊥ = λ none out has.
     elim (cases_eq has.0 e.0) [
-      | inl same ↦ let one = some_one e.1 has.1 (sym (at_here e es has.0 same) ∙ has.2) in out (omega (arith, ap (λ (r : IotlbRange). r.start) one, has.3)) (omega (arith, ap (λ (r : IotlbRange). r.end) one, has.4))
+      | inl same ↦ let one = some_one e.1 has.1 (sym (at_here e es has.0 same) ∙ has.2) in out (omega (arith, ap (λ (r : IotlbRange). r.start) one, has.3))
+          (omega (arith, ap (λ (r : IotlbRange). r.end) one, has.4))
       | inr apart ↦ none (has.0, has.1, sym (at_rest e es has.0 apart) ∙ has.2, has.3, has.4)
     ] in
     elim (find_at es a keyed.1 are.2) [

@@ -84,7 +84,8 @@ pair_at (e ∷ es) j k r s keyed are at next order =
     ]
 
 -- an address that no range has
-pub none_at : (es : List (ℕ × IotlbRange)) (a : ℕ) → AreKeyed es → AreRanges (values_of es) → ((k : ℕ) (r : IotlbRange) → range_at es k ≡ Some r → r.start ≤ a → a < r.end → ⊥) → table_kept (values_of es) a ≡ None
+pub none_at : (es : List (ℕ × IotlbRange)) (a : ℕ) → AreKeyed es → AreRanges (values_of es) →
+    ((k : ℕ) (r : IotlbRange) → range_at es k ≡ Some r → r.start ≤ a → a < r.end → ⊥) → table_kept (values_of es) a ≡ None
 unfolding table_kept
 none_at [] a keyed are none = refl
 none_at (e ∷ es) a keyed are none =
@@ -124,7 +125,8 @@ above_at x (e ∷ es) k r all at =
       | inr apart ↦ above_at x es k r all.1 (sym (at_rest e es k apart) ∙ at)
     ]
 
-first_precedes : (e : ℕ × IotlbRange) (es : List (ℕ × IotlbRange)) → AllByRecursion (λ y. nat_cmp e.0 y ≡ Less) (keys_of es) → ((k : ℕ) (s : IotlbRange) → e.0 < k → range_at es k ≡ Some s → Precedes e.1 s) →
+first_precedes : (e : ℕ × IotlbRange) (es : List (ℕ × IotlbRange)) → AllByRecursion (λ y. nat_cmp e.0 y ≡ Less) (keys_of es) →
+    ((k : ℕ) (s : IotlbRange) → e.0 < k → range_at es k ≡ Some s → Precedes e.1 s) →
     PrecedesAll e.1 (values_of es)
 first_precedes e [] head pair = tt
 first_precedes e (f ∷ es) head pair = pair f.0 f.1 (lt_from_cmp e.0 f.0 head.0) (at_here f es f.0 refl)
@@ -278,7 +280,8 @@ back_at r before q mid after free put gone =
 
 -- ---- the ranges about an address
 
-pub reaches_none : (es : List (ℕ × IotlbRange)) (below addr : ℕ) (r : IotlbRange) → AreKeyed es → AreRanges (values_of es) → below + 1 ≡ addr → IsLastUpTo es below r → r.end < addr → ReachesFrom es addr None
+pub reaches_none : (es : List (ℕ × IotlbRange)) (below addr : ℕ) (r : IotlbRange) → AreKeyed es → AreRanges (values_of es) → below + 1 ≡ addr → IsLastUpTo es below r →
+    r.end < addr → ReachesFrom es addr None
 reaches_none es below addr r keyed are next last ended = λ k s at low.
     elim (cases_eq k r.start) [
       | inl same ↦ let one = some_one r s (sym last.1 ∙ ap (range_at es) (sym same) ∙ at) in rw (sym one) ended

@@ -14,7 +14,8 @@ use Rattle.vm_iotlb.specs.Ranges.{mapping_in, table_kept, AreRanges, EndsAbove, 
 use Rattle.vm_iotlb.proofs.Covering.{Cover, pieces_in}
 use Rattle.vm_iotlb.specs.AddressRuns.{may_pass, target_of, may_all, go_together, run_of, led_by, runs, missing, lacking, piece_of, pieces, addresses_joined, targets, between}
 use Rattle.vm_iotlb.proofs.RangeLemmas.{table_before, table_inside}
-use Rattle.vm_iotlb.proofs.RunLemmas.{runs_one, runs_more, gap_run, range_run, agree_rest, missing_run, missing_skip, lacking_run, lacking_skip, lacking_gap, pieces_run, nothing_left, may_stop, may_range}
+use Rattle.vm_iotlb.proofs.RunLemmas.{runs_one, runs_more, gap_run, range_run, agree_rest, missing_run, missing_skip, lacking_run, lacking_skip, lacking_gap}
+use Rattle.vm_iotlb.proofs.RunLemmas.{pieces_run, nothing_left, may_stop, may_range}
 
 -- the ranges behind one that ends at an address or above it
 pub above_rest : (r : IotlbRange) (l : List IotlbRange) (b : ℕ) → AreRanges (r ∷ l) → b ≤ r.end → EndsAbove b l
@@ -192,7 +193,8 @@ fails_end t access a e agree =
     ]
 
 -- one range is left behind
-pub fails_step : (t : Table) (access : Permissions) (r : IotlbRange) (l : List IotlbRange) (a s p e : ℕ) → AreRanges (r ∷ l) → Agree t (r ∷ l) a e → a < e → a < r.end → s ≡ min (max r.start a) e → p ≡ min r.end e →
+pub fails_step : (t : Table) (access : Permissions) (r : IotlbRange) (l : List IotlbRange) (a s p e : ℕ) → AreRanges (r ∷ l) → Agree t (r ∷ l) a e → a < e → a < r.end →
+    s ≡ min (max r.start a) e → p ≡ min r.end e →
     (missing t a (e - a) ≡ between a s ++ missing t p (e - p)) × (allows r.perm access ≡ true → lacking t access a (e - a) ≡ between p p ++ lacking t access p (e - p)) ×
     (allows r.perm access ≡ false → lacking t access a (e - a) ≡ between s p ++ lacking t access p (e - p))
 fails_step t access r l a s p e are agree some high start end =

@@ -23,7 +23,8 @@ unfolding runs
 runs_more t a n k rest test tail = rw (test, tail) refl
 
 -- c addresses that go together and after which another run begins
-pub runs_step : (t : Table) (c a b m n : ℕ) → c + n ≡ m → a + c ≡ b → 0 < c → ((x : ℕ) → a ≤ x → x + 1 < b → go_together (t x) (t (x + 1)) ≡ true) → ((x : ℕ) → x + 1 ≡ b → 0 < n → go_together (t x) (t b) ≡ false) →
+pub runs_step : (t : Table) (c a b m n : ℕ) → c + n ≡ m → a + c ≡ b → 0 < c → ((x : ℕ) → a ≤ x → x + 1 < b → go_together (t x) (t (x + 1)) ≡ true) →
+    ((x : ℕ) → x + 1 ≡ b → 0 < n → go_together (t x) (t b) ≡ false) →
     runs t a m ≡ run_of a c ∷ runs t b n
 runs_step t zero a b m n count end some same stop = absurd (omega arith)
 runs_step t (suc c) a b zero n count end some same stop = absurd (omega arith)
@@ -130,7 +131,8 @@ pub lacking_run : (t : Table) (access : Permissions) (a b c m n : ℕ) (to : Map
 unfolding lacking
 lacking_run t access a b c m n to run some denied = rw (run, some, denied) refl
 
-pub lacking_skip : (t : Table) (access : Permissions) (a b c m n : ℕ) (to : Mapping) → runs t a m ≡ run_of a c ∷ runs t b n → t a ≡ Some to → allows to.perm access ≡ true → lacking t access a m ≡ lacking t access b n
+pub lacking_skip : (t : Table) (access : Permissions) (a b c m n : ℕ) (to : Mapping) → runs t a m ≡ run_of a c ∷ runs t b n → t a ≡ Some to →
+    allows to.perm access ≡ true → lacking t access a m ≡ lacking t access b n
 unfolding lacking
 lacking_skip t access a b c m n to run some all = rw (run, some, all) refl
 
@@ -138,11 +140,13 @@ pub lacking_gap : (t : Table) (access : Permissions) (a b c m n : ℕ) → runs 
 unfolding lacking
 lacking_gap t access a b c m n run none = rw (run, none) refl
 
-pub pieces_run : (t : Table) (a b c m n : ℕ) (to : Mapping) → runs t a m ≡ run_of a c ∷ runs t b n → t a ≡ Some to → pieces t a m ≡ record { base = record { 0 = to.target }; length = c } ∷ pieces t b n
+pub pieces_run : (t : Table) (a b c m n : ℕ) (to : Mapping) → runs t a m ≡ run_of a c ∷ runs t b n → t a ≡ Some to →
+    pieces t a m ≡ record { base = record { 0 = to.target }; length = c } ∷ pieces t b n
 unfolding pieces
 pieces_run t a b c m n to run some = rw (run, some) refl
 
-pub nothing_left : (t : Table) (access : Permissions) (a e : ℕ) → e ≤ a → (missing t a (e - a) ≡ []) × (lacking t access a (e - a) ≡ []) × (pieces t a (e - a) ≡ []) × (may_all t access a (e - a) ≡ true)
+pub nothing_left : (t : Table) (access : Permissions) (a e : ℕ) → e ≤ a → (missing t a (e - a) ≡ []) × (lacking t access a (e - a) ≡ []) × (pieces t a (e - a) ≡ []) ×
+    (may_all t access a (e - a) ≡ true)
 unfolding missing lacking pieces may_all runs
 nothing_left t access a e h = let none : e - a ≡ 0 = omega arith in (rw none refl, rw none refl, rw none refl, rw none refl)
 

@@ -17,7 +17,8 @@ use Rattle.vm_iotlb.proofs.SideLemmas.{left_apart, left_back, left_is, left_low,
 abbrev pub all_put : (g : ℕ → Option IotlbRange) → IotlbRange → (before after left right : Option IotlbRange) → ℕ → Option IotlbRange
 all_put g r before after left right = put_at (left_over left before r.start) (put_at (Some (joined r left right)) (put_at (right_over right after r.end) g))
 
-module _ (es fs : List (ℕ × IotlbRange)) (r : IotlbRange) (before after left right : Option IotlbRange) (keyed : AreKeyed es) (are : AreRanges (values_of es)) (is : IsRange r) (reaches : ReachesFrom es r.start before)
+module _ (es fs : List (ℕ × IotlbRange)) (r : IotlbRange) (before after left right : Option IotlbRange) (keyed : AreKeyed es) (are : AreRanges (values_of es))
+    (is : IsRange r) (reaches : ReachesFrom es r.start before)
     (behind : HasAddress es r.end after) (lefts : JoinsLeft r before left) (rights : JoinsRight r after right) (sorted : IsStrictlySortedBy nat_cmp (keys_of fs))
     (now : (q : ℕ) → range_at fs q ≡ cleared (start_joined r left + 1) (end_joined r right) (all_put (range_at es) r before after left right) q) where
   low : (start_joined r left ≤ r.start) × (target_joined r left + (r.start - start_joined r left) ≡ r.target)
@@ -28,7 +29,8 @@ module _ (es fs : List (ℕ × IotlbRange)) (r : IotlbRange) (before after left 
 
   -- below what is joined, the new range and those behind were not put
   inner_low : (q : ℕ) → q < start_joined r left → put_at (Some (joined r left right)) (put_at (right_over right after r.end) (range_at es)) q ≡ range_at es q
-  inner_low q below = put_apart (joined r left right) (put_at (right_over right after r.end) (range_at es)) q (λ same. omega arith) ∙ right_apart es r keyed are is after behind right q (omega (arith, low.0, is.0))
+  inner_low q below = put_apart (joined r left right) (put_at (right_over right after r.end) (range_at es)) q (λ same. omega arith)
+      ∙ right_apart es r keyed are is after behind right q (omega (arith, low.0, is.0))
 
   at_new : range_at fs (start_joined r left) ≡ Some (joined r left right)
   at_new =
@@ -56,7 +58,8 @@ module _ (es fs : List (ℕ × IotlbRange)) (r : IotlbRange) (before after left 
               let one : Some (joined r left right) ≡ Some p = sym at_new ∙ ap (range_at fs) equal ∙ at in
               inl (one, sym equal ∙ ap (λ (x : IotlbRange). x.start) (some_one (joined r left right) p one))
           | inl over ↦ elim (cases_lt q (end_joined r right)) [
-            | inl within ↦ absurd (none_some p (sym (clear_within (start_joined r left + 1) (end_joined r right) (all_put (range_at es) r before after left right) q (omega arith) within) ∙ sym (now q) ∙ at))
+            | inl within ↦ absurd (none_some p (sym (clear_within (start_joined r left + 1) (end_joined r right) (all_put (range_at es) r before after left right) q
+                (omega arith) within) ∙ sym (now q) ∙ at))
             | inr above ↦ inr (right_is es r keyed are is after behind right (start_joined r left) q p rights above (sym (at_high q above) ∙ at))
           ]
         ]
@@ -119,5 +122,6 @@ module _ (es fs : List (ℕ × IotlbRange)) (r : IotlbRange) (before after left 
       ]
     where
       skip_new : (q : ℕ) → q < start_joined r left → all_put (range_at es) r before after left right q ≡ put_at (left_over left before r.start) (put_at (right_over right after r.end) (range_at es)) q
-      skip_new q below = put_same (left_over left before r.start) (put_at (Some (joined r left right)) (put_at (right_over right after r.end) (range_at es))) (put_at (right_over right after r.end) (range_at es)) q
+      skip_new q below = put_same (left_over left before r.start) (put_at (Some (joined r left right)) (put_at (right_over right after r.end) (range_at es)))
+          (put_at (right_over right after r.end) (range_at es)) q
           (put_apart (joined r left right) (put_at (right_over right after r.end) (range_at es)) q (λ same. omega arith))

@@ -49,7 +49,8 @@ module _ (es fs : List (ℕ × IotlbRange)) (start end : ℕ) (before after : Op
         | inl below ↦
             let test : (nat_le start a && nat_lt a end) ≡ false = grind (arith, nat_tests) in
             rw test (same_at es fs a keyed are taken_ranges.0 taken_ranges.1 (λ k s at low under.
-            let kept = left_keep es start a k before (put_at (part_from after end) (range_at es)) s keyed are reaches below (λ q less. tail_apart after (range_at es) end q (λ same. omega arith)) at low under in
+            let kept = left_keep es start a k before (put_at (part_from after end) (range_at es)) s keyed are reaches below
+            (λ q less. tail_apart after (range_at es) end q (λ same. omega arith)) at low under in
             (kept.0, kept.1, now kept.0 ∙ clear_below start end all kept.0 kept.2 ∙ kept.3.0, kept.3.1, kept.3.2, kept.3.3, kept.3.4)) (back a))
         | inr low ↦ elim (cases_lt a end) [
           | inl within ↦

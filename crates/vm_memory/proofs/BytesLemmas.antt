@@ -119,7 +119,8 @@ reads_some_of m Reaches addr old new done result may count got is =
       bytes = got ∙ ap (λ k. map (byte m) (take k xs) ++ drop k old) count ∙ read-reached m addr (length old) xs old;
     }
 
-pub reads_all_of : (m : Memory) (Reaches : Reaching) (addr : GuestAddress) (old new : List ℕ) (done : ℕ) (result : Result (Unit {0}) GuestMemoryError) → Reaches (reached_from m Read addr (length old)) →
+pub reads_all_of : (m : Memory) (Reaches : Reaching) (addr : GuestAddress) (old new : List ℕ) (done : ℕ) (result : Result (Unit {0}) GuestMemoryError) →
+    Reaches (reached_from m Read addr (length old)) →
     done ≡ reached (location m Read) (circular addr.0 (length old)) → new ≡ map (byte m) (take done (circular addr.0 (length old))) ++ drop done old → result ≡ transferred addr (length old) done →
     ReadsAll Reaches (λ n k. PartialBuffer n k) m.host old new result
 reads_all_of m Reaches addr old new done result may count got is =
@@ -132,8 +133,10 @@ reads_all_of m Reaches addr old new done result may count got is =
       bytes = got ∙ ap (λ k. map (byte m) (take k xs) ++ drop k old) count ∙ read-reached m addr (length old) xs old;
     }
 
-pub writes_some_of : (m : Memory) (Reaches : Reaching) (new : Host) (addr : GuestAddress) (bytes : List ℕ) (done : ℕ) (result : Result ℕ GuestMemoryError) → Reaches (reached_from m Write addr (length bytes)) →
-    done ≡ reached (location m Write) (circular addr.0 (length bytes)) → new ≡ put_all m.host (zip (places_at (location m Write) (circular addr.0 (length bytes))) bytes) → result ≡ asked addr (length bytes) done →
+pub writes_some_of : (m : Memory) (Reaches : Reaching) (new : Host) (addr : GuestAddress) (bytes : List ℕ) (done : ℕ) (result : Result ℕ GuestMemoryError) →
+    Reaches (reached_from m Write addr (length bytes)) →
+    done ≡ reached (location m Write) (circular addr.0 (length bytes)) →
+    new ≡ put_all m.host (zip (places_at (location m Write) (circular addr.0 (length bytes))) bytes) → result ≡ asked addr (length bytes) done →
     WritesSome Reaches bytes m.host new result
 writes_some_of m Reaches new addr bytes done result may count put is =
     let xs : List ℕ = circular addr.0 (length bytes) in
@@ -174,7 +177,8 @@ pub reads_all : (l : List Region) (h : Host) (addr : GuestAddress) (old new : Li
 reads_all l h addr old new result got is =
     reads_all_of (memory_of h l) (λ places. places ≡ reached_by l addr (length old)) addr old new (reached (place l) (circular addr.0 (length old))) result refl refl got is
 
-pub writes_some : (l : List Region) (old new : Host) (addr : GuestAddress) (bytes : List ℕ) (done : ℕ) (result : Result ℕ GuestMemoryError) → done ≡ reached (place l) (circular addr.0 (length bytes)) →
+pub writes_some : (l : List Region) (old new : Host) (addr : GuestAddress) (bytes : List ℕ) (done : ℕ) (result : Result ℕ GuestMemoryError) →
+    done ≡ reached (place l) (circular addr.0 (length bytes)) →
     memory_of new l ≡ stored_all (memory_of old l) (zip (take done (circular addr.0 (length bytes))) bytes) → result ≡ asked addr (length bytes) done →
     WritesSome (λ places. places ≡ reached_by l addr (length bytes)) bytes old new result
 writes_some l old new addr bytes done result count put is =

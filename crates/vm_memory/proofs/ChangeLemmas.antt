@@ -60,7 +60,8 @@ above_all (x ∷ l) r e from h =
     rw (here, above_all l r e from.1 h)
 
 -- regions that end before it or begin after it
-pub none_apart : (l : List Region) (at : ℕ) (r : Region) → IsLayout l → at ≤ length l → (0 < at → end_at l (at - 1) ≤ r.start) → (at < length l → r.start + r.size ≤ start_at l at) → list_any (overlap r) l ≡ false
+pub none_apart : (l : List Region) (at : ℕ) (r : Region) → IsLayout l → at ≤ length l → (0 < at → end_at l (at - 1) ≤ r.start) →
+    (at < length l → r.start + r.size ≤ start_at l at) → list_any (overlap r) l ≡ false
 none_apart [] at r is most before after = refl
 none_apart (x ∷ l) zero r is most before after =
     let low : r.start + r.size ≤ x.start = after (omega arith) in
@@ -80,7 +81,8 @@ none_apart (x ∷ l) (suc (suc n)) r is most before after =
     let here : overlap r x ≡ false = grind (arith, nat_tests) in
     rw (here, none_apart l (suc n) r is.3 (omega arith) (λ some. rw back last) (λ some. after (omega arith)))
 
-pub with_region-insert : (l : List Region) (at : ℕ) (r : Region) → IsLayout l → at ≤ length l → (0 < at → start_at l (at - 1) ≤ r.start) → (at < length l → r.start < start_at l at) → insert l at r ≡ with_region r l
+pub with_region-insert : (l : List Region) (at : ℕ) (r : Region) → IsLayout l → at ≤ length l → (0 < at → start_at l (at - 1) ≤ r.start) →
+    (at < length l → r.start < start_at l at) → insert l at r ≡ with_region r l
 with_region-insert [] zero r is most below above = refl
 with_region-insert [] (suc at) r is most below above = absurd (omega arith)
 with_region-insert (x ∷ l) zero r is most below above =
@@ -161,7 +163,8 @@ none_begins (x ∷ l) base size is h =
     let low : base < x.start = h (omega arith) in
     rw (other x base size low) (none_from l (x.start + x.size) base size is.2 (omega arith))
 
-pub not_there : (l : List Region) (n base size : ℕ) (s : Region) → IsLayout l → slice_get l n ≡ Some s → s.start ≤ base → (n + 1 < length l → base < start_at l (n + 1)) → is_region base size s ≡ false →
+pub not_there : (l : List Region) (n base size : ℕ) (s : Region) → IsLayout l → slice_get l n ≡ Some s → s.start ≤ base →
+    (n + 1 < length l → base < start_at l (n + 1)) → is_region base size s ≡ false →
     find (is_region base size) l ≡ None
 not_there [] n base size s is e low high out = absurd (cc)
 not_there (x ∷ l) zero base size s is e low high out =
@@ -237,7 +240,8 @@ shared-remove f [] (suc i) = refl
 shared-remove f (x ∷ items) zero = refl
 shared-remove f (x ∷ items) (suc i) = ap (λ (l : List Region). f (arc_value x) ∷ l) (shared-remove f items i)
 
-pub shared_item : {X Z : Type 0} (f : X → Region) (items : List (Arc X Z)) (i : ℕ) (arc : Arc X Z) → i < length items → arc ≡ get_or items i arc → slice_get (regions_of f items) i ≡ Some (f (arc_value arc))
+pub shared_item : {X Z : Type 0} (f : X → Region) (items : List (Arc X Z)) (i : ℕ) (arc : Arc X Z) → i < length items → arc ≡ get_or items i arc →
+    slice_get (regions_of f items) i ≡ Some (f (arc_value arc))
 shared_item f [] i arc h e = absurd (omega arith)
 shared_item f (x ∷ items) zero arc h e = ap (λ y. Some (f (arc_value y))) (sym e)
 shared_item f (x ∷ items) (suc i) arc h e = shared_item f items i arc (omega arith) e
@@ -271,7 +275,8 @@ on_false_with true f h = tt
 on_false_with false f h = f h
 
 pub collides_by : (l : List Region) (at start last : ℕ) (test : Bool) → IsLayout l → start ≤ last → at ≤ length l → (0 < at → end_at l (at - 1) ≤ start) → (at < length l → start < start_at l at) →
-    OnTrue test ((at < length l) × (start_at l at ≤ last)) → OnFalse test (at < length l → last < start_at l at) → test ≡ list_any (overlap (record { start = start; size = last - start + 1; block = 0 })) l
+    OnTrue test ((at < length l) × (start_at l at ≤ last)) → OnFalse test (at < length l → last < start_at l at) →
+    test ≡ list_any (overlap (record { start = start; size = last - start + 1; block = 0 })) l
 collides_by l at start last test is order most before above by past =
     collides_on l at (record { start = start; size = last - start + 1; block = 0 }) test is most before above
     (on_true_with test (λ (h : (at < length l) × (start_at l at ≤ last)). (h.0, omega (arith, h.1))) by)

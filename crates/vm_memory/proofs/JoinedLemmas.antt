@@ -66,7 +66,8 @@ all_of_more : (s t : Slices) (w : Window) (items : Items) → TakesWindow s w t 
 all_of_more s t w items taken rest =
     let more : AreAllOf (record s { left = drop w.len s.left }) items = subst (λ (x : Slices). AreAllOf x items) taken.3 rest in
     let le = within s.longest s.left w taken.1 in
-    subst (λ n. AreAllUpTo s n (Ok w ∷ items)) (sym (reached_more s.where_is s.left w le taken.2)) (window_first s.where_is s.longest s.left w (reached s.where_is (drop w.len s.left)) items taken.0 taken.1 taken.2 more)
+    subst (λ n. AreAllUpTo s n (Ok w ∷ items)) (sym (reached_more s.where_is s.left w le taken.2))
+    (window_first s.where_is s.longest s.left w (reached s.where_is (drop w.len s.left)) items taken.0 taken.1 taken.2 more)
 
 all_of_run : {S : Type 0} (v : S → Slices) (items : Items) (s t u : S) → Yields (steps_of v) s items t → Gives (v t) None (v u) → AreAllOf (v s) items
 all_of_run v [] s t u y end = all_of_none (v s) (ap (λ x. (v x).left) y ∙ end.0)
@@ -136,5 +137,6 @@ longest_step g a done n x old now new w so at some len more =
       so.0 ++ w ∷ [],
       more ∙ ap (λ (l : List Window). l ++ w ∷ []) so.1 ∙ append_assoc old so.0 (w ∷ []),
       longest-push g so.0 (circular a n) w so.2 some next,
-      left_after-push so.0 (circular a n) w ∙ ap (drop w.len) so.3 ∙ drop_circular (a + done) w.len (n - done) le ∙ ap (λ y. circular y (n - done - w.len)) start ∙ ap (circular (a + (done + w.len))) count,
+      left_after-push so.0 (circular a n) w ∙ ap (drop w.len) so.3 ∙ drop_circular (a + done) w.len (n - done) le ∙ ap (λ y. circular y (n - done - w.len)) start
+          ∙ ap (circular (a + (done + w.len))) count,
     )

@@ -178,7 +178,8 @@ refused_for [] OutOfMemory is = cc
 refused_for (r ∷ l) OutOfMemory is = absurd (wants_none l r is)
 
 -- one shared region more was copied
-pub copied_more : {X Z : Type 0} (f : X → Region) (items all new : List (Arc X Z)) (i : ℕ) (arc copy : Arc X Z) → i < length items → arc ≡ get_or items i arc → arc_value copy ≡ arc_value arc → new ≡ all ++ copy ∷ [] →
+pub copied_more : {X Z : Type 0} (f : X → Region) (items all new : List (Arc X Z)) (i : ℕ) (arc copy : Arc X Z) → i < length items → arc ≡ get_or items i arc →
+    arc_value copy ≡ arc_value arc → new ≡ all ++ copy ∷ [] →
     regions_of f all ≡ take i (regions_of f items) → regions_of f new ≡ take (i + 1) (regions_of f items)
 copied_more f items all new i arc copy h e same is before =
     ap (regions_of f) is ∙ map-append (λ a. f (arc_value a)) all (copy ∷ [])

@@ -1,5 +1,6 @@
 -- regions made one after another
-use Rattle.std.proofs.Common.{subst, inl, Option, Some, None, ◌≡◌, ℕ, Bool, true, false, ◌+◌, ◌^◌, ◌<◌, ◌≤◌, List, [], ◌∷◌, ◌++◌, length, get_or, take, refl, ap, sym, ◌∙◌, arith, map, append_assoc, length-append, suc}
+use Rattle.std.proofs.Common.{subst, inl, Option, Some, None, ◌≡◌, ℕ, Bool, true, false, ◌+◌, ◌^◌, ◌<◌, ◌≤◌, List, [], ◌∷◌, ◌++◌, length, get_or, take, refl, ap, sym}
+use Rattle.std.proofs.Common.{◌∙◌, arith, map, append_assoc, length-append, suc}
 use Rattle.std.specs.Prelude.{◌&&◌, replicate, Result, Ok, Err}
 use Rattle.std.proofs.lemmas.Option.{slice_get-get_or}
 use Rattle.std.specs.List.{list_all}
@@ -93,7 +94,8 @@ held_from count (x ∷ xs) front =
     let y : ℕ = length (replicate x.1 0) in
     let rest : List ℕ = new_lengths count xs in
     let more = held_from count xs (front ++ y ∷ []) in
-    let there : AreHeld (front ++ y ∷ rest) (regions_from (length (front ++ y ∷ [])) xs) = subst (λ (ls : List ℕ). AreHeld ls (regions_from (length (front ++ y ∷ [])) xs)) (append_assoc front (y ∷ []) rest) more in (
+    let there : AreHeld (front ++ y ∷ rest) (regions_from (length (front ++ y ∷ [])) xs) = subst
+    (λ (ls : List ℕ). AreHeld ls (regions_from (length (front ++ y ∷ [])) xs)) (append_assoc front (y ∷ []) rest) more in (
       omega (arith, length-append front (y ∷ rest)),
       get_or_at front y rest 0 (length front) refl ∙ length-replicate x.1 0,
       subst (λ n. AreHeld (front ++ y ∷ rest) (regions_from n xs)) (length_push front y) there,
@@ -103,10 +105,12 @@ pub held_made : (count : ℕ → ℕ) (before after : Host) (xs : List Range) �
 held_made count before after xs e =
     let old = before.blocks in
     let from = held_from count xs (lengths before) in
-    let there : AreHeld (lengths before ++ new_lengths count xs) (regions_from (length old) xs) = subst (λ n. AreHeld (lengths before ++ new_lengths count xs) (regions_from n xs)) (length-map old length_of) from in
+    let there : AreHeld (lengths before ++ new_lengths count xs) (regions_from (length old) xs) = subst
+    (λ n. AreHeld (lengths before ++ new_lengths count xs) (regions_from n xs)) (length-map old length_of) from in
     subst (λ (ls : List ℕ). AreHeld ls (regions_from (length old) xs)) (sym (ap lengths e ∙ map-append length_of old (map (λ (r : Range). zero_block count r.1) xs))) there
 
-pub unless_ok : (fault : Option GuestRegionCollectionError) (regions layout : List Region) → ◌≡◌ {A = Result (List Region) GuestRegionCollectionError} (Ok layout) (unless fault regions) → layout ≡ regions
+pub unless_ok : (fault : Option GuestRegionCollectionError) (regions layout : List Region) → ◌≡◌ {A = Result (List Region) GuestRegionCollectionError} (Ok layout)
+    (unless fault regions) → layout ≡ regions
 unless_ok None regions layout e = cc
 unless_ok (Some f) regions layout e = absurd (cc)
 

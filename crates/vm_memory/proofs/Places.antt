@@ -1,5 +1,6 @@
 -- the places of addresses
-use Rattle.std.proofs.Common.{◌≡◌, ℕ, Bool, true, false, ◌+◌, ◌-◌, ◌%◌, ◌^◌, ◌<◌, ◌≤◌, ◌&&◌, eqb, List, [], ◌∷◌, ◌++◌, length, get_or, take, drop, refl, ap, sym, ◌∙◌, append_assoc, append-nil, length-append, length-drop, map, subst, arith, min, zero, suc, Option, Some, None}
+use Rattle.std.proofs.Common.{◌≡◌, ℕ, Bool, true, false, ◌+◌, ◌-◌, ◌%◌, ◌^◌, ◌<◌, ◌≤◌, ◌&&◌, eqb, List, [], ◌∷◌, ◌++◌, length, get_or, take, drop, refl, ap, sym, ◌∙◌}
+use Rattle.std.proofs.Common.{append_assoc, append-nil, length-append, length-drop, map, subst, arith, min, zero, suc, Option, Some, None}
 use Rattle.std.specs.Prelude.{unwrap_or, is_some, if◌then◌else◌, nat_le, Result, Ok, Err}
 use Rattle.std.specs.Option.{option_map, option_and_then, option_or}
 use Rattle.std.specs.List.{zip, list_all}
@@ -306,7 +307,8 @@ find_end f addr done len old h = ap (λ (l : List ℕ). after old (located f l))
 pub take_circular : (addr done len : ℕ) → done ≤ len → take done (circular addr len) ≡ circular addr done
 take_circular addr done len h =
     let count : len ≡ done + (len - done) = omega arith in
-    ap (λ k. take done (circular addr k)) count ∙ ap (take done) (circular-append done (len - done) addr) ∙ take_at (circular addr done) (circular (addr + done) (len - done)) done (length-circular done addr)
+    ap (λ k. take done (circular addr k)) count ∙ ap (take done) (circular-append done (len - done) addr)
+    ∙ take_at (circular addr done) (circular (addr + done) (len - done)) done (length-circular done addr)
 
 take_step : (addr done len n x : ℕ) → x ≡ (addr + done) % 2 ^ 64 → x + n ≤ 2 ^ 64 → done + n ≤ len →
     take (done + n) (circular addr len) ≡ take done (circular addr len) ++ addresses x n

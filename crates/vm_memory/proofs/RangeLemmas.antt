@@ -1,5 +1,6 @@
 -- ranges of addresses as a whole
-use Rattle.std.proofs.Common.{◌≡◌, ℕ, Bool, true, false, ◌+◌, ◌^◌, ◌<◌, ◌&&◌, nat_lt, eqb, List, [], ◌∷◌, ◌++◌, length, map, take, drop, refl, ap, sym, ◌∙◌, append-nil, arith, zero, suc, Option, Some, None}
+use Rattle.std.proofs.Common.{◌≡◌, ℕ, Bool, true, false, ◌+◌, ◌^◌, ◌<◌, ◌&&◌, nat_lt, eqb, List, [], ◌∷◌, ◌++◌, length, map, take, drop, refl, ap, sym, ◌∙◌, append-nil}
+use Rattle.std.proofs.Common.{arith, zero, suc, Option, Some, None}
 use Rattle.std.specs.Prelude.{is_some, if◌then◌else◌, IsTrue}
 use Rattle.std.specs.Option.{option_map, option_and_then}
 use Rattle.std.specs.List.{list_all}
@@ -67,14 +68,16 @@ unmapped : (n a : ℕ) (l : List Region) (access : Permissions) (set : ℕ) (tab
 unfolding may_all located addresses
 unmapped zero a l access set table e = absurd (cc)
 unmapped (suc n) a l access set table e =
-    unmapped_step l access set a (table a) (located (λ x. for_io set x (place_behind l access (table x))) (addresses (a + 1) n)) (may_all table access (a + 1) n) (unmapped n (a + 1) l access set table) e
+    unmapped_step l access set a (table a) (located (λ x. for_io set x (place_behind l access (table x))) (addresses (a + 1) n)) (may_all table access (a + 1) n)
+    (unmapped n (a + 1) l access set table) e
 
 mapped_places : (m : Memory) (on may : Bool) (access : Permissions) (a n : ℕ) → m.translates ≡ on → may_all (table_of m) access a n ≡ may →
     (if (if on then (true && may) else true) then located (location m access) (addresses a n) else None) ≡ located (location m access) (addresses a n)
 mapped_places m false may access a n off e = refl
 mapped_places m true true access a n on e = refl
 mapped_places m true false access a n on e =
-    sym (ap (λ b. located (λ x. if b then for_io m.io_pages x (place_behind m.layout access (table_of m x)) else place m.layout x) (addresses a n)) on ∙ unmapped n a m.layout access m.io_pages (table_of m) e)
+    sym (ap (λ b. located (λ x. if b then for_io m.io_pages x (place_behind m.layout access (table_of m x)) else place m.layout x) (addresses a n)) on
+    ∙ unmapped n a m.layout access m.io_pages (table_of m) e)
 
 -- the places of a range that ends below 2^64
 pub places_from-is : (m : Memory) (access : Permissions) (a n : ℕ) → a + n < 2 ^ 64 → places_from m access a n ≡ located (location m access) (addresses a n)
@@ -95,7 +98,8 @@ mapped_on : (m : Memory) (on fits may : Bool) (o : Option (List Place)) → on �
 mapped_on m on fits may o a b c = rw (a, b, c) refl
 
 -- the places of a range that is mapped throughout
-pub range_on : (h : Host) (l : List Region) (number table set : ℕ) (on : Bool) (access : Permissions) (a n : ℕ) → table ≡ number → on ≡ true → a + n < 2 ^ 64 → may_all (table_in h number) access a n ≡ true →
+pub range_on : (h : Host) (l : List Region) (number table set : ℕ) (on : Bool) (access : Permissions) (a n : ℕ) → table ≡ number → on ≡ true → a + n < 2 ^ 64 →
+    may_all (table_in h number) access a n ≡ true →
     located (location (io_memory h l table set) access) (circular a n) ≡ places_from (memory_behind h l number set on) access a n
 range_on h l number table set on access a n is turned fits all =
     ap (λ (m : Memory). located (location m access) (circular a n)) (memory_on h l number table set on is turned)

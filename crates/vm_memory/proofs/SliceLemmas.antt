@@ -35,7 +35,8 @@ window_taken f g a n w low some len fits there =
     let le : w.len ≤ n = omega (arith, len) in
     let same : a % 2 ^ 64 ≡ a = omega arith in
     let front : take w.len (circular a n) ≡ addresses a w.len = take_circular a w.len n le ∙ circular-low w.len a a (omega arith) fits in
-    let rest : circular ((a + w.len) % 2 ^ 64) (n - w.len) ≡ drop w.len (circular a n) = circular-same (n - w.len) ((a + w.len) % 2 ^ 64) (a + w.len) (omega arith) ∙ sym (drop_circular a w.len n le) in
+    let rest : circular ((a + w.len) % 2 ^ 64) (n - w.len) ≡ drop w.len (circular a n) = circular-same (n - w.len) ((a + w.len) % 2 ^ 64) (a + w.len) (omega arith)
+    ∙ sym (drop_circular a w.len n le) in
     (some, len ∙ sym (next_len-circular g a n ∙ ap (λ x. min n (g x)) same), ap (located f) front ∙ there, ap (λ (l : List ℕ). record { where_is = f; longest = g; left = l }) rest)
 
 -- the same below the greatest address

@@ -114,7 +114,8 @@ more_left p rest more t u l some next e =
     (λ _. ap (λ k. of_target k l ∷ more) base ∙ ap (λ k. of_target (p.base.0 + 1) k ∷ more) len ∙ ap (λ (q : List MappedRange). past 1 p ∷ q) tail, λ none. absurd (omega (arith, len, none, some)))
 
 -- the first address of a piece taken away
-step_left : (n a : ℕ) (table : Table) (access : Permissions) (p : MappedRange) (rest : List MappedRange) → may_all table access a (suc n) ≡ true → pieces table a (suc n) ≡ p ∷ rest → Remain table (a + 1) n (past 1 p) rest
+step_left : (n a : ℕ) (table : Table) (access : Permissions) (p : MappedRange) (rest : List MappedRange) → may_all table access a (suc n) ≡ true →
+    pieces table a (suc n) ≡ p ∷ rest → Remain table (a + 1) n (past 1 p) rest
 unfolding pieces runs may_all
 step_left zero a table access p rest all is =
     elim (go_together (table a) (table (a + 1))) as (λ b. map (piece_of table) (if b then run_of a 1 ∷ [] else run_of a 1 ∷ []) ≡ p ∷ rest →
@@ -254,7 +255,8 @@ first_lost (suc n) a table access l set some all none =
     ap (for_io set a) (behind l access (table a) here.0 ∙ none)
 
 -- how long such a window is
-pub translated_len : (n a len left : ℕ) (table : Table) (l : List Region) → a + n ≤ 2 ^ 64 → left ≡ left_at l (target_of (table a)) → len ≡ min (run_len table a n) left → len ≡ min n (translated_left l table a)
+pub translated_len : (n a len left : ℕ) (table : Table) (l : List Region) → a + n ≤ 2 ^ 64 → left ≡ left_at l (target_of (table a)) →
+    len ≡ min (run_len table a n) left → len ≡ min n (translated_left l table a)
 translated_len n a len left table l fits is e =
     let most = run_len-min n (2 ^ 64 - a) a table (omega arith) in
     omega (arith, most, is, e)

@@ -299,7 +299,7 @@ fn fault_among<R: GuestMemoryRegion>(regions: &[R]) -> Option<GuestRegionCollect
     if count == 0 {
         return Some(GuestRegionCollectionError::NoMemoryRegion);
     }
-    // Asked for its clause alone: the first region is lawful, as `fault_of_pair` says of each other one.
+    // for the proof: the first region is lawful, as `fault_of_pair` says of each other one.
     let _ = regions[0].len();
     for at in 1..count {
         match fault_of_pair(&regions[at - 1], &regions[at]) {

@@ -1,5 +1,6 @@
 -- bytes put at places of one block, one after another, are a run of bytes
-use Rattle.std.proofs.Common.{◌≡◌, ℕ, ◌+◌, ◌-◌, ◌/◌, ◌^◌, ◌<◌, ◌≤◌, Bool, List, [], ◌∷◌, ◌++◌, length, map, replicate, set, get_or, take, drop, refl, ap, sym, ◌∙◌, arith, zero, suc, add-one, length-set, length-append, length-drop, true, false, nat_lt, if◌then◌else◌, Option, None, Some}
+use Rattle.std.proofs.Common.{◌≡◌, ℕ, ◌+◌, ◌-◌, ◌/◌, ◌^◌, ◌<◌, ◌≤◌, Bool, List, [], ◌∷◌, ◌++◌, length, map, replicate, set, get_or, take, drop, refl, ap, sym, ◌∙◌}
+use Rattle.std.proofs.Common.{arith, zero, suc, add-one, length-set, length-append, length-drop, true, false, nat_lt, if◌then◌else◌, Option, None, Some}
 use Rattle.std.specs.Prelude.{IfSome, slice_get, unwrap_or}
 use Rattle.std.specs.Option.{is_none, option_and_then}
 use Rattle.std.specs.List.{zip}

@@ -26,13 +26,15 @@ pub whole : (n : ℕ) (xs ys : List ℕ) → take n xs ≡ ys → n ≡ length x
 whole n xs ys e h = sym (take_all n xs (omega arith)) ∙ e
 
 -- one number more
-pub more_array : (n k : ℕ) (xs before : List ℕ) → k < length xs → (before ++ field_bytes (array w32 n (take k xs))) ++ field_bytes (d (slice_index xs k)) ≡ before ++ field_bytes (array w32 n (take (k + 1) xs))
+pub more_array : (n k : ℕ) (xs before : List ℕ) → k < length xs → (before ++ field_bytes (array w32 n (take k xs))) ++ field_bytes (d (slice_index xs k))
+    ≡ before ++ field_bytes (array w32 n (take (k + 1) xs))
 unfolding field_bytes
 more_array n k xs before h =
     append_assoc before (flat_map (to_le_bytes w32) (take k xs)) (to_le_bytes w32 (slice_index xs k))
     ∙ ap (λ s. before ++ s) (sym (ap (flat_map (to_le_bytes w32)) (take_more xs k 0 h) ∙ flat_map-append (to_le_bytes w32) (take k xs) (slice_index xs k ∷ [])))
 
-pub more_array_set : (n k : ℕ) (xs before : List ℕ) (x : ℕ) → k < length xs → (before ++ field_bytes (array w32 n (take k xs))) ++ field_bytes (d x) ≡ before ++ field_bytes (array w32 n (take (k + 1) (set xs k x)))
+pub more_array_set : (n k : ℕ) (xs before : List ℕ) (x : ℕ) → k < length xs → (before ++ field_bytes (array w32 n (take k xs))) ++ field_bytes (d x)
+    ≡ before ++ field_bytes (array w32 n (take (k + 1) (set xs k x)))
 unfolding field_bytes
 more_array_set n k xs before x h =
     append_assoc before (flat_map (to_le_bytes w32) (take k xs)) (to_le_bytes w32 x)

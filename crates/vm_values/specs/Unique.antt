@@ -1,6 +1,7 @@
 -- Fields of one shape that fit and are spelled alike are equal: a lemma with its proof, which the trait `ByteValued` cites, so
 -- it stands beside the definitions. Nothing here has to be believed: all of it is checked, and no contract speaks of it.
-use Rattle.std.proofs.Common.{◌≡◌, ℕ, zero, suc, ◌+◌, ◌<◌, ◌^◌, ◌/◌, ◌%◌, List, [], ◌∷◌, ◌++◌, length, map, reverse, take, drop, slice_index, refl, ap, sym, ◌∙◌, arith, length-append, append_assoc, append-nil}
+use Rattle.std.proofs.Common.{◌≡◌, ℕ, zero, suc, ◌+◌, ◌<◌, ◌^◌, ◌/◌, ◌%◌, List, [], ◌∷◌, ◌++◌, length, map, reverse, take, drop, slice_index, refl, ap, sym, ◌∙◌, arith}
+use Rattle.std.proofs.Common.{length-append, append_assoc, append-nil}
 use Rattle.std.specs.List.{flat_map}
 use Rattle.std.specs.Int.{Width, w8, w16, w32, w64, w128, to_le_bytes, to_be_bytes, from_le_bytes, byte_len, bytes_low_first, cast_unsigned, cast_signed}
 use Rattle.std.specs.Int.RustNames.{FitsSigned}
@@ -36,8 +37,10 @@ two_halves n =
     let high_3 : n / 309485009821345068724781056 % 256 ≡ n / 18446744073709551616 / 16777216 % 256 = ap (λ m. m % 256) (sym (div-div-eq-div-mul n 18446744073709551616 16777216)) in
     let high_4 : n / 79228162514264337593543950336 % 256 ≡ n / 18446744073709551616 / 4294967296 % 256 = ap (λ m. m % 256) (sym (div-div-eq-div-mul n 18446744073709551616 4294967296)) in
     let high_5 : n / 20282409603651670423947251286016 % 256 ≡ n / 18446744073709551616 / 1099511627776 % 256 = ap (λ m. m % 256) (sym (div-div-eq-div-mul n 18446744073709551616 1099511627776)) in
-    let high_6 : n / 5192296858534827628530496329220096 % 256 ≡ n / 18446744073709551616 / 281474976710656 % 256 = ap (λ m. m % 256) (sym (div-div-eq-div-mul n 18446744073709551616 281474976710656)) in
-    let high_7 : n / 1329227995784915872903807060280344576 % 256 ≡ n / 18446744073709551616 / 72057594037927936 % 256 = ap (λ m. m % 256) (sym (div-div-eq-div-mul n 18446744073709551616 72057594037927936)) in
+    let high_6 : n / 5192296858534827628530496329220096 % 256 ≡ n / 18446744073709551616 / 281474976710656 % 256 = ap (λ m. m % 256)
+    (sym (div-div-eq-div-mul n 18446744073709551616 281474976710656)) in
+    let high_7 : n / 1329227995784915872903807060280344576 % 256 ≡ n / 18446744073709551616 / 72057594037927936 % 256 = ap (λ m. m % 256)
+    (sym (div-div-eq-div-mul n 18446744073709551616 72057594037927936)) in
     λ i. low_0 i ∷ low_1 i ∷ low_2 i ∷ low_3 i ∷ low_4 i ∷ low_5 i ∷ low_6 i ∷ low_7 i ∷ high_0 i ∷ high_1 i ∷ high_2 i ∷ high_3 i ∷ high_4 i ∷ high_5 i ∷ high_6 i ∷ high_7 i ∷ []
 
 -- of two appended pairs whose fronts are of one length
@@ -134,7 +137,8 @@ field_once (unsigned v m) (unsigned v' n) e p r b =
 field_once (signed v m) (signed v' n) e p r b =
     let a : v ≡ v' = cc in
     let fits : FitsSigned v n = rw a r in
-    let c : cast_unsigned v m ≡ cast_unsigned v n = number_once v (cast_unsigned v m) (cast_unsigned v n) (Fits-of_z p).fits (Fits-of_z fits).fits (b ∙ ap (λ u. to_le_bytes u (cast_unsigned u n)) (sym a)) in
+    let c : cast_unsigned v m ≡ cast_unsigned v n = number_once v (cast_unsigned v m) (cast_unsigned v n) (Fits-of_z p).fits (Fits-of_z fits).fits
+    (b ∙ ap (λ u. to_le_bytes u (cast_unsigned u n)) (sym a)) in
     let x : m ≡ n = sym (to_z-of_z v m p) ∙ ap (cast_signed v) c ∙ to_z-of_z v n fits in
     cc
 field_once (big_endian v m) (big_endian v' n) e p r b =

@@ -27,7 +27,8 @@ returns-then-load-address-clause-found c =
     let item = drop_item c.args.loads.now c.loop-load.load-index c.load-item.result c.loop-load-test.true c.load-item.is in
     let inv = c.loop-load.invariant.so_far in
     let so_far = rw (c.in-Wants.is, item) at inv.2 in
-    sym (ap (option_map (prepend inv.0)) (other_load c.args.layout.size (visit_of c.in-Wants.walk) c.load-item.result (drop (c.loop-load.load-index + 1) c.args.loads.now) (λ same. c.if-load-address.true (ap (λ (l : Load). l.address) c.load.view_is ∙ same ∙ sym c.address.ensures.address)))) ∙ so_far
+    sym (ap (option_map (prepend inv.0)) (other_load c.args.layout.size (visit_of c.in-Wants.walk) c.load-item.result
+    (drop (c.loop-load.load-index + 1) c.args.loads.now) (λ same. c.if-load-address.true (ap (λ (l : Load). l.address) c.load.view_is ∙ same ∙ sym c.address.ensures.address)))) ∙ so_far
 
 pub loop-load-preserved : goal.loop-load-preserved
 loop-load-preserved c =
@@ -54,7 +55,8 @@ loop-load-preserved c =
           rw (w.descriptors-is, w.kept-is, w.progress-is, w.in-Err.ensures.err) (record {
             so_far = (
               with_joining inv.0 (Some w.in-Some.descriptor),
-              kept_joining c.args.descriptors.now.capacity c.loop-load.kept _ c.loop-load.descriptors.items _ inv.0 (Some w.in-Some.descriptor) (λ t. absurd (cc)) (λ f. inr (by_room _ _ _ _ w.in-Err.ensures.succeeds c.loop-load.invariant.capacity)) inv.1,
+              kept_joining c.args.descriptors.now.capacity c.loop-load.kept _ c.loop-load.descriptors.items _ inv.0 (Some w.in-Some.descriptor) (λ t. absurd (cc))
+                  (λ f. inr (by_room _ _ _ _ w.in-Err.ensures.succeeds c.loop-load.invariant.capacity)) inv.1,
               listed c.args.layout.size c.in-Wants.walk c.load-item.result (drop c.loop-load.load-index c.args.loads.now) (drop (c.loop-load.load-index + 1) c.args.loads.now) inv.0 _ _ _ own
                   at item (sym w.in-Some.is ∙ joins) then (rw c.in-Wants.is at inv.2),
             );
@@ -90,4 +92,5 @@ pub returns-in-Wants-progress-clause-found : goal.returns-in-Wants-progress-clau
 returns-in-Wants-progress-clause-found c =
     let inv = c.loop-load.invariant.so_far in
     let so_far = rw c.in-Wants-progress.is at inv.2 in
-    sym (ap (option_map (prepend inv.0)) (no_load c.args.layout.size (visit_of c.in-Wants-progress.field-0) (drop c.loop-load.load-index c.args.loads.now) (drop_all c.loop-load.load-index c.args.loads.now (omega arith)))) ∙ so_far
+    sym (ap (option_map (prepend inv.0)) (no_load c.args.layout.size (visit_of c.in-Wants-progress.field-0) (drop c.loop-load.load-index c.args.loads.now)
+    (drop_all c.loop-load.load-index c.args.loads.now (omega arith)))) ∙ so_far

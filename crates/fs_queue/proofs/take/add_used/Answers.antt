@@ -21,7 +21,8 @@ pub returns-clause-found : goal.returns-clause-found
 returns-clause-found g c =
     let f = location (g.M.GuestMemory.memory c.args.mem.now (g.H.HostBlocks.host c.args.host.now)) Write in
     let q = at_position c.args.layout c.args.position in
-    let element = after_empty (located f (addresses (element_at q) 8)) _ (rw (c.requires.none, c.if-not-branch.false, c.used.ensures, c.from.ensures, c.size.ensures) at c.in_ok-add_windows.ensures.found) in
+    let element = after_empty (located f (addresses (element_at q) 8)) _
+    (rw (c.requires.none, c.if-not-branch.false, c.used.ensures, c.from.ensures, c.size.ensures) at c.in_ok-add_windows.ensures.found) in
     subst (λ (o : Option (List Place)). IfOk c.add_windows-2.result (λ (found : Bool). o ≡ (if found then Some (places c.add_windows-2.new.windows.items) else None)))
     (sym (located-append (addresses (element_at q) 8) (addresses (index_at q) 2) f _ element)) (rw c.used-index.ensures at c.add_windows-2.ensures.found)
 

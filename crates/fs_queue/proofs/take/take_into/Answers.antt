@@ -31,7 +31,8 @@ pub returns-in-Ok-Some-clause-takes : goal.returns-in-Ok-Some-clause-takes
 returns-in-Ok-Some-clause-takes g c =
     let m = g.M.GuestMemory.memory c.args.mem.now (g.H.HostBlocks.host c.args.host.now) in
     refuses m c.args.limit (at_position c.args.layout c.args.position) c.in-Ok-Some.error (rw c.in-Ok-Some.field-0-is at c.in-Ok-Some.ensures.stops)
-    (offer_lacks m c.args.limit c.args.layout c.args.position c.in-Chain.head c.in-Ok-Some.error (untold _ _ (rw c.in-Chain.is at c.walk_ring.ensures.told)) (rw c.in-Ok-Some.field-0-is at c.in-Ok-Some.ensures.places))
+    (offer_lacks m c.args.limit c.args.layout c.args.position c.in-Chain.head c.in-Ok-Some.error (untold _ _ (rw c.in-Chain.is at c.walk_ring.ensures.told))
+    (rw c.in-Ok-Some.field-0-is at c.in-Ok-Some.ensures.places))
 
 pub returns-in-Err-clause-takes : goal.returns-in-Err-clause-takes
 returns-in-Err-clause-takes g c =

@@ -12,7 +12,8 @@ use Rattle.vm_iotlb.proofs.lookup.fails_among.Goals.{then-allow, else-allow}
 pub returns-then-end-next-clause-misses : goal.returns-then-end-next-clause-misses
 returns-then-end-next-clause-misses c = λ table agree.
     let left = nothing_left table c.args.access c.loop-range.next c.args.end (omega arith) in
-    all_done c.loop-range.misses.items (missing table c.loop-range.next (c.args.end - c.loop-range.next)) (missing table c.args.iova (c.args.end - c.args.iova)) left.0 (c.loop-range.invariant.misses table agree)
+    all_done c.loop-range.misses.items (missing table c.loop-range.next (c.args.end - c.loop-range.next)) (missing table c.args.iova (c.args.end - c.args.iova)) left.0
+    (c.loop-range.invariant.misses table agree)
 
 pub returns-then-end-next-clause-access : goal.returns-then-end-next-clause-access
 returns-then-end-next-clause-access c = λ table agree.

@@ -11,7 +11,8 @@ use Rattle.vm_iotlb.proofs.TakeLemmas.{settled}
 use Rattle.vm_iotlb.proofs.ranges.map_range.Goals as goal
 
 pub joined_left-left-requires-clause-before : goal.joined_left-left-requires-clause-before
-joined_left-left-requires-clause-before c = reaches_range c.args.ranges.now.entries c.args.range.now.start c.reaching_from-before.result c.requires.keyed c.requires.ranges c.reaching_from-before.ensures
+joined_left-left-requires-clause-before c = reaches_range c.args.ranges.now.entries c.args.range.now.start c.reaching_from-before.result c.requires.keyed
+    c.requires.ranges c.reaching_from-before.ensures
 
 pub joined_right-right-requires-clause-after : goal.joined_right-right-requires-clause-after
 joined_right-right-requires-clause-after c = has_range c.args.ranges.now.entries c.args.range.now.end c.having-after.result c.requires.keyed c.requires.ranges c.having-after.ensures
@@ -39,16 +40,20 @@ pub returns-clause-keyed : goal.returns-clause-keyed
 returns-clause-keyed c =
     let ok = rw (c.joined-new.ensures, c.left_over.ensures, c.right_over.ensures) at c.exchange.ensures.ok in
     let ranges : OnOk c.exchange.result (AreKeyed c.exchange.new.ranges.entries × AreRanges (values_of c.exchange.new.ranges.entries)) = on_ok_weaker c.exchange.result
-    (λ now. set_ranges c.args.ranges.now.entries c.exchange.new.ranges.entries c.args.range.now c.reaching_from-before.result c.having-after.result c.joined_left-left.result c.joined_right-right.result
-    c.requires.keyed c.requires.ranges c.requires.range c.reaching_from-before.ensures c.having-after.ensures c.joined_left-left.ensures c.joined_right-right.ensures c.exchange.ensures.ordered now) ok in
+    (λ now. set_ranges c.args.ranges.now.entries c.exchange.new.ranges.entries c.args.range.now c.reaching_from-before.result c.having-after.result
+    c.joined_left-left.result c.joined_right-right.result
+    c.requires.keyed c.requires.ranges c.requires.range c.reaching_from-before.ensures c.having-after.ensures c.joined_left-left.ensures c.joined_right-right.ensures
+    c.exchange.ensures.ordered now) ok in
     (settled c.exchange.result c.args.ranges.now.entries c.exchange.new.ranges.entries c.requires.keyed c.requires.ranges ranges c.exchange.ensures.err).0
 
 pub returns-clause-ranges : goal.returns-clause-ranges
 returns-clause-ranges c =
     let ok = rw (c.joined-new.ensures, c.left_over.ensures, c.right_over.ensures) at c.exchange.ensures.ok in
     let ranges : OnOk c.exchange.result (AreKeyed c.exchange.new.ranges.entries × AreRanges (values_of c.exchange.new.ranges.entries)) = on_ok_weaker c.exchange.result
-    (λ now. set_ranges c.args.ranges.now.entries c.exchange.new.ranges.entries c.args.range.now c.reaching_from-before.result c.having-after.result c.joined_left-left.result c.joined_right-right.result
-    c.requires.keyed c.requires.ranges c.requires.range c.reaching_from-before.ensures c.having-after.ensures c.joined_left-left.ensures c.joined_right-right.ensures c.exchange.ensures.ordered now) ok in
+    (λ now. set_ranges c.args.ranges.now.entries c.exchange.new.ranges.entries c.args.range.now c.reaching_from-before.result c.having-after.result
+    c.joined_left-left.result c.joined_right-right.result
+    c.requires.keyed c.requires.ranges c.requires.range c.reaching_from-before.ensures c.having-after.ensures c.joined_left-left.ensures c.joined_right-right.ensures
+    c.exchange.ensures.ordered now) ok in
     (settled c.exchange.result c.args.ranges.now.entries c.exchange.new.ranges.entries c.requires.keyed c.requires.ranges ranges c.exchange.ensures.err).1
 
 pub returns-clause-table : goal.returns-clause-table

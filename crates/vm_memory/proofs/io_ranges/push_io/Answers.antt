@@ -13,7 +13,8 @@ pub loop-done-init : goal.loop-done-init
 loop-done-init g c = record {
   within = omega arith;
   left = rw c.new-left.ensures (all_left (table_in (g.H.HostBlocks.host c.args.h.now) c.args.table) c.args.addr c.args.len c.args.mapped c.requires.2);
-  found = ap (λ as'. after (places c.args.windows.now.items) (located (location (io_memory (g.H.HostBlocks.host c.args.h.now) (g.M.GuestMemoryBackend.layout c.args.backend.now) c.args.table c.args.set) c.args.access)
+  found = ap (λ as'. after (places c.args.windows.now.items) (located
+      (location (io_memory (g.H.HostBlocks.host c.args.h.now) (g.M.GuestMemoryBackend.layout c.args.backend.now) c.args.table c.args.set) c.args.access)
       as')) (circular_all c.args.addr c.args.len);
   longest = ([], sym (append-nil c.args.windows.now.items), tt, sym (circular_all c.args.addr c.args.len));
   room = omega arith;
@@ -25,8 +26,10 @@ returns-in_default-clause-found g c =
     let table = table_in (g.H.HostBlocks.host c.args.h.now) c.args.table in
     let ready = mapped_left table c.args.access c.args.addr c.loop-done.done c.args.len _ _ c.loop-done-test.true c.requires.0 c.requires.1 c.loop-done.invariant.left in
     sym c.loop-done.invariant.found
-    ∙ find_none (location (io_memory (g.H.HostBlocks.host c.args.h.now) (g.M.GuestMemoryBackend.layout c.args.backend.now) c.args.table c.args.set) c.args.access) c.args.addr c.loop-done.done c.args.len
-    (c.args.addr + c.loop-done.done) (places c.loop-done.windows.items) (omega (arith, c.requires.0)) c.loop-done-test.true (c.next_window.ensures.none table c.args.access (c.args.len - c.loop-done.done) ready c.in_default.is)
+    ∙ find_none (location (io_memory (g.H.HostBlocks.host c.args.h.now) (g.M.GuestMemoryBackend.layout c.args.backend.now) c.args.table c.args.set) c.args.access)
+    c.args.addr c.loop-done.done c.args.len
+    (c.args.addr + c.loop-done.done) (places c.loop-done.windows.items) (omega (arith, c.requires.0)) c.loop-done-test.true
+    (c.next_window.ensures.none table c.args.access (c.args.len - c.loop-done.done) ready c.in_default.is)
 
 pub returns-in_default-clause-longest : goal.returns-in_default-clause-longest
 returns-in_default-clause-longest g c = let so = c.loop-done.invariant.longest in (so.0, so.1, so.2)
@@ -52,7 +55,8 @@ loop-done-preserved g c =
     rw c.len-done.ensures.len (record {
       within = le;
       left = left_step table c.args.addr c.loop-done.done c.args.len c.in-Some.window.len _ _ left;
-      found = find_step (location (io_memory (g.H.HostBlocks.host c.args.h.now) (g.M.GuestMemoryBackend.layout c.args.backend.now) c.args.table c.args.set) c.args.access) c.args.addr c.loop-done.done c.args.len
+      found = find_step (location (io_memory (g.H.HostBlocks.host c.args.h.now) (g.M.GuestMemoryBackend.layout c.args.backend.now) c.args.table c.args.set)
+          c.args.access) c.args.addr c.loop-done.done c.args.len
           c.in-Some.window.len (c.args.addr + c.loop-done.done) _ (places c.loop-done.windows.items) (places c.push.new.self.items) (omega (arith, c.requires.0)) some.2 le
           some.3 more ∙ c.loop-done.invariant.found;
       longest = longest_step (translated_left (g.M.GuestMemoryBackend.layout c.args.backend.now) (table_in (g.H.HostBlocks.host c.args.h.now) c.args.table)) c.args.addr c.loop-done.done c.args.len
@@ -66,7 +70,8 @@ loop-done-preserved g c =
 pub returns-clause-found : goal.returns-clause-found
 returns-clause-found g c =
     sym c.loop-done.invariant.found
-    ∙ find_end (location (io_memory (g.H.HostBlocks.host c.args.h.now) (g.M.GuestMemoryBackend.layout c.args.backend.now) c.args.table c.args.set) c.args.access) c.args.addr c.loop-done.done c.args.len
+    ∙ find_end (location (io_memory (g.H.HostBlocks.host c.args.h.now) (g.M.GuestMemoryBackend.layout c.args.backend.now) c.args.table c.args.set) c.args.access)
+    c.args.addr c.loop-done.done c.args.len
     (places c.loop-done.windows.items) c.loop-done-test.false
 
 pub returns-clause-longest : goal.returns-clause-longest

@@ -34,7 +34,8 @@ returns-in_default-clause-stored g c =
     let layout = g.M.GuestMemoryBackend.layout c.args.backend.now in
     let same = same_location c.args.h.now c.loop-done.h layout c.args.table c.args.set Write c.loop-done.invariant.same_tables in
     sym (put_none (location (io_memory c.args.h.now layout c.args.table c.args.set) Write) c.args.addr c.loop-done.done (length c.args.bytes.now) (c.args.addr + c.loop-done.done) c.loop-done.h
-    (drop c.loop-done.done c.args.bytes.now) (omega (arith, c.requires.0)) c.loop-done-test.true (ap (λ (f : Where). f (c.args.addr + c.loop-done.done)) (sym same) ∙ c.io_window.ensures.none c.in_default.is))
+    (drop c.loop-done.done c.args.bytes.now) (omega (arith, c.requires.0)) c.loop-done-test.true (ap (λ (f : Where). f (c.args.addr + c.loop-done.done)) (sym same)
+    ∙ c.io_window.ensures.none c.in_default.is))
     ∙ c.loop-done.invariant.stored
 
 pub loop-done-preserved : goal.loop-done-preserved
@@ -67,6 +68,7 @@ returns-clause-count g c =
 
 pub returns-clause-stored : goal.returns-clause-stored
 returns-clause-stored g c =
-    sym (put_end (location (io_memory c.args.h.now (g.M.GuestMemoryBackend.layout c.args.backend.now) c.args.table c.args.set) Write) c.args.addr c.loop-done.done (length c.args.bytes.now) c.loop-done.h
+    sym (put_end (location (io_memory c.args.h.now (g.M.GuestMemoryBackend.layout c.args.backend.now) c.args.table c.args.set) Write) c.args.addr c.loop-done.done
+    (length c.args.bytes.now) c.loop-done.h
     (drop c.loop-done.done c.args.bytes.now) c.loop-done-test.false)
     ∙ c.loop-done.invariant.stored

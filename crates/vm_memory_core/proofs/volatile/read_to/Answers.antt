@@ -15,5 +15,10 @@ returns-clause-reads g c =
     let same : k ≡ a.len = omega arith in
     let size : length now ≡ k = c.read_volatile.auto.buf ∙ length-between a.block.now a.offset (a.offset + a.len) c.requires in
     let within : m ≤ length now = omega (arith, e.within, c.read_volatile.auto.buf) in
-    let front : length (take m now) ≡ m = length-take-le m now within in
-    (take m now, lands a.block.now now a.offset k m (k - m) (omega (arith, within, size)) size e.rest, front, omega (arith, front, within, size, same), rw (same_answer c.read_volatile.result now) (rw same at e.gives))
+    let front : length (take m now) ≡ m = length-take-le m now within in (
+      take m now,
+      lands a.block.now now a.offset k m (k - m) (omega (arith, within, size)) size e.rest,
+      front,
+      omega (arith, front, within, size, same),
+      rw (same_answer c.read_volatile.result now) (rw same at e.gives),
+    )

@@ -14,7 +14,8 @@ pub loop-k-preserved : goal.loop-k-preserved
 unfolding Fits
 loop-k-preserved g c = record {
   place = omega arith;
-  bytes = c.get.ensures.bytes ∙ ap (λ s. s ++ field_bytes (d c.get.result)) c.loop-k.invariant.bytes ∙ more_array_set g.row.N c.loop-k.k c.loop-k.values (take c.args.at.now c.args.bytes.now) c.get.result (omega arith);
+  bytes = c.get.ensures.bytes ∙ ap (λ s. s ++ field_bytes (d c.get.result)) c.loop-k.invariant.bytes ∙ more_array_set g.row.N c.loop-k.k c.loop-k.values
+      (take c.args.at.now c.args.bytes.now) c.get.result (omega arith);
   length = search rules;
   fits = below_set c.loop-k.k c.loop-k.values c.get.result (2 ^ 32) (omega arith) c.loop-k.invariant.fits c.get.ensures.fits.0;
 }

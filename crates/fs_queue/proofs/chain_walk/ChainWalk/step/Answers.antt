@@ -14,16 +14,19 @@ lost size v came b is inside own =
     ap (λ (x : Bool). step_at size (record v { table = record v.table { indirect = x } }) None) (sym own)
     ∙ sym (ap (λ (o : Option (List ℕ)). walk_step (memory_with (entry_address v) o) size v) is ∙ step_lost size v inside)
 
-found : (size : ℕ) (v : Visit) (came : Option (List ℕ)) (bs : List ℕ) (d : Descriptor) (b : Bool) (w : WalkStep) → came ≡ Some bs → v.index < v.table.entries → entry_address v + 16 < 2 ^ 64 → length bs ≡ 16 →
+found : (size : ℕ) (v : Visit) (came : Option (List ℕ)) (bs : List ℕ) (d : Descriptor) (b : Bool) (w : WalkStep) → came ≡ Some bs → v.index < v.table.entries →
+    entry_address v + 16 < 2 ^ 64 → length bs ≡ 16 →
     bs ≡ spelled (descriptor d) → AllFit (descriptor d) → is_indirect d ≡ b → w ≡ step_at size v (Some d) → w ≡ walk_step (memory_with (entry_address v) came) size v
 found size v came bs d b w is inside fits len spell fit kind e =
     e ∙ sym (ap (λ (o : Option (List ℕ)). walk_step (memory_with (entry_address v) o) size v) is ∙ step_spelled size v bs d inside fits len spell fit)
 
 pub returns-then-self-clause-step : goal.returns-then-self-clause-step
-returns-then-self-clause-step c = lost c.args.self.size (visit_of c.args.self) c.args.came true c.in_default.is c.args.self.inside (sym (ap (λ (w : ChainWalk). w.table.indirect) c.self.view_is) ∙ c.if-self.true)
+returns-then-self-clause-step c = lost c.args.self.size (visit_of c.args.self) c.args.came true c.in_default.is c.args.self.inside
+    (sym (ap (λ (w : ChainWalk). w.table.indirect) c.self.view_is) ∙ c.if-self.true)
 
 pub returns-else-self-clause-step : goal.returns-else-self-clause-step
-returns-else-self-clause-step c = lost c.args.self.size (visit_of c.args.self) c.args.came false c.in_default.is c.args.self.inside (sym (ap (λ (w : ChainWalk). w.table.indirect) c.self.view_is) ∙ c.if-self.false)
+returns-else-self-clause-step c = lost c.args.self.size (visit_of c.args.self) c.args.came false c.in_default.is c.args.self.inside
+    (sym (ap (λ (w : ChainWalk). w.table.indirect) c.self.view_is) ∙ c.if-self.false)
 
 pub returns-then-refers_to_indirect_table-clause-step : goal.returns-then-refers_to_indirect_table-clause-step
 returns-then-refers_to_indirect_table-clause-step c =

@@ -25,14 +25,17 @@ tells l position i bs n z far is len read none too_far =
 
 pub returns-then-waiting-eq0-clause-stage : goal.returns-then-waiting-eq0-clause-stage
 returns-then-waiting-eq0-clause-stage c =
-    sym (ap stage_at (tells c.args.self.layout c.args.self.position c.args.came c.in-Some.bytes c.le16_number.result true _ c.in-Some.is (omega arith) c.le16_number.ensures (eq-eqb _ _ c.if-waiting-eq0.true) refl))
+    sym (ap stage_at (tells c.args.self.layout c.args.self.position c.args.came c.in-Some.bytes c.le16_number.result true _ c.in-Some.is
+    (omega arith) c.le16_number.ensures (eq-eqb _ _ c.if-waiting-eq0.true) refl))
 
 pub returns-then-waiting-size-clause-stage : goal.returns-then-waiting-size-clause-stage
 returns-then-waiting-size-clause-stage c =
     let far : nat_lt c.args.self.layout.size ((c.le16_number.result + (2 ^ 16 - c.args.self.position)) % 2 ^ 16) ≡ true = lt-ltb _ _ (omega arith) in
-    sym (ap stage_at (tells c.args.self.layout c.args.self.position c.args.came c.in-Some.bytes c.le16_number.result false true c.in-Some.is (omega arith) c.le16_number.ensures (ne_eqb _ _ c.if-waiting-eq0.false) far))
+    sym (ap stage_at (tells c.args.self.layout c.args.self.position c.args.came c.in-Some.bytes c.le16_number.result false true c.in-Some.is
+    (omega arith) c.le16_number.ensures (ne_eqb _ _ c.if-waiting-eq0.false) far))
 
 pub returns-else-waiting-size-clause-stage : goal.returns-else-waiting-size-clause-stage
 returns-else-waiting-size-clause-stage c =
     let near : nat_lt c.args.self.layout.size ((c.le16_number.result + (2 ^ 16 - c.args.self.position)) % 2 ^ 16) ≡ false = le-ltb _ _ (omega arith) in
-    sym (ap stage_at (tells c.args.self.layout c.args.self.position c.args.came c.in-Some.bytes c.le16_number.result false false c.in-Some.is (omega arith) c.le16_number.ensures (ne_eqb _ _ c.if-waiting-eq0.false) near))
+    sym (ap stage_at (tells c.args.self.layout c.args.self.position c.args.came c.in-Some.bytes c.le16_number.result false false c.in-Some.is
+    (omega arith) c.le16_number.ensures (ne_eqb _ _ c.if-waiting-eq0.false) near))

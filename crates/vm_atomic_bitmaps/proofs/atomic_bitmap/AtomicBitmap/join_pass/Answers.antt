@@ -15,5 +15,8 @@ join_seat-requires c =
 pub returns-clause-own : goal.returns-clause-own
 returns-clause-own c =
     let name = ap (λ (p : Pass). p.name) c.pass.view_is ∙ c.requires.own.0 in
-    let long = ap (λ (p : Pass). length p.counts.pages) c.pass.view_is ∙ c.requires.own.1 in
-    (c.join_seat.ensures.0 ∙ name, ap (λ m. length m.0.pages) c.join_seat.ensures.2 ∙ length-each_tally (λ p t. both_of t (tally_of c.other.inside.seat.me.0.pages p)) 0 c.pass.inside.seat.me.0.pages ∙ long)
+    let long = ap (λ (p : Pass). length p.counts.pages) c.pass.view_is ∙ c.requires.own.1 in (
+      c.join_seat.ensures.0 ∙ name,
+      ap (λ m. length m.0.pages) c.join_seat.ensures.2 ∙ length-each_tally (λ p t. both_of t (tally_of c.other.inside.seat.me.0.pages p)) 0
+          c.pass.inside.seat.me.0.pages ∙ long,
+    )

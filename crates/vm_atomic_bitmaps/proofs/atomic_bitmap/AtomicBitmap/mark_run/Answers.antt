@@ -25,7 +25,8 @@ loop-word-preserved c =
     let o = c.requires.ordered in
     let same = c.loop-word.invariant.2 in
     let one = subst (λ (q : Pass). ChangesRun (ByMark q.counts) c.loop-word.pass.counts.pages new lo hi) same c.mark_in_word.ensures.pages in
-    let run = run_then (ByMark c.args.pass.now.counts) c.args.pass.now.counts.pages c.loop-word.pass.counts.pages new c.args.first (min (c.args.last + 1) (64 * c.loop-word.word)) lo hi c.loop-word.invariant.3 one
+    let run = run_then (ByMark c.args.pass.now.counts) c.args.pass.now.counts.pages c.loop-word.pass.counts.pages new c.args.first
+    (min (c.args.last + 1) (64 * c.loop-word.word)) lo hi c.loop-word.invariant.3 one
     (omega arith) (omega arith) (λ p a b. omega arith) (omega arith) in
     let next : hi ≡ min (c.args.last + 1) (64 * (c.loop-word.word + 1)) = omega arith in (
       omega arith,

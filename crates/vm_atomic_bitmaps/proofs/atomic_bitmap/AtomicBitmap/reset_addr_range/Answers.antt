@@ -37,7 +37,8 @@ returns-clause-pages c =
     c.last_page.ensures ∙ ap (λ (k : ℕ). (min (c.args.start + c.args.len) (2 ^ 64) - 1) / k) size in
     let last : c.min-last.result ≡ min c.last_page.result (c.self.inside.len - 1) = c.min-last.ensures in
     let positive : 0 < b.page_size = subst (λ (k : ℕ). 0 < k) size c.self.invariant.0 in
-    range_changes (ByClearing c.args.pass.now.counts) (clears_page b.page_size b.len c.args.start c.args.len) old c.clear_run.new.pass.counts.pages c.page_of-first.result c.last_page.result c.min-last.result
+    range_changes (ByClearing c.args.pass.now.counts) (clears_page b.page_size b.len c.args.start c.args.len) old c.clear_run.new.pass.counts.pages
+    c.page_of-first.result c.last_page.result c.min-last.result
     (last ∙ ap (λ (k : ℕ). min c.last_page.result (k - 1)) (len ∙ sym long))
     (λ p within. clears_page-is b.page_size b.len c.args.start c.args.len p positive (omega arith) c.ranges.start.fits (omega arith)
     ∙ sym (ap (λ (k : ℕ). is_between k c.last_page.result p) first ∙ ap (λ (k : ℕ). is_between (c.args.start / b.page_size) k p) far))

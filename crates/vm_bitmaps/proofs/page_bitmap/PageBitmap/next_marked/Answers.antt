@@ -13,4 +13,5 @@ returns-then-from-self c p low =
 pub returns : goal.returns
 returns c =
     subst (λ b. IsNextMarked b.marks c.args.from c.next_page.result) c.self.view_is
-    (next_marked_is c.self.inside.len c.self.inside.words.items c.args.from c.next_page.result c.self.invariant.2 (subst (λ l. IsNextSet l c.args.from c.next_page.result) c.deref.ensures.value c.next_page.ensures))
+    (next_marked_is c.self.inside.len c.self.inside.words.items c.args.from c.next_page.result c.self.invariant.2
+    (subst (λ l. IsNextSet l c.args.from c.next_page.result) c.deref.ensures.value c.next_page.ensures))

@@ -12,7 +12,8 @@ returns-then-len-eq0 c = none_written c.args.mark c.args.self.now c.args.start c
 pub returns-then-first-self : goal.returns-then-first-self
 returns-then-first-self c =
     let old = c.self.inside in
-    past_written c.args.mark c.args.self.now old.page_size old.byte_size old.len old.words.items c.args.start c.args.len c.self.view_is c.self.invariant.0 (rw (← c.page_of-first.ensures) c.if-first-self.true)
+    past_written c.args.mark c.args.self.now old.page_size old.byte_size old.len old.words.items c.args.start c.args.len c.self.view_is c.self.invariant.0
+    (rw (← c.page_of-first.ensures) c.if-first-self.true)
 
 -- the words and the summary after pages were marked
 words_marked : (c : goal.After-self-then-mark-1) → (with_items c.self.inside.words c.mark_run.new.words).items ≡ c.mark_run.new.words

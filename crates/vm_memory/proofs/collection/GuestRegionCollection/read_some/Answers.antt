@@ -16,7 +16,8 @@ loop-done-preserved g c =
     rw c.len-done.ensures.len (record {
       within = le;
       count = step ∙ c.loop-done.invariant.count;
-      front = front_step (memory_of (g.H.HostBlocks.host c.args.host.now) c.args.self.now) c.args.addr c.loop-done.done (length c.args.buffer.now) c.in-Some.window.len _ _ c.loop-done.buffer c.bytes.result.now
+      front = front_step (memory_of (g.H.HostBlocks.host c.args.host.now) c.args.self.now) c.args.addr c.loop-done.done (length c.args.buffer.now) c.in-Some.window.len
+          _ _ c.loop-done.buffer c.bytes.result.now
           c.put_at.new.buffer refl c.in-Some.ensures.some.2 le (omega arith) c.in-Some.ensures.some.3 (sym c.bytes.ensures.len) c.bytes.ensures.bytes c.put_at.ensures.stored
           c.loop-done.invariant.front;
       back = back_step c.loop-done.done c.in-Some.window.len c.loop-done.buffer c.bytes.result.now c.put_at.new.buffer c.args.buffer.now (sym c.bytes.ensures.len) (omega arith)

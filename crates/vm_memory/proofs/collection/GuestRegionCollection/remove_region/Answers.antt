@@ -8,7 +8,8 @@ use Rattle.vm_memory.proofs.collection.GuestRegionCollection.remove_region.Goals
 pub returns-then-begun-eq0 : goal.returns-then-begun-eq0
 returns-then-begun-eq0 g c =
     let none : c.begun-begun.result ≡ 0 = omega arith in
-    none_begins c.args.self.now c.args.base.0 c.args.size c.begun-begun.ensures.layout (subst (λ n. n < length c.args.self.now → c.args.base.0 < start_at c.args.self.now n) none c.begun-begun.ensures.above)
+    none_begins c.args.self.now c.args.base.0 c.args.size c.begun-begun.ensures.layout
+    (subst (λ n. n < length c.args.self.now → c.args.base.0 < start_at c.args.self.now n) none c.begun-begun.ensures.above)
 
 pub returns-then-start_addr-base : goal.returns-then-start_addr-base
 returns-then-start_addr-base g c =
@@ -43,7 +44,8 @@ returns g c =
     (λ (l : List Region). remove l (c.begun-begun.result - 1)) c.in-Ok.ensures
     ∙ without-remove c.args.self.now (c.begun-begun.result - 1) c.args.base.0 c.args.size r c.begun-begun.ensures.layout c.region-last.ensures this in (
       found_there c.args.self.now (c.begun-begun.result - 1) c.args.base.0 c.args.size r c.begun-begun.ensures.layout c.region-last.ensures this
-          ∙ removed_item g.R.GuestMemoryRegion.region c.in-Ok.regions.items c.args.self.now (c.begun-begun.result - 1) r c.remove-removed.result c.in-Ok.ensures c.region-last.ensures c.remove-removed.ensures.value,
+          ∙ removed_item g.R.GuestMemoryRegion.region c.in-Ok.regions.items c.args.self.now (c.begun-begun.result - 1) r c.remove-removed.result c.in-Ok.ensures
+          c.region-last.ensures c.remove-removed.ensures.value,
       left,
     )
 

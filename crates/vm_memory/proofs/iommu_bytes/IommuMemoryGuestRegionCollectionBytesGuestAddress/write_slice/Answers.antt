@@ -8,7 +8,8 @@ use Rattle.vm_memory.proofs.iommu_bytes.IommuMemoryGuestRegionCollectionBytesGue
 
 pub returns-in-Err-clause-written : goal.returns-in-Err-clause-written
 returns-in-Err-clause-written g c =
-    refused_write_slice (memory_behind c.args.h.now c.args.self.now.backend (g.I.Iommu.number c.args.self.now.iommu) c.args.self.now.io_bitmap c.args.self.now.use_iommu) Write c.args.addr c.args.buf.now
+    refused_write_slice (memory_behind c.args.h.now c.args.self.now.backend (g.I.Iommu.number c.args.self.now.iommu) c.args.self.now.io_bitmap
+    c.args.self.now.use_iommu) Write c.args.addr c.args.buf.now
     c.in-Err.error c.in-Err.ensures.refused (Err c.in-Err.error) refl
 
 pub returns-in-Ok-clause-written : goal.returns-in-Ok-clause-written

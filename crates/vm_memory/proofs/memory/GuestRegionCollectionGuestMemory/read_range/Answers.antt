@@ -10,5 +10,6 @@ returns-clause-found g c =
 
 pub returns-clause-bytes : goal.returns-clause-bytes
 returns-clause-bytes g c all =
-    read_whole (memory_of (g.H.HostBlocks.host c.args.h.now) c.args.self.now) c.args.addr.0 (length c.args.buffer.now) c.read_some-completed.result c.args.buffer.now c.read_some-completed.new.buffer refl all
+    read_whole (memory_of (g.H.HostBlocks.host c.args.h.now) c.args.self.now) c.args.addr.0 (length c.args.buffer.now) c.read_some-completed.result c.args.buffer.now
+    c.read_some-completed.new.buffer refl all
     c.read_some-completed.ensures.bytes

@@ -18,7 +18,8 @@ loop-window-preserved g c =
     ∙ take-put c.loop-window.buffer c.bytes.result.now c.loop-window.done _ (omega arith) (omega arith) in
     record {
       fits = omega arith;
-      got = bytes_step (g.Self.HostBlocks.host c.args.self.now) c.args.windows.now c.loop-window.window-index _ (take c.loop-window.done c.loop-window.buffer) c.bytes.result.now _ next c.bytes.ensures.bytes more
+      got = bytes_step (g.Self.HostBlocks.host c.args.self.now) c.args.windows.now c.loop-window.window-index _ (take c.loop-window.done c.loop-window.buffer)
+          c.bytes.result.now _ next c.bytes.ensures.bytes more
           ∙ c.loop-window.invariant.got;
     }
 

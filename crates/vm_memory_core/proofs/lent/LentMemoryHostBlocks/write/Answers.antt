@@ -17,7 +17,8 @@ returns-then-block-eq0-clause-stored g c =
     let high : Block = record { bytes = c.args.self.now.high.now; marks = c.args.self.now.high_pages.now } in
     let new : Block = record { bytes = c.write_block.new.block; marks = c.write_block.new.pages } in
     low_stored low high c.args.window c.requires.lies new c.args.bytes.now c.block_offset-offset.result c.is_none-mark.result (omega (arith, c.block.ensures)) c.block_offset-offset.ensures
-    (none_is c.args.window.io c.is_none-mark.result (rw c.io.ensures.value at c.is_none-mark.ensures)) c.write_block.ensures.stored c.write_block.ensures.marked c.requires.fits c.write_block.ensures.fits (rw c.io.ensures.value at c.io.ensures.from)
+    (none_is c.args.window.io c.is_none-mark.result (rw c.io.ensures.value at c.is_none-mark.ensures)) c.write_block.ensures.stored c.write_block.ensures.marked
+    c.requires.fits c.write_block.ensures.fits (rw c.io.ensures.value at c.io.ensures.from)
 
 pub returns-then-block-eq0-clause-shape : goal.returns-then-block-eq0-clause-shape
 returns-then-block-eq0-clause-shape g c = ap shape (returns-then-block-eq0-clause-stored g c) ∙ shape-put_all _ _
@@ -34,8 +35,10 @@ returns-else-block-eq0-clause-stored g c =
     let low : Block = record { bytes = c.args.self.now.low.now; marks = c.args.self.now.low_pages.now } in
     let high : Block = record { bytes = c.args.self.now.high.now; marks = c.args.self.now.high_pages.now } in
     let new : Block = record { bytes = c.write_block-else-block-eq0.new.block; marks = c.write_block-else-block-eq0.new.pages } in
-    high_stored low high c.args.window c.requires.lies new c.args.bytes.now c.block_offset-offset.result c.is_none-mark.result (omega (arith, c.block.ensures, c.requires.lies.0)) c.block_offset-offset.ensures
-    (none_is c.args.window.io c.is_none-mark.result (rw c.io.ensures.value at c.is_none-mark.ensures)) c.write_block-else-block-eq0.ensures.stored c.write_block-else-block-eq0.ensures.marked c.requires.fits c.write_block-else-block-eq0.ensures.fits
+    high_stored low high c.args.window c.requires.lies new c.args.bytes.now c.block_offset-offset.result c.is_none-mark.result
+    (omega (arith, c.block.ensures, c.requires.lies.0)) c.block_offset-offset.ensures
+    (none_is c.args.window.io c.is_none-mark.result (rw c.io.ensures.value at c.is_none-mark.ensures)) c.write_block-else-block-eq0.ensures.stored
+    c.write_block-else-block-eq0.ensures.marked c.requires.fits c.write_block-else-block-eq0.ensures.fits
     (rw c.io.ensures.value at c.io.ensures.from)
 
 pub returns-else-block-eq0-clause-shape : goal.returns-else-block-eq0-clause-shape
