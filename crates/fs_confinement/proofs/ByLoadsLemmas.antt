@@ -1,5 +1,6 @@
 -- a queue reads for an offer just where its loads came
-use Rattle.std.proofs.Common.{◌≡◌, ℕ, zero, suc, ◌+◌, ◌%◌, ◌-◌, ◌^◌, ◌<◌, ◌≤◌, Bool, true, false, ◌&&◌, not, List, [], ◌∷◌, ◌++◌, map, length, Option, Some, None, refl, ap, sym, ◌∙◌, subst, arith, append-nil, append_assoc}
+use Rattle.std.proofs.Common.{◌≡◌, ℕ, zero, suc, ◌+◌, ◌%◌, ◌-◌, ◌^◌, ◌<◌, ◌≤◌, Bool, true, false, ◌&&◌, not, List, [], ◌∷◌, ◌++◌, map, length, Option, Some, None, refl}
+use Rattle.std.proofs.Common.{ap, sym, ◌∙◌, subst, arith, append-nil, append_assoc}
 use Rattle.std.specs.Prelude.{◌==◌, ◌||◌, nat_lt, nat_le, is_some, if◌then◌else◌, option_map, option_and_then, flat_map}
 use Rattle.std.specs.Int.{w16, from_le_bytes}
 use Rattle.std.specs.List.{list_all}
@@ -17,7 +18,8 @@ use Rattle.fs_queue.specs.NextAvail as avail
 use Rattle.fs_queue.specs.Chain.{Descriptor, Visit, entry_address, WalkStep, walk_step, next_visit, onward, path, first_visit, after_walk_step, Found, IsChain, HasFault, StopsQueue, chain}
 use Rattle.fs_queue.specs.Taking.{IsRequest, CannotFetch, readable, writable, total_len, all_reach, Offer, Idle, Refuses, Offers, offer_of, offer}
 use Rattle.fs_queue.specs.Windows.{addresses_of}
-use Rattle.fs_queue.specs.Loads.{Load, Ahead, Reads, Ends, holding, reads_entry, step_by, ahead_at, ahead_after, ahead_of_next, is_whole, found_exactly, chain_exactly, index_load, entry_load, asks_entry, IsEntryOf, AreEntriesOf, IsLoadOf}
+use Rattle.fs_queue.specs.Loads.{Load, Ahead, Reads, Ends, holding, reads_entry, step_by, ahead_at, ahead_after, ahead_of_next, is_whole, found_exactly, chain_exactly}
+use Rattle.fs_queue.specs.Loads.{index_load, entry_load, asks_entry, IsEntryOf, AreEntriesOf, IsLoadOf}
 use Rattle.fs_queue.specs.OfferLoads.{without_request, without_chain, without_loads, without_entry, waits_by, with_request, with_loaded, on_waits}
 use Rattle.fs_queue.proofs.BoundLemmas.{walks_end}
 use Rattle.fs_queue.proofs.LoadLemmas.{step_still}
@@ -39,7 +41,8 @@ reads_in m size n (Ends f) = []
 past_reads : (m : Memory) (size k : ℕ) (v : Visit) → reads_entry v ≡ false → flat_map (entry_reads m) (path m size (suc k) v) ≡ []
 unfolding path
 past_reads m size k v e =
-    ap (λ (b : Bool). (if b && reach m Read (entry_address v) 16 then addresses (entry_address v) 16 else []) ++ flat_map (entry_reads m) (onward (path m size k) (next_visit v (walk_step m size v)))) e
+    ap (λ (b : Bool). (if b && reach m Read (entry_address v) 16 then addresses (entry_address v) 16 else []) ++ flat_map (entry_reads m)
+    (onward (path m size k) (next_visit v (walk_step m size v)))) e
     ∙ ap (λ (w : WalkStep). flat_map (entry_reads m) (onward (path m size k) (next_visit v w))) (sym (outside m size v e))
 
 at_reads : (m : Memory) (size k : ℕ) (v : Visit) → flat_map (entry_reads m) (path m size (suc k) v) ≡ reads_in m size (suc k) (ahead_at size v)
@@ -66,7 +69,8 @@ entry_came m v l at inside is =
     ∙ ap (λ (a : ℕ). came_at a (if reach m Read a 16 then Some (bytes m a 16) else None)) (sym at)
     ∙ ap (came_at l.address) (sym is)
 
-step_came : (m : Memory) (size k : ℕ) (v : Visit) (l : Load) (ls : List Load) (f : Found) (b : Bool) → v.index < v.table.entries → (l.address == entry_address v && is_whole 16 l.came) ≡ b → IsEntryOf m l →
+step_came : (m : Memory) (size k : ℕ) (v : Visit) (l : Load) (ls : List Load) (f : Found) (b : Bool) → v.index < v.table.entries →
+    (l.address == entry_address v && is_whole 16 l.came) ≡ b → IsEntryOf m l →
     ((x : Found) → found_exactly size ls (ahead_after size v (step_by size v l)) ≡ Some x → reads_in m size (suc k) (ahead_after size v (step_by size v l)) ≡ all_came ls) →
     (if b then option_map (after_walk_step (step_by size v l)) (found_exactly size ls (ahead_after size v (step_by size v l))) else None) ≡ Some f →
     flat_map (entry_reads m) (path m size (suc (suc k)) v) ≡ all_came (l ∷ ls)
@@ -81,7 +85,8 @@ step_came m size k v l ls f true inside at is rest e =
     ∙ ap (λ (x : WalkStep). came_at l.address l.came ++ flat_map (entry_reads m) (onward (path m size (suc k)) (next_visit v x))) (sym same)
     ∙ ap (λ (xs : List ℕ). came_at l.address l.came ++ xs) (next_reads m size k w (next_visit v w) ∙ rest got.0 got.1)
 
-walk_came : (m : Memory) (size n : ℕ) (ls : List Load) (a : Ahead) (f : Found) → length ls ≤ n → IsSound a → AreEntriesOf m ls → found_exactly size ls a ≡ Some f → reads_in m size (suc n) a ≡ all_came ls
+walk_came : (m : Memory) (size n : ℕ) (ls : List Load) (a : Ahead) (f : Found) → length ls ≤ n → IsSound a → AreEntriesOf m ls → found_exactly size ls a ≡ Some f →
+    reads_in m size (suc n) a ≡ all_came ls
 unfolding found_exactly
 walk_came m size n [] (Ends g) f le sound are e = refl
 walk_came m size n [] (Reads v) f le sound are e = absurd (cc)
@@ -263,7 +268,8 @@ module _ (m : Memory) (q : Queue) (head : ℕ) (ls : List Load) where
   fetched_came : (request cs : List ℕ) (ds : List Descriptor) (room : List ℕ) (o : Offer) (over lost_request lost_room : Bool) → Walked → chain m q head ≡ IsChain ds →
       chain_exactly ls q head ≡ Some (IsChain ds) → cs ≡ map (byte m) (addresses_of (readable ds)) →
       option_map (Offers head)
-      (with_request request (if over then CannotFetch OverLimit else if lost_request then CannotFetch RequestUnreachable else if lost_room then CannotFetch RoomUnreachable else IsRequest cs room)) ≡ Some o →
+      (with_request request (if over then CannotFetch OverLimit else if lost_request then CannotFetch RequestUnreachable
+      else if lost_room then CannotFetch RoomUnreachable else IsRequest cs room)) ≡ Some o →
       Came request o
   fetched_came request cs ds room o true b c walked is exact same e = faulty_came request OverLimit o walked e
   fetched_came request cs ds room o false true c walked is exact same e = faulty_came request RequestUnreachable o walked e
@@ -271,7 +277,8 @@ module _ (m : Memory) (q : Queue) (head : ℕ) (ls : List Load) where
   fetched_came request cs ds room o false false false walked is exact same e =
       whole_came request ds room o (length request == length cs) walked is exact (ap (λ (xs : List ℕ). length request == length xs) (sym same)) e
 
-  found_came : (limit : ℕ) (request : List ℕ) (f : Found) (o : Offer) → Walked → chain m q head ≡ f → chain_exactly ls q head ≡ Some f → with_loaded request (offer_of m limit head f) ≡ Some o → Came request o
+  found_came : (limit : ℕ) (request : List ℕ) (f : Found) (o : Offer) → Walked → chain m q head ≡ f → chain_exactly ls q head ≡ Some f →
+      with_loaded request (offer_of m limit head f) ≡ Some o → Came request o
   found_came limit request (IsChain ds) o walked is exact e =
       fetched_came request (flat_map (λ d. bytes m d.addr d.len) (readable ds)) ds (flat_map (λ d. addresses d.addr d.len) (writable ds)) o
       (nat_lt limit (total_len (readable ds)) || nat_lt limit (total_len (writable ds))) (not (all_reach m Read (readable ds))) (not (all_reach m Write (writable ds))) walked is exact
@@ -312,7 +319,8 @@ waiting_came m limit q ls request (avail.Head head) o are e =
     (λ h. let got = chained (λ f. with_loaded request (offer_of m limit head f)) (chain_exactly ls q head) o h in
     found_came m q head ls limit request got.0 o (walks_read m q head ls got.0 are got.1) (sym (still_exactly m q head ls got.0 are got.1)) got.1 got.2) e
 
-by_stop : (b : Bool) (u x : Option Offer) (o : Offer) (reads all : List ℕ) → (u ≡ Some o → [] ≡ all) → (b ≡ false → x ≡ Some o → reads ≡ all) → (if b then u else x) ≡ Some o → (if b then [] else reads) ≡ all
+by_stop : (b : Bool) (u x : Option Offer) (o : Offer) (reads all : List ℕ) → (u ≡ Some o → [] ≡ all) → (b ≡ false → x ≡ Some o → reads ≡ all) →
+    (if b then u else x) ≡ Some o → (if b then [] else reads) ≡ all
 by_stop true u x o reads all p s e = p e
 by_stop false u x o reads all p s e = s refl e
 

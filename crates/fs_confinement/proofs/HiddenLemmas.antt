@@ -21,7 +21,8 @@ use Rattle.fs_device.specs.declared.error.DeviceError.TheVariants as device
 use Rattle.fs_device.specs.declared.refusal.Refusal.TheVariants as why
 use Rattle.fs_device.specs.Step.{State, Exchange, Calls, Idle, Refused, Exchanged, Exchanges, StepOf, Outcome}
 use Rattle.fs_device.specs.Run as run
-use Rattle.fs_device.specs.Run.{Told, Command, Answer, Effect, KickEnds, KickRun, Kicks, Kicked, HasEffect, Does, Performs, Run, RunTold, Affects, IsDecided, effect, insert, insert_block, is_known, some_overlap, reset}
+use Rattle.fs_device.specs.Run.{Told, Command, Answer, Effect, KickEnds, KickRun, Kicks, Kicked, HasEffect, Does, Performs, Run, RunTold, Affects, IsDecided, effect}
+use Rattle.fs_device.specs.Run.{insert, insert_block, is_known, some_overlap, reset}
 use Rattle.fs_confinement.specs.ReadSet.{place_if, places_for, is_at, is_among, Touched, nothing, and_then, step_touches}
 use Rattle.fs_confinement.specs.ReadSet.{end_touches, kick_touches, kicks_touch, guest_reads, guest_writes, plain_touches, command_touches, run_touches}
 use Rattle.fs_confinement.specs.Confinement.{copies, copies_nothing, AgreeOn}
@@ -145,7 +146,8 @@ idle_layout : {F : Type 0} (may : May F) (s : State F) (i : ℕ) (o : Option Que
 idle_layout may s i None calls after t = ap layout_of t.1.same
 idle_layout may s i (Some q) calls after t = ap layout_of t.1.same
 
-refused_layout : {F : Type 0} (may : May F) (s : State F) (i : ℕ) (o : Option Queue) (calls : Calls) (e : DeviceError) (after : State F) → StepOf may s i o calls (Refused e) after → layout_of after ≡ layout_of s
+refused_layout : {F : Type 0} (may : May F) (s : State F) (i : ℕ) (o : Option Queue) (calls : Calls) (e : DeviceError) (after : State F) →
+    StepOf may s i o calls (Refused e) after → layout_of after ≡ layout_of s
 refused_layout may s i None calls e after t = ap layout_of t.1.same
 refused_layout may s i (Some q) calls device.NoSuchQueue after t = absurd t
 refused_layout may s i (Some q) calls (device.Queue stop.OutOfMemory) after t = ap layout_of t.1.same
@@ -240,14 +242,16 @@ table_hides : {F : Type 0} (block : ℕ) (s : State F) (fit : Bool) (table : Tab
 table_hides {F} block s true table answer after t e = subst (λ (k : State F). Hides block (layout_of k)) (sym t.1.3) e
 table_hides block s false table answer after t e = by_effect block _ answer after t e
 
-affect_hides : {F : Type 0} (block : ℕ) (s : State F) (command : Command) (answer : Answer) (after : State F) → IsTrue (leaves_hidden block command) → Hides block s.memory.layout → Affects s command answer after →
+affect_hides : {F : Type 0} (block : ℕ) (s : State F) (command : Command) (answer : Answer) (after : State F) → IsTrue (leaves_hidden block command) →
+    Hides block s.memory.layout → Affects s command answer after →
     Hides block (layout_of after)
 unfolding effect
 affect_hides block s (run.GuestRead a n) answer after leaves e t = by_effect block (run.guest_read s a n) answer after t (whichever block (reach (physical s.memory) Read a n) _ _ e e)
 affect_hides block s (run.GuestWrite a bs) answer after leaves e t = by_effect block (run.guest_write s a bs) answer after t (whichever block (reach (physical s.memory) Write a (length bs)) _ _ e e)
 affect_hides block s (run.NewBlock n) answer after leaves e t = by_effect block (run.make_block s n) answer after t (whichever block (n == 0) _ _ e e)
 affect_hides block s (run.InsertRegion base other) answer after leaves e t =
-    by_effect block (insert_block s base other (slice_get s.memory.host.blocks other)) answer after t (block_hides block s base other (slice_get s.memory.host.blocks other) (negated (other == block) leaves) e)
+    by_effect block (insert_block s base other (slice_get s.memory.host.blocks other)) answer after t
+    (block_hides block s base other (slice_get s.memory.host.blocks other) (negated (other == block) leaves) e)
 affect_hides block s (run.RemoveRegion base size) answer after leaves e t =
     by_effect block (run.remove_region s base size) answer after t (whichever block (list_any (is_region base size) s.memory.layout) _ _ (filtered_hides block _ s.memory.layout e) e)
 affect_hides block s (run.SetLayout layout) answer after leaves e t =
@@ -279,7 +283,8 @@ plain_misses block s (run.GuestRead a n) answer e = read_misses block s a n answ
 plain_misses block s (run.GuestWrite a bytes) answer e = write_misses block s a (length bytes) answer e
 plain_misses block s _ answer e = misses_nothing block
 
-lacks_hides : {F : Type 0} (block : ℕ) (s : State F) (command : Command) (told : Told) (after : State F) → run.LacksMemory s command told after → Hides block s.memory.layout → Hides block (layout_of after)
+lacks_hides : {F : Type 0} (block : ℕ) (s : State F) (command : Command) (told : Told) (after : State F) → run.LacksMemory s command told after →
+    Hides block s.memory.layout → Hides block (layout_of after)
 lacks_hides {F} block s command [] after t e = subst (λ (k : State F). Hides block (layout_of k)) (sym t.1) e
 lacks_hides block s command (x ∷ told) after t e = absurd t
 
@@ -288,13 +293,15 @@ effect_hides : {F : Type 0} (block : ℕ) (s : State F) (command : Command) (tol
 effect_hides block s command [] answer after leaves e t = affect_hides block s command answer after leaves e t
 effect_hides block s command (x ∷ told) answer after leaves e t = absurd t
 
-does_hides : {F : Type 0} (may : May F) (block : ℕ) (s : State F) (command : Command) (told : Told) (answer : Answer) (after : State F) → IsTrue (leaves_hidden block command) → Hides block s.memory.layout →
+does_hides : {F : Type 0} (may : May F) (block : ℕ) (s : State F) (command : Command) (told : Told) (answer : Answer) (after : State F) →
+    IsTrue (leaves_hidden block command) → Hides block s.memory.layout →
     Does may s command told answer after → Hides block (layout_of after)
 does_hides may block s (run.Kick i most) told (run.Served k) after leaves e t = (kicks_miss may block s i most (slice_get s.queues i) told k after t e).1
 does_hides may block s (run.Kick i most) told answer after leaves e t = absurd t
 does_hides may block s command told answer after leaves e t = effect_hides block s command told answer after leaves e t
 
-performs_hides : {F : Type 0} (may : May F) (block : ℕ) (s : State F) (command : Command) (told : Told) (answer : Answer) (after : State F) → IsTrue (leaves_hidden block command) → Hides block s.memory.layout →
+performs_hides : {F : Type 0} (may : May F) (block : ℕ) (s : State F) (command : Command) (told : Told) (answer : Answer) (after : State F) →
+    IsTrue (leaves_hidden block command) → Hides block s.memory.layout →
     Performs may s command told answer after → Hides block (layout_of after)
 performs_hides may block s command told (run.IsRefused why.OutOfMemory) after leaves e t = lacks_hides block s command told after t e
 performs_hides may block s command told answer after leaves e t = does_hides may block s command told answer after leaves e t

@@ -99,7 +99,8 @@ mark_aside (Some a) p h = refl
 put_aside : (h : Host) (p : Place) (x : ℕ) → without_bytes (put_byte h p x) ≡ with_mark_by p.io p (without_bytes h)
 put_aside h p x =
     mark_aside p.io p (with_byte h p x)
-    ∙ ap (λ (blocks : List Block). with_mark_by p.io p (record h { blocks = blocks })) (changed_same zeroed (λ b. record b { bytes = slice_set b.bytes p.offset x }) h.blocks p.block (zeroed_byte p.offset x))
+    ∙ ap (λ (blocks : List Block). with_mark_by p.io p (record h { blocks = blocks }))
+    (changed_same zeroed (λ b. record b { bytes = slice_set b.bytes p.offset x }) h.blocks p.block (zeroed_byte p.offset x))
 
 -- a block's byte
 abbrev byte_in_block : ℕ → Option Block → Option ℕ
@@ -277,7 +278,8 @@ stores_keep [] m n same = nothing_differs m.host n.host
 stores_keep (w ∷ ws) m n same =
     let there : location m Write w.0 ≡ location n Write w.0 = ap (λ (k : Memory). location k Write w.0) same in
     let first : KeepDifference m.host n.host (stored m w).host (stored n w).host (place_if (location m Write w.0)) =
-    subst (λ (o : Option Place). KeepDifference m.host n.host (stored m w).host (stored_at n w.1 o).host (place_if (location m Write w.0))) there (stored_at_keeps m n same w.1 (location m Write w.0)) in
+    subst (λ (o : Option Place). KeepDifference m.host n.host (stored m w).host (stored_at n w.1 o).host (place_if (location m Write w.0))) there
+    (stored_at_keeps m n same w.1 (location m Write w.0)) in
     let later = stores_keep ws (stored m w) (stored n w) (stored_aside m n same w) in
     subst (λ (where_is : Permissions → ℕ → Option Place).
     KeepDifference m.host n.host (stored_all (stored m w) ws).host (stored_all (stored n w) ws).host (place_if (location m Write w.0) ++ places_by (where_is Write) (map (λ w. w.0) ws)))

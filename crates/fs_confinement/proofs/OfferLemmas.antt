@@ -14,7 +14,8 @@ use Rattle.fs_queue.specs.declared.fault.QueueError.TheVariants as stop
 use Rattle.fs_queue.specs.Queue.{Queue, avail_index_at, ring_entry_at, element_at, index_at, waiting, head, has_bit}
 use Rattle.fs_queue.specs.NextAvail.{NextAvail, next_avail}
 use Rattle.fs_queue.specs.NextAvail as avail
-use Rattle.fs_queue.specs.Chain.{Descriptor, Visit, entry_address, WalkStep, walk_step, next_visit, onward, path, walk, first_visit, after_walk_step, Found, IsChain, HasFault, StopsQueue, found, chain}
+use Rattle.fs_queue.specs.Chain.{Descriptor, Visit, entry_address, WalkStep, walk_step, next_visit, onward, path, walk, first_visit, after_walk_step, Found, IsChain}
+use Rattle.fs_queue.specs.Chain.{HasFault, StopsQueue, found, chain}
 use Rattle.fs_queue.specs.Loads.{Load, reads_entry}
 use Rattle.fs_queue.specs.Taking.{RequestAndRoom, IsRequest, CannotFetch, readable, writable, total_len, all_reach, request_and_room, Offer, Idle, Refuses, Offers, offer_of, on_next_avail, offer}
 use Rattle.fs_queue.specs.Returning.{wants_notice}
@@ -32,8 +33,10 @@ read_where g h (Some p) agree = agree_at g h p agree
 -- the tests of an available ring, in their order
 ring_same : (t0 t1 r2 t2 u2 : Bool) (hd hd' : ℕ) → (t0 ≡ false → t1 ≡ false → r2 ≡ true → (t2 ≡ u2) × (hd ≡ hd')) →
     ◌≡◌ {A = NextAvail}
-    (if t0 then avail.Idle else if t1 then avail.Refused stop.AvailTooFar else if not r2 then avail.Refused stop.RingEntryUnreachable else if t2 then avail.Refused stop.HeadOutOfTable else avail.Head hd)
-    (if t0 then avail.Idle else if t1 then avail.Refused stop.AvailTooFar else if not r2 then avail.Refused stop.RingEntryUnreachable else if u2 then avail.Refused stop.HeadOutOfTable else avail.Head hd')
+    (if t0 then avail.Idle else if t1 then avail.Refused stop.AvailTooFar else if not r2 then avail.Refused stop.RingEntryUnreachable
+    else if t2 then avail.Refused stop.HeadOutOfTable else avail.Head hd)
+    (if t0 then avail.Idle else if t1 then avail.Refused stop.AvailTooFar else if not r2 then avail.Refused stop.RingEntryUnreachable
+    else if u2 then avail.Refused stop.HeadOutOfTable else avail.Head hd')
 ring_same true t1 r2 t2 u2 hd hd' same = refl
 ring_same false true r2 t2 u2 hd hd' same = refl
 ring_same false false false t2 u2 hd hd' same = refl
@@ -136,7 +139,8 @@ module _ (m : Memory) (h : Host) (same : without_bytes m.host ≡ without_bytes 
 
   index_read : (q : Queue) (t0 t1 r2 t2 : Bool) (hd : ℕ) →
       Agree (ring_reads q
-      (if t0 then avail.Idle else if t1 then avail.Refused stop.AvailTooFar else if not r2 then avail.Refused stop.RingEntryUnreachable else if t2 then avail.Refused stop.HeadOutOfTable else avail.Head hd)) →
+      (if t0 then avail.Idle else if t1 then avail.Refused stop.AvailTooFar else if not r2 then avail.Refused stop.RingEntryUnreachable
+      else if t2 then avail.Refused stop.HeadOutOfTable else avail.Head hd)) →
       Agree (addresses (avail_index_at q) 2)
   index_read q true t1 r2 t2 hd agree = agree
   index_read q false true r2 t2 hd agree = agree
@@ -146,7 +150,8 @@ module _ (m : Memory) (h : Host) (same : without_bytes m.host ≡ without_bytes 
 
   entry_read : (q : Queue) (t0 t1 r2 t2 : Bool) (hd : ℕ) → t0 ≡ false → t1 ≡ false → r2 ≡ true →
       Agree (ring_reads q
-      (if t0 then avail.Idle else if t1 then avail.Refused stop.AvailTooFar else if not r2 then avail.Refused stop.RingEntryUnreachable else if t2 then avail.Refused stop.HeadOutOfTable else avail.Head hd)) →
+      (if t0 then avail.Idle else if t1 then avail.Refused stop.AvailTooFar else if not r2 then avail.Refused stop.RingEntryUnreachable
+      else if t2 then avail.Refused stop.HeadOutOfTable else avail.Head hd)) →
       Agree (addresses (ring_entry_at q) 2)
   entry_read q false false true true hd none near there agree = (agree-append (addresses (avail_index_at q) 2) (addresses (ring_entry_at q) 2) agree).1
   entry_read q false false true false hd none near there agree = (agree-append (addresses (avail_index_at q) 2) (addresses (ring_entry_at q) 2) agree).1

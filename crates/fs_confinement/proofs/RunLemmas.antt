@@ -1,6 +1,6 @@
 -- a run over a host that differs outside of what it reads
 use Rattle.std.proofs.Common.{◌≡◌, ℕ, Bool, true, false, not, ◌&&◌, List, [], ◌∷◌, map, length, zip, Option, Some, None, refl, ap, sym, ◌∙◌, subst}
-use Rattle.std.specs.Prelude.{◌==◌, IsTrue, if◌then◌else◌, slice_get, option_map, unwrap_or}
+use Rattle.std.specs.Prelude.{◌==◌, nat_lt, IsTrue, if◌then◌else◌, slice_get, option_map, unwrap_or}
 use Rattle.std.specs.List.{list_all, list_any}
 use Rattle.std.proofs.lemmas.List.{length-map}
 use Rattle.std.proofs.lemmas.Option.{slice_get-map}
@@ -43,7 +43,8 @@ DecidedFollows g h written None (Some y) = ⊥
 DecidedFollows g h written (Some x) None = ⊥
 DecidedFollows g h written (Some x) (Some y) = EffectFollows g h written x y
 
-either_follows : {F : Type 0} (g h : Host) (ps : List Place) (b : Bool) (x y z w : Effect F) → EffectFollows g h ps x z → EffectFollows g h ps y w → EffectFollows g h ps (if b then x else y) (if b then z else w)
+either_follows : {F : Type 0} (g h : Host) (ps : List Place) (b : Bool) (x y z w : Effect F) → EffectFollows g h ps x z → EffectFollows g h ps y w →
+    EffectFollows g h ps (if b then x else y) (if b then z else w)
 either_follows g h ps true x y z w p q = p
 either_follows g h ps false x y z w p q = q
 
@@ -100,7 +101,8 @@ module _ {F : Type 0} (s : State F) (h : Host) (same : without_bytes s.memory.ho
   kept_follows : (k l : State F) → SameButBytes k l → k.memory.host ≡ s.memory.host → l.memory.host ≡ h → Same (run.Done, k) (run.Done, l)
   kept_follows k l alike at_s at_h =
       done_follows k l alike
-      (subst (λ (g : Host). KeepDifference s.memory.host h g l.memory.host []) (sym at_s) (subst (λ (g : Host). KeepDifference s.memory.host h s.memory.host g []) (sym at_h) (nothing_differs s.memory.host h)))
+      (subst (λ (g : Host). KeepDifference s.memory.host h g l.memory.host []) (sym at_s) (subst (λ (g : Host). KeepDifference s.memory.host h s.memory.host g [])
+      (sym at_h) (nothing_differs s.memory.host h)))
 
   physical_bare : bare (physical s.memory) ≡ bare (physical (with_host s h).memory)
   physical_bare = ap physical (same_bare s h same)
@@ -117,7 +119,8 @@ module _ {F : Type 0} (s : State F) (h : Host) (same : without_bytes s.memory.ho
   insert_follows : (r : Region) → Same (insert s r) (insert (with_host s h) r)
   insert_follows r =
       either_follows s.memory.host h [] (not (fits r)) _ _ _ _ (refused_follows why.BadRegion)
-      (either_follows s.memory.host h [] (list_any (overlap r) s.memory.layout) _ _ _ _ (refused_follows why.Overlap) (kept_follows _ _ (ap (with_host (with_layout s (with_region r s.memory.layout))) same) refl refl))
+      (either_follows s.memory.host h [] (list_any (overlap r) s.memory.layout) _ _ _ _ (refused_follows why.Overlap)
+      (kept_follows _ _ (ap (with_host (with_layout s (with_region r s.memory.layout))) same) refl refl))
 
   region_follows : (base block : ℕ) (o p : Option Block) → option_map zeroed o ≡ option_map zeroed p → Same (insert_block s base block o) (insert_block (with_host s h) base block p)
   region_follows base block None None is = refused_follows why.UnknownBlock
@@ -187,18 +190,21 @@ module _ {F : Type 0} (s : State F) (h : Host) (same : without_bytes s.memory.ho
       let ws = zip (addresses a (length bs)) bs in
       let new = stores_aside ws (physical s.memory) (physical (with_host s h).memory) physical_bare in
       let kept = stores_keep ws (physical s.memory) (physical (with_host s h).memory) physical_bare in
-      subst (λ (k : Answer). Follows (λ end. IsDecided (Some (run.Done, record s { memory = guest_written (with_host s h).memory a bs })) answer end) s h after (guest_writes s a (length bs) k).written) (sym told)
+      subst (λ (k : Answer). Follows (λ end. IsDecided (Some (run.Done, record s { memory = guest_written (with_host s h).memory a bs })) answer end) s h after
+      (guest_writes s a (length bs) k).written) (sym told)
       (decided_follows _ _ _ answer after
       (record {
         answer = refl;
         state = ap (λ (m : Memory). with_host s m.host) new;
-        bytes = subst (λ (as' : List ℕ). KeepDifference s.memory.host h (stored_all (physical s.memory) ws).host (stored_all (physical (with_host s h).memory) ws).host (places_for (physical s.memory) Write as'))
+        bytes = subst (λ (as' : List ℕ). KeepDifference s.memory.host h (stored_all (physical s.memory) ws).host (stored_all (physical (with_host s h).memory) ws).host
+            (places_for (physical s.memory) Write as'))
             (zip_firsts (addresses a (length bs)) bs (length-addresses (length bs) a)) kept;
       }) t)
 
   -- ---- tables
 
-  change_follows : (fit : Bool) (table : Table) (answer : Answer) (after : State F) → ChangesTable s fit table answer after → Follows (λ end. ChangesTable (with_host s h) fit table answer end) s h after []
+  change_follows : (fit : Bool) (table : Table) (answer : Answer) (after : State F) → ChangesTable s fit table answer after →
+      Follows (λ end. ChangesTable (with_host s h) fit table answer end) s h after []
   change_follows true table answer after t =
       let moved = ap (λ (k : Host). with_host s (with_table_at k s.memory.table t.1.0)) same in
       record {
@@ -220,7 +226,8 @@ module _ {F : Type 0} (s : State F) (h : Host) (same : without_bytes s.memory.ho
 
   -- ---- commands that aren't kicks
 
-  affect_follows : (command : Command) (answer : Answer) (after : State F) → IsTrue (not (copies command)) → AgreeOn s.memory.host h (plain_touches s command answer).read → Affects s command answer after →
+  affect_follows : (command : Command) (answer : Answer) (after : State F) → IsTrue (not (copies command)) →
+      AgreeOn s.memory.host h (plain_touches s command answer).read → Affects s command answer after →
       Follows (λ end. Affects (with_host s h) command answer end) s h after (plain_touches s command answer).written
   unfolding effect
   affect_follows (run.GuestRead a n) answer after few agree t =
@@ -229,7 +236,8 @@ module _ {F : Type 0} (s : State F) (h : Host) (same : without_bytes s.memory.ho
       Follows (λ end. (answer, end) ≡ (if r a n then (run.Bytes (map (byte (physical (with_host s h).memory)) (addresses a n)), with_host s h) else no why.NoPlace (with_host s h))) s h after [])
       (reach_same Read) (read_follows a n (reach (physical s.memory) Read a n) answer after agree t))
   affect_follows (run.GuestWrite a bs) answer after few agree t =
-      subst (λ (r : ℕ → ℕ → Bool). Follows (λ end. (answer, end) ≡ (if r a (length bs) then (run.Done, record s { memory = guest_written (with_host s h).memory a bs }) else no why.NoPlace (with_host s h))) s h after
+      subst (λ (r : ℕ → ℕ → Bool). Follows (λ end. (answer, end) ≡ (if r a (length bs) then (run.Done, record s { memory = guest_written (with_host s h).memory a bs })
+      else no why.NoPlace (with_host s h))) s h after
       (guest_writes s a (length bs) answer).written)
       (reach_same Write) (write_follows a bs (reach (physical s.memory) Write a (length bs)) answer after t)
   affect_follows (run.NewBlock n) answer after few agree t = decided_follows [] _ _ answer after (block_follows n (n == 0)) t
@@ -252,7 +260,7 @@ module _ {F : Type 0} (s : State F) (h : Host) (same : without_bytes s.memory.ho
   effect_follows command (x ∷ told) answer after few agree t = absurd t
 
   takes_alike : (command : Command) → command_takes_memory s command ≡ command_takes_memory (with_host s h) command
-  takes_alike (run.GuestRead a n) = ap (λ (r : ℕ → ℕ → Bool). r a n) (reach_same Read)
+  takes_alike (run.GuestRead a n) = ap (λ (r : ℕ → ℕ → Bool). nat_lt 0 n && r a n) (reach_same Read)
   takes_alike (run.InsertRegion base block) = goes_alike s.memory.layout base block _ _ (there_alike block)
   takes_alike _ = refl
 
@@ -284,14 +292,16 @@ PlainFollows {F} Can s h command answer after =
     Follows (λ end. Can (with_host s h) end × (plain_touches (with_host s h) command answer ≡ plain_touches s command answer)) s h after (plain_touches s command answer).written
 
 module _ {F : Type 0} (may : May F) (s : State F) (h : Host) (same : without_bytes s.memory.host ≡ without_bytes h) where
-  does_follow : (command : Command) (told : Told) (answer : Answer) (after : State F) → IsTrue (not (is_kick command)) → IsTrue (not (copies command)) → AgreeOn s.memory.host h (plain_touches s command answer).read →
+  does_follow : (command : Command) (told : Told) (answer : Answer) (after : State F) → IsTrue (not (is_kick command)) → IsTrue (not (copies command)) →
+      AgreeOn s.memory.host h (plain_touches s command answer).read →
       Does may s command told answer after → PlainFollows (λ from end. Does may from command told answer end) s h command answer after
   does_follow (run.Kick i most) told answer after plain few agree t = absurd (cc)
   does_follow command told answer after plain few agree t =
       let done = effect_follows s h same command told answer after few agree t in
       record { end = done.end; can = (done.can, plain_same s h same command answer); rest = done.rest; bytes = done.bytes }
 
-  plain_follows : (command : Command) (told : Told) (answer : Answer) (after : State F) → IsTrue (not (is_kick command)) → IsTrue (not (copies command)) → AgreeOn s.memory.host h (plain_touches s command answer).read →
+  plain_follows : (command : Command) (told : Told) (answer : Answer) (after : State F) → IsTrue (not (is_kick command)) → IsTrue (not (copies command)) →
+      AgreeOn s.memory.host h (plain_touches s command answer).read →
       Performs may s command told answer after → PlainFollows (λ from end. Performs may from command told answer end) s h command answer after
   plain_follows command told (run.IsRefused why.OutOfMemory) after plain few agree t =
       let done = lack_follows s h same command told after t in
@@ -308,14 +318,16 @@ module _ {F : Type 0} (may : May F) where
   -- a command may be answered so from another state, where it touches the same
   abbrev CommandFollows : (s t : State F) (command : Command) (told : Told) (answer : Answer) (after : State F) → Performs may s command told answer after → Type 0
   CommandFollows s t command told answer after done =
-      Follows (λ end. (other : Performs may t command told answer end) × (command_touches may t command told answer end other ≡ command_touches may s command told answer after done)) s t.memory.host after
+      Follows (λ end. (other : Performs may t command told answer end) ×
+      (command_touches may t command told answer end other ≡ command_touches may s command told answer after done)) s t.memory.host after
       (command_touches may s command told answer after done).written
 
   kick_answered : (s t : State F) → SameButBytes s t → (i most : ℕ) (told : Told) (answer : Answer) (after : State F) (done : Performs may s (run.Kick i most) told answer after) →
       AgreeOn s.memory.host t.memory.host (command_touches may s (run.Kick i most) told answer after done).read → CommandFollows s t (run.Kick i most) told answer after done
   kick_answered s t same i most told (run.Served k) after done agree =
       over_host s t
-      (λ (u : State F). AgreeOn s.memory.host u.memory.host (command_touches may s (run.Kick i most) told (run.Served k) after done).read → CommandFollows s u (run.Kick i most) told (run.Served k) after done) same
+      (λ (u : State F). AgreeOn s.memory.host u.memory.host (command_touches may s (run.Kick i most) told (run.Served k) after done).read →
+      CommandFollows s u (run.Kick i most) told (run.Served k) after done) same
       (λ h is alike agree. kicks_follow may s (with_host s h) (same_state s h alike) i most (slice_get s.queues i) told k after done agree) agree
   kick_answered s t same i most told (run.IsRefused why.OutOfMemory) after done agree =
       over_host s t (λ (u : State F). CommandFollows s u (run.Kick i most) told (run.IsRefused why.OutOfMemory) after done) same
@@ -323,7 +335,8 @@ module _ {F : Type 0} (may : May F) where
       let lacks = lack_follows s h alike (run.Kick i most) told after done in record { end = lacks.end; can = (lacks.can, refl); rest = lacks.rest; bytes = lacks.bytes })
   kick_answered s t same i most told answer after done agree = absurd done
 
-  command_follows : (s t : State F) → SameButBytes s t → (command : Command) (told : Told) (answer : Answer) (after : State F) (done : Performs may s command told answer after) → IsTrue (not (copies command)) →
+  command_follows : (s t : State F) → SameButBytes s t → (command : Command) (told : Told) (answer : Answer) (after : State F)
+      (done : Performs may s command told answer after) → IsTrue (not (copies command)) →
       AgreeOn s.memory.host t.memory.host (command_touches may s command told answer after done).read → CommandFollows s t command told answer after done
   command_follows s t same (run.Kick i most) told answer after done few agree = kick_answered s t same i most told answer after done agree
   command_follows s t same command told answer after done few agree =
@@ -349,7 +362,8 @@ module _ {F : Type 0} (may : May F) where
       let later = run_touches may mid es tolds after rest in
       let parts = and_true (not (copies e.0)) (copies_nothing es) few in
       let first = command_follows s t same e.0 told e.1 mid performs parts.0 (agree_front s.memory.host t.memory.host own.read later.read agree) in
-      let others = run_follows mid first.end after es tolds rest parts.1 first.rest (agree_later own.written later.read first.bytes (agree_back s.memory.host t.memory.host own.read later.read agree)) in
+      let others = run_follows mid first.end after es tolds rest parts.1 first.rest
+      (agree_later own.written later.read first.bytes (agree_back s.memory.host t.memory.host own.read later.read agree)) in
       record {
         end = others.end;
         run = (first.end, first.can.0, others.run);

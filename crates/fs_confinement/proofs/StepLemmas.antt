@@ -79,7 +79,8 @@ module _ {F : Type 0} (s : State F) (h : Host) (same : without_bytes s.memory.ho
 
 module _ {F : Type 0} (may : May F) (s : State F) (h : Host) (same : without_bytes s.memory.host ≡ without_bytes h) where
   exchange_follows : (i : ℕ) (q : Queue) (o : Offer) (calls : Calls) (x : Exchange) (notice : Bool) (after : State F) → Exchanges may s i q o calls x notice after →
-      Agree s.memory h same (addresses q.avail 2) → Follows (λ end. Exchanges may (with_host s h) i q o calls x notice end) s h after (places_for s.memory Write (returned_addresses q x.head (room_in o) x.reply))
+      Agree s.memory h same (addresses q.avail 2) → Follows (λ end. Exchanges may (with_host s h) i q o calls x notice end) s h after
+      (places_for s.memory Write (returned_addresses q x.head (room_in o) x.reply))
   exchange_follows i q (Offers head (CannotFetch fault)) calls x notice after r agree =
       let back = return_follows s h same i q [] (faulty head fault) s.options x notice after r.returns agree in
       record { end = back.end; can = record { no_call = r.no_call; files = back.can.1 ∙ r.files; returns = back.can.0 }; rest = back.rest; bytes = back.bytes }
@@ -115,9 +116,16 @@ module _ {F : Type 0} (may : May F) (s : State F) (h : Host) (same : without_byt
       let done = act_follows i q (offer s.memory s.limit q) calls outcome after t parts.1 in
       let touched : step_touches (with_host s h) (Some q) outcome ≡ step_touches s (Some q) outcome =
       sym (ap (λ (xs : List ℕ). record { read = places_for s.memory Read (xs ++ flag_reads q outcome); written = places_for s.memory Write (step_writes q (offer s.memory s.limit q) outcome) }) reads
-      ∙ ap (λ (k : Offer). record { read = places_for s.memory Read (offer_reads (with_host s h).memory s.limit q ++ flag_reads q outcome); written = places_for s.memory Write (step_writes q k outcome) }) is
+      ∙ ap (λ (k : Offer). record {
+        read = places_for s.memory Read (offer_reads (with_host s h).memory s.limit q ++ flag_reads q outcome);
+        written = places_for s.memory Write (step_writes q k outcome);
+      }) is
       ∙ ap (λ (k : Host). let m = record s.memory { host = k } in
-      record { read = places_for m Read (offer_reads (with_host s h).memory s.limit q ++ flag_reads q outcome); written = places_for m Write (step_writes q (offer (with_host s h).memory s.limit q) outcome) }) same)
+      record {
+        read = places_for m Read (offer_reads (with_host s h).memory s.limit q ++ flag_reads q outcome);
+        written = places_for m Write
+            (step_writes q (offer (with_host s h).memory s.limit q) outcome);
+      }) same)
       in record {
         end = done.end;
         can = (subst (λ (k : Offer). Acts may (with_host s h) i q k calls outcome done.end) is done.can, touched);

@@ -89,7 +89,16 @@ flags_read = refl
 
 abbrev twice : Memory
 twice =
-    io_memory (record { blocks = new_block 16 ∷ []; tables = (record { start = 0; end = 4; target = 8; perm = ReadWrite } ∷ record { start = 4; end = 8; target = 8; perm = Read } ∷ []) ∷ []; io_marks = [] })
+    io_memory (record {
+      blocks = new_block 16 ∷ [];
+      tables = (record { start = 0; end = 4; target = 8; perm = ReadWrite } ∷ record {
+        start = 4;
+        end = 8;
+        target = 8;
+        perm = Read;
+      } ∷ []) ∷ [];
+      io_marks = [];
+    })
     (record { start = 0; size = 16; block = 0 } ∷ []) 0 0
 
 one_place : map (λ a. is_among 0 9 (places_for twice Read (a ∷ []))) (0 ∷ 1 ∷ 5 ∷ 9 ∷ []) ≡ false ∷ true ∷ true ∷ false ∷ []

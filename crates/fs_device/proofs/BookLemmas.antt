@@ -148,7 +148,8 @@ module _ (n : ℕ) (some : n ≢ 0) (s : Setting) (o : Option Opcode) where
       (omega (arith, x, z)) (ap (times n) (fits (drop 16 bytes))) (omega (arith, y))
 
   start_balances : (unique capable readahead : ℕ) (calls : Calls) → ((bytes : List ℕ) → nodes_in o bytes ≡ []) → EachSuits calls →
-      (served s (grammar.Asks (Starts unique capable readahead)) (answers_alone calls)).calls ≡ calls_alone calls → Balanced n o calls 0 (served s (grammar.Asks (Starts unique capable readahead)) (answers_alone calls))
+      (served s (grammar.Asks (Starts unique capable readahead)) (answers_alone calls)).calls ≡ calls_alone calls →
+      Balanced n o calls 0 (served s (grammar.Asks (Starts unique capable readahead)) (answers_alone calls))
   start_balances unique capable readahead [] fits suit asks = absurd (cc)
   start_balances unique capable readahead (step ∷ calls) fits suit asks =
       let bytes = start_answered s.page_size unique capable readahead step.1 in
@@ -169,12 +170,14 @@ module _ (n : ℕ) (some : n ≢ 0) (s : Setting) (o : Option Opcode) where
       let room = list_fits l is ds l.size (s.room - 16) (answers_alone steps) in
       let low : length bytes ≤ s.room = (let place = fits.1 in omega (arith, long, room, place)) in
       let nodes : nodes_in o (drop 16 bytes) ≡ nodes_listed (length w.bytes) w.bytes =
-      ap (λ (k : Option Opcode). nodes_in k (drop 16 bytes)) fits.0 ∙ ap (λ (b : List ℕ). nodes_in (Some op.Readdirplus) (drop 16 b)) plain ∙ ap (nodes_in (Some op.Readdirplus)) whole.0 ∙ plus_nodes w.bytes in
+      ap (λ (k : Option Opcode). nodes_in k (drop 16 bytes)) fits.0 ∙ ap (λ (b : List ℕ). nodes_in (Some op.Readdirplus) (drop 16 b)) plain
+      ∙ ap (nodes_in (Some op.Readdirplus)) whole.0 ∙ plus_nodes w.bytes in
       let same = list_balances n some l is ds steps l.size (s.room - 16) suit asks (length w.bytes) (omega arith) in
       let x = entries_more n (readdir_call l, call.Entries ds) steps in
       let y = counts_more n (readdir_call l, call.Entries ds) steps in
       let k = ap (times n) nodes in
-      replied_whole n o ((readdir_call l, call.Entries ds) ∷ steps) 0 s.options (readdir_call l ∷ w.calls) bytes (nat_lt s.room (length bytes)) (le-ltb s.room (length bytes) low) (omega (arith, same, x, y, k)) refl
+      replied_whole n o ((readdir_call l, call.Entries ds) ∷ steps) 0 s.options (readdir_call l ∷ w.calls) bytes (nat_lt s.room (length bytes))
+      (le-ltb s.room (length bytes) low) (omega (arith, same, x, y, k)) refl
   went_balances unique l ds steps false is fits suit asks =
       let w = list_entries l ds l.size (s.room - 16) (answers_alone steps) in
       let bytes = listing_bytes unique l.with_nodes w.bytes w.error in
@@ -183,10 +186,12 @@ module _ (n : ℕ) (some : n ≢ 0) (s : Setting) (o : Option Opcode) where
       let y = counts_more n (readdir_call l, call.Entries ds) steps in
       let a : entries_in n steps ≡ 0 = ap (entries_in n) nothing in
       let b : counts_in n steps ≡ 0 = ap (counts_in n) nothing in
-      replied_balances n o ((readdir_call l, call.Entries ds) ∷ steps) 0 s.options (readdir_call l ∷ w.calls) bytes (nat_lt s.room (length bytes)) (omega (arith, x, a)) (ap (times n) (fits (drop 16 bytes))) (omega (arith, y, b))
+      replied_balances n o ((readdir_call l, call.Entries ds) ∷ steps) 0 s.options (readdir_call l ∷ w.calls) bytes (nat_lt s.room (length bytes)) (omega (arith, x, a))
+      (ap (times n) (fits (drop 16 bytes))) (omega (arith, y, b))
 
   -- an answer that lists nothing
-  unlisted : (l : Listing) (c : FileCall) (a : FileAnswer) (steps : Calls) (bytes : List ℕ) (long : Bool) → readdir_call l ≡ c → IsTrue (suits c a) → [] ≡ calls_alone steps → nodes_in o (drop 16 bytes) ≡ [] →
+  unlisted : (l : Listing) (c : FileCall) (a : FileAnswer) (steps : Calls) (bytes : List ℕ) (long : Bool) → readdir_call l ≡ c → IsTrue (suits c a) →
+      [] ≡ calls_alone steps → nodes_in o (drop 16 bytes) ≡ [] →
       Balanced n o ((c, a) ∷ steps) 0 (in_room long (readdir_call l ∷ []) s.options bytes)
   unlisted l c a steps bytes long is suit asks none =
       let x = entries_more n (c, a) steps in
@@ -198,7 +203,8 @@ module _ (n : ℕ) (some : n ≢ 0) (s : Setting) (o : Option Opcode) where
       replied_balances n o ((c, a) ∷ steps) 0 s.options (readdir_call l ∷ []) bytes long (omega (arith, x, z, e)) (ap (times n) none) (omega (arith, y, v, f))
 
   list_given : (unique : ℕ) (l : Listing) (c : FileCall) (a : FileAnswer) (steps : Calls) → ListFits s.room o l.with_nodes → EachSuits ((c, a) ∷ steps) →
-      (served s (grammar.Asks (Lists unique l)) (a ∷ answers_alone steps)).calls ≡ c ∷ calls_alone steps → Balanced n o ((c, a) ∷ steps) 0 (served s (grammar.Asks (Lists unique l)) (a ∷ answers_alone steps))
+      (served s (grammar.Asks (Lists unique l)) (a ∷ answers_alone steps)).calls ≡ c ∷ calls_alone steps →
+      Balanced n o ((c, a) ∷ steps) 0 (served s (grammar.Asks (Lists unique l)) (a ∷ answers_alone steps))
   list_given unique l c (call.Failed errno) steps fits suit asks =
       let bytes = error_bytes unique errno in
       let all : (readdir_call l ∷ []) ≡ c ∷ calls_alone steps = sym (replied_asks (nat_lt s.room (length bytes)) (readdir_call l ∷ []) s.options bytes) ∙ asks in
@@ -221,7 +227,8 @@ module _ (n : ℕ) (some : n ≢ 0) (s : Setting) (o : Option Opcode) where
       subst (λ (c : FileCall). Balanced n o ((c, call.Entries ds) ∷ steps) 0 (list_ended s unique l w)) same (went_balances unique l ds steps l.with_nodes refl fits suit.1 (cc))
   list_given unique l c (call.Wants options) steps fits suit asks = unlisted l c (call.Wants options) steps [] false (cc) suit.0 (cc) (none_in_nothing o)
 
-  list_all : (unique : ℕ) (l : Listing) (calls : Calls) → ListFits s.room o l.with_nodes → EachSuits calls → (served s (grammar.Asks (Lists unique l)) (answers_alone calls)).calls ≡ calls_alone calls →
+  list_all : (unique : ℕ) (l : Listing) (calls : Calls) → ListFits s.room o l.with_nodes → EachSuits calls →
+      (served s (grammar.Asks (Lists unique l)) (answers_alone calls)).calls ≡ calls_alone calls →
       Balanced n o calls 0 (served s (grammar.Asks (Lists unique l)) (answers_alone calls))
   list_all unique l [] fits suit asks = absurd (cc)
   list_all unique l (step ∷ calls) fits suit asks = list_given unique l step.0 step.1 calls fits suit asks
@@ -285,7 +292,8 @@ step_balances may n some s i (Some q) calls x notice after t = exchange_balances
 abbrev ToldBalances : (n : ℕ) → Told → Type 0
 ToldBalances n told = sum_by (answered n) told + sum_by (accepted n) told ≡ sum_by (written n) told + sum_by (sent n) told
 
-kick_balances : {F : Type 0} (may : May F) (n : ℕ) → n ≢ 0 → (s : State F) (i most : ℕ) (told : Told) (refused : Option DeviceError) (after : State F) → KickRun may s i most told refused after → ToldBalances n told
+kick_balances : {F : Type 0} (may : May F) (n : ℕ) → n ≢ 0 → (s : State F) (i most : ℕ) (told : Told) (refused : Option DeviceError) (after : State F) →
+    KickRun may s i most told refused after → ToldBalances n told
 unfolding KickRun
 kick_balances may n some s i most [] refused after t = refl
 kick_balances may n some s i zero (x ∷ told) refused after t = absurd t
@@ -298,13 +306,15 @@ kick_balances may n some s i (suc most) (x ∷ told) refused after (mid, step, r
     let d = sum_by-cons (sent n) x told in
     omega (arith, own, others, a, b, c, d)
 
-kicks_balance : {F : Type 0} (may : May F) (n : ℕ) → n ≢ 0 → (s : State F) (i most : ℕ) (o : Option Queue) (told : Told) (k : Kicked) (after : State F) → Kicks may s i most o told k after → ToldBalances n told
+kicks_balance : {F : Type 0} (may : May F) (n : ℕ) → n ≢ 0 → (s : State F) (i most : ℕ) (o : Option Queue) (told : Told) (k : Kicked) (after : State F) →
+    Kicks may s i most o told k after → ToldBalances n told
 kicks_balance may n some s i most None told k after t = subst (ToldBalances n) (sym t.1) refl
 kicks_balance may n some s i most (Some q) told k after t = kick_balances may n some s i most told k.refused after t.0
 
 -- ---- runs
 
-does_balance : {F : Type 0} (may : May F) (n : ℕ) → n ≢ 0 → (s : State F) (command : Command) (told : Told) (answer : Answer) (after : State F) → Does may s command told answer after → ToldBalances n told
+does_balance : {F : Type 0} (may : May F) (n : ℕ) → n ≢ 0 → (s : State F) (command : Command) (told : Told) (answer : Answer) (after : State F) →
+    Does may s command told answer after → ToldBalances n told
 does_balance may n some s command [] answer after t = refl
 does_balance may n some s (run.Kick i most) (x ∷ told) (run.Served k) after t = kicks_balance may n some s i most (slice_get s.queues i) (x ∷ told) k after t
 does_balance may n some s (run.Kick i most) (x ∷ told) run.Done after t = absurd t
@@ -327,7 +337,8 @@ does_balance may n some s (run.ResetQueue queue size desc avail used) (x ∷ tol
 does_balance may n some s run.Image (x ∷ told) answer after t = absurd t
 does_balance may n some s run.Harvest (x ∷ told) answer after t = absurd t
 
-performs_balance : {F : Type 0} (may : May F) (n : ℕ) → n ≢ 0 → (s : State F) (command : Command) (told : Told) (answer : Answer) (after : State F) → Performs may s command told answer after → ToldBalances n told
+performs_balance : {F : Type 0} (may : May F) (n : ℕ) → n ≢ 0 → (s : State F) (command : Command) (told : Told) (answer : Answer) (after : State F) →
+    Performs may s command told answer after → ToldBalances n told
 performs_balance may n some s command [] (run.IsRefused why.OutOfMemory) after t = refl
 performs_balance may n some s command (x ∷ told) (run.IsRefused why.OutOfMemory) after t = absurd t
 performs_balance may n some s command told (run.IsRefused why.NoPlace) after t = does_balance may n some s command told _ after t
@@ -346,7 +357,8 @@ performs_balance may n some s command told (run.Copied host) after t = does_bala
 performs_balance may n some s command told (run.Pages pages) after t = does_balance may n some s command told _ after t
 
 -- a run balances
-pub run_balances : {F : Type 0} (may : May F) (n : ℕ) → n ≢ 0 → (s : State F) (events : List (Command × Answer)) (tolds : List Told) (after : State F) → RunTold may s events tolds after → IsBalanced n tolds
+pub run_balances : {F : Type 0} (may : May F) (n : ℕ) → n ≢ 0 → (s : State F) (events : List (Command × Answer)) (tolds : List Told) (after : State F) →
+    RunTold may s events tolds after → IsBalanced n tolds
 unfolding RunTold
 run_balances may n some s [] [] after t = refl
 run_balances may n some s [] (told ∷ tolds) after t = absurd t

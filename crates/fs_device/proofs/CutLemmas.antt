@@ -21,7 +21,8 @@ three false true c x y z request room bytes places e = absurd (cc)
 three false false true x y z request room bytes places e = absurd (cc)
 three false false false x y z request room bytes places e = (cc, cc)
 
-asks_joined : (m : Memory) (limit : ℕ) (ds : List Descriptor) (request room : List ℕ) → request_and_room m limit ds ≡ IsRequest request room → (request ≡ joined_request m ds) × (room ≡ addresses_of (writable ds))
+asks_joined : (m : Memory) (limit : ℕ) (ds : List Descriptor) (request room : List ℕ) → request_and_room m limit ds ≡ IsRequest request room →
+    (request ≡ joined_request m ds) × (room ≡ addresses_of (writable ds))
 asks_joined m limit ds request room e =
     three (nat_lt limit (total_len (readable ds)) || nat_lt limit (total_len (writable ds))) (not (all_reach m Read (readable ds))) (not (all_reach m Write (writable ds)))
     OverLimit RequestUnreachable RoomUnreachable request room (joined_request m ds) (addresses_of (writable ds)) e

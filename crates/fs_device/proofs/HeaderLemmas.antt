@@ -296,5 +296,6 @@ unfolding meaning
 meaning_headed options room bs = with_header_headed options room (reading_of inputs.in_header bs)
 
 -- the reply to a request begins with its header, and has room
-pub reply_told : (s : Setting) (options room : ℕ) (bs : List ℕ) (answers : List FileAnswer) → IsHeaded (served s (meaning options bs room) answers).reply × (length (served s (meaning options bs room) answers).reply ≤ s.room)
+pub reply_told : (s : Setting) (options room : ℕ) (bs : List ℕ) (answers : List FileAnswer) → IsHeaded (served s (meaning options bs room) answers).reply ×
+    (length (served s (meaning options bs room) answers).reply ≤ s.room)
 reply_told s options room bs answers = served_told s (meaning options bs room) answers (meaning_headed options room bs)

@@ -22,7 +22,8 @@ idle_of may s after i None calls t = absurd (cc)
 idle_of may s after i (Some q) calls t = (t.0, record { same = t.1.same; no_call = refl })
 
 -- nor does one that is refused
-refused_of : {F : Type 0} (may : May F) (s after : State F) (i : ℕ) (o : Option Queue) (e : DeviceError) (calls : Calls) → StepOf may s i o calls (Refused e) after → StepOf may s i o [] (Refused e) after
+refused_of : {F : Type 0} (may : May F) (s after : State F) (i : ℕ) (o : Option Queue) (e : DeviceError) (calls : Calls) → StepOf may s i o calls (Refused e) after →
+    StepOf may s i o [] (Refused e) after
 refused_of may s after i None e calls t = (t.0, record { same = t.1.same; no_call = refl })
 refused_of may s after i (Some q) device.NoSuchQueue calls t = absurd t
 refused_of may s after i (Some q) (device.Queue stop.OutOfMemory) calls t = (t.0, record { same = t.1.same; no_call = refl })

@@ -170,7 +170,8 @@ known_in s base block m (Some b) e =
     ap (λ (k : Backing). insert s (over base k)) same
 
 -- the block of this number
-pub known : {F : Type 0} (s : State F) (base block : ℕ) (m : Backing) → Some m ≡ backing_at s.memory.host block → insert_block s base block (slice_get s.memory.host.blocks block) ≡ insert s (over base m)
+pub known : {F : Type 0} (s : State F) (base block : ℕ) (m : Backing) → Some m ≡ backing_at s.memory.host block →
+    insert_block s base block (slice_get s.memory.host.blocks block) ≡ insert s (over base m)
 known s base block m e = known_in s base block m (slice_get s.memory.host.blocks block) e
 
 -- its last address doesn't fit

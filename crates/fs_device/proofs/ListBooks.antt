@@ -112,7 +112,8 @@ stopped n c a steps keeps none e most =
     let y = counts_more n (c, a) [] in
     rw (no_step steps e, nothing_listed most) (omega (arith, keeps, none, x, y))
 
-looked_up_balances : (n : ℕ) (l : Listing) (d : Listed) (next : Next) (left room : ℕ) (c : FileCall) (a : FileAnswer) (steps : Calls) → call.Lookup l.context l.node d.name ≡ c → IsTrue (suits c a) → EachSuits steps →
+looked_up_balances : (n : ℕ) (l : Listing) (d : Listed) (next : Next) (left room : ℕ) (c : FileCall) (a : FileAnswer) (steps : Calls) →
+    call.Lookup l.context l.node d.name ≡ c → IsTrue (suits c a) → EachSuits steps →
     ((left room : ℕ) → (next left room (answers_alone steps)).calls ≡ calls_alone steps → Balanced n 0 steps (next left room (answers_alone steps))) →
     (looked_up l d next left room (a ∷ answers_alone steps)).calls ≡ calls_alone steps → Balanced n 0 ((c, a) ∷ steps) (looked_up l d next left room (a ∷ answers_alone steps))
 looked_up_balances n l d next left room c (call.Failed errno) steps is fits suit rest asks most low = stopped n c (call.Failed errno) steps (ap (forget_count n) (sym is)) refl asks most
@@ -124,8 +125,10 @@ looked_up_balances n l d next left room c (call.HasEntry e) steps is fits suit r
     let x = entries_more n (c, call.HasEntry e) steps in
     let y = counts_more n (c, call.HasEntry e) steps in
     omega (arith, behind, keeps, x, y)
-looked_up_balances n l d next left room c (call.HasAttr attr timeout) steps is fits suit rest asks most low = stopped n c (call.HasAttr attr timeout) steps (ap (forget_count n) (sym is)) refl asks most
-looked_up_balances n l d next left room c (call.Opened handle options) steps is fits suit rest asks most low = stopped n c (call.Opened handle options) steps (ap (forget_count n) (sym is)) refl asks most
+looked_up_balances n l d next left room c (call.HasAttr attr timeout) steps is fits suit rest asks most low = stopped n c (call.HasAttr attr timeout) steps
+    (ap (forget_count n) (sym is)) refl asks most
+looked_up_balances n l d next left room c (call.Opened handle options) steps is fits suit rest asks most low = stopped n c (call.Opened handle options) steps
+    (ap (forget_count n) (sym is)) refl asks most
 looked_up_balances n l d next left room c (call.Created e handle options) steps is fits suit rest asks most low = not_true (rw (← is) at fits)
 looked_up_balances n l d next left room c (call.Bytes bytes) steps is fits suit rest asks most low = stopped n c (call.Bytes bytes) steps (ap (forget_count n) (sym is)) refl asks most
 looked_up_balances n l d next left room c (call.Count k) steps is fits suit rest asks most low = stopped n c (call.Count k) steps (ap (forget_count n) (sym is)) refl asks most
@@ -164,7 +167,8 @@ by_dot : (n : ℕ) → n ≢ 0 → (l : Listing) (d : Listed) (next : Next) (lef
 by_dot n some l d next left room steps true nodes dot suit rest asks =
     let is = dot_is l d next left room (answers_alone steps) nodes dot in
     let found = entry_balances n l.context (no_node d) d next left room steps (omega arith) suit (λ left room e. rest steps left room suit e) (sym (ap (λ (w : Went). w.calls) is) ∙ asks) in
-    subst (λ (w : Went). Balanced n 0 steps w) (sym is) (subst (λ (k : ℕ). Balanced n k steps (with_entry true d (no_node d) (undo_call l.context 0 ∷ []) next left room (answers_alone steps))) (no_zero n some) found)
+    subst (λ (w : Went). Balanced n 0 steps w) (sym is) (subst (λ (k : ℕ). Balanced n k steps (with_entry true d (no_node d) (undo_call l.context 0 ∷ []) next left room
+    (answers_alone steps))) (no_zero n some) found)
 by_dot n some l d next left room steps false nodes dot suit rest asks =
     let is = name_is l d next left room (answers_alone steps) nodes dot in
     subst (λ (w : Went). Balanced n 0 steps w) (sym is) (name_balances n l d next left room steps suit rest (sym (ap (λ (w : Went). w.calls) is) ∙ asks))
@@ -189,11 +193,13 @@ placed_fits e d GoesIn undo next room fits low =
 placed_fits e d IsFull undo next room fits low = omega arith
 placed_fits e d (IsWrong errno) undo next room fits low = omega arith
 
-entry_fits : (e : Entry ℕ) (d : Listed) (undo : List FileCall) (next : Next) (left room : ℕ) (answers : List FileAnswer) → ((left room : ℕ) (answers : List FileAnswer) → length (next left room answers).bytes ≤ room) →
+entry_fits : (e : Entry ℕ) (d : Listed) (undo : List FileCall) (next : Next) (left room : ℕ) (answers : List FileAnswer) →
+    ((left room : ℕ) (answers : List FileAnswer) → length (next left room answers).bytes ≤ room) →
     length (with_entry true d e undo next left room answers).bytes ≤ room
 entry_fits e d undo next left room answers low =
     let len = entry_len true (length d.name) in
-    placed_fits e d (fit_of (length d.name) len left room) undo (next (left - len) (room - len) answers) room (λ fits. (goes_in_fits (length d.name) len left room fits).1) (low (left - len) (room - len) answers)
+    placed_fits e d (fit_of (length d.name) len left room) undo (next (left - len) (room - len) answers) room
+    (λ fits. (goes_in_fits (length d.name) len left room fits).1) (low (left - len) (room - len) answers)
 
 looked_up_fits : (l : Listing) (d : Listed) (next : Next) (left room : ℕ) (answers : List FileAnswer) → ((left room : ℕ) (answers : List FileAnswer) → length (next left room answers).bytes ≤ room) →
     length (looked_up l d next left room answers).bytes ≤ room
@@ -231,7 +237,8 @@ placed_asks_nothing bytes GoesIn next none = none
 placed_asks_nothing bytes IsFull next none = refl
 placed_asks_nothing bytes (IsWrong errno) next none = refl
 
-plain_is : (l : Listing) (d : Listed) (next : Next) (left room : ℕ) (answers : List FileAnswer) → l.with_nodes ≡ false → list_entry l d next left room answers ≡ with_entry false d (no_node d) [] next left room answers
+plain_is : (l : Listing) (d : Listed) (next : Next) (left room : ℕ) (answers : List FileAnswer) → l.with_nodes ≡ false → list_entry l d next left room answers
+    ≡ with_entry false d (no_node d) [] next left room answers
 plain_is l d next left room answers plain = rw plain refl
 
 pub plain_asks_nothing : (l : Listing) → l.with_nodes ≡ false → (ds : List Listed) (left room : ℕ) (answers : List FileAnswer) → (list_entries l ds left room answers).calls ≡ []
@@ -240,4 +247,5 @@ plain_asks_nothing l plain [] left room answers = refl
 plain_asks_nothing l plain (d ∷ ds) left room answers =
     let len = entry_len false (length d.name) in
     ap (λ (w : Went). w.calls) (plain_is l d (list_entries l ds) left room answers plain)
-    ∙ placed_asks_nothing (entry_bytes false (no_node d) d) (fit_of (length d.name) len left room) (list_entries l ds (left - len) (room - len) answers) (plain_asks_nothing l plain ds (left - len) (room - len) answers)
+    ∙ placed_asks_nothing (entry_bytes false (no_node d) d) (fit_of (length d.name) len left room) (list_entries l ds (left - len) (room - len) answers)
+    (plain_asks_nothing l plain ds (left - len) (room - len) answers)

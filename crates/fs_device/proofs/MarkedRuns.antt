@@ -25,7 +25,8 @@ use Rattle.fs_device.specs.declared.refusal.Refusal.TheVariants as why
 use Rattle.fs_device.specs.Step.{State, Exchange, Calls, Outcome, Idle, Refused, Exchanged, Exchanges, Acts, StepOf, Step, Returns, after_return, faulty, served_exchange, with_queue}
 use Rattle.fs_device.specs.Run as run
 use Rattle.fs_device.specs.Run.{Told, Command, Answer, Effect, KickEnds, KickRun, Kicks, Kicked, Affects, ChangesTable, HasEffect, Does, IsDecided, Performs, LacksMemory, RunTold, effect}
-use Rattle.fs_device.specs.Run.{guest_read, guest_write, make_block, insert, insert_block, remove_region, set_layout, is_known, has_len, some_overlap, reset, with_host, with_layout, with_ranges, goes_in, block_goes_in, command_takes_memory, ends_fit, no}
+use Rattle.fs_device.specs.Run.{guest_read, guest_write, make_block, insert, insert_block, remove_region, set_layout, is_known, has_len, some_overlap, reset, with_host}
+use Rattle.fs_device.specs.Run.{with_layout, with_ranges, goes_in, block_goes_in, command_takes_memory, ends_fit, no}
 use Rattle.fs_device.specs.Marks.{without_marks, without_its_marks, SameButMarks, SameAnswer, SameEvents}
 use Rattle.fs_device.proofs.MarkLemmas.{unmarked_memory, stores_aside, bytes_same, offers_same, notices_same}
 
@@ -295,7 +296,8 @@ module _ {F : Type 0} (s : State F) (h : Host) (same : without_marks s.memory.ho
   change_of fit to answer after t =
       subst (λ (old : Table). Matched (λ end. ChangesTable (with_host s h) fit (to old) answer end) after) table_alike (change_alike fit (to (table_of s.memory)) answer after t)
 
-  decided_alike : (old new : Option (Effect F)) (answer : Answer) (after : State F) → DecidedAlike old new → IsDecided old answer after → AnsweredAlike (λ other end. IsDecided new other end) answer after
+  decided_alike : (old new : Option (Effect F)) (answer : Answer) (after : State F) → DecidedAlike old new → IsDecided old answer after →
+      AnsweredAlike (λ other end. IsDecided new other end) answer after
   decided_alike None new answer after alike t = absurd t
   decided_alike (Some old) None answer after alike t = absurd alike
   decided_alike (Some old) (Some new) answer after alike t =

@@ -318,7 +318,8 @@ row_fits n g op.Read bytes = takes_nothing n g op.Read bytes (λ g. read_ends n 
 row_fits n g op.Init bytes = takes_nothing n g op.Init bytes (λ g. init_ends n g op.Init bytes (no_nodes op.Init refl refl))
 row_fits n g op.Write bytes = takes_nothing n g op.Write bytes (λ g. write_ends n g op.Write bytes (λ r payload. quiet_call n op.Write (request.write_call g.header r payload) refl refl refl refl))
 row_fits n g op.BatchForget bytes = (
-  after_part (MeaningFits n g.room (Some op.BatchForget)) g.header.unique (reading_of inputs.batch_forget_in bytes) (λ r. grammar.forgets_asked r.count g) (λ e. (bad n g op.BatchForget e).0) (λ r more.
+  after_part (MeaningFits n g.room (Some op.BatchForget)) g.header.unique (reading_of inputs.batch_forget_in bytes) (λ r. grammar.forgets_asked r.count g)
+      (λ e. (bad n g op.BatchForget e).0) (λ r more.
       after_part (MeaningFits n g.room (Some op.BatchForget)) g.header.unique ((grammar.at_most_a_mebibyte (r.count * 16) >> many r.count fronts.forget_pair) more)
       (λ pairs. one g (request.batch_forget_call g.header pairs)) (λ e. (bad n g op.BatchForget e).0)
       (λ pairs rest. other_fits n op.BatchForget (request.batch_forget_call g.header pairs) refl refl refl)),
@@ -333,16 +334,21 @@ row_fits n g op.Getattr bytes = takes_nothing n g op.Getattr bytes
 row_fits n g op.Setattr bytes = takes_nothing n g op.Setattr bytes
     (λ g. record_ends n g op.Setattr inputs.setattr_in request.setattr_call bytes (λ r. quiet_call n op.Setattr (request.setattr_call g.header r) refl refl refl refl))
 row_fits n g op.Readlink bytes = takes_nothing n g op.Readlink bytes (λ g. quiet_call n op.Readlink (request.readlink_call g.header) refl refl refl refl)
-row_fits n g op.Unlink bytes = takes_nothing n g op.Unlink bytes (λ g. name_ends n g op.Unlink request.unlink_call bytes (λ name. quiet_call n op.Unlink (request.unlink_call g.header name) refl refl refl refl))
-row_fits n g op.Rmdir bytes = takes_nothing n g op.Rmdir bytes (λ g. name_ends n g op.Rmdir request.rmdir_call bytes (λ name. quiet_call n op.Rmdir (request.rmdir_call g.header name) refl refl refl refl))
-row_fits n g op.Open bytes = takes_nothing n g op.Open bytes (λ g. record_ends n g op.Open inputs.open_in request.open_call bytes (λ r. quiet_call n op.Open (request.open_call g.header r) refl refl refl refl))
+row_fits n g op.Unlink bytes = takes_nothing n g op.Unlink bytes
+    (λ g. name_ends n g op.Unlink request.unlink_call bytes (λ name. quiet_call n op.Unlink (request.unlink_call g.header name) refl refl refl refl))
+row_fits n g op.Rmdir bytes = takes_nothing n g op.Rmdir bytes
+    (λ g. name_ends n g op.Rmdir request.rmdir_call bytes (λ name. quiet_call n op.Rmdir (request.rmdir_call g.header name) refl refl refl refl))
+row_fits n g op.Open bytes = takes_nothing n g op.Open bytes
+    (λ g. record_ends n g op.Open inputs.open_in request.open_call bytes (λ r. quiet_call n op.Open (request.open_call g.header r) refl refl refl refl))
 row_fits n g op.Statfs bytes = takes_nothing n g op.Statfs bytes (λ g. quiet_call n op.Statfs (request.statfs_call g.header) refl refl refl refl)
 row_fits n g op.Release bytes = takes_nothing n g op.Release bytes
     (λ g. record_ends n g op.Release inputs.release_in request.release_call bytes (λ r. quiet_call n op.Release (request.release_call g.header r) refl refl refl refl))
-row_fits n g op.Fsync bytes = takes_nothing n g op.Fsync bytes (λ g. record_ends n g op.Fsync inputs.fsync_in request.fsync_call bytes (λ r. quiet_call n op.Fsync (request.fsync_call g.header r) refl refl refl refl))
+row_fits n g op.Fsync bytes = takes_nothing n g op.Fsync bytes (λ g. record_ends n g op.Fsync inputs.fsync_in request.fsync_call bytes
+    (λ r. quiet_call n op.Fsync (request.fsync_call g.header r) refl refl refl refl))
 row_fits n g op.Removexattr bytes = takes_nothing n g op.Removexattr bytes
     (λ g. name_ends n g op.Removexattr request.removexattr_call bytes (λ name. quiet_call n op.Removexattr (request.removexattr_call g.header name) refl refl refl refl))
-row_fits n g op.Flush bytes = takes_nothing n g op.Flush bytes (λ g. record_ends n g op.Flush inputs.flush_in request.flush_call bytes (λ r. quiet_call n op.Flush (request.flush_call g.header r) refl refl refl refl))
+row_fits n g op.Flush bytes = takes_nothing n g op.Flush bytes (λ g. record_ends n g op.Flush inputs.flush_in request.flush_call bytes
+    (λ r. quiet_call n op.Flush (request.flush_call g.header r) refl refl refl refl))
 row_fits n g op.Opendir bytes = takes_nothing n g op.Opendir bytes
     (λ g. record_ends n g op.Opendir inputs.open_in request.opendir_call bytes (λ r. quiet_call n op.Opendir (request.opendir_call g.header r) refl refl refl refl))
 row_fits n g op.Releasedir bytes = takes_nothing n g op.Releasedir bytes
@@ -362,7 +368,8 @@ row_fits n g op.Poll bytes = takes_nothing n g op.Poll bytes (λ g. quiet_call n
 row_fits n g op.NotifyReply bytes = takes_nothing n g op.NotifyReply bytes (λ g. quiet_call n op.NotifyReply call.NotifyReply refl refl refl refl)
 row_fits n g op.Fallocate bytes = takes_nothing n g op.Fallocate bytes
     (λ g. record_ends n g op.Fallocate inputs.fallocate_in request.fallocate_call bytes (λ r. quiet_call n op.Fallocate (request.fallocate_call g.header r) refl refl refl refl))
-row_fits n g op.Lseek bytes = takes_nothing n g op.Lseek bytes (λ g. record_ends n g op.Lseek inputs.lseek_in request.lseek_call bytes (λ r. quiet_call n op.Lseek (request.lseek_call g.header r) refl refl refl refl))
+row_fits n g op.Lseek bytes = takes_nothing n g op.Lseek bytes (λ g. record_ends n g op.Lseek inputs.lseek_in request.lseek_call bytes
+    (λ r. quiet_call n op.Lseek (request.lseek_call g.header r) refl refl refl refl))
 row_fits n g op.CopyFileRange bytes = takes_nothing n g op.CopyFileRange bytes
     (λ g. record_ends n g op.CopyFileRange inputs.copyfilerange_in request.copy_file_range_call bytes
     (λ r. quiet_call n op.CopyFileRange (request.copy_file_range_call g.header r) refl refl refl refl))
@@ -374,8 +381,10 @@ row_fits n g op.Setxattr bytes = takes_nothing n g op.Setxattr bytes
 row_fits n g op.Getxattr bytes = takes_nothing n g op.Getxattr bytes
     (λ g. bytes_ends n g op.Getxattr (λ g. fronts.with_bytes inputs.getxattr_in 8 g.header.len) (λ g r. grammar.at_most_a_mebibyte r.size >> last_name) request.getxattr_call bytes
     (λ r name. quiet_call n op.Getxattr (request.getxattr_call g.header r name) refl refl refl refl))
-row_fits n g op.Listxattr bytes = takes_nothing n g op.Listxattr bytes (λ g. listxattr_ends n g op.Listxattr bytes (λ r. quiet_call n op.Listxattr (request.listxattr_call g.header r) refl refl refl refl))
-row_fits n g op.Symlink bytes = takes_nothing n g op.Symlink bytes (λ g. symlink_ends n g op.Symlink bytes (λ x. entry_call n op.Symlink (request.symlink_call g.header x) refl refl refl (λ b. refl) refl))
+row_fits n g op.Listxattr bytes = takes_nothing n g op.Listxattr bytes
+    (λ g. listxattr_ends n g op.Listxattr bytes (λ r. quiet_call n op.Listxattr (request.listxattr_call g.header r) refl refl refl refl))
+row_fits n g op.Symlink bytes = takes_nothing n g op.Symlink bytes
+    (λ g. symlink_ends n g op.Symlink bytes (λ x. entry_call n op.Symlink (request.symlink_call g.header x) refl refl refl (λ b. refl) refl))
 row_fits n g op.Mknod bytes = takes_nothing n g op.Mknod bytes
     (λ g. bytes_ends n g op.Mknod (λ g. fronts.with_bytes inputs.mknod_in 16 g.header.len) (λ g r. new_name g.options) request.mknod_call bytes
     (λ r x. entry_call n op.Mknod (request.mknod_call g.header r x) refl refl refl (λ b. refl) refl))

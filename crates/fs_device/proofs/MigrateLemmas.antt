@@ -1,5 +1,6 @@
 -- a machine that is moved
-use Rattle.std.proofs.Common.{◌≡◌, ◌^◌, ℕ, ◌+◌, ◌≤◌, ◌<◌, Bool, true, false, List, [], ◌∷◌, ◌++◌, map, length, drop, get_or, Option, Some, None, Ok, Err, inl, inr, refl, ap, sym, ◌∙◌, subst, append_assoc, append-nil, arith}
+use Rattle.std.proofs.Common.{◌≡◌, ◌^◌, ℕ, ◌+◌, ◌≤◌, ◌<◌, Bool, true, false, List, [], ◌∷◌, ◌++◌, map, length, drop, get_or, Option, Some, None, Ok, Err, inl, inr}
+use Rattle.std.proofs.Common.{refl, ap, sym, ◌∙◌, subst, append_assoc, append-nil, arith}
 use Rattle.std.specs.Prelude.{if◌then◌else◌, slice_get, option_map, nat_le, Result, is_err, IfErr, IfOk, IfSome, IsTrue, OnOk}
 use Rattle.std.specs.List.{AllByRecursion, zip}
 use Rattle.std.proofs.lemmas.List.{drop_all, drop_more, length-map}
@@ -118,8 +119,10 @@ answered_next first now new whole answers i a ps lt is has put same left =
     )
 
 -- an answer with pages, which are put in
-pub answered_put : (first now new whole : Host) (answers : List told.Answer) (i : ℕ) (a : told.Answer) (pages : List HarvestedPage) (r : Result (Unit {0}) ApplyError) → i < length answers → a ≡ get_or answers i a →
-    pages_of_answer (answer_of a) ≡ map page_view pages → r ≡ applied (first_refused (lengths now) 0 (map page_view pages)) → OnOk r (new ≡ pages_put now (map page_view pages)) → shape new ≡ shape now →
+pub answered_put : (first now new whole : Host) (answers : List told.Answer) (i : ℕ) (a : told.Answer) (pages : List HarvestedPage) (r : Result (Unit {0}) ApplyError) →
+    i < length answers → a ≡ get_or answers i a →
+    pages_of_answer (answer_of a) ≡ map page_view pages → r ≡ applied (first_refused (lengths now) 0 (map page_view pages)) →
+    OnOk r (new ≡ pages_put now (map page_view pages)) → shape new ≡ shape now →
     LeftAnswered first now whole answers i → LeftAnswered first new whole answers (i + 1)
 answered_put first now new whole answers i a pages r lt is has outcome ok same left =
     let ps = map page_view pages in
@@ -140,7 +143,8 @@ answered_all first now whole answers i ge left = sym (ap (λ (l : List told.Answ
 -- ---- runs
 
 -- one run after another
-runs_joined : {F : Type 0} (may : May F) (s mid after : State F) (es fs : List (Command × Answer)) (ts us : List Told) → RunTold may s es ts mid → RunTold may mid fs us after → RunTold may s (es ++ fs) (ts ++ us) after
+runs_joined : {F : Type 0} (may : May F) (s mid after : State F) (es fs : List (Command × Answer)) (ts us : List Told) → RunTold may s es ts mid →
+    RunTold may mid fs us after → RunTold may s (es ++ fs) (ts ++ us) after
 unfolding RunTold
 runs_joined may s mid after [] fs [] us one other = subst (λ k. RunTold may k fs us after) one other
 runs_joined may s mid after [] fs (t ∷ ts) us one other = absurd one
@@ -262,7 +266,8 @@ put_whole copy one two xs ys r put same places outcome ok =
     put_all r _ outcome none ok ∙ ap (λ (h : Host). pages_put h ys) put ∙ sym (pages_put-append copy xs ys)
 
 -- the pages of answers and of a last harvest are those that the run answered
-pub all_pages : (cs : List fetched.Command) (answers : List told.Answer) (last : List Page) → length answers ≡ length cs → pages_answered (until_harvest (with_answers cs answers) last) ≡ pages_of_answers answers ++ last
+pub all_pages : (cs : List fetched.Command) (answers : List told.Answer) (last : List Page) → length answers ≡ length cs →
+    pages_answered (until_harvest (with_answers cs answers) last) ≡ pages_of_answers answers ++ last
 all_pages [] [] last e = append-nil last
 all_pages [] (a ∷ answers) last e = absurd (omega arith)
 all_pages (c ∷ cs) [] last e = absurd (omega arith)

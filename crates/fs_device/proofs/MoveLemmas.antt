@@ -24,7 +24,8 @@ use Rattle.fs_device.specs.declared.error.DeviceError.TheVariants as device
 use Rattle.fs_device.specs.declared.refusal.Refusal.TheVariants as why
 use Rattle.fs_device.specs.Step.{State, Exchange, Calls, Idle, Refused, Exchanged, Exchanges, StepOf}
 use Rattle.fs_device.specs.Run as run
-use Rattle.fs_device.specs.Run.{Told, Command, Answer, Effect, KickEnds, KickRun, Kicks, Kicked, HasEffect, Does, Performs, RunTold, Affects, effect, insert, insert_block, is_known, some_overlap, reset}
+use Rattle.fs_device.specs.Run.{Told, Command, Answer, Effect, KickEnds, KickRun, Kicks, Kicked, HasEffect, Does, Performs, RunTold, Affects, effect, insert}
+use Rattle.fs_device.specs.Run.{insert_block, is_known, some_overlap, reset}
 use Rattle.fs_device.specs.Moving.{follows_image, made_over, pages_of_answer, pages_answered, HasItsMarks, IsStale, MovedIsLast, page_mark, RunsFromImage}
 
 -- ---- stores
@@ -306,7 +307,8 @@ can_move_again may s after copy events r =
 abbrev Ends : {F : Type 0} → May F → State F → List (Command × Answer) → Command × Answer → State F → Type 0
 Ends {F} may s events e after = (mid : State F) × (tolds : List Told) × (told : Told) × RunTold may s events tolds mid × Performs may mid e.0 told e.1 after
 
-ends : {F : Type 0} (may : May F) (s after : State F) (events : List (Command × Answer)) (e : Command × Answer) (tolds : List Told) → RunTold may s (events ++ e ∷ []) tolds after → Ends may s events e after
+ends : {F : Type 0} (may : May F) (s after : State F) (events : List (Command × Answer)) (e : Command × Answer) (tolds : List Told) →
+    RunTold may s (events ++ e ∷ []) tolds after → Ends may s events e after
 unfolding RunTold
 ends may s after [] e [] t = absurd t
 ends may s after [] e (told ∷ []) (mid, performs, rest) = (s, [], told, refl, subst (λ k. Performs may s e.0 told e.1 k) (sym rest) performs)

@@ -1,5 +1,6 @@
 -- the nodes in the bytes of replies
-use Rattle.std.proofs.Common.{◌≡◌, ℕ, zero, suc, ◌+◌, ◌-◌, ◌^◌, ◌<◌, ◌≤◌, Bool, true, false, List, [], ◌∷◌, ◌++◌, length, take, drop, Option, Some, None, refl, ap, ◌∙◌, arith, length-append, append_assoc}
+use Rattle.std.proofs.Common.{◌≡◌, ℕ, zero, suc, ◌+◌, ◌-◌, ◌^◌, ◌<◌, ◌≤◌, Bool, true, false, List, [], ◌∷◌, ◌++◌, length, take, drop, Option, Some, None, refl, ap, ◌∙◌}
+use Rattle.std.proofs.Common.{arith, length-append, append_assoc}
 use Rattle.std.specs.Prelude.{◌==◌, if◌then◌else◌, replicate, pos, nat_lt, nat_le}
 use Rattle.std.specs.Int.{w32, w64, to_le_bytes, from_le_bytes}
 use Rattle.std.proofs.lemmas.Bool.{leb-false, ltb-false}
@@ -129,4 +130,5 @@ nodes_more most e d more node name =
     let long : 0 < length bytes = (let l = length-append (entry_bytes true e d) more in omega (arith, l, whole)) in
     let behind : drop (entry_len true (name_len_of bytes)) bytes ≡ more =
     ap (λ (n : ℕ). drop (entry_len true n) bytes) (name_len_there e d more name) ∙ drop_at (entry_bytes true e d) more (entry_len true (length d.name)) whole in
-    rw (not_zero (length bytes) long) (ap (λ (n : ℕ). n ∷ nodes_listed most (drop (entry_len true (name_len_of bytes)) bytes)) (node_there e d more node) ∙ ap (λ (l : List ℕ). e.inode ∷ nodes_listed most l) behind)
+    rw (not_zero (length bytes) long) (ap (λ (n : ℕ). n ∷ nodes_listed most (drop (entry_len true (name_len_of bytes)) bytes)) (node_there e d more node)
+    ∙ ap (λ (l : List ℕ). e.inode ∷ nodes_listed most l) behind)

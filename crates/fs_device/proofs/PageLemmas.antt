@@ -141,7 +141,8 @@ page_if : (fits : Bool) (marks : List Bool) (k page : ℕ) → slice_get (if fit
 page_if true marks k page = page_set marks k page
 page_if false marks k page = stays (slice_get marks page)
 
-io_page_marked : (fits : Bool) (k page : ℕ) (o : Option (List Bool)) → io_page_in page (option_map (λ marks. if fits then slice_set marks k true else marks) o) ≡ or_set (fits && (k == page)) (io_page_in page o)
+io_page_marked : (fits : Bool) (k page : ℕ) (o : Option (List Bool)) → io_page_in page (option_map (λ marks. if fits then slice_set marks k true else marks) o) ≡ or_set
+    (fits && (k == page)) (io_page_in page o)
 io_page_marked fits k page None = refl
 io_page_marked fits k page (Some marks) = page_if fits marks k page
 
@@ -153,7 +154,8 @@ io_marked h a p set page =
     ⊎_elim
     (λ (e : a.set ≡ set).
     ap (io_page_in page)
-    (ap (λ (j : ℕ). slice_get (changed_at h.io_marks a.set (λ marks. if nat_lt a.address (2 ^ 64) then slice_set marks (a.address / 4096) true else marks)) j) (sym e) ∙ changed_here h.io_marks a.set _)
+    (ap (λ (j : ℕ). slice_get (changed_at h.io_marks a.set (λ marks. if nat_lt a.address (2 ^ 64) then slice_set marks (a.address / 4096) true else marks)) j) (sym e)
+    ∙ changed_here h.io_marks a.set _)
     ∙ io_page_marked (nat_lt a.address (2 ^ 64)) (a.address / 4096) page (slice_get h.io_marks a.set)
     ∙ ap (λ (j : ℕ). or_set here (io_page_in page (slice_get h.io_marks j))) e
     ∙ and_set (a.set == set) here (io_mark h set page) (eq-eqb a.set set e))

@@ -19,7 +19,8 @@ use Rattle.fs_device.specs.declared.error.DeviceError.TheVariants as device
 use Rattle.fs_device.specs.declared.refusal.Refusal.TheVariants as why
 use Rattle.fs_device.specs.Step.{State, Calls, Idle, Refused, Step, StepOf}
 use Rattle.fs_device.specs.Run as run
-use Rattle.fs_device.specs.Run.{Told, Command, Answer, Effect, ChangesTable, KickEnds, KickRun, Kicks, Kicked, HasEffect, Does, Performs, Affects, effect, insert, insert_block, is_known, some_overlap, reset}
+use Rattle.fs_device.specs.Run.{Told, Command, Answer, Effect, ChangesTable, KickEnds, KickRun, Kicks, Kicked, HasEffect, Does, Performs, Affects, effect, insert}
+use Rattle.fs_device.specs.Run.{insert_block, is_known, some_overlap, reset}
 use Rattle.fs_device.specs.MarkedPages.{block_mark, io_mark, returned_addresses, Marks, KickWrites, ClearsMarks, KeepsMarks, DoneMarks, ServedMarks, AnswerMarks, CommandsMark}
 use Rattle.fs_device.proofs.UsedLemmas.{exchange_returns, step_offers}
 use Rattle.fs_device.proofs.PageLemmas.{marks_join, none_written, ways, ways_stay, writes_mark}
@@ -32,7 +33,8 @@ keeps h = record { blocks = λ block page. ((λ e. e), (λ e. e)); io_sets = λ 
 all_unset : (marks : List Bool) (page : ℕ) → slice_get (map (λ _. false) marks) page ≡ option_map (λ was. false) (slice_get marks page)
 all_unset marks page = slice_get-map (λ (b : Bool). false) marks page
 
-block_unset : (o : Option Block) (page : ℕ) → option_and_then (λ (b : Block). slice_get b.marks page) (option_map unmarked o) ≡ option_map (λ was. false) (option_and_then (λ (b : Block). slice_get b.marks page) o)
+block_unset : (o : Option Block) (page : ℕ) → option_and_then (λ (b : Block). slice_get b.marks page) (option_map unmarked o) ≡ option_map (λ was. false)
+    (option_and_then (λ (b : Block). slice_get b.marks page) o)
 block_unset None page = refl
 block_unset (Some b) page = all_unset b.marks page
 
@@ -126,10 +128,12 @@ write_marks m a bs =
 abbrev EffectMarks : {F : Type 0} → May F → State F → Command → Effect F → Type 0
 EffectMarks may s command (answer, after) = AnswerMarks may answer s command [] after
 
-by_effect : {F : Type 0} (may : May F) (s : State F) (command : Command) (e : Effect F) (answer : Answer) (after : State F) → (answer, after) ≡ e → EffectMarks may s command e → AnswerMarks may answer s command [] after
+by_effect : {F : Type 0} (may : May F) (s : State F) (command : Command) (e : Effect F) (answer : Answer) (after : State F) → (answer, after) ≡ e →
+    EffectMarks may s command e → AnswerMarks may answer s command [] after
 by_effect may s command e answer after t h = subst (EffectMarks may s command) (sym t) h
 
-whichever : {F : Type 0} (may : May F) (s : State F) (command : Command) (b : Bool) (x y : Effect F) → EffectMarks may s command x → EffectMarks may s command y → EffectMarks may s command (if b then x else y)
+whichever : {F : Type 0} (may : May F) (s : State F) (command : Command) (b : Bool) (x y : Effect F) → EffectMarks may s command x → EffectMarks may s command y →
+    EffectMarks may s command (if b then x else y)
 whichever may s command true x y p q = p
 whichever may s command false x y p q = q
 

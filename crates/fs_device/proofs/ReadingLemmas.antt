@@ -130,7 +130,8 @@ answers_chain may before after m h new q fetched t c a same taken is x =
     }
 
 -- a step that was given back, told by its head, its lengths, its fault and its notice
-pub told_return : {F : Type 0} (may : May F) (f : Fixed) (m m' n : Memory) (queues between : List Queue) (i : ℕ) (p q' : Queue) (s s' : ℕ × F) (t : Taken) (has : HasTaken m f.limit queues i t) (x : Exchange) (notice : Bool)
+pub told_return : {F : Type 0} (may : May F) (f : Fixed) (m m' n : Memory) (queues between : List Queue) (i : ℕ) (p q' : Queue) (s s' : ℕ × F) (t : Taken)
+    (has : HasTaken m f.limit queues i t) (x : Exchange) (notice : Bool)
     (d : DeviceParts F) (page : ℕ) (r : Returned) →
     between ≡ queues → slice_get between i ≡ Some p → (calls : Calls) × ServesChain may f.page_size s t.head has.fetched calls x s' →
     (IsTaken m p has.fetched t → m' ≡ returned m p t.head (room_of has.fetched) x.reply) → (IsTaken m p has.fetched t → notice ≡ wants_notice m' p) → q' ≡ advanced p →

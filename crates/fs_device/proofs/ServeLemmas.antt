@@ -35,7 +35,8 @@ abbrev exchange : (head : ℕ) → (request reply : List ℕ) → Option Fault �
 exchange head request reply fault = record { head = head; request = request; reply = reply; fault = fault }
 
 -- the code's exchange is the one that the chain's request and room ask for
-pub served_chain : {F : Type 0} (may : May F) (page : ℕ) (old new : ℕ × F) (m : Memory) (fetched : RequestAndRoom) (c : Chain) (head at : ℕ) (request : List ℕ) (fault : Option Fault) (reply : List ℕ) (calls : Calls) →
+pub served_chain : {F : Type 0} (may : May F) (page : ℕ) (old new : ℕ × F) (m : Memory) (fetched : RequestAndRoom) (c : Chain) (head at : ℕ) (request : List ℕ)
+    (fault : Option Fault) (reply : List ℕ) (calls : Calls) →
     HoldsChain m fetched (Ok c) → at ≡ head → request ≡ request_of fetched →
     AnswersRequest may page old request (length (places c.writable.items)) calls reply fault new →
     ServesChain may page old head fetched calls (exchange at request reply fault) new

@@ -23,7 +23,9 @@ use Rattle.room_writer.proofs.ApartLemmas.{put_all_comm}
 use Rattle.virtiofsd_fuse.specs.Serving.{May}
 use Rattle.fs_device.specs.declared.error.DeviceError.TheVariants as device
 use Rattle.fs_device.specs.Step.{State, Exchange, Outcome, Idle, Refused, Exchanged, Calls, Unchanged, Acts, Exchanges, Returns, StepOf, with_queue, faulty, served_exchange}
-use Rattle.fs_device.specs.StepBy.{StepLoads, AreStepLoadsOf, byte_store, reply_stores, return_stores, after_stores, Act, Effects, stores_among, return_acts, DoesNothing, FindFlags, ReturnsBy, ExchangesBy, ActsBy, StepOfBy, IsFrontApart, MayStoreLast, IsOfMemory, HasEffects, StepByIsStep, StepIsStepBy, StoresOnlyThere, return_addresses}
+use Rattle.fs_device.specs.StepBy.{StepLoads, AreStepLoadsOf, byte_store, reply_stores, return_stores, after_stores, Act, Effects, stores_among, return_acts}
+use Rattle.fs_device.specs.StepBy.{DoesNothing, FindFlags, ReturnsBy, ExchangesBy, ActsBy, StepOfBy, IsFrontApart, MayStoreLast, IsOfMemory, HasEffects, StepByIsStep}
+use Rattle.fs_device.specs.StepBy.{StepIsStepBy, StoresOnlyThere, return_addresses}
 
 some_same : {A : Type 0} (x y : A) → Some x ≡ Some y → x ≡ y
 some_same x y e = cc
@@ -295,7 +297,8 @@ module _ {F : Type 0} (may : May F) (s : State F) (i : ℕ) (q : Queue) (there :
   over_same : (after t : State F) → after ≡ t → at after s.memory ≡ at t s.memory
   over_same after t is = ap (λ (u : State F). at u s.memory) is
 
-  acts_by : (h : HasLoads s.memory s.limit q) (calls : Calls) (outcome : Outcome) (after : State F) → Acts may s i q (offer s.memory s.limit q) calls outcome after → HasEffects may s i calls outcome after
+  acts_by : (h : HasLoads s.memory s.limit q) (calls : Calls) (outcome : Outcome) (after : State F) → Acts may s i q (offer s.memory s.limit q) calls outcome after →
+      HasEffects may s i calls outcome after
   acts_by h calls Idle after (offered, same) = with_effects h [] calls Idle after tt (kept_memory after s same.same refl) (offered, unchanged_by calls after same, refl)
   acts_by h calls (Refused (device.Queue stop.OutOfMemory)) after (lacks, same) =
       with_effects h [] calls (Refused (device.Queue stop.OutOfMemory)) after tt (kept_memory after s same.same refl) (lacks, unchanged_by calls after same, refl)
@@ -343,7 +346,11 @@ step_is_step_by may s i calls outcome after made = by_found may s i calls outcom
 zipped_there : (as' xs target : List ℕ) → ((a : ℕ) → Contains as' a → Contains target a) → AllByRecursion (λ (w : ℕ × ℕ). Contains target w.0) (zip as' xs)
 zipped_there [] xs target there = tt
 zipped_there (a ∷ as') [] target there = tt
-zipped_there (a ∷ as') (x ∷ xs) target there = (there a (Contains-append_left (a ∷ []) as' a (0, omega arith, refl)), zipped_there as' xs target (λ b in_rest. there b (Contains-append_right (a ∷ []) as' b in_rest)))
+zipped_there (a ∷ as') (x ∷ xs) target there = (
+  there a (Contains-append_left (a ∷ []) as' a (0, omega arith, refl)),
+  zipped_there as' xs target
+      (λ b in_rest. there b (Contains-append_right (a ∷ []) as' b in_rest)),
+)
 
 both_there : (target : List ℕ) (ws vs : List (ℕ × ℕ)) → AllByRecursion (λ (w : ℕ × ℕ). Contains target w.0) ws → AllByRecursion (λ (w : ℕ × ℕ). Contains target w.0) vs →
     AllByRecursion (λ (w : ℕ × ℕ). Contains target w.0) (ws ++ vs)
@@ -357,7 +364,8 @@ used_there q room head reply =
     let target : List ℕ = room ++ addresses (element_at q) 8 ++ addresses (index_at q) 2 in
     subst (AllByRecursion (λ (w : ℕ × ℕ). Contains target w.0)) (returns_by_stores q head [] reply)
     (both_there target _ _
-    (zipped_there (addresses (element_at q) 8) _ target (λ a is. Contains-append_left (room ++ addresses (element_at q) 8) (addresses (index_at q) 2) a (Contains-append_right room (addresses (element_at q) 8) a is)))
+    (zipped_there (addresses (element_at q) 8) _ target (λ a is. Contains-append_left (room ++ addresses (element_at q) 8) (addresses (index_at q) 2) a
+    (Contains-append_right room (addresses (element_at q) 8) a is)))
     (zipped_there (addresses (index_at q) 2) _ target (λ a is. Contains-append_right (room ++ addresses (element_at q) 8) (addresses (index_at q) 2) a is)))
 
 -- the reply
@@ -392,10 +400,12 @@ module _ {F : Type 0} (may : May F) (s : State F) (i : ℕ) (q : Queue) (e : Eff
 
   exchange_there : (o : Offer) (calls : Calls) (x : Exchange) (notice : Bool) → ExchangesBy may s i q o calls x notice e after → There o
   exchange_there (Offers head (CannotFetch why)) calls x notice made =
-      subst (λ (l : List Store). AllByRecursion (λ (w : ℕ × ℕ). Contains (addresses (element_at q) 8 ++ addresses (index_at q) 2) w.0) (flat_map writes_of l)) (sym (among _ made.returns.flags made.returns.acts))
+      subst (λ (l : List Store). AllByRecursion (λ (w : ℕ × ℕ). Contains (addresses (element_at q) 8 ++ addresses (index_at q) 2) w.0) (flat_map writes_of l))
+      (sym (among _ made.returns.flags made.returns.acts))
       (return_there q head [] [] e.last)
   exchange_there (Offers head (IsRequest request room)) calls x notice made =
-      subst (λ (l : List Store). AllByRecursion (λ (w : ℕ × ℕ). Contains (return_addresses q (Offers head (IsRequest request room))) w.0) (flat_map writes_of l)) (sym (among _ made.returns.flags made.returns.acts))
+      subst (λ (l : List Store). AllByRecursion (λ (w : ℕ × ℕ). Contains (return_addresses q (Offers head (IsRequest request room))) w.0) (flat_map writes_of l))
+      (sym (among _ made.returns.flags made.returns.acts))
       (return_there q head room made.given.reply e.last)
   exchange_there taking.Idle calls x notice made = absurd made
   exchange_there (Refuses error) calls x notice made = absurd made

@@ -66,7 +66,8 @@ pub idles : {F : Type 0} (may : May F) (f : Fixed) (m : Memory) (queues : List Q
 idles may f m queues i q q' s there idle same = on_queue may (state f m queues s) i q [] Idle _ there (idle, record { same = unchanged f m queues i q q' s there same; no_call = refl })
 
 -- an allocation fails once a chain is offered
-pub lacks : {F : Type 0} (may : May F) (before after : State F) (i : ℕ) (q : Queue) (head : ℕ) (fetched : RequestAndRoom) → slice_get before.queues i ≡ Some q → offer before.memory before.limit q ≡ Offers head fetched →
+pub lacks : {F : Type 0} (may : May F) (before after : State F) (i : ℕ) (q : Queue) (head : ℕ) (fetched : RequestAndRoom) → slice_get before.queues i ≡ Some q →
+    offer before.memory before.limit q ≡ Offers head fetched →
     after ≡ before → Step may before i [] (Refused (device.Queue stop.OutOfMemory)) after
 lacks may before after i q head fetched there offered same =
     on_queue may before i q [] (Refused (device.Queue stop.OutOfMemory)) after there (ap may_lack_memory offered, record { same = same; no_call = refl })
@@ -97,7 +98,8 @@ takes_or_ends may f m queues i q q' s t true there takes same =
 takes_or_ends may f m queues i q q' s t false there idle same = idles may f m queues i q q' s there idle same
 
 -- memory is wanting once a chain was taken
-pub lacks_taken : {F : Type 0} (may : May F) (s after : State F) (i : ℕ) (t : Taken) → HasTaken s.memory s.limit s.queues i t → after ≡ s → Step may s i [] (Refused (device.Queue stop.OutOfMemory)) after
+pub lacks_taken : {F : Type 0} (may : May F) (s after : State F) (i : ℕ) (t : Taken) → HasTaken s.memory s.limit s.queues i t → after ≡ s →
+    Step may s i [] (Refused (device.Queue stop.OutOfMemory)) after
 lacks_taken may s after i t has same = lacks may s after i has.queue t.head has.fetched has.there has.offered same
 
 -- the rest of a device stays as one of its queues goes on
@@ -113,7 +115,8 @@ abbrev pub taken_from : {m : Memory} → {limit : ℕ} → {queues : List Queue}
 taken_from has = record { queue = has.queue; fetched = has.fetched; there = has.there; taken = has.taken }
 
 -- a queue that gives a chain back is a device that does
-pub gives_back : {F : Type 0} (f : Fixed) (m m' : Memory) (queues : List Queue) (i : ℕ) (p q' : Queue) (s : ℕ × F) (t : Taken) (has : IsTakenFrom m queues i t) (reply : List ℕ) (notice : Bool) → slice_get queues i ≡ Some p →
+pub gives_back : {F : Type 0} (f : Fixed) (m m' : Memory) (queues : List Queue) (i : ℕ) (p q' : Queue) (s : ℕ × F) (t : Taken) (has : IsTakenFrom m queues i t)
+    (reply : List ℕ) (notice : Bool) → slice_get queues i ≡ Some p →
     (IsTaken m p has.fetched t → m' ≡ returned m p t.head (room_of has.fetched) reply) → (IsTaken m p has.fetched t → notice ≡ wants_notice m' p) → q' ≡ advanced p →
     GoesBack (state f m queues s) i t has reply notice (state f m' (set queues i q') s)
 gives_back f m m' queues i p q' s t has reply notice at stored told after =
@@ -130,7 +133,8 @@ gives_back f m m' queues i p q' s t has reply notice at stored told after =
 -- so it is, whatever chain was taken, by what a device is made of
 pub gives_back_parts : {F : Type 0} (f : Fixed) (m m' : Memory) (queues : List Queue) (i : ℕ) (p q' : Queue) (s : ℕ × F) (t : Taken) (d : DeviceParts F) (reply : List ℕ) (notice : Bool) →
     record { queues = queues; options = s.0; files = s.1; limit = f.limit; page_size = f.page_size } ≡ d → slice_get queues i ≡ Some p →
-    ((fetched : RequestAndRoom) → IsTaken m p fetched t → m' ≡ returned m p t.head (room_of fetched) reply) → ((fetched : RequestAndRoom) → IsTaken m p fetched t → notice ≡ wants_notice m' p) → q' ≡ advanced p →
+    ((fetched : RequestAndRoom) → IsTaken m p fetched t → m' ≡ returned m p t.head (room_of fetched) reply) →
+    ((fetched : RequestAndRoom) → IsTaken m p fetched t → notice ≡ wants_notice m' p) → q' ≡ advanced p →
     (has : IsTakenFrom m d.queues i t) → GoesBack (state_of m d) i t has reply notice (state f m' (set queues i q') s)
 gives_back_parts {F} f m m' queues i p q' s t d reply notice is at stored told after =
     subst (λ (e : DeviceParts F). (has : IsTakenFrom m e.queues i t) → GoesBack (state_of m e) i t has reply notice (state f m' (set queues i q') s)) is
@@ -181,7 +185,8 @@ step_by_phases may s after i t has o g x notice served back = (
 )
 
 -- so it is by what a device is made of, whose queues stayed as they were while it was served
-pub exchanges : {F : Type 0} (may : May F) (f : Fixed) (m m' : Memory) (queues between : List Queue) (i : ℕ) (p q' : Queue) (s s' : ℕ × F) (t : Taken) (has : HasTaken m f.limit queues i t) (x : Exchange) (notice : Bool) →
+pub exchanges : {F : Type 0} (may : May F) (f : Fixed) (m m' : Memory) (queues between : List Queue) (i : ℕ) (p q' : Queue) (s s' : ℕ × F) (t : Taken)
+    (has : HasTaken m f.limit queues i t) (x : Exchange) (notice : Bool) →
     between ≡ queues → slice_get between i ≡ Some p → (calls : Calls) × ServesChain may f.page_size s t.head has.fetched calls x s' →
     (IsTaken m p has.fetched t → m' ≡ returned m p t.head (room_of has.fetched) x.reply) → (IsTaken m p has.fetched t → notice ≡ wants_notice m' p) → q' ≡ advanced p →
     (calls : Calls) × Step may (state f m queues s) i calls (Exchanged x notice) (state f m' (set between i q') s')
@@ -196,7 +201,8 @@ exchanges {F} may f m m' queues between i p q' s s' t has x notice kept at serve
 -- a device that takes a chain, answers it and gives it back does a step
 pub step_of_device : {F : Type 0} (may : May F) (m m' : Memory) (d mid after : DeviceParts F) (i : ℕ) (t : Taken) (has : HasTaken m d.limit d.queues i t) (x : Exchange) (notice : Bool) →
     (calls : Calls) × ServesChain may d.page_size (d.options, d.files) t.head has.fetched calls x (mid.options, mid.files) → mid ≡ record d { options = mid.options; files = mid.files } →
-    ((held : IsTakenFrom m mid.queues i t) → GoesBack (state_of m mid) i t held x.reply notice (state_of m' after)) → (calls : Calls) × Step may (state_of m d) i calls (Exchanged x notice) (state_of m' after)
+    ((held : IsTakenFrom m mid.queues i t) → GoesBack (state_of m mid) i t held x.reply notice (state_of m' after)) → (calls : Calls) × Step may (state_of m d) i calls
+    (Exchanged x notice) (state_of m' after)
 step_of_device {F} may m m' d mid after i t has x notice served same back =
     step_by_phases may (state_of m d) (state_of m' after) i t has mid.options mid.files x notice served
     (subst (λ (e : DeviceParts F). (held : IsTakenFrom m e.queues i t) → GoesBack (state_of m e) i t held x.reply notice (state_of m' after)) same back (taken_from has))

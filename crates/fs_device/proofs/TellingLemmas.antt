@@ -21,7 +21,8 @@ use Rattle.fs_device.specs.declared.exchange.Fault.{Fault}
 use Rattle.fs_device.specs.declared.refusal.Refusal.TheVariants as why
 use Rattle.fs_device.specs.Step.{State, Exchange, Calls, Idle, Refused, Exchanged, Exchanges, StepOf, served_fault, served_exchange}
 use Rattle.fs_device.specs.Run as run
-use Rattle.fs_device.specs.Run.{Turn, Told, Command, Answer, Effect, KickEnds, KickRun, Kicks, Kicked, Affects, ChangesTable, HasEffect, Does, IsDecided, Performs, RunTold, effect, insert, insert_block, is_known, some_overlap, reset}
+use Rattle.fs_device.specs.Run.{Turn, Told, Command, Answer, Effect, KickEnds, KickRun, Kicks, Kicked, Affects, ChangesTable, HasEffect, Does, IsDecided, Performs}
+use Rattle.fs_device.specs.Run.{RunTold, effect, insert, insert_block, is_known, some_overlap, reset}
 use Rattle.fs_device.specs.Telling.{calls_of, calls_told, IsMeant, IsServedBy, IsServed}
 
 -- what exchanges tell: their calls lead from one state of the file system to another
@@ -94,7 +95,8 @@ end_stays may s i zero (Some e) after t = absurd t
 end_stays may s i (suc most) None after t = idle_stays may s i (slice_get s.queues i) [] after t
 end_stays may s i (suc most) (Some e) after t = refused_stays may s i (slice_get s.queues i) [] e after t
 
-kick_tells : {F : Type 0} (may : May F) (s : State F) (i most : ℕ) (told : Told) (refused : Option DeviceError) (after : State F) → KickRun may s i most told refused after → Tells may s.files told after.files
+kick_tells : {F : Type 0} (may : May F) (s : State F) (i most : ℕ) (told : Told) (refused : Option DeviceError) (after : State F) →
+    KickRun may s i most told refused after → Tells may s.files told after.files
 unfolding KickRun
 kick_tells may s i most [] refused after t = (end_stays may s i most refused after t, tt)
 kick_tells may s i zero (x ∷ told) refused after t = absurd t
@@ -103,7 +105,8 @@ kick_tells may s i (suc most) (x ∷ told) refused after (mid, step, rest) =
     let others = kick_tells may mid i most told refused after rest in
     (files_joined may s.files mid.files after.files x.calls (calls_of told) own.0 others.0, (own.1, others.1))
 
-kicks_tell : {F : Type 0} (may : May F) (s : State F) (i most : ℕ) (o : Option Queue) (told : Told) (k : Kicked) (after : State F) → Kicks may s i most o told k after → Tells may s.files told after.files
+kicks_tell : {F : Type 0} (may : May F) (s : State F) (i most : ℕ) (o : Option Queue) (told : Told) (k : Kicked) (after : State F) → Kicks may s i most o told k after →
+    Tells may s.files told after.files
 kicks_tell may s i most None told k after t = subst (λ (l : Told). Tells may s.files l after.files) (sym t.1) (ap (λ s. s.files) t.0, tt)
 kicks_tell may s i most (Some q) told k after t = kick_tells may s i most told k.refused after t.0
 
@@ -170,7 +173,8 @@ affect_stays s (run.ResetQueue queue size desc avail used) answer after t = by_e
 affect_stays s run.Image answer after t = by_effect s run.Image answer after t
 affect_stays s run.Harvest answer after t = by_effect s run.Harvest answer after t
 
-effect_tells : {F : Type 0} (may : May F) (s : State F) (command : Command) (told : Told) (answer : Answer) (after : State F) → HasEffect s command told answer after → Tells may s.files told after.files
+effect_tells : {F : Type 0} (may : May F) (s : State F) (command : Command) (told : Told) (answer : Answer) (after : State F) → HasEffect s command told answer after →
+    Tells may s.files told after.files
 effect_tells may s command [] answer after t = (affect_stays s command answer after t, tt)
 effect_tells may s command (x ∷ told) answer after t = absurd t
 
@@ -198,7 +202,8 @@ does_tell may s (run.ResetQueue queue size desc avail used) told answer after t 
 does_tell may s run.Image told answer after t = effect_tells may s run.Image told answer after t
 does_tell may s run.Harvest told answer after t = effect_tells may s run.Harvest told answer after t
 
-performs_tell : {F : Type 0} (may : May F) (s : State F) (command : Command) (told : Told) (answer : Answer) (after : State F) → Performs may s command told answer after → Tells may s.files told after.files
+performs_tell : {F : Type 0} (may : May F) (s : State F) (command : Command) (told : Told) (answer : Answer) (after : State F) →
+    Performs may s command told answer after → Tells may s.files told after.files
 performs_tell may s command [] (run.IsRefused why.OutOfMemory) after t = (ap (λ s. s.files) t.1, tt)
 performs_tell may s command (x ∷ told) (run.IsRefused why.OutOfMemory) after t = absurd t
 performs_tell may s command told (run.IsRefused why.NoPlace) after t = does_tell may s command told _ after t

@@ -51,7 +51,8 @@ tells m q head room reply after is fits headed =
 abbrev pub OffersAndExchanges : {F : Type 0} → May F → State F → ℕ → Calls → Exchange → Bool → State F → Type 0
 OffersAndExchanges may s i calls x notice after = (o : IsOffered s i x) × Exchanges may s i o.queue (Offers x.head o.fetched) calls x notice after
 
-by_head : {F : Type 0} (may : May F) (s : State F) (i : ℕ) (q : Queue) (head : ℕ) (fetched : RequestAndRoom) (calls : Calls) (x : Exchange) (notice : Bool) (after : State F) → slice_get s.queues i ≡ Some q →
+by_head : {F : Type 0} (may : May F) (s : State F) (i : ℕ) (q : Queue) (head : ℕ) (fetched : RequestAndRoom) (calls : Calls) (x : Exchange) (notice : Bool)
+    (after : State F) → slice_get s.queues i ≡ Some q →
     offer s.memory s.limit q ≡ Offers head fetched → x.head ≡ head → Exchanges may s i q (Offers head fetched) calls x notice after → OffersAndExchanges may s i calls x notice after
 by_head may s i q head fetched calls x notice after there is same r = (
   record { queue = q; fetched = fetched; there = there; offered = is ∙ ap (λ (h : ℕ). Offers h fetched) (sym same) },

@@ -10,7 +10,8 @@ use Rattle.fs_device.specs.declared.command.Command as fetched
 use Rattle.fs_device.specs.declared.command.Answer as told
 use Rattle.fs_device.specs.declared.queues.QueueRun.{QueueRun}
 use Rattle.fs_device.specs.Step.{State, Exchange}
-use Rattle.fs_device.specs.Run.{Command, GuestRead, GuestWrite, NewBlock, InsertRegion, RemoveRegion, SetLayout, Map, Unmap, UnmapAll, SetIommu, Kick, ResetQueue, Image, Harvest, Kicked, Answer, Done, Bytes, NewBlockIs, Served, Copied, Pages, IsRefused, Told, shown, KickRun, kick_takes_memory}
+use Rattle.fs_device.specs.Run.{Command, GuestRead, GuestWrite, NewBlock, InsertRegion, RemoveRegion, SetLayout, Map, Unmap, UnmapAll, SetIommu, Kick, ResetQueue}
+use Rattle.fs_device.specs.Run.{Image, Harvest, Kicked, Answer, Done, Bytes, NewBlockIs, Served, Copied, Pages, IsRefused, Told, shown, KickRun, kick_takes_memory}
 use Rattle.fs_device.specs.DeviceView.{exchange_of}
 
 -- an exchange with its notice

@@ -112,7 +112,8 @@ unfolding offer place addresses stored_all path found
 by_table_to_write = refl
 
 -- descriptors of the queue come first, and the one that names the table is the last of these
-after_own : gives (put (put with_descriptors 0 (descriptor_bytes 0x1000 40 1 1 ++ descriptor_bytes 0x3010 16 4 0)) 0x3010 (descriptor_bytes 0x2000 16 2 0)) ≡ Offers 0 (IsRequest request (addresses 0x2000 16))
+after_own : gives (put (put with_descriptors 0 (descriptor_bytes 0x1000 40 1 1 ++ descriptor_bytes 0x3010 16 4 0)) 0x3010 (descriptor_bytes 0x2000 16 2 0)) ≡ Offers 0
+    (IsRequest request (addresses 0x2000 16))
 unfolding offer place addresses stored_all path found
 after_own = refl
 

@@ -37,7 +37,13 @@ unfolding place addresses stored_all found_exactly
 offered = refl
 
 -- entries that change while they are walked: the first was loaded with another next the second time; no request is loaded then
-changing : offered_by blank 0x101000 queue (record { index = Some (le16 1); entry = Some (le16 0); entries = entry 0 (descriptor_bytes 0x1000 40 1 0) ∷ entry 0 (descriptor_bytes 0x1000 40 1 4) ∷ []; request = [] }) ≡ Some (Offers 0 (CannotFetch chain_fault.NextOutOfTable))
+changing : offered_by blank 0x101000 queue (record {
+  index = Some (le16 1);
+  entry = Some (le16 0);
+  entries = entry 0 (descriptor_bytes 0x1000 40 1 0) ∷ entry 0
+      (descriptor_bytes 0x1000 40 1 4) ∷ [];
+  request = [];
+}) ≡ Some (Offers 0 (CannotFetch chain_fault.NextOutOfTable))
 unfolding place addresses stored_all found_exactly
 changing = refl
 

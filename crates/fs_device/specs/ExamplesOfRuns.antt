@@ -85,7 +85,14 @@ kick_lacks_memory : Run may (device with_one_request queue)
     ((run.Kick 0 9, run.IsRefused why.OutOfMemory) ∷ (run.Kick 0 1, run.Served (record { exchanges = (unknown_exchange, true) ∷ []; refused = None })) ∷ [])
     (after_reply with_one_request queue)
 unfolding RunTold KickRun
-kick_lacks_memory = ([] ∷ (unknown_turn ∷ []) ∷ [], (device with_one_request queue, (refl, refl), (after_reply with_one_request queue, ((after_reply with_one_request queue, one_step, refl), refl), refl)))
+kick_lacks_memory = (
+  [] ∷ (unknown_turn ∷ []) ∷ [],
+  (
+    device with_one_request queue,
+    (refl, refl),
+    (after_reply with_one_request queue, ((after_reply with_one_request queue, one_step, refl), refl), refl),
+  ),
+)
 
 -- of a stopped queue it takes no memory
 stopped_takes_none : command_takes_memory (device far (with_stop queue)) (run.Kick 0 9) ≡ false
@@ -362,15 +369,16 @@ inserts_nothing_past_it : answers small (run.NewBlock 2 ∷ []) (run.InsertRegio
 unfolding effect
 inserts_nothing_past_it = refl
 
--- a command that is refused anyway takes no memory: no place, an empty block, no such block, ends past the greatest address, a second place,
+-- a command that is refused anyway takes no memory, nor does a read of no byte: no place, an empty block, no such block, ends past the greatest address, a second place,
 -- and no region of this base, nor of this size
-takes_none_to_refuse : map (run.command_takes_memory small) (run.GuestRead 32 1 ∷ run.NewBlock 0 ∷ run.InsertRegion 0x20000 7 ∷ run.InsertRegion (2 ^ 64 - 31) 0 ∷ run.Unmap (2 ^ 64 - 1) 1
-    ∷ run.InsertRegion 31 0 ∷ run.RemoveRegion 1 32 ∷ run.RemoveRegion 0 31 ∷ []) ≡ false ∷ false ∷ false ∷ false ∷ false ∷ false ∷ false ∷ false ∷ []
+takes_none_to_refuse : map (run.command_takes_memory small) (run.GuestRead 32 1 ∷ run.GuestRead 31 0 ∷ run.NewBlock 0 ∷ run.InsertRegion 0x20000 7 ∷ run.InsertRegion (2 ^ 64 - 31) 0 ∷ run.Unmap (2 ^ 64 - 1) 1
+    ∷ run.InsertRegion 31 0 ∷ run.RemoveRegion 1 32 ∷ run.RemoveRegion 0 31 ∷ []) ≡ false ∷ false ∷ false ∷ false ∷ false ∷ false ∷ false ∷ false ∷ false ∷ []
 unfolding place addresses
 takes_none_to_refuse = refl
 
 -- the same commands take some where they may be done
-takes_some_to_do : map (run.command_takes_memory small) (run.GuestRead 31 1 ∷ run.NewBlock 1 ∷ run.InsertRegion (2 ^ 64 - 32) 0 ∷ run.Unmap (2 ^ 64 - 2) 1 ∷ run.InsertRegion 32 0 ∷ run.RemoveRegion 0 32 ∷ []) ≡ true ∷ true ∷ true ∷ true ∷ true ∷ true ∷ []
+takes_some_to_do : map (run.command_takes_memory small) (run.GuestRead 31 1 ∷ run.NewBlock 1 ∷ run.InsertRegion (2 ^ 64 - 32) 0 ∷ run.Unmap
+    (2 ^ 64 - 2) 1 ∷ run.InsertRegion 32 0 ∷ run.RemoveRegion 0 32 ∷ []) ≡ true ∷ true ∷ true ∷ true ∷ true ∷ true ∷ []
 unfolding place addresses
 takes_some_to_do = refl
 

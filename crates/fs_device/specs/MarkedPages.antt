@@ -1,5 +1,6 @@
 -- Which pages are marked (vm-memory, bitmap), told by the addresses that are written.
-use Rattle.std.specs.Prelude.{◌≡◌, ◌↔◌, ℕ, zero, suc, ◌/◌, ◌^◌, ◌==◌, ◌&&◌, ◌||◌, not, nat_lt, Bool, false, true, List, [], ◌∷◌, ◌++◌, length, map, Option, Some, None, is_some, slice_get, option_map, option_and_then}
+use Rattle.std.specs.Prelude.{◌≡◌, ◌↔◌, ℕ, zero, suc, ◌/◌, ◌^◌, ◌==◌, ◌&&◌, ◌||◌, not, nat_lt, Bool, false, true, List, [], ◌∷◌, ◌++◌, length, map, Option, Some, None}
+use Rattle.std.specs.Prelude.{is_some, slice_get, option_map, option_and_then}
 use Rattle.std.specs.List.{list_any}
 use Rattle.vm_iotlb.specs.declared.permissions.Permissions.TheVariants.{Write}
 use Rattle.vm_memory_core.specs.Host.{Host, Place}

@@ -262,7 +262,7 @@ abbrev pub block_goes_in : List Region → (base block : ℕ) → Option Block �
 block_goes_in layout base block None = false
 block_goes_in layout base block (Some b) = goes_in layout (record { start = base; size = length b.bytes; block = block })
 
--- whether a command takes memory, and so may be refused since an allocation fails: a read, a block, a region more or less and a change of mappings only if they aren't refused anyway
+-- whether a command takes memory, and so may be refused since an allocation fails: a read of some bytes, a block, a region more or less and a change of mappings only if they aren't refused anyway
 abbrev pub command_takes_memory : {F : Type 0} → State F → Command → Bool
 command_takes_memory s (GuestWrite a bs) = false
 command_takes_memory s (Map iova target n perm) = nat_lt 0 n && (ends_fit iova n && ends_fit target n)
@@ -272,7 +272,7 @@ command_takes_memory s (SetIommu on) = false
 command_takes_memory s (Kick queue most) = kick_takes_memory s queue most
 command_takes_memory s (ResetQueue queue size desc avail used) = false
 command_takes_memory s (SetLayout layout) = false
-command_takes_memory s (GuestRead a n) = reach (physical s.memory) Read a n
+command_takes_memory s (GuestRead a n) = nat_lt 0 n && reach (physical s.memory) Read a n
 command_takes_memory s (NewBlock n) = nat_lt 0 n
 command_takes_memory s (InsertRegion base block) = block_goes_in s.memory.layout base block (slice_get s.memory.host.blocks block)
 command_takes_memory s (RemoveRegion base size) = list_any (is_region base size) s.memory.layout

@@ -73,7 +73,8 @@ abbrev pub DoesNothing : Effects → Type 0
 DoesNothing e = e.acts ≡ []
 
 -- a chain goes back with this exchange; what memory holds then isn't told
-pub record ReturnsBy {F : Type 0} (before : State F) (i : ℕ) (q : Queue) (room : List ℕ) (expected : Exchange) (options : ℕ) (x : Exchange) (notice : Bool) (e : Effects) (after : State F) : Type 0 where
+pub record ReturnsBy {F : Type 0} (before : State F) (i : ℕ) (q : Queue) (room : List ℕ) (expected : Exchange) (options : ℕ) (x : Exchange) (notice : Bool)
+    (e : Effects) (after : State F) : Type 0 where
   pub exchange : x ≡ expected
   pub flags : List ℕ
   pub flags_len : length flags ≡ 2
@@ -82,13 +83,15 @@ pub record ReturnsBy {F : Type 0} (before : State F) (i : ℕ) (q : Queue) (room
   pub told : notice ≡ tells flags
 
 -- a faulty chain goes back with nothing, and no call is made
-pub record ReturnsFaultyBy {F : Type 0} (before : State F) (i : ℕ) (q : Queue) (head : ℕ) (why : ChainFault) (calls : Calls) (x : Exchange) (notice : Bool) (e : Effects) (after : State F) : Type 0 where
+pub record ReturnsFaultyBy {F : Type 0} (before : State F) (i : ℕ) (q : Queue) (head : ℕ) (why : ChainFault) (calls : Calls) (x : Exchange) (notice : Bool)
+    (e : Effects) (after : State F) : Type 0 where
   pub no_call : calls ≡ []
   pub files : after.files ≡ before.files
   pub returns : ReturnsBy before i q [] (faulty head why) before.options x notice e after
 
 -- a request is answered by what its loaded bytes mean
-pub record AnswersBy {F : Type 0} (may : May F) (before : State F) (i : ℕ) (q : Queue) (head : ℕ) (request room : List ℕ) (calls : Calls) (x : Exchange) (notice : Bool) (e : Effects) (after : State F) : Type 0 where
+pub record AnswersBy {F : Type 0} (may : May F) (before : State F) (i : ℕ) (q : Queue) (head : ℕ) (request room : List ℕ) (calls : Calls) (x : Exchange) (notice : Bool)
+    (e : Effects) (after : State F) : Type 0 where
   pub given : Served
   pub serves : ServesRequest may before.page_size before.options request (length room) before.files calls given after.files
   pub returns : ReturnsBy before i q room (served_exchange head request given) given.options x notice e after

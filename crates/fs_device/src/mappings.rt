@@ -22,6 +22,7 @@ use vm_memory_core::{GuestAddress, HostMemory, IommuError, Iotlb, PageBitmap, Pe
 fn keeps_ranges(table: &Iotlb)
     ensures { AreRanges table.now }
 {
+    // for the proof: nothing is looked up.
     let _ = table.lookup(GuestAddress(0), 0, Permissions::No);
 }
 

@@ -56,6 +56,9 @@ impl<F: FileSystem, I: Iommu + Drop> Machine<F, I> {
         if !self.reaches(addr, len, Permissions::Read) {
             return Answer::Refused(Refusal::NoPlace);
         }
+        if len == 0 {
+            return Answer::Bytes(Vec::new(alloc));
+        }
         let Ok(mut bytes) = vec![in alloc; 0u8; len] else {
             return Answer::Refused(Refusal::OutOfMemory);
         };

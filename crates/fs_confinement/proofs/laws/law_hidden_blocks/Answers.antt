@@ -7,5 +7,6 @@ returns g c block a after events tolds ran hidden =
     let none = touches_nothing_of g.F.FileSystemBase.may block a after events tolds ran hidden in (
       none,
       λ b differ.
-          c.law_confinement.ensures a b after events tolds ran (no_copies block events hidden.1) differ.rest (agree_outside block a b (read_set g.F.FileSystemBase.may a events tolds after ran) differ none.unread),
+          c.law_confinement.ensures a b after events tolds ran (no_copies block events hidden.1) differ.rest
+          (agree_outside block a b (read_set g.F.FileSystemBase.may a events tolds after ran) differ none.unread),
     )

@@ -40,7 +40,8 @@ returns-in_err-answered-clause-step g c =
 pub returns-clause-step : goal.returns-clause-step
 returns-clause-step g c =
     let m = g.M.GuestMemory.memory c.args.mem.now (g.H.HostBlocks.host c.args.host.now) in
-    let host : m.host ≡ (g.H.HostBlocks.host c.args.host.now) = ap (λ (x : Memory). x.host) (g.met.M.GuestMemory.over c.args.mem.now (g.H.HostBlocks.host c.args.host.now) (g.H.HostBlocks.host c.args.host.now)) in
+    let host : m.host ≡ (g.H.HostBlocks.host c.args.host.now) = ap (λ (x : Memory). x.host)
+    (g.met.M.GuestMemory.over c.args.mem.now (g.H.HostBlocks.host c.args.host.now) (g.H.HostBlocks.host c.args.host.now)) in
     let over = g.met.M.GuestMemory.over c.args.mem.now (g.H.HostBlocks.host c.args.host.now) (g.H.HostBlocks.host c.give_back_front-notify.new.host) in
     let server = c.self.inside.server in
     let fixed : Fixed = record { limit = c.self.inside.limit; page_size = server.page_size } in
@@ -56,7 +57,8 @@ returns-clause-step g c =
     let told = c.in_ok-answered.ensures.exchange m has.queue has.fetched host has.taken in
     let put = subst (λ (h : Host). PutFrontLast h new (chain_places place.chain) (front_bytes answered.front) told.reply) (sym host) told.put in
     let fronted = subst (λ (bytes : List ℕ). PutFrontLast m.host new (chain_places place.chain) bytes told.reply) (sym c.bytes-front.ensures) put in
-    told_return g.F.FileSystemBase.may fixed m _ _ c.self.inside.queues.items between c.args.queue c.index_mut.result.now c.give_back_front-notify.new.self (server.options.0, server.fs) (server_state c.answer_front.new.server)
+    told_return g.F.FileSystemBase.may fixed m _ _ c.self.inside.queues.items between c.args.queue c.index_mut.result.now c.give_back_front-notify.new.self
+    (server.options.0, server.fs) (server_state c.answer_front.new.server)
     place has (replied place.head has.fetched told.reply answered.fault) c.give_back_front-notify.result _ _ _ kept at told.served
     (λ taken. c.give_back_front-notify.ensures.stored m has.fetched told.reply fronted told.len taken)
     (λ taken. c.give_back_front-notify.ensures.told m has.fetched told.reply fronted taken) c.give_back_front-notify.ensures.queue

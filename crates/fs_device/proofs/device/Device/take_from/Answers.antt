@@ -12,7 +12,8 @@ returns-in-Ok-clause-takes g c options page_size files =
     let queues = c.args.queues.now in
     let there = slice_get_read queues.items (vec_len queues) c.args.queue _ queues.ok.0 (omega arith) c.index_mut.ensures.value in
     let fixed : Fixed = record { limit = c.args.limit; page_size = page_size } in
-    takes_or_ends g.F.FileSystemBase.may fixed (g.M.GuestMemory.memory c.args.mem.now (g.H.HostBlocks.host c.args.host.now)) queues.items c.args.queue c.index_mut.result.now c.take.new.self (options, files) c.take.new.taken c.in-Ok.waits
+    takes_or_ends g.F.FileSystemBase.may fixed (g.M.GuestMemory.memory c.args.mem.now (g.H.HostBlocks.host c.args.host.now)) queues.items c.args.queue
+    c.index_mut.result.now c.take.new.self (options, files) c.take.new.taken c.in-Ok.waits
     there c.in-Ok.ensures.takes c.in-Ok.ensures.queue
 
 pub returns-in-Err-clause-takes : goal.returns-in-Err-clause-takes
@@ -20,7 +21,8 @@ returns-in-Err-clause-takes g c options page_size files =
     let queues = c.args.queues.now in
     let there = slice_get_read queues.items (vec_len queues) c.args.queue _ queues.ok.0 (omega arith) c.index_mut.ensures.value in
     let fixed : Fixed = record { limit = c.args.limit; page_size = page_size } in
-    refuses g.F.FileSystemBase.may fixed (g.M.GuestMemory.memory c.args.mem.now (g.H.HostBlocks.host c.args.host.now)) queues.items c.args.queue c.index_mut.result.now c.take.new.self (options, files) c.in-Err.error there
+    refuses g.F.FileSystemBase.may fixed (g.M.GuestMemory.memory c.args.mem.now (g.H.HostBlocks.host c.args.host.now)) queues.items c.args.queue c.index_mut.result.now
+    c.take.new.self (options, files) c.in-Err.error there
     c.in-Err.ensures.takes c.in-Err.ensures.queue
 
 pub returns-in-Ok-clause-empty : goal.returns-in-Ok-clause-empty

@@ -33,7 +33,16 @@ returns-in-Ok-insert_region g c =
     let m = c.in-Some.region in
     let new = c.in-Ok.ensures.ok in
     let is = within c.args.base m c.in-Some-new.region c.in-Some-new.ensures in
-    rw (known (machine_of c.args.self.now) c.args.base c.args.block m c.in-Some.ensures, is.0, is.1, ← new, ← c.get_backend-2.ensures, c.in-Ok-insert_region.ensures.0, c.set_backend.ensures, c.in-Ok-insert_region.ensures.1) refl
+    rw (
+      known (machine_of c.args.self.now) c.args.base c.args.block m c.in-Some.ensures,
+      is.0,
+      is.1,
+      ← new,
+      ← c.get_backend-2.ensures,
+      c.in-Ok-insert_region.ensures.0,
+      c.set_backend.ensures,
+      c.in-Ok-insert_region.ensures.1,
+    ) refl
 
 pub returns-then-overlaps_any : goal.returns-then-overlaps_any
 unfolding effect

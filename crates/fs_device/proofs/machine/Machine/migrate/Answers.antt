@@ -32,7 +32,8 @@ returns-clause-moved g c =
     both_ok c.moved_onto.result
     (λ m moved same.
     subst (λ v. IsMoved may (machine_of c.args.self) (zip (map command_of cs) (map answer_of v.items)) (machine_of m.machine)) (sym same)
-    (is_moved may (machine_of c.args.self) (machine_of c.run_from_image.new.self) (machine_of m.machine) run.copy events (map page_view run.last.items) _ c.law_move.ensures.catches_up c.in-Ok.ensures.from
+    (is_moved may (machine_of c.args.self) (machine_of c.run_from_image.new.self) (machine_of m.machine) run.copy events
+    (map page_view run.last.items) _ c.law_move.ensures.catches_up c.in-Ok.ensures.from
     (all_pages cs run.answers.items (map page_view run.last.items) c.in-Ok.ensures.all) moved))
     c.moved_onto.ensures.moved c.moved_onto.ensures.answers
 

@@ -15,7 +15,12 @@ invariant_of-self g c =
 pub returns-in-Ok : goal.returns-in-Ok
 unfolding effect
 returns-in-Ok g c =
-    rw (found_any (is_region c.args.base c.args.size) c.args.self.now.mem.backend _ (rw c.get_backend.ensures at c.in-Ok.ensures.0), c.set_backend.ensures, c.in-Ok.ensures.1, c.get_backend.ensures) refl
+    rw (
+      found_any (is_region c.args.base c.args.size) c.args.self.now.mem.backend _ (rw c.get_backend.ensures at c.in-Ok.ensures.0),
+      c.set_backend.ensures,
+      c.in-Ok.ensures.1,
+      c.get_backend.ensures,
+    ) refl
 
 pub returns-in-NoMemoryRegion : goal.returns-in-NoMemoryRegion
 unfolding effect

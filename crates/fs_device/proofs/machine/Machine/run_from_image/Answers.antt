@@ -43,7 +43,8 @@ returns-in_default-harvest g c =
 
 pub returns-clause-from : goal.returns-clause-from
 returns-clause-from g c =
-    is_run_from_image g.F.FileSystemBase.may (machine_of c.args.self.now) (machine_of c.image.new.self) (machine_of c.run.new.self) (machine_of c.harvest.new.self) c.in-Copied.copy c.args.commands.items
+    is_run_from_image g.F.FileSystemBase.may (machine_of c.args.self.now) (machine_of c.image.new.self) (machine_of c.run.new.self)
+    (machine_of c.harvest.new.self) c.in-Copied.copy c.args.commands.items
     c.in-Ok.answers.items (map page_view c.in-Pages.last.items) c.requires.off c.law_host_marks.ensures c.requires.follow c.in-Copied.ensures.performs c.in-Ok.ensures.run c.in-Pages.ensures.performs
 
 pub returns-clause-off : goal.returns-clause-off

@@ -10,4 +10,9 @@ returns-then-not-holds g c = rw (not_known c.args.self.now.host c.args.layout (Î
 pub returns : goal.returns
 unfolding effect
 returns g c =
-    rw (all_known c.args.self.now.host c.args.layout (c.if-not-holds.ensures.held.0 refl), all_fit c.args.layout c.holds.ensures.sound, all_apart c.args.layout c.holds.ensures.sound, c.set_backend.ensures) refl
+    rw (
+      all_known c.args.self.now.host c.args.layout (c.if-not-holds.ensures.held.0 refl),
+      all_fit c.args.layout c.holds.ensures.sound,
+      all_apart c.args.layout c.holds.ensures.sound,
+      c.set_backend.ensures,
+    ) refl
