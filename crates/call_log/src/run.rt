@@ -32,6 +32,7 @@ pub fn run_logged<I: Iommu + Drop>(
         (machine_of machine.new)) }
     ensures err { OnErr result (machine_of machine.new ≡ machine_of machine.old) }
 {
+    // for the proof: the books of each run balance.
     law_books::<CallLog>();
     machine.run(alloc, commands)
 }

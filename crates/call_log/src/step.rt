@@ -32,6 +32,7 @@ pub fn used_length<M: GuestMemory, H: HostBlocks>(
     ensures shape { shape (H.host host.new) ≡ shape (H.host host.old) }
     ensures loan { H.IsSameLoan host.old host.new }
 {
+    // for the proof: what the used length of an exchange tells.
     law_used_length::<CallLog>();
     match device.process_one(alloc, host, mem, queue) {
         Ok(Some(exchanged)) => Ok(Some(exchanged.0.reply.len())),

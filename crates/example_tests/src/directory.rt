@@ -6,7 +6,7 @@ use fs_device::{Answer, Command, Device, Machine};
 use fs_example::{Monitor, MonitorError, read_file, run_directory};
 use fs_queue::{Queue, QueueLayout};
 use fuse_directory::{OwnedFile, OwnedTable};
-use fuse_read_only::ReadOnly;
+use fuse_files::{Files, ReadOnly};
 use fuse_wire::{InitInCompat, InitOut, Opcode, OpenIn, ReadIn};
 use guest_driver::replies::body;
 use guest_driver::requests::{header, init, read, with_record};
@@ -244,17 +244,17 @@ const RING: Ring = Ring {
 };
 
 // A device over the directory, whose one queue is the ring.
-fn device(rt: &impl Abort, alloc: Global) -> Device<ReadOnly<OwnedTable>> {
+fn device(rt: &impl Abort, alloc: Global) -> Device<Files<OwnedTable, ReadOnly>> {
     let layout = QueueLayout::new(RING.size, RING.desc, RING.avail, RING.used);
     let queue = Queue::new(layout.expect(rt, "a layout"));
     let queues = Vec::from_array(alloc, [queue]).expect(rt, "memory");
     let table = OwnedTable::new(alloc, files(rt, alloc)).expect(rt, "memory");
-    let server = Server::new(ReadOnly(table), 4096);
+    let server = Server::new(Files(table, ReadOnly), 4096);
     Device::new(server, queues, 0x101000)
 }
 
 // A machine over the directory, whose guest reads the first five bytes of node 2.
-fn reading(rt: &impl Abort, alloc: Global) -> Machine<ReadOnly<OwnedTable>, TableIommu> {
+fn reading(rt: &impl Abort, alloc: Global) -> Machine<Files<OwnedTable, ReadOnly>, TableIommu> {
     let regions = [(GuestAddress(0), 0x10000)];
     let mut guest = Guest::new(alloc, &regions, RING).expect(rt, "memory");
     let request = read(alloc, 1, 2, 0, 0, 5).expect(rt, "memory");

@@ -16,7 +16,7 @@ use crate::saved_bytes::SavedBytes;
 use fs_device::{Device, LEAST_LIMIT};
 use fs_queue::{Queue, QueueLayout};
 use fuse_directory::{OwnedFile, OwnedTable};
-use fuse_read_only::ReadOnly;
+use fuse_files::{Files, ReadOnly};
 use std::alloc::{AllocError, Global};
 use virtiofsd_fuse::Server;
 use vm_memory::GuestMemoryMmap;
@@ -69,13 +69,13 @@ fn copied(alloc: Global, files: &[FsFile]) -> Result<Vec<OwnedFile>, AllocError>
 }
 
 // A directory of copies of files.
-fn directory(alloc: Global, files: &[FsFile]) -> Result<ReadOnly<OwnedTable>, AllocError>
+fn directory(alloc: Global, files: &[FsFile]) -> Result<Files<OwnedTable, ReadOnly>, AllocError>
     requires { length files.now < 2 ^ 32 }
     ensures { IfOk result (λ d. AreCopies files.now (files_of d.0)) }
 {
     let owned = copied(alloc, files)?;
     let table = OwnedTable::new(alloc, owned)?;
-    Ok(ReadOnly(table))
+    Ok(Files(table, ReadOnly))
 }
 
 // A queue of which no chain was returned; None if it can't have this layout.

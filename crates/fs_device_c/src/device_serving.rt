@@ -11,8 +11,8 @@ ghost use Rattle.fs_device_c.specs.Devices.{DirectoryServes, Serves, nothing_ser
 
 use fs_device::{Device, DeviceError, Returned};
 use fuse_directory::OwnedTable;
+use fuse_files::{Files, ReadOnly};
 use fuse_fs::FileSystem;
-use fuse_read_only::ReadOnly;
 use std::alloc::Global;
 use vm_memory::GuestMemoryMmap;
 use vm_memory_core::{HeldIn, HostBlocks, IoPages, LentMemory, PageBitmap};
@@ -105,7 +105,7 @@ fn serve_chains<F: FileSystem, H: HostBlocks>(
 /// done.
 pub fn serve_over(
     alloc: Global,
-    device: &mut Device<ReadOnly<OwnedTable>>,
+    device: &mut Device<Files<OwnedTable, ReadOnly>>,
     mem: &GuestMemoryMmap,
     low: &mut [u8],
     high: &mut [u8],

@@ -5,7 +5,7 @@ ghost use Rattle.vm_bitmaps.specs.Pages.{pages_of};
 
 use fs_device::Device;
 use fuse_directory::OwnedTable;
-use fuse_read_only::ReadOnly;
+use fuse_files::{Files, ReadOnly};
 use vm_memory::GuestMemoryMmap;
 use vm_memory_core::{IoPages, PageBitmap};
 
@@ -18,7 +18,7 @@ pub struct DeviceState {
     pub high_len: usize,
     pub low_pages: IoPages<PageBitmap>,
     pub high_pages: IoPages<PageBitmap>,
-    pub device: Device<ReadOnly<OwnedTable>>,
+    pub device: Device<Files<OwnedTable, ReadOnly>>,
     pub ghost low_fits: { low_len < 2 ^ 64 },
     pub ghost high_fits: { high_len < 2 ^ 64 },
     pub ghost low_covered: { length low_pages ≡ pages_of 4096 low_len },

@@ -7,12 +7,12 @@ use Rattle.fs_queue.specs.Queue.{Queue}
 use Rattle.fs_queue.specs.Taking.{Offer}
 use Rattle.fs_queue.specs.Returning.{returned}
 use Rattle.fuse_fs.specs.declared.answers.Context.{Context}
-use Rattle.fuse_fs.specs.Calls.{FileCall, FileAnswer, FileRun, Failed, Bytes, Read}
+use Rattle.fuse_fs.specs.Calls.{FileCall, FileAnswer, FileRun, Failed, Bytes, Read, BatchForget}
 use Rattle.server_segments.specs.declared.error.Error.{Error}
 use Rattle.server_segments.specs.declared.error.Error.TheVariants.{EncodeMessage}
 use Rattle.server_replies.specs.Entries.{EIO}
 use Rattle.server_replies.proofs.ReplyLemmas.{length_reply, length_error}
-use Rattle.fuse_read_only.specs.ReadOnly.{ByOwn, is_own, default_answer}
+use Rattle.fuse_files.specs.Files.{ByOwn, is_own, default_answer}
 use Rattle.virtiofsd_fuse.specs.Grammar.{Meaning, Asks, One, IsFault, meaning, reply_bytes, error_bytes}
 use Rattle.virtiofsd_fuse.specs.Serving.{Setting, Served, served, setting, no_reply, replied, answer_bytes}
 use Rattle.fs_device.specs.declared.exchange.Fault.{Fault}
@@ -27,25 +27,33 @@ use Rattle.fuse_directory.specs.Directory.{Answers, Directory, MayAnswer, Direct
 use Rattle.fs_example.specs.Reading.{read_in_room, wanted, read_reply, GivesBytes, ReadsTrue, ReadsIntoRoom, ReadingRun}
 
 -- each call has one of its answers, its own and the others
+abbrev AnsweredOne : List OwnedFile → FileCall → FileAnswer → Type 0
+AnsweredOne fs call answer = ByOwn (is_own false call) (Answers fs call answer) (answer ≡ default_answer call)
+
 abbrev Answered : List OwnedFile → Calls → Type 0
-Answered fs calls = AllByRecursion (λ step. ByOwn (is_own step.0) (Answers fs step.0 step.1) (step.1 ≡ default_answer step.0)) calls
+Answered fs calls = AllByRecursion (λ step. AnsweredOne fs step.0 step.1) calls
+
+-- the directory is its table
+same_files : (before after : Directory) → after.0 ≡ before.0 → after ≡ before
+same_files before after same = ap (λ (t : OwnedTable). record { 0 = t; 1 = before.1 }) same
 
 by_own : (own : Bool) (before after : Directory) (call : FileCall) (answer : FileAnswer) →
-    ByOwn own (MayAnswer before.0 call answer after.0) ((answer ≡ default_answer call) × (after ≡ before)) →
+    ByOwn own (MayAnswer before.0 call answer after.0) ((answer ≡ default_answer call) × (after.0 ≡ before.0)) →
     ByOwn own (Answers (files_of before.0) call answer) (answer ≡ default_answer call) × (after ≡ before)
-by_own true before after call answer made = (made.0, ap (λ (t : OwnedTable). record { 0 = t }) made.1)
-by_own false before after call answer made = made
+by_own true before after call answer made = (made.0, same_files before after made.1)
+by_own false before after call answer made = (made.0, same_files before after made.1)
 
 one_answer : (before after : Directory) (call : FileCall) (answer : FileAnswer) → DirectoryAnswers before call answer after →
-    ByOwn (is_own call) (Answers (files_of before.0) call answer) (answer ≡ default_answer call) × (after ≡ before)
-one_answer before after call answer made = by_own (is_own call) before after call answer made
+    AnsweredOne (files_of before.0) call answer × (after ≡ before)
+one_answer before after (BatchForget who counts) answer made = (made.0, same_files before after made.1)
+one_answer before after call answer made = by_own (is_own false call) before after call answer made
 
 -- a READ has one answer
 read_answered : (fs : List OwnedFile) (who : Context) (node handle room size offset flags : ℕ) (owner : Option ℕ) (call : FileCall) (answer : FileAnswer) →
-    call ≡ Read who node handle room size offset owner flags → ByOwn (is_own call) (Answers fs call answer) (answer ≡ default_answer call) →
+    call ≡ Read who node handle room size offset owner flags → AnsweredOne fs call answer →
     answer ≡ bytes_at (file_at fs node) room size offset
 read_answered fs who node handle room size offset flags owner call answer same made =
-    subst (λ (c : FileCall). ByOwn (is_own c) (Answers fs c answer) (answer ≡ default_answer c)) same made
+    subst (λ (c : FileCall). AnsweredOne fs c answer) same made
 
 pub serves_each : (before : Directory) (calls : Calls) (after : Directory) → FileRun DirectoryAnswers before calls after → Answered (files_of before.0) calls × (after ≡ before)
 serves_each before [] after same = (tt, same)

@@ -13,7 +13,7 @@ use crate::step::step_directory;
 use fs_device::{Device, LEAST_LIMIT};
 use fs_queue::{Queue, QueueLayout};
 use fuse_directory::{OwnedFile, OwnedTable};
-use fuse_read_only::ReadOnly;
+use fuse_files::{Files, ReadOnly};
 use fuse_wire::EntryOut;
 use guest_driver::replies::body;
 use guest_driver::requests::{lookup, read};
@@ -45,7 +45,7 @@ impl Monitor {
         let layout = QueueLayout::new(QUEUE_SIZE, DESC, AVAIL, USED)?;
         queues.push(Queue::new(layout)).unwrap();
         let table = OwnedTable::new(alloc, files)?;
-        let server = Server::new(ReadOnly(table), PAGE_SIZE);
+        let server = Server::new(Files(table, ReadOnly), PAGE_SIZE);
         let device = Device::new(server, queues, LEAST_LIMIT);
         Ok(Monitor {
             alloc,

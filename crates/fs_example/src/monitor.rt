@@ -7,7 +7,7 @@ ghost use Rattle.vm_memory.specs.OneProof.{AreHeld-prop};
 use fs_device::{Device, DeviceError};
 use fs_queue::QueueLayoutError;
 use fuse_directory::OwnedTable;
-use fuse_read_only::ReadOnly;
+use fuse_files::{Files, ReadOnly};
 use std::alloc::{AllocError, Global};
 use thiserror::Error;
 use vm_memory::{FromRangesError, GuestMemoryError, GuestMemoryMmap};
@@ -41,7 +41,7 @@ pub struct Monitor {
     pub(crate) alloc: Global,
     pub(crate) host: HostMemory<PageBitmap>,
     pub(crate) mem: GuestMemoryMmap,
-    pub(crate) device: Device<ReadOnly<OwnedTable>>,
+    pub(crate) device: Device<Files<OwnedTable, ReadOnly>>,
     // How many chains the guest has offered, modulo 2^16.
     pub(crate) offered: u16,
     pub(crate) ghost held: { HostHolds host mem } by { AreHeld-prop (lengths host) mem },

@@ -10,7 +10,7 @@ ghost use Rattle.fs_example.specs.Reading.{ReadingRun};
 use fs_device::laws::law_calls;
 use fs_device::{Answer, Command, Machine};
 use fuse_directory::OwnedTable;
-use fuse_read_only::ReadOnly;
+use fuse_files::{Files, ReadOnly};
 use std::alloc::{AllocError, Global};
 use vm_memory::Iommu;
 
@@ -20,7 +20,7 @@ use vm_memory::Iommu;
 /// reply laid over: behind the header, if the room is long enough, the file's bytes.
 pub fn run_directory<I: Iommu + Drop>(
     alloc: Global,
-    machine: &mut Machine<ReadOnly<OwnedTable>, I>,
+    machine: &mut Machine<Files<OwnedTable, ReadOnly>, I>,
     commands: Vec<Command>,
 ) -> Result<Vec<Answer>, AllocError>
     ensures run { IfOk result (λ answers. ReadingRun (machine_of machine.old)
@@ -30,6 +30,7 @@ pub fn run_directory<I: Iommu + Drop>(
     ensures all { IfOk result (λ answers. length answers.items ≡ length commands.items) }
     ensures err { OnErr result (machine_of machine.new ≡ machine_of machine.old) }
 {
-    law_calls::<ReadOnly<OwnedTable>>();
+    // for the proof: a run's calls are those that its requests mean.
+    law_calls::<Files<OwnedTable, ReadOnly>>();
     machine.run(alloc, commands)
 }

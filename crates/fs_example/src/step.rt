@@ -7,7 +7,7 @@ ghost use Rattle.fs_example.specs.Reading.{ReadingStep};
 
 use fs_device::{Device, DeviceError, Exchange};
 use fuse_directory::OwnedTable;
-use fuse_read_only::ReadOnly;
+use fuse_files::{Files, ReadOnly};
 use std::alloc::Global;
 use vm_memory::GuestMemory;
 use vm_memory_core::HostBlocks;
@@ -17,7 +17,7 @@ use vm_memory_core::HostBlocks;
 /// place for a header; and then the used element and the used index.
 pub fn step_directory<M: GuestMemory, H: HostBlocks>(
     alloc: Global,
-    device: &mut Device<ReadOnly<OwnedTable>>,
+    device: &mut Device<Files<OwnedTable, ReadOnly>>,
     host: &mut H,
     mem: &M,
     queue: usize,

@@ -8,7 +8,7 @@ mod guest;
 use crate::embedding::serve_guest;
 use crate::guest::Reader;
 use fuse_directory::{OwnedFile, OwnedTable};
-use fuse_read_only::ReadOnly;
+use fuse_files::{Files, ReadOnly};
 use std::alloc::{AllocError, Global};
 
 // The files that the guest finds.
@@ -20,7 +20,7 @@ fn files(alloc: Global) -> Result<OwnedTable, AllocError> {
 
 fn main(rt: HostRuntime) -> anyhow::Result<()> {
     let mut guest = Reader::new(rt.alloc(), b"hello.txt");
-    let files = ReadOnly(files(rt.alloc())?);
+    let files = Files(files(rt.alloc())?, ReadOnly);
     serve_guest(rt.alloc(), files, &mut guest)?;
     println!(rt;
         "The guest was interrupted {} times, and has in its memory:",

@@ -1,6 +1,6 @@
 -- What the directory answers. The root is node 1, and the files are the nodes from 2 on, in the table's
 -- order.
-use Rattle.std.specs.Prelude.{◌≡◌, ◌≢◌, ◌⊎◌, ℕ, ◌+◌, ◌-◌, ◌<◌, Bool, ◌==◌, nat_lt, bit_and, ◌^◌, List, [], ◌∷◌, length, take, drop, Option, Some, None, if◌then◌else◌, slice_get}
+use Rattle.std.specs.Prelude.{◌≡◌, ◌≢◌, ◌⊎◌, ℕ, ◌+◌, ◌-◌, ◌<◌, Bool, false, ◌==◌, nat_lt, bit_and, ◌^◌, List, [], ◌∷◌, length, take, drop, Option, Some, None, if◌then◌else◌, slice_get}
 use Rattle.std.specs.Int.{div_ceil}
 use Rattle.std.specs.Str.{bytes_eq}
 use Rattle.fuse_base.specs.declared.records.Attr.{Attr}
@@ -8,9 +8,10 @@ use Rattle.fuse_fs.specs.declared.answers.Entry.{Entry}
 use Rattle.fuse_fs.specs.Times.{Duration}
 use Rattle.fuse_fs.specs.Calls.{FileCall, FileAnswer, Listed, Failed, Done, HasEntry, HasAttr, Opened, Bytes, Entries, Wants}
 use Rattle.fuse_fs.specs.Calls.{Init, Lookup, Getattr, Open, Opendir, Read, Readdir, Release}
-use Rattle.fuse_read_only.specs.declared.adapter.ReadOnly.{ReadOnly}
-use Rattle.fuse_read_only.specs.ReadOnly as read_only
-use Rattle.fuse_read_only.specs.ReadOnly.{default_answer}
+use Rattle.fuse_files.specs.declared.adapter.Files.{Files}
+use Rattle.fuse_files.specs.declared.kinds.ReadOnly.{ReadOnly}
+use Rattle.fuse_files.specs.Files as files
+use Rattle.fuse_files.specs.Files.{default_answer}
 use Rattle.fuse_directory.specs.declared.table.OwnedFile.{OwnedFile}
 use Rattle.fuse_directory.specs.declared.table.OwnedTable.{OwnedTable}
 use Rattle.fuse_directory.specs.Files.{files_of}
@@ -137,8 +138,8 @@ MayAnswer before call answer after = Answers (files_of before) call answer × (a
 
 -- the directory as a file system of all calls
 abbrev pub Directory : Type 0
-Directory = ReadOnly OwnedTable
+Directory = Files OwnedTable ReadOnly
 
 -- which has the defaults for those that are no calls of a file system that is read
 abbrev pub DirectoryAnswers : Directory → FileCall → FileAnswer → Directory → Type 0
-DirectoryAnswers = read_only.MayAnswer MayAnswer
+DirectoryAnswers before call answer after = files.MayAnswer false MayAnswer before.0 call answer after.0

@@ -6,11 +6,11 @@ ghost use Rattle.fuse_directory.specs.Files.{listed_files};
 ghost use Rattle.fuse_directory.specs.Directory.{EROFS, attr_of, bytes_in, file_entry, file_at, found_from, listing_from, MayAnswer};
 
 use crate::table::{Entries, OwnedFile, OwnedTable};
+use fuse_files::ReadableFileSystem;
 use fuse_fs::{
     Context, DirEntry, DirectoryIterator, Entry, PositionedFile, Timeout, WritevFlags,
     ZeroCopyWriter, defaults,
 };
-use fuse_read_only::ReadOnlyFileSystem;
 use fuse_wire::{Attr, Errno, FsOptions, GuestGid, GuestUid, OpenOptions};
 
 // The node of the root.
@@ -189,7 +189,7 @@ impl DirectoryIterator for Entries {
     }
 }
 
-impl ReadOnlyFileSystem for OwnedTable {
+impl ReadableFileSystem for OwnedTable {
     type DirIter = Entries;
 
     ghost use Rattle.std.specs.Prelude.{true};

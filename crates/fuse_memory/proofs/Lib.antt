@@ -1,5 +1,4 @@
 pub mod EntriesLemmas
 pub mod FilesLemmas
 pub mod ListingLemmas
-pub mod ReadLemmas
 pub mod WriteLemmas

@@ -6,9 +6,9 @@ use crate::listing::{Entries, list};
 use crate::nodes::{DT_DIR, S_IFDIR, S_IFREG, second};
 use crate::table::MemoryFiles;
 use fuse_base::{Attr, Errno, FsOptions, OpenOptions, SetattrValid, StatVfs};
+use fuse_files::{Flags, ReadableFileSystem, WritableFileSystem};
 use fuse_fs::{Context, Entry, Extensions, Timeout, ZeroCopyReader, ZeroCopyWriter, defaults};
 use fuse_in::SetattrIn;
-use fuse_writable::{Flags, WritableFileSystem};
 
 // A rename that replaces nothing (linux/fs.h).
 const RENAME_NOREPLACE: u32 = 1;
@@ -19,8 +19,16 @@ const BLOCK: u64 = 4096;
 // The permissions that a request's mode can set.
 const PERMISSIONS: u32 = 0o7_777;
 
-impl WritableFileSystem for MemoryFiles {
+impl ReadableFileSystem for MemoryFiles {
     type DirIter = Entries;
+
+    ghost use Rattle.std.specs.Prelude.{true};
+
+    ghost reads_whole = { λ fs. true };
+
+    fn reads_whole(&self) -> bool {
+        true
+    }
 
     ghost may = { May };
 
@@ -35,10 +43,6 @@ impl WritableFileSystem for MemoryFiles {
         self.hold(node)
     }
 
-    fn forget(&mut self, _ctx: Context, inode: u64, count: u64) {
-        self.let_go(inode, count);
-    }
-
     fn getattr(
         &mut self,
         _ctx: Context,
@@ -49,6 +53,86 @@ impl WritableFileSystem for MemoryFiles {
             Some(node) => Ok((node.told(), second())),
             None => Err(Errno::ENOENT),
         }
+    }
+
+    fn open(
+        &mut self,
+        _ctx: Context,
+        inode: u64,
+        _kill_priv: bool,
+        flags: u32,
+    ) -> Result<(Option<u64>, OpenOptions), Errno> {
+        let Some(place) = self.place(inode) else {
+            return Err(Errno::ENOENT);
+        };
+        match &mut self.nodes[place] {
+            Some(node) => {
+                node.open(flags)?;
+                defaults::open()
+            }
+            None => Err(Errno::ENOENT),
+        }
+    }
+
+    fn read<W: ZeroCopyWriter>(
+        &mut self,
+        _ctx: Context,
+        inode: u64,
+        _handle: u64,
+        w: &mut W,
+        size: u32,
+        offset: u64,
+        _lock_owner: Option<u64>,
+        _flags: u32,
+    ) -> Result<usize, Errno> {
+        let Some(place) = self.place(inode) else {
+            return Err(Errno::ENOENT);
+        };
+        match &mut self.nodes[place] {
+            Some(node) => node.read(w, size, offset),
+            None => Err(Errno::ENOENT),
+        }
+    }
+
+    fn release(
+        &mut self,
+        _ctx: Context,
+        _inode: u64,
+        _flags: u32,
+        _handle: u64,
+        _flush: bool,
+        _flock_release: bool,
+        _lock_owner: Option<u64>,
+    ) -> Result<(), Errno> {
+        Ok(())
+    }
+
+    fn opendir(
+        &mut self,
+        _ctx: Context,
+        inode: u64,
+        _flags: u32,
+    ) -> Result<(Option<u64>, OpenOptions), Errno> {
+        self.test_directory(inode)?;
+        defaults::opendir()
+    }
+
+    fn readdir(
+        &mut self,
+        _ctx: Context,
+        inode: u64,
+        _handle: u64,
+        size: u32,
+        offset: u64,
+    ) -> Result<Entries, Errno> {
+        self.test_directory(inode)?;
+        list(self.alloc, &self.names, inode, size, offset)
+    }
+}
+
+impl WritableFileSystem for MemoryFiles {
+    fn forget(&mut self, _ctx: Context, inode: u64, count: u64) {
+        self.let_go(inode, count);
     }
 
     fn setattr(
@@ -127,25 +211,6 @@ impl WritableFileSystem for MemoryFiles {
         }
     }
 
-    fn open(
-        &mut self,
-        _ctx: Context,
-        inode: u64,
-        _kill_priv: bool,
-        flags: u32,
-    ) -> Result<(Option<u64>, OpenOptions), Errno> {
-        let Some(place) = self.place(inode) else {
-            return Err(Errno::ENOENT);
-        };
-        match &mut self.nodes[place] {
-            Some(node) => {
-                node.open(flags)?;
-                defaults::open()
-            }
-            None => Err(Errno::ENOENT),
-        }
-    }
-
     fn create(
         &mut self,
         ctx: Context,
@@ -159,26 +224,6 @@ impl WritableFileSystem for MemoryFiles {
     ) -> Result<(Entry<u64>, Option<u64>, OpenOptions), Errno> {
         let entry = self.make(ctx, parent, name, S_IFREG | mode & PERMISSIONS)?;
         Ok((entry, None, OpenOptions::from_bits_retain(0)))
-    }
-
-    fn read<W: ZeroCopyWriter>(
-        &mut self,
-        _ctx: Context,
-        inode: u64,
-        _handle: u64,
-        w: &mut W,
-        size: u32,
-        offset: u64,
-        _lock_owner: Option<u64>,
-        _flags: u32,
-    ) -> Result<usize, Errno> {
-        let Some(place) = self.place(inode) else {
-            return Err(Errno::ENOENT);
-        };
-        match &mut self.nodes[place] {
-            Some(node) => node.read(w, size, offset),
-            None => Err(Errno::ENOENT),
-        }
     }
 
     fn write<R: ZeroCopyReader>(
@@ -204,19 +249,6 @@ impl WritableFileSystem for MemoryFiles {
         }
     }
 
-    fn release(
-        &mut self,
-        _ctx: Context,
-        _inode: u64,
-        _flags: u32,
-        _handle: u64,
-        _flush: bool,
-        _flock_release: bool,
-        _lock_owner: Option<u64>,
-    ) -> Result<(), Errno> {
-        Ok(())
-    }
-
     fn statfs(&mut self, _ctx: Context, _inode: u64) -> Result<StatVfs, Errno> {
         let free = self.room() / BLOCK;
         let nodes = self.nodes.iter().flatten().count() as u64;
@@ -230,27 +262,5 @@ impl WritableFileSystem for MemoryFiles {
             f_namemax: 255,
             f_frsize: BLOCK,
         })
-    }
-
-    fn opendir(
-        &mut self,
-        _ctx: Context,
-        inode: u64,
-        _flags: u32,
-    ) -> Result<(Option<u64>, OpenOptions), Errno> {
-        self.test_directory(inode)?;
-        defaults::opendir()
-    }
-
-    fn readdir(
-        &mut self,
-        _ctx: Context,
-        inode: u64,
-        _handle: u64,
-        size: u32,
-        offset: u64,
-    ) -> Result<Entries, Errno> {
-        self.test_directory(inode)?;
-        list(self.alloc, &self.names, inode, size, offset)
     }
 }

@@ -9,9 +9,9 @@ ghost use Rattle.fuse_memory.specs.Lookups.{is_named};
 
 use crate::contents::Contents;
 use fuse_base::{Attr, Errno, SetattrValid};
+use fuse_files::Flags;
 use fuse_fs::{Context, Entry, Timeout, ZeroCopyReader, ZeroCopyWriter};
 use fuse_in::SetattrIn;
-use fuse_writable::Flags;
 use std::alloc::Global;
 
 // What a mode says of a node's kind, and two kinds (inode(7)).

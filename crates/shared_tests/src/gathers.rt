@@ -9,7 +9,7 @@ use crate::stand::{expect_same, machine, machine_over};
 use call_log::CallLog;
 use fs_shared::{Kicked, PageHarvest, Receipt, SharedDevice, audit};
 use fs_shares::Share;
-use fuse_read_only::{ReadOnly, ReadOnlyFileSystem};
+use fuse_files::{Files, ReadOnly, ReadableFileSystem};
 use fuse_wire::{Attr, Errno, FsOptions, OpenOptions};
 use std::alloc::Global;
 use std::marker::Brand;
@@ -59,7 +59,7 @@ struct AwaitingFiles<'a> {
     signals: &'a Signals,
 }
 
-impl<'a> ReadOnlyFileSystem for AwaitingFiles<'a> {
+impl<'a> ReadableFileSystem for AwaitingFiles<'a> {
     type DirIter = NoEntries;
 
     ghost use Rattle.std.specs.Prelude.{true};
@@ -151,7 +151,7 @@ impl<'a> ReadOnlyFileSystem for AwaitingFiles<'a> {
     }
 }
 
-type AwaitingDevice<'a, L> = SharedDevice<L, ReadOnly<AwaitingFiles<'a>>, TableIommu>;
+type AwaitingDevice<'a, L> = SharedDevice<L, Files<AwaitingFiles<'a>, ReadOnly>, TableIommu>;
 
 // A kick whose look-up waits for a gather, and its pages.
 fn kicked<L: Ledger, R: Wait>(
@@ -213,7 +213,7 @@ fn gather_beside_a_kick<L: Ledger + Send + Sync, R: Threads + Wait + Abort + Syn
     requires parts { blank.parts ≡ 1 }
 {
     let signals = Signals::new();
-    let files = ReadOnly(AwaitingFiles { signals: &signals });
+    let files = Files(AwaitingFiles { signals: &signals }, ReadOnly);
     let made = AwaitingDevice::<L>::new(alloc, blank, 1, machine_over(rt, alloc, files));
     let (device, mut share, harvest) = made.ok().expect(rt, "memory");
     expect_offered(rt, alloc, &device, &mut share);

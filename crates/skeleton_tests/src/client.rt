@@ -2,9 +2,9 @@
 
 ghost use Rattle.std.specs.Prelude.{◌<◌, ◌^◌, length};
 
+use fuse_files::{Files, Writable};
 use fuse_memory::MemoryFiles;
 use fuse_wire::{AttrOut, EntryOut, WriteOut};
-use fuse_writable::Writable;
 use guest_driver::changes::{
     create, getattr, mkdir, open, opendir, readdirplus, rename, rmdir, setattr, statfs, unlink,
     write,
@@ -158,7 +158,7 @@ impl<'a> Ask<'a> {
 #[derive(Drop)]
 pub struct Client {
     alloc: Global,
-    server: Server<Writable<MemoryFiles>>,
+    server: Server<Files<MemoryFiles, Writable>>,
 }
 
 impl Client {
@@ -167,7 +167,7 @@ impl Client {
         let files = MemoryFiles::new(alloc, bytes, nodes).expect(rt, "memory");
         Client {
             alloc,
-            server: Server::new(Writable(files), 4096),
+            server: Server::new(Files(files, Writable), 4096),
         }
     }
 

@@ -3,7 +3,7 @@
 
 use crate::client::expect_same;
 use fuse_directory::{OwnedFile, OwnedTable};
-use fuse_read_only::ReadOnly;
+use fuse_files::{Files, ReadOnly};
 use fuse_wire::Opcode;
 use guest_driver::replies::body;
 use guest_driver::requests::header;
@@ -287,7 +287,7 @@ fn file(rt: &impl Abort, alloc: Global, name: &[u8], contents: &[u8]) -> OwnedFi
 }
 
 // A server over the directory, for a guest with pages of 4096 bytes.
-fn server(rt: &impl Abort, alloc: Global) -> Server<ReadOnly<OwnedTable>> {
+fn server(rt: &impl Abort, alloc: Global) -> Server<Files<OwnedTable, ReadOnly>> {
     let files = [
         file(rt, alloc, b"one", &CONTENTS),
         file(rt, alloc, b"two", &LONG),
@@ -295,7 +295,7 @@ fn server(rt: &impl Abort, alloc: Global) -> Server<ReadOnly<OwnedTable>> {
     ];
     let files = Vec::from_array(alloc, files).expect(rt, "memory");
     let table = OwnedTable::new(alloc, files).expect(rt, "memory");
-    Server::new(ReadOnly(table), 4096)
+    Server::new(Files(table, ReadOnly), 4096)
 }
 
 // Each row's reply is the expected one.

@@ -2,7 +2,7 @@
 
 ghost use Rattle.std.specs.Prelude.{◌≡◌, ⊤, ℕ, ◌+◌, List, length, IfOk, IsTrue, OnErr};
 
-use fuse_read_only::ReadOnlyFileSystem;
+use fuse_files::ReadableFileSystem;
 use fuse_wire::{Attr, Errno, FsOptions, OpenOptions};
 use virtiofsd_fuse::{
     Context, Entry, NoEntries, PositionedFile, Timeout, WritevFlags, ZeroCopyWriter, defaults,
@@ -127,7 +127,7 @@ impl AskedFiles {
     }
 }
 
-impl ReadOnlyFileSystem for AskedFiles {
+impl ReadableFileSystem for AskedFiles {
     type DirIter = NoEntries;
 
     ghost reads_whole = { λ fs. fs.says_whole };

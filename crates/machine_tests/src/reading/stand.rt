@@ -7,7 +7,7 @@ use crate::reading::files::AskedFiles;
 use crate::stand::expect_same;
 use fs_device::{Device, Returned};
 use fs_queue::{Queue, QueueLayout};
-use fuse_read_only::ReadOnly;
+use fuse_files::{Files, ReadOnly};
 use guest_driver::requests::read;
 use guest_driver::{Guest, Ring};
 use std::alloc::Global;
@@ -48,7 +48,7 @@ pub enum Way {
 pub struct Stand {
     pub alloc: Global,
     pub guest: Guest,
-    pub device: Device<ReadOnly<AskedFiles>>,
+    pub device: Device<Files<AskedFiles, ReadOnly>>,
 }
 
 /// A device whose one queue is a ring. Its files say that reads that fail put nothing in, or don't.
@@ -57,11 +57,11 @@ pub fn device(
     alloc: Global,
     ring: Ring,
     says_whole: bool,
-) -> Device<ReadOnly<AskedFiles>> {
+) -> Device<Files<AskedFiles, ReadOnly>> {
     let layout = QueueLayout::new(ring.size, ring.desc, ring.avail, ring.used);
     let queue = Queue::new(layout.expect(rt, "a layout"));
     let queues = Vec::from_array(alloc, [queue]).expect(rt, "memory");
-    let files = ReadOnly(AskedFiles::new(says_whole));
+    let files = Files(AskedFiles::new(says_whole), ReadOnly);
     Device::new(Server::new(files, 4096), queues, 0x101000)
 }
 
@@ -88,7 +88,7 @@ pub fn asking(
 pub fn serve<M: GuestMemory, H: HostBlocks>(
     rt: &impl Abort,
     alloc: Global,
-    device: &mut Device<ReadOnly<AskedFiles>>,
+    device: &mut Device<Files<AskedFiles, ReadOnly>>,
     host: &mut H,
     mem: &M,
     way: Way,

@@ -1,2 +1,0 @@
-pub mod ReadOnly
-pub mod ReadOnlyLaws

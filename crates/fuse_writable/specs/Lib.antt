@@ -1,2 +1,0 @@
-pub mod Writable
-pub mod WritableLaws
