@@ -1,13 +1,13 @@
 -- the bytes of one direction, from one on
-use Rattle.std.proofs.Common.{◌≡◌, ℕ, zero, suc, Bool, true, false, ◌+◌, ◌-◌, ◌<◌, ◌≤◌, ◌^◌, ◌++◌, List, [], ◌∷◌, take, drop, length, Option, Some, None, refl, ap, ◌∙◌, append_assoc, arith}
-use Rattle.std.specs.Prelude.{is_some, nat_lt, IfSome}
+use Rattle.std.proofs.Common.{◌≡◌, ℕ, zero, suc, Bool, true, false, ◌+◌, ◌-◌, ◌<◌, ◌≤◌, ◌^◌, ◌++◌, List, [], ◌∷◌, take, drop, length, Option, Some, None, refl, ap, sym, ◌∙◌, append_assoc, arith}
+use Rattle.std.specs.Prelude.{is_some, nat_lt, min, IfSome}
 use Rattle.std.specs.List.{list_all}
 use Rattle.std.proofs.lemmas.Bool.{and_parts, ltb-true}
-use Rattle.std.proofs.lemmas.List.Sums.{sum_by-cons}
+use Rattle.std.proofs.lemmas.List.Sums.{sum_by-cons, sum_by_push}
 use mathlib.Core.Bool.{beq}
 use Rattle.vm_memory_core.specs.Host.{Place}
 use Rattle.vm_memory_core.specs.Window.{Window}
-use Rattle.vm_memory.specs.Layout.{Region, place}
+use Rattle.vm_memory.specs.Layout.{Region, left_at, place}
 use Rattle.vm_memory.specs.Memory.{addresses, located, reach}
 use Rattle.vm_memory.specs.Slices.{IsWindowAt}
 use Rattle.vm_memory.proofs.Places.{addresses-append, length-addresses}
@@ -15,7 +15,7 @@ use Rattle.fs_queue.specs.Chain.{Descriptor, is_writable}
 use Rattle.fs_queue.specs.Taking.{all_reach, total_len}
 use Rattle.fs_queue.specs.Windows.{access_of, addresses_of, of_direction}
 use Rattle.fs_regions.specs.Places.{places_in}
-use Rattle.fs_regions.specs.Windows.{IsWindowFrom}
+use Rattle.fs_regions.specs.Windows.{IsWindowFrom, StandsIn}
 
 abbrev kept : Bool → Descriptor → List Descriptor → List Descriptor
 kept true d ds = d ∷ ds
@@ -34,20 +34,23 @@ none_of : (b : Bool) → of_direction b [] ≡ []
 none_of true = refl
 none_of false = refl
 
--- so many bytes of the descriptors that are left are still to be skipped: they begin with the bytes from one on, and have places if all have
+-- so many bytes of the descriptors that are left are still to be skipped: they begin with the bytes from one on, and have places if all have;
+-- the others come before
 pub record Skips (l : List Region) (b : Bool) (ds : List Descriptor) (from skip : ℕ) (rest : List Descriptor) : Type 0 where
   pub below : skip ≤ from
   pub count : from - skip + total_len (of_direction b rest) ≡ total_len (of_direction b ds)
   pub bytes : drop from (addresses_of (of_direction b ds)) ≡ drop skip (addresses_of (of_direction b rest))
   pub there : all_reach (places_in l) (access_of b) (of_direction b ds) ≡ true → all_reach (places_in l) (access_of b) (of_direction b rest) ≡ true
+  pub front : (before : List Descriptor) × (of_direction b ds ≡ before ++ of_direction b rest) × (from ≡ total_len before + skip)
 
 pub skips_begin : (l : List Region) (b : Bool) (ds : List Descriptor) (from : ℕ) → Skips l b ds from from ds
-skips_begin l b ds from = record { below = omega arith; count = omega arith; bytes = refl; there = λ h. h }
+skips_begin l b ds from = record { below = omega arith; count = omega arith; bytes = refl; there = λ h. h; front = ([], refl, omega arith) }
 
-pub skips_other : (l : List Region) (b : Bool) (ds : List Descriptor) (from skip : ℕ) (d : Descriptor) (rest : List Descriptor) → beq (is_writable d) b ≡ false → Skips l b ds from skip (d ∷ rest) → Skips l b ds from skip rest
+pub skips_other : (l : List Region) (b : Bool) (ds : List Descriptor) (from skip : ℕ) (d : Descriptor) (rest : List Descriptor) → beq (is_writable d) b ≡ false →
+    Skips l b ds from skip (d ∷ rest) → Skips l b ds from skip rest
 skips_other l b ds from skip d rest other s =
     let same = direction b false d rest other in
-    record { below = s.below; count = rw same at s.count; bytes = rw same at s.bytes; there = rw same at s.there }
+    record { below = s.below; count = rw same at s.count; bytes = rw same at s.bytes; there = rw same at s.there; front = rw same at s.front }
 
 -- bytes behind those that are skipped
 drop_front : (xs ys : List ℕ) (k : ℕ) → length xs ≤ k → drop k (xs ++ ys) ≡ drop (k - length xs) ys
@@ -58,7 +61,8 @@ drop_front (x ∷ xs) ys (suc k) long = drop_front xs ys k (omega (arith, long))
 all_tail : (p : Descriptor → Bool) (d : Descriptor) (ds : List Descriptor) → list_all p (d ∷ ds) ≡ true → (p d ≡ true) × (list_all p ds ≡ true)
 all_tail p d ds all = and_parts (p d) (list_all p ds) all
 
-pub skips_on : (l : List Region) (b : Bool) (ds : List Descriptor) (from skip : ℕ) (d : Descriptor) (rest : List Descriptor) → beq (is_writable d) b ≡ true → d.len ≤ skip → Skips l b ds from skip (d ∷ rest) →
+pub skips_on : (l : List Region) (b : Bool) (ds : List Descriptor) (from skip : ℕ) (d : Descriptor) (rest : List Descriptor) → beq (is_writable d) b ≡ true →
+    d.len ≤ skip → Skips l b ds from skip (d ∷ rest) →
     Skips l b ds from (skip - d.len) rest
 skips_on l b ds from skip d rest this long s =
     let same = direction b true d rest this in
@@ -68,12 +72,23 @@ skips_on l b ds from skip d rest this long s =
     let sum = sum_by-cons (λ (x : Descriptor). x.len) d (of_direction b rest) in
     let len = length-addresses d.len d.addr in
     let below = s.below in
+    let front : (before : List Descriptor) × (of_direction b ds ≡ before ++ d ∷ of_direction b rest) × (from ≡ total_len before + skip) = rw same at s.front in
+    let more = sum_by_push (λ (x : Descriptor). x.len) front.0 d in
+    let behind = front.2 in
     record {
       below = omega (arith, below);
       count = omega (arith, count, sum, below, long);
+      front = (front.0 ++ d ∷ [], front.1 ∙ sym (append_assoc front.0 (d ∷ []) (of_direction b rest)), omega (arith, more, behind, long));
       bytes = bytes ∙ drop_front (addresses d.addr d.len) (addresses_of (of_direction b rest)) skip (omega (arith, len, long)) ∙ ap (λ n. drop (skip - n) (addresses_of (of_direction b rest))) len;
       there = λ h. (all_tail (λ e. reach (places_in l) (access_of b) e.addr e.len) d (of_direction b rest) (there h)).1;
     }
+
+-- where the next byte stands, if the first descriptor that is left has it
+pub stands : (l : List Region) (b : Bool) (ds : List Descriptor) (from skip : ℕ) (d : Descriptor) (rest : List Descriptor) → beq (is_writable d) b ≡ true → skip < d.len →
+    Skips l b ds from skip (d ∷ rest) → StandsIn (of_direction b ds) from d skip
+stands l b ds from skip d rest this less s =
+    let front : (before : List Descriptor) × (of_direction b ds ≡ before ++ d ∷ of_direction b rest) × (from ≡ total_len before + skip) = rw (direction b true d rest this) at s.front in
+    (front.0, of_direction b rest, front.1, front.2, less)
 
 pub skips_end : (l : List Region) (b : Bool) (ds : List Descriptor) (from skip : ℕ) (rest : List Descriptor) → rest ≡ [] → Skips l b ds from skip rest → total_len (of_direction b ds) ≤ from
 skips_end l b ds from skip rest end s =
@@ -90,7 +105,8 @@ take_front (x ∷ xs) ys (suc n) long = ap (λ (l : List ℕ). x ∷ l) (take_fr
 
 part : (a k n r : ℕ) (more : List ℕ) → take n (drop k (addresses a (k + (n + r)) ++ more)) ≡ addresses (a + k) n
 part a k n r more =
-    let cut : addresses a (k + (n + r)) ≡ addresses a k ++ (addresses (a + k) n ++ addresses (a + k + n) r) = addresses-append k (n + r) a ∙ ap (λ (l : List ℕ). addresses a k ++ l) (addresses-append n r (a + k)) in
+    let cut : addresses a (k + (n + r)) ≡ addresses a k ++ (addresses (a + k) n ++ addresses (a + k + n) r) = addresses-append k (n + r) a
+    ∙ ap (λ (l : List ℕ). addresses a k ++ l) (addresses-append n r (a + k)) in
     let len_k = length-addresses k a in
     ap (λ (l : List ℕ). take n (drop k (l ++ more))) cut
     ∙ ap (λ (l : List ℕ). take n (drop k l)) (append_assoc (addresses a k) (addresses (a + k) n ++ addresses (a + k + n) r) more)
@@ -113,9 +129,10 @@ range_of l b ds from skip d rest this less s =
     ∙ ap (λ n. take (d.len - skip) (drop skip (addresses d.addr n ++ addresses_of (of_direction b rest)))) whole
     ∙ part d.addr skip (d.len - skip) 0 (addresses_of (of_direction b rest))
 
-pub window_of : (l : List Region) (b : Bool) (ds : List Descriptor) (from skip : ℕ) (d : Descriptor) (rest : List Descriptor) (w : Window) → beq (is_writable d) b ≡ true → skip < d.len → Skips l b ds from skip (d ∷ rest) →
-    IsWindowAt (place l) (d.addr + skip) (d.len - skip) w → IsWindowFrom l b ds from w
-window_of l b ds from skip d rest w this less s at =
+pub window_of : (l : List Region) (b : Bool) (ds : List Descriptor) (from skip : ℕ) (d : Descriptor) (rest : List Descriptor) (w : Window) →
+    beq (is_writable d) b ≡ true → skip < d.len → Skips l b ds from skip (d ∷ rest) →
+    IsWindowAt (place l) (d.addr + skip) (d.len - skip) w → w.len ≡ min (d.len - skip) (left_at l (d.addr + skip)) → IsWindowFrom l b ds from w
+window_of l b ds from skip d rest w this less s at longest =
     let same = direction b true d rest this in
     let count : from - skip + total_len (d ∷ of_direction b rest) ≡ total_len (of_direction b ds) = rw same at s.count in
     let bytes : drop from (addresses_of (of_direction b ds)) ≡ drop skip (addresses_of (d ∷ of_direction b rest)) = rw same at s.bytes in
@@ -127,7 +144,7 @@ window_of l b ds from skip d rest w this less s at =
     ap (take w.len) bytes
     ∙ ap (λ n. take w.len (drop skip (addresses d.addr n ++ addresses_of (of_direction b rest)))) whole
     ∙ part d.addr skip w.len (d.len - skip - w.len) (addresses_of (of_direction b rest)) in
-    (at.0, omega (arith, count, sum, below, most, less), ap (located (place l)) cut ∙ at.3)
+    (at.0, omega (arith, count, sum, below, most, less), ap (located (place l)) cut ∙ at.3, d, skip, stands l b ds from skip d rest this less s, longest)
 
 -- an address of a range that is reached has a place
 placed : (n a k : ℕ) (p : ℕ → Bool) → list_all p (addresses a n) ≡ true → k < n → p (a + k) ≡ true
@@ -140,7 +157,8 @@ reached : (l : List Region) (b : Bool) (ds : List Descriptor) (from skip : ℕ) 
     all_reach (places_in l) (access_of b) (of_direction b ds) ≡ true → reach (places_in l) (access_of b) d.addr d.len ≡ true
 reached l b ds from skip d rest this s all = (all_tail (λ e. reach (places_in l) (access_of b) e.addr e.len) d (of_direction b rest) ((rw (direction b true d rest this) at s.there) all)).0
 
-pub no_overflow : (l : List Region) (b : Bool) (ds : List Descriptor) (from skip : ℕ) (d : Descriptor) (rest : List Descriptor) → beq (is_writable d) b ≡ true → skip < d.len → Skips l b ds from skip (d ∷ rest) →
+pub no_overflow : (l : List Region) (b : Bool) (ds : List Descriptor) (from skip : ℕ) (d : Descriptor) (rest : List Descriptor) → beq (is_writable d) b ≡ true →
+    skip < d.len → Skips l b ds from skip (d ∷ rest) →
     all_reach (places_in l) (access_of b) (of_direction b ds) ≡ true → d.addr + skip < 2 ^ 64
 no_overflow l b ds from skip d rest this less s all =
     let parts = and_parts (nat_lt (d.addr + d.len) (2 ^ 64)) (list_all (λ x. is_some (place l x)) (addresses d.addr d.len)) (reached l b ds from skip d rest this s all) in
@@ -151,7 +169,8 @@ not_both : (o : Option Place) → is_some o ≡ true → o ≡ None → ⊥
 not_both None some none = cc
 not_both (Some p) some none = cc
 
-pub no_hole : (l : List Region) (b : Bool) (ds : List Descriptor) (from skip : ℕ) (d : Descriptor) (rest : List Descriptor) → beq (is_writable d) b ≡ true → skip < d.len → Skips l b ds from skip (d ∷ rest) →
+pub no_hole : (l : List Region) (b : Bool) (ds : List Descriptor) (from skip : ℕ) (d : Descriptor) (rest : List Descriptor) → beq (is_writable d) b ≡ true →
+    skip < d.len → Skips l b ds from skip (d ∷ rest) →
     all_reach (places_in l) (access_of b) (of_direction b ds) ≡ true → place l (d.addr + skip) ≡ None → ⊥
 no_hole l b ds from skip d rest this less s all none =
     let parts = and_parts (nat_lt (d.addr + d.len) (2 ^ 64)) (list_all (λ x. is_some (place l x)) (addresses d.addr d.len)) (reached l b ds from skip d rest this s all) in
@@ -163,15 +182,26 @@ if_some : {X : Type 0} (P Q : X → Type 0) (o : Option X) → ((x : X) → P x 
 if_some P Q None f h = tt
 if_some P Q (Some x) f h = f x h
 
-pub window_if : (l : List Region) (b : Bool) (ds : List Descriptor) (from skip : ℕ) (d : Descriptor) (rest : List Descriptor) (o : Option Window) (addr len : ℕ) → beq (is_writable d) b ≡ true → addr ≡ d.addr → len ≡ d.len →
-    skip < len → Skips l b ds from skip (d ∷ rest) → IfSome o (IsWindowAt (place l) (addr + skip) (len - skip)) → IfSome o (IsWindowFrom l b ds from)
-window_if l b ds from skip d rest o addr len this at long less s some =
-    if_some (IsWindowAt (place l) (d.addr + skip) (d.len - skip)) (IsWindowFrom l b ds from) o (λ w is. window_of l b ds from skip d rest w this (rw long at less) s is) (rw (at, long) at some)
+if_both : {X : Type 0} (P Q : X → Type 0) (o : Option X) → IfSome o P → IfSome o Q → IfSome o (λ x. P x × Q x)
+if_both P Q None p q = tt
+if_both P Q (Some x) p q = (p, q)
 
-pub hole_if : (l : List Region) (b : Bool) (ds : List Descriptor) (from skip : ℕ) (d : Descriptor) (rest : List Descriptor) (addr len : ℕ) → beq (is_writable d) b ≡ true → addr ≡ d.addr → len ≡ d.len →
+pub window_if : (l : List Region) (b : Bool) (ds : List Descriptor) (from skip : ℕ) (d : Descriptor) (rest : List Descriptor) (o : Option Window) (addr len : ℕ) →
+    beq (is_writable d) b ≡ true → addr ≡ d.addr → len ≡ d.len →
+    skip < len → Skips l b ds from skip (d ∷ rest) → IfSome o (IsWindowAt (place l) (addr + skip) (len - skip)) →
+    IfSome o (λ w. w.len ≡ min (len - skip) (left_at l (addr + skip))) → IfSome o (IsWindowFrom l b ds from)
+window_if l b ds from skip d rest o addr len this at long less s some longest =
+    let P : Window → Type 0 = IsWindowAt (place l) (d.addr + skip) (d.len - skip) in
+    let Q : Window → Type 0 = λ w. w.len ≡ min (d.len - skip) (left_at l (d.addr + skip)) in
+    if_some (λ w. P w × Q w) (IsWindowFrom l b ds from) o (λ w is. window_of l b ds from skip d rest w this (rw long at less) s is.0 is.1)
+    (if_both P Q o (rw (at, long) at some) (rw (at, long) at longest))
+
+pub hole_if : (l : List Region) (b : Bool) (ds : List Descriptor) (from skip : ℕ) (d : Descriptor) (rest : List Descriptor) (addr len : ℕ) →
+    beq (is_writable d) b ≡ true → addr ≡ d.addr → len ≡ d.len →
     skip < len → Skips l b ds from skip (d ∷ rest) → all_reach (places_in l) (access_of b) (of_direction b ds) ≡ true → place l (addr + skip) ≡ None → ⊥
 hole_if l b ds from skip d rest addr len this at long less s all none = no_hole l b ds from skip d rest this (rw long at less) s all (rw at at none)
 
-pub overflow_if : (l : List Region) (b : Bool) (ds : List Descriptor) (from skip : ℕ) (d : Descriptor) (rest : List Descriptor) (addr len : ℕ) → beq (is_writable d) b ≡ true → addr ≡ d.addr → len ≡ d.len →
+pub overflow_if : (l : List Region) (b : Bool) (ds : List Descriptor) (from skip : ℕ) (d : Descriptor) (rest : List Descriptor) (addr len : ℕ) →
+    beq (is_writable d) b ≡ true → addr ≡ d.addr → len ≡ d.len →
     skip < len → Skips l b ds from skip (d ∷ rest) → all_reach (places_in l) (access_of b) (of_direction b ds) ≡ true → addr + skip < 2 ^ 64
 overflow_if l b ds from skip d rest addr len this at long less s all = rw at (no_overflow l b ds from skip d rest this (rw long at less) s all)

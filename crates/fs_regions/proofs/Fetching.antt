@@ -52,10 +52,13 @@ fetches m limit q loaded ds head (Some fault) runs why waits finds =
     on_found m limit q loaded head (IsChain ds) [] (Offers head (CannotFetch fault)) runs waits
     (faulty head fault (nat_lt limit (total_len (readable ds)) || nat_lt limit (total_len (writable ds))) (not (all_reach m Read (readable ds))) (not (all_reach m Write (writable ds)))
     (flat_map (λ d. bytes m d.addr d.len) (readable ds)) (flat_map (λ d. addresses d.addr d.len) (writable ds)) (sym why)) finds
-fetches m limit q loaded ds head None runs why waits finds = λ request long.
-    on_found m limit q loaded head (IsChain ds) request (Offers head (IsRequest request (flat_map (λ d. addresses d.addr d.len) (writable ds)))) runs waits
-    (whole head (nat_lt limit (total_len (readable ds)) || nat_lt limit (total_len (writable ds))) (not (all_reach m Read (readable ds))) (not (all_reach m Write (writable ds)))
-    request (flat_map (λ d. bytes m d.addr d.len) (readable ds)) (flat_map (λ d. addresses d.addr d.len) (writable ds)) (sym why) (long ∙ sym (length-request m (readable ds)))) finds
+fetches m limit q loaded ds head None runs why waits finds = (
+  finds,
+  λ request long.
+      on_found m limit q loaded head (IsChain ds) request (Offers head (IsRequest request (flat_map (λ d. addresses d.addr d.len) (writable ds)))) runs waits
+      (whole head (nat_lt limit (total_len (readable ds)) || nat_lt limit (total_len (writable ds))) (not (all_reach m Read (readable ds))) (not (all_reach m Write (writable ds)))
+      request (flat_map (λ d. bytes m d.addr d.len) (readable ds)) (flat_map (λ d. addresses d.addr d.len) (writable ds)) (sym why) (long ∙ sym (length-request m (readable ds)))) finds,
+)
 
 -- a fault that the walk found
 pub fetches_fault : (m : Memory) (limit : ℕ) (q : Queue) (loaded : Loaded) (ds : List Descriptor) (head : ℕ) (fault : ChainFault) → q.stopped ≡ false → Waits m q loaded head →

@@ -47,7 +47,8 @@ ended_alone size [] f g same = ap Some (sym same)
 ended_alone size (l ∷ ls) f g same = refl
 
 by_step : (size : ℕ) (v : Visit) (w : WalkStep) (ls : List Load) (ds : List Descriptor) →
-    option_map (standing_before (with_joining ds (joining w))) (found_exactly size ls (ahead_after size v w)) ≡ option_map (standing_before ds) (option_map (after_walk_step w) (found_exactly size ls (ahead_after size v w)))
+    option_map (standing_before (with_joining ds (joining w))) (found_exactly size ls (ahead_after size v w)) ≡ option_map (standing_before ds)
+    (option_map (after_walk_step w) (found_exactly size ls (ahead_after size v w)))
 by_step size v (Ordinary d) ls ds = pushed ds d _
 by_step size v (Table t) ls ds = alone ds _
 by_step size v (Faulty f) ls ds = ap (option_map (standing_before ds)) (ended_alone size ls (HasFault f) (λ _. HasFault f) refl)
@@ -60,7 +61,8 @@ given : (size : ℕ) (v : Visit) (l : Load) (ls : List Load) (ds : List Descript
 unfolding found_exactly
 given size v l ls ds joins a at whole joins-is a-is =
     let w = step_by size v l in
-    ap (λ (b : Bool). option_map (standing_before ds) (if b && is_whole 16 l.came then option_map (after_walk_step w) (found_exactly size ls (ahead_after size v w)) else None)) (eq-eqb l.address (entry_address v) at)
+    ap (λ (b : Bool). option_map (standing_before ds) (if b && is_whole 16 l.came then option_map (after_walk_step w) (found_exactly size ls (ahead_after size v w))
+    else None)) (eq-eqb l.address (entry_address v) at)
     ∙ ap (λ (b : Bool). option_map (standing_before ds) (if b then option_map (after_walk_step w) (found_exactly size ls (ahead_after size v w)) else None)) whole
     ∙ sym (by_step size v w ls ds)
     ∙ sym (ap (λ (x : Ahead). option_map (standing_before (with_joining ds (joining w))) (found_exactly size ls x)) a-is)
@@ -75,7 +77,8 @@ pub brings_none : (size : ℕ) (from to : Ahead) → to ≡ from → Brings size
 brings_none size from to is = λ more. ap (found_exactly size more) (sym is) ∙ same (found_exactly size more to)
 
 -- one load more
-pub brings_on : (size : ℕ) (ls : List Load) (from : Ahead) (ds : List Descriptor) (v : Visit) (l : Load) (joins : Option Descriptor) (a : Ahead) → l.address ≡ entry_address v → is_whole 16 l.came ≡ true →
+pub brings_on : (size : ℕ) (ls : List Load) (from : Ahead) (ds : List Descriptor) (v : Visit) (l : Load) (joins : Option Descriptor) (a : Ahead) →
+    l.address ≡ entry_address v → is_whole 16 l.came ≡ true →
     joins ≡ joining (step_by size v l) → a ≡ ahead_after size v (step_by size v l) → Brings size ls from ds (Reads v) → Brings size (ls ++ l ∷ []) from (with_joining ds joins) a
 brings_on size ls from ds v l joins a at whole joins-is a-is so_far =
     λ more. ap (λ (x : List Load). found_exactly size x from) (append_assoc ls (l ∷ []) more) ∙ so_far (l ∷ more) ∙ given size v l more ds joins a at whole joins-is a-is
@@ -86,6 +89,7 @@ before (comes_to.Faulty fault) ds = before-fault ds fault
 before comes_to.Stopped ds = before-stop ds
 
 -- a walk that has ended found this
-pub brings_end : (size : ℕ) (ls : List Load) (from : Ahead) (ds : List Descriptor) (w : walked.Walked) → Brings size ls from ds (Ends (found_of w [])) → found_exactly size (ls ++ []) from ≡ Some (found_of w ds)
+pub brings_end : (size : ℕ) (ls : List Load) (from : Ahead) (ds : List Descriptor) (w : walked.Walked) → Brings size ls from ds (Ends (found_of w [])) →
+    found_exactly size (ls ++ []) from ≡ Some (found_of w ds)
 unfolding found_exactly
 brings_end size ls from ds w so_far = so_far [] ∙ ap Some (before w ds)

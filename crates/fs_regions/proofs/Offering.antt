@@ -41,7 +41,13 @@ on_idle m limit q loaded runs none asked waits = (asked, [], All-nil (IsLost m),
 
 pub on_refused : (m : Memory) (limit : ℕ) (q : Queue) (loaded : Loaded) (e : QueueError) → q.stopped ≡ false → loaded.entries ≡ [] → RingIsAsked m q loaded →
     waits_by q loaded.index loaded.entry ≡ Some (avail.Refused e) → OffersBy m limit q loaded [] (Refuses e)
-on_refused m limit q loaded e runs none asked waits = (asked, [], All-nil (IsLost m), on_next m limit q loaded.index loaded.entry (loaded.entries ++ []) [] (avail.Refused e) runs waits ∙ (rw none refl))
+on_refused m limit q loaded e runs none asked waits = (
+  asked,
+  [],
+  All-nil (IsLost m),
+  on_next m limit q loaded.index loaded.entry (loaded.entries ++ []) []
+      (avail.Refused e) runs waits ∙ (rw none refl),
+)
 
 -- where a chain can't go back
 lacks : (a b : Bool) (e : QueueError) (x : Option Offer) → (if not a then Some UsedUnreachable else if not b then Some AvailFlagsUnreachable else None) ≡ Some e →
@@ -50,7 +56,8 @@ lacks false b e x is = let same : UsedUnreachable ≡ e = cc in ap (λ (y : Queu
 lacks true false e x is = let same : AvailFlagsUnreachable ≡ e = cc in ap (λ (y : QueueError). Some (Refuses y)) same
 lacks true true e x is = absurd (cc)
 
-pub on_lacking : (m : Memory) (limit : ℕ) (q : Queue) (loaded : Loaded) (head : ℕ) (progress : Progress) (e : QueueError) → q.stopped ≡ false → HeadWaits m q loaded head progress → return_fault m q ≡ Some e →
+pub on_lacking : (m : Memory) (limit : ℕ) (q : Queue) (loaded : Loaded) (head : ℕ) (progress : Progress) (e : QueueError) → q.stopped ≡ false →
+    HeadWaits m q loaded head progress → return_fault m q ≡ Some e →
     OffersBy m limit q loaded [] (Refuses e)
 on_lacking m limit q loaded head progress e runs waits fault = (
   waits.asked,

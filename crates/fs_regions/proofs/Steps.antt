@@ -36,7 +36,8 @@ abbrev pub lost_walked : Bool → walked.Walked
 lost_walked true = comes_to.Faulty TableUnreachable
 lost_walked false = comes_to.Stopped
 
-by_step : (size : ℕ) (v : Visit) (b : Bool) → v.table.indirect ≡ b → option_map (after_walk_step (step_at size v None)) (found_exactly size [] (ahead_after size v (step_at size v None))) ≡ Some (found_of (lost_walked b) [])
+by_step : (size : ℕ) (v : Visit) (b : Bool) → v.table.indirect ≡ b → option_map (after_walk_step (step_at size v None))
+    (found_exactly size [] (ahead_after size v (step_at size v None))) ≡ Some (found_of (lost_walked b) [])
 unfolding found_exactly
 by_step size v true is = rw is refl
 by_step size v false is = rw is refl
@@ -57,7 +58,8 @@ loses m q loaded head ds v w inside away is brings = (
 )
 
 -- a walk that has ended
-pub ends : (m : Memory) (q : Queue) (loaded : Loaded) (head : ℕ) (ds : List Descriptor) (w : walked.Walked) → Brings q.size loaded.entries (ahead_at q.size (first_visit q head)) ds (Ends (found_of w [])) →
+pub ends : (m : Memory) (q : Queue) (loaded : Loaded) (head : ℕ) (ds : List Descriptor) (w : walked.Walked) →
+    Brings q.size loaded.entries (ahead_at q.size (first_visit q head)) ds (Ends (found_of w [])) →
     FindsBy m q loaded head (found_of w ds)
 ends m q loaded head ds w brings = ([], All-nil (IsLost m), brings_end q.size loaded.entries (ahead_at q.size (first_visit q head)) ds w brings)
 
@@ -106,7 +108,8 @@ not_entry_of (says.Refused r) other e = cc
 by_alone : (q : Queue) (index : Option (List ℕ)) → is_whole 2 index ≡ true → asks_entry (by_index q index) ≡ false → waits_by q index None ≡ Some (by_index q index)
 by_alone q index whole alone = rw (whole, alone) refl
 
-by_both : (q : Queue) (index entry : Option (List ℕ)) → is_whole 2 index ≡ true → asks_entry (by_index q index) ≡ true → is_whole 2 entry ≡ true → waits_by q index entry ≡ Some (by_entry q index entry)
+by_both : (q : Queue) (index entry : Option (List ℕ)) → is_whole 2 index ≡ true → asks_entry (by_index q index) ≡ true → is_whole 2 entry ≡ true →
+    waits_by q index entry ≡ Some (by_entry q index entry)
 by_both q index entry whole asks_it whole_entry = rw (whole, asks_it, whole_entry) refl
 
 no_more : {A : Type 0} (b : Bool) → b ≡ false → b ≡ true → A
@@ -189,7 +192,8 @@ ring_same l position q (says.Refused e) is same = tt
 
 -- what comes of the index, by what the code answers
 pub after_index : (m : Memory) (q : Queue) (l : QueueLayout) (position : ℕ) (index : Option (List ℕ)) (w : code.Walk) → at_position l position ≡ q → is_whole 2 index ≡ true →
-    (index ≡ None → reach m Read (avail_index_at q) 2 ≡ false) → stage_of w ≡ stage_at (by_index (at_position l position) index) → IfRingEntry w (λ x. (x.layout ≡ l) × (x.position ≡ position)) → BeginsChain l w →
+    (index ≡ None → reach m Read (avail_index_at q) 2 ≡ false) → stage_of w ≡ stage_at (by_index (at_position l position) index) →
+    IfRingEntry w (λ x. (x.layout ≡ l) × (x.position ≡ position)) → BeginsChain l w →
     StandsAfterIndex m q index w
 after_index m q l position index w is whole asked stage same chain = record {
   stage = stage ∙ ap (λ (x : Queue). stage_at (by_index x index)) is;

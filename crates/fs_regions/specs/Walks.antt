@@ -8,7 +8,7 @@ use Rattle.fs_queue.specs.declared.walk.Walk as code
 use Rattle.fs_queue.specs.declared.walk.Walk.TheVariants as waits
 use Rattle.fs_queue.specs.Queue.{Queue, avail_index_at, ring_entry_at}
 use Rattle.fs_queue.specs.NextAvail.{NextAvail, Head}
-use Rattle.fs_queue.specs.Chain.{Descriptor, with_front, entry_address, Found, first_visit}
+use Rattle.fs_queue.specs.Chain.{Descriptor, with_front, entry_address, Found, IsChain, first_visit}
 use Rattle.fs_queue.specs.Loads.{Load, Ahead, Reads, found_exactly, chain_exactly, asks_entry, ahead_at, is_whole}
 use Rattle.fs_queue.specs.OfferLoads.{waits_by, offer_by}
 use Rattle.fs_queue.specs.Taking.{readable, writable, total_len, IsRequest, CannotFetch, Offer, Idle, Refuses, Offers}
@@ -138,11 +138,12 @@ abbrev pub OffersBy : Memory → (limit : ℕ) → Queue → Loaded → (request
 OffersBy m limit q loaded request o =
     RingIsAsked m q loaded × (lost : List Load) × All (IsLost m) lost × (offer_by m limit q loaded.index loaded.entry (loaded.entries ++ lost) request ≡ Some o)
 
--- what is fetched of a chain with these descriptors
+-- what is fetched of a chain with these descriptors: if it has no fault, the walk finds just them, and whatever comes of their readable bytes is the request
 abbrev pub FetchesBy : Memory → (limit : ℕ) → Queue → Loaded → List Descriptor → (head : ℕ) → Option ChainFault → Type 0
 FetchesBy m limit q loaded ds head (Some fault) = OffersBy m limit q loaded [] (Offers head (CannotFetch fault))
 FetchesBy m limit q loaded ds head None =
-    (request : List ℕ) → length request ≡ total_len (readable ds) → OffersBy m limit q loaded request (Offers head (IsRequest request (addresses_of (writable ds))))
+    FindsBy m q loaded head (IsChain ds)
+    × ((request : List ℕ) → length request ≡ total_len (readable ds) → OffersBy m limit q loaded request (Offers head (IsRequest request (addresses_of (writable ds)))))
 
 -- what a walk comes to by the loads so far
 abbrev pub ComesTo : Memory → (limit : ℕ) → Queue → Loaded → List Descriptor → comes.Step → Type 0

@@ -1,8 +1,8 @@
 -- Where the bytes of a chain's request and room stand.
-use Rattle.std.specs.Prelude.{◌≡◌, ℕ, ◌<◌, ◌≤◌, ◌&&◌, ◌||◌, ◌+◌, ◌%◌, ◌^◌, not, Bool, List, nat_lt, take, drop, Option, Some, None, if◌then◌else◌}
+use Rattle.std.specs.Prelude.{◌≡◌, ℕ, ◌<◌, ◌≤◌, ◌&&◌, ◌||◌, ◌+◌, ◌-◌, ◌%◌, ◌^◌, min, not, Bool, List, ◌∷◌, ◌++◌, nat_lt, take, drop, Option, Some, None, if◌then◌else◌}
 use Rattle.vm_iotlb.specs.declared.permissions.Permissions.TheVariants.{Read, Write}
 use Rattle.vm_memory_core.specs.Window.{Window, places_of}
-use Rattle.vm_memory.specs.Layout.{Region, place}
+use Rattle.vm_memory.specs.Layout.{Region, left_at, place}
 use Rattle.vm_memory.specs.Memory.{Memory, addresses, located, reach}
 use Rattle.fs_queue.specs.declared.fault.ChainFault.{ChainFault}
 use Rattle.fs_queue.specs.declared.fault.ChainFault.TheVariants.{OverLimit, RequestUnreachable, RoomUnreachable}
@@ -28,13 +28,19 @@ why_not m limit ds =
     else if not (all_reach m Write (writable ds)) then Some RoomUnreachable
     else None
 
--- a window, not empty, that has the places of the bytes of one direction from one on
+-- the descriptor in which one byte of some stands, and how many of its bytes come before that one
+abbrev pub StandsIn : List Descriptor → (from : ℕ) → (d : Descriptor) → (skip : ℕ) → Type 0
+StandsIn ds from d skip = (before behind : List Descriptor) × (ds ≡ before ++ d ∷ behind) × (from ≡ total_len before + skip) × (skip < d.len)
+
+-- a window, not empty, that has the places of the bytes of one direction from one on, as far as their descriptor and their region go
 abbrev pub IsWindowFrom : List Region → (write_only : Bool) → List Descriptor → (from : ℕ) → Window → Type 0
 IsWindowFrom regions write_only ds from w =
     (0 < w.len) × (from + w.len ≤ total_len (of_direction write_only ds))
     × (located (place regions) (take w.len (drop from (addresses_of (of_direction write_only ds)))) ≡ Some (places_of w))
+    × (d : Descriptor) × (skip : ℕ) × StandsIn (of_direction write_only ds) from d skip × (w.len ≡ min (d.len - skip) (left_at regions (d.addr + skip)))
 
--- so many addresses, not none, that the bytes of one direction have from one on; the first is told modulo 2^64
+-- so many addresses, not none, that the bytes of one direction have from one on, as far as their descriptor goes; the first is told modulo 2^64
 abbrev pub IsRangeFrom : (write_only : Bool) → List Descriptor → (from guest len : ℕ) → Type 0
 IsRangeFrom write_only ds from guest len =
     (0 < len) × (a : ℕ) × (guest ≡ a % 2 ^ 64) × (take len (drop from (addresses_of (of_direction write_only ds))) ≡ addresses a len)
+    × (d : Descriptor) × (skip : ℕ) × StandsIn (of_direction write_only ds) from d skip × (len ≡ d.len - skip)

@@ -72,6 +72,7 @@ impl Course {
     }
 
     /// The walk from its beginning: no load was made. The list of descriptors is emptied.
+    #[inline(always)]
     pub fn begin(&self, regions: &GuestRegions, descriptors: &mut Descriptors) -> Step
         ensures empty { descriptors.new.items ≡ [] }
         ensures comes { ComesTo (places_in regions.now) self.now.limit (queue_of self.now) nothing descriptors.new.items result }
@@ -91,6 +92,7 @@ impl Course {
 
     /// Takes the bytes of the load that a walk asked for, and answers the walk's next state. The descriptors that joined the chain so far stand in the list, which has
     /// room for one more.
+    #[inline(always)]
     pub fn give(
         &self,
         regions: &GuestRegions,
@@ -117,6 +119,7 @@ impl Course {
     }
 
     // Goes on by the bytes of an entry of a table.
+    #[inline(always)]
     fn give_entry(
         &self,
         regions: &GuestRegions,
@@ -139,6 +142,7 @@ impl Course {
     }
 
     // What a walk comes to once the available index was loaded, or has no place.
+    #[inline(always)]
     fn at_index(&self, regions: &GuestRegions, walk: Walk, descriptors: &[Descriptor]) -> Step
         ensures { (index : Option (List ℕ)) → StandsAfterIndex (places_in regions.now) (queue_of self.now) index walk → descriptors.now ≡ []
             → ComesTo (places_in regions.now) self.now.limit (queue_of self.now) (record nothing { index = index }) descriptors.now result }
@@ -156,6 +160,7 @@ impl Course {
     }
 
     // What a walk comes to where the ring told what waits.
+    #[inline(always)]
     fn told(&self, regions: &GuestRegions, walk: Walk, descriptors: &[Descriptor]) -> Step
         ensures { (loaded : Loaded) → TellsBy (places_in regions.now) (queue_of self.now) loaded walk → descriptors.now ≡ []
             → ComesTo (places_in regions.now) self.now.limit (queue_of self.now) loaded descriptors.now result }
@@ -169,6 +174,7 @@ impl Course {
     }
 
     // What a walk comes to once a head waits.
+    #[inline(always)]
     fn at_head(
         &self,
         regions: &GuestRegions,
@@ -186,6 +192,7 @@ impl Course {
     }
 
     // What a walk through a chain comes to.
+    #[inline(always)]
     fn at_progress(
         &self,
         regions: &GuestRegions,
@@ -204,6 +211,7 @@ impl Course {
     }
 
     // A walk that asks for an entry of a table: it asks for it, unless the entry has no place.
+    #[inline(always)]
     fn at_entry(
         &self,
         regions: &GuestRegions,
@@ -227,6 +235,7 @@ impl Course {
     }
 
     // What a walk that has ended comes to.
+    #[inline(always)]
     fn ended(
         &self,
         regions: &GuestRegions,

@@ -4,7 +4,7 @@ use Rattle.vm_memory_core.proofs.WindowLemmas.{drop_item}
 use Rattle.fs_queue.specs.Chain.{Descriptor, is_writable}
 use Rattle.fs_queue.specs.Windows.{addresses_of, of_direction}
 use Rattle.vm_memory.specs.Memory.{addresses}
-use Rattle.fs_regions.proofs.Directions.{Skips, range_of, skips_on, skips_other}
+use Rattle.fs_regions.proofs.Directions.{Skips, range_of, skips_on, skips_other, stands}
 use Rattle.fs_regions.proofs.chain.range_from.Goals as goal
 use Rattle.fs_regions.proofs.chain.range_from.Goals.{then-is_write_only-write_only+else-skip-len, else-is_write_only-write_only}
 
@@ -23,6 +23,10 @@ returns-then-skip-len-clause-some c =
       d.addr + c.loop-descriptor.skip,
       ap (λ n. (n + c.loop-descriptor.skip) % 2 ^ 64) (ap (λ (x : Descriptor). x.addr) c.descriptor.view_is),
       subst P (sym long) there,
+      d,
+      c.loop-descriptor.skip,
+      stands [] c.args.write_only c.args.descriptors.now c.args.from c.loop-descriptor.skip d rest this (rw long at c.if-skip-len.true) skips,
+      ap (λ n. n - c.loop-descriptor.skip) long,
     )
 
 pub loop-descriptor-preserved : goal.loop-descriptor-preserved
@@ -34,7 +38,8 @@ loop-descriptor-preserved c =
       | then-is_write_only-write_only+else-skip-len w ↦
           let this : beq (is_writable c.descriptor-item.result) c.args.write_only ≡ true = ap (λ x. beq x c.args.write_only) (sym c.is_write_only.ensures) ∙ w.if-is_write_only-write_only.true in
           let long : w.from-len.result ≡ c.descriptor-item.result.len = w.from-len.ensures ∙ ap (λ (d : Descriptor). d.len) c.descriptor.view_is in
-          let on = skips_on [] c.args.write_only c.args.descriptors.now c.args.from c.loop-descriptor.skip c.descriptor-item.result (drop (c.loop-descriptor.descriptor-index + 1) c.args.descriptors.now)
+          let on = skips_on [] c.args.write_only c.args.descriptors.now c.args.from c.loop-descriptor.skip c.descriptor-item.result
+          (drop (c.loop-descriptor.descriptor-index + 1) c.args.descriptors.now)
           this (rw long at w.if-skip-len.false) skips in
           rw (w.skip-is ∙ ap (λ n. c.loop-descriptor.skip - n) long) on
       | else-is_write_only-write_only w ↦

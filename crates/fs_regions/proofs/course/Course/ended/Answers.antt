@@ -10,7 +10,8 @@ use Rattle.fs_regions.proofs.course.Course.ended.Goals as goal
 
 pub returns-in-Stopped : goal.returns-in-Stopped
 returns-in-Stopped c = λ loaded waits finds.
-    on_found (places_in c.args.regions.now) c.args.self.now.limit (queue_of c.args.self.now) loaded c.args.head StopsQueue [] (Refuses DescriptorUnreachable) refl waits refl (rw c.in-Stopped.is at finds)
+    on_found (places_in c.args.regions.now) c.args.self.now.limit (queue_of c.args.self.now) loaded c.args.head StopsQueue [] (Refuses DescriptorUnreachable) refl waits
+    refl (rw c.in-Stopped.is at finds)
 
 pub returns-in-Faulty : goal.returns-in-Faulty
 returns-in-Faulty c = λ loaded waits finds.
@@ -18,4 +19,5 @@ returns-in-Faulty c = λ loaded waits finds.
 
 pub returns-in-Chain : goal.returns-in-Chain
 returns-in-Chain c = λ loaded waits finds.
-    fetches (places_in c.args.regions.now) c.args.self.now.limit (queue_of c.args.self.now) loaded c.args.descriptors.now c.args.head c.chain_fault.result refl c.chain_fault.ensures waits (rw c.in-Chain.is at finds)
+    fetches (places_in c.args.regions.now) c.args.self.now.limit (queue_of c.args.self.now) loaded c.args.descriptors.now c.args.head c.chain_fault.result refl
+    c.chain_fault.ensures waits (rw c.in-Chain.is at finds)

@@ -13,4 +13,5 @@ returns-in-Refused c = λ loaded tells none.
     (tells.by_loads ∙ ap Some (sym (untold (Refused c.in-Refused.error) tells.next (ap stage_of (sym c.in-Refused.is) ∙ tells.tells))))
 
 pub returns-in-Chain : goal.returns-in-Chain
-returns-in-Chain c = λ loaded tells none. c.at_head.ensures loaded (head_waits (places_in c.args.regions.now) (queue_of c.args.self.now) loaded c.in-Chain.head c.in-Chain.progress (rw c.in-Chain.is at tells)) none
+returns-in-Chain c = λ loaded tells none. c.at_head.ensures loaded
+    (head_waits (places_in c.args.regions.now) (queue_of c.args.self.now) loaded c.in-Chain.head c.in-Chain.progress (rw c.in-Chain.is at tells)) none
