@@ -171,7 +171,7 @@ enum fs_call_kind {
     FS_CALL_LOOKUP = 1,       /* name */
     FS_CALL_FORGET = 2,       /* count: the guest holds node so many times less */
     FS_CALL_GETATTR = 3,      /* handle, if has_handle */
-    FS_CALL_SETATTR = 4,      /* valid (FATTR_ bits), attr, handle if has_handle */
+    FS_CALL_SETATTR = 4,      /* valid (FATTR_ bits), attr, handle if has_handle, owner (with FATTR_LOCKOWNER) */
     FS_CALL_READLINK = 5,     /* data_len */
     FS_CALL_SYMLINK = 6,      /* name, value: what it leads to */
     FS_CALL_MKNOD = 8,        /* name, mode, rdev, umask */
@@ -179,7 +179,7 @@ enum fs_call_kind {
     FS_CALL_UNLINK = 10,      /* name */
     FS_CALL_RMDIR = 11,       /* name */
     FS_CALL_RENAME = 12,      /* name in node becomes name2 in node2; flags (RENAME_) */
-    FS_CALL_LINK = 13,        /* node2 gets the name in node */
+    FS_CALL_LINK = 13,        /* node gets the name in the directory node2 */
     FS_CALL_OPEN = 14,        /* flags (O_ of Linux x86), kill_priv */
     FS_CALL_READ = 15,        /* handle, offset, size; data_len bytes of the room, at most, take data; flags, owner if has_owner */
     FS_CALL_WRITE = 16,       /* handle, offset, size; data at data_at of the request, data_len bytes; flags, owner, delayed, kill_priv */
@@ -198,7 +198,7 @@ enum fs_call_kind {
     FS_CALL_FSYNCDIR = 30,    /* handle, data_only */
     FS_CALL_ACCESS = 34,      /* mode: R_OK, W_OK, X_OK */
     FS_CALL_CREATE = 35,      /* name, mode, flags, umask, kill_priv */
-    FS_CALL_DESTROY = 38,
+    FS_CALL_DESTROY = 38,     /* the session ends: set the device's options to 0 */
     FS_CALL_BATCH_FORGET = 42, /* value: count pairs (fs_pair) */
     FS_CALL_FALLOCATE = 43,   /* handle, mode, offset, size */
     FS_CALL_READDIRPLUS = 44, /* handle, offset, size: fs_add_direntry_plus */
@@ -238,8 +238,6 @@ static inline const char *fs_status_name(uint32_t status) {
     FS_NAME(FS_RECORD_BAD_QUEUE); FS_NAME(FS_RECORD_BAD_OPTIONS); FS_NAME(FS_RECORD_OUT_OF_MEMORY); FS_NAME(FS_RECORD_MISMATCH);
     FS_NAME(FS_SHORT_BUFFER); FS_NAME(FS_LONG_REPLY); FS_NAME(FS_WRONG_ORDER); FS_NAME(FS_OTHER_QUEUE);
     FS_NAME(FS_OTHER_KIND); FS_NAME(FS_CHAIN_OUT);
-   
-   
     default: return "";
     }
 }

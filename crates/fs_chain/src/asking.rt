@@ -19,7 +19,6 @@ use crate::state::{Out, Reply, State};
 use crate::workbench::Workbench;
 use server_phases::{Asked, AskedFront, FileCall, Front, Listing, Session, Waiting};
 use server_segments::Error;
-use std::mem;
 
 /// How many bytes of a request tell that it is a WRITE, and what it asks.
 const REQUEST_FRONT: usize = 80;
@@ -112,6 +111,7 @@ impl Workbench {
 
     // Asks by some first bytes of a request.
     fn ask_out(&mut self, session: &Session, out: Out, request: &[u8]) -> Result<Told, ChainError>
+        requires { self.old.state ≡ at.Taken out }
         ensures error { IfErr result (λ e. (ask_error (at.Taken out) (length request.now) ≡ Some e)
             ⊎ ((e ≡ ChainError.OutOfMemory) × (length request.now ≡ out.request_len) × (may_want_memory session.now.options.0 request.now out.room_len ≡ true))) }
         ensures ok { OnOk result (ask_error (at.Taken out) (length request.now) ≡ None) }
@@ -125,15 +125,11 @@ impl Workbench {
     {
         let len = out.request_len;
         if len < request.len() {
-            self.state = State::Taken(out);
             return Err(ChainError::BadArgument);
         }
         match session.ask_front(self.alloc, request, len, out.room_len, &mut self.place) {
             Ok(asked) => Ok(self.keep_front(out, request.len(), asked)),
-            Err(_) => {
-                self.state = State::Taken(out);
-                Err(ChainError::OutOfMemory)
-            }
+            Err(_) => Err(ChainError::OutOfMemory),
         }
     }
 
@@ -151,12 +147,12 @@ impl Workbench {
         ensures same { IsAllBut self.old self.new × (self.new.descriptors ≡ self.old.descriptors) }
         ensures stays { OnErr result (self.new.state ≡ self.old.state) }
     {
-        match mem::replace(&mut self.state, State::Free) {
-            State::Taken(out) => self.ask_out(session, out, request),
-            other => {
-                self.state = other;
-                Err(ChainError::WrongOrder)
+        match &self.state {
+            State::Taken(out) => {
+                let out = *out;
+                self.ask_out(session, out, request)
             }
+            _ => Err(ChainError::WrongOrder),
         }
     }
 }

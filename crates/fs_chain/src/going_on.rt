@@ -5,8 +5,8 @@ ghost use Rattle.smallvec.specs.SmallVec.{HasRoomFor};
 ghost use Rattle.vm_memory.specs.Layout.{left_at, place};
 ghost use Rattle.vm_memory.specs.Slices.{IsWindowAt};
 ghost use Rattle.fs_regions.specs.Walks.{asked_by, asked_len};
-ghost use Rattle.fs_chain.specs.Orders.{give_error, walk_error, IfWalking, IsWalking};
-ghost use Rattle.fs_chain.specs.Walks.{GoesOn, WalksOn, IsAllBut};
+ghost use Rattle.fs_chain.specs.Orders.{begin_error, give_error, walk_error, IfWalking, IsWalking};
+ghost use Rattle.fs_chain.specs.Walks.{WalksOn, IsAllBut};
 ghost use Rattle.fs_chain.specs.declared.state.State.TheVariants as at;
 
 use crate::error::ChainError;
@@ -14,7 +14,8 @@ use crate::queue::KeptQueue;
 use crate::state::State;
 use crate::walking::Walked;
 use crate::workbench::Workbench;
-use fs_regions::{Course, GuestRegions, QueueWalk};
+use fs_queue::Walk;
+use fs_regions::{Course, GuestRegions, QueueWalk, Step};
 use std::mem;
 use vm_memory_core::VolatileSlice;
 
@@ -31,74 +32,101 @@ fn window_of(regions: &GuestRegions, walk: &QueueWalk, from: usize) -> Option<Vo
     regions.window_at(walk.address() + from as u64, len - from)
 }
 
+// Takes a walk out of its place, where the beginning of one stays.
+fn take(walk: &mut QueueWalk, course: &Course) -> QueueWalk
+    ensures { result ≡ walk.old }
+{
+    match Walk::begin(course.layout, course.position) {
+        Walk::Index(first) => mem::replace(walk, QueueWalk::Index(first)),
+        _ => unreachable!(),
+    }
+}
+
+// Why a walk doesn't begin by so many bytes, of a queue as it stands.
+fn begin_refusal(queue: &KeptQueue, len: usize) -> Option<ChainError>
+    ensures { result ≡ begin_error queue.now len }
+{
+    if len != 0 {
+        return Some(ChainError::BadArgument);
+    }
+    if queue.out {
+        return Some(ChainError::ChainOut);
+    }
+    None
+}
+
+// Why a walk doesn't go on by so many bytes, of a queue as it stands.
+#[inline(always)]
+fn give_refusal(
+    queue: &KeptQueue,
+    course: &Course,
+    walk: &QueueWalk,
+    len: usize,
+) -> Option<ChainError>
+    ensures { result ≡ give_error queue.now course.now (asked_len walk.now) len }
+{
+    if len != walk.len() {
+        return Some(ChainError::BadArgument);
+    }
+    if !queue.has(course) {
+        return Some(ChainError::OtherQueue);
+    }
+    if queue.out {
+        return Some(ChainError::ChainOut);
+    }
+    None
+}
+
 impl Workbench {
-    // Whether a walk can go on by these bytes, of a queue as it stands: then there is room for one more descriptor.
-    fn can_go_on(
-        &mut self,
-        queue: &KeptQueue,
-        course: &Course,
-        walk: &QueueWalk,
-        loaded: &[u8],
-    ) -> Result<(), ChainError>
-        ensures error { IfErr result (λ e. (give_error queue.now course.now (asked_len walk.now) (length loaded.now) ≡ Some e)
-            ⊎ ((e ≡ ChainError.OutOfMemory) × (give_error queue.now course.now (asked_len walk.now) (length loaded.now) ≡ None))) }
-        ensures ok { OnOk result (give_error queue.now course.now (asked_len walk.now) (length loaded.now) ≡ None) }
-        ensures room { OnOk result (HasRoomFor self.new.descriptors 1) }
-        ensures same { IsAllBut self.old self.new × (self.new.state ≡ self.old.state) × (self.new.descriptors.items ≡ self.old.descriptors.items) }
+    // Goes on with a walk by the bytes of the load that it asked for, where it stands.
+    #[inline(always)]
+    fn give(&mut self, queue: &mut KeptQueue, loaded: &[u8]) -> Walked
+        requires walking { IsWalking self.old.state }
+        requires bytes { IfWalking self.old.state (λ walk. length loaded.now ≡ asked_len walk) }
+        requires room { HasRoomFor self.old.descriptors 1 }
+        ensures { WalksOn loaded.now self.old self.new queue.old queue.new result }
     {
-        if loaded.len() != walk.len() {
-            return Err(ChainError::BadArgument);
+        match &mut self.state {
+            State::Walking(course, walk) => {
+                let taken = take(walk, course);
+                match course.give(&self.regions, taken, loaded, &mut self.descriptors) {
+                    Step::Load(next) => {
+                        let len = next.len();
+                        *walk = next;
+                        Walked::Load(len)
+                    }
+                    ended => {
+                        let course = *course;
+                        self.state = State::Free;
+                        self.settle(queue, course, ended)
+                    }
+                }
+            }
+            _ => unreachable!(),
         }
-        if !queue.has(course) {
-            return Err(ChainError::OtherQueue);
-        }
-        if queue.out {
-            return Err(ChainError::ChainOut);
+    }
+
+    // Goes on with a walk by these bytes, if it asked for so many and its queue is this one.
+    #[inline(always)]
+    fn go_on(&mut self, queue: &mut KeptQueue, loaded: &[u8]) -> Result<Walked, ChainError>
+        requires { IsWalking self.old.state }
+        ensures error { IfErr result (λ e. (walk_error self.old.state queue.old (length loaded.now) ≡ Some e)
+            ⊎ ((e ≡ ChainError.OutOfMemory) × (walk_error self.old.state queue.old (length loaded.now) ≡ None))) }
+        ensures ok { OnOk result (walk_error self.old.state queue.old (length loaded.now) ≡ None) }
+        ensures same { OnErr result (IsAllBut self.old self.new × (self.new.state ≡ self.old.state) × (self.new.descriptors.items ≡ self.old.descriptors.items) × (queue.new ≡ queue.old)) }
+        ensures walks { IfOk result (λ walked. WalksOn loaded.now self.old self.new queue.old queue.new walked) }
+    {
+        match &self.state {
+            State::Walking(course, walk) => {
+                if let Some(error) = give_refusal(queue, course, walk, loaded.len()) {
+                    return Err(error);
+                }
+            }
+            _ => return Err(ChainError::WrongOrder),
         }
         match self.descriptors.reserve(1) {
-            Ok(()) => Ok(()),
+            Ok(()) => Ok(self.give(queue, loaded)),
             Err(_) => Err(ChainError::OutOfMemory),
-        }
-    }
-
-    // Gives the walk the bytes of the load that it asked for.
-    fn give(
-        &mut self,
-        queue: &mut KeptQueue,
-        course: Course,
-        walk: QueueWalk,
-        loaded: &[u8],
-    ) -> Walked
-        requires free { self.old.state ≡ at.Free }
-        requires bytes { length loaded.now ≡ asked_len walk }
-        requires room { HasRoomFor self.old.descriptors 1 }
-        ensures { GoesOn course walk loaded.now self.old self.new queue.old queue.new result }
-    {
-        let step = course.give(&self.regions, walk, loaded, &mut self.descriptors);
-        self.settle(queue, course, step)
-    }
-
-    // Gives the walk these bytes, if it asked for so many and its queue is this one.
-    fn go_on(
-        &mut self,
-        queue: &mut KeptQueue,
-        course: Course,
-        walk: QueueWalk,
-        loaded: &[u8],
-    ) -> Result<Walked, ChainError>
-        requires free { self.old.state ≡ at.Free }
-        ensures error { IfErr result (λ e. (give_error queue.old course (asked_len walk) (length loaded.now) ≡ Some e)
-            ⊎ ((e ≡ ChainError.OutOfMemory) × (give_error queue.old course (asked_len walk) (length loaded.now) ≡ None))) }
-        ensures ok { OnOk result (give_error queue.old course (asked_len walk) (length loaded.now) ≡ None) }
-        ensures same { OnErr result (IsAllBut self.old self.new × (self.new.state ≡ at.Walking course walk) × (self.new.descriptors.items ≡ self.old.descriptors.items) × (queue.new ≡ queue.old)) }
-        ensures goes_on { IfOk result (λ walked. GoesOn course walk loaded.now self.old self.new queue.old queue.new walked) }
-    {
-        match self.can_go_on(queue, &course, &walk, loaded) {
-            Ok(()) => Ok(self.give(queue, course, walk, loaded)),
-            Err(error) => {
-                self.state = State::Walking(course, walk);
-                Err(error)
-            }
         }
     }
 
@@ -110,13 +138,21 @@ impl Workbench {
         ensures same { OnErr result (IsAllBut self.old self.new × (self.new.state ≡ self.old.state) × (self.new.descriptors.items ≡ self.old.descriptors.items) × (queue.new ≡ queue.old)) }
         ensures walks { IfOk result (λ walked. WalksOn loaded.now self.old self.new queue.old queue.new walked) }
     {
-        match mem::replace(&mut self.state, State::Free) {
+        match self.state {
             State::Free => self.begin_walk(queue, loaded),
-            State::Walking(course, walk) => self.go_on(queue, course, walk, loaded),
-            other => {
-                self.state = other;
-                Err(ChainError::WrongOrder)
-            }
+            State::Walking(_, _) => self.go_on(queue, loaded),
+            _ => Err(ChainError::WrongOrder),
+        }
+    }
+
+    /// Why a walk doesn't go on by so many bytes, of a queue as it stands, or begin by none; None if only memory may be wanting.
+    pub fn walk_refusal(&self, queue: &KeptQueue, len: usize) -> Option<ChainError>
+        ensures { result ≡ walk_error self.now.state queue.now len }
+    {
+        match &self.state {
+            State::Free => begin_refusal(queue, len),
+            State::Walking(course, walk) => give_refusal(queue, course, walk, len),
+            _ => Some(ChainError::WrongOrder),
         }
     }
 

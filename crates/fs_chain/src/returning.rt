@@ -11,7 +11,6 @@ use crate::queue::KeptQueue;
 use crate::state::{Out, Reply, State};
 use crate::workbench::Workbench;
 use fs_queue::Return;
-use std::mem;
 
 /// What is stored for a return, and loaded after it.
 #[derive(Clone, Copy, Debug)]
@@ -40,42 +39,36 @@ fn copy_front(reply: &Reply, front: &mut [u8]) -> Option<usize>
     }
 }
 
-impl Workbench {
-    // Tells how a chain goes back whose reply is known.
-    fn return_out(
-        &mut self,
-        queue: &KeptQueue,
-        out: Out,
-        reply: Reply,
-        front: &mut [u8],
-    ) -> Result<Stores, ChainError>
-        requires { self.old.state ≡ at.Free }
-        ensures error { IfErr result (λ e. return_error (at.Answered out reply) queue.now (length front.old) ≡ Some e) }
-        ensures ok { OnOk result (return_error (at.Answered out reply) queue.now (length front.old) ≡ None) }
-        ensures same { OnErr result ((self.new ≡ record self.old { state = at.Answered out reply }) × (front.new ≡ front.old)) }
-        ensures returning { OnOk result (self.new ≡ record self.old { state = at.Returning out }) }
-        ensures stores { IfOk result (λ s. ReturnsBy out reply s) }
-        ensures front { OnOk result (front.new ≡ put_front reply front.old) }
-    {
-        if !queue.has_out(&out) {
-            self.state = State::Answered(out, reply);
-            return Err(ChainError::OtherQueue);
-        }
-        let Some(front_len) = copy_front(&reply, front) else {
-            self.state = State::Answered(out, reply);
-            return Err(ChainError::ShortBuffer);
-        };
-        let len = front_len.saturating_add(reply.behind).min(out.room_len);
-        self.state = State::Returning(out);
-        let used = Return::new(
-            out.course.layout,
-            out.course.position,
-            out.head,
-            len.min(u32::MAX as usize) as u32,
-        );
-        Ok(Stores { front_len, used })
+// Tells how a chain goes back by its reply, whose front is copied over the first bytes of a buffer.
+fn stores_of(
+    queue: &KeptQueue,
+    out: &Out,
+    reply: &Reply,
+    front: &mut [u8],
+) -> Result<Stores, ChainError>
+    ensures error { IfErr result (λ e. return_error (at.Answered out.now reply.now) queue.now (length front.old) ≡ Some e) }
+    ensures ok { OnOk result (return_error (at.Answered out.now reply.now) queue.now (length front.old) ≡ None) }
+    ensures same { OnErr result (front.new ≡ front.old) }
+    ensures stores { IfOk result (λ s. ReturnsBy out.now reply.now s) }
+    ensures front { OnOk result (front.new ≡ put_front reply.now front.old) }
+{
+    if !queue.has_out(out) {
+        return Err(ChainError::OtherQueue);
     }
+    let Some(front_len) = copy_front(reply, front) else {
+        return Err(ChainError::ShortBuffer);
+    };
+    let len = front_len.saturating_add(reply.behind).min(out.room_len);
+    let used = Return::new(
+        out.course.layout,
+        out.course.position,
+        out.head,
+        len.min(u32::MAX as usize) as u32,
+    );
+    Ok(Stores { front_len, used })
+}
 
+impl Workbench {
     /// Says how a chain goes back: its reply's front is copied over the first bytes of a buffer. From here on it can't be given up.
     pub fn begin_return(
         &mut self,
@@ -89,12 +82,18 @@ impl Workbench {
         ensures stores { IfOk result (λ s. IfAnswered self.old.state (λ out reply. ReturnsBy out reply s)) }
         ensures front { OnOk result (IfAnswered self.old.state (λ out reply. front.new ≡ put_front reply front.old)) }
     {
-        match mem::replace(&mut self.state, State::Free) {
-            State::Answered(out, reply) => self.return_out(queue, out, reply, front),
-            other => {
-                self.state = other;
-                Err(ChainError::WrongOrder)
+        match &self.state {
+            State::Answered(out, reply) => {
+                let out = *out;
+                match stores_of(queue, &out, reply, front) {
+                    Ok(stores) => {
+                        self.state = State::Returning(out);
+                        Ok(stores)
+                    }
+                    Err(error) => Err(error),
+                }
             }
+            _ => Err(ChainError::WrongOrder),
         }
     }
 
@@ -107,20 +106,17 @@ impl Workbench {
         ensures queue { OnOk result (queue.new ≡ record queue.old { out = false; position = (queue.old.position + 1) % 2 ^ 16 }) }
         ensures tells { IfOk result (λ told. told ≡ tells flags) }
     {
-        match mem::replace(&mut self.state, State::Free) {
+        match &self.state {
             State::Returning(out) => {
-                if !queue.has_out(&out) {
-                    self.state = State::Returning(out);
+                if !queue.has_out(out) {
                     return Err(ChainError::OtherQueue);
                 }
+                self.state = State::Free;
                 queue.out = false;
                 queue.position = queue.position.wrapping_add(1);
                 Ok(Return::tells(flags))
             }
-            other => {
-                self.state = other;
-                Err(ChainError::WrongOrder)
-            }
+            _ => Err(ChainError::WrongOrder),
         }
     }
 }

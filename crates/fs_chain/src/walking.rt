@@ -42,6 +42,7 @@ pub enum Walked {
 
 impl Workbench {
     // A chain without a fault is out of its queue.
+    #[inline(always)]
     fn take(&mut self, queue: &mut KeptQueue, course: Course, head: u16) -> Walked
         ensures told { result ≡ told_of self.old.descriptors.items (Step.Chain head None) }
         ensures kept { self.new ≡ record self.old { state = state_after course self.old.descriptors.items (Step.Chain head None) } }
@@ -94,6 +95,7 @@ impl Workbench {
     }
 
     /// Keeps what a walk comes to, and tells it.
+    #[inline(always)]
     pub(crate) fn settle(&mut self, queue: &mut KeptQueue, course: Course, step: Step) -> Walked
         requires free { self.old.state ≡ at.Free }
         ensures told { result ≡ told_of self.new.descriptors.items step }
@@ -119,6 +121,7 @@ impl Workbench {
     }
 
     // Begins a walk through what waits at the queue's position.
+    #[inline(always)]
     fn begin_course(&mut self, queue: &mut KeptQueue) -> Walked
         requires free { self.old.state ≡ at.Free }
         requires goes { queue.old.stopped ≡ None }
@@ -134,6 +137,7 @@ impl Workbench {
     }
 
     /// Begins a walk, by no bytes.
+    #[inline(always)]
     pub(crate) fn begin_walk(
         &mut self,
         queue: &mut KeptQueue,

@@ -1,5 +1,6 @@
 pub mod BenchLemmas
 mod ChainAsBox
+pub mod LoadLemmas
 pub mod MemoryLemmas
 pub mod QueueLemmas
 pub mod RangeLemmas

@@ -1,5 +1,5 @@
 -- Why regions in any order are no memory, by those in ascending order.
-use Rattle.std.proofs.Common.{◌≡◌, List, All, Some, Result, Ok, Err, IfErr, IsPermutation, ⊎_elim, inl, inr, map}
+use Rattle.std.proofs.Common.{◌≡◌, ◌≤◌, length, List, All, Some, Result, Ok, Err, IfErr, IsPermutation, ⊎_elim, inl, inr, map}
 use Rattle.std.specs.List.Sorted.{IsNonDecreasingBy}
 use Rattle.std.proofs.lemmas.List.Sorted.{All-permutation}
 use Rattle.vm_memory.specs.Layout.{Region}
@@ -10,14 +10,15 @@ use Rattle.fs_chain.specs.declared.error.ChainError.TheVariants as error
 use Rattle.fs_chain_c.specs.Memory.{IsNoMemory, IsNoSortedMemory, IsRegion, region_of}
 use Rattle.fs_chain_c.specs.declared.memory.FsRegion.{FsRegion}
 
-module _ (regions sorted : List FsRegion) (same : IsPermutation regions sorted) (up : IsNonDecreasingBy (λ (r : FsRegion). r.guest) sorted) where
+module _ (regions sorted : List FsRegion) (same : IsPermutation regions sorted) (up : IsNonDecreasingBy (λ (r : FsRegion). r.guest) sorted)
+    (few : length regions ≤ 64) (are : All IsRegion regions) where
   none_of : (e : ChainError) → IsNoSortedMemory sorted e → IsNoMemory regions e
   none_of error.BadArgument why =
       ⊎_elim
       (λ (none : All IsRegion sorted → ⊥). inr (inl (λ (all : All IsRegion regions). none (All-permutation IsRegion regions sorted same all))))
       (λ (p : (fault : GuestRegionCollectionError) × (fault_of (map region_of sorted) ≡ Some fault)). inr (inr (sorted, p.0, same, up, p.1)))
       why
-  none_of error.OutOfMemory why = tt
+  none_of error.OutOfMemory why = (few, are)
   none_of error.ShortBuffer why = why
   none_of error.LongReply why = why
   none_of error.WrongOrder why = why

@@ -40,7 +40,7 @@ GoesOver b d regions b' =
 -- why they don't: the device's numbers are none, the regions are no memory, or a chain is walked or out
 abbrev pub RefusesMemory : Bench → FsDevice → List FsRegion → ChainError → Type 0
 RefusesMemory b d regions e =
-    ((e ≡ BadArgument) × (IsDevice d → ⊥)) ⊎ IsNoMemory regions e ⊎ (memory_error b.workbench.state d.limit ≡ Some e)
+    ((e ≡ BadArgument) × (IsDevice d → ⊥)) ⊎ (IsDevice d × IsNoMemory regions e) ⊎ (memory_error b.workbench.state d.limit ≡ Some e)
 
 -- a workbench is told its memory, or nothing is done
 abbrev pub SetsBench : Bench → FsDevice → List FsRegion → (status : ℕ) → Bench → Type 0

@@ -39,10 +39,10 @@ DoOverlap regions =
     (sorted : List FsRegion) × (fault : GuestRegionCollectionError) × IsPermutation regions sorted
     × IsNonDecreasingBy (λ (r : FsRegion). r.guest) sorted × (fault_of (map region_of sorted) ≡ Some fault)
 
--- why these regions are no memory: too many, one that is none, or two have an address in common; memory may be wanting
+-- why these regions are no memory: too many, one that is none, or two have an address in common; memory may be wanting, if each is one and they aren't too many
 abbrev pub IsNoMemory : List FsRegion → ChainError → Type 0
 IsNoMemory regions BadArgument = (64 < length regions) ⊎ (All IsRegion regions → ⊥) ⊎ DoOverlap regions
-IsNoMemory regions OutOfMemory = Unit {0}
+IsNoMemory regions OutOfMemory = (length regions ≤ 64) × All IsRegion regions
 IsNoMemory regions _ = ⊥
 
 -- the same of regions that are taken in their order: one is none, or they don't stand apart

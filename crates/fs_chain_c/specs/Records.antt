@@ -39,7 +39,7 @@ SavesSo d qs buffer (Some ShortBuffer) len buffer' =
     CanSave d qs × All HasNoneOut qs × (len ≡ length (bytes_of d qs)) × (length buffer < len) × (buffer' ≡ buffer)
 SavesSo d qs buffer (Some BadArgument) len buffer' = (CanSave d qs → ⊥) × (len ≡ 0) × (buffer' ≡ buffer)
 SavesSo d qs buffer (Some ChainOut) len buffer' = (All HasNoneOut qs → ⊥) × (len ≡ 0) × (buffer' ≡ buffer)
-SavesSo d qs buffer (Some OutOfMemory) len buffer' = (len ≡ 0) × (buffer' ≡ buffer)
+SavesSo d qs buffer (Some OutOfMemory) len buffer' = CanSave d qs × All HasNoneOut qs × (len ≡ 0) × (buffer' ≡ buffer)
 SavesSo d qs buffer (Some _) len buffer' = ⊥
 
 -- what is told of it

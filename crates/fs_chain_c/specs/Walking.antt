@@ -53,7 +53,7 @@ whole b loaded = if load_len b.workbench.state == 0 then loaded else b.part.item
 -- what these bytes come to: a part of a load, or the walk goes on, if nothing is wrong with it
 abbrev pub GoesSo : (before : Bench) → (q : KeptQueue) → (loaded : List ℕ) → went.Went → (after : Bench) → (q' : KeptQueue) → Type 0
 GoesSo b q loaded goes.Part b' q' =
-    AreWanted b (length loaded) × (came b + length loaded < load_len b.workbench.state)
+    AreWanted b (length loaded) × (came b + length loaded < load_len b.workbench.state) × (walk_error b.workbench.state q (load_len b.workbench.state) ≡ None)
     × (b'.workbench ≡ b.workbench) × (b'.part.items ≡ b.part.items ++ loaded) × (q' ≡ q)
 GoesSo b q loaded (goes.Walked told) b' q' =
     ((load_len b.workbench.state ≡ 0) ⊎ AreWanted b (length loaded)) × (b'.part.items ≡ [])
@@ -65,15 +65,20 @@ IsSame b b' =
     IsAllBut b.workbench b'.workbench × (b'.workbench.state ≡ b.workbench.state)
     × (b'.workbench.descriptors.items ≡ b.workbench.descriptors.items) × (b'.part.items ≡ b.part.items) × (b'.session ≡ b.session)
 
--- memory may be wanting for these bytes: the walk would go on by them, or they are a part of the load
-abbrev pub MayLack : Bench → KeptQueue → (loaded : List ℕ) → Type 0
-MayLack b q loaded =
-    (walk_error b.workbench.state q (length (whole b loaded)) ≡ None) ⊎ ((0 < load_len b.workbench.state) × AreWanted b (length loaded))
+-- these bytes begin a walk, or they are some of the load that is asked for
+abbrev pub AreDue : Bench → (loaded : List ℕ) → Type 0
+AreDue b loaded = (load_len b.workbench.state ≡ 0) ⊎ ((0 < load_len b.workbench.state) × AreWanted b (length loaded))
 
--- why a walk doesn't go on by these bytes: by the workbench, for want of memory, or since they are others than those that are wanted
+-- how many bytes the walk takes next
+abbrev pub due_len : Bench → (loaded : List ℕ) → ℕ
+due_len b loaded = if load_len b.workbench.state == 0 then length loaded else load_len b.workbench.state
+
+-- why a walk doesn't go on by these bytes: by the workbench, also if they are only a part of the load; for want of memory, if nothing else is wrong; or
+-- since they are others than those that are wanted
 abbrev pub RefusesWalk : Bench → KeptQueue → (loaded : List ℕ) → ChainError → Type 0
 RefusesWalk b q loaded e =
-    (walk_error b.workbench.state q (length (whole b loaded)) ≡ Some e) ⊎ ((e ≡ OutOfMemory) × MayLack b q loaded)
+    (AreDue b loaded × (walk_error b.workbench.state q (due_len b loaded) ≡ Some e))
+    ⊎ ((e ≡ OutOfMemory) × AreDue b loaded × (walk_error b.workbench.state q (due_len b loaded) ≡ None))
     ⊎ ((e ≡ BadArgument) × (0 < load_len b.workbench.state) × AreOthers b (length loaded))
 
 -- ---- what is told

@@ -6,7 +6,7 @@ ghost use Rattle.fs_chain_c.specs.Asking.{AnswersBench, AsksBench, Settles, Tell
 use crate::bench::Bench;
 use crate::call::FsCall;
 use crate::device::FsDevice;
-use crate::fields::{call_fields, numbered};
+use crate::fields::{call_fields, number};
 use bitflags::Flags;
 use fs_chain::{ChainError, Told};
 use fuse_base::{Errno, FsOptions};
@@ -60,43 +60,54 @@ fn settle(bench: &mut Bench, answer: Option<FileAnswer>)
 }
 
 // Tells what a request asks.
-fn tell(bench: &mut Bench, request: &[u8], told: Told) -> (FsCall, u32)
-    ensures { TellsAsked bench.old request.now told result.0 result.1 bench.new }
+fn tell(bench: &mut Bench, request: &[u8], told: Told, call: &mut FsCall) -> u32
+    ensures { TellsAsked bench.old request.now told call.new result bench.new }
 {
-    let mut call = FsCall::none();
     match told {
         Told::Call(made) => {
             let options = bench.session.options().bits();
-            let fields = call_fields(request, options, bench.workbench.room_len(), &made);
+            *call = call_fields(request, options, bench.workbench.room_len(), &made);
             settle(bench, answer_unasked(&made));
-            (fields, 0)
+            0
         }
         Told::More(needed) => {
+            *call = FsCall::none();
             call.needed = needed.min(u32::MAX as usize) as u32;
-            (numbered(request, call), MORE)
+            number(request, call);
+            MORE
         }
-        Told::Nothing => (numbered(request, call), 0),
+        Told::Nothing => {
+            *call = FsCall::none();
+            number(request, call);
+            0
+        }
         Told::Fault(error) => {
+            *call = FsCall::none();
             call.fault = u32::from(error.number());
-            (numbered(request, call), 0)
+            number(request, call);
+            0
         }
     }
 }
 
-/// Tells what a request asks, by its first bytes.
-pub fn ask_bench(bench: &mut Bench, device: &FsDevice, request: &[u8]) -> (FsCall, u32)
-    ensures { AsksBench bench.old device.now request.now result.0 result.1 bench.new }
+/// Tells what a request asks, by its first bytes, and says a status.
+pub fn ask_bench(bench: &mut Bench, device: &FsDevice, request: &[u8], call: &mut FsCall) -> u32
+    ensures { AsksBench bench.old device.now request.now call.new result bench.new }
 {
     if !device.is_lawful() {
-        return (FsCall::none(), u32::from(ChainError::BadArgument.number()));
+        *call = FsCall::none();
+        return u32::from(ChainError::BadArgument.number());
     }
     let options = FsOptions::from_bits_retain(device.options);
     let session = Session::resume(device.page_size, options);
     match bench.workbench.ask(&session, request) {
         Ok(told) => {
             bench.session = session;
-            tell(bench, request, told)
+            tell(bench, request, told, call)
         }
-        Err(error) => (FsCall::none(), u32::from(error.number())),
+        Err(error) => {
+            *call = FsCall::none();
+            u32::from(error.number())
+        }
     }
 }

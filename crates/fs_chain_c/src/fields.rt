@@ -137,14 +137,12 @@ fn unique_in(request: &[u8]) -> u64
     if request.len() < 16 { 0 } else { long(request) }
 }
 
-/// What is told with the numbers of its request.
-pub fn numbered(request: &[u8], call: FsCall) -> FsCall
-    ensures { result ≡ numbered request.now call }
+/// Tells the numbers of a call's request.
+pub fn number(request: &[u8], call: &mut FsCall)
+    ensures { call.new ≡ numbered request.now call.old }
 {
-    let mut told = call;
-    told.opcode = opcode_in(request);
-    told.unique = unique_in(request);
-    told
+    call.opcode = opcode_in(request);
+    call.unique = unique_in(request);
 }
 
 /// The fields of a call, by its request, the options that were agreed, and the room.
@@ -153,5 +151,7 @@ pub fn call_fields(request: &[u8], options: u64, room: usize, call: &FileCall) -
 {
     let opcode = opcode_in(request);
     let at = names_at(opcode, options, call);
-    numbered(request, fields_at(at, opcode, room, call))
+    let mut told = fields_at(at, opcode, room, call);
+    number(request, &mut told);
+    told
 }

@@ -1,6 +1,6 @@
 //! The memory over which walks go: regions that C tells, in any order.
 
-ghost use Rattle.std.specs.Prelude.{◌≡◌, ◌⊎◌, Err, Some, All, IsPermutation, IfOk, IfErr, IfSome, IfNone, OnOk, OnSome, map, length};
+ghost use Rattle.std.specs.Prelude.{◌≡◌, ◌⊎◌, true, false, Err, Some, All, IsPermutation, IfOk, IfErr, IfSome, IfNone, OnOk, OnSome, map, length};
 ghost use Rattle.fs_chain.specs.declared.error.ChainError.TheVariants.{BadArgument, OutOfMemory};
 ghost use Rattle.std.specs.List.Sorted.{IsNonDecreasingBy};
 ghost use Rattle.fs_chain_c.specs.Memory.{IsMemory, IsNoMemory, IsNoSortedMemory, IsRegion, StandApart, region_of};
@@ -40,6 +40,19 @@ fn region_of(region: &FsRegion) -> Option<MemoryRegion>
         return None;
     }
     Some(made)
+}
+
+// Whether each of these is a region.
+fn are_regions(regions: &[FsRegion]) -> bool
+    ensures are { result ≡ true → All IsRegion regions.now }
+    ensures others { result ≡ false → All IsRegion regions.now → ⊥ }
+{
+    for region in regions {
+        if region_of(region).is_none() {
+            return false;
+        }
+    }
+    true
 }
 
 // The regions of these numbers, in the same order.
@@ -97,7 +110,7 @@ pub fn memory_of(alloc: Global, regions: &[FsRegion]) -> Result<GuestRegions, Ch
     ensures ok { IfOk result (IsMemory regions.now) }
     ensures err { IfErr result (IsNoMemory regions.now) }
 {
-    if regions.len() > MOST_REGIONS {
+    if regions.len() > MOST_REGIONS || !are_regions(regions) {
         return Err(ChainError::BadArgument);
     }
     let Ok(sorted) = sorted(alloc, regions) else {

@@ -39,6 +39,22 @@ fn queue_of(queue: &FsQueue) -> Result<Queue, ChainError>
     Ok(Queue::resume(kept.layout, queue.position, queue.stopped != 0))
 }
 
+// Whether a record can have these queues: `BadArgument` or `ChainOut` of the first that it can't.
+fn check_queues(queues: &[FsQueue]) -> Result<(), ChainError>
+    ensures are { OnOk result (All IsQueue queues.now) }
+    ensures none_out { OnOk result (All HasNoneOut queues.now) }
+    ensures bad { result ≡ Err BadArgument → All IsQueue queues.now → ⊥ }
+    ensures out { result ≡ Err ChainOut → All HasNoneOut queues.now → ⊥ }
+    ensures err { IfErr result (λ e. (e ≡ BadArgument) ⊎ (e ≡ ChainOut)) }
+{
+    for queue in queues {
+        if let Err(error) = queue_of(queue) {
+            return Err(error);
+        }
+    }
+    Ok(())
+}
+
 // The queues that a record has, in the same order.
 fn queues_of(alloc: Global, queues: &[FsQueue]) -> Result<Vec<Queue>, ChainError>
     ensures ok { IfOk result (λ made. made.items ≡ map queue_of queues.now) }
@@ -92,6 +108,9 @@ fn save(
     let Some(options) = options_of(device.options) else {
         return (0, Some(ChainError::BadArgument));
     };
+    if let Err(error) = check_queues(queues) {
+        return (0, Some(error));
+    }
     let queues = match queues_of(alloc, queues) {
         Ok(queues) => queues,
         Err(error) => return (0, Some(error)),

@@ -55,8 +55,7 @@ pub extern "C" fn fs_ask(
         *call = FsCall::none();
         return wrong_order();
     };
-    let (told, status) = ask_bench(&mut bench, device, request);
-    *call = told;
+    let status = ask_bench(&mut bench, device, request, call);
     *chain = FsChain::of_box(bench);
     status
 }

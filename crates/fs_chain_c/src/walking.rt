@@ -1,8 +1,8 @@
 //! A walk through what waits in a queue, by loads that C makes: in parts, if one goes over the end of a region.
 
-ghost use Rattle.std.specs.Prelude.{◌≡◌, ◌%◌, ◌+◌, ◌^◌, ◌<◌, true, false, length, IfOk, IfErr, OnOk, OnErr};
+ghost use Rattle.std.specs.Prelude.{◌≡◌, ◌⊎◌, ◌%◌, ◌+◌, ◌^◌, ◌<◌, true, false, length, IfOk, IfErr, OnOk, OnErr};
 ghost use Rattle.fs_chain.specs.Orders.{load_len};
-ghost use Rattle.fs_chain_c.specs.Walking.{AreOthers, AreWanted, GoesSo, IsSame, RefusesWalk, TellsLoad, TellsWanted, TellsWent, WalksBench, host_at, no_step};
+ghost use Rattle.fs_chain_c.specs.Walking.{AreDue, AreOthers, AreWanted, GoesSo, IsSame, RefusesWalk, TellsLoad, TellsWanted, TellsWent, WalksBench, due_len, host_at, no_step, whole};
 
 use crate::bench::Bench;
 use crate::queue::FsQueue;
@@ -79,7 +79,26 @@ fn are_wanted(bench: &Bench, len: usize) -> bool
     }
 }
 
+// Gives the walk its whole load, or begins it: no part came before.
+fn walk_whole(bench: &mut Bench, queue: &mut KeptQueue, loaded: &[u8]) -> Result<Went, ChainError>
+    requires whole { whole bench.old loaded.now ≡ loaded.now }
+    requires due { AreDue bench.old loaded.now }
+    requires len { length loaded.now ≡ due_len bench.old loaded.now }
+    ensures goes { IfOk result (λ went. GoesSo bench.old queue.old loaded.now went bench.new queue.new) }
+    ensures error { IfErr result (RefusesWalk bench.old queue.old loaded.now) }
+    ensures same { OnErr result (IsSame bench.old bench.new × (queue.new ≡ queue.old)) }
+{
+    match bench.workbench.walk(queue, loaded) {
+        Ok(walked) => {
+            bench.part.clear();
+            Ok(Went::Walked(walked))
+        }
+        Err(error) => Err(error),
+    }
+}
+
 // Takes some bytes of the load that is asked for.
+#[tactic(auto, using(crate::proofs::LoadLemmas::fits))]
 fn give(bench: &mut Bench, queue: &mut KeptQueue, loaded: &[u8]) -> Result<Went, ChainError>
     requires { 0 < load_len bench.old.workbench.state }
     ensures goes { IfOk result (λ went. GoesSo bench.old queue.old loaded.now went bench.new queue.new) }
@@ -89,11 +108,18 @@ fn give(bench: &mut Bench, queue: &mut KeptQueue, loaded: &[u8]) -> Result<Went,
     if !are_wanted(bench, loaded.len()) {
         return Err(ChainError::BadArgument);
     }
+    let asked = bench.workbench.load_len();
     let before = bench.part.len();
+    if before == 0 && loaded.len() == asked {
+        return walk_whole(bench, queue, loaded);
+    }
+    if let Some(error) = bench.workbench.walk_refusal(queue, asked) {
+        return Err(error);
+    }
     if bench.part.extend_from_slice(loaded).is_err() {
         return Err(ChainError::OutOfMemory);
     }
-    if bench.part.len() < bench.workbench.load_len() {
+    if bench.part.len() != asked {
         return Ok(Went::Part);
     }
     match bench.workbench.walk(queue, &bench.part) {
@@ -117,13 +143,7 @@ fn go(bench: &mut Bench, queue: &mut KeptQueue, loaded: &[u8]) -> Result<Went, C
     if bench.workbench.load_len() != 0 {
         return give(bench, queue, loaded);
     }
-    match bench.workbench.walk(queue, loaded) {
-        Ok(walked) => {
-            bench.part.clear();
-            Ok(Went::Walked(walked))
-        }
-        Err(error) => Err(error),
-    }
+    walk_whole(bench, queue, loaded)
 }
 
 // Where the load is made that a walk still wants, if it wants one.

@@ -1,4 +1,4 @@
-use Rattle.std.proofs.Common.{rules, refl, inr}
+use Rattle.std.proofs.Common.{rules, refl, inl, inr, ap, ◌∙◌, Err}
 use Rattle.fs_chain_c.specs.declared.bench.Bench.{Bench}
 use Rattle.fs_chain_c.proofs.asking.ask_bench.Goals as goal
 
@@ -8,4 +8,18 @@ returns-in-Ok c =
     inr (inr (
       search rules,
       (asked, c.in-Ok.told, search rules, refl, record { can = search rules; tells = search rules; wanted = search rules; stays = search rules }, search rules),
+    ))
+
+pub returns-in-Err : goal.returns-in-Err
+returns-in-Err c =
+    inr (inl (
+      search rules,
+      c.resume-session.result,
+      search rules,
+      c.in-Err.error,
+      record { why = search rules; memory = λ wants. c.ask.ensures.memory (c.in-Err.is ∙ ap Err wants); stays = search rules },
+      search rules,
+      search rules,
+      search rules,
+      search rules,
     ))

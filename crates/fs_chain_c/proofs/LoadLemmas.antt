@@ -1,0 +1,24 @@
+-- the bytes that are wanted fit the load
+use Rattle.std.proofs.Common.{ℕ, ◌+◌, ◌≤◌, arith}
+use Rattle.fs_regions.specs.declared.walk.QueueWalk.{QueueWalk}
+use Rattle.fs_regions.specs.Walks.{asked_len}
+use Rattle.fs_chain.specs.declared.state.State as state
+use Rattle.fs_chain.specs.declared.state.State.TheVariants as at
+use Rattle.fs_chain.specs.Orders.{IfWalking, IsWalking, load_len}
+use Rattle.fs_chain_c.specs.declared.bench.Bench.{Bench}
+use Rattle.fs_chain_c.specs.Walking.{AreWanted, came}
+
+within : (s : state.State) (P : QueueWalk → Type 0) (n : ℕ) → IsWalking s → IfWalking s P → ((walk : QueueWalk) → P walk → n ≤ asked_len walk) → n ≤ load_len s
+within (at.Walking course walk) P n is p h = h walk p
+within at.Free P n is p h = absurd is
+within (at.Taken out) P n is p h = absurd is
+within (at.Waits out waiting) P n is p h = absurd is
+within (at.Lists out listing) P n is p h = absurd is
+within (at.Answered out reply) P n is p h = absurd is
+within (at.Returning out) P n is p h = absurd is
+
+-- with those that came before
+pub fits : (b : Bench) (n : ℕ) → AreWanted b n → came b + n ≤ load_len b.workbench.state
+fits b n wanted =
+    let same = wanted.2 in
+    within b.workbench.state _ (came b + n) wanted.1.0 wanted.1.1 (λ walk p. let less = p.0 in let most = p.1.1 in omega (arith, less, most, same))
