@@ -1,0 +1,267 @@
+//! A guest with one ring and a device that serves it, and a kick of it by each way to step.
+
+use crate::given::{Trial, Unmet, expect, expect_kept, expect_lacks, met};
+use crate::kicks::{Comes, Kick};
+use bitflags::Flags;
+use call_log::CallLog;
+use fs_device::{Device, DeviceError, LEAST_LIMIT, QueueRun, Stream};
+use fs_queue::{Queue, QueueError, QueueLayout};
+use guest_driver::{Guest, Ring};
+use std::alloc::Global;
+use virtiofsd_fuse::Server;
+use vm_memory::{GuestMemory, GuestMemorySliceIterator};
+use vm_memory_core::GuestAddress;
+use vm_memory_core::Permissions::Read;
+
+/// A guest, and a device whose one queue is the guest's ring.
+#[derive(Drop)]
+pub struct Stand {
+    alloc: Global,
+    guest: Guest,
+    device: Device<CallLog>,
+}
+
+// All that a refused kick leaves as it is.
+#[derive(Drop)]
+struct Seen {
+    bytes: Vec<u8>,
+    marked: Vec<(usize, usize)>,
+    position: u16,
+    is_stopped: bool,
+    options: u64,
+    calls: usize,
+}
+
+impl Seen {
+    fn is_same(&self, other: &Seen) -> bool {
+        self.bytes.as_slice() == other.bytes.as_slice()
+            && self.marked.as_slice() == other.marked.as_slice()
+            && (self.position, self.is_stopped) == (other.position, other.is_stopped)
+            && (self.options, self.calls) == (other.options, other.calls)
+    }
+}
+
+/// A device of one queue with this ring, at a position.
+pub fn device(alloc: Global, ring: Ring, position: u16) -> Result<Device<CallLog>, Unmet> {
+    let Ok(layout) = QueueLayout::new(ring.size, ring.desc, ring.avail, ring.used) else {
+        return Err(Unmet::Drawing);
+    };
+    let queue = Queue::resume(layout, position, false);
+    let Ok(queues) = Vec::from_array(alloc, [queue]) else {
+        return Err(Unmet::Memory);
+    };
+    Ok(Device::new(Server::new(CallLog::new(), 4096), queues, LEAST_LIMIT))
+}
+
+// The guest puts bytes at addresses.
+fn put_all(guest: &mut Guest, puts: &[(u64, &[u8])]) -> Result<(), Unmet> {
+    for (addr, bytes) in puts {
+        met(guest.put(*addr, bytes), Unmet::Drawing)?;
+    }
+    Ok(())
+}
+
+/// The guest of a kick, whose chain is available; no page is marked.
+pub fn guest(alloc: Global, kick: &Kick) -> Result<Guest, Unmet> {
+    let made = Guest::new(alloc, kick.regions, kick.ring);
+    let mut guest = met(made, Unmet::Drawing)?;
+    put_all(&mut guest, kick.puts)?;
+    let drawn = match kick.table {
+        Some(table) => guest.indirect_chain(0, table, &[], kick.readable, kick.writable),
+        None => guest.chain(0, &[], kick.readable, kick.writable),
+    };
+    met(drawn, Unmet::Drawing)?;
+    put_all(&mut guest, kick.behind)?;
+    guest.clear_marks();
+    Ok(guest)
+}
+
+// What a run of at most one step comes to.
+fn comes_of(run: &QueueRun) -> Comes {
+    match (run.done.first(), run.refused) {
+        (Some((exchange, notify)), _) => Comes::Back {
+            len: exchange.reply.len(),
+            fault: exchange.fault,
+            notify: *notify,
+        },
+        (None, Some(refusal)) => Comes::Refused(refusal),
+        (None, None) => Comes::Idle,
+    }
+}
+
+impl Stand {
+    /// What a kick begins with.
+    pub fn new(alloc: Global, kick: &Kick) -> Result<Stand, Unmet> {
+        Ok(Stand {
+            alloc,
+            guest: guest(alloc, kick)?,
+            device: device(alloc, kick.ring, kick.position)?,
+        })
+    }
+
+    /// A guest and a device.
+    pub fn of(alloc: Global, guest: Guest, device: Device<CallLog>) -> Stand {
+        Stand {
+            alloc,
+            guest,
+            device,
+        }
+    }
+
+    /// How many requests the kick of the chain that waits makes. The chain is offered anew.
+    pub fn count(&mut self, trial: Trial, way: usize) -> Result<usize, Unmet> {
+        trial.begin();
+        let comes = self.kick(way);
+        let made = trial.end();
+        expect(matches!(comes, Comes::Back { .. }))?;
+        met(self.guest.make_available(0), Unmet::Drawing)?;
+        Ok(made)
+    }
+
+    // What is seen of guest and device.
+    fn seen(&self) -> Result<Seen, Unmet> {
+        let Some(queue) = self.device.queue(0) else {
+            return Err(Unmet::Drawing);
+        };
+        let bytes = self.guest.read(self.alloc, 0, 0x10000);
+        Ok(Seen {
+            bytes: met(bytes, Unmet::Memory)?,
+            marked: self.guest.marked(self.alloc)?,
+            position: queue.position(),
+            is_stopped: queue.is_stopped(),
+            options: self.device.server().options().bits(),
+            calls: self.device.server().fs().calls().len(),
+        })
+    }
+
+    // A step that hands out the bytes of what is exchanged.
+    fn process(&mut self) -> Comes {
+        match self
+            .device
+            .process_one(self.alloc, &mut self.guest.host, &self.guest.mem, 0)
+        {
+            Err(refusal) => Comes::Refused(refusal),
+            Ok(None) => Comes::Idle,
+            Ok(Some((exchange, notify))) => Comes::Back {
+                len: exchange.reply.len(),
+                fault: exchange.fault,
+                notify,
+            },
+        }
+    }
+
+    // A step that reports only lengths.
+    fn serve(&mut self) -> Comes {
+        match self
+            .device
+            .serve_one(self.alloc, &mut self.guest.host, &self.guest.mem, 0)
+        {
+            Err(refusal) => Comes::Refused(refusal),
+            Ok(None) => Comes::Idle,
+            Ok(Some(returned)) => Comes::Back {
+                len: returned.reply_len,
+                fault: returned.fault,
+                notify: returned.notify,
+            },
+        }
+    }
+
+    // A queue that comes to at most one exchange.
+    fn run(&mut self) -> Comes {
+        match self
+            .device
+            .process_queue(self.alloc, &mut self.guest.host, &self.guest.mem, 0, 1)
+        {
+            Err(refusal) => Comes::Refused(refusal),
+            Ok(run) => comes_of(&run),
+        }
+    }
+
+    // A kick by one of the three ways to step.
+    fn kick(&mut self, way: usize) -> Comes {
+        match way {
+            0 => self.process(),
+            1 => self.serve(),
+            _ => self.run(),
+        }
+    }
+
+    /// A step of a queue that is missing.
+    pub fn expect_missing(&mut self) -> Result<(), Unmet> {
+        let step = self
+            .device
+            .process_one(self.alloc, &mut self.guest.host, &self.guest.mem, 1);
+        expect(step.err() == Some(DeviceError::NoSuchQueue))
+    }
+
+    /// Steps come to this, one after another.
+    pub fn expect_steps(&mut self, steps: &[Comes]) -> Result<(), Unmet> {
+        for step in steps {
+            let comes = self.process();
+            expect(comes == *step)?;
+        }
+        Ok(())
+    }
+
+    /// The windows of a range are found, and it is there.
+    pub fn check_ranges(&mut self) -> Result<(), Unmet> {
+        let (host, mem) = (&self.guest.host, &self.guest.mem);
+        let addr = GuestAddress(0xff0);
+        let is_there = mem.check_range(self.alloc, host, addr, 0x1000, Read)?;
+        let slices = mem.get_slices(self.alloc, host, addr, 0x1000, Read);
+        expect(is_there)?;
+        let slices = met(slices, Unmet::Answer)?;
+        met(slices.stop_on_error(), Unmet::Answer)?;
+        Ok(())
+    }
+
+    /// Bytes are put into memory, and read there.
+    pub fn move_bytes(&mut self) -> Result<(), Unmet> {
+        put_all(&mut self.guest, &[(0x4ffe, &[1, 2, 3, 4])])?;
+        let there = self.guest.bytes::<4>(0x4ffe);
+        expect(there == Ok([1, 2, 3, 4]))
+    }
+
+    /// The device is saved, as far as a short sink takes it.
+    pub fn save(&mut self) -> Result<(), Unmet> {
+        let mut room = [0u8; 64];
+        let mut sink = Stream::new(&mut room[..]);
+        expect(self.device.save(&mut sink).is_ok())
+    }
+
+    // All is as the row of a kick says.
+    fn expect_row(&self, kick: &Kick) -> Result<(), Unmet> {
+        for (addr, bytes) in kick.has {
+            let there = self.guest.read(self.alloc, *addr, bytes.len());
+            let there = met(there, Unmet::Answer)?;
+            expect(there.as_slice() == *bytes)?;
+        }
+        let marked = self.guest.marked(self.alloc)?;
+        expect(marked.as_slice() == kick.marked)?;
+        expect(self.device.server().fs().calls() == kick.calls)?;
+        expect(self.device.server().options().bits() == kick.options)
+    }
+}
+
+const OUT_OF_MEMORY: Comes = Comes::Refused(DeviceError::Queue(QueueError::OutOfMemory));
+
+/// Plays a kick by one of the three ways to step, and answers how many requests it makes. If it lacks memory it changed
+/// nothing, and is made again.
+pub fn play_kick(trial: Trial, kick: &Kick, way: usize) -> Result<usize, Unmet> {
+    let mut stand = Stand::new(trial.alloc, kick)?;
+    let before = stand.seen()?;
+    trial.begin();
+    let mut comes = stand.kick(way);
+    let is_refused = trial.is_refused();
+    let made = trial.end();
+    if comes == OUT_OF_MEMORY {
+        expect_lacks(is_refused)?;
+        expect_kept(stand.seen()?.is_same(&before))?;
+        comes = stand.kick(way);
+    } else if is_refused && matches!(comes, Comes::Back { .. }) {
+        return Err(Unmet::Unsaid);
+    }
+    expect(comes == kick.comes)?;
+    stand.expect_row(kick)?;
+    Ok(made)
+}
