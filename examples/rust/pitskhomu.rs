@@ -289,6 +289,7 @@ impl<'b> Worker<'b> {
             }
             kind::DESTROY => {
                 fs.destroy();
+                device.set_options(0);
                 return self.done(Ok(()));
             }
             _ => {

@@ -228,15 +228,42 @@ static void do_ask(struct bench *b) {
         wrong("data is longer than the room", b->call.data_len);
 }
 
+/* Whether a stretch of the guest's addresses lies in the regions that were told. */
+static bool is_guests(const struct bench *b, uint64_t guest, uint64_t len) {
+    for (size_t turn = 0; turn <= b->region_count && len > 0; turn++) {
+        for (size_t k = 0; k < b->region_count; k++) {
+            uint64_t offset = guest - b->regions[k].guest, left = b->regions[k].len - offset;
+            if (guest < b->regions[k].guest || offset >= b->regions[k].len) continue;
+            if (left >= len) return true;
+            guest += left;
+            len -= left;
+        }
+    }
+    return len == 0;
+}
+
+static void check_ranges(const struct bench *b, const struct fs_range *ranges, size_t count, size_t most, uint64_t len) {
+    uint64_t sum = 0;
+    if (count > most) wrong("too many ranges", count);
+    for (size_t k = 0; k < count; k++) {
+        if (ranges[k].len == 0 || !is_guests(b, ranges[k].guest, ranges[k].len)) wrong("a range lies outside", k);
+        sum += ranges[k].len;
+    }
+    if (sum > len) wrong("ranges cover too much", sum);
+}
+
 static void do_windows(struct bench *b) {
     struct fs_window windows[5];
+    struct fs_range ranges[5];
     uint64_t from = ONE_OF(0, 16, below(5000), chance()), len = ONE_OF(1, 16, below(100000), UINT64_MAX);
     size_t most = below(6), count;
     count = fs_request_windows(&b->chain, from, len, windows, most);
     check_windows(b, windows, count, most, len);
     count = fs_room_windows(&b->chain, from, len, windows, most);
     check_windows(b, windows, count, most, len);
-    calls += 2;
+    count = fs_room_ranges(&b->chain, from, len, ranges, most);
+    check_ranges(b, ranges, count, most, len);
+    calls += 3;
 }
 
 static struct fs_entry some_entry(void) {
@@ -322,6 +349,27 @@ static void do_return(struct bench *b, struct fs_queue *queue) {
     if (notify > 1) wrong("neither 0 nor 1", notify);
 }
 
+/* A record is written and read again, sometimes cut, with other bytes in it, or into too few queues. */
+static void do_move(void) {
+    struct fs_device lent = device;
+    struct fs_queue there[QUEUES];
+    size_t room = below(4) ? 32 + 32 * QUEUES : below(200), len, count;
+    if (below(20) == 0) lent.page_size = (uint32_t)ONE_OF(0, 4095, 8192, chance());
+    if (below(20) == 0) lent.options = chance();
+    begin_buffer(room);
+    uint32_t status = named(fs_save(&lent, queues, below(6) ? QUEUES : below(QUEUES), buffer, room, &len));
+    check_buffer(room);
+    if (status == FS_DONE ? len > room : len > 0 && status != FS_SHORT_BUFFER) wrong("a record's length", len);
+    if (status != FS_DONE) return;
+    for (uint64_t k = below(3); k > 0; k--) buffer[below(len)] = (uint8_t)chance();
+    if (below(6) == 0) len = below(len + 1);
+    memcpy(there, queues, sizeof there);
+    struct fs_device before = lent;
+    status = named(fs_restore(&lent, there, below(6) ? QUEUES : below(QUEUES), buffer, len, &count));
+    if (status == FS_DONE ? count > QUEUES : memcmp(there, queues, sizeof there) || lent.options != before.options)
+        wrong("a refused record changes numbers", status);
+}
+
 /* One call, or a chain's calls in their order with slips among them. */
 static void stumble(void) {
     struct bench *b = &benches[below(CHAINS)];
@@ -339,6 +387,7 @@ static void stumble(void) {
     case 6: (void)do_walk(b, queue); break;
     case 7: do_ask(b); break;
     case 8: do_return(b, queue); break;
+    case 9: do_move(); break;
     default:
         walk_on(b, queue);
         for (int k = 0; k < 3; k++) do_ask(b);

@@ -96,6 +96,14 @@ int log_open(struct dirty_log *log, uint64_t len, uint64_t offset, int fd) {
     return 0;
 }
 
+bool log_covers(const struct dirty_log *log, const struct memory *memory) {
+    for (size_t k = 0; k < memory->count; k++) {
+        const struct fs_region *region = &memory->regions[k];
+        if ((region->guest + (region->len - 1)) / PAGE / 8 >= log->len) return false;
+    }
+    return true;
+}
+
 void log_close(struct dirty_log *log) {
     if (log->bits) munmap(log->mapping.base, log->mapping.len);
     *log = (struct dirty_log){0};

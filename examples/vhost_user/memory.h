@@ -1,6 +1,7 @@
 /* The guest's memory, as the front-end tells it, and the log of the pages that were written. */
 #ifndef MEMORY_H
 #define MEMORY_H
+#include <stdbool.h>
 #include "access.h"
 
 /* What VHOST_USER_SET_MEM_TABLE and ADD_MEM_REG tell of a region; `user` is where it stands in the front-end. */
@@ -43,6 +44,9 @@ uint64_t memory_guest_at(const struct memory *memory, uintptr_t at, uint64_t *gu
 
 int log_open(struct dirty_log *log, uint64_t len, uint64_t offset, int fd);
 void log_close(struct dirty_log *log);
+
+/* Whether there is a bit for each page of the memory. */
+bool log_covers(const struct dirty_log *log, const struct memory *memory);
 
 /* Marks the pages, of 4096 bytes, of a stretch of guest addresses. */
 void log_mark(struct dirty_log *log, uint64_t guest, uint64_t len);

@@ -6,6 +6,7 @@
 #include <stdlib.h>
 #include <string.h>
 #include <sys/socket.h>
+#include <sys/stat.h>
 #include <unistd.h>
 
 enum request {
@@ -226,6 +227,8 @@ static enum outcome set_log_base(struct talk *t, struct message *m) {
     device_hold(t->device);
     if (!error) error = log_open(&t->device->log, wide(m, 0), wide(m, 8), m->fds[0]);
     device_go_on(t->device);
+    if (!error && !log_covers(&t->device->log, &t->device->memory))
+        complain("the log of dirty pages is shorter than the memory");
     if (error) return LEAVE; /* the front-end waits for an answer that can't be no */
     return answer_wide(m, 0);
 }
@@ -284,28 +287,39 @@ static enum outcome get_vring_base(struct talk *t, struct message *m) {
     return ANSWERED;
 }
 
-/* The event descriptor of a message, or -1. Writing to it or reading from it never waits. */
-static int event_of(struct message *m) {
-    int fd = wide(m, 0) & 0x100 ? -1 : take_fd(m, 0);
-    if (fd >= 0) (void)fcntl(fd, F_SETFL, O_NONBLOCK);
-    return fd;
+/* Whether reading from a descriptor or writing to it waits for nobody, once that is asked: files wait, whatever is
+ * asked, or are at an end for ever. */
+static bool never_waits(int fd) {
+    struct stat st;
+    return fd >= 0 && !fstat(fd, &st) && (!(st.st_mode & S_IFMT) || S_ISFIFO(st.st_mode) || S_ISSOCK(st.st_mode)) &&
+           !fcntl(fd, F_SETFL, O_NONBLOCK);
+}
+
+/* The event descriptor of a message, or -1 if it says that there is none; false if it has another one. */
+static bool take_event(struct message *m, int *event) {
+    bool is_told = !(wide(m, 0) & 0x100);
+    if (is_told && !never_waits(m->fd_count ? m->fds[0] : -1)) return false;
+    *event = is_told ? take_fd(m, 0) : -1;
+    return true;
 }
 
 static enum outcome set_vring_kick(struct talk *t, struct message *m) {
     struct ring *ring = ring_of(t, m);
-    if (!ring) return REFUSED;
+    int kick;
+    if (!ring || !take_event(m, &kick)) return REFUSED;
     ring_stop(ring);
-    ring->kick = event_of(m);
+    ring->kick = kick;
     return start(ring);
 }
 
 static enum outcome set_vring_event(struct talk *t, struct message *m) {
     struct ring *ring = ring_of(t, m);
-    if (!ring) return REFUSED;
+    int event;
+    if (!ring || !take_event(m, &event)) return REFUSED;
     pthread_mutex_lock(&ring->lock);
     int *slot = m->request == SET_VRING_CALL ? &ring->call : &ring->err;
     if (*slot >= 0) close(*slot);
-    *slot = event_of(m);
+    *slot = event;
     /* A notification that went to the old one may have come to nobody. */
     if (m->request == SET_VRING_CALL) signal_event(*slot);
     pthread_mutex_unlock(&ring->lock);

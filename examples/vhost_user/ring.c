@@ -15,9 +15,20 @@ enum { PAGE_SIZE = 4096, LIMIT = 0x101000, LOG_ALL = 26, RETRY_MS = 10, TOLD_MOS
 enum found { NOTHING, SERVED, LATER, TOO_MANY };
 
 void signal_event(int fd) {
+    struct pollfd event = {fd, POLLOUT, 0};
     uint64_t one = 1;
-    /* A full counter wakes as well; and who closed the other end doesn't wait. */
-    if (fd >= 0 && write(fd, &one, sizeof one) < 0) return;
+    /* A full counter wakes as well, and who closed the other end doesn't wait. The front-end may have made the
+     * descriptor one whose writes wait. */
+    if (poll(&event, 1, 0) <= 0 || !(event.revents & POLLOUT)) return;
+    if (write(fd, &one, sizeof one) < 0) return;
+}
+
+/* Makes room in a counter, for a worker that waits to raise it. */
+static void drain_event(int fd) {
+    struct pollfd event = {fd, POLLIN, 0};
+    uint64_t count;
+    if (poll(&event, 1, 0) <= 0 || !(event.revents & POLLIN)) return;
+    if (read(fd, &count, sizeof count) < 0) return;
 }
 
 static struct fs_device numbers(struct device *device) {
@@ -251,6 +262,8 @@ static int place_queue(struct ring *ring) {
 /* Ends the threads of the first workers. */
 static void join_workers(struct ring *ring, size_t count) {
     signal_event(ring->quit);
+    drain_event(ring->call);
+    drain_event(ring->err);
     for (size_t k = 0; k < count; k++) pthread_join(ring->workers[k].thread, NULL);
     close(ring->quit);
     ring->quit = -1;

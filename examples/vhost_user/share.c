@@ -145,6 +145,7 @@ static bool serve_session(struct job *job) {
     case FS_CALL_DESTROY:
         share_reset(job->share);
         (void)is_taken(fs_reply_err(job->chain, 0));
+        atomic_store(job->options, 0); /* what INIT agreed on ends with the session */
         return true;
     case FS_CALL_FORGET: nodes_forget(&job->share->nodes, job->call->node, job->call->count); return true;
     case FS_CALL_BATCH_FORGET: forget_all(job); return true;

@@ -29,7 +29,7 @@ struct job {
     const uint8_t *request; /* the bytes whose places the call's names and values are */
     uint8_t *scratch;       /* SCRATCH_LEN bytes */
     const struct fs_device *device;
-    _Atomic uint64_t *options; /* what INIT agrees on */
+    _Atomic uint64_t *options; /* what INIT agrees on; 0 after DESTROY */
     int node, node2;           /* descriptors that stay open as long as the job runs, or -1 */
     struct file *file;
 };
