@@ -181,7 +181,7 @@ enum fs_call_kind {
     FS_CALL_RENAME = 12,      /* name in node becomes name2 in node2; flags (RENAME_) */
     FS_CALL_LINK = 13,        /* node gets the name in the directory node2 */
     FS_CALL_OPEN = 14,        /* flags (O_ of Linux x86), kill_priv */
-    FS_CALL_READ = 15,        /* handle, offset, size; data_len bytes of the room, at most, take data; flags, owner if has_owner */
+    FS_CALL_READ = 15,        /* handle, offset, size: answer no more; data_len bytes of the room, at most, take data; flags, owner if has_owner */
     FS_CALL_WRITE = 16,       /* handle, offset, size; data at data_at of the request, data_len bytes; flags, owner, delayed, kill_priv */
     FS_CALL_STATFS = 17,
     FS_CALL_RELEASE = 18,     /* handle, flags, flush, unlock, owner */

@@ -332,7 +332,7 @@ impl<'b> Worker<'b> {
     fn data<F: FileSystem, M: GuestMemory>(&mut self, ctx: Context, c: &sys::Call, fs: &F, memory: &M) -> u32 {
         match c.kind {
             kind::READ => {
-                let mut data = ReadData::new(&mut self.chain, memory, c.data_at, c.data_len);
+                let mut data = ReadData::new(&mut self.chain, memory, c.data_at, c.data_len.min(c.size));
                 match fs.read(ctx, c.node, c.handle, c.offset, &mut data).map(|()| data.done()) {
                     Err(e) => self.error(e),
                     // SAFETY: see above.

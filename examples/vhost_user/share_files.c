@@ -37,13 +37,15 @@ int do_open(struct job *job) {
 
 int do_opendir(struct job *job) { return reply_open(job, open_dir(job->node), true); }
 
-/* Moves data between a file and the guest's pages, as many windows at a time as there is place for. An error behind
- * the first bytes is a short count, as the guest's kernel expects. */
+/* Moves data between a file and the guest's pages, as many windows at a time as there is place for: of a READ at most
+ * what was asked for, however long the room is. An error behind the first bytes is a short count, as the guest's kernel
+ * expects. */
 static int move(struct job *job, bool is_write, uint64_t *done) {
     const struct fs_call *call = job->call;
     struct fs_window windows[MOST_WINDOWS];
-    for (*done = 0; *done < call->data_len;) {
-        uint64_t from = call->data_at + *done, left = call->data_len - *done;
+    uint64_t most = is_write || call->size > call->data_len ? call->data_len : call->size;
+    for (*done = 0; *done < most;) {
+        uint64_t from = call->data_at + *done, left = most - *done;
         off_t offset = (off_t)(call->offset + *done);
         size_t count = is_write ? fs_request_windows(job->chain, from, left, windows, MOST_WINDOWS)
                                 : fs_room_windows(job->chain, from, left, windows, MOST_WINDOWS);
