@@ -7,6 +7,7 @@ pub mod MapLemmas
 pub mod LookupLemmas
 pub mod ExchangeLemmas
 pub mod CutLemmas
+pub mod SplitLemmas
 pub mod TakeLemmas
 pub mod SideLemmas
 pub mod SetLemmas

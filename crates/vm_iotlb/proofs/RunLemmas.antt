@@ -76,7 +76,7 @@ same_perm ReadWrite Write e = absurd (false≢true e)
 same_perm ReadWrite ReadWrite e = refl
 
 -- what goes together
-together_parts : (p q : Mapping) → go_together (Some p) (Some q) ≡ true → (p.target + 1 ≡ q.target) × (p.perm ≡ q.perm)
+pub together_parts : (p q : Mapping) → go_together (Some p) (Some q) ≡ true → (p.target + 1 ≡ q.target) × (p.perm ≡ q.perm)
 together_parts p q e =
     let parts = and_parts (eqb (p.target + 1) q.target) (allows p.perm q.perm && allows q.perm p.perm) e in
     (eqb-true (p.target + 1) q.target parts.0, same_perm p.perm q.perm parts.1)

@@ -1,5 +1,5 @@
 -- What a look-up answers: the addresses of a range, in runs as long as can be.
-use Rattle.std.specs.Prelude.{◌≡◌, ℕ, zero, suc, ◌+◌, ◌-◌, ◌<◌, ◌≤◌, ◌^◌, nat_lt, Bool, true, false, not, ◌&&◌, ◌==◌, List, [], ◌∷◌, map, Option, Some, None, if◌then◌else◌, Result, Ok, Err}
+use Rattle.std.specs.Prelude.{◌≡◌, ℕ, zero, suc, ◌+◌, ◌-◌, ◌<◌, ◌≤◌, ◌^◌, nat_lt, Bool, true, false, not, ◌&&◌, ◌||◌, ◌==◌, List, [], ◌∷◌, map, Option, Some, None, if◌then◌else◌, Result, Ok, Err}
 use Rattle.std.specs.List.{list_all, filter, flat_map, range_with_len}
 use Rattle.vm_iotlb.specs.declared.permissions.Permissions.{Permissions}
 use Rattle.vm_iotlb.specs.declared.iova.IovaRange.{IovaRange}
@@ -38,6 +38,22 @@ go_together None None = true
 go_together None (Some next) = false
 go_together (Some this) None = false
 go_together (Some this) (Some next) = this.target + 1 == next.target && (allows this.perm next.perm && allows next.perm this.perm)
+
+-- whether an address is mapped as one with the address before it: both have a mapping, and they go together. The first address has none before it
+abbrev pub goes_on_at : Table → ℕ → Bool
+goes_on_at table a = not (misses (table a)) && go_together (table (a - 1)) (table a)
+
+-- whether a run begins at an address: it has a mapping, and is not mapped as one with the address before it
+abbrev pub begins_at : Table → ℕ → Bool
+begins_at table a = not (misses (table a)) && not (goes_on_at table a)
+
+-- whether a run begins at an address of the new table, and none did in the old one
+abbrev pub begins_anew : (old new : Table) → ℕ → Bool
+begins_anew old new a = begins_at new a && not (begins_at old a)
+
+-- whether a run begins anew where some addresses begin or right behind them
+abbrev pub begins_anew_about : (old new : Table) → (from to : ℕ) → Bool
+begins_anew_about old new from to = begins_anew old new from || begins_anew old new to
 
 -- n addresses from a on
 abbrev pub run_of : ℕ → ℕ → IovaRange

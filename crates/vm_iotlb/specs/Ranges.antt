@@ -43,9 +43,13 @@ abbrev pub EndsAbove : ℕ → List IotlbRange → Type 0
 EndsAbove a [] = Unit {0}
 EndsAbove a (r ∷ rs) = a < r.end
 
+-- a table after the addresses of a range were mapped as it says; all others keep theirs
+abbrev pub with_range : IotlbRange → Table → Table
+with_range r table = λ a. if has r a then Some (mapping_in r a) else table a
+
 -- ranges do what one more does to its own addresses, and to others what some did before
 abbrev pub AddsRange : IotlbRange → (old new : List IotlbRange) → Type 0
-AddsRange r old new = (a : ℕ) → table_kept new a ≡ (if has r a then Some (mapping_in r a) else table_kept old a)
+AddsRange r old new = (a : ℕ) → table_kept new a ≡ with_range r (table_kept old) a
 
 -- ranges do what a table does, from one address up to another
 abbrev pub Agree : Table → List IotlbRange → ℕ → ℕ → Type 0

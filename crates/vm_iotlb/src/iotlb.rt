@@ -65,7 +65,8 @@ impl Iotlb {
     }
 
     /// Maps `length` I/O addresses to those from a target on, whatever they had before (vm-memory's
-    /// `Iotlb::set_mapping`). Refused with IommuMisconfigured or OutOfMemory.
+    /// `Iotlb::set_mapping`). Refused with IommuMisconfigured or OutOfMemory. It takes memory only if a run of addresses
+    /// that are mapped as one begins where none did: at the first of them or right behind the last.
     pub fn set_mapping(
         &mut self,
         iova: GuestAddress,
@@ -97,7 +98,8 @@ impl Iotlb {
     }
 
     /// Takes the mapping of `length` I/O addresses out (vm-memory's `Iotlb::invalidate_mapping`). Refused with
-    /// IommuMisconfigured or OutOfMemory: taking the middle of a range out leaves two.
+    /// IommuMisconfigured or OutOfMemory. It takes memory only if the address behind them is mapped as one with the last:
+    /// taking the middle of a range out leaves two.
     pub fn invalidate_mapping(
         &mut self,
         iova: GuestAddress,

@@ -1,11 +1,13 @@
 //! The ranges of a table by their starts, and how they change.
 
-ghost use Rattle.std.specs.Prelude.{◌≡◌, ℕ, ◌+◌, ◌<◌, ◌≤◌, ◌&&◌, nat_le, nat_lt, None, Some, IsSome, if◌then◌else◌, OnOk, OnErr, MatchOption};
+ghost use Rattle.std.specs.Prelude.{◌≡◌, ℕ, ◌+◌, ◌<◌, ◌≤◌, ◌&&◌, nat_le, nat_lt, true, None, Some, IsSome, if◌then◌else◌, OnOk, OnErr, MatchOption};
 ghost use Rattle.std.specs.Map.{values_of};
 ghost use Rattle.std.specs.BTreeMap.{BTreeMap as SeenMap, IsOrdered};
 ghost use Rattle.std.specs.Ordering.{nat_cmp};
-ghost use Rattle.vm_iotlb.specs.Ranges.{AddsRange, AreRanges, IsRange, table_kept};
-ghost use Rattle.vm_iotlb.specs.Keys.{AreKeyed, Divides, HasAddress, IsFree, IsLastUpTo, IsTaken, JoinsLeft, JoinsRight, NoneUpTo, ReachesFrom, cleared, joined, left_over, part_from, part_up_to, put_at, range_at, right_over};
+ghost use Rattle.vm_iotlb.specs.AddressRuns.{begins_anew_about, goes_on_at};
+ghost use Rattle.vm_iotlb.specs.Ranges.{AddsRange, AreRanges, IsRange, table_kept, with_range};
+ghost use Rattle.vm_iotlb.specs.Keys.{AreKeyed, Divides, HasAddress, IsFree, IsLastUpTo, IsTaken, JoinsLeft, JoinsRight, NoneUpTo};
+ghost use Rattle.vm_iotlb.specs.Keys.{ReachesFrom, cleared, joined, left_over, part_from, part_up_to, put_at, range_at, right_over};
 ghost use Rattle.vm_iotlb.specs.declared.range.IotlbRange.{IotlbRange};
 
 use crate::range::IotlbRange;
@@ -130,7 +132,7 @@ fn clear(ranges: &mut Ranges, from: u64, to: u64)
 }
 
 // Puts up to three ranges in, of which the last is under a key that is there, and takes those out whose starts lie from
-// an address up to another: all of it, or nothing.
+// an address up to another: all of it, or nothing. Only a new key can allocate.
 fn exchange(
     ranges: &mut Ranges,
     puts: (Option<IotlbRange>, Option<IotlbRange>, Option<IotlbRange>),
@@ -143,6 +145,7 @@ fn exchange(
     ensures ok { OnOk result ((q : ℕ) → range_at ranges.new.entries q
         ≡ cleared from to (put_at puts.2 (put_at puts.1 (put_at puts.0 (range_at ranges.old.entries)))) q) }
     ensures err { OnErr result (ranges.new.entries ≡ ranges.old.entries) }
+    ensures memory { OnErr result (IsTaken (range_at ranges.old.entries) puts.0 → IsTaken (range_at ranges.old.entries) puts.1 → ⊥) }
     ensures ordered { IsOrdered nat_cmp ranges.new }
 {
     let (behind, new, before) = puts;
@@ -251,7 +254,8 @@ fn right_over(
     }
 }
 
-// Maps the addresses of a range as it says, whatever they had before.
+// Maps the addresses of a range as it says, whatever they had before. It can allocate only if a run begins anew at its
+// start or at its end.
 pub(crate) fn map_range(ranges: &mut Ranges, range: &IotlbRange) -> Result<(), AllocError>
     requires keyed { AreKeyed ranges.old.entries }
     requires ranges { AreRanges (values_of ranges.old.entries) }
@@ -260,6 +264,8 @@ pub(crate) fn map_range(ranges: &mut Ranges, range: &IotlbRange) -> Result<(), A
     ensures ranges { AreRanges (values_of ranges.new.entries) }
     ensures table { OnOk result (AddsRange range.now (values_of ranges.old.entries) (values_of ranges.new.entries)) }
     ensures err { OnErr result (ranges.new.entries ≡ ranges.old.entries) }
+    ensures memory { OnErr result (begins_anew_about (table_kept (values_of ranges.old.entries))
+        (with_range range.now (table_kept (values_of ranges.old.entries))) range.now.start range.now.end ≡ true) }
 {
     let before = reaching_from(ranges, range.start);
     let after = having(ranges, range.end);
@@ -274,7 +280,7 @@ pub(crate) fn map_range(ranges: &mut Ranges, range: &IotlbRange) -> Result<(), A
     exchange(ranges, puts, new.start + 1, new.end)
 }
 
-// Takes the addresses from one up to another out.
+// Takes the addresses from one up to another out. It can allocate only if a range goes on at the end.
 pub(crate) fn take_out(ranges: &mut Ranges, start: u64, end: u64) -> Result<(), AllocError>
     requires keyed { AreKeyed ranges.old.entries }
     requires ranges { AreRanges (values_of ranges.old.entries) }
@@ -284,6 +290,7 @@ pub(crate) fn take_out(ranges: &mut Ranges, start: u64, end: u64) -> Result<(), 
     ensures table { OnOk result ((a : ℕ) → table_kept (values_of ranges.new.entries) a
         ≡ (if nat_le start a && nat_lt a end then None else table_kept (values_of ranges.old.entries) a)) }
     ensures err { OnErr result (ranges.new.entries ≡ ranges.old.entries) }
+    ensures memory { OnErr result (goes_on_at (table_kept (values_of ranges.old.entries)) end ≡ true) }
 {
     let before = reaching_from(ranges, start);
     let after = having(ranges, end);

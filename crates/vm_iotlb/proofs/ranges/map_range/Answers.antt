@@ -1,12 +1,13 @@
 use Rattle.std.proofs.Common.{arith}
 use Rattle.std.specs.Prelude.{OnOk}
 use Rattle.std.specs.Map.{values_of}
-use Rattle.std.proofs.lemmas.Result.{on_ok_weaker}
+use Rattle.std.proofs.lemmas.Result.{on_err_weaker, on_ok_weaker}
 use Rattle.vm_iotlb.specs.Keys.{AreKeyed}
 use Rattle.vm_iotlb.specs.Ranges.{AreRanges}
 use Rattle.vm_iotlb.proofs.CutLemmas.{has_range, reaches_range}
 use Rattle.vm_iotlb.proofs.SetLemmas.{set_ranges, set_table}
 use Rattle.vm_iotlb.proofs.SideLemmas.{left_low, left_taken, right_free, right_high}
+use Rattle.vm_iotlb.proofs.SplitLemmas.{map_begins}
 use Rattle.vm_iotlb.proofs.TakeLemmas.{settled}
 use Rattle.vm_iotlb.proofs.ranges.map_range.Goals as goal
 
@@ -62,3 +63,9 @@ returns-clause-table c =
     on_ok_weaker c.exchange.result (λ now. set_table c.args.ranges.now.entries c.exchange.new.ranges.entries c.args.range.now c.reaching_from-before.result c.having-after.result
     c.joined_left-left.result c.joined_right-right.result
     c.requires.keyed c.requires.ranges c.requires.range c.reaching_from-before.ensures c.having-after.ensures c.joined_left-left.ensures c.joined_right-right.ensures c.exchange.ensures.ordered now) ok
+
+pub returns-clause-memory : goal.returns-clause-memory
+returns-clause-memory c =
+    let memory = rw (c.joined-new.ensures, c.right_over.ensures) at c.exchange.ensures.memory in
+    on_err_weaker c.exchange.result (map_begins c.args.ranges.now.entries c.args.range.now c.requires.keyed c.requires.ranges c.requires.range c.reaching_from-before.result c.having-after.result
+    c.joined_left-left.result c.joined_right-right.result c.reaching_from-before.ensures c.having-after.ensures c.joined_left-left.ensures c.joined_right-right.ensures) memory

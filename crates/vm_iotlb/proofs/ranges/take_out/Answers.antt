@@ -1,9 +1,10 @@
 use Rattle.std.specs.Prelude.{OnOk}
 use Rattle.std.specs.Map.{values_of}
-use Rattle.std.proofs.lemmas.Result.{on_ok_weaker}
+use Rattle.std.proofs.lemmas.Result.{on_err_weaker, on_ok_weaker}
 use Rattle.vm_iotlb.specs.Keys.{AreKeyed}
 use Rattle.vm_iotlb.specs.Ranges.{AreRanges}
 use Rattle.vm_iotlb.proofs.CutLemmas.{has_range, head_taken, tail_free}
+use Rattle.vm_iotlb.proofs.SplitLemmas.{split_goes_on}
 use Rattle.vm_iotlb.proofs.TakeLemmas.{settled, taken_ranges, taken_table}
 use Rattle.vm_iotlb.proofs.ranges.take_out.Goals as goal
 
@@ -37,3 +38,8 @@ returns-clause-table c =
     let ok = rw (c.part_up_to.ensures, c.part_from.ensures) at c.exchange.ensures.ok in
     on_ok_weaker c.exchange.result (λ now. taken_table c.args.ranges.now.entries c.exchange.new.ranges.entries c.args.start c.args.end
     c.reaching_from-before.result c.having-after.result c.requires.keyed c.requires.ranges c.requires.order c.reaching_from-before.ensures c.having-after.ensures c.exchange.ensures.ordered now) ok
+
+pub returns-clause-memory : goal.returns-clause-memory
+returns-clause-memory c =
+    let memory = rw c.part_from.ensures at c.exchange.ensures.memory in
+    on_err_weaker c.exchange.result (λ new. split_goes_on c.args.ranges.now.entries c.args.end c.having-after.result c.requires.keyed c.requires.ranges c.having-after.ensures (λ taken. new taken tt)) memory
