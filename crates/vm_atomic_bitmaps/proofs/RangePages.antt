@@ -9,7 +9,9 @@ use Rattle.std.proofs.lemmas.Option.{unwrap_or-slice_get}
 use Rattle.vm_bitmaps.specs.Pages.{mark_of, marked_range, cleared_range}
 use Rattle.vm_bitmaps.proofs.Marks.{written_range, marked_range-is, cleared_range-is, run_is}
 use Rattle.vm_atomic_bitmaps.specs.declared.counts.Tally.{Tally}
-use Rattle.vm_atomic_bitmaps.specs.Passes.{Changes, ChangesRun, marks_page, clears_page}
+use Rattle.vm_atomic_bitmaps.specs.declared.ranges.PageChange.{PageChange}
+use Rattle.vm_atomic_bitmaps.specs.declared.ranges.PageChange.TheVariants as change
+use Rattle.vm_atomic_bitmaps.specs.Passes.{Changes, ChangesRun, marks_page, clears_page, changes_page}
 use Rattle.vm_atomic_bitmaps.proofs.PassTotals.{at_past}
 
 -- whether page p lies between two pages
@@ -83,24 +85,32 @@ turned_twice false = refl
 all_the_same : (v : Bool) (len p : ℕ) → p < len → mark_of (replicate len v) p ≡ v
 all_the_same v len p l = unwrap_or-slice_get (replicate len v) p false ∙ get_or-replicate len p v false l
 
-pub marks_page-is : (s len o n p : ℕ) → 0 < s → 0 < n → o < 2 ^ 64 → p < len → marks_page s len o n p ≡ is_between (o / s) ((min (o + n) (2 ^ 64) - 1) / s) p
+marks_page-is : (s len o n p : ℕ) → 0 < s → 0 < n → o < 2 ^ 64 → p < len → marks_page s len o n p ≡ is_between (o / s) ((min (o + n) (2 ^ 64) - 1) / s) p
 marks_page-is s len o n p some_size some fits within =
     ap (λ (l : List Bool). mark_of l p) (marked_range-is n s (replicate len false) o) ∙ written_page true s len o n p some_size some fits within
     ∙ as_it_is (is_between (o / s) ((min (o + n) (2 ^ 64) - 1) / s) p)
 
-pub clears_page-is : (s len o n p : ℕ) → 0 < s → 0 < n → o < 2 ^ 64 → p < len → clears_page s len o n p ≡ is_between (o / s) ((min (o + n) (2 ^ 64) - 1) / s) p
+clears_page-is : (s len o n p : ℕ) → 0 < s → 0 < n → o < 2 ^ 64 → p < len → clears_page s len o n p ≡ is_between (o / s) ((min (o + n) (2 ^ 64) - 1) / s) p
 clears_page-is s len o n p some_size some fits within =
     ap (λ (l : List Bool). not (mark_of l p)) (cleared_range-is n s (replicate len true) o) ∙ ap not (written_page false s len o n p some_size some fits within)
     ∙ turned_twice (is_between (o / s) ((min (o + n) (2 ^ 64) - 1) / s) p)
 
 -- no bytes lie in no page
-pub marks_page-none : (s len o p : ℕ) → p < len → marks_page s len o zero p ≡ false
+marks_page-none : (s len o p : ℕ) → p < len → marks_page s len o zero p ≡ false
 unfolding marked_range
 marks_page-none s len o p within = all_the_same false len p within
 
-pub clears_page-none : (s len o p : ℕ) → p < len → clears_page s len o zero p ≡ false
+clears_page-none : (s len o p : ℕ) → p < len → clears_page s len o zero p ≡ false
 unfolding cleared_range
 clears_page-none s len o p within = ap not (all_the_same true len p within)
+
+pub changes_page-is : (change : PageChange) (s len o n p : ℕ) → 0 < s → 0 < n → o < 2 ^ 64 → p < len → changes_page change s len o n p ≡ is_between (o / s) ((min (o + n) (2 ^ 64) - 1) / s) p
+changes_page-is change.Mark = marks_page-is
+changes_page-is change.Clear = clears_page-is
+
+pub changes_page-none : (change : PageChange) (s len o p : ℕ) → p < len → changes_page change s len o zero p ≡ false
+changes_page-none change.Mark = marks_page-none
+changes_page-none change.Clear = clears_page-none
 
 -- a run of pages, where just those of it are hit
 pub range_changes : (Change : ℕ → Tally → Tally → Type 0) (hit : ℕ → Bool) (old new : List Tally) (first far last : ℕ) → last ≡ min far (length old - 1)

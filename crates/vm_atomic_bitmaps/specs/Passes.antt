@@ -6,6 +6,8 @@ use Rattle.vm_bitmaps.specs.Pages.{marked_range, cleared_range, mark_of}
 use Rattle.vm_bitmaps.specs.Words.{page_bit}
 use Rattle.vm_atomic_bitmaps.specs.declared.counts.Tally.{Tally}
 use Rattle.vm_atomic_bitmaps.specs.declared.counts.PageCounts.{PageCounts}
+use Rattle.vm_atomic_bitmaps.specs.declared.ranges.PageChange.{PageChange}
+use Rattle.vm_atomic_bitmaps.specs.declared.ranges.PageChange.TheVariants as change
 use Rattle.vm_atomic_bitmaps.specs.Counts.{tally_of, after_mark, after_clearing, in_word, read_by, with_pages, IsWhole}
 use Rattle.vm_atomic_bitmaps.specs.Steps.{Settles, SettlesWord}
 
@@ -36,6 +38,15 @@ ByMark v p t u = (was : ℕ) × (was < 2) × (IsWhole v → Settles t was) × (u
 -- a gather or a clear of the pass v met the page, whose bit was 0 or 1: where the pass has every part, the bit that it knows
 abbrev pub ByClearing : (v : PageCounts) (p : ℕ) → Tally → Tally → Type 0
 ByClearing v p t u = (was : ℕ) × (was < 2) × (IsWhole v → Settles t was) × (u ≡ after_clearing was t)
+
+-- the tally of a page that this change met, whose bit was `was`
+abbrev pub after_change : PageChange → (was : ℕ) → Tally → Tally
+after_change change.Mark = after_mark
+after_change change.Clear = after_clearing
+
+-- this change of the pass v met the page, as `ByMark` and `ByClearing` say it of a mark and of a clear
+abbrev pub ByChange : PageChange → (v : PageCounts) → (p : ℕ) → Tally → Tally → Type 0
+ByChange change v p t u = (was : ℕ) × (was < 2) × (IsWhole v → Settles t was) × (u ≡ after_change change was t)
 
 -- a gather met the page, whose bit is that of the words
 abbrev pub ByGathering : List ℕ → (p : ℕ) → Tally → Tally → Type 0
@@ -71,3 +82,8 @@ marks_page size len start n p = mark_of (marked_range size (replicate len false)
 -- whether page p is one of those that the exact bitmap, with len pages, clears for n bytes from start on
 abbrev pub clears_page : (size len start n p : ℕ) → Bool
 clears_page size len start n p = not (mark_of (cleared_range size (replicate len true) start n) p)
+
+-- whether page p is one of those that the exact bitmap, with len pages, changes so for n bytes from start on
+abbrev pub changes_page : PageChange → (size len start n p : ℕ) → Bool
+changes_page change.Mark = marks_page
+changes_page change.Clear = clears_page

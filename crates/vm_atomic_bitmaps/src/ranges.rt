@@ -4,8 +4,8 @@ ghost use Rattle.std.specs.Prelude.{◌≡◌, ℕ, ◌+◌, ◌*◌, ◌<◌, �
 ghost use Rattle.std.specs.Int.{div_ceil};
 ghost use Rattle.vm_bitmaps.specs.Words.{page_bit, bit_of};
 ghost use Rattle.vm_atomic_bitmaps.specs.Steps.{SettlesWord, SettlesAll, NoneBeyond};
-ghost use Rattle.vm_atomic_bitmaps.specs.Passes.{IsPassOf, counting, marks_page, clears_page};
-ghost use Rattle.vm_atomic_bitmaps.specs.Passes.{ByMark, ByClearing, ByGathering, HasRead, Changes, ChangesInWord, ChangesRun};
+ghost use Rattle.vm_atomic_bitmaps.specs.Passes.{IsPassOf, counting, marks_page, clears_page, changes_page};
+ghost use Rattle.vm_atomic_bitmaps.specs.Passes.{ByMark, ByClearing, ByChange, ByGathering, HasRead, Changes, ChangesInWord, ChangesRun};
 
 use crate::atomic_bitmap::AtomicBitmap;
 use crate::bitmap_pass::BitmapPass;
@@ -28,67 +28,73 @@ fn bits_in_word(word: usize, first: usize, last: usize) -> (usize, usize)
     (from, to)
 }
 
+// What a call does to the pages that it names.
+#[derive(Clone, Copy)]
+enum PageChange {
+    Mark,
+    Clear,
+}
+
 impl AtomicBitmap {
-    // Marks those pages from `first` to `last` that lie in a word, in one step.
-    #[inline]
-    fn mark_in_word(&self, pass: &mut BitmapPass, word: usize, first: usize, last: usize)
+    // Changes those pages from `first` to `last` that lie in a word, in one step.
+    #[inline(always)]
+    fn change_in_word(
+        &self,
+        pass: &mut BitmapPass,
+        change: PageChange,
+        word: usize,
+        first: usize,
+        last: usize,
+    )
         requires own { IsPassOf self.now pass.old }
         requires ordered { first ≤ last }
         requires from { first / 64 ≤ word }
         requires to { word ≤ last / 64 }
         requires within { last < self.now.len }
         ensures pass { pass.new ≡ counting pass.old pass.new.counts.pages }
-        ensures pages { ChangesInWord (ByMark pass.old.counts) pass.old.counts.pages pass.new.counts.pages word first last }
+        ensures pages { ChangesInWord (ByChange change pass.old.counts) pass.old.counts.pages pass.new.counts.pages word first last }
     {
         let (from, to) = bits_in_word(word, first, last);
-        self.mark_word(pass, word, mask(from, to));
+        let bits = mask(from, to);
+        match change {
+            PageChange::Mark => self.mark_word(pass, word, bits),
+            PageChange::Clear => self.clear_word(pass, word, bits),
+        };
     }
 
-    // Marks the pages from `first` to `last`, in one step for each word.
-    #[inline]
-    fn mark_run(&self, pass: &mut BitmapPass, first: usize, last: usize)
+    // Changes the pages from `first` to `last`, in one step for each word.
+    #[inline(always)]
+    fn change_run(&self, pass: &mut BitmapPass, change: PageChange, first: usize, last: usize)
         requires own { IsPassOf self.now pass.old }
         requires ordered { first ≤ last }
         requires within { last < self.now.len }
         ensures pass { pass.new ≡ counting pass.old pass.new.counts.pages }
-        ensures pages { ChangesRun (ByMark pass.old.counts) pass.old.counts.pages pass.new.counts.pages first (last + 1) }
+        ensures pages { ChangesRun (ByChange change pass.old.counts) pass.old.counts.pages pass.new.counts.pages first (last + 1) }
     {
         let mut word = first / 64;
         while word <= last / 64 {
-            self.mark_in_word(pass, word, first, last);
+            self.change_in_word(pass, change, word, first, last);
             word += 1;
         }
     }
 
-    // Clears those pages from `first` to `last` that lie in a word, in one step.
-    #[inline]
-    fn clear_in_word(&self, pass: &mut BitmapPass, word: usize, first: usize, last: usize)
-        requires own { IsPassOf self.now pass.old }
-        requires ordered { first ≤ last }
-        requires from { first / 64 ≤ word }
-        requires to { word ≤ last / 64 }
-        requires within { last < self.now.len }
+    // Changes the pages of `len` bytes from `start` on, in one step for each word. Bytes past the end are ignored.
+    #[inline(always)]
+    fn change_addr_range(&self, pass: &mut BitmapPass, change: PageChange, start: usize, len: usize)
+        requires { IsPassOf self.now pass.old }
         ensures pass { pass.new ≡ counting pass.old pass.new.counts.pages }
-        ensures pages { ChangesInWord (ByClearing pass.old.counts) pass.old.counts.pages pass.new.counts.pages word first last }
+        ensures pages { Changes (ByChange change pass.old.counts) (changes_page change self.now.page_size self.now.len start len)
+            pass.old.counts.pages pass.new.counts.pages }
     {
-        let (from, to) = bits_in_word(word, first, last);
-        self.clear_word(pass, word, mask(from, to));
-    }
-
-    // Clears the pages from `first` to `last`, in one step for each word.
-    #[inline]
-    fn clear_run(&self, pass: &mut BitmapPass, first: usize, last: usize)
-        requires own { IsPassOf self.now pass.old }
-        requires ordered { first ≤ last }
-        requires within { last < self.now.len }
-        ensures pass { pass.new ≡ counting pass.old pass.new.counts.pages }
-        ensures pages { ChangesRun (ByClearing pass.old.counts) pass.old.counts.pages pass.new.counts.pages first (last + 1) }
-    {
-        let mut word = first / 64;
-        while word <= last / 64 {
-            self.clear_in_word(pass, word, first, last);
-            word += 1;
+        if len == 0 {
+            return;
         }
+        let first = page_of(self.page_size, start);
+        if first >= self.len {
+            return;
+        }
+        let last = last_page(self.page_size, start, len).min(self.len - 1);
+        self.change_run(pass, change, first, last);
     }
 
     /// Marks a page. One past the end is ignored (vm-memory's `AtomicBitmap::set_bit`).
@@ -100,7 +106,7 @@ impl AtomicBitmap {
         ensures own { IsPassOf self.now pass.new }
     {
         if index < self.len {
-            self.mark_in_word(pass, index / 64, index, index);
+            self.change_in_word(pass, PageChange::Mark, index / 64, index, index);
         }
     }
 
@@ -113,7 +119,7 @@ impl AtomicBitmap {
         ensures own { IsPassOf self.now pass.new }
     {
         if index < self.len {
-            self.clear_in_word(pass, index / 64, index, index);
+            self.change_in_word(pass, PageChange::Clear, index / 64, index, index);
         }
     }
 
@@ -127,15 +133,7 @@ impl AtomicBitmap {
             pass.old.counts.pages pass.new.counts.pages }
         ensures own { IsPassOf self.now pass.new }
     {
-        if len == 0 {
-            return;
-        }
-        let first = page_of(self.page_size, start);
-        if first >= self.len {
-            return;
-        }
-        let last = last_page(self.page_size, start, len).min(self.len - 1);
-        self.mark_run(pass, first, last);
+        self.change_addr_range(pass, PageChange::Mark, start, len);
     }
 
     /// Clears the pages of `len` bytes from `start` on, in one step for each word. Bytes past the end are ignored
@@ -148,15 +146,7 @@ impl AtomicBitmap {
             pass.old.counts.pages pass.new.counts.pages }
         ensures own { IsPassOf self.now pass.new }
     {
-        if len == 0 {
-            return;
-        }
-        let first = page_of(self.page_size, start);
-        if first >= self.len {
-            return;
-        }
-        let last = last_page(self.page_size, start, len).min(self.len - 1);
-        self.clear_run(pass, first, last);
+        self.change_addr_range(pass, PageChange::Clear, start, len);
     }
 
     // Whether a page below the end is marked.
