@@ -4,6 +4,7 @@ pub mod TakeLemmas
 pub mod TableLemmas
 pub mod LoadLemmas
 pub mod OfferLemmas
+pub mod IdleLemmas
 pub mod OfferedLemmas
 pub mod ReturnLemmas
 pub mod BoundLemmas

@@ -18,7 +18,8 @@ use Rattle.fs_queue.specs.Chain.{Found, IsChain, HasFault, StopsQueue, chain}
 use Rattle.fs_queue.specs.NextAvail.{next_avail}
 use Rattle.fs_queue.specs.NextAvail as avail
 use Rattle.fs_queue.specs.Taking.{Offer, Offers, Refuses, RequestAndRoom, CannotFetch, request_and_room, offer_of, on_head, on_next_avail, offer, may_lack_memory, stops_queue}
-use Rattle.fs_queue.specs.Windows.{ReturnPlaces, Lacks, Takes, HoldsChain, HoldsFound, HoldsReturnWindows, RefusesFound, Stays, missing_of, return_places_found, return_places_at, used_addresses}
+use Rattle.fs_queue.specs.Windows.{ReturnPlaces, Lacks, Takes, HoldsChain, HoldsFound, HoldsReturnWindows, RefusesFound}
+use Rattle.fs_queue.specs.Windows.{RefusesHeld, WantsMemory, Stays, missing_of, return_places_found, return_places_at, used_addresses}
 use Rattle.fs_queue.specs.Windows as held
 use Rattle.fs_queue.proofs.TakeLemmas.{reach-each, reach-range, list_all-append}
 use Rattle.vm_memory.proofs.RangeLemmas.{all_located}
@@ -146,9 +147,26 @@ refused_walk m limit l position at stop.HeadOutOfTable head none r = absurd r
 refused_walk m limit l position at stop.UsedUnreachable head none r = absurd r
 refused_walk m limit l position at stop.AvailFlagsUnreachable head none r = absurd r
 
-pub refused_found : (m : Memory) (limit : ℕ) (l : QueueLayout) (position at : ℕ) (a b : List Place) (e : QueueError) → avail.Head at ≡ next_avail m (at_position l position) →
-    held.Holds a b ≡ return_places_at m (at_position l position) → RefusesFound (chain m (at_position l position) at) e → Takes m limit (at_position l position) (Err e)
-refused_found m limit l position at a b e head places r = refused_walk m limit l position at e head (held_missing _ a b places) r
+chain_wants : (limit room : ℕ) (f : Found) → WantsMemory limit room f → Stays f
+chain_wants limit room (IsChain ds) wants = tt
+chain_wants limit room (HasFault fault) wants = tt
+chain_wants limit room StopsQueue wants = absurd wants
+
+held_found : (limit room : ℕ) (f : Found) (e : QueueError) → RefusesHeld limit room f e → RefusesFound f e
+held_found limit room f stop.OutOfMemory r = chain_wants limit room f r
+held_found limit room f stop.DescriptorUnreachable r = r
+held_found limit room f stop.Stopped r = absurd r
+held_found limit room f stop.AvailIndexUnreachable r = absurd r
+held_found limit room f stop.AvailTooFar r = absurd r
+held_found limit room f stop.RingEntryUnreachable r = absurd r
+held_found limit room f stop.HeadOutOfTable r = absurd r
+held_found limit room f stop.UsedUnreachable r = absurd r
+held_found limit room f stop.AvailFlagsUnreachable r = absurd r
+
+pub refused_found : (m : Memory) (limit room : ℕ) (l : QueueLayout) (position at : ℕ) (a b : List Place) (e : QueueError) → avail.Head at ≡ next_avail m (at_position l position) →
+    held.Holds a b ≡ return_places_at m (at_position l position) → RefusesHeld limit room (chain m (at_position l position) at) e → Takes m limit (at_position l position) (Err e)
+refused_found m limit room l position at a b e head places r =
+    refused_walk m limit l position at e head (held_missing _ a b places) (held_found limit room (chain m (at_position l position) at) e r)
 
 -- what is fetched by what a walk found, if it has its windows
 fetched_of : (m : Memory) (limit at : ℕ) (f : Found) (c : Result Chain ChainFault) → HoldsFound m limit f c →

@@ -74,6 +74,11 @@ on_next_avail m limit q (avail.Head head) = on_head m limit q head
 unfoldable pub offer : Memory → ℕ → Queue → Offer
 offer m limit q = if q.stopped then Refuses stop.Stopped else on_next_avail m limit q (next_avail m q)
 
+-- whether nothing waits: no chain, and no refusal
+abbrev pub is_idle : Offer → Bool
+is_idle Idle = true
+is_idle _ = false
+
 -- whether a step may be refused since an allocation fails: only if a chain is offered, so that no other refusal is hidden
 abbrev pub may_lack_memory : Offer → Bool
 may_lack_memory (Offers head fetched) = true

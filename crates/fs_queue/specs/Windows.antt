@@ -1,5 +1,5 @@
 -- What is kept of a chain that was taken: the windows of its descriptors and of its return, each address translated by itself.
-use Rattle.std.specs.Prelude.{◌≡◌, ◌<◌, ◌≤◌, ℕ, Bool, true, false, IsTrue, List, [], ◌++◌, length, map, Option, Some, None, Result, Ok, Err}
+use Rattle.std.specs.Prelude.{◌≡◌, ◌<◌, ◌≤◌, ◌⊎◌, ℕ, Bool, true, false, IsTrue, List, [], ◌++◌, length, map, Option, Some, None, Result, Ok, Err}
 use Rattle.vm_iotlb.specs.declared.permissions.Permissions.{Permissions}
 use Rattle.vm_iotlb.specs.declared.permissions.Permissions.TheVariants.{Read, Write}
 use Rattle.std.specs.List.{flat_map}
@@ -91,11 +91,23 @@ Stays (IsChain ds) = Unit {0}
 Stays (HasFault fault) = Unit {0}
 Stays StopsQueue = ⊥
 
--- a walk that found this may be refused so: it stopped the queue, or it didn't and an allocation failed
+-- what a walk found is refused so, if memory is wanting for the windows of its return: it stopped the queue, or it didn't and the want is answered
 abbrev pub RefusesFound : Found → QueueError → Type 0
 RefusesFound found stop.OutOfMemory = Stays found
 RefusesFound found stop.DescriptorUnreachable = found ≡ StopsQueue
 RefusesFound found _ = ⊥
+
+-- what a walk found wants memory only for a chain: for the list of its descriptors, if there are more than it has room for, or for its windows, if it keeps the limit
+abbrev pub WantsMemory : (limit room : ℕ) → Found → Type 0
+WantsMemory limit room (IsChain ds) = (room < length ds) ⊎ KeepsLimit limit ds
+WantsMemory limit room (HasFault fault) = ⊥
+WantsMemory limit room StopsQueue = ⊥
+
+-- what a walk found is refused so, once its return has windows: it stopped the queue, or it wants memory
+abbrev pub RefusesHeld : (limit room : ℕ) → Found → QueueError → Type 0
+RefusesHeld limit room found stop.OutOfMemory = WantsMemory limit room found
+RefusesHeld limit room found stop.DescriptorUnreachable = found ≡ StopsQueue
+RefusesHeld limit room found _ = ⊥
 
 -- a place for a chain that was taken: the chain or its fault, and the windows of its return
 pub record Taken : Type 0 where

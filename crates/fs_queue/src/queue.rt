@@ -6,6 +6,7 @@ ghost use Rattle.vm_memory_core.specs.Host.{lengths, shape};
 ghost use Rattle.vm_memory_core.specs.Window.{put_all};
 ghost use Rattle.vm_memory.specs.Memory.{Memory};
 
+use crate::by_loads::walk_ring;
 use crate::chain::Taken;
 use crate::fault::QueueError;
 use crate::layout::QueueLayout;
@@ -43,7 +44,7 @@ impl Model for Queue {
 
 ghost use Rattle.fs_queue.specs.Queue.{fresh, resumed};
 ghost use Rattle.fs_queue.specs.Ringing.{BeginsWalk};
-ghost use Rattle.fs_queue.specs.Taking.{RequestAndRoom, after_refusal, room_of};
+ghost use Rattle.fs_queue.specs.Taking.{RequestAndRoom, after_refusal, is_idle, offer, room_of};
 ghost use Rattle.fs_queue.specs.Returning.{returned, stores_after_reply, stores_of, put_back, tells_by, wants_notice, advanced, PutFrontLast};
 ghost use Rattle.fs_queue.specs.Windows.{Takes, after_taking, taken_if, IsTaken, TakenLiesIn, ChainLiesIn, room_places, chain_places, HasItsWindows};
 ghost use Rattle.fs_queue.specs.Windows.{IsEmpty, IsEmptyUnlessTaken};
@@ -152,6 +153,21 @@ impl Queue {
         ensures { self.new ≡ advanced self.old }
     {
         self.position = self.position.wrapping_add(1);
+    }
+
+    /// Whether a queue that isn't stopped has nothing at its position: no chain waits, and nothing is refused. It changes
+    /// nothing, and want of memory hides nothing of it.
+    pub fn is_idle<M: GuestMemory, H: HostBlocks>(&self, alloc: Global, host: &H, mem: &M) -> bool
+        requires { M.IsHeld mem.now (H.host host.now) }
+        ensures { (limit : ℕ) → result ≡ is_idle (offer (M.memory mem.now (H.host host.now)) limit self.now) }
+    {
+        if self.stopped {
+            return false;
+        }
+        matches!(
+            walk_ring(alloc, self.layout, self.position, host, mem),
+            Walk::Idle
+        )
     }
 
     /// Takes the chain that waits at the queue's position, with its windows, into a place whatever that had, or answers

@@ -14,7 +14,7 @@ ghost use Rattle.fs_queue.specs.Taking.{total_len, request_and_room, stops_queue
 ghost use Rattle.fs_queue.specs.Windows.{of_direction, access_of, addresses_of, used_addresses, return_places_of};
 ghost use Rattle.fs_queue.specs.Windows.{missing_of, return_places_at, room_places, ReturnWindowsLieIn, ChainLiesIn, TakenLiesIn};
 ghost use Rattle.fs_queue.specs.Windows.{HoldsChain, HoldsWindows, HasItsWindows, HasNoReturnWindows, HasNoWindows, IsEmpty, Takes, taken_if, unless_faulty, unreachable_of};
-ghost use Rattle.fs_queue.specs.Windows.{HoldsFound, KeepsLimit, RefusesFound};
+ghost use Rattle.fs_queue.specs.Windows.{HoldsFound, KeepsLimit, RefusesFound, RefusesHeld};
 ghost use Rattle.fs_queue.specs.Chain.{IsChain, chain, first_visit};
 ghost use Rattle.fs_queue.specs.Loads.{ahead_at};
 ghost use Rattle.fs_queue.specs.Stepping.{ahead_of, IfWants};
@@ -396,7 +396,7 @@ pub fn hold_chain<M: GuestMemory, H: HostBlocks>(
 }
 
 // Walks the chain of a head, and puts its request and its room in a place, or answers its fault. Refused are
-// `DescriptorUnreachable` and `OutOfMemory`.
+// `DescriptorUnreachable` and `OutOfMemory`, this for a chain alone: a fault takes no memory.
 #[inline(always)]
 fn walk_and_hold<M: GuestMemory, H: HostBlocks>(
     alloc: Global,
@@ -414,7 +414,8 @@ fn walk_and_hold<M: GuestMemory, H: HostBlocks>(
     requires size { IfWants first (λ w. w.size ≡ layout.size) }
     ensures fetched { let m = M.memory mem.now (H.host host.now) in
         IfOk result (λ fault. HoldsFound m limit (chain m (at_position layout 0) head) (unless_faulty fault kept.new)) }
-    ensures refused { IfErr result (RefusesFound (chain (M.memory mem.now (H.host host.now)) (at_position layout 0) head)) }
+    ensures refused { let m = M.memory mem.now (H.host host.now) in
+        IfErr result (RefusesHeld limit descriptors.old.capacity (chain m (at_position layout 0) head)) }
     ensures windows { let m = M.memory mem.now (H.host host.now) in
         IfOk result (λ fault. HoldsWindows m head (unless_faulty fault kept.new) (chain m (at_position layout 0) head)) }
     ensures lie { IfOk result (λ fault. ChainLiesIn (lengths (H.host host.now)) (unless_faulty fault kept.new)) }
@@ -432,7 +433,8 @@ fn walk_and_hold<M: GuestMemory, H: HostBlocks>(
     }
 }
 
-// Why a chain isn't taken if memory is wanting for the windows of its return: its walk stops the queue, else that want.
+// Why a chain isn't taken if memory is wanting for the windows of its return: `DescriptorUnreachable` if its walk stops the
+// queue, else `OutOfMemory`.
 fn refusal_without_return<M: GuestMemory, H: HostBlocks>(
     alloc: Global,
     layout: QueueLayout,

@@ -41,7 +41,7 @@ returns-in-Err-clause-takes g c =
 
 pub returns-in-Err-walk_and_hold-clause-takes : goal.returns-in-Err-walk_and_hold-clause-takes
 returns-in-Err-walk_and_hold-clause-takes g c =
-    refused_found (g.M.GuestMemory.memory c.args.mem.now (g.H.HostBlocks.host c.args.host.now)) c.args.limit c.args.layout c.args.position c.in-Chain.head _ _ _
+    refused_found (g.M.GuestMemory.memory c.args.mem.now (g.H.HostBlocks.host c.args.host.now)) c.args.limit _ c.args.layout c.args.position c.in-Chain.head _ _ _
     (untold _ _ (rw c.in-Chain.is at c.walk_ring.ensures.told)) (rw c.in-Ok-None.field-0-is at c.in-Ok-None.ensures.places) c.in-Err-walk_and_hold.ensures.refused
 
 pub returns-in-Ok-clause-takes : goal.returns-in-Ok-clause-takes
