@@ -1,6 +1,6 @@
 -- a run over a host that differs outside of what it reads
 use Rattle.std.proofs.Common.{◌≡◌, ℕ, Bool, true, false, not, ◌&&◌, List, [], ◌∷◌, map, length, zip, Option, Some, None, refl, ap, sym, ◌∙◌, subst}
-use Rattle.std.specs.Prelude.{◌==◌, nat_lt, IsTrue, if◌then◌else◌, slice_get, option_map, unwrap_or}
+use Rattle.std.specs.Prelude.{◌+◌, ◌==◌, nat_lt, IsTrue, if◌then◌else◌, slice_get, option_map, unwrap_or}
 use Rattle.std.specs.List.{list_all, list_any}
 use Rattle.std.proofs.lemmas.List.{length-map}
 use Rattle.std.proofs.lemmas.Option.{slice_get-map}
@@ -9,6 +9,7 @@ use Rattle.vm_iotlb.specs.declared.permissions.Permissions.TheVariants.{Read, Wr
 use Rattle.vm_iotlb.specs.declared.range.IotlbRange.{IotlbRange}
 use Rattle.vm_iotlb.specs.declared.permissions.Permissions.{Permissions}
 use Rattle.vm_iotlb.specs.Table.{Table, mapped, unmapped, nothing_mapped}
+use Rattle.vm_iotlb.specs.AddressRuns.{begins_anew_about, goes_on_at}
 use Rattle.vm_memory_core.specs.Host.{Host, Block, Place, with_block, new_block}
 use Rattle.vm_memory_core.specs.Lending.{with_table_at}
 use Rattle.vm_memory.specs.Layout.{Region, fits, overlap, is_region, with_region, without_region}
@@ -262,6 +263,9 @@ module _ {F : Type 0} (s : State F) (h : Host) (same : without_bytes s.memory.ho
   takes_alike : (command : Command) → command_takes_memory s command ≡ command_takes_memory (with_host s h) command
   takes_alike (run.GuestRead a n) = ap (λ (r : ℕ → ℕ → Bool). nat_lt 0 n && r a n) (reach_same Read)
   takes_alike (run.InsertRegion base block) = goes_alike s.memory.layout base block _ _ (there_alike block)
+  takes_alike (run.Map iova target n perm) =
+      ap (λ (t : Table). (nat_lt 0 n && (ends_fit iova n && ends_fit target n)) && begins_anew_about t (mapped iova target n perm t) iova (iova + n)) table_alike
+  takes_alike (run.Unmap iova n) = ap (λ (t : Table). (nat_lt 0 n && ends_fit iova n) && goes_on_at t (iova + n)) table_alike
   takes_alike _ = refl
 
   lack_follows : (command : Command) (told : Told) (after : State F) → LacksMemory s command told after → Follows (λ end. LacksMemory (with_host s h) command told end) s h after []

@@ -1,6 +1,6 @@
 //! Runs beside blocks that the guest has no way to.
 
-ghost use Rattle.std.specs.Prelude.{◌≡◌, ℕ, length, map, zip, IfOk, OnErr};
+ghost use Rattle.std.specs.Prelude.{◌≡◌, ◌<◌, ℕ, length, map, zip, IfOk, OnErr};
 ghost use Rattle.fs_device.specs.CommandView.{answer_of, command_of};
 ghost use Rattle.fs_device.specs.MachineView.{machine_of};
 ghost use Rattle.fs_device.specs.Run.{Run};
@@ -27,6 +27,7 @@ pub fn run_beside_secrets<F: FileSystem, I: Iommu + Drop>(
     ensures secret { IfOk result (λ answers. (block : ℕ) → IsHidden block (machine_of machine.old) (map command_of commands.items) →
         KeepsSecret F.may block (machine_of machine.old) (machine_of machine.new) (zip (map command_of commands.items) (map answer_of answers.items))) }
     ensures err { OnErr result (machine_of machine.new ≡ machine_of machine.old) }
+    ensures memory { OnErr result (0 < length commands.items) }
 {
     law_hidden_blocks::<F>();
     machine.run(alloc, commands)

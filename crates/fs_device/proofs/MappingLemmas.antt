@@ -6,6 +6,7 @@ use Rattle.std.specs.declared.alloc.AllocError.{AllocError}
 use Rattle.std.proofs.lemmas.Bool.Decides.{nat_tests}
 use Rattle.vm_iotlb.specs.declared.range.IotlbRange.{IotlbRange}
 use Rattle.vm_iotlb.specs.Table.{Table}
+use Rattle.vm_iotlb.specs.AddressRuns.{begins_anew_about, goes_on_at}
 use Rattle.vm_memory_core.specs.Host.{Host, with_block}
 use Rattle.vm_memory_core.specs.Lending.{with_table_at}
 use Rattle.vm_memory.specs.Layout.{Region}
@@ -50,12 +51,18 @@ wanted n h = grind (arith, nat_tests)
 ends : (a n : ℕ) → a + n < 2 ^ 64 → ends_fit a n ≡ true
 ends a n h = grind (arith, nat_tests)
 
--- memory is wanted for some addresses alone, where their end fits
-pub wanted_to_unmap : (a n : ℕ) → a + n < 2 ^ 64 → 0 < n → (nat_lt 0 n && ends_fit a n) ≡ true
-wanted_to_unmap a n fits some = rw (wanted n some) (ends a n fits)
+both : (x y : Bool) → x ≡ true → y ≡ true → (x && y) ≡ true
+both x y e f = rw e f
 
-pub wanted_to_map : (a b n : ℕ) → a + n < 2 ^ 64 → b + n < 2 ^ 64 → 0 < n → (nat_lt 0 n && (ends_fit a n && ends_fit b n)) ≡ true
-wanted_to_map a b n fits target some = rw (wanted n some) (rw (ends a n fits) (ends b n target))
+-- memory is wanted for some addresses alone, where their end fits and a range is split there
+pub wanted_to_unmap : (t : Table) (a n : ℕ) → a + n < 2 ^ 64 → 0 < n → goes_on_at t (a + n) ≡ true → ((nat_lt 0 n && ends_fit a n) && goes_on_at t (a + n)) ≡ true
+wanted_to_unmap t a n fits some on = both (nat_lt 0 n && ends_fit a n) (goes_on_at t (a + n)) (both (nat_lt 0 n) (ends_fit a n) (wanted n some) (ends a n fits)) on
+
+pub wanted_to_map : (t u : Table) (a b n : ℕ) → a + n < 2 ^ 64 → b + n < 2 ^ 64 → 0 < n → begins_anew_about t u a (a + n) ≡ true →
+    ((nat_lt 0 n && (ends_fit a n && ends_fit b n)) && begins_anew_about t u a (a + n)) ≡ true
+wanted_to_map t u a b n fits target some anew =
+    both (nat_lt 0 n && (ends_fit a n && ends_fit b n)) (begins_anew_about t u a (a + n))
+    (both (nat_lt 0 n) (ends_fit a n && ends_fit b n) (wanted n some) (both (ends_fit a n) (ends_fit b n) (ends a n fits) (ends b n target))) anew
 
 -- ---- what a host holds
 

@@ -1,6 +1,6 @@
 -- runs from states that differ in marks alone
 use Rattle.std.proofs.Common.{◌≡◌, ℕ, zero, suc, Bool, true, false, List, [], ◌∷◌, map, length, zip, Option, Some, None, refl, ap, sym, ◌∙◌, subst}
-use Rattle.std.specs.Prelude.{◌+◌, ◌*◌, ◌==◌, ◌&&◌, IsTrue, if◌then◌else◌, slice_get, option_map, unwrap_or, not}
+use Rattle.std.specs.Prelude.{◌+◌, ◌*◌, ◌==◌, ◌&&◌, IsTrue, if◌then◌else◌, slice_get, option_map, unwrap_or, nat_lt, not}
 use Rattle.std.specs.List.{list_all, list_any}
 use Rattle.std.proofs.lemmas.List.{length-map, map-append}
 use Rattle.std.proofs.lemmas.Option.{slice_get-map}
@@ -8,6 +8,7 @@ use mathlib.Core.List.{map-map}
 use mathlib.Core.Path.{fun_ext}
 use Rattle.vm_iotlb.specs.declared.permissions.Permissions.TheVariants.{Read, Write}
 use Rattle.vm_iotlb.specs.Table.{Table, mapped, unmapped, nothing_mapped}
+use Rattle.vm_iotlb.specs.AddressRuns.{begins_anew_about, goes_on_at}
 use Rattle.vm_memory_core.specs.Host.{Host, Block, unmarked, cleared, with_block, new_block}
 use Rattle.vm_memory_core.specs.Lending.{with_table_at}
 use Rattle.vm_memory.specs.Layout.{Region, fits, overlap, is_region, with_region, without_region}
@@ -276,8 +277,14 @@ goes_alike layout base block (Some b) (Some c) is =
     ap (λ (n : ℕ). goes_in layout (record { start = base; size = n; block = block })) (ap (λ (o : Option Block). unwrap_or (option_map (λ b. length b.bytes) o) 0) is)
 
 module _ {F : Type 0} (s : State F) (h : Host) (same : without_marks s.memory.host ≡ without_marks h) where
+  table_alike : table_of s.memory ≡ table_of (with_host s h).memory
+  table_alike = ap (λ (k : Host). table_in k s.memory.table) same
+
   takes_alike : (command : Command) → command_takes_memory s command ≡ command_takes_memory (with_host s h) command
   takes_alike (run.InsertRegion base block) = goes_alike s.memory.layout base block _ _ (there_alike s h same block)
+  takes_alike (run.Map iova target n perm) =
+      ap (λ (t : Table). (nat_lt 0 n && (ends_fit iova n && ends_fit target n)) && begins_anew_about t (mapped iova target n perm t) iova (iova + n)) table_alike
+  takes_alike (run.Unmap iova n) = ap (λ (t : Table). (nat_lt 0 n && ends_fit iova n) && goes_on_at t (iova + n)) table_alike
   takes_alike _ = refl
 
   change_alike : (fit : Bool) (table : Table) (answer : Answer) (after : State F) → ChangesTable s fit table answer after → Matched (λ end. ChangesTable (with_host s h) fit table answer end) after
@@ -286,9 +293,6 @@ module _ {F : Type 0} (s : State F) (h : Host) (same : without_marks s.memory.ho
       (with_ranges (with_host s h) t.1.0, (t.0, (t.1.0, t.1.1, t.1.2, refl)), ap without_its_marks t.1.3 ∙ moved)
   change_alike false table answer after t =
       (with_host s h, ap {B = Effect F} (λ (x : Effect F). (x.0, with_host s h)) t, unchanged_alike s h same after (ap (λ (x : Effect F). x.1) t))
-
-  table_alike : table_of s.memory ≡ table_of (with_host s h).memory
-  table_alike = ap (λ (k : Host). table_in k s.memory.table) same
 
   -- a change that goes by the table that is there
   change_of : (fit : Bool) (to : Table → Table) (answer : Answer) (after : State F) → ChangesTable s fit (to (table_of s.memory)) answer after →

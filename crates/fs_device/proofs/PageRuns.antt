@@ -1,5 +1,5 @@
 -- which pages the commands of a run mark
-use Rattle.std.proofs.Common.{◌≡◌, ℕ, zero, suc, ◌≤◌, Bool, true, false, List, [], ◌∷◌, ◌++◌, length, map, replicate, Option, Some, None, refl, ap, sym, ◌∙◌, subst, arith}
+use Rattle.std.proofs.Common.{◌≡◌, ℕ, zero, suc, Bool, true, false, List, [], ◌∷◌, ◌++◌, length, map, replicate, Option, Some, None, refl, ap, sym, ◌∙◌, subst, arith}
 use Rattle.std.specs.Prelude.{◌↔◌, ◌==◌, if◌then◌else◌, not, slice_get, option_map, option_and_then}
 use Rattle.std.specs.List.{list_any, list_all, zip}
 use Rattle.std.proofs.lemmas.Option.{slice_get-map}
@@ -10,18 +10,17 @@ use Rattle.vm_memory.specs.Layout.{Region, fits, overlap, is_region}
 use Rattle.vm_memory.specs.Memory.{Memory, addresses, physical, reach, stored_all}
 use Rattle.vm_memory.proofs.Places.{length-addresses}
 use Rattle.fs_queue.specs.Queue.{Queue, fresh}
-use Rattle.fs_queue.specs.declared.fault.QueueError.TheVariants as stop
 use Rattle.fs_queue.specs.Taking.{room_of}
 use Rattle.fs_queue.specs.Returning.{writes}
 use Rattle.virtiofsd_fuse.specs.Serving.{May}
 use Rattle.fs_device.specs.declared.error.DeviceError.{DeviceError}
-use Rattle.fs_device.specs.declared.error.DeviceError.TheVariants as device
 use Rattle.fs_device.specs.declared.refusal.Refusal.TheVariants as why
-use Rattle.fs_device.specs.Step.{State, Calls, Idle, Refused, Step, StepOf}
+use Rattle.fs_device.specs.Step.{State}
 use Rattle.fs_device.specs.Run as run
 use Rattle.fs_device.specs.Run.{Told, Command, Answer, Effect, ChangesTable, KickEnds, KickRun, Kicks, Kicked, HasEffect, Does, Performs, Affects, effect, insert}
 use Rattle.fs_device.specs.Run.{insert_block, is_known, some_overlap, reset}
-use Rattle.fs_device.specs.MarkedPages.{block_mark, io_mark, returned_addresses, Marks, KickWrites, ClearsMarks, KeepsMarks, DoneMarks, ServedMarks, AnswerMarks, CommandsMark}
+use Rattle.fs_device.specs.MarkedPages.{Marks, KickWrites, ClearsMarks, KeepsMarks, DoneMarks, AnswerMarks, CommandsMark}
+use Rattle.fs_device.proofs.TellingLemmas.{end_keeps}
 use Rattle.fs_device.proofs.UsedLemmas.{exchange_returns, step_offers}
 use Rattle.fs_device.proofs.PageLemmas.{marks_join, none_written, ways, ways_stay, writes_mark}
 
@@ -62,29 +61,6 @@ grown_marks (b ∷ blocks) n (suc block) page = grown_marks blocks n block page
 -- ---- a kick
 
 module _ {F : Type 0} (may : May F) where
-  idle_stays : (s : State F) (i : ℕ) (o : Option Queue) (calls : Calls) (after : State F) → StepOf may s i o calls Idle after → after.memory ≡ s.memory
-  idle_stays s i None calls after t = absurd (cc)
-  idle_stays s i (Some q) calls after t = ap (λ (k : State F). k.memory) t.1.same
-
-  refused_stays : (s : State F) (i : ℕ) (o : Option Queue) (calls : Calls) (e : DeviceError) (after : State F) → StepOf may s i o calls (Refused e) after → after.memory ≡ s.memory
-  refused_stays s i None calls e after t = ap (λ (k : State F). k.memory) t.1.same
-  refused_stays s i (Some q) calls device.NoSuchQueue after t = absurd t
-  refused_stays s i (Some q) calls (device.Queue stop.OutOfMemory) after t = ap (λ (k : State F). k.memory) t.1.same
-  refused_stays s i (Some q) calls (device.Queue stop.Stopped) after t = ap (λ (k : State F). k.memory) t.2
-  refused_stays s i (Some q) calls (device.Queue stop.AvailIndexUnreachable) after t = ap (λ (k : State F). k.memory) t.2
-  refused_stays s i (Some q) calls (device.Queue stop.AvailTooFar) after t = ap (λ (k : State F). k.memory) t.2
-  refused_stays s i (Some q) calls (device.Queue stop.RingEntryUnreachable) after t = ap (λ (k : State F). k.memory) t.2
-  refused_stays s i (Some q) calls (device.Queue stop.HeadOutOfTable) after t = ap (λ (k : State F). k.memory) t.2
-  refused_stays s i (Some q) calls (device.Queue stop.UsedUnreachable) after t = ap (λ (k : State F). k.memory) t.2
-  refused_stays s i (Some q) calls (device.Queue stop.AvailFlagsUnreachable) after t = ap (λ (k : State F). k.memory) t.2
-  refused_stays s i (Some q) calls (device.Queue stop.DescriptorUnreachable) after t = ap (λ (k : State F). k.memory) t.2
-
-  end_stays : (s : State F) (i most : ℕ) (refused : Option DeviceError) (after : State F) → KickEnds may s i most refused after → after.memory ≡ s.memory
-  end_stays s i zero None after t = ap (λ (k : State F). k.memory) t
-  end_stays s i zero (Some e) after t = absurd t
-  end_stays s i (suc most) None after t = idle_stays s i (slice_get s.queues i) [] after t
-  end_stays s i (suc most) (Some e) after t = refused_stays s i (slice_get s.queues i) [] e after t
-
   -- nothing was written
   abbrev Marked : State F → ℕ → ℕ → Told → State F → Type 0
   Marked s i most told after = (written : List ℕ) × KickWrites may s i most told written × Marks s.memory written after.memory.host
@@ -95,7 +71,7 @@ module _ {F : Type 0} (may : May F) where
 
   kick_marks : (s : State F) (i most : ℕ) (told : Told) (refused : Option DeviceError) (after : State F) → KickRun may s i most told refused after → Marked s i most told after
   unfolding KickRun KickWrites
-  kick_marks s i most [] refused after t = nothing_marked s i most after (end_stays s i most refused after t)
+  kick_marks s i most [] refused after t = nothing_marked s i most after (end_keeps may s i most refused after t)
   kick_marks s i zero (x ∷ told) refused after t = absurd t
   kick_marks s i (suc most) (x ∷ told) refused after (mid, step, rest) =
       let found = step_offers may s mid i x.calls x.exchange x.notice step in

@@ -6,7 +6,7 @@ use Rattle.vm_iotlb.specs.declared.permissions.Permissions.TheVariants.{Read, Wr
 use Rattle.vm_iotlb.specs.Table.{Table, nothing_mapped}
 use Rattle.vm_memory_core.specs.Host.{Block}
 use Rattle.vm_memory.specs.Layout.{Region, fits, overlap, is_region}
-use Rattle.vm_memory.specs.Memory.{reach, physical}
+use Rattle.vm_memory.specs.Memory.{Memory, reach, physical}
 use Rattle.fs_queue.specs.declared.fault.QueueError.TheVariants as stop
 use Rattle.fs_queue.specs.Queue.{Queue, fresh}
 use Rattle.fs_queue.specs.Taking.{Offer, IsRequest, CannotFetch, Refuses, Offers}
@@ -69,31 +69,43 @@ step_tells : {F : Type 0} (may : May F) (s : State F) (i : ℕ) (o : Option Queu
 step_tells may s i None calls x notice after t = absurd (cc)
 step_tells may s i (Some q) calls x notice after t = exchange_tells may s i q _ calls x notice after t
 
-idle_stays : {F : Type 0} (may : May F) (s : State F) (i : ℕ) (o : Option Queue) (calls : Calls) (after : State F) → StepOf may s i o calls Idle after → after.files ≡ s.files
-idle_stays may s i None calls after t = ap (λ s. s.files) t.1.same
-idle_stays may s i (Some q) calls after t = ap (λ s. s.files) t.1.same
+-- what an idle step, a refusal and the end of a kick don't change: the memory and the files
+abbrev kept_of : {F : Type 0} → State F → Memory × F
+kept_of s = (s.memory, s.files)
 
-refused_stays : {F : Type 0} (may : May F) (s : State F) (i : ℕ) (o : Option Queue) (calls : Calls) (e : DeviceError) (after : State F) →
-    StepOf may s i o calls (Refused e) after → after.files ≡ s.files
-refused_stays may s i None calls e after t = ap (λ s. s.files) t.1.same
-refused_stays may s i (Some q) calls device.NoSuchQueue after t = absurd t
-refused_stays may s i (Some q) calls (device.Queue stop.OutOfMemory) after t = ap (λ s. s.files) t.1.same
-refused_stays may s i (Some q) calls (device.Queue stop.Stopped) after t = ap (λ s. s.files) t.2
-refused_stays may s i (Some q) calls (device.Queue stop.AvailIndexUnreachable) after t = ap (λ s. s.files) t.2
-refused_stays may s i (Some q) calls (device.Queue stop.AvailTooFar) after t = ap (λ s. s.files) t.2
-refused_stays may s i (Some q) calls (device.Queue stop.RingEntryUnreachable) after t = ap (λ s. s.files) t.2
-refused_stays may s i (Some q) calls (device.Queue stop.HeadOutOfTable) after t = ap (λ s. s.files) t.2
-refused_stays may s i (Some q) calls (device.Queue stop.UsedUnreachable) after t = ap (λ s. s.files) t.2
-refused_stays may s i (Some q) calls (device.Queue stop.AvailFlagsUnreachable) after t = ap (λ s. s.files) t.2
-refused_stays may s i (Some q) calls (device.Queue stop.DescriptorUnreachable) after t = ap (λ s. s.files) t.2
+idle_leaves : {F : Type 0} (may : May F) (s : State F) (i : ℕ) (o : Option Queue) (calls : Calls) (after : State F) → StepOf may s i o calls Idle after → kept_of after ≡ kept_of s
+idle_leaves may s i None calls after t = ap kept_of t.1.same
+idle_leaves may s i (Some q) calls after t = ap kept_of t.1.same
+
+refused_leaves : {F : Type 0} (may : May F) (s : State F) (i : ℕ) (o : Option Queue) (calls : Calls) (e : DeviceError) (after : State F) →
+    StepOf may s i o calls (Refused e) after → kept_of after ≡ kept_of s
+refused_leaves may s i None calls e after t = ap kept_of t.1.same
+refused_leaves may s i (Some q) calls device.NoSuchQueue after t = absurd t
+refused_leaves may s i (Some q) calls (device.Queue stop.OutOfMemory) after t = ap kept_of t.1.same
+refused_leaves may s i (Some q) calls (device.Queue stop.Stopped) after t = ap kept_of t.2
+refused_leaves may s i (Some q) calls (device.Queue stop.AvailIndexUnreachable) after t = ap kept_of t.2
+refused_leaves may s i (Some q) calls (device.Queue stop.AvailTooFar) after t = ap kept_of t.2
+refused_leaves may s i (Some q) calls (device.Queue stop.RingEntryUnreachable) after t = ap kept_of t.2
+refused_leaves may s i (Some q) calls (device.Queue stop.HeadOutOfTable) after t = ap kept_of t.2
+refused_leaves may s i (Some q) calls (device.Queue stop.UsedUnreachable) after t = ap kept_of t.2
+refused_leaves may s i (Some q) calls (device.Queue stop.AvailFlagsUnreachable) after t = ap kept_of t.2
+refused_leaves may s i (Some q) calls (device.Queue stop.DescriptorUnreachable) after t = ap kept_of t.2
 
 -- ---- kicks
 
+end_leaves : {F : Type 0} (may : May F) (s : State F) (i most : ℕ) (refused : Option DeviceError) (after : State F) → KickEnds may s i most refused after → kept_of after ≡ kept_of s
+end_leaves may s i zero None after same = ap kept_of same
+end_leaves may s i zero (Some e) after t = absurd t
+end_leaves may s i (suc most) None after t = idle_leaves may s i (slice_get s.queues i) [] after t
+end_leaves may s i (suc most) (Some e) after t = refused_leaves may s i (slice_get s.queues i) [] e after t
+
+-- the files
 pub end_stays : {F : Type 0} (may : May F) (s : State F) (i most : ℕ) (refused : Option DeviceError) (after : State F) → KickEnds may s i most refused after → after.files ≡ s.files
-end_stays may s i zero None after same = ap (λ s. s.files) same
-end_stays may s i zero (Some e) after t = absurd t
-end_stays may s i (suc most) None after t = idle_stays may s i (slice_get s.queues i) [] after t
-end_stays may s i (suc most) (Some e) after t = refused_stays may s i (slice_get s.queues i) [] e after t
+end_stays may s i most refused after t = ap (λ k. k.1) (end_leaves may s i most refused after t)
+
+-- the memory
+pub end_keeps : {F : Type 0} (may : May F) (s : State F) (i most : ℕ) (refused : Option DeviceError) (after : State F) → KickEnds may s i most refused after → after.memory ≡ s.memory
+end_keeps may s i most refused after t = ap (λ k. k.0) (end_leaves may s i most refused after t)
 
 kick_tells : {F : Type 0} (may : May F) (s : State F) (i most : ℕ) (told : Told) (refused : Option DeviceError) (after : State F) →
     KickRun may s i most told refused after → Tells may s.files told after.files

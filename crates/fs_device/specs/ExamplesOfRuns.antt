@@ -377,8 +377,8 @@ unfolding place addresses
 takes_none_to_refuse = refl
 
 -- the same commands take some where they may be done
-takes_some_to_do : map (run.command_takes_memory small) (run.GuestRead 31 1 ∷ run.NewBlock 1 ∷ run.InsertRegion (2 ^ 64 - 32) 0 ∷ run.Unmap
-    (2 ^ 64 - 2) 1 ∷ run.InsertRegion 32 0 ∷ run.RemoveRegion 0 32 ∷ []) ≡ true ∷ true ∷ true ∷ true ∷ true ∷ true ∷ []
+takes_some_to_do : map (run.command_takes_memory small) (run.GuestRead 31 1 ∷ run.NewBlock 1 ∷ run.InsertRegion (2 ^ 64 - 32) 0 ∷ run.InsertRegion 32 0
+    ∷ run.RemoveRegion 0 32 ∷ []) ≡ true ∷ true ∷ true ∷ true ∷ true ∷ []
 unfolding place addresses
 takes_some_to_do = refl
 
@@ -496,6 +496,20 @@ unmaps_nothing_past_the_end = refl
 unmaps_all : leaves sixteen run.UnmapAll []
 unfolding table_kept
 unmaps_all = (refl, ([], tt, (λ a. refl), refl))
+
+-- what takes a mapping out takes memory only if the address behind is mapped as one with the last: of all sixteen, their end, none of them or others it takes none,
+-- but of their front or their middle
+unmapping_takes : map (command_takes_memory (with_ranges behind sixteen)) (run.Unmap 0x1000 16 ∷ run.Unmap 0x1008 8 ∷ run.Unmap 0x1008 0 ∷ run.Unmap 0x2000 8 ∷ run.Unmap 0x1000 8
+    ∷ run.Unmap 0x1004 8 ∷ []) ≡ false ∷ false ∷ false ∷ false ∷ true ∷ true ∷ []
+unfolding table_kept
+unmapping_takes = refl
+
+-- what maps addresses takes memory only if a run begins anew: it takes none as the sixteen are, elsewhere as a whole, as a part of them is, or where they go on,
+-- but some for a part elsewhere, or for others
+mapping_takes : map (command_takes_memory (with_ranges behind sixteen)) (run.Map 0x1000 8 16 ReadWrite ∷ run.Map 0x1000 0 16 Write ∷ run.Map 0x1004 12 4 ReadWrite ∷ run.Map 0x1010 24 8 ReadWrite
+    ∷ run.Map 0x1004 0 4 ReadWrite ∷ run.Map 0x2000 0 8 ReadWrite ∷ []) ≡ false ∷ false ∷ false ∷ false ∷ true ∷ true ∷ []
+unfolding table_kept
+mapping_takes = refl
 
 -- the table is used from then on; the guest's own accesses go by physical addresses all the same
 abbrev turned_on : List IotlbRange → State Nothing

@@ -6,6 +6,7 @@ use Rattle.vm_iotlb.specs.declared.permissions.Permissions.TheVariants.{Read, Wr
 use Rattle.vm_iotlb.specs.declared.range.IotlbRange.{IotlbRange}
 use Rattle.vm_iotlb.specs.Table.{Table, AreSame, mapped, nothing_mapped, unmapped}
 use Rattle.vm_iotlb.specs.Ranges.{AreRanges, table_kept}
+use Rattle.vm_iotlb.specs.AddressRuns.{begins_anew_about, goes_on_at}
 use Rattle.vm_memory_core.specs.Host.{Host, Block, cleared, new_block, with_block}
 use Rattle.vm_memory_core.specs.Lending.{with_table_at}
 use Rattle.vm_memory.specs.Layout.{Region, fits, overlap, with_region, is_region, without_region}
@@ -262,11 +263,13 @@ abbrev pub block_goes_in : List Region → (base block : ℕ) → Option Block �
 block_goes_in layout base block None = false
 block_goes_in layout base block (Some b) = goes_in layout (record { start = base; size = length b.bytes; block = block })
 
--- whether a command takes memory, and so may be refused since an allocation fails: a read of some bytes, a block, a region more or less and a change of mappings only if they aren't refused anyway
+-- whether a command takes memory, and so may be refused since an allocation fails: a read of some bytes, a block, a region more or less and a change of mappings only if they aren't refused anyway.
+-- What maps addresses takes some only if a run of them begins anew, and what takes a mapping out only if the address behind them is mapped as one with the last
 abbrev pub command_takes_memory : {F : Type 0} → State F → Command → Bool
 command_takes_memory s (GuestWrite a bs) = false
-command_takes_memory s (Map iova target n perm) = nat_lt 0 n && (ends_fit iova n && ends_fit target n)
-command_takes_memory s (Unmap iova n) = nat_lt 0 n && ends_fit iova n
+command_takes_memory s (Map iova target n perm) =
+    (nat_lt 0 n && (ends_fit iova n && ends_fit target n)) && begins_anew_about (table_of s.memory) (mapped iova target n perm (table_of s.memory)) iova (iova + n)
+command_takes_memory s (Unmap iova n) = (nat_lt 0 n && ends_fit iova n) && goes_on_at (table_of s.memory) (iova + n)
 command_takes_memory s UnmapAll = false
 command_takes_memory s (SetIommu on) = false
 command_takes_memory s (Kick queue most) = kick_takes_memory s queue most

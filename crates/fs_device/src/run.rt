@@ -1,6 +1,6 @@
 //! A machine does commands one after another.
 
-ghost use Rattle.std.specs.Prelude.{◌≡◌, [], IfOk, OnErr, true, length, map, zip};
+ghost use Rattle.std.specs.Prelude.{◌≡◌, ◌<◌, [], IfOk, OnErr, true, length, map, zip};
 ghost use Rattle.vm_iotlb.specs.declared.permissions.Permissions.TheVariants.{Read, Write};
 ghost use Rattle.vm_memory.specs.Memory.{physical, reach, bytes};
 ghost use Rattle.fs_device.specs.Run.{Run, Performs, Told, GuestRead, GuestWrite, Kick, ResetQueue, guest_written};
@@ -132,12 +132,13 @@ impl<F: FileSystem, I: Iommu + Drop> Machine<F, I> {
     }
 
     /// Does commands one after another, and answers each, in order. Room for the answers is made before anything is done:
-    /// `AllocError` if there is none, and then nothing changed. A command that is refused stops nothing.
+    /// `AllocError` if there is none, and then nothing changed. No command takes no room. A command that is refused stops nothing.
     pub fn run(&mut self, alloc: Global, commands: Vec<Command>) -> Result<Vec<Answer>, AllocError>
         ensures run { IfOk result (λ answers. Run F.may (machine_of self.old) (zip (map command_of commands.items) (map answer_of answers.items))
             (machine_of self.new)) }
         ensures all { IfOk result (λ answers. length answers.items ≡ length commands.items) }
         ensures err { OnErr result (machine_of self.new ≡ machine_of self.old) }
+        ensures memory { OnErr result (0 < length commands.items) }
     {
         let mut answers = Vec::with_capacity(alloc, commands.len())?;
         for command in commands {

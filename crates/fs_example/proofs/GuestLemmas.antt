@@ -24,7 +24,8 @@ use Rattle.fuse_directory.specs.Directory.{Directory, DirectoryAnswers}
 use Rattle.fs_example.specs.Reading.{read_reply, wanted}
 use Rattle.fs_example.specs.GuestGets.{laid_over, GetsFile, KickGivesFile, kick_and_look, GuestGetsTheFile}
 use Rattle.fs_example.proofs.StoreLemmas.{all_keep, room_seen}
-use Rattle.fs_example.proofs.HoldLemmas.{HoldsItsBlocks, end_keeps, run_holds}
+use Rattle.fs_device.proofs.TellingLemmas.{end_keeps}
+use Rattle.fs_example.proofs.HoldLemmas.{HoldsItsBlocks, run_holds}
 use Rattle.fs_example.proofs.ReadLemmas.{step_reads, serves_each}
 use Rattle.std.proofs.lemmas.Bool.{and_parts}
 use Rattle.fs_device.specs.Telling.{calls_told}

@@ -12,19 +12,18 @@ use Rattle.vm_memory_core.specs.Window.{put_all}
 use Rattle.vm_memory_core.proofs.Stores.{shape-put_all}
 use Rattle.vm_memory.specs.Layout.{Region, AreHeld, HostHolds, fits, overlap, is_region}
 use Rattle.vm_memory.specs.Memory.{Memory, addresses, location, physical, reach, stored, stored_at, stored_all}
-use Rattle.fs_queue.specs.declared.fault.QueueError.TheVariants as stop
 use Rattle.fs_queue.specs.Queue.{Queue, fresh}
 use Rattle.fs_queue.specs.Taking.{Offer, IsRequest, CannotFetch, Refuses, Offers}
 use Rattle.fs_queue.specs.Taking as taking
 use Rattle.fs_queue.specs.Returning.{writes}
 use Rattle.virtiofsd_fuse.specs.Serving.{May}
 use Rattle.fs_device.specs.declared.error.DeviceError.{DeviceError}
-use Rattle.fs_device.specs.declared.error.DeviceError.TheVariants as device
 use Rattle.fs_device.specs.declared.refusal.Refusal.TheVariants as why
-use Rattle.fs_device.specs.Step.{State, Exchange, Calls, Idle, Refused, Exchanged, Exchanges, StepOf}
+use Rattle.fs_device.specs.Step.{State, Exchange, Calls, Exchanged, Exchanges, StepOf}
 use Rattle.fs_device.specs.Run as run
-use Rattle.fs_device.specs.Run.{Told, Command, Answer, Effect, KickEnds, KickRun, Kicks, Kicked, Affects, ChangesTable, HasEffect, Does, Performs, RunTold}
+use Rattle.fs_device.specs.Run.{Told, Command, Answer, Effect, KickRun, Kicks, Kicked, Affects, ChangesTable, HasEffect, Does, Performs, RunTold}
 use Rattle.fs_device.specs.Run.{effect, IsDecided, insert, insert_block, is_known, has_len, some_overlap, reset}
+use Rattle.fs_device.proofs.TellingLemmas.{end_keeps}
 use Rattle.fs_device.proofs.LayoutLemmas.{held_grown, held_with, held_without, block_there}
 use Rattle.fs_example.proofs.StoreLemmas.{all_keep}
 
@@ -70,32 +69,7 @@ step_holds : {F : Type 0} (may : May F) (s : State F) (i : ℕ) (o : Option Queu
 step_holds may s i None calls x notice after t held = absurd (cc)
 step_holds may s i (Some q) calls x notice after t held = exchange_holds may s i q _ calls x notice after t held
 
-idle_keeps : {F : Type 0} (may : May F) (s : State F) (i : ℕ) (o : Option Queue) (calls : Calls) (after : State F) → StepOf may s i o calls Idle after → after.memory ≡ s.memory
-idle_keeps may s i None calls after t = ap (λ s. s.memory) t.1.same
-idle_keeps may s i (Some q) calls after t = ap (λ s. s.memory) t.1.same
-
-refused_keeps : {F : Type 0} (may : May F) (s : State F) (i : ℕ) (o : Option Queue) (calls : Calls) (e : DeviceError) (after : State F) →
-    StepOf may s i o calls (Refused e) after → after.memory ≡ s.memory
-refused_keeps may s i None calls e after t = ap (λ s. s.memory) t.1.same
-refused_keeps may s i (Some q) calls device.NoSuchQueue after t = absurd t
-refused_keeps may s i (Some q) calls (device.Queue stop.OutOfMemory) after t = ap (λ s. s.memory) t.1.same
-refused_keeps may s i (Some q) calls (device.Queue stop.Stopped) after t = ap (λ s. s.memory) t.2
-refused_keeps may s i (Some q) calls (device.Queue stop.AvailIndexUnreachable) after t = ap (λ s. s.memory) t.2
-refused_keeps may s i (Some q) calls (device.Queue stop.AvailTooFar) after t = ap (λ s. s.memory) t.2
-refused_keeps may s i (Some q) calls (device.Queue stop.RingEntryUnreachable) after t = ap (λ s. s.memory) t.2
-refused_keeps may s i (Some q) calls (device.Queue stop.HeadOutOfTable) after t = ap (λ s. s.memory) t.2
-refused_keeps may s i (Some q) calls (device.Queue stop.UsedUnreachable) after t = ap (λ s. s.memory) t.2
-refused_keeps may s i (Some q) calls (device.Queue stop.AvailFlagsUnreachable) after t = ap (λ s. s.memory) t.2
-refused_keeps may s i (Some q) calls (device.Queue stop.DescriptorUnreachable) after t = ap (λ s. s.memory) t.2
-
 -- ---- kicks
-
--- what ends a kick changes no memory
-pub end_keeps : {F : Type 0} (may : May F) (s : State F) (i most : ℕ) (refused : Option DeviceError) (after : State F) → KickEnds may s i most refused after → after.memory ≡ s.memory
-end_keeps may s i zero None after same = ap (λ s. s.memory) same
-end_keeps may s i zero (Some e) after t = absurd t
-end_keeps may s i (suc most) None after t = idle_keeps may s i (slice_get s.queues i) [] after t
-end_keeps may s i (suc most) (Some e) after t = refused_keeps may s i (slice_get s.queues i) [] e after t
 
 kick_holds : {F : Type 0} (may : May F) (s : State F) (i most : ℕ) (told : Told) (refused : Option DeviceError) (after : State F) → KickRun may s i most told refused after → HoldsItsBlocks s.memory →
     HoldsItsBlocks after.memory

@@ -1,6 +1,6 @@
 //! Runs of a machine over the directory.
 
-ghost use Rattle.std.specs.Prelude.{◌≡◌, length, map, IfOk, OnErr};
+ghost use Rattle.std.specs.Prelude.{◌≡◌, ◌<◌, length, map, IfOk, OnErr};
 ghost use Rattle.std.specs.List.{zip};
 ghost use Rattle.fs_device.specs.CommandView.{answer_of, command_of};
 ghost use Rattle.fs_device.specs.MachineView.{machine_of};
@@ -29,6 +29,7 @@ pub fn run_directory<I: Iommu + Drop>(
         (zip (map command_of commands.items) (map answer_of answers.items)) (machine_of machine.new)) }
     ensures all { IfOk result (λ answers. length answers.items ≡ length commands.items) }
     ensures err { OnErr result (machine_of machine.new ≡ machine_of machine.old) }
+    ensures memory { OnErr result (0 < length commands.items) }
 {
     // for the proof: a run's calls are those that its requests mean.
     law_calls::<Files<OwnedTable, ReadOnly>>();

@@ -1,5 +1,6 @@
 use Rattle.std.proofs.Common.{ap}
 use Rattle.vm_memory_core.specs.Host.{Host}
+use Rattle.vm_memory.specs.Memory.{table_of}
 use Rattle.fs_device.specs.Run.{with_host}
 use Rattle.fs_device.specs.MachineView.{machine_of}
 use Rattle.fs_device.proofs.MappingLemmas.{fits_not, left_same, refused, wanted_to_unmap}
@@ -17,5 +18,7 @@ pub returns-in-Err-OutOfMemory : goal.returns-in-Err-OutOfMemory
 returns-in-Err-OutOfMemory g c =
     let s = machine_of c.args.self.now in
     let t = c.in-Err-OutOfMemory.ensures.changed in
-    let why = rw c.in-Err-OutOfMemory.field-0-is at t.2 in
-    (wanted_to_unmap c.args.iova c.args.len why.0 why.1, ap (λ (h : Host). with_host s h) (left_same c.args.self.now.host c.unmap_in.new.host c.table-number.result t.0 why.2 t.3))
+    let why = rw c.in-Err-OutOfMemory.field-0-is at t.2 in (
+      wanted_to_unmap (table_of s.memory) c.args.iova c.args.len why.0 why.1 (rw (c.table-number.ensures, c.iommu.ensures) at why.2),
+      ap (λ (h : Host). with_host s h) (left_same c.args.self.now.host c.unmap_in.new.host c.table-number.result t.0 why.3 t.3),
+    )
