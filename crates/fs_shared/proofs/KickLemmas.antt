@@ -7,7 +7,8 @@ use Rattle.vm_memory_core.proofs.Stores.{changed_at-set}
 use Rattle.fs_queue.specs.declared.fault.QueueError.TheVariants as stop
 use Rattle.fs_queue.specs.Queue.{Queue}
 use Rattle.vm_memory.specs.Memory.{Memory}
-use Rattle.fs_queue.specs.Taking.{Offer, RequestAndRoom, IsRequest, CannotFetch, Offers, Refuses, offer, may_lack_memory}
+use Rattle.fs_queue.specs.Taking.{Offer, RequestAndRoom, IsRequest, CannotFetch, Offers, Refuses, is_idle, offer, may_lack_memory}
+use Rattle.fs_queue.specs.Taking as taking
 use Rattle.fs_queue.specs.Windows.{IsTaken, Taken}
 use Rattle.virtiofsd_fuse.specs.Serving.{May}
 use Rattle.fs_device.specs.declared.error.DeviceError.{DeviceError}
@@ -22,7 +23,7 @@ use Rattle.fs_device.proofs.StepLemmas.{set-same}
 use Rattle.fs_device.proofs.UsedLemmas.{step_offers}
 use Rattle.fs_shared.specs.declared.kept.Kept.{Kept}
 use Rattle.fs_shared.specs.declared.kicking.ReplyRoom.{ReplyRoom}
-use Rattle.fs_shared.specs.Held.{HasOpenQueue, came_of}
+use Rattle.fs_shared.specs.Held.{HasOpenQueue, HasWaiting, came_of}
 use Rattle.fs_shared.specs.Keeping.{IsRoomFor, Keeps, KickKeeps, Leaves}
 use Rattle.fs_shared.specs.Replay.{ExchangesPages, Kicked, Outcome, Served, Stopped, is_journaled}
 use Rattle.fs_shared.specs.ReturnRuns.{AreReturnPages}
@@ -115,6 +116,11 @@ stopped_kick may s i q there stopped = (stopped_step may s i q there stopped, re
 pub is_open : {F : Type 0} (s : State F) (i : ℕ) (q : Queue) → slice_get s.queues i ≡ Some q → q.stopped ≡ false → HasOpenQueue s i
 is_open s i q there free = subst (λ (o : Option Queue). IsSomeAnd o (λ q. q.stopped ≡ false)) (sym there) free
 
+-- something waits in it
+pub is_waiting : {F : Type 0} (s : State F) (i : ℕ) (q : Queue) → slice_get s.queues i ≡ Some q → q.stopped ≡ false → is_idle (offer s.memory s.limit q) ≡ false → HasWaiting s i
+is_waiting s i q there free waits =
+    subst (λ (o : Option Queue). IsSomeAnd o (λ q. (q.stopped ≡ false) × (is_idle (offer s.memory s.limit q) ≡ false))) (sym there) (free, waits)
+
 missing_stays : {F : Type 0} (may : May F) (s after : State F) (i : ℕ) (o : Option Queue) → StepOf may s i o [] (Refused device.NoSuchQueue) after → after ≡ s
 missing_stays may s after i None t = t.1.same
 missing_stays may s after i (Some q) t = absurd t
@@ -123,13 +129,22 @@ lacking_stays : {F : Type 0} (may : May F) (s after : State F) (i : ℕ) (o : Op
 lacking_stays may s after i None t = t.1.same
 lacking_stays may s after i (Some q) t = t.1.same
 
-lacking_there : {F : Type 0} (may : May F) (s after : State F) (i : ℕ) (o : Option Queue) → StepOf may s i o [] (Refused (device.Queue stop.OutOfMemory)) after → IsSomeAnd o (λ q. q.stopped ≡ false)
-lacking_there may s after i None t = absurd (cc)
-lacking_there may s after i (Some q) t =
+lacking_free : {F : Type 0} (s : State F) (q : Queue) → IsTrue (may_lack_memory (offer s.memory s.limit q)) → q.stopped ≡ false
+lacking_free s q lacks =
     elim q.stopped as (λ b. q.stopped ≡ b → b ≡ false) [
-      | true ↦ λ stopped. let no : false ≡ true = subst (λ (o : Offer). IsTrue (may_lack_memory o)) (is_refused s.memory s.limit q stopped) t.0 in absurd (cc)
+      | true ↦ λ stopped. let no : false ≡ true = subst (λ (o : Offer). IsTrue (may_lack_memory o)) (is_refused s.memory s.limit q stopped) lacks in absurd (cc)
       | false ↦ λ free. refl
     ] refl
+
+lacking_waits : (o : Offer) → IsTrue (may_lack_memory o) → is_idle o ≡ false
+lacking_waits (Offers head fetched) may = refl
+lacking_waits taking.Idle may = absurd (cc)
+lacking_waits (Refuses e) may = refl
+
+lacking_there : {F : Type 0} (may : May F) (s after : State F) (i : ℕ) (o : Option Queue) → StepOf may s i o [] (Refused (device.Queue stop.OutOfMemory)) after →
+    IsSomeAnd o (λ q. (q.stopped ≡ false) × (is_idle (offer s.memory s.limit q) ≡ false))
+lacking_there may s after i None t = absurd (cc)
+lacking_there may s after i (Some q) t = (lacking_free s q t.0, lacking_waits (offer s.memory s.limit q) t.0)
 
 not_stopped : (m : Memory) (limit : ℕ) (q : Queue) (head : ℕ) (f : RequestAndRoom) → offer m limit q ≡ Offers head f → q.stopped ≡ false
 not_stopped m limit q head f is =
@@ -138,9 +153,10 @@ not_stopped m limit q head f is =
       | false ↦ λ free. refl
     ] refl
 
--- a queue of which a chain was taken is there, and isn't stopped
-pub taken_open : {F : Type 0} (s : State F) (i : ℕ) (t : Taken) → HasTaken s.memory s.limit s.queues i t → HasOpenQueue s i
-taken_open s i t has = subst (λ (o : Option Queue). IsSomeAnd o (λ q. q.stopped ≡ false)) (sym has.there) (not_stopped s.memory s.limit has.queue t.head has.fetched has.offered)
+-- of a queue of which a chain was taken, it waited
+pub taken_waited : {F : Type 0} (s : State F) (i : ℕ) (t : Taken) → HasTaken s.memory s.limit s.queues i t → HasWaiting s i
+taken_waited s i t has =
+    is_waiting s i has.queue has.there (not_stopped s.memory s.limit has.queue t.head has.fetched has.offered) (ap is_idle has.offered)
 
 idle_stays : {F : Type 0} (may : May F) (s after : State F) (i : ℕ) (o : Option Queue) → StepOf may s i o [] Idle after → after ≡ s
 idle_stays may s after i None t = t.1.same

@@ -14,7 +14,7 @@ use Rattle.fs_device.specs.CommandView.{command_of}
 use Rattle.fs_shared.specs.declared.entry.Kicked as kicked
 use Rattle.fs_shared.specs.declared.entry.Receipt.{Receipt}
 use Rattle.fs_shared.specs.Replay.{Plays}
-use Rattle.fs_shared.specs.Held.{HasOpenQueue, Held, WouldDo, came_of}
+use Rattle.fs_shared.specs.Held.{HasWaiting, Held, WouldDo, came_of}
 
 -- one entry more, which is what the call did, and the receipt of it
 pub record Journals {F : Type 0} (may : May F) (before : Held F) (command : Command) (r : Receipt) (after : Held F) : Type 0 where
@@ -30,13 +30,13 @@ abbrev pub Stays : {F : Type 0} → May F → Held F → ℕ → step.Outcome �
 Stays may before i outcome after = Step may before.machine i [] outcome before.machine × (after ≡ before)
 
 -- a kick for one chain: nothing waits, the queue is stopped or it is missing only if the step says so;
--- a failed allocation changes nothing, and comes of a queue that is there and isn't stopped
+-- a failed allocation changes nothing, and comes only if something waits
 abbrev pub KicksBy : {F : Type 0} → May F → Held F → ℕ → Result (kicked.Kicked) DeviceError → Held F → Type 0
 KicksBy may before i (Ok (kicked.TheVariants.Done r)) after = Journals may before (Kick i 1) r after
 KicksBy may before i (Ok kicked.TheVariants.Idle) after = Stays may before i step.Idle after
 KicksBy may before i (Err device.NoSuchQueue) after = Stays may before i (step.Refused device.NoSuchQueue) after
 KicksBy may before i (Err (device.Queue stop.Stopped)) after = Stays may before i (step.Refused (device.Queue stop.Stopped)) after
-KicksBy may before i (Err (device.Queue stop.OutOfMemory)) after = HasOpenQueue before.machine i × (after ≡ before)
+KicksBy may before i (Err (device.Queue stop.OutOfMemory)) after = HasWaiting before.machine i × (after ≡ before)
 KicksBy may before i (Err (device.Queue _)) after = ⊥
 
 -- a guest's write or another layout: refused only if the machine refuses it so; a failed allocation changes nothing, and comes only where the

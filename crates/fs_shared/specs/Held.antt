@@ -1,5 +1,6 @@
 -- What lies under the lock, and what its journal says.
 use Rattle.std.specs.Prelude.{◌≡◌, ℕ, Bool, false, List, map, IsSomeAnd, slice_get}
+use Rattle.fs_queue.specs.Taking.{is_idle, offer}
 use Rattle.fs_device.specs.Step.{State}
 use Rattle.fs_device.specs.Run as run
 use Rattle.fs_device.specs.Run.{Command, Affects}
@@ -13,6 +14,10 @@ use Rattle.fs_shared.specs.Replay.{Outcome, Done, Served, Stopped, Entry}
 -- there is a queue of this number, and it isn't stopped
 abbrev pub HasOpenQueue : {F : Type 0} → State F → ℕ → Type 0
 HasOpenQueue s i = IsSomeAnd (slice_get s.queues i) (λ q. q.stopped ≡ false)
+
+-- there is a queue of this number that isn't stopped, and something waits at its position: a chain, or what stops it
+abbrev pub HasWaiting : {F : Type 0} → State F → ℕ → Type 0
+HasWaiting s i = IsSomeAnd (slice_get s.queues i) (λ q. (q.stopped ≡ false) × (is_idle (offer s.memory s.limit q) ≡ false))
 
 -- the machine makes this change if it is asked for
 abbrev pub WouldDo : {F : Type 0} → State F → Command → Type 0

@@ -11,7 +11,7 @@ use Rattle.fs_device.specs.Run.{Command, Kick}
 use Rattle.fs_device.specs.CommandView.{command_of}
 use Rattle.fs_shared.specs.declared.kept.Kept.{Kept}
 use Rattle.fs_shared.specs.declared.kicking.ReplyRoom.{ReplyRoom}
-use Rattle.fs_shared.specs.Held.{HasOpenQueue, came_of}
+use Rattle.fs_shared.specs.Held.{HasWaiting, came_of}
 use Rattle.fs_shared.specs.Replay.{Plays}
 use Rattle.fs_shared.specs.ReturnRuns.{AreReturnRuns}
 
@@ -33,7 +33,7 @@ KickKeeps may before i (Ok (Some kept)) after = Keeps may before (Kick i 1) kept
 KickKeeps may before i (Ok None) after = Leaves may before i step.Idle after
 KickKeeps may before i (Err device.NoSuchQueue) after = Leaves may before i (step.Refused device.NoSuchQueue) after
 KickKeeps may before i (Err (device.Queue stop.Stopped)) after = Leaves may before i (step.Refused (device.Queue stop.Stopped)) after
-KickKeeps may before i (Err (device.Queue stop.OutOfMemory)) after = HasOpenQueue before i × (after ≡ before)
+KickKeeps may before i (Err (device.Queue stop.OutOfMemory)) after = HasWaiting before i × (after ≡ before)
 KickKeeps may before i (Err (device.Queue _)) after = ⊥
 
 -- room for a copy of what is exchanged and for the pages of its return, where a chain with this request was taken from blocks of these lengths

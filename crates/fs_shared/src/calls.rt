@@ -1,6 +1,6 @@
 //! The calls on what lies under the lock. Each is one event, and is journaled with its receipt or changes nothing.
 
-ghost use Rattle.std.specs.Prelude.{◌≡◌, IfErr, OnOk, Err, vec_len};
+ghost use Rattle.std.specs.Prelude.{◌≡◌, IfErr, List, OnOk, Err, false, vec_len};
 ghost use Rattle.fs_shares.specs.Portion.{counted};
 ghost use Rattle.fs_device.specs.MachineView.{machine_of};
 ghost use Rattle.fs_device.specs.Run.{GuestWrite, SetLayout};
@@ -9,6 +9,7 @@ ghost use Rattle.fs_shared.specs.Calls.{ActsBy, KicksBy, ReadsBy, did, did_kick}
 ghost use Rattle.fs_shared.specs.Held.{HasOpenQueue, journal_of};
 ghost use Rattle.fs_shared.specs.Keeping.{KickKeeps};
 ghost use Rattle.fs_shared.specs.Laws.{HoldsReplay};
+ghost use Rattle.fs_shared.specs.Replay.{Entry};
 
 use crate::acting::{layout_kept, write_kept};
 use crate::entry::{JournalEntry, Kicked, Receipt};
@@ -43,6 +44,28 @@ fn takes_chains<F: FileSystem, I: Iommu + Drop>(
     }
 }
 
+// What a kick of a queue that takes chains answers if its entry has no room: nothing waits, or memory is wanting.
+fn kick_without_room<F: FileSystem, I: Iommu + Drop>(
+    alloc: Global,
+    machine: &Machine<F, I>,
+    queue: usize,
+) -> Result<Kicked, DeviceError>
+    requires { HasOpenQueue (machine_of machine.now) queue }
+    ensures kick { (start : State (Unit {0})) (journal : List Entry) →
+        KicksBy F.may (record { machine = machine_of machine.now; start = start; journal = journal }) queue result
+        (record { machine = machine_of machine.now; start = start; journal = journal }) }
+    ensures none { did_kick result ≡ false }
+{
+    let Some(there) = machine.device.queue(queue) else {
+        // It takes chains.
+        unreachable!()
+    };
+    if there.is_idle(alloc, &machine.host, &machine.mem) {
+        return Ok(Kicked::Idle);
+    }
+    Err(DeviceError::Queue(QueueError::OutOfMemory))
+}
+
 // Serves the next chain of a queue of a machine, and journals what came of it. The entry has room before a chain is taken.
 fn kick_into<L: Ledger, F: FileSystem, I: Iommu + Drop>(
     alloc: Global,
@@ -63,7 +86,7 @@ fn kick_into<L: Ledger, F: FileSystem, I: Iommu + Drop>(
         return Err(error);
     }
     if journal.reserve(1).is_err() {
-        return Err(DeviceError::Queue(QueueError::OutOfMemory));
+        return kick_without_room(alloc, machine, queue);
     }
     match kick_kept(alloc, machine, queue, taken) {
         Ok(Some(kept)) => {

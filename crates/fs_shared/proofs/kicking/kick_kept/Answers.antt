@@ -1,6 +1,6 @@
 use Rattle.std.proofs.Common.{rules}
 use Rattle.fs_device.specs.MachineView.{machine_of}
-use Rattle.fs_shared.proofs.KickLemmas.{refusal_leaves, taken_open}
+use Rattle.fs_shared.proofs.KickLemmas.{refusal_leaves, taken_waited}
 use Rattle.fs_shared.proofs.kicking.kick_kept.Goals as goal
 
 pub returns-in-Err-kept_refusal : goal.returns-in-Err-kept_refusal
@@ -11,4 +11,4 @@ returns-in-Err-kept_refusal g c =
 pub returns-in-Err-exchange_kept : goal.returns-in-Err-exchange_kept
 returns-in-Err-exchange_kept g c =
     let takes = rw c.in-Ok-true.field-0-test at c.in-Ok-true.ensures.takes in
-    (taken_open (machine_of c.args.machine.now) c.args.queue c.take.new.taken takes.0, Prim.search rules)
+    (taken_waited (machine_of c.args.machine.now) c.args.queue c.take.new.taken takes.0, Prim.search rules)
