@@ -1,6 +1,6 @@
-mod DeviceAsBox
+mod DeviceAsSeat
 pub mod LayingLemmas
 pub mod PuttingLemmas
-mod QueueAsBox
+mod QueueAsSeat
 pub mod ServedLemmas
 pub mod WordLemmas

@@ -5,7 +5,7 @@ ghost use Rattle.fs_device_c.specs.declared.device_state.DeviceState.{DeviceStat
 ghost use Rattle.fs_device_c.specs.Owned.{device_seat_owns, device_value_coded};
 
 use crate::device_state::DeviceState;
-use crate::parts::Parts;
+use box_parts::Parts;
 use std::alloc::Global;
 use std::marker::Model;
 

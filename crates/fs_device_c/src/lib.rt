@@ -11,7 +11,6 @@ mod device_serving;
 mod device_state;
 mod making;
 mod part_pages;
-mod parts;
 mod queue_calls;
 mod queue_exports;
 mod queue_handle;

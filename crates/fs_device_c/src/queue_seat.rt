@@ -4,8 +4,8 @@ ghost use Rattle.std.specs.Prelude.{◌≡◌, Option, Some, None, IsSome};
 ghost use Rattle.fs_device_c.specs.declared.queue_state.QueueState.{QueueState};
 ghost use Rattle.fs_device_c.specs.Owned.{queue_seat_owns, queue_value_coded};
 
-use crate::parts::Parts;
 use crate::queue_state::QueueState;
+use box_parts::Parts;
 use std::alloc::Global;
 use std::marker::Model;
 

@@ -1,0 +1,23 @@
+-- A queue's seat is one of those whose functions are proved for any.
+use mathlib.Core.Path.{refl}
+use Rattle.box_parts.proofs.Seats.{Seat}
+use Rattle.fs_device_c.specs.contracts.queue_state.QueueState as State
+use Rattle.fs_device_c.proofs.queue_state.QueueState.TheLaws as state
+use Rattle.fs_device_c.specs.contracts.queue_seat.QueueSeat as Queue
+
+abbrev pub queue_seat : Seat State.the_row state.the_row_laws
+queue_seat = record {
+  row = Queue.the_row;
+  name = (Queue.the_type).name;
+  at = λ s. s.at;
+  alloc = λ s. s.alloc;
+  value = λ s. s.value;
+  make = λ p a o. record { at = p; alloc = a; value = o };
+  whole = λ s. refl;
+  value_is = λ p a o. refl;
+  full = λ p a x vs. refl;
+  bare = λ p a vs. refl;
+  apart = λ p vs. refl;
+  last = λ s. tt;
+  silent = λ s f. refl;
+}
