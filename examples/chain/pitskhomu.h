@@ -28,7 +28,8 @@
  * a chain all of whose calls one thread makes. The library keeps nothing of a thread's, so a chain that goes from thread to thread
  * between calls, with the order that a lock or a join gives, does the same; but no proof says so.
  *
- * WHAT THE MONITOR OWES, since nobody checks C. All else that you can do wrong is refused by a number with a name.
+ * WHAT THE MONITOR OWES, since nobody checks C. A call in a wrong order, of another kind, or for another queue is refused by a number
+ * with a name, and so is a number that names nothing.
  *  1. Pointers are good for their lengths, and no argument that is written overlaps another. None is NULL; with length 0 any other will do.
  *  2. Load once: copy the bytes that were asked for, hand the copy over, and don't look at the guest's bytes for them again.
  *  3. A load of 2 bytes is one atomic load that acquires (the available index: what it covers is read after it).
@@ -37,9 +38,11 @@
  *  5. Windows are used until fs_returned or fs_drop, and only those that were told: stores go to the room's alone.
  *  6. Memory stays mapped while a chain is out over it; a page is marked in a migration's log after the store and before fs_returned.
  *  7. One call at a time on a chain, on a queue, on a device that isn't const; each with the thread's order in between.
- *  8. A call that changed files is answered, not dropped: a dropped chain is walked again, and asks again.
- *  9. malloc, realloc and free are of one allocator, aligned as C says.
- * 10. No call from a signal handler, nor after fork in the child of a process with threads.
+ *  8. Before you begin a queue anew, drop the chains that walk it or are out of it: by its numbers alone a queue that begins at the
+ *     same position with the same parts can't be told from itself.
+ *  9. A call that changed files is answered, not dropped: a dropped chain is walked again, and asks again.
+ * 10. malloc, realloc and free are of one allocator, aligned as C says. No call from a signal handler, nor after fork in the child
+ *     of a process with threads.
  *
  * WHAT MAY COME without a change to your loops: more chains out of a queue (FS_CHAIN_OUT comes later; a queue's calls are still one at a
  * time, from fs_return to fs_returned too), the event index (`seen_at` is elsewhere then; a call for before you sleep is added),
@@ -47,7 +50,7 @@
  *
  * ERRORS. A call answers an enum fs_status. Below 32 it is a refusal of the queue's that stops it (but 1 and 9); 32 to 63 say how
  * to go on; from 64 on nothing was done, and what was there before is there still, unless the function says otherwise (FS_NO_PLACE; FS_OTHER_QUEUE of fs_drop and fs_returned). "Errors" below are in the order in
- * which they are looked for. Link with libfs_chain_c.a and the toolchain's file for the heap.
+ * which they are looked for; of fs_chain_set_memory and fs_save that order isn't proved. Link with libfs_chain_c.a and the toolchain's file for the heap.
  */
 #ifndef PITSKHOMU_CHAIN_H
 #define PITSKHOMU_CHAIN_H
@@ -85,7 +88,7 @@ extern "C" {
 
 /* ---------------------------------------------------------------- numbers */
 
-#define FS_VERSION 2u          /* of this header; fs_version() is the archive's */
+#define FS_VERSION 3u          /* of this header; fs_version() is the archive's */
 #define FS_REGIONS_MAX 64u     /* regions of the guest's memory */
 #define FS_QUEUES_MAX 64u      /* queues in a record */
 #define FS_LOAD_MAX 4096u      /* no load of a walk is longer; today's have 2 or 16 bytes, or parts of these */
@@ -173,9 +176,10 @@ enum fs_call_kind {
     FS_CALL_GETATTR = 3,      /* handle, if has_handle */
     FS_CALL_SETATTR = 4,      /* valid (FATTR_ bits), attr, handle if has_handle, owner (with FATTR_LOCKOWNER) */
     FS_CALL_READLINK = 5,     /* data_len */
-    FS_CALL_SYMLINK = 6,      /* name, value: what it leads to */
-    FS_CALL_MKNOD = 8,        /* name, mode, rdev, umask */
-    FS_CALL_MKDIR = 9,        /* name, mode, umask */
+    FS_CALL_SYMLINK = 6,      /* name, value: what it leads to; group, if has_group: one of the caller's besides gid. So with MKNOD, MKDIR and
+                                 CREATE. The label of a new node isn't told: don't want FUSE_SECURITY_CTX at INIT */
+    FS_CALL_MKNOD = 8,        /* name, mode, rdev, umask; group, if has_group */
+    FS_CALL_MKDIR = 9,        /* name, mode, umask; group, if has_group */
     FS_CALL_UNLINK = 10,      /* name */
     FS_CALL_RMDIR = 11,       /* name */
     FS_CALL_RENAME = 12,      /* name in node becomes name2 in node2; flags (RENAME_) */
@@ -197,7 +201,7 @@ enum fs_call_kind {
     FS_CALL_RELEASEDIR = 29,  /* handle, flags */
     FS_CALL_FSYNCDIR = 30,    /* handle, data_only */
     FS_CALL_ACCESS = 34,      /* mode: R_OK, W_OK, X_OK */
-    FS_CALL_CREATE = 35,      /* name, mode, flags, umask, kill_priv */
+    FS_CALL_CREATE = 35,      /* name, mode, flags, umask, kill_priv; group, if has_group */
     FS_CALL_DESTROY = 38,     /* the session ends: set the device's options to 0 */
     FS_CALL_BATCH_FORGET = 42, /* value: count pairs (fs_pair) */
     FS_CALL_FALLOCATE = 43,   /* handle, mode, offset, size */
@@ -208,7 +212,8 @@ enum fs_call_kind {
     FS_CALL_SYNCFS = 50,
 };
 
-/* The kinds of good answer, and the function that gives it. Each call may also have fs_reply_err, but FORGET's. */
+/* The kinds of good answer, and the function that gives it. Each call may also have fs_reply_err, but FORGET's; DESTROY's
+ * with no error alone. */
 enum fs_answer_kind {
     FS_ANSWER_NONE = 0,     /* none: make the call if there is one, then fs_return */
     FS_ANSWER_DONE = 1,     /* fs_reply_err(.., 0) */
@@ -217,7 +222,8 @@ enum fs_answer_kind {
     FS_ANSWER_OPEN = 4,     /* fs_reply_open */
     FS_ANSWER_CREATE = 5,   /* fs_reply_create */
     FS_ANSWER_DATA = 6,     /* fs_reply_data */
-    FS_ANSWER_XATTR = 7,    /* fs_reply_xattr: size was 0, and the length alone is asked for */
+    FS_ANSWER_XATTR = 7,    /* fs_reply_xattr: size was 0, and the length alone is asked for. fs_reply_data is taken for 7 too, and
+                               fs_reply_xattr for 6 of GETXATTR and LISTXATTR: answer what `answer` says */
     FS_ANSWER_STATFS = 8,   /* fs_reply_statfs */
     FS_ANSWER_WRITE = 9,    /* fs_reply_write */
     FS_ANSWER_LSEEK = 10,   /* fs_reply_lseek */
@@ -337,7 +343,8 @@ struct fs_step {
 };
 
 /* Takes the next chain of a queue. At first `loaded` has length 0; as long as it answers FS_LOAD, load and call again with these
- * bytes. A walk ends after at most 2 * size + 6 loads, whatever the guest writes.
+ * bytes. A walk ends after at most 2 * size + 6 loads, whatever the guest writes; proved is that of the walk behind this call (fs_queue's
+ * law_any_loads), not of the handle's calls together. A queue that another chain's walk stopped meanwhile refuses: FS_STOPPED.
  * FS_DONE: the chain is out of the queue, its windows stay as they are until it is returned or dropped. FS_IDLE, a refusal
  * from 1 to 8: the chain is free. A chain whose walk has begun isn't out yet: fs_drop ends it, and so does a refusal. An entry that goes over the
  * end of a region (the next one begins there) is loaded in two parts, by two calls.
@@ -404,8 +411,9 @@ struct fs_call {
     struct fs_span name, name2, value;
     uint64_t data_at, data_len; /* WRITE: of the request. READ and others whose answer is data: of the room, from FS_HEADER on */
     uint32_t flags, mode, umask, rdev, valid;
-    uint8_t has_handle, has_owner, delayed, kill_priv, flush, unlock, data_only; /* 0 or 1 */
+    uint8_t has_handle, has_owner, delayed, kill_priv, flush, unlock, data_only, has_group; /* 0 or 1 */
     struct fs_attr attr;
+    uint32_t group;
 };
 
 /* Tells what the request asks. `request` are its first bytes: request_len or FS_FIRST of them, the lesser, and where it answers

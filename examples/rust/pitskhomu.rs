@@ -263,7 +263,8 @@ impl<'b> Worker<'b> {
     // ------------------------------------------------------------- calls, each a status
 
     fn answer<F: FileSystem, M: GuestMemory>(&mut self, c: &sys::Call, device: &Device, fs: &F, memory: &M) -> u32 {
-        let ctx = Context { uid: c.uid, gid: c.gid, pid: c.pid, unique: c.unique };
+        let group = (c.has_group != 0).then_some(c.group);
+        let ctx = Context { uid: c.uid, gid: c.gid, pid: c.pid, unique: c.unique, group };
         match c.kind {
             kind::NONE => 0,
             kind::FORGET | kind::BATCH_FORGET | kind::INIT | kind::DESTROY => self.session(c, device, fs),

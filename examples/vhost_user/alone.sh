@@ -14,6 +14,8 @@ make_yard() {
     ln -s .. "$dir/up"
     ln -s .. "$dir/race-link"
     mkfifo "$dir/pipe"
+    mkdir -m 0770 "$dir/shared"
+    chgrp 4242 "$dir/shared"
     snapshot > "$work/yard.before"
 }
 
@@ -43,6 +45,7 @@ alone() {
     make -s -C "$here" "LIBRARY=$LIBRARY" "HEADER=$HEADER" "OUT=$work/checked" \
         "SANITIZE=-fsanitize=address,undefined -fno-sanitize-recover=all" tests
     try checked checks escape
+    try checked checks groups
     try checked checks readonly
     diff <(echo file) "$work/yard/share/file" || fail "readonly: a file changed"
     try checked checks log

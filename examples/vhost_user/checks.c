@@ -309,6 +309,56 @@ static void slow_file(const char *dir) {
     printf("a slow file: 1000 chains of another queue meanwhile\n");
 }
 
+/* ------------------------------------------------------------- a group besides the caller's own */
+
+/* FUSE_CREATE_SUPP_GROUP in `flags2`, FUSE_EXT_GROUPS, and struct fuse_supp_groups: newer than some headers. */
+enum { CREATE_SUPP_GROUP = 1 << 2, EXT_GROUPS = 32, OTHER_USER = 1000, GROUP_OF_SHARED = 4242 };
+
+/* A MKDIR of a name of 7 letters by another user, whose request tells a group behind the name, or none; its errno. */
+static int mkdir_with(uint64_t parent, const char *name, uint32_t group) {
+    struct {
+        struct fuse_in_header head;
+        struct fuse_mkdir_in in;
+        char name[8];
+        struct fuse_ext_header ext;
+        uint32_t group_count, group;
+    } request = {.in = {.mode = 0755}, .ext = {.size = 16, .type = EXT_GROUPS}, .group_count = 1, .group = group};
+    size_t len = group ? sizeof request : sizeof request - 16;
+    request.head = (struct fuse_in_header){.len = (uint32_t)len,
+                                           .opcode = FUSE_MKDIR,
+                                           .unique = ++front.rings[1].unique,
+                                           .nodeid = parent,
+                                           .uid = OTHER_USER,
+                                           .gid = OTHER_USER,
+                                           .total_extlen = group ? 2 : 0};
+    memcpy(request.name, name, sizeof request.name);
+    memcpy(front_at(&front, request_at(1)), &request, len);
+    put_descriptor(&front, desc_at(1), 0, request_at(1), (uint32_t)len, 1, 1);
+    put_descriptor(&front, desc_at(1), 1, room_at(1), 16, 3, 2);
+    put_descriptor(&front, desc_at(1), 2, room_at(1) + 0x1000, 4096, 2, 0);
+    front_offer(&front, 1, 0);
+    front_kick(&front, 1);
+    if (!front_wait(&front, 1, 5000)) die("MKDIR isn't answered");
+    front_read(&front, 1, &reply);
+    return reply.error;
+}
+
+/* A directory that its group alone may write to. */
+static void groups(const char *dir) {
+    struct fuse_init_in in = {.major = 7, .minor = 38, .max_readahead = 1 << 17, .flags = ~0u, .flags2 = CREATE_SUPP_GROUP};
+    struct stat made;
+    char path[4096];
+    front_ask(&front, 1, FUSE_INIT, 0, &in, sizeof in, &reply);
+    expect("INIT", reply.error, 0);
+    uint64_t shared = look_up(&front, ROOT, "shared");
+    expect("MKDIR without a group", mkdir_with(shared, "without", 0), EACCES);
+    expect("MKDIR with another group", mkdir_with(shared, "another", GROUP_OF_SHARED + 1), EACCES);
+    expect("MKDIR with the group", mkdir_with(shared, "allowed", GROUP_OF_SHARED), 0);
+    expect("MKDIR without a group again", mkdir_with(shared, "without", 0), EACCES);
+    snprintf(path, sizeof path, "%s/shared/allowed", dir);
+    check("the directory is the user's", !stat(path, &made) && made.st_uid == OTHER_USER && made.st_gid == OTHER_USER);
+}
+
 static void run(const char *what, const char *dir, unsigned count) {
     if (!strcmp(what, "escape"))
         escape(dir);
@@ -330,6 +380,8 @@ static void run(const char *what, const char *dir, unsigned count) {
         two_queues(count);
     else if (!strcmp(what, "slow"))
         slow_file(dir);
+    else if (!strcmp(what, "groups"))
+        groups(dir);
     else
         die("no such check: %s", what);
 }
@@ -344,7 +396,7 @@ static const char *const *options_for(const char *what) {
 }
 
 int main(int argc, char **argv) {
-    if (argc < 4) die("usage: checks SERVER DIR escape|readonly|sleeps|again|log|rings|config|memory|two|slow [N]");
+    if (argc < 4) die("usage: checks SERVER DIR escape|readonly|sleeps|again|log|rings|config|memory|two|slow|groups [N]");
     const char *what = argv[3], *dir = argv[2];
     front_begin(&front, argv[1], dir, options_for(what));
     if (!strcmp(what, "log")) front.features |= 1ull << 26;

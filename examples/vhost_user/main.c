@@ -163,7 +163,8 @@ int main(int argc, char **argv) {
     if (!error) error = memory_outlive_cuts(&device.memory, &device.log);
     if (error) fail("the device", error);
     int connection = accept_front_end(o.socket);
-    /* The guest's own mask is in the modes that it sends; and its users have no groups here. */
+    /* The guest's own mask is in the modes that it sends; and its users have no groups here but
+     * the one that a call tells. */
     umask(0);
     if (geteuid() == 0) (void)setgroups(0, NULL);
     serve_front_end(&device, connection, o.tag);

@@ -73,10 +73,10 @@ int create_file(int dir, const char *name, uint32_t flags, uint32_t mode) {
 }
 
 /* The system calls themselves change one thread; the C library's functions would change all. */
-int act_as(uint32_t uid, uint32_t gid) {
+int act_as(uint32_t uid, uint32_t gid, const uint32_t *group) {
     if (geteuid() != 0) return 0;
-    if (gid != getegid() && syscall(SYS_setresgid, -1, gid, -1)) return errno;
-    if (uid != 0 && syscall(SYS_setresuid, -1, uid, -1)) {
+    if ((group && syscall(SYS_setgroups, 1, group)) || (gid != getegid() && syscall(SYS_setresgid, -1, gid, -1)) ||
+        (uid != 0 && syscall(SYS_setresuid, -1, uid, -1))) {
         int error = errno;
         act_as_self();
         return error;
@@ -89,4 +89,5 @@ void act_as_self(void) {
     if (getuid() != 0) return;
     if (geteuid() != 0) syscall(SYS_setresuid, -1, 0, -1);
     if (getegid() != getgid()) syscall(SYS_setresgid, -1, getgid(), -1);
+    if (getgroups(0, NULL) > 0) syscall(SYS_setgroups, 0, NULL);
 }

@@ -26,8 +26,9 @@ int create_file(int dir, const char *name, uint32_t flags, uint32_t mode);
 /* Whether flags of the guest's (O_ of Linux on x86) ask for a change. */
 bool asks_to_write(uint32_t flags);
 
-/* What is made between these two is the guest's user's, if this process may act as one. 0 or an errno. */
-int act_as(uint32_t uid, uint32_t gid);
+/* What is made between these two is the guest's user's, if this process may act as one; `group`, unless it is NULL, is a group
+ * of the user's besides. 0 or an errno. */
+int act_as(uint32_t uid, uint32_t gid, const uint32_t *group);
 void act_as_self(void);
 
 #endif

@@ -24,6 +24,11 @@ static int reply_made(struct job *job, int dir) {
 
 int do_lookup(struct job *job) { return reply_made(job, job->node); }
 
+/* As the guest's user, with the group that the call tells besides its own. */
+static int act_as_caller(const struct fs_call *call, uint32_t uid) {
+    return act_as(uid, call->gid, call->has_group ? &call->group : NULL);
+}
+
 /* Ends what act_as began, with the errno of a call that answers 0 or -1. */
 static int ended(int result) {
     int error = result ? errno : 0;
@@ -33,7 +38,7 @@ static int ended(int result) {
 
 int do_symlink(struct job *job) {
     const struct fs_call *call = job->call;
-    int error = act_as(call->uid, call->gid);
+    int error = act_as_caller(call, call->uid);
     if (error) return error;
     error = ended(symlinkat(text_of(job, call->value), job->node, text_of(job, call->name)));
     return error ? error : reply_made(job, job->node);
@@ -48,7 +53,7 @@ static bool may_make(uint32_t mode, uint32_t rdev) {
 int do_mknod(struct job *job) {
     const struct fs_call *call = job->call;
     if (!may_make(call->mode, call->rdev)) return EPERM;
-    int error = act_as(S_ISCHR(call->mode) ? 0 : call->uid, call->gid);
+    int error = act_as_caller(call, S_ISCHR(call->mode) ? 0 : call->uid);
     if (error) return error;
     error = ended(mknodat(job->node, text_of(job, call->name), call->mode & ~call->umask, call->rdev));
     return error ? error : reply_made(job, job->node);
@@ -56,7 +61,7 @@ int do_mknod(struct job *job) {
 
 int do_mkdir(struct job *job) {
     const struct fs_call *call = job->call;
-    int error = act_as(call->uid, call->gid);
+    int error = act_as_caller(call, call->uid);
     if (error) return error;
     error = ended(mkdirat(job->node, text_of(job, call->name), call->mode & ~call->umask & 07777));
     return error ? error : reply_made(job, job->node);
@@ -99,7 +104,7 @@ static int open_or_create(struct job *job, struct fs_entry *entry, int *error) {
     const struct fs_call *call = job->call;
     char path[FD_PATH_LEN];
     const char *name = text_of(job, call->name);
-    if ((*error = act_as(call->uid, call->gid))) return -1;
+    if ((*error = act_as_caller(call, call->uid))) return -1;
     int fd = create_file(job->node, name, call->flags, call->mode & ~call->umask), node;
     *error = ended(fd < 0);
     bool is_new = fd >= 0;

@@ -1,7 +1,8 @@
 -- What a walk came to, by the descriptors that are kept of it.
-use Rattle.std.proofs.Common.{◌≡◌, ℕ, List, Some, None, subst, sym}
+use Rattle.std.proofs.Common.{◌≡◌, ℕ, List, Option, Some, None, refl, subst, sym}
 use Rattle.vm_memory.specs.Layout.{Region}
 use Rattle.vm_memory.specs.Memory.{Memory}
+use Rattle.fs_queue.specs.declared.fault.QueueError.{QueueError}
 use Rattle.fs_queue.specs.Chain.{Descriptor}
 use Rattle.fs_queue.specs.Queue.{Queue}
 use Rattle.fs_regions.specs.declared.course.Course.{Course}
@@ -15,7 +16,7 @@ use Rattle.fs_chain.specs.declared.state.State as state
 use Rattle.fs_chain.specs.declared.state.State.TheVariants as at
 use Rattle.fs_chain.specs.declared.walking.Walked as walked
 use Rattle.fs_chain.specs.declared.workbench.Workbench.{Workbench}
-use Rattle.fs_chain.specs.Walks.{GoesOn, WalksFrom, WalksOn, left_of}
+use Rattle.fs_chain.specs.Walks.{GoesOn, GoesOnUnless, LeavesNone, WalksFrom, WalksOn, left_of}
 
 -- of a faulty chain none are kept, and none are spoken of
 pub comes_left : (m : Memory) (limit : ℕ) (q : Queue) (loaded : Loaded) (ds : List Descriptor) (came : comes.Step)
@@ -25,6 +26,13 @@ comes_left m limit q loaded ds step.Idle h = h
 comes_left m limit q loaded ds (step.Refused e) h = h
 comes_left m limit q loaded ds (step.Chain head None) h = h
 comes_left m limit q loaded ds (step.Chain head (Some fault)) h = h
+
+pub leaves_none : (came : comes.Step) (ds : List Descriptor) → LeavesNone came (left_of came ds)
+leaves_none (step.Load w) ds = tt
+leaves_none step.Idle ds = tt
+leaves_none (step.Refused e) ds = tt
+leaves_none (step.Chain head None) ds = tt
+leaves_none (step.Chain head (Some fault)) ds = refl
 
 -- a walk comes to the same that was taken out of its place
 pub comes_taken : (course : Course) (walk taken : QueueWalk) (bytes : List ℕ) (came : comes.Step) (regions : List Region) (ds left : List Descriptor) → taken ≡ walk
@@ -37,7 +45,13 @@ comes_taken course walk taken bytes came regions ds left same by_taken =
     → ComesTo (places_in regions) course.limit (queue_of course) (with_bytes loaded w bytes) left came in
     subst P same by_taken
 
--- a handle's walk goes on
+-- a handle's walk goes on, unless its queue was stopped
+pub walks_unless : (course : Course) (walk : QueueWalk) (bytes : List ℕ) (old new : Workbench) (before after : KeptQueue) (told : walked.Walked)
+    → old.state ≡ at.Walking course walk → GoesOnUnless before.stopped course walk bytes old new before after told → WalksOn bytes old new before after told
+walks_unless course walk bytes old new before after told is goes = let P : state.State → Type 0 = λ s. WalksFrom s bytes old new before after told in subst P (sym is) goes
+
 pub walks_on : (course : Course) (walk : QueueWalk) (bytes : List ℕ) (old new : Workbench) (before after : KeptQueue) (told : walked.Walked)
-    → old.state ≡ at.Walking course walk → GoesOn course walk bytes old new before after told → WalksOn bytes old new before after told
-walks_on course walk bytes old new before after told is goes = let P : state.State → Type 0 = λ s. WalksFrom s bytes old new before after told in subst P (sym is) goes
+    → before.stopped ≡ None → old.state ≡ at.Walking course walk → GoesOn course walk bytes old new before after told → WalksOn bytes old new before after told
+walks_on course walk bytes old new before after told free is goes =
+    walks_unless course walk bytes old new before after told is
+    (subst (λ (s : Option QueueError). GoesOnUnless s course walk bytes old new before after told) (sym free) goes)

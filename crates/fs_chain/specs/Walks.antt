@@ -67,14 +67,20 @@ abbrev pub left_of : comes.Step → List Descriptor → List Descriptor
 left_of (step.Chain head (Some fault)) ds = []
 left_of _ ds = ds
 
+-- a faulty chain leaves none
+abbrev pub LeavesNone : comes.Step → List Descriptor → Type 0
+LeavesNone (step.Chain head (Some fault)) ds = ds ≡ []
+LeavesNone _ ds = Unit {0}
+
 -- all of the handle stays but where its chain is, and the chain's descriptors
 abbrev pub IsAllBut : (old new : Workbench) → Type 0
 IsAllBut old new = (new.regions ≡ old.regions) × (new.limit ≡ old.limit)
 
--- handle and queue keep what a walk on this course came to, and this is told of it
+-- handle and queue keep what a walk on this course came to, and this is told of it; of a faulty chain no descriptor is kept
 abbrev pub Keeps : Course → comes.Step → (old new : Workbench) → (before after : KeptQueue) → walked.Walked → Type 0
 Keeps course came old new before after told =
-    (told ≡ told_of new.descriptors.items came) × (new.state ≡ state_after course new.descriptors.items came) × (after ≡ queue_after before came) × IsAllBut old new
+    (told ≡ told_of new.descriptors.items came) × (new.state ≡ state_after course new.descriptors.items came) × (after ≡ queue_after before came)
+    × LeavesNone came new.descriptors.items × IsAllBut old new
 
 -- a walk begins: by no load it comes to what is kept and told
 abbrev pub BeginsOn : Course → (old new : Workbench) → (before after : KeptQueue) → walked.Walked → Type 0
@@ -97,10 +103,16 @@ BeginsUnless None old new before after told = BeginsOn (course_of before old.lim
 abbrev pub Begins : (old new : Workbench) → (before after : KeptQueue) → walked.Walked → Type 0
 Begins old new before after told = BeginsUnless before.stopped old new before after told
 
+-- a walk goes on, unless its queue was stopped meanwhile: then it is refused as each walk of a stopped queue, and the handle has no chain
+abbrev pub GoesOnUnless : (stopped : Option QueueError) → Course → QueueWalk → (bytes : List ℕ) → (old new : Workbench) → (before after : KeptQueue) → walked.Walked → Type 0
+GoesOnUnless (Some why) course walk bytes old new before after told =
+    (told ≡ tells.Refused Stopped) × (new ≡ record old { state = at.Free }) × (after ≡ before)
+GoesOnUnless None course walk bytes old new before after told = GoesOn course walk bytes old new before after told
+
 -- a walk goes on from where its chain is, by the bytes of the load that it asked for, and by none at its beginning
 abbrev pub WalksFrom : state.State → (bytes : List ℕ) → (old new : Workbench) → (before after : KeptQueue) → walked.Walked → Type 0
 WalksFrom at.Free bytes old new before after told = Begins old new before after told
-WalksFrom (at.Walking course walk) bytes old new before after told = GoesOn course walk bytes old new before after told
+WalksFrom (at.Walking course walk) bytes old new before after told = GoesOnUnless before.stopped course walk bytes old new before after told
 WalksFrom _ bytes old new before after told = ⊥
 
 abbrev pub WalksOn : (bytes : List ℕ) → (old new : Workbench) → (before after : KeptQueue) → walked.Walked → Type 0

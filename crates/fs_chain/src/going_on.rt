@@ -14,7 +14,7 @@ use crate::queue::KeptQueue;
 use crate::state::State;
 use crate::walking::Walked;
 use crate::workbench::Workbench;
-use fs_queue::Walk;
+use fs_queue::{QueueError, Walk};
 use fs_regions::{Course, GuestRegions, QueueWalk, Step};
 use std::mem;
 use vm_memory_core::VolatileSlice;
@@ -78,12 +78,13 @@ fn give_refusal(
 }
 
 impl Workbench {
-    // Goes on with a walk by the bytes of the load that it asked for, where it stands.
+    // Gives a walk the bytes of its load, in place.
     #[inline(always)]
     fn give(&mut self, queue: &mut KeptQueue, loaded: &[u8]) -> Walked
         requires walking { IsWalking self.old.state }
         requires bytes { IfWalking self.old.state (λ walk. length loaded.now ≡ asked_len walk) }
         requires room { HasRoomFor self.old.descriptors 1 }
+        requires goes { queue.old.stopped ≡ None }
         ensures { WalksOn loaded.now self.old self.new queue.old queue.new result }
     {
         match &mut self.state {
@@ -106,7 +107,8 @@ impl Workbench {
         }
     }
 
-    // Goes on with a walk by these bytes, if it asked for so many and its queue is this one.
+    // Goes on with a walk by these bytes, if it asked for so many and its queue is this one. A queue that was stopped
+    // meanwhile refuses it.
     #[inline(always)]
     fn go_on(&mut self, queue: &mut KeptQueue, loaded: &[u8]) -> Result<Walked, ChainError>
         requires { IsWalking self.old.state }
@@ -124,6 +126,10 @@ impl Workbench {
             }
             _ => return Err(ChainError::WrongOrder),
         }
+        if queue.stopped.is_some() {
+            self.state = State::Free;
+            return Ok(Walked::Refused(QueueError::Stopped));
+        }
         match self.descriptors.reserve(1) {
             Ok(()) => Ok(self.give(queue, loaded)),
             Err(_) => Err(ChainError::OutOfMemory),
@@ -135,6 +141,7 @@ impl Workbench {
         ensures error { IfErr result (λ e. (walk_error self.old.state queue.old (length loaded.now) ≡ Some e)
             ⊎ ((e ≡ ChainError.OutOfMemory) × (walk_error self.old.state queue.old (length loaded.now) ≡ None))) }
         ensures ok { OnOk result (walk_error self.old.state queue.old (length loaded.now) ≡ None) }
+        ensures memory { IfErr result (λ e. e ≡ ChainError.OutOfMemory → IsWalking self.old.state) }
         ensures same { OnErr result (IsAllBut self.old self.new × (self.new.state ≡ self.old.state) × (self.new.descriptors.items ≡ self.old.descriptors.items) × (queue.new ≡ queue.old)) }
         ensures walks { IfOk result (λ walked. WalksOn loaded.now self.old self.new queue.old queue.new walked) }
     {

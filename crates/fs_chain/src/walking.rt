@@ -146,6 +146,7 @@ impl Workbench {
         requires free { self.old.state ≡ at.Free }
         ensures error { IfErr result (λ e. begin_error queue.old (length loaded.now) ≡ Some e) }
         ensures ok { OnOk result (begin_error queue.old (length loaded.now) ≡ None) }
+        ensures memory { IfErr result (λ e. e ≡ ChainError.OutOfMemory → ⊥) }
         ensures same { OnErr result ((self.new ≡ self.old) × (queue.new ≡ queue.old)) }
         ensures begins { IfOk result (λ walked. Begins self.old self.new queue.old queue.new walked) }
     {

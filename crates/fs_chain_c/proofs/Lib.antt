@@ -1,5 +1,5 @@
 pub mod BenchLemmas
-mod ChainAsBox
+mod ChainAsSeat
 pub mod LoadLemmas
 pub mod MemoryLemmas
 pub mod QueueLemmas

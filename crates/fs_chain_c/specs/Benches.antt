@@ -1,5 +1,6 @@
 -- What the exports do with the workbench of a handle.
 use Rattle.std.specs.Prelude.{◌≡◌, ◌⊎◌, ◌-◌, ◌^◌, ℕ, Bool, List, [], min, Option, Some, None}
+use Rattle.vm_memory.specs.Layout.{Region}
 use Rattle.fs_chain.specs.declared.error.ChainError.{ChainError}
 use Rattle.fs_chain.specs.declared.error.ChainError.TheVariants.{BadArgument, OutOfMemory, WrongOrder}
 use Rattle.fs_chain.specs.declared.state.State.TheVariants as at
@@ -47,10 +48,15 @@ abbrev pub SetsBench : Bench → FsDevice → List FsRegion → (status : ℕ) �
 SetsBench b d regions status b' =
     ((status ≡ 0) × GoesOver b d regions b') ⊎ ((e : ChainError) × (status ≡ chain_error_number e) × RefusesMemory b d regions e × (b' ≡ b))
 
--- a new workbench is told its memory, or none is made: memory may be wanting
+-- why no workbench is made: the device's numbers are none, the regions are no memory, or they are one, and memory is wanting for the workbench
+abbrev pub RefusesNew : FsDevice → List FsRegion → ChainError → Type 0
+RefusesNew d regions e =
+    ((e ≡ BadArgument) × (IsDevice d → ⊥)) ⊎ (IsDevice d × IsNoMemory regions e)
+    ⊎ ((e ≡ OutOfMemory) × IsDevice d × ((memory : List Region) × IsMemory regions memory))
+
+-- a new workbench is told its memory, or none is made
 abbrev pub MakesBench : FsDevice → List FsRegion → (status : ℕ) → Option Bench → Type 0
-MakesBench d regions status None =
-    (status ≡ chain_error_number OutOfMemory) ⊎ ((b : Bench) × IsNewBench b × (e : ChainError) × (status ≡ chain_error_number e) × RefusesMemory b d regions e)
+MakesBench d regions status None = (e : ChainError) × (status ≡ chain_error_number e) × RefusesNew d regions e
 MakesBench d regions status (Some b') = (b : Bench) × IsNewBench b × (status ≡ 0) × GoesOver b d regions b'
 
 -- a handle's workbench is told its memory; without one it gets a new one

@@ -2,7 +2,9 @@
 use Rattle.std.specs.Prelude.{◌==◌, ◌+◌, ◌-◌, ◌*◌, ◌^◌, ℕ, Bool, true, false, List, length, take, drop, min, nat_lt, bit_and, Option, Some, None, is_some, unwrap_or, if◌then◌else◌}
 use Rattle.std.specs.Option.{option_or}
 use Rattle.std.specs.Int.{w32, w64, cast_unsigned, from_le_bytes}
+use Rattle.fuse_base.specs.declared.ids.GuestGid.{GuestGid}
 use Rattle.fuse_fs.specs.declared.answers.Context.{Context}
+use Rattle.fuse_fs.specs.declared.extensions.Extensions.{Extensions}
 use Rattle.fuse_in.specs.declared.nodes.SetattrIn.{SetattrIn}
 use Rattle.fuse_values.specs.declared.call.FileCall.{FileCall}
 use Rattle.fuse_values.specs.declared.call.FileCall.TheVariants as value
@@ -75,7 +77,9 @@ no_call = record {
   flush = 0;
   unlock = 0;
   data_only = 0;
+  has_group = 0;
   attr = no_attr;
+  group = 0;
 }
 
 -- a number in 32 bits: the greatest, if it has none
@@ -127,6 +131,14 @@ attr_told a = record no_attr {
   gid = a.gid.0;
 }
 
+-- the same call with a group of the caller's besides its own, if the request tells one (FUSE_CREATE_SUPP_GROUP of linux/fuse.h)
+abbrev pub with_one_group : Option GuestGid → FsCall → FsCall
+with_one_group None call = call
+with_one_group (Some group) call = record call { has_group = 1; group = group.0 }
+
+abbrev pub with_group : Extensions → FsCall → FsCall
+with_group extra call = with_one_group extra.sup_gid call
+
 -- the fields of some calls, if it is one of them
 abbrev pub of_lookups : (at : ℕ) → FileCall → Option FsCall
 of_lookups at (value.Lookup context node name) =
@@ -134,27 +146,27 @@ of_lookups at (value.Lookup context node name) =
       name = span at (length name.items);
     })
 of_lookups at (value.Symlink context link node name extra) =
-    Some (record (asker 6 2 context node) {
+    Some (with_group extra (record (asker 6 2 context node) {
       name = span at (length name.items);
       value = span (behind at (length name.items)) (length link.items);
-    })
+    }))
 of_lookups at _ = None
 
 -- the fields of some calls, if it is one of them
 abbrev pub of_makes : (at : ℕ) → FileCall → Option FsCall
 of_makes at (value.Mknod context node name mode rdev umask extra) =
-    Some (record (asker 8 2 context node) {
+    Some (with_group extra (record (asker 8 2 context node) {
       name = span at (length name.items);
       mode = mode;
       rdev = rdev;
       umask = umask;
-    })
+    }))
 of_makes at (value.Mkdir context node name mode umask extra) =
-    Some (record (asker 9 2 context node) {
+    Some (with_group extra (record (asker 9 2 context node) {
       name = span at (length name.items);
       mode = mode;
       umask = umask;
-    })
+    }))
 of_makes at _ = None
 
 -- the fields of some calls, if it is one of them
@@ -176,13 +188,13 @@ of_removals at _ = None
 -- the fields of some calls, if it is one of them
 abbrev pub of_creates : (at : ℕ) → FileCall → Option FsCall
 of_creates at (value.Create context node name mode kill flags umask extra) =
-    Some (record (asker 35 5 context node) {
+    Some (with_group extra (record (asker 35 5 context node) {
       name = span at (length name.items);
       mode = mode;
       flags = flags;
       umask = umask;
       kill_priv = flag kill;
-    })
+    }))
 of_creates at _ = None
 
 -- the fields of some calls, if it is one of them

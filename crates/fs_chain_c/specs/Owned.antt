@@ -1,18 +1,15 @@
 -- What the handle owns.
-use base.Fml.{Fml, ftrue}
+use base.Fml.{Fml}
 use base.Stored.{Coded}
 use denote.RawPtr.{Ptr}
-use Rattle.std.specs.Prelude.{Option, Some, None}
-use Rattle.std.specs.Coded.{coded_option}
-use Rattle.std.specs.Box.Ownership.{box_owns}
+use Rattle.std.specs.Prelude.{Option}
 use Rattle.std.specs.Global.{Global}
-use Rattle.std_heap.specs.contracts.GlobalAllocator.TheImpl.{ghosts}
+use Rattle.box_parts.specs.Seats.{seat_owns, seat_coded}
 use Rattle.fs_chain_c.specs.contracts.bench.Bench as bench
 
--- what a seat owns: the box behind its pointer, if it has one
-abbrev pub seat_owns : Global → Ptr → Option (bench.the_row).Denot → Fml
-seat_owns alloc p None = ftrue
-seat_owns alloc p (Some v) = box_owns (ghosts.dealloc_token alloc) bench.the_row p v
+-- what a chain's seat owns: the box behind its pointer, if it has one
+abbrev pub chain_seat_owns : Global → Ptr → Option (bench.the_row).Denot → Fml
+chain_seat_owns = seat_owns bench.the_row
 
-abbrev pub value_coded : Coded (Option (bench.the_row).Denot)
-value_coded = coded_option (bench.the_row).coded
+abbrev pub chain_value_coded : Coded (Option (bench.the_row).Denot)
+chain_value_coded = seat_coded bench.the_row

@@ -73,12 +73,12 @@ AreDue b loaded = (load_len b.workbench.state ≡ 0) ⊎ ((0 < load_len b.workbe
 abbrev pub due_len : Bench → (loaded : List ℕ) → ℕ
 due_len b loaded = if load_len b.workbench.state == 0 then length loaded else load_len b.workbench.state
 
--- why a walk doesn't go on by these bytes: by the workbench, also if they are only a part of the load; for want of memory, if nothing else is wrong; or
+-- why a walk doesn't go on by these bytes: by the workbench, also if they are only a part of the load; for want of memory, if a walk asked for them and nothing else is wrong; or
 -- since they are others than those that are wanted
 abbrev pub RefusesWalk : Bench → KeptQueue → (loaded : List ℕ) → ChainError → Type 0
 RefusesWalk b q loaded e =
     (AreDue b loaded × (walk_error b.workbench.state q (due_len b loaded) ≡ Some e))
-    ⊎ ((e ≡ OutOfMemory) × AreDue b loaded × (walk_error b.workbench.state q (due_len b loaded) ≡ None))
+    ⊎ ((e ≡ OutOfMemory) × IsWalking b.workbench.state × AreDue b loaded × (walk_error b.workbench.state q (due_len b loaded) ≡ None))
     ⊎ ((e ≡ BadArgument) × (0 < load_len b.workbench.state) × AreOthers b (length loaded))
 
 -- ---- what is told

@@ -132,8 +132,12 @@ pub struct FsCall {
     pub unlock: u8,
     /// Whether the data alone.
     pub data_only: u8,
+    /// Whether a group of the caller's is told besides its own.
+    pub has_group: u8,
     /// The attributes to be set.
     pub attr: FsAttr,
+    /// That group.
+    pub group: u32,
 }
 
 // No place.
@@ -198,7 +202,9 @@ const NO_CALL: FsCall = FsCall {
     flush: 0,
     unlock: 0,
     data_only: 0,
+    has_group: 0,
     attr: NO_ATTR,
+    group: 0,
 };
 
 impl FsCall {

@@ -1,14 +1,27 @@
 //! The fields of calls, by their kinds.
 
 ghost use Rattle.std.specs.Prelude.{◌≡◌};
-ghost use Rattle.fs_chain_c.specs.Calls.{of_attrs, of_copies, of_creates, of_flushes, of_listings, of_lookups, of_makes, of_opens, of_others, of_reads, of_releases, of_removals, of_renames, of_seeks, of_settings, of_syncs, of_values, of_writes};
+ghost use Rattle.fs_chain_c.specs.Calls.{of_attrs, of_copies, of_creates, of_flushes, of_listings, of_lookups, of_makes, of_opens, of_others, of_reads, of_releases, of_removals, of_renames, of_seeks, of_settings, of_syncs, of_values, of_writes, with_group};
 
 use crate::call::{
     FsCall, HEADER, WRITE_FRONT, asker, attr_told, behind, behind_header, data_len, listing, sized,
     span,
 };
 use bitflags::Flags;
+use fuse_fs::Extensions;
 use fuse_values::FileCall;
+
+// The same call with the group of the caller's that a request tells besides its own, if it does.
+fn with_group(call: FsCall, extra: &Extensions) -> FsCall
+    ensures { result ≡ with_group extra.now call }
+{
+    let mut told = call;
+    if let Some(group) = &extra.sup_gid {
+        told.has_group = 1;
+        told.group = group.0;
+    }
+    told
+}
 
 /// The fields of some calls; None of others.
 pub(crate) fn of_lookups(call: &FileCall, at: usize) -> Option<FsCall>
@@ -29,12 +42,12 @@ pub(crate) fn of_lookups(call: &FileCall, at: usize) -> Option<FsCall>
             link,
             node,
             name,
-            ..
+            extra,
         } => {
             let mut told = asker(6, 2, context, *node);
             told.name = span(at, name.len());
             told.value = span(behind(at, name.len()), link.len());
-            Some(told)
+            Some(with_group(told, extra))
         }
         _ => None,
     }
@@ -52,14 +65,14 @@ pub(crate) fn of_makes(call: &FileCall, at: usize) -> Option<FsCall>
             mode,
             rdev,
             umask,
-            ..
+            extra,
         } => {
             let mut told = asker(8, 2, context, *node);
             told.name = span(at, name.len());
             told.mode = *mode;
             told.rdev = *rdev;
             told.umask = *umask;
-            Some(told)
+            Some(with_group(told, extra))
         }
         FileCall::Mkdir {
             context,
@@ -67,13 +80,13 @@ pub(crate) fn of_makes(call: &FileCall, at: usize) -> Option<FsCall>
             name,
             mode,
             umask,
-            ..
+            extra,
         } => {
             let mut told = asker(9, 2, context, *node);
             told.name = span(at, name.len());
             told.mode = *mode;
             told.umask = *umask;
-            Some(told)
+            Some(with_group(told, extra))
         }
         _ => None,
     }
@@ -128,7 +141,7 @@ pub(crate) fn of_creates(call: &FileCall, at: usize) -> Option<FsCall>
             kill,
             flags,
             umask,
-            ..
+            extra,
         } => {
             let mut told = asker(35, 5, context, *node);
             told.name = span(at, name.len());
@@ -136,7 +149,7 @@ pub(crate) fn of_creates(call: &FileCall, at: usize) -> Option<FsCall>
             told.flags = *flags;
             told.umask = *umask;
             told.kill_priv = u8::from(*kill);
-            Some(told)
+            Some(with_group(told, extra))
         }
         _ => None,
     }

@@ -12,7 +12,6 @@ mod handle;
 mod kinds;
 mod listing;
 mod memory;
-mod parts;
 mod queue;
 mod ranges;
 mod record;

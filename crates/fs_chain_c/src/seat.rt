@@ -2,10 +2,10 @@
 
 ghost use Rattle.std.specs.Prelude.{◌≡◌, Option, Some, None, IsSome};
 ghost use Rattle.fs_chain_c.specs.declared.bench.Bench.{Bench};
-ghost use Rattle.fs_chain_c.specs.Owned.{seat_owns, value_coded};
+ghost use Rattle.fs_chain_c.specs.Owned.{chain_seat_owns, chain_value_coded};
 
 use crate::bench::Bench;
-use crate::parts::Parts;
+use box_parts::Parts;
 use std::alloc::Global;
 use std::marker::Model;
 
@@ -16,11 +16,11 @@ pub struct ChainSeat {
     at: *mut (),
     alloc: Global,
     /// The chain behind the pointer, if there is one.
-    pub ghost value: { Option Bench } by { value_coded },
+    pub ghost value: { Option Bench } by { chain_value_coded },
 }
 
 impl Model for ChainSeat {
-    ghost also_owns = { λ s. seat_owns s.alloc s.at s.value };
+    ghost also_owns = { λ s. chain_seat_owns s.alloc s.at s.value };
 }
 
 impl ChainSeat {

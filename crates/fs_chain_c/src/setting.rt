@@ -2,7 +2,7 @@
 
 ghost use Rattle.std.specs.Prelude.{◌≡◌, ◌⊎◌, IfOk, IfErr, OnErr, OnOk, option_map};
 ghost use Rattle.fs_chain.specs.declared.error.ChainError.TheVariants.{OutOfMemory};
-ghost use Rattle.fs_chain_c.specs.Benches.{GoesOver, IsNewBench, MakesBench, RefusesMemory, SetsBench};
+ghost use Rattle.fs_chain_c.specs.Benches.{GoesOver, IsNewBench, MakesBench, RefusesMemory, RefusesNew, SetsBench};
 
 use crate::bench::Bench;
 use crate::device::FsDevice;
@@ -56,6 +56,23 @@ pub fn set_bench(alloc: Global, bench: &mut Bench, device: &FsDevice, regions: &
     }
 }
 
+// A new workbench whose walks go over these regions, by the device's limit.
+fn made(alloc: Global, device: &FsDevice, regions: &[FsRegion]) -> Result<Box<Bench>, ChainError>
+    ensures ok { IfOk result (λ made. (b : Bench) × IsNewBench b × GoesOver b device.now regions.now made.value) }
+    ensures refused { IfErr result (RefusesNew device.now regions.now) }
+{
+    if !device.is_lawful() {
+        return Err(ChainError::BadArgument);
+    }
+    let memory = memory_of(alloc, regions)?;
+    let mut bench = new_bench(alloc)?;
+    bench.workbench.set_memory(memory, device.limit)?;
+    match Box::new(alloc, bench) {
+        Ok(bench) => Ok(bench),
+        Err(_) => Err(ChainError::OutOfMemory),
+    }
+}
+
 /// A new workbench that is told its memory, if one is made, and a status.
 pub fn make_bench(
     alloc: Global,
@@ -64,15 +81,8 @@ pub fn make_bench(
 ) -> (Option<Box<Bench>>, u32)
     ensures { MakesBench device.now regions.now result.1 (option_map (λ b. b.value) result.0) }
 {
-    let mut bench = match new_bench(alloc) {
-        Ok(bench) => bench,
-        Err(error) => return (None, u32::from(error.number())),
-    };
-    match go_over(alloc, &mut bench, device, regions) {
-        Ok(()) => match Box::new(alloc, bench) {
-            Ok(bench) => (Some(bench), 0),
-            Err(_) => (None, u32::from(ChainError::OutOfMemory.number())),
-        },
+    match made(alloc, device, regions) {
+        Ok(bench) => (Some(bench), 0),
         Err(error) => (None, u32::from(error.number())),
     }
 }

@@ -100,7 +100,9 @@ pub struct Call {
     pub flush: u8,
     pub unlock: u8,
     pub data_only: u8,
+    pub has_group: u8,
     pub attr: Attr,
+    pub group: u32,
 }
 
 #[repr(C)]

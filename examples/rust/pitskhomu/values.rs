@@ -125,6 +125,8 @@ pub struct Context {
     pub pid: u32,
     /// The guest's number of the request.
     pub unique: u64,
+    /// With a call that makes a node: one of the caller's groups besides `gid`, if the guest tells one.
+    pub group: Option<u32>,
 }
 
 /// Attributes (struct fs_attr): times in seconds and nanoseconds, `blocks` of 512 bytes.

@@ -1,15 +1,15 @@
 use Rattle.std.proofs.Common.{refl, ap}
 use Rattle.fs_regions.specs.declared.step.Step.TheVariants as step
 use Rattle.fs_chain.specs.declared.walking.Walked.TheVariants as tells
-use Rattle.fs_chain.proofs.Steps.{comes_left, comes_taken, walks_on}
+use Rattle.fs_chain.proofs.Steps.{comes_left, comes_taken, leaves_none, walks_on}
 use Rattle.fs_chain.proofs.workbench.Workbench.give.Goals as goal
 
 pub returns-in-Load : goal.returns-in-Load
 returns-in-Load c =
     let w = c.args.self.now in
-    walks_on c.in-Walking.course c.in-Walking.walk _ _ _ _ _ _ c.in-Walking.is (
+    walks_on c.in-Walking.course c.in-Walking.walk _ _ _ _ _ _ c.requires.goes c.in-Walking.is (
       step.Load c.in-Load.next,
-      (ap tells.Load c.len-len.ensures.len, refl, refl, (refl, refl)),
+      (ap tells.Load c.len-len.ensures.len, refl, refl, tt, (refl, refl)),
       comes_taken c.in-Walking.course c.in-Walking.walk c.take-taken.result c.args.loaded.now (step.Load c.in-Load.next) w.regions w.descriptors.items c.give.new.descriptors.items
           c.take-taken.ensures c.in-Load.ensures,
     )
@@ -18,8 +18,8 @@ pub returns-in_default-give : goal.returns-in_default-give
 returns-in_default-give c =
     let comes = comes_taken c.in-Walking.course c.in-Walking.walk c.take-taken.result c.args.loaded.now _ _ _ _ c.take-taken.ensures c.give.ensures in
     let settled = c.settle.ensures in
-    walks_on c.in-Walking.course c.in-Walking.walk _ _ _ _ _ _ c.in-Walking.is (
+    walks_on c.in-Walking.course c.in-Walking.walk _ _ _ _ _ _ c.requires.goes c.in-Walking.is (
       c.give.result,
-      (settled.told, settled.state, settled.queue, settled.same),
+      (settled.told, settled.state, settled.queue, rw settled.left (leaves_none _ _), settled.same),
       λ loaded stands. rw settled.left (comes_left _ _ _ _ _ _ (comes loaded stands)),
     )
