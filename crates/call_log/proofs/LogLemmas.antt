@@ -19,7 +19,8 @@ use Rattle.fs_device.specs.declared.exchange.Fault.{Fault}
 use Rattle.fs_device.specs.declared.refusal.Refusal.TheVariants as why
 use Rattle.fs_device.specs.Step.{State, Exchange, Calls, Exchanged, Exchanges, StepOf, served_fault, served_exchange}
 use Rattle.fs_device.specs.Run as run
-use Rattle.fs_device.specs.Run.{Command, Answer, Effect, Turn, Told, shown, KickRun, Kicks, Kicked, Affects, ChangesTable, HasEffect, Does, IsDecided, Performs, RunTold, Run, effect, insert, insert_block, is_known, some_overlap, reset}
+use Rattle.fs_device.specs.Run.{Command, Answer, Effect, Turn, Told, shown, KickRun, Kicks, Kicked, Affects, ChangesTable, HasEffect, Does}
+use Rattle.fs_device.specs.Run.{IsDecided, Performs, RunTold, Run, effect, insert, insert_block, is_known, some_overlap, reset}
 use Rattle.fs_device.proofs.BookLemmas.{all_suit}
 use Rattle.fs_device.proofs.TellingLemmas.{end_stays}
 use Rattle.call_log.specs.declared.log.LoggedCall.{LoggedCall}
@@ -93,7 +94,14 @@ taken_logged may log keeps s i q (Offers head (IsRequest request room)) calls x 
     (subst (λ (bytes : List ℕ). x ≡ served_exchange head bytes (served set (meaning s.options bytes (length room)) answers)) (sym same) told) in
     let fault : x.fault ≡ served_fault r.given.fault = ap (λ (e : Exchange). e.fault) r.returns.exchange in (
       entries,
-      (entries, [], logs_answered r.given.fault x entries fault (set, calls, all_suit may s.files calls after.files r.serves.run, each_may_answer may log keeps s.files calls after.files r.serves.run, own, is, refl), refl, sym (append-nil entries)),
+      (
+        entries,
+        [],
+        logs_answered r.given.fault x entries fault
+            (set, calls, all_suit may s.files calls after.files r.serves.run, each_may_answer may log keeps s.files calls after.files r.serves.run, own, is, refl),
+        refl,
+        sym (append-nil entries),
+      ),
       steps_logged may log keeps s.files calls after.files r.serves.run,
     )
 taken_logged may log keeps s i q taking.Idle calls x notice after r = absurd r

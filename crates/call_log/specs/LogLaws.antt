@@ -2,7 +2,9 @@
 use Rattle.std.proofs.Common.{◌≡◌, ℕ, List, [], ◌∷◌, Bool, true, false, refl, ap, ◌∙◌}
 use Rattle.fuse_fs.specs.declared.answers.Context.{Context}
 use Rattle.fuse_fs.specs.Answers.{ForgetsEach}
-use Rattle.fuse_fs.specs.Calls.{FileCall, Init, Destroy, Lookup, Forget, BatchForget, Getattr, Setattr, Readlink, Symlink, Mknod, Mkdir, Unlink, Rmdir, Rename, Link, Open, Read, Write, Statfs, Release, Fsync, Fsyncdir, Setxattr, Getxattr, Listxattr, Removexattr, Flush, Opendir, Readdir, Releasedir, Getlk, Setlk, Setlkw, Bmap, Ioctl, Poll, NotifyReply, Access, Create, Fallocate, Lseek, CopyFileRange, Syncfs, TmpFile}
+use Rattle.fuse_fs.specs.Calls.{FileCall, Init, Destroy, Lookup, Forget, BatchForget, Getattr, Setattr, Readlink, Symlink, Mknod, Mkdir, Unlink, Rmdir, Rename, Link}
+use Rattle.fuse_fs.specs.Calls.{Open, Read, Write, Statfs, Release, Fsync, Fsyncdir, Setxattr, Getxattr, Listxattr, Removexattr, Flush, Opendir, Readdir, Releasedir}
+use Rattle.fuse_fs.specs.Calls.{Getlk, Setlk, Setlkw, Bmap, Ioctl, Poll, NotifyReply, Access, Create, Fallocate, Lseek, CopyFileRange, Syncfs, TmpFile}
 use Rattle.fuse_fs.specs.Lacked.{Group, Opening, Changing, Rare, group_of, default_answer}
 use Rattle.call_log.specs.declared.files.CallLog.{CallLog}
 use Rattle.call_log.specs.declared.log.LoggedCall.{LoggedCall}

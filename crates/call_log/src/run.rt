@@ -1,6 +1,6 @@
 //! Runs of a machine whose file system logs its calls.
 
-ghost use Rattle.std.specs.Prelude.{◌≡◌, length, map, IfOk, OnErr};
+ghost use Rattle.std.specs.Prelude.{◌≡◌, ◌<◌, length, map, IfOk, OnErr};
 ghost use Rattle.std.specs.List.{zip};
 ghost use Rattle.fs_device.specs.CommandView.{answer_of, command_of};
 ghost use Rattle.fs_device.specs.MachineView.{machine_of};
@@ -31,6 +31,7 @@ pub fn run_logged<I: Iommu + Drop>(
     ensures books { IfOk result (λ answers. BalancedRun MayLog (machine_of machine.old) (zip (map command_of commands.items) (map answer_of answers.items))
         (machine_of machine.new)) }
     ensures err { OnErr result (machine_of machine.new ≡ machine_of machine.old) }
+    ensures memory { OnErr result (0 < length commands.items) }
 {
     // for the proof: the books of each run balance.
     law_books::<CallLog>();

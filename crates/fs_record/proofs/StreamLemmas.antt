@@ -1,5 +1,6 @@
 -- Bytes that are put or read part by part.
-use Rattle.std.proofs.Common.{◌≡◌, ℕ, ◌+◌, ◌-◌, ◌<◌, ◌≤◌, Bool, false, true, List, [], ◌++◌, length, take, drop, slice_range, Option, Result, Ok, Err, arith, sym, ap, ◌∙◌, subst, le_refl, append_assoc, append-nil, length-append, take-append-drop, drop_at, length-take-le, take_all}
+use Rattle.std.proofs.Common.{◌≡◌, ℕ, ◌+◌, ◌-◌, ◌<◌, ◌≤◌, Bool, false, true, List, [], ◌++◌, length, take, drop, slice_range, Option, Result, Ok, Err, arith, sym}
+use Rattle.std.proofs.Common.{ap, ◌∙◌, subst, le_refl, append_assoc, append-nil, length-append, take-append-drop, drop_at, length-take-le, take_all}
 use Rattle.std.proofs.lemmas.List.{length-drop}
 use Rattle.std.proofs.lemmas.Slice.{take-put_mid_below}
 use Rattle.std.specs.Io.KnownBytes.{Appends, Consumes, Keeps}

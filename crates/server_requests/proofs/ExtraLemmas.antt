@@ -13,7 +13,8 @@ use Rattle.fuse_fs.specs.Calls.{SecurityContext, Extra}
 use Rattle.server_segments.specs.declared.error.Error.{Error}
 use Rattle.server_segments.specs.declared.error.Error.TheVariants.{DecodeMessage, MissingParameter, MissingExtension, InvalidHeaderLength, InvalidCString}
 use Rattle.server_requests.specs.Reading.{Read, ReadFailure, Faults, and_then, at_zero, reading_of, value_of, front_name}
-use Rattle.server_requests.specs.Extras.{Sent, takes_security, takes_group, security_context, group_number, one_group, security_part, group_part, part, extension, extensions, extra_in, parts_of, nothing_sent, new_name, new_link}
+use Rattle.server_requests.specs.Extras.{Sent, takes_security, takes_group, security_context, group_number, one_group, security_part}
+use Rattle.server_requests.specs.Extras.{group_part, part, extension, extensions, extra_in, parts_of, nothing_sent, new_name, new_link}
 use Rattle.server_requests.proofs.RecordLemmas.{read_front}
 
 -- a label that isn't whole

@@ -1,5 +1,6 @@
 -- the marked pages, one page and one block further
-use Rattle.std.proofs.Common.{◌≡◌, ℕ, Bool, true, false, ◌+◌, ◌-◌, ◌<◌, ◌≤◌, inl, inr, ◌++◌, zero, suc, List, [], ◌∷◌, length, map, take, drop, get_or, refl, ap, sym, ◌∙◌, arith, append_assoc, append-nil, add-one, Option, Some, None}
+use Rattle.std.proofs.Common.{◌≡◌, ℕ, Bool, true, false, ◌+◌, ◌-◌, ◌<◌, ◌≤◌, inl, inr, ◌++◌, zero, suc, List, [], ◌∷◌, length, map, take}
+use Rattle.std.proofs.Common.{drop, get_or, refl, ap, sym, ◌∙◌, arith, append_assoc, append-nil, add-one, Option, Some, None}
 use Rattle.std.specs.Prelude.{slice_get, unwrap_or, if◌then◌else◌}
 use Rattle.std.specs.Option.{option_map}
 use Rattle.std.proofs.lemmas.Bool.{cases_lt}

@@ -1,5 +1,6 @@
 -- how an image goes on to track a host: from the copy on, through each store and each harvest
-use Rattle.std.proofs.Common.{◌≡◌, ℕ, Bool, true, false, ◌+◌, ◌*◌, ◌-◌, ◌/◌, ◌<◌, ◌≤◌, ◌++◌, zero, suc, List, [], ◌∷◌, length, map, drop, get_or, set, refl, ap, sym, ◌∙◌, subst, arith, ⊎_elim, append_assoc, length-drop, Option, Some, None}
+use Rattle.std.proofs.Common.{◌≡◌, ℕ, Bool, true, false, ◌+◌, ◌*◌, ◌-◌, ◌/◌, ◌<◌, ◌≤◌, ◌++◌, zero, suc, List, [], ◌∷◌, length, map, drop}
+use Rattle.std.proofs.Common.{get_or, set, refl, ap, sym, ◌∙◌, subst, arith, ⊎_elim, append_assoc, length-drop, Option, Some, None}
 use Rattle.std.specs.Prelude.{◌≢◌, slice_get, slice_range, option_and_then}
 use Rattle.std.specs.List.{AllByRecursion}
 use Rattle.std.proofs.lemmas.List.{length-map, length-set, length-take, get_or-set_same, get_or-set_other, length_push, set_past}

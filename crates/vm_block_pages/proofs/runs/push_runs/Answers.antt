@@ -34,4 +34,7 @@ loop-done-preserved g c =
 pub returns : goal.returns
 returns g c =
     let all : c.loop-done.done ≡ c.args.window.len = search rules in
-    subst (λ n. (before : List ℕ) → length before ≡ c.args.from → AreRuns before c.args.runs.now.items → AreRuns (before ++ map (page_of (lengths (g.H.HostBlocks.host c.args.host.now))) (span c.args.window.block c.args.window.offset c.args.window.io n)) c.loop-done.runs.items) all c.loop-done.invariant.runs
+    subst
+    (λ n. (before : List ℕ) → length before ≡ c.args.from → AreRuns before c.args.runs.now.items
+    → AreRuns (before ++ map (page_of (lengths (g.H.HostBlocks.host c.args.host.now))) (span c.args.window.block c.args.window.offset c.args.window.io n)) c.loop-done.runs.items)
+    all c.loop-done.invariant.runs

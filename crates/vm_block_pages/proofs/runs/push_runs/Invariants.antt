@@ -8,7 +8,8 @@ use Rattle.vm_block_pages.proofs.runs.push_runs.Given as goal
 abbrev pub invariant-loop-done : goal.invariant-loop-done
 invariant-loop-done g l = record {
   within : l.done ≤ l.window.len;
-  runs : (before : List ℕ) → length before ≡ l.from → AreRuns before l.initial.runs.items → AreRuns (before ++ map (page_of (lengths (g.H.HostBlocks.host l.host))) (span l.window.block l.window.offset l.window.io l.done)) l.runs.items;
+  runs : (before : List ℕ) → length before ≡ l.from → AreRuns before l.initial.runs.items
+      → AreRuns (before ++ map (page_of (lengths (g.H.HostBlocks.host l.host))) (span l.window.block l.window.offset l.window.io l.done)) l.runs.items;
 }
 
 abbrev pub decreases-loop-done : goal.decreases-loop-done

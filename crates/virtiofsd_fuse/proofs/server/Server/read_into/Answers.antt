@@ -20,7 +20,8 @@ returns-clause-handles g c =
       h.1,
       h.2,
       ap (λ n. 16 + n) long,
-      handles_one g.F.FileSystemBase.may (setting c.args.self.now.page_size c.args.self.now.options.0 (16 + free)) _ head.unique (read_call head (16 + free - 16) asked) (data_answer answer h.0) _ _ (Ok (16 + c.moved-len.result)) _ _
+      handles_one g.F.FileSystemBase.may (setting c.args.self.now.page_size c.args.self.now.options.0 (16 + free)) _ head.unique
+          (read_call head (16 + free - 16) asked) (data_answer answer h.0) _ _ (Ok (16 + c.moved-len.result)) _ _
           refl
           (read_suits head (16 + free - 16) _ asked answer h.0 (left ∙ h.2) c.make_read_call-answer.ensures.errno)
           (subst (λ r. g.F.FileSystemBase.may c.args.self.now.fs (read_call head r asked) (data_answer answer h.0) c.make_read_call-answer.new.fs) (sym left) h.4)
