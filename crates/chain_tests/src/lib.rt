@@ -7,3 +7,5 @@ mod given;
 mod orders;
 #[cfg(test)]
 mod returns;
+#[cfg(test)]
+mod walks;

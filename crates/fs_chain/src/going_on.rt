@@ -5,7 +5,7 @@ ghost use Rattle.smallvec.specs.SmallVec.{HasRoomFor};
 ghost use Rattle.vm_memory.specs.Layout.{left_at, place};
 ghost use Rattle.vm_memory.specs.Slices.{IsWindowAt};
 ghost use Rattle.fs_regions.specs.Walks.{asked_by, asked_len};
-ghost use Rattle.fs_chain.specs.Orders.{begin_error, give_error, walk_error, IfWalking, IsWalking};
+ghost use Rattle.fs_chain.specs.Orders.{begin_error, give_error, walk_error, AsksTable, IfWalking, IsWalking};
 ghost use Rattle.fs_chain.specs.Walks.{WalksOn, IsAllBut};
 ghost use Rattle.fs_chain.specs.declared.state.State.TheVariants as at;
 
@@ -63,7 +63,8 @@ fn give_refusal(
     walk: &QueueWalk,
     len: usize,
 ) -> Option<ChainError>
-    ensures { result ≡ give_error queue.now course.now (asked_len walk.now) len }
+    ensures error { result ≡ give_error queue.now course.now (asked_len walk.now) len }
+    ensures memory { IfSome result (λ e. e ≡ ChainError.OutOfMemory → ⊥) }
 {
     if len != walk.len() {
         return Some(ChainError::BadArgument);
@@ -83,7 +84,7 @@ impl Workbench {
     fn give(&mut self, queue: &mut KeptQueue, loaded: &[u8]) -> Walked
         requires walking { IsWalking self.old.state }
         requires bytes { IfWalking self.old.state (λ walk. length loaded.now ≡ asked_len walk) }
-        requires room { HasRoomFor self.old.descriptors 1 }
+        requires room { AsksTable self.old.state → HasRoomFor self.old.descriptors 1 }
         requires goes { queue.old.stopped ≡ None }
         ensures { WalksOn loaded.now self.old self.new queue.old queue.new result }
     {
@@ -107,6 +108,26 @@ impl Workbench {
         }
     }
 
+    // Makes room for the descriptor that may join by the next bytes.
+    #[inline(always)]
+    fn make_room(&mut self) -> Result<(), ChainError>
+        requires { IsWalking self.old.state }
+        ensures room { OnOk result (AsksTable self.new.state → HasRoomFor self.new.descriptors 1) }
+        ensures memory { IfErr result (λ e. (e ≡ ChainError.OutOfMemory) × AsksTable self.old.state) }
+        ensures same { IsAllBut self.old self.new × (self.new.state ≡ self.old.state) × (self.new.descriptors.items ≡ self.old.descriptors.items) }
+    {
+        let State::Walking(_, walk) = &self.state else {
+            unreachable!()
+        };
+        if !walk.asks_table() {
+            return Ok(());
+        }
+        match self.descriptors.reserve(1) {
+            Ok(()) => Ok(()),
+            Err(_) => Err(ChainError::OutOfMemory),
+        }
+    }
+
     // Goes on with a walk by these bytes, if it asked for so many and its queue is this one. A queue that was stopped
     // meanwhile refuses it.
     #[inline(always)]
@@ -115,6 +136,7 @@ impl Workbench {
         ensures error { IfErr result (λ e. (walk_error self.old.state queue.old (length loaded.now) ≡ Some e)
             ⊎ ((e ≡ ChainError.OutOfMemory) × (walk_error self.old.state queue.old (length loaded.now) ≡ None))) }
         ensures ok { OnOk result (walk_error self.old.state queue.old (length loaded.now) ≡ None) }
+        ensures memory { IfErr result (λ e. e ≡ ChainError.OutOfMemory → AsksTable self.old.state) }
         ensures same { OnErr result (IsAllBut self.old self.new × (self.new.state ≡ self.old.state) × (self.new.descriptors.items ≡ self.old.descriptors.items) × (queue.new ≡ queue.old)) }
         ensures walks { IfOk result (λ walked. WalksOn loaded.now self.old self.new queue.old queue.new walked) }
     {
@@ -130,9 +152,9 @@ impl Workbench {
             self.state = State::Free;
             return Ok(Walked::Refused(QueueError::Stopped));
         }
-        match self.descriptors.reserve(1) {
+        match self.make_room() {
             Ok(()) => Ok(self.give(queue, loaded)),
-            Err(_) => Err(ChainError::OutOfMemory),
+            Err(error) => Err(error),
         }
     }
 
@@ -141,7 +163,7 @@ impl Workbench {
         ensures error { IfErr result (λ e. (walk_error self.old.state queue.old (length loaded.now) ≡ Some e)
             ⊎ ((e ≡ ChainError.OutOfMemory) × (walk_error self.old.state queue.old (length loaded.now) ≡ None))) }
         ensures ok { OnOk result (walk_error self.old.state queue.old (length loaded.now) ≡ None) }
-        ensures memory { IfErr result (λ e. e ≡ ChainError.OutOfMemory → IsWalking self.old.state) }
+        ensures memory { IfErr result (λ e. e ≡ ChainError.OutOfMemory → AsksTable self.old.state) }
         ensures same { OnErr result (IsAllBut self.old self.new × (self.new.state ≡ self.old.state) × (self.new.descriptors.items ≡ self.old.descriptors.items) × (queue.new ≡ queue.old)) }
         ensures walks { IfOk result (λ walked. WalksOn loaded.now self.old self.new queue.old queue.new walked) }
     {

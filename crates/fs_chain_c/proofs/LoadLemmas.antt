@@ -8,7 +8,7 @@ use Rattle.fs_chain.specs.declared.state.State.TheVariants as at
 use Rattle.fs_chain.specs.declared.error.ChainError.{ChainError}
 use Rattle.fs_chain.specs.declared.error.ChainError.TheVariants.{OutOfMemory}
 use Rattle.fs_chain.specs.declared.queue.KeptQueue.{KeptQueue}
-use Rattle.fs_chain.specs.Orders.{IfWalking, IsWalking, load_len, walk_error}
+use Rattle.fs_chain.specs.Orders.{AsksTable, IfWalking, IsWalking, load_len, walk_error}
 use Rattle.fs_chain_c.specs.declared.bench.Bench.{Bench}
 use Rattle.fs_chain_c.specs.Walking.{AreDue, AreWanted, RefusesWalk, came, due_len}
 
@@ -27,10 +27,19 @@ fits b n wanted =
     let same = wanted.2 in
     within b.workbench.state _ (came b + n) wanted.1.0 wanted.1.1 (λ walk p. let less = p.0 in let most = p.1.1 in omega (arith, less, most, same))
 
+is_walking : (s : state.State) → AsksTable s → IsWalking s
+is_walking (at.Walking course walk) asks = tt
+is_walking at.Free asks = absurd asks
+is_walking (at.Taken out) asks = absurd asks
+is_walking (at.Waits out waiting) asks = absurd asks
+is_walking (at.Lists out listing) asks = absurd asks
+is_walking (at.Answered out reply) asks = absurd asks
+is_walking (at.Returning out) asks = absurd asks
+
 -- what the workbench refuses, of bytes that are due
 pub refuses_walk : (b : Bench) (q : KeptQueue) (loaded : List ℕ) (e : ChainError) → AreDue b loaded → length loaded ≡ due_len b loaded
     → ((walk_error b.workbench.state q (length loaded) ≡ Some e) ⊎ ((e ≡ OutOfMemory) × (walk_error b.workbench.state q (length loaded) ≡ None)))
-    → (e ≡ OutOfMemory → IsWalking b.workbench.state) → RefusesWalk b q loaded e
+    → (e ≡ OutOfMemory → AsksTable b.workbench.state) → RefusesWalk b q loaded e
 refuses_walk b q loaded e due len (inl is) memory = inl (due, subst (λ (n : ℕ). walk_error b.workbench.state q n ≡ Some e) len is)
 refuses_walk b q loaded e due len (inr lacks) memory =
-    inr (inl (lacks.0, memory lacks.0, due, subst (λ (n : ℕ). walk_error b.workbench.state q n ≡ None) len lacks.1))
+    inr (inl (lacks.0, is_walking b.workbench.state (memory lacks.0), (λ whole. memory lacks.0), due, subst (λ (n : ℕ). walk_error b.workbench.state q n ≡ None) len lacks.1))

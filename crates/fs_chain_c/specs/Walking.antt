@@ -11,7 +11,7 @@ use Rattle.fs_chain.specs.declared.queue.KeptQueue.{KeptQueue}
 use Rattle.fs_chain.specs.declared.walking.Walked.TheVariants as comes
 use Rattle.fs_chain.specs.declared.workbench.Workbench.{Workbench}
 use Rattle.fs_chain.specs.Numbers.{chain_error_number}
-use Rattle.fs_chain.specs.Orders.{IfWalking, IsWalking, load_len, walk_error}
+use Rattle.fs_chain.specs.Orders.{AsksTable, IfWalking, IsWalking, load_len, walk_error}
 use Rattle.fs_chain.specs.Walks.{IsAllBut, WalksOn}
 use Rattle.fs_chain_c.specs.declared.bench.Bench.{Bench}
 use Rattle.fs_chain_c.specs.declared.queue.FsQueue.{FsQueue}
@@ -73,12 +73,13 @@ AreDue b loaded = (load_len b.workbench.state ≡ 0) ⊎ ((0 < load_len b.workbe
 abbrev pub due_len : Bench → (loaded : List ℕ) → ℕ
 due_len b loaded = if load_len b.workbench.state == 0 then length loaded else load_len b.workbench.state
 
--- why a walk doesn't go on by these bytes: by the workbench, also if they are only a part of the load; for want of memory, if a walk asked for them and nothing else is wrong; or
--- since they are others than those that are wanted
+-- why a walk doesn't go on by these bytes: by the workbench, also if they are only a part of the load; for want of memory, if a walk asked for an entry
+-- of a table, or for more bytes than these, and nothing else is wrong; or since they are others than those that are wanted
 abbrev pub RefusesWalk : Bench → KeptQueue → (loaded : List ℕ) → ChainError → Type 0
 RefusesWalk b q loaded e =
     (AreDue b loaded × (walk_error b.workbench.state q (due_len b loaded) ≡ Some e))
-    ⊎ ((e ≡ OutOfMemory) × IsWalking b.workbench.state × AreDue b loaded × (walk_error b.workbench.state q (due_len b loaded) ≡ None))
+    ⊎ ((e ≡ OutOfMemory) × IsWalking b.workbench.state × (length loaded ≡ load_len b.workbench.state → AsksTable b.workbench.state)
+    × AreDue b loaded × (walk_error b.workbench.state q (due_len b loaded) ≡ None))
     ⊎ ((e ≡ BadArgument) × (0 < load_len b.workbench.state) × AreOthers b (length loaded))
 
 -- ---- what is told

@@ -1,5 +1,5 @@
 -- What a walk over regions comes to by the loads so far (VIRTIO 1.2, 2.7.5, 2.7.6 and 2.7.13 from the device's side).
-use Rattle.std.specs.Prelude.{◌≡◌, ℕ, true, false, List, [], ◌∷◌, ◌++◌, All, length, Option, Some, None, option_map}
+use Rattle.std.specs.Prelude.{◌≡◌, ℕ, Bool, true, false, List, [], ◌∷◌, ◌++◌, All, length, Option, Some, None, option_map}
 use Rattle.vm_iotlb.specs.declared.permissions.Permissions.TheVariants.{Read}
 use Rattle.vm_memory.specs.Memory.{Memory, reach}
 use Rattle.fs_queue.specs.declared.fault.ChainFault.{ChainFault}
@@ -105,6 +105,11 @@ abbrev pub asked_len : QueueWalk → ℕ
 asked_len (at.Index w) = 2
 asked_len (at.RingEntry w) = 2
 asked_len (at.Entry head w) = 16
+
+-- whether a walk asks for an entry of a table, whose descriptor may join the chain
+abbrev pub asks_table : QueueWalk → Bool
+asks_table (at.Entry head w) = true
+asks_table _ = false
 
 -- a walk stands where these loads bring it, with these descriptors
 abbrev pub StandsAt : Memory → Queue → Loaded → List Descriptor → QueueWalk → Type 0

@@ -1,6 +1,6 @@
 //! How a walk through what waits in a queue goes over the regions of a guest's memory.
 
-ghost use Rattle.std.specs.Prelude.{◌≡◌, ℕ, [], List, Option, Some, length};
+ghost use Rattle.std.specs.Prelude.{◌≡◌, ℕ, [], List, Option, Some, length, true};
 ghost use Rattle.smallvec.specs.SmallVec.{HasRoomFor};
 ghost use Rattle.fs_queue.specs.Chain.{first_visit};
 ghost use Rattle.fs_queue.specs.Loads.{Reads, ahead_at};
@@ -9,7 +9,7 @@ ghost use Rattle.fs_queue.specs.OfferLoads.{waits_by};
 ghost use Rattle.fs_queue.specs.Stepping.{ahead_of, visit_of, IfWants};
 ghost use Rattle.fs_queue.specs.Walking.{found_of};
 ghost use Rattle.fs_regions.specs.Places.{places_in};
-ghost use Rattle.fs_regions.specs.Walks.{Loaded, nothing, asked_len, queue_of, with_bytes, IsCourseOf, TellsBy, StandsAfterIndex, HeadWaits, StandsAt, ComesTo, Waits, Brings, FindsBy};
+ghost use Rattle.fs_regions.specs.Walks.{Loaded, nothing, asked_len, asks_table, queue_of, with_bytes, IsCourseOf, TellsBy, StandsAfterIndex, HeadWaits, StandsAt, ComesTo, Waits, Brings, FindsBy};
 
 use crate::chain::{chain_fault, return_fault};
 use crate::regions::GuestRegions;
@@ -90,8 +90,8 @@ impl Course {
         }
     }
 
-    /// Takes the bytes of the load that a walk asked for, and answers the walk's next state. The descriptors that joined the chain so far stand in the list, which has
-    /// room for one more.
+    /// Takes the bytes of the load that a walk asked for, and answers the walk's next state. The descriptors that joined the chain so far stand in the list. It has
+    /// room for one more, if an entry of a table is asked for.
     #[inline(always)]
     pub fn give(
         &self,
@@ -101,7 +101,7 @@ impl Course {
         descriptors: &mut Descriptors,
     ) -> Step
         requires bytes { length bytes.now ≡ asked_len walk }
-        requires room { HasRoomFor descriptors.old 1 }
+        requires room { asks_table walk ≡ true → HasRoomFor descriptors.old 1 }
         ensures { (loaded : Loaded) → StandsAt (places_in regions.now) (queue_of self.now) loaded descriptors.old.items walk
             → ComesTo (places_in regions.now) self.now.limit (queue_of self.now) (with_bytes loaded walk bytes.now) descriptors.new.items result }
     {

@@ -3,7 +3,7 @@
 ghost use Rattle.std.specs.Prelude.{◌≡◌, ◌+◌, ◌<◌, ◌≤◌, ◌^◌};
 ghost use Rattle.fs_queue.specs.Chain.{entry_address};
 ghost use Rattle.fs_queue.specs.Stepping.{visit_of};
-ghost use Rattle.fs_regions.specs.Walks.{asked_len, asked_by};
+ghost use Rattle.fs_regions.specs.Walks.{asked_len, asked_by, asks_table};
 
 use fs_queue::{ChainWalk, IndexWalk, RingEntryWalk};
 
@@ -29,6 +29,13 @@ impl QueueWalk {
             QueueWalk::RingEntry(walk) => walk.address(),
             QueueWalk::Entry(_, walk) => walk.address(),
         }
+    }
+
+    /// Whether it asks for an entry of a table, whose descriptor may join the chain.
+    pub fn asks_table(&self) -> bool
+        ensures { result ≡ asks_table self.now }
+    {
+        matches!(self, QueueWalk::Entry(_, _))
     }
 
     /// How many bytes it asks for: 2, or the 16 of a table's entry.
