@@ -49,22 +49,20 @@ pub fn expect_kept(is_kept: bool) -> Result<(), Unmet> {
     if is_kept { Ok(()) } else { Err(Unmet::Changed) }
 }
 
-/// A call that lacks memory was refused some.
-pub fn expect_lacks(is_refused: bool) -> Result<(), Unmet> {
-    if is_refused {
-        Ok(())
-    } else {
-        Err(Unmet::Invented)
-    }
-}
-
 // Requests of so many bytes, which no memory has, are words to what lies beneath the program (examples/refuse.c): from now on
-// refuse the request of a number; and were so many made since, of which each binary digit is asked for by itself.
+// refuse the request of a number; a call told of the refusal; and were so many made since, of which each binary digit is asked for
+// by itself, was one refused, and did a call tell of it.
 const REFUSE: usize = 0x1000_0000_0000;
+
+const NOTED: usize = 0x1400_0000_0000;
 
 const TELL: usize = 0x1800_0000_0000;
 
 const DIGITS: [usize; 12] = [1, 2, 4, 8, 16, 32, 64, 128, 256, 512, 1024, 2048];
+
+const IS_REFUSED: usize = 0x1000;
+
+const IS_TOLD: usize = 0x2000;
 
 /// A play of a row, and which of its requests is refused.
 #[derive(Clone, Copy)]
@@ -145,14 +143,29 @@ impl Trial {
     /// A request was refused since the play began.
     pub fn is_refused(self) -> bool {
         match self.refused {
-            Some(number) => number > 0 && number <= self.made(),
-            None => false,
+            Some(number) if number > 0 => !self.say(TELL | IS_REFUSED),
+            _ => false,
         }
     }
 
     /// A call says that it lacks memory, and was refused some.
-    pub fn expect_lack(self, is_said: bool) -> Result<(), Unmet> {
+    pub fn expect_lacks(self) -> Result<(), Unmet> {
+        if self.is_refused() {
+            self.say(NOTED);
+            Ok(())
+        } else {
+            Err(Unmet::Invented)
+        }
+    }
+
+    /// A refused call says that it lacks memory, and was refused some.
+    pub fn expect_told(self, is_said: bool) -> Result<(), Unmet> {
         expect(is_said)?;
-        expect_lacks(self.is_refused())
+        self.expect_lacks()
+    }
+
+    /// A request was refused, and no call said so.
+    pub fn is_unsaid(self) -> bool {
+        self.is_refused() && self.say(TELL | IS_TOLD)
     }
 }

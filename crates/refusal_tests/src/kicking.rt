@@ -1,10 +1,10 @@
 //! A guest with one ring and a device that serves it, and a kick of it by each way to step.
 
-use crate::given::{Trial, Unmet, expect, expect_kept, expect_lacks, met};
+use crate::given::{Trial, Unmet, expect, expect_kept, met};
 use crate::kicks::{Comes, Kick};
 use bitflags::Flags;
 use call_log::CallLog;
-use fs_device::{Device, DeviceError, LEAST_LIMIT, QueueRun, Stream};
+use fs_device::{Device, DeviceError, Exchange, LEAST_LIMIT, QueueRun, Returned, Stream};
 use fs_queue::{Queue, QueueError, QueueLayout};
 use guest_driver::{Guest, Ring};
 use std::alloc::Global;
@@ -21,9 +21,9 @@ pub struct Stand {
     device: Device<CallLog>,
 }
 
-// All that a refused kick leaves as it is.
+/// All that a refused kick leaves as it is.
 #[derive(Drop)]
-struct Seen {
+pub struct Seen {
     bytes: Vec<u8>,
     marked: Vec<(usize, usize)>,
     position: u16,
@@ -33,7 +33,27 @@ struct Seen {
 }
 
 impl Seen {
-    fn is_same(&self, other: &Seen) -> bool {
+    /// What is seen of memory and a device.
+    pub fn of(
+        bytes: Vec<u8>,
+        marked: Vec<(usize, usize)>,
+        device: &Device<CallLog>,
+    ) -> Result<Seen, Unmet> {
+        let Some(queue) = device.queue(0) else {
+            return Err(Unmet::Drawing);
+        };
+        Ok(Seen {
+            bytes,
+            marked,
+            position: queue.position(),
+            is_stopped: queue.is_stopped(),
+            options: device.server().options().bits(),
+            calls: device.server().fs().calls().len(),
+        })
+    }
+
+    /// Nothing changed.
+    pub fn is_same(&self, other: &Seen) -> bool {
         self.bytes.as_slice() == other.bytes.as_slice()
             && self.marked.as_slice() == other.marked.as_slice()
             && (self.position, self.is_stopped) == (other.position, other.is_stopped)
@@ -76,16 +96,51 @@ pub fn guest(alloc: Global, kick: &Kick) -> Result<Guest, Unmet> {
     Ok(guest)
 }
 
-// What a run of at most one step comes to.
-fn comes_of(run: &QueueRun) -> Comes {
+/// What a run of at most one step comes to.
+pub fn ran(run: &QueueRun) -> Comes {
     match (run.done.first(), run.refused) {
-        (Some((exchange, notify)), _) => Comes::Back {
-            len: exchange.reply.len(),
-            fault: exchange.fault,
-            notify: *notify,
-        },
+        (Some((exchange, notify)), _) => back(exchange, *notify),
         (None, Some(refusal)) => Comes::Refused(refusal),
         (None, None) => Comes::Idle,
+    }
+}
+
+/// What an exchange comes to.
+pub fn back(exchange: &Exchange, notify: bool) -> Comes {
+    Comes::Back {
+        len: exchange.reply.len(),
+        fault: exchange.fault,
+        notify,
+    }
+}
+
+/// What a step that hands out bytes comes to.
+pub fn processed(step: Result<Option<(Exchange, bool)>, DeviceError>) -> Comes {
+    match step {
+        Err(refusal) => Comes::Refused(refusal),
+        Ok(None) => Comes::Idle,
+        Ok(Some((exchange, notify))) => back(&exchange, notify),
+    }
+}
+
+/// What a step that reports only lengths comes to.
+pub fn served(step: Result<Option<Returned>, DeviceError>) -> Comes {
+    match step {
+        Err(refusal) => Comes::Refused(refusal),
+        Ok(None) => Comes::Idle,
+        Ok(Some(returned)) => Comes::Back {
+            len: returned.reply_len,
+            fault: returned.fault,
+            notify: returned.notify,
+        },
+    }
+}
+
+/// What a queue that comes to at most one exchange comes to.
+pub fn queued(run: Result<QueueRun, DeviceError>) -> Comes {
+    match run {
+        Err(refusal) => Comes::Refused(refusal),
+        Ok(run) => ran(&run),
     }
 }
 
@@ -120,61 +175,27 @@ impl Stand {
 
     // What is seen of guest and device.
     fn seen(&self) -> Result<Seen, Unmet> {
-        let Some(queue) = self.device.queue(0) else {
-            return Err(Unmet::Drawing);
-        };
         let bytes = self.guest.read(self.alloc, 0, 0x10000);
-        Ok(Seen {
-            bytes: met(bytes, Unmet::Memory)?,
-            marked: self.guest.marked(self.alloc)?,
-            position: queue.position(),
-            is_stopped: queue.is_stopped(),
-            options: self.device.server().options().bits(),
-            calls: self.device.server().fs().calls().len(),
-        })
+        let bytes = met(bytes, Unmet::Memory)?;
+        Seen::of(bytes, self.guest.marked(self.alloc)?, &self.device)
     }
 
     // A step that hands out the bytes of what is exchanged.
     fn process(&mut self) -> Comes {
-        match self
-            .device
-            .process_one(self.alloc, &mut self.guest.host, &self.guest.mem, 0)
-        {
-            Err(refusal) => Comes::Refused(refusal),
-            Ok(None) => Comes::Idle,
-            Ok(Some((exchange, notify))) => Comes::Back {
-                len: exchange.reply.len(),
-                fault: exchange.fault,
-                notify,
-            },
-        }
+        let (alloc, host, mem) = (self.alloc, &mut self.guest.host, &self.guest.mem);
+        processed(self.device.process_one(alloc, host, mem, 0))
     }
 
     // A step that reports only lengths.
     fn serve(&mut self) -> Comes {
-        match self
-            .device
-            .serve_one(self.alloc, &mut self.guest.host, &self.guest.mem, 0)
-        {
-            Err(refusal) => Comes::Refused(refusal),
-            Ok(None) => Comes::Idle,
-            Ok(Some(returned)) => Comes::Back {
-                len: returned.reply_len,
-                fault: returned.fault,
-                notify: returned.notify,
-            },
-        }
+        let (alloc, host, mem) = (self.alloc, &mut self.guest.host, &self.guest.mem);
+        served(self.device.serve_one(alloc, host, mem, 0))
     }
 
     // A queue that comes to at most one exchange.
     fn run(&mut self) -> Comes {
-        match self
-            .device
-            .process_queue(self.alloc, &mut self.guest.host, &self.guest.mem, 0, 1)
-        {
-            Err(refusal) => Comes::Refused(refusal),
-            Ok(run) => comes_of(&run),
-        }
+        let (alloc, host, mem) = (self.alloc, &mut self.guest.host, &self.guest.mem);
+        queued(self.device.process_queue(alloc, host, mem, 0, 1))
     }
 
     // A kick by one of the three ways to step.
@@ -243,7 +264,8 @@ impl Stand {
     }
 }
 
-const OUT_OF_MEMORY: Comes = Comes::Refused(DeviceError::Queue(QueueError::OutOfMemory));
+/// A step that lacks memory.
+pub const OUT_OF_MEMORY: Comes = Comes::Refused(DeviceError::Queue(QueueError::OutOfMemory));
 
 /// Plays a kick by one of the three ways to step, and answers how many requests it makes. If it lacks memory it changed
 /// nothing, and is made again.
@@ -252,14 +274,11 @@ pub fn play_kick(trial: Trial, kick: &Kick, way: usize) -> Result<usize, Unmet> 
     let before = stand.seen()?;
     trial.begin();
     let mut comes = stand.kick(way);
-    let is_refused = trial.is_refused();
     let made = trial.end();
     if comes == OUT_OF_MEMORY {
-        expect_lacks(is_refused)?;
+        trial.expect_lacks()?;
         expect_kept(stand.seen()?.is_same(&before))?;
         comes = stand.kick(way);
-    } else if is_refused && matches!(comes, Comes::Back { .. }) {
-        return Err(Unmet::Unsaid);
     }
     expect(comes == kick.comes)?;
     stand.expect_row(kick)?;

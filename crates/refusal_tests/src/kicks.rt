@@ -54,14 +54,14 @@ pub const RING: Ring = Ring {
     used: 0x200,
 };
 
-// The reply to an opcode that no request has.
-const ENOSYS: &[u8] = &[16, 0, 0, 0, 0xda, 0xff, 0xff, 0xff, 1, 0, 0, 0, 0, 0, 0, 0];
+/// The reply to an opcode that no request has.
+pub const ENOSYS: &[u8] = &[16, 0, 0, 0, 0xda, 0xff, 0xff, 0xff, 1, 0, 0, 0, 0, 0, 0, 0];
 
-// The used index, and the element of a chain that went back with nothing.
-const NOTHING_USED: &[(u64, &[u8])] = &[(0x202, &[1, 0, 0, 0, 0, 0, 0, 0, 0, 0])];
+/// The used index, and the element of a chain that went back with nothing.
+pub const NOTHING_USED: &[(u64, &[u8])] = &[(0x202, &[1, 0, 0, 0, 0, 0, 0, 0, 0, 0])];
 
-// The used index where no chain went back.
-const NONE_USED: &[(u64, &[u8])] = &[(0x202, &[0, 0])];
+/// The used index where no chain went back.
+pub const NONE_USED: &[(u64, &[u8])] = &[(0x202, &[0, 0])];
 
 /// A request of an opcode that no request has: 40 bytes at 0x1000, and 16 of room at 0x2000.
 pub const UNKNOWN: Kick = Kick {

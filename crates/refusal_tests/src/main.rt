@@ -13,25 +13,32 @@ mod kicks;
 mod parts;
 mod quiet;
 mod sharing;
+mod translated;
 
 use counting::count;
 use given::{Trial, Unmet};
 use kicking::play_kick;
-use kicks::kick_of;
+use kicks::{Comes, Kick, kick_of};
 use parts::{
     play_bitmap, play_host, play_layout, play_record, play_shared_bitmap, play_table, play_writer,
 };
 use quiet::play_quiet;
-use sharing::{play_shared, play_snapshot};
+use sharing::{play_shared, play_shared_kick, play_snapshot};
 use std::alloc::Global;
 use std::io;
 use std::marker::Brand;
 use std::process::ExitCode;
 use std::sync::Wait;
 use std::sync::ledger::{Blank, Ledger};
+use translated::{Mapped, mapped_of, play_mapped};
 
-// The rows that are no kicks: of parts and of what is shared, and of calls that make no request.
+// The rows that are no kicks: of parts and of what is shared; among them kicks of shared devices, one for each kick, and kicks behind
+// an IOMMU; and of calls that make no request.
 const PARTS: usize = 100;
+
+const SHARED_KICKS: usize = 20;
+
+const MAPPED_KICKS: usize = 60;
 
 const QUIET: usize = 200;
 
@@ -66,6 +73,14 @@ fn play_part<L: Ledger, R: Wait>(
         6 => Some(play_host(trial)),
         7 => Some(play_snapshot(rt, trial)),
         8 => Some(play_shared::<L, R>(rt, trial, blank)),
+        SHARED_KICKS..MAPPED_KICKS => {
+            let kick = kick_of(row - SHARED_KICKS)?;
+            Some(play_shared_kick::<L, R>(rt, trial, blank, kick))
+        }
+        MAPPED_KICKS.. => {
+            let at = row - MAPPED_KICKS;
+            Some(play_mapped(trial, mapped_of(at / 3)?, at % 3))
+        }
         _ => None,
     }
 }
@@ -79,10 +94,38 @@ fn play<R: Wait>(rt: &R, trial: Trial, row: usize) -> Option<Result<usize, Unmet
     }
 }
 
+// The kick of a row.
+fn kick_in(row: usize) -> Option<&'static Kick> {
+    match row {
+        0..PARTS => kick_of(row / 3),
+        _ => kick_of(row.checked_sub(PARTS + SHARED_KICKS)?),
+    }
+}
+
+// The kick of a row behind an IOMMU.
+fn mapped_in(row: usize) -> Option<&'static Mapped> {
+    mapped_of(row.checked_sub(PARTS + MAPPED_KICKS)? / 3)
+}
+
+// Whether a row may go on where a request is refused, without a call that says so. A shared kick of an idle queue may: nothing waits,
+// so the journal needs no room. So may a row behind an IOMMU that says why.
+fn goes_on(row: usize) -> bool {
+    match (kick_in(row), mapped_in(row)) {
+        (Some(kick), _) => row >= PARTS && kick.comes == Comes::Idle,
+        (None, Some(mapped)) => mapped.goes_on,
+        (None, None) => false,
+    }
+}
+
 // Plays a row with none of its requests refused, and then with each in turn; how many were, and which wasn't met.
 fn sweep<R: Wait>(rt: &R, trial: Trial, row: usize) -> Option<Result<usize, (usize, Unmet)>> {
     for number in 0..MOST {
-        match play(rt, trial.with(number), row)? {
+        let trial = trial.with(number);
+        let played = play(rt, trial, row)?;
+        if trial.is_unsaid() && !goes_on(row) {
+            return Some(Err((number, Unmet::Unsaid)));
+        }
+        match played {
             Ok(made) if made < number || !trial.is_heard() => {
                 return Some(Ok(number.saturating_sub(1)));
             }
@@ -95,9 +138,10 @@ fn sweep<R: Wait>(rt: &R, trial: Trial, row: usize) -> Option<Result<usize, (usi
 
 // What a row is of.
 fn name(row: usize) -> &'static str {
-    match kick_of(row / 3) {
-        Some(kick) if row < PARTS => kick.name,
-        _ => "no kick",
+    match (kick_in(row), mapped_in(row)) {
+        (Some(kick), _) => kick.name,
+        (None, Some(mapped)) => mapped.name,
+        (None, None) => "no kick",
     }
 }
 

@@ -3,7 +3,7 @@
 ghost use Rattle.std.specs.Prelude.{IfOk};
 ghost use Rattle.vm_atomic_bitmaps.specs.Passes.{IsPassOf};
 
-use crate::given::{Host, Trial, Unmet, expect, expect_kept, expect_lacks, met};
+use crate::given::{Host, Trial, Unmet, expect, expect_kept, met};
 use call_log::CallLog;
 use fs_device::{Device, LEAST_LIMIT, RestoreError, Stream};
 use server_segments::{Error, Writer};
@@ -25,7 +25,7 @@ fn words(trial: Trial, bitmap: &mut PageBitmap) -> Result<Vec<u64>, Unmet> {
     match bitmap.get_and_reset() {
         Ok(words) => Ok(words),
         Err(_) => {
-            expect_lacks(trial.is_refused())?;
+            trial.expect_lacks()?;
             expect_kept(bitmap.is_bit_set(1) && bitmap.is_bit_set(2))?;
             Ok(bitmap.get_and_reset()?)
         }
@@ -41,7 +41,7 @@ pub fn play_bitmap(trial: Trial) -> Result<usize, Unmet> {
     let mut bitmap = match PageBitmap::new(trial.alloc, 1024, page) {
         Ok(bitmap) => bitmap,
         Err(_) => {
-            expect_lacks(trial.is_refused())?;
+            trial.expect_lacks()?;
             PageBitmap::new(trial.alloc, 1024, page)?
         }
     };
@@ -64,7 +64,7 @@ fn take(trial: Trial, bitmap: &AtomicBitmap, pass: &mut BitmapPass) -> Result<()
             if !bitmap.is_bit_set(pass, 1) || !bitmap.is_bit_set(pass, 2) {
                 return Err(Unmet::Changed);
             }
-            expect_lacks(trial.is_refused())?;
+            trial.expect_lacks()?;
             match bitmap.get_and_reset(trial.alloc, pass) {
                 Ok(words) => expect(words.as_slice() == [6].as_slice()),
                 Err(_) => Err(Unmet::Memory),
@@ -80,7 +80,7 @@ fn close(trial: Trial, bitmap: AtomicBitmap, pass: BitmapPass) -> Result<(), Unm
     match bitmap.close(trial.alloc, pass) {
         Ok(words) => expect(words.as_slice() == [32].as_slice()),
         Err((bitmap, mut pass)) => {
-            expect_lacks(trial.is_refused())?;
+            trial.expect_lacks()?;
             expect_kept(bitmap.is_bit_set(&mut pass, 5))?;
             match bitmap.close(trial.alloc, pass) {
                 Ok(words) => expect(words.as_slice() == [32].as_slice()),
@@ -100,7 +100,7 @@ pub fn shared_bitmap(trial: Trial) -> Result<(AtomicBitmap, BitmapPass), Unmet>
     match AtomicBitmap::new(trial.alloc, 1024, page) {
         Ok(made) => Ok(made),
         Err(_) => {
-            expect_lacks(trial.is_refused())?;
+            trial.expect_lacks()?;
             match AtomicBitmap::new(trial.alloc, 1024, page) {
                 Ok(made) => Ok(made),
                 Err(_) => Err(Unmet::Memory),
@@ -137,7 +137,7 @@ fn map(
     match table.set_mapping(from, to, length, ReadWrite) {
         Ok(()) => Ok(()),
         Err(error) => {
-            trial.expect_lack(error == IommuError::OutOfMemory)?;
+            trial.expect_told(error == IommuError::OutOfMemory)?;
             let again = table.set_mapping(from, to, length, ReadWrite);
             met(again, Unmet::Memory)
         }
@@ -149,7 +149,7 @@ fn unmap(trial: Trial, table: &mut Iotlb) -> Result<(), Unmet> {
     match table.invalidate_mapping(GuestAddress(0x1800), 0x100) {
         Ok(()) => Ok(()),
         Err(error) => {
-            trial.expect_lack(error == IommuError::OutOfMemory)?;
+            trial.expect_told(error == IommuError::OutOfMemory)?;
             expect_kept(is_readable(table, 0x300))?;
             let again = table.invalidate_mapping(GuestAddress(0x1800), 0x100);
             met(again, Unmet::Memory)
@@ -162,7 +162,7 @@ fn misses(trial: Trial, table: &Iotlb, iova: u64, length: usize) -> Result<usize
     match table.lookup(GuestAddress(iova), length, Read) {
         Err(LookupError::Fails(fails)) => Ok(fails.misses.len()),
         Err(LookupError::OutOfMemory) => {
-            expect_lacks(trial.is_refused())?;
+            trial.expect_lacks()?;
             match table.lookup(GuestAddress(iova), length, Read) {
                 Err(LookupError::Fails(fails)) => Ok(fails.misses.len()),
                 _ => Err(Unmet::Answer),
@@ -191,7 +191,7 @@ fn two_regions(trial: Trial, host: &mut Host) -> Result<GuestMemoryMmap, Unmet> 
     match GuestMemoryMmap::from_ranges(trial.alloc, host, &ranges) {
         Ok(mem) => Ok(mem),
         Err(error) => {
-            trial.expect_lack(error == FromRangesError::OutOfMemory)?;
+            trial.expect_told(error == FromRangesError::OutOfMemory)?;
             let again = GuestMemoryMmap::from_ranges(trial.alloc, host, &ranges);
             met(again, Unmet::Memory)
         }
@@ -208,7 +208,7 @@ fn without_second(
     match mem.remove_region(GuestAddress(0x1000), 0x1000) {
         Ok(parts) => Ok(parts),
         Err(error) => {
-            trial.expect_lack(error == NO_ROOM)?;
+            trial.expect_told(error == NO_ROOM)?;
             expect_kept(mem.num_regions() == 2)?;
             let again = mem.remove_region(GuestAddress(0x1000), 0x1000);
             met(again, Unmet::Memory)
@@ -237,7 +237,7 @@ pub fn play_layout(trial: Trial) -> Result<usize, Unmet> {
     let both = match first.insert_region(removed) {
         Ok(both) => both,
         Err(error) => {
-            trial.expect_lack(error == NO_ROOM)?;
+            trial.expect_told(error == NO_ROOM)?;
             expect_kept(first.num_regions() == 1)?;
             let again = first.insert_region(second(trial, &host)?);
             met(again, Unmet::Memory)?
@@ -254,14 +254,14 @@ pub fn play_writer(trial: Trial) -> Result<usize, Unmet> {
     let mut writer = match Writer::new(trial.alloc, &[16, 16, 96]) {
         Ok(writer) => writer,
         Err(error) => {
-            trial.expect_lack(error == Error::OutOfMemory)?;
+            trial.expect_told(error == Error::OutOfMemory)?;
             met(Writer::new(trial.alloc, &[16, 16, 96]), Unmet::Memory)?
         }
     };
     let behind = match writer.split_at(trial.alloc, 24) {
         Ok(behind) => behind,
         Err(error) => {
-            trial.expect_lack(error == Error::OutOfMemory)?;
+            trial.expect_told(error == Error::OutOfMemory)?;
             expect_kept(writer.available_bytes() == 128)?;
             met(writer.split_at(trial.alloc, 24), Unmet::Memory)?
         }
@@ -287,7 +287,7 @@ pub fn play_record(trial: Trial) -> Result<usize, Unmet> {
     let device = match restored(trial.alloc, CallLog::new()) {
         Ok(device) => device,
         Err((error, fs)) => {
-            trial.expect_lack(error == RestoreError::OutOfMemory)?;
+            trial.expect_told(error == RestoreError::OutOfMemory)?;
             met(restored(trial.alloc, fs), Unmet::Memory)?
         }
     };
@@ -304,7 +304,7 @@ fn block(trial: Trial, host: &mut Host) -> Result<usize, Unmet> {
     match host.new_block(0x2000) {
         Ok(block) => Ok(block),
         Err(_) => {
-            expect_lacks(trial.is_refused())?;
+            trial.expect_lacks()?;
             expect_kept(host.block_count() == 0)?;
             Ok(host.new_block(0x2000)?)
         }
@@ -316,7 +316,7 @@ fn table(trial: Trial, host: &mut Host) -> Result<usize, Unmet> {
     match host.new_table() {
         Ok(table) => Ok(table),
         Err(_) => {
-            expect_lacks(trial.is_refused())?;
+            trial.expect_lacks()?;
             expect_kept(host.table(0).is_none())?;
             Ok(host.new_table()?)
         }
@@ -328,7 +328,7 @@ fn io_set(trial: Trial, host: &mut Host) -> Result<usize, Unmet> {
     match host.new_io_bitmap(0x3000) {
         Ok(set) => Ok(set),
         Err(_) => {
-            expect_lacks(trial.is_refused())?;
+            trial.expect_lacks()?;
             expect_kept(host.io_bitmap(0).is_none())?;
             Ok(host.new_io_bitmap(0x3000)?)
         }
@@ -346,7 +346,7 @@ pub fn play_host(trial: Trial) -> Result<usize, Unmet> {
     let copy = match host.try_clone() {
         Ok(copy) => copy,
         Err(_) => {
-            expect_lacks(trial.is_refused())?;
+            trial.expect_lacks()?;
             host.try_clone()?
         }
     };

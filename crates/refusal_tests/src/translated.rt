@@ -1,0 +1,246 @@
+//! Kicks behind an IOMMU that is on: a translation that fails takes memory.
+
+use crate::given::{Host, Trial, Unmet, expect, expect_kept, met};
+use crate::kicking::{OUT_OF_MEMORY, Seen, device, guest, processed, queued, served};
+use crate::kicks::{Comes, ENOSYS, Kick, NOTHING_USED, UNKNOWN};
+use call_log::CallLog;
+use fs_device::{Device, DeviceError, Fault};
+use fs_queue::{ChainFault, QueueError};
+use std::alloc::{AllocError, Global};
+use vm_bitmaps::Bitmap;
+use vm_iotlb::Permissions;
+use vm_iotlb::Permissions::{Read, ReadWrite, Write};
+use vm_memory::{GuestMemoryMmap, IommuMemory, TableIommu};
+use vm_memory_core::GuestAddress;
+
+type Behind = IommuMemory<GuestMemoryMmap, TableIommu>;
+
+/// I/O addresses, what they are mapped to, how many they are, and what may be done there.
+type Mapping = (u64, u64, usize, Permissions);
+
+/// A kick of the unknown request, whose last twenty bytes are elsewhere, behind a table.
+pub struct Mapped {
+    pub name: &'static str,
+    /// The mappings of the queue's page, of the request's, and of the room's.
+    pub queue: &'static [Mapping],
+    pub request: &'static [Mapping],
+    pub room: &'static [Mapping],
+    pub comes: Comes,
+    /// What stands in guest memory afterwards, by physical address, and the I/O pages that are marked. No other page is.
+    pub has: &'static [(usize, &'static [u8])],
+    pub marked: &'static [usize],
+    /// A refused request needs no answer, since want of memory hides no other refusal.
+    pub goes_on: bool,
+}
+
+// The request's last twenty bytes stand where the table has them, and others in their place.
+const CUT: Kick = Kick {
+    behind: &[(0x1014, &[0xff; 20])],
+    ..UNKNOWN
+};
+
+const IO_PAGES: usize = 3;
+
+// The whole of it is mapped as it is to be.
+const GOOD: Mapped = Mapped {
+    name: "behind an IOMMU each address is translated",
+    queue: &[(0, 0, 0x1000, ReadWrite)],
+    request: &[(0x1000, 0x1000, 0x14, Read), (0x1014, 0x6014, 0xfec, Read)],
+    room: &[(0x2000, 0x3000, 0x1000, Write)],
+    comes: Comes::Back {
+        len: 16,
+        fault: None,
+        notify: true,
+    },
+    has: &[(0x3000, ENOSYS), (0x202, &[1, 0, 0, 0, 0, 0, 16, 0, 0, 0])],
+    marked: &[0, 2],
+    goes_on: false,
+};
+
+const NO_ROOM: Comes = Comes::Back {
+    len: 0,
+    fault: Some(Fault::Chain(ChainFault::RoomUnreachable)),
+    notify: true,
+};
+
+const NOTHING: &[(usize, &[u8])] = &[(0x202, &[1, 0, 0, 0, 0, 0, 0, 0, 0, 0]), (0x3000, &[0; 16])];
+
+const MAPPED: &[Mapped] = &[
+    GOOD,
+    Mapped {
+        name: "behind an IOMMU the room may only be read",
+        room: &[(0x2000, 0x3000, 0x1000, Read)],
+        comes: NO_ROOM,
+        has: NOTHING,
+        marked: &[0],
+        ..GOOD
+    },
+    Mapped {
+        name: "behind an IOMMU the room isn't mapped",
+        room: &[],
+        comes: NO_ROOM,
+        has: NOTHING,
+        marked: &[0],
+        ..GOOD
+    },
+    Mapped {
+        name: "behind an IOMMU a part of the request isn't mapped",
+        request: &[(0x1000, 0x1000, 0x14, Read)],
+        comes: Comes::Back {
+            len: 0,
+            fault: Some(Fault::Chain(ChainFault::RequestUnreachable)),
+            notify: true,
+        },
+        has: NOTHING,
+        marked: &[0],
+        ..GOOD
+    },
+    Mapped {
+        name: "behind an IOMMU the available ring isn't mapped",
+        queue: &[(0, 0, 0x100, ReadWrite), (0x200, 0x200, 0xe00, ReadWrite)],
+        comes: Comes::Refused(DeviceError::Queue(QueueError::AvailIndexUnreachable)),
+        has: &[(0x202, &[0; 10]), (0x3000, &[0; 16])],
+        marked: &[],
+        goes_on: true,
+        ..GOOD
+    },
+];
+
+/// A row by its number.
+pub fn mapped_of(number: usize) -> Option<&'static Mapped> {
+    MAPPED.get(number)
+}
+
+// A device behind the IOMMU.
+#[derive(Drop)]
+struct Stand {
+    alloc: Global,
+    host: Host,
+    mem: Behind,
+    device: Device<CallLog>,
+}
+
+// Maps addresses in the host's first table.
+fn map_all(host: &mut Host, mappings: &[Mapping]) -> Result<(), Unmet> {
+    let Some(table) = host.table_mut(0) else {
+        return Err(Unmet::Drawing);
+    };
+    for (iova, target, length, access) in mappings {
+        let mapped = table.set_mapping(
+            GuestAddress(*iova),
+            GuestAddress(*target),
+            *length,
+            *access,
+        );
+        met(mapped, Unmet::Drawing)?;
+    }
+    Ok(())
+}
+
+// The device of a row, whose chain is available; no page is marked.
+fn drawn(alloc: Global, row: &Mapped) -> Result<Stand, Unmet> {
+    let guest = guest(alloc, &CUT)?;
+    let (mut host, mut mem) = guest.into_translated(alloc, 0x3000)?;
+    for mappings in [row.queue, row.request, row.room] {
+        map_all(&mut host, mappings)?;
+    }
+    mem.set_iommu_enabled(true);
+    let device = device(alloc, CUT.ring, CUT.position)?;
+    Ok(Stand {
+        alloc,
+        host,
+        mem,
+        device,
+    })
+}
+
+impl Stand {
+    // A kick by one of the three ways to step.
+    fn kick(&mut self, way: usize) -> Comes {
+        let (alloc, host, mem) = (self.alloc, &mut self.host, &self.mem);
+        if !host.holds(mem) {
+            return Comes::Idle;
+        }
+        match way {
+            0 => processed(self.device.process_one(alloc, host, mem, 0)),
+            1 => served(self.device.serve_one(alloc, host, mem, 0)),
+            _ => queued(self.device.process_queue(alloc, host, mem, 0, 1)),
+        }
+    }
+
+    // So many bytes of guest memory, whose one block begins at address 0.
+    fn bytes(&self, addr: usize, len: usize) -> Result<Vec<u8>, Unmet> {
+        let mut bytes = vec![in self.alloc; 0u8; len]?;
+        expect(self.host.read_block(0, addr, &mut bytes))?;
+        Ok(bytes)
+    }
+
+    // The marked pages: those of the block have number 0, and I/O pages 1.
+    fn marked(&self) -> Result<Vec<(usize, usize)>, AllocError> {
+        let mut marked = Vec::new(self.alloc);
+        for page in 0..16 {
+            if self.is_marked(page) {
+                marked.push((0, page))?;
+            }
+        }
+        for page in 0..IO_PAGES {
+            if self.is_io_marked(page) {
+                marked.push((1, page))?;
+            }
+        }
+        Ok(marked)
+    }
+
+    fn seen(&self) -> Result<Seen, Unmet> {
+        Seen::of(self.bytes(0, 0x10000)?, self.marked()?, &self.device)
+    }
+
+    // Whether a page of the block is marked.
+    fn is_marked(&self, page: usize) -> bool {
+        match self.host.bitmap(0) {
+            Some(bitmap) => bitmap.is_bit_set(page),
+            None => false,
+        }
+    }
+
+    // Whether an I/O page is marked.
+    fn is_io_marked(&self, page: usize) -> bool {
+        match self.host.io_bitmap(0) {
+            Some(pages) => pages.dirty_at(page.saturating_mul(0x1000)),
+            None => false,
+        }
+    }
+
+    // All is as the row says.
+    fn expect_row(&self, row: &Mapped) -> Result<(), Unmet> {
+        for (addr, bytes) in row.has {
+            let there = self.bytes(*addr, bytes.len())?;
+            expect(there.as_slice() == *bytes)?;
+        }
+        for page in 0..16 {
+            expect(!self.is_marked(page))?;
+        }
+        for page in 0..IO_PAGES {
+            expect(self.is_io_marked(page) == row.marked.contains(&page))?;
+        }
+        Ok(())
+    }
+}
+
+/// Plays a row by one of the three ways to step, and answers how many requests it makes. If it lacks memory it changed nothing,
+/// and is made again.
+pub fn play_mapped(trial: Trial, row: &Mapped, way: usize) -> Result<usize, Unmet> {
+    let mut stand = drawn(trial.alloc, row)?;
+    let before = stand.seen()?;
+    trial.begin();
+    let mut comes = stand.kick(way);
+    let made = trial.end();
+    if comes == OUT_OF_MEMORY {
+        trial.expect_lacks()?;
+        expect_kept(stand.seen()?.is_same(&before))?;
+        comes = stand.kick(way);
+    }
+    expect(comes == row.comes)?;
+    stand.expect_row(row)?;
+    Ok(made)
+}
