@@ -41,7 +41,8 @@ fn put_parts(out: &mut [u8], first: &[u8], second: &[u8])
 impl Front {
     /// Its bytes.
     pub fn bytes(&self) -> &[u8]
-        ensures { result.now ≡ self.now }
+        ensures value { result.now ≡ self.now }
+        ensures short { length result.now ≤ 160 }
     {
         &self.bytes[..self.len]
     }
