@@ -33,6 +33,16 @@ pub fn queue(rt: &impl Abort) -> KeptQueue {
     }
 }
 
+/// A queue of sixteen descriptors: its table at 0, its rings at 0x100 and 0x128.
+pub fn long_queue(rt: &impl Abort) -> KeptQueue {
+    KeptQueue {
+        layout: QueueLayout::new(16, 0, 0x100, 0x128).expect(rt, "a layout"),
+        position: 0xffff,
+        out: false,
+        stopped: None,
+    }
+}
+
 /// A session of pages of 4096 bytes in which nothing was agreed.
 pub fn session() -> Session {
     Session::new(4096)
@@ -73,6 +83,14 @@ pub const LOADS_OF_FAULTY: &[&[u8]] = &[
     &[0, 0],
     &[1, 0],
     &[0, 1, 0, 0, 0, 0, 0, 0, 46, 0, 0, 0, 1, 0, 4, 0],
+];
+
+/// RENAME of 15 letters a in node 1 to 15 letters b in node 2: unique number 7.
+pub const RENAME: &[u8] = &[
+    80, 0, 0, 0, 12, 0, 0, 0, 7, 0, 0, 0, 0, 0, 0, 0, 1, 0, 0, 0, 0, 0, 0, 0, 10, 0, 0, 0, 11, 0,
+    0, 0, 12, 0, 0, 0, 0, 0, 0, 0, 2, 0, 0, 0, 0, 0, 0, 0, b'a', b'a', b'a', b'a', b'a', b'a',
+    b'a', b'a', b'a', b'a', b'a', b'a', b'a', b'a', b'a', 0, b'b', b'b', b'b', b'b', b'b', b'b',
+    b'b', b'b', b'b', b'b', b'b', b'b', b'b', b'b', b'b', 0,
 ];
 
 /// READDIR of at most 64 bytes from the beginning of the directory that is open as 3: node 1, unique number 7.

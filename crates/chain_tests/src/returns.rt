@@ -1,8 +1,8 @@
 //! Chains that are answered and go back.
 
 use crate::given::{
-    LOADS, LOADS_OF_80, LOADS_OF_FAULTY, LOADS_OF_SMALL_ROOM, LOOKUP, READDIR, expect_same, queue,
-    session, take, workbench,
+    LOADS, LOADS_OF_80, LOADS_OF_FAULTY, LOADS_OF_SMALL_ROOM, LOOKUP, READDIR, RENAME, expect_same,
+    queue, session, take, workbench,
 };
 use fs_chain::{Added, Told, Walked};
 use fs_queue::ChainFault;
@@ -61,6 +61,35 @@ fn a_name_that_is_not_there_goes_back(rt: HostRuntime) {
         .end_return(&mut queue, [0, 0])
         .expect(&rt, "a return");
     expect_same(&rt, (told, queue.position, queue.out), (true, 0, false));
+}
+
+// Whether a request asks for 15 letters a in node 1 to become 15 letters b in node 2.
+fn is_renaming(told: &Told) -> bool {
+    match told {
+        Told::Call(
+            FileCall::Rename {
+                node,
+                old,
+                new_dir,
+                new,
+                ..
+            },
+        ) => {
+            (*node, *new_dir) == (1, 2)
+                && old.as_slice() == [b'a'; 15].as_slice()
+                && new.as_slice() == [b'b'; 15].as_slice()
+        }
+        _ => false,
+    }
+}
+
+#[test]
+fn a_request_of_two_names_is_asked(rt: HostRuntime) {
+    let mut workbench = workbench(&rt, rt.alloc());
+    let mut queue = queue(&rt);
+    take(&rt, &mut workbench, &mut queue, LOADS_OF_80);
+    let told = workbench.ask(&session(), RENAME).expect(&rt, "a call");
+    expect_same(&rt, is_renaming(&told), true);
 }
 
 #[test]

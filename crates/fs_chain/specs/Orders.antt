@@ -36,7 +36,7 @@ abbrev pub IsWalking : state.State → Type 0
 IsWalking (at.Walking course walk) = Unit {0}
 IsWalking _ = ⊥
 
--- it asks for an entry of a table, for whose descriptor it may take memory
+-- it asks for an entry of a table
 abbrev pub AsksTable : state.State → Type 0
 AsksTable (at.Walking course walk) = asks_table walk ≡ true
 AsksTable _ = ⊥

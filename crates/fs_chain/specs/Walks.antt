@@ -1,5 +1,6 @@
 -- What a walk comes to, and what is kept of it.
 use Rattle.std.specs.Prelude.{◌≡◌, ℕ, ◌-◌, ◌^◌, min, [], List, Bool, true, false, Option, Some, None}
+use Rattle.smallvec.specs.SmallVec.{HasRoomFor}
 use Rattle.fs_queue.specs.declared.fault.QueueError.{QueueError}
 use Rattle.fs_queue.specs.declared.fault.QueueError.TheVariants.{Stopped}
 use Rattle.fs_queue.specs.Chain.{Descriptor}
@@ -19,6 +20,7 @@ use Rattle.fs_chain.specs.declared.state.State.TheVariants as at
 use Rattle.fs_chain.specs.declared.walking.Walked as walked
 use Rattle.fs_chain.specs.declared.walking.Walked.TheVariants as tells
 use Rattle.fs_chain.specs.declared.workbench.Workbench.{Workbench}
+use Rattle.fs_chain.specs.Orders.{AsksTable}
 
 -- how many bytes some descriptors have in one direction, counted in 64 bits
 abbrev pub count : (write_only : Bool) → List Descriptor → ℕ
@@ -117,3 +119,7 @@ WalksFrom _ bytes old new before after told = ⊥
 
 abbrev pub WalksOn : (bytes : List ℕ) → (old new : Workbench) → (before after : KeptQueue) → walked.Walked → Type 0
 WalksOn bytes old new before after told = WalksFrom old.state bytes old new before after told
+
+-- a walk asks for an entry of a table, and its descriptor has no room beside those that joined: only then the walk takes memory
+abbrev pub LacksRoom : Workbench → Type 0
+LacksRoom w = AsksTable w.state × (HasRoomFor w.descriptors 1 → ⊥)

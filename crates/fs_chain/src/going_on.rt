@@ -6,7 +6,7 @@ ghost use Rattle.vm_memory.specs.Layout.{left_at, place};
 ghost use Rattle.vm_memory.specs.Slices.{IsWindowAt};
 ghost use Rattle.fs_regions.specs.Walks.{asked_by, asked_len};
 ghost use Rattle.fs_chain.specs.Orders.{begin_error, give_error, walk_error, AsksTable, IfWalking, IsWalking};
-ghost use Rattle.fs_chain.specs.Walks.{WalksOn, IsAllBut};
+ghost use Rattle.fs_chain.specs.Walks.{LacksRoom, WalksOn, IsAllBut};
 ghost use Rattle.fs_chain.specs.declared.state.State.TheVariants as at;
 
 use crate::error::ChainError;
@@ -113,7 +113,7 @@ impl Workbench {
     fn make_room(&mut self) -> Result<(), ChainError>
         requires { IsWalking self.old.state }
         ensures room { OnOk result (AsksTable self.new.state → HasRoomFor self.new.descriptors 1) }
-        ensures memory { IfErr result (λ e. (e ≡ ChainError.OutOfMemory) × AsksTable self.old.state) }
+        ensures memory { IfErr result (λ e. (e ≡ ChainError.OutOfMemory) × LacksRoom self.old) }
         ensures same { IsAllBut self.old self.new × (self.new.state ≡ self.old.state) × (self.new.descriptors.items ≡ self.old.descriptors.items) }
     {
         let State::Walking(_, walk) = &self.state else {
@@ -136,7 +136,7 @@ impl Workbench {
         ensures error { IfErr result (λ e. (walk_error self.old.state queue.old (length loaded.now) ≡ Some e)
             ⊎ ((e ≡ ChainError.OutOfMemory) × (walk_error self.old.state queue.old (length loaded.now) ≡ None))) }
         ensures ok { OnOk result (walk_error self.old.state queue.old (length loaded.now) ≡ None) }
-        ensures memory { IfErr result (λ e. e ≡ ChainError.OutOfMemory → AsksTable self.old.state) }
+        ensures memory { IfErr result (λ e. e ≡ ChainError.OutOfMemory → LacksRoom self.old) }
         ensures same { OnErr result (IsAllBut self.old self.new × (self.new.state ≡ self.old.state) × (self.new.descriptors.items ≡ self.old.descriptors.items) × (queue.new ≡ queue.old)) }
         ensures walks { IfOk result (λ walked. WalksOn loaded.now self.old self.new queue.old queue.new walked) }
     {
@@ -163,7 +163,7 @@ impl Workbench {
         ensures error { IfErr result (λ e. (walk_error self.old.state queue.old (length loaded.now) ≡ Some e)
             ⊎ ((e ≡ ChainError.OutOfMemory) × (walk_error self.old.state queue.old (length loaded.now) ≡ None))) }
         ensures ok { OnOk result (walk_error self.old.state queue.old (length loaded.now) ≡ None) }
-        ensures memory { IfErr result (λ e. e ≡ ChainError.OutOfMemory → AsksTable self.old.state) }
+        ensures memory { IfErr result (λ e. e ≡ ChainError.OutOfMemory → LacksRoom self.old) }
         ensures same { OnErr result (IsAllBut self.old self.new × (self.new.state ≡ self.old.state) × (self.new.descriptors.items ≡ self.old.descriptors.items) × (queue.new ≡ queue.old)) }
         ensures walks { IfOk result (λ walked. WalksOn loaded.now self.old self.new queue.old queue.new walked) }
     {

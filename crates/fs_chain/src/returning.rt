@@ -1,6 +1,6 @@
 //! How a chain goes back to its queue.
 
-ghost use Rattle.std.specs.Prelude.{◌≡◌, ◌+◌, true, nat_lt, IfSome, ◌%◌, ◌^◌, None, Some, false, IfErr, IfOk, OnOk, OnErr, length};
+ghost use Rattle.std.specs.Prelude.{◌≡◌, ◌+◌, ◌<◌, true, nat_lt, IfSome, ◌%◌, ◌^◌, None, Some, false, Err, IfErr, IfOk, OnOk, OnErr, length};
 ghost use Rattle.fs_queue.specs.Returning.{tells};
 ghost use Rattle.fs_chain.specs.Orders.{end_error, front_len, return_error};
 ghost use Rattle.fs_chain.specs.Returns.{IfAnswered, ReturnsBy, put_front};
@@ -23,7 +23,7 @@ pub struct Stores {
 
 // Copies a reply's front over the first bytes of a buffer; its length, or none if the buffer is shorter.
 fn copy_front(reply: &Reply, front: &mut [u8]) -> Option<usize>
-    ensures short { result ≡ None → (nat_lt (length front.old) (front_len reply.now) ≡ true) × (front.new ≡ front.old) }
+    ensures short { result ≡ None → (nat_lt (length front.old) (front_len reply.now) ≡ true) × (front.new ≡ front.old) × (length front.old < 160) }
     ensures copied { IfSome result (λ n. (nat_lt (length front.old) (front_len reply.now) ≡ false) × (n ≡ front_len reply.now) × (front.new ≡ put_front reply.now front.old)) }
 {
     match &reply.front {
@@ -48,6 +48,7 @@ fn stores_of(
 ) -> Result<Stores, ChainError>
     ensures error { IfErr result (λ e. return_error (at.Answered out.now reply.now) queue.now (length front.old) ≡ Some e) }
     ensures ok { OnOk result (return_error (at.Answered out.now reply.now) queue.now (length front.old) ≡ None) }
+    ensures short { result ≡ Err ChainError.ShortBuffer → length front.old < 160 }
     ensures same { OnErr result (front.new ≡ front.old) }
     ensures stores { IfOk result (λ s. ReturnsBy out.now reply.now s) }
     ensures front { OnOk result (front.new ≡ put_front reply.now front.old) }
@@ -69,7 +70,8 @@ fn stores_of(
 }
 
 impl Workbench {
-    /// Says how a chain goes back: its reply's front is copied over the first bytes of a buffer. From here on it can't be given up.
+    /// Says how a chain goes back: its reply's front is copied over the first bytes of a buffer, for which 160 always do (else
+    /// `ShortBuffer`). From here on it can't be given up.
     pub fn begin_return(
         &mut self,
         queue: &KeptQueue,
@@ -77,6 +79,7 @@ impl Workbench {
     ) -> Result<Stores, ChainError>
         ensures error { IfErr result (λ e. return_error self.old.state queue.now (length front.old) ≡ Some e) }
         ensures ok { OnOk result (return_error self.old.state queue.now (length front.old) ≡ None) }
+        ensures short { result ≡ Err ChainError.ShortBuffer → length front.old < 160 }
         ensures same { OnErr result ((self.new ≡ self.old) × (front.new ≡ front.old)) }
         ensures returning { OnOk result (IfAnswered self.old.state (λ out reply. self.new ≡ record self.old { state = at.Returning out })) }
         ensures stores { IfOk result (λ s. IfAnswered self.old.state (λ out reply. ReturnsBy out reply s)) }

@@ -33,21 +33,24 @@ abbrev pub IsMemory : List FsRegion → List Region → Type 0
 IsMemory regions memory =
     (length regions ≤ 64) × (sorted : List FsRegion) × IsPermutation regions sorted × All IsRegion sorted × (memory ≡ map region_of sorted) × StandApart memory
 
--- two regions have an address in common: by ascending address there is a fault
+-- two regions have an address in common: there are some, and by ascending address there is a fault
 abbrev pub DoOverlap : List FsRegion → Type 0
 DoOverlap regions =
-    (sorted : List FsRegion) × (fault : GuestRegionCollectionError) × IsPermutation regions sorted
+    (0 < length regions) × (sorted : List FsRegion) × (fault : GuestRegionCollectionError) × IsPermutation regions sorted
     × IsNonDecreasingBy (λ (r : FsRegion). r.guest) sorted × (fault_of (map region_of sorted) ≡ Some fault)
 
--- why these regions are no memory: too many, one that is none, or two have an address in common; memory may be wanting, if each is one and they aren't too many
+-- why these regions are no memory: too many, one that is none, or two have an address in common; memory may be wanting only for some that are one
 abbrev pub IsNoMemory : List FsRegion → ChainError → Type 0
 IsNoMemory regions BadArgument = (64 < length regions) ⊎ (All IsRegion regions → ⊥) ⊎ DoOverlap regions
-IsNoMemory regions OutOfMemory = (length regions ≤ 64) × All IsRegion regions
+IsNoMemory regions OutOfMemory = (0 < length regions) × (memory : List Region) × IsMemory regions memory
 IsNoMemory regions _ = ⊥
 
--- the same of regions that are taken in their order: one is none, or they don't stand apart
+-- there are some regions, and among them is a fault, taken in their order
+abbrev pub HaveFault : List FsRegion → Type 0
+HaveFault regions = (0 < length regions) × (fault : GuestRegionCollectionError) × (fault_of (map region_of regions) ≡ Some fault)
+
+-- why these regions, taken in their order, are no memory: there is a fault, or memory is wanting
 abbrev pub IsNoSortedMemory : List FsRegion → ChainError → Type 0
-IsNoSortedMemory regions BadArgument =
-    (All IsRegion regions → ⊥) ⊎ ((fault : GuestRegionCollectionError) × (fault_of (map region_of regions) ≡ Some fault))
-IsNoSortedMemory regions OutOfMemory = Unit {0}
+IsNoSortedMemory regions BadArgument = HaveFault regions
+IsNoSortedMemory regions OutOfMemory = fault_of (map region_of regions) ≡ None
 IsNoSortedMemory regions _ = ⊥

@@ -9,9 +9,10 @@ use Rattle.fs_chain_c.specs.declared.bench.Bench.{Bench}
 use Rattle.fs_chain_c.specs.declared.ranges.FsRange.{FsRange}
 use Rattle.fs_chain_c.specs.Benches.{OnBench}
 
--- a stretch of the guest's addresses of the room's bytes from one on, at most so many: in one descriptor, as long as it goes on
+-- a stretch of the guest's addresses of the room's bytes from one on, at least one and at most so many: in one descriptor, as long as it goes on
 abbrev pub IsRange : Workbench → (from most : ℕ) → FsRange → Type 0
-IsRange w from most told = (is_out w.state ≡ true) × (n : ℕ) × IsRangeFrom true w.descriptors.items from told.guest n × (told.len ≡ min n most)
+IsRange w from most told =
+    (is_out w.state ≡ true) × (n : ℕ) × IsRangeFrom true w.descriptors.items from told.guest n × (told.len ≡ min n most) × (0 < told.len)
 
 -- stretches, one behind another
 abbrev pub AreRanges : Workbench → (from most : ℕ) → List FsRange → Type 0

@@ -1,12 +1,12 @@
 -- How a chain goes back, as C is told, and how it is given up.
-use Rattle.std.specs.Prelude.{◌≡◌, ◌⊎◌, ◌+◌, ◌%◌, ◌^◌, ℕ, true, false, List, [], length, min, Some, None}
+use Rattle.std.specs.Prelude.{◌≡◌, ◌⊎◌, ◌+◌, ◌<◌, ◌%◌, ◌^◌, ℕ, true, false, List, [], length, min, Some, None}
 use Rattle.std.specs.Int.{w16, to_le_bytes}
 use Rattle.vm_memory_core.specs.Window.{Window}
 use Rattle.vm_memory.specs.Layout.{Region, left_at, place}
 use Rattle.vm_memory.specs.Slices.{IsWindowAt}
 use Rattle.fs_queue.specs.Returning.{tells}
 use Rattle.fs_chain.specs.declared.error.ChainError.{ChainError}
-use Rattle.fs_chain.specs.declared.error.ChainError.TheVariants.{BadArgument, OtherQueue, WrongOrder}
+use Rattle.fs_chain.specs.declared.error.ChainError.TheVariants.{BadArgument, OtherQueue, ShortBuffer, WrongOrder}
 use Rattle.fs_chain.specs.declared.queue.KeptQueue.{KeptQueue}
 use Rattle.fs_chain.specs.declared.returning.Stores.{Stores}
 use Rattle.fs_chain.specs.declared.state.State.TheVariants as at
@@ -55,12 +55,12 @@ ReturnsSo b front told status b' front' =
     × IfAnswered b.workbench.state (λ out reply. ReturnsBy out reply s) × IfAnswered b.workbench.state (λ out reply. front' ≡ put_front reply front)
     × (((status ≡ 0) × TellsStores b'.workbench.regions s told) ⊎ ((status ≡ 77) × (told ≡ no_stores) × HaveNoPlaces b'.workbench.regions s))
 
--- over the core's queue; refused by its error, and nothing is done
+-- over the core's queue; refused by its error, and nothing is done: a buffer of 160 bytes is never too short
 abbrev pub ReturnsKept : Bench → KeptQueue → (front : List ℕ) → FsStores → (status : ℕ) → Bench → (front' : List ℕ) → Type 0
 ReturnsKept b k front told status b' front' =
     ((return_error b.workbench.state k (length front) ≡ None) × ReturnsSo b front told status b' front')
-    ⊎ ((e : ChainError) × (return_error b.workbench.state k (length front) ≡ Some e) × (status ≡ chain_error_number e)
-    × (told ≡ no_stores) × (b' ≡ b) × (front' ≡ front))
+    ⊎ ((e : ChainError) × (return_error b.workbench.state k (length front) ≡ Some e) × (e ≡ ShortBuffer → length front < 160)
+    × (status ≡ chain_error_number e) × (told ≡ no_stores) × (b' ≡ b) × (front' ≡ front))
 
 -- over a queue of C's; a bad argument, if its numbers are none
 abbrev pub ReturnsBench : Bench → FsQueue → (front : List ℕ) → FsStores → (status : ℕ) → Bench → (front' : List ℕ) → Type 0

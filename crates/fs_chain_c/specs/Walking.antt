@@ -1,5 +1,5 @@
 -- A walk by parts of loads, as C makes it.
-use Rattle.std.specs.Prelude.{◌≡◌, ◌<◌, ◌+◌, ◌-◌, ◌%◌, ◌^◌, ◌⊎◌, ◌==◌, ℕ, List, [], ◌++◌, length, min, Some, None, if◌then◌else◌}
+use Rattle.std.specs.Prelude.{◌≡◌, ◌<◌, ◌+◌, ◌-◌, ◌%◌, ◌^◌, ◌⊎◌, ◌==◌, ℕ, List, [], ◌++◌, length, min, Some, None, if◌then◌else◌, vec_capacity}
 use Rattle.vm_memory_core.specs.Window.{Window}
 use Rattle.vm_memory.specs.Layout.{place, left_at}
 use Rattle.vm_memory.specs.Slices.{IsWindowAt}
@@ -11,8 +11,8 @@ use Rattle.fs_chain.specs.declared.queue.KeptQueue.{KeptQueue}
 use Rattle.fs_chain.specs.declared.walking.Walked.TheVariants as comes
 use Rattle.fs_chain.specs.declared.workbench.Workbench.{Workbench}
 use Rattle.fs_chain.specs.Numbers.{chain_error_number}
-use Rattle.fs_chain.specs.Orders.{AsksTable, IfWalking, IsWalking, load_len, walk_error}
-use Rattle.fs_chain.specs.Walks.{IsAllBut, WalksOn}
+use Rattle.fs_chain.specs.Orders.{IfWalking, IsWalking, load_len, walk_error}
+use Rattle.fs_chain.specs.Walks.{IsAllBut, LacksRoom, WalksOn}
 use Rattle.fs_chain_c.specs.declared.bench.Bench.{Bench}
 use Rattle.fs_chain_c.specs.declared.queue.FsQueue.{FsQueue}
 use Rattle.fs_chain_c.specs.declared.walking.FsStep.{FsStep}
@@ -73,13 +73,19 @@ AreDue b loaded = (load_len b.workbench.state ≡ 0) ⊎ ((0 < load_len b.workbe
 abbrev pub due_len : Bench → (loaded : List ℕ) → ℕ
 due_len b loaded = if load_len b.workbench.state == 0 then length loaded else load_len b.workbench.state
 
--- why a walk doesn't go on by these bytes: by the workbench, also if they are only a part of the load; for want of memory, if a walk asked for an entry
--- of a table, or for more bytes than these, and nothing else is wrong; or since they are others than those that are wanted
+-- memory may be wanting for so many bytes that are due: they end the load, and the walk lacks room for its entry's descriptor; or they are a part of
+-- the load, and those that came lack room for them
+abbrev pub LacksMemory : Bench → (len : ℕ) → Type 0
+LacksMemory b len =
+    ((came b + len ≡ load_len b.workbench.state) × LacksRoom b.workbench)
+    ⊎ ((len < load_len b.workbench.state) × (vec_capacity b.part < came b + len))
+
+-- why a walk doesn't go on by these bytes: by the workbench, also if they are only a part of the load; for want of memory, if nothing else is wrong; or
+-- since they are others than those that are wanted
 abbrev pub RefusesWalk : Bench → KeptQueue → (loaded : List ℕ) → ChainError → Type 0
 RefusesWalk b q loaded e =
     (AreDue b loaded × (walk_error b.workbench.state q (due_len b loaded) ≡ Some e))
-    ⊎ ((e ≡ OutOfMemory) × IsWalking b.workbench.state × (length loaded ≡ load_len b.workbench.state → AsksTable b.workbench.state)
-    × AreDue b loaded × (walk_error b.workbench.state q (due_len b loaded) ≡ None))
+    ⊎ ((e ≡ OutOfMemory) × LacksMemory b (length loaded) × AreDue b loaded × (walk_error b.workbench.state q (due_len b loaded) ≡ None))
     ⊎ ((e ≡ BadArgument) × (0 < load_len b.workbench.state) × AreOthers b (length loaded))
 
 -- ---- what is told

@@ -10,10 +10,11 @@ use Rattle.fs_chain.specs.declared.workbench.Workbench.{Workbench}
 use Rattle.fs_chain_c.specs.declared.windows.FsWindow.{FsWindow}
 use Rattle.fs_chain_c.specs.Walking.{host_at}
 
--- a stretch of the bytes of one direction from one on, at most so many: in one descriptor and one region, as long as these go on
+-- a stretch of the bytes of one direction from one on, at least one and at most so many: in one descriptor and one region, as long as these go on
 abbrev pub IsStretch : Workbench → (write_only : Bool) → (from most : ℕ) → FsWindow → Type 0
 IsStretch w d from most told =
     (is_out w.state ≡ true) × (v : Window) × IsWindowFrom w.regions d w.descriptors.items from v × (told.at ≡ host_at v) × (told.len ≡ min v.len most)
+    × (0 < told.len)
 
 -- stretches, one behind another
 abbrev pub AreStretches : Workbench → (write_only : Bool) → (from most : ℕ) → List FsWindow → Type 0

@@ -1,13 +1,15 @@
 //! The memory over which walks go: regions that C tells, in any order.
 
-ghost use Rattle.std.specs.Prelude.{◌≡◌, ◌⊎◌, true, false, Err, Some, All, IsPermutation, IfOk, IfErr, IfSome, IfNone, OnOk, OnSome, map, length};
+ghost use Rattle.std.specs.Prelude.{◌≡◌, ◌⊎◌, ◌<◌, ◌≤◌, true, false, Err, None, All, IsPermutation, IfOk, IfErr, IfSome, IfNone, OnOk, OnSome, map, length};
 ghost use Rattle.fs_chain.specs.declared.error.ChainError.TheVariants.{BadArgument, OutOfMemory};
 ghost use Rattle.std.specs.List.Sorted.{IsNonDecreasingBy};
-ghost use Rattle.fs_chain_c.specs.Memory.{IsMemory, IsNoMemory, IsNoSortedMemory, IsRegion, StandApart, region_of};
+ghost use Rattle.vm_memory.specs.Collecting.{fault_of};
+ghost use Rattle.fs_chain_c.specs.Memory.{HaveFault, IsMemory, IsNoMemory, IsNoSortedMemory, IsRegion, StandApart, region_of};
 ghost use Rattle.fs_chain_c.specs.declared.memory.FsRegion.{FsRegion};
 
+use arrayvec::ArrayVec;
 use fs_chain::{ChainError, GuestRegions, MemoryRegion, RegionsError};
-use std::alloc::{AllocError, Global};
+use std::alloc::Global;
 
 /// How many regions there are at most.
 const MOST_REGIONS: usize = 64;
@@ -17,7 +19,7 @@ const PAGE_BYTES: usize = 4096;
 
 /// Where a stretch of the guest's memory stands.
 #[repr(C)]
-#[derive(Clone, Copy)]
+#[derive(Clone, Copy, Default)]
 pub struct FsRegion {
     /// The guest address of its first byte.
     pub guest: u64,
@@ -76,28 +78,36 @@ fn regions_of(alloc: Global, regions: &[FsRegion]) -> Result<Vec<MemoryRegion>, 
     Ok(made)
 }
 
-// The same regions by ascending address.
-fn sorted(alloc: Global, regions: &[FsRegion]) -> Result<Vec<FsRegion>, AllocError>
-    ensures permutation { IfOk result (λ found. IsPermutation regions.now found.items) }
-    ensures ascending { IfOk result (λ found. IsNonDecreasingBy (λ (r : FsRegion). r.guest) found.items) }
+// Whether these regions ascend and have no address in common.
+fn stand_apart(regions: &[FsRegion]) -> bool
+    requires some { 0 < length regions.now }
+    requires are { All IsRegion regions.now }
+    ensures apart { result ≡ true → fault_of (map region_of regions.now) ≡ None }
+    ensures fault { result ≡ false → HaveFault regions.now }
 {
-    let mut found = Vec::new(alloc);
-    found.extend_from_slice(regions)?;
-    found.sort_unstable_by_key(|region| region.guest);
-    Ok(found)
+    for at in 1..regions.len() {
+        let before = &regions[at - 1];
+        if regions[at].guest <= before.guest + (before.len - 1) {
+            return false;
+        }
+    }
+    true
 }
 
-// The memory of regions that ascend.
+// The memory of regions that ascend: `BadArgument` if two have an address in common, which is looked for before memory is taken.
 fn memory_of_sorted(alloc: Global, regions: &[FsRegion]) -> Result<GuestRegions, ChainError>
+    requires are { All IsRegion regions.now }
     ensures ok { IfOk result (λ memory. memory ≡ map region_of regions.now) }
-    ensures are { OnOk result (All IsRegion regions.now) }
     ensures apart { IfOk result (λ memory. StandApart memory) }
     ensures err { IfErr result (IsNoSortedMemory regions.now) }
 {
-    let made = regions_of(alloc, regions)?;
-    if made.is_empty() {
+    if regions.is_empty() {
         return Ok(GuestRegions::none(alloc));
     }
+    if !stand_apart(regions) {
+        return Err(ChainError::BadArgument);
+    }
+    let made = regions_of(alloc, regions)?;
     match GuestRegions::of_regions(alloc, made) {
         Ok(memory) => Ok(memory),
         Err(RegionsError::OutOfMemory) => Err(ChainError::OutOfMemory),
@@ -105,16 +115,33 @@ fn memory_of_sorted(alloc: Global, regions: &[FsRegion]) -> Result<GuestRegions,
     }
 }
 
+// The same regions by ascending address; None if they are too many.
+fn sorted(regions: &[FsRegion]) -> Option<ArrayVec<FsRegion, MOST_REGIONS>>
+    ensures permutation { IfSome result (λ found. IsPermutation regions.now found.items) }
+    ensures ascending { IfSome result (λ found. IsNonDecreasingBy (λ (r : FsRegion). r.guest) found.items) }
+    ensures few { OnSome result (length regions.now ≤ 64) }
+    ensures many { IfNone result (64 < length regions.now) }
+{
+    let mut found = ArrayVec::<FsRegion, MOST_REGIONS>::new();
+    if found.try_extend_from_slice(regions).is_err() {
+        return None;
+    }
+    found
+        .as_mut_slice()
+        .sort_unstable_by_key(|region| region.guest);
+    Some(found)
+}
+
 /// The memory of some regions; `BadArgument` if they are none, or `OutOfMemory`.
 pub fn memory_of(alloc: Global, regions: &[FsRegion]) -> Result<GuestRegions, ChainError>
     ensures ok { IfOk result (IsMemory regions.now) }
     ensures err { IfErr result (IsNoMemory regions.now) }
 {
-    if regions.len() > MOST_REGIONS || !are_regions(regions) {
+    if !are_regions(regions) {
         return Err(ChainError::BadArgument);
     }
-    let Ok(sorted) = sorted(alloc, regions) else {
-        return Err(ChainError::OutOfMemory);
-    };
-    memory_of_sorted(alloc, &sorted)
+    match sorted(regions) {
+        Some(sorted) => memory_of_sorted(alloc, sorted.as_slice()),
+        None => Err(ChainError::BadArgument),
+    }
 }

@@ -23,7 +23,6 @@ fn range(workbench: &Workbench, from: u64, most: u64) -> Option<FsRange>
     ensures some { IfSome result (IsRange workbench.now from most) }
     ensures none { result ≡ None → RoomEnds workbench.now from }
     ensures low { IfSome result (λ r. r.len ≤ most) }
-    ensures some_bytes { IfSome result (λ r. 0 < r.len) }
 {
     match workbench.room_range(from) {
         Some((guest, len)) => {

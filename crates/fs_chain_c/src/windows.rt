@@ -22,7 +22,6 @@ fn stretch(workbench: &Workbench, write_only: bool, from: u64, most: u64) -> Opt
     ensures some { IfSome result (IsStretch workbench.now write_only from most) }
     ensures none { result ≡ None → HasNoMore workbench.now write_only from }
     ensures low { IfSome result (λ s. s.len ≤ most) }
-    ensures some_bytes { IfSome result (λ s. 0 < s.len) }
 {
     let window = if write_only {
         workbench.room_window(from)
