@@ -16,3 +16,4 @@ pub mod SinceKept
 pub mod Splitting
 pub mod WholePasses
 pub mod RoundPages
+pub mod RoundReceipts

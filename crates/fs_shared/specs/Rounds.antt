@@ -1,5 +1,5 @@
 -- What a round of a device leaves of the pages that it wrote.
-use Rattle.std.specs.Prelude.{◌≡◌, ◌≢◌, ◌⊎◌, ℕ, ◌+◌, ◌<◌, List, Option, Some, None, drop}
+use Rattle.std.specs.Prelude.{◌≡◌, ◌≢◌, ◌⊎◌, ℕ, ◌+◌, ◌<◌, ◌≤◌, List, [], ◌∷◌, ◌++◌, All, Option, Some, None, drop}
 use Rattle.vm_bitmaps.specs.Words.{page_bit}
 use Rattle.vm_atomic_bitmaps.specs.declared.counts.Tally.{Tally}
 use Rattle.fs_shares.specs.Portion.{HasSeen}
@@ -35,3 +35,22 @@ abbrev pub KeepsSince : (old new : List Tally) → (before after : List Receipt)
 KeepsSince old new before after =
     (word first : ℕ) (taken : List Tally) → HasSeen word taken old → HasMarkedSince word first taken old before →
     HasSeen word taken new × HasMarkedSince word first taken new after
+
+-- ---- where the gather stands among the receipts
+
+-- the same receipts, and some more behind them
+abbrev pub GoesOnWith : (before after : List Receipt) → Type 0
+GoesOnWith before after = (more : List Receipt) × (after ≡ before ++ more)
+
+-- the number of one of some receipts
+abbrev pub IsNumberOf : ℕ → List Receipt → Type 0
+IsNumberOf n receipts = (front : List Receipt) × (r : Receipt) × (back : List Receipt) × (receipts ≡ front ++ r ∷ back) × (r.number ≡ n)
+
+-- the greatest number of some receipts, if there is one
+abbrev pub IsGreatest : Option ℕ → List Receipt → Type 0
+IsGreatest None receipts = receipts ≡ []
+IsGreatest (Some n) receipts = IsNumberOf n receipts × All (λ r. r.number ≤ n) receipts
+
+-- the greatest number of the receipts up to one
+abbrev pub IsGreatestOfFirst : Option ℕ → List Receipt → Type 0
+IsGreatestOfFirst last receipts = (first : List Receipt) × IsGreatest last first × GoesOnWith first receipts

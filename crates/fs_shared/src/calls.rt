@@ -44,7 +44,7 @@ fn takes_chains<F: FileSystem, I: Iommu + Drop>(
     }
 }
 
-// What a kick of a queue that takes chains answers if its entry has no room: nothing waits, or memory is wanting.
+// What a kick of a queue that takes chains answers if its entry has no room: `Idle` if nothing waits, else `OutOfMemory`.
 fn kick_without_room<F: FileSystem, I: Iommu + Drop>(
     alloc: Global,
     machine: &Machine<F, I>,

@@ -1,6 +1,6 @@
 //! A round of a device: it is made over a machine, serves a queue before and after a gather, and is taken apart again.
 
-ghost use Rattle.std.specs.Prelude.{◌≡◌, ◌+◌, ◌<◌, ◌≤◌, ◌*◌, ◌↔◌, [], All, IfErr, IfOk, IsTrue, length, vec_capacity, vec_len};
+ghost use Rattle.std.specs.Prelude.{◌≡◌, ◌⊎◌, ◌+◌, ◌<◌, ◌≤◌, ◌*◌, ◌↔◌, [], Some, IfErr, IfNone, IfOk, IfSome, IsTrue, length, vec_capacity, vec_len};
 ghost use Rattle.std.specs.Int.{div_ceil};
 ghost use Rattle.vm_atomic_bitmaps.specs.Passes.{counting};
 ghost use Rattle.vm_memory_core.specs.Host.{lengths};
@@ -11,7 +11,7 @@ ghost use Rattle.fs_shared.specs.Audit.{AreAllReceipts};
 ghost use Rattle.fs_shared.specs.Held.{fixed_of, journal_of, start_of};
 ghost use Rattle.fs_shared.specs.Marks.{HasMarked, first_of};
 ghost use Rattle.fs_shared.specs.Replay.{Replays, forget};
-ghost use Rattle.fs_shared.specs.Rounds.{KeepsSince, LeavesSince, TellsPages, following};
+ghost use Rattle.fs_shared.specs.Rounds.{GoesOnWith, IsGreatest, IsGreatestOfFirst, KeepsSince, LeavesSince, TellsPages};
 ghost use Rattle.fs_shared.specs.declared.share_error.ShareError.TheVariants.{OutOfMemory};
 
 use crate::auditing::audit;
@@ -87,6 +87,7 @@ fn kick_once<L: Ledger, F: FileSystem, I: Iommu + Drop, R: Wait>(
     ensures own { IsShareOf device.now share.new }
     ensures marked { HasMarked share.new.pass.counts.pages receipts.new.items }
     ensures since { KeepsSince share.old.pass.counts.pages share.new.pass.counts.pages receipts.old.items receipts.new.items }
+    ensures more { GoesOnWith receipts.old.items receipts.new.items }
     ensures parts { share.new.parts ≡ share.old.parts }
     ensures pass { share.new.pass ≡ counting share.old.pass share.new.pass.counts.pages }
     ensures len { vec_len receipts.new ≤ vec_len receipts.old + 1 }
@@ -118,6 +119,7 @@ fn kick_often<L: Ledger, F: FileSystem, I: Iommu + Drop, R: Wait>(
     ensures own { IsShareOf device.now share.new }
     ensures marked { HasMarked share.new.pass.counts.pages receipts.new.items }
     ensures since { KeepsSince share.old.pass.counts.pages share.new.pass.counts.pages receipts.old.items receipts.new.items }
+    ensures more { GoesOnWith receipts.old.items receipts.new.items }
     ensures parts { share.new.parts ≡ share.old.parts }
     ensures pass { share.new.pass ≡ counting share.old.pass share.new.pass.counts.pages }
     ensures len { vec_len receipts.new ≤ vec_len receipts.old + most }
@@ -132,8 +134,8 @@ fn kick_often<L: Ledger, F: FileSystem, I: Iommu + Drop, R: Wait>(
 
 // The greater of two numbers, of which the first may be none.
 fn greater(one: Option<usize>, other: usize) -> Option<usize>
-    ensures one { following one ≤ following result }
-    ensures other { other < following result }
+    ensures first { IfNone one (result ≡ Some other) }
+    ensures more { IfSome one (λ number. ((other ≤ number) × (result ≡ one)) ⊎ ((number < other) × (result ≡ Some other))) }
 {
     match one {
         Some(number) if other <= number => one,
@@ -143,7 +145,7 @@ fn greater(one: Option<usize>, other: usize) -> Option<usize>
 
 // The greatest number of some receipts.
 fn greatest_number(receipts: &[Receipt]) -> Option<usize>
-    ensures { All (λ r. r.number < following result) receipts.now }
+    ensures { IsGreatest result receipts.now }
 {
     let mut greatest = None;
     for receipt in receipts {
@@ -175,6 +177,7 @@ fn go_round<L: Ledger, F: FileSystem + Drop, I: Iommu + Drop, R: Wait>(
         TellsPages made.0.len result.gathered.items result.left.items result.parts.start.host result.parts.machine.host }
     ensures since { IsTrue result.is_audited →
         LeavesSince made.0.len result.last_before result.parts.journal.items result.left.items (forget (machine_of result.parts.machine)) }
+    ensures last { IsGreatestOfFirst result.last_before result.receipts.items }
 {
     let (device, mut share, mut harvest) = made;
     let RoundRoom {
@@ -204,9 +207,9 @@ fn go_round<L: Ledger, F: FileSystem + Drop, I: Iommu + Drop, R: Wait>(
 
 /// A round of a machine by one thread: a device is made over it (`SharedDevice::new`), a queue is kicked until nothing waits, a kick
 /// is refused or `most` chains were served, the harvest gathers, the share meets it, the queue is kicked so once more, and the device
-/// is taken apart. Where the receipts pass the audit, each page, below the number of pages of the host, in which the machine's host
-/// differs from the start's was gathered or is left; and each in which it differs from what it was at the gather is left. Refused only `OutOfMemory`, if an allocation fails before anything was served, and then
-/// blank and machine come back.
+/// is taken apart. If the receipts pass the audit, each page, below the number of pages of the host, in which the machine's host
+/// differs from the start's was gathered or is left; and each in which it differs from what it was after the entry `last_before` is
+/// left. Refused only `OutOfMemory`, if an allocation fails before anything was served, and then blank and machine come back.
 pub fn serve_round<L: Ledger, F: FileSystem + Drop, I: Iommu + Drop, R: Wait>(
     rt: &R,
     alloc: Global,
@@ -227,6 +230,7 @@ pub fn serve_round<L: Ledger, F: FileSystem + Drop, I: Iommu + Drop, R: Wait>(
         round.gathered.items round.left.items round.parts.start.host round.parts.machine.host) }
     ensures since { IfOk result (λ round. IsTrue round.is_audited → LeavesSince (first_page (lengths machine.host) (length (lengths machine.host)))
         round.last_before round.parts.journal.items round.left.items (forget (machine_of round.parts.machine))) }
+    ensures last { IfOk result (λ round. IsGreatestOfFirst round.last_before round.receipts.items) }
     ensures refused { IfErr result (λ back. back.0 ≡ OutOfMemory) }
     ensures blank { IfErr result (λ back. back.1 ≡ blank) }
     ensures machine { IfErr result (λ back. back.2 ≡ machine) }

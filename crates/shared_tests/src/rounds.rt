@@ -59,23 +59,24 @@ fn differing(
     pages
 }
 
-// A round leaves so many entries, and a receipt of each; these pages were gathered, and these are left.
+// A round leaves so many entries, and a receipt of each; this was the last before the gather, these pages were gathered, and these are left.
 fn expect_round<L: Ledger, R: Wait + Abort>(
     rt: &R,
     alloc: Global,
     blank: Blank,
     most: u16,
-    want: (usize, u64, u64),
+    want: (usize, Option<usize>, u64, u64),
 )
     requires name { blank.name ≡ L.name }
     requires ledger { blank.parts ≡ L.parts }
     requires parts { blank.parts ≡ 1 }
 {
-    let (entries, gathered, left) = want;
+    let (entries, last_before, gathered, left) = want;
     let round = round::<L, R>(rt, alloc, blank, most);
     expect_same(rt, round.is_audited, true);
     let lens = [round.parts.journal.len(), round.receipts.len()];
     expect_same(rt, lens, [entries, entries]);
+    expect_same(rt, round.last_before, last_before);
     let pages = [round.gathered.as_slice(), round.left.as_slice()];
     expect_same(
         rt,
@@ -91,9 +92,9 @@ fn expect_round<L: Ledger, R: Wait + Abort>(
 #[test]
 fn rounds_leave_all_pages(rt: HostRuntime) {
     let alloc = rt.alloc();
-    expect_round::<Brand, _>(&rt, alloc, Blank::new(1), 0, (0, 0, 0));
-    expect_round::<Brand, _>(&rt, alloc, Blank::new(1), 1, (2, 0x5, 0x5));
-    expect_round::<Brand, _>(&rt, alloc, Blank::new(1), 2, (2, 0x5, 0));
+    expect_round::<Brand, _>(&rt, alloc, Blank::new(1), 0, (0, None, 0, 0));
+    expect_round::<Brand, _>(&rt, alloc, Blank::new(1), 1, (2, Some(0), 0x5, 0x5));
+    expect_round::<Brand, _>(&rt, alloc, Blank::new(1), 2, (2, Some(1), 0x5, 0));
 }
 
 // One of two parts takes a device apart if the other was counted for nothing.

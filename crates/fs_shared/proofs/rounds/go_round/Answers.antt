@@ -1,5 +1,4 @@
 use Rattle.std.proofs.Common.{◌≡◌, ℕ, ◌+◌, ◌<◌, List, ap, sym, ◌∙◌, subst}
-use Rattle.std.specs.Prelude.{All}
 use Rattle.std.proofs.lemmas.List.{with_items_is}
 use Rattle.std.specs.Vec.{with_items}
 use Rattle.vm_bitmaps.specs.Words.{page_bit}
@@ -12,9 +11,10 @@ use Rattle.fs_shared.specs.declared.entry.Receipt.{Receipt}
 use Rattle.fs_shared.specs.Audit.{AreAllReceipts}
 use Rattle.fs_shared.specs.Marks.{Harvest, HasMarked, HasMarkedSince, first_of}
 use Rattle.fs_shared.specs.Replay.{forget}
-use Rattle.fs_shared.specs.Rounds.{LeavesSince, TellsPages, following}
+use Rattle.fs_shared.specs.Rounds.{IsGreatest, LeavesSince, TellsPages, following}
 use Rattle.fs_shared.proofs.MarksKept.{meets_keep}
 use Rattle.fs_shared.proofs.RoundPages.{all_earlier, leaves_since, tells}
+use Rattle.fs_shared.proofs.RoundReceipts.{below_following}
 use Rattle.fs_shared.proofs.rounds.go_round.Goals as goal
 
 -- the share met the harvest, and keeps what it marked
@@ -73,7 +73,7 @@ returns-clause-since g c audited =
     (ap (λ (s : Portion). s.pass) c.meet.ensures.share ∙ ap (λ (q : Pass). counting q met) (c.kick_often.ensures.pass ∙ ap (λ (s : Portion). counting s.pass first) c.requires.share)) in
     let told = subst (λ (xs : List JournalEntry). AreAllReceipts xs c.deref-3.result.now) c.deref-2.ensures.value (c.audit-is_audited.ensures.0 audited) in
     let all = subst (λ (xs : List Receipt). AreAllReceipts parts.journal.items xs) c.deref-3.ensures.value told in
-    let early = subst (λ (xs : List Receipt). All (λ r. r.number < following last) xs) c.deref.ensures.value c.greatest_number-last_before.ensures in
+    let early = below_following earlier last (subst (IsGreatest last) c.deref.ensures.value c.greatest_number-last_before.ensures) in
     let since : (word : ℕ) → HasMarkedSince word (following last) h.pass.counts.pages share.counts.pages receipts =
     λ word. subst (λ (n : Harvest). HasMarkedSince word (following last) n.pass.counts.pages share.counts.pages receipts) (sym same)
     (c.kick_often-2.ensures.since word (following last) taken_by.pass.counts.pages (c.meet.ensures.seen word)
@@ -81,3 +81,8 @@ returns-clause-since g c audited =
     let found = leaves_since b share h parts.journal.items receipts (forget (machine_of parts.machine)) left last is mine c.in-Ok.ensures.since all since in
     let back_left = with_items_is c.args.room.left left (c.into_parts_and_pages.auto.words ∙ c.deref_mut-2.ensures.len) in
     subst (λ (ws : List ℕ). LeavesSince b.len last parts.journal.items ws (forget (machine_of parts.machine))) (sym back_left) found
+
+pub returns-clause-last : goal.returns-clause-last
+returns-clause-last g c =
+    let last = c.greatest_number-last_before.result in
+    (c.kick_often.new.receipts.items, subst (IsGreatest last) c.deref.ensures.value c.greatest_number-last_before.ensures, c.kick_often-2.ensures.more)
