@@ -1,31 +1,30 @@
 -- a reply's header has its length
-use Rattle.std.proofs.Common.{◌≡◌, ℕ, ◌+◌, ◌*◌, ◌-◌, ◌^◌, ◌<◌, ◌≤◌, Bool, true, false, List, [], ◌∷◌, ◌++◌, length, Option, Some, None, Ok, Err, refl, ap, sym, ◌∙◌, arith}
-use Rattle.std.specs.Prelude.{if◌then◌else◌, Result, nat_lt, nat_le, pos}
+use Rattle.std.proofs.Common.{◌≡◌, ℕ, ◌*◌, ◌-◌, ◌<◌, ◌≤◌, Bool, true, false, List, [], ◌∷◌, length, Option, Some, None, Ok, Err, refl, ap, sym, arith}
+use Rattle.std.specs.Prelude.{if◌then◌else◌, Result, nat_lt, nat_le}
 use Rattle.std.specs.Int.{w32, to_le_bytes}
 use Rattle.std.proofs.lemmas.Bool.{ltb-false}
 use Rattle.vm_values.specs.Fields.{field_bytes}
 use Rattle.fuse_in.specs.declared.session.InHeader.{InHeader}
-use Rattle.fuse_in.specs.Shapes.{Shape, made}
+use Rattle.fuse_in.specs.Shapes.{Shape}
 use Rattle.fuse_in.specs.Records as inputs
 use Rattle.fuse_wire.specs.declared.opcodes.Opcode.{Opcode}
 use Rattle.fuse_wire.specs.declared.opcodes.Opcode.TheVariants as op
 use Rattle.fuse_wire.specs.Opcodes.{opcode_of}
 use Rattle.fuse_fs.specs.Calls.{FileCall, FileAnswer}
 use Rattle.fuse_fs.specs.Calls as call
-use Rattle.server_segments.specs.declared.error.Error.{Error}
-use Rattle.server_segments.specs.declared.error.Error.TheVariants.{DecodeMessage, EncodeMessage}
+use Rattle.server_segments.specs.declared.error.Error.TheVariants.{EncodeMessage}
 use Rattle.server_requests.specs.Reading.{ReadFailure, Faults, Sends, Reading, and_then, needs, give, many, rest, reading_of, ◌>>=◌, ◌>>◌, within, last_name, two_names, name_and_value}
 use Rattle.server_requests.specs.Extras.{new_link, new_name}
 use Rattle.server_requests.specs.Fronts as fronts
 use Rattle.server_calls.specs.Requests as request
 use Rattle.server_calls.specs.Requests.{is_silent}
-use Rattle.server_replies.specs.WholeReplies.{reply_bytes, error_bytes, body_bytes, data_reply, told_bytes, listing_bytes, listing_answer, started_bytes}
+use Rattle.server_replies.specs.WholeReplies.{reply_bytes, error_bytes, data_reply, told_bytes, listing_bytes, listing_answer, started_bytes}
 use Rattle.server_replies.proofs.ReplyLemmas.{length_reply, length_error}
 use Rattle.virtiofsd_fuse.specs.Grammar as grammar
 use Rattle.virtiofsd_fuse.specs.Grammar.{Meaning, IsFault, Replies, IsSilent, Asks, FileCommand, One, Starts, Lists, Given, given, one, row, row_of, refused, ended, meant, meaning, with_header}
 use Rattle.virtiofsd_fuse.specs.Listings as listings
 use Rattle.virtiofsd_fuse.specs.Listings.{Listing, list_entries}
-use Rattle.virtiofsd_fuse.specs.Serving.{Served, Setting, served, replied, commanded, list_answered, start_answered, answer_bytes, agreed}
+use Rattle.virtiofsd_fuse.specs.Serving.{Setting, served, replied, commanded, list_answered, start_answered, answer_bytes, agreed}
 use Rattle.fs_device.specs.UsedLength.{header_length}
 
 -- the bytes of a reply, if there are any, begin with their number

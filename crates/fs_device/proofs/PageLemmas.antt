@@ -1,6 +1,6 @@
 -- which pages stores mark
 use Rattle.std.proofs.Common.{◌≡◌, ℕ, zero, suc, ◌^◌, ◌/◌, Bool, true, false, ◌||◌, ◌&&◌, not, nat_lt, List, [], ◌∷◌, ◌++◌, map, set, Option, Some, None, refl, ap, sym, ◌∙◌, subst, ⊎_elim}
-use Rattle.std.specs.Prelude.{if◌then◌else◌, ◌==◌, ◌≢◌, slice_get, slice_set, option_map, option_and_then, is_some, IfSome}
+use Rattle.std.specs.Prelude.{if◌then◌else◌, ◌==◌, ◌≢◌, slice_get, slice_set, option_map, option_and_then, is_some}
 use Rattle.std.specs.List.{list_any}
 use Rattle.std.proofs.lemmas.Bool.{cases_eq, eq-eqb, ne_eqb}
 use Rattle.std.proofs.lemmas.List.Folds.{list_any-append}
@@ -10,11 +10,9 @@ use Rattle.vm_memory_core.specs.Host.{Host, Block, Place, IoAddress, changed_at,
 use Rattle.vm_memory_core.specs.Window.{put_byte}
 use Rattle.vm_memory.specs.Layout.{place}
 use Rattle.vm_memory.specs.Memory.{Memory, for_io, location, place_behind, stored, stored_all, stored_at, table_of}
-use Rattle.fs_queue.specs.Queue.{Queue}
-use Rattle.fs_queue.specs.Taking.{RequestAndRoom, Offers, offer, room_of}
+use Rattle.fs_queue.specs.Taking.{room_of}
 use Rattle.fs_queue.specs.Returning.{writes}
 use Rattle.virtiofsd_fuse.specs.Serving.{May}
-use Rattle.fs_device.specs.Step.{State, Exchange, Exchanged, Calls, Step}
 use Rattle.fs_device.specs.MarkedPages.{block_mark, io_mark, is_in_page, marks_block, marks_io, marked_by, returned_addresses, Marks, StepsMark, WritesMark}
 use Rattle.fs_device.proofs.MoveLemmas.{IsPlain, plain_place}
 use Rattle.fs_device.proofs.UsedLemmas.{exchange_returns, step_offers}

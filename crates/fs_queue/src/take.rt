@@ -395,8 +395,8 @@ pub fn hold_chain<M: GuestMemory, H: HostBlocks>(
     )
 }
 
-// Walks the chain of a head, and puts its request and its room in a place, or answers its fault. Refused are
-// `DescriptorUnreachable` and `OutOfMemory`, this for a chain alone: a fault takes no memory.
+// Walks the chain of a head, and puts its request and its room in a place, or answers its fault. `DescriptorUnreachable` and
+// `OutOfMemory` are refused. A fault that the walk itself finds is never refused for memory.
 #[inline(always)]
 fn walk_and_hold<M: GuestMemory, H: HostBlocks>(
     alloc: Global,
@@ -433,7 +433,7 @@ fn walk_and_hold<M: GuestMemory, H: HostBlocks>(
     }
 }
 
-// Why a chain isn't taken if memory is wanting for the windows of its return: `DescriptorUnreachable` if its walk stops the
+// Why a chain isn't taken if there is no memory for the windows of its return: `DescriptorUnreachable` if its walk stops the
 // queue, else `OutOfMemory`.
 fn refusal_without_return<M: GuestMemory, H: HostBlocks>(
     alloc: Global,
