@@ -3,11 +3,11 @@
 use crate::given::{Trial, Unmet, met};
 use crate::kicking::{Stand, device, guest};
 use crate::kicks::Kick;
-use guest_driver::Ring;
+use guest_driver::{Guest, Ring};
 use std::alloc::Global;
 
-// A queue of 512 descriptors, behind the request and the room.
-const LONG: Ring = Ring {
+/// A queue of 512 descriptors, behind the request and the room.
+pub const LONG: Ring = Ring {
     size: 512,
     desc: 0x8000,
     avail: 0xa000,
@@ -36,31 +36,61 @@ fn length(parts: &[(u64, u32)]) -> u32 {
     }
 }
 
-// The stand of a kick whose request and room are cut into so many pieces each.
-fn stand(alloc: Global, row: &Kick, pieces: u32) -> Result<Stand, Unmet> {
+// The bytes of a kick's request.
+fn request(alloc: Global, row: &Kick) -> Result<Vec<u8>, Unmet> {
     let whole = guest(alloc, row)?;
-    let request = whole.read(alloc, 0x1000, length(row.readable) as usize);
-    let request = met(request, Unmet::Drawing)?;
-    let long = Kick {
+    let bytes = whole.read(alloc, 0x1000, length(row.readable) as usize);
+    met(bytes, Unmet::Drawing)
+}
+
+// The guest of a kick with a queue of 512 descriptors, before it offers anything.
+fn empty_guest(alloc: Global, row: &Kick) -> Result<Guest, Unmet> {
+    let empty = Kick {
         ring: LONG,
         puts: &[],
         readable: &[],
         writable: &[],
         ..*row
     };
-    let mut guest = guest(alloc, &long)?;
+    let mut guest = guest(alloc, &empty)?;
     met(guest.set_available(0), Unmet::Drawing)?;
+    Ok(guest)
+}
+
+// The guest offers the chain of a kick, cut into so many pieces.
+fn offer(
+    alloc: Global,
+    guest: &mut Guest,
+    row: &Kick,
+    request: &[u8],
+    pieces: u32,
+) -> Result<(), Unmet> {
     let readable = cut(alloc, 0x1000, length(row.readable), pieces)?;
     let writable = cut(alloc, 0x4000, length(row.writable), pieces)?;
-    let drawn = guest.chain(0, &request, &readable, &writable);
-    met(drawn, Unmet::Drawing)?;
-    Ok(Stand::of(alloc, guest, device(alloc, LONG, 0)?))
+    let drawn = guest.chain(0, request, &readable, &writable);
+    met(drawn, Unmet::Drawing)
+}
+
+/// The guest of a kick whose request and room are cut into so many pieces each.
+pub fn cut_guest(alloc: Global, row: &Kick, pieces: u32) -> Result<Guest, Unmet> {
+    let request = request(alloc, row)?;
+    let mut guest = empty_guest(alloc, row)?;
+    offer(alloc, &mut guest, row, &request, pieces)?;
+    Ok(guest)
+}
+
+// The same kick twice.
+fn count_twice(trial: Trial, stand: &mut Stand, way: usize) -> Result<(usize, usize), Unmet> {
+    let first = stand.count(trial, way)?;
+    let later = stand.count(trial, way)?;
+    Ok((first, later))
 }
 
 /// How many requests the first kick of a device makes, and a later one, by one of the ways to step.
 pub fn count(trial: Trial, row: &Kick, pieces: u32, way: usize) -> Result<(usize, usize), Unmet> {
-    let mut stand = stand(trial.alloc, row, pieces)?;
-    let first = stand.count(trial, way)?;
-    let later = stand.count(trial, way)?;
-    Ok((first, later))
+    let device = device(trial.alloc, LONG, 0)?;
+    match cut_guest(trial.alloc, row, pieces) {
+        Ok(guest) => count_twice(trial, &mut Stand::of(trial.alloc, guest, device), way),
+        Err(unmet) => Err(unmet),
+    }
 }

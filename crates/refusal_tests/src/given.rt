@@ -44,6 +44,11 @@ pub fn expect(is_so: bool) -> Result<(), Unmet> {
     if is_so { Ok(()) } else { Err(Unmet::Answer) }
 }
 
+/// So many requests were made, and what was found is the example's.
+pub fn met_if(is_so: bool, made: usize) -> Result<usize, Unmet> {
+    if is_so { Ok(made) } else { Err(Unmet::Answer) }
+}
+
 /// A refused call changed nothing.
 pub fn expect_kept(is_kept: bool) -> Result<(), Unmet> {
     if is_kept { Ok(()) } else { Err(Unmet::Changed) }

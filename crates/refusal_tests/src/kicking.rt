@@ -81,19 +81,33 @@ fn put_all(guest: &mut Guest, puts: &[(u64, &[u8])]) -> Result<(), Unmet> {
     Ok(())
 }
 
-/// The guest of a kick, whose chain is available; no page is marked.
-pub fn guest(alloc: Global, kick: &Kick) -> Result<Guest, Unmet> {
-    let made = Guest::new(alloc, kick.regions, kick.ring);
-    let mut guest = met(made, Unmet::Drawing)?;
-    put_all(&mut guest, kick.puts)?;
+// The guest offers the chain of a kick.
+fn offer(guest: &mut Guest, kick: &Kick) -> Result<(), Unmet> {
     let drawn = match kick.table {
         Some(table) => guest.indirect_chain(0, table, &[], kick.readable, kick.writable),
         None => guest.chain(0, &[], kick.readable, kick.writable),
     };
-    met(drawn, Unmet::Drawing)?;
-    put_all(&mut guest, kick.behind)?;
+    met(drawn, Unmet::Drawing)
+}
+
+// The guest makes the chain of a kick available; no page is marked.
+fn draw(guest: &mut Guest, kick: &Kick) -> Result<(), Unmet> {
+    put_all(guest, kick.puts)?;
+    offer(guest, kick)?;
+    put_all(guest, kick.behind)?;
     guest.clear_marks();
-    Ok(guest)
+    Ok(())
+}
+
+/// The guest of a kick, whose chain is available; no page is marked.
+pub fn guest(alloc: Global, kick: &Kick) -> Result<Guest, Unmet> {
+    match Guest::new(alloc, kick.regions, kick.ring) {
+        Ok(mut guest) => {
+            draw(&mut guest, kick)?;
+            Ok(guest)
+        }
+        Err(_) => Err(Unmet::Drawing),
+    }
 }
 
 /// What a run of at most one step comes to.
@@ -147,11 +161,11 @@ pub fn queued(run: Result<QueueRun, DeviceError>) -> Comes {
 impl Stand {
     /// What a kick begins with.
     pub fn new(alloc: Global, kick: &Kick) -> Result<Stand, Unmet> {
-        Ok(Stand {
-            alloc,
-            guest: guest(alloc, kick)?,
-            device: device(alloc, kick.ring, kick.position)?,
-        })
+        let device = device(alloc, kick.ring, kick.position)?;
+        match guest(alloc, kick) {
+            Ok(guest) => Ok(Stand::of(alloc, guest, device)),
+            Err(unmet) => Err(unmet),
+        }
     }
 
     /// A guest and a device.
@@ -177,7 +191,8 @@ impl Stand {
     fn seen(&self) -> Result<Seen, Unmet> {
         let bytes = self.guest.read(self.alloc, 0, 0x10000);
         let bytes = met(bytes, Unmet::Memory)?;
-        Seen::of(bytes, self.guest.marked(self.alloc)?, &self.device)
+        let marked = self.guest.marked(self.alloc)?;
+        Seen::of(bytes, marked, &self.device)
     }
 
     // A step that hands out the bytes of what is exchanged.
@@ -250,18 +265,66 @@ impl Stand {
         expect(self.device.save(&mut sink).is_ok())
     }
 
+    // These bytes stand at an address.
+    fn expect_there(&self, addr: u64, bytes: &[u8]) -> Result<(), Unmet> {
+        let there = self.guest.read(self.alloc, addr, bytes.len());
+        let there = met(there, Unmet::Answer)?;
+        expect(there.as_slice() == bytes)
+    }
+
+    // These pages are marked.
+    fn expect_marked(&self, pages: &[(usize, usize)]) -> Result<(), Unmet> {
+        let marked = self.guest.marked(self.alloc)?;
+        expect(marked.as_slice() == pages)
+    }
+
     // All is as the row of a kick says.
     fn expect_row(&self, kick: &Kick) -> Result<(), Unmet> {
         for (addr, bytes) in kick.has {
-            let there = self.guest.read(self.alloc, *addr, bytes.len());
-            let there = met(there, Unmet::Answer)?;
-            expect(there.as_slice() == *bytes)?;
+            self.expect_there(*addr, bytes)?;
         }
-        let marked = self.guest.marked(self.alloc)?;
-        expect(marked.as_slice() == kick.marked)?;
-        expect(self.device.server().fs().calls() == kick.calls)?;
-        expect(self.device.server().options().bits() == kick.options)
+        self.expect_marked(kick.marked)?;
+        expect_served(&self.device, kick)
     }
+
+    // Nothing changed since.
+    fn expect_kept(&self, before: &Seen) -> Result<(), Unmet> {
+        let now = self.seen()?;
+        expect_kept(now.is_same(before))
+    }
+
+    // A kick of what was seen so before, and how many requests it makes. If it lacks memory it changed nothing, and is made again.
+    fn kick_again(
+        &mut self,
+        trial: Trial,
+        way: usize,
+        before: &Seen,
+    ) -> Result<(Comes, usize), Unmet> {
+        trial.begin();
+        let comes = self.kick(way);
+        let made = trial.end();
+        if comes != OUT_OF_MEMORY {
+            return Ok((comes, made));
+        }
+        trial.expect_lacks()?;
+        self.expect_kept(before)?;
+        Ok((self.kick(way), made))
+    }
+
+    // A kick is as its row says.
+    fn play(&mut self, trial: Trial, kick: &Kick, way: usize) -> Result<usize, Unmet> {
+        let before = self.seen()?;
+        let (comes, made) = self.kick_again(trial, way, &before)?;
+        expect(comes == kick.comes)?;
+        self.expect_row(kick)?;
+        Ok(made)
+    }
+}
+
+/// The server made the calls of a row, and has its options.
+pub fn expect_served(device: &Device<CallLog>, kick: &Kick) -> Result<(), Unmet> {
+    let server = device.server();
+    expect(server.fs().calls() == kick.calls && server.options().bits() == kick.options)
 }
 
 /// A step that lacks memory.
@@ -270,17 +333,8 @@ pub const OUT_OF_MEMORY: Comes = Comes::Refused(DeviceError::Queue(QueueError::O
 /// Plays a kick by one of the three ways to step, and answers how many requests it makes. If it lacks memory it changed
 /// nothing, and is made again.
 pub fn play_kick(trial: Trial, kick: &Kick, way: usize) -> Result<usize, Unmet> {
-    let mut stand = Stand::new(trial.alloc, kick)?;
-    let before = stand.seen()?;
-    trial.begin();
-    let mut comes = stand.kick(way);
-    let made = trial.end();
-    if comes == OUT_OF_MEMORY {
-        trial.expect_lacks()?;
-        expect_kept(stand.seen()?.is_same(&before))?;
-        comes = stand.kick(way);
+    match Stand::new(trial.alloc, kick) {
+        Ok(mut stand) => stand.play(trial, kick, way),
+        Err(unmet) => Err(unmet),
     }
-    expect(comes == kick.comes)?;
-    stand.expect_row(kick)?;
-    Ok(made)
 }

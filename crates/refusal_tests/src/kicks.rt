@@ -220,14 +220,20 @@ const BATCH_FORGET: Kick = Kick {
     ..FORGET
 };
 
-// The kicks, by their numbers.
-const KICKS: &[Kick] = &[
-    INIT,
-    LOOKUP,
-    READ,
-    WRITE,
-    FORGET,
-    BATCH_FORGET,
+// The kicks, three by three: the proof of a function that has them all would be long.
+const CALLS: &[Kick] = &[INIT, LOOKUP, READ];
+
+fn call_of(number: usize) -> Option<&'static Kick> {
+    CALLS.get(number)
+}
+
+const NODES: &[Kick] = &[WRITE, FORGET, BATCH_FORGET];
+
+fn node_of(number: usize) -> Option<&'static Kick> {
+    NODES.get(number)
+}
+
+const SHAPES: &[Kick] = &[
     Kick {
         name: "LOOKUP has its name in two parts",
         readable: &[(0x1000, 41), (0x3000, 1)],
@@ -264,6 +270,13 @@ const KICKS: &[Kick] = &[
         marked: &[(0, 0)],
         ..UNKNOWN
     },
+];
+
+fn shape_of(number: usize) -> Option<&'static Kick> {
+    SHAPES.get(number)
+}
+
+const CHAINS: &[Kick] = &[
     Kick {
         name: "a table has no whole entries",
         comes: Comes::Back {
@@ -296,6 +309,13 @@ const KICKS: &[Kick] = &[
         marked: &[],
         ..UNKNOWN
     },
+];
+
+fn chain_of(number: usize) -> Option<&'static Kick> {
+    CHAINS.get(number)
+}
+
+const RINGS: &[Kick] = &[
     Kick {
         name: "no such head",
         comes: Comes::Refused(DeviceError::Queue(QueueError::HeadOutOfTable)),
@@ -313,6 +333,13 @@ const KICKS: &[Kick] = &[
         marked: &[(0, 0), (1, 1)],
         ..UNKNOWN
     },
+];
+
+fn ring_of(number: usize) -> Option<&'static Kick> {
+    RINGS.get(number)
+}
+
+const PLACES: &[Kick] = &[
     Kick {
         name: "a room lies over the used ring",
         writable: &[(0x200, 16)],
@@ -335,7 +362,27 @@ const KICKS: &[Kick] = &[
     },
 ];
 
+fn place_of(number: usize) -> Option<&'static Kick> {
+    PLACES.get(number)
+}
+
 /// A kick by its number.
 pub fn kick_of(number: usize) -> Option<&'static Kick> {
-    KICKS.get(number)
+    let at = number % 3;
+    match number / 3 {
+        0 => call_of(at),
+        1 => node_of(at),
+        2 => shape_of(at),
+        3 => chain_of(at),
+        4 => ring_of(at),
+        5 => place_of(at),
+        _ => None,
+    }
+}
+
+const PLAIN: &Kick = &UNKNOWN;
+
+/// The plain request.
+pub fn unknown() -> &'static Kick {
+    PLAIN
 }

@@ -3,7 +3,7 @@
 ghost use Rattle.std.specs.Prelude.{IfOk};
 ghost use Rattle.vm_atomic_bitmaps.specs.Passes.{IsPassOf};
 
-use crate::given::{Host, Trial, Unmet, expect, expect_kept, met};
+use crate::given::{Host, Trial, Unmet, expect, expect_kept, met, met_if};
 use call_log::CallLog;
 use fs_device::{Device, LEAST_LIMIT, RestoreError, Stream};
 use server_segments::{Error, Writer};
@@ -11,7 +11,7 @@ use std::alloc::Global;
 use std::num::NonZeroUsize;
 use std::sync::Arc;
 use vm_atomic_bitmaps::{AtomicBitmap, BitmapPass};
-use vm_bitmaps::PageBitmap;
+use vm_bitmaps::{NewBitmap, PageBitmap};
 use vm_iotlb::Permissions::{Read, ReadWrite};
 use vm_iotlb::{IommuError, Iotlb, LookupError};
 use vm_memory::{
@@ -27,9 +27,29 @@ fn words(trial: Trial, bitmap: &mut PageBitmap) -> Result<Vec<u64>, Unmet> {
         Err(_) => {
             trial.expect_lacks()?;
             expect_kept(bitmap.is_bit_set(1) && bitmap.is_bit_set(2))?;
-            Ok(bitmap.get_and_reset()?)
+            met(bitmap.get_and_reset(), Unmet::Memory)
         }
     }
+}
+
+// A bitmap of eight pages.
+fn bitmap(trial: Trial, page: NonZeroUsize) -> Result<PageBitmap, Unmet> {
+    match PageBitmap::new(trial.alloc, 1024, page) {
+        Ok(bitmap) => Ok(bitmap),
+        Err(_) => {
+            trial.expect_lacks()?;
+            met(PageBitmap::new(trial.alloc, 1024, page), Unmet::Memory)
+        }
+    }
+}
+
+// Two of its pages are marked, and their marks taken.
+fn mark_two(trial: Trial, bitmap: &mut PageBitmap) -> Result<usize, Unmet> {
+    bitmap.set_addr_range(128, 129);
+    let words = words(trial, bitmap)?;
+    let made = trial.end();
+    expect(!bitmap.is_bit_set(1) && !bitmap.is_bit_set(2))?;
+    met_if(words.as_slice() == [6].as_slice(), made)
 }
 
 /// A bitmap of eight pages, of which two are marked.
@@ -38,19 +58,29 @@ pub fn play_bitmap(trial: Trial) -> Result<usize, Unmet> {
         return Err(Unmet::Drawing);
     };
     trial.begin();
-    let mut bitmap = match PageBitmap::new(trial.alloc, 1024, page) {
-        Ok(bitmap) => bitmap,
+    match bitmap(trial, page) {
+        Ok(mut bitmap) => mark_two(trial, &mut bitmap),
+        Err(unmet) => Err(unmet),
+    }
+}
+
+// A bitmap for 8193 bytes, of pages of 4096.
+fn sized(trial: Trial) -> Result<PageBitmap, Unmet> {
+    match PageBitmap::with_len(trial.alloc, 8193) {
+        Ok(bitmap) => Ok(bitmap),
         Err(_) => {
             trial.expect_lacks()?;
-            PageBitmap::new(trial.alloc, 1024, page)?
+            met(PageBitmap::with_len(trial.alloc, 8193), Unmet::Memory)
         }
-    };
-    bitmap.set_addr_range(128, 129);
-    let words = words(trial, &mut bitmap)?;
+    }
+}
+
+/// A bitmap for so many bytes.
+pub fn play_sized(trial: Trial) -> Result<usize, Unmet> {
+    trial.begin();
+    let bitmap = sized(trial)?;
     let made = trial.end();
-    expect(words.as_slice() == [6].as_slice())?;
-    expect(!bitmap.is_bit_set(1) && !bitmap.is_bit_set(2))?;
-    Ok(made)
+    met_if(bitmap.len() == 3, made)
 }
 
 // Takes the marks of two pages, and once more if that lacks memory; then they are marked still.
@@ -73,20 +103,26 @@ fn take(trial: Trial, bitmap: &AtomicBitmap, pass: &mut BitmapPass) -> Result<()
     }
 }
 
+// Ends the sharing of a bitmap with one mark, which came back from a call that was refused.
+fn close_again(trial: Trial, bitmap: AtomicBitmap, pass: BitmapPass) -> Result<(), Unmet>
+    requires { IsPassOf bitmap pass }
+{
+    let mut pass = pass;
+    trial.expect_lacks()?;
+    expect_kept(bitmap.is_bit_set(&mut pass, 5))?;
+    match bitmap.close(trial.alloc, pass) {
+        Ok(words) => expect(words.as_slice() == [32].as_slice()),
+        Err(_) => Err(Unmet::Memory),
+    }
+}
+
 // Ends the sharing of a bitmap with one mark. What is refused comes back as it was.
 fn close(trial: Trial, bitmap: AtomicBitmap, pass: BitmapPass) -> Result<(), Unmet>
     requires { IsPassOf bitmap pass }
 {
     match bitmap.close(trial.alloc, pass) {
         Ok(words) => expect(words.as_slice() == [32].as_slice()),
-        Err((bitmap, mut pass)) => {
-            trial.expect_lacks()?;
-            expect_kept(bitmap.is_bit_set(&mut pass, 5))?;
-            match bitmap.close(trial.alloc, pass) {
-                Ok(words) => expect(words.as_slice() == [32].as_slice()),
-                Err(_) => Err(Unmet::Memory),
-            }
-        }
+        Err((bitmap, pass)) => close_again(trial, bitmap, pass),
     }
 }
 
@@ -172,16 +208,72 @@ fn misses(trial: Trial, table: &Iotlb, iova: u64, length: usize) -> Result<usize
     }
 }
 
+// A mapping within another, a look-up that fails, and a gap.
+fn map_within(trial: Trial, table: &mut Iotlb) -> Result<usize, Unmet> {
+    map(trial, table, 0x1000, 0x8000, 0x1000)?;
+    map(trial, table, 0x1800, 0x4000, 0x100)?;
+    expect(is_readable(table, 0x300))?;
+    expect(misses(trial, table, 0xf00, 0x200)? == 1)?;
+    unmap(trial, table)?;
+    expect(misses(trial, table, 0x1700, 0x300)? == 1)?;
+    Ok(trial.end())
+}
+
 /// A table: a mapping within another, a look-up that fails, and a gap.
 pub fn play_table(trial: Trial) -> Result<usize, Unmet> {
     let mut table = Iotlb::new(trial.alloc);
     trial.begin();
-    map(trial, &mut table, 0x1000, 0x8000, 0x1000)?;
-    map(trial, &mut table, 0x1800, 0x4000, 0x100)?;
-    expect(is_readable(&table, 0x300))?;
-    expect(misses(trial, &table, 0xf00, 0x200)? == 1)?;
-    unmap(trial, &mut table)?;
-    expect(misses(trial, &table, 0x1700, 0x300)? == 1)?;
+    map_within(trial, &mut table)
+}
+
+// A range of 0x1000 addresses, by its number.
+fn range(number: u64) -> u64 {
+    0x10000u64.wrapping_mul(number.wrapping_add(1))
+}
+
+// Whether so many addresses of a range, from one of them on, are mapped.
+fn is_mapped(table: &Iotlb, number: u64, from: u64, length: usize) -> bool {
+    let iova = GuestAddress(range(number).wrapping_add(from));
+    table.lookup(iova, length, Read).is_ok()
+}
+
+// A range is mapped.
+fn map_range(trial: Trial, table: &mut Iotlb, number: u64) -> Result<(), Unmet> {
+    let (from, to) = (GuestAddress(range(number)), GuestAddress(0x2000));
+    match table.set_mapping(from, to, 0x1000, ReadWrite) {
+        Ok(()) => expect(is_mapped(table, number, 0, 0x1000)),
+        Err(error) => {
+            trial.expect_told(error.number() == 4)?;
+            expect_kept(!is_mapped(table, number, 0, 1))?;
+            let again = table.set_mapping(from, to, 0x1000, ReadWrite);
+            met(again, Unmet::Memory)
+        }
+    }
+}
+
+// A range is cut in two.
+fn cut_range(trial: Trial, table: &mut Iotlb, number: u64) -> Result<(), Unmet> {
+    let from = GuestAddress(range(number).wrapping_add(0x800));
+    match table.invalidate_mapping(from, 0x100) {
+        Ok(()) => expect(is_mapped(table, number, 0x900, 0x700)),
+        Err(error) => {
+            trial.expect_told(error.number() == 4)?;
+            expect_kept(is_mapped(table, number, 0, 0x1000))?;
+            met(table.invalidate_mapping(from, 0x100), Unmet::Memory)
+        }
+    }
+}
+
+/// A table of sixteen ranges, each of which is cut in two: it grows on the way, by a mapping and by what is taken out.
+pub fn play_ranges(trial: Trial) -> Result<usize, Unmet> {
+    let mut table = Iotlb::new(trial.alloc);
+    trial.begin();
+    for number in 0..16 {
+        map_range(trial, &mut table, number)?;
+    }
+    for number in 0..16 {
+        cut_range(trial, &mut table, number)?;
+    }
     Ok(trial.end())
 }
 
@@ -227,47 +319,76 @@ fn second(trial: Trial, host: &Host) -> Result<Arc<GuestRegionMmap>, Unmet> {
     }
 }
 
+// A region comes to a layout of one.
+fn with_second(
+    trial: Trial,
+    host: &Host,
+    first: &GuestMemoryMmap,
+    region: Arc<GuestRegionMmap>,
+) -> Result<GuestMemoryMmap, Unmet> {
+    match first.insert_region(region) {
+        Ok(both) => Ok(both),
+        Err(error) => {
+            trial.expect_told(error == NO_ROOM)?;
+            expect_kept(first.num_regions() == 1)?;
+            let region = second(trial, host)?;
+            met(first.insert_region(region), Unmet::Memory)
+        }
+    }
+}
+
+// One of two regions goes and comes back.
+fn go_and_come(trial: Trial, host: &Host, mem: &GuestMemoryMmap) -> Result<usize, Unmet> {
+    let (first, removed) = without_second(trial, mem)?;
+    expect(first.num_regions() == 1 && mem.num_regions() == 2)?;
+    let both = with_second(trial, host, &first, removed)?;
+    let made = trial.end();
+    met_if(both.num_regions() == 2, made)
+}
+
 /// A layout of two regions, one of which goes and comes back.
 pub fn play_layout(trial: Trial) -> Result<usize, Unmet> {
     let mut host = HostMemory::new(trial.alloc);
     trial.begin();
     let mem = two_regions(trial, &mut host)?;
-    let (first, removed) = without_second(trial, &mem)?;
-    expect(first.num_regions() == 1 && mem.num_regions() == 2)?;
-    let both = match first.insert_region(removed) {
-        Ok(both) => both,
+    go_and_come(trial, &host, &mem)
+}
+
+// The two parts of a writer that was split.
+fn expect_split(writer: &Writer, behind: &Writer) -> Result<(), Unmet> {
+    expect(writer.available_bytes() == 24 && behind.available_bytes() == 104)
+}
+
+// A writer of three segments.
+fn writer(trial: Trial) -> Result<Writer, Unmet> {
+    match Writer::new(trial.alloc, &[16, 16, 96]) {
+        Ok(writer) => Ok(writer),
         Err(error) => {
-            trial.expect_told(error == NO_ROOM)?;
-            expect_kept(first.num_regions() == 1)?;
-            let again = first.insert_region(second(trial, &host)?);
-            met(again, Unmet::Memory)?
+            trial.expect_told(error == Error::OutOfMemory)?;
+            met(Writer::new(trial.alloc, &[16, 16, 96]), Unmet::Memory)
         }
-    };
-    let made = trial.end();
-    expect(both.num_regions() == 2)?;
-    Ok(made)
+    }
+}
+
+// What stands behind its first 24 bytes goes to another.
+fn split(trial: Trial, writer: &mut Writer) -> Result<Writer, Unmet> {
+    match writer.split_at(trial.alloc, 24) {
+        Ok(behind) => Ok(behind),
+        Err(error) => {
+            trial.expect_told(error == Error::OutOfMemory)?;
+            expect_kept(writer.available_bytes() == 128)?;
+            met(writer.split_at(trial.alloc, 24), Unmet::Memory)
+        }
+    }
 }
 
 /// A writer of three segments, which is split.
 pub fn play_writer(trial: Trial) -> Result<usize, Unmet> {
     trial.begin();
-    let mut writer = match Writer::new(trial.alloc, &[16, 16, 96]) {
-        Ok(writer) => writer,
-        Err(error) => {
-            trial.expect_told(error == Error::OutOfMemory)?;
-            met(Writer::new(trial.alloc, &[16, 16, 96]), Unmet::Memory)?
-        }
-    };
-    let behind = match writer.split_at(trial.alloc, 24) {
-        Ok(behind) => behind,
-        Err(error) => {
-            trial.expect_told(error == Error::OutOfMemory)?;
-            expect_kept(writer.available_bytes() == 128)?;
-            met(writer.split_at(trial.alloc, 24), Unmet::Memory)?
-        }
-    };
+    let mut writer = writer(trial)?;
+    let behind = split(trial, &mut writer)?;
     let made = trial.end();
-    expect(writer.available_bytes() == 24 && behind.available_bytes() == 104)?;
+    expect_split(&writer, &behind)?;
     Ok(made)
 }
 
@@ -281,21 +402,38 @@ fn restored(alloc: Global, fs: CallLog) -> Result<Device<CallLog>, (RestoreError
     Device::restore(alloc, &mut source, fs, 4096, LEAST_LIMIT)
 }
 
-/// A record is restored. What is refused hands the file system back.
+// The record once more, for the file system that came back.
+fn restored_again(
+    trial: Trial,
+    error: RestoreError,
+    fs: CallLog,
+) -> Result<Device<CallLog>, Unmet> {
+    trial.expect_told(error == RestoreError::OutOfMemory)?;
+    met(restored(trial.alloc, fs), Unmet::Memory)
+}
+
+// The device goes on where the record says.
+fn expect_restored(device: &Device<CallLog>) -> Result<(), Unmet> {
+    match device.queue(0) {
+        Some(queue) => expect(queue.position() == 1 && !queue.is_stopped()),
+        None => Err(Unmet::Answer),
+    }
+}
+
+// A device of the record. What is refused hands the file system back.
+fn restore(trial: Trial) -> Result<Device<CallLog>, Unmet> {
+    match restored(trial.alloc, CallLog::new()) {
+        Ok(device) => Ok(device),
+        Err((error, fs)) => restored_again(trial, error, fs),
+    }
+}
+
+/// A record is restored.
 pub fn play_record(trial: Trial) -> Result<usize, Unmet> {
     trial.begin();
-    let device = match restored(trial.alloc, CallLog::new()) {
-        Ok(device) => device,
-        Err((error, fs)) => {
-            trial.expect_told(error == RestoreError::OutOfMemory)?;
-            met(restored(trial.alloc, fs), Unmet::Memory)?
-        }
-    };
+    let device = restore(trial)?;
     let made = trial.end();
-    match device.queue(0) {
-        Some(queue) => expect(queue.position() == 1 && !queue.is_stopped())?,
-        None => return Err(Unmet::Answer),
-    }
+    expect_restored(&device)?;
     Ok(made)
 }
 
@@ -306,7 +444,7 @@ fn block(trial: Trial, host: &mut Host) -> Result<usize, Unmet> {
         Err(_) => {
             trial.expect_lacks()?;
             expect_kept(host.block_count() == 0)?;
-            Ok(host.new_block(0x2000)?)
+            met(host.new_block(0x2000), Unmet::Memory)
         }
     }
 }
@@ -318,7 +456,7 @@ fn table(trial: Trial, host: &mut Host) -> Result<usize, Unmet> {
         Err(_) => {
             trial.expect_lacks()?;
             expect_kept(host.table(0).is_none())?;
-            Ok(host.new_table()?)
+            met(host.new_table(), Unmet::Memory)
         }
     }
 }
@@ -330,27 +468,36 @@ fn io_set(trial: Trial, host: &mut Host) -> Result<usize, Unmet> {
         Err(_) => {
             trial.expect_lacks()?;
             expect_kept(host.io_bitmap(0).is_none())?;
-            Ok(host.new_io_bitmap(0x3000)?)
+            met(host.new_io_bitmap(0x3000), Unmet::Memory)
         }
     }
+}
+
+// A host's copy.
+fn copied(trial: Trial, host: &Host) -> Result<Host, Unmet> {
+    match host.try_clone() {
+        Ok(copy) => Ok(copy),
+        Err(_) => {
+            trial.expect_lacks()?;
+            met(host.try_clone(), Unmet::Memory)
+        }
+    }
+}
+
+// A host gets a block, a table and a set of I/O pages.
+fn fill(trial: Trial, host: &mut Host) -> Result<(), Unmet> {
+    let block = block(trial, host)?;
+    let table = table(trial, host)?;
+    let set = io_set(trial, host)?;
+    expect((block, table, set) == (0, 0, 0))
 }
 
 /// A host gets a block, a table and a set of I/O pages, and is copied.
 pub fn play_host(trial: Trial) -> Result<usize, Unmet> {
     let mut host: Host = HostMemory::new(trial.alloc);
     trial.begin();
-    let block = block(trial, &mut host)?;
-    let table = table(trial, &mut host)?;
-    let set = io_set(trial, &mut host)?;
-    expect((block, table, set) == (0, 0, 0))?;
-    let copy = match host.try_clone() {
-        Ok(copy) => copy,
-        Err(_) => {
-            trial.expect_lacks()?;
-            host.try_clone()?
-        }
-    };
+    fill(trial, &mut host)?;
+    let copy = copied(trial, &host)?;
     let made = trial.end();
-    expect(copy.block_len(0) == Some(0x2000))?;
-    Ok(made)
+    met_if(copy.block_len(0) == Some(0x2000), made)
 }

@@ -3,6 +3,7 @@
 use crate::given::{Trial, Unmet, expect, met};
 use crate::kicking::Stand;
 use crate::kicks::{Comes, Kick, kick_of};
+use crate::machines::{LogMachine, machine};
 use crate::parts::shared_bitmap;
 use fs_device::DeviceError;
 use fs_queue::QueueError::{AvailTooFar, Stopped};
@@ -23,8 +24,8 @@ const STOPS: &[Comes] = &[
     Comes::Refused(DeviceError::Queue(Stopped)),
 ];
 
-// The calls made no request.
-fn expect_quiet(trial: Trial) -> Result<usize, Unmet> {
+/// The calls made no request.
+pub fn expect_quiet(trial: Trial) -> Result<usize, Unmet> {
     match trial.end() {
         0 => Ok(0),
         _ => Err(Unmet::Requests),
@@ -43,12 +44,70 @@ fn call(stand: &mut Stand, row: usize) -> Result<(), Unmet> {
     }
 }
 
+// The call of a row makes no request.
+fn play_call(trial: Trial, stand: &mut Stand, row: usize) -> Result<usize, Unmet> {
+    trial.begin();
+    call(stand, row)?;
+    expect_quiet(trial)
+}
+
 // A kick is drawn, and the call of a row is made there.
 fn play_stand(trial: Trial, kick: &Kick, row: usize) -> Result<usize, Unmet> {
-    let mut stand = Stand::new(trial.alloc, kick)?;
+    match Stand::new(trial.alloc, kick) {
+        Ok(mut stand) => play_call(trial, &mut stand, row),
+        Err(unmet) => Err(unmet),
+    }
+}
+
+// Changes of a table that change nothing: without length, of what isn't mapped, and of what is mapped so already.
+fn change_nothing(table: &mut Iotlb) -> Result<(), Unmet> {
+    let (from, to) = (GuestAddress(0x9000), GuestAddress(0x8000));
+    expect(table.set_mapping(from, to, 0, Read).is_ok())?;
+    expect(table.set_mapping(from, to, 0x1000, ReadWrite).is_ok())?;
+    expect(table.invalidate_mapping(from, 0).is_ok())?;
+    expect(
+        table
+            .invalidate_mapping(GuestAddress(0x1000), 0x1000)
+            .is_ok(),
+    )
+}
+
+// A table gets one range more, the first from 0x9000 on. Then such changes make no request.
+fn play_range(trial: Trial, table: &mut Iotlb, number: u64) -> Result<usize, Unmet> {
+    let from = GuestAddress(0x9000u64.wrapping_add(number.wrapping_mul(0x10000)));
+    let to = GuestAddress(0x8000u64.wrapping_add(number.wrapping_mul(0x20000)));
+    let mapped = table.set_mapping(from, to, 0x4000, ReadWrite);
+    met(mapped, Unmet::Drawing)?;
     trial.begin();
-    call(&mut stand, row)?;
+    change_nothing(table)?;
     expect_quiet(trial)
+}
+
+// A table of one range, of two, and so on: each time such changes make no request, whether its list is full or not.
+fn play_same_table(trial: Trial) -> Result<usize, Unmet> {
+    let mut table = Iotlb::new(trial.alloc);
+    for number in 0..17 {
+        play_range(trial, &mut table, number)?;
+    }
+    Ok(0)
+}
+
+// A machine runs no command.
+fn run_nothing(trial: Trial, machine: &mut LogMachine) -> Result<usize, Unmet> {
+    trial.begin();
+    match machine.run(trial.alloc, Vec::new(trial.alloc)) {
+        Ok(answers) => expect(answers.is_empty())?,
+        Err(_) => return Err(Unmet::Answer),
+    }
+    expect_quiet(trial)
+}
+
+// A machine is drawn, and runs no command.
+fn play_machine(trial: Trial, kick: &Kick) -> Result<usize, Unmet> {
+    match machine(trial.alloc, kick) {
+        Ok(mut machine) => run_nothing(trial, &mut machine),
+        Err(unmet) => Err(unmet),
+    }
 }
 
 // A look-up that succeeds, in a table of two ranges, which is emptied then.
@@ -91,6 +150,8 @@ pub fn play_quiet(trial: Trial, row: usize) -> Option<Result<usize, Unmet>> {
         5 => Some(play_stand(trial, kick_of(TOO_FAR)?, row)),
         6 => Some(play_table(trial)),
         7 => Some(play_marks(trial)),
+        8 => Some(play_same_table(trial)),
+        9 => Some(play_machine(trial, kick_of(WAITS)?)),
         _ => None,
     }
 }

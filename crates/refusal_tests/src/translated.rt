@@ -2,7 +2,8 @@
 
 use crate::given::{Host, Trial, Unmet, expect, expect_kept, met};
 use crate::kicking::{OUT_OF_MEMORY, Seen, device, guest, processed, queued, served};
-use crate::kicks::{Comes, ENOSYS, Kick, NOTHING_USED, UNKNOWN};
+use crate::kicks::{Comes, ENOSYS, Kick, NOTHING_USED, RING, UNKNOWN};
+use crate::machines::Behind;
 use call_log::CallLog;
 use fs_device::{Device, DeviceError, Fault};
 use fs_queue::{ChainFault, QueueError};
@@ -10,10 +11,7 @@ use std::alloc::{AllocError, Global};
 use vm_bitmaps::Bitmap;
 use vm_iotlb::Permissions;
 use vm_iotlb::Permissions::{Read, ReadWrite, Write};
-use vm_memory::{GuestMemoryMmap, IommuMemory, TableIommu};
 use vm_memory_core::GuestAddress;
-
-type Behind = IommuMemory<GuestMemoryMmap, TableIommu>;
 
 /// I/O addresses, what they are mapped to, how many they are, and what may be done there.
 type Mapping = (u64, u64, usize, Permissions);
@@ -38,6 +36,12 @@ const CUT: Kick = Kick {
     behind: &[(0x1014, &[0xff; 20])],
     ..UNKNOWN
 };
+
+const WITH_CUT: &Kick = &CUT;
+
+fn cut_kick() -> &'static Kick {
+    WITH_CUT
+}
 
 const IO_PAGES: usize = 3;
 
@@ -137,21 +141,35 @@ fn map_all(host: &mut Host, mappings: &[Mapping]) -> Result<(), Unmet> {
     Ok(())
 }
 
-// The device of a row, whose chain is available; no page is marked.
-fn drawn(alloc: Global, row: &Mapped) -> Result<Stand, Unmet> {
-    let guest = guest(alloc, &CUT)?;
-    let (mut host, mut mem) = guest.into_translated(alloc, 0x3000)?;
+// The mappings of a row.
+fn map_row(host: &mut Host, row: &Mapped) -> Result<(), Unmet> {
     for mappings in [row.queue, row.request, row.room] {
-        map_all(&mut host, mappings)?;
+        map_all(host, mappings)?;
     }
+    Ok(())
+}
+
+// The memory of a row, whose chain is available; no page is marked.
+fn behind(alloc: Global, row: &Mapped) -> Result<(Host, Behind), Unmet> {
+    let guest = guest(alloc, cut_kick())?;
+    let (mut host, mut mem) = guest.into_translated(alloc, 0x3000)?;
+    map_row(&mut host, row)?;
     mem.set_iommu_enabled(true);
-    let device = device(alloc, CUT.ring, CUT.position)?;
-    Ok(Stand {
-        alloc,
-        host,
-        mem,
-        device,
-    })
+    Ok((host, mem))
+}
+
+// The device of a row.
+fn drawn(alloc: Global, row: &Mapped) -> Result<Stand, Unmet> {
+    let device = device(alloc, RING, 0)?;
+    match behind(alloc, row) {
+        Ok((host, mem)) => Ok(Stand {
+            alloc,
+            host,
+            mem,
+            device,
+        }),
+        Err(unmet) => Err(unmet),
+    }
 }
 
 impl Stand {
@@ -178,21 +196,33 @@ impl Stand {
     // The marked pages: those of the block have number 0, and I/O pages 1.
     fn marked(&self) -> Result<Vec<(usize, usize)>, AllocError> {
         let mut marked = Vec::new(self.alloc);
+        self.push_marked(&mut marked)?;
+        self.push_io_marked(&mut marked)?;
+        Ok(marked)
+    }
+
+    fn push_marked(&self, marked: &mut Vec<(usize, usize)>) -> Result<(), AllocError> {
         for page in 0..16 {
             if self.is_marked(page) {
                 marked.push((0, page))?;
             }
         }
+        Ok(())
+    }
+
+    fn push_io_marked(&self, marked: &mut Vec<(usize, usize)>) -> Result<(), AllocError> {
         for page in 0..IO_PAGES {
             if self.is_io_marked(page) {
                 marked.push((1, page))?;
             }
         }
-        Ok(marked)
+        Ok(())
     }
 
     fn seen(&self) -> Result<Seen, Unmet> {
-        Seen::of(self.bytes(0, 0x10000)?, self.marked()?, &self.device)
+        let bytes = self.bytes(0, 0x10000)?;
+        let marked = self.marked()?;
+        Seen::of(bytes, marked, &self.device)
     }
 
     // Whether a page of the block is marked.
@@ -211,36 +241,70 @@ impl Stand {
         }
     }
 
-    // All is as the row says.
-    fn expect_row(&self, row: &Mapped) -> Result<(), Unmet> {
-        for (addr, bytes) in row.has {
-            let there = self.bytes(*addr, bytes.len())?;
-            expect(there.as_slice() == *bytes)?;
-        }
+    // These bytes stand at an address.
+    fn expect_there(&self, addr: usize, bytes: &[u8]) -> Result<(), Unmet> {
+        let there = self.bytes(addr, bytes.len())?;
+        expect(there.as_slice() == bytes)
+    }
+
+    // No page of the block is marked, and these I/O pages are.
+    fn expect_marked(&self, pages: &[usize]) -> Result<(), Unmet> {
         for page in 0..16 {
             expect(!self.is_marked(page))?;
         }
         for page in 0..IO_PAGES {
-            expect(self.is_io_marked(page) == row.marked.contains(&page))?;
+            expect(self.is_io_marked(page) == pages.contains(&page))?;
         }
         Ok(())
+    }
+
+    // All is as the row says.
+    fn expect_row(&self, row: &Mapped) -> Result<(), Unmet> {
+        for (addr, bytes) in row.has {
+            self.expect_there(*addr, bytes)?;
+        }
+        self.expect_marked(row.marked)
+    }
+
+    // Nothing changed since.
+    fn expect_kept(&self, before: &Seen) -> Result<(), Unmet> {
+        let now = self.seen()?;
+        expect_kept(now.is_same(before))
+    }
+
+    // A kick of what was seen so before, and how many requests it makes. If it lacks memory it changed nothing, and is made again.
+    fn kick_again(
+        &mut self,
+        trial: Trial,
+        way: usize,
+        before: &Seen,
+    ) -> Result<(Comes, usize), Unmet> {
+        trial.begin();
+        let comes = self.kick(way);
+        let made = trial.end();
+        if comes != OUT_OF_MEMORY {
+            return Ok((comes, made));
+        }
+        trial.expect_lacks()?;
+        self.expect_kept(before)?;
+        Ok((self.kick(way), made))
+    }
+
+    // A kick is as its row says.
+    fn play(&mut self, trial: Trial, row: &Mapped, way: usize) -> Result<usize, Unmet> {
+        let before = self.seen()?;
+        let (comes, made) = self.kick_again(trial, way, &before)?;
+        expect(comes == row.comes)?;
+        self.expect_row(row)?;
+        Ok(made)
     }
 }
 
 /// Plays a row by one of the three ways to step, and answers how many requests it makes. If it lacks memory it changed nothing,
 /// and is made again.
 pub fn play_mapped(trial: Trial, row: &Mapped, way: usize) -> Result<usize, Unmet> {
-    let mut stand = drawn(trial.alloc, row)?;
-    let before = stand.seen()?;
-    trial.begin();
-    let mut comes = stand.kick(way);
-    let made = trial.end();
-    if comes == OUT_OF_MEMORY {
-        trial.expect_lacks()?;
-        expect_kept(stand.seen()?.is_same(&before))?;
-        comes = stand.kick(way);
+    match drawn(trial.alloc, row) {
+        Ok(mut stand) => stand.play(trial, row, way),
+        Err(unmet) => Err(unmet),
     }
-    expect(comes == row.comes)?;
-    stand.expect_row(row)?;
-    Ok(made)
 }

@@ -1,0 +1,214 @@
+//! The handle for a chain in parts: made, told its memory, walked over a chain of many entries, asked, and given back.
+
+use crate::given::{Trial, Unmet, expect, expect_kept, met};
+use fs_chain::{GuestRegions, KeptQueue, MemoryRegion, RegionsError, Told, Walked, Workbench};
+use fs_queue::QueueLayout;
+use fuse_wire::Errno;
+use server_phases::{FileAnswer, FileCall, Session};
+use std::alloc::Global;
+
+// How many entries the chain has: more than a handle has room for at first.
+const ENTRIES: u8 = 20;
+
+// LOOKUP of `hello` in node 1: unique number 7.
+const LOOKUP: &[u8] = &[
+    46, 0, 0, 0, 1, 0, 0, 0, 7, 0, 0, 0, 0, 0, 0, 0, 1, 0, 0, 0, 0, 0, 0, 0, 10, 0, 0, 0, 11, 0, 0,
+    0, 12, 0, 0, 0, 0, 0, 0, 0, b'h', b'e', b'l', b'l', b'o', 0,
+];
+
+// The entries of the chain: 46 bytes of request, then 144 of room.
+fn entry(number: u8) -> [u8; 16] {
+    let (len, flags) = match number {
+        0..17 => (2, 1),
+        17 => (12, 1),
+        18 => (100, 3),
+        _ => (44, 2),
+    };
+    let next = number.wrapping_add(1);
+    [0, 8, 0, 0, 0, 0, 0, 0, len, 0, 0, 0, flags, 0, next, 0]
+}
+
+// One page at 0.
+fn regions(alloc: Global) -> Result<Vec<MemoryRegion>, Unmet> {
+    match MemoryRegion::new(0, 0x1000, 0) {
+        Some(region) => met(Vec::from_array(alloc, [region]), Unmet::Drawing),
+        None => Err(Unmet::Drawing),
+    }
+}
+
+// The memory of that page.
+fn memory(trial: Trial, regions: Vec<MemoryRegion>) -> Result<GuestRegions, Unmet> {
+    match GuestRegions::of_regions(trial.alloc, regions) {
+        Ok(memory) => Ok(memory),
+        Err(error) => {
+            trial.expect_told(error == RegionsError::OutOfMemory)?;
+            memory_again(trial.alloc)
+        }
+    }
+}
+
+fn memory_again(alloc: Global) -> Result<GuestRegions, Unmet> {
+    let regions = regions(alloc)?;
+    met(GuestRegions::of_regions(alloc, regions), Unmet::Memory)
+}
+
+// A handle.
+fn workbench(trial: Trial) -> Result<Workbench, Unmet> {
+    match Workbench::new(trial.alloc) {
+        Ok(workbench) => Ok(workbench),
+        Err(error) => {
+            trial.expect_told(error.number() == 9)?;
+            met(Workbench::new(trial.alloc), Unmet::Memory)
+        }
+    }
+}
+
+// A queue of 64 descriptors: its table at 0, its rings at 0x400 and 0x500.
+fn queue() -> Result<KeptQueue, Unmet> {
+    match QueueLayout::new(64, 0, 0x400, 0x500) {
+        Ok(layout) => Ok(KeptQueue {
+            layout,
+            position: 0,
+            out: false,
+            stopped: None,
+        }),
+        Err(_) => Err(Unmet::Drawing),
+    }
+}
+
+// A walk goes on by a load. What is refused asks for the same load still.
+fn walk(
+    trial: Trial,
+    workbench: &mut Workbench,
+    queue: &mut KeptQueue,
+    load: &[u8],
+) -> Result<Walked, Unmet> {
+    match workbench.walk(queue, load) {
+        Ok(walked) => Ok(walked),
+        Err(error) => {
+            trial.expect_told(error.number() == 9)?;
+            expect_kept(!queue.out && workbench.load_len() == load.len())?;
+            met(workbench.walk(queue, load), Unmet::Memory)
+        }
+    }
+}
+
+// The walk up to the chain's first entry.
+fn walk_rings(trial: Trial, workbench: &mut Workbench, queue: &mut KeptQueue) -> Result<(), Unmet> {
+    for load in [[].as_slice(), [1, 0].as_slice(), [0, 0].as_slice()] {
+        walk(trial, workbench, queue, load)?;
+    }
+    Ok(())
+}
+
+// The walk over its entries.
+fn walk_entries(
+    trial: Trial,
+    workbench: &mut Workbench,
+    queue: &mut KeptQueue,
+) -> Result<Walked, Unmet> {
+    let mut walked = Walked::Idle;
+    for number in 0..ENTRIES {
+        walked = walk(trial, workbench, queue, &entry(number))?;
+    }
+    Ok(walked)
+}
+
+// The chain is out of its queue.
+fn expect_chain(walked: Walked, queue: &KeptQueue) -> Result<(), Unmet> {
+    match walked {
+        Walked::Chain {
+            head,
+            request_len,
+            room_len,
+        } => expect((head, request_len, room_len) == (0, 46, 144) && queue.out),
+        _ => Err(Unmet::Answer),
+    }
+}
+
+// What the chain asks. What is refused leaves it out.
+fn ask(trial: Trial, workbench: &mut Workbench, session: &Session) -> Result<Told, Unmet> {
+    match workbench.ask(session, LOOKUP) {
+        Ok(told) => Ok(told),
+        Err(error) => {
+            trial.expect_told(error.number() == 9)?;
+            expect_kept(workbench.is_out() && workbench.room_len() == 144)?;
+            met(workbench.ask(session, LOOKUP), Unmet::Memory)
+        }
+    }
+}
+
+// It asks for `hello` in node 1.
+fn expect_hello(told: &Told) -> Result<(), Unmet> {
+    match told {
+        Told::Call(FileCall::Lookup { node, name, .. }) => {
+            expect(*node == 1 && name.as_slice() == b"hello".as_slice())
+        }
+        _ => Err(Unmet::Answer),
+    }
+}
+
+// The chain goes back: there is no such name.
+fn give_back(
+    workbench: &mut Workbench,
+    queue: &mut KeptQueue,
+    session: &mut Session,
+) -> Result<(), Unmet> {
+    let answer = FileAnswer::Failed(Errno::ENOENT);
+    met(workbench.answer(session, answer), Unmet::Answer)?;
+    let mut front = [0u8; 16];
+    let stores = met(workbench.begin_return(queue, &mut front), Unmet::Answer)?;
+    let told = met(workbench.end_return(queue, [0, 0]), Unmet::Answer)?;
+    expect(stores.front_len == 16 && front[0] == 16 && front[8] == 7)?;
+    expect(told && queue.position == 1 && !queue.out)
+}
+
+// The chain is walked.
+fn take(trial: Trial, workbench: &mut Workbench, queue: &mut KeptQueue) -> Result<(), Unmet> {
+    walk_rings(trial, workbench, queue)?;
+    let walked = walk_entries(trial, workbench, queue)?;
+    expect_chain(walked, queue)
+}
+
+// The chain is asked, and given back.
+fn answer(
+    trial: Trial,
+    workbench: &mut Workbench,
+    queue: &mut KeptQueue,
+    session: &mut Session,
+) -> Result<usize, Unmet> {
+    let told = ask(trial, workbench, session)?;
+    let made = trial.end();
+    expect_hello(&told)?;
+    give_back(workbench, queue, session)?;
+    Ok(made)
+}
+
+// The chain is walked, asked and given back.
+fn serve(trial: Trial, workbench: &mut Workbench) -> Result<usize, Unmet> {
+    let mut queue = queue()?;
+    let mut session = Session::new(4096);
+    take(trial, workbench, &mut queue)?;
+    answer(trial, workbench, &mut queue, &mut session)
+}
+
+// A handle over some memory serves the chain.
+fn serve_over(trial: Trial, memory: GuestRegions) -> Result<usize, Unmet> {
+    match workbench(trial) {
+        Ok(mut workbench) => {
+            met(workbench.set_memory(memory, 0x101000), Unmet::Answer)?;
+            serve(trial, &mut workbench)
+        }
+        Err(unmet) => Err(unmet),
+    }
+}
+
+/// A handle serves a chain.
+pub fn play_handle(trial: Trial) -> Result<usize, Unmet> {
+    let regions = regions(trial.alloc)?;
+    trial.begin();
+    match memory(trial, regions) {
+        Ok(memory) => serve_over(trial, memory),
+        Err(unmet) => Err(unmet),
+    }
+}
