@@ -41,9 +41,11 @@ try() {
 }
 
 alone() {
+    local kind
     SECONDS_EACH=${SECONDS_EACH:-60}
     make -s -C "$here" "LIBRARY=$LIBRARY" "HEADER=$HEADER" "OUT=$work/checked" \
         "SANITIZE=-fsanitize=address,undefined -fno-sanitize-recover=all" tests
+    make -s -C "$here" "LIBRARY=$LIBRARY" "HEADER=$HEADER" "OUT=$work/plain" "$work/plain/refused"
     try checked checks escape
     try checked checks groups
     try checked checks readonly
@@ -60,4 +62,5 @@ alone() {
     try checked hostile guest "$SECONDS_EACH"
     try checked hostile front-end "$SECONDS_EACH"
     "$work/checked/clumsy" "$SECONDS_EACH" || fail "clumsy: it ended with $?"
+    for kind in plain checked; do "$work/$kind/refused" || fail "refused ($kind): it ended with $?"; done
 }

@@ -1,0 +1,548 @@
+/* Want of memory: one script of calls of pitskhomu.h, over a guest's memory of its own, is played with all the memory
+ * that it asks for, and then with each of its requests for memory refused in turn: that one alone, and that one with
+ * those behind it until the call ends. A call of which a request was refused says so by FS_OUT_OF_MEMORY (fs_restore by
+ * FS_RECORD_OUT_OF_MEMORY), no other says that, and nothing was done: what it was lent is as before, and so is the
+ * handle as far as it can be seen. Made again, it says what it says with ample memory, and so do all behind it. A call
+ * of which pitskhomu.h doesn't say that memory may be wanting asks for none. */
+#include "pitskhomu.h"
+#include <linux/fuse.h>
+#include <stdbool.h>
+#include <stdio.h>
+#include <stdlib.h>
+#include <string.h>
+
+/* ------------------------------------------------------------- memory that is refused */
+
+static struct {
+    uint64_t number;              /* of the request that is refused, from 1 on; 0: none is */
+    bool goes_on, refuses;        /* whether those behind it are refused too, and whether any is now */
+    uint64_t made, refused, held; /* requests, those that were refused, and blocks that weren't freed */
+} heap;
+
+static bool is_refused(void) {
+    heap.made++;
+    bool is_meant = heap.made == heap.number || (heap.goes_on && heap.made > heap.number);
+    if (heap.number == 0 || !heap.refuses || !is_meant) return false;
+    heap.refused++;
+    return true;
+}
+
+/* What the library calls comes here by the linker's --wrap, which wants these names; the rest of the program has the
+ * libc's. */
+void *__real_malloc(size_t len);
+void *__real_realloc(void *block, size_t len);
+void __real_free(void *block);
+
+void *__wrap_malloc(size_t len) {
+    void *made = is_refused() ? NULL : __real_malloc(len);
+    heap.held += made != NULL;
+    return made;
+}
+
+void *__wrap_realloc(void *block, size_t len) {
+    void *made = is_refused() ? NULL : __real_realloc(block, len);
+    heap.held += made != NULL && block == NULL;
+    return made;
+}
+
+void __wrap_free(void *block) {
+    heap.held -= block != NULL;
+    __real_free(block);
+}
+
+/* ------------------------------------------------------------- all that calls are lent */
+
+enum { PAGE = 4096, PAGES = 7, HIGH = 1, LOW = 3, LOW_MOVED = 5, BOUND = 2 * PAGE, SIZE = 64, JUNK = 0xa5 };
+enum { DESC = 0, AVAIL = 0x400, USED = 0x800, ROOM = 0xc00, REQUEST = 0x1000, ROOM_LEN = 0x400, CALLS = 400 };
+/* A table of descriptors one of which goes over the end of a region: the ninth, when a list of eight grows. */
+enum { SPLIT = 8, TABLE = BOUND - 16 * SPLIT - 8, PIECE = 4, ROOM_PIECE = 16, ROOM_PIECES = 10, WINDOWS = 64 };
+
+/* What a handle shows of itself by calls that change nothing. */
+struct seen {
+    uint32_t walks, begins, asks, answers;
+    struct fs_step wanted, first;
+    size_t request_count, room_count, range_count;
+    struct fs_window request[WINDOWS], room[WINDOWS];
+    struct fs_range ranges[WINDOWS];
+};
+
+/* The guest's memory, numbers that are lent, and what calls filled. Two regions of the guest that touch stand apart
+ * here: that below BOUND at the page `low`, the other one at HIGH. */
+struct world {
+    _Alignas(PAGE) uint8_t pages[PAGES * PAGE];
+    unsigned low, offered;
+    struct fs_device device, moved;
+    struct fs_queue queues[2], restored[2];
+    struct fs_step step;
+    struct fs_call call;
+    struct fs_stores stores;
+    uint64_t listed;
+    size_t len, count;
+    uint8_t front[FS_FRONT_MAX], list[512], record[256], notify;
+    struct seen seen;
+    uint32_t status;
+};
+
+/* `told` is the world after each call with ample memory. */
+static struct world now, before, told[CALLS];
+static struct fs_chain chain;
+static size_t at_call, call_count;
+
+#define PLACE(member) offsetof(struct world, member), sizeof now.member
+#define FIELD(member) {#member, PLACE(member)}
+#define FIELDS(first, last) \
+    {#first " to " #last, offsetof(struct world, first), \
+     offsetof(struct world, last) + sizeof now.last - offsetof(struct world, first)}
+
+/* What is compared: bytes of structs without those that fill them up. */
+static const struct {
+    const char *name;
+    size_t at, len;
+} fields[] = {
+    FIELD(pages),
+    FIELD(device),
+    FIELD(moved),
+    FIELD(queues),
+    FIELD(restored),
+    FIELDS(step.at, step.head),
+    FIELDS(call.kind, call.fault),
+    FIELDS(call.unique, call.has_group),
+    FIELDS(call.attr, call.group),
+    FIELDS(stores.front_len, stores.index),
+    FIELD(stores.seen_at),
+    FIELD(listed),
+    FIELD(len),
+    FIELD(count),
+    FIELD(front),
+    FIELD(list),
+    FIELD(record),
+    FIELD(notify),
+    FIELDS(seen.walks, seen.answers),
+    FIELDS(seen.wanted.at, seen.wanted.head),
+    FIELDS(seen.first.at, seen.first.head),
+    FIELDS(seen.request_count, seen.ranges),
+};
+
+/* What differs, or NULL. */
+static const char *differs(const struct world *a, const struct world *b) {
+    for (size_t k = 0; k < sizeof fields / sizeof fields[0]; k++)
+        if (memcmp((const uint8_t *)a + fields[k].at, (const uint8_t *)b + fields[k].at, fields[k].len))
+            return fields[k].name;
+    return NULL;
+}
+
+/* ------------------------------------------------------------- calls */
+
+enum kind { SET_MEMORY, WALK, ASK, SAVE, RESTORE, DROP, REPLY, RETURN, RETURNED, FREE, KINDS };
+
+static const struct {
+    const char *name;
+    uint32_t refusal; /* what it says where memory is wanting; 0: it asks for none */
+    size_t at, len;   /* what it fills: with zeros where memory is wanting, */
+    bool stays;       /* or with what stood there before */
+} kinds[KINDS] = {
+    [SET_MEMORY] = {"fs_chain_set_memory", FS_OUT_OF_MEMORY, .stays = true},
+    [WALK] = {"fs_walk", FS_OUT_OF_MEMORY, PLACE(step), .stays = true},
+    [ASK] = {"fs_ask", FS_OUT_OF_MEMORY, PLACE(call), .stays = false},
+    [SAVE] = {"fs_save", FS_OUT_OF_MEMORY, PLACE(len), .stays = false},
+    [RESTORE] = {"fs_restore", FS_RECORD_OUT_OF_MEMORY, PLACE(count), .stays = false},
+    [DROP] = {.name = "fs_drop"},
+    [REPLY] = {.name = "an answer"},
+    [RETURN] = {.name = "fs_return"},
+    [RETURNED] = {.name = "fs_returned"},
+    [FREE] = {.name = "fs_chain_free"},
+};
+
+/* The call that is made, of which row, whether it is made again, and how many requests were made and refused before. */
+static enum kind kind;
+static const char *row_name;
+static bool is_again;
+static uint64_t made_before, refused_before;
+static uint64_t requests[KINDS]; /* with ample memory */
+
+static _Noreturn void wrong(const char *what, const char *more) {
+    fprintf(stderr, "FAILED: %s, call %zu, %s: %s%s", row_name, at_call, kinds[kind].name, what, more);
+    if (heap.number > 0)
+        fprintf(stderr, " (refused is request %llu%s)", (unsigned long long)heap.number,
+                heap.goes_on ? " with those behind it" : "");
+    fprintf(stderr, "\n");
+    exit(1);
+}
+
+static _Noreturn void wrong_status(uint32_t status, uint32_t wanted) {
+    char what[64];
+    snprintf(what, sizeof what, "it says %s, and not ", fs_status_name(status));
+    wrong(what, fs_status_name(wanted));
+}
+
+/* A walk is handed more than any load has, a question more than any request has, an answer is of another kind: so each
+ * says where the chain is, and does nothing. A free handle begins a walk, which tells its memory. */
+static void look(void) {
+    static const uint8_t nothing[FS_LOAD_MAX];
+    struct seen *seen = &now.seen;
+    struct fs_queue *queue = &now.queues[0];
+    struct fs_call call;
+    uint64_t made = heap.made;
+    memset(seen, 0, sizeof *seen);
+    seen->walks = fs_walk(&chain, queue, nothing, sizeof nothing, &seen->wanted);
+    if (seen->walks == FS_BAD_ARGUMENT && seen->wanted.len == 0) {
+        seen->begins = fs_walk(&chain, queue, nothing, 0, &seen->first);
+        (void)fs_drop(&chain, queue);
+    }
+    seen->asks = fs_ask(&chain, &now.device, nothing, sizeof nothing, &call);
+    bool is_seek = now.call.answer == FS_ANSWER_LSEEK;
+    seen->answers = is_seek ? fs_reply_open(&chain, 1, 0) : fs_reply_lseek(&chain, 1);
+    seen->request_count = fs_request_windows(&chain, 0, UINT64_MAX, seen->request, WINDOWS);
+    seen->room_count = fs_room_windows(&chain, 0, UINT64_MAX, seen->room, WINDOWS);
+    seen->range_count = fs_room_ranges(&chain, 0, UINT64_MAX, seen->ranges, WINDOWS);
+    if (heap.made != made) wrong("a look at the handle asks for memory", "");
+}
+
+static void begin(enum kind next) {
+    kind = next;
+    before = now;
+    memset((uint8_t *)&now + kinds[kind].at, JUNK, kinds[kind].len);
+    made_before = heap.made;
+    refused_before = heap.refused;
+    heap.refuses = !is_again;
+}
+
+/* One request was refused: the call says so, and did nothing. */
+static void check_refused(void) {
+    uint64_t refused = heap.refused - refused_before;
+    if (now.status != kinds[kind].refusal) wrong_status(now.status, kinds[kind].refusal);
+    if (refused > 1) wrong("it asks for more memory after a refusal", "");
+    if (!kinds[kind].stays) memset((uint8_t *)&before + kinds[kind].at, 0, kinds[kind].len);
+    const char *field = differs(&before, &now);
+    if (field) wrong("memory is wanting, and this isn't as it is to be: ", field);
+}
+
+/* With ample memory, what is said is what the script wants; else what was said then. */
+static void check_told(uint32_t wanted) {
+    if (heap.number == 0) {
+        if (now.status != wanted) wrong_status(now.status, wanted);
+        if (at_call == CALLS) wrong("the script has too many calls", "");
+        requests[kind] += heap.made - made_before;
+        told[at_call] = now;
+        return;
+    }
+    if (at_call == call_count) wrong("the script has another call", "");
+    if (now.status != told[at_call].status) wrong_status(now.status, told[at_call].status);
+    const char *field = differs(&told[at_call], &now);
+    if (field) wrong("another than with ample memory: ", field);
+}
+
+/* Looks at what a call did, and whether it is to be made again, since memory was refused. */
+static bool again(uint32_t status, uint32_t wanted) {
+    bool asked = heap.made > made_before;
+    heap.refuses = false;
+    now.status = status;
+    look();
+    if (asked && kinds[kind].refusal == 0) wrong("it asks for memory", "");
+    if (heap.refused > refused_before) {
+        check_refused();
+        return is_again = true;
+    }
+    is_again = false;
+    if (asked && (status == FS_BAD_ARGUMENT || status == FS_WRONG_ORDER || status == FS_MORE))
+        wrong("it asks for memory before it says ", fs_status_name(status));
+    if (status != FS_DONE && status == kinds[kind].refusal)
+        wrong("no request was refused, and it says ", fs_status_name(status));
+    check_told(wanted);
+    at_call++;
+    return false;
+}
+
+/* ------------------------------------------------------------- the guest */
+
+static uint8_t *at(uint64_t guest) {
+    return now.pages + (guest < BOUND ? now.low * PAGE + guest : HIGH * PAGE + (guest - BOUND));
+}
+
+static void put(uint64_t guest, uint64_t value, size_t len) {
+    for (size_t k = 0; k < len; k++) *at(guest + k) = (uint8_t)(value >> 8 * k);
+}
+
+static void put_descriptor(uint64_t table, unsigned k, uint64_t addr, uint64_t len, uint64_t flags) {
+    put(table + 16 * (uint64_t)k, addr, 8);
+    put(table + 16 * (uint64_t)k + 8, len, 4);
+    put(table + 16 * (uint64_t)k + 12, flags, 2);
+    put(table + 16 * (uint64_t)k + 14, flags & 1 ? k + 1 : 0, 2);
+}
+
+/* A request, and the call that it asks for. `words` and `bytes` stand behind its header. */
+struct row {
+    const char *name;
+    uint32_t opcode, kind, answer;
+    size_t word_count, byte_count;
+    uint32_t words[16];
+    const char *bytes;
+    uint64_t options;    /* the device's */
+    bool is_wide, slips; /* whether it stands in many pieces, by a table; whether it is dropped when it is out */
+};
+
+#define ASKS(name, answer) #name, FUSE_##name, FS_CALL_##name, FS_ANSWER_##answer
+#define WORDS(count, ...) .word_count = count, .words = {__VA_ARGS__}
+#define BYTES(text) .bytes = text, .byte_count = sizeof text
+#define LABEL "\x17\0\0\0\1\0\0\0\5\0\0\0\0\0\0\0s\0mine" /* fuse_secctx_header, fuse_secctx, name, value */
+
+static const struct row rows[] = {
+    {ASKS(RENAME, DONE), WORDS(2, 2), BYTES("so long a name that more is wanted\0the other name"), .is_wide = true},
+    {ASKS(INIT, INIT), WORDS(16, 7, 38, 4096)},
+    {ASKS(SETXATTR, DONE), WORDS(2, 6), BYTES("user.name\0value"), .slips = true},
+    {ASKS(CREATE, CREATE), WORDS(4, 0102, 0100644), BYTES("made")},
+    {ASKS(MKDIR, ENTRY), WORDS(2, 040755), BYTES("made\0" LABEL), .options = FUSE_SECURITY_CTX},
+    {ASKS(SYMLINK, ENTRY), BYTES("link\0to")},
+    {ASKS(LOOKUP, ENTRY), BYTES("name")},
+    {ASKS(BATCH_FORGET, NONE), WORDS(10, 2, 0, 2, 0, 1, 0, 3, 0, 1)},
+    {ASKS(READDIR, ENTRIES), WORDS(10, 1, 0, 0, 0, 72)},
+    {ASKS(READDIRPLUS, ENTRIES), WORDS(10, 1, 0, 0, 0, 330)},
+    {ASKS(GETXATTR, XATTR), WORDS(2, 0), BYTES("user.name")},
+    {ASKS(READ, DATA), WORDS(10, 1, 0, 0, 0, 100)},
+    {ASKS(WRITE, WRITE), WORDS(10, 1, 0, 0, 0, 5), BYTES("data")},
+    {ASKS(GETATTR, ATTR), WORDS(4, 0)},
+    {ASKS(OPEN, OPEN), WORDS(2, 2)},
+    {ASKS(STATFS, STATFS), WORDS(0, 0)},
+    {ASKS(LSEEK, LSEEK), WORDS(6, 1)},
+    {"an unknown opcode", 999, FS_CALL_NONE, FS_ANSWER_NONE, WORDS(0, 0)},
+};
+
+static size_t length(const struct row *row) { return 40 + 4 * row->word_count + row->byte_count; }
+
+static void put_request(const struct row *row) {
+    uint64_t head[] = {length(row) | (uint64_t)row->opcode << 32, now.offered, 1, 0, 0}, guest = REQUEST;
+    for (size_t k = 0; k < 5; k++, guest += 8) put(guest, head[k], 8);
+    for (size_t k = 0; k < row->word_count; k++, guest += 4) put(guest, row->words[k], 4);
+    for (size_t k = 0; k < row->byte_count; k++) put(guest++, (uint8_t)row->bytes[k], 1);
+}
+
+/* Offers it in two descriptors, or piece by piece. Answers how many loads its walk has: two of the rings, the
+ * descriptors, and a second part of the one that is split. */
+static unsigned offer(const struct row *row) {
+    unsigned count = 0, loads = 4;
+    size_t len = length(row);
+    put_request(row);
+    if (row->is_wide) {
+        for (size_t k = 0; k < len; k += PIECE)
+            put_descriptor(TABLE, count++, REQUEST + k, len - k < PIECE ? len - k : PIECE, 1);
+        for (unsigned k = 1; k <= ROOM_PIECES; k++)
+            put_descriptor(TABLE, count++, ROOM + 2 * ROOM_PIECE * k, ROOM_PIECE, k < ROOM_PIECES ? 3 : 2);
+        put_descriptor(DESC, 0, TABLE, 16 * (uint64_t)count, 4);
+        loads = count + 4;
+    } else {
+        put_descriptor(DESC, 0, REQUEST, len, 1);
+        put_descriptor(DESC, 1, ROOM, ROOM_LEN, 2);
+    }
+    put(AVAIL + 4 + 2 * (now.offered % SIZE), 0, 2);
+    put(AVAIL + 2, ++now.offered, 2);
+    return loads;
+}
+
+/* ------------------------------------------------------------- the script */
+
+static void tell_memory(unsigned low, uint64_t high, uint32_t wanted) {
+    uintptr_t host = (uintptr_t)now.pages;
+    struct fs_region regions[] = {{high, PAGE, host + HIGH * PAGE}, {0, 2 * PAGE, host + low * PAGE}};
+    do begin(SET_MEMORY);
+    while (again(fs_chain_set_memory(&chain, &now.device, regions, 2), wanted));
+}
+
+static void walk(unsigned loads, uint32_t wanted) {
+    uint8_t bytes[FS_LOAD_MAX];
+    size_t len = 0;
+    now.step = (struct fs_step){0};
+    for (unsigned k = 0; k <= loads; k++) {
+        do begin(WALK);
+        while (again(fs_walk(&chain, &now.queues[0], bytes, len, &now.step), k < loads ? FS_LOAD : wanted));
+        len = now.step.len;
+        if (len > 0) memcpy(bytes, (const void *)now.step.at, len);
+    }
+}
+
+static void drop(void) {
+    do begin(DROP);
+    while (again(fs_drop(&chain, &now.queues[0]), FS_DONE));
+}
+
+static void ask(const struct row *row) {
+    uint8_t request[512];
+    size_t whole = length(row), have = 0, first = whole < FS_FIRST ? whole : FS_FIRST;
+    uint32_t more = row->opcode == FUSE_WRITE ? FS_DONE : FS_MORE;
+    for (size_t k = 0; k < now.seen.request_count; have += now.seen.request[k++].len)
+        memcpy(request + have, (const void *)now.seen.request[k].at, now.seen.request[k].len);
+    now.device.options = row->options;
+    do begin(ASK);
+    while (again(fs_ask(&chain, &now.device, request, first, &now.call), first < whole ? more : FS_DONE));
+    if (now.status == FS_MORE) {
+        do begin(ASK);
+        while (again(fs_ask(&chain, &now.device, request, have, &now.call), FS_DONE));
+    }
+    if (now.call.kind != row->kind || now.call.answer != row->answer)
+        wrong("another call: ", fs_call_name(now.call.kind));
+}
+
+static const struct fs_entry entry = {.node = 2, .entry_secs = 1, .attr = {.ino = 2, .mode = 0100644, .nlink = 1}};
+
+static uint32_t add(const char *name, uint64_t next) {
+    const uint8_t *bytes = (const uint8_t *)name;
+    if (now.call.kind == FS_CALL_READDIR)
+        return fs_add_direntry(&chain, now.list, sizeof now.list, bytes, strlen(name), 2, next, 8);
+    return fs_add_direntry_plus(&chain, now.list, sizeof now.list, bytes, strlen(name), &entry, next);
+}
+
+static uint32_t answer_so(uint32_t answer) {
+    static const struct fs_statfs statfs = {.blocks = 1, .bsize = PAGE};
+    switch (answer) {
+    case FS_ANSWER_ENTRY: return fs_reply_entry(&chain, &entry);
+    case FS_ANSWER_ATTR: return fs_reply_attr(&chain, &entry.attr, 1, 0);
+    case FS_ANSWER_OPEN: return fs_reply_open(&chain, 1, 0);
+    case FS_ANSWER_CREATE: return fs_reply_create(&chain, &entry, 1, 0);
+    case FS_ANSWER_DATA: return fs_reply_data(&chain, 100);
+    case FS_ANSWER_XATTR: return fs_reply_xattr(&chain, 5);
+    case FS_ANSWER_STATFS: return fs_reply_statfs(&chain, &statfs);
+    case FS_ANSWER_WRITE: return fs_reply_write(&chain, 5);
+    case FS_ANSWER_LSEEK: return fs_reply_lseek(&chain, 5);
+    case FS_ANSWER_ENTRIES: return fs_reply_entries(&chain, &now.listed);
+    case FS_ANSWER_INIT: return fs_reply_init(&chain, &now.device, 0);
+    default: return fs_reply_err(&chain, 0);
+    }
+}
+
+/* A listing has place for two entries. */
+static void answer(const struct row *row) {
+    static const char *const names[] = {"first", "second", "third"};
+    if (row->answer == FS_ANSWER_NONE) return;
+    for (unsigned k = 0; k < 3 && row->answer == FS_ANSWER_ENTRIES; k++) {
+        do begin(REPLY);
+        while (again(add(names[k], k + 1), k < 2 ? FS_DONE : FS_FULL));
+    }
+    do begin(REPLY);
+    while (again(answer_so(row->answer), FS_DONE));
+}
+
+static void scatter(const uint8_t *bytes, size_t len) {
+    for (size_t k = 0; k < now.seen.room_count && len > 0; k++) {
+        size_t part = now.seen.room[k].len < len ? now.seen.room[k].len : len;
+        memcpy((void *)now.seen.room[k].at, bytes, part);
+        bytes += part;
+        len -= part;
+    }
+}
+
+static void give_back(void) {
+    uint16_t seen;
+    do begin(RETURN);
+    while (again(fs_return(&chain, &now.queues[0], now.front, sizeof now.front, &now.stores), FS_DONE));
+    scatter(now.front, now.stores.front_len);
+    memcpy((void *)now.stores.id_at, &now.stores.id, 4);
+    memcpy((void *)now.stores.len_at, &now.stores.len, 4);
+    memcpy((void *)now.stores.index_at, &now.stores.index, 2);
+    memcpy(&seen, (const void *)now.stores.seen_at, 2);
+    do begin(RETURNED);
+    while (again(fs_returned(&chain, &now.queues[0], seen, &now.notify), FS_DONE));
+}
+
+static void play(const struct row *row) {
+    unsigned loads = offer(row);
+    row_name = row->name;
+    if (row->is_wide) {
+        walk(SPLIT + 4, FS_LOAD); /* to the second part of what is split */
+        tell_memory(LOW_MOVED, BOUND, FS_CHAIN_OUT);
+        drop();
+    }
+    walk(loads, FS_DONE);
+    if (row->slips) {
+        tell_memory(LOW_MOVED, BOUND, FS_CHAIN_OUT);
+        drop();
+        walk(loads, FS_DONE);
+    }
+    ask(row);
+    answer(row);
+    give_back();
+}
+
+static void save(size_t room, uint32_t wanted) {
+    do begin(SAVE);
+    while (again(fs_save(&now.device, now.queues, 2, now.record, room, &now.len), wanted));
+}
+
+static void restore(size_t room, uint32_t wanted) {
+    do begin(RESTORE);
+    while (again(fs_restore(&now.moved, now.restored, room, now.record, now.len, &now.count), wanted));
+}
+
+static void move(void) {
+    row_name = "a record";
+    now.device.options = FUSE_SECURITY_CTX;
+    save(20, FS_SHORT_BUFFER);
+    save(sizeof now.record, FS_DONE);
+    restore(1, FS_SHORT_BUFFER);
+    restore(2, FS_DONE);
+    if (memcmp(now.restored, now.queues, sizeof now.queues) || now.moved.options != now.device.options)
+        wrong("another record", "");
+}
+
+static void free_chain(void) {
+    row_name = "the end";
+    begin(FREE);
+    fs_chain_free(&chain);
+    (void)again(FS_DONE, FS_DONE);
+    if (chain.at != NULL || chain.full != 0) wrong("the handle isn't zeros", "");
+    if (heap.held != 0) wrong("memory isn't freed", "");
+}
+
+static void play_script(void) {
+    row_name = "memory";
+    tell_memory(LOW, BOUND, FS_DONE);
+    walk(1, FS_IDLE);
+    for (size_t k = 0; k < sizeof rows / sizeof rows[0]; k++) play(&rows[k]);
+    move();
+    row_name = "other memory";
+    tell_memory(LOW_MOVED, PAGE, FS_BAD_ARGUMENT);
+    memcpy(now.pages + LOW_MOVED * PAGE, now.pages + LOW * PAGE, 2 * PAGE);
+    tell_memory(LOW_MOVED, BOUND, FS_DONE);
+    now.low = LOW_MOVED;
+    play(&rows[0]);
+    free_chain();
+}
+
+/* ------------------------------------------------------------- runs */
+
+/* Plays the script with a request refused, if it makes so many; whether one was refused. */
+static bool run(uint64_t number, bool goes_on) {
+    memset(&heap, 0, sizeof heap);
+    memset(&now, 0, sizeof now);
+    heap.number = number;
+    heap.goes_on = goes_on;
+    now.low = LOW;
+    now.device = now.moved = (struct fs_device)FS_DEVICE;
+    now.queues[0] = (struct fs_queue){.desc = DESC, .avail = AVAIL, .used = USED, .size = SIZE};
+    now.queues[1] = (struct fs_queue){.used = 0x1000, .size = 8, .position = 7, .stopped = FS_STOPPED};
+    chain = (struct fs_chain){0};
+    at_call = 0;
+    row_name = "no memory";
+    look();
+    play_script();
+    if (number > 0 && at_call != call_count) wrong("the script ends early", "");
+    if (number > 0 && heap.made >= number && heap.refused == 0)
+        wrong("so many requests were made, and none was refused", "");
+    return heap.refused > 0;
+}
+
+int main(void) {
+    uint64_t runs = 0, all = 0;
+    (void)run(0, false);
+    call_count = at_call;
+    for (size_t k = 0; k < KINDS; k++) {
+        kind = (enum kind)k;
+        all += requests[k];
+        if (kinds[k].refusal != 0 && requests[k] == 0) wrong("it asks for no memory here", "");
+    }
+    for (int goes_on = 0; goes_on < 2; goes_on++)
+        for (uint64_t number = 1; run(number, goes_on); number++) runs++;
+    printf("want of memory: %llu requests in %zu calls (", (unsigned long long)all, call_count);
+    for (size_t k = 0; kinds[k].refusal != 0; k++)
+        printf("%s%s %llu", k > 0 ? ", " : "", kinds[k].name, (unsigned long long)requests[k]);
+    printf("), %llu runs with one refused, or it and those behind it\n", (unsigned long long)runs);
+    return 0;
+}
