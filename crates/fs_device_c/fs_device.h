@@ -186,7 +186,7 @@ uint32_t fs_device_save(struct fs_device *device, uint8_t *buffer, size_t buffer
 
 /* A device that goes on from the record at the front of `saved`. All else is as for fs_device_new. It answers the first cause
  * in this order: FS_BAD_ARGUMENT of page size, limit or the number of files; the record's refusal, from 81 on;
- * FS_BAD_ARGUMENT of the parts of memory. FS_OUT_OF_MEMORY may come if the first are good, and 89 of a good record.
+ * FS_BAD_ARGUMENT of the parts of memory. FS_OUT_OF_MEMORY may come if the first are good, and 89 of a record whose head is.
  * FS_RECORD_TRUNCATED comes only if `saved` ends within the record's head, a queue or the limit. */
 uint32_t fs_device_restore(struct fs_device *device, uint64_t low_base, uint8_t *low, size_t low_len, uint64_t high_base,
                            uint8_t *high, size_t high_len, const struct fs_file *files, size_t file_count,

@@ -122,7 +122,8 @@ enum fs_status {
     /* from 64: refused, and nothing was done. */
     FS_BAD_ARGUMENT = 66,           /* a number that isn't one of those that the function names, or a slice of a wrong length */
     FS_SHORT_BUFFER = 69,           /* the buffer is too short */
-    FS_LONG_REPLY = 71,             /* more data than a reply can tell (2^32 bytes with its header); answer otherwise */
+    FS_LONG_REPLY = 71,             /* more data than a reply can tell (2^32 bytes with its header), in a room that has place for them: answer
+                                       otherwise. With limits of at most 2^31 there is none, and FS_NO_ROOM is told */
     FS_WRONG_ORDER = 73,            /* the chain isn't where this call goes on from */
     FS_OTHER_QUEUE = 74,            /* the chain isn't out of this queue as it stands */
     FS_OTHER_KIND = 75,             /* the call wants an answer of another kind (`answer` of the call) */
@@ -136,7 +137,7 @@ enum fs_status {
     FS_RECORD_BAD_RESERVED = 85,
     FS_RECORD_BAD_QUEUE = 86,
     FS_RECORD_BAD_OPTIONS = 87,
-    FS_RECORD_OUT_OF_MEMORY = 89,   /* memory is wanting to read it */
+    FS_RECORD_OUT_OF_MEMORY = 89,   /* memory is wanting to read it; the call may be made again */
     FS_RECORD_MISMATCH = 90,        /* its page size or limit is another one */
 };
 
@@ -167,7 +168,8 @@ enum fs_request_fault {
 };
 
 /* The file calls. The fields of struct fs_call that each has stand beside it; all have unique, and node, uid, gid and pid but INIT, DESTROY
- * (none of the four) and BATCH_FORGET (no node). */
+ * (none of the four) and BATCH_FORGET (no node). With FUSE_ALLOW_IDMAP, which is agreed on unasked, Linux since 6.12 tells uid and gid only with
+ * calls that make a node; else both are 0xffffffff. */
 enum fs_call_kind {
     FS_CALL_NONE = 0,         /* none is made: the reply is known already (of locks, BMAP, IOCTL, POLL, NOTIFY_REPLY and
                                  TMPFILE it is ENOSYS), or there is none. Go on with fs_return */
@@ -190,7 +192,7 @@ enum fs_call_kind {
     FS_CALL_STATFS = 17,
     FS_CALL_RELEASE = 18,     /* handle, flags, flush, unlock, owner */
     FS_CALL_FSYNC = 20,       /* handle, data_only */
-    FS_CALL_SETXATTR = 21,    /* name, value, flags */
+    FS_CALL_SETXATTR = 21,    /* name, value, flags. Those of FUSE_SETXATTR_EXT aren't told: don't want it at INIT */
     FS_CALL_GETXATTR = 22,    /* name, size; data_len */
     FS_CALL_LISTXATTR = 23,   /* size; data_len */
     FS_CALL_REMOVEXATTR = 24, /* name */
@@ -208,7 +210,7 @@ enum fs_call_kind {
     FS_CALL_READDIRPLUS = 44, /* handle, offset, size: fs_add_direntry_plus */
     FS_CALL_RENAME2 = 45,     /* never: it is FS_CALL_RENAME with flags */
     FS_CALL_LSEEK = 46,       /* handle, offset, flags: whence */
-    FS_CALL_COPY_FILE_RANGE = 47, /* handle, offset, size, to node2, handle2, offset2 */
+    FS_CALL_COPY_FILE_RANGE = 47, /* handle, offset, size, to node2, handle2, offset2. Its flags, 0 in Linux, aren't told */
     FS_CALL_SYNCFS = 50,
 };
 
@@ -332,8 +334,8 @@ uint32_t fs_chain_set_memory(struct fs_chain *chain, const struct fs_device *dev
  * isn't told: set its `out` to 0. */
 void fs_chain_free(struct fs_chain *chain) FS_NONNULL(1);
 
-/* What a walk says: with FS_LOAD, `len` bytes at `at`, 1 to FS_LOAD_MAX; with FS_DONE, the chain. Where nothing was done, the load that a walk still wants.
- * Else zeros. */
+/* What a walk says: with FS_LOAD, `len` bytes at `at`, 1 to FS_LOAD_MAX; with FS_DONE, the chain. Where nothing was done, the load that a walk still wants,
+ * but zeros if the queue's numbers are none. Else zeros. */
 struct fs_step {
     uintptr_t at;
     size_t len;
@@ -349,7 +351,7 @@ struct fs_step {
  * from 1 to 8: the chain is free. A chain whose walk has begun isn't out yet: fs_drop ends it, and so does a refusal. An entry that goes over the
  * end of a region (the next one begins there) is loaded in two parts, by two calls.
  * Errors: FS_WRONG_ORDER (no memory was told), FS_BAD_ARGUMENT (the queue's numbers are none; or `loaded` isn't as long as the load: that is still
- * wanted, and told again), FS_WRONG_ORDER (it is out), FS_OTHER_QUEUE (it walks another), FS_CHAIN_OUT, FS_OUT_OF_MEMORY, 1 to 8, FS_NO_PLACE. */
+ * wanted, and told again), FS_WRONG_ORDER (it is out), FS_OTHER_QUEUE (it walks another), FS_CHAIN_OUT; then in no order FS_OUT_OF_MEMORY, 1 to 8, FS_NO_PLACE. */
 uint32_t fs_walk(struct fs_chain *chain, struct fs_queue *queue, const uint8_t *loaded, size_t loaded_len, struct fs_step *step)
     FS_CHECK FS_NONNULL(1, 2, 5) FS_READS(3, 4) FS_FILLS(5);
 
@@ -421,7 +423,7 @@ struct fs_call {
  * never needs more than FS_FIRST. The library keeps no pointer, and wants the bytes no more; but `call` speaks of places in them.
  * A call whose `answer` is FS_ANSWER_NONE is answered: make it, if there is one, and go on with fs_return.
  * Errors: FS_WRONG_ORDER (no memory was told), FS_BAD_ARGUMENT (page size or limit are none), FS_WRONG_ORDER (no chain, a faulty one, or it was asked),
- * FS_BAD_ARGUMENT (more bytes than the request has), FS_OUT_OF_MEMORY. */
+ * FS_BAD_ARGUMENT (more bytes than the request has), FS_OUT_OF_MEMORY; then `call` is zeros. */
 uint32_t fs_ask(struct fs_chain *chain, const struct fs_device *device, const uint8_t *request, size_t request_len, struct fs_call *call)
     FS_CHECK FS_NONNULL(1, 2, 5) FS_READS(3, 4) FS_FILLS(5);
 
@@ -547,7 +549,8 @@ uint32_t fs_save(const struct fs_device *device, const struct fs_queue *queues, 
 /* Reads a record: into device->options, whose page size and limit have to be the record's, and the queues, of which `count` are told. The record
  * tells whether a queue was stopped, and not by what: `stopped` is 1 then. What it refuses leaves device and queues as they were. Other bytes may
  * stand behind the record.
- * Errors: FS_BAD_ARGUMENT (of the device), 81 to 90, FS_SHORT_BUFFER (of queues; count tells how many there are). */
+ * Errors: FS_BAD_ARGUMENT (of the device), 81 to 90 by what is read first, FS_SHORT_BUFFER (of queues; count tells how many there are, and is 0
+ * after the others). */
 uint32_t fs_restore(struct fs_device *device, struct fs_queue *queues, size_t queue_count, const uint8_t *saved, size_t saved_len,
                     size_t *count) FS_CHECK FS_NONNULL(1, 6) FS_WRITES(2, 3) FS_READS(4, 5) FS_FILLS(6);
 
