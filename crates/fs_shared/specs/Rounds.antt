@@ -1,5 +1,5 @@
 -- What a round of a device leaves of the pages that it wrote.
-use Rattle.std.specs.Prelude.{◌≡◌, ◌≢◌, ◌⊎◌, ℕ, ◌+◌, ◌<◌, ◌≤◌, List, [], ◌∷◌, ◌++◌, All, Option, Some, None, drop}
+use Rattle.std.specs.Prelude.{◌≡◌, ◌≢◌, ◌⊎◌, ℕ, ◌+◌, ◌<◌, ◌≤◌, List, [], ◌∷◌, ◌++◌, All, length, Option, Some, None, drop}
 use Rattle.vm_bitmaps.specs.Words.{page_bit}
 use Rattle.vm_atomic_bitmaps.specs.declared.counts.Tally.{Tally}
 use Rattle.fs_shares.specs.Portion.{HasSeen}
@@ -51,6 +51,6 @@ abbrev pub IsGreatest : Option ℕ → List Receipt → Type 0
 IsGreatest None receipts = receipts ≡ []
 IsGreatest (Some n) receipts = IsNumberOf n receipts × All (λ r. r.number ≤ n) receipts
 
--- the greatest number of the receipts up to one
-abbrev pub IsGreatestOfFirst : Option ℕ → List Receipt → Type 0
-IsGreatestOfFirst last receipts = (first : List Receipt) × IsGreatest last first × GoesOnWith first receipts
+-- the greatest number of the first receipts, at most so many
+abbrev pub IsGreatestOfFirst : (most : ℕ) → Option ℕ → List Receipt → Type 0
+IsGreatestOfFirst most last receipts = (first : List Receipt) × (length first ≤ most) × IsGreatest last first × GoesOnWith first receipts

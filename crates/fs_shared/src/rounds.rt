@@ -177,7 +177,7 @@ fn go_round<L: Ledger, F: FileSystem + Drop, I: Iommu + Drop, R: Wait>(
         TellsPages made.0.len result.gathered.items result.left.items result.parts.start.host result.parts.machine.host }
     ensures since { IsTrue result.is_audited →
         LeavesSince made.0.len result.last_before result.parts.journal.items result.left.items (forget (machine_of result.parts.machine)) }
-    ensures last { IsGreatestOfFirst result.last_before result.receipts.items }
+    ensures last { IsGreatestOfFirst most result.last_before result.receipts.items }
 {
     let (device, mut share, mut harvest) = made;
     let RoundRoom {
@@ -230,7 +230,7 @@ pub fn serve_round<L: Ledger, F: FileSystem + Drop, I: Iommu + Drop, R: Wait>(
         round.gathered.items round.left.items round.parts.start.host round.parts.machine.host) }
     ensures since { IfOk result (λ round. IsTrue round.is_audited → LeavesSince (first_page (lengths machine.host) (length (lengths machine.host)))
         round.last_before round.parts.journal.items round.left.items (forget (machine_of round.parts.machine))) }
-    ensures last { IfOk result (λ round. IsGreatestOfFirst round.last_before round.receipts.items) }
+    ensures last { IfOk result (λ round. IsGreatestOfFirst most round.last_before round.receipts.items) }
     ensures refused { IfErr result (λ back. back.0 ≡ OutOfMemory) }
     ensures blank { IfErr result (λ back. back.1 ≡ blank) }
     ensures machine { IfErr result (λ back. back.2 ≡ machine) }

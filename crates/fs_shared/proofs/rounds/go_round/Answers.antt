@@ -1,4 +1,4 @@
-use Rattle.std.proofs.Common.{◌≡◌, ℕ, ◌+◌, ◌<◌, List, ap, sym, ◌∙◌, subst}
+use Rattle.std.proofs.Common.{◌≡◌, ℕ, ◌+◌, ◌<◌, List, length, ap, arith, sym, ◌∙◌, subst}
 use Rattle.std.proofs.lemmas.List.{with_items_is}
 use Rattle.std.specs.Vec.{with_items}
 use Rattle.vm_bitmaps.specs.Words.{page_bit}
@@ -85,4 +85,6 @@ returns-clause-since g c audited =
 pub returns-clause-last : goal.returns-clause-last
 returns-clause-last g c =
     let last = c.greatest_number-last_before.result in
-    (c.kick_often.new.receipts.items, subst (IsGreatest last) c.deref.ensures.value c.greatest_number-last_before.ensures, c.kick_often-2.ensures.more)
+    let len = c.kick_often.ensures.len in
+    let none = ap length c.requires.receipts in
+    (c.kick_often.new.receipts.items, omega (arith, len, none), subst (IsGreatest last) c.deref.ensures.value c.greatest_number-last_before.ensures, c.kick_often-2.ensures.more)
