@@ -1,4 +1,4 @@
 pub mod Log
-pub mod LogLaws
+pub mod LogProof
 pub mod Runs
 pub mod Steps

@@ -259,7 +259,7 @@ impl FewCalls for CallLog {
     }
 
     ghost use Rattle.std.proofs.Common.{refl};
-    ghost use Rattle.call_log.specs.LogLaws.{rare_unlogged, forgets_logged};
+    ghost use Rattle.call_log.specs.LogProof.{rare_unlogged, forgets_logged};
 
     ghost lacks_rare = { rare_unlogged };
 
@@ -267,13 +267,13 @@ impl FewCalls for CallLog {
 }
 
 impl OpensNothing for CallLog {
-    ghost use Rattle.call_log.specs.LogLaws.{opening_unlogged};
+    ghost use Rattle.call_log.specs.LogProof.{opening_unlogged};
 
     ghost lacks_opening = { opening_unlogged };
 }
 
 impl ChangesNothing for CallLog {
-    ghost use Rattle.call_log.specs.LogLaws.{changing_unlogged};
+    ghost use Rattle.call_log.specs.LogProof.{changing_unlogged};
 
     ghost lacks_changing = { changing_unlogged };
 }

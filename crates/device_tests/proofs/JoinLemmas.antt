@@ -2,7 +2,7 @@
 use Rattle.std.specs.Prelude.{◌+◌, ◌<◌, ◌^◌, List, [], ◌∷◌, ◌++◌}
 use Rattle.std.proofs.lemmas.List.Elements.{All-nil, All-push}
 use Rattle.fs_queue.specs.Chain.{Descriptor}
-use Rattle.fs_queue.specs.Walking.{AllEndIn64Bits}
+use Rattle.fs_queue.specs.WalkingView.{AllEndIn64Bits}
 
 -- with one more that ends in 64 bits all do
 pub all_joined : (ds : List Descriptor) (d : Descriptor) → AllEndIn64Bits ds → d.addr + d.len < 2 ^ 64 → AllEndIn64Bits (ds ++ d ∷ [])

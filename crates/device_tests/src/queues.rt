@@ -1,7 +1,7 @@
 //! Queues alone, and chains of a queue one after another.
 
 ghost use Rattle.std.specs.Prelude.{◌+◌, ◌<◌, ◌^◌, IfSome};
-ghost use Rattle.fs_queue.specs.Walking.{AllEndIn64Bits};
+ghost use Rattle.fs_queue.specs.WalkingView.{AllEndIn64Bits};
 
 use crate::stand::{Act, ENOSYS_REPLY, LIMIT, RING, Stand, UNKNOWN, expect_same, layout, play};
 use fs_queue::{

@@ -19,7 +19,7 @@ use Rattle.vm_copies.proofs.TrackLemmas.{HavePlaces, IsSized, both_none, neither
 use Rattle.fs_queue.specs.Queue.{Queue}
 use Rattle.fs_record.specs.Laws.{OneReading}
 use Rattle.fs_record.specs.Record.{Second, IsRecordFor, IsSavable}
-use Rattle.fs_device.specs.DeviceParts.{DeviceParts, device_bytes}
+use Rattle.fs_device.specs.DevicePartsView.{DeviceParts, device_bytes}
 use Rattle.fs_record.specs.Streams.{GoesOut}
 use Rattle.virtiofsd_fuse.specs.Serving.{May}
 use Rattle.fs_device.specs.declared.command.Answer as told

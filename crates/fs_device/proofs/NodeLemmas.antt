@@ -8,7 +8,7 @@ use Rattle.std.proofs.lemmas.Bool.Decides.{nat_tests}
 use Rattle.std.proofs.lemmas.Nat.{from_le_bytes-to_le_bytes_4, from_le_bytes-to_le_bytes_8}
 use Rattle.std.proofs.lemmas.List.{drop_at, length-replicate}
 use Rattle.vm_values.specs.Fields.{Field, q, field_bytes, spelled}
-use Rattle.vm_values.specs.Unique.{then_is}
+use Rattle.vm_values.specs.UniqueProof.{then_is}
 use Rattle.fuse_wire.specs.declared.opcodes.Opcode.{Opcode}
 use Rattle.fuse_wire.specs.Records.{entry_out, dirent, out_header}
 use Rattle.fuse_fs.specs.declared.answers.Entry.{Entry}

@@ -35,7 +35,7 @@ use Rattle.fs_device.specs.ReplyFront.{AnswersAt, AnswersFront, front_bytes}
 use Rattle.fs_device.specs.declared.reply_front.Answered.{Answered}
 use Rattle.fs_device.specs.declared.reply_front.Front.TheVariants.{Header}
 use Rattle.fs_device.specs.declared.serving.Returned.{Returned}
-use Rattle.fs_device.specs.DeviceParts.{DeviceParts}
+use Rattle.fs_device.specs.DevicePartsView.{DeviceParts}
 use Rattle.fs_device.specs.Returned.{StepTold}
 use Rattle.fs_device.specs.Step.{Exchange}
 use Rattle.fs_queue.specs.Returning.{advanced, returned, wants_notice}

@@ -8,7 +8,7 @@ use Rattle.fs_device.specs.declared.error.DeviceError.{DeviceError}
 use Rattle.fs_device.specs.declared.exchange.Exchange as code
 use Rattle.fs_device.specs.declared.exchange.Fault.{Fault}
 use Rattle.fs_device.specs.Step.{State, Exchange, Outcome, Idle, Refused, Exchanged, Calls, ServesRequest, faulty, served_exchange, served_fault}
-use Rattle.fs_device.specs.DeviceParts.{DeviceParts}
+use Rattle.fs_device.specs.DevicePartsView.{DeviceParts}
 
 -- an exchange
 abbrev pub exchange_of : code.Exchange → Exchange

@@ -1,4 +1,4 @@
-pub mod DeviceParts
+pub mod DevicePartsView
 pub mod Step
 pub mod StepBy
 pub mod DeviceView

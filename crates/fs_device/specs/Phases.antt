@@ -8,7 +8,7 @@ use Rattle.fs_queue.specs.Returning.{wants_notice}
 use Rattle.fs_queue.specs.declared.chain.Chain.{Chain}
 use Rattle.fs_queue.specs.declared.fault.ChainFault.{ChainFault}
 use Rattle.fs_queue.specs.Windows.{HoldsChain, IsEmpty, IsTaken, Taken, room_places}
-use Rattle.server_segments.specs.ReaderAndWriter.{ReaderView}
+use Rattle.server_segments.specs.ReaderAndWriterView.{ReaderView}
 use Rattle.fuse_fs.specs.Lengths.{filled}
 use Rattle.virtiofsd_fuse.specs.WantOfMemory.{may_take_memory}
 use Rattle.virtiofsd_fuse.specs.Serving.{May}

@@ -36,7 +36,7 @@ pub struct Device<F> {
 }
 
 impl<F> Model for Device<F> {
-    ghost use Rattle.fs_device.specs.DeviceParts.{DeviceParts};
+    ghost use Rattle.fs_device.specs.DevicePartsView.{DeviceParts};
 
     ghost Value = { DeviceParts F };
 

@@ -6,7 +6,7 @@ ghost use Rattle.vm_memory_core.specs.Host.{lengths, shape};
 ghost use Rattle.vm_copies.specs.Applying.{first_refused, pages_put};
 ghost use Rattle.vm_copies.specs.PageView.{page_view};
 ghost use Rattle.fs_record.specs.Record.{IsSavable};
-ghost use Rattle.fs_device.specs.DeviceParts.{device_bytes};
+ghost use Rattle.fs_device.specs.DevicePartsView.{device_bytes};
 ghost use Rattle.fs_device.specs.Run.{with_host};
 ghost use Rattle.fs_device.specs.CommandView.{answer_of, command_of};
 ghost use Rattle.fs_device.specs.MachineView.{machine_of};

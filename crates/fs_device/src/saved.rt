@@ -6,7 +6,7 @@ ghost use Rattle.fs_record.specs.Record.{HasKnownBits, IsRecordFor, IsSavable};
 ghost use Rattle.fs_record.specs.Restoring.{RefusesRecord, LeavesSource};
 ghost use Rattle.fs_record.specs.Streams.{GoesOut};
 ghost use Rattle.server_replies.specs.PageSizes.{is_page_size};
-ghost use Rattle.fs_device.specs.DeviceParts.{device_bytes};
+ghost use Rattle.fs_device.specs.DevicePartsView.{device_bytes};
 
 use crate::device::Device;
 use fs_record::{RecordSink, RecordSource, RestoreError, WriteFault, restore_record, save_record};

@@ -4,7 +4,7 @@ use Rattle.vm_bitmaps.specs.Pages.{words_of}
 use Rattle.vm_memory.specs.Layout.{AreHeld}
 use Rattle.fs_queue.specs.Lawful.{layout_error}
 use Rattle.fs_device.specs.declared.error.DeviceError.TheVariants.{NoSuchQueue}
-use Rattle.fs_device.specs.DeviceParts.{device_bytes}
+use Rattle.fs_device.specs.DevicePartsView.{device_bytes}
 use Rattle.fs_device.specs.DeviceView.{state_of}
 use Rattle.fs_device.specs.Step.{State}
 use Rattle.fuse_directory.specs.Directory.{Directory}

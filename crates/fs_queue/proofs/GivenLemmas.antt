@@ -14,10 +14,10 @@ use Rattle.fs_queue.specs.declared.chain_walk.Progress as code
 use Rattle.fs_queue.specs.declared.chain_walk.Progress.TheVariants as says
 use Rattle.fs_queue.specs.Queue.{Queue}
 use Rattle.fs_queue.specs.Chain.{Descriptor, Visit, WalkStep, Ordinary, Table, Faulty, Stops, after_walk_step, with_front, Found, IsChain, HasFault, StopsQueue, chain, first_visit}
-use Rattle.fs_queue.specs.Walking.{found_of}
+use Rattle.fs_queue.specs.WalkingView.{found_of}
 use Rattle.fs_queue.specs.Chain.{entry_address}
 use Rattle.fs_queue.specs.Loads.{Load, Ahead, Reads, Ends, step_by, ahead_at, ahead_after, found_by, IsEntryOf, AreEntriesOf}
-use Rattle.fs_queue.specs.Stepping.{joining, visit_of, load_of, steps_left, IfWants}
+use Rattle.fs_queue.specs.SteppingView.{joining, visit_of, load_of, steps_left, IfWants}
 use Rattle.fs_queue.proofs.WalkLemmas.{prepend, prepend-push, prepend-chain, prepend-fault, prepend-stop}
 use Rattle.fs_queue.proofs.StillLemmas.{ended, still}
 

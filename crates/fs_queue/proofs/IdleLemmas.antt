@@ -11,7 +11,7 @@ use Rattle.fs_queue.specs.NextAvail.{NextAvail, next_avail}
 use Rattle.fs_queue.specs.NextAvail as avail
 use Rattle.fs_queue.specs.declared.walk.Walk.{Walk}
 use Rattle.fs_queue.specs.declared.walk.Walk.TheVariants as walk
-use Rattle.fs_queue.specs.Ringing.{Stage, Told, stage_of}
+use Rattle.fs_queue.specs.RingingView.{Stage, Told, stage_of}
 use Rattle.fs_queue.specs.Taking.{Offer, Refuses, is_idle, offer, offer_of, on_found, on_next_avail}
 use Rattle.fs_queue.proofs.OfferLemmas.{offer_next_avail}
 

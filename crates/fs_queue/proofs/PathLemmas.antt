@@ -10,7 +10,7 @@ use Rattle.fs_queue.specs.declared.fault.ChainFault.TheVariants.{TooLong, NextOu
 use Rattle.fs_queue.specs.Queue.{Queue}
 use Rattle.fs_queue.specs.Chain.{Descriptor, DescriptorTable, Visit, WalkStep, Ordinary, Table, Faulty, Stops, has_next, is_indirect, ends_in_64_bits, indirect_step}
 use Rattle.fs_queue.specs.Chain.{ordinary_step, walk_step, walk_step_at, next_visit, onward, path, first_visit, walk}
-use Rattle.fs_queue.specs.Walking.{in_table}
+use Rattle.fs_queue.specs.WalkingView.{in_table}
 use Rattle.fs_queue.specs.Chain.{entry_address}
 use Rattle.fs_queue.specs.Paths.{entry_of, EntryIsThere, PassesOrdinary, PassesTable, FollowsByNext, FollowsByTable, Follows, EachFollows, IsPath, IsFront}
 use Rattle.fs_queue.proofs.WalkLemmas.{tables_left}

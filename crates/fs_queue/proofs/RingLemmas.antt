@@ -18,7 +18,7 @@ use Rattle.fs_queue.specs.declared.fault.QueueError.TheVariants.{AvailIndexUnrea
 use Rattle.fs_queue.specs.Queue.{Queue, avail_index_at, ring_entry_at}
 use Rattle.fs_queue.specs.NextAvail.{NextAvail, Idle, Head, Refused, next_avail}
 use Rattle.fs_queue.specs.Loads.{holding, index_load, entry_load, asks_entry, IsLoadOf, RingStill, RingIsStill}
-use Rattle.fs_queue.specs.Ringing.{Stage, Told}
+use Rattle.fs_queue.specs.RingingView.{Stage, Told}
 use Rattle.fs_queue.proofs.ReadLemmas.{length-bytes}
 use Rattle.fs_queue.proofs.TakeLemmas.{reach-range}
 

@@ -20,7 +20,7 @@ use Rattle.vm_memory.specs.Memory.{Memory, addresses, located, location, after, 
 use Rattle.fs_queue.specs.declared.chain.Chain.{Chain}
 use Rattle.fs_queue.specs.declared.fault.ChainFault.{ChainFault}
 use Rattle.fs_queue.specs.declared.fault.ChainFault.TheVariants.{RequestUnreachable, RoomUnreachable}
-use Rattle.fs_queue.specs.Walking.{AllEndIn64Bits}
+use Rattle.fs_queue.specs.WalkingView.{AllEndIn64Bits}
 use Rattle.fs_queue.specs.Taking.{readable, writable, total_len, all_reach, request_and_room, IsRequest, CannotFetch}
 use Rattle.fs_queue.specs.Queue.{Queue, element_at, index_at}
 use Rattle.fs_queue.specs.Chain.{Descriptor, is_writable, IsChain}

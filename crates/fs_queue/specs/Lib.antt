@@ -3,10 +3,10 @@ pub mod Records
 pub mod Lawful
 pub mod Queue
 pub mod Chain
-pub mod Walking
+pub mod WalkingView
 pub mod Loads
-pub mod Stepping
-pub mod Ringing
+pub mod SteppingView
+pub mod RingingView
 pub mod NextAvail
 pub mod Taking
 pub mod Returning

@@ -7,7 +7,7 @@ ghost use Rattle.vm_iotlb.specs.declared.permissions.Permissions.TheVariants.{Re
 ghost use Rattle.vm_memory_core.specs.Host.{lengths};
 ghost use Rattle.vm_memory_core.specs.Window.{places, AllLieIn};
 ghost use Rattle.vm_memory.specs.Memory.{addresses, after, bytes, located, location, number, reach};
-ghost use Rattle.fs_queue.specs.Walking.{AreTheBytes};
+ghost use Rattle.fs_queue.specs.WalkingView.{AreTheBytes};
 
 use std::alloc::{AllocError, Global};
 use vm_memory::GuestMemory;

@@ -5,12 +5,12 @@ ghost use Rattle.vm_iotlb.specs.declared.permissions.Permissions.TheVariants.{Re
 ghost use Rattle.vm_memory.specs.Memory.{bytes, reach};
 ghost use Rattle.fs_queue.specs.Chain.{chain, first_visit};
 ghost use Rattle.fs_queue.specs.Loads.{ahead_at};
-ghost use Rattle.fs_queue.specs.Stepping.{ahead_of, IfWants};
-ghost use Rattle.fs_queue.specs.Ringing.{stage_of, Told, BeginsChain, IfRefuses};
+ghost use Rattle.fs_queue.specs.SteppingView.{ahead_of, IfWants};
+ghost use Rattle.fs_queue.specs.RingingView.{stage_of, Told, BeginsChain, IfRefuses};
 ghost use Rattle.fs_queue.specs.NextAvail.{next_avail};
 ghost use Rattle.fs_queue.specs.Taking.{stops_queue};
 ghost use Rattle.fs_queue.specs.Windows.{IsLongChain};
-ghost use Rattle.fs_queue.specs.Walking.{at_position, found_of, AllEndIn64Bits, AreTheRing, AreTheTable, EndsIn64Bits};
+ghost use Rattle.fs_queue.specs.WalkingView.{at_position, found_of, AllEndIn64Bits, AreTheRing, AreTheTable, EndsIn64Bits};
 
 use crate::access::{read, whole_bytes};
 use crate::chain_walk::{Progress, Walked};

@@ -69,8 +69,8 @@ impl ChainWalk {
     ghost use Rattle.fs_queue.specs.Chain.{first_visit};
     ghost use Rattle.fs_queue.specs.Chain.{entry_address};
     ghost use Rattle.fs_queue.specs.Loads.{ahead_at, ahead_after, step_by};
-    ghost use Rattle.fs_queue.specs.Stepping.{visit_of, load_of, ahead_of, joining, steps_left, IfWants};
-    ghost use Rattle.fs_queue.specs.Walking.{at_position, in_table, walk_step_of, IfOrdinary, IfTable, EndsIn64Bits};
+    ghost use Rattle.fs_queue.specs.SteppingView.{visit_of, load_of, ahead_of, joining, steps_left, IfWants};
+    ghost use Rattle.fs_queue.specs.WalkingView.{at_position, in_table, walk_step_of, IfOrdinary, IfTable, EndsIn64Bits};
 
     // At an entry of a table, or past its end.
     fn at(size: u16, table: DescriptorTable, index: u16, earlier: u16) -> Progress

@@ -3,7 +3,7 @@
 ghost use Rattle.std.specs.Prelude.{◌≡◌, Some, true, false, IfOk, IsSomeAnd, OnErr};
 ghost use Rattle.std.specs.Option.{option_map};
 ghost use Rattle.fs_queue.specs.Loads.{chain_by};
-ghost use Rattle.fs_queue.specs.Walking.{at_position, found_of};
+ghost use Rattle.fs_queue.specs.WalkingView.{at_position, found_of};
 ghost use Rattle.fs_queue.specs.Windows.{IsLongChain};
 ghost use Rattle.fs_queue.specs.declared.chain_walk.Walked.TheVariants as walk_ended;
 

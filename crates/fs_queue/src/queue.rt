@@ -43,7 +43,7 @@ impl Model for Queue {
 }
 
 ghost use Rattle.fs_queue.specs.Queue.{fresh, resumed};
-ghost use Rattle.fs_queue.specs.Ringing.{BeginsWalk};
+ghost use Rattle.fs_queue.specs.RingingView.{BeginsWalk};
 ghost use Rattle.fs_queue.specs.Taking.{RequestAndRoom, after_refusal, is_idle, offer, room_of};
 ghost use Rattle.fs_queue.specs.Returning.{returned, stores_after_reply, stores_of, put_back, tells_by, wants_notice, advanced, PutFrontLast};
 ghost use Rattle.fs_queue.specs.Windows.{Takes, after_taking, taken_if, IsTaken, TakenLiesIn, ChainLiesIn, room_places, chain_places, HasItsWindows};

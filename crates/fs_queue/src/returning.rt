@@ -44,7 +44,7 @@ pub struct Return {
 
 impl Return {
     ghost use Rattle.fs_queue.specs.Returning.{stores_after_reply, stores_of, tells};
-    ghost use Rattle.fs_queue.specs.Walking.{at_position};
+    ghost use Rattle.fs_queue.specs.WalkingView.{at_position};
 
     /// The return at a position of a queue of the chain with this head, whose reply has `len` bytes.
     pub fn new(layout: QueueLayout, position: u16, head: u16, len: u32) -> Return

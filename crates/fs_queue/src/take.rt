@@ -9,7 +9,7 @@ ghost use Rattle.vm_memory_core.specs.Host.{lengths};
 ghost use Rattle.vm_memory_core.specs.Window.{places, AllLieIn};
 ghost use Rattle.vm_memory.specs.Memory.{addresses, after, located, location, reach};
 ghost use Rattle.fs_queue.specs.Queue.{element_at, index_at};
-ghost use Rattle.fs_queue.specs.Walking.{AllEndIn64Bits, at_position};
+ghost use Rattle.fs_queue.specs.WalkingView.{AllEndIn64Bits, at_position};
 ghost use Rattle.fs_queue.specs.Taking.{total_len, request_and_room, stops_queue};
 ghost use Rattle.fs_queue.specs.Windows.{of_direction, access_of, addresses_of, used_addresses, return_places_of};
 ghost use Rattle.fs_queue.specs.Windows.{missing_of, return_places_at, room_places, ReturnWindowsLieIn, ChainLiesIn, TakenLiesIn};
@@ -17,7 +17,7 @@ ghost use Rattle.fs_queue.specs.Windows.{HoldsChain, HoldsWindows, HasItsWindows
 ghost use Rattle.fs_queue.specs.Windows.{HoldsFound, KeepsLimit, RefusesFound, RefusesHeld};
 ghost use Rattle.fs_queue.specs.Chain.{IsChain, chain, first_visit};
 ghost use Rattle.fs_queue.specs.Loads.{ahead_at};
-ghost use Rattle.fs_queue.specs.Stepping.{ahead_of, IfWants};
+ghost use Rattle.fs_queue.specs.SteppingView.{ahead_of, IfWants};
 
 use crate::access::{add_windows, reaches};
 use crate::by_loads::{walk_chain, walk_ring};

@@ -40,8 +40,8 @@ pub struct RingEntryWalk {
 ghost use Rattle.fs_queue.specs.Queue.{avail_index_at, ring_entry_at};
 ghost use Rattle.fs_queue.specs.Loads.{asks_entry};
 ghost use Rattle.fs_queue.specs.Taking.{stops_queue};
-ghost use Rattle.fs_queue.specs.Ringing.{by_index, by_entry, stage_of, stage_at, Told, BeginsAt, BeginsChain, IfRingEntry, IfRefuses};
-ghost use Rattle.fs_queue.specs.Walking.{at_position};
+ghost use Rattle.fs_queue.specs.RingingView.{by_index, by_entry, stage_of, stage_at, Told, BeginsAt, BeginsChain, IfRingEntry, IfRefuses};
+ghost use Rattle.fs_queue.specs.WalkingView.{at_position};
 
 impl Walk {
     /// The walk at a position of a queue that isn't stopped.

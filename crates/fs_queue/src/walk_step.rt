@@ -42,7 +42,7 @@ pub(crate) enum WalkStep {
 }
 
 ghost use Rattle.fs_queue.specs.Chain.{indirect_step, ordinary_step, own_table};
-ghost use Rattle.fs_queue.specs.Walking.{at_position, in_table, walk_step_of, IfOrdinary, IfTable, EndsIn64Bits};
+ghost use Rattle.fs_queue.specs.WalkingView.{at_position, in_table, walk_step_of, IfOrdinary, IfTable, EndsIn64Bits};
 
 // What a step comes to at a descriptor that names a table, found in this one after `earlier` ordinary ones.
 pub(crate) fn indirect_step(

@@ -7,7 +7,7 @@ use Rattle.std.specs.List.{flat_map}
 use Rattle.bitflags.specs.Sets.{known_bits, known_from}
 use Rattle.fuse_base.specs.Flags.{fs_options}
 use Rattle.vm_values.specs.Fields.{spelled, field_bytes, Fits, AllFit}
-use Rattle.vm_values.specs.Unique.{halves, fields_once}
+use Rattle.vm_values.specs.UniqueProof.{halves, fields_once}
 use Rattle.fs_queue.specs.Lawful.{layout_error}
 use Rattle.fs_queue.specs.Queue.{Queue}
 use Rattle.fs_queue.specs.declared.fault.QueueLayoutError.TheVariants.{BadSize, Misaligned, EndOverflow}

@@ -6,9 +6,9 @@ use Rattle.fs_queue.specs.declared.chain_walk.Walked as walked
 use Rattle.fs_queue.specs.declared.chain_walk.Walked.TheVariants as comes_to
 use Rattle.fs_queue.specs.declared.fault.ChainFault.{ChainFault}
 use Rattle.fs_queue.specs.Chain.{Descriptor, Visit, WalkStep, Ordinary, Table, Faulty, Stops, after_walk_step, with_front, Found, IsChain, HasFault, StopsQueue, entry_address}
-use Rattle.fs_queue.specs.Walking.{found_of}
+use Rattle.fs_queue.specs.WalkingView.{found_of}
 use Rattle.fs_queue.specs.Loads.{Load, Ahead, Reads, Ends, step_by, ahead_after, found_exactly, is_whole}
-use Rattle.fs_queue.specs.Stepping.{joining}
+use Rattle.fs_queue.specs.SteppingView.{joining}
 use Rattle.fs_regions.specs.Walks.{standing_before, Brings}
 
 -- the chain so far, with the descriptor that joins it

@@ -20,8 +20,8 @@ use Rattle.fs_queue.specs.NextAvail.{NextAvail, Idle, Head, Refused}
 use Rattle.fs_queue.specs.Chain.{Descriptor, Visit, WalkStep, after_walk_step, entry_address, first_visit}
 use Rattle.fs_queue.specs.Loads.{Load, Reads, Ends, asks_entry, is_whole, found_exactly, ahead_at, ahead_after}
 use Rattle.fs_queue.specs.OfferLoads.{waits_by}
-use Rattle.fs_queue.specs.Ringing.{Stage, AsksIndex, AsksEntry, Told, by_index, by_entry, stage_of, stage_at, BeginsAt, BeginsChain, IfRingEntry}
-use Rattle.fs_queue.specs.Walking.{at_position, found_of}
+use Rattle.fs_queue.specs.RingingView.{Stage, AsksIndex, AsksEntry, Told, by_index, by_entry, stage_of, stage_at, BeginsAt, BeginsChain, IfRingEntry}
+use Rattle.fs_queue.specs.WalkingView.{at_position, found_of}
 use Rattle.fs_queue.proofs.LoadLemmas.{step_at, step_lost, reach_none}
 use Rattle.fs_regions.specs.Walks.{Loaded, nothing, standing_before, Brings, BeginsAtHead, BeginsIfChain, TellsBy, StandsAfterIndex, HeadWaits, Waits, IsLost, FindsBy}
 use Rattle.fs_regions.proofs.Finding.{brings_end, before}

@@ -12,9 +12,9 @@ use Rattle.fs_queue.specs.Chain.{Descriptor, with_front, entry_address, Found, I
 use Rattle.fs_queue.specs.Loads.{Load, Ahead, Reads, found_exactly, chain_exactly, asks_entry, ahead_at, is_whole}
 use Rattle.fs_queue.specs.OfferLoads.{waits_by, offer_by}
 use Rattle.fs_queue.specs.Taking.{readable, writable, total_len, IsRequest, CannotFetch, Offer, Idle, Refuses, Offers}
-use Rattle.fs_queue.specs.Ringing.{Told, by_index, stage_of, stage_at, IfRingEntry}
-use Rattle.fs_queue.specs.Stepping.{ahead_of, visit_of, IfWants}
-use Rattle.fs_queue.specs.Walking.{at_position}
+use Rattle.fs_queue.specs.RingingView.{Told, by_index, stage_of, stage_at, IfRingEntry}
+use Rattle.fs_queue.specs.SteppingView.{ahead_of, visit_of, IfWants}
+use Rattle.fs_queue.specs.WalkingView.{at_position}
 use Rattle.fs_queue.specs.Windows.{addresses_of}
 use Rattle.fs_regions.specs.Windows.{return_fault}
 use Rattle.fs_regions.specs.declared.walk.QueueWalk.{QueueWalk}

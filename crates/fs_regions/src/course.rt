@@ -6,8 +6,8 @@ ghost use Rattle.fs_queue.specs.Chain.{first_visit};
 ghost use Rattle.fs_queue.specs.Loads.{Reads, ahead_at};
 ghost use Rattle.fs_queue.specs.NextAvail.{NextAvail};
 ghost use Rattle.fs_queue.specs.OfferLoads.{waits_by};
-ghost use Rattle.fs_queue.specs.Stepping.{ahead_of, visit_of, IfWants};
-ghost use Rattle.fs_queue.specs.Walking.{found_of};
+ghost use Rattle.fs_queue.specs.SteppingView.{ahead_of, visit_of, IfWants};
+ghost use Rattle.fs_queue.specs.WalkingView.{found_of};
 ghost use Rattle.fs_regions.specs.Places.{places_in};
 ghost use Rattle.fs_regions.specs.Walks.{Loaded, nothing, asked_len, asks_table, queue_of, with_bytes, IsCourseOf, TellsBy, StandsAfterIndex, HeadWaits, StandsAt, ComesTo, Waits, Brings, FindsBy};
 

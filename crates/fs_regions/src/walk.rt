@@ -2,7 +2,7 @@
 
 ghost use Rattle.std.specs.Prelude.{◌≡◌, ◌+◌, ◌<◌, ◌≤◌, ◌^◌};
 ghost use Rattle.fs_queue.specs.Chain.{entry_address};
-ghost use Rattle.fs_queue.specs.Stepping.{visit_of};
+ghost use Rattle.fs_queue.specs.SteppingView.{visit_of};
 ghost use Rattle.fs_regions.specs.Walks.{asked_len, asked_by, asks_table};
 
 use fs_queue::{ChainWalk, IndexWalk, RingEntryWalk};

@@ -139,7 +139,7 @@ impl<T: ReadableFileSystem, K: Kind<T>> FewCalls for Files<T, K> {
 
     ghost use Rattle.std.proofs.Common.{ap};
     ghost use Rattle.fuse_files.specs.Files.{is_own_group};
-    ghost use Rattle.fuse_files.specs.FilesLaws.{by_default, forgets_each};
+    ghost use Rattle.fuse_files.specs.FilesProof.{by_default, forgets_each};
 
     ghost lacks_rare = { λ s c rare. by_default K.writes T.may s.0 c (ap (is_own_group K.writes) rare) };
 

@@ -43,7 +43,7 @@ impl<T: ReadableFileSystem> Kind<T> for ReadOnly {
 impl<T: ReadableFileSystem> ChangesNothing for Files<T, ReadOnly> {
     ghost use Rattle.std.proofs.Common.{ap};
     ghost use Rattle.fuse_files.specs.Files.{is_own_group};
-    ghost use Rattle.fuse_files.specs.FilesLaws.{by_default};
+    ghost use Rattle.fuse_files.specs.FilesProof.{by_default};
 
     ghost lacks_changing = { λ s c changing. by_default false T.may s.0 c (ap (is_own_group false) changing) };
 }

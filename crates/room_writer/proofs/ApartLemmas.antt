@@ -14,7 +14,7 @@ use Rattle.vm_memory_core.specs.Window.{Window, io_address, places_of, put_all, 
 use Rattle.vm_memory_core.proofs.WindowLemmas.{put_all-append}
 use Rattle.std.proofs.Math.Seq.{take-nil}
 use Rattle.room_writer.specs.Apart.{Apart, IsApart, are_apart}
-use Rattle.room_writer.specs.FillsLaws.{zip-both, zip-front}
+use Rattle.room_writer.specs.FillsProof.{zip-both, zip-front}
 
 -- two places aren't one byte
 abbrev Differ : Place → Place → Type 0

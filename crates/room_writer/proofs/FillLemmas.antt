@@ -10,7 +10,7 @@ use Rattle.vm_memory_core.specs.Host.{Host, Place, shape}
 use Rattle.vm_memory_core.specs.Window.{Stores, put_all}
 use Rattle.room_writer.specs.Behind.{RoomLeft}
 use Rattle.room_writer.specs.Fills.{Fills}
-use Rattle.room_writer.specs.FillsLaws.{zip-front}
+use Rattle.room_writer.specs.FillsProof.{zip-front}
 
 abbrev pub filling : List ℕ → RoomLeft → Filling
 filling got r = record { put = got; room = length r.places; rooms = r.rooms }

@@ -1,4 +1,4 @@
 pub mod Fills
-pub mod FillsLaws
+pub mod FillsProof
 pub mod Apart
 pub mod Behind

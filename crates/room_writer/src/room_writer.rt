@@ -67,7 +67,7 @@ impl<'a, 'b, 'c, H: HostBlocks> RoomWriter<'a, 'b, 'c, H> {
 impl<'a, 'b, 'c, H: HostBlocks> ZeroCopyWriter for RoomWriter<'a, 'b, 'c, H> {
     ghost use Rattle.std.specs.Prelude.{refl, length};
     ghost use Rattle.std.proofs.Common.{◌∙◌};
-    ghost use Rattle.room_writer.specs.FillsLaws.{fills_more, fills_none};
+    ghost use Rattle.room_writer.specs.FillsProof.{fills_more, fills_none};
 
     ghost Puts = { λ old bytes new. Fills (H.host old.host.now) old.room.now.places bytes (H.host new.host.now) new.room.now.places
         × (new.host.ghost_name ≡ old.host.ghost_name) × H.IsSameLoan old.host.now new.host.now };

@@ -17,7 +17,7 @@ use Rattle.server_requests.specs.Reading as reading
 use Rattle.server_requests.specs.Reading.{ReadFailure, Faults, Sends, Reading, and_then, reading_of, needs, ◌>>◌}
 use Rattle.server_segments.specs.declared.error.Error.{Error}
 use Rattle.server_segments.specs.declared.error.Error.TheVariants.{DecodeMessage}
-use Rattle.server_segments.specs.ReaderAndWriter.{ReaderView}
+use Rattle.server_segments.specs.ReaderAndWriterView.{ReaderView}
 use Rattle.virtiofsd_fuse.specs.Grammar.{Meaning, Asks, FileCommand, One, Starts, Lists, Given, given, meant, meaning, row, row_of, ended, read_row, write_row, listing_row}
 use Rattle.virtiofsd_fuse.specs.WantOfMemory.{row_takes_memory, header_takes_memory, may_take_memory}
 use Rattle.virtiofsd_fuse.specs.Serving.{setting, Handles, lacks_memory}

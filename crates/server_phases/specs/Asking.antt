@@ -10,7 +10,7 @@ use Rattle.fuse_fs.specs.declared.answers.Context.{Context}
 use Rattle.fuse_fs.specs.Answers.{context_of}
 use Rattle.fuse_fs.specs.Lengths.{filled}
 use Rattle.server_requests.specs.Reading.{reading_of}
-use Rattle.server_segments.specs.ReaderAndWriter.{ReaderView}
+use Rattle.server_segments.specs.ReaderAndWriterView.{ReaderView}
 use Rattle.virtiofsd_fuse.specs.WantOfMemory.{may_take_memory}
 use Rattle.server_segments.specs.declared.error.Error.TheVariants.{EncodeMessage}
 use Rattle.virtiofsd_fuse.specs.DataApart.{begins_a_write}

@@ -5,9 +5,7 @@ ghost use Rattle.server_phases.specs.Apart.{apart_of, by_opcode};
 
 use fuse_in::InHeader;
 use fuse_wire::Opcode;
-
-/// The longest request: 2^20 bytes of data, and one page.
-pub(crate) const MAX_REQUEST_LEN: u32 = 0x101000;
+use virtiofsd_fuse::MAX_REQUEST_LEN;
 
 /// Which request has data, or a room that decides what it means.
 #[derive(Clone, Copy)]

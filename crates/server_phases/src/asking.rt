@@ -15,7 +15,6 @@ ghost use Rattle.virtiofsd_fuse.specs.DataApart.{begins_a_write, is_write};
 ghost use Rattle.server_phases.specs.Saying.{ReadsAhead, Says};
 ghost use Rattle.server_phases.specs.Waiting.{first_call};
 
-use crate::apart::MAX_REQUEST_LEN;
 use crate::front::Front;
 use crate::waiting::{Awaits, Waiting, awaits_for};
 use fuse_fs::Context;
@@ -28,7 +27,7 @@ use server_replies::replies::OUT_HEADER_LEN;
 use server_requests::records::read_record;
 use server_segments::{Error, Reader, Writer};
 use std::alloc::Global;
-use virtiofsd_fuse::REQUEST_FRONT;
+use virtiofsd_fuse::{MAX_REQUEST_LEN, REQUEST_FRONT};
 
 /// How many bytes a record of a WRITE has (`struct fuse_write_in`).
 pub(crate) const WRITE_IN_LEN: usize = 40;

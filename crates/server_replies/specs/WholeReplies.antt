@@ -8,7 +8,7 @@ use Rattle.fuse_fs.specs.Answers.{entry_out_of}
 use Rattle.fuse_fs.specs.Replies.{attr_out_of, open_out_of, getxattr_out_of, write_out_of, lseek_out_of}
 use Rattle.fuse_fs.specs.Calls.{FileAnswer, Failed, HasEntry, HasAttr, Opened, Created, Bytes, Count, Stats, Wrote, Offset}
 use Rattle.server_segments.specs.declared.error.Error.{Error}
-use Rattle.server_segments.specs.ReaderAndWriter.{WriterView}
+use Rattle.server_segments.specs.ReaderAndWriterView.{WriterView}
 use Rattle.server_segments.specs.declared.error.Error.TheVariants.{EncodeMessage}
 
 -- struct fuse_out_header and what follows it

@@ -6,7 +6,7 @@ use Rattle.std.proofs.lemmas.Bool.{lt-ltb, le-ltb}
 use Rattle.std.proofs.lemmas.List.{take_at, drop_at}
 use Rattle.std.proofs.lemmas.Nat.{from_le_bytes-to_le_bytes_2, from_le_bytes-to_le_bytes_4, from_le_bytes-to_le_bytes_8}
 use Rattle.vm_values.specs.Fields.{Field, field_bytes, Fits, AllFit, spelled}
-use Rattle.vm_values.specs.Unique.{then_is}
+use Rattle.vm_values.specs.UniqueProof.{then_is}
 use Rattle.fuse_in.specs.Shapes.{RecordPart, u16, u32, u64, u32s, Said, size_of, numbers, said, MakesOf, size, made, AllSaid, field_of, fields_of, made_of, Shape, fields_by}
 use Rattle.server_segments.specs.declared.error.Error.TheVariants.{DecodeMessage}
 use Rattle.server_requests.specs.Reading.{Faults, reading_of}

@@ -3,7 +3,7 @@ use Rattle.std.proofs.Common.{◌≡◌, ℕ, ◌+◌, min, List, ◌++◌, leng
 use Rattle.fuse_fs.specs.Lengths.{filled, past}
 use Rattle.fuse_fs.proofs.SegmentReads.{Filling, Offered, Added}
 use Rattle.fuse_fs.proofs.Lengths.{sum-past, filled-past, past-past}
-use Rattle.server_segments.specs.ReaderAndWriter.{WriterView, rooms}
+use Rattle.server_segments.specs.ReaderAndWriterView.{WriterView, rooms}
 
 abbrev pub filling : WriterView → Filling
 filling w = record { put = w.written; room = w.free; rooms = rooms w }

@@ -4,7 +4,7 @@ use Rattle.std.proofs.lemmas.List.{drop-take, take-take, drop-drop, take_min}
 use Rattle.std.proofs.lemmas.List.Sums.{sum_by_push}
 use Rattle.fuse_fs.specs.Lengths.{filled, first, past, up_to}
 use Rattle.fuse_fs.specs.Transfers.{moved, WritesOnce, WritesOn, WritesEnd, Spends}
-use Rattle.server_segments.specs.ReaderAndWriter.{ReaderView}
+use Rattle.server_segments.specs.ReaderAndWriterView.{ReaderView}
 use Rattle.fuse_fs.proofs.Lengths.{sum-cons, sum-past, past_zero_of, past-past, past-up_to, first-up_to, filled-past, filled-up_to, up_to_min, first_some}
 
 -- a part of what is left is a part of the data

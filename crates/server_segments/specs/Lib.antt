@@ -1,4 +1,4 @@
 pub mod Errors
 pub mod SegmentPlaces
 pub mod Segments
-pub mod ReaderAndWriter
+pub mod ReaderAndWriterView

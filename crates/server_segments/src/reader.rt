@@ -31,7 +31,7 @@ pub struct Reader<'a> {
 
 impl<'a> Model for Reader<'a> {
     ghost use Rattle.std.specs.Prelude.{◌≡◌, ◌+◌, ◌<◌, ◌^◌, [], ◌∷◌, length};
-    ghost use Rattle.server_segments.specs.ReaderAndWriter.{ReaderView};
+    ghost use Rattle.server_segments.specs.ReaderAndWriterView.{ReaderView};
     ghost use Rattle.fuse_fs.specs.Lengths.{filled};
     ghost use Rattle.server_segments.specs.Segments.{all_of, segment_lengths};
 

@@ -11,7 +11,7 @@ ghost use Rattle.vm_values.specs.Fields.{spelled, AllFit};
 ghost use Rattle.server_segments.specs.SegmentPlaces.{bytes_before, IsIn};
 ghost use Rattle.fuse_fs.specs.Lengths.{filled, first, past, up_to};
 ghost use Rattle.fuse_fs.specs.Transfers.{moved, read_answer, ReadsOnce};
-ghost use Rattle.server_segments.specs.ReaderAndWriter.{rooms};
+ghost use Rattle.server_segments.specs.ReaderAndWriterView.{rooms};
 
 use crate::error::Error;
 use crate::reader::write_front;
@@ -56,7 +56,7 @@ pub struct Writer {
 impl Model for Writer {
     ghost use Rattle.std.specs.Prelude.{◌≡◌, ◌+◌, ◌-◌, ◌≤◌, sum, vec_len, vec_capacity};
     ghost use Rattle.smallvec.specs.SmallVec.{small_vec_len};
-    ghost use Rattle.server_segments.specs.ReaderAndWriter.{WriterView};
+    ghost use Rattle.server_segments.specs.ReaderAndWriterView.{WriterView};
     ghost use Rattle.fuse_fs.specs.Lengths.{filled};
     ghost use Rattle.server_segments.specs.SegmentPlaces.{bytes_before, IsIn};
 

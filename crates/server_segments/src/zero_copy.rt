@@ -3,7 +3,7 @@
 ghost use Rattle.std.specs.Prelude.{◌≡◌, ℕ, ◌+◌, List, ◌++◌, length, sum};
 ghost use Rattle.fuse_fs.specs.Lengths.{past, up_to};
 ghost use Rattle.fuse_fs.specs.Transfers.{ReadsSegments};
-ghost use Rattle.server_segments.specs.ReaderAndWriter.{rooms};
+ghost use Rattle.server_segments.specs.ReaderAndWriterView.{rooms};
 
 use crate::reader::Reader;
 use crate::writer::Writer;

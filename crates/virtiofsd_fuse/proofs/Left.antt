@@ -7,7 +7,7 @@ use Rattle.fuse_fs.specs.Lengths.{past}
 use Rattle.fuse_fs.specs.Calls.{FileCall, Extra}
 use Rattle.server_segments.specs.Errors.{is_memory}
 use Rattle.server_segments.specs.declared.error.Error.{Error}
-use Rattle.server_segments.specs.ReaderAndWriter.{ReaderView, WriterView}
+use Rattle.server_segments.specs.ReaderAndWriterView.{ReaderView, WriterView}
 use Rattle.server_requests.specs.Reading.{reading_of}
 use Rattle.server_calls.specs.Requests.{has_security, owns_memory}
 use Rattle.server_replies.specs.WholeReplies.{LeavesWriter}

@@ -1,7 +1,7 @@
 -- Requests that take memory, and requests that don't, worked out.
 use Rattle.std.specs.Prelude.{◌≡◌, ℕ, ◌^◌, true, false, List, [], ◌∷◌, ◌++◌, refl}
 use Rattle.fuse_fs.specs.Lengths.{past}
-use Rattle.server_segments.specs.ReaderAndWriter.{ReaderView}
+use Rattle.server_segments.specs.ReaderAndWriterView.{ReaderView}
 use Rattle.server_requests.specs.Reading.{reading_of, many, front_name}
 use Rattle.server_requests.specs.Fronts.{counted, with_bytes}
 use Rattle.server_requests.specs.Extras.{security_context, part, extension, extensions, extra_in, new_name}

@@ -10,7 +10,7 @@ use Rattle.virtiofsd_fuse.specs.declared.server.Server.{Server}
 use Rattle.server_requests.specs.Reading.{Reading}
 use Rattle.virtiofsd_fuse.specs.Listings.{Listing, Went, list_entries, readdir_call}
 use Rattle.virtiofsd_fuse.specs.Grammar.{Meaning, IsFault, Replies, IsSilent, Asks, FileCommand, One, Starts, Lists, Given, given, ended, row, default_options}
-use Rattle.server_segments.specs.ReaderAndWriter.{WriterView}
+use Rattle.server_segments.specs.ReaderAndWriterView.{WriterView}
 use Rattle.server_replies.specs.WholeReplies.{reply_bytes, error_bytes, started_bytes, told_bytes, listing_bytes, LeavesWriter}
 use Rattle.server_calls.specs.Requests.{is_silent, options_after, given_back}
 pub use Rattle.server_segments.specs.Errors.{is_memory, lacks_memory}

@@ -6,7 +6,7 @@ use Rattle.fuse_wire.specs.declared.opcodes.Opcode.{Opcode}
 use Rattle.fuse_wire.specs.declared.opcodes.Opcode.TheVariants as op
 use Rattle.fuse_wire.specs.Opcodes.{opcode_of}
 use Rattle.fuse_fs.specs.Lengths.{past}
-use Rattle.server_segments.specs.ReaderAndWriter.{ReaderView}
+use Rattle.server_segments.specs.ReaderAndWriterView.{ReaderView}
 use Rattle.server_requests.specs.Reading.{Reading, ReadFailure, reading_of}
 use Rattle.server_requests.specs.Fronts.{counted_split, setxattr_len}
 use Rattle.server_calls.specs.Requests.{owns_memory}

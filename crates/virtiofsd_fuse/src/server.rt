@@ -26,8 +26,8 @@ use server_requests::records::read_record;
 use server_segments::{Error, Reader, Writer};
 use std::alloc::Global;
 
-/// The longest request: 2^20 bytes of data, and one page.
-pub(crate) const MAX_REQUEST_LEN: u32 = 0x101000;
+/// The longest request, in bytes: 2^20 of data, and one page (virtiofsd's `MAX_BUFFER_SIZE` and `FUSE_BUFFER_HEADER_SIZE`).
+pub const MAX_REQUEST_LEN: u32 = 0x101000;
 
 /// A server of one file system.
 #[derive(Drop)]

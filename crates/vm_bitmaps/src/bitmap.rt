@@ -33,6 +33,9 @@ pub trait Bitmap {
     ghost keeps_same: { (b : Self) → Keeps b b };
 }
 
+/// How many bytes a page of guest memory has.
+pub const PAGE_SIZE: usize = 4096;
+
 /// A bitmap that can be made for any length, with pages of 4096 bytes (vm-memory's `NewBitmap`).
 pub trait NewBitmap: Bitmap + Drop {
     // how many marks the bitmap of some bytes has

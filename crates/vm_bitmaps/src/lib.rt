@@ -7,6 +7,6 @@ pub mod page_bitmap;
 pub mod page_words;
 mod summary;
 
-pub use bitmap::{Bitmap, NewBitmap};
+pub use bitmap::{Bitmap, NewBitmap, PAGE_SIZE};
 pub use offset_bitmap::{BaseSlice, RefSlice};
 pub use page_bitmap::PageBitmap;

@@ -4,7 +4,7 @@ ghost use Rattle.std.specs.Prelude.{◌≡◌, ℕ, ◌+◌, ◌-◌, ◌^◌, �
 ghost use Rattle.std.specs.Int.{div_ceil};
 ghost use Rattle.std.specs.NonZero.{non_zero_usize_get};
 
-use crate::bitmap::{Bitmap, NewBitmap};
+use crate::bitmap::{Bitmap, NewBitmap, PAGE_SIZE};
 use crate::page_words::{zeros, zeros_like};
 use crate::summary::{clear_run, clear_words, mark_run, next_page};
 use std::alloc::{AllocError, Global};
@@ -47,8 +47,8 @@ pub fn page_of(page_size: usize, addr: usize) -> usize
     requires { 0 < page_size }
     ensures { result ≡ addr / page_size }
 {
-    if page_size == 4096 {
-        addr / 4096
+    if page_size == PAGE_SIZE {
+        addr / PAGE_SIZE
     } else {
         addr / page_size
     }
@@ -253,6 +253,6 @@ impl NewBitmap for PageBitmap {
         ensures clear { IfOk result (λ b. b.marks ≡ replicate (pages_of 4096 len) false) }
         ensures set { IfOk result (λ b. b ≡ clear_set 4096 len) }
     {
-        PageBitmap::made(alloc, len, 4096)
+        PageBitmap::made(alloc, len, PAGE_SIZE)
     }
 }

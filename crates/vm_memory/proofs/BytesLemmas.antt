@@ -14,7 +14,7 @@ use Rattle.vm_memory.specs.Layout.{Region, place}
 use Rattle.vm_memory.specs.Memory.{Memory, memory_of, circular, located, location, reached, byte, stored_all, transferred}
 use Rattle.vm_memory.specs.Bytes.{MayReach, and_after, places_at, reached_by, reached_from, unless_none}
 use Rattle.vm_memory.specs.RangeAnswers.{CannotGive}
-use Rattle.vm_memory.specs.ReachedBytes.{length-places_at}
+use Rattle.vm_memory.specs.ReachedBytesProof.{length-places_at}
 use Rattle.vm_memory.specs.declared.error.GuestMemoryError.{GuestMemoryError}
 use Rattle.vm_memory.specs.declared.error.GuestMemoryError.TheVariants.{InvalidGuestAddress, PartialBuffer}
 use Rattle.vm_memory.proofs.Places.{Where, bytes-located, stored_all-zip, length-circular}

@@ -5,7 +5,7 @@ pub mod Memory
 pub mod Translating
 pub mod Backend
 pub mod Bytes
-pub mod ReachedBytes
+pub mod ReachedBytesProof
 pub mod Numbers
 pub mod Making
 pub mod Slices

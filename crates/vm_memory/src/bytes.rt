@@ -5,7 +5,7 @@ ghost use Rattle.vm_memory_core.specs.Host.{lengths};
 ghost use Rattle.vm_memory.specs.Layout.{AreHeld};
 ghost use Rattle.vm_memory_core.specs.Window.{LiesIn};
 ghost use Rattle.vm_memory.specs.Bytes.{reached_by, reached_in};
-ghost use Rattle.vm_memory.specs.ReachedBytes.{length-reached_by, length-reached_in};
+ghost use Rattle.vm_memory.specs.ReachedBytesProof.{length-reached_by, length-reached_in};
 ghost use Rattle.vm_memory.specs.Regions.{whole_of};
 ghost use Rattle.vm_memory.specs.declared.error.GuestMemoryError.TheVariants.{InvalidGuestAddress, PartialBuffer};
 

@@ -10,7 +10,7 @@ ghost use Rattle.vm_memory.specs.Layout.{HostHolds};
 ghost use Rattle.vm_memory.specs.Memory.{circular, is_mapped, location, reached, read_first, table_in};
 ghost use Rattle.vm_memory.specs.Behind.{HoldsThrough, seen_through};
 ghost use Rattle.vm_memory.specs.RangeAnswers.{CannotGive};
-ghost use Rattle.vm_memory.specs.ReachedBytes.{length-may_reach};
+ghost use Rattle.vm_memory.specs.ReachedBytesProof.{length-may_reach};
 ghost use Rattle.vm_memory.specs.declared.error.GuestMemoryError.TheVariants.{PartialBuffer};
 
 use crate::bytes::some_of;

@@ -5,5 +5,5 @@ pub mod Volatile
 pub mod Putting
 pub mod Parts
 pub mod Access
-pub mod Reached
+pub mod ReachedProof
 pub mod Numbers

@@ -5,7 +5,7 @@ ghost use Rattle.vm_values.specs.Fields.{spelled};
 ghost use Rattle.vm_memory_core.specs.Host.{Host, Place, lengths, shape};
 ghost use Rattle.vm_memory_core.specs.Window.{LiesIn};
 ghost use Rattle.vm_memory_core.specs.Access.{ReadsAll, ReadsSome, ReadsValue, WritesAll, WritesSome, reached_places};
-ghost use Rattle.vm_memory_core.specs.Reached.{length-reached_places};
+ghost use Rattle.vm_memory_core.specs.ReachedProof.{length-reached_places};
 ghost use Rattle.vm_iotlb.specs.declared.permissions.Permissions.{Permissions};
 ghost use Rattle.vm_memory_core.specs.declared.error.VolatileMemoryError.TheVariants.{PartialBuffer};
 

@@ -8,7 +8,7 @@ use Rattle.std.proofs.lemmas.Slice.{take-put_mid}
 use Rattle.std.proofs.Math.Seq.{take-append-add, take-add}
 use borrow.Rule.Slice.PartMut.{put_mid}
 use Rattle.vm_values.specs.Fields.{Field, array, d, field_bytes, then_fields, spelled}
-use Rattle.vm_values.specs.Unique.{then_is, two_halves}
+use Rattle.vm_values.specs.UniqueProof.{then_is, two_halves}
 
 pub put_at : (a k n : ℕ) (old part : List ℕ) (fs : List Field) → length part ≡ n → a ≤ length old → part ≡ spelled fs → take (a + n) (put_mid a k old part) ≡ then_fields (take a old) fs
 put_at a k n old part fs l h e = take-put_mid a k old part (a + n) (omega arith) h ∙ ap (λ s. take a old ++ s) e ∙ sym (then_is (take a old) fs)

@@ -1,3 +1,3 @@
 pub mod Bits
 pub mod Fields
-pub mod Unique
+pub mod UniqueProof

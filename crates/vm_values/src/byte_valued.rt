@@ -5,7 +5,7 @@ ghost use Rattle.std.specs.Int.{w8, w16, w32, w64, w128};
 ghost use Rattle.std.specs.Io.KnownBytes.{Appends, Consumes};
 ghost use Rattle.std.proofs.Common.{rules};
 ghost use Rattle.vm_values.specs.Fields.{Field, unsigned, signed, spelled, AllFit, HasOneReading, zero_field};
-ghost use Rattle.vm_values.specs.Unique.{fields_once};
+ghost use Rattle.vm_values.specs.UniqueProof.{fields_once};
 
 use std::io::{self, Read, Write};
 

@@ -2,7 +2,7 @@ use Rattle.std.proofs.Common.{inl, inr, [], refl, ◌+◌, ◌*◌, ◌<◌, ◌
 use Rattle.std.proofs.lemmas.List.Elements.{All-push}
 use Rattle.fs_queue.specs.Chain.{Descriptor, DescriptorTable, first_visit}
 use Rattle.fs_queue.specs.Loads.{ahead_at}
-use Rattle.fs_queue.specs.Walking.{AllEndIn64Bits, at_position}
+use Rattle.fs_queue.specs.WalkingView.{AllEndIn64Bits, at_position}
 use Rattle.fs_queue.proofs.GivenLemmas.{answered_end, by_room, came_begin, came_kept, failed_end, kept_none, wants_size}
 use Rattle.fs_queue.proofs.by_loads.walk_chain.Goals as goal
 

@@ -1,8 +1,8 @@
 use Rattle.std.proofs.Common.{◌≡◌, ◌≤◌, IfSome}
 use Rattle.fs_queue.specs.Chain.{first_visit}
 use Rattle.fs_queue.specs.Loads.{ahead_at}
-use Rattle.fs_queue.specs.Stepping.{ahead_of, IfWants}
-use Rattle.fs_queue.specs.Walking.{at_position, AllEndIn64Bits, AreTheTable, EndsIn64Bits}
+use Rattle.fs_queue.specs.SteppingView.{ahead_of, IfWants}
+use Rattle.fs_queue.specs.WalkingView.{at_position, AllEndIn64Bits, AreTheTable, EndsIn64Bits}
 use Rattle.fs_queue.proofs.GivenLemmas.{CameKept, loads_left}
 use Rattle.fs_queue.proofs.by_loads.walk_chain.Given as goal
 

@@ -4,14 +4,14 @@ use Rattle.vm_iotlb.specs.declared.permissions.Permissions.TheVariants.{Read}
 use Rattle.vm_memory.specs.Memory.{bytes, reach}
 use Rattle.fs_queue.specs.Queue.{Queue, ring_entry_at}
 use Rattle.fs_queue.specs.NextAvail.{next_avail}
-use Rattle.fs_queue.specs.Walking.{at_position}
+use Rattle.fs_queue.specs.WalkingView.{at_position}
 use Rattle.fs_queue.specs.declared.layout.QueueLayout.{QueueLayout}
 use Rattle.fs_queue.specs.declared.walk.RingEntryWalk.{RingEntryWalk}
 use Rattle.fs_queue.specs.declared.walk.Walk as code
 use Rattle.fs_queue.specs.declared.walk.Walk.TheVariants as says
 use Rattle.fs_queue.specs.NextAvail.{NextAvail}
 use Rattle.fs_queue.specs.Loads.{asks_entry}
-use Rattle.fs_queue.specs.Ringing.{AsksEntry, Told, by_index, by_entry, stage_at, stage_of}
+use Rattle.fs_queue.specs.RingingView.{AsksEntry, Told, by_index, by_entry, stage_at, stage_of}
 use Rattle.fs_queue.proofs.RingLemmas.{ring_is_still, asked_told}
 use Rattle.fs_queue.proofs.by_loads.walk_ring.Goals as goal
 

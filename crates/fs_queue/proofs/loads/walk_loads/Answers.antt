@@ -4,7 +4,7 @@ use Rattle.std.proofs.lemmas.List.{drop_all}
 use Rattle.fs_queue.specs.Loads.{Load, ahead_after, step_by}
 use Rattle.vm_memory_core.proofs.WindowLemmas.{drop_item}
 use Rattle.fs_queue.specs.Chain.{WalkStep}
-use Rattle.fs_queue.specs.Stepping.{joining, load_of, visit_of}
+use Rattle.fs_queue.specs.SteppingView.{joining, load_of, visit_of}
 use Rattle.fs_queue.proofs.WalkLemmas.{prepend}
 use Rattle.fs_queue.proofs.GivenLemmas.{by_room, ended_by, kept_joining, listed, listed_end, listed_lost, wants_size, with_joining, other_load, no_load}
 use Rattle.fs_queue.proofs.loads.walk_loads.Goals as goal

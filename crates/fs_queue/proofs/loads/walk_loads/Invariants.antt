@@ -3,8 +3,8 @@ use Rattle.fs_queue.specs.Chain.{Descriptor}
 use Rattle.fs_queue.proofs.GivenLemmas.{KeptOf}
 use Rattle.std.specs.Prelude.{option_map}
 use Rattle.fs_queue.specs.Loads.{chain_by, found_by}
-use Rattle.fs_queue.specs.Stepping.{ahead_of, IfWants}
-use Rattle.fs_queue.specs.Walking.{at_position}
+use Rattle.fs_queue.specs.SteppingView.{ahead_of, IfWants}
+use Rattle.fs_queue.specs.WalkingView.{at_position}
 use Rattle.fs_queue.proofs.WalkLemmas.{prepend}
 use Rattle.fs_queue.proofs.loads.walk_loads.Given as goal
 

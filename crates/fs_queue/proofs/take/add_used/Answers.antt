@@ -6,7 +6,7 @@ use Rattle.vm_memory_core.specs.Window.{places}
 use Rattle.vm_memory.specs.Memory.{addresses, located, location}
 use Rattle.vm_memory.proofs.Places.{located-append}
 use Rattle.fs_queue.specs.Queue.{element_at, index_at}
-use Rattle.fs_queue.specs.Walking.{at_position}
+use Rattle.fs_queue.specs.WalkingView.{at_position}
 use Rattle.fs_queue.proofs.TakeLemmas.{after_empty, after_missing, located-lost, none_lies}
 use Rattle.fs_queue.proofs.take.add_used.Goals as goal
 

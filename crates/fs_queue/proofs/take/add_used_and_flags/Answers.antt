@@ -1,7 +1,7 @@
 use Rattle.vm_iotlb.specs.declared.permissions.Permissions.TheVariants.{Read}
 use Rattle.vm_memory_core.specs.Host.{lengths}
 use Rattle.vm_memory.specs.Memory.{addresses, located, location}
-use Rattle.fs_queue.specs.Walking.{at_position}
+use Rattle.fs_queue.specs.WalkingView.{at_position}
 use Rattle.fs_queue.proofs.TakeLemmas.{after_empty, length-range, length-used, none_lies}
 use Rattle.fs_queue.proofs.take.add_used_and_flags.Goals as goal
 

@@ -1,9 +1,9 @@
 use Rattle.std.proofs.Common.{◌≡◌, ◌∙◌, ap, sym, refl}
-use Rattle.fs_queue.specs.Walking.{at_position}
+use Rattle.fs_queue.specs.WalkingView.{at_position}
 use Rattle.fs_queue.specs.Taking.{on_next_avail}
 use Rattle.fs_queue.proofs.OfferLemmas.{offer_next_avail, offer_lacks, refuses, refused_found, refused_walk, taken_found}
 use Rattle.fs_queue.specs.NextAvail.{NextAvail, Idle}
-use Rattle.fs_queue.specs.Ringing.{Stage, AsksIndex, AsksEntry, Told}
+use Rattle.fs_queue.specs.RingingView.{Stage, AsksIndex, AsksEntry, Told}
 use Rattle.fs_queue.proofs.take.take_into.Goals as goal
 
 abbrev next_of : Stage → NextAvail

@@ -3,7 +3,7 @@ use Rattle.std.specs.Prelude.{slice_get, vec_len}
 use Rattle.std.proofs.lemmas.Option.{slice_get_read}
 use Rattle.std.proofs.lemmas.List.{map-append}
 use Rattle.fs_device.specs.CommandView.{exchanged_of}
-use Rattle.fs_device.specs.DeviceParts.{DeviceParts}
+use Rattle.fs_device.specs.DevicePartsView.{DeviceParts}
 use Rattle.fs_device.specs.DeviceView.{state_of}
 use Rattle.fs_device.proofs.KickLemmas.{ends_idle, ends_refused, ends_full, ends_stopped, goes_on, room_wanted}
 use Rattle.fs_device.proofs.device.Device.process_queue.Goals.{else-is_stopped-via-then-is_stopped+else-most-gt0, else-is_stopped-via-else-is_stopped}

@@ -4,7 +4,7 @@ use Rattle.fs_queue.specs.Records.{descriptor}
 use Rattle.fs_queue.specs.Chain.{Descriptor, Visit, WalkStep, is_indirect, walk_step}
 use Rattle.fs_queue.specs.declared.chain_walk.ChainWalk.{ChainWalk}
 use Rattle.fs_queue.specs.Chain.{entry_address}
-use Rattle.fs_queue.specs.Stepping.{visit_of}
+use Rattle.fs_queue.specs.SteppingView.{visit_of}
 use Rattle.fs_queue.proofs.LoadLemmas.{memory_with, step_at, step_lost, step_spelled}
 use Rattle.fs_queue.proofs.chain_walk.ChainWalk.step.Goals as goal
 

@@ -1,7 +1,7 @@
 use Rattle.std.proofs.Common.{List, ap, map, refl, ◌∙◌}
 use Rattle.vm_memory_core.specs.Window.{Window, byte_in, places}
 use Rattle.fs_queue.specs.Returning.{tells}
-use Rattle.fs_queue.specs.Walking.{at_position}
+use Rattle.fs_queue.specs.WalkingView.{at_position}
 use Rattle.fs_queue.proofs.ReturnLemmas.{put_back_is, returned_is, told_is, kept_tables, used_bytes_are}
 use Rattle.fs_queue.proofs.queue.Queue.give_back_front.Goals as goal
 

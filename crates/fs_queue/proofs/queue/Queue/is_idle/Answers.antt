@@ -1,6 +1,6 @@
 use Rattle.std.proofs.Common.{◌≡◌, true, false, refl, ap, sym, ◌∙◌, subst}
-use Rattle.fs_queue.specs.Walking.{at_position}
-use Rattle.fs_queue.specs.Ringing.{stage_of}
+use Rattle.fs_queue.specs.WalkingView.{at_position}
+use Rattle.fs_queue.specs.RingingView.{stage_of}
 use Rattle.fs_queue.specs.Taking.{is_idle, offer}
 use Rattle.fs_queue.proofs.IdleLemmas.{ring_is_idle, tells_idle, waits_unless_idle}
 use Rattle.fs_queue.proofs.queue.Queue.is_idle.Goals as goal

@@ -6,8 +6,8 @@ use Rattle.fs_queue.specs.declared.layout.QueueLayout.{QueueLayout}
 use Rattle.fs_queue.specs.declared.fault.QueueError.TheVariants.{RingEntryUnreachable}
 use Rattle.fs_queue.specs.NextAvail.{Refused, next_avail}
 use Rattle.fs_queue.specs.Loads.{holding, index_load}
-use Rattle.fs_queue.specs.Ringing.{stage_at}
-use Rattle.fs_queue.specs.Walking.{at_position}
+use Rattle.fs_queue.specs.RingingView.{stage_at}
+use Rattle.fs_queue.specs.WalkingView.{at_position}
 use Rattle.fs_queue.proofs.RingLemmas.{index_lost, index_tells, pick}
 use Rattle.fs_queue.proofs.walk.IndexWalk.give.Goals as goal
 

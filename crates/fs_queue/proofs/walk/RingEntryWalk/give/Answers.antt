@@ -8,8 +8,8 @@ use Rattle.fs_queue.specs.declared.fault.QueueError.TheVariants.{HeadOutOfTable}
 use Rattle.fs_queue.specs.NextAvail.{Head, Refused, next_avail}
 use Rattle.fs_queue.specs.Queue.{ring_entry_at, avail_index_at}
 use Rattle.fs_queue.specs.Loads.{asks_entry, holding, index_load, entry_load}
-use Rattle.fs_queue.specs.Ringing.{Told}
-use Rattle.fs_queue.specs.Walking.{at_position}
+use Rattle.fs_queue.specs.RingingView.{Told}
+use Rattle.fs_queue.specs.WalkingView.{at_position}
 use Rattle.fs_queue.proofs.RingLemmas.{entry_tells, entry_read, entry_says}
 use Rattle.fs_queue.proofs.walk.RingEntryWalk.give.Goals as goal
 

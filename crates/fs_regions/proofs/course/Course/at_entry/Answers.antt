@@ -2,7 +2,7 @@ use Rattle.std.proofs.Common.{◌≡◌, ◌∙◌, false, sym, ap}
 use Rattle.vm_iotlb.specs.declared.permissions.Permissions.TheVariants.{Read}
 use Rattle.vm_memory.specs.Memory.{reach}
 use Rattle.fs_queue.specs.Chain.{entry_address}
-use Rattle.fs_queue.specs.Stepping.{visit_of}
+use Rattle.fs_queue.specs.SteppingView.{visit_of}
 use Rattle.fs_regions.specs.Places.{places_in}
 use Rattle.fs_regions.specs.Walks.{queue_of}
 use Rattle.fs_regions.proofs.Steps.{loses, lost_walked}

@@ -4,8 +4,8 @@ use Rattle.vm_iotlb.specs.declared.permissions.Permissions.TheVariants.{Read}
 use Rattle.vm_memory.specs.Memory.{reach}
 use Rattle.fs_queue.specs.Queue.{ring_entry_at}
 use Rattle.fs_queue.specs.Loads.{asks_entry}
-use Rattle.fs_queue.specs.Ringing.{by_index, stage_of}
-use Rattle.fs_queue.specs.Walking.{at_position}
+use Rattle.fs_queue.specs.RingingView.{by_index, stage_of}
+use Rattle.fs_queue.specs.WalkingView.{at_position}
 use Rattle.fs_regions.specs.Places.{places_in}
 use Rattle.fs_regions.specs.Walks.{queue_of, nothing}
 use Rattle.fs_regions.proofs.Steps.{entry_asked, index_came, tells_alone, tells_both, entry_told, begins_of}

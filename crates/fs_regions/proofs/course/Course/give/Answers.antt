@@ -1,7 +1,7 @@
 use Rattle.std.proofs.Common.{◌≡◌, ◌∙◌, [], Some, ap}
 use Rattle.std.specs.Prelude.{length}
 use Rattle.std.proofs.lemmas.Bool.{eq-eqb}
-use Rattle.fs_queue.specs.Walking.{at_position}
+use Rattle.fs_queue.specs.WalkingView.{at_position}
 use Rattle.fs_regions.specs.Places.{places_in}
 use Rattle.fs_regions.specs.Walks.{queue_of}
 use Rattle.fs_regions.proofs.Steps.{after_index, begins_of, entry_told, loaded_pair, not_none, tells_both, whole_pair}

@@ -2,7 +2,7 @@ use Rattle.std.proofs.Common.{◌≡◌, ◌++◌, [], ◌∷◌, List, Some, re
 use Rattle.std.proofs.lemmas.Bool.{eq-eqb}
 use Rattle.fs_queue.specs.Chain.{Descriptor, entry_address, first_visit}
 use Rattle.fs_queue.specs.Loads.{Load, ahead_at}
-use Rattle.fs_queue.specs.Stepping.{ahead_of, visit_of}
+use Rattle.fs_queue.specs.SteppingView.{ahead_of, visit_of}
 use Rattle.fs_queue.proofs.GivenLemmas.{wants_size}
 use Rattle.fs_regions.specs.Places.{places_in}
 use Rattle.fs_regions.specs.Walks.{Brings, queue_of}

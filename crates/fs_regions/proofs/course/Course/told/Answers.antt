@@ -1,6 +1,6 @@
 use Rattle.std.proofs.Common.{◌∙◌, refl, sym, ap, Some}
 use Rattle.fs_queue.specs.NextAvail.{Refused}
-use Rattle.fs_queue.specs.Ringing.{stage_of}
+use Rattle.fs_queue.specs.RingingView.{stage_of}
 use Rattle.fs_regions.specs.Places.{places_in}
 use Rattle.fs_regions.specs.Walks.{queue_of}
 use Rattle.fs_regions.proofs.Offering.{on_refused}

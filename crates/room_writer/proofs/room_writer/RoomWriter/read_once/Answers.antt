@@ -5,7 +5,7 @@ use Rattle.std.proofs.lemmas.List.{nil_from_length}
 use Rattle.vm_memory_core.specs.Host.{lengths}
 use Rattle.vm_memory_core.specs.Window.{AllLieIn}
 use Rattle.room_writer.specs.Behind.{RoomLeft}
-use Rattle.room_writer.specs.FillsLaws.{fills_none}
+use Rattle.room_writer.specs.FillsProof.{fills_none}
 use Rattle.room_writer.proofs.FillLemmas.{fills_front, first_within}
 use Rattle.room_writer.proofs.room_writer.RoomWriter.read_once.Goals as goal
 

@@ -1,7 +1,7 @@
 use Rattle.std.proofs.Common.{◌∷◌, length, sum, sym, ap, ◌∙◌}
 use Rattle.fuse_fs.specs.Lengths.{filled}
 use Rattle.server_segments.specs.Segments.{segment_lengths}
-use Rattle.server_segments.specs.ReaderAndWriter.{ReaderView}
+use Rattle.server_segments.specs.ReaderAndWriterView.{ReaderView}
 use Rattle.server_segments.proofs.Cutting.{sum_all}
 use Rattle.fuse_fs.proofs.Lengths.{filled-filled}
 use Rattle.server_segments.proofs.reader.Reader.available_bytes.Goals as goal

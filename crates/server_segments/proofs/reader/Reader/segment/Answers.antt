@@ -1,7 +1,7 @@
 use Rattle.std.proofs.Common.{◌∷◌, length, sym, ap, ◌∙◌}
 use Rattle.fuse_fs.specs.Lengths.{past}
 use Rattle.server_segments.specs.Segments.{segment_lengths}
-use Rattle.server_segments.specs.ReaderAndWriter.{ReaderView}
+use Rattle.server_segments.specs.ReaderAndWriterView.{ReaderView}
 use Rattle.fuse_fs.proofs.Lengths.{past_zero}
 use Rattle.server_segments.proofs.reader.Reader.segment.Goals as goal
 

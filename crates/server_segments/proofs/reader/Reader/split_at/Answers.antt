@@ -1,7 +1,7 @@
 use Rattle.std.proofs.Common.{◌≡◌, ◌≤◌, [], length, arith, ap, rules}
 use Rattle.std.proofs.lemmas.Grind.{common_steps}
 use Rattle.std.proofs.lemmas.List.{places}
-use Rattle.server_segments.specs.ReaderAndWriter.{ReaderView}
+use Rattle.server_segments.specs.ReaderAndWriterView.{ReaderView}
 use Rattle.server_segments.proofs.Cutting.{cut_before, cut_behind, long_before, long_behind}
 use Rattle.server_segments.proofs.reader.Reader.split_at.Goals as goal
 

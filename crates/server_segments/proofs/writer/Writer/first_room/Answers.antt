@@ -1,6 +1,6 @@
 use Rattle.std.proofs.Common.{◌≡◌, ℕ, ◌-◌, List, length, get_or, arith, ap, ◌∙◌}
 use Rattle.fuse_fs.specs.Lengths.{first}
-use Rattle.server_segments.specs.ReaderAndWriter.{WriterView, rooms}
+use Rattle.server_segments.specs.ReaderAndWriterView.{WriterView, rooms}
 use Rattle.server_segments.specs.SegmentPlaces.{bytes_before}
 use Rattle.server_segments.proofs.Placing.{first_some, first_none}
 use Rattle.server_segments.proofs.writer.Writer.first_room.Goals as goal

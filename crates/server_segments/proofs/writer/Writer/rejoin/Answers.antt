@@ -2,7 +2,7 @@ use Rattle.std.proofs.Common.{◌≡◌, ◌+◌, ◌++◌, length, sum, vec_len
 use Rattle.std.proofs.lemmas.Grind.{common_steps}
 use Rattle.fuse_fs.specs.Lengths.{filled}
 use Rattle.server_segments.specs.SegmentPlaces.{bytes_before}
-use Rattle.server_segments.specs.ReaderAndWriter.{WriterView}
+use Rattle.server_segments.specs.ReaderAndWriterView.{WriterView}
 use Rattle.fuse_fs.proofs.Lengths.{filled-append}
 use Rattle.server_segments.proofs.Placing.{joined_before, sum-append}
 use Rattle.server_segments.proofs.writer.Writer.rejoin.Goals as goal

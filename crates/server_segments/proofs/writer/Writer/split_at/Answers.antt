@@ -2,7 +2,7 @@ use Rattle.std.proofs.Common.{◌≡◌, ◌+◌, ◌≤◌, ◌++◌, [], ◌�
 use Rattle.std.proofs.lemmas.Grind.{common_steps}
 use Rattle.fuse_fs.specs.Lengths.{filled, past, up_to}
 use Rattle.server_segments.specs.SegmentPlaces.{bytes_before, IsIn}
-use Rattle.server_segments.specs.ReaderAndWriter.{WriterView}
+use Rattle.server_segments.specs.ReaderAndWriterView.{WriterView}
 use Rattle.fuse_fs.proofs.Lengths.{sum-past, sum-up_to, filled-past, filled-up_to}
 use Rattle.server_segments.proofs.Placing.{behind_is, before_is, kept_before}
 use Rattle.server_segments.proofs.writer.Writer.split_at.Goals as goal

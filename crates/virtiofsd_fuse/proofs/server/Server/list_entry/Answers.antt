@@ -1,5 +1,5 @@
 use Rattle.std.proofs.Common.{true, false, [], ◌∷◌, refl, ap, rules}
-use Rattle.server_segments.specs.ReaderAndWriter.{WriterView}
+use Rattle.server_segments.specs.ReaderAndWriterView.{WriterView}
 use Rattle.fuse_fs.specs.declared.answers.Entry.{Entry}
 use Rattle.fuse_fs.specs.Answers.{listed, context_of}
 use Rattle.fuse_fs.specs.Calls.{Done}

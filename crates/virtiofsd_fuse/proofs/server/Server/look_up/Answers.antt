@@ -1,5 +1,5 @@
 use Rattle.std.proofs.Common.{true, [], ◌∷◌, refl, ap}
-use Rattle.server_segments.specs.ReaderAndWriter.{WriterView}
+use Rattle.server_segments.specs.ReaderAndWriterView.{WriterView}
 use Rattle.fuse_fs.specs.Answers.{listed, numbered, context_of}
 use Rattle.fuse_fs.specs.Calls.{Done}
 use Rattle.virtiofsd_fuse.specs.Listings.{undo_call, listing_of}

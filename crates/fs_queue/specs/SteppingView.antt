@@ -6,7 +6,7 @@ use Rattle.fs_queue.specs.declared.chain_walk.Progress.TheVariants as says
 use Rattle.fs_queue.specs.Chain.{Descriptor, Visit, WalkStep, Ordinary, Table, Faulty, Stops}
 use Rattle.fs_queue.specs.Chain.{entry_address}
 use Rattle.fs_queue.specs.Loads.{Load, Ahead, Reads, Ends}
-use Rattle.fs_queue.specs.Walking.{found_of}
+use Rattle.fs_queue.specs.WalkingView.{found_of}
 
 -- the step that a walk is at
 abbrev pub visit_of : ChainWalk → Visit

@@ -10,8 +10,8 @@ use Rattle.fs_queue.specs.Queue.{Queue}
 use Rattle.fs_queue.specs.NextAvail.{NextAvail, Idle, Head, Refused, next_avail}
 use Rattle.fs_queue.specs.Chain.{first_visit}
 use Rattle.fs_queue.specs.Loads.{holding, index_load, entry_load, asks_entry, ahead_at}
-use Rattle.fs_queue.specs.Stepping.{ahead_of, IfWants}
-use Rattle.fs_queue.specs.Walking.{at_position}
+use Rattle.fs_queue.specs.SteppingView.{ahead_of, IfWants}
+use Rattle.fs_queue.specs.WalkingView.{at_position}
 
 -- what waits, by the load of the index alone
 abbrev pub by_index : Queue → Option (List ℕ) → NextAvail

@@ -6,7 +6,7 @@ use Rattle.vm_values.specs.declared.address.GuestAddress.{GuestAddress}
 use Rattle.vm_values.specs.declared.address.MemoryRegionAddress.{MemoryRegionAddress}
 use Rattle.vm_memory_core.specs.Host.{Place}
 use Rattle.vm_memory_core.specs.Access.{reached_places}
-use Rattle.vm_memory_core.specs.Reached.{AtMost, length-reached_places}
+use Rattle.vm_memory_core.specs.ReachedProof.{AtMost, length-reached_places}
 use Rattle.vm_memory_core.specs.declared.error.VolatileMemoryError.{VolatileMemoryError}
 use Rattle.vm_memory.specs.Layout.{Region, place}
 use Rattle.vm_iotlb.specs.declared.permissions.Permissions.{Permissions}
