@@ -122,7 +122,6 @@ impl<F: FileSystem> Device<F> {
         ensures count { length self.new.queues ≡ length self.old.queues }
         ensures queues { self.new ≡ record self.old { queues = changed_at self.old.queues queue advanced } }
         ensures shape { shape (H.host host.new) ≡ shape (H.host host.old) }
-        ensures loan { H.IsSameLoan host.old host.new }
     {
         self.queues[queue].give_back(host, taken, reply)
     }

@@ -57,7 +57,6 @@ fn write_reply<H: HostBlocks>(host: &mut H, taken: &Taken, reply: &[u8])
     requires fits { length reply.now ≤ room_places taken.now.chain }
     ensures stored { H.host host.new ≡ put_all (H.host host.old) (zip (chain_places taken.now.chain) reply.now) }
     ensures shape { shape (H.host host.new) ≡ shape (H.host host.old) }
-    ensures loan { H.IsSameLoan host.old host.new }
 {
     match taken.chain() {
         Ok(chain) => host.write_windows(&chain.writable, reply),
@@ -231,7 +230,6 @@ impl Queue {
         ensures empty { IsEmpty taken.new }
         ensures queue { self.new ≡ advanced self.old }
         ensures shape { shape (H.host host.new) ≡ shape (H.host host.old) }
-        ensures loan { H.IsSameLoan host.old host.new }
     {
         self.give_back_front(host, taken, reply, reply.len())
     }
@@ -262,7 +260,6 @@ impl Queue {
         ensures empty { IsEmpty taken.new }
         ensures queue { self.new ≡ advanced self.old }
         ensures shape { shape (H.host host.new) ≡ shape (H.host host.old) }
-        ensures loan { H.IsSameLoan host.old host.new }
     {
         write_reply(host, taken, front);
         let back = Return::new(self.layout, self.position, taken.head(), len as u32);
