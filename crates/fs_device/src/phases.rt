@@ -6,7 +6,8 @@ ghost use Rattle.std.specs.Prelude.{◌≡◌, ℕ, ◌<◌, ◌≤◌, length, 
 ghost use Rattle.vm_memory_core.specs.Host.{changed_at, lengths, shape};
 ghost use Rattle.vm_memory.specs.Memory.{Memory};
 ghost use Rattle.fs_queue.specs.Queue.{Queue};
-ghost use Rattle.fs_queue.specs.Returning.{advanced, put_back, tells_by};
+ghost use Rattle.fs_queue.specs.Returning.{advanced};
+ghost use Rattle.fs_queue.specs.ReturningView.{put_back, tells_by};
 ghost use Rattle.fs_queue.specs.Windows.{HasItsWindows, IsEmpty, TakenLiesIn, room_places};
 ghost use Rattle.fs_device.specs.DeviceView.{exchange_of, state_of};
 ghost use Rattle.fs_device.specs.Phases.{GoesBack, IfTaken, IsEmptyUnlessTaken, IsTakenFrom, MayLackToAnswer, ServesBytes, ServesTaken, TakesOrEnds, TakesFrom};

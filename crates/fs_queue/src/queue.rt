@@ -45,7 +45,8 @@ impl Model for Queue {
 ghost use Rattle.fs_queue.specs.Queue.{fresh, resumed};
 ghost use Rattle.fs_queue.specs.RingingView.{BeginsWalk};
 ghost use Rattle.fs_queue.specs.Taking.{RequestAndRoom, after_refusal, is_idle, offer, room_of};
-ghost use Rattle.fs_queue.specs.Returning.{returned, stores_after_reply, stores_of, put_back, tells_by, wants_notice, advanced, PutFrontLast};
+ghost use Rattle.fs_queue.specs.Returning.{returned, stores_after_reply, wants_notice, advanced, PutFrontLast};
+ghost use Rattle.fs_queue.specs.ReturningView.{stores_of, put_back, tells_by};
 ghost use Rattle.fs_queue.specs.Windows.{Takes, after_taking, taken_if, IsTaken, TakenLiesIn, ChainLiesIn, room_places, chain_places, HasItsWindows};
 ghost use Rattle.fs_queue.specs.Windows.{IsEmpty, IsEmptyUnlessTaken};
 
