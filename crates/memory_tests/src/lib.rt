@@ -49,4 +49,6 @@ mod regions;
 #[cfg(test)]
 mod slices;
 #[cfg(test)]
+mod snapshots;
+#[cfg(test)]
 mod windows;
