@@ -6,8 +6,6 @@ mod faults;
 #[cfg(test)]
 mod indirect;
 #[cfg(test)]
-mod lent;
-#[cfg(test)]
 mod longest;
 #[cfg(test)]
 mod numbers;

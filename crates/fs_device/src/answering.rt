@@ -119,7 +119,6 @@ fn answer_chain<F: FileSystem, H: HostBlocks>(
     ensures way { IfSome result (λ a. IsTrue (is_header a.front) ↔ (IsTrue (F.reads_whole server.old.fs) × ReadsInPlace (H.host host.old) (Ok chain.now))) }
     ensures none { IfNone result ((server.new.options.0 ≡ server.old.options.0) × (server.new.fs ≡ server.old.fs) × (H.host host.new ≡ H.host host.old)) }
     ensures shape { shape (H.host host.new) ≡ shape (H.host host.old) }
-    ensures loan { H.IsSameLoan host.old host.new }
     ensures page_size { server.new.page_size ≡ server.old.page_size }
 {
     let mut buffer = [0; REQUEST_FRONT];
@@ -162,7 +161,6 @@ pub(crate) fn answer_front<F: FileSystem, H: HostBlocks>(
     ensures way { IfOk result (λ a. IsTrue (is_header a.front) ↔ (IsTrue (F.reads_whole server.old.fs) × ReadsInPlace (H.host host.old) taken.now.chain)) }
     ensures err { OnErr result ((server.new.options.0 ≡ server.old.options.0) × (server.new.fs ≡ server.old.fs) × (H.host host.new ≡ H.host host.old)) }
     ensures shape { shape (H.host host.new) ≡ shape (H.host host.old) }
-    ensures loan { H.IsSameLoan host.old host.new }
     ensures page_size { server.new.page_size ≡ server.old.page_size }
 {
     let chain = match taken.chain() {

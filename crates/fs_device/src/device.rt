@@ -141,7 +141,6 @@ impl<F: FileSystem> Device<F> {
         ensures step { (calls : Calls) × Step F.may (state_of (M.memory mem.now (H.host host.old)) self.old) queue calls (outcome_of result)
             (state_of (M.memory mem.now (H.host host.new)) self.new) }
         ensures shape { shape (H.host host.new) ≡ shape (H.host host.old) }
-        ensures loan { H.IsSameLoan host.old host.new }
     {
         let waits = Self::take_from(
             alloc,

@@ -31,7 +31,6 @@ fn read_to_room<F: FileSystem, H: HostBlocks>(
     ensures read { (bytes : List ℕ) × (left : List Place) × Fills (H.host host.old) room.entry.places bytes (H.host host.new) left × (result.len ≡ 16 + length bytes)
         × ServerHandles F.may server.old (16 + length room.entry.places) (read_meaning request.now (16 + length room.entry.places)) (Ok result.len) (result.header ++ bytes) server.new }
     ensures shape { shape (H.host host.new) ≡ shape (H.host host.old) }
-    ensures loan { H.IsSameLoan host.old host.new }
     ensures page_size { server.new.page_size ≡ server.old.page_size }
 {
     let mut room = room;
@@ -63,7 +62,6 @@ pub(crate) fn read_in_place<F: FileSystem, H: HostBlocks>(
     ensures header { IfSome result (λ a. IsTrue (is_header a.front)) }
     ensures fits { IfSome result (λ a. (length (front_bytes a.front) ≤ length (places chain.now.writable.items)) × (a.len ≤ length (places chain.now.writable.items))) }
     ensures shape { shape (H.host host.new) ≡ shape (H.host host.old) }
-    ensures loan { H.IsSameLoan host.old host.new }
     ensures page_size { server.new.page_size ≡ server.old.page_size }
 {
     if chain.request_len() != REQUEST_FRONT {

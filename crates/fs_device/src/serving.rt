@@ -45,7 +45,6 @@ impl<F: FileSystem> Device<F> {
         ensures step { StepTold F.may (state_of (M.memory mem.now (H.host host.old)) self.old) queue result
             (state_of (M.memory mem.now (H.host host.new)) self.new) }
         ensures shape { shape (H.host host.new) ≡ shape (H.host host.old) }
-        ensures loan { H.IsSameLoan host.old host.new }
     {
         let waits = Self::take_from(
             alloc,

@@ -37,8 +37,6 @@ mod iotlb;
 #[cfg(test)]
 mod joined;
 #[cfg(test)]
-mod lent;
-#[cfg(test)]
 mod page_marks;
 #[cfg(test)]
 mod permissions;

@@ -47,7 +47,6 @@ impl<'a, 'b, 'c, H: HostBlocks> RoomWriter<'a, 'b, 'c, H> {
             × (self.new.room.now.rooms ≡ past (length bytes) self.old.room.now.rooms)
             × ReadsOnce F.read_gives file.old (min count (first self.old.room.now.rooms)) off bytes result file.new }
         ensures name { self.new.host.ghost_name ≡ self.old.host.ghost_name }
-        ensures loan { H.IsSameLoan self.old.host.now self.new.host.now }
     {
         let most = count.min(self.room.len());
         if most == 0 {
@@ -70,18 +69,17 @@ impl<'a, 'b, 'c, H: HostBlocks> ZeroCopyWriter for RoomWriter<'a, 'b, 'c, H> {
     ghost use Rattle.room_writer.specs.FillsProof.{fills_more, fills_none};
 
     ghost Puts = { λ old bytes new. Fills (H.host old.host.now) old.room.now.places bytes (H.host new.host.now) new.room.now.places
-        × (new.host.ghost_name ≡ old.host.ghost_name) × H.IsSameLoan old.host.now new.host.now };
+        × (new.host.ghost_name ≡ old.host.ghost_name) };
 
     ghost room = { λ w. length w.room.now.places };
 
     ghost rooms = { λ w. w.room.now.rooms };
 
-    ghost puts_none = { λ w. (fills_none (H.host w.host.now) w.room.now.places, refl, H.reflexive w.host.now) };
+    ghost puts_none = { λ w. (fills_none (H.host w.host.now) w.room.now.places, refl) };
 
     ghost puts_more = { λ a b c xs ys first second. (
       fills_more (H.host a.host.now) (H.host b.host.now) (H.host c.host.now) a.room.now.places b.room.now.places c.room.now.places xs ys first.0 second.0,
       second.1 ∙ first.1,
-      H.composes a.host.now b.host.now c.host.now first.2 second.2,
     ) };
 
     fn available_bytes(&self) -> usize {

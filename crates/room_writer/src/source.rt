@@ -50,7 +50,6 @@ pub(crate) fn read_to_window<H: HostBlocks, F: PositionedFile>(
     ensures reads { (bytes : List ℕ) × Stores (H.host host.old) (H.host host.new) (places_of window) bytes × (length bytes ≡ moved result)
         × (length bytes ≤ window.len) × F.read_gives file.old window.len off (read_answer result bytes) file.new }
     ensures shape { shape (H.host host.new) ≡ shape (H.host host.old) }
-    ensures loan { H.IsSameLoan host.old host.new }
 {
     let mut source = FileAt { file, off };
     let answer = host.read_volatile_from(window, &mut source);

@@ -12,7 +12,6 @@ loop-done-init g c =
       offered = held;
       put = ([], fills_none _ w.places, so_far_none g.F.PositionedFile.read_gives c.args.file.now (filling [] w) c.args.count c.min-most.result c.args.off held);
       name = refl;
-      loan = g.met.H.HostBlocks.reflexive c.args.self.now.host.now;
     }
 
 pub returns-in_default : goal.returns-in_default
@@ -20,14 +19,14 @@ returns-in_default g c =
     let l = c.loop-done.invariant in
     let x = all_filled g.F.PositionedFile.read_gives _ _ _ _ c.args.self.now.room.now c.loop-done.self.room.now l.put.0 _ _ _ l.put.1
     (so_far_past g.F.PositionedFile.read_gives _ _ _ _ _ _ _ _ l.offered l.put.2 c.loop-done-test.true (omega (arith, c.in_default.ensures))) in
-    (x.0, (x.1, l.name, l.loan), x.2, x.3, x.4, x.5)
+    (x.0, (x.1, l.name), x.2, x.3, x.4, x.5)
 
 pub returns : goal.returns
 returns g c =
     let l = c.loop-done.invariant in
     let x = all_filled g.F.PositionedFile.read_gives _ _ _ _ c.args.self.now.room.now c.loop-done.self.room.now l.put.0 _ _ _ l.put.1
     (so_far_whole g.F.PositionedFile.read_gives _ _ _ _ _ _ _ _ l.offered l.put.2 (omega arith)) in
-    (x.0, (x.1, l.name, l.loan), x.2, x.3, x.4, x.5)
+    (x.0, (x.1, l.name), x.2, x.3, x.4, x.5)
 
 pub returns-then-n-eq0 : goal.returns-then-n-eq0
 returns-then-n-eq0 g c =
@@ -36,7 +35,7 @@ returns-then-n-eq0 g c =
     let x = all_filled g.F.PositionedFile.read_gives _ _ _ _ c.args.self.now.room.now c.read_once.new.self.room.now (l.put.0 ++ e.0) _ _ _ (fills_more _ _ _ _ _ _ l.put.0 e.0 l.put.1 e.1)
     (so_far_stops g.F.PositionedFile.read_gives _ _ _ _ _ _ _ _ _ _ e.0 _ _ l.offered l.put.2 e.3 (added l.put.0 e.0 _ _ c.loop-done.self.room.now c.read_once.new.self.room.now e.1 e.2)
     c.if-n-eq0.true c.in-Some.ensures.1 (omega arith)) in
-    (x.0, (x.1, c.in_ok-n.ensures.name ∙ l.name, g.met.H.HostBlocks.composes _ _ _ l.loan c.in_ok-n.ensures.loan), x.2, x.3, x.4, x.5)
+    (x.0, (x.1, c.in_ok-n.ensures.name ∙ l.name), x.2, x.3, x.4, x.5)
 
 pub loop-done-preserved : goal.loop-done-preserved
 loop-done-preserved g c =
@@ -51,7 +50,6 @@ loop-done-preserved g c =
             c.if-n-eq0.false c.in-Some.ensures.1,
       );
       name = c.in_ok-n.ensures.name ∙ l.name;
-      loan = g.met.H.HostBlocks.composes _ _ _ l.loan c.in_ok-n.ensures.loan;
     }
 
 pub returns-in_err-n : goal.returns-in_err-n
@@ -62,4 +60,4 @@ returns-in_err-n g c =
     let x = all_filled g.F.PositionedFile.read_gives _ _ _ _ c.args.self.now.room.now c.read_once.new.self.room.now (l.put.0 ++ e.0) _ _ _ (fills_more _ _ _ _ _ _ l.put.0 e.0 l.put.1 e.1)
     (so_far_fails g.F.PositionedFile.read_gives _ _ _ _ _ _ _ _ _ _ e.0 _ _ l.offered l.put.2 e.3 (added l.put.0 e.0 _ _ c.loop-done.self.room.now c.read_once.new.self.room.now e.1 e.2)
     c.in-Some.ensures.1 (omega arith)) in
-    rw failed (x.0, (x.1, c.in_err-n.ensures.name ∙ l.name, g.met.H.HostBlocks.composes _ _ _ l.loan c.in_err-n.ensures.loan), x.2, x.3, x.4, x.5)
+    rw failed (x.0, (x.1, c.in_err-n.ensures.name ∙ l.name), x.2, x.3, x.4, x.5)

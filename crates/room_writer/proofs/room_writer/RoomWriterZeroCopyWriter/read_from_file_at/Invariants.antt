@@ -11,7 +11,6 @@ invariant-loop-done g l = record {
       (got : List ℕ) × Fills (g.H.HostBlocks.host l.fn.self.host.now) l.fn.self.room.now.places got (g.H.HostBlocks.host l.self.host.now) l.self.room.now.places
       × SoFar g.F.PositionedFile.read_gives l.initial.file (filling [] l.fn.self.room.now) l.most l.off l.done (filling got l.self.room.now) l.file;
   name : l.self.host.ghost_name ≡ l.fn.self.host.ghost_name;
-  loan : g.H.HostBlocks.IsSameLoan l.fn.self.host.now l.self.host.now;
 }
 
 abbrev pub decreases-loop-done : goal.decreases-loop-done
