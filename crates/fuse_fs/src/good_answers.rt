@@ -1,4 +1,4 @@
-//! The kinds of answers that calls have.
+//! The kinds of good answers that calls have.
 
 ghost use Rattle.std.specs.Prelude.{◌≡◌, ℕ, Bool, true, false, refl, Result, Err};
 ghost use Rattle.fuse_fs.specs.Answers.{entry_answer, done_answer, attr_answer, opened_answer, stats_answer};
@@ -11,7 +11,7 @@ use crate::file_system::FileNumber;
 use fuse_base::{Attr, OpenOptions, StatVfs};
 
 /// A good answer of a kind of call, by what it says.
-pub trait Answer {
+pub trait GoodAnswer {
     // What an answer of this kind says, good or not.
     ghost said: { Result Self ℕ → FileAnswer };
 
@@ -22,7 +22,7 @@ pub trait Answer {
     ghost fails: { (e : ℕ) → said (Err e) ≡ Failed e };
 }
 
-impl<I: FileNumber> Answer for Entry<I> {
+impl<I: FileNumber> GoodAnswer for Entry<I> {
     ghost said = { entry_answer I.number };
 
     ghost silent = { false };
@@ -34,7 +34,7 @@ impl<I: FileNumber> Answer for Entry<I> {
 #[derive(Drop)]
 pub struct Silence;
 
-impl Answer for Silence {
+impl GoodAnswer for Silence {
     ghost said = { done_answer };
 
     ghost silent = { true };
@@ -42,7 +42,7 @@ impl Answer for Silence {
     ghost fails = { λ e. refl };
 }
 
-impl Answer for () {
+impl GoodAnswer for () {
     ghost said = { done_answer };
 
     ghost silent = { false };
@@ -50,7 +50,7 @@ impl Answer for () {
     ghost fails = { λ e. refl };
 }
 
-impl Answer for (Attr, Timeout) {
+impl GoodAnswer for (Attr, Timeout) {
     ghost said = { attr_answer };
 
     ghost silent = { false };
@@ -58,7 +58,7 @@ impl Answer for (Attr, Timeout) {
     ghost fails = { λ e. refl };
 }
 
-impl<H: FileNumber> Answer for (Option<H>, OpenOptions) {
+impl<H: FileNumber> GoodAnswer for (Option<H>, OpenOptions) {
     ghost said = { opened_answer H.number };
 
     ghost silent = { false };
@@ -66,7 +66,7 @@ impl<H: FileNumber> Answer for (Option<H>, OpenOptions) {
     ghost fails = { λ e. refl };
 }
 
-impl Answer for StatVfs {
+impl GoodAnswer for StatVfs {
     ghost said = { stats_answer };
 
     ghost silent = { false };
@@ -74,7 +74,7 @@ impl Answer for StatVfs {
     ghost fails = { λ e. refl };
 }
 
-impl Answer for u32 {
+impl GoodAnswer for u32 {
     ghost said = { written_answer };
 
     ghost silent = { false };
@@ -82,7 +82,7 @@ impl Answer for u32 {
     ghost fails = { λ e. refl };
 }
 
-impl Answer for u64 {
+impl GoodAnswer for u64 {
     ghost said = { offset_answer };
 
     ghost silent = { false };
@@ -90,7 +90,7 @@ impl Answer for u64 {
     ghost fails = { λ e. refl };
 }
 
-impl Answer for Vec<u8> {
+impl GoodAnswer for Vec<u8> {
     ghost said = { target_answer };
 
     ghost silent = { false };
@@ -98,7 +98,7 @@ impl Answer for Vec<u8> {
     ghost fails = { λ e. refl };
 }
 
-impl Answer for GetxattrReply {
+impl GoodAnswer for GetxattrReply {
     ghost said = { value_answer };
 
     ghost silent = { false };
@@ -106,7 +106,7 @@ impl Answer for GetxattrReply {
     ghost fails = { λ e. refl };
 }
 
-impl Answer for ListxattrReply {
+impl GoodAnswer for ListxattrReply {
     ghost said = { names_answer };
 
     ghost silent = { false };
@@ -114,7 +114,7 @@ impl Answer for ListxattrReply {
     ghost fails = { λ e. refl };
 }
 
-impl<I: FileNumber, H: FileNumber> Answer for (Entry<I>, Option<H>, OpenOptions) {
+impl<I: FileNumber, H: FileNumber> GoodAnswer for (Entry<I>, Option<H>, OpenOptions) {
     ghost said = { created_answer I.number H.number };
 
     ghost silent = { false };
