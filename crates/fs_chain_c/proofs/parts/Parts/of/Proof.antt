@@ -37,14 +37,14 @@ use Rattle.std.proofs.alloc.Calls.{token, handle_tells, Goes-blank}
 use Rattle.std_alloc.specs.Box.Ownership.{box_owns}
 use Rattle.std_alloc.proofs.BoxSteps.Form.{Bx, D, τ, R, P, B, word, box_typed}
 use Rattle.std_alloc.proofs.BoxSteps.Steps.{box_out, box_in}
-use Rattle.box_parts.specs.contracts.parts.Parts as parts
+use Rattle.fs_chain_c.specs.contracts.parts.Parts as parts
 use Rattle.std_alloc.specs.contracts.boxed.Box.into_raw_with_allocator as Ra
 use Rattle.std_alloc.proofs.boxed.Box.into_raw_with_allocator.Symbol as raw_sym
 use Rattle.std_alloc.proofs.boxed.Box.into_raw_with_allocator.Met as raw_met
-use Rattle.box_parts.specs.contracts.parts.Parts.of as F
-use Rattle.box_parts.specs.contracts.parts.Parts.of.Key.{name as #self}
-use Rattle.box_parts.proofs.parts.Parts.of.Statement as stated
-use Rattle.box_parts.proofs.parts.Parts.of.Code as code
+use Rattle.fs_chain_c.specs.contracts.parts.Parts.of as F
+use Rattle.fs_chain_c.specs.contracts.parts.Parts.of.Key.{name as #self}
+use Rattle.fs_chain_c.proofs.parts.Parts.of.Statement as stated
+use Rattle.fs_chain_c.proofs.parts.Parts.of.Code as code
 
 module _ (E : Bx) (dx : Dict) where
   abbrev args : Args

@@ -10,8 +10,8 @@ use Rattle.std_alloc.proofs.ResultValues.{and_tt}
 use Rattle.std_heap.specs.contracts.Global as Heap
 use Rattle.std_heap.specs.contracts.GlobalAllocator.TheImpl.{ghosts, dict}
 use Rattle.std_heap.proofs.Global.TheLaws as heap
-use Rattle.box_parts.specs.contracts.parts.Parts as Parts
-use Rattle.box_parts.proofs.Moving.{pair, moving, moved, moved_always, taking, telling}
+use Rattle.fs_chain_c.specs.contracts.parts.Parts as Parts
+use Rattle.fs_chain_c.proofs.Moving.{pair, moving, moved, moved_always, taking, telling}
 use mathlib.Core.Path.{◌≡◌, refl, sym, subst, ap, ◌∙◌}
 use mathlib.Core.List.{List, [], ◌∷◌, ◌++◌}
 use seplogic.Ra.Ura.{Ura}
