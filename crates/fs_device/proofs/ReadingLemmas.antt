@@ -13,10 +13,10 @@ use Rattle.fs_queue.specs.Queue.{Queue}
 use Rattle.fs_queue.specs.Taking.{RequestAndRoom}
 use Rattle.fs_queue.specs.Returning.{PutFrontLast}
 use Rattle.fs_queue.specs.Windows.{HoldsChain, IsTaken, chain_places}
-use Rattle.room_writer.specs.Apart.{Apart}
-use Rattle.room_writer.specs.Behind.{HasBehind}
-use Rattle.room_writer.specs.Fills.{Fills}
-use Rattle.room_writer.proofs.ApartLemmas.{front_last}
+use Rattle.fs_device.specs.Apart.{Apart}
+use Rattle.fs_device.specs.Behind.{HasBehind}
+use Rattle.fs_device.specs.Fills.{Fills}
+use Rattle.fs_device.proofs.ApartLemmas.{front_last}
 use Rattle.virtiofsd_fuse.specs.declared.reads.ReadReply.{ReadReply}
 use Rattle.virtiofsd_fuse.specs.declared.reads.ReadRequest.{ReadRequest}
 use Rattle.virtiofsd_fuse.specs.declared.server.Server.{Server}
@@ -34,7 +34,7 @@ use Rattle.fs_device.specs.DeviceView.{AnswersRequest, ServesChain, request_of, 
 use Rattle.fs_device.specs.ReplyFront.{AnswersAt, AnswersFront, front_bytes}
 use Rattle.fs_device.specs.declared.reply_front.Answered.{Answered}
 use Rattle.fs_device.specs.declared.reply_front.Front.TheVariants.{Header}
-use Rattle.fs_device.specs.declared.serving.Returned.{Returned}
+use Rattle.fs_device.specs.declared.returned.Returned.{Returned}
 use Rattle.fs_device.specs.DevicePartsView.{DeviceParts}
 use Rattle.fs_device.specs.Returned.{StepTold}
 use Rattle.fs_device.specs.Step.{Exchange}

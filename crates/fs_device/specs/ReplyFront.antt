@@ -12,7 +12,7 @@ use Rattle.fs_device.specs.declared.exchange.Fault.{Fault}
 use Rattle.fs_device.specs.declared.reply_front.Answered.{Answered}
 use Rattle.fs_device.specs.declared.reply_front.Front.{Front}
 use Rattle.fs_device.specs.declared.reply_front.Front.TheVariants as front
-use Rattle.fs_device.specs.declared.serve.Reply.{Reply}
+use Rattle.fs_device.specs.declared.answer_by_copy.Reply.{Reply}
 use Rattle.fs_device.specs.Step.{Calls, Exchange}
 use Rattle.fs_device.specs.DeviceView.{AnswersRequest, ServesChain, request_of, server_state}
 

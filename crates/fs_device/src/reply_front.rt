@@ -2,8 +2,8 @@
 
 ghost use Rattle.std.specs.Prelude.{◌≡◌};
 
+use crate::answer_by_copy::Reply;
 use crate::exchange::Fault;
-use crate::serve::Reply;
 use virtiofsd_fuse::REPLY_FRONT;
 
 /// What is yet to be written of a reply: all of it, or what stands before its data, which is in its place.
