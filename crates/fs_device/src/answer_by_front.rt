@@ -15,7 +15,7 @@ ghost use Rattle.fs_device.specs.ShortWay.{IsFront, ReadsInPlace};
 
 use crate::answer_by_copy::{Reply, answer};
 use crate::exchange::Fault;
-use crate::reply_front::{Answered, Front};
+use crate::reply_front::{PreparedReply, ReplyFront};
 use crate::request_windows::{copy_front, segments_behind};
 use crate::short_way::read_in_place;
 use fs_queue::{Chain, Taken};
@@ -111,7 +111,7 @@ fn answer_chain<F: FileSystem, H: HostBlocks>(
     server: &mut Server<F>,
     host: &mut H,
     chain: &Chain,
-) -> Option<Answered>
+) -> Option<PreparedReply>
     requires readable { AllLieIn (lengths (H.host host.old)) chain.now.readable.items }
     requires writable { AllLieIn (lengths (H.host host.old)) chain.now.writable.items }
     ensures some { IfSome result (λ a. AnswersAt F.may server.old (H.host host.old) (places chain.now.readable.items) (places chain.now.writable.items) a (H.host host.new) server.new) }
@@ -129,7 +129,7 @@ fn answer_chain<F: FileSystem, H: HostBlocks>(
         return Some(answered);
     }
     match answer_in_buffer(alloc, server, host, chain, front) {
-        Some(reply) => Some(Answered::whole(reply)),
+        Some(reply) => Some(PreparedReply::whole(reply)),
         None => None,
     }
 }
@@ -153,7 +153,7 @@ pub(crate) fn answer_front<F: FileSystem, H: HostBlocks>(
     server: &mut Server<F>,
     host: &mut H,
     taken: &Taken,
-) -> Result<Answered, AllocError>
+) -> Result<PreparedReply, AllocError>
     requires lies { TakenLiesIn (lengths (H.host host.old)) taken.now }
     ensures exchange { (m : Memory) (q : Queue) (fetched : RequestAndRoom) → m.host ≡ H.host host.old → IsTaken m q fetched taken.now →
         IfOk result (λ a. AnswersFront F.may server.old (H.host host.old) taken.now fetched a (H.host host.new) server.new) }
@@ -166,8 +166,8 @@ pub(crate) fn answer_front<F: FileSystem, H: HostBlocks>(
     let chain = match taken.chain() {
         Ok(chain) => chain,
         Err(fault) => {
-            return Ok(Answered {
-                front: Front::Reply(Vec::new(alloc)),
+            return Ok(PreparedReply {
+                front: ReplyFront::Reply(Vec::new(alloc)),
                 len: 0,
                 fault: Some(Fault::Chain(fault)),
             });

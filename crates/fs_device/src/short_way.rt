@@ -10,7 +10,7 @@ ghost use Rattle.fs_device.specs.ReplyFront.{AnswersAt, front_bytes, is_header};
 ghost use Rattle.fs_device.specs.ShortWay.{IsFront, ReadsInPlace};
 
 use crate::behind::room_behind;
-use crate::reply_front::{Answered, Front};
+use crate::reply_front::{PreparedReply, ReplyFront};
 use crate::room_left::RoomLeft;
 use crate::room_writer::RoomWriter;
 use fs_queue::Chain;
@@ -55,7 +55,7 @@ pub(crate) fn read_in_place<F: FileSystem, H: HostBlocks>(
     host: &mut H,
     chain: &Chain,
     front: &[u8],
-) -> Option<Answered>
+) -> Option<PreparedReply>
     requires lie { AllLieIn (lengths (H.host host.old)) chain.now.writable.items }
     requires front { IsFront (H.host host.old) (places chain.now.readable.items) front.now }
     ensures some { IfSome result (λ a. AnswersAt F.may server.old (H.host host.old) (places chain.now.readable.items) (places chain.now.writable.items) a (H.host host.new) server.new) }
@@ -75,8 +75,8 @@ pub(crate) fn read_in_place<F: FileSystem, H: HostBlocks>(
     let request = ReadRequest::of_bytes(alloc, front)?;
     let room = room_behind(&chain.writable, chain.room_len(), REPLY_FRONT)?;
     let reply = read_to_room(server, host, &request, room);
-    Some(Answered {
-        front: Front::Header(reply.header),
+    Some(PreparedReply {
+        front: ReplyFront::Header(reply.header),
         len: reply.len,
         fault: None,
     })

@@ -4,11 +4,11 @@ ghost use Rattle.std.specs.Prelude.{◌≡◌, IfOk};
 ghost use Rattle.fs_shared.specs.Portion.{IsShareOf};
 ghost use Rattle.fs_shared.specs.Marks.{IsHarvestOf};
 
-use call_log::CallLog;
 use crate::given::{Trial, Unmet, expect};
 use crate::kicks::unknown;
 use crate::layouts::moved;
 use crate::machines::{LogMachine, machine};
+use call_log::CallLog;
 use fs_device::Refusal;
 use fs_shared::{Kicked, PageHarvest, Receipt, Share, ShareError, SharedDevice};
 use std::sync::Wait;

@@ -4,13 +4,13 @@ ghost use Rattle.std.specs.Prelude.{◌≡◌, IfErr};
 ghost use Rattle.fs_shared.specs.Portion.{IsShareOf};
 ghost use Rattle.fs_shared.specs.Marks.{IsHarvestOf};
 
-use call_log::CallLog;
 use crate::devices::{LogDevice, made};
 use crate::given::{Trial, Unmet, expect, expect_kept};
 use crate::kicking::Seen;
 use crate::kicks::unknown;
 use crate::machines::{LogMachine, machine, seen};
 use crate::quiet::expect_quiet;
+use call_log::CallLog;
 use fs_shared::{Kicked, PageHarvest, Receipt, Round, Share, ShareError, audit, serve_round};
 use std::sync::Wait;
 use std::sync::ledger::{Blank, Ledger};

@@ -3,12 +3,12 @@
 ghost use Rattle.std.specs.Prelude.{◌≡◌};
 ghost use Rattle.fs_shared.specs.Portion.{IsShareOf};
 
-use call_log::CallLog;
 use crate::devices::{LogDevice, made};
 use crate::given::{Trial, Unmet, expect, expect_kept};
 use crate::kicking::{OUT_OF_MEMORY, Seen, back, ran};
 use crate::kicks::{Comes, Kick};
 use crate::machines::{LogMachine, expect_row, machine, seen};
+use call_log::CallLog;
 use fs_device::{Answer, Command, DeviceError};
 use fs_shared::{Kicked, Outcome, Parts, Share};
 use std::alloc::Global;

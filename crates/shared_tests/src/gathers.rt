@@ -5,8 +5,8 @@ ghost use Rattle.std.specs.Int.{div_ceil};
 ghost use Rattle.std.specs.Thread.{IsSync};
 ghost use Rattle.fs_shared.specs.Portion.{IsShareOf};
 
-use call_log::CallLog;
 use crate::stand::{expect_same, machine, machine_over};
+use call_log::CallLog;
 use fs_shared::{Kicked, PageHarvest, Receipt, Share, SharedDevice, audit};
 use fuse_files::{Files, ReadOnly, ReadableFileSystem};
 use fuse_wire::{Attr, Errno, FsOptions, OpenOptions};

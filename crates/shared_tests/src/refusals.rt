@@ -3,8 +3,8 @@
 ghost use Rattle.std.specs.Prelude.{◌≡◌};
 ghost use Rattle.fs_shared.specs.Portion.{IsShareOf};
 
-use call_log::CallLog;
 use crate::stand::{expect_same, machine};
+use call_log::CallLog;
 use fs_device::DeviceError;
 use fs_queue::QueueError;
 use fs_shared::{Kicked, Outcome, Share, SharedDevice};

@@ -4,8 +4,8 @@ ghost use Rattle.std.specs.Prelude.{◌≡◌, ◌<◌};
 ghost use Rattle.std.specs.Thread.{IsSync};
 ghost use Rattle.fs_shared.specs.Portion.{IsShareOf};
 
-use call_log::CallLog;
 use crate::stand::{expect_same, machine};
+use call_log::CallLog;
 use fs_device::DeviceError;
 use fs_shared::{Kicked, PageHarvest, Receipt, Share, SharedDevice, audit};
 use std::alloc::Global;

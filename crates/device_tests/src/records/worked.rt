@@ -1,6 +1,8 @@
 //! The worked record, there and back.
 
-use crate::records::given::{FIRST, LIMIT, PAGE_SIZE, RESTORED, SECOND, expect_restored, expect_same};
+use crate::records::given::{
+    FIRST, LIMIT, PAGE_SIZE, RESTORED, SECOND, expect_restored, expect_same,
+};
 use bitflags::Flags;
 use fs_queue::{Queue, QueueLayout};
 use fs_record::laws::law_record;

@@ -1,7 +1,7 @@
 //! A host once more.
 
-use crate::stand::expect_same;
 use crate::copied_hosts::given::{Host, expect_marked, expect_same_bytes, two_blocks, write};
+use crate::stand::expect_same;
 use std::alloc::Global;
 use std::process::Abort;
 use vm_memory_core::{Bitmap, GuestAddress, Permissions};

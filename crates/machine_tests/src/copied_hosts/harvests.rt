@@ -1,7 +1,7 @@
 //! Harvests of a block with few marks.
 
-use crate::stand::expect_same;
 use crate::copied_hosts::given::{Host, write};
+use crate::stand::expect_same;
 use fs_device::harvest;
 use std::alloc::Global;
 use std::process::Abort;

@@ -1,7 +1,7 @@
 //! An image of a host, and the pages that make it the host again.
 
-use crate::stand::expect_same;
 use crate::copied_hosts::given::{expect_marked, expect_same_bytes, two_blocks, write};
+use crate::stand::expect_same;
 use fs_device::{apply, harvest, image};
 
 #[test]

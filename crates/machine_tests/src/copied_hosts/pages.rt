@@ -1,11 +1,11 @@
 //! Pages that are put into a host, and those that have no place there.
 
-use crate::stand::expect_same;
 use crate::copied_hosts::given::{expect_marked, expect_same_bytes, two_blocks, write};
+use crate::stand::expect_same;
+use fs_device::ApplyError::{self, OutOfRange, UnknownBlock};
 use fs_device::{HarvestedPage, apply};
 use std::alloc::Global;
 use std::process::Abort;
-use fs_device::ApplyError::{self, OutOfRange, UnknownBlock};
 
 // A page's block, where it begins there, and its bytes.
 type PageRow<'a> = (usize, usize, &'a [u8]);

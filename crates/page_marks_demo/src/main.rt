@@ -2,7 +2,14 @@
 //! other.
 #![tactic(auto)]
 
-use page_marks_demo::{Account, ByteRange, mark_and_gather};
+mod accounts;
+mod gathering;
+mod marking;
+mod million;
+
+use crate::accounts::{Account, mark_and_gather};
+use crate::marking::ByteRange;
+use crate::million::{mark_a_million, pages_in};
 use std::alloc::{AllocError, Global};
 use std::num::NonZeroUsize;
 use std::process::ExitCode;
@@ -48,20 +55,18 @@ fn migrate<R: Threads + Sync>(rt: &R, alloc: Global) -> Result<Account, AllocErr
     mark_and_gather(rt, alloc, MEMORY, page_size, &lists, ROUNDS)
 }
 
-// How many pages the account has.
-fn pages_in(account: &Account) -> u32 {
-    let mut pages = 0u32;
-    for (gathered, left) in account.gathered.iter().zip(&account.left) {
-        pages = pages.wrapping_add((gathered | left).count_ones());
-    }
-    pages
+// How many pages were written, and of a million marks how many pages were marked and gathered.
+fn both<R: Threads + Sync>(rt: &R, alloc: Global) -> Result<(u32, (u32, u32)), AllocError> {
+    let account = migrate(rt, alloc)?;
+    let pages = mark_a_million(rt, alloc)?;
+    Ok((pages_in(&account).0, pages))
 }
 
 fn main(rt: HostRuntime) -> ExitCode {
-    let printed = match migrate(&rt, rt.alloc()) {
-        Ok(account) => println!(rt;
-            "{} pages were written, and gathered or left",
-            pages_in(&account)
+    let printed = match both(&rt, rt.alloc()) {
+        Ok((written, (marked, gathered))) => println!(rt;
+            "{written} pages were written, and gathered or left\n{marked} pages were marked a million times, and {} gathered meanwhile",
+            if gathered > 0 { "some" } else { "none" }
         ),
         Err(_) => println!(rt; "out of memory"),
     };
