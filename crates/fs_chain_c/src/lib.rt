@@ -1,4 +1,4 @@
-//! One chain of a virtio-fs device from its walk to its return, for monitors in C: a static library, whose header is pitskhomu.h in examples/chain.
+//! One chain of a virtio-fs device from its walk to its return, for monitors in C: a static library, whose header is pitskhomu.h, beside it.
 #![tactic(auto)]
 
 mod answers;
@@ -12,6 +12,7 @@ mod handle;
 mod kinds;
 mod listing;
 mod memory;
+mod parts;
 mod queue;
 mod ranges;
 mod record;

@@ -12,11 +12,11 @@ ghost use Rattle.fs_queue.specs.Windows.{HasItsWindows, IsEmpty, TakenLiesIn, ro
 ghost use Rattle.fs_device.specs.DeviceView.{exchange_of, state_of};
 ghost use Rattle.fs_device.specs.Phases.{GoesBack, IfTaken, IsEmptyUnlessTaken, IsTakenFrom, MayLackToAnswer, ServesBytes, ServesTaken, TakesOrEnds, TakesFrom};
 
+use crate::answer_by_copy::serve;
 use crate::device::Device;
 use crate::error::DeviceError;
 use crate::exchange::Exchange;
 use crate::fetched_request::FetchedRequest;
-use crate::serve::serve;
 use fs_queue::{Queue, Taken};
 use fuse_fs::FileSystem;
 use std::alloc::{AllocError, Global};
