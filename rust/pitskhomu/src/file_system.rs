@@ -1,6 +1,7 @@
 //! The trait that a file system implements.
 use crate::data::{ReadData, WriteData};
 use crate::errno::{Answer, Errno};
+use crate::exchange::Exchange;
 use crate::flags::{AccessMask, Options, RenameFlags};
 use crate::listing::Listing;
 use crate::requests::*;
@@ -13,6 +14,14 @@ use core::time::Duration;
 /// harmless. An answer whose reply has no room is taken back: an entry by `forget`, an open file by `release`.
 #[allow(unused_variables)]
 pub trait FileSystem {
+    /// Any request, before the library reads it: `Some` if it is replied here, by bytes of one's own, and how many they are, header and all
+    /// (struct fuse_out_header); they stand in the room from its front on by then, and 0 is silence. So a request that the library doesn't
+    /// serve is served, or each by a FUSE server of one's own. More bytes than the room has are answered EIO. What the guest is told so the
+    /// library has no part in: nothing is taken back, and after INIT the device's options are to be set. `None`: the library reads it.
+    fn reply_by_bytes(&self, exchange: &mut Exchange<'_>) -> Option<u64> {
+        None
+    }
+
     /// INIT: a session begins. The guest holds no node but the root, and nothing is open. Which options are wanted, of those that the guest
     /// can, besides those that are agreed on anyway. An error ends the session before it began.
     fn init(&self, init: Init) -> Answer<Options> {

@@ -282,7 +282,7 @@ impl Worker {
         let mut data = ReadData::new(&mut self.chain, memory, data_at, data_len.min(size));
         let answer = file_system.read(&context, node, read, &mut data);
         let done = data.done();
-        self.written = data_at + done;
+        self.written = self.written.max(data_at + done);
         self.reply(answer, |worker, ()| worker.chain.reply_data(done))
     }
 
@@ -321,7 +321,7 @@ impl Worker {
                 return worker.chain.reply_xattr(len as u32);
             }
             store_room(&mut worker.chain, memory, sys::HEADER, &worker.list[..len]);
-            worker.written = sys::HEADER + len as u64;
+            worker.written = worker.written.max(sys::HEADER + len as u64);
             worker.chain.reply_data(len as u64)
         })
     }
