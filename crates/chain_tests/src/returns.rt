@@ -7,8 +7,8 @@ use crate::given::{
 use fs_chain::{Added, Told, Walked};
 use fs_queue::ChainFault;
 use fuse_fs::{DirEntry, Entry, Timeout};
+use fuse_values::{FileAnswer, FileCall};
 use fuse_wire::{Attr, Errno};
-use server_phases::{FileAnswer, FileCall};
 
 // Whether a request asks for `hello` in node 1.
 fn is_hello(told: &Told) -> bool {

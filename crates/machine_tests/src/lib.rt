@@ -1,7 +1,9 @@
-//! Tests of whole runs of machines, of what stands behind an IOMMU, and of READ whose data is put where it goes. Nothing else stands
-//! here.
+//! Tests of whole runs of machines, of copies of a host, of what stands behind an IOMMU, and of READ whose data is put where it
+//! goes. Nothing else stands here.
 #![tactic(auto)]
 
+#[cfg(test)]
+mod copied_hosts;
 #[cfg(test)]
 mod copies;
 #[cfg(test)]

@@ -1,4 +1,5 @@
-//! Tests of the file systems in memory, one that is written and one that is read, through the server. Nothing else stands here.
+//! Tests of the file systems in memory, one that is written and one that is read, through the server, and of the example's
+//! directory. Nothing else stands here.
 #![tactic(auto)]
 
 #[cfg(test)]
@@ -7,5 +8,7 @@ mod client;
 mod directory;
 #[cfg(test)]
 mod errors;
+#[cfg(test)]
+mod example;
 #[cfg(test)]
 mod files;
