@@ -22,6 +22,8 @@ mod offered;
 #[cfg(test)]
 mod queues;
 #[cfg(test)]
+mod reasons;
+#[cfg(test)]
 mod requests;
 #[cfg(test)]
 mod streams;

@@ -5,7 +5,7 @@ use std::alloc::Global;
 use std::io;
 use std::io::{ErrorKind, Read, Write};
 use std::process::Abort;
-use virtio_fs_script::{Halt, print_usage, run_script};
+use virtio_fs_script::{Halt, WrongLine, print_usage, run_script};
 
 // The most bytes of a script: 1 MiB.
 const MOST_SCRIPT_BYTES: usize = 0x10_0000;
@@ -142,7 +142,7 @@ fn check_halt(rt: &impl Abort, alloc: Global, halt: Halt, text: &str, status: u8
 #[test]
 fn says_why_a_script_ends(rt: HostRuntime) {
     check_halt(&rt, rt.alloc(), Halt::TooLong, "script too long", 1);
-    let seventh = Halt::NotACommand(7);
+    let seventh = Halt::NotACommand(7, WrongLine::MissingWord);
     check_halt(&rt, rt.alloc(), seventh, "line 7: not a command", 1);
     check_halt(&rt, rt.alloc(), Halt::OutOfMemory, "out of memory", 2);
     check_halt(&rt, rt.alloc(), Halt::Stream, "a stream failed", 3);

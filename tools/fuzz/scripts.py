@@ -21,7 +21,7 @@ SHORT_LINES = [b"move", b"harvest", b"iommu on", b"iommu off", b"kick 0 1", b"ki
 def stored():
     """Each script that the repository has: its examples, those of this folder, the program's own, those of its tests."""
     found = [path.read_bytes() for path in sorted(ROOT.glob("examples/*.fs"))]
-    found += [path.read_bytes() for path in sorted(ROOT.glob("examples/fuzz/worked/*.fs"))]
+    found += [path.read_bytes() for path in sorted(ROOT.glob("tools/fuzz/worked/*.fs"))]
     found.append((ROOT / "crates/virtio_fs_run/stdin").read_bytes())
     tests = ROOT / "crates/program_tests/src"
     offered = transcripts((tests / "offered.rt").read_bytes())[0]
