@@ -8,6 +8,7 @@ mod giving_up;
 mod going_on;
 mod listing;
 mod looking;
+mod own_reply;
 mod queue;
 mod returning;
 mod state;
