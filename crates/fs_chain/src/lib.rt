@@ -18,7 +18,6 @@ mod workbench;
 pub use answering::Replied;
 pub use asking::Told;
 pub use error::ChainError;
-pub use fs_regions::{GuestRegions, MemoryRegion, RegionsError};
 pub use listing::Added;
 pub use queue::KeptQueue;
 pub use returning::Stores;
