@@ -14,6 +14,8 @@
  *     scatter(front); store(element); store_release(index); full_barrier(); seen = load(out.seen_at);
  *     fs_returned(&chain, &queue, seen, &notify);
  *
+ * A request that it doesn't serve, or each one, by a FUSE server of yours, is replied with bytes of your own: fs_reply_bytes.
+ *
  * WHO OWNS WHAT. `struct fs_device` and `struct fs_queue` are numbers: you keep them, copy them, read and set their fields, and
  * nothing of the library's hangs on them. `struct fs_chain` is the one handle: the workbench of a worker, zeros before its first
  * use; it holds memory of malloc's, is never copied, and is freed by fs_chain_free. No call keeps a pointer that it was given,
@@ -88,7 +90,7 @@ extern "C" {
 
 /* ---------------------------------------------------------------- numbers */
 
-#define FS_VERSION 3u          /* of this header; fs_version() is the archive's */
+#define FS_VERSION 4u          /* of this header; fs_version() is the archive's */
 #define FS_REGIONS_MAX 64u     /* regions of the guest's memory */
 #define FS_QUEUES_MAX 64u      /* queues in a record */
 #define FS_LOAD_MAX 4096u      /* no load of a walk is longer; today's have 2 or 16 bytes, or parts of these */
@@ -122,8 +124,9 @@ enum fs_status {
     /* from 64: refused, and nothing was done. */
     FS_BAD_ARGUMENT = 66,           /* a number that isn't one of those that the function names, or a slice of a wrong length */
     FS_SHORT_BUFFER = 69,           /* the buffer is too short */
-    FS_LONG_REPLY = 71,             /* more data than a reply can tell (2^32 bytes with its header), in a room that has place for them: answer
-                                       otherwise. With limits of at most 2^31 there is none, and FS_NO_ROOM is told */
+    FS_LONG_REPLY = 71,             /* of fs_reply_bytes: more bytes than the room has, or than 32 bits tell. Of fs_reply_data: more than a reply can tell
+                                       (2^32 bytes with its header), in a room that has place for them: answer otherwise. With limits of at
+                                       most 2^31 there is none, and FS_NO_ROOM is told */
     FS_WRONG_ORDER = 73,            /* the chain isn't where this call goes on from */
     FS_OTHER_QUEUE = 74,            /* the chain isn't out of this queue as it stands */
     FS_OTHER_KIND = 75,             /* the call wants an answer of another kind (`answer` of the call) */
@@ -512,6 +515,18 @@ static inline uint64_t fs_direntry_len(size_t name_len, int plus) {
 /* READDIR and READDIRPLUS: the entries so far are the answer; none ends the directory. `len` is how many bytes of `list` you put in the
  * room from FS_HEADER on. */
 uint32_t fs_reply_entries(struct fs_chain *chain, uint64_t *len) FS_CHECK FS_NONNULL(1, 2) FS_FILLS(2);
+
+/* ---------------------------------------------------------------- a reply of your own bytes */
+
+/* Replies `len` bytes of your own, header and all (struct fuse_out_header of linux/fuse.h: len, error, unique; all little-endian): they stand in the room
+ * from 0 on, where you put them (fs_room_windows) or will have put them before the index is stored; 0 is silence, as after FORGET. In place of fs_ask,
+ * for a request that the library doesn't serve: its opcode are the bytes 4 to 7 of the request, its number `unique` 8 to 15. So each chain of a queue may go
+ * to a FUSE server of yours. Or in place of the answer that a call waits for; then the library has no part in what the guest is told: after LOOKUP and its
+ * kin the node is held once more, after INIT device->options are yours to set.
+ * fs_return tells no front then (front_len 0), and `len` in the used element (VIRTIO 1.2, 2.7.8). No memory is wanted.
+ * Errors: FS_WRONG_ORDER (no chain is out, a faulty one, or it has a reply: it was answered, or fs_ask told FS_ANSWER_NONE), FS_LONG_REPLY (more than room_len
+ * bytes of the step, or 2^32 and more); the chain waits still. */
+uint32_t fs_reply_bytes(struct fs_chain *chain, uint64_t len) FS_CHECK FS_NONNULL(1);
 
 /* ---------------------------------------------------------------- return */
 

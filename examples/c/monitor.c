@@ -39,9 +39,8 @@ static void mark(uintptr_t at, size_t len) {
 static uint16_t load_two(uintptr_t at) { return atomic_load_explicit((_Atomic uint16_t *)at, memory_order_acquire); }
 
 /* Each byte once. The fence holds the compiler, which might look at the guest's bytes again in place of the copy. */
-static void load(void *to, uintptr_t at, size_t len) {
-    uint16_t two = len == 2 ? load_two(at) : 0;
-    memcpy(to, len == 2 ? &two : (const void *)at, len);
+static void copy_out(void *to, uintptr_t at, size_t len) {
+    memcpy(to, (const void *)at, len);
     atomic_signal_fence(memory_order_seq_cst);
 }
 
@@ -51,7 +50,7 @@ static void gather(void *to, uint64_t from, uint64_t len) {
     size_t count;
     while (len > 0 && (count = fs_request_windows(&chain, from, len, windows, 16)) > 0)
         for (size_t k = 0; k < count; k++) {
-            load(to, windows[k].at, windows[k].len);
+            copy_out(to, windows[k].at, windows[k].len);
             to = (uint8_t *)to + windows[k].len, from += windows[k].len, len -= windows[k].len;
         }
 }
@@ -68,12 +67,16 @@ static void scatter(uint64_t from, const void *bytes, uint64_t len) {
         }
 }
 
-/* Takes the next chain. FS_DONE, FS_IDLE, or why there is none. */
+/* Takes the next chain. FS_DONE, FS_IDLE, or why there is none. A load of two bytes is at an even place, and is one load. */
 static uint32_t take_chain(struct fs_step *step) {
     uint8_t bytes[FS_LOAD_MAX] = {0};
     uint32_t status;
     *step = (struct fs_step){0};
-    while ((status = fs_walk(&chain, &queue, bytes, step->len, step)) == FS_LOAD) load(bytes, step->at, step->len);
+    while ((status = fs_walk(&chain, &queue, bytes, step->len, step)) == FS_LOAD) {
+        uint16_t two = step->len == 2 ? load_two(step->at) : 0;
+        if (step->len == 2) memcpy(bytes, &two, 2);
+        else copy_out(bytes, step->at, step->len);
+    }
     return status;
 }
 
@@ -125,9 +128,12 @@ static struct file *file_of(uint64_t node) {
     return f && (f->name_len || f->held) ? f : NULL;
 }
 
-static struct file *named(struct fs_span name) {
-    for (size_t k = 0; k < FILES; k++)
-        if (files[k].name_len == name.len && name.len && !memcmp(files[k].name, request + name.at, name.len)) return &files[k];
+/* A name is a place in the request's bytes. */
+static struct file *named(const struct fs_call *call) {
+    const uint8_t *name = request + call->name.at;
+    size_t len = call->node == ROOT ? call->name.len : 0;
+    for (size_t k = 0; k < FILES && len > 0; k++)
+        if (files[k].name_len == len && !memcmp(files[k].name, name, len)) return &files[k];
     return NULL;
 }
 
@@ -155,7 +161,7 @@ static uint32_t told(struct file *f, uint32_t status) {
 }
 
 static uint32_t do_lookup(const struct fs_call *call) {
-    struct file *f = named(call->name);
+    struct file *f = named(call);
     if (!f) return fs_reply_err(&chain, ENOENT);
     struct fs_entry entry = entry_of(f);
     return told(f, fs_reply_entry(&chain, &entry));
@@ -176,7 +182,7 @@ static uint32_t do_create(const struct fs_call *call) {
     struct file *f = files;
     if (call->node != ROOT) return fs_reply_err(&chain, ENOTDIR);
     if (call->name.len > NAME_MOST) return fs_reply_err(&chain, ENAMETOOLONG);
-    if (named(call->name)) return fs_reply_err(&chain, EEXIST);
+    if (named(call)) return fs_reply_err(&chain, EEXIST);
     while (f < files + FILES && (f->name_len || f->held)) f++;
     if (f == files + FILES) return fs_reply_err(&chain, ENOSPC);
     memcpy(f->name, request + call->name.at, call->name.len);
@@ -189,7 +195,7 @@ static uint32_t do_create(const struct fs_call *call) {
 }
 
 static uint32_t do_unlink(const struct fs_call *call) {
-    struct file *f = named(call->name);
+    struct file *f = named(call);
     if (!f) return fs_reply_err(&chain, ENOENT);
     f->name_len = f->attr.nlink = 0;
     return fs_reply_err(&chain, 0);
@@ -205,7 +211,7 @@ static uint32_t do_open(const struct fs_call *call) {
 /* Data goes from the file into the room, behind the header: no more than was asked for, nor than there is room for. */
 static uint32_t do_read(const struct fs_call *call) {
     const struct file *f = file_of(call->node);
-    if (!f) return fs_reply_err(&chain, EISDIR);
+    if (!f) return fs_reply_err(&chain, ENOENT);
     uint64_t from = least(call->offset, f->attr.size);
     uint64_t len = least(f->attr.size - from, least(call->size, call->data_len));
     scatter(call->data_at, f->contents + from, len);
@@ -214,7 +220,7 @@ static uint32_t do_read(const struct fs_call *call) {
 
 static uint32_t do_write(const struct fs_call *call) {
     struct file *f = file_of(call->node);
-    if (!f) return fs_reply_err(&chain, EISDIR);
+    if (!f) return fs_reply_err(&chain, ENOENT);
     if (call->offset > CONTENTS || call->data_len > CONTENTS - call->offset) return fs_reply_err(&chain, EFBIG);
     if (call->offset + call->data_len > f->attr.size) set_size(f, call->offset + call->data_len);
     gather(f->contents + call->offset, call->data_at, call->data_len);
@@ -282,17 +288,16 @@ static uint32_t serve(bool *notify) {
     uint32_t status;
     *notify = false;
     while ((status = take_chain(&step)) == FS_DONE) {
-        if (step.fault) {
-            fprintf(stderr, "chain %u goes back with no reply: %s\n", step.head, fs_fault_name(step.fault));
-        } else if ((status = ask(&step, &call)) == FS_DONE) {
+        if (step.fault)
+            printf("Chain %u goes back with no reply: %s\n", step.head, fs_fault_name(step.fault));
+        else if ((status = ask(&step, &call)) == FS_DONE) {
             status = answer(&call);
             status = status == FS_DONE || status == FS_NO_ROOM ? FS_DONE : fs_reply_err(&chain, EIO);
         }
         if (status == FS_DONE) status = give_back(notify);
-        if (status == FS_DONE) continue;
-        fs_drop(&chain, &queue); /* it waits as before */
-        return status;
+        if (status != FS_DONE) break;
     }
+    if (status != FS_IDLE) fs_drop(&chain, &queue); /* what was taken and isn't given back waits as before */
     return status;
 }
 

@@ -8,7 +8,8 @@ ghost use Rattle.fs_chain_c.specs.Memory.{HaveFault, IsMemory, IsNoMemory, IsNoS
 ghost use Rattle.fs_chain_c.specs.declared.memory.FsRegion.{FsRegion};
 
 use arrayvec::ArrayVec;
-use fs_chain::{ChainError, GuestRegions, MemoryRegion, RegionsError};
+use fs_chain::ChainError;
+use fs_regions::{GuestRegions, MemoryRegion, RegionsError};
 use std::alloc::Global;
 
 /// How many regions there are at most.
