@@ -23,7 +23,7 @@ def stored():
     found = [path.read_bytes() for path in sorted(ROOT.glob("examples/*.fs"))]
     found += [path.read_bytes() for path in sorted(ROOT.glob("tools/fuzz/worked/*.fs"))]
     found.append((ROOT / "crates/virtio_fs_run/stdin").read_bytes())
-    tests = ROOT / "crates/program_tests/src"
+    tests = ROOT / "crates/machine_tests/src/program"
     offered = transcripts((tests / "offered.rt").read_bytes())[0]
     for path in sorted(tests.glob("*.rt")):
         for lines in transcripts(path.read_bytes()):

@@ -1,6 +1,6 @@
 //! Requests that reach the file system: its calls, the reply and the used element of each.
 
-use crate::transcript::check;
+use crate::program::transcript::check;
 
 // Version 7.38 with flag 1 agreed on; and 8.0, which is answered with what the server speaks, and without a call.
 const AGREES_ON_A_START: &[u8] = b"\

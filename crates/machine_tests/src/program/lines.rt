@@ -1,6 +1,6 @@
 //! Which lines are commands, and where they may stand.
 
-use crate::transcript::{check, expect_played, expect_same, push};
+use crate::program::transcript::{check, expect_played, expect_same, push};
 use std::alloc::Global;
 use std::process::Abort;
 

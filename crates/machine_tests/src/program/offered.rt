@@ -1,6 +1,6 @@
 //! A request that waits, and what comes after it.
 
-use crate::transcript::{check, push};
+use crate::program::transcript::{check, push};
 use std::alloc::Global;
 use std::process::Abort;
 

@@ -1,6 +1,6 @@
 //! Requests for the attributes of nodes.
 
-use crate::transcript::check;
+use crate::program::transcript::check;
 
 // A second for both nodes: node 1 has mode 0o40755 and two links, node 2 has size 5, mode 0o100644 and one link, and
 // both have pages of 4096 bytes. There is no third.

@@ -1,6 +1,6 @@
 //! What is printed of the file system's calls in one step, if there are many.
 
-use crate::transcript::expect_same;
+use crate::program::transcript::expect_same;
 use std::alloc::Global;
 use std::process::Abort;
 use virtio_fs_script::{Call, FirstCalls, print_calls};

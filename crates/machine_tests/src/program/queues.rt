@@ -1,7 +1,7 @@
 //! Kicks of one queue and of several, queues that stop, and resets.
 
-use crate::offered::check_offered;
-use crate::transcript::{check, expect_played, push};
+use crate::program::offered::check_offered;
+use crate::program::transcript::{check, expect_played, push};
 use std::alloc::Global;
 use std::process::Abort;
 

@@ -1,7 +1,7 @@
 //! Mappings that are taken and refused, and kicks of a device that lacks one.
 
-use crate::offered::check_offered;
-use crate::transcript::check;
+use crate::program::offered::check_offered;
+use crate::program::transcript::check;
 
 // Ends that fit 64 bits, and ends that don't. Nothing of length 0 is refused.
 const TAKES_MAPPINGS_WHOSE_ENDS_FIT: &[u8] = b"\

@@ -1,6 +1,6 @@
 //! Requests that write the file and list the root.
 
-use crate::transcript::check;
+use crate::program::transcript::check;
 
 // A READ shows what each WRITE leaves: bytes at the end, a gap of zeros, nothing of what the file can't hold (EFBIG),
 // as many bytes as there are, and nothing where node 1 is to be written.

@@ -1,6 +1,6 @@
 //! Scripts that are too long, and readers and writers that fail.
 
-use crate::transcript::{expect_played, expect_same, push};
+use crate::program::transcript::{expect_played, expect_same, push};
 use std::alloc::Global;
 use std::io;
 use std::io::{ErrorKind, Read, Write};

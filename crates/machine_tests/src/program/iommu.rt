@@ -1,6 +1,6 @@
 //! Kicks of a device behind the IOMMU, with all that they need mapped.
 
-use crate::offered::check_offered;
+use crate::program::offered::check_offered;
 
 // The request lies in two pieces, and its room elsewhere. Writes mark I/O pages, and none of a block.
 const SERVES_WHAT_IS_MAPPED: &[&[u8]] = &[

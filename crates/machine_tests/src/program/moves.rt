@@ -1,6 +1,6 @@
 //! Guests that go on on another host, with their devices.
 
-use crate::transcript::{check, push};
+use crate::program::transcript::{check, push};
 use std::alloc::Global;
 use std::process::Abort;
 

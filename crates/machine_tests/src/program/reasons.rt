@@ -1,6 +1,6 @@
 //! Why a line isn't a command, as the program tells it on standard error.
 
-use crate::transcript::{expect_same, push};
+use crate::program::transcript::{expect_same, push};
 use std::alloc::Global;
 use std::process::Abort;
 use virtio_fs_script::{Halt, play_script};

@@ -1,6 +1,6 @@
 //! Regions that come and go, guest accesses, and the pages that they mark.
 
-use crate::transcript::check;
+use crate::program::transcript::check;
 
 // Two regions over blocks of their own, and more over the same blocks: what lies across them is read and written.
 const LAYS_OUT_BLOCKS_IN_MANY_REGIONS: &[u8] = b"\
