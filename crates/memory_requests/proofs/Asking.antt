@@ -1,7 +1,11 @@
 -- What a request that was refused tells.
 use Rattle.std.proofs.Common.{ℕ}
-use Rattle.memory_requests.specs.Refused.{IsRefused, MemoryWasRefused, RoomWasRefused}
+use Rattle.memory_requests.specs.Refused.{MemoryWasRefused, RoomWasRefused}
 
-pub is_refused : (n : ℕ) → IsRefused n
-unfolding RoomWasRefused MemoryWasRefused
-is_refused n = (tt, tt)
+pub room_was_refused : (n : ℕ) → RoomWasRefused n
+unfolding RoomWasRefused
+room_was_refused n = tt
+
+pub memory_was_refused : MemoryWasRefused
+unfolding MemoryWasRefused
+memory_was_refused = tt

@@ -8,7 +8,3 @@ RoomWasRefused n = Unit {0}
 -- it refused a request
 unfoldable pub MemoryWasRefused : Type 0
 MemoryWasRefused = Unit {0}
-
--- it refused a request: this one, for so many elements
-abbrev pub IsRefused : ℕ → Type 0
-IsRefused n = RoomWasRefused n × MemoryWasRefused
