@@ -13,6 +13,8 @@ pub struct Recorder {
     pub wanted: Options,
     /// What a directory lists.
     pub names: Vec<&'static CStr>,
+    /// The caller may be anybody.
+    pub is_unchecked: bool,
 }
 
 /// All attributes that a reply tells, each another number.
@@ -64,8 +66,8 @@ impl Recorder {
     }
 
     fn asked<T>(&self, context: &Context, call: &str, told: &dyn Debug, value: T) -> Answer<T> {
-        assert_eq!((context.uid, context.gid, context.pid), (1000, 100, 7));
-        assert_eq!(context.unique, super::UNIQUE);
+        let who = (context.uid, context.gid, context.pid, context.unique);
+        assert!(self.is_unchecked || who == (1000, 100, 7, super::UNIQUE), "{who:?}");
         self.note(call, told, value)
     }
 }
@@ -79,7 +81,7 @@ fn fill(buffer: &mut [u8], bytes: &[u8]) -> usize {
 
 impl FileSystem for Recorder {
     fn init(&self, init: Init) -> Answer<Options> {
-        assert!(init.capable.contains(Options::ASYNC_READ));
+        assert!(self.is_unchecked || init.capable.contains(Options::ASYNC_READ));
         self.note("init", &(), self.wanted)
     }
     fn destroy(&self) {
