@@ -68,17 +68,17 @@ impl<'a> Exchange<'a> {
     /// Stores bytes in the room, from one of it on, and says how many had a place.
     pub fn store(&mut self, from: u64, bytes: &[u8]) -> usize {
         let stored = store_room(self.chain, self.memory, from, bytes);
-        self.mark(from.saturating_add(stored as u64));
+        self.written_up_to(from.saturating_add(stored as u64));
         stored
     }
 
-    /// The windows of the room from one of its bytes on, as many as the slice takes. What was stored by them is told by `mark`.
+    /// The windows of the room from one of its bytes on, as many as the slice takes. What was stored by them is told by `written_up_to`.
     pub fn room_windows<'w>(&mut self, from: u64, windows: &'w mut [Window]) -> &'w [Window] {
         self.chain.room_windows(from, u64::MAX - from, windows)
     }
 
     /// The room was written up to this byte of it, by its windows: for a migration's log, where the reply ends before.
-    pub fn mark(&mut self, end: u64) {
+    pub fn written_up_to(&mut self, end: u64) {
         self.written = self.written.max(end.min(self.room_len));
     }
 

@@ -57,37 +57,37 @@ pub trait FileSystem {
     }
 
     /// SYMLINK: makes a link to `target`; the guest holds the new node once.
-    fn symlink(&self, context: &Context, link: Name<'_>, target: &CStr) -> Answer<Entry> {
+    fn symlink(&self, context: &Context, link: Child<'_>, target: &CStr) -> Answer<Entry> {
         Err(Errno::ENOSYS)
     }
 
     /// MKNOD: makes a file, a device, a pipe or a socket; the guest holds the new node once.
-    fn mknod(&self, context: &Context, name: Name<'_>, make: MakeNode) -> Answer<Entry> {
+    fn mknod(&self, context: &Context, child: Child<'_>, make: MakeNode) -> Answer<Entry> {
         Err(Errno::ENOSYS)
     }
 
     /// MKDIR: makes a directory; the guest holds the new node once.
-    fn mkdir(&self, context: &Context, name: Name<'_>, make: MakeDirectory) -> Answer<Entry> {
+    fn mkdir(&self, context: &Context, child: Child<'_>, make: MakeDirectory) -> Answer<Entry> {
         Err(Errno::ENOSYS)
     }
 
     /// UNLINK: takes a name away from what isn't a directory.
-    fn unlink(&self, context: &Context, name: Name<'_>) -> Answer<()> {
+    fn unlink(&self, context: &Context, child: Child<'_>) -> Answer<()> {
         Err(Errno::ENOSYS)
     }
 
     /// RMDIR: takes a name away from an empty directory.
-    fn rmdir(&self, context: &Context, name: Name<'_>) -> Answer<()> {
+    fn rmdir(&self, context: &Context, child: Child<'_>) -> Answer<()> {
         Err(Errno::ENOSYS)
     }
 
     /// RENAME and RENAME2: one name becomes the other.
-    fn rename(&self, context: &Context, from: Name<'_>, to: Name<'_>, flags: RenameFlags) -> Answer<()> {
+    fn rename(&self, context: &Context, from: Child<'_>, to: Child<'_>, flags: RenameFlags) -> Answer<()> {
         Err(Errno::ENOSYS)
     }
 
     /// LINK: a node gets a name more; the guest holds it once more.
-    fn link(&self, context: &Context, node: Node, name: Name<'_>) -> Answer<Entry> {
+    fn link(&self, context: &Context, node: Node, child: Child<'_>) -> Answer<Entry> {
         Err(Errno::ENOSYS)
     }
 
@@ -97,7 +97,7 @@ pub trait FileSystem {
     }
 
     /// CREATE: makes a file and opens it; the guest holds the new node once.
-    fn create(&self, context: &Context, name: Name<'_>, create: Create) -> Answer<(Entry, Opened)> {
+    fn create(&self, context: &Context, child: Child<'_>, create: Create) -> Answer<(Entry, Opened)> {
         Err(Errno::ENOSYS)
     }
 

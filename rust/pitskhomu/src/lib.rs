@@ -78,7 +78,7 @@ pub use listing::Listing;
 pub use memory::{GuestMemory, GuestRange, Region, Window};
 pub use queue::{Queue, QueueLayout};
 pub use requests::{
-    Allocate, CopyFileRange, Create, FilePlace, Forgets, Init, MakeDirectory, MakeNode, Name, Open, Read,
+    Allocate, Child, CopyFileRange, Create, FilePlace, Forgets, Init, MakeDirectory, MakeNode, Open, Read,
     ReadDirectory, Release, Seek, SetAttributes, SetTime, Write,
 };
 pub use status::{Fault, RequestFault, Status};

@@ -315,7 +315,7 @@ impl Worker {
         fence(Ordering::Release);
         memory.store_u16(stores.index_at, stores.index);
         if memory.is_logging() {
-            self.mark(queue, memory, u64::from(stores.len).max(self.written));
+            self.mark_written(queue, memory, u64::from(stores.len).max(self.written));
         }
         // The flags are read after the driver can see the index, or a notification is lost.
         fence(Ordering::SeqCst);
@@ -326,7 +326,7 @@ impl Worker {
     }
 
     /// Tells what was written: so many bytes of the room, the used element and the used index (VIRTIO 1.2, 2.7.8).
-    fn mark(&mut self, queue: &Queue, memory: &dyn GuestMemory, written: u64) {
+    fn mark_written(&mut self, queue: &Queue, memory: &dyn GuestMemory, written: u64) {
         let mut ranges = [GuestRange::default(); 16];
         let mut done = 0;
         while done < written {

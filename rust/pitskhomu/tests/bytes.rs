@@ -82,7 +82,7 @@ fn a_reply_by_windows() {
             assert_eq!(request, [Window { at: 0x7000_0000 + REQUEST as usize + 40, len: 24 }]);
             let room = exchange.room_windows(16, &mut windows).to_vec();
             assert_eq!(room, [Window { at: 0x7000_0000 + ROOM as usize + 0x1000, len: 8 }]);
-            exchange.mark(20);
+            exchange.written_up_to(20);
             exchange.store_error(Errno::EAGAIN)
         },
         Recorder::default(),

@@ -74,18 +74,18 @@ fn names_are_found_and_made() {
     assert_eq!(call, r#"lookup (Node(5), "na\xffme")"#);
     check_entry(&reply.data());
     let (call, reply) = told(6, args().bytes(b"name\0to/there\0"), 144);
-    assert_eq!(call, r#"symlink (Name { parent: Node(5), name: "name" }, "to/there", None)"#);
+    assert_eq!(call, r#"symlink (Child { parent: Node(5), name: "name" }, "to/there", None)"#);
     check_entry(&reply.data());
     let (call, reply) = told(8, args().d(0o20666).d(0x103).d(0o22).d(0).bytes(b"name\0"), 144);
     let made = "MakeNode { mode: 8630, rdev: 259, umask: 18 }";
-    assert_eq!(call, format!("mknod (Name {{ parent: Node(5), name: \"name\" }}, {made}, None)"));
+    assert_eq!(call, format!("mknod (Child {{ parent: Node(5), name: \"name\" }}, {made}, None)"));
     check_entry(&reply.data());
     let (call, reply) = told(9, args().d(0o755).d(0o22).bytes(b"name\0"), 144);
     let made = "MakeDirectory { mode: 493, umask: 18 }";
-    assert_eq!(call, format!("mkdir (Name {{ parent: Node(5), name: \"name\" }}, {made})"));
+    assert_eq!(call, format!("mkdir (Child {{ parent: Node(5), name: \"name\" }}, {made})"));
     check_entry(&reply.data());
     let (call, reply) = told(13, args().q(9).bytes(b"name\0"), 144);
-    assert_eq!(call, r#"link (Node(9), Name { parent: Node(5), name: "name" })"#);
+    assert_eq!(call, r#"link (Node(9), Child { parent: Node(5), name: "name" })"#);
     check_entry(&reply.data());
 }
 
@@ -99,9 +99,9 @@ fn a_group_of_the_callers_is_told() {
 
 #[test]
 fn names_go_and_change() {
-    assert_eq!(told(10, args().bytes(b"name\0"), 16).0, r#"unlink Name { parent: Node(5), name: "name" }"#);
-    assert_eq!(told(11, args().bytes(b"name\0"), 16).0, r#"rmdir Name { parent: Node(5), name: "name" }"#);
-    let names = r#"Name { parent: Node(5), name: "old" }, Name { parent: Node(9), name: "new" }"#;
+    assert_eq!(told(10, args().bytes(b"name\0"), 16).0, r#"unlink Child { parent: Node(5), name: "name" }"#);
+    assert_eq!(told(11, args().bytes(b"name\0"), 16).0, r#"rmdir Child { parent: Node(5), name: "name" }"#);
+    let names = r#"Child { parent: Node(5), name: "old" }, Child { parent: Node(9), name: "new" }"#;
     let (call, reply) = told(12, args().q(9).bytes(b"old\0new\0"), 16);
     assert_eq!((call, reply), (format!("rename ({names}, RenameFlags(0x0))"), Reply::Data(vec![])));
     let (call, _) = told(45, args().q(9).d(3).d(0).bytes(b"old\0new\0"), 16);
@@ -118,7 +118,7 @@ fn files_are_opened_and_closed() {
     check_opened(&reply.data());
     let (call, reply) = told(35, args().d(0x42).d(0o100600).d(0o77).d(1).bytes(b"name\0"), 160);
     let create = "Create { flags: 66, mode: 33152, umask: 63, kill_priv: true }";
-    assert_eq!(call, format!("create (Name {{ parent: Node(5), name: \"name\" }}, {create})"));
+    assert_eq!(call, format!("create (Child {{ parent: Node(5), name: \"name\" }}, {create})"));
     let data = reply.data();
     check_entry(&data);
     check_opened(&data[128..]);

@@ -65,7 +65,7 @@ impl FileSystem for Notes {
         Ok((self.attributes(node)?, SECOND))
     }
 
-    fn create(&self, _context: &Context, Name { name, .. }: Name<'_>, _create: Create) -> Answer<(Entry, Opened)> {
+    fn create(&self, _context: &Context, Child { name, .. }: Child<'_>, _create: Create) -> Answer<(Entry, Opened)> {
         if self.find(name).is_ok() {
             return Err(Errno::EEXIST);
         }
@@ -77,7 +77,7 @@ impl FileSystem for Notes {
         Ok((self.entry(node)?, Opened::default()))
     }
 
-    fn unlink(&self, _context: &Context, Name { name, .. }: Name<'_>) -> Answer<()> {
+    fn unlink(&self, _context: &Context, Child { name, .. }: Child<'_>) -> Answer<()> {
         self.with(self.find(name)?, |note| note.name = None)
     }
 
