@@ -1,6 +1,7 @@
 pub mod Asking
-pub mod Benches
+pub mod Handles
 pub mod Calls
+pub mod Handles
 pub mod Listing
 pub mod Memory
 pub mod Numbers
