@@ -202,6 +202,12 @@ impl Chain {
         Ok((reply, len))
     }
 
+    /// The reply is so many bytes of the caller's own.
+    pub fn reply_bytes(&mut self, len: u64) -> Result<(), Status> {
+        // SAFETY: as the module says.
+        Status::check(unsafe { sys::fs_reply_bytes(&mut self.0, len) })
+    }
+
     pub fn begin_return(&mut self, queue: &Queue, front: &mut [u8]) -> Result<sys::Stores, Status> {
         let mut stores = sys::Stores::default();
         // SAFETY: as the module says.

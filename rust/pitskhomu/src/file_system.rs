@@ -1,6 +1,7 @@
 //! The trait that a file system implements.
 use crate::data::{ReadData, WriteData};
 use crate::errno::{Answer, Errno};
+use crate::exchange::Exchange;
 use crate::flags::{AccessMask, Options, RenameFlags};
 use crate::listing::Listing;
 use crate::requests::*;
@@ -13,6 +14,14 @@ use core::time::Duration;
 /// harmless. An answer whose reply has no room is taken back: an entry by `forget`, an open file by `release`.
 #[allow(unused_variables)]
 pub trait FileSystem {
+    /// Any request, before the library reads it: `Some` if it is replied here, by bytes of one's own, and how many they are, header and all
+    /// (struct fuse_out_header); they stand in the room from its front on by then, and 0 is silence. So a request that the library doesn't
+    /// serve is served, or each by a FUSE server of one's own. More bytes than the room has are answered EIO. What the guest is told so the
+    /// library has no part in: nothing is taken back, and after INIT the device's options are to be set. `None`: the library reads it.
+    fn reply_by_bytes(&self, exchange: &mut Exchange<'_>) -> Option<u64> {
+        None
+    }
+
     /// INIT: a session begins. The guest holds no node but the root, and nothing is open. Which options are wanted, of those that the guest
     /// can, besides those that are agreed on anyway. An error ends the session before it began.
     fn init(&self, init: Init) -> Answer<Options> {
@@ -48,37 +57,37 @@ pub trait FileSystem {
     }
 
     /// SYMLINK: makes a link to `target`; the guest holds the new node once.
-    fn symlink(&self, context: &Context, link: Name<'_>, target: &CStr) -> Answer<Entry> {
+    fn symlink(&self, context: &Context, link: Child<'_>, target: &CStr) -> Answer<Entry> {
         Err(Errno::ENOSYS)
     }
 
     /// MKNOD: makes a file, a device, a pipe or a socket; the guest holds the new node once.
-    fn mknod(&self, context: &Context, name: Name<'_>, make: MakeNode) -> Answer<Entry> {
+    fn mknod(&self, context: &Context, child: Child<'_>, make: MakeNode) -> Answer<Entry> {
         Err(Errno::ENOSYS)
     }
 
     /// MKDIR: makes a directory; the guest holds the new node once.
-    fn mkdir(&self, context: &Context, name: Name<'_>, make: MakeDirectory) -> Answer<Entry> {
+    fn mkdir(&self, context: &Context, child: Child<'_>, make: MakeDirectory) -> Answer<Entry> {
         Err(Errno::ENOSYS)
     }
 
     /// UNLINK: takes a name away from what isn't a directory.
-    fn unlink(&self, context: &Context, name: Name<'_>) -> Answer<()> {
+    fn unlink(&self, context: &Context, child: Child<'_>) -> Answer<()> {
         Err(Errno::ENOSYS)
     }
 
     /// RMDIR: takes a name away from an empty directory.
-    fn rmdir(&self, context: &Context, name: Name<'_>) -> Answer<()> {
+    fn rmdir(&self, context: &Context, child: Child<'_>) -> Answer<()> {
         Err(Errno::ENOSYS)
     }
 
     /// RENAME and RENAME2: one name becomes the other.
-    fn rename(&self, context: &Context, from: Name<'_>, to: Name<'_>, flags: RenameFlags) -> Answer<()> {
+    fn rename(&self, context: &Context, from: Child<'_>, to: Child<'_>, flags: RenameFlags) -> Answer<()> {
         Err(Errno::ENOSYS)
     }
 
     /// LINK: a node gets a name more; the guest holds it once more.
-    fn link(&self, context: &Context, node: Node, name: Name<'_>) -> Answer<Entry> {
+    fn link(&self, context: &Context, node: Node, child: Child<'_>) -> Answer<Entry> {
         Err(Errno::ENOSYS)
     }
 
@@ -88,7 +97,7 @@ pub trait FileSystem {
     }
 
     /// CREATE: makes a file and opens it; the guest holds the new node once.
-    fn create(&self, context: &Context, name: Name<'_>, create: Create) -> Answer<(Entry, Opened)> {
+    fn create(&self, context: &Context, child: Child<'_>, create: Create) -> Answer<(Entry, Opened)> {
         Err(Errno::ENOSYS)
     }
 

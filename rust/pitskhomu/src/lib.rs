@@ -51,6 +51,7 @@ mod chain;
 mod data;
 mod device;
 mod errno;
+mod exchange;
 mod file_system;
 mod flags;
 mod listing;
@@ -70,13 +71,14 @@ pub use std::ffi::CStr;
 pub use data::{ReadData, WriteData};
 pub use device::Device;
 pub use errno::{Answer, Errno};
+pub use exchange::Exchange;
 pub use file_system::FileSystem;
 pub use flags::{AccessMask, FileKind, OpenOptions, Options, RenameFlags, SetAttributesValid};
 pub use listing::Listing;
 pub use memory::{GuestMemory, GuestRange, Region, Window};
 pub use queue::{Queue, QueueLayout};
 pub use requests::{
-    Allocate, CopyFileRange, Create, FilePlace, Forgets, Init, MakeDirectory, MakeNode, Name, Open, Read,
+    Allocate, Child, CopyFileRange, Create, FilePlace, Forgets, Init, MakeDirectory, MakeNode, Open, Read,
     ReadDirectory, Release, Seek, SetAttributes, SetTime, Write,
 };
 pub use status::{Fault, RequestFault, Status};

@@ -172,7 +172,7 @@ pub struct Init {
 
 /// A name in a directory.
 #[derive(Clone, Copy, Debug)]
-pub struct Name<'n> {
+pub struct Child<'n> {
     /// The directory.
     pub parent: Node,
     /// The name: the guest's bytes, so it may be empty, `.`, `..`, or have a slash.

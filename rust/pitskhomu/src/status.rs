@@ -66,8 +66,8 @@ numbered! {
         BadArgument = 66, "a number of the queue, the device or the regions is none that it may be";
         /// The buffer is too short.
         ShortBuffer = 69, "the buffer is too short";
-        /// More data than a reply can tell.
-        LongReply = 71, "more data than a reply can tell";
+        /// More data than a reply can tell, or more bytes than the room has.
+        LongReply = 71, "more data than a reply can tell, or than the room has";
         /// The chain isn't where this call goes on from: no memory was told, for one.
         WrongOrder = 73, "a call in a wrong order";
         /// The chain isn't out of this queue as it stands.

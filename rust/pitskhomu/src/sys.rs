@@ -1,10 +1,10 @@
 //! What pitskhomu.h declares, in its order, with its names (without `fs_` and `FS_`). The header says what each function does and
-//! owes. The script `rust/declared` compares the two.
+//! owes. The script `tools/declared` compares the two.
 use crate::memory::{GuestRange as Range, Region, Window};
 use crate::queue::Queue;
 use core::ffi::c_void;
 
-pub const VERSION: u32 = 3;
+pub const VERSION: u32 = 4;
 pub const REGIONS_MAX: usize = 64;
 pub const QUEUES_MAX: usize = 64;
 pub const FIRST: usize = 80;
@@ -236,6 +236,7 @@ extern "C" {
     pub fn fs_add_direntry_plus(chain: &mut Chain, list: *mut u8, list_len: usize, name: *const u8, name_len: usize,
         entry: &Entry, next_offset: u64) -> u32;
     pub fn fs_reply_entries(chain: &mut Chain, len: &mut u64) -> u32;
+    pub fn fs_reply_bytes(chain: &mut Chain, len: u64) -> u32;
     pub fn fs_return(chain: &mut Chain, queue: &Queue, front: *mut u8, front_len: usize, stores: &mut Stores) -> u32;
     pub fn fs_returned(chain: &mut Chain, queue: &mut Queue, seen: u16, notify: &mut u8) -> u32;
     pub fn fs_save(device: &Device, queues: *const Queue, queue_count: usize, buffer: *mut u8, buffer_len: usize,

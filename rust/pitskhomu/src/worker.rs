@@ -5,6 +5,7 @@ use crate::chain::{Asked, Chain, Replied, Walked};
 use crate::data::{load_request, store_room};
 use crate::device::Device;
 use crate::errno::Errno;
+use crate::exchange::{self, Exchange};
 use crate::file_system::FileSystem;
 use crate::memory::{GuestMemory, GuestRange, Region};
 use crate::queue::Queue;
@@ -23,7 +24,8 @@ pub struct Served {
     pub request_len: u64,
     /// How many bytes the room for the reply has; 0 with a fault.
     pub room_len: u64,
-    /// The request's opcode, as the guest wrote it (enum fuse_opcode of linux/fuse.h); 0 if the request was too short to have one.
+    /// The request's opcode, as the guest wrote it (enum fuse_opcode of linux/fuse.h); 0 if the request was too short to have one, or with a
+    /// fault.
     pub opcode: u32,
     /// The guest's number of the request.
     pub unique: u64,
@@ -43,8 +45,10 @@ pub struct Served {
 #[derive(Clone, Copy, Debug, PartialEq, Eq)]
 enum Phase {
     Free,
-    /// It is walked, or out and not yet asked.
+    /// It is walked, or out, and its request isn't read.
     Walking,
+    /// Its request was handed to the file system, which may reply by bytes.
+    Handed,
     /// A call waits for its answer.
     Asked,
     /// The reply is known.
@@ -129,7 +133,12 @@ impl Worker {
 
     /// Ends what a panic left: answers EIO if a call waits.
     fn finish_left(&mut self, queue: &mut Queue, memory: &dyn GuestMemory) -> Option<Served> {
-        if self.phase == Phase::Asked && self.answer_error().is_ok() {
+        let answered = match self.phase {
+            Phase::Handed => self.reply_error(memory, Errno::EIO),
+            Phase::Asked => self.answer_error(),
+            _ => Ok(()),
+        };
+        if matches!(self.phase, Phase::Handed | Phase::Asked) && answered.is_ok() {
             self.phase = Phase::Answered;
         }
         let served = match self.phase {
@@ -177,16 +186,32 @@ impl Worker {
             return Ok(None);
         }
         if self.step.fault == 0 {
-            self.ask(device, memory)?;
-            self.phase = if self.call.answer == sys::answer::NONE { Phase::Answered } else { Phase::Asked };
-            match self.answer(device, file_system, memory) {
-                Ok(replied) => self.replied = replied,
-                // An answer that the library doesn't take: files may have changed, so the call isn't asked again.
-                Err(_) => self.answer_error()?,
-            }
+            self.exchange(device, file_system, memory)?;
         }
         self.phase = Phase::Answered;
         self.give_back(queue, memory).map(Some)
+    }
+
+    /// From the request to the reply.
+    fn exchange(
+        &mut self,
+        device: &Device,
+        file_system: &dyn FileSystem,
+        memory: &dyn GuestMemory,
+    ) -> Result<(), Status> {
+        let front = self.load_front(memory)?;
+        if self.reply_by_bytes(front, file_system, memory)? {
+            return Ok(());
+        }
+        self.phase = Phase::Walking;
+        self.ask(front, device, memory)?;
+        self.phase = if self.call.answer == sys::answer::NONE { Phase::Answered } else { Phase::Asked };
+        match self.answer(device, file_system, memory) {
+            Ok(replied) => self.replied = replied,
+            // An answer that the library doesn't take: files may have changed, so the call isn't asked again.
+            Err(_) => self.answer_error()?,
+        }
+        Ok(())
     }
 
     /// Whether a chain is out.
@@ -215,32 +240,63 @@ impl Worker {
         Ok(())
     }
 
-    /// What the request asks, by as many of its bytes as are wanted.
-    fn ask(&mut self, device: &Device, memory: &dyn GuestMemory) -> Result<(), Status> {
-        let numbers = device.numbers();
-        let (mut have, mut want) = (0, self.step.request_len.min(sys::FIRST as u64) as usize);
-        loop {
-            if want > sys::REQUEST_MAX || grow(&mut self.request, want).is_err() {
-                return self.ask_too_long(&numbers);
-            }
-            load_request(&mut self.chain, memory, have as u64, &mut self.request[have..want]);
-            have = want;
-            match self.chain.ask(&numbers, &self.request[..have], &mut self.call)? {
-                Asked::Call => return Ok(()),
-                Asked::More(needed) if needed > have => want = needed,
-                Asked::More(_) => return Err(Status::ShortBuffer),
-            }
+    /// Loads the request's first bytes, and says how many.
+    fn load_front(&mut self, memory: &dyn GuestMemory) -> Result<usize, Status> {
+        let len = self.step.request_len.min(sys::FIRST as u64) as usize;
+        grow(&mut self.request, len)?;
+        load_request(&mut self.chain, memory, 0, &mut self.request[..len]);
+        Ok(len)
+    }
+
+    /// The chain by its bytes, of which the first are loaded.
+    fn by_bytes<'a>(&'a mut self, front: usize, memory: &'a dyn GuestMemory) -> Exchange<'a> {
+        let sys::Step { request_len, room_len, .. } = self.step;
+        self.call.opcode = exchange::opcode(&self.request[..front]);
+        self.call.unique = exchange::unique(&self.request[..front]);
+        Exchange::new(&mut self.chain, memory, &self.request[..front], request_len, room_len)
+    }
+
+    /// Whether the file system replies by bytes of its own.
+    fn reply_by_bytes(
+        &mut self,
+        front: usize,
+        file_system: &dyn FileSystem,
+        memory: &dyn GuestMemory,
+    ) -> Result<bool, Status> {
+        self.phase = Phase::Handed;
+        let mut exchange = self.by_bytes(front, memory);
+        let reply = file_system.reply_by_bytes(&mut exchange);
+        self.written = exchange.written();
+        match reply.map(|len| self.chain.reply_bytes(len)) {
+            None => Ok(false),
+            Some(Err(Status::LongReply)) => self.reply_error(memory, Errno::EIO).map(|()| true),
+            Some(replied) => replied.map(|()| true),
         }
     }
 
-    /// A request that is longer than any that a driver makes (a limit above the least allows it), or for which memory is wanting. It can't be
-    /// left where it is, since it would block its queue. Its header tells a length that is too long for a request, so it is answered ENOMEM.
-    fn ask_too_long(&mut self, numbers: &sys::Device) -> Result<(), Status> {
-        let front = self.request.get_mut(..sys::FIRST).ok_or(Status::OutOfMemory)?;
-        front[..4].copy_from_slice(&u32::MAX.to_le_bytes());
-        match self.chain.ask(numbers, front, &mut self.call)? {
-            Asked::Call => Ok(()),
-            Asked::More(_) => Err(Status::ShortBuffer),
+    /// Replies an error by bytes: of a request that isn't read.
+    fn reply_error(&mut self, memory: &dyn GuestMemory, error: Errno) -> Result<(), Status> {
+        let front = self.step.request_len.min(sys::FIRST as u64) as usize;
+        let len = self.by_bytes(front, memory).store_error(error);
+        self.chain.reply_bytes(len)
+    }
+
+    /// What the request asks, by as many of its bytes as are wanted. One that is longer than any that a driver makes (a limit above the least
+    /// allows it), or for which memory is wanting, can't stay where it is, since it would block its queue: it is answered ENOMEM.
+    fn ask(&mut self, front: usize, device: &Device, memory: &dyn GuestMemory) -> Result<(), Status> {
+        let numbers = device.numbers();
+        let mut have = front;
+        loop {
+            let want = match self.chain.ask(&numbers, &self.request[..have], &mut self.call)? {
+                Asked::Call => return Ok(()),
+                Asked::More(needed) if needed > have => needed,
+                Asked::More(_) => return Err(Status::ShortBuffer),
+            };
+            if want > sys::REQUEST_MAX || grow(&mut self.request, want).is_err() {
+                return self.reply_error(memory, Errno::ENOMEM);
+            }
+            load_request(&mut self.chain, memory, have as u64, &mut self.request[have..want]);
+            have = want;
         }
     }
 
@@ -259,7 +315,7 @@ impl Worker {
         fence(Ordering::Release);
         memory.store_u16(stores.index_at, stores.index);
         if memory.is_logging() {
-            self.mark(queue, memory, u64::from(stores.len).max(self.written));
+            self.mark_written(queue, memory, u64::from(stores.len).max(self.written));
         }
         // The flags are read after the driver can see the index, or a notification is lost.
         fence(Ordering::SeqCst);
@@ -270,7 +326,7 @@ impl Worker {
     }
 
     /// Tells what was written: so many bytes of the room, the used element and the used index (VIRTIO 1.2, 2.7.8).
-    fn mark(&mut self, queue: &Queue, memory: &dyn GuestMemory, written: u64) {
+    fn mark_written(&mut self, queue: &Queue, memory: &dyn GuestMemory, written: u64) {
         let mut ranges = [GuestRange::default(); 16];
         let mut done = 0;
         while done < written {

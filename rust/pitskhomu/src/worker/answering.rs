@@ -103,8 +103,8 @@ impl Worker {
     }
 
     /// The call's name in its node.
-    fn place(&self) -> Answer<Name<'_>> {
-        Ok(Name { parent: self.node(), name: self.name()? })
+    fn child(&self) -> Answer<Child<'_>> {
+        Ok(Child { parent: self.node(), name: self.name()? })
     }
 
     fn forget(&self, file_system: &dyn FileSystem) {
@@ -141,18 +141,18 @@ impl Worker {
         let (context, call) = (&self.context(), &self.call);
         match call.kind {
             kind::LOOKUP => file_system.lookup(context, self.node(), self.name()?),
-            kind::SYMLINK => file_system.symlink(context, self.place()?, name(&self.request, call.value)?),
+            kind::SYMLINK => file_system.symlink(context, self.child()?, name(&self.request, call.value)?),
             kind::MKNOD => {
                 let make = MakeNode { mode: call.mode, rdev: call.rdev, umask: call.umask };
-                file_system.mknod(context, self.place()?, make)
+                file_system.mknod(context, self.child()?, make)
             }
             kind::MKDIR => {
                 let make = MakeDirectory { mode: call.mode, umask: call.umask };
-                file_system.mkdir(context, self.place()?, make)
+                file_system.mkdir(context, self.child()?, make)
             }
             _ => {
-                let place = Name { parent: Node(call.node2), name: self.name()? };
-                file_system.link(context, self.node(), place)
+                let child = Child { parent: Node(call.node2), name: self.name()? };
+                file_system.link(context, self.node(), child)
             }
         }
     }
@@ -161,7 +161,7 @@ impl Worker {
         let context = self.context();
         let sys::Call { flags, mode, umask, kill_priv, .. } = self.call;
         let create = Create { flags, mode, umask, kill_priv: kill_priv != 0 };
-        let created = self.place().and_then(|place| file_system.create(&context, place, create));
+        let created = self.child().and_then(|child| file_system.create(&context, child, create));
         self.reply(created, |worker, (entry, opened)| {
             let Opened { handle, options } = opened;
             let replied = worker.chain.reply_create(&entry.raw(), handle.0, options.bits());
@@ -243,11 +243,11 @@ impl Worker {
         let (context, call, node, handle) = (&self.context(), &self.call, self.node(), self.handle());
         let data_only = call.data_only != 0;
         match call.kind {
-            kind::UNLINK => file_system.unlink(context, self.place()?),
-            kind::RMDIR => file_system.rmdir(context, self.place()?),
+            kind::UNLINK => file_system.unlink(context, self.child()?),
+            kind::RMDIR => file_system.rmdir(context, self.child()?),
             kind::RENAME => {
-                let to = Name { parent: Node(call.node2), name: name(&self.request, call.name2)? };
-                file_system.rename(context, self.place()?, to, RenameFlags::from_bits(call.flags))
+                let to = Child { parent: Node(call.node2), name: name(&self.request, call.name2)? };
+                file_system.rename(context, self.child()?, to, RenameFlags::from_bits(call.flags))
             }
             kind::SETXATTR => {
                 let value = bytes(&self.request, call.value)?;
@@ -282,7 +282,7 @@ impl Worker {
         let mut data = ReadData::new(&mut self.chain, memory, data_at, data_len.min(size));
         let answer = file_system.read(&context, node, read, &mut data);
         let done = data.done();
-        self.written = data_at + done;
+        self.written = self.written.max(data_at + done);
         self.reply(answer, |worker, ()| worker.chain.reply_data(done))
     }
 
@@ -321,7 +321,7 @@ impl Worker {
                 return worker.chain.reply_xattr(len as u32);
             }
             store_room(&mut worker.chain, memory, sys::HEADER, &worker.list[..len]);
-            worker.written = sys::HEADER + len as u64;
+            worker.written = worker.written.max(sys::HEADER + len as u64);
             worker.chain.reply_data(len as u64)
         })
     }
