@@ -24,6 +24,9 @@ static void make_available(uint32_t at, uint16_t value) {
     atomic_store_explicit((_Atomic uint16_t *)(void *)(memory + at), value, memory_order_release);
 }
 
+/* An opcode that no FUSE has, and this monitor serves. */
+enum { CAPITALS = 0x1000 };
+
 static void kick(void); /* the monitor's */
 
 /* Offers so many bytes at REQUEST with so much room at ROOM, and kicks: how long the reply is. */
@@ -90,8 +93,10 @@ static void guest_uses_a_file(void) {
         {"READDIRPLUS", FUSE_READDIRPLUS, 1, &read, sizeof read, NULL, 0},
     };
     guest_asks_for_all(ALL(all));
-    const void *text = guest_asks((struct asked){"READ", FUSE_READ, 2, &read, sizeof read, NULL, 0}, PAGE);
-    printf("The guest reads: %.13s\n", (const char *)text);
+    const char *text = guest_asks((struct asked){"READ", FUSE_READ, 2, &read, sizeof read, NULL, 0}, PAGE);
+    printf("The guest reads: %.13s\n", text);
+    text = guest_asks((struct asked){"an opcode of the monitor's own", CAPITALS, 0, NULL, 0, "hello, monitor", 14}, PAGE);
+    printf("The guest has in its memory: %.14s\n", text);
 }
 
 /* Requests that come to no good. */

@@ -6,6 +6,7 @@
  */
 #define _GNU_SOURCE
 #include "guest.h"
+#include <ctype.h>
 #include <dirent.h> /* DT_REG */
 #include <errno.h>
 #include <linux/fuse.h> /* FUSE_ and FATTR_ bits */
@@ -80,16 +81,13 @@ static uint32_t take_chain(struct fs_step *step) {
     return status;
 }
 
-/* Loads as much of the request as the library wants to know what it asks. */
-static uint32_t ask(const struct fs_step *step, struct fs_call *call) {
-    uint64_t have = 0, want = least(step->request_len, FS_FIRST);
+/* What a request asks, of which `have` bytes were loaded; the library says whether it wants more. */
+static uint32_t ask(uint64_t have, struct fs_call *call) {
     uint32_t status;
-    do {
-        gather(request + have, have, want - have);
-        have = want;
-        status = fs_ask(&chain, &device, request, have, call);
-        want = call->needed;
-    } while (status == FS_MORE && want <= sizeof request);
+    while ((status = fs_ask(&chain, &device, request, have, call)) == FS_MORE && call->needed <= sizeof request) {
+        gather(request + have, have, call->needed - have);
+        have = call->needed;
+    }
     return status;
 }
 
@@ -280,20 +278,42 @@ static uint32_t answer(const struct fs_call *call) {
     }
 }
 
+/* A FUSE server of this monitor's own, for an opcode that the library doesn't serve: what was asked, in capitals. The reply are
+ * bytes of the room, header and all (struct fuse_out_header). */
+static uint32_t reply_capitals(const struct fs_step *step, const struct fuse_in_header *in, uint64_t have) {
+    uint64_t len = step->request_len - sizeof *in;
+    struct fuse_out_header out = {.len = (uint32_t)(sizeof out + len), .unique = in->unique};
+    if (out.len > step->room_len) return fs_reply_bytes(&chain, 0); /* silence */
+    gather(request + have, have, step->request_len - have);
+    for (uint64_t k = sizeof *in; k < step->request_len; k++) request[k] = (uint8_t)toupper(request[k]);
+    scatter(0, &out, sizeof out);
+    scatter(sizeof out, request + sizeof *in, len);
+    return fs_reply_bytes(&chain, out.len);
+}
+
+/* FS_DONE: the chain may go back. Each byte of the request is loaded once. */
+static uint32_t serve_request(const struct fs_step *step) {
+    uint64_t have = least(step->request_len, FS_FIRST);
+    struct fuse_in_header in = {0};
+    struct fs_call call;
+    gather(request, 0, have);
+    if (have >= sizeof in) memcpy(&in, request, sizeof in);
+    if (in.opcode == CAPITALS) return reply_capitals(step, &in, have);
+    uint32_t status = ask(have, &call);
+    if (status != FS_DONE) return status;
+    status = answer(&call);
+    return status == FS_DONE || status == FS_NO_ROOM ? FS_DONE : fs_reply_err(&chain, EIO);
+}
+
 /* Serves the chains that wait. FS_IDLE: none waits any more. FS_OUT_OF_MEMORY: one waits, call again later. 1 to 8: the queue is
  * stopped, so set DEVICE_NEEDS_RESET. `notify`: interrupt the driver. */
 static uint32_t serve(bool *notify) {
     struct fs_step step;
-    struct fs_call call;
     uint32_t status;
     *notify = false;
     while ((status = take_chain(&step)) == FS_DONE) {
-        if (step.fault)
-            printf("Chain %u goes back with no reply: %s\n", step.head, fs_fault_name(step.fault));
-        else if ((status = ask(&step, &call)) == FS_DONE) {
-            status = answer(&call);
-            status = status == FS_DONE || status == FS_NO_ROOM ? FS_DONE : fs_reply_err(&chain, EIO);
-        }
+        if (step.fault) printf("Chain %u goes back with no reply: %s\n", step.head, fs_fault_name(step.fault));
+        else status = serve_request(&step);
         if (status == FS_DONE) status = give_back(notify);
         if (status != FS_DONE) break;
     }

@@ -1,119 +1,177 @@
-//! A file system of notes in memory, over the wrapper, and a guest that writes one: no line of `unsafe`.
-//!
-//!     rustc --edition 2021 -O --crate-type rlib examples/rust/pitskhomu.rs
-//!     rustc --edition 2021 -O --extern pitskhomu=libpitskhomu.rlib -C link-arg=ARCHIVE -C link-arg=HEAP examples/rust/monitor.rs
+//! A monitor over the crate `pitskhomu` with a file system in memory: what examples/c/monitor.c does, without a line of `unsafe`. Copy `Files`
+//! and put your own calls in the place of these; `guest.rs` plays the guest, and has the memory that a monitor would map.
 #![forbid(unsafe_code)]
 mod guest;
 
-use guest::{Guest, Reply};
+use guest::Guest;
 use pitskhomu::*;
-use std::cell::RefCell;
+use std::ffi::CString;
+use std::sync::{Mutex, MutexGuard};
+use std::time::Duration;
 
-const ROOT: u64 = 1;
-const FUSE_DO_READDIRPLUS: u64 = 1 << 13;
+const O_TRUNC: u32 = 0o1000;
+const S_IFREG: u32 = 0o100_000;
+const S_IFDIR: u32 = 0o40_000;
+const CONTENTS: u64 = 0x4000;
 
-/// Notes by number; node k + 2 is note k. One that was removed has no name.
-#[derive(Default)]
-struct Notes(RefCell<Vec<Note>>);
+/// For so long the guest need not ask again for a name or for attributes.
+const GOOD_FOR: Duration = Duration::from_secs(1);
 
-struct Note {
-    name: Option<Vec<u8>>,
-    text: Vec<u8>,
+/// A file. One that has no name lives as long as the guest holds its node.
+struct File {
+    name: Option<CString>,
+    /// How often the guest was told the node, less what it forgot.
+    held: u64,
+    attributes: Attributes,
+    contents: Vec<u8>,
 }
 
-impl Notes {
-    /// Does something with a node's note.
-    fn with<T>(&self, node: u64, f: impl FnOnce(&mut Note) -> T) -> Answer<T> {
-        let place = usize::try_from(node.wrapping_sub(2)).map_err(|_| Errno::ENOENT)?;
-        self.0.borrow_mut().get_mut(place).map(f).ok_or(Errno::ENOENT)
-    }
-
-    fn find(&self, name: &[u8]) -> Answer<u64> {
-        let place = self.0.borrow().iter().position(|note| note.name.as_deref() == Some(name));
-        place.map(|place| place as u64 + 2).ok_or(Errno::ENOENT)
-    }
-
-    fn entry(&self, ctx: Context, node: u64) -> Answer<Entry> {
-        Ok(Entry { node, entry_secs: 1, attr_secs: 1, attr: self.getattr(ctx, node, None)?, ..Entry::default() })
-    }
-}
-
-impl FileSystem for Notes {
-    fn init(&self, capable: u64) -> u64 {
-        capable & FUSE_DO_READDIRPLUS
-    }
-
-    fn lookup(&self, ctx: Context, _parent: u64, name: &[u8]) -> Answer<Entry> {
-        self.entry(ctx, self.find(name)?)
-    }
-
-    fn getattr(&self, _ctx: Context, node: u64, _handle: Option<u64>) -> Answer<Attr> {
-        if node == ROOT {
-            return Ok(Attr { ino: ROOT, mode: 0o40755, nlink: 2, ..Attr::default() });
+impl File {
+    fn set_size(&mut self, size: u64) -> Answer<()> {
+        if size > CONTENTS {
+            return Err(Errno::EFBIG);
         }
-        let size = self.with(node, |note| note.text.len() as u64)?;
-        Ok(Attr { ino: node, size, mode: 0o100644, nlink: 1, ..Attr::default() })
+        self.contents.resize(size as usize, 0);
+        self.attributes.size = size;
+        self.attributes.blocks = (size + 511) / 512; // of 512 bytes, whatever block_size is
+        Ok(())
     }
 
-    fn create(
-        &self,
-        ctx: Context,
-        _parent: u64,
-        name: &[u8],
-        _mode: u32,
-        _flags: u32,
-        _umask: u32,
-    ) -> Answer<(Entry, u64, u32)> {
-        if self.find(name).is_ok() {
+    /// What the name stands for; the guest holds the node once more.
+    fn entry(&mut self) -> Entry {
+        self.held += 1;
+        Entry {
+            node: Node(self.attributes.inode),
+            generation: 0,
+            attributes: self.attributes,
+            attributes_timeout: GOOD_FOR,
+            entry_timeout: GOOD_FOR,
+        }
+    }
+}
+
+/// All files stand in the root. File k is node k + 2, and no number comes twice.
+#[derive(Default)]
+struct Files(Mutex<Vec<Option<File>>>);
+
+impl Files {
+    fn lock(&self) -> MutexGuard<'_, Vec<Option<File>>> {
+        self.0.lock().unwrap_or_else(|broken| broken.into_inner())
+    }
+
+    /// Does something with a node's file.
+    fn with<T>(&self, node: Node, f: impl FnOnce(&mut File) -> Answer<T>) -> Answer<T> {
+        let place = usize::try_from(node.0.wrapping_sub(2)).map_err(|_| Errno::ENOENT)?;
+        self.lock().get_mut(place).and_then(Option::as_mut).map_or(Err(Errno::ENOENT), f)
+    }
+
+    /// Does something with the file of a name; names are the guest's bytes, and here they are just compared.
+    fn named<T>(&self, parent: Node, name: &CStr, f: impl FnOnce(&mut File) -> T) -> Answer<T> {
+        let mut files = self.lock();
+        let mut found =
+            files.iter_mut().flatten().filter(|file| parent == Node::ROOT && file.name.as_deref() == Some(name));
+        found.next().map(f).ok_or(Errno::ENOENT)
+    }
+}
+
+impl FileSystem for Files {
+    fn init(&self, init: Init) -> Answer<Options> {
+        self.lock().iter_mut().flatten().for_each(|file| file.held = 0);
+        Ok(init.capable & Options::DO_READDIRPLUS)
+    }
+
+    fn lookup(&self, _context: &Context, parent: Node, name: &CStr) -> Answer<Entry> {
+        self.named(parent, name, File::entry)
+    }
+
+    fn forget(&self, node: Node, count: u64) {
+        for place in self.lock().iter_mut() {
+            if let Some(file) = place.as_mut().filter(|file| file.attributes.inode == node.0) {
+                file.held = file.held.saturating_sub(count);
+                if file.held == 0 && file.name.is_none() {
+                    *place = None;
+                }
+            }
+        }
+    }
+
+    fn getattr(&self, _context: &Context, node: Node, _handle: Option<Handle>) -> Answer<(Attributes, Duration)> {
+        if node == Node::ROOT {
+            let root =
+                Attributes { inode: 1, mode: S_IFDIR | 0o755, links: 2, block_size: 4096, ..Attributes::default() };
+            return Ok((root, GOOD_FOR));
+        }
+        self.with(node, |file| Ok((file.attributes, GOOD_FOR)))
+    }
+
+    fn setattr(&self, _context: &Context, node: Node, set: &SetAttributes) -> Answer<(Attributes, Duration)> {
+        self.with(node, |file| {
+            set.size().map_or(Ok(()), |size| file.set_size(size))?;
+            if let Some(mode) = set.mode() {
+                file.attributes.mode = S_IFREG | (mode & 0o7777);
+            }
+            Ok((file.attributes, GOOD_FOR))
+        })
+    }
+
+    fn create(&self, context: &Context, name: Name<'_>, create: Create) -> Answer<(Entry, Opened)> {
+        let mut files = self.lock();
+        if name.parent != Node::ROOT {
+            return Err(Errno::ENOTDIR);
+        }
+        if files.iter().flatten().any(|file| file.name.as_deref() == Some(name.name)) {
             return Err(Errno::EEXIST);
         }
-        let node = self.0.borrow().len() as u64 + 2;
-        self.0.borrow_mut().push(Note { name: Some(name.to_vec()), text: Vec::new() });
-        Ok((self.entry(ctx, node)?, node, 0))
+        let attributes = Attributes {
+            inode: files.len() as u64 + 2,
+            mode: S_IFREG | (create.mode & !create.umask & 0o7777),
+            links: 1,
+            uid: context.uid,
+            gid: context.gid,
+            block_size: 4096,
+            ..Attributes::default()
+        };
+        let mut file = File { name: Some(name.name.into()), held: 0, attributes, contents: Vec::new() };
+        let entry = file.entry();
+        files.push(Some(file));
+        Ok((entry, Opened::default()))
     }
 
-    fn unlink(&self, _ctx: Context, _parent: u64, name: &[u8]) -> Answer<()> {
-        self.with(self.find(name)?, |note| note.name = None)
-    }
-
-    fn read<M: GuestMemory>(
-        &self,
-        _ctx: Context,
-        node: u64,
-        _handle: u64,
-        offset: u64,
-        data: &mut ReadData<'_, M>,
-    ) -> Answer<()> {
-        self.with(node, |note| {
-            let from = (offset as usize).min(note.text.len());
-            data.write(&note.text[from..]);
+    fn unlink(&self, _context: &Context, name: Name<'_>) -> Answer<()> {
+        self.named(name.parent, name.name, |file| {
+            file.name = None;
+            file.attributes.links = 0;
         })
     }
 
-    fn write<M: GuestMemory>(
-        &self,
-        _ctx: Context,
-        node: u64,
-        _handle: u64,
-        offset: u64,
-        data: &mut WriteData<'_, M>,
-    ) -> Answer<()> {
-        let end = offset.checked_add(data.left()).filter(|end| *end <= 1 << 20).ok_or(Errno::EFBIG)? as usize;
-        self.with(node, |note| {
-            note.text.resize(note.text.len().max(end), 0);
-            data.read(&mut note.text[offset as usize..end]);
+    fn open(&self, _context: &Context, node: Node, open: Open) -> Answer<Opened> {
+        self.with(node, |file| if open.flags & O_TRUNC != 0 { file.set_size(0) } else { Ok(()) })?;
+        Ok(Opened::default())
+    }
+
+    fn read(&self, _context: &Context, node: Node, read: Read, data: &mut ReadData<'_>) -> Answer<()> {
+        self.with(node, |file| {
+            let from = read.offset.min(file.attributes.size) as usize;
+            data.put(&file.contents[from..]);
+            Ok(())
         })
     }
 
-    fn readdir(&self, ctx: Context, _node: u64, _handle: u64, offset: u64, list: &mut Listing<'_>) -> Answer<()> {
-        let names: Vec<_> = self.0.borrow().iter().map(|note| note.name.clone()).collect();
-        for (k, name) in names.iter().enumerate().skip(offset as usize) {
-            let name = match name {
-                Some(name) => name,
-                None => continue,
-            };
-            let entry = DirEntry { name, ino: k as u64 + 2, next: k as u64 + 1, kind: 8 };
-            if !list.add(entry, || self.lookup(ctx, ROOT, name), |node| self.forget(node, 1))? {
+    fn write(&self, _context: &Context, node: Node, write: Write, data: &mut WriteData<'_>) -> Answer<()> {
+        self.with(node, |file| {
+            let end = write.offset.checked_add(data.left()).ok_or(Errno::EFBIG)?;
+            file.set_size(end.max(file.attributes.size))?;
+            data.take(&mut file.contents[write.offset as usize..end as usize]);
+            Ok(())
+        })
+    }
+
+    fn readdir(&self, _context: &Context, _node: Node, read: ReadDirectory, list: &mut Listing<'_>) -> Answer<()> {
+        let names: Vec<_> = self.lock().iter().map(|file| file.as_ref().and_then(|file| file.name.clone())).collect();
+        let named = (0..).zip(&names).skip(read.offset as usize).filter_map(|(k, name)| Some((k, name.as_ref()?)));
+        for (k, name) in named {
+            // With READDIRPLUS it looks the name up by itself.
+            if !list.add(DirectoryEntry { name, inode: k + 2, next_offset: k + 1, kind: FileKind::REGULAR })? {
                 break;
             }
         }
@@ -121,48 +179,11 @@ impl FileSystem for Notes {
     }
 }
 
-fn words(numbers: &[u64]) -> Vec<u8> {
-    numbers.iter().flat_map(|n| n.to_le_bytes()).collect()
-}
-
-fn tell(what: &str, reply: Reply) -> Vec<u8> {
-    match reply {
-        None => println!("{}: no reply", what),
-        Some((0, data)) => {
-            println!("{}: {} bytes", what, data.len());
-            return data;
-        }
-        Some((error, _)) => println!("{}: error {}", what, error),
-    }
-    Vec::new()
-}
-
-/// Makes a note, writes it in two parts, and reads it.
-fn write_note<F: FileSystem>(guest: &mut Guest<'_, F>) {
-    let made = tell("CREATE hello", guest.ask(35, ROOT, b"\x42\x80\0\0\xa4\x81\0\0\x12\0\0\0\0\0\0\0hello\0", 176));
-    let node = u64::from(made[0]);
-    for (offset, text) in [(0, "Good morning"), (12, ", guest!")] {
-        let mut args = words(&[node, offset, text.len() as u64, 0, 0]);
-        args.extend_from_slice(text.as_bytes());
-        tell("WRITE", guest.ask(16, node, &args, 24));
-    }
-    let read = tell("READ", guest.ask(15, node, &words(&[node, 0, 100, 0, 0]), 116));
-    println!("The guest reads: {}", String::from_utf8_lossy(&read));
-}
-
 fn main() {
-    let (mut request, mut list) = (vec![0; REQUEST_MAX], vec![0; 65536]);
-    let mut guest = Guest::new(Notes::default(), Worker::new(&mut request, &mut list).unwrap());
-    let mut init: Vec<u8> = [7u32, 38, 0x20000, 1 << 13].iter().flat_map(|w| w.to_le_bytes()).collect();
-    init.resize(64, 0);
-    tell("INIT", guest.ask(26, 0, &init, 80));
-    println!("READDIRPLUS is agreed on: {}", guest.options() & FUSE_DO_READDIRPLUS != 0);
-    tell("LOOKUP hello", guest.ask(1, ROOT, b"hello\0", 144));
-    write_note(&mut guest);
-    tell("CREATE hello again", guest.ask(35, ROOT, b"\x42\x80\0\0\xa4\x81\0\0\x12\0\0\0\0\0\0\0hello\0", 176));
-    tell("LOOKUP hello, and a room that is too short", guest.ask(1, ROOT, b"hello\0", 143));
-    tell("READDIRPLUS", guest.ask(44, ROOT, &words(&[0, 0, 1000, 0, 0]), 1016));
-    tell("UNLINK hello", guest.ask(10, ROOT, b"hello\0", 16));
-    tell("READDIR", guest.ask(28, ROOT, &words(&[0, 0, 1000, 0, 0]), 1016));
-    tell("an opcode that nobody knows", guest.ask(99, ROOT, b"", 100));
+    let mut guest = Guest::new(Files::default());
+    guest.uses_a_file();
+    guest.errs();
+    println!("The pages that were written: {:#x}", guest.written());
+    guest.moves();
+    guest.removes_it();
 }

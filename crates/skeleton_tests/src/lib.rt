@@ -1,5 +1,5 @@
-//! Tests of the file systems in memory, one that is written and one that is read, through the server, and of the example's
-//! directory. Nothing else stands here.
+//! Tests of the file systems in memory, one that is written and one that is read, through the server. Nothing else stands here: a
+//! copy of this crate tests a file system of your own.
 #![tactic(auto)]
 
 #[cfg(test)]
@@ -8,7 +8,5 @@ mod client;
 mod directory;
 #[cfg(test)]
 mod errors;
-#[cfg(test)]
-mod example;
 #[cfg(test)]
 mod files;

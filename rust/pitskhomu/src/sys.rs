@@ -1,5 +1,5 @@
 //! What pitskhomu.h declares, in its order, with its names (without `fs_` and `FS_`). The header says what each function does and
-//! owes. The script `rust/declared` compares the two.
+//! owes. The script `tools/declared` compares the two.
 use crate::memory::{GuestRange as Range, Region, Window};
 use crate::queue::Queue;
 use core::ffi::c_void;
