@@ -114,7 +114,7 @@ impl FileSystem for Files {
         })
     }
 
-    fn create(&self, context: &Context, name: Name<'_>, create: Create) -> Answer<(Entry, Opened)> {
+    fn create(&self, context: &Context, name: Child<'_>, create: Create) -> Answer<(Entry, Opened)> {
         let mut files = self.lock();
         if name.parent != Node::ROOT {
             return Err(Errno::ENOTDIR);
@@ -137,7 +137,7 @@ impl FileSystem for Files {
         Ok((entry, Opened::default()))
     }
 
-    fn unlink(&self, _context: &Context, name: Name<'_>) -> Answer<()> {
+    fn unlink(&self, _context: &Context, name: Child<'_>) -> Answer<()> {
         self.named(name.parent, name.name, |file| {
             file.name = None;
             file.attributes.links = 0;

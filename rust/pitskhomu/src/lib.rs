@@ -36,7 +36,7 @@
 //! ```
 //!
 //! What is proved is the library: each of its functions, whatever the guest writes (docs/PROVED.md of the repository). This crate is tested
-//! and not proved. `examples/notes.rs` has a file system and a guest in memory.
+//! and not proved. The example `monitor` has a file system and a guest in memory.
 //!
 //! The feature `std`, which is on by default, has [`Errno`] made of `std::io::Error`, and makes it and [`Status`] errors. Without it the crate
 //! is `no_std` with `alloc`.

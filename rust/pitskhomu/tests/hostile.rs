@@ -88,7 +88,7 @@ fn requests_and_rings_by_chance() {
     let names = [&b".\0"[..], b"..\0", b"one\0", b"two\0"].map(|name| CStr::from_bytes_with_nul(name).unwrap());
     let mut served_well = 0;
     for seed in 1..=400 {
-        let mut chance = Chance(0x9e37_79b9_7f4a_7c15 * seed);
+        let mut chance = Chance(0x9e37_79b9_7f4a_7c15_u64.wrapping_mul(seed));
         let mut guest = Guest::new();
         guest.memory.is_logging.set(chance.below(2) == 0);
         let recorder = Recorder {
