@@ -20,9 +20,7 @@ use crate::workbench::Workbench;
 use fuse_values::FileCall;
 use server_phases::{Asked, AskedFront, Front, Listing, Session, Waiting};
 use server_segments::Error;
-
-/// How many bytes of a request tell that it is a WRITE, and what it asks.
-const REQUEST_FRONT: usize = 80;
+use virtiofsd_fuse::REQUEST_FRONT;
 
 /// What a request asks.
 #[derive(Drop)]

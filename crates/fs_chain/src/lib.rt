@@ -23,4 +23,4 @@ pub use queue::KeptQueue;
 pub use returning::Stores;
 pub use state::{Out, Reply, State};
 pub use walking::Walked;
-pub use workbench::Workbench;
+pub use workbench::{LEAST_LIMIT, MOST_LIMIT, Workbench};

@@ -3,6 +3,7 @@ pub mod Benches
 pub mod Calls
 pub mod Listing
 pub mod Memory
+pub mod Numbers
 pub mod Owned
 pub mod Queues
 pub mod Ranges

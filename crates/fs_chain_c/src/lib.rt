@@ -1,15 +1,16 @@
 //! One chain of a virtio-fs device from its walk to its return, for monitors in C: a static library, whose header is pitskhomu.h, beside it.
 #![tactic(auto)]
 
+mod answer_kind;
 mod answers;
 mod asking;
 mod bench;
 mod call;
+mod call_table;
 mod device;
 mod exports;
 mod fields;
 mod handle;
-mod kinds;
 mod listing;
 mod memory;
 mod parts;

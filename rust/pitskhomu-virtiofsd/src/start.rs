@@ -26,8 +26,9 @@ type Failure = Box<dyn Error>;
 const OWN_DESCRIPTORS: u64 = 512;
 const DAY: Duration = Duration::from_secs(24 * 60 * 60);
 
-/// Has messages go where the options say.
+/// Has messages go where the options say, a panic's too: a backtrace would want system calls that the filter refuses.
 pub fn log(options: &Options) -> Result<(), Failure> {
+    std::panic::set_hook(Box::new(|panic| log::error!("{panic}")));
     if options.syslog {
         let process = "pitskhomu-virtiofsd".into();
         let format = Formatter3164 { facility: Facility::LOG_DAEMON, hostname: None, process, pid: std::process::id() };
