@@ -1,105 +1,362 @@
-/* A monitor with a guest (guest.h): the guest asks a device of the library for a file, and a server of ten lines behind a
- * queue of the library for capitals. */
-#include "fs_device.h"
+/* A monitor over pitskhomu.h with a file system in memory. It is here to be copied: part 1 stays as it is, part 2 is yours, and
+ * part 3 gets the transport that you have; here a guest of the same process draws a ring by hand (guest.h), and stands still
+ * while it is served.
+ *
+ *     cc -std=c11 -o monitor monitor.c $(pkg-config --cflags --libs pitskhomu)
+ */
+#define _GNU_SOURCE
 #include "guest.h"
-#include <stdio.h>
+#include <ctype.h>
+#include <dirent.h> /* DT_REG */
+#include <errno.h>
+#include <linux/fuse.h> /* FUSE_ and FATTR_ bits */
+#include <pitskhomu.h>
+#include <stdatomic.h>
+#include <stdbool.h>
 #include <stdlib.h>
+#include <sys/mman.h>
 
-enum { PAGE_SIZE = 4096, LIMIT = 0x101000, ROOM_LEN = 0x100 };
+enum { ROOT = FUSE_ROOT_ID, FILES = 8, CONTENTS = 0x4000, NAME_MOST = 255 };
 
-/* The guest's memory as each call has it lent: all of it in the first part. */
-#define LOW memory, MEMORY
-#define HIGH nothing, 0
-static uint8_t nothing[1];
+/* Device and queue are numbers. Each thread has a chain and buffers of its own; here there is one. */
+static struct fs_device device = FS_DEVICE;
+static struct fs_queue queue;
+static struct fs_chain chain;
+static uint8_t request[FS_REQUEST_MAX]; /* as long as the device's limit, so that it holds any request */
+static uint8_t list[PAGE];              /* READDIR's entries */
 
-/* Ends the example if a call answers another status. */
+static uint64_t least(uint64_t a, uint64_t b) { return a < b ? a : b; }
+
+/* ------------------------------------------------------------- 1. the loads and stores that the library asks for
+ * What it tells of the guest's memory are places of this process, since `host` of the region in main says so. */
+
+static uint64_t written; /* one bit for each page that this monitor stored to: a migration's log */
+
+static void mark(uintptr_t at, size_t len) {
+    size_t from = at - (uintptr_t)memory;
+    for (size_t page = from / PAGE; len > 0 && page <= (from + len - 1) / PAGE; page++) written |= (uint64_t)1 << page;
+}
+
+static uint16_t load_two(uintptr_t at) { return atomic_load_explicit((_Atomic uint16_t *)at, memory_order_acquire); }
+
+/* Each byte once. The fence holds the compiler, which might look at the guest's bytes again in place of the copy. */
+static void copy_out(void *to, uintptr_t at, size_t len) {
+    memcpy(to, (const void *)at, len);
+    atomic_signal_fence(memory_order_seq_cst);
+}
+
+/* Copies `len` bytes of the request out, from byte `from` on. */
+static void gather(void *to, uint64_t from, uint64_t len) {
+    struct fs_window windows[16];
+    size_t count;
+    while (len > 0 && (count = fs_request_windows(&chain, from, len, windows, 16)) > 0)
+        for (size_t k = 0; k < count; k++) {
+            copy_out(to, windows[k].at, windows[k].len);
+            to = (uint8_t *)to + windows[k].len, from += windows[k].len, len -= windows[k].len;
+        }
+}
+
+/* Copies bytes into the room of the reply, from its byte `from` on. */
+static void scatter(uint64_t from, const void *bytes, uint64_t len) {
+    struct fs_window windows[16];
+    size_t count;
+    while (len > 0 && (count = fs_room_windows(&chain, from, len, windows, 16)) > 0)
+        for (size_t k = 0; k < count; k++) {
+            memcpy((void *)windows[k].at, bytes, windows[k].len);
+            mark(windows[k].at, windows[k].len);
+            bytes = (const uint8_t *)bytes + windows[k].len, from += windows[k].len, len -= windows[k].len;
+        }
+}
+
+/* Takes the next chain. FS_DONE, FS_IDLE, or why there is none. A load of two bytes is at an even place, and is one load. */
+static uint32_t take_chain(struct fs_step *step) {
+    uint8_t bytes[FS_LOAD_MAX] = {0};
+    uint32_t status;
+    *step = (struct fs_step){0};
+    while ((status = fs_walk(&chain, &queue, bytes, step->len, step)) == FS_LOAD) {
+        uint16_t two = step->len == 2 ? load_two(step->at) : 0;
+        if (step->len == 2) memcpy(bytes, &two, 2);
+        else copy_out(bytes, step->at, step->len);
+    }
+    return status;
+}
+
+/* What a request asks, of which `have` bytes were loaded; the library says whether it wants more. */
+static uint32_t ask(uint64_t have, struct fs_call *call) {
+    uint32_t status;
+    while ((status = fs_ask(&chain, &device, request, have, call)) == FS_MORE && call->needed <= sizeof request) {
+        gather(request + have, have, call->needed - have);
+        have = call->needed;
+    }
+    return status;
+}
+
+/* Stores the reply's front, the used element and the index; `notify`: whether the driver wants an interrupt. */
+static uint32_t give_back(bool *notify) {
+    uint8_t front[FS_FRONT_MAX], wanted = 0;
+    struct fs_stores s;
+    uint32_t status = fs_return(&chain, &queue, front, sizeof front, &s);
+    if (status != FS_DONE) return status;
+    scatter(0, front, s.front_len);
+    atomic_store_explicit((_Atomic uint32_t *)s.id_at, s.id, memory_order_relaxed);
+    atomic_store_explicit((_Atomic uint32_t *)s.len_at, s.len, memory_order_relaxed);
+    atomic_store_explicit((_Atomic uint16_t *)s.index_at, s.index, memory_order_release);
+    mark(s.id_at, 4), mark(s.len_at, 4), mark(s.index_at, 2);
+    atomic_thread_fence(memory_order_seq_cst); /* else the flags may be loaded before the driver sees the index */
+    status = fs_returned(&chain, &queue, load_two(s.seen_at), &wanted);
+    *notify = *notify || wanted;
+    return status;
+}
+
+/* ------------------------------------------------------------- 2. a file system in memory
+ * File k is node k + 2; all of them stand in the root, node 1. One that has no name lives as long as the guest holds it. */
+
+struct file {
+    uint8_t name[NAME_MOST];
+    size_t name_len;     /* 0: it has none */
+    uint64_t held;       /* how often the guest was told its node, less what it forgot */
+    uint64_t generation; /* no two files have had one node and one generation */
+    struct fs_attr attr;
+    uint8_t contents[CONTENTS];
+};
+static struct file files[FILES];
+
+static struct file *file_of(uint64_t node) {
+    struct file *f = node >= 2 && node < FILES + 2 ? &files[node - 2] : NULL;
+    return f && (f->name_len || f->held) ? f : NULL;
+}
+
+/* A name is a place in the request's bytes. */
+static struct file *named(const struct fs_call *call) {
+    const uint8_t *name = request + call->name.at;
+    size_t len = call->node == ROOT ? call->name.len : 0;
+    for (size_t k = 0; k < FILES && len > 0; k++)
+        if (files[k].name_len == len && !memcmp(files[k].name, name, len)) return &files[k];
+    return NULL;
+}
+
+/* Times are seconds and nanoseconds since 1970, here none; `blocks` has units of 512 bytes, whatever block_size is. */
+static void set_size(struct file *f, uint64_t size) {
+    if (size > f->attr.size) memset(f->contents + f->attr.size, 0, size - f->attr.size);
+    f->attr.size = size;
+    f->attr.blocks = (size + 511) / 512;
+}
+
+/* What a name stands for. For a second the guest need not ask again for name or attributes. */
+static struct fs_entry entry_of(const struct file *f) {
+    return (struct fs_entry){.node = f->attr.ino, .generation = f->generation, .entry_secs = 1, .attr_secs = 1, .attr = f->attr};
+}
+
+static void forget(uint64_t node, uint64_t count) {
+    struct file *f = file_of(node);
+    if (f) f->held -= least(f->held, count);
+}
+
+/* The guest holds the node of an entry once more, if it is told. */
+static uint32_t told(struct file *f, uint32_t status) {
+    if (status == FS_DONE) f->held++;
+    return status;
+}
+
+static uint32_t do_lookup(const struct fs_call *call) {
+    struct file *f = named(call);
+    if (!f) return fs_reply_err(&chain, ENOENT);
+    struct fs_entry entry = entry_of(f);
+    return told(f, fs_reply_entry(&chain, &entry));
+}
+
+/* GETATTR, and SETATTR, whose `valid` says what is to be set. */
+static uint32_t do_attr(const struct fs_call *call) {
+    struct fs_attr root = {.ino = ROOT, .mode = S_IFDIR | 0755, .nlink = 2, .block_size = PAGE};
+    struct file *f = file_of(call->node);
+    if (!f && (call->node != ROOT || call->valid)) return fs_reply_err(&chain, call->node == ROOT ? EPERM : ENOENT);
+    if (call->valid & FATTR_SIZE && call->attr.size > CONTENTS) return fs_reply_err(&chain, EFBIG);
+    if (call->valid & FATTR_SIZE) set_size(f, call->attr.size);
+    if (call->valid & FATTR_MODE) f->attr.mode = S_IFREG | (call->attr.mode & 07777); /* kind and permissions, as st_mode */
+    return fs_reply_attr(&chain, f ? &f->attr : &root, 1, 0); /* good for 1 second and 0 nanoseconds */
+}
+
+static uint32_t do_create(const struct fs_call *call) {
+    struct file *f = files;
+    if (call->node != ROOT) return fs_reply_err(&chain, ENOTDIR);
+    if (call->name.len > NAME_MOST) return fs_reply_err(&chain, ENAMETOOLONG);
+    if (named(call)) return fs_reply_err(&chain, EEXIST);
+    while (f < files + FILES && (f->name_len || f->held)) f++;
+    if (f == files + FILES) return fs_reply_err(&chain, ENOSPC);
+    memcpy(f->name, request + call->name.at, call->name.len);
+    f->name_len = call->name.len;
+    f->generation++;
+    f->attr = (struct fs_attr){.ino = (uint64_t)(f - files) + 2, .mode = S_IFREG | (call->mode & ~call->umask & 07777), .nlink = 1,
+                               .uid = call->uid, .gid = call->gid, .block_size = PAGE};
+    struct fs_entry entry = entry_of(f);
+    return told(f, fs_reply_create(&chain, &entry, 0, 0)); /* handle and FOPEN_ bits; files that are open need no number here */
+}
+
+static uint32_t do_unlink(const struct fs_call *call) {
+    struct file *f = named(call);
+    if (!f) return fs_reply_err(&chain, ENOENT);
+    f->name_len = f->attr.nlink = 0;
+    return fs_reply_err(&chain, 0);
+}
+
+static uint32_t do_open(const struct fs_call *call) {
+    struct file *f = file_of(call->node);
+    if (!f) return fs_reply_err(&chain, ENOENT);
+    if (call->flags & O_TRUNC) set_size(f, 0);
+    return fs_reply_open(&chain, 0, 0);
+}
+
+/* Data goes from the file into the room, behind the header: no more than was asked for, nor than there is room for. */
+static uint32_t do_read(const struct fs_call *call) {
+    const struct file *f = file_of(call->node);
+    if (!f) return fs_reply_err(&chain, ENOENT);
+    uint64_t from = least(call->offset, f->attr.size);
+    uint64_t len = least(f->attr.size - from, least(call->size, call->data_len));
+    scatter(call->data_at, f->contents + from, len);
+    return fs_reply_data(&chain, len);
+}
+
+static uint32_t do_write(const struct fs_call *call) {
+    struct file *f = file_of(call->node);
+    if (!f) return fs_reply_err(&chain, ENOENT);
+    if (call->offset > CONTENTS || call->data_len > CONTENTS - call->offset) return fs_reply_err(&chain, EFBIG);
+    if (call->offset + call->data_len > f->attr.size) set_size(f, call->offset + call->data_len);
+    gather(f->contents + call->offset, call->data_at, call->data_len);
+    return fs_reply_write(&chain, (uint32_t)call->data_len);
+}
+
+/* From the offset on, which is that of the last entry that the guest has: here the place of the next file. */
+static uint32_t do_readdir(const struct fs_call *call) {
+    uint64_t most = least(call->data_len, sizeof list), used = 0, len = 0;
+    bool plus = call->kind == FS_CALL_READDIRPLUS;
+    for (uint64_t k = call->offset; k < FILES; k++) {
+        struct file *f = &files[k];
+        struct fs_entry entry = entry_of(f);
+        if (f->name_len == 0) continue;
+        used += fs_direntry_len(f->name_len, plus);
+        if (used > most) break;
+        uint32_t status = plus ? told(f, fs_add_direntry_plus(&chain, list, sizeof list, f->name, f->name_len, &entry, k + 1))
+                               : fs_add_direntry(&chain, list, sizeof list, f->name, f->name_len, k + 2, k + 1, DT_REG);
+        if (status != FS_DONE) break;
+        len = used;
+    }
+    if (len == 0 && used > 0) return fs_reply_err(&chain, EINVAL); /* an empty list would end the directory */
+    uint32_t status = fs_reply_entries(&chain, &len);
+    scatter(call->data_at, list, len);
+    return status;
+}
+
+/* ------------------------------------------------------------- 3. the monitor */
+
+/* FS_DONE: answered. FS_NO_ROOM: the chain has no room for the reply, and goes back with none. Others: the call waits still. */
+static uint32_t answer(const struct fs_call *call) {
+    uint64_t node, count;
+    switch (call->kind) {
+    case FS_CALL_NONE: return FS_DONE; /* the library has the reply already, or there is none */
+    case FS_CALL_INIT:
+        for (size_t k = 0; k < FILES; k++) files[k].held = 0;
+        return fs_reply_init(&chain, &device, call->options & FUSE_DO_READDIRPLUS);
+    case FS_CALL_DESTROY: device.options = 0; return fs_reply_err(&chain, 0);
+    case FS_CALL_FORGET: forget(call->node, call->count); return FS_DONE; /* there is no reply to it, nor to the next */
+    case FS_CALL_BATCH_FORGET:
+        for (uint64_t k = 0; k < call->count; k++) fs_pair(request, call, k, &node, &count), forget(node, count);
+        return FS_DONE;
+    case FS_CALL_LOOKUP: return do_lookup(call);
+    case FS_CALL_GETATTR:
+    case FS_CALL_SETATTR: return do_attr(call);
+    case FS_CALL_CREATE: return do_create(call);
+    case FS_CALL_UNLINK: return do_unlink(call);
+    case FS_CALL_OPEN: return do_open(call);
+    case FS_CALL_OPENDIR: return fs_reply_open(&chain, 0, 0);
+    case FS_CALL_READ: return do_read(call);
+    case FS_CALL_WRITE: return do_write(call);
+    case FS_CALL_READDIR:
+    case FS_CALL_READDIRPLUS: return do_readdir(call);
+    case FS_CALL_RELEASE:
+    case FS_CALL_RELEASEDIR: return fs_reply_err(&chain, 0);
+    default: return fs_reply_err(&chain, ENOSYS);
+    }
+}
+
+/* A FUSE server of this monitor's own, for an opcode that the library doesn't serve: what was asked, in capitals. The reply are
+ * bytes of the room, header and all (struct fuse_out_header). */
+static uint32_t reply_capitals(const struct fs_step *step, const struct fuse_in_header *in, uint64_t have) {
+    uint64_t len = step->request_len - sizeof *in;
+    struct fuse_out_header out = {.len = (uint32_t)(sizeof out + len), .unique = in->unique};
+    if (out.len > step->room_len) return fs_reply_bytes(&chain, 0); /* silence */
+    gather(request + have, have, step->request_len - have);
+    for (uint64_t k = sizeof *in; k < step->request_len; k++) request[k] = (uint8_t)toupper(request[k]);
+    scatter(0, &out, sizeof out);
+    scatter(sizeof out, request + sizeof *in, len);
+    return fs_reply_bytes(&chain, out.len);
+}
+
+/* FS_DONE: the chain may go back. Each byte of the request is loaded once. */
+static uint32_t serve_request(const struct fs_step *step) {
+    uint64_t have = least(step->request_len, FS_FIRST);
+    struct fuse_in_header in = {0};
+    struct fs_call call;
+    gather(request, 0, have);
+    if (have >= sizeof in) memcpy(&in, request, sizeof in);
+    if (in.opcode == CAPITALS) return reply_capitals(step, &in, have);
+    uint32_t status = ask(have, &call);
+    if (status != FS_DONE) return status;
+    status = answer(&call);
+    return status == FS_DONE || status == FS_NO_ROOM ? FS_DONE : fs_reply_err(&chain, EIO);
+}
+
+/* Serves the chains that wait. FS_IDLE: none waits any more. FS_OUT_OF_MEMORY: one waits, call again later. 1 to 8: the queue is
+ * stopped, so set DEVICE_NEEDS_RESET. `notify`: interrupt the driver. */
+static uint32_t serve(bool *notify) {
+    struct fs_step step;
+    uint32_t status;
+    *notify = false;
+    while ((status = take_chain(&step)) == FS_DONE) {
+        if (step.fault) printf("Chain %u goes back with no reply: %s\n", step.head, fs_fault_name(step.fault));
+        else status = serve_request(&step);
+        if (status == FS_DONE) status = give_back(notify);
+        if (status != FS_DONE) break;
+    }
+    if (status != FS_IDLE) fs_drop(&chain, &queue); /* what was taken and isn't given back waits as before */
+    return status;
+}
+
 static void expect(uint32_t status, uint32_t wanted) {
     if (status == wanted) return;
     fprintf(stderr, "%s, and not %s\n", fs_status_name(status), fs_status_name(wanted));
     exit(1);
 }
 
-/* The guest asks the device, and finds the reply in its memory, behind a header that tells no error. */
-static const uint8_t *ask(struct fs_device *device, uint32_t opcode, uint64_t node, const void *body, uint32_t len) {
-    struct fs_served served = {0};
-    offer_fuse(opcode, node, body, len, ROOM_LEN);
-    expect(fs_device_serve(device, LOW, HIGH, 0, 8, &served), FS_DONE);
-    if (served.replied != 1 || !served.idle || !served.notify || get(memory + ROOM + 4, 4) != 0) exit(1);
-    return memory + ROOM + OUT_HEADER;
+/* The guest's driver kicks the queue, and wants to be interrupted. */
+static void kick(void) {
+    bool notify;
+    expect(serve(&notify), FS_IDLE);
+    if (!notify) exit(1);
 }
 
-/* The guest mounts, looks a name up, and reads its file. */
-static void read_file(struct fs_device *device, const char *name) {
-    uint8_t init[16] = {7, 0, 0, 0, 31}, read[40] = {0};
-    printf("The device speaks version %u of FUSE\n", (unsigned)get(ask(device, INIT, 0, init, sizeof init), 4));
-    uint64_t node = get(ask(device, LOOKUP, 1, name, (uint32_t)strlen(name) + 1), 8);
-    printf("The file is node %u\n", (unsigned)node);
-    put(read + 16, ROOM_LEN - OUT_HEADER, 4);
-    const uint8_t *contents = ask(device, READ, node, read, sizeof read);
-    printf("The guest reads: %.*s\n", (int)(used_len() - OUT_HEADER), (const char *)contents);
-}
-
-/* A device over two files, which goes on from its record, and whose dirty pages are gathered. */
-static void run_device(void) {
-    static const struct fs_file files[] = {
-        {(const uint8_t *)"greeting", 8, (const uint8_t *)"Good morning!", 13},
-        {(const uint8_t *)"empty", 5, nothing, 0},
-    };
-    static const struct fs_layout layout = {DESC, AVAIL, USED, QUEUE_SIZE};
-    struct fs_device device = {0};
-    uint8_t record[64] = {0};
-    uint64_t words[MEMORY / 4096 / 64] = {0};
-    size_t len = 0, count = 0;
-    expect(fs_device_new(&device, 0, LOW, 0, HIGH, files, 2, &layout, 1, PAGE_SIZE, LIMIT), FS_DONE);
-    read_file(&device, "greeting");
-    expect(fs_device_gather(&device, 0, words, sizeof words / 8, &count), FS_DONE);
-    printf("The dirty pages are %#x of %u words\n", (unsigned)words[0], (unsigned)count);
-    expect(fs_device_save(&device, record, sizeof record, &len), FS_DONE);
-    expect(fs_device_restore(&device, 0, LOW, 0, HIGH, files, 2, record, len - 1, PAGE_SIZE, LIMIT), FS_RECORD_TRUNCATED);
-    printf("A record that is cut is refused: %s\n", fs_status_name(device.refused));
-    expect(fs_device_restore(&device, 0, LOW, 0, HIGH, files, 2, record, len, PAGE_SIZE, LIMIT), FS_DONE);
-    printf("From a record of %u bytes it goes on\n", (unsigned)len);
-    read_file(&device, "greeting");
-    expect(fs_device_reset_queue(&device, 1, &layout), FS_NO_SUCH_QUEUE);
-    expect(fs_device_reset_queue(&device, 0, &layout), FS_DONE);
-    fs_device_free(&device);
-    expect(fs_device_reset_queue(&device, 0, &layout), FS_NO_DEVICE);
-}
-
-/* The server: it answers with the request's letters in capitals. */
-static size_t answer(const uint8_t *request, size_t len, uint8_t *reply, size_t room) {
-    size_t count = len < room ? len : room;
-    for (size_t k = 0; k < count; k++) reply[k] = request[k] >= 'a' && request[k] <= 'z' ? request[k] - 32 : request[k];
-    return count;
-}
-
-/* Takes what waits, has the server answer, and gives it back: whether the guest is to be told. */
-static bool serve(struct fs_queue *queue) {
-    struct fs_taken taken = {0};
-    uint8_t request[64] = {0}, reply[64] = {0};
-    bool notify = false;
-    expect(fs_queue_take(queue, LOW, HIGH, request, sizeof request, &taken), FS_DONE);
-    if (!taken.waits) return false;
-    size_t len = answer(request, taken.request_len, reply, taken.room_len < sizeof reply ? taken.room_len : sizeof reply);
-    expect(fs_queue_give_back(queue, LOW, HIGH, taken.head, reply, len, &notify), FS_DONE);
-    return notify;
-}
-
-/* A queue with a server of one's own. */
-static void run_queue(void) {
-    struct fs_queue queue = {0};
-    expect(fs_queue_new(&queue, 0, LOW, 0, HIGH, QUEUE_SIZE, DESC, AVAIL, USED, 0x1000), FS_DONE);
-    offer("hello, monitor", 14, ROOM_LEN);
-    printf("The driver is to be told: %d\n", serve(&queue));
-    printf("The guest has in its memory: %.*s\n", (int)used_len(), (const char *)memory + ROOM);
-    printf("The driver is to be told again: %d\n", serve(&queue));
-    fs_queue_free(&queue);
+/* Device and queue go on from their record, as they would in another process that has the memory and the files. */
+static void move(void) {
+    uint8_t record[64];
+    size_t len, count;
+    expect(fs_save(&device, &queue, 1, record, sizeof record, &len), FS_DONE);
+    expect(fs_restore(&device, &queue, 1, record, len - 1, &count), FS_RECORD_TRUNCATED);
+    queue = (struct fs_queue){0};
+    expect(fs_restore(&device, &queue, 1, record, len, &count), FS_DONE);
+    printf("From a record of %zu bytes the device goes on\n", len);
 }
 
 int main(void) {
-    run_device();
-    memset(memory, 0, sizeof memory);
-    offered = 0;
-    run_queue();
+    memory = mmap(NULL, MEMORY, PROT_READ | PROT_WRITE, MAP_SHARED | MAP_ANONYMOUS, -1, 0);
+    struct fs_region region = {.guest = 0, .len = MEMORY, .host = (uintptr_t)memory};
+    if (memory == MAP_FAILED || fs_version() != FS_VERSION) return 1;
+    queue = (struct fs_queue){.desc = DESC, .avail = AVAIL, .used = USED, .size = SIZE};
+    expect(fs_chain_set_memory(&chain, &device, &region, 1), FS_DONE);
+    guest_uses_a_file();
+    guest_errs();
+    printf("The pages that were written: %#llx\n", (unsigned long long)written);
+    move();
+    guest_removes_it();
+    fs_chain_free(&chain);
+    munmap(memory, MEMORY);
     return 0;
 }

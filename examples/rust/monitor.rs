@@ -1,66 +1,189 @@
-//! A monitor with a guest: the guest asks a device of the library for a file, and a server of ten lines behind a queue of the
-//! library for capitals.
-mod fs_device;
+//! A monitor over the crate `pitskhomu` with a file system in memory: what examples/c/monitor.c does, without a line of `unsafe`. Copy `Files`
+//! and put your own calls in the place of these; `guest.rs` plays the guest, and has the memory that a monitor would map.
+#![forbid(unsafe_code)]
 mod guest;
 
-use fs_device::*;
-use guest::{Guest, LAYOUT, SIZE};
-use std::ptr::null_mut;
+use guest::Guest;
+use pitskhomu::*;
+use std::ffi::CString;
+use std::sync::{Mutex, MutexGuard};
+use std::time::Duration;
 
-/// Mounts, looks a name up, and reads its file.
-fn read_file(guest: &mut Guest, device: &mut Device) {
-    let init = guest.ask(device, 26, 0, &[7, 0, 0, 0, 31, 0, 0, 0, 0, 0, 0, 0, 0, 0, 0, 0]);
-    println!("The device speaks version {} of FUSE", init[0]);
-    let entry = guest.ask(device, 1, 1, b"greeting\0");
-    println!("The file is node {}", entry[0]);
-    let mut read = [0; 40];
-    read[16] = 200;
-    let contents = guest.ask(device, 15, u64::from(entry[0]), &read);
-    println!("The guest reads: {}", String::from_utf8_lossy(&contents));
+const O_TRUNC: u32 = 0o1000;
+const S_IFREG: u32 = 0o100_000;
+const S_IFDIR: u32 = 0o40_000;
+const CONTENTS: u64 = 0x4000;
+
+/// For so long the guest need not ask again for a name or for attributes.
+const GOOD_FOR: Duration = Duration::from_secs(1);
+
+/// A file. One that has no name lives as long as the guest holds its node.
+struct File {
+    name: Option<CString>,
+    /// How often the guest was told the node, less what it forgot.
+    held: u64,
+    attributes: Attributes,
+    contents: Vec<u8>,
 }
 
-/// A device over a file, which goes on from its record, and whose dirty pages are gathered.
-fn run_device() {
-    let (mut guest, mut device) = (Guest::new(), Device { at: null_mut(), full: false, refused: 0 });
-    let (name, text) = (b"greeting", b"Good morning!");
-    let file = File { name: name.as_ptr(), name_len: name.len(), contents: text.as_ptr(), contents_len: text.len() };
-    let (at, len, none) = (guest.memory.as_mut_ptr(), guest.memory.len(), [].as_mut_ptr());
-    assert_eq!(unsafe { fs_device_new(&mut device, 0, at, len, 0, none, 0, &file, 1, &LAYOUT, 1, 4096, 0x101000) }, 0);
-    read_file(&mut guest, &mut device);
-    let (mut words, mut count) = ([0; 1], 0);
-    assert_eq!(unsafe { fs_device_gather(&mut device, 0, words.as_mut_ptr(), words.len(), &mut count) }, 0);
-    println!("The dirty pages are {:#x} of {} word", words[0], count);
-    let (mut record, mut saved) = ([0; 64], 0);
-    assert_eq!(unsafe { fs_device_save(&mut device, record.as_mut_ptr(), record.len(), &mut saved) }, 0);
-    let (at, len, none) = (guest.memory.as_mut_ptr(), guest.memory.len(), [].as_mut_ptr());
-    assert_eq!(unsafe { fs_device_restore(&mut device, 0, at, len, 0, none, 0, &file, 1, record.as_ptr(), saved, 4096, 0x101000) }, 0);
-    println!("From a record of {} bytes it goes on", saved);
-    read_file(&mut guest, &mut device);
-    assert_eq!(unsafe { fs_device_reset_queue(&mut device, 0, &LAYOUT) }, 0);
-    unsafe { fs_device_free(&mut device) };
+impl File {
+    fn set_size(&mut self, size: u64) -> Answer<()> {
+        if size > CONTENTS {
+            return Err(Errno::EFBIG);
+        }
+        self.contents.resize(size as usize, 0);
+        self.attributes.size = size;
+        self.attributes.blocks = (size + 511) / 512; // of 512 bytes, whatever block_size is
+        Ok(())
+    }
+
+    /// What the name stands for; the guest holds the node once more.
+    fn entry(&mut self) -> Entry {
+        self.held += 1;
+        Entry {
+            node: Node(self.attributes.inode),
+            generation: 0,
+            attributes: self.attributes,
+            attributes_timeout: GOOD_FOR,
+            entry_timeout: GOOD_FOR,
+        }
+    }
 }
 
-fn run_queue() {
-    let (mut guest, mut queue) = (Guest::new(), Queue { at: null_mut(), full: false });
-    let (at, len, none) = (guest.memory.as_mut_ptr(), guest.memory.len(), [].as_mut_ptr());
-    assert_eq!(unsafe { fs_queue_new(&mut queue, 0, at, len, 0, none, 0, SIZE, 0, 0x100, 0x200, 0x1000) }, 0);
-    guest.offer(b"hello, monitor");
-    println!("The driver is to be told: {}", serve(&mut guest, &mut queue));
-    println!("The guest has in its memory: {}", String::from_utf8_lossy(guest.reply()));
-    unsafe { fs_queue_free(&mut queue) };
+/// All files stand in the root. File k is node k + 2, and no number comes twice.
+#[derive(Default)]
+struct Files(Mutex<Vec<Option<File>>>);
+
+impl Files {
+    fn lock(&self) -> MutexGuard<'_, Vec<Option<File>>> {
+        self.0.lock().unwrap_or_else(|broken| broken.into_inner())
+    }
+
+    /// Does something with a node's file.
+    fn with<T>(&self, node: Node, f: impl FnOnce(&mut File) -> Answer<T>) -> Answer<T> {
+        let place = usize::try_from(node.0.wrapping_sub(2)).map_err(|_| Errno::ENOENT)?;
+        self.lock().get_mut(place).and_then(Option::as_mut).map_or(Err(Errno::ENOENT), f)
+    }
+
+    /// Does something with the file of a name; names are the guest's bytes, and here they are just compared.
+    fn named<T>(&self, parent: Node, name: &CStr, f: impl FnOnce(&mut File) -> T) -> Answer<T> {
+        let mut files = self.lock();
+        let mut found =
+            files.iter_mut().flatten().filter(|file| parent == Node::ROOT && file.name.as_deref() == Some(name));
+        found.next().map(f).ok_or(Errno::ENOENT)
+    }
 }
 
-/// The server: takes what waits, answers with the request's letters in capitals, and gives it back.
-fn serve(guest: &mut Guest, queue: &mut Queue) -> bool {
-    let (mut buffer, mut taken, mut notify) = ([0; 64], Taken::default(), false);
-    let (at, len, none) = (guest.memory.as_mut_ptr(), guest.memory.len(), [].as_mut_ptr());
-    assert_eq!(unsafe { fs_queue_take(queue, at, len, none, 0, buffer.as_mut_ptr(), 64, &mut taken) }, 0);
-    let reply = buffer[..taken.request_len.min(taken.room_len)].to_ascii_uppercase();
-    assert_eq!(unsafe { fs_queue_give_back(queue, at, len, none, 0, taken.head, reply.as_ptr(), reply.len(), &mut notify) }, 0);
-    notify
+impl FileSystem for Files {
+    fn init(&self, init: Init) -> Answer<Options> {
+        self.lock().iter_mut().flatten().for_each(|file| file.held = 0);
+        Ok(init.capable & Options::DO_READDIRPLUS)
+    }
+
+    fn lookup(&self, _context: &Context, parent: Node, name: &CStr) -> Answer<Entry> {
+        self.named(parent, name, File::entry)
+    }
+
+    fn forget(&self, node: Node, count: u64) {
+        for place in self.lock().iter_mut() {
+            if let Some(file) = place.as_mut().filter(|file| file.attributes.inode == node.0) {
+                file.held = file.held.saturating_sub(count);
+                if file.held == 0 && file.name.is_none() {
+                    *place = None;
+                }
+            }
+        }
+    }
+
+    fn getattr(&self, _context: &Context, node: Node, _handle: Option<Handle>) -> Answer<(Attributes, Duration)> {
+        if node == Node::ROOT {
+            let root =
+                Attributes { inode: 1, mode: S_IFDIR | 0o755, links: 2, block_size: 4096, ..Attributes::default() };
+            return Ok((root, GOOD_FOR));
+        }
+        self.with(node, |file| Ok((file.attributes, GOOD_FOR)))
+    }
+
+    fn setattr(&self, _context: &Context, node: Node, set: &SetAttributes) -> Answer<(Attributes, Duration)> {
+        self.with(node, |file| {
+            set.size().map_or(Ok(()), |size| file.set_size(size))?;
+            if let Some(mode) = set.mode() {
+                file.attributes.mode = S_IFREG | (mode & 0o7777);
+            }
+            Ok((file.attributes, GOOD_FOR))
+        })
+    }
+
+    fn create(&self, context: &Context, name: Child<'_>, create: Create) -> Answer<(Entry, Opened)> {
+        let mut files = self.lock();
+        if name.parent != Node::ROOT {
+            return Err(Errno::ENOTDIR);
+        }
+        if files.iter().flatten().any(|file| file.name.as_deref() == Some(name.name)) {
+            return Err(Errno::EEXIST);
+        }
+        let attributes = Attributes {
+            inode: files.len() as u64 + 2,
+            mode: S_IFREG | (create.mode & !create.umask & 0o7777),
+            links: 1,
+            uid: context.uid,
+            gid: context.gid,
+            block_size: 4096,
+            ..Attributes::default()
+        };
+        let mut file = File { name: Some(name.name.into()), held: 0, attributes, contents: Vec::new() };
+        let entry = file.entry();
+        files.push(Some(file));
+        Ok((entry, Opened::default()))
+    }
+
+    fn unlink(&self, _context: &Context, name: Child<'_>) -> Answer<()> {
+        self.named(name.parent, name.name, |file| {
+            file.name = None;
+            file.attributes.links = 0;
+        })
+    }
+
+    fn open(&self, _context: &Context, node: Node, open: Open) -> Answer<Opened> {
+        self.with(node, |file| if open.flags & O_TRUNC != 0 { file.set_size(0) } else { Ok(()) })?;
+        Ok(Opened::default())
+    }
+
+    fn read(&self, _context: &Context, node: Node, read: Read, data: &mut ReadData<'_>) -> Answer<()> {
+        self.with(node, |file| {
+            let from = read.offset.min(file.attributes.size) as usize;
+            data.put(&file.contents[from..]);
+            Ok(())
+        })
+    }
+
+    fn write(&self, _context: &Context, node: Node, write: Write, data: &mut WriteData<'_>) -> Answer<()> {
+        self.with(node, |file| {
+            let end = write.offset.checked_add(data.left()).ok_or(Errno::EFBIG)?;
+            file.set_size(end.max(file.attributes.size))?;
+            data.take(&mut file.contents[write.offset as usize..end as usize]);
+            Ok(())
+        })
+    }
+
+    fn readdir(&self, _context: &Context, _node: Node, read: ReadDirectory, list: &mut Listing<'_>) -> Answer<()> {
+        let names: Vec<_> = self.lock().iter().map(|file| file.as_ref().and_then(|file| file.name.clone())).collect();
+        let named = (0..).zip(&names).skip(read.offset as usize).filter_map(|(k, name)| Some((k, name.as_ref()?)));
+        for (k, name) in named {
+            // With READDIRPLUS it looks the name up by itself.
+            if !list.add(DirectoryEntry { name, inode: k + 2, next_offset: k + 1, kind: FileKind::REGULAR })? {
+                break;
+            }
+        }
+        Ok(())
+    }
 }
 
 fn main() {
-    run_device();
-    run_queue();
+    let mut guest = Guest::new(Files::default());
+    guest.uses_a_file();
+    guest.errs();
+    println!("The pages that were written: {:#x}", guest.written());
+    guest.moves();
+    guest.removes_it();
 }

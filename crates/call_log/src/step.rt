@@ -30,7 +30,6 @@ pub fn used_length<M: GuestMemory, H: HostBlocks>(
     ensures told { IfOk result (λ o. IfSome o (λ n. LeavesUsedLength (state_of (M.memory mem.now (H.host host.old)) device.old) queue n
         (M.memory mem.now (H.host host.new)))) }
     ensures shape { shape (H.host host.new) ≡ shape (H.host host.old) }
-    ensures loan { H.IsSameLoan host.old host.new }
 {
     // for the proof: what the used length of an exchange tells.
     law_used_length::<CallLog>();

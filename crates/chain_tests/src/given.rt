@@ -1,7 +1,8 @@
 //! What the tests share: a queue, a workbench, and a chain that asks for a name.
 
-use fs_chain::{GuestRegions, KeptQueue, MemoryRegion, Walked, Workbench};
+use fs_chain::{KeptQueue, Walked, Workbench};
 use fs_queue::QueueLayout;
+use fs_regions::{GuestRegions, MemoryRegion};
 use server_phases::Session;
 use std::alloc::Global;
 use std::fmt::Debug;

@@ -1,10 +1,12 @@
-//! Tests of one chain from its walk to its return.
+//! Tests of walks over regions, and of one chain from its walk to its return.
 #![tactic(auto)]
 
 #[cfg(test)]
 mod given;
 #[cfg(test)]
 mod orders;
+#[cfg(test)]
+mod regions;
 #[cfg(test)]
 mod returns;
 #[cfg(test)]

@@ -2,8 +2,9 @@
 
 use crate::given::{LOADS, LOOKUP, expect_same, queue, session, take, workbench};
 use fs_chain::{ChainError, KeptQueue, Workbench};
+use fuse_values::FileAnswer;
 use fuse_wire::Errno;
-use server_phases::{FileAnswer, Session};
+use server_phases::Session;
 use std::alloc::Global;
 use std::process::Abort;
 

@@ -4,11 +4,11 @@ use crate::given::{
     LOADS, LOADS_OF_80, LOADS_OF_FAULTY, LOADS_OF_SMALL_ROOM, LOOKUP, READDIR, RENAME, expect_same,
     queue, session, take, workbench,
 };
-use fs_chain::{Added, Told, Walked};
+use fs_chain::{Added, ChainError, Told, Walked};
 use fs_queue::ChainFault;
 use fuse_fs::{DirEntry, Entry, Timeout};
+use fuse_values::{FileAnswer, FileCall};
 use fuse_wire::{Attr, Errno};
-use server_phases::{FileAnswer, FileCall};
 
 // Whether a request asks for `hello` in node 1.
 fn is_hello(told: &Told) -> bool {
@@ -178,4 +178,44 @@ fn a_chain_that_is_given_up_is_walked_anew(rt: HostRuntime) {
     expect_same(&rt, (queue.out, queue.position), (false, 0xffff));
     let again = take(&rt, &mut workbench, &mut queue, LOADS);
     expect_same(&rt, again, walked);
+}
+
+// How a chain of this room's 144 bytes is replied by bytes of the caller's own, one try after another (VIRTIO 1.2, 2.7.8: the used
+// length counts the bytes that were written).
+const OWN_REPLIES: &[(usize, Result<(), ChainError>)] = &[
+    (145, Err(ChainError::LongReply)),
+    (usize::MAX, Err(ChainError::LongReply)),
+    (144, Ok(())),
+    (144, Err(ChainError::WrongOrder)),
+];
+
+#[test]
+fn own_bytes_go_back_with_their_number(rt: HostRuntime) {
+    let mut workbench = workbench(&rt, rt.alloc());
+    let mut queue = queue(&rt);
+    take(&rt, &mut workbench, &mut queue, LOADS);
+    for row in OWN_REPLIES {
+        expect_same(&rt, workbench.reply(row.0), row.1);
+    }
+    let mut front = [7u8; 160];
+    let stores = workbench
+        .begin_return(&queue, &mut front)
+        .expect(&rt, "a return");
+    expect_same(&rt, (stores.front_len, stores.used.len.value), (0, 144));
+    expect_same(&rt, front[0], 7);
+}
+
+#[test]
+fn a_call_that_waits_is_replied_by_a_header_alone(rt: HostRuntime) {
+    let mut workbench = workbench(&rt, rt.alloc());
+    let mut queue = queue(&rt);
+    take(&rt, &mut workbench, &mut queue, LOADS_OF_80);
+    workbench.ask(&session(), READDIR).expect(&rt, "a call");
+    // struct fuse_out_header of linux/fuse.h has 16 bytes.
+    expect_same(&rt, workbench.reply(16), Ok(()));
+    expect_same(&rt, workbench.end(), Err(ChainError::WrongOrder));
+    let stores = workbench
+        .begin_return(&queue, &mut [])
+        .expect(&rt, "a return");
+    expect_same(&rt, (stores.front_len, stores.used.len.value), (0, 16));
 }

@@ -1,12 +1,10 @@
-//! Tests of queues and devices, each drawn as what a guest leaves in its memory. Nothing else stands here.
+//! Tests of queues and devices, each drawn as what a guest leaves in its memory, and of the saved record. Nothing else stands here.
 #![tactic(auto)]
 
 #[cfg(test)]
 mod faults;
 #[cfg(test)]
 mod indirect;
-#[cfg(test)]
-mod lent;
 #[cfg(test)]
 mod longest;
 #[cfg(test)]
@@ -15,6 +13,8 @@ mod numbers;
 mod phases;
 #[cfg(test)]
 mod queues;
+#[cfg(test)]
+mod records;
 #[cfg(test)]
 mod refusals;
 #[cfg(test)]

@@ -8,14 +8,14 @@ use crate::files::{MemoryFiles, memory_files};
 use crate::kick::{LIMIT, LONG_RING, MEMORY, PAGE_SIZE, write};
 use crate::measure::{Case, Label, Meter};
 use bitflags::Flags;
-use fs_device::{Command, Device, Fault, Machine};
+use fs_device::{Command, Device, Fault, MOST_LIMIT, Machine};
 use fs_queue::{ChainFault, Queue, QueueLayout};
 use fuse_wire::FsOptions;
 use guest_driver::ring::{Guest, INDIRECT, NEXT, WRITE};
 use guest_driver::{DriverDescriptor, requests};
 use std::alloc::{AllocError, Global};
 use std::time::Clock;
-use virtiofsd_fuse::{Error, Server};
+use virtiofsd_fuse::{Error, MAX_REQUEST_LEN, Server};
 use vm_iotlb::Iotlb;
 use vm_memory::{Iommu, TableIommu};
 use vm_memory_core::{GuestAddress, Permissions};
@@ -97,12 +97,6 @@ const ATTACKS: [(&str, Shape, usize, Option<Fault>); 16] = [
     ("holes-16384", Shape::Holes, 16, None),
 ];
 
-// The greatest limit that a device may have.
-const MOST_LIMIT: u32 = 1 << 31;
-
-// The longest request that the server takes, which the header says.
-const LONGEST: u32 = 0x101000;
-
 // The option by which security contexts are sent (FUSE_SECURITY_CTX, linux/fuse.h).
 const SECURITY_CTX: u64 = 1 << 32;
 
@@ -164,9 +158,9 @@ fn over_pieces(alloc: Global, addr: u64, len: u32) -> Result<Vec<(u64, u32)>, Al
 
 // A request of the longest length: a header, a front, and bytes of 7 with a zero byte behind them if they are a name.
 fn longest(alloc: Global, opcode: u32, front: &[u8], is_name: bool) -> Result<Vec<u8>, AllocError> {
-    let header = requests::header(LONGEST, opcode, 1, 1);
+    let header = requests::header(MAX_REQUEST_LEN, opcode, 1, 1);
     let mut request = requests::joined(alloc, &header, front)?;
-    request.resize(LONGEST as usize - 1, 7)?;
+    request.resize(MAX_REQUEST_LEN as usize - 1, 7)?;
     request.push(if is_name { 0 } else { 7 })?;
     Ok(request)
 }
@@ -175,7 +169,7 @@ fn longest(alloc: Global, opcode: u32, front: &[u8], is_name: bool) -> Result<Ve
 // left (linux/fuse.h: `struct fuse_mkdir_in`, `struct fuse_secctx_header` and `struct fuse_secctx`).
 fn labelled(alloc: Global) -> Result<Vec<u8>, AllocError> {
     let mut front = requests::joined(alloc, &[0; 8], b"a\0")?;
-    let behind = LONGEST - 50;
+    let behind = MAX_REQUEST_LEN - 50;
     front.extend_from_slice(&behind.to_le_bytes())?;
     front.extend_from_slice(&1u32.to_le_bytes())?;
     front.extend_from_slice(&(behind - 18).to_le_bytes())?;
@@ -195,7 +189,7 @@ fn forgets(alloc: Global, count: u32) -> Result<Vec<u8>, AllocError> {
 
 // A request in one piece, with a small room.
 fn put_whole(guest: &mut Guest, request: &[u8]) -> Result<(), BenchFault> {
-    let len = request.len().min(LONGEST as usize) as u32;
+    let len = request.len().min(MAX_REQUEST_LEN as usize) as u32;
     guest.chain(0, request, &[(MUCH, len)], &[(SMALL_ROOM, 144)])?;
     Ok(())
 }

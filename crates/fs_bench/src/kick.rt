@@ -3,7 +3,7 @@
 use crate::fault::BenchFault;
 use crate::files::{MemoryFiles, memory_files};
 use crate::measure::{Case, Label, Meter};
-use fs_device::Device;
+use fs_device::{Device, LEAST_LIMIT};
 use fs_queue::{Queue, QueueLayout};
 use fuse_wire::{GetattrIn, ReadIn, WriteIn};
 use guest_driver::requests;
@@ -58,7 +58,7 @@ const TABLE: u64 = 0x8000;
 pub(crate) const MEMORY: usize = 0x400000;
 
 /// The longest request, and the longest room.
-pub(crate) const LIMIT: u32 = 0x101000;
+pub(crate) const LIMIT: u32 = LEAST_LIMIT;
 
 /// How many bytes the guest's pages have.
 pub(crate) const PAGE_SIZE: u32 = 4096;

@@ -1,7 +1,7 @@
 //! Kicks of a device that threads share: of one thread, and of four queues by one thread and by four.
 
 ghost use Rattle.std.specs.Prelude.{◌≡◌, ◌<◌};
-ghost use Rattle.fs_shares.specs.Portion.{IsShareOf};
+ghost use Rattle.fs_shared.specs.Portion.{IsShareOf};
 
 use crate::fault::BenchFault;
 use crate::files::{MemoryFiles, memory_files};
@@ -9,8 +9,7 @@ use crate::kick::{Ask, Asked, LIMIT, MEMORY, PAGE_SIZE, QUEUE_SIZE, RING};
 use crate::measure::{Case, Label, Meter, push_sample};
 use fs_device::{Device, Machine};
 use fs_queue::{Queue, QueueLayout};
-use fs_shared::{Kicked, Outcome, SharedDevice};
-use fs_shares::Share;
+use fs_shared::{Kicked, Outcome, Share, SharedDevice};
 use guest_driver::ring::{Guest, Ring};
 use std::alloc::Global;
 use std::sync::Wait;

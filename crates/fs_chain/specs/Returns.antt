@@ -1,6 +1,7 @@
 -- How a chain goes back: its reply's front, and what is stored and loaded then (VIRTIO 1.2, 2.7.8 and 2.7.7).
 use Rattle.std.specs.Prelude.{◌≡◌, ℕ, ◌++◌, List, drop}
-use Rattle.fs_queue.specs.Returning.{stores_of, stores_after_reply}
+use Rattle.fs_queue.specs.Returning.{stores_after_reply}
+use Rattle.fs_queue.specs.ReturningView.{stores_of}
 use Rattle.fs_regions.specs.Walks.{queue_of}
 use Rattle.fs_chain.specs.declared.returning.Stores.{Stores}
 use Rattle.fs_chain.specs.declared.state.Out.{Out}

@@ -10,7 +10,8 @@ use crate::error::ChainError;
 use crate::state::{Out, Reply, State};
 use crate::workbench::Workbench;
 use fuse_fs::Context;
-use server_phases::{Answered, FileAnswer, Refused, Sent, Session, Waiting};
+use fuse_values::FileAnswer;
+use server_phases::{Answered, Refused, Sent, Session, Waiting};
 use std::mem;
 
 /// What comes of an answer.

@@ -17,11 +17,10 @@ ghost use Rattle.fs_chain.specs.declared.state.State.TheVariants as at;
 use crate::error::ChainError;
 use crate::state::{Out, Reply, State};
 use crate::workbench::Workbench;
-use server_phases::{Asked, AskedFront, FileCall, Front, Listing, Session, Waiting};
+use fuse_values::FileCall;
+use server_phases::{Asked, AskedFront, Front, Listing, Session, Waiting};
 use server_segments::Error;
-
-/// How many bytes of a request tell that it is a WRITE, and what it asks.
-const REQUEST_FRONT: usize = 80;
+use virtiofsd_fuse::REQUEST_FRONT;
 
 /// What a request asks.
 #[derive(Drop)]

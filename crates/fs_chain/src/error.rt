@@ -12,7 +12,7 @@ pub enum ChainError {
     BadArgument,
     /// The buffer is too short.
     ShortBuffer,
-    /// More data than a reply can tell.
+    /// More data than a reply can tell; or a reply of the caller's own that is longer than the room, or than can be told.
     LongReply,
     /// The chain isn't where this call goes on from.
     WrongOrder,

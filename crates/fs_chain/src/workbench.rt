@@ -14,13 +14,14 @@ use fs_queue::Descriptors;
 use fs_regions::{GuestRegions, window_from};
 use server_segments::Writer;
 use std::alloc::Global;
+use virtiofsd_fuse::MAX_REQUEST_LEN;
 use vm_memory_core::VolatileSlice;
 
-/// The least limit of a request and of a room: a request of 2^20 bytes of data, and a page.
-const LEAST_LIMIT: u32 = 0x101000;
+/// The least limit of a request and of a room, in bytes: the longest request that the server serves.
+pub const LEAST_LIMIT: u32 = MAX_REQUEST_LEN;
 
-/// The greatest limit.
-const MOST_LIMIT: u32 = 1 << 31;
+/// The greatest limit, in bytes.
+pub const MOST_LIMIT: u32 = 1 << 31;
 
 /// How many bytes the longest reply has that is made without a call.
 const REPLY_WITHOUT_CALL: usize = 80;

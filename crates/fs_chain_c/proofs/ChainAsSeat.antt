@@ -1,6 +1,6 @@
 -- A chain's seat is one of those whose functions are proved for any.
 use mathlib.Core.Path.{refl}
-use Rattle.box_parts.proofs.Seats.{Seat}
+use Rattle.fs_chain_c.proofs.Seats.{Seat}
 use Rattle.fs_chain_c.specs.contracts.bench.Bench as State
 use Rattle.fs_chain_c.proofs.bench.Bench.TheLaws as state
 use Rattle.fs_chain_c.specs.contracts.seat.ChainSeat as Chain

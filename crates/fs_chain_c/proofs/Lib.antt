@@ -2,6 +2,8 @@ pub mod BenchLemmas
 mod ChainAsSeat
 pub mod LoadLemmas
 pub mod MemoryLemmas
+mod Moving
 pub mod QueueLemmas
 pub mod RangeLemmas
+mod Seats
 pub mod WindowLemmas

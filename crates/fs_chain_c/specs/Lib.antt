@@ -3,11 +3,13 @@ pub mod Benches
 pub mod Calls
 pub mod Listing
 pub mod Memory
+pub mod Numbers
 pub mod Owned
 pub mod Queues
 pub mod Ranges
 pub mod Records
 pub mod Replies
 pub mod Returning
+pub mod Seats
 pub mod Walking
 pub mod Windows

@@ -4,7 +4,7 @@ use base.Stored.{Coded}
 use denote.RawPtr.{Ptr}
 use Rattle.std.specs.Prelude.{Option}
 use Rattle.std.specs.Global.{Global}
-use Rattle.box_parts.specs.Seats.{seat_owns, seat_coded}
+use Rattle.fs_chain_c.specs.Seats.{seat_owns, seat_coded}
 use Rattle.fs_chain_c.specs.contracts.bench.Bench as bench
 
 -- what a chain's seat owns: the box behind its pointer, if it has one

@@ -1,11 +1,14 @@
 -- What the answers of C say, and what comes of them.
-use Rattle.std.specs.Prelude.{◌≡◌, ◌==◌, ◌&&◌, ◌||◌, ◌^◌, nat_lt, ℕ, Bool, List, Option, Some, None, if◌then◌else◌}
+use Rattle.std.specs.Prelude.{◌≡◌, ◌⊎◌, ◌==◌, ◌&&◌, ◌||◌, ◌^◌, nat_lt, ℕ, Bool, List, Option, Some, None, if◌then◌else◌}
 use Rattle.fuse_base.specs.declared.records.Attr.{Attr}
 use Rattle.fuse_fs.specs.declared.answers.Entry.{Entry}
 use Rattle.fuse_values.specs.declared.answer.FileAnswer.{FileAnswer}
 use Rattle.fuse_values.specs.declared.answer.FileAnswer.TheVariants as answer
+use Rattle.fs_chain.specs.declared.error.ChainError.{ChainError}
 use Rattle.fs_chain.specs.declared.error.ChainError.TheVariants.{BadArgument, WrongOrder}
+use Rattle.fs_chain.specs.declared.state.State.TheVariants as at
 use Rattle.fs_chain.specs.Numbers.{chain_error_number}
+use Rattle.fs_chain.specs.OwnReplies.{IfUnanswered, own_error, own_reply}
 use Rattle.fs_chain_c.specs.declared.answers.FsEntry.{FsEntry}
 use Rattle.fs_chain_c.specs.declared.answers.FsStatfs.{FsStatfs}
 use Rattle.fs_chain_c.specs.declared.bench.Bench.{Bench}
@@ -104,3 +107,19 @@ Starts wanted before d status after d' =
 abbrev pub AsksChain : Option Bench → FsDevice → (request : List ℕ) → (status : ℕ) → FsCall → Option Bench → Type 0
 AsksChain before d request status call after =
     OnBench (λ b b'. AsksBench b d request call status b') ((status ≡ chain_error_number WrongOrder) × (call ≡ no_call)) before after
+
+-- a bench keeps a reply of so many bytes of C's own, and all else as it is
+abbrev pub KeepsOwn : (len : ℕ) → Bench → Bench → Type 0
+KeepsOwn len b b' =
+    IfUnanswered b.workbench.state (λ out. b'.workbench ≡ record (b.workbench) { state = at.Answered out (own_reply len) })
+    × (b'.part ≡ b.part) × (b'.session ≡ b.session)
+
+-- it replies them, or says why not, and nothing is done
+abbrev pub RepliesOwn : (len : ℕ) → Bench → (status : ℕ) → Bench → Type 0
+RepliesOwn len b status b' =
+    ((own_error b.workbench.state len ≡ None) × (status ≡ 0) × KeepsOwn len b b')
+    ⊎ ((e : ChainError) × (own_error b.workbench.state len ≡ Some e) × (status ≡ chain_error_number e) × (b' ≡ b))
+
+-- a handle's chain is replied so
+abbrev pub RepliesBytes : (len : ℕ) → Option Bench → (status : ℕ) → Option Bench → Type 0
+RepliesBytes len before status after = OnBench (λ b b'. RepliesOwn len b status b') (status ≡ chain_error_number WrongOrder) before after

@@ -1,10 +1,12 @@
 //! What a request asks, as C is told: the fields of its call.
 
 ghost use Rattle.std.specs.Prelude.{◌≡◌, ◌-◌};
-ghost use Rattle.fs_chain_c.specs.Calls.{asker, attr_told, behind, data_len, listing, low, no_call, sized, span};
+ghost use Rattle.fs_chain_c.specs.Calls.{attr_told, behind, data_len, low, made, made_by, no_call, span};
 
+use crate::answer_kind::{AnswerKind, call_number};
 use fuse_fs::Context;
 use fuse_in::SetattrIn;
+use fuse_wire::Opcode;
 
 /// A place in the request's bytes.
 #[repr(C)]
@@ -214,33 +216,38 @@ impl FsCall {
     {
         NO_CALL
     }
+
+    // A call that waits for this kind of answer, and that no one process makes.
+    pub(crate) fn made(opcode: Opcode, answer: AnswerKind) -> FsCall
+        ensures { result ≡ made opcode answer }
+    {
+        let mut told = NO_CALL;
+        told.kind = call_number(opcode);
+        told.answer = answer.number();
+        told
+    }
+
+    // The same of a call that somebody makes of a node.
+    pub(crate) fn made_by(opcode: Opcode, answer: AnswerKind, who: &Context, node: u64) -> FsCall
+        ensures { result ≡ made_by opcode answer who.now node }
+    {
+        let mut told = FsCall::made(opcode, answer);
+        told.uid = who.uid.0;
+        told.gid = who.gid.0;
+        told.pid = who.pid.cast_unsigned();
+        told.node = node;
+        told
+    }
 }
 
 /// How many bytes a reply's header has: data stands behind it.
 pub(crate) const HEADER: u64 = 16;
-
-/// How many bytes of a WRITE stand before its data.
-pub(crate) const WRITE_FRONT: u64 = 80;
 
 // A number in 32 bits: the greatest, if it has none.
 fn low(n: usize) -> u32
     ensures { result ≡ low n }
 {
     n.min(u32::MAX as usize) as u32
-}
-
-// A call of a kind that waits for this kind of answer.
-pub(crate) fn asker(kind: u32, answer: u32, who: &Context, node: u64) -> FsCall
-    ensures { result ≡ asker kind answer who.now node }
-{
-    let mut told = NO_CALL;
-    told.kind = kind;
-    told.answer = answer;
-    told.uid = who.uid.0;
-    told.gid = who.gid.0;
-    told.pid = who.pid.cast_unsigned();
-    told.node = node;
-    told
 }
 
 // A place in a request.
@@ -260,13 +267,6 @@ pub(crate) fn behind(at: usize, len: usize) -> usize
     at.saturating_add(len.saturating_add(1))
 }
 
-// What GETXATTR and LISTXATTR wait for.
-pub(crate) fn sized(size: u32) -> u32
-    ensures { result ≡ sized size }
-{
-    if size == 0 { 7 } else { 6 }
-}
-
 // How many bytes stand behind a reply's header in a room.
 pub(crate) fn behind_header(room: usize) -> u64
     ensures { result ≡ room - 16 }
@@ -279,13 +279,6 @@ pub(crate) fn data_len(size: u32, room: usize) -> u64
     ensures { result ≡ data_len size room }
 {
     u64::from(size).min(behind_header(room))
-}
-
-// READDIR or READDIRPLUS.
-pub(crate) fn listing(opcode: u32) -> u32
-    ensures { result ≡ listing opcode }
-{
-    if opcode == 44 { 44 } else { 28 }
 }
 
 // The attributes that SETATTR sets.

@@ -1,17 +1,19 @@
-//! One chain of a virtio-fs device from its walk to its return, for monitors in C: a static library, whose header is pitskhomu.h in examples/chain.
+//! One chain of a virtio-fs device from its walk to its return, for monitors in C: a static library, whose header is pitskhomu.h, beside it.
 #![tactic(auto)]
 
+mod answer_kind;
 mod answers;
 mod asking;
 mod bench;
 mod call;
+mod call_table;
 mod device;
 mod exports;
 mod fields;
 mod handle;
-mod kinds;
 mod listing;
 mod memory;
+mod parts;
 mod queue;
 mod ranges;
 mod record;
@@ -31,6 +33,6 @@ pub use listing::{fs_add_direntry, fs_add_direntry_plus, fs_reply_entries, fs_re
 pub use ranges::fs_room_ranges;
 pub use record::{fs_restore, fs_save};
 pub use replies::{
-    fs_ask, fs_reply_attr, fs_reply_create, fs_reply_data, fs_reply_entry, fs_reply_init,
-    fs_reply_lseek, fs_reply_open, fs_reply_statfs, fs_reply_write, fs_reply_xattr,
+    fs_ask, fs_reply_attr, fs_reply_bytes, fs_reply_create, fs_reply_data, fs_reply_entry,
+    fs_reply_init, fs_reply_lseek, fs_reply_open, fs_reply_statfs, fs_reply_write, fs_reply_xattr,
 };

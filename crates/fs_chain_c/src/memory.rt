@@ -8,14 +8,13 @@ ghost use Rattle.fs_chain_c.specs.Memory.{HaveFault, IsMemory, IsNoMemory, IsNoS
 ghost use Rattle.fs_chain_c.specs.declared.memory.FsRegion.{FsRegion};
 
 use arrayvec::ArrayVec;
-use fs_chain::{ChainError, GuestRegions, MemoryRegion, RegionsError};
+use fs_chain::ChainError;
+use fs_regions::{GuestRegions, MemoryRegion, RegionsError};
 use std::alloc::Global;
+use vm_bitmaps::PAGE_SIZE;
 
 /// How many regions there are at most.
 const MOST_REGIONS: usize = 64;
-
-/// How many bytes a page has.
-const PAGE_BYTES: usize = 4096;
 
 /// Where a stretch of the guest's memory stands.
 #[repr(C)]
@@ -38,7 +37,7 @@ fn region_of(region: &FsRegion) -> Option<MemoryRegion>
     let Some(made) = MemoryRegion::new(region.guest, region.len, region.host) else {
         return None;
     };
-    if region.host % PAGE_BYTES != 0 || region.host as u64 > u64::MAX - (region.len - 1) {
+    if region.host % PAGE_SIZE != 0 || region.host as u64 > u64::MAX - (region.len - 1) {
         return None;
     }
     Some(made)

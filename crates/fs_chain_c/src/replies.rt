@@ -2,13 +2,14 @@
 
 ghost use Rattle.std.specs.Prelude.{◌≡◌};
 ghost use Rattle.fuse_values.specs.declared.answer.FileAnswer.TheVariants as answer;
-ghost use Rattle.fs_chain_c.specs.Replies.{AsksChain, MayReply, Replies, Starts, attr_said, create_said, entry_of, entry_said, open_said, statfs_said, wish_said};
+ghost use Rattle.fs_chain_c.specs.Replies.{AsksChain, MayReply, Replies, RepliesBytes, RepliesOwn, Starts, attr_said, create_said, entry_of, entry_said, open_said, statfs_said, wish_said};
 
 use crate::answers::{
     FsEntry, FsStatfs, attr_said, create_said, entry_of, entry_said, open_said, statfs_said,
     wish_said,
 };
 use crate::asking::{NO_ROOM, answer_bench, ask_bench};
+use crate::bench::Bench;
 use crate::call::{FsAttr, FsCall};
 use crate::device::FsDevice;
 use crate::exports::wrong_order;
@@ -172,6 +173,29 @@ pub extern "C" fn fs_reply_init(
     if status == 0 || status == NO_ROOM {
         device.options = bench.session.options().bits();
     }
+    *chain = FsChain::of_box(bench);
+    status
+}
+
+// Replies so many bytes of C's own, and says a status.
+fn reply_own(bench: &mut Bench, len: usize) -> u32
+    ensures { RepliesOwn len bench.old result bench.new }
+{
+    match bench.workbench.reply(len) {
+        Ok(()) => 0,
+        Err(error) => u32::from(error.number()),
+    }
+}
+
+/// Replies so many bytes of C's own, which stand in the room from its first place on: in place of `fs_ask`, or of an answer.
+#[unsafe(no_mangle)]
+pub extern "C" fn fs_reply_bytes(alloc: Global, chain: &mut FsChain, len: u64) -> u32
+    ensures { RepliesBytes len chain.old.seat.value result chain.new.seat.value }
+{
+    let Some(mut bench) = chain.take(alloc) else {
+        return wrong_order();
+    };
+    let status = reply_own(&mut bench, len as usize);
     *chain = FsChain::of_box(bench);
     status
 }

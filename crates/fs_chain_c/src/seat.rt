@@ -5,7 +5,7 @@ ghost use Rattle.fs_chain_c.specs.declared.bench.Bench.{Bench};
 ghost use Rattle.fs_chain_c.specs.Owned.{chain_seat_owns, chain_value_coded};
 
 use crate::bench::Bench;
-use box_parts::Parts;
+use crate::parts::Parts;
 use std::alloc::Global;
 use std::marker::Model;
 

@@ -24,3 +24,11 @@ pub mod MoveLemmas
 pub mod PageLemmas
 pub mod PageRuns
 pub mod MigrateLemmas
+pub mod FillLemmas
+pub mod ApartLemmas
+pub mod BehindLemmas
+pub mod LentLemmas
+pub mod HarvestLemmas
+pub mod ApplyLemmas
+pub mod CatchUpLemmas
+pub mod TrackLemmas

@@ -7,15 +7,15 @@ use Rattle.std.proofs.lemmas.List.{drop_all, drop_more, length-map}
 use Rattle.std.proofs.lemmas.Option.{same_Some, slice_get-get_or}
 use Rattle.vm_bitmaps.specs.Pages.{pages_of}
 use Rattle.vm_memory_core.specs.Host.{Host, Block, Shape, lengths, page_count, shape}
-use Rattle.vm_copies.specs.declared.applying.ApplyError.{ApplyError}
-use Rattle.vm_copies.specs.declared.applying.ApplyError.TheVariants.{OutOfRange}
-use Rattle.vm_copies.specs.declared.harvested.HarvestedPage.{HarvestedPage}
-use Rattle.vm_copies.specs.Harvested.{Page}
-use Rattle.vm_copies.specs.PageView.{page_view}
-use Rattle.vm_copies.specs.Applying.{applied, first_refused, pages_put, refused_by}
-use Rattle.vm_copies.proofs.CatchUpLemmas.{pages_put-append}
-use Rattle.vm_copies.proofs.HarvestLemmas.{no_block}
-use Rattle.vm_copies.proofs.TrackLemmas.{HavePlaces, IsSized, both_none, neither_none}
+use Rattle.fs_device.specs.declared.applying.ApplyError.{ApplyError}
+use Rattle.fs_device.specs.declared.applying.ApplyError.TheVariants.{OutOfRange}
+use Rattle.fs_device.specs.declared.harvested.HarvestedPage.{HarvestedPage}
+use Rattle.fs_device.specs.Harvested.{Page}
+use Rattle.fs_device.specs.PageView.{page_view}
+use Rattle.fs_device.specs.Applying.{applied, first_refused, pages_put, refused_by}
+use Rattle.fs_device.proofs.CatchUpLemmas.{pages_put-append}
+use Rattle.fs_device.proofs.HarvestLemmas.{no_block}
+use Rattle.fs_device.proofs.TrackLemmas.{HavePlaces, IsSized, both_none, neither_none}
 use Rattle.fs_queue.specs.Queue.{Queue}
 use Rattle.fs_record.specs.Laws.{OneReading}
 use Rattle.fs_record.specs.Record.{Second, IsRecordFor, IsSavable}

@@ -13,10 +13,10 @@ use Rattle.fs_queue.specs.declared.fault.QueueError.TheVariants as stop
 use Rattle.fs_queue.specs.Queue.{Queue, fresh}
 use Rattle.fs_queue.specs.Taking.{Offer, IsRequest, CannotFetch, Refuses, Offers}
 use Rattle.fs_queue.specs.Taking as taking
-use Rattle.vm_copies.specs.Harvested.{Page, harvested}
-use Rattle.vm_copies.specs.Applying.{first_refused, pages_put}
-use Rattle.vm_copies.proofs.CatchUpLemmas.{Tracks, pages_put-append}
-use Rattle.vm_copies.proofs.TrackLemmas.{HavePlaces, harvest_is_host, harvest_placed, harvest-lengths, places-append, stale_marked, tracks_copy, tracks_harvest, tracks_store, tracks-sized}
+use Rattle.fs_device.specs.Harvested.{Page, harvested}
+use Rattle.fs_device.specs.Applying.{first_refused, pages_put}
+use Rattle.fs_device.proofs.CatchUpLemmas.{Tracks, pages_put-append}
+use Rattle.fs_device.proofs.TrackLemmas.{HavePlaces, harvest_is_host, harvest_placed, harvest-lengths, places-append, stale_marked, tracks_copy, tracks_harvest, tracks_store, tracks-sized}
 use Rattle.fs_record.proofs.ReadingLemmas.{one_reading}
 use Rattle.virtiofsd_fuse.specs.Serving.{May}
 use Rattle.fs_device.specs.declared.error.DeviceError.{DeviceError}

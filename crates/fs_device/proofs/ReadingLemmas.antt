@@ -13,10 +13,10 @@ use Rattle.fs_queue.specs.Queue.{Queue}
 use Rattle.fs_queue.specs.Taking.{RequestAndRoom}
 use Rattle.fs_queue.specs.Returning.{PutFrontLast}
 use Rattle.fs_queue.specs.Windows.{HoldsChain, IsTaken, chain_places}
-use Rattle.room_writer.specs.Apart.{Apart}
-use Rattle.room_writer.specs.Behind.{HasBehind}
-use Rattle.room_writer.specs.Fills.{Fills}
-use Rattle.room_writer.proofs.ApartLemmas.{front_last}
+use Rattle.fs_device.specs.Apart.{Apart}
+use Rattle.fs_device.specs.Behind.{HasBehind}
+use Rattle.fs_device.specs.Fills.{Fills}
+use Rattle.fs_device.proofs.ApartLemmas.{front_last}
 use Rattle.virtiofsd_fuse.specs.declared.reads.ReadReply.{ReadReply}
 use Rattle.virtiofsd_fuse.specs.declared.reads.ReadRequest.{ReadRequest}
 use Rattle.virtiofsd_fuse.specs.declared.server.Server.{Server}
@@ -32,9 +32,9 @@ use Rattle.virtiofsd_fuse.specs.Serving.{May, Handles, ServerHandles, setting}
 use Rattle.fs_device.specs.Step.{Calls}
 use Rattle.fs_device.specs.DeviceView.{AnswersRequest, ServesChain, request_of, server_state, state_of}
 use Rattle.fs_device.specs.ReplyFront.{AnswersAt, AnswersFront, front_bytes}
-use Rattle.fs_device.specs.declared.reply_front.Answered.{Answered}
-use Rattle.fs_device.specs.declared.reply_front.Front.TheVariants.{Header}
-use Rattle.fs_device.specs.declared.serving.Returned.{Returned}
+use Rattle.fs_device.specs.declared.reply_front.PreparedReply.{PreparedReply}
+use Rattle.fs_device.specs.declared.reply_front.ReplyFront.TheVariants.{Header}
+use Rattle.fs_device.specs.declared.returned.Returned.{Returned}
 use Rattle.fs_device.specs.DevicePartsView.{DeviceParts}
 use Rattle.fs_device.specs.Returned.{StepTold}
 use Rattle.fs_device.specs.Step.{Exchange}
@@ -113,7 +113,7 @@ module _ {F : Type 0} (may : May F) (before after : Server F) (h new : Host) (ps
   }
 
 -- what is answered for a chain's places is answered for the chain
-pub answers_chain : {F : Type 0} (may : May F) (before after : Server F) (m : Memory) (h new : Host) (q : Queue) (fetched : RequestAndRoom) (t : Taken) (c : Chain) (a : Answered) →
+pub answers_chain : {F : Type 0} (may : May F) (before after : Server F) (m : Memory) (h new : Host) (q : Queue) (fetched : RequestAndRoom) (t : Taken) (c : Chain) (a : PreparedReply) →
     m.host ≡ h → IsTaken m q fetched t → t.chain ≡ Ok c → AnswersAt may before h (places c.readable.items) (places c.writable.items) a new after → AnswersFront may before h t fetched a new after
 answers_chain may before after m h new q fetched t c a same taken is x =
     let held : HoldsChain m fetched (Ok c) = subst (HoldsChain m fetched) is taken.chain in

@@ -19,7 +19,7 @@ use Rattle.fs_queue.proofs.OfferByLemmas.{offer_is_still, offer_finds}
 use Rattle.fs_queue.proofs.ReadLemmas.{length-bytes}
 use Rattle.fs_queue.proofs.ReturnLemmas.{over, all_tables, same_location, stored_located, returns_by_stores}
 use Rattle.fs_queue.specs.Returning.{Store, writes_of, stores_after_reply, returned, wants_notice, tells, advanced}
-use Rattle.room_writer.proofs.ApartLemmas.{put_all_comm}
+use Rattle.fs_device.proofs.ApartLemmas.{put_all_comm}
 use Rattle.virtiofsd_fuse.specs.Serving.{May}
 use Rattle.fs_device.specs.declared.error.DeviceError.TheVariants as device
 use Rattle.fs_device.specs.Step.{State, Exchange, Outcome, Idle, Refused, Exchanged, Calls, Unchanged, Acts, Exchanges, Returns, StepOf, with_queue, faulty, served_exchange}

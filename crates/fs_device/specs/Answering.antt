@@ -2,7 +2,7 @@
 use Rattle.std.specs.Prelude.{◌≡◌, ◌≤◌, ℕ, List, length, Option, Some, None}
 use Rattle.virtiofsd_fuse.specs.declared.server.Server.{Server}
 use Rattle.virtiofsd_fuse.specs.Serving.{May}
-use Rattle.fs_device.specs.declared.serve.Reply.{Reply}
+use Rattle.fs_device.specs.declared.answer_by_copy.Reply.{Reply}
 use Rattle.fs_device.specs.Step.{Calls}
 use Rattle.fs_device.specs.DeviceView.{server_state, AnswersRequest}
 

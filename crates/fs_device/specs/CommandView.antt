@@ -1,7 +1,7 @@
 -- Commands, answers and kicks, as the plain machine has them.
 use Rattle.std.specs.Prelude.{◌≡◌, ◌<◌, ℕ, Bool, IsTrue, List, length, map, Option, None, Result, Ok, Err, slice_get}
 use Rattle.fs_queue.specs.declared.fault.QueueError.TheVariants as stop
-use Rattle.vm_copies.specs.PageView.{page_view}
+use Rattle.fs_device.specs.PageView.{page_view}
 use Rattle.virtiofsd_fuse.specs.Serving.{May}
 use Rattle.fs_device.specs.declared.error.DeviceError.{DeviceError}
 use Rattle.fs_device.specs.declared.error.DeviceError.TheVariants as device

@@ -32,7 +32,7 @@ use Rattle.fs_device.specs.declared.error.DeviceError.TheVariants as device_erro
 use Rattle.fs_device.specs.declared.exchange.Fault.TheVariants as fault
 use Rattle.fs_device.specs.declared.refusal.Refusal.TheVariants as why
 use Rattle.fs_device.specs.Step.{State, Exchange, Exchanged, Step, after_return}
-use Rattle.vm_copies.specs.Harvested.{block_pages, host_pages, harvested}
+use Rattle.fs_device.specs.Harvested.{block_pages, host_pages, harvested}
 use Rattle.fs_device.specs.Run as run
 use Rattle.fs_device.specs.Run.{Command, Answer, Turn, Affects, Run, RunTold, KickRun, command_takes_memory, effect, with_ranges}
 use Rattle.fs_device.specs.Marks.{SameButMarks, SameEvents}

@@ -25,3 +25,11 @@ pub mod ExamplesOfMarks
 pub mod ExamplesOfLoads
 pub mod ReplyFront
 pub mod ShortWay
+pub mod Fills
+pub mod FillsProof
+pub mod Apart
+pub mod Behind
+pub mod Harvested
+pub mod PageView
+pub mod Applying
+pub mod ExamplesOfCopies

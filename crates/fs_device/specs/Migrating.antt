@@ -1,8 +1,8 @@
 -- A machine that is moved: as it goes on there, it would have gone on here.
 use Rattle.std.specs.Prelude.{◌≡◌, ◌⊎◌, ◌++◌, List, [], ◌∷◌, length, map, zip}
 use Rattle.std.specs.List.{flat_map}
-use Rattle.vm_copies.specs.Harvested.{Page}
-use Rattle.vm_copies.specs.Applying.{pages_put}
+use Rattle.fs_device.specs.Harvested.{Page}
+use Rattle.fs_device.specs.Applying.{pages_put}
 use Rattle.vm_memory_core.specs.Host.{Host}
 use Rattle.virtiofsd_fuse.specs.Serving.{May}
 use Rattle.fs_device.specs.declared.command.Answer as told

@@ -9,25 +9,25 @@ use Rattle.fs_queue.specs.Windows.{chain_places}
 use Rattle.virtiofsd_fuse.specs.declared.server.Server.{Server}
 use Rattle.virtiofsd_fuse.specs.Serving.{May}
 use Rattle.fs_device.specs.declared.exchange.Fault.{Fault}
-use Rattle.fs_device.specs.declared.reply_front.Answered.{Answered}
-use Rattle.fs_device.specs.declared.reply_front.Front.{Front}
-use Rattle.fs_device.specs.declared.reply_front.Front.TheVariants as front
-use Rattle.fs_device.specs.declared.serve.Reply.{Reply}
+use Rattle.fs_device.specs.declared.reply_front.PreparedReply.{PreparedReply}
+use Rattle.fs_device.specs.declared.reply_front.ReplyFront.{ReplyFront}
+use Rattle.fs_device.specs.declared.reply_front.ReplyFront.TheVariants as front
+use Rattle.fs_device.specs.declared.answer_by_copy.Reply.{Reply}
 use Rattle.fs_device.specs.Step.{Calls, Exchange}
 use Rattle.fs_device.specs.DeviceView.{AnswersRequest, ServesChain, request_of, server_state}
 
 -- the bytes that are yet to be written
-abbrev pub front_bytes : Front → List ℕ
+abbrev pub front_bytes : ReplyFront → List ℕ
 front_bytes (front.Reply bytes) = bytes.items
 front_bytes (front.Header bytes) = bytes
 
 -- whether they are the header's alone
-abbrev pub is_header : Front → Bool
+abbrev pub is_header : ReplyFront → Bool
 is_header (front.Reply bytes) = false
 is_header (front.Header bytes) = true
 
 -- a reply that is yet to be written whole
-abbrev pub whole : Reply → Answered
+abbrev pub whole : Reply → PreparedReply
 whole r = record { front = front.Reply r.bytes; len = length r.bytes.items; fault = r.fault }
 
 -- the exchange of a chain with this head that was offered so, by this reply or fault
@@ -35,14 +35,14 @@ abbrev pub replied : (head : ℕ) → RequestAndRoom → (reply : List ℕ) → 
 replied head fetched reply fault = record { head = head; request = request_of fetched; reply = reply; fault = fault }
 
 -- the request at some places is answered by a reply of this length, which stands in its room but for its front
-pub record AnswersAt {F : Type 0} (may : May F) (before : Server F) (old : Host) (request room : List Place) (a : Answered) (new : Host) (after : Server F) : Type 0 where
+pub record AnswersAt {F : Type 0} (may : May F) (before : Server F) (old : Host) (request room : List Place) (a : PreparedReply) (new : Host) (after : Server F) : Type 0 where
   pub reply : List ℕ
   pub len : length reply ≡ a.len
   pub put : PutFrontLast old new room (front_bytes a.front) reply
   pub served : (calls : Calls) × AnswersRequest may before.page_size (server_state before) (map (byte_in old) request) (length room) calls reply a.fault (server_state after)
 
 -- a chain is served by a reply of this length, which stands in its room but for its front
-pub record AnswersFront {F : Type 0} (may : May F) (before : Server F) (old : Host) (taken : Taken) (fetched : RequestAndRoom) (a : Answered) (new : Host) (after : Server F) : Type 0 where
+pub record AnswersFront {F : Type 0} (may : May F) (before : Server F) (old : Host) (taken : Taken) (fetched : RequestAndRoom) (a : PreparedReply) (new : Host) (after : Server F) : Type 0 where
   pub reply : List ℕ
   pub len : length reply ≡ a.len
   pub put : PutFrontLast old new (chain_places taken.chain) (front_bytes a.front) reply

@@ -13,7 +13,7 @@ use Rattle.vm_memory.specs.Layout.{Region, fits, overlap, with_region, is_region
 use Rattle.vm_memory.specs.Memory.{Memory, addresses, reach, bytes, stored_all, physical, table_of}
 use Rattle.fs_queue.specs.Queue.{Queue, fresh}
 use Rattle.virtiofsd_fuse.specs.Serving.{May}
-use Rattle.vm_copies.specs.Harvested.{Page, harvested}
+use Rattle.fs_device.specs.Harvested.{Page, harvested}
 use Rattle.fs_device.specs.declared.error.DeviceError.{DeviceError}
 use Rattle.fs_device.specs.declared.error.DeviceError.TheVariants as device
 use Rattle.fs_device.specs.declared.refusal.Refusal.{Refusal}

@@ -4,7 +4,7 @@ use Rattle.vm_memory_core.specs.Host.{Host, Place}
 use Rattle.vm_memory_core.specs.Window.{byte_in, places}
 use Rattle.fs_queue.specs.declared.chain.Chain.{Chain}
 use Rattle.fs_queue.specs.declared.fault.ChainFault.{ChainFault}
-use Rattle.room_writer.specs.Behind.{HasBehind}
+use Rattle.fs_device.specs.Behind.{HasBehind}
 use Rattle.virtiofsd_fuse.specs.ReadApart.{read_request}
 
 -- what stands at some places is a READ's two records and no more (linux/fuse.h, struct fuse_in_header and fuse_read_in, 80 bytes)

@@ -12,7 +12,7 @@ use Rattle.fs_queue.specs.Taking as taking
 use Rattle.fs_queue.specs.Loads.{Load}
 use Rattle.fs_queue.specs.OfferLoads.{offer_by, AreLoadsOf}
 use Rattle.fs_queue.specs.Returning.{Store, writes_of, stores_after_reply, tells, advanced}
-use Rattle.room_writer.specs.Apart.{Apart}
+use Rattle.fs_device.specs.Apart.{Apart}
 use Rattle.virtiofsd_fuse.specs.Serving.{May, Served}
 use Rattle.fs_device.specs.declared.error.DeviceError.TheVariants as device
 use Rattle.fs_device.specs.Step.{State, Exchange, Outcome, Idle, Refused, Exchanged, Calls, Unchanged, ServesRequest, with_queue, faulty, served_exchange, Step}

@@ -4,10 +4,10 @@ ghost use Rattle.std.specs.Prelude.{◌≡◌};
 ghost use Rattle.fs_device.specs.CommandView.{command_of};
 ghost use Rattle.fs_device.specs.Moving.{follows_image};
 
+use crate::harvested::HarvestedPage;
 use crate::queues::QueueRun;
 use crate::refusal::Refusal;
 use fs_queue::QueueLayout;
-use vm_copies::HarvestedPage;
 use vm_memory::GuestMemoryMmap;
 use vm_memory_core::{HostMemory, PageBitmap, Permissions};
 

@@ -17,7 +17,7 @@ impl<F: FileSystem, I: Iommu + Drop> Machine<F, I> {
         ensures performs { Performs F.may (machine_of self.old) Image [] (answer_of result) (machine_of self.new) }
         ensures mem { self.new.mem ≡ self.old.mem }
     {
-        match vm_copies::image(alloc, &mut self.host) {
+        match crate::whole::image(alloc, &mut self.host) {
             Ok(copy) => Answer::Copied(copy),
             Err(_) => Answer::Refused(Refusal::OutOfMemory),
         }
@@ -27,7 +27,7 @@ impl<F: FileSystem, I: Iommu + Drop> Machine<F, I> {
         ensures performs { Performs F.may (machine_of self.old) Harvest [] (answer_of result) (machine_of self.new) }
         ensures mem { self.new.mem ≡ self.old.mem }
     {
-        match vm_copies::harvest(alloc, &mut self.host) {
+        match crate::harvested::harvest(alloc, &mut self.host) {
             Ok(pages) => Answer::Pages(pages),
             Err(_) => Answer::Refused(Refusal::OutOfMemory),
         }

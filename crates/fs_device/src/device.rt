@@ -4,25 +4,28 @@ ghost use Rattle.std.specs.Prelude.{◌≡◌, ◌≤◌, ◌<◌, ◌^◌, leng
 ghost use Rattle.vm_memory_core.specs.Host.{shape};
 ghost use Rattle.fs_record.specs.Record.{IsSavable};
 
+use crate::answer_by_copy::serve;
 use crate::error::DeviceError;
 use crate::exchange::Exchange;
 use crate::fetched_request::FetchedRequest;
-use crate::serve::serve;
 use fs_queue::{Queue, QueueLayout, Taken};
 use fuse_fs::FileSystem;
 use fuse_wire::FsOptions;
 use std::alloc::Global;
 use std::marker::Model;
-use virtiofsd_fuse::Server;
+use virtiofsd_fuse::{MAX_REQUEST_LEN, Server};
 use vm_memory::GuestMemory;
 use vm_memory_core::HostBlocks;
 
 /// The least limit that a device may have, in bytes: the longest request that its server takes, which is a WRITE of 1 MiB
 /// with a page for its headers.
-pub const LEAST_LIMIT: u32 = 0x101000;
+pub const LEAST_LIMIT: u32 = MAX_REQUEST_LEN;
+
+/// The greatest limit that a device may have, in bytes.
+pub const MOST_LIMIT: u32 = 1 << 31;
 
 /// A virtio-fs device (VIRTIO 1.2, 5.11): a server behind its queues, of which there are 1 to 64, numbered from 0. A
-/// request or a room longer than the limit, from `LEAST_LIMIT` to 2^31 bytes, makes a chain faulty (`ChainFault::OverLimit`).
+/// request or a room longer than the limit, from `LEAST_LIMIT` to `MOST_LIMIT` bytes, makes a chain faulty (`ChainFault::OverLimit`).
 #[derive(Drop)]
 pub struct Device<F> {
     pub(crate) server: Server<F>,
@@ -141,7 +144,6 @@ impl<F: FileSystem> Device<F> {
         ensures step { (calls : Calls) × Step F.may (state_of (M.memory mem.now (H.host host.old)) self.old) queue calls (outcome_of result)
             (state_of (M.memory mem.now (H.host host.new)) self.new) }
         ensures shape { shape (H.host host.new) ≡ shape (H.host host.old) }
-        ensures loan { H.IsSameLoan host.old host.new }
     {
         let waits = Self::take_from(
             alloc,

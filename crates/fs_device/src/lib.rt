@@ -1,13 +1,17 @@
-//! A virtio-fs device.
+//! A virtio-fs device, the machine of a guest and its device, and the copies by which it moves.
 #![tactic(auto)]
 
-mod answering;
+mod answer_by_copy;
+mod answer_by_front;
+mod applying;
+mod behind;
 mod command;
 mod copies;
 mod device;
 mod error;
 mod exchange;
 mod fetched_request;
+mod harvested;
 pub mod laws;
 mod layouts;
 mod machine;
@@ -15,24 +19,29 @@ mod mappings;
 mod migrating;
 mod phases;
 mod queues;
-mod reading;
 mod refusal;
 mod reply_front;
+mod request_windows;
+mod returned;
+mod room_left;
+mod room_writer;
 mod run;
 mod saved;
-mod serve;
-mod serving;
-mod windows;
+mod short_way;
+mod source;
+mod whole;
 
+pub use applying::{ApplyError, apply};
 pub use command::{Answer, Command};
-pub use device::{Device, LEAST_LIMIT};
+pub use device::{Device, LEAST_LIMIT, MOST_LIMIT};
 pub use error::DeviceError;
 pub use exchange::{Exchange, Fault};
 pub use fetched_request::FetchedRequest;
 pub use fs_record::{RecordSink, RecordSource, RestoreError, Stream, WriteFault};
+pub use harvested::{HarvestedPage, harvest};
 pub use machine::Machine;
 pub use migrating::{Migrated, Stayed};
 pub use queues::QueueRun;
 pub use refusal::Refusal;
-pub use serving::Returned;
-pub use vm_copies::{ApplyError, HarvestedPage, apply, harvest, image};
+pub use returned::Returned;
+pub use whole::image;

@@ -3,8 +3,8 @@
 ghost use Rattle.std.specs.Prelude.{◌≡◌, ◌++◌, false, IsTrue, IfOk, IfErr, None, length, map, zip};
 ghost use Rattle.std.specs.List.{AllByRecursion};
 ghost use Rattle.vm_memory_core.specs.Host.{lengths, shape};
-ghost use Rattle.vm_copies.specs.Applying.{first_refused, pages_put};
-ghost use Rattle.vm_copies.specs.PageView.{page_view};
+ghost use Rattle.fs_device.specs.Applying.{first_refused, pages_put};
+ghost use Rattle.fs_device.specs.PageView.{page_view};
 ghost use Rattle.fs_record.specs.Record.{IsSavable};
 ghost use Rattle.fs_device.specs.DevicePartsView.{device_bytes};
 ghost use Rattle.fs_device.specs.Run.{with_host};
@@ -13,8 +13,10 @@ ghost use Rattle.fs_device.specs.MachineView.{machine_of};
 ghost use Rattle.fs_device.specs.Moving.{RunsFromImage, follows_image};
 ghost use Rattle.fs_device.specs.Migrating.{IsMoved, StaysHere, pages_of_answers, until_harvest};
 
+use crate::applying::apply;
 use crate::command::{Answer, Command};
 use crate::device::Device;
+use crate::harvested::HarvestedPage;
 use crate::laws::{law_host_marks, law_move};
 use crate::machine::Machine;
 use fs_queue::Queue;
@@ -23,7 +25,6 @@ use fs_record::{Stream, restore_record};
 use fuse_fs::FileSystem;
 use fuse_wire::FsOptions;
 use std::alloc::{AllocError, Global};
-use vm_copies::{HarvestedPage, apply};
 use vm_memory::Iommu;
 use vm_memory_core::{HostMemory, PageBitmap};
 

@@ -6,16 +6,17 @@ ghost use Rattle.std.specs.Prelude.{◌≡◌, ℕ, ◌<◌, ◌≤◌, length, 
 ghost use Rattle.vm_memory_core.specs.Host.{changed_at, lengths, shape};
 ghost use Rattle.vm_memory.specs.Memory.{Memory};
 ghost use Rattle.fs_queue.specs.Queue.{Queue};
-ghost use Rattle.fs_queue.specs.Returning.{advanced, put_back, tells_by};
+ghost use Rattle.fs_queue.specs.Returning.{advanced};
+ghost use Rattle.fs_queue.specs.ReturningView.{put_back, tells_by};
 ghost use Rattle.fs_queue.specs.Windows.{HasItsWindows, IsEmpty, TakenLiesIn, room_places};
 ghost use Rattle.fs_device.specs.DeviceView.{exchange_of, state_of};
 ghost use Rattle.fs_device.specs.Phases.{GoesBack, IfTaken, IsEmptyUnlessTaken, IsTakenFrom, MayLackToAnswer, ServesBytes, ServesTaken, TakesOrEnds, TakesFrom};
 
+use crate::answer_by_copy::serve;
 use crate::device::Device;
 use crate::error::DeviceError;
 use crate::exchange::Exchange;
 use crate::fetched_request::FetchedRequest;
-use crate::serve::serve;
 use fs_queue::{Queue, Taken};
 use fuse_fs::FileSystem;
 use std::alloc::{AllocError, Global};
@@ -122,7 +123,6 @@ impl<F: FileSystem> Device<F> {
         ensures count { length self.new.queues ≡ length self.old.queues }
         ensures queues { self.new ≡ record self.old { queues = changed_at self.old.queues queue advanced } }
         ensures shape { shape (H.host host.new) ≡ shape (H.host host.old) }
-        ensures loan { H.IsSameLoan host.old host.new }
     {
         self.queues[queue].give_back(host, taken, reply)
     }

@@ -75,7 +75,6 @@ impl<F: FileSystem> Device<F> {
         ensures run { ServesQueue F.may (state_of (M.memory mem.now (H.host host.old)) self.old) queue most result
             (state_of (M.memory mem.now (H.host host.new)) self.new) }
         ensures shape { shape (H.host host.new) ≡ shape (H.host host.old) }
-        ensures loan { H.IsSameLoan host.old host.new }
     {
         if queue >= self.queues.len() {
             return Err(DeviceError::NoSuchQueue);

@@ -2,27 +2,27 @@
 
 ghost use Rattle.std.specs.Prelude.{◌≡◌};
 
+use crate::answer_by_copy::Reply;
 use crate::exchange::Fault;
-use crate::serve::Reply;
 use virtiofsd_fuse::REPLY_FRONT;
 
 /// What is yet to be written of a reply: all of it, or what stands before its data, which is in its place.
 #[derive(Drop)]
-pub(crate) enum Front {
+pub(crate) enum ReplyFront {
     Reply(Vec<u8>),
     Header([u8; REPLY_FRONT]),
 }
 
 ghost use Rattle.fs_device.specs.ReplyFront.{front_bytes};
 
-impl Front {
+impl ReplyFront {
     /// The bytes that are yet to be written.
     pub(crate) fn bytes(&self) -> &[u8]
         ensures { result.now ≡ front_bytes self.now }
     {
         match self {
-            Front::Reply(bytes) => bytes,
-            Front::Header(bytes) => bytes,
+            ReplyFront::Reply(bytes) => bytes,
+            ReplyFront::Header(bytes) => bytes,
         }
     }
 }
@@ -30,23 +30,23 @@ impl Front {
 /// What came of a chain that was taken: what is yet to be written of its reply, the length of all of it in bytes, and why
 /// there is none.
 #[derive(Drop)]
-pub(crate) struct Answered {
-    pub front: Front,
+pub(crate) struct PreparedReply {
+    pub front: ReplyFront,
     pub len: usize,
     pub fault: Option<Fault>,
 }
 
-impl Answered {
+impl PreparedReply {
     ghost use Rattle.fs_device.specs.ReplyFront.{whole};
 
     /// A reply that is yet to be written whole, or the fault.
     #[inline(always)]
-    pub(crate) fn whole(reply: Reply) -> Answered
+    pub(crate) fn whole(reply: Reply) -> PreparedReply
         ensures { result ≡ whole reply }
     {
         let len = reply.bytes.len();
-        Answered {
-            front: Front::Reply(reply.bytes),
+        PreparedReply {
+            front: ReplyFront::Reply(reply.bytes),
             len,
             fault: reply.fault,
         }

@@ -26,7 +26,6 @@ pub fn step_directory<M: GuestMemory, H: HostBlocks>(
     ensures step { ReadingStep (state_of (M.memory mem.now (H.host host.old)) device.old) queue (outcome_of result)
         (state_of (M.memory mem.now (H.host host.new)) device.new) }
     ensures shape { shape (H.host host.new) ≡ shape (H.host host.old) }
-    ensures loan { H.IsSameLoan host.old host.new }
 {
     device.process_one(alloc, host, mem, queue)
 }

@@ -16,7 +16,8 @@ use Rattle.fs_queue.specs.declared.returning.Return.{Return}
 use Rattle.fs_queue.specs.declared.fault.ChainFault.{ChainFault}
 use Rattle.fs_queue.specs.Queue.{Queue, element_at, index_at}
 use Rattle.fs_queue.specs.Taking.{RequestAndRoom, IsRequest, CannotFetch, room_of}
-use Rattle.fs_queue.specs.Returning.{next_position, put_back, returned, used_bytes, wants_notice, tells, Store, stores_after_reply, stores_of, ReturnsByStores}
+use Rattle.fs_queue.specs.Returning.{next_position, returned, used_bytes, wants_notice, tells, Store, stores_after_reply, ReturnsByStores}
+use Rattle.fs_queue.specs.ReturningView.{put_back, stores_of}
 use Rattle.fs_queue.specs.Windows.{Taken, HoldsChain, IsTaken, chain_places, used_addresses}
 
 -- a memory over another host

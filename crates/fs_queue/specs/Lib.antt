@@ -10,6 +10,7 @@ pub mod RingingView
 pub mod NextAvail
 pub mod Taking
 pub mod Returning
+pub mod ReturningView
 pub mod Windows
 pub mod Paths
 pub mod Laws

@@ -45,7 +45,8 @@ impl Model for Queue {
 ghost use Rattle.fs_queue.specs.Queue.{fresh, resumed};
 ghost use Rattle.fs_queue.specs.RingingView.{BeginsWalk};
 ghost use Rattle.fs_queue.specs.Taking.{RequestAndRoom, after_refusal, is_idle, offer, room_of};
-ghost use Rattle.fs_queue.specs.Returning.{returned, stores_after_reply, stores_of, put_back, tells_by, wants_notice, advanced, PutFrontLast};
+ghost use Rattle.fs_queue.specs.Returning.{returned, stores_after_reply, wants_notice, advanced, PutFrontLast};
+ghost use Rattle.fs_queue.specs.ReturningView.{stores_of, put_back, tells_by};
 ghost use Rattle.fs_queue.specs.Windows.{Takes, after_taking, taken_if, IsTaken, TakenLiesIn, ChainLiesIn, room_places, chain_places, HasItsWindows};
 ghost use Rattle.fs_queue.specs.Windows.{IsEmpty, IsEmptyUnlessTaken};
 
@@ -57,7 +58,6 @@ fn write_reply<H: HostBlocks>(host: &mut H, taken: &Taken, reply: &[u8])
     requires fits { length reply.now ≤ room_places taken.now.chain }
     ensures stored { H.host host.new ≡ put_all (H.host host.old) (zip (chain_places taken.now.chain) reply.now) }
     ensures shape { shape (H.host host.new) ≡ shape (H.host host.old) }
-    ensures loan { H.IsSameLoan host.old host.new }
 {
     match taken.chain() {
         Ok(chain) => host.write_windows(&chain.writable, reply),
@@ -231,7 +231,6 @@ impl Queue {
         ensures empty { IsEmpty taken.new }
         ensures queue { self.new ≡ advanced self.old }
         ensures shape { shape (H.host host.new) ≡ shape (H.host host.old) }
-        ensures loan { H.IsSameLoan host.old host.new }
     {
         self.give_back_front(host, taken, reply, reply.len())
     }
@@ -262,7 +261,6 @@ impl Queue {
         ensures empty { IsEmpty taken.new }
         ensures queue { self.new ≡ advanced self.old }
         ensures shape { shape (H.host host.new) ≡ shape (H.host host.old) }
-        ensures loan { H.IsSameLoan host.old host.new }
     {
         write_reply(host, taken, front);
         let back = Return::new(self.layout, self.position, taken.head(), len as u32);

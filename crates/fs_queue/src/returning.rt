@@ -43,7 +43,8 @@ pub struct Return {
 }
 
 impl Return {
-    ghost use Rattle.fs_queue.specs.Returning.{stores_after_reply, stores_of, tells};
+    ghost use Rattle.fs_queue.specs.Returning.{stores_after_reply, tells};
+    ghost use Rattle.fs_queue.specs.ReturningView.{stores_of};
     ghost use Rattle.fs_queue.specs.WalkingView.{at_position};
 
     /// The return at a position of a queue of the chain with this head, whose reply has `len` bytes.

@@ -8,7 +8,7 @@ use vm_memory::{GuestMemoryError, GuestMemoryRegion};
 use vm_memory_core::{GuestAddress, GuestUsize, MemoryRegionAddress, VolatileSlice};
 
 /// How many bytes a page has: regions are made of whole pages.
-const PAGE_SIZE: u64 = 4096;
+const PAGE_SIZE: u64 = vm_bitmaps::PAGE_SIZE as u64;
 
 /// Whole pages of a guest's memory, from an address on, which whoever keeps them knows by a number.
 #[derive(Clone, Copy, Debug)]

@@ -9,9 +9,9 @@ use Rattle.vm_atomic_bitmaps.specs.Counts.{both_of, both_passes, tally_of}
 use Rattle.vm_atomic_bitmaps.specs.Passes.{Pass}
 use Rattle.vm_atomic_bitmaps.specs.Steps.{SettlesAll}
 use Rattle.vm_atomic_bitmaps.proofs.PassTotals.{length-each_tally}
-use Rattle.fs_shares.proofs.Since.{is_set}
+use Rattle.fs_shared.proofs.Since.{is_set}
 use Rattle.vm_memory_core.specs.Host.{Host, lengths}
-use Rattle.vm_block_pages.specs.Pages.{page_of}
+use Rattle.fs_shared.specs.Pages.{page_of}
 use Rattle.fs_device.specs.Step.{State}
 use Rattle.vm_bitmaps.specs.Words.{page_bit}
 use Rattle.fs_shared.specs.declared.entry.JournalEntry.{JournalEntry}

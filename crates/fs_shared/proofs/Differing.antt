@@ -12,7 +12,7 @@ use Rattle.fs_queue.specs.Queue.{Queue}
 use Rattle.fs_queue.specs.Returning.{writes}
 use Rattle.fs_queue.specs.Taking.{Offer, Offers, RequestAndRoom, offer, room_of}
 use Rattle.virtiofsd_fuse.specs.Serving.{May}
-use Rattle.vm_block_pages.specs.Pages.{page_of}
+use Rattle.fs_shared.specs.Pages.{page_of}
 use Rattle.fs_device.specs.declared.error.DeviceError.{DeviceError}
 use Rattle.fs_device.specs.declared.error.DeviceError.TheVariants as device
 use Rattle.fs_device.specs.declared.refusal.Refusal.TheVariants as why

@@ -17,3 +17,6 @@ pub mod Splitting
 pub mod WholePasses
 pub mod RoundPages
 pub mod RoundReceipts
+pub mod RunLemmas
+pub mod Marking
+pub mod Since

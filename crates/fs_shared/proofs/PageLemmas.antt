@@ -10,8 +10,8 @@ use Rattle.vm_memory.specs.Layout.{Region}
 use Rattle.vm_memory.specs.Memory.{addresses, after, located, location, memory_of, places_from, reach}
 use Rattle.vm_memory.proofs.RangeLemmas.{places_from-is, reach-from}
 use Rattle.fs_queue.proofs.TakeLemmas.{length-range}
-use Rattle.vm_block_pages.specs.Pages.{ArePagesOf, page_of}
-use Rattle.vm_block_pages.specs.Runs.{AreRuns}
+use Rattle.fs_shared.specs.Pages.{ArePagesOf, page_of}
+use Rattle.fs_shared.specs.Runs.{AreRuns}
 use Rattle.fs_device.proofs.GuestLemmas.{reach_ends}
 use Rattle.fs_shared.specs.Replay.{WritesPages}
 use Rattle.fs_shared.proofs.Returning.{whole}

@@ -7,10 +7,10 @@ use Rattle.vm_atomic_bitmaps.specs.declared.counts.PageCounts.{PageCounts}
 use Rattle.vm_atomic_bitmaps.specs.declared.counts.Tally.{Tally}
 use Rattle.vm_atomic_bitmaps.specs.Counts.{both_passes, first_pass, kept_half, new_half, tally_of, with_pages, IsWhole}
 use Rattle.vm_atomic_bitmaps.specs.Passes.{Pass, SharedPages, counting}
-use Rattle.fs_shares.specs.Portion.{MarksPages, kept_pass, new_pass}
-use Rattle.fs_shares.proofs.Marking.{none_by_new}
+use Rattle.fs_shared.specs.Portion.{MarksPages, kept_pass, new_pass}
+use Rattle.fs_shared.proofs.Marking.{none_by_new}
 use Rattle.vm_memory_core.specs.Host.{Host, lengths}
-use Rattle.vm_block_pages.specs.Pages.{page_of}
+use Rattle.fs_shared.specs.Pages.{page_of}
 use Rattle.fs_device.specs.Step.{State}
 use Rattle.fs_shared.specs.declared.entry.JournalEntry.{JournalEntry}
 use Rattle.fs_shared.specs.declared.entry.Receipt.{Receipt}

@@ -5,8 +5,8 @@ use Rattle.std.proofs.lemmas.List.Elements.{All-append, All-cons, All-nil, All-w
 use Rattle.vm_atomic_bitmaps.specs.declared.counts.Tally.{Tally}
 use Rattle.vm_atomic_bitmaps.specs.Counts.{both_of, joined_with, met_of, met_with, tally_of}
 use Rattle.vm_atomic_bitmaps.proofs.PassTotals.{length-each_tally}
-use Rattle.fs_shares.specs.Portion.{IsMarkedSince}
-use Rattle.fs_shares.proofs.Since.{seen_stays, since_by_joining, since_by_mark, since_by_meeting, since_stays, taken_else}
+use Rattle.fs_shared.specs.Portion.{IsMarkedSince}
+use Rattle.fs_shared.proofs.Since.{seen_stays, since_by_joining, since_by_mark, since_by_meeting, since_stays, taken_else}
 use Rattle.fs_shared.specs.declared.entry.Receipt.{Receipt}
 use Rattle.fs_shared.specs.Laws.{CallsKeepSince, CallsMarkSince, EarlierAsksNothing, GathersKeepSince, JoinsKeepSince, MeetsKeepSince}
 

@@ -9,7 +9,7 @@ use Rattle.vm_iotlb.specs.declared.permissions.Permissions.TheVariants.{Write}
 use Rattle.vm_memory_core.specs.Host.{Host, Block, IoAddress, Place, byte_at, changed_at, lengths, with_byte, with_mark_by}
 use Rattle.vm_memory_core.specs.Window.{put_byte}
 use Rattle.vm_memory.specs.Memory.{Memory, location, stored, stored_at, stored_all}
-use Rattle.vm_block_pages.specs.Pages.{first_page, page_of}
+use Rattle.fs_shared.specs.Pages.{first_page, page_of}
 
 -- ---- one byte of a host
 

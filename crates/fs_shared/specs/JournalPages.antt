@@ -2,7 +2,7 @@
 use Rattle.std.specs.Prelude.{◌≡◌, ◌≢◌, ℕ, List, drop, flat_map, take}
 use Rattle.std.specs.List.{Contains}
 use Rattle.vm_memory_core.specs.Host.{Host, Place, byte_at, lengths}
-use Rattle.vm_block_pages.specs.Pages.{page_of}
+use Rattle.fs_shared.specs.Pages.{page_of}
 use Rattle.fs_device.specs.Step.{State}
 use Rattle.fs_shared.specs.Replay.{Entry, Replays}
 

@@ -3,7 +3,7 @@ use Rattle.std.specs.Prelude.{◌≡◌, ◌≢◌, ℕ, ◌*◌, ◌^◌, ◌<�
 use Rattle.vm_atomic_bitmaps.specs.declared.counts.PageCounts.{PageCounts}
 use Rattle.vm_atomic_bitmaps.specs.declared.counts.Tally.{Tally}
 use Rattle.vm_atomic_bitmaps.specs.Counts.{both_passes, cleared_by, first_pass, in_word, joined_with, kept_half, met_with, new_half, IsWhole}
-use Rattle.fs_shares.specs.Portion.{HasSeen, MarksPages}
+use Rattle.fs_shared.specs.Portion.{HasSeen, MarksPages}
 use Rattle.virtiofsd_fuse.specs.Serving.{May}
 use Rattle.fs_device.specs.Step.{State, Calls, Outcome, Step}
 use Rattle.fs_device.specs.Run.{Command}

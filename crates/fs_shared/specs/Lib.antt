@@ -10,3 +10,6 @@ pub mod JournalPages
 pub mod Marks
 pub mod Refusing
 pub mod Rounds
+pub mod Pages
+pub mod Runs
+pub mod Portion

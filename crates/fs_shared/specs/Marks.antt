@@ -5,9 +5,9 @@ use Rattle.vm_bitmaps.specs.Words.{page_bit}
 use Rattle.vm_atomic_bitmaps.specs.declared.counts.Tally.{Tally}
 use Rattle.vm_atomic_bitmaps.specs.Counts.{first_pass, tally_of, both_passes, IsWhole}
 use Rattle.vm_atomic_bitmaps.specs.Passes.{Pass, SharedPages}
-use Rattle.fs_shares.specs.Portion.{IsMarkedSince}
+use Rattle.fs_shared.specs.Portion.{IsMarkedSince}
 use Rattle.vm_memory_core.specs.Host.{Host, Place, byte_at, lengths}
-use Rattle.vm_block_pages.specs.Pages.{first_page, page_of}
+use Rattle.fs_shared.specs.Pages.{first_page, page_of}
 use Rattle.fs_device.specs.declared.error.DeviceError.{DeviceError}
 use Rattle.fs_device.specs.declared.refusal.Refusal.{Refusal}
 use Rattle.fs_device.specs.Step.{State}

@@ -14,7 +14,7 @@ use Rattle.fs_device.specs.Run as run
 use Rattle.fs_device.specs.Run.{Command, GuestWrite, SetLayout, Kick, Affects}
 use Rattle.fs_device.specs.MarkedPages.{returned_addresses}
 use Rattle.fs_device.specs.UsedLength.{IsOffered}
-use Rattle.vm_block_pages.specs.Pages.{ArePagesOf}
+use Rattle.fs_shared.specs.Pages.{ArePagesOf}
 
 -- what came of an event: it was done, a chain was exchanged, with whether the driver was told, or a refusal stopped the queue
 pub data Outcome : Type 0 where

@@ -2,9 +2,9 @@
 use Rattle.std.specs.Prelude.{◌≡◌, ◌≢◌, ◌⊎◌, ℕ, ◌+◌, ◌<◌, ◌≤◌, List, [], ◌∷◌, ◌++◌, All, length, Option, Some, None, drop}
 use Rattle.vm_bitmaps.specs.Words.{page_bit}
 use Rattle.vm_atomic_bitmaps.specs.declared.counts.Tally.{Tally}
-use Rattle.fs_shares.specs.Portion.{HasSeen}
+use Rattle.fs_shared.specs.Portion.{HasSeen}
 use Rattle.vm_memory_core.specs.Host.{Host, Place, byte_at, lengths}
-use Rattle.vm_block_pages.specs.Pages.{page_of}
+use Rattle.fs_shared.specs.Pages.{page_of}
 use Rattle.fs_device.specs.Step.{State}
 use Rattle.fs_shared.specs.declared.entry.JournalEntry.{JournalEntry}
 use Rattle.fs_shared.specs.declared.entry.Receipt.{Receipt}

@@ -12,10 +12,10 @@ ghost use Rattle.fs_shared.specs.Replay.{Done, WritesPages};
 
 use crate::entry::Outcome;
 use crate::kept::{Event, Kept};
+use crate::runs::{page_runs, written_pages};
 use fs_device::{Command, Machine};
 use fuse_fs::FileSystem;
 use std::alloc::{AllocError, Global};
-use vm_block_pages::{page_runs, written_pages};
 use vm_memory::{GuestMemory, GuestMemoryMmap, Iommu};
 use vm_memory_core::{GuestAddress, HostBlocks, Permissions, Windows};
 

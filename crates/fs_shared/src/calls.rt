@@ -1,7 +1,7 @@
 //! The calls on what lies under the lock. Each is one event, and is journaled with its receipt or changes nothing.
 
 ghost use Rattle.std.specs.Prelude.{◌≡◌, IfErr, List, OnOk, Err, false, vec_len};
-ghost use Rattle.fs_shares.specs.Portion.{counted};
+ghost use Rattle.fs_shared.specs.Portion.{counted};
 ghost use Rattle.fs_device.specs.MachineView.{machine_of};
 ghost use Rattle.fs_device.specs.Run.{GuestWrite, SetLayout};
 ghost use Rattle.fs_device.specs.Step.{State};
@@ -15,10 +15,10 @@ use crate::acting::{layout_kept, write_kept};
 use crate::entry::{JournalEntry, Kicked, Receipt};
 use crate::kept::journal_kept;
 use crate::kicking::kick_kept;
+use crate::share::Share;
 use crate::state::SharedState;
 use fs_device::{Answer, DeviceError, Machine, Refusal};
 use fs_queue::{QueueError, Taken};
-use fs_shares::Share;
 use fuse_fs::FileSystem;
 use std::alloc::Global;
 use std::sync::ledger::{Book, Ledger};

@@ -6,7 +6,7 @@ ghost use Rattle.vm_bitmaps.specs.Words.{page_bit};
 ghost use Rattle.vm_atomic_bitmaps.specs.Counts.{both_passes, met_with};
 ghost use Rattle.vm_atomic_bitmaps.specs.Passes.{counting};
 ghost use Rattle.vm_atomic_bitmaps.specs.Steps.{SettlesAll};
-ghost use Rattle.fs_shares.specs.Portion.{HasSeen, IsShareOf, MarksPages, counted, joined, kept_pass, new_pass};
+ghost use Rattle.fs_shared.specs.Portion.{HasSeen, IsShareOf, MarksPages, counted, joined, kept_pass, new_pass};
 ghost use Rattle.fs_device.specs.CommandView.{command_of};
 ghost use Rattle.fs_device.specs.MachineView.{machine_of};
 ghost use Rattle.fs_device.specs.Run.{GuestWrite, Kick, SetLayout};
@@ -18,11 +18,11 @@ ghost use Rattle.fs_shared.specs.Shared.{ActsSome, IfDone, KicksSome, ReadsSome}
 
 use crate::entry::{Kicked, Parts, Receipt};
 use crate::harvest::{PageHarvest, clear_pages};
+use crate::share::Share;
 use crate::share_error::ShareError;
 use crate::start::started;
 use crate::state::SharedState;
 use fs_device::{DeviceError, Machine, Refusal};
-use fs_shares::Share;
 use fuse_fs::FileSystem;
 use std::alloc::Global;
 use std::marker::Model;

@@ -8,14 +8,15 @@ ghost use Rattle.vm_atomic_bitmaps.specs.Counts.{both_passes, cleared_by, in_wor
 ghost use Rattle.vm_atomic_bitmaps.specs.Passes.{IsPassOf, counting};
 ghost use Rattle.vm_atomic_bitmaps.specs.Rule.{StandsAt};
 ghost use Rattle.vm_atomic_bitmaps.specs.Steps.{NoneBeyond, SettlesAll, SettlesWord};
-ghost use Rattle.fs_shares.specs.Portion.{kept_pass, new_pass};
+ghost use Rattle.fs_shared.specs.Portion.{kept_pass, new_pass};
 
+use crate::numbers::first_page;
 use std::alloc::{AllocError, Global};
 use std::marker::Model;
 use std::num::NonZeroUsize;
 use std::sync::Arc;
 use vm_atomic_bitmaps::{AtomicBitmap, BitmapPass};
-use vm_block_pages::{PAGE_SIZE, first_page};
+use vm_bitmaps::PAGE_SIZE;
 use vm_memory_core::{HostMemory, PageBitmap};
 
 /// Gathers the pages that the calls on a shared device wrote, of 4096 bytes and numbered block by block. It has a pass of
@@ -29,7 +30,7 @@ pub struct PageHarvest {
 impl Model for PageHarvest {
     ghost use Rattle.std.specs.Arc.{arc_value};
     ghost use Rattle.vm_atomic_bitmaps.specs.Passes.{IsPassOf};
-    ghost use Rattle.fs_shares.specs.Portion.{HasSeenItsOwn};
+    ghost use Rattle.fs_shared.specs.Portion.{HasSeenItsOwn};
     ghost use Rattle.fs_shared.specs.Marks.{Harvest};
 
     ghost Value = { Harvest };

@@ -1,14 +1,14 @@
 //! What a call did, kept for its entry in the journal and for its receipt.
 
 ghost use Rattle.std.specs.Prelude.{◌≡◌, ◌<◌, ◌+◌, ◌++◌, ◌∷◌, [], true, length, vec_len, vec_capacity};
-ghost use Rattle.fs_shares.specs.Portion.{counted};
+ghost use Rattle.fs_shared.specs.Portion.{counted};
 ghost use Rattle.fs_device.specs.CommandView.{command_of};
 ghost use Rattle.fs_shared.specs.Held.{came_of, journal_of};
 
 use crate::entry::{JournalEntry, Outcome, Receipt};
+use crate::share::Share;
 use crate::state::append;
 use fs_device::Command;
-use fs_shares::Share;
 use fuse_wire::FsOptions;
 use std::sync::ledger::{Book, Ledger};
 

@@ -3,12 +3,12 @@
 ghost use Rattle.std.specs.Prelude.{◌≡◌, ◌≤◌, ◌+◌, [], length, map, IfOk, vec_len, vec_capacity};
 ghost use Rattle.vm_memory_core.specs.Host.{lengths};
 ghost use Rattle.fs_queue.specs.Windows.{TakenLiesIn, chain_places};
-ghost use Rattle.vm_block_pages.specs.Pages.{page_of};
-ghost use Rattle.vm_block_pages.specs.Runs.{AreRuns};
+ghost use Rattle.fs_shared.specs.Pages.{page_of};
+ghost use Rattle.fs_shared.specs.Runs.{AreRuns};
 
+use crate::runs::{PageRuns, page_runs, written_pages};
 use fs_queue::Taken;
 use std::alloc::{AllocError, Global};
-use vm_block_pages::{PageRuns, page_runs, written_pages};
 use vm_memory_core::HostBlocks;
 
 // How many bytes a return writes besides the reply: a used element and the used index.

@@ -4,8 +4,8 @@ ghost use Rattle.std.specs.Prelude.{◌≡◌, ◌⊎◌, ◌+◌, ◌<◌, ◌�
 ghost use Rattle.std.specs.Int.{div_ceil};
 ghost use Rattle.vm_atomic_bitmaps.specs.Passes.{counting};
 ghost use Rattle.vm_memory_core.specs.Host.{lengths};
-ghost use Rattle.vm_block_pages.specs.Pages.{first_page};
-ghost use Rattle.fs_shares.specs.Portion.{IsShareOf, kept_pass, new_pass};
+ghost use Rattle.fs_shared.specs.Pages.{first_page};
+ghost use Rattle.fs_shared.specs.Portion.{IsShareOf, kept_pass, new_pass};
 ghost use Rattle.fs_device.specs.MachineView.{machine_of};
 ghost use Rattle.fs_shared.specs.Audit.{AreAllReceipts};
 ghost use Rattle.fs_shared.specs.Held.{fixed_of, journal_of, start_of};
@@ -18,14 +18,14 @@ use crate::auditing::audit;
 use crate::device::SharedDevice;
 use crate::entry::{Kicked, Parts, Receipt};
 use crate::harvest::PageHarvest;
+use crate::numbers::first_page;
+use crate::share::Share;
 use crate::share_error::ShareError;
 use fs_device::Machine;
-use fs_shares::Share;
 use fuse_fs::FileSystem;
 use std::alloc::{AllocError, Global};
 use std::sync::Wait;
 use std::sync::ledger::{Blank, Ledger};
-use vm_block_pages::first_page;
 use vm_memory::Iommu;
 use vm_memory_core::{HostMemory, PageBitmap};
 

@@ -2,15 +2,15 @@
 
 ghost use Rattle.std.specs.Prelude.{◌≡◌, ◌<◌, ◌+◌, ◌++◌, ◌∷◌, ◌==◌, [], true, length, vec_len, vec_capacity};
 ghost use Rattle.fs_device.specs.MachineView.{machine_of};
-ghost use Rattle.fs_shares.specs.Portion.{counted};
+ghost use Rattle.fs_shared.specs.Portion.{counted};
 ghost use Rattle.fs_shared.specs.Replay.{forget, Replays};
 ghost use Rattle.fs_shared.specs.Held.{fixed_of, journal_of, start_of};
 ghost use Rattle.fs_shared.specs.Laws.{HoldsReplay};
 
 use crate::entry::{JournalEntry, Parts, Start};
+use crate::share::Share;
 use fs_device::Machine;
 use fs_queue::Taken;
-use fs_shares::Share;
 use fuse_fs::FileSystem;
 use std::alloc::Global;
 use std::marker::Model;

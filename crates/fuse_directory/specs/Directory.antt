@@ -9,7 +9,7 @@ use Rattle.fuse_fs.specs.Times.{Duration}
 use Rattle.fuse_fs.specs.Calls.{FileCall, FileAnswer, Listed, Failed, Done, HasEntry, HasAttr, Opened, Bytes, Entries, Wants}
 use Rattle.fuse_fs.specs.Calls.{Init, Lookup, Getattr, Open, Opendir, Read, Readdir, Release}
 use Rattle.fuse_files.specs.declared.adapter.Files.{Files}
-use Rattle.fuse_files.specs.declared.kinds.ReadOnly.{ReadOnly}
+use Rattle.fuse_files.specs.declared.access_kinds.ReadOnly.{ReadOnly}
 use Rattle.fuse_files.specs.Files as files
 use Rattle.fuse_files.specs.Files.{default_answer}
 use Rattle.fuse_directory.specs.declared.table.OwnedFile.{OwnedFile}

@@ -2,13 +2,13 @@
 //! each has the defaults for the rest.
 #![tactic(auto)]
 
+mod access_kinds;
 mod adapter;
-mod kinds;
 mod readable;
 mod writable;
 
+pub use access_kinds::{ReadOnly, Writable};
 pub use adapter::{Files, Kind};
 pub use bitflags::Flags;
-pub use kinds::{ReadOnly, Writable};
 pub use readable::ReadableFileSystem;
 pub use writable::WritableFileSystem;

@@ -1,11 +1,15 @@
-//! Tests of whole runs of machines, of what stands behind an IOMMU, and of READ whose data is put where it goes. Nothing else stands
-//! here.
+//! Tests of whole runs of machines, of copies of a host, of what stands behind an IOMMU, of READ whose data is put where it goes, and of
+//! what is made of machines: the example's directory and the script program. Nothing else stands here.
 #![tactic(auto)]
 
+#[cfg(test)]
+mod copied_hosts;
 #[cfg(test)]
 mod copies;
 #[cfg(test)]
 mod events;
+#[cfg(test)]
+mod example;
 #[cfg(test)]
 mod harvests;
 #[cfg(test)]
@@ -16,6 +20,8 @@ mod machines;
 mod mappings;
 #[cfg(test)]
 mod migrations;
+#[cfg(test)]
+mod program;
 #[cfg(test)]
 mod reading;
 #[cfg(test)]

@@ -1,5 +1,5 @@
-//! Tests of bitmaps and marks that threads share, host memory and its copies, an IOMMU's table, and guest memory: worked examples,
-//! and each public function once with ample memory.
+//! Tests of bitmaps and marks that threads share, host memory, an IOMMU's table, and guest memory, one that is replaced while
+//! others use it too: worked examples, and each public function once with ample memory.
 #![tactic(auto)]
 
 #[cfg(test)]
@@ -25,8 +25,6 @@ mod errors;
 #[cfg(test)]
 mod given;
 #[cfg(test)]
-mod host_copies;
-#[cfg(test)]
 mod io_pages;
 #[cfg(test)]
 mod iommu;
@@ -37,8 +35,6 @@ mod iotlb;
 #[cfg(test)]
 mod joined;
 #[cfg(test)]
-mod lent;
-#[cfg(test)]
 mod page_marks;
 #[cfg(test)]
 mod permissions;
@@ -48,5 +44,7 @@ mod ranges;
 mod regions;
 #[cfg(test)]
 mod slices;
+#[cfg(test)]
+mod snapshots;
 #[cfg(test)]
 mod windows;

@@ -1,7 +1,7 @@
 //! A device that threads share: each call of a worked example that takes memory.
 
 ghost use Rattle.std.specs.Prelude.{◌≡◌, IfOk};
-ghost use Rattle.fs_shares.specs.Portion.{IsShareOf};
+ghost use Rattle.fs_shared.specs.Portion.{IsShareOf};
 ghost use Rattle.fs_shared.specs.Marks.{IsHarvestOf};
 
 use crate::given::{Trial, Unmet, expect};
@@ -10,8 +10,7 @@ use crate::layouts::moved;
 use crate::machines::{LogMachine, machine};
 use call_log::CallLog;
 use fs_device::Refusal;
-use fs_shared::{Kicked, PageHarvest, Receipt, ShareError, SharedDevice};
-use fs_shares::Share;
+use fs_shared::{Kicked, PageHarvest, Receipt, Share, ShareError, SharedDevice};
 use std::sync::Wait;
 use std::sync::ledger::{Blank, Ledger};
 use vm_memory::{GuestMemoryMmap, TableIommu};

@@ -54,7 +54,7 @@ pub fn expect_kept(is_kept: bool) -> Result<(), Unmet> {
     if is_kept { Ok(()) } else { Err(Unmet::Changed) }
 }
 
-// Requests of so many bytes, which no memory has, are words to what lies beneath the program (examples/refuse.c): from now on
+// Requests of so many bytes, which no memory has, are words to what lies beneath the program (tools/refuse.c): from now on
 // refuse the request of a number; a call told of the refusal; and were so many made since, of which each binary digit is asked for
 // by itself, was one refused, and did a call tell of it.
 const REFUSE: usize = 0x1000_0000_0000;

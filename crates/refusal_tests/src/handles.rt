@@ -1,10 +1,12 @@
 //! The handle for a chain in parts: made, told its memory, walked over a chain of many entries, asked, and given back.
 
 use crate::given::{Trial, Unmet, expect, expect_kept, met};
-use fs_chain::{GuestRegions, KeptQueue, MemoryRegion, RegionsError, Told, Walked, Workbench};
+use fs_chain::{KeptQueue, Told, Walked, Workbench};
 use fs_queue::QueueLayout;
+use fs_regions::{GuestRegions, MemoryRegion, RegionsError};
+use fuse_values::{FileAnswer, FileCall};
 use fuse_wire::Errno;
-use server_phases::{FileAnswer, FileCall, Session};
+use server_phases::Session;
 use std::alloc::Global;
 
 // How many entries the chain has: more than a handle has room for at first.

@@ -1,6 +1,6 @@
 //! Plays the worked examples' calls, first with no request for memory refused, and then with each in turn: the call that lacks
 //! memory answers `OutOfMemory` and changes nothing, and made again it gives the example's answer. No call can choose a request
-//! that is refused: what lies beneath the program does (`examples/refusals`), and then the program also prints how many requests
+//! that is refused: what lies beneath the program does (`tools/refusals`), and then the program also prints how many requests
 //! kicks make. By itself it plays each row once.
 #![tactic(auto)]
 

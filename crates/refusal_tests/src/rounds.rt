@@ -1,7 +1,7 @@
 //! A round of a device that threads share, and a device that is taken apart with its pages.
 
 ghost use Rattle.std.specs.Prelude.{◌≡◌, IfErr};
-ghost use Rattle.fs_shares.specs.Portion.{IsShareOf};
+ghost use Rattle.fs_shared.specs.Portion.{IsShareOf};
 ghost use Rattle.fs_shared.specs.Marks.{IsHarvestOf};
 
 use crate::devices::{LogDevice, made};
@@ -11,8 +11,7 @@ use crate::kicks::unknown;
 use crate::machines::{LogMachine, machine, seen};
 use crate::quiet::expect_quiet;
 use call_log::CallLog;
-use fs_shared::{Kicked, PageHarvest, Receipt, Round, ShareError, audit, serve_round};
-use fs_shares::Share;
+use fs_shared::{Kicked, PageHarvest, Receipt, Round, Share, ShareError, audit, serve_round};
 use std::sync::Wait;
 use std::sync::ledger::{Blank, Ledger};
 use vm_memory::TableIommu;

@@ -1,7 +1,7 @@
 //! Kicks of a device that threads share.
 
 ghost use Rattle.std.specs.Prelude.{◌≡◌};
-ghost use Rattle.fs_shares.specs.Portion.{IsShareOf};
+ghost use Rattle.fs_shared.specs.Portion.{IsShareOf};
 
 use crate::devices::{LogDevice, made};
 use crate::given::{Trial, Unmet, expect, expect_kept};
@@ -10,8 +10,7 @@ use crate::kicks::{Comes, Kick};
 use crate::machines::{LogMachine, expect_row, machine, seen};
 use call_log::CallLog;
 use fs_device::{Answer, Command, DeviceError};
-use fs_shared::{Kicked, Outcome, Parts};
-use fs_shares::Share;
+use fs_shared::{Kicked, Outcome, Parts, Share};
 use std::alloc::Global;
 use std::sync::Wait;
 use std::sync::ledger::{Blank, Ledger};

@@ -4,11 +4,11 @@ ghost use Rattle.std.specs.Prelude.{◌≡◌, None, Ok, option_map};
 ghost use Rattle.fuse_fs.specs.Answers.{context_of};
 ghost use Rattle.server_calls.specs.Requests.{entry_node};
 
-use fuse_fs::{Answer, Entry, FileNumber, GetxattrReply};
+use fuse_fs::{Entry, FileNumber, GetxattrReply, GoodAnswer};
 use fuse_wire::{Errno, OpenOptions};
 
 /// An answer that may have an entry.
-pub trait EntryAnswer<I: FileNumber>: Answer {
+pub trait EntryAnswer<I: FileNumber>: GoodAnswer {
     /// The node of a good one's entry.
     fn node(&self) -> Option<I>
         ensures { option_map I.number result ≡ entry_node (Self.said (Ok self.now)) };

@@ -7,7 +7,7 @@ ghost use Rattle.fuse_fs.specs.Calls.{FileCall, Extra, suits};
 ghost use Rattle.server_calls.specs.Requests.{has_security, if_set, is_silent, options_after, owns_memory, given_back, give_back, entry_node};
 
 use crate::entries::EntryAnswer;
-use fuse_fs::{Answer, Extensions, FileSystem};
+use fuse_fs::{Extensions, FileSystem, GoodAnswer};
 use fuse_in::{InHeader, InRecord};
 use fuse_wire::Errno;
 
@@ -22,7 +22,7 @@ pub(crate) fn owner_if(told: bool, owner: u64) -> Option<u64>
 pub trait RecordRequest<F: FileSystem> {
     type Record: InRecord;
 
-    type Answer: Answer;
+    type Answer: GoodAnswer;
 
     // The call that it makes.
     ghost call: { InHeader → Self.Record → FileCall };
@@ -38,7 +38,7 @@ pub trait RecordRequest<F: FileSystem> {
 
 /// A request that is nothing but its header.
 pub trait PlainRequest<F: FileSystem> {
-    type Answer: Answer;
+    type Answer: GoodAnswer;
 
     // The call that it makes.
     ghost call: { InHeader → FileCall };
@@ -96,7 +96,7 @@ pub trait RecordNameRequest<F: FileSystem> {
 pub trait TwoPartsRequest<F: FileSystem> {
     type Record: InRecord;
 
-    type Answer: Answer;
+    type Answer: GoodAnswer;
 
     // The call that it makes.
     ghost call: { InHeader → Self.Record → List ℕ × List ℕ → FileCall };

@@ -33,7 +33,7 @@ kind_for awaits.Written = IsWritten
 kind_for awaits.Offset = IsOffset
 kind_for (awaits.Entries with_nodes size) = IsEntries
 kind_for (awaits.Wish capable readahead) = IsWish
-kind_for awaits.Refusal = IsNeverGood
+kind_for awaits.Failure = IsNeverGood
 kind_for _ = IsDone
 
 -- whether no error is waited for

@@ -43,7 +43,7 @@ awaits_of Ioctl = awaits.Silence
 awaits_of Poll = awaits.Silence
 awaits_of NotifyReply = awaits.Silence
 awaits_of Destroy = awaits.End
-awaits_of TmpFile = awaits.Refusal
+awaits_of TmpFile = awaits.Failure
 awaits_of _ = awaits.Done
 
 -- who gets an entry, of the calls that have one

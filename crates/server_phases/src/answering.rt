@@ -49,7 +49,7 @@ pub enum Refused {
 
 /// An answer that is refused.
 #[derive(Debug, Drop)]
-pub struct Refusal {
+pub struct RefusedAnswer {
     pub why: Refused,
     /// The request, which waits still.
     pub waiting: Waiting,

@@ -9,7 +9,8 @@ ghost use Rattle.server_phases.specs.Answering.{Gives, TellsBytes, takes, forget
 ghost use Rattle.server_phases.specs.Waiting.{WaitsFor, first_call};
 
 use crate::answering::{
-    Answered, Refusal, Refused, data_answered, is_too_long, placed_alone, plain_answered, suits,
+    Answered, Refused, RefusedAnswer, data_answered, is_too_long, placed_alone, plain_answered,
+    suits,
 };
 use crate::front::Front;
 use crate::session::{Session, known};
@@ -141,7 +142,11 @@ impl Session {
     /// Answers the call of a request: the reply's front and the options after it, by what the call's answer is served. An
     /// answer that the call can't have is refused (`OtherKind`), and one whose reply has room but no length that a header
     /// tells (`TooLong`): that changes nothing, and the request waits still.
-    pub fn answer(&mut self, waiting: Waiting, answer: FileAnswer) -> Result<Answered, Refusal>
+    pub fn answer(
+        &mut self,
+        waiting: Waiting,
+        answer: FileAnswer,
+    ) -> Result<Answered, RefusedAnswer>
         ensures gives { IfOk result (λ given. (command : FileCommand) (bytes : List ℕ) → WaitsFor waiting command → TellsBytes bytes answer
             → Gives (setting self.old.page_size self.old.options.0 waiting.room) command bytes answer given self.new.options.0) }
         ensures taken { OnOk result ((command : FileCommand) (bytes : List ℕ) → WaitsFor waiting command → TellsBytes bytes answer
@@ -153,13 +158,13 @@ impl Session {
         ensures page_size { self.new.page_size ≡ self.old.page_size }
     {
         if !suits(&waiting.awaits, &answer) {
-            return Err(Refusal {
+            return Err(RefusedAnswer {
                 why: Refused::OtherKind,
                 waiting,
             });
         }
         if is_too_long(waiting.room, &answer) {
-            return Err(Refusal {
+            return Err(RefusedAnswer {
                 why: Refused::TooLong,
                 waiting,
             });

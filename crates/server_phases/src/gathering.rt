@@ -11,7 +11,7 @@ ghost use Rattle.server_phases.specs.Gathering.{Brought, EndsList, FailsList, Ho
 ghost use Rattle.server_phases.specs.Gathering.{is_listing, bytes_of, all_bytes, all_found, entries_of, look_up, look_ups};
 ghost use Rattle.server_phases.specs.Waiting.{WaitsFor, first_call};
 
-use crate::answering::{Refusal, Refused};
+use crate::answering::{Refused, RefusedAnswer};
 use crate::entries::{dirent_len, node_front, put_entry};
 use crate::front::Front;
 use crate::listing::{Listing, ListingReply, NotAdded};
@@ -56,7 +56,7 @@ impl NotAdded {
 
 impl Listing {
     /// The list of the entries that a READDIR or READDIRPLUS waits for: none so far. Another request is given back.
-    pub fn begin(waiting: Waiting) -> Result<Listing, Refusal>
+    pub fn begin(waiting: Waiting) -> Result<Listing, RefusedAnswer>
         ensures lists { IfOk result (λ l. (command : FileCommand) → WaitsFor waiting command → IsListingFor l waiting.room command) }
         ensures empty { IfOk result (λ l. l.len ≡ 0) }
         ensures taken { OnOk result ((command : FileCommand) → WaitsFor waiting command → is_listing command ≡ true) }
@@ -71,7 +71,7 @@ impl Listing {
                 room: waiting.room.saturating_sub(OUT_HEADER_LEN),
                 len: 0,
             }),
-            _ => Err(Refusal {
+            _ => Err(RefusedAnswer {
                 why: Refused::OtherKind,
                 waiting,
             }),

@@ -12,10 +12,9 @@ mod listing;
 mod session;
 mod waiting;
 
-pub use answering::{Answered, Refusal, Refused, Sent};
+pub use answering::{Answered, Refused, RefusedAnswer, Sent};
 pub use asking::{Asked, AskedFront};
 pub use front::Front;
-pub use fuse_values::{FileAnswer, FileCall};
 pub use listing::{Listing, ListingReply, NotAdded};
 pub use session::Session;
 pub use waiting::{Awaits, Waiting};

@@ -20,7 +20,7 @@ pub enum Awaits {
     /// That a conversation has ended.
     End,
     /// An error, since there is no good answer.
-    Refusal,
+    Failure,
     /// An entry.
     Entry,
     /// Attributes.
@@ -114,7 +114,7 @@ fn awaits_of(call: &FileCall) -> Awaits
         | FileCall::Poll
         | FileCall::NotifyReply => Awaits::Silence,
         FileCall::Destroy => Awaits::End,
-        FileCall::TmpFile => Awaits::Refusal,
+        FileCall::TmpFile => Awaits::Failure,
         FileCall::Read { room, .. } => Awaits::FileBytes { most: *room },
         _ => Awaits::Done,
     }

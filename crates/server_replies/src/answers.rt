@@ -8,13 +8,13 @@ ghost use Rattle.server_segments.specs.Errors.{lacks_memory};
 
 use crate::replies::{reply, reply_error, reply_record};
 use fuse_fs::replies::{attr_out, getxattr_out, lseek_out, open_out, write_out};
-use fuse_fs::{Answer, Entry, FileNumber, GetxattrReply, ListxattrReply, Silence, Timeout};
+use fuse_fs::{Entry, FileNumber, GetxattrReply, GoodAnswer, ListxattrReply, Silence, Timeout};
 use fuse_wire::{Attr, EntryOut, Errno, Kstatfs, OpenOptions, OpenOut, StatVfs, StatfsOut};
 use server_segments::{Error, Writer};
 use vm_values::ByteValued;
 
 /// An answer as the client is told of it.
-pub trait AsReply: Answer {
+pub trait AsReply: GoodAnswer {
     /// Replies with a good one, whole or not at all: header and record (linux/fuse.h). Answers the reply's length in
     /// bytes, 0 if there is none, and `EncodeMessage` if it has no room.
     fn reply(self, w: &mut Writer, unique: u64) -> Result<usize, Error>

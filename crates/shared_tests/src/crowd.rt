@@ -2,13 +2,14 @@
 
 ghost use Rattle.std.specs.Prelude.{◌≡◌};
 ghost use Rattle.std.specs.Thread.{IsSync};
-ghost use Rattle.fs_shares.specs.Portion.{IsShareOf};
+ghost use Rattle.fs_shared.specs.Portion.{IsShareOf};
 
 use crate::stand::{LogMachine, expect_same, machine_of_four, ring};
 use call_log::CallLog;
 use fs_device::{Answer, Command, HarvestedPage, harvest};
-use fs_shared::{JournalEntry, Kicked, Outcome, PageHarvest, Parts, Receipt, SharedDevice, audit};
-use fs_shares::Share;
+use fs_shared::{
+    JournalEntry, Kicked, Outcome, PageHarvest, Parts, Receipt, Share, SharedDevice, audit,
+};
 use std::alloc::Global;
 use std::marker::Brand;
 use std::process::Abort;

@@ -3,12 +3,11 @@
 ghost use Rattle.std.specs.Prelude.{◌≡◌, ◌<◌, ⊤};
 ghost use Rattle.std.specs.Int.{div_ceil};
 ghost use Rattle.std.specs.Thread.{IsSync};
-ghost use Rattle.fs_shares.specs.Portion.{IsShareOf};
+ghost use Rattle.fs_shared.specs.Portion.{IsShareOf};
 
 use crate::stand::{expect_same, machine, machine_over};
 use call_log::CallLog;
-use fs_shared::{Kicked, PageHarvest, Receipt, SharedDevice, audit};
-use fs_shares::Share;
+use fs_shared::{Kicked, PageHarvest, Receipt, Share, SharedDevice, audit};
 use fuse_files::{Files, ReadOnly, ReadableFileSystem};
 use fuse_wire::{Attr, Errno, FsOptions, OpenOptions};
 use std::alloc::Global;

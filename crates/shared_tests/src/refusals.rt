@@ -1,14 +1,13 @@
 //! What a device that threads share refuses, and what of it is journaled.
 
 ghost use Rattle.std.specs.Prelude.{◌≡◌};
-ghost use Rattle.fs_shares.specs.Portion.{IsShareOf};
+ghost use Rattle.fs_shared.specs.Portion.{IsShareOf};
 
 use crate::stand::{expect_same, machine};
 use call_log::CallLog;
 use fs_device::DeviceError;
 use fs_queue::QueueError;
-use fs_shared::{Kicked, Outcome, SharedDevice};
-use fs_shares::Share;
+use fs_shared::{Kicked, Outcome, Share, SharedDevice};
 use std::alloc::Global;
 use std::marker::Brand;
 use std::process::Abort;

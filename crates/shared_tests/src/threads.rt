@@ -2,13 +2,12 @@
 
 ghost use Rattle.std.specs.Prelude.{◌≡◌, ◌<◌};
 ghost use Rattle.std.specs.Thread.{IsSync};
-ghost use Rattle.fs_shares.specs.Portion.{IsShareOf};
+ghost use Rattle.fs_shared.specs.Portion.{IsShareOf};
 
 use crate::stand::{expect_same, machine};
 use call_log::CallLog;
 use fs_device::DeviceError;
-use fs_shared::{Kicked, PageHarvest, Receipt, SharedDevice, audit};
-use fs_shares::Share;
+use fs_shared::{Kicked, PageHarvest, Receipt, Share, SharedDevice, audit};
 use std::alloc::Global;
 use std::marker::Brand;
 use std::process::Abort;

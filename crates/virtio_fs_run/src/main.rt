@@ -2,13 +2,24 @@
 #![tactic(auto)]
 
 use std::env::{Env, FillError};
-use std::io;
+use std::io::{self, Write};
 use std::process::ExitCode;
-use virtio_fs_script::{print_usage, run_script};
+use virtio_fs_script::{Halt, play_script, print_usage};
 
 // Whether the program was given an argument.
 fn has_argument(environment: &impl Env) -> bool {
     !matches!(environment.arg(1, &mut []), Err(FillError::NotPresent))
+}
+
+// Runs the script, tells on standard error why a line wasn't a command, and answers the status.
+fn run(rt: &HostRuntime, writer: &mut impl Write) -> u8 {
+    let Err(halt) = play_script(rt.alloc(), &mut rt.reader(), writer) else {
+        return 0;
+    };
+    if let Halt::NotACommand(number, why) = halt {
+        let _told = eprintln!(rt; "line {number}: {why}");
+    }
+    halt.status()
 }
 
 fn main(rt: HostRuntime) -> ExitCode {
@@ -16,7 +27,7 @@ fn main(rt: HostRuntime) -> ExitCode {
     let status = if has_argument(&rt) {
         print_usage(&mut writer)
     } else {
-        run_script(rt.alloc(), &mut rt.reader(), &mut writer)
+        run(&rt, &mut writer)
     };
     ExitCode::from(status)
 }

@@ -1,5 +1,6 @@
 //! Why a script ends before its last line is run.
 
+use crate::wrong::WrongLine;
 use std::alloc::AllocError;
 use std::io;
 use thiserror::Error;
@@ -9,9 +10,9 @@ use thiserror::Error;
 pub enum Halt {
     #[error("script too long")]
     TooLong,
-    /// The line of this number isn't a command, or not one that may stand there.
+    /// The line of this number isn't a command, or not one that may stand there, for this reason.
     #[error("line {0}: not a command")]
-    NotACommand(usize),
+    NotACommand(usize, WrongLine),
     #[error("out of memory")]
     OutOfMemory,
     /// The script can't be read, or what is printed can't be written.
@@ -23,7 +24,7 @@ impl Halt {
     /// The status that the program then ends with.
     pub fn status(&self) -> u8 {
         match self {
-            Halt::TooLong | Halt::NotACommand(_) => 1,
+            Halt::TooLong | Halt::NotACommand(_, _) => 1,
             Halt::OutOfMemory => 2,
             Halt::Stream => 3,
         }

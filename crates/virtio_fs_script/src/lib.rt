@@ -10,9 +10,11 @@ mod number;
 mod print;
 mod script;
 mod session;
+mod wrong;
 
 pub use calls::{Call, FirstCalls};
 pub use halt::Halt;
 pub use number::parse_number;
 pub use print::print_calls;
-pub use script::{print_usage, run_script};
+pub use script::{play_script, print_usage, run_script};
+pub use wrong::WrongLine;

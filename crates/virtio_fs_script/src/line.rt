@@ -1,6 +1,7 @@
 //! The commands of a script, and how a line is read as one.
 
-use crate::number::parse_number;
+use crate::number::{is_numeral, parse_number};
+use crate::wrong::WrongLine;
 use fs_device::Command;
 use fs_queue::{QueueLayout, QueueLayoutError};
 use hex::FromHexError;
@@ -47,34 +48,45 @@ struct Words<'a> {
 }
 
 impl<'a> Words<'a> {
-    fn next_word(&mut self) -> Option<&'a [u8]> {
-        let rest = self.rest?;
-        match rest.iter().position(|byte| *byte == b' ') {
-            Some(space) => {
-                self.rest = Some(&rest[space + 1..]);
-                Some(&rest[..space])
-            }
-            None => {
-                self.rest = None;
-                Some(rest)
-            }
+    // The next word, which has a byte, and no carriage return behind it.
+    fn next_word(&mut self) -> Result<&'a [u8], WrongLine> {
+        let Some(rest) = self.rest else {
+            return Err(WrongLine::MissingWord);
+        };
+        let (word, rest) = match rest.iter().position(|byte| *byte == b' ') {
+            Some(space) => (&rest[..space], Some(&rest[space + 1..])),
+            None => (rest, None),
+        };
+        self.rest = rest;
+        match word.last() {
+            None => Err(WrongLine::ExtraBlank),
+            Some(b'\r') => Err(WrongLine::CarriageReturn),
+            Some(_) => Ok(word),
         }
     }
 
-    fn next_number(&mut self) -> Option<u64> {
-        parse_number(self.next_word()?)
+    fn next_number(&mut self) -> Result<u64, WrongLine> {
+        let word = self.next_word()?;
+        match parse_number(word) {
+            Some(number) => Ok(number),
+            None if is_numeral(word) => Err(WrongLine::BigNumber),
+            None => Err(WrongLine::NotANumber),
+        }
     }
 
-    fn next_pair(&mut self) -> Option<(u64, u64)> {
-        Some((self.next_number()?, self.next_number()?))
+    fn next_pair(&mut self) -> Result<(u64, u64), WrongLine> {
+        Ok((self.next_number()?, self.next_number()?))
     }
 
-    fn next_short(&mut self) -> Option<u16> {
-        u16::try_from(self.next_number()?).ok()
+    fn next_short(&mut self) -> Result<u16, WrongLine> {
+        match u16::try_from(self.next_number()?) {
+            Ok(number) => Ok(number),
+            Err(_) => Err(WrongLine::BigShort),
+        }
     }
 
-    fn next_layout(&mut self) -> Option<AskedLayout> {
-        Some(AskedLayout {
+    fn next_layout(&mut self) -> Result<AskedLayout, WrongLine> {
+        Ok(AskedLayout {
             size: self.next_short()?,
             desc: self.next_number()?,
             avail: self.next_number()?,
@@ -83,143 +95,159 @@ impl<'a> Words<'a> {
     }
 
     // What a mapping allows.
-    fn next_permissions(&mut self) -> Option<Permissions> {
+    fn next_permissions(&mut self) -> Result<Permissions, WrongLine> {
         match self.next_word()? {
-            b"none" => Some(Permissions::No),
-            b"r" => Some(Permissions::Read),
-            b"w" => Some(Permissions::Write),
-            b"rw" => Some(Permissions::ReadWrite),
-            _ => None,
+            b"none" => Ok(Permissions::No),
+            b"r" => Ok(Permissions::Read),
+            b"w" => Ok(Permissions::Write),
+            b"rw" => Ok(Permissions::ReadWrite),
+            _ => Err(WrongLine::NotPermissions),
         }
     }
 
     // Whether something is to be on.
-    fn next_switch(&mut self) -> Option<bool> {
+    fn next_switch(&mut self) -> Result<bool, WrongLine> {
         match self.next_word()? {
-            b"on" => Some(true),
-            b"off" => Some(false),
-            _ => None,
+            b"on" => Ok(true),
+            b"off" => Ok(false),
+            _ => Err(WrongLine::NotASwitch),
         }
     }
 
-    fn is_at_end(&self) -> bool {
-        self.rest.is_none()
+    // Nothing is left.
+    fn end(&mut self) -> Result<(), WrongLine> {
+        match self.next_word() {
+            Err(WrongLine::MissingWord) => Ok(()),
+            Err(why) => Err(why),
+            Ok(_) => Err(WrongLine::ExtraWord),
+        }
     }
 }
 
 // The bytes that a word of at least two hexadecimal digits writes.
-fn parse_bytes(alloc: Global, word: &[u8]) -> Result<Option<Vec<u8>>, AllocError> {
-    if word.is_empty() {
-        return Ok(None);
-    }
+fn parse_bytes(alloc: Global, word: &[u8]) -> Result<Result<Vec<u8>, WrongLine>, AllocError> {
     match hex::decode(alloc, word) {
-        Ok(bytes) => Ok(Some(bytes)),
+        Ok(bytes) => Ok(Ok(bytes)),
         Err(FromHexError::OutOfMemory) => Err(AllocError),
-        Err(_) => Ok(None),
+        Err(_) => Ok(Err(WrongLine::NotBytes)),
     }
 }
 
+// The address behind `write`, and the word of its bytes.
+fn next_write<'a>(words: &mut Words<'a>) -> Result<(u64, &'a [u8]), WrongLine> {
+    let addr = words.next_number()?;
+    let word = words.next_word()?;
+    words.end()?;
+    Ok((addr, word))
+}
+
 // The rest of a `write` line.
-fn parse_write(alloc: Global, words: &mut Words<'_>) -> Result<Option<Line>, AllocError> {
-    let Some(addr) = words.next_number() else {
-        return Ok(None);
+fn parse_write(
+    alloc: Global,
+    words: &mut Words<'_>,
+) -> Result<Result<Line, WrongLine>, AllocError> {
+    let (addr, word) = match next_write(words) {
+        Ok(operands) => operands,
+        Err(why) => return Ok(Err(why)),
     };
-    let Some(word) = words.next_word() else {
-        return Ok(None);
-    };
-    if !words.is_at_end() {
-        return Ok(None);
-    }
     let bytes = parse_bytes(alloc, word)?;
     Ok(bytes.map(|bytes| Line::Machine(Command::GuestWrite { addr, bytes })))
 }
 
 // The rest of a `kick` line.
-fn parse_kick(words: &mut Words<'_>) -> Option<Line> {
-    Some(Line::Kick {
+fn parse_kick(words: &mut Words<'_>) -> Result<Line, WrongLine> {
+    Ok(Line::Kick {
         queue: words.next_number()?,
         most: words.next_short()?,
     })
 }
 
 // The rest of a `reset` line.
-fn parse_reset(words: &mut Words<'_>) -> Option<Line> {
-    Some(Line::Reset {
+fn parse_reset(words: &mut Words<'_>) -> Result<Line, WrongLine> {
+    Ok(Line::Reset {
         queue: words.next_number()?,
         layout: words.next_layout()?,
     })
 }
 
 // The rest of a `map` line.
-fn parse_map(words: &mut Words<'_>) -> Option<Line> {
+fn parse_map(words: &mut Words<'_>) -> Result<Command, WrongLine> {
     let (iova, target) = words.next_pair()?;
     let len = words.next_number()? as usize;
     let perm = words.next_permissions()?;
-    Some(Line::Machine(Command::Map {
+    Ok(Command::Map {
         iova,
         target,
         len,
         perm,
-    }))
+    })
 }
 
 // The rest of a `region` line.
-fn parse_region(words: &mut Words<'_>) -> Option<Line> {
+fn parse_region(words: &mut Words<'_>) -> Result<Line, WrongLine> {
     let (base, size) = words.next_pair()?;
-    Some(Line::Region { base, size })
+    Ok(Line::Region { base, size })
 }
 
-// The command of the machine that a first word and two numbers ask for.
-fn pair_command(name: &[u8], pair: (u64, u64)) -> Option<Command> {
-    let (first, second) = pair;
-    match name {
-        b"alias" => Some(Command::InsertRegion {
-            base: first,
-            block: second as usize,
-        }),
-        b"unregion" => Some(Command::RemoveRegion {
-            base: first,
-            size: second,
-        }),
-        b"read" => Some(Command::GuestRead {
-            addr: first,
-            len: second as usize,
-        }),
-        b"unmap" => Some(Command::Unmap {
-            iova: first,
-            len: second as usize,
-        }),
-        _ => None,
-    }
+// The rest of an `alias` line.
+fn parse_alias(words: &mut Words<'_>) -> Result<Command, WrongLine> {
+    let (base, block) = words.next_pair()?;
+    let block = block as usize;
+    Ok(Command::InsertRegion { base, block })
+}
+
+// The rest of an `unregion` line.
+fn parse_unregion(words: &mut Words<'_>) -> Result<Command, WrongLine> {
+    let (base, size) = words.next_pair()?;
+    Ok(Command::RemoveRegion { base, size })
+}
+
+// The rest of a `read` line.
+fn parse_read(words: &mut Words<'_>) -> Result<Command, WrongLine> {
+    let (addr, len) = words.next_pair()?;
+    let len = len as usize;
+    Ok(Command::GuestRead { addr, len })
+}
+
+// The rest of an `unmap` line.
+fn parse_unmap(words: &mut Words<'_>) -> Result<Command, WrongLine> {
+    let (iova, len) = words.next_pair()?;
+    let len = len as usize;
+    Ok(Command::Unmap { iova, len })
 }
 
 // What stands behind the first word of a line other than `write`.
-fn parse_operands(name: &[u8], words: &mut Words<'_>) -> Option<Line> {
+fn parse_operands(name: &[u8], words: &mut Words<'_>) -> Result<Line, WrongLine> {
     match name {
-        b"queue" => Some(Line::Queue(words.next_layout()?)),
+        b"queue" => Ok(Line::Queue(words.next_layout()?)),
         b"region" => parse_region(words),
         b"kick" => parse_kick(words),
         b"reset" => parse_reset(words),
-        b"harvest" => Some(Line::Machine(Command::Harvest)),
-        b"move" => Some(Line::Move),
-        b"map" => parse_map(words),
-        b"iommu" => Some(Line::Machine(Command::SetIommu(words.next_switch()?))),
-        _ => Some(Line::Machine(pair_command(name, words.next_pair()?)?)),
+        b"harvest" => Ok(Line::Machine(Command::Harvest)),
+        b"move" => Ok(Line::Move),
+        b"map" => Ok(Line::Machine(parse_map(words)?)),
+        b"iommu" => Ok(Line::Machine(Command::SetIommu(words.next_switch()?))),
+        b"alias" => Ok(Line::Machine(parse_alias(words)?)),
+        b"unregion" => Ok(Line::Machine(parse_unregion(words)?)),
+        b"read" => Ok(Line::Machine(parse_read(words)?)),
+        b"unmap" => Ok(Line::Machine(parse_unmap(words)?)),
+        _ => Err(WrongLine::UnknownCommand),
     }
 }
 
 // The same, with nothing behind the last operand.
-fn parse_all(name: &[u8], words: &mut Words<'_>) -> Option<Line> {
+fn parse_all(name: &[u8], words: &mut Words<'_>) -> Result<Line, WrongLine> {
     let line = parse_operands(name, words)?;
-    if words.is_at_end() { Some(line) } else { None }
+    words.end()?;
+    Ok(line)
 }
 
-/// The command of a line, if it is one.
-pub(crate) fn parse(alloc: Global, line: &[u8]) -> Result<Option<Line>, AllocError> {
+/// The command of a line, or why it is none.
+pub(crate) fn parse(alloc: Global, line: &[u8]) -> Result<Result<Line, WrongLine>, AllocError> {
     let mut words = Words { rest: Some(line) };
     match words.next_word() {
-        Some(b"write") => parse_write(alloc, &mut words),
-        Some(name) => Ok(parse_all(name, &mut words)),
-        None => Ok(None),
+        Ok(b"write") => parse_write(alloc, &mut words),
+        Ok(name) => Ok(parse_all(name, &mut words)),
+        Err(why) => Ok(Err(why)),
     }
 }

@@ -1,6 +1,6 @@
 //! The numbers of a script.
 
-ghost use Rattle.std.specs.Prelude.{◌≡◌, ◌<◌, ◌≤◌, ◌^◌, length, IsTrue};
+ghost use Rattle.std.specs.Prelude.{◌≡◌, ◌<◌, ◌≤◌, ◌^◌, ◌↔◌, length, IsTrue};
 ghost use Rattle.std.specs.Option.{SomeIff};
 ghost use Rattle.std.specs.Str.Parse.{IsNumeral, digits_value};
 ghost use Rattle.virtio_fs_script.specs.Number.{is_hexadecimal, radix_of, digits_of};
@@ -41,5 +41,30 @@ pub fn parse_number(word: &[u8]) -> Option<u64>
         parse_digits(16, &word[2..])
     } else {
         parse_digits(10, word)
+    }
+}
+
+// Whether there are digits in a radix, and nothing else.
+fn are_digits(radix: u32, digits: &[u8]) -> bool
+    requires low { 2 ≤ radix }
+    requires high { radix ≤ 36 }
+    ensures { IsTrue result ↔ IsNumeral radix digits.now }
+{
+    for digit in digits {
+        if char::from(*digit).to_digit(radix).is_none() {
+            return false;
+        }
+    }
+    !digits.is_empty()
+}
+
+/// Whether a word is written as a number, whether that fits or not.
+pub(crate) fn is_numeral(word: &[u8]) -> bool
+    ensures { IsTrue result ↔ IsNumeral (radix_of word.now) (digits_of word.now) }
+{
+    if has_hexadecimal_prefix(word) {
+        are_digits(16, &word[2..])
+    } else {
+        are_digits(10, word)
     }
 }

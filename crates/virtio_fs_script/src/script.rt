@@ -46,8 +46,8 @@ fn run_line<W: Write>(
         return Ok(());
     }
     match parse(alloc, text)? {
-        Some(line) => session.run(number, line, writer),
-        None => Err(Halt::NotACommand(number)),
+        Ok(line) => session.run(number, line, writer),
+        Err(why) => Err(Halt::NotACommand(number, why)),
     }
 }
 
@@ -72,31 +72,47 @@ fn read_and_run<R: Read, W: Write>(
     run_lines(alloc, &script, writer)
 }
 
-// Prints why a script ended early, if a stream can still say it, and answers the status.
-fn print_halt<W: Write>(halt: Halt, writer: &mut W) -> u8 {
+// Prints why a script ended early, if a stream can still say it, and answers that.
+fn print_halt<W: Write>(halt: Halt, writer: &mut W) -> Halt {
     if halt != Halt::Stream && writeln!(writer, "{halt}").is_err() {
-        return Halt::Stream.status();
+        return Halt::Stream;
     }
-    halt.status()
+    halt
 }
 
-// Reads a script and runs it, and answers the status. What is printed may still stand in the writer's buffer.
-fn run_and_tell<R: Read, W: Write>(alloc: Global, reader: &mut R, writer: &mut W) -> u8 {
+// Reads a script and runs it. What is printed may still stand in the writer's buffer.
+fn run_and_tell<R: Read, W: Write>(
+    alloc: Global,
+    reader: &mut R,
+    writer: &mut W,
+) -> Result<(), Halt> {
     match read_and_run(alloc, reader, writer) {
-        Ok(()) => 0,
-        Err(halt) => print_halt(halt, writer),
+        Ok(()) => Ok(()),
+        Err(halt) => Err(print_halt(halt, writer)),
     }
 }
 
-/// Reads a script, runs it, prints what its lines print, and answers the program's status.
-pub fn run_script<R: Read, W: Write>(alloc: Global, reader: &mut R, writer: &mut W) -> u8 {
+/// Reads a script, runs it, and prints what its lines print; answers why it ended early, if it did, which is printed too.
+pub fn play_script<R: Read, W: Write>(
+    alloc: Global,
+    reader: &mut R,
+    writer: &mut W,
+) -> Result<(), Halt> {
     let Ok(mut buffered) = BufWriter::new(alloc, &mut *writer) else {
-        return print_halt(Halt::OutOfMemory, writer);
+        return Err(print_halt(Halt::OutOfMemory, writer));
     };
-    let status = run_and_tell(alloc, reader, &mut buffered);
+    let played = run_and_tell(alloc, reader, &mut buffered);
     match buffered.flush() {
-        Ok(()) => status,
-        Err(_) => Halt::Stream.status(),
+        Ok(()) => played,
+        Err(_) => Err(Halt::Stream),
+    }
+}
+
+/// The same, but answers the program's status.
+pub fn run_script<R: Read, W: Write>(alloc: Global, reader: &mut R, writer: &mut W) -> u8 {
+    match play_script(alloc, reader, writer) {
+        Ok(()) => 0,
+        Err(halt) => halt.status(),
     }
 }
 

@@ -9,6 +9,7 @@ use crate::line::{AskedLayout, Line};
 use crate::print::{
     print_answer, print_bad_layout, print_calls, print_idle, print_moved, print_ok, print_refused,
 };
+use crate::wrong::WrongLine;
 use fs_device::{Answer, Command, DeviceError};
 use fs_queue::Queue;
 use std::alloc::{AllocError, Global};
@@ -51,7 +52,7 @@ impl<'a> Session<'a> {
         }
         match &mut self.guest {
             Some(guest) => run_on(guest, number, line, writer),
-            None => Err(Halt::NotACommand(number)),
+            None => Err(Halt::NotACommand(number, WrongLine::NoQueue)),
         }
     }
 
@@ -61,8 +62,11 @@ impl<'a> Session<'a> {
         asked: AskedLayout,
         writer: &mut W,
     ) -> Result<(), Halt> {
-        if self.guest.is_some() || self.queues.len() == MOST_QUEUES {
-            return Err(Halt::NotACommand(number));
+        if self.guest.is_some() {
+            return Err(Halt::NotACommand(number, WrongLine::LateQueue));
+        }
+        if self.queues.len() == MOST_QUEUES {
+            return Err(Halt::NotACommand(number, WrongLine::ManyQueues));
         }
         match asked.layout() {
             Ok(layout) => {
@@ -78,7 +82,7 @@ impl<'a> Session<'a> {
     // The guest goes on on another host.
     fn move_guest<W: Write>(&mut self, number: usize, writer: &mut W) -> Result<(), Halt> {
         let Some(guest) = self.guest.take() else {
-            return Err(Halt::NotACommand(number));
+            return Err(Halt::NotACommand(number, WrongLine::NoQueue));
         };
         let (guest, record_len) = guest.moved()?;
         self.guest = Some(guest);
@@ -104,7 +108,7 @@ fn run_on<W: Write>(
     writer: &mut W,
 ) -> Result<(), Halt> {
     match line {
-        Line::Queue(_) | Line::Move => Err(Halt::NotACommand(number)),
+        Line::Queue(_) | Line::Move => Err(Halt::NotACommand(number, WrongLine::LateQueue)),
         Line::Region { base, size } => region(guest, base, size, writer),
         Line::Kick { queue, most } => kick(guest, queue, most, writer),
         Line::Reset { queue, layout } => reset(guest, queue, layout, writer),

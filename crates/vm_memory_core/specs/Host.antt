@@ -88,10 +88,6 @@ with_table h t = record h { tables = h.tables ++ t ∷ [] }
 abbrev pub with_io_pages : Host → List Bool → Host
 with_io_pages h marks = record h { io_marks = h.io_marks ++ marks ∷ [] }
 
--- a host of two blocks and nothing else
-abbrev pub of_two : Block → Block → Host
-of_two low high = record { blocks = low ∷ high ∷ []; tables = []; io_marks = [] }
-
 -- the lengths of the blocks
 abbrev pub lengths : Host → List ℕ
 lengths h = map (λ b. length b.bytes) h.blocks

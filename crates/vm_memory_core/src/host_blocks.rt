@@ -13,15 +13,10 @@ use std::alloc::{AllocError, Global};
 use vm_bitmaps::NewBitmap;
 use vm_iotlb::Iotlb;
 
-/// Blocks of bytes with their dirty pages, and what devices behind an IOMMU go by: a `HostMemory`, which owns them, or
-/// memory that is lent for a call.
+/// Blocks of bytes with their dirty pages, and what devices behind an IOMMU go by. `HostMemory` is one.
 pub trait HostBlocks {
     // what the memory holds
     ghost host: { Self → Host };
-
-    // whether the memory still stands where it stood: behind the same references, if it is lent. Each implementer says
-    // what that is; memory that is owned says nothing by it
-    ghost IsSameLoan: { Self → Self → Type 0 };
 
     /// How many bytes a block has; None if there is no such block.
     fn block_len(&self, block: usize) -> Option<usize>
@@ -38,8 +33,7 @@ pub trait HostBlocks {
         requires lies { LiesIn (lengths (host self.old)) window }
         requires fits { length bytes.now ≤ window.len }
         ensures stored { Stores (host self.old) (host self.new) (places_of window) bytes.now }
-        ensures shape { shape (host self.new) ≡ shape (host self.old) }
-        ensures loan { IsSameLoan self.old self.new };
+        ensures shape { shape (host self.new) ≡ shape (host self.old) };
 
     /// Reads to the first places of a window, and marks the pages of the bytes that came. An error changes nothing.
     fn read_volatile_from<S: ReadVolatile>(
@@ -50,8 +44,7 @@ pub trait HostBlocks {
         requires { LiesIn (lengths (host self.old)) window }
         ensures reads { (part : List ℕ) × Stores (host self.old) (host self.new) (places_of window) part × (length part ≡ moved result)
             × (length part ≤ window.len) × S.gives source.old (map (byte_in (host self.old)) (places_of window)) (read_answer result part) source.new }
-        ensures shape { shape (host self.new) ≡ shape (host self.old) }
-        ensures loan { IsSameLoan self.old self.new };
+        ensures shape { shape (host self.new) ≡ shape (host self.old) };
 
     /// The table of an IOMMU with this number; None if there is none.
     fn table(&self, table: usize) -> Option<&Iotlb>
@@ -91,7 +84,6 @@ pub trait HostBlocks {
         requires fits { length bytes.now ≤ length (places windows.now) }
         ensures stored { Stores (host self.old) (host self.new) (places windows.now) bytes.now }
         ensures shape { shape (host self.new) ≡ shape (host self.old) }
-        ensures loan { IsSameLoan self.old self.new }
     {
         let mut done = 0;
         for window in windows {
@@ -133,25 +125,11 @@ pub trait HostBlocks {
         }
         Ok(bytes)
     }
-
-    // memory stands where it stands
-    ghost reflexive: { (m : Self) → IsSameLoan m m };
-
-    // what stays twice has stayed
-    ghost composes: { (a b c : Self) → IsSameLoan a b → IsSameLoan b c → IsSameLoan a c };
 }
 
 /// It owns its blocks, which no call gives away.
 impl<B: NewBitmap> HostBlocks for HostMemory<B> {
-    ghost use Rattle.std.specs.Prelude.{⊤};
-
     ghost host = { λ h. h };
-
-    ghost IsSameLoan = { λ old new. ⊤ };
-
-    ghost reflexive = { λ m. tt };
-
-    ghost composes = { λ a b c first second. tt };
 
     fn block_len(&self, block: usize) -> Option<usize> {
         HostMemory::block_len(self, block)

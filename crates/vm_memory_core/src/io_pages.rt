@@ -1,4 +1,4 @@
-//! The dirty pages of a device's I/O addresses, or of a block that is lent.
+//! The dirty pages of a device's I/O addresses.
 
 ghost use Rattle.std.specs.Prelude.{◌≡◌, ◌+◌, ◌-◌, ◌≤◌, IfOk, false, length, map, replicate};
 ghost use Rattle.vm_bitmaps.specs.Pages.{marked_range};
@@ -9,8 +9,8 @@ use std::alloc::{AllocError, Global};
 use std::marker::Model;
 use vm_bitmaps::{Bitmap, NewBitmap, PageBitmap};
 
-/// The dirty pages of the addresses from 0 on, of 4096 bytes each: I/O addresses, or offsets in a block that is lent.
-/// Clauses see its marks.
+/// The dirty pages of the addresses from 0 on, of 4096 bytes each: I/O addresses. Clauses see
+/// its marks.
 #[derive(Drop)]
 pub struct IoPages<B: NewBitmap> {
     bitmap: B,

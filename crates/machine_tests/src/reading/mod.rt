@@ -2,7 +2,6 @@
 
 mod files;
 mod flags;
-mod lent;
 mod seen;
 mod stand;
 mod translated;

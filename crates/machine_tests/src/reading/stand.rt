@@ -95,7 +95,6 @@ pub fn serve<M: GuestMemory, H: HostBlocks>(
 ) -> Returned
     requires { M.IsHeld mem.now (H.host host.old) }
     ensures shape { shape (H.host host.new) ≡ shape (H.host host.old) }
-    ensures loan { H.IsSameLoan host.old host.new }
 {
     if way == Way::ServeOne {
         return device

@@ -1,7 +1,5 @@
-//! Tests of page marks, exact ones and those that threads share: a worked example, each public call once, and a million
-//! marks.
+//! Tests of page marks, exact ones and those that threads share: a worked example, and each public call once.
 
 mod calls;
 mod given;
-mod million;
 mod worked;

@@ -7,7 +7,7 @@ use crate::phases::said::who;
 use crate::rows::{ASKER, Digits, UNIQUE, spelled};
 use bitflags::Flags;
 use fuse_wire::FsOptions;
-use server_phases::{Answered, Refusal, Refused, Sent, Session};
+use server_phases::{Answered, Refused, RefusedAnswer, Sent, Session};
 use std::alloc::Global;
 use std::process::Abort;
 
@@ -44,7 +44,7 @@ const BEFORE: u64 = 0x20;
 type Seen<'a> = Result<(Option<&'a [u8]>, Option<([u64; 3], u64)>), (Refused, u64)>;
 
 // What was given.
-fn shown(answered: &Result<Answered, Refusal>) -> Seen<'_> {
+fn shown(answered: &Result<Answered, RefusedAnswer>) -> Seen<'_> {
     match answered {
         Ok(Answered { sent, forget }) => {
             let back = match forget {

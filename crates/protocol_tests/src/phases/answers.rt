@@ -2,8 +2,8 @@
 
 use bitflags::Flags;
 use fuse_fs::{Entry, Timeout};
+use fuse_values::FileAnswer;
 use fuse_wire::{Attr, Errno, FsOptions, GuestGid, GuestUid, OpenOptions, StatVfs};
-use server_phases::FileAnswer;
 
 /// An answer in a table.
 #[derive(Clone, Copy)]

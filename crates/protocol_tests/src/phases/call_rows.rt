@@ -402,7 +402,7 @@ const OTHERS: &[Row] = &[
         name: "TMPFILE",
         request: &["28000000 33000000", ASKER],
         room: 16,
-        told: Told::Bare("tmpfile", &[], Awaits::Refusal),
+        told: Told::Bare("tmpfile", &[], Awaits::Failure),
     },
     Row {
         name: "INTERRUPT",

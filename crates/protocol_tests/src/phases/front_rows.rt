@@ -3,7 +3,8 @@
 use crate::given::expect_same;
 use crate::phases::given::place;
 use crate::rows::{ASKER, Digits, UNIQUE, spelled};
-use server_phases::{Asked, AskedFront, FileCall, Session};
+use fuse_values::FileCall;
+use server_phases::{Asked, AskedFront, Session};
 use std::alloc::Global;
 use std::process::Abort;
 

@@ -2,8 +2,8 @@
 
 use bitflags::Flags;
 use fuse_fs::{Context, Extensions};
+use fuse_values::FileCall;
 use fuse_wire::{SetattrIn, SetattrValid};
-use server_phases::FileCall;
 
 /// Stands for a number that isn't there.
 pub const NONE: u64 = u64::MAX;

@@ -1,6 +1,6 @@
 use Rattle.std.proofs.Common.{drop}
 use Rattle.std.specs.List.{AllByRecursion}
-use Rattle.vm_copies.proofs.TrackLemmas.{IsSized}
+use Rattle.fs_device.proofs.TrackLemmas.{IsSized}
 use Rattle.fs_device.proofs.laws.law_host_marks.Given as goal
 
 abbrev pub invariant-loop-block : goal.invariant-loop-block

@@ -1,6 +1,6 @@
 use Rattle.std.proofs.Common.{◌≡◌, [], map, rules, refl}
 use Rattle.vm_memory_core.specs.Host.{lengths}
-use Rattle.vm_copies.specs.PageView.{page_view}
+use Rattle.fs_device.specs.PageView.{page_view}
 use Rattle.fs_device.specs.CommandView.{answer_of}
 use Rattle.fs_device.specs.Moving.{pages_of_answer}
 use Rattle.fs_device.specs.Migrating.{pages_of_answers}

@@ -1,4 +1,4 @@
-use Rattle.vm_copies.specs.Applying.{pages_put}
+use Rattle.fs_device.specs.Applying.{pages_put}
 use Rattle.fs_device.specs.Migrating.{pages_of_answers}
 use Rattle.fs_device.proofs.MigrateLemmas.{LeftAnswered}
 use Rattle.fs_device.proofs.migrating.put_answered.Given as goal

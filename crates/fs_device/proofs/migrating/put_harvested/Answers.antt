@@ -1,6 +1,6 @@
 use Rattle.std.proofs.Common.{map}
 use Rattle.vm_memory_core.specs.Host.{lengths}
-use Rattle.vm_copies.specs.PageView.{page_view}
+use Rattle.fs_device.specs.PageView.{page_view}
 use Rattle.fs_device.specs.Migrating.{pages_of_answers}
 use Rattle.fs_device.proofs.MigrateLemmas.{places_split, put_whole}
 use Rattle.fs_device.proofs.migrating.put_harvested.Goals as goal

@@ -1,8 +1,8 @@
 use Rattle.std.proofs.Common.{[], map, arith}
 use Rattle.vm_memory_core.specs.Host.{lengths}
 use Rattle.vm_memory_core.specs.Window.{places}
-use Rattle.vm_block_pages.specs.Pages.{page_of}
-use Rattle.vm_block_pages.specs.Runs.{AreRuns}
+use Rattle.fs_shared.specs.Pages.{page_of}
+use Rattle.fs_shared.specs.Runs.{AreRuns}
 use Rattle.fs_shared.proofs.PageLemmas.{as_many, no_runs, pages_written, windows_hold}
 use Rattle.fs_shared.proofs.acting.write_pages.Goals as goal
 

@@ -1,8 +1,8 @@
 use Rattle.std.proofs.Common.{◌≡◌, rules, ap, sym, subst}
 use Rattle.vm_atomic_bitmaps.specs.Counts.{new_half}
 use Rattle.vm_atomic_bitmaps.specs.Passes.{Pass}
-use Rattle.fs_shares.specs.Portion.{HasSeenItsOwn}
-use Rattle.fs_shares.proofs.Since.{own_first}
+use Rattle.fs_shared.specs.Portion.{HasSeenItsOwn}
+use Rattle.fs_shared.proofs.Since.{own_first}
 use Rattle.fs_shared.proofs.harvest.clear_pages.Goals as goal
 
 pub invariant_of-harvest : goal.invariant_of-harvest

@@ -2,8 +2,8 @@ use Rattle.std.proofs.Common.{◌++◌, List, map, ap, sym, ◌∙◌, subst, ta
 use Rattle.vm_memory_core.specs.Host.{Place, lengths}
 use Rattle.vm_memory_core.specs.Window.{places}
 use Rattle.fs_queue.specs.Windows.{chain_places}
-use Rattle.vm_block_pages.specs.Pages.{ArePagesOf, page_of}
-use Rattle.vm_block_pages.specs.Runs.{AreRuns}
+use Rattle.fs_shared.specs.Pages.{ArePagesOf, page_of}
+use Rattle.fs_shared.specs.Runs.{AreRuns}
 use Rattle.fs_shared.proofs.Returning.{places_of_return}
 use Rattle.fs_shared.proofs.return_pages.return_pages.Goals as goal
 

@@ -4,7 +4,7 @@ use Rattle.std.specs.Vec.{with_items}
 use Rattle.vm_bitmaps.specs.Words.{page_bit}
 use Rattle.vm_atomic_bitmaps.specs.Counts.{met_with, tally_of}
 use Rattle.vm_atomic_bitmaps.specs.Passes.{Pass, counting}
-use Rattle.fs_shares.specs.Portion.{Portion, new_pass}
+use Rattle.fs_shared.specs.Portion.{Portion, new_pass}
 use Rattle.fs_device.specs.MachineView.{machine_of}
 use Rattle.fs_shared.specs.declared.entry.JournalEntry.{JournalEntry}
 use Rattle.fs_shared.specs.declared.entry.Receipt.{Receipt}

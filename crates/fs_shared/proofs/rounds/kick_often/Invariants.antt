@@ -1,7 +1,7 @@
 use Rattle.std.proofs.Common.{◌≡◌, ◌+◌, ◌≤◌}
 use Rattle.std.specs.Prelude.{vec_capacity, vec_len}
 use Rattle.vm_atomic_bitmaps.specs.Passes.{counting}
-use Rattle.fs_shares.specs.Portion.{IsShareOf}
+use Rattle.fs_shared.specs.Portion.{IsShareOf}
 use Rattle.fs_shared.specs.Marks.{HasMarked}
 use Rattle.fs_shared.specs.Rounds.{GoesOnWith, KeepsSince}
 use Rattle.fs_shared.proofs.rounds.kick_often.Given as goal

@@ -1,5 +1,5 @@
 use Rattle.std.proofs.Common.{[], List, Ok, sym, subst}
-use Rattle.fs_shares.specs.Portion.{MarksPages}
+use Rattle.fs_shared.specs.Portion.{MarksPages}
 use Rattle.fs_shared.specs.declared.entry.Kicked as kicked
 use Rattle.fs_shared.specs.declared.entry.Receipt.{Receipt}
 use Rattle.fs_shared.specs.Marks.{HasMarked, kicked_pages}

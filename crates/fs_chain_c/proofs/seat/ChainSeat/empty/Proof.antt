@@ -1,5 +1,5 @@
 -- `empty` puts null beside the allocator, and owns nothing there.
-use Rattle.box_parts.proofs.Seats as seats
+use Rattle.fs_chain_c.proofs.Seats as seats
 use Rattle.fs_chain_c.proofs.ChainAsSeat.{chain_seat}
 use Rattle.fs_chain_c.specs.contracts.seat.ChainSeat.empty.Key.{name as #self}
 use Rattle.fs_chain_c.proofs.seat.ChainSeat.empty.Statement as stated

@@ -1,5 +1,5 @@
 -- `into_parts` moves two fields, and what they own goes with them.
-use Rattle.box_parts.proofs.Seats as seats
+use Rattle.fs_chain_c.proofs.Seats as seats
 use Rattle.fs_chain_c.proofs.ChainAsSeat.{chain_seat}
 use Rattle.fs_chain_c.specs.contracts.seat.ChainSeat.into_parts.Key.{name as #self}
 use Rattle.fs_chain_c.proofs.seat.ChainSeat.into_parts.Statement as stated

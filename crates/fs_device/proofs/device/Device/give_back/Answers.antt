@@ -1,7 +1,7 @@
 use Rattle.std.proofs.Common.{◌≡◌, Some, ap, length, vec_len, arith, ◌∙◌}
 use Rattle.std.specs.Prelude.{slice_get}
 use Rattle.fs_queue.specs.Queue.{Queue}
-use Rattle.fs_queue.specs.Returning.{put_back}
+use Rattle.fs_queue.specs.ReturningView.{put_back}
 use Rattle.std.proofs.lemmas.Option.{slice_get_read}
 use Rattle.fs_device.proofs.StepLemmas.{Fixed, advanced_parts, gives_back_parts}
 use Rattle.fs_device.proofs.device.Device.give_back.Goals as goal

@@ -31,7 +31,6 @@ loop-preserved g c =
       most = omega arith;
       room = Prim.search rules;
       kept = Prim.search rules;
-      loan = g.met.H.HostBlocks.composes c.args.host.now c.loop.host c.process_one.new.host c.loop.invariant.loan c.process_one.ensures.loan;
       run = rw turns (goes_on g.F.FileSystemBase.may _ _ _ c.args.queue c.args.most _ _ (map exchanged_of c.loop.done.items) (exchanged_of c.in-Ok-Some.exchanged) _ c.loop.invariant.run
           (omega (arith, c.loop-test.true)) (rw c.in-Ok-Some.field-0-is at c.in-Ok-Some.ensures.step.1));
     }
@@ -44,20 +43,6 @@ returns-clause-run g c = (
 
 pub process_one-requires : goal.process_one-requires
 process_one-requires g c = g.met.M.GuestMemory.by_shape c.args.mem.now (g.H.HostBlocks.host c.args.host.now) (g.H.HostBlocks.host c.loop.host) c.loop.invariant.kept c.requires
-
-pub returns-then-queue-len-clause-loan : goal.returns-then-queue-len-clause-loan
-returns-then-queue-len-clause-loan g c = g.met.H.HostBlocks.reflexive c.args.host.now
-
-pub returns-in_default-clause-loan : goal.returns-in_default-clause-loan
-returns-in_default-clause-loan g c = g.met.H.HostBlocks.reflexive c.args.host.now
-
-pub returns-in-Ok-None-clause-loan : goal.returns-in-Ok-None-clause-loan
-returns-in-Ok-None-clause-loan g c =
-    g.met.H.HostBlocks.composes c.args.host.now c.loop.host c.process_one.new.host c.loop.invariant.loan c.process_one.ensures.loan
-
-pub returns-in-Err-clause-loan : goal.returns-in-Err-clause-loan
-returns-in-Err-clause-loan g c =
-    g.met.H.HostBlocks.composes c.args.host.now c.loop.host c.process_one.new.host c.loop.invariant.loan c.process_one.ensures.loan
 
 pub returns-then-most-gt0-clause-run : goal.returns-then-most-gt0-clause-run
 returns-then-most-gt0-clause-run g c =

@@ -12,7 +12,6 @@ invariant-loop g l = record {
   most : l.counter ≤ l.most;
   room : l.most ≤ vec_capacity l.done;
   kept : shape (g.H.HostBlocks.host l.host) ≡ shape (g.H.HostBlocks.host l.initial.host);
-  loan : g.H.HostBlocks.IsSameLoan l.initial.host l.host;
   run : (rest : List (Exchange × Bool)) (refused : Option DeviceError) (after : State _) →
       KickLists g.F.FileSystemBase.may (state_of (g.M.GuestMemory.memory l.mem (g.H.HostBlocks.host l.host)) l.self) l.queue (l.most - l.counter) rest refused after →
       KickLists g.F.FileSystemBase.may (state_of (g.M.GuestMemory.memory l.mem (g.H.HostBlocks.host l.initial.host)) l.initial.self) l.queue l.most

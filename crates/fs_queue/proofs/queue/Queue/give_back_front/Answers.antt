@@ -30,7 +30,3 @@ pub returns-clause-tells : goal.returns-clause-tells
 returns-clause-tells g c =
     c.tells.ensures
     ∙ ap tells (c.read_windows.ensures ∙ ap (λ (ws : List Window). map (byte_in (g.H.HostBlocks.host c.write_windows.new.self)) (places ws)) c.flags_windows.ensures)
-
-pub returns-clause-loan : goal.returns-clause-loan
-returns-clause-loan g c =
-    g.met.H.HostBlocks.composes c.args.host.now c.write_reply.new.host c.write_windows.new.self c.write_reply.ensures.loan c.write_windows.ensures.loan

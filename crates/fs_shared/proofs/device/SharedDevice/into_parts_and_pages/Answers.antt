@@ -4,7 +4,7 @@ use Rattle.vm_atomic_bitmaps.specs.Counts.{both_of, both_passes, tally_of}
 use Rattle.vm_atomic_bitmaps.specs.Passes.{Pass, SharedPages}
 use Rattle.vm_atomic_bitmaps.specs.Steps.{SettlesAll}
 use Rattle.vm_atomic_bitmaps.proofs.PassTotals.{length-each_tally}
-use Rattle.fs_shares.specs.Portion.{Portion}
+use Rattle.fs_shared.specs.Portion.{Portion}
 use Rattle.fs_device.specs.MachineView.{machine_of}
 use Rattle.fs_shared.specs.Held.{fixed_of, journal_of, start_of}
 use Rattle.fs_shared.specs.Marks.{Harvest}

@@ -1,8 +1,8 @@
 use Rattle.std.proofs.Common.{ap, sym, subst}
 use Rattle.vm_atomic_bitmaps.specs.Counts.{in_word}
 use Rattle.vm_atomic_bitmaps.specs.Passes.{IsPassOf, Pass, SharedPages}
-use Rattle.fs_shares.specs.Portion.{HasSeenItsOwn}
-use Rattle.fs_shares.proofs.Since.{own_gathers}
+use Rattle.fs_shared.specs.Portion.{HasSeenItsOwn}
+use Rattle.fs_shared.proofs.Since.{own_gathers}
 use Rattle.fs_shared.proofs.harvest.PageHarvest.gather.Goals as goal
 
 pub invariant_of-self : goal.invariant_of-self

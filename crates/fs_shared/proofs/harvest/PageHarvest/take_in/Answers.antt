@@ -1,7 +1,7 @@
 use Rattle.std.proofs.Common.{ap, sym, subst}
 use Rattle.vm_atomic_bitmaps.specs.Passes.{IsPassOf, Pass, SharedPages}
-use Rattle.fs_shares.specs.Portion.{HasSeenItsOwn}
-use Rattle.fs_shares.proofs.Since.{own_takes_in}
+use Rattle.fs_shared.specs.Portion.{HasSeenItsOwn}
+use Rattle.fs_shared.proofs.Since.{own_takes_in}
 use Rattle.fs_shared.proofs.harvest.PageHarvest.take_in.Goals as goal
 
 pub invariant_of-self : goal.invariant_of-self

@@ -1,4 +1,4 @@
-use Rattle.fs_shares.specs.Portion.{IsShareOf}
+use Rattle.fs_shared.specs.Portion.{IsShareOf}
 use Rattle.shared_tests.proofs.crowd.Worker.work.Given as goal
 
 -- the share is the device's

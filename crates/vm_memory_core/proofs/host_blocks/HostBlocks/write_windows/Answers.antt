@@ -11,7 +11,6 @@ loop-window-preserved g c =
     record {
       within = omega arith;
       fits = omega arith;
-      same_loan = g.met.Self.HostBlocks.composes c.args.self.now c.loop-window.self c.write.new.self c.loop-window.invariant.same_loan c.write.ensures.loan;
       same_shape = c.write.ensures.shape ∙ c.loop-window.invariant.same_shape;
       stored = places_step c.args.windows.now c.loop-window.window-index c.min-count.result c.loop-window.done c.window-item.result c.args.bytes.now
           (g.Self.HostBlocks.host c.loop-window.self) (g.Self.HostBlocks.host c.write.new.self) next

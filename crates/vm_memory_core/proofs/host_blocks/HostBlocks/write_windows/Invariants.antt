@@ -9,7 +9,6 @@ abbrev pub invariant-loop-window : goal.invariant-loop-window
 invariant-loop-window g l = record {
   within : l.done ≤ length l.bytes;
   fits : length l.bytes ≤ l.done + length (places (drop l.window-index l.windows));
-  same_loan : g.Self.HostBlocks.IsSameLoan l.initial.self l.self;
   same_shape : shape (g.Self.HostBlocks.host l.self) ≡ shape (g.Self.HostBlocks.host l.initial.self);
   stored : put_all (g.Self.HostBlocks.host l.self) (zip (places (drop l.window-index l.windows)) (drop l.done l.bytes)) ≡ put_all
       (g.Self.HostBlocks.host l.initial.self) (zip (places l.windows) l.bytes);

@@ -1,0 +1,5 @@
+//! Tests of walks over regions.
+
+mod given;
+mod memories;
+mod walks;

@@ -1,0 +1,30 @@
+-- A reply of its maker's own bytes: they stand in the room from its first place on, and only how many they are is told.
+use Rattle.std.specs.Prelude.{ℕ, ◌-◌, ◌^◌, ◌||◌, nat_lt, Option, Some, None, if◌then◌else◌}
+use Rattle.fs_chain.specs.declared.error.ChainError.{ChainError}
+use Rattle.fs_chain.specs.declared.error.ChainError.TheVariants.{LongReply, WrongOrder}
+use Rattle.fs_chain.specs.declared.state.Out.{Out}
+use Rattle.fs_chain.specs.declared.state.Reply.{Reply}
+use Rattle.fs_chain.specs.declared.state.State as state
+use Rattle.fs_chain.specs.declared.state.State.TheVariants as at
+
+-- a reply of so many bytes, none of which is told; of none there is no reply
+abbrev pub own_reply : (len : ℕ) → Reply
+own_reply len = record { front = None; behind = len }
+
+-- of a chain whose request has no reply yet: it wasn't asked, or its call waits for an answer
+abbrev pub IfUnanswered : state.State → (Out → Type 0) → Type 0
+IfUnanswered (at.Taken out) P = P out
+IfUnanswered (at.Waits out waiting) P = P out
+IfUnanswered (at.Lists out listing) P = P out
+IfUnanswered _ P = Unit {0}
+
+-- why a reply can't have so many bytes: its room has fewer, or the used element's 32 bits don't tell them
+abbrev pub own_len_error : (room len : ℕ) → Option ChainError
+own_len_error room len = if nat_lt room len || nat_lt (2 ^ 32 - 1) len then Some LongReply else None
+
+-- why such a reply isn't taken
+abbrev pub own_error : state.State → (len : ℕ) → Option ChainError
+own_error (at.Taken out) len = own_len_error out.room_len len
+own_error (at.Waits out waiting) len = own_len_error out.room_len len
+own_error (at.Lists out listing) len = own_len_error out.room_len len
+own_error _ len = Some WrongOrder

@@ -1,0 +1,49 @@
+//! A reply of its maker's own bytes, to a request that the server doesn't serve.
+
+ghost use Rattle.std.specs.Prelude.{◌≡◌, None, Some, IfErr, OnOk, OnErr};
+ghost use Rattle.fs_chain.specs.OwnReplies.{IfUnanswered, own_error, own_len_error, own_reply};
+ghost use Rattle.fs_chain.specs.Orders.{front_len, reply_len};
+ghost use Rattle.fs_chain.specs.declared.state.State.TheVariants as at;
+
+use crate::error::ChainError;
+use crate::state::{Out, Reply, State};
+use crate::workbench::Workbench;
+
+impl Workbench {
+    // Keeps a reply of so many bytes of a chain that has none yet.
+    fn keep_own(&mut self, out: Out, len: usize) -> Result<(), ChainError>
+        ensures error { IfErr result (λ e. own_len_error out.room_len len ≡ Some e) }
+        ensures ok { OnOk result (own_len_error out.room_len len ≡ None) }
+        ensures same { OnErr result (self.new ≡ self.old) }
+        ensures kept { OnOk result (self.new ≡ record self.old { state = at.Answered out (own_reply len) }) }
+        ensures told { OnOk result ((front_len (own_reply len) ≡ 0) × (reply_len out (own_reply len) ≡ len)) }
+    {
+        if out.room_len < len || (u32::MAX as usize) < len {
+            return Err(ChainError::LongReply);
+        }
+        let front = None;
+        self.state = State::Answered(out, Reply { front, behind: len });
+        Ok(())
+    }
+
+    /// Replies `len` bytes of the caller's own, header and all (struct fuse_out_header of linux/fuse.h): he puts them over the room's first places, before
+    /// the used index is stored. 0 is silence. In place of `ask`, for a request that the server doesn't serve, or of the answer that a call waits for, of
+    /// which nothing is kept then. `begin_return` tells no front, and `len` in the used element (VIRTIO 1.2, 2.7.8).
+    ///
+    /// `WrongOrder` if no chain is out whose request has no reply yet: a faulty one has none. `LongReply` if the room is shorter, or from 2^32 bytes on.
+    pub fn reply(&mut self, len: usize) -> Result<(), ChainError>
+        ensures error { IfErr result (λ e. own_error self.old.state len ≡ Some e) }
+        ensures ok { OnOk result (own_error self.old.state len ≡ None) }
+        ensures same { OnErr result (self.new ≡ self.old) }
+        ensures kept { OnOk result (IfUnanswered self.old.state (λ out. self.new ≡ record self.old { state = at.Answered out (own_reply len) })) }
+        ensures told { OnOk result (IfUnanswered self.old.state (λ out. (front_len (own_reply len) ≡ 0) × (reply_len out (own_reply len) ≡ len))) }
+    {
+        match &self.state {
+            State::Taken(out) | State::Waits(out, _) | State::Lists(out, _) => {
+                let out = *out;
+                self.keep_own(out, len)
+            }
+            _ => Err(ChainError::WrongOrder),
+        }
+    }
+}

@@ -1,0 +1,575 @@
+/*
+ * pitskhomu.h: the device's side of virtio-fs (VIRTIO 1.2, 2.7 and 5.11; FUSE 7.38), as a core that touches no memory.
+ *
+ * The core never sees the guest's memory, a file or a socket. It says which bytes it wants, is given them, tells the one file
+ * call that they ask for, is told the answer, and says what is to be stored. You load, store, and call the file system:
+ *
+ *     while ((s = fs_walk(&chain, &queue, bytes, step.len, &step)) == FS_LOAD)
+ *         load(bytes, step.at, step.len);                              // acquire, once
+ *     if (s != FS_DONE) ..;                                            // FS_IDLE, or why the queue stops
+ *     gather(request, fs_request_windows(&chain, 0, FS_FIRST, w, 8));  // request bytes, once
+ *     fs_ask(&chain, &device, request, len, &call);                    // what the file system is asked
+ *     switch (call.kind) { case FS_CALL_LOOKUP: .. fs_reply_entry(&chain, &entry); .. }
+ *     fs_return(&chain, &queue, front, sizeof front, &out);            // the reply's front, element, index
+ *     scatter(front); store(element); store_release(index); full_barrier(); seen = load(out.seen_at);
+ *     fs_returned(&chain, &queue, seen, &notify);
+ *
+ * A request that it doesn't serve, or each one, by a FUSE server of yours, is replied with bytes of your own: fs_reply_bytes.
+ *
+ * WHO OWNS WHAT. `struct fs_device` and `struct fs_queue` are numbers: you keep them, copy them, read and set their fields, and
+ * nothing of the library's hangs on them. `struct fs_chain` is the one handle: the workbench of a worker, zeros before its first
+ * use; it holds memory of malloc's, is never copied, and is freed by fs_chain_free. No call keeps a pointer that it was given,
+ * and none hands one out: names and values are places (`struct fs_span`) in the request's bytes that you loaded and keep.
+ *
+ * WHAT IS PROVED. Each function, whenever its arguments are what their types say, returns, doesn't panic, reads and writes only what it is
+ * lent, and does what its contract in the crate fs_chain_c says, in the terms of the crate fs_chain: the load that is asked for, the
+ * call that a request means, the reply that an answer gives, the stores of a return. What isn't proved stands at its place below.
+ *
+ * THREADS. What a call takes as const may be read by several calls at a time; what it takes otherwise is that call's alone. So a
+ * thread with a chain and a queue of its own needs no lock but round `device`: many fs_ask, or one fs_reply_init. What is proved is proved of
+ * a chain all of whose calls one thread makes. The library keeps nothing of a thread's, so a chain that goes from thread to thread
+ * between calls, with the order that a lock or a join gives, does the same; but no proof says so.
+ *
+ * WHAT THE MONITOR OWES, since nobody checks C. A call in a wrong order, of another kind, or for another queue is refused by a number
+ * with a name, and so is a number that names nothing.
+ *  1. Pointers are good for their lengths, and no argument that is written overlaps another. None is NULL; with length 0 any other will do.
+ *  2. Load once: copy the bytes that were asked for, hand the copy over, and don't look at the guest's bytes for them again.
+ *  3. A load of 2 bytes is one atomic load that acquires (the available index: what it covers is read after it).
+ *  4. Order of a return: data over the room, the front over its begin, the element's two halves, then the index by one atomic store
+ *     of 2 bytes that releases; a full barrier (atomic_thread_fence(memory_order_seq_cst)); then the load of 2 bytes at `seen_at`.
+ *  5. Windows are used until fs_returned or fs_drop, and only those that were told: stores go to the room's alone.
+ *  6. Memory stays mapped while a chain is out over it; a page is marked in a migration's log after the store and before fs_returned.
+ *  7. One call at a time on a chain, on a queue, on a device that isn't const; each with the thread's order in between.
+ *  8. Before you begin a queue anew, drop the chains that walk it or are out of it: by its numbers alone a queue that begins at the
+ *     same position with the same parts can't be told from itself.
+ *  9. A call that changed files is answered, not dropped: a dropped chain is walked again, and asks again.
+ * 10. malloc, realloc and free are of one allocator, aligned as C says. No call from a signal handler, nor after fork in the child
+ *     of a process with threads.
+ *
+ * WHAT MAY COME without a change to your loops: more chains out of a queue (FS_CHAIN_OUT comes later; a queue's calls are still one at a
+ * time, from fs_return to fs_returned too), the event index (`seen_at` is elsewhere then; a call for before you sleep is added),
+ * an IOMMU (a status that names a missing address is added). Fields are added at a struct's end: begin with zeros.
+ *
+ * ERRORS. A call answers an enum fs_status. Below 32 it is a refusal of the queue's that stops it (but 1 and 9); 32 to 63 say how
+ * to go on; from 64 on nothing was done, and what was there before is there still, unless the function says otherwise (FS_NO_PLACE; FS_OTHER_QUEUE of fs_drop and fs_returned). "Errors" below are in the order in
+ * which they are looked for; of fs_chain_set_memory and fs_save that order isn't proved. Link with libfs_chain_c.a and the toolchain's file for the heap.
+ */
+#ifndef PITSKHOMU_CHAIN_H
+#define PITSKHOMU_CHAIN_H
+#include <stddef.h>
+#include <stdint.h>
+
+#if defined(__has_attribute)
+#if __has_attribute(nonnull)
+#define FS_NONNULL(...) __attribute__((nonnull(__VA_ARGS__)))
+#endif
+#if __has_attribute(warn_unused_result)
+#define FS_CHECK __attribute__((warn_unused_result))
+#endif
+#if __has_attribute(access)
+#define FS_READS(pointer, length) __attribute__((access(read_only, pointer, length)))
+#define FS_WRITES(pointer, length) __attribute__((access(write_only, pointer, length)))
+#define FS_FILLS(pointer) __attribute__((access(write_only, pointer)))
+#endif
+#endif
+#ifndef FS_NONNULL
+#define FS_NONNULL(...)
+#endif
+#ifndef FS_CHECK
+#define FS_CHECK
+#endif
+#ifndef FS_READS
+#define FS_READS(pointer, length)
+#define FS_WRITES(pointer, length)
+#define FS_FILLS(pointer)
+#endif
+
+#ifdef __cplusplus
+extern "C" {
+#endif
+
+/* ---------------------------------------------------------------- numbers */
+
+#define FS_VERSION 4u          /* of this header; fs_version() is the archive's */
+#define FS_REGIONS_MAX 64u     /* regions of the guest's memory */
+#define FS_QUEUES_MAX 64u      /* queues in a record */
+#define FS_LOAD_MAX 4096u      /* no load of a walk is longer; today's have 2 or 16 bytes, or parts of these */
+#define FS_FIRST 80u           /* as much of a request is loaded first: header and record of the longest fixed one, WRITE's */
+#define FS_REQUEST_MAX 0x101000u /* the least limit: with it no request is loaded beyond; with a greater one, none beyond that (data of WRITE isn't loaded) */
+#define FS_FRONT_MAX 160u      /* no front of a reply is longer (CREATE's) */
+#define FS_HEADER 16u          /* the reply's header: data stands behind it in the room */
+
+enum fs_status {
+    FS_DONE = 0,
+    /* 1 to 9: of the queue. 2 to 8 stop it: `stopped` says which, until it is begun anew. */
+    FS_STOPPED = 1,                 /* the queue stopped before */
+    FS_AVAIL_INDEX_UNREACHABLE = 2,
+    FS_AVAIL_TOO_FAR = 3,           /* more chains wait than the queue holds */
+    FS_RING_ENTRY_UNREACHABLE = 4,
+    FS_HEAD_OUT_OF_TABLE = 5,
+    FS_USED_UNREACHABLE = 6,
+    FS_AVAIL_FLAGS_UNREACHABLE = 7,
+    FS_DESCRIPTOR_UNREACHABLE = 8,
+    FS_OUT_OF_MEMORY = 9,           /* memory is wanting; nothing was done, and the call may be made again */
+    /* 32 to 63: how to go on. */
+    FS_LOAD = 32,                   /* load these bytes, and call again with them */
+    FS_IDLE = 33,                   /* no chain waits */
+    FS_MORE = 34,                   /* more of the request is wanted: `needed` bytes in all, from its start */
+    FS_NO_ROOM = 35,                /* the answer is taken, but the room holds no such reply: the chain goes back with none. What it
+                                       told the guest, the guest doesn't know: an entry's node is held once less */
+    FS_FULL = 36,                   /* this entry has no place in the size that was asked for, and isn't in the list: undo its look-up, and reply */
+    FS_LIST_FAILS = 37,             /* it has one there, but none in the room: undo its look-up, and answer by fs_reply_err(EIO) */
+    FS_ENTRIES = 38,                /* the listing that failed is answered by the entries that it has, since their nodes are held: put
+                                       `len - front_len` bytes of the list (of the stores) in the room, as after fs_reply_entries */
+    /* from 64: refused, and nothing was done. */
+    FS_BAD_ARGUMENT = 66,           /* a number that isn't one of those that the function names, or a slice of a wrong length */
+    FS_SHORT_BUFFER = 69,           /* the buffer is too short */
+    FS_LONG_REPLY = 71,             /* of fs_reply_bytes: more bytes than the room has, or than 32 bits tell. Of fs_reply_data: more than a reply can tell
+                                       (2^32 bytes with its header), in a room that has place for them: answer otherwise. With limits of at
+                                       most 2^31 there is none, and FS_NO_ROOM is told */
+    FS_WRONG_ORDER = 73,            /* the chain isn't where this call goes on from */
+    FS_OTHER_QUEUE = 74,            /* the chain isn't out of this queue as it stands */
+    FS_OTHER_KIND = 75,             /* the call wants an answer of another kind (`answer` of the call) */
+    FS_CHAIN_OUT = 76,              /* the queue has as many chains out as it may (one), or the chain is walked or out */
+    FS_NO_PLACE = 77,               /* what is to be loaded or stored has no place. The walk found that it has, and regions don't change while a
+                                       chain is walked or out: so this isn't told; but that isn't proved of the handle's functions together */
+    FS_RECORD_TRUNCATED = 81,       /* 81 to 90: nothing goes on from the record */
+    FS_RECORD_BAD_MAGIC = 82,
+    FS_RECORD_BAD_VERSION = 83,
+    FS_RECORD_BAD_COUNT = 84,
+    FS_RECORD_BAD_RESERVED = 85,
+    FS_RECORD_BAD_QUEUE = 86,
+    FS_RECORD_BAD_OPTIONS = 87,
+    FS_RECORD_OUT_OF_MEMORY = 89,   /* memory is wanting to read it; the call may be made again */
+    FS_RECORD_MISMATCH = 90,        /* its page size or limit is another one */
+};
+
+/* What is wrong with a chain of descriptors: it goes back with no reply. */
+enum fs_fault {
+    FS_FAULT_NONE = 0,
+    FS_FAULT_TOO_LONG = 1,
+    FS_FAULT_NEXT_OUT_OF_TABLE = 2,
+    FS_FAULT_ADDRESS_OVERFLOW = 3,
+    FS_FAULT_INDIRECT_WITH_NEXT = 4,
+    FS_FAULT_INDIRECT_NESTED = 5,
+    FS_FAULT_INDIRECT_LENGTH = 6,
+    FS_FAULT_TABLE_UNREACHABLE = 7,
+    FS_FAULT_OVER_LIMIT = 8,
+    FS_FAULT_REQUEST_UNREACHABLE = 9,
+    FS_FAULT_ROOM_UNREACHABLE = 10,
+};
+
+/* What is wrong with a request: no call is made, and there is no reply (virtiofsd's Error). */
+enum fs_request_fault {
+    FS_REQUEST_DECODE = 1,             /* it ends early */
+    FS_REQUEST_ENCODE = 2,             /* the reply is longer than the room */
+    FS_REQUEST_MISSING_PARAMETER = 4,
+    FS_REQUEST_MISSING_EXTENSION = 5,
+    FS_REQUEST_HEADER_LENGTH = 6,      /* the header's length is too small */
+    FS_REQUEST_NAME = 7,               /* a name doesn't end with its only zero byte */
+    FS_REQUEST_XATTR_SIZE = 9,
+};
+
+/* The file calls. The fields of struct fs_call that each has stand beside it; all have unique, and node, uid, gid and pid but INIT, DESTROY
+ * (none of the four) and BATCH_FORGET (no node). With FUSE_ALLOW_IDMAP, which is agreed on unasked, Linux since 6.12 tells uid and gid only with
+ * calls that make a node; else both are 0xffffffff. */
+enum fs_call_kind {
+    FS_CALL_NONE = 0,         /* none is made: the reply is known already (of locks, BMAP, IOCTL, POLL, NOTIFY_REPLY and
+                                 TMPFILE it is ENOSYS), or there is none. Go on with fs_return */
+    FS_CALL_LOOKUP = 1,       /* name */
+    FS_CALL_FORGET = 2,       /* count: the guest holds node so many times less */
+    FS_CALL_GETATTR = 3,      /* handle, if has_handle */
+    FS_CALL_SETATTR = 4,      /* valid (FATTR_ bits), attr, handle if has_handle, owner (with FATTR_LOCKOWNER) */
+    FS_CALL_READLINK = 5,     /* data_len */
+    FS_CALL_SYMLINK = 6,      /* name, value: what it leads to; group, if has_group: one of the caller's besides gid. So with MKNOD, MKDIR and
+                                 CREATE. The label of a new node isn't told: don't want FUSE_SECURITY_CTX at INIT */
+    FS_CALL_MKNOD = 8,        /* name, mode, rdev, umask; group, if has_group */
+    FS_CALL_MKDIR = 9,        /* name, mode, umask; group, if has_group */
+    FS_CALL_UNLINK = 10,      /* name */
+    FS_CALL_RMDIR = 11,       /* name */
+    FS_CALL_RENAME = 12,      /* name in node becomes name2 in node2; flags (RENAME_) */
+    FS_CALL_LINK = 13,        /* node gets the name in the directory node2 */
+    FS_CALL_OPEN = 14,        /* flags (O_ of Linux x86), kill_priv */
+    FS_CALL_READ = 15,        /* handle, offset, size: answer no more; data_len bytes of the room, at most, take data; flags, owner if has_owner */
+    FS_CALL_WRITE = 16,       /* handle, offset, size; data at data_at of the request, data_len bytes; flags, owner, delayed, kill_priv */
+    FS_CALL_STATFS = 17,
+    FS_CALL_RELEASE = 18,     /* handle, flags, flush, unlock, owner */
+    FS_CALL_FSYNC = 20,       /* handle, data_only */
+    FS_CALL_SETXATTR = 21,    /* name, value, flags. Those of FUSE_SETXATTR_EXT aren't told: don't want it at INIT */
+    FS_CALL_GETXATTR = 22,    /* name, size; data_len */
+    FS_CALL_LISTXATTR = 23,   /* size; data_len */
+    FS_CALL_REMOVEXATTR = 24, /* name */
+    FS_CALL_FLUSH = 25,       /* handle, owner */
+    FS_CALL_INIT = 26,        /* options: what the guest can. A session begins: no node but the root is held, nothing is open */
+    FS_CALL_OPENDIR = 27,     /* flags */
+    FS_CALL_READDIR = 28,     /* handle, offset, size: fs_add_direntry */
+    FS_CALL_RELEASEDIR = 29,  /* handle, flags */
+    FS_CALL_FSYNCDIR = 30,    /* handle, data_only */
+    FS_CALL_ACCESS = 34,      /* mode: R_OK, W_OK, X_OK */
+    FS_CALL_CREATE = 35,      /* name, mode, flags, umask, kill_priv; group, if has_group */
+    FS_CALL_DESTROY = 38,     /* the session ends: set the device's options to 0 */
+    FS_CALL_BATCH_FORGET = 42, /* value: count pairs (fs_pair) */
+    FS_CALL_FALLOCATE = 43,   /* handle, mode, offset, size */
+    FS_CALL_READDIRPLUS = 44, /* handle, offset, size: fs_add_direntry_plus */
+    FS_CALL_RENAME2 = 45,     /* never: it is FS_CALL_RENAME with flags */
+    FS_CALL_LSEEK = 46,       /* handle, offset, flags: whence */
+    FS_CALL_COPY_FILE_RANGE = 47, /* handle, offset, size, to node2, handle2, offset2. Its flags, 0 in Linux, aren't told */
+    FS_CALL_SYNCFS = 50,
+};
+
+/* The kinds of good answer, and the function that gives it. Each call may also have fs_reply_err, but FORGET's; DESTROY's
+ * with no error alone. */
+enum fs_answer_kind {
+    FS_ANSWER_NONE = 0,     /* none: make the call if there is one, then fs_return */
+    FS_ANSWER_DONE = 1,     /* fs_reply_err(.., 0) */
+    FS_ANSWER_ENTRY = 2,    /* fs_reply_entry */
+    FS_ANSWER_ATTR = 3,     /* fs_reply_attr */
+    FS_ANSWER_OPEN = 4,     /* fs_reply_open */
+    FS_ANSWER_CREATE = 5,   /* fs_reply_create */
+    FS_ANSWER_DATA = 6,     /* fs_reply_data */
+    FS_ANSWER_XATTR = 7,    /* fs_reply_xattr: size was 0, and the length alone is asked for. fs_reply_data is taken for 7 too, and
+                               fs_reply_xattr for 6 of GETXATTR and LISTXATTR: answer what `answer` says */
+    FS_ANSWER_STATFS = 8,   /* fs_reply_statfs */
+    FS_ANSWER_WRITE = 9,    /* fs_reply_write */
+    FS_ANSWER_LSEEK = 10,   /* fs_reply_lseek */
+    FS_ANSWER_ENTRIES = 11, /* fs_reply_entries */
+    FS_ANSWER_INIT = 12,    /* fs_reply_init */
+};
+
+/* The name of a number, and "" of others. These are C, and unproved. */
+static inline const char *fs_status_name(uint32_t status) {
+#define FS_NAME(name) case name: return #name
+    switch (status) {
+    FS_NAME(FS_DONE); FS_NAME(FS_STOPPED); FS_NAME(FS_AVAIL_INDEX_UNREACHABLE); FS_NAME(FS_AVAIL_TOO_FAR);
+    FS_NAME(FS_RING_ENTRY_UNREACHABLE); FS_NAME(FS_HEAD_OUT_OF_TABLE); FS_NAME(FS_USED_UNREACHABLE);
+    FS_NAME(FS_AVAIL_FLAGS_UNREACHABLE); FS_NAME(FS_DESCRIPTOR_UNREACHABLE); FS_NAME(FS_OUT_OF_MEMORY); FS_NAME(FS_LOAD);
+    FS_NAME(FS_IDLE); FS_NAME(FS_MORE); FS_NAME(FS_NO_ROOM); FS_NAME(FS_FULL); FS_NAME(FS_LIST_FAILS); FS_NAME(FS_ENTRIES);
+    FS_NAME(FS_BAD_ARGUMENT); FS_NAME(FS_NO_PLACE); FS_NAME(FS_RECORD_TRUNCATED); FS_NAME(FS_RECORD_BAD_MAGIC);
+    FS_NAME(FS_RECORD_BAD_VERSION); FS_NAME(FS_RECORD_BAD_COUNT); FS_NAME(FS_RECORD_BAD_RESERVED);
+    FS_NAME(FS_RECORD_BAD_QUEUE); FS_NAME(FS_RECORD_BAD_OPTIONS); FS_NAME(FS_RECORD_OUT_OF_MEMORY); FS_NAME(FS_RECORD_MISMATCH);
+    FS_NAME(FS_SHORT_BUFFER); FS_NAME(FS_LONG_REPLY); FS_NAME(FS_WRONG_ORDER); FS_NAME(FS_OTHER_QUEUE);
+    FS_NAME(FS_OTHER_KIND); FS_NAME(FS_CHAIN_OUT);
+    default: return "";
+    }
+}
+
+static inline const char *fs_fault_name(uint32_t fault) {
+    switch (fault) {
+    FS_NAME(FS_FAULT_NONE); FS_NAME(FS_FAULT_TOO_LONG); FS_NAME(FS_FAULT_NEXT_OUT_OF_TABLE);
+    FS_NAME(FS_FAULT_ADDRESS_OVERFLOW); FS_NAME(FS_FAULT_INDIRECT_WITH_NEXT); FS_NAME(FS_FAULT_INDIRECT_NESTED);
+    FS_NAME(FS_FAULT_INDIRECT_LENGTH); FS_NAME(FS_FAULT_TABLE_UNREACHABLE); FS_NAME(FS_FAULT_OVER_LIMIT);
+    FS_NAME(FS_FAULT_REQUEST_UNREACHABLE); FS_NAME(FS_FAULT_ROOM_UNREACHABLE);
+    default: return "";
+    }
+}
+
+static inline const char *fs_request_fault_name(uint32_t fault) {
+    switch (fault) {
+    FS_NAME(FS_REQUEST_DECODE); FS_NAME(FS_REQUEST_ENCODE); FS_NAME(FS_REQUEST_MISSING_PARAMETER); FS_NAME(FS_REQUEST_MISSING_EXTENSION);
+    FS_NAME(FS_REQUEST_HEADER_LENGTH); FS_NAME(FS_REQUEST_NAME); FS_NAME(FS_REQUEST_XATTR_SIZE);
+    default: return "";
+    }
+}
+
+static inline const char *fs_call_name(uint32_t kind) {
+    switch (kind) {
+    FS_NAME(FS_CALL_NONE); FS_NAME(FS_CALL_LOOKUP); FS_NAME(FS_CALL_FORGET); FS_NAME(FS_CALL_GETATTR); FS_NAME(FS_CALL_SETATTR);
+    FS_NAME(FS_CALL_READLINK); FS_NAME(FS_CALL_SYMLINK); FS_NAME(FS_CALL_MKNOD); FS_NAME(FS_CALL_MKDIR); FS_NAME(FS_CALL_UNLINK);
+    FS_NAME(FS_CALL_RMDIR); FS_NAME(FS_CALL_RENAME); FS_NAME(FS_CALL_LINK); FS_NAME(FS_CALL_OPEN); FS_NAME(FS_CALL_READ);
+    FS_NAME(FS_CALL_WRITE); FS_NAME(FS_CALL_STATFS); FS_NAME(FS_CALL_RELEASE); FS_NAME(FS_CALL_FSYNC); FS_NAME(FS_CALL_SETXATTR);
+    FS_NAME(FS_CALL_GETXATTR); FS_NAME(FS_CALL_LISTXATTR); FS_NAME(FS_CALL_REMOVEXATTR); FS_NAME(FS_CALL_FLUSH);
+    FS_NAME(FS_CALL_INIT); FS_NAME(FS_CALL_OPENDIR); FS_NAME(FS_CALL_READDIR); FS_NAME(FS_CALL_RELEASEDIR);
+    FS_NAME(FS_CALL_FSYNCDIR); FS_NAME(FS_CALL_ACCESS); FS_NAME(FS_CALL_CREATE); FS_NAME(FS_CALL_DESTROY);
+    FS_NAME(FS_CALL_BATCH_FORGET); FS_NAME(FS_CALL_FALLOCATE); FS_NAME(FS_CALL_READDIRPLUS); FS_NAME(FS_CALL_RENAME2);
+    FS_NAME(FS_CALL_LSEEK); FS_NAME(FS_CALL_COPY_FILE_RANGE); FS_NAME(FS_CALL_SYNCFS);
+    default: return "";
+    }
+#undef FS_NAME
+}
+
+/* The archive's FS_VERSION: compare it once where header and archive may be of two releases. */
+uint32_t fs_version(void);
+
+/* ---------------------------------------------------------------- device and queues: numbers that you keep */
+
+/* What all queues share. page_size is a power of two from 4096 to 65536; a request or a room of more than `limit` bytes (from
+ * 0x101000 to 2^31) makes a chain faulty. `options` are what INIT agreed on (FUSE_ bits, 0 before): fs_reply_init sets them. */
+struct fs_device {
+    uint32_t page_size, limit;
+    uint64_t options;
+};
+#define FS_DEVICE {4096u, 0x101000u, 0u}
+
+/* A queue: set the first five, and the rest to 0. The parts' guest addresses are aligned to 16, 2 and 4 and end below 2^64; size
+ * is a power of two up to 32768. `position` is where it begins (SET_VRING_BASE, 0 after a reset), and while no chain is out where
+ * it stands (GET_VRING_BASE): fs_returned alone moves it. To begin anew, set all fields again. */
+struct fs_queue {
+    uint64_t desc, avail, used;
+    uint16_t size;
+    uint16_t position;
+    uint16_t out;     /* how many chains are out: 0 or 1 as yet. The next one is taken at position + out */
+    uint16_t stopped; /* the refusal (2 to 8) that stopped it, 1 if a record tells that one did, or 0 */
+};
+
+/* Where a stretch of the guest's memory stands: `host` is the number of its first byte here, mostly (uintptr_t) of what mmap gave.
+ * The core only adds to it: who keeps memory behind other numbers (offsets, the guest's own) hands in those. All three are
+ * multiples of 4096, so what is aligned for the guest is aligned here. */
+struct fs_region {
+    uint64_t guest, len;
+    uintptr_t host;
+};
+
+/* ---------------------------------------------------------------- chain */
+
+/* The one handle. Zeros before its first use; it isn't copied, and its fields are the library's. */
+struct fs_chain {
+    void *at;
+    uint32_t full;
+};
+
+/* Over which memory the chain's next walks go: up to FS_REGIONS_MAX regions that don't overlap, none empty, ends up to 2^64, in any
+ * order; and the device's limit. They are copied. Call it first, and after each change of the memory table, for each chain.
+ * Errors: FS_BAD_ARGUMENT, FS_OUT_OF_MEMORY, FS_CHAIN_OUT (also if a walk has begun); then the regions stay as they were. */
+uint32_t fs_chain_set_memory(struct fs_chain *chain, const struct fs_device *device, const struct fs_region *regions,
+                         size_t region_count) FS_CHECK FS_NONNULL(1, 2) FS_READS(3, 4);
+
+/* Frees what the chain holds; then it is zeros. Of zeros it does nothing. A chain that is out counts as dropped, but its queue
+ * isn't told: set its `out` to 0. */
+void fs_chain_free(struct fs_chain *chain) FS_NONNULL(1);
+
+/* What a walk says: with FS_LOAD, `len` bytes at `at`, 1 to FS_LOAD_MAX; with FS_DONE, the chain. Where nothing was done, the load that a walk still wants,
+ * but zeros if the queue's numbers are none. Else zeros. */
+struct fs_step {
+    uintptr_t at;
+    size_t len;
+    uint64_t request_len, room_len; /* 0 with a fault */
+    uint32_t fault;                 /* enum fs_fault. Else 0: go on with fs_ask. A faulty chain goes on with fs_return */
+    uint16_t head;                  /* the number that the guest knows it by */
+};
+
+/* Takes the next chain of a queue. At first `loaded` has length 0; as long as it answers FS_LOAD, load and call again with these
+ * bytes. A walk ends after at most 2 * size + 6 loads, whatever the guest writes; proved is that of the walk behind this call (fs_queue's
+ * law_any_loads), not of the handle's calls together. A queue that another chain's walk stopped meanwhile refuses: FS_STOPPED.
+ * FS_DONE: the chain is out of the queue, its windows stay as they are until it is returned or dropped. FS_IDLE, a refusal
+ * from 1 to 8: the chain is free. A chain whose walk has begun isn't out yet: fs_drop ends it, and so does a refusal. An entry that goes over the
+ * end of a region (the next one begins there) is loaded in two parts, by two calls.
+ * Errors: FS_WRONG_ORDER (no memory was told), FS_BAD_ARGUMENT (the queue's numbers are none; or `loaded` isn't as long as the load: that is still
+ * wanted, and told again), FS_WRONG_ORDER (it is out), FS_OTHER_QUEUE (it walks another), FS_CHAIN_OUT; then in no order FS_OUT_OF_MEMORY, 1 to 8, FS_NO_PLACE. */
+uint32_t fs_walk(struct fs_chain *chain, struct fs_queue *queue, const uint8_t *loaded, size_t loaded_len, struct fs_step *step)
+    FS_CHECK FS_NONNULL(1, 2, 5) FS_READS(3, 4) FS_FILLS(5);
+
+/* Gives a chain up: free for another walk, nothing stored. The queue is told, and hands the same chain out at its next walk,
+ * read anew. A walk ends; of zeros it does nothing.
+ * Errors: FS_WRONG_ORDER (fs_return told the stores: go on to fs_returned). FS_OTHER_QUEUE is told where the queue was begun anew
+ * meanwhile; the chain is free all the same. */
+uint32_t fs_drop(struct fs_chain *chain, struct fs_queue *queue) FS_NONNULL(1, 2);
+
+/* A stretch of memory here, laid out as struct iovec is: a `struct fs_window[]` may be handed to preadv and its kin by a cast. */
+struct fs_window {
+    uintptr_t at;
+    size_t len;
+};
+
+/* A stretch of the guest's addresses. */
+struct fs_range {
+    uint64_t guest, len;
+};
+
+/* The windows of the bytes from `from` on, up to `len` of them, of a chain's request or room: as many as there is place for and
+ * bytes for, each as long as its descriptor and its region go on. They answer how many they filled: 0 where nothing is there, also of a chain
+ * that isn't out. What they cover is the sum of their lengths; go on from there for more. fs_room_ranges tells the same of the room by the
+ * guest's addresses, for a log: each range as long as its descriptor goes on. */
+size_t fs_request_windows(struct fs_chain *chain, uint64_t from, uint64_t len, struct fs_window *windows, size_t window_count)
+    FS_NONNULL(1) FS_WRITES(4, 5);
+size_t fs_room_windows(struct fs_chain *chain, uint64_t from, uint64_t len, struct fs_window *windows, size_t window_count)
+    FS_NONNULL(1) FS_WRITES(4, 5);
+size_t fs_room_ranges(struct fs_chain *chain, uint64_t from, uint64_t len, struct fs_range *ranges, size_t range_count)
+    FS_NONNULL(1) FS_WRITES(4, 5);
+
+/* ---------------------------------------------------------------- ask */
+
+/* A place in the request's bytes, as they were handed to fs_ask. A name has no zero byte, but one stands behind it. Proved is that `len` is the length
+ * of the name that the request tells, and `at` where its kind has it; that these bytes are the name's isn't proved, and is tried. */
+struct fs_span {
+    uint32_t at, len;
+};
+
+/* struct fuse_attr; with SETATTR, what is to be set. */
+struct fs_attr {
+    uint64_t ino, size, blocks, atime, mtime, ctime; /* times: seconds */
+    uint32_t atime_nanos, mtime_nanos, ctime_nanos;
+    uint32_t mode, nlink, uid, gid, rdev, block_size, flags;
+};
+
+/* A request: what the file system is asked. Which fields count stands at each kind; the others are 0. */
+struct fs_call {
+    uint32_t kind;   /* enum fs_call_kind */
+    uint32_t answer; /* enum fs_answer_kind: what it waits for */
+    uint32_t opcode; /* as the guest wrote it, also where no call is made */
+    uint32_t error;  /* 0 */
+    uint32_t fault;  /* enum fs_request_fault, or 0 */
+    uint64_t unique; /* the guest's number of the request */
+    uint32_t uid, gid, pid;
+    uint32_t needed; /* with FS_MORE: so many bytes of the request, from its start */
+    uint64_t node, handle, offset, size, owner, options, count;
+    uint64_t node2, handle2, offset2;
+    struct fs_span name, name2, value;
+    uint64_t data_at, data_len; /* WRITE: of the request. READ and others whose answer is data: of the room, from FS_HEADER on */
+    uint32_t flags, mode, umask, rdev, valid;
+    uint8_t has_handle, has_owner, delayed, kill_priv, flush, unlock, data_only, has_group; /* 0 or 1 */
+    struct fs_attr attr;
+    uint32_t group;
+};
+
+/* Tells what the request asks. `request` are its first bytes: request_len or FS_FIRST of them, the lesser, and where it answers
+ * FS_MORE as many as it needs (so it does if fewer came); load only the new ones, and call again with all. A buffer as long as the device's limit holds any; WRITE
+ * never needs more than FS_FIRST. The library keeps no pointer, and wants the bytes no more; but `call` speaks of places in them.
+ * A call whose `answer` is FS_ANSWER_NONE is answered: make it, if there is one, and go on with fs_return.
+ * Errors: FS_WRONG_ORDER (no memory was told), FS_BAD_ARGUMENT (page size or limit are none), FS_WRONG_ORDER (no chain, a faulty one, or it was asked),
+ * FS_BAD_ARGUMENT (more bytes than the request has), FS_OUT_OF_MEMORY; then `call` is zeros. */
+uint32_t fs_ask(struct fs_chain *chain, const struct fs_device *device, const uint8_t *request, size_t request_len, struct fs_call *call)
+    FS_CHECK FS_NONNULL(1, 2, 5) FS_READS(3, 4) FS_FILLS(5);
+
+/* Pair `k`, below count, of BATCH_FORGET: node, and how many times less it is held. */
+static inline void fs_pair(const uint8_t *request, const struct fs_call *call, uint64_t k, uint64_t *node, uint64_t *count) {
+    const uint8_t *p = request + call->value.at + 16 * k;
+    *node = *count = 0;
+    for (int i = 7; i >= 0; i--) {
+        *node = *node << 8 | p[i];
+        *count = *count << 8 | p[8 + i];
+    }
+}
+
+/* ---------------------------------------------------------------- answers, as libfuse's replies */
+
+/* What a name stands for (struct fuse_entry_out). Node 0: it is known that the name isn't there. */
+struct fs_entry {
+    uint64_t node, generation;
+    uint64_t entry_secs, attr_secs;   /* how long name and attributes stay good */
+    uint32_t entry_nanos, attr_nanos; /* below 10^9 */
+    struct fs_attr attr;
+};
+
+/* struct fuse_kstatfs. */
+struct fs_statfs {
+    uint64_t blocks, bfree, bavail, files, ffree;
+    uint32_t bsize, namelen, frsize;
+};
+
+/* All of these answer the call that fs_ask told, once, and touch no memory; the reply is handed out by fs_return. Errors, the same
+ * for all: what stands beside each, then FS_WRONG_ORDER (nothing is asked, or it was answered), FS_OTHER_KIND; after these the call
+ * waits still. FS_NO_ROOM isn't one: see there. No memory is wanted. */
+
+/* errno.h of Linux, 1 to 4095; or 0, which says done where that is the answer's kind (else FS_OTHER_KIND). Others: FS_BAD_ARGUMENT. FS_ENTRIES: see there. */
+uint32_t fs_reply_err(struct fs_chain *chain, uint32_t error) FS_CHECK FS_NONNULL(1);
+
+/* LOOKUP, SYMLINK, MKNOD, MKDIR, LINK: the guest holds the node once more. FS_BAD_ARGUMENT: nanoseconds of a second or more. */
+uint32_t fs_reply_entry(struct fs_chain *chain, const struct fs_entry *entry) FS_CHECK FS_NONNULL(1, 2);
+
+/* CREATE: as entry and open. With FS_NO_ROOM, forget the node and close the file. */
+uint32_t fs_reply_create(struct fs_chain *chain, const struct fs_entry *entry, uint64_t handle, uint32_t open_flags) FS_CHECK FS_NONNULL(1, 2);
+
+/* GETATTR, SETATTR. FS_BAD_ARGUMENT: nanoseconds of a second or more. */
+uint32_t fs_reply_attr(struct fs_chain *chain, const struct fs_attr *attr, uint64_t secs, uint32_t nanos) FS_CHECK FS_NONNULL(1, 2);
+
+/* OPEN, OPENDIR. handle: a number of yours, which READ and its kin bring back; open_flags: FOPEN_ bits. */
+uint32_t fs_reply_open(struct fs_chain *chain, uint64_t handle, uint32_t open_flags) FS_CHECK FS_NONNULL(1);
+
+/* READ, READLINK, GETXATTR, LISTXATTR: `len` bytes of data stand in the room from FS_HEADER on, where you put them (preadv on
+ * fs_room_windows, or a copy) or will have put them before the index is stored. Of READ no more than data_len (else FS_OTHER_KIND); of the others what has
+ * no room is FS_NO_ROOM. Errors after the common ones: FS_LONG_REPLY. */
+uint32_t fs_reply_data(struct fs_chain *chain, uint64_t len) FS_CHECK FS_NONNULL(1);
+
+/* GETXATTR and LISTXATTR with size 0: how many bytes there are. */
+uint32_t fs_reply_xattr(struct fs_chain *chain, uint32_t len) FS_CHECK FS_NONNULL(1);
+
+/* WRITE, COPY_FILE_RANGE: how many bytes were written. */
+uint32_t fs_reply_write(struct fs_chain *chain, uint32_t count) FS_CHECK FS_NONNULL(1);
+
+uint32_t fs_reply_statfs(struct fs_chain *chain, const struct fs_statfs *statfs) FS_CHECK FS_NONNULL(1, 2);
+
+/* LSEEK. */
+uint32_t fs_reply_lseek(struct fs_chain *chain, uint64_t offset) FS_CHECK FS_NONNULL(1);
+
+/* INIT: of the options that the guest can (`options` of the call) those that are wanted besides what the device agrees on anyway. The page size is that
+ * of fs_ask's device. device->options becomes what was agreed; so this call has the device alone. */
+uint32_t fs_reply_init(struct fs_chain *chain, struct fs_device *device, uint64_t wanted) FS_CHECK FS_NONNULL(1, 2);
+
+/* READDIR: puts an entry behind those before it. They gather in `list`, a buffer of yours that stays the same until the reply, of
+ * data_len bytes at most; begin nothing, clear nothing. next_offset is what READDIR brings as its offset to go on behind this entry; type
+ * is DT_ of dirent.h. FS_FULL: it didn't fit, the list is as before; reply now. FS_LIST_FAILS: the same, but fail.
+ * Errors: FS_BAD_ARGUMENT (a name that is empty or longer than 255), the common ones, FS_SHORT_BUFFER (list ends before it). */
+uint32_t fs_add_direntry(struct fs_chain *chain, uint8_t *list, size_t list_len, const uint8_t *name, size_t name_len, uint64_t ino,
+                         uint64_t next_offset, uint32_t type) FS_CHECK FS_NONNULL(1) FS_READS(4, 5);
+
+/* READDIRPLUS: an entry with its node, which the guest holds once more, as after LOOKUP. For "." and ".." entry->node is 0, and
+ * nothing is held. FS_FULL, FS_LIST_FAILS, and any error: the look-up isn't told, so undo it. Type and ino are the attributes'. */
+uint32_t fs_add_direntry_plus(struct fs_chain *chain, uint8_t *list, size_t list_len, const uint8_t *name, size_t name_len,
+                              const struct fs_entry *entry, uint64_t next_offset) FS_CHECK FS_NONNULL(1, 6) FS_READS(4, 5);
+
+/* How much of data_len an entry takes: so a look-up that wouldn't fit needn't be made. C, and unproved. */
+static inline uint64_t fs_direntry_len(size_t name_len, int plus) {
+    return ((plus ? 152u : 24u) + (uint64_t)name_len + 7) & ~(uint64_t)7;
+}
+
+/* READDIR and READDIRPLUS: the entries so far are the answer; none ends the directory. `len` is how many bytes of `list` you put in the
+ * room from FS_HEADER on. */
+uint32_t fs_reply_entries(struct fs_chain *chain, uint64_t *len) FS_CHECK FS_NONNULL(1, 2) FS_FILLS(2);
+
+/* ---------------------------------------------------------------- a reply of your own bytes */
+
+/* Replies `len` bytes of your own, header and all (struct fuse_out_header of linux/fuse.h: len, error, unique; all little-endian): they stand in the room
+ * from 0 on, where you put them (fs_room_windows) or will have put them before the index is stored; 0 is silence, as after FORGET. In place of fs_ask,
+ * for a request that the library doesn't serve: its opcode are the bytes 4 to 7 of the request, its number `unique` 8 to 15. So each chain of a queue may go
+ * to a FUSE server of yours. Or in place of the answer that a call waits for; then the library has no part in what the guest is told: after LOOKUP and its
+ * kin the node is held once more, after INIT device->options are yours to set.
+ * fs_return tells no front then (front_len 0), and `len` in the used element (VIRTIO 1.2, 2.7.8). No memory is wanted.
+ * Errors: FS_WRONG_ORDER (no chain is out, a faulty one, or it has a reply: it was answered, or fs_ask told FS_ANSWER_NONE), FS_LONG_REPLY (more than room_len
+ * bytes of the step, or 2^32 and more); the chain waits still. */
+uint32_t fs_reply_bytes(struct fs_chain *chain, uint64_t len) FS_CHECK FS_NONNULL(1);
+
+/* ---------------------------------------------------------------- return */
+
+/* What is to be stored and loaded for a return, in this order (VIRTIO 1.2, 2.7.8 and 2.7.7). All is little-endian. */
+struct fs_stores {
+    size_t front_len;           /* 1. so many bytes of `front` over the room from 0 on; data stands behind them. 0: no reply */
+    uintptr_t id_at, len_at;    /* 2. the used element: 4 bytes each */
+    uint32_t id, len;
+    uintptr_t index_at;         /* 3. the used index: 2 bytes, one store that releases */
+    uint16_t index;
+    uintptr_t seen_at;          /* 4. after a full barrier, 2 bytes: the available flags */
+};
+
+/* Says how the chain goes back. From here on it can't be dropped.
+ * Errors: FS_WRONG_ORDER (no memory was told), FS_BAD_ARGUMENT (the queue's numbers are none), FS_WRONG_ORDER (a call waits for its answer, or it was told),
+ * FS_OTHER_QUEUE, FS_SHORT_BUFFER (front isn't as long as what stands in it; FS_FRONT_MAX always is), FS_NO_PLACE (make no stores, and go on with fs_returned). */
+uint32_t fs_return(struct fs_chain *chain, const struct fs_queue *queue, uint8_t *front, size_t front_len, struct fs_stores *stores)
+    FS_CHECK FS_NONNULL(1, 2, 5) FS_WRITES(3, 4) FS_FILLS(5);
+
+/* The stores are made: the queue goes on by one, the chain is free. `seen` are the 2 bytes at seen_at, as a number; `notify` says
+ * whether the driver wants to be told: 1 or 0.
+ * Errors: FS_WRONG_ORDER. FS_OTHER_QUEUE is told where the queue was begun anew meanwhile; the chain is free all the same. */
+uint32_t fs_returned(struct fs_chain *chain, struct fs_queue *queue, uint16_t seen, uint8_t *notify)
+    FS_CHECK FS_NONNULL(1, 2, 4) FS_FILLS(4);
+
+/* ---------------------------------------------------------------- moving to another host */
+
+/* Puts the record of device and queues (positions, options, page size, limit; no chain, no memory, no file) at the front of a buffer;
+ * `len` is how long it is, also with FS_SHORT_BUFFER, and 0 otherwise.
+ * Errors: FS_BAD_ARGUMENT (page size or limit are none; options that aren't known; not 1 to FS_QUEUES_MAX queues), then of the first queue that has
+ * one FS_BAD_ARGUMENT (its numbers are none) or FS_CHAIN_OUT, FS_OUT_OF_MEMORY, FS_SHORT_BUFFER. */
+uint32_t fs_save(const struct fs_device *device, const struct fs_queue *queues, size_t queue_count, uint8_t *buffer, size_t buffer_len,
+                 size_t *len) FS_CHECK FS_NONNULL(1, 6) FS_READS(2, 3) FS_WRITES(4, 5) FS_FILLS(6);
+
+/* Reads a record: into device->options, whose page size and limit have to be the record's, and the queues, of which `count` are told. The record
+ * tells whether a queue was stopped, and not by what: `stopped` is 1 then. What it refuses leaves device and queues as they were. Other bytes may
+ * stand behind the record.
+ * Errors: FS_BAD_ARGUMENT (of the device), 81 to 90 by what is read first, FS_SHORT_BUFFER (of queues; count tells how many there are, and is 0
+ * after the others). */
+uint32_t fs_restore(struct fs_device *device, struct fs_queue *queues, size_t queue_count, const uint8_t *saved, size_t saved_len,
+                    size_t *count) FS_CHECK FS_NONNULL(1, 6) FS_WRITES(2, 3) FS_READS(4, 5) FS_FILLS(6);
+
+#ifdef __cplusplus
+}
+#endif
+#endif

@@ -1,0 +1,75 @@
+//! The kinds of answer that calls wait for, by C's numbers.
+
+ghost use Rattle.std.specs.Prelude.{◌≡◌};
+ghost use Rattle.fs_chain_c.specs.Numbers.{answer_number, call_number, listing, sized};
+
+use fuse_wire::Opcode;
+
+/// What a call waits for (FS_ANSWER_).
+#[derive(Clone, Copy, Debug, PartialEq, Eq)]
+pub enum AnswerKind {
+    /// None: it is answered, or no call is made.
+    None = 0,
+    /// That it is done.
+    Done = 1,
+    /// What a name stands for.
+    Entry = 2,
+    /// Attributes.
+    Attr = 3,
+    /// An open file.
+    Open = 4,
+    /// What a name stands for, and an open file.
+    Create = 5,
+    /// Data.
+    Data = 6,
+    /// How many bytes an extended attribute has, or the names of all.
+    Xattr = 7,
+    /// The file system's numbers.
+    Statfs = 8,
+    /// How many bytes were written.
+    Write = 9,
+    /// A place in a file.
+    Lseek = 10,
+    /// Entries of a directory.
+    Entries = 11,
+    /// Options.
+    Init = 12,
+}
+
+impl AnswerKind {
+    /// Its number.
+    pub fn number(self) -> u32
+        ensures { result ≡ answer_number self }
+    {
+        self as u32
+    }
+}
+
+/// The number of a call: that of its request (`enum fuse_opcode`).
+pub(crate) fn call_number(opcode: Opcode) -> u32
+    ensures { result ≡ call_number opcode }
+{
+    opcode as u32
+}
+
+/// What GETXATTR and LISTXATTR wait for.
+pub(crate) fn sized(size: u32) -> AnswerKind
+    ensures { result ≡ sized size }
+{
+    if size == 0 {
+        AnswerKind::Xattr
+    } else {
+        AnswerKind::Data
+    }
+}
+
+/// READDIR or READDIRPLUS.
+pub(crate) fn listing(opcode: u32) -> Opcode
+    ensures { result ≡ listing opcode }
+{
+    if opcode == call_number(Opcode::Readdirplus) {
+        Opcode::Readdirplus
+    } else {
+        Opcode::Readdir
+    }
+}

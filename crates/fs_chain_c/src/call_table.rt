@@ -1,0 +1,145 @@
+//! What C is told of each call of a file system: one row for each.
+
+ghost use Rattle.std.specs.Prelude.{◌≡◌};
+ghost use Rattle.fs_chain_c.specs.Calls.{at_rename, at_setxattr, group_of, told_call};
+
+use crate::answer_kind::{AnswerKind, call_number, listing, sized};
+use crate::call::{FsCall, HEADER, attr_told, behind, behind_header, data_len, span};
+use bitflags::Flags;
+use fuse_fs::Extensions;
+use fuse_values::FileCall;
+use fuse_wire::Opcode;
+use virtiofsd_fuse::REQUEST_FRONT;
+
+/// The option by which SETXATTR has a longer record (FUSE_SETXATTR_EXT).
+const SETXATTR_EXT: u64 = 1 << 29;
+
+/// Where a request's first name stands: behind its header (struct fuse_in_header).
+const AT: usize = 40;
+
+/// Behind the header and a record of 8 bytes.
+const AT_8: usize = AT + 8;
+
+/// Behind the header and a record of 16 bytes.
+const AT_16: usize = AT + 16;
+
+// Where the first name of RENAME or RENAME2 stands (struct fuse_rename_in, struct fuse_rename2_in).
+fn at_rename(opcode: u32) -> usize
+    ensures { result ≡ at_rename opcode }
+{
+    if opcode == call_number(Opcode::Rename2) {
+        AT_16
+    } else {
+        AT_8
+    }
+}
+
+// Where the name of SETXATTR stands: behind the long record, if that was agreed (struct fuse_setxattr_in).
+fn at_setxattr(options: u64) -> usize
+    ensures { result ≡ at_setxattr options }
+{
+    if options & SETXATTR_EXT == 0 {
+        AT_8
+    } else {
+        AT_16
+    }
+}
+
+// A group of the caller's besides its own; 0 if the request tells none.
+fn group_of(extra: &Extensions) -> u32
+    ensures { result ≡ group_of extra.now }
+{
+    match &extra.sup_gid {
+        Some(group) => group.0,
+        None => 0,
+    }
+}
+
+// A match over all calls. A row of a call that somebody makes of a node: its fields besides, what it waits for, what is told besides;
+// and one of another: its fields, what is told, what is told besides.
+macro_rules! told {
+    ($call:expr,
+        of_a_node { $($name:ident { $($part:tt)* } $kind:ident $(, $field:ident: $value:expr)*;)* }
+        others { $($other:ident { $($piece:tt)* } = $start:expr $(, $slot:ident: $given:expr)*;)* }) => {
+        match $call {
+            $(FileCall::$name { context, node, $($part)* } => {
+                let mut told = FsCall::made_by(Opcode::$name, AnswerKind::$kind, context, *node);
+                $(told.$field = $value;)*
+                told
+            })*
+            $(FileCall::$other { $($piece)* } => {
+                let mut told = $start;
+                $(told.$slot = $given;)*
+                told
+            })*
+        }
+    };
+}
+
+/// What is told of a call: by the opcode of its request, the options that were agreed, and the room.
+pub(crate) fn told_call(opcode: u32, options: u64, room: usize, call: &FileCall) -> FsCall
+    ensures { result ≡ told_call opcode options room call.now }
+{
+    told!(call, of_a_node {
+        Lookup { name } Entry, name: span(AT, name.len());
+        Forget { count } None, count: *count;
+        Getattr { handle } Attr, has_handle: u8::from(handle.is_some()), handle: handle.unwrap_or(0);
+        Setattr { attr, handle, valid } Attr,
+            has_handle: u8::from(handle.is_some()), handle: handle.unwrap_or(0), valid: valid.bits(), owner: attr.lock_owner, attr: attr_told(attr);
+        Readlink {} Data, data_at: HEADER, data_len: behind_header(room);
+        Symlink { link, name, extra } Entry,
+            name: span(AT, name.len()), value: span(behind(AT, name.len()), link.len()), has_group: u8::from(extra.sup_gid.is_some()), group: group_of(extra);
+        Mknod { name, mode, rdev, umask, extra } Entry,
+            name: span(AT_16, name.len()), mode: *mode, rdev: *rdev, umask: *umask, has_group: u8::from(extra.sup_gid.is_some()), group: group_of(extra);
+        Mkdir { name, mode, umask, extra } Entry,
+            name: span(AT_8, name.len()), mode: *mode, umask: *umask, has_group: u8::from(extra.sup_gid.is_some()), group: group_of(extra);
+        Unlink { name } Done, name: span(AT, name.len());
+        Rmdir { name } Done, name: span(AT, name.len());
+        Rename { old, new_dir, new, flags } Done,
+            name: span(at_rename(opcode), old.len()), name2: span(behind(at_rename(opcode), old.len()), new.len()), node2: *new_dir, flags: *flags;
+        Open { kill, flags } Open, flags: *flags, kill_priv: u8::from(*kill);
+        Read { handle, room: most, size, offset, owner, flags } Data,
+            handle: *handle, offset: *offset, size: u64::from(*size), data_at: HEADER, data_len: *most as u64, flags: *flags, has_owner: u8::from(owner.is_some()), owner: owner.unwrap_or(0);
+        Write { handle, len, size, offset, owner, delayed, kill, flags } Write,
+            handle: *handle, offset: *offset, size: u64::from(*size), data_at: REQUEST_FRONT as u64, data_len: *len as u64, flags: *flags,
+            has_owner: u8::from(owner.is_some()), owner: owner.unwrap_or(0), delayed: u8::from(*delayed), kill_priv: u8::from(*kill);
+        Statfs {} Statfs;
+        Release { flags, handle, flush, unlock, owner } Done,
+            handle: *handle, flags: *flags, flush: u8::from(*flush), unlock: u8::from(*unlock), has_owner: u8::from(owner.is_some()), owner: owner.unwrap_or(0);
+        Fsync { data_only, handle } Done, handle: *handle, data_only: u8::from(*data_only);
+        Fsyncdir { data_only, handle } Done, handle: *handle, data_only: u8::from(*data_only);
+        Setxattr { name, value, flags, .. } Done,
+            name: span(at_setxattr(options), name.len()), value: span(behind(at_setxattr(options), name.len()), value.len()), flags: *flags;
+        Getxattr { name, size } Data,
+            answer: sized(*size).number(), name: span(AT_8, name.len()), size: u64::from(*size), data_at: HEADER, data_len: data_len(*size, room);
+        Listxattr { size } Data, answer: sized(*size).number(), size: u64::from(*size), data_at: HEADER, data_len: data_len(*size, room);
+        Removexattr { name } Done, name: span(AT, name.len());
+        Flush { handle, owner } Done, handle: *handle, owner: *owner;
+        Opendir { flags } Open, flags: *flags;
+        Readdir { handle, size, offset } Entries,
+            kind: call_number(listing(opcode)), handle: *handle, offset: *offset, size: u64::from(*size), data_at: HEADER, data_len: data_len(*size, room);
+        Releasedir { flags, handle } Done, handle: *handle, flags: *flags;
+        Access { mask } Done, mode: *mask;
+        Create { name, mode, kill, flags, umask, extra } Create,
+            name: span(AT_16, name.len()), mode: *mode, flags: *flags, umask: *umask, kill_priv: u8::from(*kill), has_group: u8::from(extra.sup_gid.is_some()), group: group_of(extra);
+        Fallocate { handle, mode, offset, len } Done, handle: *handle, mode: *mode, offset: *offset, size: *len;
+        Lseek { handle, offset, whence } Lseek, handle: *handle, offset: *offset, flags: *whence;
+        CopyFileRange { handle, offset, node_out, handle_out, offset_out, len, .. } Write,
+            handle: *handle, offset: *offset, node2: *node_out, handle2: *handle_out, offset2: *offset_out, size: *len;
+        Syncfs {} Done;
+    } others {
+        Init { capable } = FsCall::made(Opcode::Init, AnswerKind::Init), options: capable.bits();
+        Destroy {} = FsCall::made(Opcode::Destroy, AnswerKind::Done);
+        BatchForget { context, counts } = FsCall::made_by(Opcode::BatchForget, AnswerKind::None, context, 0),
+            count: counts.len() as u64, value: span(AT_8, counts.len().saturating_mul(16));
+        Link { context, old_node, node, name } = FsCall::made_by(Opcode::Link, AnswerKind::Entry, context, *old_node), name: span(AT_8, name.len()), node2: *node;
+        Getlk {} = FsCall::none();
+        Setlk {} = FsCall::none();
+        Setlkw {} = FsCall::none();
+        Bmap {} = FsCall::none();
+        Ioctl {} = FsCall::none();
+        Poll {} = FsCall::none();
+        NotifyReply {} = FsCall::none();
+        TmpFile {} = FsCall::none();
+    })
+}

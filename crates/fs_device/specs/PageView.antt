@@ -1,0 +1,7 @@
+-- A harvested page, in the terms of the definitions.
+use Rattle.fs_device.specs.declared.harvested.HarvestedPage.{HarvestedPage}
+use Rattle.fs_device.specs.Harvested.{Page}
+
+-- a harvested page
+abbrev pub page_view : HarvestedPage → Page
+page_view p = record { block = p.block; offset = p.offset; bytes = p.bytes.items }

@@ -1,0 +1,109 @@
+//! A room in host memory that files fill.
+
+ghost use Rattle.std.specs.Prelude.{◌≡◌, ℕ, All, List, length, min};
+ghost use Rattle.std.proofs.Props.{props};
+ghost use Rattle.fuse_fs.specs.Lengths.{first, past};
+ghost use Rattle.fuse_fs.specs.Transfers.{ReadsOnce};
+ghost use Rattle.vm_memory_core.specs.Host.{lengths};
+ghost use Rattle.vm_memory_core.specs.Window.{LiesIn};
+ghost use Rattle.fs_device.specs.Fills.{Fills};
+
+use crate::room_left::RoomLeft;
+use crate::source::read_to_window;
+use fuse_base::Errno;
+use fuse_fs::{PositionedFile, ZeroCopyWriter};
+use vm_memory_core::HostBlocks;
+
+/// A room in host memory, of which files fill one place after another: a file is asked for one window after another. It
+/// isn't dropped but ended: so who lent the memory knows what stands there.
+pub struct RoomWriter<'a, 'b, 'c, H: HostBlocks> {
+    pub host: &'a mut H,
+    /// The places that are free.
+    pub room: &'b mut RoomLeft<'c>,
+    pub ghost lies: { All (LiesIn (lengths (H.host host.now))) room.now.windows } by { Prim.hlevel props },
+}
+
+impl<'a, 'b, 'c, H: HostBlocks> RoomWriter<'a, 'b, 'c, H> {
+    /// The end of the loan: what stands in the memory now is what its lender finds.
+    pub fn end(self)
+        ensures { self.exit.0.now ≡ self.entry.host.now }
+    {
+        let RoomWriter {
+            host: _host,
+            room: _room,
+        } = self;
+    }
+
+    // Puts in what one call of a file reads, at most `count` bytes, in the first window that has room; no call is made
+    // if there is no room or `count` is 0.
+    #[tactic(auto, unfolding(vm_memory_core::specs::Window::AllLieIn))]
+    fn read_once<F: PositionedFile>(
+        &mut self,
+        file: &mut F,
+        count: usize,
+        off: u64,
+    ) -> Result<usize, Errno>
+        ensures once { (bytes : List ℕ) × Fills (H.host self.old.host.now) self.old.room.now.places bytes (H.host self.new.host.now) self.new.room.now.places
+            × (self.new.room.now.rooms ≡ past (length bytes) self.old.room.now.rooms)
+            × ReadsOnce F.read_gives file.old (min count (first self.old.room.now.rooms)) off bytes result file.new }
+        ensures name { self.new.host.ghost_name ≡ self.old.host.ghost_name }
+    {
+        let most = count.min(self.room.len());
+        if most == 0 {
+            return Ok(0);
+        }
+        let front = self.room.front(count);
+        match read_to_window(&mut *self.host, front, file, off) {
+            Ok(n) => {
+                self.room.advance(n);
+                Ok(n)
+            }
+            Err(error) => Err(error),
+        }
+    }
+}
+
+impl<'a, 'b, 'c, H: HostBlocks> ZeroCopyWriter for RoomWriter<'a, 'b, 'c, H> {
+    ghost use Rattle.std.specs.Prelude.{refl, length};
+    ghost use Rattle.std.proofs.Common.{◌∙◌};
+    ghost use Rattle.fs_device.specs.FillsProof.{fills_more, fills_none};
+
+    ghost Puts = { λ old bytes new. Fills (H.host old.host.now) old.room.now.places bytes (H.host new.host.now) new.room.now.places
+        × (new.host.ghost_name ≡ old.host.ghost_name) };
+
+    ghost room = { λ w. length w.room.now.places };
+
+    ghost rooms = { λ w. w.room.now.rooms };
+
+    ghost puts_none = { λ w. (fills_none (H.host w.host.now) w.room.now.places, refl) };
+
+    ghost puts_more = { λ a b c xs ys first second. (
+      fills_more (H.host a.host.now) (H.host b.host.now) (H.host c.host.now) a.room.now.places b.room.now.places c.room.now.places xs ys first.0 second.0,
+      second.1 ∙ first.1,
+    ) };
+
+    fn available_bytes(&self) -> usize {
+        self.room.len()
+    }
+
+    fn read_from_file_at<F: PositionedFile>(
+        &mut self,
+        file: &mut F,
+        count: usize,
+        off: u64,
+    ) -> Result<usize, Errno> {
+        let most = count.min(self.room.len());
+        let mut done = 0;
+        while done < most {
+            let Some(place) = off.checked_add(done as u64) else {
+                return Err(Errno::EIO);
+            };
+            let n = self.read_once(file, most - done, place)?;
+            if n == 0 {
+                return Ok(done);
+            }
+            done += n;
+        }
+        Ok(done)
+    }
+}

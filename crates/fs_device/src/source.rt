@@ -1,0 +1,58 @@
+//! A file as what host memory is read from.
+
+ghost use Rattle.std.specs.Prelude.{◌≡◌, ℕ, ◌≤◌, List, length};
+ghost use Rattle.vm_memory_core.specs.Host.{lengths, shape};
+ghost use Rattle.vm_memory_core.specs.Volatile.{moved, read_answer};
+ghost use Rattle.vm_memory_core.specs.Window.{LiesIn, Stores, places_of};
+
+use fuse_base::Errno;
+use fuse_fs::PositionedFile;
+use vm_memory_core::{HostBlocks, ReadVolatile, VolatileSlice};
+
+// A file from a place on, in bytes from its start. It isn't dropped but ended: so who lent the file knows what became of
+// it.
+struct FileAt<'a, F: PositionedFile> {
+    file: &'a mut F,
+    off: u64,
+}
+
+impl<'a, F: PositionedFile> FileAt<'a, F> {
+    // The end of the loan: what the file is now is what its lender finds.
+    fn end(self)
+        ensures { self.exit.0.now ≡ self.entry.file.now }
+    {
+        let FileAt {
+            file: _file,
+            off: _off,
+        } = self;
+    }
+}
+
+impl<'a, F: PositionedFile> ReadVolatile for FileAt<'a, F> {
+    type Error = Errno;
+
+    ghost gives = { λ old lent answer new. F.read_gives old.file.now (length lent) old.off answer new.file.now × (new.file.ghost_name ≡ old.file.ghost_name) };
+
+    fn read_volatile(&mut self, buf: &mut [u8]) -> Result<usize, Errno> {
+        self.file.read_at(buf, self.off)
+    }
+}
+
+// Has one call of a file read to the first places of a window. It is lent the window's bytes, and no other memory.
+#[tactic(auto, using(crate::proofs::LentLemmas::lent_length))]
+pub(crate) fn read_to_window<H: HostBlocks, F: PositionedFile>(
+    host: &mut H,
+    window: VolatileSlice,
+    file: &mut F,
+    off: u64,
+) -> Result<usize, Errno>
+    requires { LiesIn (lengths (H.host host.old)) window }
+    ensures reads { (bytes : List ℕ) × Stores (H.host host.old) (H.host host.new) (places_of window) bytes × (length bytes ≡ moved result)
+        × (length bytes ≤ window.len) × F.read_gives file.old window.len off (read_answer result bytes) file.new }
+    ensures shape { shape (H.host host.new) ≡ shape (H.host host.old) }
+{
+    let mut source = FileAt { file, off };
+    let answer = host.read_volatile_from(window, &mut source);
+    source.end();
+    answer
+}

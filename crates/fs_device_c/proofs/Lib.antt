@@ -1,6 +1,0 @@
-mod DeviceAsSeat
-pub mod LayingLemmas
-pub mod PuttingLemmas
-mod QueueAsSeat
-pub mod ServedLemmas
-pub mod WordLemmas

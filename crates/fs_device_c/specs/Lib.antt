@@ -1,9 +1,0 @@
-pub mod DeviceCalls
-pub mod DeviceExports
-pub mod Devices
-pub mod Lending
-pub mod Making
-pub mod OneProof
-pub mod Owned
-pub mod QueueExports
-pub mod Queues

@@ -1,4 +1,0 @@
-pub mod FillLemmas
-pub mod ApartLemmas
-pub mod BehindLemmas
-pub mod LentLemmas

@@ -1,4 +1,0 @@
-pub mod Fills
-pub mod FillsProof
-pub mod Apart
-pub mod Behind

@@ -1,4 +1,0 @@
-pub mod HarvestLemmas
-pub mod ApplyLemmas
-pub mod CatchUpLemmas
-pub mod TrackLemmas

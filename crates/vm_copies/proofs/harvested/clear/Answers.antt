@@ -1,6 +1,0 @@
-use Rattle.std.proofs.Common.{arith}
-use Rattle.vm_copies.proofs.HarvestLemmas.{cleared_step}
-use Rattle.vm_copies.proofs.harvested.clear.Goals as goal
-
-pub loop-block-preserved : goal.loop-block-preserved
-loop-block-preserved c = cleared_step c.args.host.now c.loop-block.host _ c.loop-block.block (omega arith) c.loop-block.invariant c.reset_bitmap.ensures.cleared

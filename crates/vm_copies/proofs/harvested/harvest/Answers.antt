@@ -1,7 +1,0 @@
-use Rattle.std.proofs.Common.{◌∙◌, ap}
-use Rattle.vm_memory_core.specs.Host.{shape}
-use Rattle.vm_copies.proofs.HarvestLemmas.{shape-cleared}
-use Rattle.vm_copies.proofs.harvested.harvest.Goals as goal
-
-pub returns-clause-shape : goal.returns-clause-shape
-returns-clause-shape c = ap shape c.clear.ensures ∙ shape-cleared c.args.host.now

@@ -1,4 +1,0 @@
-pub mod Harvested
-pub mod PageView
-pub mod Applying
-pub mod Examples

@@ -1,0 +1,274 @@
+//! The front-end's messages (vhost-user), over crate vhost, which reads and checks them. It is written here rather than taken from
+//! vhost-user-backend, since that one tells 509 slots of memory where the library takes 64, marks pages after the log is gone, and
+//! tells nobody of err descriptors.
+//!
+//! An error of kind `ReqHandlerError` is told to the front-end, if it asked, and the share goes on; after any other the connection ends.
+use crate::marks::Log;
+use crate::memory::Table;
+use crate::migration::Migration;
+use crate::ring::{Ring, SIZE_MAX};
+use crate::serve::{Core, Served};
+use log::{debug, error, info};
+use std::fs::File;
+use std::io;
+use std::sync::Arc;
+use vhost::vhost_user::message::*;
+use vhost::vhost_user::{Error, GpuBackend, Result, VhostUserBackendReqHandlerMut};
+use virtio_bindings::bindings::virtio_config::VIRTIO_F_VERSION_1;
+use virtio_bindings::bindings::virtio_ring::VIRTIO_RING_F_INDIRECT_DESC;
+use virtiofsd::vhost_user::MAX_TAG_LEN;
+
+/// What the daemon does on behalf of one front-end.
+pub struct FrontEnd<F> {
+    core: Arc<Core<F>>,
+    tag: Option<String>,
+    features: u64,
+    log: Option<Arc<Log>>,
+    migration: Migration<F>,
+}
+
+fn told(e: io::Error) -> Error {
+    Error::ReqHandlerError(e)
+}
+
+fn unsupported(what: &'static str) -> Error {
+    told(io::Error::new(io::ErrorKind::Unsupported, what))
+}
+
+impl<F: Served> FrontEnd<F> {
+    /// `scratch` is state::scratch's.
+    pub fn new(core: Arc<Core<F>>, tag: Option<String>, scratch: File) -> FrontEnd<F> {
+        let migration = Migration::new(core.clone(), scratch);
+        FrontEnd { core, tag, features: 0, log: None, migration }
+    }
+
+    fn ring(&self, index: impl Into<u32>) -> Result<&Ring> {
+        self.core.rings.get(index.into() as usize).ok_or_else(|| told(io::Error::other("no such queue")))
+    }
+
+    fn logs(&self) -> bool {
+        self.features & VhostUserVirtioFeatures::LOG_ALL.bits() != 0
+    }
+
+    /// The log that pages are marked in as things stand.
+    fn active_log(&self) -> Option<&Arc<Log>> {
+        self.log.as_ref().filter(|_| self.logs())
+    }
+
+    fn set_memory(&self, table: io::Result<Table>) -> Result<()> {
+        let table = table.map_err(told)?;
+        table.set_log(self.active_log()).map_err(told)?;
+        self.core.set_memory(table);
+        Ok(())
+    }
+
+    fn config(&self) -> [u8; MAX_TAG_LEN + 4] {
+        let mut config = [0; MAX_TAG_LEN + 4];
+        let tag = self.tag.as_deref().unwrap_or_default().as_bytes();
+        config.iter_mut().zip(tag).for_each(|(to, from)| *to = *from);
+        config[MAX_TAG_LEN..].copy_from_slice(&(self.core.rings.len() as u32 - 1).to_le_bytes());
+        config
+    }
+}
+
+impl<F: Served> VhostUserBackendReqHandlerMut for FrontEnd<F> {
+    fn set_owner(&mut self) -> Result<()> {
+        Ok(())
+    }
+
+    fn reset_owner(&mut self) -> Result<()> {
+        Err(unsupported("RESET_OWNER, which is no longer used"))
+    }
+
+    fn reset_device(&mut self) -> Result<()> {
+        let memory = self.core.memory();
+        self.core.rings.iter().for_each(|ring| ring.enable(false, &memory));
+        self.core.wait_for_chains();
+        self.core.end_session();
+        Ok(())
+    }
+
+    fn get_features(&mut self) -> Result<u64> {
+        // No VIRTIO_RING_F_EVENT_IDX: the library has none yet.
+        Ok((1 << VIRTIO_F_VERSION_1)
+            | (1 << VIRTIO_RING_F_INDIRECT_DESC)
+            | VhostUserVirtioFeatures::PROTOCOL_FEATURES.bits()
+            | VhostUserVirtioFeatures::LOG_ALL.bits())
+    }
+
+    fn set_features(&mut self, features: u64) -> Result<()> {
+        if features & !self.get_features()? != 0 {
+            return Err(told(io::Error::other("features that weren't offered")));
+        }
+        self.features = features;
+        if features & VhostUserVirtioFeatures::PROTOCOL_FEATURES.bits() == 0 {
+            let memory = self.core.memory();
+            self.core.rings.iter().for_each(|ring| ring.enable(true, &memory));
+        }
+        if self.logs() {
+            self.migration.prepare();
+        } else {
+            self.migration.cancel();
+            self.log = None;
+        }
+        self.core.memory().set_log(self.active_log()).map_err(told)
+    }
+
+    fn set_mem_table(&mut self, regions: &[VhostUserMemoryRegion], files: Vec<File>) -> Result<()> {
+        self.set_memory(Table::new(regions, files))
+    }
+
+    fn get_max_mem_slots(&mut self) -> Result<u64> {
+        Ok(pitskhomu::Device::MOST_REGIONS as u64)
+    }
+
+    fn add_mem_region(&mut self, region: &VhostUserSingleMemoryRegion, file: File) -> Result<()> {
+        self.set_memory(self.core.memory().with(region, file))
+    }
+
+    fn remove_mem_region(&mut self, region: &VhostUserSingleMemoryRegion) -> Result<()> {
+        self.set_memory(self.core.memory().without(region.guest_phys_addr, region.memory_size))
+    }
+
+    fn set_vring_num(&mut self, index: u32, num: u32) -> Result<()> {
+        let size = Some(num).filter(|num| (1..=SIZE_MAX).contains(num) && num.is_power_of_two());
+        let size = size.ok_or_else(|| told(io::Error::other("a size that no queue has")))?;
+        self.ring(index)?.state().layout.size = size as u16; // 2^15 at most
+        Ok(())
+    }
+
+    fn set_vring_addr(
+        &mut self,
+        index: u32,
+        _flags: VhostUserVringAddrFlags,
+        descriptor: u64,
+        used: u64,
+        available: u64,
+        _log: u64,
+    ) -> Result<()> {
+        let memory = self.core.memory();
+        let at = |front_end| memory.guest_address(front_end).map_err(told);
+        let (descriptors, available, used) = (at(descriptor)?, at(available)?, at(used)?);
+        let mut state = self.ring(index)?.state();
+        let size = state.layout.size;
+        state.layout = pitskhomu::QueueLayout { size, descriptors, available, used };
+        Ok(())
+    }
+
+    fn set_vring_base(&mut self, index: u32, base: u32) -> Result<()> {
+        let position = u16::try_from(base).map_err(|_| told(io::Error::other("a base that no split queue has")))?;
+        self.ring(index)?.state().position = position;
+        Ok(())
+    }
+
+    fn get_vring_base(&mut self, index: u32) -> Result<VhostUserVringState> {
+        // It is answered by the base alone, so there is no telling of an error.
+        let ring = self.core.rings.get(index as usize).ok_or(Error::InvalidParam)?;
+        Ok(VhostUserVringState::new(index, ring.stop(&self.core.memory()).into()))
+    }
+
+    fn set_vring_kick(&mut self, index: u8, kick: Option<File>) -> Result<()> {
+        match kick {
+            Some(kick) => self.ring(index)?.start(kick).map_err(told),
+            None => {
+                self.ring(index)?.stop_kicks();
+                Err(unsupported("a ring without kicks"))
+            }
+        }
+    }
+
+    fn set_vring_call(&mut self, index: u8, call: Option<File>) -> Result<()> {
+        self.ring(index)?.set_call(call);
+        Ok(())
+    }
+
+    fn set_vring_err(&mut self, index: u8, err: Option<File>) -> Result<()> {
+        self.ring(index)?.set_err(err);
+        Ok(())
+    }
+
+    fn get_protocol_features(&mut self) -> Result<VhostUserProtocolFeatures> {
+        let features = VhostUserProtocolFeatures::MQ
+            | VhostUserProtocolFeatures::REPLY_ACK
+            | VhostUserProtocolFeatures::CONFIGURE_MEM_SLOTS
+            | VhostUserProtocolFeatures::LOG_SHMFD
+            | VhostUserProtocolFeatures::DEVICE_STATE
+            | VhostUserProtocolFeatures::RESET_DEVICE;
+        let config =
+            if self.tag.is_some() { VhostUserProtocolFeatures::CONFIG } else { VhostUserProtocolFeatures::empty() };
+        Ok(features | config)
+    }
+
+    fn set_protocol_features(&mut self, features: u64) -> Result<()> {
+        debug!("the front-end takes protocol features {features:#x}");
+        Ok(())
+    }
+
+    fn get_queue_num(&mut self) -> Result<u64> {
+        Ok(self.core.rings.len() as u64)
+    }
+
+    fn set_vring_enable(&mut self, index: u32, enable: bool) -> Result<()> {
+        if self.features & VhostUserVirtioFeatures::PROTOCOL_FEATURES.bits() == 0 {
+            return Err(unsupported("SET_VRING_ENABLE without the protocol's features"));
+        }
+        self.ring(index)?.enable(enable, &self.core.memory());
+        Ok(())
+    }
+
+    fn get_config(&mut self, offset: u32, size: u32, _flags: VhostUserConfigFlags) -> Result<Vec<u8>> {
+        // What is behind the device's own configuration is zeros.
+        let config = self.config();
+        Ok(config.into_iter().chain(std::iter::repeat(0)).skip(offset as usize).take(size as usize).collect())
+    }
+
+    fn set_config(&mut self, _offset: u32, _bytes: &[u8], _flags: VhostUserConfigFlags) -> Result<()> {
+        Err(unsupported("SET_CONFIG: the driver writes nothing there"))
+    }
+
+    fn set_gpu_socket(&mut self, _gpu: GpuBackend) -> Result<()> {
+        Err(unsupported("GPU_SET_SOCKET"))
+    }
+
+    fn get_inflight_fd(&mut self, _inflight: &VhostUserInflight) -> Result<(VhostUserInflight, File)> {
+        Err(Error::InvalidOperation("GET_INFLIGHT_FD wasn't offered"))
+    }
+
+    fn set_inflight_fd(&mut self, _inflight: &VhostUserInflight, _file: File) -> Result<()> {
+        Err(unsupported("SET_INFLIGHT_FD wasn't offered"))
+    }
+
+    fn set_device_state_fd(
+        &mut self,
+        direction: VhostTransferStateDirection,
+        phase: VhostTransferStatePhase,
+        file: File,
+    ) -> Result<Option<File>> {
+        if phase != VhostTransferStatePhase::STOPPED {
+            return Err(unsupported("a state that is transferred while rings run"));
+        }
+        match direction {
+            VhostTransferStateDirection::SAVE => self.migration.save(file),
+            VhostTransferStateDirection::LOAD => self.migration.load(file),
+        }
+        Ok(None)
+    }
+
+    fn check_device_state(&mut self) -> Result<()> {
+        self.migration.finish().map_err(|e| {
+            error!("migration failed: {e}");
+            told(e)
+        })
+    }
+
+    fn set_log_base(&mut self, log: &VhostUserLog, file: File) -> Result<()> {
+        // It is answered by its own words, so there is no telling of an error.
+        let log = Log::new(file, log.mmap_offset, log.mmap_size).map_err(|e| {
+            error!("the migration's log: {e}");
+            Error::InvalidParam
+        })?;
+        self.log = Some(Arc::new(log));
+        info!("pages are logged");
+        self.core.memory().set_log(self.active_log()).map_err(|_| Error::InvalidParam)
+    }
+}

@@ -1,0 +1,164 @@
+//! A migration's log: a bit for each page of the guest's memory, which the front-end reads. Pages are marked by vm-memory itself
+//! wherever it writes (its `Bitmap`), so no store can forget its mark.
+use std::fs::File;
+use std::io;
+use std::sync::atomic::{AtomicBool, AtomicU8, Ordering};
+use std::sync::{Arc, PoisonError, RwLock};
+use vm_memory::bitmap::{Bitmap, BitmapSlice, WithBitmapSlice};
+use vm_memory::mmap::NewBitmap;
+use vm_memory::{FileOffset, MmapRegion, VolatileMemory};
+
+/// The log's page, whatever the guest's is (VHOST_LOG_PAGE).
+const PAGE: u64 = 4096;
+
+/// The front-end's log, mapped.
+#[derive(Debug)]
+pub struct Log {
+    map: MmapRegion<()>,
+}
+
+impl Log {
+    /// Maps `len` bytes of a file from `offset` on.
+    pub fn new(file: File, offset: u64, len: u64) -> io::Result<Log> {
+        let len = usize::try_from(len).map_err(io::Error::other)?;
+        let map = MmapRegion::from_file(FileOffset::new(file, offset), len).map_err(io::Error::other)?;
+        Ok(Log { map })
+    }
+
+    /// Whether it has a bit for each page of `len` bytes from a guest address on.
+    pub fn covers(&self, guest: u64, len: u64) -> bool {
+        guest.checked_add(len).is_some_and(|end| end.div_ceil(PAGE).div_ceil(8) <= self.map.size() as u64)
+    }
+
+    fn mark(&self, first: u64, last: u64) {
+        for page in first / PAGE..=last / PAGE {
+            // A region is logged only if the log covers it, so there is such a byte.
+            if let Ok(byte) = self.map.as_volatile_slice().get_atomic_ref::<AtomicU8>((page / 8) as usize) {
+                byte.fetch_or(1 << (page % 8), Ordering::Relaxed);
+            }
+        }
+    }
+}
+
+/// A region's log, while there is one.
+#[derive(Debug, Default)]
+struct RegionLog {
+    /// Spares the lock while nothing is logged.
+    is_on: AtomicBool,
+    log: RwLock<Option<(Arc<Log>, u64)>>,
+}
+
+/// What vm-memory tells of each write to a region.
+#[derive(Debug, Clone, Default)]
+pub struct Marks {
+    region: Arc<RegionLog>,
+}
+
+impl Marks {
+    /// From here on writes are marked in this log, or in none. `guest` is where the region begins.
+    pub fn set(&self, log: Option<Arc<Log>>, guest: u64) {
+        let is_on = log.is_some();
+        *self.region.log.write().unwrap_or_else(PoisonError::into_inner) = log.map(|log| (log, guest));
+        self.region.is_on.store(is_on, Ordering::Release);
+    }
+}
+
+impl RegionLog {
+    fn mark(&self, offset: usize, len: usize) {
+        if len == 0 || !self.is_on.load(Ordering::Acquire) {
+            return;
+        }
+        if let Some((log, guest)) = self.log.read().unwrap_or_else(PoisonError::into_inner).as_ref() {
+            let first = guest.saturating_add(offset as u64);
+            log.mark(first, first.saturating_add(len as u64 - 1));
+        }
+    }
+}
+
+/// The marks of a part of a region.
+#[derive(Debug, Clone)]
+pub struct MarksFrom<'a> {
+    region: &'a RegionLog,
+    offset: usize,
+}
+
+impl<'a> WithBitmapSlice<'a> for Marks {
+    type S = MarksFrom<'a>;
+}
+
+impl Bitmap for Marks {
+    fn mark_dirty(&self, offset: usize, len: usize) {
+        self.region.mark(offset, len)
+    }
+    fn dirty_at(&self, _offset: usize) -> bool {
+        false // the front-end alone reads the log
+    }
+    fn slice_at(&self, offset: usize) -> MarksFrom<'_> {
+        MarksFrom { region: &self.region, offset }
+    }
+}
+
+impl NewBitmap for Marks {
+    fn with_len(_len: usize) -> Marks {
+        Marks::default()
+    }
+}
+
+impl<'a> WithBitmapSlice<'_> for MarksFrom<'a> {
+    type S = MarksFrom<'a>;
+}
+
+impl BitmapSlice for MarksFrom<'_> {}
+
+impl<'a> Bitmap for MarksFrom<'a> {
+    fn mark_dirty(&self, offset: usize, len: usize) {
+        self.region.mark(self.offset.saturating_add(offset), len)
+    }
+    fn dirty_at(&self, _offset: usize) -> bool {
+        false
+    }
+    fn slice_at(&self, offset: usize) -> MarksFrom<'a> {
+        MarksFrom { region: self.region, offset: self.offset.saturating_add(offset) }
+    }
+}
+
+#[cfg(test)]
+mod tests {
+    use super::*;
+
+    fn log(len: u64) -> (File, Arc<Log>) {
+        let file = crate::state::scratch().expect("a file in memory");
+        file.set_len(len).expect("room");
+        (file.try_clone().expect("a descriptor"), Arc::new(Log::new(file, 0, len).expect("a log")))
+    }
+
+    fn bytes(file: &File, len: usize) -> Vec<u8> {
+        use std::os::unix::fs::FileExt;
+        let mut bytes = vec![0; len];
+        file.read_exact_at(&mut bytes, 0).expect("bytes");
+        bytes
+    }
+
+    #[test]
+    fn marks_pages_while_it_is_on() {
+        let (file, log) = log(4096);
+        let marks = Marks::default();
+        marks.mark_dirty(0, 4096);
+        assert_eq!(bytes(&file, 4096), vec![0; 4096]);
+        marks.set(Some(log), 0x8000);
+        marks.slice_at(0x1000).slice_at(0xfff).mark_dirty(0, 2); // the pages 9 and 10
+        marks.mark_dirty(0x7000, 0); // none
+        assert_eq!(bytes(&file, 3), [0, 0b110, 0]);
+        marks.set(None, 0);
+        marks.mark_dirty(0, 4096);
+        assert_eq!(bytes(&file, 3), [0, 0b110, 0]);
+    }
+
+    #[test]
+    fn covers_what_it_has_bits_for() {
+        let (_, log) = log(4096);
+        assert!(log.covers(0, 4096 * 8 * 4096));
+        assert!(!log.covers(1, 4096 * 8 * 4096));
+        assert!(!log.covers(u64::MAX, 1));
+    }
+}

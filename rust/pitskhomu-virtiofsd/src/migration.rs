@@ -1,0 +1,82 @@
+//! A migration, from the daemon's side: virtiofsd's file system prepares while the guest runs, and its state comes or goes by a
+//! thread while the rings stand.
+use crate::serve::{Core, Served};
+use crate::state;
+use log::warn;
+use std::fs::File;
+use std::io;
+use std::sync::atomic::{AtomicBool, Ordering};
+use std::sync::Arc;
+use std::thread::{self, JoinHandle};
+
+/// File system and what it prepares, on a thread of its own.
+struct Preparation {
+    thread: JoinHandle<()>,
+    is_cancelled: Arc<AtomicBool>,
+}
+
+/// What goes on between two daemons.
+pub struct Migration<F> {
+    core: Arc<Core<F>>,
+    scratch: Arc<File>,
+    preparation: Option<Preparation>,
+    transfer: Option<JoinHandle<io::Result<()>>>,
+}
+
+fn joined<T>(thread: JoinHandle<T>) -> io::Result<T> {
+    thread.join().map_err(|_| io::Error::other("a thread of the migration panicked"))
+}
+
+impl<F: Served> Migration<F> {
+    /// None goes on.
+    pub fn new(core: Arc<Core<F>>, scratch: File) -> Migration<F> {
+        Migration { core, scratch: Arc::new(scratch), preparation: None, transfer: None }
+    }
+
+    /// The guest will go, and runs yet.
+    pub fn prepare(&mut self) {
+        if self.preparation.is_none() {
+            let is_cancelled = Arc::new(AtomicBool::new(false));
+            let (core, cancelled) = (self.core.clone(), is_cancelled.clone());
+            let thread = thread::spawn(move || core.fs.prepare_serialization(cancelled));
+            self.preparation = Some(Preparation { thread, is_cancelled });
+        }
+    }
+
+    /// The guest stays. Whether it was to go.
+    pub fn cancel(&mut self) -> bool {
+        let Some(preparation) = self.preparation.take() else { return false };
+        preparation.is_cancelled.store(true, Ordering::Relaxed);
+        if let Err(e) = joined(preparation.thread) {
+            warn!("{e}");
+        }
+        true
+    }
+
+    /// The state goes out by this pipe.
+    pub fn save(&mut self, pipe: File) {
+        let (core, preparation) = (self.core.clone(), self.preparation.take());
+        self.transfer = Some(thread::spawn(move || {
+            match preparation {
+                Some(preparation) => joined(preparation.thread)?,
+                None => core.fs.prepare_serialization(Arc::new(AtomicBool::new(false))),
+            }
+            state::save(&core, pipe)
+        }));
+    }
+
+    /// The state comes by this pipe.
+    pub fn load(&mut self, pipe: File) {
+        if self.cancel() {
+            warn!("a state comes in, so what was prepared to go out is given up");
+        }
+        let (core, scratch) = (self.core.clone(), self.scratch.clone());
+        self.transfer = Some(thread::spawn(move || state::load(&core, &scratch, pipe)));
+    }
+
+    /// Waits for the transfer, and says how it ended.
+    pub fn finish(&mut self) -> io::Result<()> {
+        let transfer = self.transfer.take().ok_or_else(|| io::Error::other("no state was transferred"))?;
+        joined(transfer)?
+    }
+}

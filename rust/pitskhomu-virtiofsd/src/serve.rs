@@ -1,0 +1,132 @@
+//! What the queues' threads and the front-end's share, and what a queue's thread serves chains with.
+use crate::adapter::Adapter;
+use crate::memory::Table;
+use crate::ring::{Looked, Ring, Server, State};
+use log::{debug, error, warn};
+use pitskhomu::{Queue, Status};
+use std::io;
+use std::panic::{catch_unwind, AssertUnwindSafe};
+use std::sync::{Arc, PoisonError, RwLock};
+use virtiofsd::filesystem::{FileSystem, SerializableFileSystem};
+
+/// The file system's side, as all that is done here wants it.
+pub trait Served: FileSystem + SerializableFileSystem + Send + Sync + 'static {}
+impl<F: FileSystem + SerializableFileSystem + Send + Sync + 'static> Served for F {}
+
+/// What all threads share.
+pub struct Core<F> {
+    /// virtiofsd's file system.
+    pub fs: F,
+    /// What INIT agreed on.
+    pub device: pitskhomu::Device,
+    /// The high-priority queue, and behind it the request queues.
+    pub rings: Vec<Ring>,
+    memory: RwLock<Arc<Table>>,
+}
+
+impl<F: Served> Core<F> {
+    /// A device without memory whose rings aren't started.
+    pub fn new(fs: F, request_queues: usize) -> io::Result<Core<F>> {
+        if pitskhomu::version() != pitskhomu::VERSION {
+            return Err(io::Error::other("the archive is of another version than the wrapper"));
+        }
+        let rings = (0..=request_queues).map(Ring::new).collect::<io::Result<_>>()?;
+        Ok(Core { fs, device: pitskhomu::Device::default(), rings, memory: RwLock::default() })
+    }
+
+    /// The memory as it is.
+    pub fn memory(&self) -> Arc<Table> {
+        self.memory.read().unwrap_or_else(PoisonError::into_inner).clone()
+    }
+
+    /// Has another memory from here on, and waits for the chains that are out over the old one.
+    pub fn set_memory(&self, table: Table) {
+        *self.memory.write().unwrap_or_else(PoisonError::into_inner) = Arc::new(table);
+        self.wait_for_chains();
+    }
+
+    /// Returns when no chain is out that was out before.
+    pub fn wait_for_chains(&self) {
+        for ring in &self.rings {
+            drop(ring.state());
+        }
+    }
+
+    /// The session ends without DESTROY: nothing is held or open, no option is agreed on.
+    pub fn end_session(&self) {
+        self.fs.destroy();
+        self.device.set_options(pitskhomu::Options::empty());
+    }
+}
+
+/// What a queue's thread works with.
+pub struct Bench<F> {
+    core: Arc<Core<F>>,
+    index: usize,
+    worker: pitskhomu::Worker,
+    /// The memory whose regions the worker was told; held, so that no other comes to stand at its place.
+    told: Option<Arc<Table>>,
+}
+
+impl<F: Served> Bench<F> {
+    /// A bench for the ring with this index.
+    pub fn new(core: Arc<Core<F>>, index: usize) -> Bench<F> {
+        Bench { core, index, worker: pitskhomu::Worker::new(), told: None }
+    }
+
+    fn work_over(&mut self, memory: &Arc<Table>) -> Result<(), Status> {
+        if !self.told.as_ref().is_some_and(|told| Arc::ptr_eq(told, memory)) {
+            self.told = None; // if it is refused, the worker has what it had, and is told anew
+            self.worker.set_memory(&self.core.device, &memory.regions())?;
+            self.told = Some(memory.clone());
+        }
+        Ok(())
+    }
+
+    /// Has the worker serve the next chain. What a guest makes the file system panic at is answered EIO, and costs it no more.
+    fn serve_chain(&mut self, queue: &mut Queue, memory: &Arc<Table>) -> Result<Option<pitskhomu::Served>, Status> {
+        self.work_over(memory)?;
+        let core = &self.core;
+        let adapter = Adapter { fs: &core.fs, memory };
+        let mut serve = || self.worker.serve(queue, &core.device, &adapter, &**memory);
+        catch_unwind(AssertUnwindSafe(&mut serve))
+            .or_else(|_| {
+                error!("queue {}: a call panicked, and is answered EIO", self.index);
+                catch_unwind(AssertUnwindSafe(&mut serve)) // the worker gives the same chain back
+            })
+            .unwrap_or(Err(Status::WrongOrder))
+    }
+
+    fn went_back(&self, state: &mut State, queue: &Queue, served: &pitskhomu::Served) -> Looked {
+        state.position = queue.position();
+        if let Some(fault) = served.fault {
+            debug!("queue {}: a faulty chain went back with no reply: {fault}", self.index);
+        }
+        if let Some(fault) = served.request_fault {
+            debug!("queue {}: a request {} went back with no reply: {fault}", self.index, served.opcode);
+        }
+        if served.notify {
+            state.notify();
+        }
+        Looked::Served
+    }
+}
+
+impl<F: Served> Server for Bench<F> {
+    fn serve(&mut self, state: &mut State, memory: &Arc<Table>) -> Looked {
+        let mut queue = state.queue();
+        match self.serve_chain(&mut queue, memory) {
+            Ok(Some(served)) => self.went_back(state, &queue, &served),
+            Ok(None) => Looked::Idle,
+            Err(status) if status.is_out_of_memory() => {
+                warn!("queue {}: memory is wanting, and a chain waits", self.index);
+                Looked::Again
+            }
+            Err(status) => {
+                error!("queue {} is refused, and isn't served until it begins anew: {status}", self.index);
+                state.refuse();
+                Looked::Idle
+            }
+        }
+    }
+}

@@ -1,0 +1,80 @@
+//! The socket that the front-end connects to, and the file beside it that has the daemon's number.
+use crate::options::Options;
+use std::ffi::CString;
+use std::fs::{self, File, OpenOptions};
+use std::io::{self, Write};
+use std::os::fd::{AsRawFd, FromRawFd, IntoRawFd};
+use std::os::unix::fs::{chown, FileTypeExt, OpenOptionsExt, PermissionsExt};
+use std::os::unix::net::UnixListener;
+use std::path::{Path, PathBuf};
+use vhost::vhost_user::Listener;
+
+/// The listener, and the file with the daemon's number, whose lock lasts as long as it is open.
+pub struct Socket {
+    /// What the front-end connects to.
+    pub listener: Listener,
+    /// The lock of the file beside the socket, if one is made.
+    pub number: Option<File>,
+}
+
+fn group_number(name: &str) -> io::Result<u32> {
+    let name = CString::new(name)?;
+    // SAFETY: the name is a C string, and nothing else runs yet that asks for groups.
+    let group = unsafe { libc::getgrnam(name.as_ptr()).as_ref() };
+    group.map(|group| group.gr_gid).ok_or_else(|| io::Error::other("there is no such group"))
+}
+
+/// Locks `PATH.pid`, so that no second daemon takes the socket of one that runs, and writes the daemon's number there.
+fn number_file(socket: &Path) -> io::Result<File> {
+    let mut path = PathBuf::from(socket).into_os_string();
+    path.push(".pid");
+    let options =
+        OpenOptions::new().write(true).create(true).truncate(false).mode(0o644).custom_flags(libc::O_NOFOLLOW).clone();
+    let mut file = options.open(&path)?;
+    // SAFETY: the descriptor is open, and no memory is touched.
+    if unsafe { libc::flock(file.as_raw_fd(), libc::LOCK_EX | libc::LOCK_NB) } != 0 {
+        return Err(io::Error::new(
+            io::ErrorKind::AddrInUse,
+            format!("a daemon runs that has locked {}", path.display()),
+        ));
+    }
+    file.set_len(0)?;
+    writeln!(file, "{}", std::process::id())?;
+    Ok(file)
+}
+
+/// Binds the socket in place of one that is left there.
+fn bind(path: &Path, group: Option<&str>) -> io::Result<UnixListener> {
+    if fs::symlink_metadata(path).is_ok_and(|metadata| metadata.file_type().is_socket()) {
+        fs::remove_file(path)?;
+    }
+    let group = group.map(group_number).transpose()?;
+    // Nobody else connects before the group is set.
+    // SAFETY: no memory is touched, and nothing else runs yet.
+    let umask = unsafe { libc::umask(0o077) };
+    let listener = UnixListener::bind(path);
+    // SAFETY: as above.
+    unsafe { libc::umask(umask) };
+    if group.is_some() {
+        chown(path, None, group)?;
+        fs::set_permissions(path, fs::Permissions::from_mode(0o660))?;
+    }
+    listener
+}
+
+impl Socket {
+    /// Makes the socket, or takes the one that is handed in. Once it stands there, a front-end may connect.
+    pub fn open(options: &Options) -> io::Result<Socket> {
+        let (listener, number) = match (&options.socket_path, options.fd) {
+            (Some(path), _) => {
+                let number = number_file(path)?;
+                (bind(path, options.socket_group.as_deref())?.into_raw_fd(), Some(number))
+            }
+            (None, Some(fd)) => (fd, None),
+            (None, None) => return Err(io::Error::other("neither --socket-path nor --fd")),
+        };
+        // crate vhost's own would remove the path when it is dropped, which in the sandbox is a path of the guest's.
+        // SAFETY: the descriptor was given up above, or is handed in by whoever started the daemon, for this one use.
+        Ok(Socket { listener: unsafe { Listener::from_raw_fd(listener) }, number })
+    }
+}

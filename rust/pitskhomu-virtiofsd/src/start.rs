@@ -1,0 +1,197 @@
+//! From options to a served directory.
+use crate::capabilities;
+use crate::front_end::FrontEnd;
+use crate::options::{Handles, Options};
+use crate::serve::{Bench, Core, Served};
+use crate::socket::Socket;
+use crate::state;
+use log::{debug, info, warn};
+use std::error::Error;
+use std::fs::File;
+use std::sync::{Arc, Mutex};
+use std::thread;
+use std::time::Duration;
+use syslog::{BasicLogger, Facility, Formatter3164};
+use vhost::vhost_user::{BackendListener, BackendReqHandler, Error as FrontEndError, Listener};
+use virtiofsd::limits::setup_rlimit_nofile;
+use virtiofsd::passthrough::read_only::PassthroughFsRo;
+use virtiofsd::passthrough::{CachePolicy, Config, PassthroughFs};
+use virtiofsd::sandbox::Sandbox;
+use virtiofsd::seccomp::enable_seccomp;
+
+/// What goes wrong before the directory is served.
+type Failure = Box<dyn Error>;
+
+/// Descriptors that aren't the guest's: memory, rings, a migration, virtiofsd's own for a while.
+const OWN_DESCRIPTORS: u64 = 512;
+const DAY: Duration = Duration::from_secs(24 * 60 * 60);
+
+/// Has messages go where the options say, a panic's too: a backtrace would want system calls that the filter refuses.
+pub fn log(options: &Options) -> Result<(), Failure> {
+    std::panic::set_hook(Box::new(|panic| log::error!("{panic}")));
+    if options.syslog {
+        let process = "pitskhomu-virtiofsd".into();
+        let format = Formatter3164 { facility: Facility::LOG_DAEMON, hostname: None, process, pid: std::process::id() };
+        log::set_boxed_logger(Box::new(BasicLogger::new(syslog::unix(format)?)))?;
+        log::set_max_level(options.log_level);
+    } else {
+        env_logger::Builder::new().filter_level(options.log_level).try_init()?;
+    }
+    Ok(())
+}
+
+extern "C" fn end(_signal: libc::c_int) {
+    // SAFETY: _exit may be called by a signal's handler, and touches no memory.
+    unsafe { libc::_exit(0) }
+}
+
+/// As the first process of its namespace the daemon would be deaf to these signals without a handler.
+fn end_by_signals() {
+    for signal in [libc::SIGHUP, libc::SIGINT, libc::SIGTERM] {
+        // SAFETY: the handler does nothing but what a handler may.
+        unsafe { libc::signal(signal, end as *const () as libc::sighandler_t) };
+    }
+}
+
+/// How long the guest may keep names and attributes.
+fn timeout(cache: &CachePolicy) -> Duration {
+    match cache {
+        CachePolicy::Never => Duration::ZERO,
+        CachePolicy::Auto => Duration::from_secs(1),
+        CachePolicy::Metadata | CachePolicy::Always => DAY,
+    }
+}
+
+fn config(options: Options, sandbox: &mut Sandbox, descriptors: u64) -> Config {
+    let timeout = timeout(&options.cache);
+    Config {
+        entry_timeout: timeout,
+        attr_timeout: timeout,
+        root_dir: sandbox.get_root_dir(),
+        mountinfo_prefix: sandbox.get_mountinfo_prefix(),
+        proc_sfd_rawfd: sandbox.get_proc_self_fd(),
+        proc_mountinfo_rawfd: sandbox.get_mountinfo_fd(),
+        guest_fd_limit: descriptors.saturating_sub(OWN_DESCRIPTORS).max(descriptors / 2),
+        writeback: options.writeback,
+        xattr: options.has_xattr(),
+        xattrmap: options.xattrmap,
+        announce_submounts: options.announce_submounts,
+        inode_file_handles: options.inode_file_handles.into(),
+        readdirplus: !options.no_readdirplus && !matches!(options.cache, CachePolicy::Never),
+        cache_policy: options.cache,
+        allow_direct_io: options.allow_direct_io,
+        killpriv_v2: options.killpriv_v2,
+        clean_noatime: !options.preserve_noatime,
+        allow_mmap: options.allow_mmap,
+        migration_mode: options.migration_mode,
+        migration_on_error: options.migration_on_error,
+        migration_verify_handles: options.migration_verify_handles,
+        migration_confirm_paths: options.migration_confirm_paths,
+        uid_map: Some(options.translate_uid).filter(|map| !map.is_empty()),
+        gid_map: Some(options.translate_gid).filter(|map| !map.is_empty()),
+        ..Config::default()
+    }
+}
+
+/// Does all that these options say, and returns when the front-end is gone.
+pub fn run(mut options: Options) -> Result<(), Failure> {
+    end_by_signals();
+    let descriptors = setup_rlimit_nofile(options.rlimit_nofile).map_err(|why| format!("--rlimit-nofile: {why}"))?;
+    let shared_dir = options.shared_dir.take().ok_or("--shared-dir is wanted")?;
+    let (uid_map, gid_map) = (std::mem::take(&mut options.uid_map), std::mem::take(&mut options.gid_map));
+    let directory = |e| format!("--shared-dir {shared_dir}: {e}");
+    let mut sandbox = Sandbox::new(shared_dir.clone(), options.sandbox, uid_map, gid_map).map_err(directory)?;
+    let scratch = state::scratch()?;
+    let Socket { listener, number: _number } = Socket::open(&options).map_err(|e| format!("the socket: {e}"))?;
+    info!("waits for a front-end");
+    let listener = sandbox.enter(listener).map_err(|e| format!("the sandbox: {e}"))?;
+
+    let serving = Serving::new(&mut options, listener, scratch);
+    let readonly = options.readonly;
+    let config = config(options, &mut sandbox, descriptors);
+    if readonly {
+        serving.serve(PassthroughFsRo::new(config)?)
+    } else {
+        serving.serve(PassthroughFs::new(config)?)
+    }
+}
+
+/// What is left of the options once there is a file system.
+struct Serving {
+    listener: Listener,
+    scratch: File,
+    tag: Option<String>,
+    request_queues: usize,
+    capabilities: crate::options::CapabilityChanges,
+    handles: Handles,
+    seccomp: crate::options::Seccomp,
+    syslog: bool,
+}
+
+impl Serving {
+    fn new(options: &mut Options, listener: Listener, scratch: File) -> Serving {
+        Serving {
+            listener,
+            scratch,
+            tag: options.tag.take(),
+            request_queues: options.num_request_queues.into(),
+            capabilities: options.modcaps.take().unwrap_or_default(),
+            handles: options.inode_file_handles,
+            seccomp: options.seccomp,
+            syslog: options.syslog,
+        }
+    }
+
+    fn serve<F: Served>(self, fs: F) -> Result<(), Failure> {
+        let core = Arc::new(Core::new(fs, self.request_queues)?);
+        capabilities::give_up(&self.capabilities, self.handles)?;
+        if let Some(action) = self.seccomp.action() {
+            enable_seccomp(action, self.syslog)?; // threads have it from this one
+        }
+        for index in 0..core.rings.len() {
+            start_queue(core.clone(), index)?;
+        }
+        let front_end = Arc::new(Mutex::new(FrontEnd::new(core.clone(), self.tag, self.scratch)));
+        let mut listener = BackendListener::new(self.listener, front_end)?;
+        let handler = loop {
+            if let Some(handler) = listener.accept()? {
+                break handler;
+            }
+        };
+        drop(listener); // a second front-end is turned away
+        let ended = answer(handler);
+        core.wait_for_chains();
+        info!("the front-end is gone");
+        ended
+    }
+}
+
+fn start_queue<F: Served>(core: Arc<Core<F>>, index: usize) -> Result<(), Failure> {
+    let mut bench = Bench::new(core.clone(), index);
+    thread::Builder::new().name(format!("queue {index}")).spawn(move || {
+        // virtiofsd changes a thread's working directory for extended attributes.
+        // SAFETY: no memory is touched.
+        if unsafe { libc::unshare(libc::CLONE_FS) } != 0 {
+            log::error!("queue {index} isn't served: unshare(CLONE_FS): {}", std::io::Error::last_os_error());
+            return;
+        }
+        core.rings[index].run(&mut bench, || core.memory());
+    })?;
+    Ok(())
+}
+
+/// Answers the front-end's messages until it is gone.
+fn answer<F: Served>(mut handler: BackendReqHandler<Mutex<FrontEnd<F>>>) -> Result<(), Failure> {
+    loop {
+        match handler.handle_request() {
+            Ok(()) => {}
+            Err(FrontEndError::ReqHandlerError(e)) => warn!("the front-end is refused: {e}"),
+            Err(FrontEndError::Disconnected | FrontEndError::PartialMessage) => return Ok(()),
+            Err(FrontEndError::SocketBroken(e)) => {
+                debug!("the front-end's socket: {e}");
+                return Ok(());
+            }
+            Err(e) => return Err(format!("the front-end: {e}").into()),
+        }
+    }
+}

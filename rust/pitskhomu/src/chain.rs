@@ -1,0 +1,268 @@
+//! The calls of the library, each behind a safe function: with `sys` the one place of the crate that is `unsafe`.
+//!
+//! What each block owes is the header's first and seventh rule, and Rust's borrows keep both: handles, queues and records are borrowed, so
+//! they are good and don't overlap; slices are good for their lengths, and their pointers aren't NULL; what a call changes is borrowed
+//! mutably, so it is that call's alone. No call keeps a pointer, and none answers one.
+#![allow(unsafe_code)]
+
+use crate::errno::Errno;
+use crate::memory::{GuestRange, Region, Window};
+use crate::queue::Queue;
+use crate::status::Status;
+use crate::sys::{self, status};
+use core::ptr;
+
+/// What a walk comes to.
+pub(crate) enum Walked {
+    /// The step's bytes are to be loaded.
+    Load,
+    /// No chain waits.
+    Idle,
+    /// A chain is out.
+    Out,
+}
+
+/// What a request comes to.
+pub(crate) enum Asked {
+    /// A call, or none.
+    Call,
+    /// So many bytes of the request are wanted, from its start.
+    More(usize),
+}
+
+/// What an answer comes to.
+#[derive(Clone, Copy, Debug, PartialEq, Eq)]
+pub(crate) enum Replied {
+    /// A reply.
+    Whole,
+    /// The room holds no such reply: the chain goes back with none.
+    NoRoom,
+    /// A listing that failed is answered by the entries so far.
+    Entries,
+}
+
+/// What an entry of a listing comes to.
+#[derive(Clone, Copy, Debug, PartialEq, Eq)]
+pub(crate) enum Added {
+    /// It is in the list.
+    In,
+    /// It has no place in what was asked for.
+    Full,
+    /// It has none in the room.
+    NoRoom,
+}
+
+/// The one handle of the library (struct fs_chain).
+#[derive(Debug)]
+pub(crate) struct Chain(sys::Chain);
+
+// SAFETY: the handle's memory is malloc's, and the library keeps nothing of a thread's (pitskhomu.h, THREADS).
+unsafe impl Send for Chain {}
+
+impl Drop for Chain {
+    fn drop(&mut self) {
+        // SAFETY: as the module says; of zeros it does nothing.
+        unsafe { sys::fs_chain_free(&mut self.0) }
+    }
+}
+
+impl Chain {
+    pub const fn new() -> Chain {
+        Chain(sys::Chain { at: ptr::null_mut(), full: 0 })
+    }
+
+    pub fn set_memory(&mut self, device: &sys::Device, regions: &[Region]) -> Result<(), Status> {
+        // SAFETY: as the module says.
+        Status::check(unsafe { sys::fs_chain_set_memory(&mut self.0, device, regions.as_ptr(), regions.len()) })
+    }
+
+    /// `loaded` has the bytes that the step before wanted; at first none.
+    pub fn walk(&mut self, queue: &mut Queue, loaded: &[u8], step: &mut sys::Step) -> Result<Walked, Status> {
+        // SAFETY: as the module says.
+        match unsafe { sys::fs_walk(&mut self.0, queue, loaded.as_ptr(), loaded.len(), step) } {
+            status::DONE => Ok(Walked::Out),
+            status::IDLE => Ok(Walked::Idle),
+            status::LOAD => Ok(Walked::Load),
+            number => Err(Status::of(number)),
+        }
+    }
+
+    pub fn give_up(&mut self, queue: &mut Queue) -> Result<(), Status> {
+        // SAFETY: as the module says.
+        Status::check(unsafe { sys::fs_drop(&mut self.0, queue) })
+    }
+
+    pub fn request_windows<'w>(&mut self, from: u64, len: u64, windows: &'w mut [Window]) -> &'w [Window] {
+        // SAFETY: as the module says; it fills no more than the slice has.
+        let count = unsafe { sys::fs_request_windows(&mut self.0, from, len, windows.as_mut_ptr(), windows.len()) };
+        windows.get(..count).unwrap_or_default()
+    }
+
+    pub fn room_windows<'w>(&mut self, from: u64, len: u64, windows: &'w mut [Window]) -> &'w [Window] {
+        // SAFETY: as of `request_windows`.
+        let count = unsafe { sys::fs_room_windows(&mut self.0, from, len, windows.as_mut_ptr(), windows.len()) };
+        windows.get(..count).unwrap_or_default()
+    }
+
+    pub fn room_ranges<'r>(&mut self, from: u64, len: u64, ranges: &'r mut [GuestRange]) -> &'r [GuestRange] {
+        // SAFETY: as of `request_windows`.
+        let count = unsafe { sys::fs_room_ranges(&mut self.0, from, len, ranges.as_mut_ptr(), ranges.len()) };
+        ranges.get(..count).unwrap_or_default()
+    }
+
+    pub fn ask(&mut self, device: &sys::Device, request: &[u8], call: &mut sys::Call) -> Result<Asked, Status> {
+        // SAFETY: as the module says.
+        match unsafe { sys::fs_ask(&mut self.0, device, request.as_ptr(), request.len(), call) } {
+            status::DONE => Ok(Asked::Call),
+            status::MORE => Ok(Asked::More(call.needed as usize)),
+            number => Err(Status::of(number)),
+        }
+    }
+
+    pub fn reply_done(&mut self) -> Result<Replied, Status> {
+        // SAFETY: as the module says.
+        replied(unsafe { sys::fs_reply_err(&mut self.0, 0) })
+    }
+
+    pub fn reply_error(&mut self, error: Errno) -> Result<Replied, Status> {
+        // SAFETY: as the module says.
+        replied(unsafe { sys::fs_reply_err(&mut self.0, error.number()) })
+    }
+
+    pub fn reply_entry(&mut self, entry: &sys::Entry) -> Result<Replied, Status> {
+        // SAFETY: as the module says.
+        replied(unsafe { sys::fs_reply_entry(&mut self.0, entry) })
+    }
+
+    pub fn reply_create(&mut self, entry: &sys::Entry, handle: u64, options: u32) -> Result<Replied, Status> {
+        // SAFETY: as the module says.
+        replied(unsafe { sys::fs_reply_create(&mut self.0, entry, handle, options) })
+    }
+
+    pub fn reply_attributes(&mut self, attr: &sys::Attr, secs: u64, nanos: u32) -> Result<Replied, Status> {
+        // SAFETY: as the module says.
+        replied(unsafe { sys::fs_reply_attr(&mut self.0, attr, secs, nanos) })
+    }
+
+    pub fn reply_open(&mut self, handle: u64, options: u32) -> Result<Replied, Status> {
+        // SAFETY: as the module says.
+        replied(unsafe { sys::fs_reply_open(&mut self.0, handle, options) })
+    }
+
+    pub fn reply_data(&mut self, len: u64) -> Result<Replied, Status> {
+        // SAFETY: as the module says.
+        replied(unsafe { sys::fs_reply_data(&mut self.0, len) })
+    }
+
+    pub fn reply_xattr(&mut self, len: u32) -> Result<Replied, Status> {
+        // SAFETY: as the module says.
+        replied(unsafe { sys::fs_reply_xattr(&mut self.0, len) })
+    }
+
+    pub fn reply_write(&mut self, count: u32) -> Result<Replied, Status> {
+        // SAFETY: as the module says.
+        replied(unsafe { sys::fs_reply_write(&mut self.0, count) })
+    }
+
+    pub fn reply_statfs(&mut self, statfs: &sys::Statfs) -> Result<Replied, Status> {
+        // SAFETY: as the module says.
+        replied(unsafe { sys::fs_reply_statfs(&mut self.0, statfs) })
+    }
+
+    pub fn reply_lseek(&mut self, offset: u64) -> Result<Replied, Status> {
+        // SAFETY: as the module says.
+        replied(unsafe { sys::fs_reply_lseek(&mut self.0, offset) })
+    }
+
+    pub fn reply_init(&mut self, device: &mut sys::Device, wanted: u64) -> Result<Replied, Status> {
+        // SAFETY: as the module says.
+        replied(unsafe { sys::fs_reply_init(&mut self.0, device, wanted) })
+    }
+
+    pub fn add(&mut self, list: &mut [u8], name: &[u8], inode: u64, next: u64, kind: u32) -> Result<Added, Status> {
+        let (at, len) = (list.as_mut_ptr(), list.len());
+        // SAFETY: as the module says; list and name are apart, since the list is borrowed mutably.
+        let number =
+            unsafe { sys::fs_add_direntry(&mut self.0, at, len, name.as_ptr(), name.len(), inode, next, kind) };
+        added(number)
+    }
+
+    pub fn add_entry(&mut self, list: &mut [u8], name: &[u8], entry: &sys::Entry, next: u64) -> Result<Added, Status> {
+        let (at, len) = (list.as_mut_ptr(), list.len());
+        // SAFETY: as of `add`.
+        let number = unsafe { sys::fs_add_direntry_plus(&mut self.0, at, len, name.as_ptr(), name.len(), entry, next) };
+        added(number)
+    }
+
+    /// How many bytes of the list are the data.
+    pub fn reply_entries(&mut self) -> Result<(Replied, u64), Status> {
+        let mut len = 0;
+        // SAFETY: as the module says.
+        let reply = replied(unsafe { sys::fs_reply_entries(&mut self.0, &mut len) })?;
+        Ok((reply, len))
+    }
+
+    /// The reply is so many bytes of the caller's own.
+    pub fn reply_bytes(&mut self, len: u64) -> Result<(), Status> {
+        // SAFETY: as the module says.
+        Status::check(unsafe { sys::fs_reply_bytes(&mut self.0, len) })
+    }
+
+    pub fn begin_return(&mut self, queue: &Queue, front: &mut [u8]) -> Result<sys::Stores, Status> {
+        let mut stores = sys::Stores::default();
+        // SAFETY: as the module says.
+        Status::check(unsafe { sys::fs_return(&mut self.0, queue, front.as_mut_ptr(), front.len(), &mut stores) })?;
+        Ok(stores)
+    }
+
+    /// Whether the driver wants to be told.
+    pub fn end_return(&mut self, queue: &mut Queue, seen: u16) -> Result<bool, Status> {
+        let mut notify = 0;
+        // SAFETY: as the module says.
+        Status::check(unsafe { sys::fs_returned(&mut self.0, queue, seen, &mut notify) })?;
+        Ok(notify != 0)
+    }
+}
+
+fn replied(number: u32) -> Result<Replied, Status> {
+    match number {
+        status::DONE => Ok(Replied::Whole),
+        status::NO_ROOM => Ok(Replied::NoRoom),
+        status::ENTRIES => Ok(Replied::Entries),
+        _ => Err(Status::of(number)),
+    }
+}
+
+fn added(number: u32) -> Result<Added, Status> {
+    match number {
+        status::DONE => Ok(Added::In),
+        status::FULL => Ok(Added::Full),
+        status::LIST_FAILS => Ok(Added::NoRoom),
+        _ => Err(Status::of(number)),
+    }
+}
+
+/// The header's number of the archive.
+pub(crate) fn version() -> u32 {
+    // SAFETY: it takes nothing.
+    unsafe { sys::fs_version() }
+}
+
+/// How long the record is, also with `ShortBuffer`, and whether it stands in the buffer.
+pub(crate) fn save(device: &sys::Device, queues: &[Queue], buffer: &mut [u8]) -> (usize, Result<(), Status>) {
+    let mut len = 0;
+    // SAFETY: as the module says.
+    let number =
+        unsafe { sys::fs_save(device, queues.as_ptr(), queues.len(), buffer.as_mut_ptr(), buffer.len(), &mut len) };
+    (len, Status::check(number))
+}
+
+/// How many queues the record has.
+pub(crate) fn restore(device: &mut sys::Device, queues: &mut [Queue], record: &[u8]) -> Result<usize, Status> {
+    let mut count = 0;
+    // SAFETY: as the module says.
+    let number = unsafe {
+        sys::fs_restore(device, queues.as_mut_ptr(), queues.len(), record.as_ptr(), record.len(), &mut count)
+    };
+    Status::check(number).map(|()| count)
+}

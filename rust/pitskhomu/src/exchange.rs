@@ -1,0 +1,110 @@
+//! A chain by its bytes, for a FUSE server of one's own.
+use crate::chain::Chain;
+use crate::data::{load_request, store_room};
+use crate::errno::Errno;
+use crate::memory::{GuestMemory, Window};
+use core::convert::TryInto;
+
+/// A reply's header (struct fuse_out_header).
+const HEADER_LEN: usize = 16;
+
+/// A chain that is out: the bytes of its request, and the room for a reply, header and all (`FileSystem::reply_by_bytes`).
+pub struct Exchange<'a> {
+    chain: &'a mut Chain,
+    memory: &'a dyn GuestMemory,
+    /// The request's first bytes, which were loaded.
+    front: &'a [u8],
+    request_len: u64,
+    room_len: u64,
+    /// How many bytes of the room, from its front on, may have been written.
+    written: u64,
+}
+
+impl<'a> Exchange<'a> {
+    pub(crate) fn new(
+        chain: &'a mut Chain,
+        memory: &'a dyn GuestMemory,
+        front: &'a [u8],
+        request_len: u64,
+        room_len: u64,
+    ) -> Exchange<'a> {
+        Exchange { chain, memory, front, request_len, room_len, written: 0 }
+    }
+
+    /// How many bytes the request has.
+    pub fn request_len(&self) -> u64 {
+        self.request_len
+    }
+
+    /// How many bytes the room for the reply has.
+    pub fn room_len(&self) -> u64 {
+        self.room_len
+    }
+
+    /// The request's opcode (struct fuse_in_header); 0 if it is too short to have one.
+    pub fn opcode(&self) -> u32 {
+        opcode(self.front)
+    }
+
+    /// The guest's number of the request (struct fuse_in_header); 0 if it is too short to have one.
+    pub fn unique(&self) -> u64 {
+        unique(self.front)
+    }
+
+    /// Copies bytes of the request out, from one on, and says how many there were. The guest may write meanwhile: take each byte once. The
+    /// first bytes, which have the header, stay what they were.
+    pub fn load(&mut self, from: u64, bytes: &mut [u8]) -> usize {
+        let known = self.front.get(from.min(usize::MAX as u64) as usize..).unwrap_or_default();
+        let len = known.len().min(bytes.len());
+        bytes[..len].copy_from_slice(&known[..len]);
+        len + load_request(self.chain, self.memory, from.saturating_add(len as u64), &mut bytes[len..])
+    }
+
+    /// The windows of the request's bytes from one on, as many as the slice takes.
+    pub fn request_windows<'w>(&mut self, from: u64, windows: &'w mut [Window]) -> &'w [Window] {
+        self.chain.request_windows(from, u64::MAX - from, windows)
+    }
+
+    /// Stores bytes in the room, from one of it on, and says how many had a place.
+    pub fn store(&mut self, from: u64, bytes: &[u8]) -> usize {
+        let stored = store_room(self.chain, self.memory, from, bytes);
+        self.written_up_to(from.saturating_add(stored as u64));
+        stored
+    }
+
+    /// The windows of the room from one of its bytes on, as many as the slice takes. What was stored by them is told by `written_up_to`.
+    pub fn room_windows<'w>(&mut self, from: u64, windows: &'w mut [Window]) -> &'w [Window] {
+        self.chain.room_windows(from, u64::MAX - from, windows)
+    }
+
+    /// The room was written up to this byte of it, by its windows: for a migration's log, where the reply ends before.
+    pub fn written_up_to(&mut self, end: u64) {
+        self.written = self.written.max(end.min(self.room_len));
+    }
+
+    /// Stores the reply of an error, and says how many bytes it has: 0 if the request has no number or the room no place for it.
+    pub fn store_error(&mut self, error: Errno) -> u64 {
+        if self.front.len() < HEADER_LEN || self.room_len < HEADER_LEN as u64 {
+            return 0;
+        }
+        let mut header = [0; HEADER_LEN];
+        header[..4].copy_from_slice(&(HEADER_LEN as u32).to_le_bytes());
+        header[4..8].copy_from_slice(&error.number().wrapping_neg().to_le_bytes());
+        header[8..].copy_from_slice(&self.unique().to_le_bytes());
+        self.store(0, &header) as u64
+    }
+
+    pub(crate) fn written(&self) -> u64 {
+        self.written
+    }
+}
+
+/// The opcode of a request; 0 if it has none.
+pub(crate) fn opcode(request: &[u8]) -> u32 {
+    request.get(4..8).and_then(|bytes| bytes.try_into().ok()).map_or(0, u32::from_le_bytes)
+}
+
+/// The number of a request; 0 if it has none.
+pub(crate) fn unique(request: &[u8]) -> u64 {
+    request.get(8..16).and_then(|bytes| bytes.try_into().ok()).map_or(0, u64::from_le_bytes)
+}

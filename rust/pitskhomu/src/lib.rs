@@ -1,0 +1,94 @@
+//! The device's side of virtio-fs (VIRTIO 1.2, 2.7 and 5.11; FUSE 7.38): a safe wrapper of Pitskhomu's proved C library.
+//!
+//! The library walks the split virtqueue, reads each FUSE request, and makes each reply; it touches no memory, no file and no clock. This
+//! crate has the loop round it. Who uses it writes no `unsafe`:
+//!
+//! - [`GuestMemory`] is the guest's memory, which runs meanwhile: copies in and out of it by number.
+//! - [`FileSystem`] is what the guest mounts: a method for each call, with a default for all but two.
+//! - A [`Worker`] on each thread serves a [`Queue`]; all share a [`Device`].
+//!
+//! ```no_run
+//! use pitskhomu::{Device, FileSystem, GuestMemory, Queue, QueueLayout, Region, Status, Worker};
+//!
+//! fn serve_what_waits(
+//!     worker: &mut Worker,
+//!     queue: &mut Queue,
+//!     device: &Device,
+//!     file_system: &dyn FileSystem,
+//!     memory: &dyn GuestMemory,
+//! ) -> Result<bool, Status> {
+//!     let mut notify = false;
+//!     while let Some(served) = worker.serve(queue, device, file_system, memory)? {
+//!         notify |= served.notify;
+//!     }
+//!     Ok(notify) // whether the driver wants an interrupt
+//! }
+//!
+//! # fn begin(file_system: &dyn FileSystem, memory: &dyn GuestMemory) -> Result<(), Status> {
+//! let device = Device::default();
+//! let mut worker = Worker::new();
+//! worker.set_memory(&device, &[Region { guest: 0, len: 0x10_0000, host: 0 }])?;
+//! let layout = QueueLayout { size: 64, descriptors: 0x1000, available: 0x2000, used: 0x3000 };
+//! let mut queue = Queue::new(layout, 0);
+//! serve_what_waits(&mut worker, &mut queue, &device, file_system, memory)?;
+//! # Ok(())
+//! # }
+//! ```
+//!
+//! What is proved is the library: each of its functions, whatever the guest writes (docs/PROVED.md of the repository). This crate is tested
+//! and not proved. The example `monitor` has a file system and a guest in memory.
+//!
+//! The feature `std`, which is on by default, has [`Errno`] made of `std::io::Error`, and makes it and [`Status`] errors. Without it the crate
+//! is `no_std` with `alloc`.
+#![no_std]
+#![deny(missing_docs, unsafe_code, unsafe_op_in_unsafe_fn)]
+
+extern crate alloc;
+#[cfg(feature = "std")]
+extern crate std;
+
+mod chain;
+mod data;
+mod device;
+mod errno;
+mod exchange;
+mod file_system;
+mod flags;
+mod listing;
+mod memory;
+mod queue;
+mod requests;
+mod status;
+mod sys;
+mod values;
+mod worker;
+
+#[cfg(not(feature = "std"))]
+pub use core::ffi::CStr;
+#[cfg(feature = "std")]
+pub use std::ffi::CStr;
+
+pub use data::{ReadData, WriteData};
+pub use device::Device;
+pub use errno::{Answer, Errno};
+pub use exchange::Exchange;
+pub use file_system::FileSystem;
+pub use flags::{AccessMask, FileKind, OpenOptions, Options, RenameFlags, SetAttributesValid};
+pub use listing::Listing;
+pub use memory::{GuestMemory, GuestRange, Region, Window};
+pub use queue::{Queue, QueueLayout};
+pub use requests::{
+    Allocate, Child, CopyFileRange, Create, FilePlace, Forgets, Init, MakeDirectory, MakeNode, Open, Read,
+    ReadDirectory, Release, Seek, SetAttributes, SetTime, Write,
+};
+pub use status::{Fault, RequestFault, Status};
+pub use values::{Attributes, Context, DirectoryEntry, Entry, Handle, Node, Opened, Statistics, Time};
+pub use worker::{Served, Worker};
+
+/// The version of pitskhomu.h that this crate follows (FS_VERSION).
+pub const VERSION: u32 = sys::VERSION;
+
+/// The version of the archive that is linked: compare it once with [`VERSION`], where the two may be of two releases.
+pub fn version() -> u32 {
+    chain::version()
+}

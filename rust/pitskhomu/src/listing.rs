@@ -1,0 +1,107 @@
+//! The entries of a directory.
+use crate::chain::{Added, Chain};
+use crate::errno::{Answer, Errno};
+use crate::file_system::FileSystem;
+use crate::values::{Attributes, Context, DirectoryEntry, Entry, Node};
+
+/// The longest name (NAME_MAX of linux/limits.h).
+const NAME_MAX: usize = 255;
+
+/// The entries that READDIR or READDIRPLUS answers.
+pub struct Listing<'a> {
+    chain: &'a mut Chain,
+    list: &'a mut [u8],
+    file_system: &'a dyn FileSystem,
+    context: &'a Context,
+    directory: Node,
+    with_nodes: bool,
+    used: usize,
+    ended: bool,
+}
+
+impl<'a> Listing<'a> {
+    /// `list` is as long as the entries may be.
+    pub(crate) fn new(
+        chain: &'a mut Chain,
+        list: &'a mut [u8],
+        file_system: &'a dyn FileSystem,
+        context: &'a Context,
+        directory: Node,
+        with_nodes: bool,
+    ) -> Listing<'a> {
+        Listing { chain, list, file_system, context, directory, with_nodes, used: 0, ended: false }
+    }
+
+    /// How many bytes of entries may be put in yet. One takes 24 and its name, with nodes 152 and its name, rounded up to 8
+    /// (struct fuse_dirent, struct fuse_direntplus).
+    pub fn left(&self) -> usize {
+        if self.ended {
+            0
+        } else {
+            self.list.len() - self.used
+        }
+    }
+
+    /// Whether entries come with their nodes (READDIRPLUS): then `add` looks each up.
+    pub fn has_nodes(&self) -> bool {
+        self.with_nodes
+    }
+
+    /// Adds an entry behind those before it; `false` if it doesn't fit, which ends the list. With nodes it is looked up first by
+    /// `FileSystem::lookup`, but `.` and `..` aren't; what the guest isn't told after all is forgotten. Errors, which `readdir` answers in its
+    /// turn: those of the look-up, `EINVAL` (the first entry doesn't fit: no entry at all would end the directory), `ENAMETOOLONG` (a name that
+    /// is empty or longer than 255 bytes), `EIO` (the room is shorter than the guest asked for).
+    pub fn add(&mut self, entry: DirectoryEntry<'_>) -> Answer<bool> {
+        let name = entry.name.to_bytes();
+        if name.is_empty() || name.len() > NAME_MAX {
+            return Err(Errno::ENAMETOOLONG);
+        }
+        let len = entry_len(name.len(), self.with_nodes);
+        if len > self.left() {
+            self.ended = true;
+            return if self.used == 0 { Err(Errno::EINVAL) } else { Ok(false) };
+        }
+        let added = if self.with_nodes { self.add_with_node(&entry)? } else { self.add_plain(&entry)? };
+        match added {
+            Added::In => {
+                self.used += len;
+                Ok(true)
+            }
+            Added::Full => {
+                self.ended = true;
+                Ok(false)
+            }
+            Added::NoRoom => {
+                self.ended = true;
+                Err(Errno::EIO)
+            }
+        }
+    }
+
+    fn add_plain(&mut self, entry: &DirectoryEntry<'_>) -> Answer<Added> {
+        let DirectoryEntry { name, inode, next_offset, kind } = *entry;
+        self.chain.add(self.list, name.to_bytes(), inode, next_offset, kind.0).map_err(|_| Errno::EIO)
+    }
+
+    fn add_with_node(&mut self, entry: &DirectoryEntry<'_>) -> Answer<Added> {
+        let name = entry.name.to_bytes();
+        let is_dots = name == b"." || name == b"..";
+        let found = if is_dots {
+            let attributes = Attributes { inode: entry.inode, mode: entry.kind.mode(), ..Attributes::default() };
+            Entry { attributes, ..Entry::default() }
+        } else {
+            self.file_system.lookup(self.context, self.directory, entry.name)?
+        };
+        let added = self.chain.add_entry(self.list, name, &found.raw(), entry.next_offset);
+        if added != Ok(Added::In) && !is_dots && found.node.0 != 0 {
+            self.file_system.forget(found.node, 1);
+        }
+        added.map_err(|_| Errno::EIO)
+    }
+}
+
+/// How many bytes an entry takes.
+fn entry_len(name_len: usize, with_node: bool) -> usize {
+    let head = if with_node { 152 } else { 24 };
+    (head + name_len + 7) & !7
+}

@@ -1,0 +1,282 @@
+//! What the longer calls bring, a structure each. Fields may be added: so they are made here alone.
+use crate::flags::{Options, SetAttributesValid};
+use crate::values::{Attributes, Handle, Node, Time};
+use crate::CStr;
+
+/// What MKNOD makes (struct fuse_mknod_in).
+#[derive(Clone, Copy, Debug)]
+#[non_exhaustive]
+pub struct MakeNode {
+    /// Kind and permissions.
+    pub mode: u32,
+    /// Of a device its number, packed as `Attributes::rdev` is.
+    pub rdev: u32,
+    /// The permissions that `mode` loses, which it has lost already if `Options::DONT_MASK` wasn't agreed on.
+    pub umask: u32,
+}
+
+/// What MKDIR makes (struct fuse_mkdir_in).
+#[derive(Clone, Copy, Debug)]
+#[non_exhaustive]
+pub struct MakeDirectory {
+    /// Permissions.
+    pub mode: u32,
+    /// As of `MakeNode`.
+    pub umask: u32,
+}
+
+/// How OPEN opens a file (struct fuse_open_in).
+#[derive(Clone, Copy, Debug)]
+#[non_exhaustive]
+pub struct Open {
+    /// O_ flags of Linux x86 (fcntl.h).
+    pub flags: u32,
+    /// FUSE_OPEN_KILL_SUIDGID: set-user and set-group bits are to be cleared (with O_TRUNC; `Options::HANDLE_KILLPRIV_V2`).
+    pub kill_priv: bool,
+}
+
+/// What CREATE makes and how it opens it (struct fuse_create_in).
+#[derive(Clone, Copy, Debug)]
+#[non_exhaustive]
+pub struct Create {
+    /// O_ flags of Linux x86 (fcntl.h).
+    pub flags: u32,
+    /// Kind and permissions.
+    pub mode: u32,
+    /// As of `MakeNode`.
+    pub umask: u32,
+    /// As of `Open`.
+    pub kill_priv: bool,
+}
+
+/// Which data READ wants (struct fuse_read_in).
+#[derive(Clone, Copy, Debug)]
+#[non_exhaustive]
+pub struct Read {
+    /// Of which open file.
+    pub handle: Handle,
+    /// From which byte on.
+    pub offset: u64,
+    /// How many bytes. What the room takes may be less: `ReadData::left`.
+    pub size: u64,
+    /// The file's O_ flags.
+    pub flags: u32,
+    /// Whose locks count, with FUSE_READ_LOCKOWNER.
+    pub lock_owner: Option<u64>,
+}
+
+/// Where WRITE's data goes (struct fuse_write_in).
+#[derive(Clone, Copy, Debug)]
+#[non_exhaustive]
+pub struct Write {
+    /// Of which open file.
+    pub handle: Handle,
+    /// From which byte on.
+    pub offset: u64,
+    /// How many bytes, as the guest says. What came may be another number: `WriteData::left`.
+    pub size: u64,
+    /// The file's O_ flags.
+    pub flags: u32,
+    /// Whose locks count, with FUSE_WRITE_LOCKOWNER.
+    pub lock_owner: Option<u64>,
+    /// FUSE_WRITE_CACHE: it comes late, from the guest's cache, and not from who wrote it.
+    pub delayed: bool,
+    /// FUSE_WRITE_KILL_SUIDGID: set-user and set-group bits are to be cleared.
+    pub kill_priv: bool,
+}
+
+/// How RELEASE closes a file (struct fuse_release_in).
+#[derive(Clone, Copy, Debug, Default)]
+#[non_exhaustive]
+pub struct Release {
+    /// Which open file.
+    pub handle: Handle,
+    /// The file's O_ flags.
+    pub flags: u32,
+    /// FUSE_RELEASE_FLUSH: as by FLUSH before.
+    pub flush: bool,
+    /// FUSE_RELEASE_FLOCK_UNLOCK: flock's locks go.
+    pub unlock: bool,
+    /// Whose locks, with one of these two.
+    pub lock_owner: Option<u64>,
+}
+
+/// Which entries READDIR or READDIRPLUS wants (struct fuse_read_in).
+#[derive(Clone, Copy, Debug)]
+#[non_exhaustive]
+pub struct ReadDirectory {
+    /// Of which open directory.
+    pub handle: Handle,
+    /// From where on: 0, or the `next_offset` of an entry before.
+    pub offset: u64,
+    /// How many bytes of entries, at most. What the room takes may be less: `Listing::left`.
+    pub size: u64,
+}
+
+/// What FALLOCATE does to a file (struct fuse_fallocate_in).
+#[derive(Clone, Copy, Debug)]
+#[non_exhaustive]
+pub struct Allocate {
+    /// Of which open file.
+    pub handle: Handle,
+    /// FALLOC_FL_ flags (linux/falloc.h).
+    pub mode: u32,
+    /// From which byte on.
+    pub offset: u64,
+    /// How many bytes.
+    pub len: u64,
+}
+
+/// What LSEEK looks for (struct fuse_lseek_in).
+#[derive(Clone, Copy, Debug)]
+#[non_exhaustive]
+pub struct Seek {
+    /// Of which open file.
+    pub handle: Handle,
+    /// From which byte on.
+    pub offset: u64,
+    /// SEEK_ of linux/fs.h: SEEK_DATA is 3, SEEK_HOLE 4.
+    pub whence: u32,
+}
+
+/// An open file, and a place in it.
+#[derive(Clone, Copy, Debug, PartialEq, Eq)]
+pub struct FilePlace {
+    /// The node.
+    pub node: Node,
+    /// The open file.
+    pub handle: Handle,
+    /// Which byte.
+    pub offset: u64,
+}
+
+/// What COPY_FILE_RANGE copies (struct fuse_copy_file_range_in). Its flags, 0 in Linux, aren't told.
+#[derive(Clone, Copy, Debug)]
+#[non_exhaustive]
+pub struct CopyFileRange {
+    /// From here.
+    pub from: FilePlace,
+    /// To there.
+    pub to: FilePlace,
+    /// How many bytes.
+    pub len: u64,
+}
+
+/// What INIT brings (struct fuse_init_in).
+#[derive(Clone, Copy, Debug)]
+#[non_exhaustive]
+pub struct Init {
+    /// What the guest can.
+    pub capable: Options,
+}
+
+/// A name in a directory.
+#[derive(Clone, Copy, Debug)]
+pub struct Child<'n> {
+    /// The directory.
+    pub parent: Node,
+    /// The name: the guest's bytes, so it may be empty, `.`, `..`, or have a slash.
+    pub name: &'n CStr,
+}
+
+/// A time that SETATTR sets.
+#[derive(Clone, Copy, Debug, PartialEq, Eq)]
+pub enum SetTime {
+    /// This one.
+    To(Time),
+    /// The time as it is now.
+    Now,
+}
+
+/// What SETATTR sets (struct fuse_setattr_in).
+#[derive(Clone, Copy, Debug)]
+#[non_exhaustive]
+pub struct SetAttributes {
+    /// Which attributes are set.
+    pub valid: SetAttributesValid,
+    /// Their values; of those that aren't set, what the guest wrote.
+    pub attributes: Attributes,
+    /// The open file, with FATTR_FH.
+    pub handle: Option<Handle>,
+    /// Whose locks count, where the guest says so (FATTR_LOCKOWNER, which isn't told); Linux writes 0 else.
+    pub lock_owner: u64,
+}
+
+impl SetAttributes {
+    fn if_valid<T>(&self, flags: SetAttributesValid, value: T) -> Option<T> {
+        Some(value).filter(|_| self.valid.contains(flags))
+    }
+
+    /// The permissions.
+    pub fn mode(&self) -> Option<u32> {
+        self.if_valid(SetAttributesValid::MODE, self.attributes.mode)
+    }
+
+    /// The user.
+    pub fn uid(&self) -> Option<u32> {
+        self.if_valid(SetAttributesValid::UID, self.attributes.uid)
+    }
+
+    /// The group.
+    pub fn gid(&self) -> Option<u32> {
+        self.if_valid(SetAttributesValid::GID, self.attributes.gid)
+    }
+
+    /// The length in bytes.
+    pub fn size(&self) -> Option<u64> {
+        self.if_valid(SetAttributesValid::SIZE, self.attributes.size)
+    }
+
+    /// When it was read last.
+    pub fn atime(&self) -> Option<SetTime> {
+        let now = self.valid.contains(SetAttributesValid::ATIME_NOW);
+        let time = if now { SetTime::Now } else { SetTime::To(self.attributes.atime) };
+        self.if_valid(SetAttributesValid::ATIME, time)
+    }
+
+    /// When its data changed last.
+    pub fn mtime(&self) -> Option<SetTime> {
+        let now = self.valid.contains(SetAttributesValid::MTIME_NOW);
+        let time = if now { SetTime::Now } else { SetTime::To(self.attributes.mtime) };
+        self.if_valid(SetAttributesValid::MTIME, time)
+    }
+
+    /// When it changed last.
+    pub fn ctime(&self) -> Option<Time> {
+        self.if_valid(SetAttributesValid::CTIME, self.attributes.ctime)
+    }
+
+    /// Whether set-user and set-group bits are to be cleared (`Options::HANDLE_KILLPRIV_V2`).
+    pub fn kills_priv(&self) -> bool {
+        self.valid.contains(SetAttributesValid::KILL_SUIDGID)
+    }
+}
+
+/// The nodes of FORGET or BATCH_FORGET: each with how many times less the guest holds it.
+#[derive(Clone, Debug)]
+pub struct Forgets<'r> {
+    pairs: core::slice::ChunksExact<'r, u8>,
+}
+
+impl<'r> Forgets<'r> {
+    /// Pairs of 8 bytes each, little-endian (struct fuse_forget_one).
+    pub(crate) fn new(pairs: &'r [u8]) -> Forgets<'r> {
+        Forgets { pairs: pairs.chunks_exact(16) }
+    }
+}
+
+impl Iterator for Forgets<'_> {
+    type Item = (Node, u64);
+
+    fn next(&mut self) -> Option<(Node, u64)> {
+        let pair = self.pairs.next()?;
+        let number = |at: usize| u64::from_le_bytes(core::array::from_fn(|k| pair[at + k]));
+        Some((Node(number(0)), number(8)))
+    }
+
+    fn size_hint(&self) -> (usize, Option<usize>) {
+        self.pairs.size_hint()
+    }
+}
+
+impl ExactSizeIterator for Forgets<'_> {}

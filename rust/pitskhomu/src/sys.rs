@@ -1,0 +1,246 @@
+//! What pitskhomu.h declares, in its order, with its names (without `fs_` and `FS_`). The header says what each function does and
+//! owes. The script `tools/declared` compares the two.
+use crate::memory::{GuestRange as Range, Region, Window};
+use crate::queue::Queue;
+use core::ffi::c_void;
+
+pub const VERSION: u32 = 4;
+pub const REGIONS_MAX: usize = 64;
+pub const QUEUES_MAX: usize = 64;
+pub const FIRST: usize = 80;
+pub const REQUEST_MAX: usize = 0x101000;
+pub const FRONT_MAX: usize = 160;
+pub const HEADER: u64 = 16;
+
+/// enum fs_status: how to go on. The refusals are `Status`.
+pub mod status {
+    pub const DONE: u32 = 0;
+    pub const LOAD: u32 = 32;
+    pub const IDLE: u32 = 33;
+    pub const MORE: u32 = 34;
+    pub const NO_ROOM: u32 = 35;
+    pub const FULL: u32 = 36;
+    pub const LIST_FAILS: u32 = 37;
+    pub const ENTRIES: u32 = 38;
+}
+
+/// enum fs_call_kind.
+pub mod kind {
+    pub const NONE: u32 = 0;
+    pub const LOOKUP: u32 = 1;
+    pub const FORGET: u32 = 2;
+    pub const GETATTR: u32 = 3;
+    pub const SETATTR: u32 = 4;
+    pub const READLINK: u32 = 5;
+    pub const SYMLINK: u32 = 6;
+    pub const MKNOD: u32 = 8;
+    pub const MKDIR: u32 = 9;
+    pub const UNLINK: u32 = 10;
+    pub const RMDIR: u32 = 11;
+    pub const RENAME: u32 = 12;
+    pub const LINK: u32 = 13;
+    pub const OPEN: u32 = 14;
+    pub const READ: u32 = 15;
+    pub const WRITE: u32 = 16;
+    pub const STATFS: u32 = 17;
+    pub const RELEASE: u32 = 18;
+    pub const FSYNC: u32 = 20;
+    pub const SETXATTR: u32 = 21;
+    pub const GETXATTR: u32 = 22;
+    pub const LISTXATTR: u32 = 23;
+    pub const REMOVEXATTR: u32 = 24;
+    pub const FLUSH: u32 = 25;
+    pub const INIT: u32 = 26;
+    pub const OPENDIR: u32 = 27;
+    pub const READDIR: u32 = 28;
+    pub const RELEASEDIR: u32 = 29;
+    pub const FSYNCDIR: u32 = 30;
+    pub const ACCESS: u32 = 34;
+    pub const CREATE: u32 = 35;
+    pub const DESTROY: u32 = 38;
+    pub const BATCH_FORGET: u32 = 42;
+    pub const FALLOCATE: u32 = 43;
+    pub const READDIRPLUS: u32 = 44;
+    pub const LSEEK: u32 = 46;
+    pub const COPY_FILE_RANGE: u32 = 47;
+    pub const SYNCFS: u32 = 50;
+}
+
+/// enum fs_answer_kind: what the wrapper has to tell apart.
+pub mod answer {
+    pub const NONE: u32 = 0;
+    pub const XATTR: u32 = 7;
+}
+
+#[repr(C)]
+#[derive(Clone, Copy, Debug)]
+pub struct Device {
+    pub page_size: u32,
+    pub limit: u32,
+    pub options: u64,
+}
+
+#[repr(C)]
+#[derive(Debug)]
+pub struct Chain {
+    pub at: *mut c_void,
+    pub full: u32,
+}
+
+#[repr(C)]
+#[derive(Clone, Copy, Debug, Default)]
+pub struct Step {
+    pub at: usize,
+    pub len: usize,
+    pub request_len: u64,
+    pub room_len: u64,
+    pub fault: u32,
+    pub head: u16,
+}
+
+#[repr(C)]
+#[derive(Clone, Copy, Debug, Default)]
+pub struct Span {
+    pub at: u32,
+    pub len: u32,
+}
+
+#[repr(C)]
+#[derive(Clone, Copy, Debug, Default)]
+pub struct Attr {
+    pub ino: u64,
+    pub size: u64,
+    pub blocks: u64,
+    pub atime: u64,
+    pub mtime: u64,
+    pub ctime: u64,
+    pub atime_nanos: u32,
+    pub mtime_nanos: u32,
+    pub ctime_nanos: u32,
+    pub mode: u32,
+    pub nlink: u32,
+    pub uid: u32,
+    pub gid: u32,
+    pub rdev: u32,
+    pub block_size: u32,
+    pub flags: u32,
+}
+
+#[repr(C)]
+#[derive(Clone, Copy, Debug, Default)]
+pub struct Call {
+    pub kind: u32,
+    pub answer: u32,
+    pub opcode: u32,
+    pub error: u32,
+    pub fault: u32,
+    pub unique: u64,
+    pub uid: u32,
+    pub gid: u32,
+    pub pid: u32,
+    pub needed: u32,
+    pub node: u64,
+    pub handle: u64,
+    pub offset: u64,
+    pub size: u64,
+    pub owner: u64,
+    pub options: u64,
+    pub count: u64,
+    pub node2: u64,
+    pub handle2: u64,
+    pub offset2: u64,
+    pub name: Span,
+    pub name2: Span,
+    pub value: Span,
+    pub data_at: u64,
+    pub data_len: u64,
+    pub flags: u32,
+    pub mode: u32,
+    pub umask: u32,
+    pub rdev: u32,
+    pub valid: u32,
+    pub has_handle: u8,
+    pub has_owner: u8,
+    pub delayed: u8,
+    pub kill_priv: u8,
+    pub flush: u8,
+    pub unlock: u8,
+    pub data_only: u8,
+    pub has_group: u8,
+    pub attr: Attr,
+    pub group: u32,
+}
+
+#[repr(C)]
+#[derive(Clone, Copy, Debug, Default)]
+pub struct Entry {
+    pub node: u64,
+    pub generation: u64,
+    pub entry_secs: u64,
+    pub attr_secs: u64,
+    pub entry_nanos: u32,
+    pub attr_nanos: u32,
+    pub attr: Attr,
+}
+
+#[repr(C)]
+#[derive(Clone, Copy, Debug, Default)]
+pub struct Statfs {
+    pub blocks: u64,
+    pub bfree: u64,
+    pub bavail: u64,
+    pub files: u64,
+    pub ffree: u64,
+    pub bsize: u32,
+    pub namelen: u32,
+    pub frsize: u32,
+}
+
+#[repr(C)]
+#[derive(Clone, Copy, Debug, Default)]
+pub struct Stores {
+    pub front_len: usize,
+    pub id_at: usize,
+    pub len_at: usize,
+    pub id: u32,
+    pub len: u32,
+    pub index_at: usize,
+    pub index: u16,
+    pub seen_at: usize,
+}
+
+#[rustfmt::skip]
+extern "C" {
+    pub fn fs_version() -> u32;
+    pub fn fs_chain_set_memory(chain: &mut Chain, device: &Device, regions: *const Region, region_count: usize) -> u32;
+    pub fn fs_chain_free(chain: &mut Chain);
+    pub fn fs_walk(chain: &mut Chain, queue: &mut Queue, loaded: *const u8, loaded_len: usize, step: &mut Step) -> u32;
+    pub fn fs_drop(chain: &mut Chain, queue: &mut Queue) -> u32;
+    pub fn fs_request_windows(chain: &mut Chain, from: u64, len: u64, windows: *mut Window, window_count: usize) -> usize;
+    pub fn fs_room_windows(chain: &mut Chain, from: u64, len: u64, windows: *mut Window, window_count: usize) -> usize;
+    pub fn fs_room_ranges(chain: &mut Chain, from: u64, len: u64, ranges: *mut Range, range_count: usize) -> usize;
+    pub fn fs_ask(chain: &mut Chain, device: &Device, request: *const u8, request_len: usize, call: &mut Call) -> u32;
+    pub fn fs_reply_err(chain: &mut Chain, error: u32) -> u32;
+    pub fn fs_reply_entry(chain: &mut Chain, entry: &Entry) -> u32;
+    pub fn fs_reply_create(chain: &mut Chain, entry: &Entry, handle: u64, open_flags: u32) -> u32;
+    pub fn fs_reply_attr(chain: &mut Chain, attr: &Attr, secs: u64, nanos: u32) -> u32;
+    pub fn fs_reply_open(chain: &mut Chain, handle: u64, open_flags: u32) -> u32;
+    pub fn fs_reply_data(chain: &mut Chain, len: u64) -> u32;
+    pub fn fs_reply_xattr(chain: &mut Chain, len: u32) -> u32;
+    pub fn fs_reply_write(chain: &mut Chain, count: u32) -> u32;
+    pub fn fs_reply_statfs(chain: &mut Chain, statfs: &Statfs) -> u32;
+    pub fn fs_reply_lseek(chain: &mut Chain, offset: u64) -> u32;
+    pub fn fs_reply_init(chain: &mut Chain, device: &mut Device, wanted: u64) -> u32;
+    pub fn fs_add_direntry(chain: &mut Chain, list: *mut u8, list_len: usize, name: *const u8, name_len: usize, ino: u64,
+        next_offset: u64, r#type: u32) -> u32;
+    pub fn fs_add_direntry_plus(chain: &mut Chain, list: *mut u8, list_len: usize, name: *const u8, name_len: usize,
+        entry: &Entry, next_offset: u64) -> u32;
+    pub fn fs_reply_entries(chain: &mut Chain, len: &mut u64) -> u32;
+    pub fn fs_reply_bytes(chain: &mut Chain, len: u64) -> u32;
+    pub fn fs_return(chain: &mut Chain, queue: &Queue, front: *mut u8, front_len: usize, stores: &mut Stores) -> u32;
+    pub fn fs_returned(chain: &mut Chain, queue: &mut Queue, seen: u16, notify: &mut u8) -> u32;
+    pub fn fs_save(device: &Device, queues: *const Queue, queue_count: usize, buffer: *mut u8, buffer_len: usize,
+        len: &mut usize) -> u32;
+    pub fn fs_restore(device: &mut Device, queues: *mut Queue, queue_count: usize, saved: *const u8, saved_len: usize,
+        count: &mut usize) -> u32;
+}

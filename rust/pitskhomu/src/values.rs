@@ -1,0 +1,229 @@
+//! What a file system is told and answers: nodes, attributes, entries, times.
+use crate::flags::{FileKind, OpenOptions};
+use crate::sys;
+use core::time::Duration;
+
+/// The number of a node (`nodeid` of linux/fuse.h): the file system's own, 1 for the root.
+#[derive(Clone, Copy, Debug, Default, PartialEq, Eq, PartialOrd, Ord, Hash)]
+pub struct Node(
+    /// The number.
+    pub u64,
+);
+
+impl Node {
+    /// The root (FUSE_ROOT_ID).
+    pub const ROOT: Node = Node(1);
+}
+
+/// The number of an open file or directory (`fh` of linux/fuse.h): the file system's own.
+#[derive(Clone, Copy, Debug, Default, PartialEq, Eq, PartialOrd, Ord, Hash)]
+pub struct Handle(
+    /// The number.
+    pub u64,
+);
+
+/// Who asks (struct fuse_in_header).
+#[derive(Clone, Copy, Debug, Default, PartialEq, Eq)]
+#[non_exhaustive]
+pub struct Context {
+    /// The guest's number of the request.
+    pub unique: u64,
+    /// The user; with `Options::ALLOW_IDMAP` Linux since 6.12 tells it with calls that make a node, and else `u32::MAX`.
+    pub uid: u32,
+    /// The group; as `uid`.
+    pub gid: u32,
+    /// The process.
+    pub pid: u32,
+    /// With a call that makes a node: one of the caller's groups besides `gid`, if the guest tells one.
+    pub supplementary_group: Option<u32>,
+}
+
+/// A time since 1970 (struct timespec).
+#[derive(Clone, Copy, Debug, Default, PartialEq, Eq, PartialOrd, Ord, Hash)]
+pub struct Time {
+    /// Seconds; before 1970 below 0.
+    pub seconds: i64,
+    /// Nanoseconds after them, below 10^9.
+    pub nanos: u32,
+}
+
+/// A node's attributes (struct fuse_attr).
+#[derive(Clone, Copy, Debug, Default, PartialEq, Eq)]
+pub struct Attributes {
+    /// The number that stat tells, which may be another than the node's.
+    pub inode: u64,
+    /// Its length in bytes.
+    pub size: u64,
+    /// How many blocks of 512 bytes it takes.
+    pub blocks: u64,
+    /// When it was read last.
+    pub atime: Time,
+    /// When its data changed last.
+    pub mtime: Time,
+    /// When it changed last.
+    pub ctime: Time,
+    /// Kind and permissions (S_IFMT of sys/stat.h is among it).
+    pub mode: u32,
+    /// How many names it has.
+    pub links: u32,
+    /// Its user.
+    pub uid: u32,
+    /// Its group.
+    pub gid: u32,
+    /// Of a device its number, as Linux packs it in 32 bits: bits 8 to 19 are the major number, the others the minor.
+    pub rdev: u32,
+    /// How many bytes are best read at a time.
+    pub block_size: u32,
+    /// FUSE_ATTR_ flags: `SUBMOUNT`, `DAX`.
+    pub flags: u32,
+}
+
+impl Attributes {
+    /// FUSE_ATTR_SUBMOUNT: the directory is the root of another mount.
+    pub const SUBMOUNT: u32 = 1;
+    /// FUSE_ATTR_DAX: the file may be mapped. There is no shared memory window here.
+    pub const DAX: u32 = 2;
+
+    pub(crate) fn raw(&self) -> sys::Attr {
+        sys::Attr {
+            ino: self.inode,
+            size: self.size,
+            blocks: self.blocks,
+            atime: self.atime.seconds as u64,
+            mtime: self.mtime.seconds as u64,
+            ctime: self.ctime.seconds as u64,
+            atime_nanos: self.atime.nanos,
+            mtime_nanos: self.mtime.nanos,
+            ctime_nanos: self.ctime.nanos,
+            mode: self.mode,
+            nlink: self.links,
+            uid: self.uid,
+            gid: self.gid,
+            rdev: self.rdev,
+            block_size: self.block_size,
+            flags: self.flags,
+        }
+    }
+
+    pub(crate) fn of_raw(raw: &sys::Attr) -> Attributes {
+        let time = |seconds, nanos| Time { seconds: seconds as i64, nanos };
+        Attributes {
+            inode: raw.ino,
+            size: raw.size,
+            blocks: raw.blocks,
+            atime: time(raw.atime, raw.atime_nanos),
+            mtime: time(raw.mtime, raw.mtime_nanos),
+            ctime: time(raw.ctime, raw.ctime_nanos),
+            mode: raw.mode,
+            links: raw.nlink,
+            uid: raw.uid,
+            gid: raw.gid,
+            rdev: raw.rdev,
+            block_size: raw.block_size,
+            flags: raw.flags,
+        }
+    }
+}
+
+/// What a name stands for (struct fuse_entry_out). The default is node 0: it is known that the name isn't there, for `entry_timeout`.
+#[derive(Clone, Copy, Debug, Default, PartialEq, Eq)]
+pub struct Entry {
+    /// The node, which the guest holds once more; `Node(0)` if the name isn't there.
+    pub node: Node,
+    /// Which of the nodes that had this number one after another.
+    pub generation: u64,
+    /// The node's attributes.
+    pub attributes: Attributes,
+    /// How long the attributes stay good.
+    pub attributes_timeout: Duration,
+    /// How long the name stays good.
+    pub entry_timeout: Duration,
+}
+
+impl Entry {
+    pub(crate) fn raw(&self) -> sys::Entry {
+        sys::Entry {
+            node: self.node.0,
+            generation: self.generation,
+            entry_secs: self.entry_timeout.as_secs(),
+            attr_secs: self.attributes_timeout.as_secs(),
+            entry_nanos: self.entry_timeout.subsec_nanos(),
+            attr_nanos: self.attributes_timeout.subsec_nanos(),
+            attr: self.attributes.raw(),
+        }
+    }
+}
+
+/// A file or directory that was opened (struct fuse_open_out).
+#[derive(Clone, Copy, Debug, Default, PartialEq, Eq)]
+pub struct Opened {
+    /// The file system's number of it, which READ and its kin bring back.
+    pub handle: Handle,
+    /// How the guest treats it.
+    pub options: OpenOptions,
+}
+
+/// The file system as a whole (struct fuse_kstatfs).
+#[derive(Clone, Copy, Debug, PartialEq, Eq)]
+pub struct Statistics {
+    /// How many blocks of `fragment_size` bytes there are.
+    pub blocks: u64,
+    /// How many are free.
+    pub blocks_free: u64,
+    /// How many are free for all users.
+    pub blocks_available: u64,
+    /// How many nodes there may be.
+    pub files: u64,
+    /// How many more there may be.
+    pub files_free: u64,
+    /// How many bytes are best moved at a time.
+    pub block_size: u32,
+    /// The longest name, in bytes.
+    pub name_len: u32,
+    /// How many bytes a block has.
+    pub fragment_size: u32,
+}
+
+impl Default for Statistics {
+    /// Names of 255 bytes, blocks of 512, and nothing known of space.
+    fn default() -> Statistics {
+        Statistics {
+            blocks: 0,
+            blocks_free: 0,
+            blocks_available: 0,
+            files: 0,
+            files_free: 0,
+            block_size: 512,
+            name_len: 255,
+            fragment_size: 0,
+        }
+    }
+}
+
+impl Statistics {
+    pub(crate) fn raw(&self) -> sys::Statfs {
+        sys::Statfs {
+            blocks: self.blocks,
+            bfree: self.blocks_free,
+            bavail: self.blocks_available,
+            files: self.files,
+            ffree: self.files_free,
+            bsize: self.block_size,
+            namelen: self.name_len,
+            frsize: self.fragment_size,
+        }
+    }
+}
+
+/// A name of a directory (struct fuse_dirent).
+#[derive(Clone, Copy, Debug)]
+pub struct DirectoryEntry<'n> {
+    /// The name, of 1 to 255 bytes.
+    pub name: &'n crate::CStr,
+    /// The number that getdents tells.
+    pub inode: u64,
+    /// The offset that goes on behind this entry.
+    pub next_offset: u64,
+    /// What the name stands for.
+    pub kind: FileKind,
+}

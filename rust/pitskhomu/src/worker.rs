@@ -1,0 +1,371 @@
+//! The worker: from a chain's walk to its return.
+mod answering;
+
+use crate::chain::{Asked, Chain, Replied, Walked};
+use crate::data::{load_request, store_room};
+use crate::device::Device;
+use crate::errno::Errno;
+use crate::exchange::{self, Exchange};
+use crate::file_system::FileSystem;
+use crate::memory::{GuestMemory, GuestRange, Region};
+use crate::queue::Queue;
+use crate::status::{Fault, RequestFault, Status};
+use crate::sys;
+use alloc::vec::Vec;
+use core::sync::atomic::{fence, Ordering};
+
+/// What came of a chain that went back.
+#[derive(Clone, Copy, Debug, PartialEq, Eq)]
+#[non_exhaustive]
+pub struct Served {
+    /// The number that the guest knows the chain by: its first descriptor's.
+    pub head: u16,
+    /// How many bytes the request has; 0 with a fault.
+    pub request_len: u64,
+    /// How many bytes the room for the reply has; 0 with a fault.
+    pub room_len: u64,
+    /// The request's opcode, as the guest wrote it (enum fuse_opcode of linux/fuse.h); 0 if the request was too short to have one, or with a
+    /// fault.
+    pub opcode: u32,
+    /// The guest's number of the request.
+    pub unique: u64,
+    /// How many bytes the reply has; 0 if there is none.
+    pub reply_len: u32,
+    /// What is wrong with the chain, if anything: it went back with no reply.
+    pub fault: Option<Fault>,
+    /// What is wrong with the request, if anything: it went back with no reply, and no call was made.
+    pub request_fault: Option<RequestFault>,
+    /// Whether the answer had no room: the chain went back with no reply, and what the call gave the guest was taken back.
+    pub had_no_room: bool,
+    /// Whether the driver wants to be told (VIRTIO 1.2, 2.7.7). One notification will do for several chains.
+    pub notify: bool,
+}
+
+/// How far a worker has come with a chain.
+#[derive(Clone, Copy, Debug, PartialEq, Eq)]
+enum Phase {
+    Free,
+    /// It is walked, or out, and its request isn't read.
+    Walking,
+    /// Its request was handed to the file system, which may reply by bytes.
+    Handed,
+    /// A call waits for its answer.
+    Asked,
+    /// The reply is known.
+    Answered,
+    /// The stores were told.
+    Returning,
+}
+
+/// What serves the chains of queues, one at a time: the handle of the library and its buffers, which grow as they are needed, to some 2 MiB
+/// at most. A thread has one of its own; it may be handed from thread to thread.
+#[derive(Debug)]
+pub struct Worker {
+    chain: Chain,
+    phase: Phase,
+    /// What a walk loaded.
+    loaded: Vec<u8>,
+    /// The request, as far as it was loaded.
+    request: Vec<u8>,
+    /// What a listing, a link or an extended attribute answers.
+    list: Vec<u8>,
+    front: [u8; sys::FRONT_MAX],
+    step: sys::Step,
+    call: sys::Call,
+    replied: Replied,
+    /// How many bytes of the room, from its front on, the file system may have written.
+    written: u64,
+}
+
+impl Default for Worker {
+    fn default() -> Worker {
+        Worker::new()
+    }
+}
+
+impl Worker {
+    /// A worker that holds no memory yet. Have it told the guest's by `set_memory` first.
+    pub fn new() -> Worker {
+        Worker {
+            chain: Chain::new(),
+            phase: Phase::Free,
+            loaded: Vec::new(),
+            request: Vec::new(),
+            list: Vec::new(),
+            front: [0; sys::FRONT_MAX],
+            step: sys::Step::default(),
+            call: sys::Call::default(),
+            replied: Replied::Whole,
+            written: 0,
+        }
+    }
+
+    /// Over which memory the next chains go: at most `Device::MOST_REGIONS` regions that don't overlap, none empty, in any order. They are
+    /// copied. Call it first, and after each change of the guest's memory. Errors, after which the regions stay as they were:
+    /// `BadArgument`, `OutOfMemory`, `ChainOut` (after a panic).
+    pub fn set_memory(&mut self, device: &Device, regions: &[Region]) -> Result<(), Status> {
+        self.chain.set_memory(&device.numbers(), regions)
+    }
+
+    /// Serves the next chain of a queue, if one waits: walks it, asks the file system, and gives it back with the reply. Chains of one queue
+    /// are served by one worker at a time. Errors, after which no chain is out: those of `Status::stops_queue`, `OutOfMemory` (the chain waits
+    /// still; the driver doesn't notify again), `BadArgument` (numbers of the queue or the device that are none), `WrongOrder` (no memory was told),
+    /// `ChainOut` (of another worker).
+    ///
+    /// After a panic of the file system, hand the same queue again: the call is answered EIO, and that chain is what was served. After
+    /// one of the memory a chain may be lost to the guest.
+    pub fn serve(
+        &mut self,
+        queue: &mut Queue,
+        device: &Device,
+        file_system: &dyn FileSystem,
+        memory: &dyn GuestMemory,
+    ) -> Result<Option<Served>, Status> {
+        if let Some(served) = self.finish_left(queue, memory) {
+            return Ok(Some(served));
+        }
+        let served = self.serve_next(queue, device, file_system, memory);
+        if served.is_err() {
+            self.abandon(queue);
+        }
+        served
+    }
+
+    /// Ends what a panic left: answers EIO if a call waits.
+    fn finish_left(&mut self, queue: &mut Queue, memory: &dyn GuestMemory) -> Option<Served> {
+        let answered = match self.phase {
+            Phase::Handed => self.reply_error(memory, Errno::EIO),
+            Phase::Asked => self.answer_error(),
+            _ => Ok(()),
+        };
+        if matches!(self.phase, Phase::Handed | Phase::Asked) && answered.is_ok() {
+            self.phase = Phase::Answered;
+        }
+        let served = match self.phase {
+            Phase::Answered => self.give_back(queue, memory).ok(),
+            _ => None,
+        };
+        self.abandon(queue);
+        served
+    }
+
+    /// Answers EIO, and DESTROY, which can't fail, that it is done.
+    fn answer_error(&mut self) -> Result<(), Status> {
+        self.replied = match self.chain.reply_error(Errno::EIO) {
+            Err(Status::OtherKind) => self.chain.reply_done()?,
+            replied => replied?,
+        };
+        Ok(())
+    }
+
+    /// Has no chain out. One whose stores were told can't be given up: it ends.
+    fn abandon(&mut self, queue: &mut Queue) {
+        if self.phase == Phase::Free {
+            return;
+        }
+        if self.chain.give_up(queue) == Err(Status::WrongOrder) {
+            // Whether the driver wants to be told isn't known.
+            let _ = self.chain.end_return(queue, 0);
+        }
+        self.phase = Phase::Free;
+    }
+
+    fn serve_next(
+        &mut self,
+        queue: &mut Queue,
+        device: &Device,
+        file_system: &dyn FileSystem,
+        memory: &dyn GuestMemory,
+    ) -> Result<Option<Served>, Status> {
+        self.phase = Phase::Walking;
+        self.call = sys::Call::default();
+        self.replied = Replied::Whole;
+        self.written = 0;
+        if !self.walk(queue, memory)? {
+            self.phase = Phase::Free;
+            return Ok(None);
+        }
+        if self.step.fault == 0 {
+            self.exchange(device, file_system, memory)?;
+        }
+        self.phase = Phase::Answered;
+        self.give_back(queue, memory).map(Some)
+    }
+
+    /// From the request to the reply.
+    fn exchange(
+        &mut self,
+        device: &Device,
+        file_system: &dyn FileSystem,
+        memory: &dyn GuestMemory,
+    ) -> Result<(), Status> {
+        let front = self.load_front(memory)?;
+        if self.reply_by_bytes(front, file_system, memory)? {
+            return Ok(());
+        }
+        self.phase = Phase::Walking;
+        self.ask(front, device, memory)?;
+        self.phase = if self.call.answer == sys::answer::NONE { Phase::Answered } else { Phase::Asked };
+        match self.answer(device, file_system, memory) {
+            Ok(replied) => self.replied = replied,
+            // An answer that the library doesn't take: files may have changed, so the call isn't asked again.
+            Err(_) => self.answer_error()?,
+        }
+        Ok(())
+    }
+
+    /// Whether a chain is out.
+    fn walk(&mut self, queue: &mut Queue, memory: &dyn GuestMemory) -> Result<bool, Status> {
+        self.step = sys::Step::default();
+        loop {
+            let loaded = &self.loaded[..self.step.len];
+            match self.chain.walk(queue, loaded, &mut self.step)? {
+                Walked::Out => return Ok(true),
+                Walked::Idle => return Ok(false),
+                Walked::Load => self.load(memory)?,
+            }
+        }
+    }
+
+    /// Loads what a walk wants. Its two bytes are a ring's: index, entry or flags; or they are the part of a descriptor on one side of a
+    /// region's end, and so at an even place too.
+    fn load(&mut self, memory: &dyn GuestMemory) -> Result<(), Status> {
+        let sys::Step { at, len, .. } = self.step;
+        grow(&mut self.loaded, len)?;
+        match &mut self.loaded[..len] {
+            bytes @ [_, _] => bytes.copy_from_slice(&memory.load_u16(at).to_le_bytes()),
+            bytes => memory.load(at, bytes),
+        }
+        fence(Ordering::Acquire);
+        Ok(())
+    }
+
+    /// Loads the request's first bytes, and says how many.
+    fn load_front(&mut self, memory: &dyn GuestMemory) -> Result<usize, Status> {
+        let len = self.step.request_len.min(sys::FIRST as u64) as usize;
+        grow(&mut self.request, len)?;
+        load_request(&mut self.chain, memory, 0, &mut self.request[..len]);
+        Ok(len)
+    }
+
+    /// The chain by its bytes, of which the first are loaded.
+    fn by_bytes<'a>(&'a mut self, front: usize, memory: &'a dyn GuestMemory) -> Exchange<'a> {
+        let sys::Step { request_len, room_len, .. } = self.step;
+        self.call.opcode = exchange::opcode(&self.request[..front]);
+        self.call.unique = exchange::unique(&self.request[..front]);
+        Exchange::new(&mut self.chain, memory, &self.request[..front], request_len, room_len)
+    }
+
+    /// Whether the file system replies by bytes of its own.
+    fn reply_by_bytes(
+        &mut self,
+        front: usize,
+        file_system: &dyn FileSystem,
+        memory: &dyn GuestMemory,
+    ) -> Result<bool, Status> {
+        self.phase = Phase::Handed;
+        let mut exchange = self.by_bytes(front, memory);
+        let reply = file_system.reply_by_bytes(&mut exchange);
+        self.written = exchange.written();
+        match reply.map(|len| self.chain.reply_bytes(len)) {
+            None => Ok(false),
+            Some(Err(Status::LongReply)) => self.reply_error(memory, Errno::EIO).map(|()| true),
+            Some(replied) => replied.map(|()| true),
+        }
+    }
+
+    /// Replies an error by bytes: of a request that isn't read.
+    fn reply_error(&mut self, memory: &dyn GuestMemory, error: Errno) -> Result<(), Status> {
+        let front = self.step.request_len.min(sys::FIRST as u64) as usize;
+        let len = self.by_bytes(front, memory).store_error(error);
+        self.chain.reply_bytes(len)
+    }
+
+    /// What the request asks, by as many of its bytes as are wanted. One that is longer than any that a driver makes (a limit above the least
+    /// allows it), or for which memory is wanting, can't stay where it is, since it would block its queue: it is answered ENOMEM.
+    fn ask(&mut self, front: usize, device: &Device, memory: &dyn GuestMemory) -> Result<(), Status> {
+        let numbers = device.numbers();
+        let mut have = front;
+        loop {
+            let want = match self.chain.ask(&numbers, &self.request[..have], &mut self.call)? {
+                Asked::Call => return Ok(()),
+                Asked::More(needed) if needed > have => needed,
+                Asked::More(_) => return Err(Status::ShortBuffer),
+            };
+            if want > sys::REQUEST_MAX || grow(&mut self.request, want).is_err() {
+                return self.reply_error(memory, Errno::ENOMEM);
+            }
+            load_request(&mut self.chain, memory, have as u64, &mut self.request[have..want]);
+            have = want;
+        }
+    }
+
+    /// Stores the reply, the used element and the used index, in this order (VIRTIO 1.2, 2.7.8), and says what came of the chain.
+    fn give_back(&mut self, queue: &mut Queue, memory: &dyn GuestMemory) -> Result<Served, Status> {
+        let began = self.chain.begin_return(queue, &mut self.front);
+        self.phase = Phase::Returning;
+        let stores = began?;
+        if self.replied == Replied::Entries {
+            let len = (stores.len as usize).saturating_sub(stores.front_len);
+            store_room(&mut self.chain, memory, sys::HEADER, &self.list[..len]);
+        }
+        store_room(&mut self.chain, memory, 0, &self.front[..stores.front_len]);
+        memory.store(stores.id_at, &stores.id.to_le_bytes());
+        memory.store(stores.len_at, &stores.len.to_le_bytes());
+        fence(Ordering::Release);
+        memory.store_u16(stores.index_at, stores.index);
+        if memory.is_logging() {
+            self.mark_written(queue, memory, u64::from(stores.len).max(self.written));
+        }
+        // The flags are read after the driver can see the index, or a notification is lost.
+        fence(Ordering::SeqCst);
+        let seen = memory.load_u16(stores.seen_at);
+        let notify = self.chain.end_return(queue, seen)?;
+        self.phase = Phase::Free;
+        Ok(self.served(stores.len, notify))
+    }
+
+    /// Tells what was written: so many bytes of the room, the used element and the used index (VIRTIO 1.2, 2.7.8).
+    fn mark_written(&mut self, queue: &Queue, memory: &dyn GuestMemory, written: u64) {
+        let mut ranges = [GuestRange::default(); 16];
+        let mut done = 0;
+        while done < written {
+            let found = self.chain.room_ranges(done, written - done, &mut ranges);
+            if found.is_empty() {
+                break;
+            }
+            for range in found {
+                memory.mark(*range);
+                done += range.len;
+            }
+        }
+        let layout = queue.layout();
+        let element = u64::from(queue.position() % layout.size);
+        memory.mark(GuestRange { guest: layout.used + 4 + 8 * element, len: 8 });
+        memory.mark(GuestRange { guest: layout.used + 2, len: 2 });
+    }
+
+    fn served(&self, reply_len: u32, notify: bool) -> Served {
+        Served {
+            head: self.step.head,
+            request_len: self.step.request_len,
+            room_len: self.step.room_len,
+            opcode: self.call.opcode,
+            unique: self.call.unique,
+            reply_len,
+            fault: Some(self.step.fault).filter(|&number| number != 0).map(Fault::of),
+            request_fault: Some(self.call.fault).filter(|&number| number != 0).map(RequestFault::of),
+            had_no_room: self.replied == Replied::NoRoom,
+            notify,
+        }
+    }
+}
+
+/// Has a buffer so many bytes at least.
+fn grow(buffer: &mut Vec<u8>, len: usize) -> Result<(), Status> {
+    if buffer.len() < len {
+        buffer.try_reserve_exact(len - buffer.len()).map_err(|_| Status::OutOfMemory)?;
+        buffer.resize(len, 0);
+    }
+    Ok(())
+}

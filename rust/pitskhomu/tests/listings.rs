@@ -1,0 +1,144 @@
+//! READDIR and READDIRPLUS: entries as struct fuse_dirent and struct fuse_direntplus lay them out.
+mod guest;
+
+use guest::recorder::{entry, Recorder};
+use guest::{args, number, Bytes, Guest, Reply};
+use pitskhomu::*;
+
+const READDIR: u32 = 28;
+const READDIRPLUS: u32 = 44;
+
+fn c(name: &'static [u8]) -> &'static CStr {
+    CStr::from_bytes_with_nul(name).unwrap()
+}
+
+fn listing(names: Vec<&'static CStr>) -> Recorder {
+    Recorder { names, ..Recorder::default() }
+}
+
+/// struct fuse_read_in.
+fn read(size: u32) -> Bytes {
+    args().q(3).q(0).d(size).d(0).q(0).d(0).d(0)
+}
+
+/// The entries of a reply: number, offset, kind and name; with nodes, each begins with struct fuse_entry_out.
+fn entries(bytes: &[u8], front: usize) -> Vec<(u64, u64, u64, String)> {
+    let (mut found, mut at) = (Vec::new(), 0);
+    while at < bytes.len() {
+        let one = &bytes[at + front..];
+        let len = number(one, 16, 4) as usize;
+        let name = String::from_utf8_lossy(&one[24..24 + len]).into_owned();
+        found.push((number(one, 0, 8), number(one, 8, 8), number(one, 20, 4), name));
+        at += (front + 24 + len + 7) / 8 * 8;
+    }
+    found
+}
+
+fn found(k: u64, name: &str) -> (u64, u64, u64, String) {
+    (0x600 + k, k, 8, name.to_owned())
+}
+
+#[test]
+fn names_are_listed() {
+    let (mut guest, recorder) = (Guest::new(), listing(vec![c(b".\0"), c(b"a\0"), c(b"longer name\0")]));
+    let data = guest.ask(&recorder, READDIR, 5, read(4096), 16 + 4096).data();
+    assert_eq!(entries(&data, 0), [found(1, "."), found(2, "a"), found(3, "longer name")]);
+    let told = "ReadDirectory { handle: Handle(3), offset: 0, size: 4096 }, 4096, false";
+    assert_eq!(recorder.taken(), [format!("readdir (Node(5), {told})")]);
+}
+
+#[test]
+fn a_list_ends_where_no_more_fits() {
+    let (mut guest, recorder) = (Guest::new(), listing(vec![c(b"a\0"), c(b"b\0"), c(b"c\0")]));
+    let data = guest.ask(&recorder, READDIR, 5, read(95), 16 + 95).data();
+    assert_eq!(entries(&data, 0), [found(1, "a"), found(2, "b")]);
+    // None at all would end the directory.
+    assert_eq!(guest.ask(&recorder, READDIR, 5, read(31), 16 + 31), Reply::Error(22));
+    // The directory ends.
+    assert_eq!(guest.ask(&listing(vec![]), READDIR, 5, read(31), 16 + 31), Reply::Data(vec![]));
+}
+
+#[test]
+fn nodes_are_listed() {
+    let (mut guest, recorder) = (Guest::new(), listing(vec![c(b".\0"), c(b"..\0"), c(b"a\0")]));
+    let data = guest.ask(&recorder, READDIRPLUS, 5, read(4096), 16 + 4096).data();
+    assert_eq!(entries(&data[..160], 128), [found(1, ".")]);
+    assert_eq!(number(&data, 0, 8), 0, "no node is held of .");
+    assert_eq!((number(&data, 40, 8), number(&data, 40 + 60, 4)), (0x601, 0o100000), "its number and kind");
+    let attributes = entry().attributes;
+    assert_eq!(entries(&data[320..], 128), [(attributes.inode, 3, 8, "a".to_owned())]);
+    assert_eq!(number(&data, 320, 8), entry().node.0);
+    assert_eq!(recorder.taken()[1..], [r#"lookup (Node(5), "a")"#]);
+}
+
+#[test]
+fn a_node_that_is_not_told_is_not_looked_up() {
+    let (mut guest, recorder) = (Guest::new(), listing(vec![c(b"a\0"), c(b"b\0")]));
+    let data = guest.ask(&recorder, READDIRPLUS, 5, read(319), 16 + 319).data();
+    assert_eq!(entries(&data, 128).len(), 1);
+    assert_eq!(recorder.taken()[1..], [r#"lookup (Node(5), "a")"#]);
+    // The room is shorter than the guest asked for: what was looked up is forgotten.
+    assert_eq!(guest.ask(&recorder, READDIRPLUS, 5, read(160), 160), Reply::Error(22));
+}
+
+/// Lists two names and fails then, or fails at the look-up of the second.
+struct Fails {
+    fails_look_up: bool,
+}
+
+impl FileSystem for Fails {
+    fn lookup(&self, _: &Context, _: Node, name: &CStr) -> Answer<Entry> {
+        if self.fails_look_up && name.to_bytes() == b"b" {
+            return Err(Errno::EACCES);
+        }
+        Ok(entry())
+    }
+    fn getattr(&self, _: &Context, _: Node, _: Option<Handle>) -> Answer<(Attributes, std::time::Duration)> {
+        Err(Errno::EIO)
+    }
+    fn readdir(&self, _: &Context, _: Node, _: ReadDirectory, list: &mut Listing<'_>) -> Answer<()> {
+        for (name, k) in [c(b"a\0"), c(b"b\0")].into_iter().zip(1..) {
+            list.add(DirectoryEntry { name, inode: 0x600 + k, next_offset: k, kind: FileKind::REGULAR })?;
+        }
+        Err(Errno::EIO)
+    }
+}
+
+#[test]
+fn a_listing_that_fails() {
+    let mut guest = Guest::new();
+    let fails = |fails_look_up| Fails { fails_look_up };
+    // No node is held: the error is the reply.
+    assert_eq!(guest.ask(&fails(false), READDIR, 5, read(4096), 16 + 4096), Reply::Error(5));
+    // The guest holds the nodes so far: it is told them, and meets the error when it goes on.
+    let data = guest.ask(&fails(false), READDIRPLUS, 5, read(4096), 16 + 4096).data();
+    assert_eq!(entries(&data, 128).len(), 2);
+    let data = guest.ask(&fails(true), READDIRPLUS, 5, read(4096), 16 + 4096).data();
+    assert_eq!(entries(&data, 128).len(), 1);
+    assert_eq!(number(&data, 0, 8), entry().node.0);
+}
+
+#[test]
+fn names_that_no_directory_has() {
+    struct Long(&'static CStr);
+    impl FileSystem for Long {
+        fn lookup(&self, _: &Context, _: Node, _: &CStr) -> Answer<Entry> {
+            Err(Errno::ENOENT)
+        }
+        fn getattr(&self, _: &Context, _: Node, _: Option<Handle>) -> Answer<(Attributes, std::time::Duration)> {
+            Err(Errno::EIO)
+        }
+        fn readdir(&self, _: &Context, _: Node, _: ReadDirectory, list: &mut Listing<'_>) -> Answer<()> {
+            let entry = DirectoryEntry { name: self.0, inode: 1, next_offset: 1, kind: FileKind::UNKNOWN };
+            assert_eq!(list.add(entry), Err(Errno::ENAMETOOLONG));
+            list.add(entry).map(|_| ())
+        }
+    }
+    let mut guest = Guest::new();
+    let mut long = [b'x'; 257];
+    long[256] = 0;
+    let long: &'static [u8] = Box::leak(Box::new(long));
+    for name in [c(b"\0"), c(long)] {
+        assert_eq!(guest.ask(&Long(name), READDIR, 5, read(4096), 16 + 4096), Reply::Error(36));
+    }
+}

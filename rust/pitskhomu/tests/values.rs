@@ -1,0 +1,156 @@
+//! Numbers with names, and the record of a device: by errno.h, linux/fuse.h, linux/fs.h and dirent.h.
+use pitskhomu::*;
+use std::error::Error;
+use std::io;
+
+#[test]
+fn errnos() {
+    let numbers = [(Errno::EPERM, 1), (Errno::ENOENT, 2), (Errno::EIO, 5), (Errno::ENOSYS, 38), (Errno::EDQUOT, 122)];
+    for (errno, number) in numbers {
+        assert_eq!((errno.number(), Errno::new(number)), (number, Some(errno)));
+        assert_eq!(Errno::of_system(number as i32), errno);
+    }
+    assert_eq!((Errno::new(0), Errno::new(Errno::MAX + 1)), (None, None));
+    assert_eq!((Errno::of_system(0), Errno::of_system(-1)), (Errno::EIO, Errno::EIO));
+    let odd = Errno::new(4095).unwrap();
+    assert_eq!((Errno::ENOENT.name(), odd.name()), (Some("ENOENT"), None));
+    assert_eq!((format!("{:?}", Errno::ENOENT), format!("{odd:?}")), ("ENOENT".into(), "Errno(4095)".into()));
+    assert_eq!(Errno::ENOENT.to_string(), "no such file or directory (ENOENT)");
+    assert_eq!(odd.to_string(), "errno 4095");
+}
+
+#[test]
+fn errors_of_std() {
+    let by_call = io::Error::from_raw_os_error(39);
+    assert_eq!(Errno::from(by_call), Errno::ENOTEMPTY);
+    let kinds = [
+        (io::ErrorKind::NotFound, Errno::ENOENT),
+        (io::ErrorKind::PermissionDenied, Errno::EACCES),
+        (io::ErrorKind::AlreadyExists, Errno::EEXIST),
+        (io::ErrorKind::WouldBlock, Errno::EAGAIN),
+        (io::ErrorKind::InvalidInput, Errno::EINVAL),
+        (io::ErrorKind::TimedOut, Errno::ETIMEDOUT),
+        (io::ErrorKind::Interrupted, Errno::EINTR),
+        (io::ErrorKind::Unsupported, Errno::EOPNOTSUPP),
+        (io::ErrorKind::OutOfMemory, Errno::ENOMEM),
+        (io::ErrorKind::BrokenPipe, Errno::EPIPE),
+        (io::ErrorKind::UnexpectedEof, Errno::EIO),
+    ];
+    for (kind, errno) in kinds {
+        assert_eq!(Errno::from(io::Error::from(kind)), errno);
+    }
+    assert_eq!(io::Error::from(Errno::ENOENT).kind(), io::ErrorKind::NotFound);
+    assert_eq!(io::Error::from(Status::OutOfMemory).kind(), io::ErrorKind::OutOfMemory);
+    fn fails() -> Result<(), Box<dyn Error + Send + Sync>> {
+        Err(Status::ChainOut)?
+    }
+    assert_eq!(fails().unwrap_err().to_string(), "a chain is out");
+    assert_eq!(io::Error::from(Status::ChainOut).to_string(), "a chain is out");
+}
+
+#[test]
+fn statuses_and_faults() {
+    assert_eq!((Status::OutOfMemory.number(), Status::RecordMismatch.number()), (9, 90));
+    assert!(Status::Stopped.stops_queue() && Status::DescriptorUnreachable.stops_queue());
+    assert!(!Status::OutOfMemory.stops_queue() && !Status::ChainOut.stops_queue());
+    assert!(Status::RecordOutOfMemory.is_out_of_memory() && !Status::Stopped.is_out_of_memory());
+    assert_eq!(
+        (Status::Unknown(99).number(), Status::Unknown(99).to_string().as_str()),
+        (99, "number 99 of enum fs_status")
+    );
+    assert_eq!(
+        (Fault::OverLimit.number(), Fault::OverLimit.to_string().as_str()),
+        (8, "the request or the room is over the limit")
+    );
+    assert_eq!(RequestFault::XattrSize.number(), 9);
+    assert_eq!(RequestFault::Name.to_string(), "a name doesn't end with its only zero byte");
+}
+
+#[test]
+fn flags() {
+    let both = OpenOptions::DIRECT_IO | OpenOptions::NOFLUSH;
+    assert_eq!((both.bits(), OpenOptions::from_bits(33)), (33, both));
+    assert!(both.contains(OpenOptions::NOFLUSH) && !both.contains(OpenOptions::STREAM));
+    assert!(both.contains(OpenOptions::empty()) && OpenOptions::empty().is_empty() && !both.is_empty());
+    assert_eq!(
+        (both & OpenOptions::NOFLUSH, both - OpenOptions::NOFLUSH),
+        (OpenOptions::NOFLUSH, OpenOptions::DIRECT_IO)
+    );
+    let mut all = OpenOptions::default();
+    all |= both;
+    assert_eq!(format!("{:?}", all | OpenOptions::from_bits(0x100)), "OpenOptions(DIRECT_IO | NOFLUSH | 0x100)");
+    assert_eq!(
+        (Options::INIT_EXT.bits(), Options::CREATE_SUPP_GROUP.bits(), Options::ALLOW_IDMAP.bits()),
+        (1 << 30, 1 << 34, 1 << 40)
+    );
+    assert_eq!((SetAttributesValid::CTIME.bits(), RenameFlags::WHITEOUT.bits(), AccessMask::READ.bits()), (1024, 4, 4));
+}
+
+#[test]
+fn kinds_of_files() {
+    assert_eq!(
+        (FileKind::of_mode(0o40755), FileKind::of_mode(0o120777)),
+        (FileKind::DIRECTORY, FileKind::SYMBOLIC_LINK)
+    );
+    let kinds = [
+        (FileKind::UNKNOWN, 0),
+        (FileKind::FIFO, 0o10000),
+        (FileKind::CHARACTER_DEVICE, 0o20000),
+        (FileKind::DIRECTORY, 0o40000),
+        (FileKind::BLOCK_DEVICE, 0o60000),
+        (FileKind::REGULAR, 0o100000),
+        (FileKind::SYMBOLIC_LINK, 0o120000),
+        (FileKind::SOCKET, 0o140000),
+    ];
+    for (kind, mode) in kinds {
+        assert_eq!((kind.mode(), FileKind::of_mode(mode | 0o777)), (mode, kind));
+    }
+}
+
+#[test]
+fn the_archive_is_of_this_header() {
+    assert_eq!(version(), VERSION);
+    assert_eq!((Device::MOST_REGIONS, Device::MOST_QUEUES, Device::LEAST_LIMIT), (64, 64, 0x101000));
+    assert_eq!((Node::ROOT, Attributes::SUBMOUNT, Attributes::DAX), (Node(1), 1, 2));
+}
+
+fn queues() -> Vec<Queue> {
+    let layout = QueueLayout { size: 64, descriptors: 0x10000, available: 0x11000, used: 0x12000 };
+    (0..3).map(|k| Queue::new(QueueLayout { size: 64 >> k, ..layout }, 7 + k)).collect()
+}
+
+#[test]
+fn a_device_is_saved_and_restored() {
+    let device = Device::default();
+    device.set_options(Options::ASYNC_READ | Options::MAX_PAGES);
+    let mut record = device.save(&queues()).unwrap();
+    assert_eq!(record.len(), 32 + 3 * 32);
+    record.extend(b"what the file system saved");
+    let target = Device::default();
+    let restored = target.restore(&record).unwrap();
+    assert_eq!(target.options(), device.options());
+    assert_eq!(restored.len(), 3);
+    for (queue, saved) in restored.iter().zip(&queues()) {
+        assert_eq!((queue.layout(), queue.position(), queue.stopped()), (saved.layout(), saved.position(), None));
+    }
+}
+
+#[test]
+fn records_that_are_refused() {
+    let device = Device::default();
+    assert_eq!(device.save(&[]), Err(Status::BadArgument));
+    assert_eq!(device.save(&[Queue::default()]), Err(Status::BadArgument));
+    let record = device.save(&queues()).unwrap();
+    let restored = |target: &Device, record: &[u8]| target.restore(record).map(|queues| queues.len());
+    for len in 0..record.len() {
+        assert_eq!(restored(&device, &record[..len]), Err(Status::RecordTruncated), "{len}");
+    }
+    let mut changed = record.clone();
+    changed[0] ^= 1;
+    assert_eq!(restored(&device, &changed), Err(Status::RecordBadMagic));
+    let other = Device::new(65536, Device::LEAST_LIMIT);
+    other.set_options(Options::MAX_PAGES);
+    assert_eq!(restored(&other, &record), Err(Status::RecordMismatch));
+    assert_eq!(other.options(), Options::MAX_PAGES, "it stays as it was");
+    assert_eq!(restored(&Device::new(4095, 0), &record), Err(Status::BadArgument));
+}

@@ -1,0 +1,79 @@
+# The part of ./test that needs no guest: sourced by it. The drivers and front-ends are the C example's.
+
+# A directory to serve, with links that lead out of it, beside a file that nobody may reach.
+make_yard() {
+    local yard=$work/yard dir=$work/yard/share
+    rm -rf "$yard"
+    mkdir -p "$dir/dir" "$dir/race"
+    echo secret > "$yard/secret"
+    echo file > "$dir/file"
+    echo slow > "$dir/slow"
+    head -c 30000 /dev/urandom > "$dir/other"
+    ln -s ../secret "$dir/out"
+    ln -s "$yard/secret" "$dir/absolute"
+    ln -s .. "$dir/up"
+    ln -s .. "$dir/race-link"
+    mkfifo "$dir/pipe"
+    mkdir -m 0770 "$dir/shared"
+    chgrp 4242 "$dir/shared"
+    snapshot > "$work/yard.before"
+}
+
+# All that stands beside the directory.
+snapshot() {
+    find "$work/yard" -path "$work/yard/share" -prune -o -type f -printf '%P %m %s %T@ %U %G ' -exec cat {} \;
+}
+
+# The tests start a server by the C example's words: these are the daemon's for them. A pool is the example's own.
+make_server() {
+    cat > "$work/server" << END
+#!/usr/bin/env bash
+words=()
+while [ \$# -gt 0 ]; do
+    case \$1 in
+    --socket) words+=(--socket-path "\$2") && shift 2 ;;
+    --thread-pool-size) shift 2 ;;
+    *) words+=("\$1") && shift ;;
+    esac
+done
+exec "$DAEMON" --xattr --log-level=warn "\${words[@]}"
+END
+    chmod +x "$work/server"
+}
+
+# Runs a program of the tests over the daemon; what it prints is shown.
+try() {
+    local program=$1 what=$2 status=0
+    make_yard
+    (
+        ulimit -f 65536
+        exec timeout $((SECONDS_EACH + 600)) "$work/$program" "$work/server" "$work/yard/share" "${@:2}"
+    ) > "$work/$program-$what" 2> "$work/$program-$what.errors" || status=$?
+    cat "$work/$program-$what"
+    [ $status = 0 ] || failure "$program $what: it ended with $status: $(tail -n 3 "$work/$program-$what.errors")"
+    ! grep -E 'FAILED|panicked' "$work/$program-$what.errors" || failure "$program $what"
+    snapshot | cmp - "$work/yard.before" || failure "$program $what: a file outside the directory changed"
+    echo "$program $what: done"
+}
+
+alone() {
+    SECONDS_EACH=${SECONDS_EACH:-60}
+    gcc -std=c11 -pthread -O2 -o "$work/checks" "$example"/{checks,escape,front}.c
+    gcc -std=c11 -pthread -O2 -o "$work/hostile" "$example"/{hostile,front,chance}.c
+    make_server
+    try checks escape
+    try checks groups
+    try checks readonly
+    diff <(echo file) "$work/yard/share/file" || failure "readonly: a file changed"
+    try checks log
+    try checks rings
+    try checks config
+    try checks memory 500
+    try checks two 5
+    try checks slow
+    try checks again 50
+    try checks sleeps "${SLEEPS:-500000}"
+    try hostile cut 0
+    try hostile guest "$SECONDS_EACH"
+    try hostile front-end "$SECONDS_EACH"
+}

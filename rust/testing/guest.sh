@@ -1,0 +1,261 @@
+# A Linux guest under QEMU: sourced by ./test. Its first files and scenarios are the C example's, and those of testing/scenarios.sh.
+
+# QEMU, virtiofsd, busybox and a kernel, unpacked.
+take_guest() {
+    [ -f "$work/image" ] || {
+        local packages kernel
+        make_apt
+        theirs apt-get update > "$work/apt" 2>&1
+        packages=$(needed . qemu-system-x86 virtiofsd busybox-static)
+        kernel=$(theirs apt-cache depends linux-image-cloud-amd64 | sed -n 's/^ *Depends: //p' | head -n 1)
+        # shellcheck disable=SC2086
+        unpack guest "$root" $packages "$kernel" >> "$work/apt" 2>&1
+        cp "$root"/boot/vmlinuz-* "$work/vmlinuz"
+    }
+    make_image
+    make_files
+}
+
+# Runs a program of the other Debian with its own libraries.
+other() {
+    local program=$1
+    shift
+    QEMU_MODULE_DIR=$root/usr/lib/x86_64-linux-gnu/qemu exec "$root/usr/lib64/ld-linux-x86-64.so.2" \
+        --library-path "$root/usr/lib/x86_64-linux-gnu:$root/usr/lib/x86_64-linux-gnu/pulseaudio" "$root$program" "$@"
+}
+
+# A module of the guest's kernel, behind those that it depends on.
+take_module() {
+    local file name
+    ! grep -qx "$1" "$work/root/mod/order" || return 0
+    file=$(find "$root/usr/lib/modules" "$root/lib/modules" -name "$1.ko*" 2> "$work/none" | head -n 1)
+    [ -n "$file" ] || return 0 # it is a part of the kernel itself
+    case $file in
+    *.xz) xz -dc "$file" > "$work/root/mod/$1.ko" ;;
+    *) cp "$file" "$work/root/mod/$1.ko" ;;
+    esac
+    for name in $(modinfo -F depends "$work/root/mod/$1.ko" | tr ',' ' '); do take_module "$name"; done
+    echo "$1" >> "$work/root/mod/order"
+}
+
+# The guest's first files: busybox, the modules, what it runs.
+make_image() {
+    rm -rf "$work/root"
+    mkdir -p "$work"/root/{bin,dev,proc,sys,mnt,mod,tmp}
+    : > "$work/root/mod/order"
+    cp "$root/usr/bin/busybox" "$work/root/bin/busybox" 2> "$work/none" || cp "$root/bin/busybox" "$work/root/bin/busybox"
+    gcc -std=c11 -O2 -static -o "$work/root/bin/ask" "$example"/guest/{ask,calls}.c
+    gcc -std=c11 -O2 -static -o "$work/root/bin/hold" "$here/testing/hold.c"
+    cp "$example/guest/init" "$work/root/init"
+    cat "$example/guest/scenarios.sh" "$here/testing/scenarios.sh" > "$work/root/scenarios.sh"
+    chmod 755 "$work/root/init"
+    take_module virtio_pci
+    take_module virtiofs
+    (cd "$work/root" && find . | cpio -o -H newc --quiet | gzip -1) > "$work/image"
+}
+
+# What is shared: files by chance, one of 64 MiB, a directory of 300, one within another, and links.
+make_files() {
+    local files=$share/files k
+    mkdir -p "$share"
+    rm -rf "$share/work"
+    mkdir "$share/work"
+    [ ! -f "$work/files-made" ] || return 0
+    mkdir -p "$files/many" "$files/one/two/three"
+    echo 'Good morning from the host!' > "$files/greeting"
+    : > "$files/empty"
+    head -c 1048589 /dev/urandom > "$files/m1"
+    head -c 8388608 /dev/urandom > "$files/m8"
+    head -c 67108864 /dev/urandom > "$files/big"
+    for k in $(seq 1 40); do head -c $((RANDOM % 9000)) /dev/urandom > "$files/one/two/$k"; done
+    for k in $(seq 1 300); do echo "$k" > "$files/many/name-$k"; done
+    ln -s greeting "$files/link"
+    ln -s ../../../../../etc/hostname "$files/one/out"
+    touch "$work/files-made"
+}
+
+# Starts a daemon on a socket: `ours`, or `virtiofsd`. Sets `server`.
+start_server() {
+    local kind=$1 socket=$2 log=$3
+    shift 3
+    rm -f "$socket"
+    case $kind in
+    ours) "$DAEMON" --socket-path="$socket" --shared-dir="$share" --xattr "$@" > "$log" 2>&1 & ;;
+    virtiofsd)
+        # Its sandbox runs newuidmap only for who isn't root.
+        (other /usr/libexec/virtiofsd --socket-path="$socket" --shared-dir="$share" --xattr "$@") > "$log" 2>&1 &
+        ;;
+    esac
+    server=$!
+    for _ in $(seq 100); do
+        [ ! -S "$socket" ] || return 0
+        sleep 0.1
+    done
+    failure "$kind makes no socket: $(tail -n 3 "$log")"
+    return 1
+}
+
+# QEMU with a guest over a socket, in a run's folder; its monitor is on a pipe. What follows is added to its words.
+qemu() {
+    local run=$1 scenario=$2 socket=$3
+    shift 3
+    rm -f "$run"/monitor.{in,out}
+    mkfifo "$run/monitor.in" "$run/monitor.out"
+    (timeout "${GUEST_SECONDS:-900}" bash -c "$(declare -f other); other \"\$@\"" qemu /usr/bin/qemu-system-x86_64 \
+        -L "$root/usr/share/qemu" -L "$root/usr/share/seabios" \
+        -M "pc,accel=${ACCEL:-tcg},memory-backend=mem" -cpu max -smp "${PROCESSORS:-2}" \
+        -object "memory-backend-memfd,id=mem,size=256M,share=on" -nodefaults -no-user-config -nic none -display none \
+        -serial "file:$run/console" -chardev "pipe,id=mon,path=$run/monitor" -mon chardev=mon,mode=readline \
+        -chardev "socket,id=fs,path=$socket" -kernel "$work/vmlinuz" -initrd "$work/image" \
+        -append "console=ttyS0 quiet loglevel=3 panic=-1 rdinit=/init scenario=$scenario" "$@") > "$run/qemu" 2>&1
+}
+export root
+
+device() { echo "vhost-user-fs-pci,chardev=fs,tag=shared,queue-size=128,num-request-queues=${QUEUES:-1}${1:-}"; }
+
+# Waits for a line of the guest's.
+wait_for() {
+    for _ in $(seq "${3:-1200}"); do
+        ! grep -q "$2" "$1/console" 2> "$work/none" || return 0
+        sleep 0.25
+    done
+    return 1
+}
+
+say() {
+    local run=$1
+    shift
+    timeout 10 bash -c 'printf "%s\n" "$@" > "$0"' "$run/monitor.in" "$@" || true
+}
+
+# The monitor's commands of a scenario, once the guest is ready.
+meddle() {
+    local run=$1 scenario=$2
+    case $scenario in
+    pause)
+        wait_for "$run" READY || return
+        for _ in $(seq 12); do
+            say "$run" stop
+            sleep 0.2
+            say "$run" cont
+            sleep 0.5
+        done
+        ;;
+    hotplug | descriptors)
+        wait_for "$run" READY || return
+        say "$run" 'object_add memory-backend-memfd,id=m1,size=256M,share=on' 'device_add pc-dimm,id=d1,memdev=m1'
+        ;;
+    killed)
+        wait_for "$run" READY || return
+        kill -9 "$server"
+        sleep 10
+        say "$run" quit
+        ;;
+    esac
+}
+
+# One guest runs one scenario over one server; its lines come to `run/lines`.
+run_guest() {
+    local scenario=$1 kind=$2 name=$3 memory=256M status=0
+    shift 3
+    run=$work/run-$name
+    rm -rf "$run"
+    mkdir -p "$run"
+    case $scenario in hotplug | descriptors) memory=256M,slots=2,maxmem=2G ;; esac
+    start_server "$kind" "$run/socket" "$run/server" "$@" || return 0
+    meddle "$run" "$scenario" > "$run/meddle" 2>&1 &
+    local meddler=$! reboot=(-no-reboot)
+    [ "$scenario" != reboot ] || reboot=()
+    qemu "$run" "$scenario" "$run/socket" -m "$memory" -device "$(device)" "${reboot[@]}" || status=$?
+    kill "$meddler" 2> "$work/none" || true
+    tr -d '\r' < "$run/console" | sed -n '/^== begin/,$p' > "$run/lines"
+    [ "$scenario" != killed ] || return 0
+    [ $status = 0 ] || failure "$name: qemu ended with $status: $(tail -n 2 "$run/qemu")"
+    wait "$server" || failure "$name: the server ended with $?: $(tail -n 2 "$run/server")"
+    check_end "$name" "$kind"
+}
+
+# The guest came to its end, its kernel complains of nothing but a timer that a busy host is late with, and the server met no fault.
+check_end() {
+    grep -q '^== end' "$run/lines" || failure "$1: the guest didn't come to its end"
+    ! sed -n '/^== kernel/,/^== end/p' "$run/lines" | grep -v -e '^==' -e '8254 timer' -e 'clocksource' ||
+        failure "$1: the guest's kernel complains"
+    [ "$2" = virtiofsd ] || ! grep -E 'ERROR|panicked' "$run/server" || failure "$1: the server has an error"
+}
+
+# Whether the guest's lines that begin with a word are those of standard input.
+expect() {
+    local name=$1 word=$2
+    grep "^$word " "$run/lines" > "$run/got" || true
+    cat > "$run/wanted"
+    diff "$run/wanted" "$run/got" > "$run/diff" || {
+        failure "$name: other lines $word"
+        head -n 20 "$run/diff"
+    }
+}
+
+sum() { sha256sum < "$1" | sed 's/ .*//'; }
+list_sums() { (cd "$share/files" && find . -type f | sort | while read -r f; do echo "SUM $(sha256sum "$f")"; done); }
+
+# What the guest sees is what stands on the host, and what it wrote came to the host.
+whole() {
+    local kind=$1 name=$2 f
+    shift 2
+    make_files
+    run_guest whole "$kind" "$name" "$@"
+    (cd "$share/files" && find . | sort | sed 's/^/NAME /') | expect "$name" NAME
+    list_sums | expect "$name" SUM
+    echo 'MANY 303' | expect "$name" MANY
+    printf 'SAME %s\n' copy direct odd | expect "$name" SAME
+    for f in copy direct odd; do echo "WROTE $(sum "$share/work/$f") $f"; done | expect "$name" WROTE
+    for _ in 1 2 3 4; do echo "READER $(sum "$share/files/m8")"; done | expect "$name" READER
+    echo "BIG $(sum "$share/files/big")" | expect "$name" BIG
+    echo "AGAIN $(sum "$share/files/m8")" | expect "$name" AGAIN
+    grep -q 'stat 10000 times, 0 failed' "$run/lines" || failure "$name: stats"
+    [ -z "$(find "$share/work" -name 't[0-9]')" ] || failure "$name: files are left"
+    grep '^CALL ' "$run/lines" > "$work/calls-$name"
+    echo "$name: done, $(grep -c '^SUM ' "$run/lines") sums, $(wc -l < "$work/calls-$name") calls"
+}
+
+# Lines of sums that the guest tells more than once.
+all_are() {
+    local name=$1 word=$2 wanted=$3 count
+    count=$(grep -c "^$word " "$run/lines" || true)
+    [ "$count" -gt 0 ] && [ "$count" = "$(grep -c "^$word $wanted$" "$run/lines")" ] || failure "$name: other lines $word"
+    echo "$name: done, $count readings"
+}
+
+guest() {
+    whole ours whole
+    QUEUES=3 whole ours whole-3 --num-request-queues 3 --cache never --killpriv-v2
+    whole virtiofsd whole-virtiofsd
+    diff "$work/calls-whole-virtiofsd" "$work/calls-whole" || failure "a call came out otherwise than over virtiofsd"
+    make_files
+    run_guest readonly ours readonly --readonly
+    list_sums | expect readonly SUM
+    ! grep 'NOT REFUSED' "$run/lines" || failure "readonly: a change is made"
+    run_guest pause ours pause
+    all_are pause READER "$(sum "$share/files/m8")"
+    ! grep 'OTHER BYTES' "$run/lines" || failure "pause: other bytes"
+    run_guest unbind ours unbind
+    all_are unbind READER "$(sum "$share/files/m8")"
+    ! grep 'STILL THERE' "$run/lines" || failure "unbind: a device that is gone is read"
+    make_files
+    run_guest reboot ours reboot
+    all_are reboot READER "$(sum "$share/files/m8")"
+    run_guest hotplug ours hotplug
+    all_are hotplug BIG "$(sum "$share/files/big")"
+    grep -q '^PLUGGED in' "$run/lines" || failure "hotplug: no memory came"
+    descriptors
+    run_guest killed ours killed
+    grep '^AFTER' "$run/lines" || echo "killed: calls of the guest wait"
+}
+
+# The guest takes all descriptors: it is told ENFILE or EMFILE, memory still comes, and files are read when some are free again.
+descriptors() {
+    make_files
+    run_guest descriptors ours descriptors --rlimit-nofile 1600
+    grep -q '^TAKEN .*oo many open files' "$run/lines" || failure "descriptors: the guest isn't told"
+    grep -q '^PLUGGED in' "$run/lines" || failure "descriptors: no memory came"
+    all_are descriptors BIG "$(sum "$share/files/big")"
+}
