@@ -16,6 +16,7 @@
 #include <unistd.h>
 
 enum {
+    GET_FEATURES = 1,
     SET_FEATURES = 2,
     SET_MEM_TABLE = 5,
     SET_VRING_NUM = 8,
@@ -25,6 +26,7 @@ enum {
     SET_VRING_KICK,
     SET_VRING_CALL,
     SET_VRING_ERR,
+    GET_PROTOCOL_FEATURES = 15,
     SET_PROTOCOL_FEATURES = 16,
     SET_VRING_ENABLE = 18
 };
@@ -112,6 +114,15 @@ void front_query(struct front *front, uint32_t request, void *body, uint32_t len
     receive_reply(front, request, body, len);
 }
 
+/* A number that a message without a body asks for. */
+static uint64_t number(struct front *front, uint32_t request) {
+    struct head head = {request, VERSION, 0};
+    uint64_t word;
+    send_message(front, &head, NULL, NULL, 0);
+    receive_reply(front, request, &word, sizeof word);
+    return word;
+}
+
 static void must_tell(struct front *front, uint32_t request, const void *body, uint32_t len, const int *fds,
                       size_t fd_count) {
     if (front_tell(front, request, body, len, fds, fd_count)) die("message %u is refused", request);
@@ -131,8 +142,11 @@ void front_set_memory(struct front *front) {
     must_tell(front, SET_MEM_TABLE, &table, sizeof table, fds, REGIONS);
 }
 
+/* Asks before it tells, as QEMU does: some back-ends answer nothing else before. */
 void front_set_up(struct front *front) {
-    uint64_t protocol = 1ull << 0 | 1ull << 1 | 1ull << 3 | 1ull << 15;
+    uint64_t protocol = 1ull << 0 | 1ull << 1 | 1ull << 3 | 1ull << 9 | 1ull << 15;
+    if ((number(front, GET_FEATURES) & front->features) != front->features) die("features are wanting");
+    protocol &= number(front, GET_PROTOCOL_FEATURES);
     must_tell(front, SET_PROTOCOL_FEATURES, &protocol, sizeof protocol, NULL, 0);
     must_tell(front, SET_FEATURES, &front->features, sizeof front->features, NULL, 0);
     front_set_memory(front);
