@@ -1,6 +1,6 @@
 //! What the tests share: a queue, a workbench, and a chain that asks for a name.
 
-use fs_chain::{KeptQueue, Walked, Workbench};
+use fs_chain::{KeptQueue, WalkOutcome, Workbench};
 use fs_queue::QueueLayout;
 use fs_regions::{GuestRegions, MemoryRegion};
 use server_phases::Session;
@@ -107,7 +107,7 @@ pub fn take(
     workbench: &mut Workbench,
     queue: &mut KeptQueue,
     loads: &[&[u8]],
-) -> Walked {
+) -> WalkOutcome {
     let mut walked = workbench.walk(queue, &[]).expect(rt, "a walk");
     for load in loads {
         walked = workbench.walk(queue, load).expect(rt, "a walk");

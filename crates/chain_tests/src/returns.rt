@@ -4,7 +4,7 @@ use crate::given::{
     LOADS, LOADS_OF_80, LOADS_OF_FAULTY, LOADS_OF_SMALL_ROOM, LOOKUP, READDIR, RENAME, expect_same,
     queue, session, take, workbench,
 };
-use fs_chain::{Added, ChainError, Told, Walked};
+use fs_chain::{Added, ChainError, Told, WalkOutcome};
 use fs_queue::ChainFault;
 use fuse_fs::{DirEntry, Entry, Timeout};
 use fuse_values::{FileAnswer, FileCall};
@@ -26,7 +26,7 @@ fn a_name_that_is_not_there_goes_back(rt: HostRuntime) {
     let mut queue = queue(&rt);
     let mut session = session();
     let walked = take(&rt, &mut workbench, &mut queue, LOADS);
-    let chain = Walked::Chain {
+    let chain = WalkOutcome::Chain {
         head: 1,
         request_len: 46,
         room_len: 144,
@@ -98,7 +98,7 @@ fn a_faulty_chain_goes_back_without_a_reply(rt: HostRuntime) {
     let mut queue = queue(&rt);
     let walked = take(&rt, &mut workbench, &mut queue, LOADS_OF_FAULTY);
     let fault = ChainFault::NextOutOfTable;
-    expect_same(&rt, walked, Walked::Faulty { head: 1, fault });
+    expect_same(&rt, walked, WalkOutcome::Faulty { head: 1, fault });
     expect_same(&rt, workbench.request_window(0).is_some(), false);
     let stores = workbench
         .begin_return(&queue, &mut [])

@@ -50,7 +50,7 @@ error_of refused.TooLong = error.LongReply
 -- an answer to what waits is taken: this is given, whatever command it waits for, told, and kept
 abbrev pub IsGiven : (s : Setting) → Waiting → FileAnswer → Out → (options : ℕ) → Replied → state.State → Type 0
 IsGiven s w answer out options told kept =
-    (given : Answered) × (told ≡ replied_of given) × (kept ≡ at.Answered out (reply_of given.sent (data_len answer)))
+    (given : Answered) × (told ≡ replied_of given) × (kept ≡ at.HasReply out (reply_of given.sent (data_len answer)))
     × ((command : FileCommand) (bytes : List ℕ) → WaitsFor w command → TellsBytes bytes answer → Gives s command bytes answer given options)
 
 -- an answer to what waits can be taken

@@ -41,7 +41,7 @@ asked_of (Some front) = asked.Reply front
 
 -- no call is made, and the reply is kept, if there is one
 abbrev pub KeepsReply : Setting → Meaning → (bytes : List ℕ) → Out → state.State → Type 0
-KeepsReply s m bytes out (at.Answered kept reply) = (kept ≡ out) × (reply.behind ≡ 0) × IsTold s m bytes (asked_of reply.front)
+KeepsReply s m bytes out (at.HasReply kept reply) = (kept ≡ out) × (reply.behind ≡ 0) × IsTold s m bytes (asked_of reply.front)
 KeepsReply s m bytes out _ = ⊥
 
 -- what is told of a request with this meaning, and kept of its chain
@@ -49,7 +49,7 @@ abbrev pub TellsMeaning : Setting → Meaning → (bytes : List ℕ) → Out →
 TellsMeaning s m bytes out (tells.Call made) kept = KeepsCall s m bytes made out kept
 TellsMeaning s m bytes out (tells.More wanted) kept = kept ≡ at.Taken out
 TellsMeaning s m bytes out tells.Nothing kept = KeepsReply s m bytes out kept
-TellsMeaning s m bytes out (tells.Fault e) kept = (kept ≡ at.Answered out no_reply) × IsTold s m bytes (asked.Fault e)
+TellsMeaning s m bytes out (tells.Fault e) kept = (kept ≡ at.HasReply out no_reply) × IsTold s m bytes (asked.Fault e)
 
 -- what waits for an answer names this one, but a listing, which names nobody
 abbrev pub IsKeptFor : Context → state.State → Type 0

@@ -45,7 +45,7 @@ AddsTo old new list list' e outcome told = (told ≡ Err error.WrongOrder) × (n
 
 -- a listing's reply is kept: its front, and how many bytes of the list are its data
 abbrev pub answered_by : Out → ListingReply → state.State
-answered_by out reply = at.Answered out (record { front = Some reply.front; behind = reply.len })
+answered_by out reply = at.HasReply out (record { front = Some reply.front; behind = reply.len })
 
 -- the reply to a listing of these entries
 abbrev pub IsListReply : Listing → ListingReply → Type 0

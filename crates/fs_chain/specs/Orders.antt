@@ -95,7 +95,7 @@ reply_len out r = min (min (front_len r + r.behind) out.room_len) (2 ^ 32 - 1)
 
 -- why a chain can't go back, by a buffer of so many bytes
 abbrev pub return_error : state.State → KeptQueue → (len : ℕ) → Option ChainError
-return_error (at.Answered out reply) q len =
+return_error (at.HasReply out reply) q len =
     if not (is_out_of q out) then Some OtherQueue else if nat_lt len (front_len reply) then Some ShortBuffer else None
 return_error _ q len = Some WrongOrder
 
@@ -112,7 +112,7 @@ give_up_error (at.Returning out) q = Some WrongOrder
 give_up_error (at.Taken out) q = if is_out_of q out then None else Some OtherQueue
 give_up_error (at.Waits out waiting) q = if is_out_of q out then None else Some OtherQueue
 give_up_error (at.Lists out listing) q = if is_out_of q out then None else Some OtherQueue
-give_up_error (at.Answered out reply) q = if is_out_of q out then None else Some OtherQueue
+give_up_error (at.HasReply out reply) q = if is_out_of q out then None else Some OtherQueue
 
 -- whether no chain is walked, and none is out
 abbrev pub is_free : state.State → Bool
@@ -139,6 +139,6 @@ abbrev pub room_len : state.State → ℕ
 room_len (at.Taken out) = out.room_len
 room_len (at.Waits out waiting) = out.room_len
 room_len (at.Lists out listing) = out.room_len
-room_len (at.Answered out reply) = out.room_len
+room_len (at.HasReply out reply) = out.room_len
 room_len (at.Returning out) = out.room_len
 room_len _ = 0

@@ -20,6 +20,6 @@ ReturnsBy out reply s =
     (s.front_len ≡ front_len reply) × (stores_of s.used ≡ stores_after_reply (queue_of out.course) out.head (reply_len out reply)) × (s.used.flags ≡ out.course.layout.avail)
 
 -- of a chain whose reply is known
-abbrev pub IfAnswered : state.State → (Out → Reply → Type 0) → Type 0
-IfAnswered (at.Answered out reply) P = P out reply
-IfAnswered _ P = Unit {0}
+abbrev pub IfHasReply : state.State → (Out → Reply → Type 0) → Type 0
+IfHasReply (at.HasReply out reply) P = P out reply
+IfHasReply _ P = Unit {0}

@@ -17,8 +17,8 @@ use Rattle.fs_chain.specs.declared.state.Out.{Out}
 use Rattle.fs_chain.specs.declared.state.Reply.{Reply}
 use Rattle.fs_chain.specs.declared.state.State as state
 use Rattle.fs_chain.specs.declared.state.State.TheVariants as at
-use Rattle.fs_chain.specs.declared.walking.Walked as walked
-use Rattle.fs_chain.specs.declared.walking.Walked.TheVariants as tells
+use Rattle.fs_chain.specs.declared.walking.WalkOutcome as walked
+use Rattle.fs_chain.specs.declared.walking.WalkOutcome.TheVariants as tells
 use Rattle.fs_chain.specs.declared.workbench.Workbench.{Workbench}
 use Rattle.fs_chain.specs.Orders.{AsksTable}
 
@@ -43,7 +43,7 @@ abbrev pub no_reply : Reply
 no_reply = record { front = None; behind = 0 }
 
 -- what is told of a walk that came to this, with these descriptors
-abbrev pub told_of : List Descriptor → comes.Step → walked.Walked
+abbrev pub told_of : List Descriptor → comes.Step → walked.WalkOutcome
 told_of ds (step.Load walk) = tells.Load (asked_len walk)
 told_of ds step.Idle = tells.Idle
 told_of ds (step.Refused e) = tells.Refused e
@@ -56,7 +56,7 @@ state_after course ds (step.Load walk) = at.Walking course walk
 state_after course ds step.Idle = at.Free
 state_after course ds (step.Refused e) = at.Free
 state_after course ds (step.Chain head None) = at.Taken (out_of course head ds)
-state_after course ds (step.Chain head (Some fault)) = at.Answered (faulty_out course head) no_reply
+state_after course ds (step.Chain head (Some fault)) = at.HasReply (faulty_out course head) no_reply
 
 -- the queue then
 abbrev pub queue_after : KeptQueue → comes.Step → KeptQueue
@@ -79,45 +79,45 @@ abbrev pub IsAllBut : (old new : Workbench) → Type 0
 IsAllBut old new = (new.regions ≡ old.regions) × (new.limit ≡ old.limit)
 
 -- handle and queue keep what a walk on this course came to, and this is told of it; of a faulty chain no descriptor is kept
-abbrev pub Keeps : Course → comes.Step → (old new : Workbench) → (before after : KeptQueue) → walked.Walked → Type 0
+abbrev pub Keeps : Course → comes.Step → (old new : Workbench) → (before after : KeptQueue) → walked.WalkOutcome → Type 0
 Keeps course came old new before after told =
     (told ≡ told_of new.descriptors.items came) × (new.state ≡ state_after course new.descriptors.items came) × (after ≡ queue_after before came)
     × LeavesNone came new.descriptors.items × IsAllBut old new
 
 -- a walk begins: by no load it comes to what is kept and told
-abbrev pub BeginsOn : Course → (old new : Workbench) → (before after : KeptQueue) → walked.Walked → Type 0
+abbrev pub BeginsOn : Course → (old new : Workbench) → (before after : KeptQueue) → walked.WalkOutcome → Type 0
 BeginsOn course old new before after told =
     (came : comes.Step) × Keeps course came old new before after told
     × ComesTo (places_in old.regions) course.limit (queue_of course) nothing new.descriptors.items came
 
 -- a walk goes on by the bytes of a load: whatever was loaded before, it comes to what is kept and told
-abbrev pub GoesOn : Course → QueueWalk → (bytes : List ℕ) → (old new : Workbench) → (before after : KeptQueue) → walked.Walked → Type 0
+abbrev pub GoesOn : Course → QueueWalk → (bytes : List ℕ) → (old new : Workbench) → (before after : KeptQueue) → walked.WalkOutcome → Type 0
 GoesOn course walk bytes old new before after told =
     (came : comes.Step) × Keeps course came old new before after told
     × ((loaded : Loaded) → StandsAt (places_in old.regions) (queue_of course) loaded old.descriptors.items walk
     → ComesTo (places_in old.regions) course.limit (queue_of course) (with_bytes loaded walk bytes) new.descriptors.items came)
 
 -- a stopped queue refuses each walk
-abbrev pub BeginsUnless : (stopped : Option QueueError) → (old new : Workbench) → (before after : KeptQueue) → walked.Walked → Type 0
+abbrev pub BeginsUnless : (stopped : Option QueueError) → (old new : Workbench) → (before after : KeptQueue) → walked.WalkOutcome → Type 0
 BeginsUnless (Some why) old new before after told = (told ≡ tells.Refused Stopped) × (new ≡ old) × (after ≡ before)
 BeginsUnless None old new before after told = BeginsOn (course_of before old.limit) old new before after told
 
-abbrev pub Begins : (old new : Workbench) → (before after : KeptQueue) → walked.Walked → Type 0
+abbrev pub Begins : (old new : Workbench) → (before after : KeptQueue) → walked.WalkOutcome → Type 0
 Begins old new before after told = BeginsUnless before.stopped old new before after told
 
 -- a walk goes on, unless its queue was stopped meanwhile: then it is refused as each walk of a stopped queue, and the handle has no chain
-abbrev pub GoesOnUnless : (stopped : Option QueueError) → Course → QueueWalk → (bytes : List ℕ) → (old new : Workbench) → (before after : KeptQueue) → walked.Walked → Type 0
+abbrev pub GoesOnUnless : (stopped : Option QueueError) → Course → QueueWalk → (bytes : List ℕ) → (old new : Workbench) → (before after : KeptQueue) → walked.WalkOutcome → Type 0
 GoesOnUnless (Some why) course walk bytes old new before after told =
     (told ≡ tells.Refused Stopped) × (new ≡ record old { state = at.Free }) × (after ≡ before)
 GoesOnUnless None course walk bytes old new before after told = GoesOn course walk bytes old new before after told
 
 -- a walk goes on from where its chain is, by the bytes of the load that it asked for, and by none at its beginning
-abbrev pub WalksFrom : state.State → (bytes : List ℕ) → (old new : Workbench) → (before after : KeptQueue) → walked.Walked → Type 0
+abbrev pub WalksFrom : state.State → (bytes : List ℕ) → (old new : Workbench) → (before after : KeptQueue) → walked.WalkOutcome → Type 0
 WalksFrom at.Free bytes old new before after told = Begins old new before after told
 WalksFrom (at.Walking course walk) bytes old new before after told = GoesOnUnless before.stopped course walk bytes old new before after told
 WalksFrom _ bytes old new before after told = ⊥
 
-abbrev pub WalksOn : (bytes : List ℕ) → (old new : Workbench) → (before after : KeptQueue) → walked.Walked → Type 0
+abbrev pub WalksOn : (bytes : List ℕ) → (old new : Workbench) → (before after : KeptQueue) → walked.WalkOutcome → Type 0
 WalksOn bytes old new before after told = WalksFrom old.state bytes old new before after told
 
 -- a walk asks for an entry of a table, and its descriptor has no room beside those that joined: only then the walk takes memory

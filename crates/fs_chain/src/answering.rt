@@ -63,10 +63,10 @@ impl Workbench {
     // Keeps the reply of an answer.
     fn keep_answered(&mut self, out: Out, answered: Answered, behind: usize) -> Replied
         ensures told { result ≡ replied_of answered }
-        ensures kept { self.new ≡ record self.old { state = at.Answered out (reply_of answered.sent behind) } }
+        ensures kept { self.new ≡ record self.old { state = at.HasReply out (reply_of answered.sent behind) } }
     {
         let (reply, has_room) = reply_of(answered.sent, behind);
-        self.state = State::Answered(out, reply);
+        self.state = State::HasReply(out, reply);
         Replied {
             has_room,
             forget: answered.forget,

@@ -48,9 +48,9 @@ fn waiting_state(out: Out, waiting: Waiting) -> State
 
 // Where a chain is that goes back with this reply, or with none.
 fn answered_state(out: Out, front: Option<Front>) -> State
-    ensures { result ≡ at.Answered out (record { front = front; behind = 0 }) }
+    ensures { result ≡ at.HasReply out (record { front = front; behind = 0 }) }
 {
-    State::Answered(out, Reply { front, behind: 0 })
+    State::HasReply(out, Reply { front, behind: 0 })
 }
 
 // How many bytes of a request are wanted after so many of them.

@@ -45,7 +45,7 @@ impl Workbench {
             State::Taken(out) => self.give_back(queue, out, State::Taken(out)),
             State::Waits(out, waiting) => self.give_back(queue, out, State::Waits(out, waiting)),
             State::Lists(out, listing) => self.give_back(queue, out, State::Lists(out, listing)),
-            State::Answered(out, reply) => self.give_back(queue, out, State::Answered(out, reply)),
+            State::HasReply(out, reply) => self.give_back(queue, out, State::HasReply(out, reply)),
         }
     }
 

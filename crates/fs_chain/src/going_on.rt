@@ -12,7 +12,7 @@ ghost use Rattle.fs_chain.specs.declared.state.State.TheVariants as at;
 use crate::error::ChainError;
 use crate::queue::KeptQueue;
 use crate::state::State;
-use crate::walking::Walked;
+use crate::walking::WalkOutcome;
 use crate::workbench::Workbench;
 use fs_queue::{QueueError, Walk};
 use fs_regions::{Course, GuestRegions, QueueWalk, Step};
@@ -81,7 +81,7 @@ fn give_refusal(
 impl Workbench {
     // Gives a walk the bytes of its load, in place.
     #[inline(always)]
-    fn give(&mut self, queue: &mut KeptQueue, loaded: &[u8]) -> Walked
+    fn give(&mut self, queue: &mut KeptQueue, loaded: &[u8]) -> WalkOutcome
         requires walking { IsWalking self.old.state }
         requires bytes { IfWalking self.old.state (λ walk. length loaded.now ≡ asked_len walk) }
         requires room { AsksTable self.old.state → HasRoomFor self.old.descriptors 1 }
@@ -95,7 +95,7 @@ impl Workbench {
                     Step::Load(next) => {
                         let len = next.len();
                         *walk = next;
-                        Walked::Load(len)
+                        WalkOutcome::Load(len)
                     }
                     ended => {
                         let course = *course;
@@ -131,7 +131,7 @@ impl Workbench {
     // Goes on with a walk by these bytes, if it asked for so many and its queue is this one. A queue that was stopped
     // meanwhile refuses it.
     #[inline(always)]
-    fn go_on(&mut self, queue: &mut KeptQueue, loaded: &[u8]) -> Result<Walked, ChainError>
+    fn go_on(&mut self, queue: &mut KeptQueue, loaded: &[u8]) -> Result<WalkOutcome, ChainError>
         requires { IsWalking self.old.state }
         ensures error { IfErr result (λ e. (walk_error self.old.state queue.old (length loaded.now) ≡ Some e)
             ⊎ ((e ≡ ChainError.OutOfMemory) × (walk_error self.old.state queue.old (length loaded.now) ≡ None))) }
@@ -150,7 +150,7 @@ impl Workbench {
         }
         if queue.stopped.is_some() {
             self.state = State::Free;
-            return Ok(Walked::Refused(QueueError::Stopped));
+            return Ok(WalkOutcome::Refused(QueueError::Stopped));
         }
         match self.make_room() {
             Ok(()) => Ok(self.give(queue, loaded)),
@@ -159,7 +159,7 @@ impl Workbench {
     }
 
     /// Takes the next chain of a queue: at first without bytes, then with those of each load that was asked for.
-    pub fn walk(&mut self, queue: &mut KeptQueue, loaded: &[u8]) -> Result<Walked, ChainError>
+    pub fn walk(&mut self, queue: &mut KeptQueue, loaded: &[u8]) -> Result<WalkOutcome, ChainError>
         ensures error { IfErr result (λ e. (walk_error self.old.state queue.old (length loaded.now) ≡ Some e)
             ⊎ ((e ≡ ChainError.OutOfMemory) × (walk_error self.old.state queue.old (length loaded.now) ≡ None))) }
         ensures ok { OnOk result (walk_error self.old.state queue.old (length loaded.now) ≡ None) }

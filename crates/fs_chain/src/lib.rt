@@ -22,5 +22,5 @@ pub use listing::Added;
 pub use queue::KeptQueue;
 pub use returning::Stores;
 pub use state::{Out, Reply, State};
-pub use walking::Walked;
+pub use walking::WalkOutcome;
 pub use workbench::{LEAST_LIMIT, MOST_LIMIT, Workbench};

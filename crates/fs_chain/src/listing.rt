@@ -129,7 +129,7 @@ impl Workbench {
     {
         let behind = reply.len;
         let front = Some(reply.front);
-        self.state = State::Answered(out, Reply { front, behind });
+        self.state = State::HasReply(out, Reply { front, behind });
         behind
     }
 

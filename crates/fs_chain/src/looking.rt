@@ -64,7 +64,7 @@ impl Workbench {
             State::Taken(out)
             | State::Waits(out, _)
             | State::Lists(out, _)
-            | State::Answered(out, _)
+            | State::HasReply(out, _)
             | State::Returning(out) => out.room_len,
             State::Free | State::Walking(_, _) => 0,
         }

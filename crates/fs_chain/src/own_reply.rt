@@ -15,14 +15,14 @@ impl Workbench {
         ensures error { IfErr result (λ e. own_len_error out.room_len len ≡ Some e) }
         ensures ok { OnOk result (own_len_error out.room_len len ≡ None) }
         ensures same { OnErr result (self.new ≡ self.old) }
-        ensures kept { OnOk result (self.new ≡ record self.old { state = at.Answered out (own_reply len) }) }
+        ensures kept { OnOk result (self.new ≡ record self.old { state = at.HasReply out (own_reply len) }) }
         ensures told { OnOk result ((front_len (own_reply len) ≡ 0) × (reply_len out (own_reply len) ≡ len)) }
     {
         if out.room_len < len || (u32::MAX as usize) < len {
             return Err(ChainError::LongReply);
         }
         let front = None;
-        self.state = State::Answered(out, Reply { front, behind: len });
+        self.state = State::HasReply(out, Reply { front, behind: len });
         Ok(())
     }
 
@@ -35,7 +35,7 @@ impl Workbench {
         ensures error { IfErr result (λ e. own_error self.old.state len ≡ Some e) }
         ensures ok { OnOk result (own_error self.old.state len ≡ None) }
         ensures same { OnErr result (self.new ≡ self.old) }
-        ensures kept { OnOk result (IfUnanswered self.old.state (λ out. self.new ≡ record self.old { state = at.Answered out (own_reply len) })) }
+        ensures kept { OnOk result (IfUnanswered self.old.state (λ out. self.new ≡ record self.old { state = at.HasReply out (own_reply len) })) }
         ensures told { OnOk result (IfUnanswered self.old.state (λ out. (front_len (own_reply len) ≡ 0) × (reply_len out (own_reply len) ≡ len))) }
     {
         match &self.state {

@@ -3,7 +3,7 @@
 ghost use Rattle.std.specs.Prelude.{◌≡◌, ◌+◌, ◌<◌, true, nat_lt, IfSome, ◌%◌, ◌^◌, None, Some, false, Err, IfErr, IfOk, OnOk, OnErr, length};
 ghost use Rattle.fs_queue.specs.Returning.{tells};
 ghost use Rattle.fs_chain.specs.Orders.{end_error, front_len, return_error};
-ghost use Rattle.fs_chain.specs.Returns.{IfAnswered, ReturnsBy, put_front};
+ghost use Rattle.fs_chain.specs.Returns.{IfHasReply, ReturnsBy, put_front};
 ghost use Rattle.fs_chain.specs.declared.state.State.TheVariants as at;
 
 use crate::error::ChainError;
@@ -46,8 +46,8 @@ fn stores_of(
     reply: &Reply,
     front: &mut [u8],
 ) -> Result<Stores, ChainError>
-    ensures error { IfErr result (λ e. return_error (at.Answered out.now reply.now) queue.now (length front.old) ≡ Some e) }
-    ensures ok { OnOk result (return_error (at.Answered out.now reply.now) queue.now (length front.old) ≡ None) }
+    ensures error { IfErr result (λ e. return_error (at.HasReply out.now reply.now) queue.now (length front.old) ≡ Some e) }
+    ensures ok { OnOk result (return_error (at.HasReply out.now reply.now) queue.now (length front.old) ≡ None) }
     ensures short { result ≡ Err ChainError.ShortBuffer → length front.old < 160 }
     ensures same { OnErr result (front.new ≡ front.old) }
     ensures stores { IfOk result (λ s. ReturnsBy out.now reply.now s) }
@@ -81,12 +81,12 @@ impl Workbench {
         ensures ok { OnOk result (return_error self.old.state queue.now (length front.old) ≡ None) }
         ensures short { result ≡ Err ChainError.ShortBuffer → length front.old < 160 }
         ensures same { OnErr result ((self.new ≡ self.old) × (front.new ≡ front.old)) }
-        ensures returning { OnOk result (IfAnswered self.old.state (λ out reply. self.new ≡ record self.old { state = at.Returning out })) }
-        ensures stores { IfOk result (λ s. IfAnswered self.old.state (λ out reply. ReturnsBy out reply s)) }
-        ensures front { OnOk result (IfAnswered self.old.state (λ out reply. front.new ≡ put_front reply front.old)) }
+        ensures returning { OnOk result (IfHasReply self.old.state (λ out reply. self.new ≡ record self.old { state = at.Returning out })) }
+        ensures stores { IfOk result (λ s. IfHasReply self.old.state (λ out reply. ReturnsBy out reply s)) }
+        ensures front { OnOk result (IfHasReply self.old.state (λ out reply. front.new ≡ put_front reply front.old)) }
     {
         match &self.state {
-            State::Answered(out, reply) => {
+            State::HasReply(out, reply) => {
                 let out = *out;
                 match stores_of(queue, &out, reply, front) {
                     Ok(stores) => {

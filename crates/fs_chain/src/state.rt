@@ -33,7 +33,7 @@ pub enum State {
     /// Its listing gathers entries.
     Lists(Out, Listing),
     /// Its reply is known.
-    Answered(Out, Reply),
+    HasReply(Out, Reply),
     /// The stores of its return were told.
     Returning(Out),
 }

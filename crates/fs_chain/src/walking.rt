@@ -15,7 +15,7 @@ use std::mem;
 
 /// What a walk comes to.
 #[derive(Clone, Copy, Debug, PartialEq, Eq)]
-pub enum Walked {
+pub enum WalkOutcome {
     /// A load of so many bytes is asked for.
     Load(usize),
     /// Nothing waits.
@@ -43,7 +43,7 @@ pub enum Walked {
 impl Workbench {
     // A chain without a fault is out of its queue.
     #[inline(always)]
-    fn take(&mut self, queue: &mut KeptQueue, course: Course, head: u16) -> Walked
+    fn take(&mut self, queue: &mut KeptQueue, course: Course, head: u16) -> WalkOutcome
         ensures told { result ≡ told_of self.old.descriptors.items (Step.Chain head None) }
         ensures kept { self.new ≡ record self.old { state = state_after course self.old.descriptors.items (Step.Chain head None) } }
         ensures queue { queue.new ≡ record queue.old { out = true } }
@@ -57,7 +57,7 @@ impl Workbench {
             request_len,
             room_len,
         });
-        Walked::Chain {
+        WalkOutcome::Chain {
             head,
             request_len,
             room_len,
@@ -71,8 +71,8 @@ impl Workbench {
         course: Course,
         head: u16,
         fault: ChainFault,
-    ) -> Walked
-        ensures told { result ≡ Walked.Faulty head fault }
+    ) -> WalkOutcome
+        ensures told { result ≡ WalkOutcome.Faulty head fault }
         ensures state { self.new.state ≡ state_after course self.new.descriptors.items (Step.Chain head (Some fault)) }
         ensures empty { self.new.descriptors.items ≡ [] }
         ensures same { IsAllBut self.old self.new }
@@ -90,13 +90,18 @@ impl Workbench {
             front: None,
             behind: 0,
         };
-        self.state = State::Answered(out, reply);
-        Walked::Faulty { head, fault }
+        self.state = State::HasReply(out, reply);
+        WalkOutcome::Faulty { head, fault }
     }
 
     /// Keeps what a walk comes to, and tells it.
     #[inline(always)]
-    pub(crate) fn settle(&mut self, queue: &mut KeptQueue, course: Course, step: Step) -> Walked
+    pub(crate) fn settle(
+        &mut self,
+        queue: &mut KeptQueue,
+        course: Course,
+        step: Step,
+    ) -> WalkOutcome
         requires free { self.old.state ≡ at.Free }
         ensures told { result ≡ told_of self.new.descriptors.items step }
         ensures state { self.new.state ≡ state_after course self.new.descriptors.items step }
@@ -108,12 +113,12 @@ impl Workbench {
             Step::Load(walk) => {
                 let len = walk.len();
                 self.state = State::Walking(course, walk);
-                Walked::Load(len)
+                WalkOutcome::Load(len)
             }
-            Step::Idle => Walked::Idle,
+            Step::Idle => WalkOutcome::Idle,
             Step::Refused(error) => {
                 queue.stopped = Some(error);
-                Walked::Refused(error)
+                WalkOutcome::Refused(error)
             }
             Step::Chain(head, None) => self.take(queue, course, head),
             Step::Chain(head, Some(fault)) => self.take_faulty(queue, course, head, fault),
@@ -122,7 +127,7 @@ impl Workbench {
 
     // Begins a walk through what waits at the queue's position.
     #[inline(always)]
-    fn begin_course(&mut self, queue: &mut KeptQueue) -> Walked
+    fn begin_course(&mut self, queue: &mut KeptQueue) -> WalkOutcome
         requires free { self.old.state ≡ at.Free }
         requires goes { queue.old.stopped ≡ None }
         ensures begins { Begins self.old self.new queue.old queue.new result }
@@ -142,7 +147,7 @@ impl Workbench {
         &mut self,
         queue: &mut KeptQueue,
         loaded: &[u8],
-    ) -> Result<Walked, ChainError>
+    ) -> Result<WalkOutcome, ChainError>
         requires free { self.old.state ≡ at.Free }
         ensures error { IfErr result (λ e. begin_error queue.old (length loaded.now) ≡ Some e) }
         ensures ok { OnOk result (begin_error queue.old (length loaded.now) ≡ None) }
@@ -157,7 +162,7 @@ impl Workbench {
             return Err(ChainError::ChainOut);
         }
         match queue.stopped {
-            Some(_) => Ok(Walked::Refused(QueueError::Stopped)),
+            Some(_) => Ok(WalkOutcome::Refused(QueueError::Stopped)),
             None => Ok(self.begin_course(queue)),
         }
     }

@@ -1,5 +1,5 @@
-pub mod BenchLemmas
 mod ChainAsSeat
+pub mod HeldLemmas
 pub mod LoadLemmas
 pub mod MemoryLemmas
 mod Moving

@@ -12,7 +12,7 @@ use Rattle.fs_chain.specs.declared.error.ChainError.TheVariants.{OutOfMemory}
 use Rattle.fs_chain.specs.declared.queue.KeptQueue.{KeptQueue}
 use Rattle.fs_chain.specs.Orders.{AsksTable, IfWalking, IsWalking, load_len, walk_error}
 use Rattle.fs_chain.specs.Walks.{LacksRoom}
-use Rattle.fs_chain_c.specs.declared.bench.Bench.{Bench}
+use Rattle.fs_chain_c.specs.declared.held.Held.{Held}
 use Rattle.fs_chain_c.specs.Walking.{AreDue, AreWanted, RefusesWalk, came, due_len, whole}
 
 within : (s : state.State) (P : QueueWalk → Type 0) (n : ℕ) → IsWalking s → IfWalking s P → ((walk : QueueWalk) → P walk → n ≤ asked_len walk) → n ≤ load_len s
@@ -21,11 +21,11 @@ within at.Free P n is p h = absurd is
 within (at.Taken out) P n is p h = absurd is
 within (at.Waits out waiting) P n is p h = absurd is
 within (at.Lists out listing) P n is p h = absurd is
-within (at.Answered out reply) P n is p h = absurd is
+within (at.HasReply out reply) P n is p h = absurd is
 within (at.Returning out) P n is p h = absurd is
 
 -- with those that came before
-pub fits : (b : Bench) (n : ℕ) → AreWanted b n → came b + n ≤ load_len b.workbench.state
+pub fits : (b : Held) (n : ℕ) → AreWanted b n → came b + n ≤ load_len b.workbench.state
 fits b n wanted =
     let same = wanted.2 in
     within b.workbench.state _ (came b + n) wanted.1.0 wanted.1.1 (λ walk p. let less = p.0 in let most = p.1.1 in omega (arith, less, most, same))
@@ -39,11 +39,11 @@ entry_len at.Free asks = absurd asks
 entry_len (at.Taken out) asks = absurd asks
 entry_len (at.Waits out waiting) asks = absurd asks
 entry_len (at.Lists out listing) asks = absurd asks
-entry_len (at.Answered out reply) asks = absurd asks
+entry_len (at.HasReply out reply) asks = absurd asks
 entry_len (at.Returning out) asks = absurd asks
 
 -- bytes that are the whole of what came are as many as the entry that is asked for
-ends_load : (b : Bench) (loaded : List ℕ) → whole b loaded ≡ loaded → length loaded ≡ due_len b loaded → AsksTable b.workbench.state
+ends_load : (b : Held) (loaded : List ℕ) → whole b loaded ≡ loaded → length loaded ≡ due_len b loaded → AsksTable b.workbench.state
     → came b + length loaded ≡ load_len b.workbench.state
 ends_load b loaded all len asks =
     let entry = entry_len b.workbench.state asks in
@@ -55,7 +55,7 @@ ends_load b loaded all len asks =
     omega (arith, due, sum, same)
 
 -- what the workbench refuses, of bytes that are due
-pub refuses_walk : (b : Bench) (q : KeptQueue) (loaded : List ℕ) (e : ChainError) → AreDue b loaded → length loaded ≡ due_len b loaded → whole b loaded ≡ loaded
+pub refuses_walk : (b : Held) (q : KeptQueue) (loaded : List ℕ) (e : ChainError) → AreDue b loaded → length loaded ≡ due_len b loaded → whole b loaded ≡ loaded
     → ((walk_error b.workbench.state q (length loaded) ≡ Some e) ⊎ ((e ≡ OutOfMemory) × (walk_error b.workbench.state q (length loaded) ≡ None)))
     → (e ≡ OutOfMemory → LacksRoom b.workbench) → RefusesWalk b q loaded e
 refuses_walk b q loaded e due len all (inl is) memory = inl (due, subst (λ (n : ℕ). walk_error b.workbench.state q n ≡ Some e) len is)

@@ -20,7 +20,7 @@ use Rattle.fs_chain.specs.Asking.{IfTaken, TellsMeaning, wanted_after, wanted_by
 use Rattle.fs_chain.specs.Numbers.{chain_error_number}
 use Rattle.fs_chain.specs.Orders.{ask_error, room_len}
 use Rattle.fs_chain.specs.Walks.{IsAllBut}
-use Rattle.fs_chain_c.specs.declared.bench.Bench.{Bench}
+use Rattle.fs_chain_c.specs.declared.held.Held.{Held}
 use Rattle.fs_chain_c.specs.declared.call.FsCall.{FsCall}
 use Rattle.fs_chain_c.specs.declared.device.FsDevice.{FsDevice}
 use Rattle.fs_chain_c.specs.Calls.{call_fields, low, no_call, numbered}
@@ -43,9 +43,9 @@ abbrev pub replied_status : Result Replied ChainError → ℕ
 replied_status (Ok r) = if r.has_room then 0 else 35
 replied_status (Err e) = chain_error_number e
 
--- a bench's call is answered
-abbrev pub AnswersBench : Bench → FileAnswer → (status : ℕ) → Bench → Type 0
-AnswersBench b a status b' =
+-- a held chain's call is answered
+abbrev pub AnswersHeld : Held → FileAnswer → (status : ℕ) → Held → Type 0
+AnswersHeld b a status b' =
     (told : Result Replied ChainError) × Answers b.workbench b.session a told b'.workbench b'.session × (status ≡ replied_status told) × (b'.part ≡ b.part)
 
 -- ---- a request
@@ -65,9 +65,9 @@ answer_unasked value.TmpFile = Some (answer.Failed 38)
 answer_unasked _ = None
 
 -- such a call is answered at once; others wait
-abbrev pub Settles : Bench → Option FileAnswer → Bench → Type 0
+abbrev pub Settles : Held → Option FileAnswer → Held → Type 0
 Settles b None b' = b' ≡ b
-Settles b (Some a) b' = (status : ℕ) × AnswersBench b a status b'
+Settles b (Some a) b' = (status : ℕ) × AnswersHeld b a status b'
 
 -- a workbench is asked by the first bytes of a request, and tells this: all requests that begin so, and are as long as its chain's, mean it
 pub record Asks (w : Workbench) (s : Session) (request : List ℕ) (made : told.Told) (w' : Workbench) : Type 0 where
@@ -88,7 +88,7 @@ abbrev pub IsSessionOf : FsDevice → Session → Type 0
 IsSessionOf d s = (s.page_size ≡ d.page_size) × (s.options.0 ≡ bit_and d.options known_options)
 
 -- what C is told of what a request asks: the call, how many bytes are wanted (34), nothing, or the fault
-abbrev pub TellsAsked : Bench → (request : List ℕ) → told.Told → FsCall → (status : ℕ) → Bench → Type 0
+abbrev pub TellsAsked : Held → (request : List ℕ) → told.Told → FsCall → (status : ℕ) → Held → Type 0
 TellsAsked b request (tells.Call made) call status b' =
     (status ≡ 0) × (call ≡ call_fields request b.session.options.0 (room_len b.workbench.state) made) × Settles b (answer_unasked made) b'
 TellsAsked b request (tells.More n) call status b' = (status ≡ 34) × (call ≡ numbered request (record no_call { needed = low n })) × (b' ≡ b)
@@ -96,15 +96,15 @@ TellsAsked b request tells.Nothing call status b' = (status ≡ 0) × (call ≡ 
 TellsAsked b request (tells.Fault e) call status b' =
     (status ≡ 0) × (call ≡ numbered request (record no_call { fault = error_number e })) × (b' ≡ b)
 
--- a bench that was asked: by its workbench, in the session of the device
-abbrev pub AsksSo : Bench → FsDevice → (request : List ℕ) → FsCall → (status : ℕ) → Bench → Type 0
+-- a held chain that was asked: by its workbench, in the session of the device
+abbrev pub AsksSo : Held → FsDevice → (request : List ℕ) → FsCall → (status : ℕ) → Held → Type 0
 AsksSo b d request call status b' =
-    (asked : Bench) × (made : told.Told) × IsSessionOf d asked.session × (asked.part ≡ b.part)
+    (asked : Held) × (made : told.Told) × IsSessionOf d asked.session × (asked.part ≡ b.part)
     × Asks b.workbench asked.session request made asked.workbench × TellsAsked asked request made call status b'
 
--- a bench is asked by the first bytes of a request; a bad argument, if the device's numbers are none
-abbrev pub AsksBench : Bench → FsDevice → (request : List ℕ) → FsCall → (status : ℕ) → Bench → Type 0
-AsksBench b d request call status b' =
+-- a held chain is asked by the first bytes of a request; a bad argument, if the device's numbers are none
+abbrev pub AsksHeld : Held → FsDevice → (request : List ℕ) → FsCall → (status : ℕ) → Held → Type 0
+AsksHeld b d request call status b' =
     ((IsDevice d → ⊥) × (status ≡ chain_error_number BadArgument) × (call ≡ no_call) × (b' ≡ b))
     ⊎ (IsDevice d × (s : Session) × IsSessionOf d s × (e : ChainError) × CannotAsk b.workbench s request e b'.workbench × (status ≡ chain_error_number e) × (call ≡ no_call)
     × (b'.session ≡ b.session) × (b'.part ≡ b.part))

@@ -1,5 +1,5 @@
 pub mod Asking
-pub mod Benches
+pub mod Handles
 pub mod Calls
 pub mod Listing
 pub mod Memory

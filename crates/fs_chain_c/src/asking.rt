@@ -1,12 +1,12 @@
 //! What a chain's request asks.
 
 ghost use Rattle.std.specs.Prelude.{◌≡◌};
-ghost use Rattle.fs_chain_c.specs.Asking.{AnswersBench, AsksBench, Settles, TellsAsked, answer_unasked};
+ghost use Rattle.fs_chain_c.specs.Asking.{AnswersHeld, AsksHeld, Settles, TellsAsked, answer_unasked};
 
-use crate::bench::Bench;
 use crate::call::FsCall;
 use crate::device::FsDevice;
 use crate::fields::{call_fields, number};
+use crate::held::Held;
 use bitflags::Flags;
 use fs_chain::{ChainError, Told};
 use fuse_base::{Errno, FsOptions};
@@ -20,10 +20,10 @@ const MORE: u32 = 34;
 pub const NO_ROOM: u32 = 35;
 
 /// Answers the call that waits, and says a status.
-pub fn answer_bench(bench: &mut Bench, answer: FileAnswer) -> u32
-    ensures { AnswersBench bench.old answer result bench.new }
+pub fn answer_held(held: &mut Held, answer: FileAnswer) -> u32
+    ensures { AnswersHeld held.old answer result held.new }
 {
-    match bench.workbench.answer(&mut bench.session, answer) {
+    match held.workbench.answer(&mut held.session, answer) {
         Ok(replied) => { if replied.has_room { 0 } else { NO_ROOM } }
         Err(error) => u32::from(error.number()),
     }
@@ -48,26 +48,26 @@ fn answer_unasked(call: &FileCall) -> Option<FileAnswer>
 }
 
 // Answers a call at once, if there is an answer.
-fn settle(bench: &mut Bench, answer: Option<FileAnswer>)
-    ensures { Settles bench.old answer bench.new }
+fn settle(held: &mut Held, answer: Option<FileAnswer>)
+    ensures { Settles held.old answer held.new }
 {
     match answer {
         Some(answer) => {
-            let _status = answer_bench(bench, answer);
+            let _status = answer_held(held, answer);
         }
         None => {}
     }
 }
 
 // Tells what a request asks.
-fn tell(bench: &mut Bench, request: &[u8], told: Told, call: &mut FsCall) -> u32
-    ensures { TellsAsked bench.old request.now told call.new result bench.new }
+fn tell(held: &mut Held, request: &[u8], told: Told, call: &mut FsCall) -> u32
+    ensures { TellsAsked held.old request.now told call.new result held.new }
 {
     match told {
         Told::Call(made) => {
-            let options = bench.session.options().bits();
-            *call = call_fields(request, options, bench.workbench.room_len(), &made);
-            settle(bench, answer_unasked(&made));
+            let options = held.session.options().bits();
+            *call = call_fields(request, options, held.workbench.room_len(), &made);
+            settle(held, answer_unasked(&made));
             0
         }
         Told::More(needed) => {
@@ -91,8 +91,8 @@ fn tell(bench: &mut Bench, request: &[u8], told: Told, call: &mut FsCall) -> u32
 }
 
 /// Tells what a request asks, by its first bytes, and says a status.
-pub fn ask_bench(bench: &mut Bench, device: &FsDevice, request: &[u8], call: &mut FsCall) -> u32
-    ensures { AsksBench bench.old device.now request.now call.new result bench.new }
+pub fn ask_held(held: &mut Held, device: &FsDevice, request: &[u8], call: &mut FsCall) -> u32
+    ensures { AsksHeld held.old device.now request.now call.new result held.new }
 {
     if !device.is_lawful() {
         *call = FsCall::none();
@@ -100,10 +100,10 @@ pub fn ask_bench(bench: &mut Bench, device: &FsDevice, request: &[u8], call: &mu
     }
     let options = FsOptions::from_bits_retain(device.options);
     let session = Session::resume(device.page_size, options);
-    match bench.workbench.ask(&session, request) {
+    match held.workbench.ask(&session, request) {
         Ok(told) => {
-            bench.session = session;
-            tell(bench, request, told, call)
+            held.session = session;
+            tell(held, request, told, call)
         }
         Err(error) => {
             *call = FsCall::none();

@@ -1,15 +1,15 @@
 //! The functions on a chain that C calls. Each answers 0, or a number that says why not.
 
 ghost use Rattle.std.specs.Prelude.{◌≡◌, false, true, None};
-ghost use Rattle.fs_chain_c.specs.Benches.{Drops, Ends, Returns, SetsMemory, TellsStretches, Walks};
+ghost use Rattle.fs_chain_c.specs.Handles.{Drops, Ends, Returns, SetsMemory, TellsStretches, Walks};
 
 use crate::device::FsDevice;
 use crate::handle::FsChain;
 use crate::memory::FsRegion;
 use crate::queue::FsQueue;
-use crate::returning::{FsStores, drop_bench, end_bench, return_bench};
-use crate::setting::{make_bench, set_bench};
-use crate::walking::{FsStep, walk_bench};
+use crate::returning::{FsStores, drop_held, end_held, return_held};
+use crate::setting::{make_held, set_held};
+use crate::walking::{FsStep, walk_held};
 use crate::windows::{FsWindow, fill};
 use fs_chain::ChainError;
 use std::alloc::Global;
@@ -43,16 +43,16 @@ pub extern "C" fn fs_chain_set_memory(
     ensures { SetsMemory chain.old.seat.value device.now regions.now result chain.new.seat.value }
 {
     match chain.take(alloc) {
-        Some(mut bench) => {
-            let status = set_bench(alloc, &mut bench, device, regions);
-            *chain = FsChain::of_box(bench);
+        Some(mut held) => {
+            let status = set_held(alloc, &mut held, device, regions);
+            *chain = FsChain::of_box(held);
             status
         }
         None => {
-            let (made, status) = make_bench(alloc, device, regions);
+            let (made, status) = make_held(alloc, device, regions);
             match made {
-                Some(bench) => {
-                    *chain = FsChain::of_box(bench);
+                Some(held) => {
+                    *chain = FsChain::of_box(held);
                     status
                 }
                 None => status,
@@ -80,13 +80,13 @@ pub extern "C" fn fs_walk(
 ) -> u32
     ensures { Walks chain.old.seat.value queue.old loaded.now result step.new chain.new.seat.value queue.new }
 {
-    let Some(mut bench) = chain.take(alloc) else {
+    let Some(mut held) = chain.take(alloc) else {
         *step = FsStep::nothing();
         return wrong_order();
     };
-    let (told, status) = walk_bench(&mut bench, queue, loaded);
+    let (told, status) = walk_held(&mut held, queue, loaded);
     *step = told;
-    *chain = FsChain::of_box(bench);
+    *chain = FsChain::of_box(held);
     status
 }
 
@@ -95,11 +95,11 @@ pub extern "C" fn fs_walk(
 pub extern "C" fn fs_drop(alloc: Global, chain: &mut FsChain, queue: &mut FsQueue) -> u32
     ensures { Drops chain.old.seat.value queue.old result chain.new.seat.value queue.new }
 {
-    let Some(mut bench) = chain.take(alloc) else {
+    let Some(mut held) = chain.take(alloc) else {
         return 0;
     };
-    let status = drop_bench(&mut bench, queue);
-    *chain = FsChain::of_box(bench);
+    let status = drop_held(&mut held, queue);
+    *chain = FsChain::of_box(held);
     status
 }
 
@@ -114,11 +114,11 @@ pub extern "C" fn fs_request_windows(
 ) -> usize
     ensures { TellsStretches chain.old.seat.value false from len windows.old result chain.new.seat.value windows.new }
 {
-    let Some(bench) = chain.take(alloc) else {
+    let Some(held) = chain.take(alloc) else {
         return 0;
     };
-    let count = fill(&bench.workbench, false, from, len, windows);
-    *chain = FsChain::of_box(bench);
+    let count = fill(&held.workbench, false, from, len, windows);
+    *chain = FsChain::of_box(held);
     count
 }
 
@@ -133,11 +133,11 @@ pub extern "C" fn fs_room_windows(
 ) -> usize
     ensures { TellsStretches chain.old.seat.value true from len windows.old result chain.new.seat.value windows.new }
 {
-    let Some(bench) = chain.take(alloc) else {
+    let Some(held) = chain.take(alloc) else {
         return 0;
     };
-    let count = fill(&bench.workbench, true, from, len, windows);
-    *chain = FsChain::of_box(bench);
+    let count = fill(&held.workbench, true, from, len, windows);
+    *chain = FsChain::of_box(held);
     count
 }
 
@@ -152,13 +152,13 @@ pub extern "C" fn fs_return(
 ) -> u32
     ensures { Returns chain.old.seat.value queue.now front.old result stores.new chain.new.seat.value front.new }
 {
-    let Some(mut bench) = chain.take(alloc) else {
+    let Some(mut held) = chain.take(alloc) else {
         *stores = FsStores::nothing();
         return wrong_order();
     };
-    let (told, status) = return_bench(&mut bench, queue, front);
+    let (told, status) = return_held(&mut held, queue, front);
     *stores = told;
-    *chain = FsChain::of_box(bench);
+    *chain = FsChain::of_box(held);
     status
 }
 
@@ -173,12 +173,12 @@ pub extern "C" fn fs_returned(
 ) -> u32
     ensures { Ends chain.old.seat.value queue.old seen result notify.new chain.new.seat.value queue.new }
 {
-    let Some(mut bench) = chain.take(alloc) else {
+    let Some(mut held) = chain.take(alloc) else {
         *notify = 0;
         return wrong_order();
     };
-    let (told, status) = end_bench(&mut bench, queue, seen);
+    let (told, status) = end_held(&mut held, queue, seen);
     *notify = told;
-    *chain = FsChain::of_box(bench);
+    *chain = FsChain::of_box(held);
     status
 }

@@ -4,13 +4,13 @@
 mod answer_kind;
 mod answers;
 mod asking;
-mod bench;
 mod call;
 mod call_table;
 mod device;
 mod exports;
 mod fields;
 mod handle;
+mod held;
 mod listing;
 mod memory;
 mod parts;

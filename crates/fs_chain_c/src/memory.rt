@@ -2,6 +2,7 @@
 
 ghost use Rattle.std.specs.Prelude.{◌≡◌, ◌⊎◌, ◌<◌, ◌≤◌, true, false, Err, None, All, IsPermutation, IfOk, IfErr, IfSome, IfNone, OnOk, OnSome, map, length};
 ghost use Rattle.fs_chain.specs.declared.error.ChainError.TheVariants.{BadArgument, OutOfMemory};
+ghost use Rattle.memory_requests.specs.Refused.{MemoryWasRefused};
 ghost use Rattle.std.specs.List.Sorted.{IsNonDecreasingBy};
 ghost use Rattle.vm_memory.specs.Collecting.{fault_of};
 ghost use Rattle.fs_chain_c.specs.Memory.{HaveFault, IsMemory, IsNoMemory, IsNoSortedMemory, IsRegion, StandApart, region_of};
@@ -10,6 +11,7 @@ ghost use Rattle.fs_chain_c.specs.declared.memory.FsRegion.{FsRegion};
 use arrayvec::ArrayVec;
 use fs_chain::ChainError;
 use fs_regions::{GuestRegions, MemoryRegion, RegionsError};
+use memory_requests::list_with_room;
 use std::alloc::Global;
 use vm_bitmaps::PAGE_SIZE;
 
@@ -61,18 +63,16 @@ fn regions_of(alloc: Global, regions: &[FsRegion]) -> Result<Vec<MemoryRegion>, 
     ensures ok { IfOk result (λ made. made.items ≡ map region_of regions.now) }
     ensures are { OnOk result (All IsRegion regions.now) }
     ensures bad { result ≡ Err BadArgument → All IsRegion regions.now → ⊥ }
-    ensures err { IfErr result (λ e. (e ≡ BadArgument) ⊎ (e ≡ OutOfMemory)) }
+    ensures err { IfErr result (λ e. (e ≡ BadArgument) ⊎ ((e ≡ OutOfMemory) × MemoryWasRefused)) }
 {
-    let Ok(mut made) = Vec::with_capacity(alloc, regions.len()) else {
+    let Ok(mut made) = list_with_room(alloc, regions.len()) else {
         return Err(ChainError::OutOfMemory);
     };
     for region in regions {
         let Some(region) = region_of(region) else {
             return Err(ChainError::BadArgument);
         };
-        if made.push(region).is_err() {
-            return Err(ChainError::OutOfMemory);
-        }
+        made.push(region).unwrap();
     }
     Ok(made)
 }

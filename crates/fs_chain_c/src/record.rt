@@ -2,6 +2,7 @@
 
 ghost use Rattle.std.specs.Prelude.{◌≡◌, ◌⊎◌, ◌++◌, ◌≤◌, All, Err, IfErr, IfOk, IfSome, None, OnOk, drop, length, map};
 ghost use Rattle.fs_chain.specs.declared.error.ChainError.TheVariants.{BadArgument, ChainOut, OutOfMemory};
+ghost use Rattle.memory_requests.specs.Refused.{MemoryWasRefused};
 ghost use Rattle.fs_record.specs.Record.{HasKnownBits};
 ghost use Rattle.fs_chain_c.specs.Queues.{IsQueue};
 ghost use Rattle.fs_chain_c.specs.Records.{HasNoneOut, Restores, Saves, SavesSo, numbers_of, queue_of, saved_status};
@@ -14,6 +15,7 @@ use fs_chain::ChainError;
 use fs_queue::Queue;
 use fs_record::{Stream, restore_record, save_record};
 use fuse_base::FsOptions;
+use memory_requests::list_with_room;
 use std::alloc::Global;
 
 /// A record has no more queues.
@@ -62,18 +64,14 @@ fn queues_of(alloc: Global, queues: &[FsQueue]) -> Result<Vec<Queue>, ChainError
     ensures none_out { OnOk result (All HasNoneOut queues.now) }
     ensures bad { result ≡ Err BadArgument → All IsQueue queues.now → ⊥ }
     ensures out { result ≡ Err ChainOut → All HasNoneOut queues.now → ⊥ }
-    ensures err { IfErr result (λ e. (e ≡ BadArgument) ⊎ (e ≡ ChainOut) ⊎ (e ≡ OutOfMemory)) }
+    ensures err { IfErr result (λ e. (e ≡ BadArgument) ⊎ (e ≡ ChainOut) ⊎ ((e ≡ OutOfMemory) × MemoryWasRefused)) }
 {
-    let Ok(mut made) = Vec::with_capacity(alloc, queues.len()) else {
+    let Ok(mut made) = list_with_room(alloc, queues.len()) else {
         return Err(ChainError::OutOfMemory);
     };
     for queue in queues {
         match queue_of(queue) {
-            Ok(queue) => {
-                if made.push(queue).is_err() {
-                    return Err(ChainError::OutOfMemory);
-                }
-            }
+            Ok(queue) => made.push(queue).unwrap(),
             Err(error) => return Err(error),
         }
     }

@@ -8,12 +8,12 @@ use crate::answers::{
     FsEntry, FsStatfs, attr_said, create_said, entry_of, entry_said, open_said, statfs_said,
     wish_said,
 };
-use crate::asking::{NO_ROOM, answer_bench, ask_bench};
-use crate::bench::Bench;
+use crate::asking::{NO_ROOM, answer_held, ask_held};
 use crate::call::{FsAttr, FsCall};
 use crate::device::FsDevice;
 use crate::exports::wrong_order;
 use crate::handle::FsChain;
+use crate::held::Held;
 use bitflags::Flags;
 use fs_chain::ChainError;
 use fuse_values::FileAnswer;
@@ -23,11 +23,11 @@ use std::alloc::Global;
 pub(crate) fn reply(alloc: Global, chain: &mut FsChain, said: FileAnswer) -> u32
     ensures { Replies said chain.old.seat.value result chain.new.seat.value }
 {
-    let Some(mut bench) = chain.take(alloc) else {
+    let Some(mut held) = chain.take(alloc) else {
         return wrong_order();
     };
-    let status = answer_bench(&mut bench, said);
-    *chain = FsChain::of_box(bench);
+    let status = answer_held(&mut held, said);
+    *chain = FsChain::of_box(held);
     status
 }
 
@@ -52,12 +52,12 @@ pub extern "C" fn fs_ask(
 ) -> u32
     ensures { AsksChain chain.old.seat.value device.now request.now result call.new chain.new.seat.value }
 {
-    let Some(mut bench) = chain.take(alloc) else {
+    let Some(mut held) = chain.take(alloc) else {
         *call = FsCall::none();
         return wrong_order();
     };
-    let status = ask_bench(&mut bench, device, request, call);
-    *chain = FsChain::of_box(bench);
+    let status = ask_held(&mut held, device, request, call);
+    *chain = FsChain::of_box(held);
     status
 }
 
@@ -166,22 +166,22 @@ pub extern "C" fn fs_reply_init(
 ) -> u32
     ensures { Starts wanted chain.old.seat.value device.old result chain.new.seat.value device.new }
 {
-    let Some(mut bench) = chain.take(alloc) else {
+    let Some(mut held) = chain.take(alloc) else {
         return wrong_order();
     };
-    let status = answer_bench(&mut bench, wish_said(wanted));
+    let status = answer_held(&mut held, wish_said(wanted));
     if status == 0 || status == NO_ROOM {
-        device.options = bench.session.options().bits();
+        device.options = held.session.options().bits();
     }
-    *chain = FsChain::of_box(bench);
+    *chain = FsChain::of_box(held);
     status
 }
 
 // Replies so many bytes of C's own, and says a status.
-fn reply_own(bench: &mut Bench, len: usize) -> u32
-    ensures { RepliesOwn len bench.old result bench.new }
+fn reply_own(held: &mut Held, len: usize) -> u32
+    ensures { RepliesOwn len held.old result held.new }
 {
-    match bench.workbench.reply(len) {
+    match held.workbench.reply(len) {
         Ok(()) => 0,
         Err(error) => u32::from(error.number()),
     }
@@ -192,10 +192,10 @@ fn reply_own(bench: &mut Bench, len: usize) -> u32
 pub extern "C" fn fs_reply_bytes(alloc: Global, chain: &mut FsChain, len: u64) -> u32
     ensures { RepliesBytes len chain.old.seat.value result chain.new.seat.value }
 {
-    let Some(mut bench) = chain.take(alloc) else {
+    let Some(mut held) = chain.take(alloc) else {
         return wrong_order();
     };
-    let status = reply_own(&mut bench, len as usize);
-    *chain = FsChain::of_box(bench);
+    let status = reply_own(&mut held, len as usize);
+    *chain = FsChain::of_box(held);
     status
 }

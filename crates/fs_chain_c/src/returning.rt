@@ -2,9 +2,9 @@
 
 ghost use Rattle.std.specs.Prelude.{◌≡◌, ◌<◌, true, None, IfSome};
 ghost use Rattle.fs_chain.specs.Orders.{is_out};
-ghost use Rattle.fs_chain_c.specs.Returning.{DropsBench, DropsKept, EndsBench, EndsKept, HaveNoPlaces, IsFreed, IsNotHere, ReturnsBench, ReturnsKept, StandsHere, TellsStores, no_stores};
+ghost use Rattle.fs_chain_c.specs.Returning.{DropsHeld, DropsKept, EndsHeld, EndsKept, HaveNoPlaces, IsFreed, IsNotHere, ReturnsHeld, ReturnsKept, StandsHere, TellsStores, no_stores};
 
-use crate::bench::Bench;
+use crate::held::Held;
 use crate::queue::FsQueue;
 use crate::walking::{NO_PLACE, host_at};
 use fs_chain::{ChainError, KeptQueue, Stores, Workbench};
@@ -98,11 +98,11 @@ fn told_stores(workbench: &Workbench, stores: &Stores) -> Option<FsStores>
 }
 
 // Tells how a chain goes back to the core's queue.
-fn return_kept(bench: &mut Bench, kept: &KeptQueue, front: &mut [u8]) -> (FsStores, u32)
-    ensures { ReturnsKept bench.old kept.now front.old result.0 result.1 bench.new front.new }
+fn return_kept(held: &mut Held, kept: &KeptQueue, front: &mut [u8]) -> (FsStores, u32)
+    ensures { ReturnsKept held.old kept.now front.old result.0 result.1 held.new front.new }
 {
-    match bench.workbench.begin_return(kept, front) {
-        Ok(stores) => match told_stores(&bench.workbench, &stores) {
+    match held.workbench.begin_return(kept, front) {
+        Ok(stores) => match told_stores(&held.workbench, &stores) {
             Some(told) => (told, 0),
             None => (FsStores::nothing(), NO_PLACE),
         },
@@ -111,11 +111,11 @@ fn return_kept(bench: &mut Bench, kept: &KeptQueue, front: &mut [u8]) -> (FsStor
 }
 
 /// Tells how a chain goes back: the reply's front at the front of a buffer, and the stores.
-pub fn return_bench(bench: &mut Bench, queue: &FsQueue, front: &mut [u8]) -> (FsStores, u32)
-    ensures { ReturnsBench bench.old queue.now front.old result.0 result.1 bench.new front.new }
+pub fn return_held(held: &mut Held, queue: &FsQueue, front: &mut [u8]) -> (FsStores, u32)
+    ensures { ReturnsHeld held.old queue.now front.old result.0 result.1 held.new front.new }
 {
     match queue.kept() {
-        Some(kept) => return_kept(bench, &kept, front),
+        Some(kept) => return_kept(held, &kept, front),
         None => (
             FsStores::nothing(),
             u32::from(ChainError::BadArgument.number()),
@@ -124,79 +124,79 @@ pub fn return_bench(bench: &mut Bench, queue: &FsQueue, front: &mut [u8]) -> (Fs
 }
 
 // Frees a handle; no queue is told.
-fn free(bench: &mut Bench)
-    ensures { IsFreed bench.old bench.new }
+fn free(held: &mut Held)
+    ensures { IsFreed held.old held.new }
 {
-    bench.workbench.abandon();
-    bench.part.clear();
+    held.workbench.abandon();
+    held.part.clear();
 }
 
 // Ends the return of a chain of the core's queue.
-fn end_kept(bench: &mut Bench, queue: &mut FsQueue, mut kept: KeptQueue, seen: u16) -> (u8, u32)
-    ensures { EndsKept bench.old queue.old kept seen result.0 result.1 bench.new queue.new }
+fn end_kept(held: &mut Held, queue: &mut FsQueue, mut kept: KeptQueue, seen: u16) -> (u8, u32)
+    ensures { EndsKept held.old queue.old kept seen result.0 result.1 held.new queue.new }
 {
-    match bench.workbench.end_return(&mut kept, seen.to_le_bytes()) {
+    match held.workbench.end_return(&mut kept, seen.to_le_bytes()) {
         Ok(told) => {
             queue.put(&kept);
-            free(bench);
+            free(held);
             (u8::from(told), 0)
         }
         Err(_) => {
-            free(bench);
+            free(held);
             (0, u32::from(ChainError::OtherQueue.number()))
         }
     }
 }
 
 /// The stores are made: whether the driver wants to be told (1 or 0), and a status.
-pub fn end_bench(bench: &mut Bench, queue: &mut FsQueue, seen: u16) -> (u8, u32)
-    ensures { EndsBench bench.old queue.old seen result.0 result.1 bench.new queue.new }
+pub fn end_held(held: &mut Held, queue: &mut FsQueue, seen: u16) -> (u8, u32)
+    ensures { EndsHeld held.old queue.old seen result.0 result.1 held.new queue.new }
 {
-    if !bench.workbench.is_returning() {
+    if !held.workbench.is_returning() {
         return (0, u32::from(ChainError::WrongOrder.number()));
     }
     match queue.kept() {
-        Some(kept) => end_kept(bench, queue, kept, seen),
+        Some(kept) => end_kept(held, queue, kept, seen),
         None => {
-            free(bench);
+            free(held);
             (0, u32::from(ChainError::OtherQueue.number()))
         }
     }
 }
 
 // Gives up a chain that is out, over the core's queue.
-fn drop_kept(bench: &mut Bench, queue: &mut FsQueue, mut kept: KeptQueue) -> u32
-    requires { is_out bench.old.workbench.state ≡ true }
-    ensures { DropsKept bench.old queue.old kept result bench.new queue.new }
+fn drop_kept(held: &mut Held, queue: &mut FsQueue, mut kept: KeptQueue) -> u32
+    requires { is_out held.old.workbench.state ≡ true }
+    ensures { DropsKept held.old queue.old kept result held.new queue.new }
 {
-    match bench.workbench.give_up(&mut kept) {
+    match held.workbench.give_up(&mut kept) {
         Ok(()) => {
             queue.put(&kept);
-            free(bench);
+            free(held);
             0
         }
         Err(_) => {
-            free(bench);
+            free(held);
             u32::from(ChainError::OtherQueue.number())
         }
     }
 }
 
 /// Gives a chain up; the queue hands it out again at its next walk.
-pub fn drop_bench(bench: &mut Bench, queue: &mut FsQueue) -> u32
-    ensures { DropsBench bench.old queue.old result bench.new queue.new }
+pub fn drop_held(held: &mut Held, queue: &mut FsQueue) -> u32
+    ensures { DropsHeld held.old queue.old result held.new queue.new }
 {
-    if bench.workbench.is_returning() {
+    if held.workbench.is_returning() {
         return u32::from(ChainError::WrongOrder.number());
     }
-    if !bench.workbench.is_out() {
-        free(bench);
+    if !held.workbench.is_out() {
+        free(held);
         return 0;
     }
     match queue.kept() {
-        Some(kept) => drop_kept(bench, queue, kept),
+        Some(kept) => drop_kept(held, queue, kept),
         None => {
-            free(bench);
+            free(held);
             u32::from(ChainError::OtherQueue.number())
         }
     }

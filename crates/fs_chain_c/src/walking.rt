@@ -2,11 +2,12 @@
 
 ghost use Rattle.std.specs.Prelude.{◌≡◌, ◌⊎◌, ◌%◌, ◌+◌, ◌^◌, ◌<◌, true, false, length, IfOk, IfErr, OnOk, OnErr};
 ghost use Rattle.fs_chain.specs.Orders.{load_len};
-ghost use Rattle.fs_chain_c.specs.Walking.{AreDue, AreOthers, AreWanted, GoesSo, IsSame, RefusesWalk, TellsLoad, TellsWanted, TellsWent, WalksBench, due_len, host_at, no_step, whole};
+ghost use Rattle.fs_chain_c.specs.Walking.{AreDue, AreOthers, AreWanted, GoesSo, IsSame, RefusesWalk, TellsLoad, TellsWanted, TellsWent, WalksHeld, due_len, host_at, no_step, whole};
 
-use crate::bench::Bench;
+use crate::held::Held;
 use crate::queue::FsQueue;
-use fs_chain::{ChainError, KeptQueue, Walked};
+use fs_chain::{ChainError, KeptQueue, WalkOutcome};
+use memory_requests::reserve;
 use vm_memory_core::VolatileSlice;
 
 /// Load these bytes, and call again with them.
@@ -42,7 +43,7 @@ pub enum Went {
     /// They are a part of the load.
     Part,
     /// The walk went on.
-    Walked(Walked),
+    On(WalkOutcome),
 }
 
 impl FsStep {
@@ -69,29 +70,29 @@ pub fn host_at(window: &VolatileSlice) -> usize
 }
 
 // Whether so many bytes are those that a walk still asks for.
-fn are_wanted(bench: &Bench, len: usize) -> bool
-    ensures wanted { result ≡ true → AreWanted bench.now len }
-    ensures others { result ≡ false → AreOthers bench.now len }
+fn are_wanted(held: &Held, len: usize) -> bool
+    ensures wanted { result ≡ true → AreWanted held.now len }
+    ensures others { result ≡ false → AreOthers held.now len }
 {
-    match bench.workbench.load_window(bench.part.len()) {
+    match held.workbench.load_window(held.part.len()) {
         Some(window) => window.len() == len,
         None => false,
     }
 }
 
 // Gives the walk its whole load, or begins it: no part came before.
-fn walk_whole(bench: &mut Bench, queue: &mut KeptQueue, loaded: &[u8]) -> Result<Went, ChainError>
-    requires whole { whole bench.old loaded.now ≡ loaded.now }
-    requires due { AreDue bench.old loaded.now }
-    requires len { length loaded.now ≡ due_len bench.old loaded.now }
-    ensures goes { IfOk result (λ went. GoesSo bench.old queue.old loaded.now went bench.new queue.new) }
-    ensures error { IfErr result (RefusesWalk bench.old queue.old loaded.now) }
-    ensures same { OnErr result (IsSame bench.old bench.new × (queue.new ≡ queue.old)) }
+fn walk_whole(held: &mut Held, queue: &mut KeptQueue, loaded: &[u8]) -> Result<Went, ChainError>
+    requires whole { whole held.old loaded.now ≡ loaded.now }
+    requires due { AreDue held.old loaded.now }
+    requires len { length loaded.now ≡ due_len held.old loaded.now }
+    ensures goes { IfOk result (λ went. GoesSo held.old queue.old loaded.now went held.new queue.new) }
+    ensures error { IfErr result (RefusesWalk held.old queue.old loaded.now) }
+    ensures same { OnErr result (IsSame held.old held.new × (queue.new ≡ queue.old)) }
 {
-    match bench.workbench.walk(queue, loaded) {
+    match held.workbench.walk(queue, loaded) {
         Ok(walked) => {
-            bench.part.clear();
-            Ok(Went::Walked(walked))
+            held.part.clear();
+            Ok(Went::On(walked))
         }
         Err(error) => Err(error),
     }
@@ -99,59 +100,60 @@ fn walk_whole(bench: &mut Bench, queue: &mut KeptQueue, loaded: &[u8]) -> Result
 
 // Takes some bytes of the load that is asked for.
 #[tactic(auto, using(crate::proofs::LoadLemmas::fits))]
-fn give(bench: &mut Bench, queue: &mut KeptQueue, loaded: &[u8]) -> Result<Went, ChainError>
-    requires { 0 < load_len bench.old.workbench.state }
-    ensures goes { IfOk result (λ went. GoesSo bench.old queue.old loaded.now went bench.new queue.new) }
-    ensures error { IfErr result (RefusesWalk bench.old queue.old loaded.now) }
-    ensures same { OnErr result (IsSame bench.old bench.new × (queue.new ≡ queue.old)) }
+fn give(held: &mut Held, queue: &mut KeptQueue, loaded: &[u8]) -> Result<Went, ChainError>
+    requires { 0 < load_len held.old.workbench.state }
+    ensures goes { IfOk result (λ went. GoesSo held.old queue.old loaded.now went held.new queue.new) }
+    ensures error { IfErr result (RefusesWalk held.old queue.old loaded.now) }
+    ensures same { OnErr result (IsSame held.old held.new × (queue.new ≡ queue.old)) }
 {
-    if !are_wanted(bench, loaded.len()) {
+    if !are_wanted(held, loaded.len()) {
         return Err(ChainError::BadArgument);
     }
-    let asked = bench.workbench.load_len();
-    let before = bench.part.len();
+    let asked = held.workbench.load_len();
+    let before = held.part.len();
     if before == 0 && loaded.len() == asked {
-        return walk_whole(bench, queue, loaded);
+        return walk_whole(held, queue, loaded);
     }
-    if let Some(error) = bench.workbench.walk_refusal(queue, asked) {
+    if let Some(error) = held.workbench.walk_refusal(queue, asked) {
         return Err(error);
     }
-    if bench.part.extend_from_slice(loaded).is_err() {
+    if reserve(&mut held.part, loaded.len()).is_err() {
         return Err(ChainError::OutOfMemory);
     }
-    if bench.part.len() != asked {
+    held.part.extend_from_slice(loaded).unwrap();
+    if held.part.len() != asked {
         return Ok(Went::Part);
     }
-    match bench.workbench.walk(queue, &bench.part) {
+    match held.workbench.walk(queue, &held.part) {
         Ok(walked) => {
-            bench.part.clear();
-            Ok(Went::Walked(walked))
+            held.part.clear();
+            Ok(Went::On(walked))
         }
         Err(error) => {
-            bench.part.truncate(before);
+            held.part.truncate(before);
             Err(error)
         }
     }
 }
 
 // Begins a walk, or goes on with it by some bytes.
-fn go(bench: &mut Bench, queue: &mut KeptQueue, loaded: &[u8]) -> Result<Went, ChainError>
-    ensures goes { IfOk result (λ went. GoesSo bench.old queue.old loaded.now went bench.new queue.new) }
-    ensures error { IfErr result (RefusesWalk bench.old queue.old loaded.now) }
-    ensures same { OnErr result (IsSame bench.old bench.new × (queue.new ≡ queue.old)) }
+fn go(held: &mut Held, queue: &mut KeptQueue, loaded: &[u8]) -> Result<Went, ChainError>
+    ensures goes { IfOk result (λ went. GoesSo held.old queue.old loaded.now went held.new queue.new) }
+    ensures error { IfErr result (RefusesWalk held.old queue.old loaded.now) }
+    ensures same { OnErr result (IsSame held.old held.new × (queue.new ≡ queue.old)) }
 {
-    if bench.workbench.load_len() != 0 {
-        return give(bench, queue, loaded);
+    if held.workbench.load_len() != 0 {
+        return give(held, queue, loaded);
     }
-    walk_whole(bench, queue, loaded)
+    walk_whole(held, queue, loaded)
 }
 
 // Where the load is made that a walk still wants, if it wants one.
-fn still_wanted(bench: &Bench) -> FsStep
-    ensures { TellsWanted bench.now result }
+fn still_wanted(held: &Held) -> FsStep
+    ensures { TellsWanted held.now result }
 {
     let mut step = FsStep::nothing();
-    match bench.workbench.load_window(bench.part.len()) {
+    match held.workbench.load_window(held.part.len()) {
         Some(window) => {
             step.at = host_at(&window);
             step.len = window.len();
@@ -162,11 +164,11 @@ fn still_wanted(bench: &Bench) -> FsStep
 }
 
 // Tells the load that is still wanted.
-fn told_load(bench: &Bench) -> (FsStep, u32)
-    ensures { TellsLoad bench.now result.0 result.1 }
+fn told_load(held: &Held) -> (FsStep, u32)
+    ensures { TellsLoad held.now result.0 result.1 }
 {
     let mut step = FsStep::nothing();
-    match bench.workbench.load_window(bench.part.len()) {
+    match held.workbench.load_window(held.part.len()) {
         Some(window) => {
             step.at = host_at(&window);
             step.len = window.len();
@@ -177,16 +179,16 @@ fn told_load(bench: &Bench) -> (FsStep, u32)
 }
 
 // Tells what a walk came to.
-fn told(bench: &Bench, went: Went) -> (FsStep, u32)
-    ensures { TellsWent bench.now went result.0 result.1 }
+fn told(held: &Held, went: Went) -> (FsStep, u32)
+    ensures { TellsWent held.now went result.0 result.1 }
 {
     let mut step = FsStep::nothing();
     match went {
-        Went::Part | Went::Walked(Walked::Load(_)) => told_load(bench),
-        Went::Walked(Walked::Idle) => (step, IDLE),
-        Went::Walked(Walked::Refused(error)) => (step, u32::from(error.number())),
-        Went::Walked(
-            Walked::Chain {
+        Went::Part | Went::On(WalkOutcome::Load(_)) => told_load(held),
+        Went::On(WalkOutcome::Idle) => (step, IDLE),
+        Went::On(WalkOutcome::Refused(error)) => (step, u32::from(error.number())),
+        Went::On(
+            WalkOutcome::Chain {
                 head,
                 request_len,
                 room_len,
@@ -197,7 +199,7 @@ fn told(bench: &Bench, went: Went) -> (FsStep, u32)
             step.room_len = room_len as u64;
             (step, 0)
         }
-        Went::Walked(Walked::Faulty { head, fault }) => {
+        Went::On(WalkOutcome::Faulty { head, fault }) => {
             step.head = head;
             step.fault = u32::from(fault.number());
             (step, 0)
@@ -206,8 +208,8 @@ fn told(bench: &Bench, went: Went) -> (FsStep, u32)
 }
 
 /// Takes the next chain of a queue: at first without bytes, then with those of each load that was told.
-pub fn walk_bench(bench: &mut Bench, queue: &mut FsQueue, loaded: &[u8]) -> (FsStep, u32)
-    ensures { WalksBench bench.old queue.old loaded.now result.0 result.1 bench.new queue.new }
+pub fn walk_held(held: &mut Held, queue: &mut FsQueue, loaded: &[u8]) -> (FsStep, u32)
+    ensures { WalksHeld held.old queue.old loaded.now result.0 result.1 held.new queue.new }
 {
     let Some(mut kept) = queue.kept() else {
         return (
@@ -215,11 +217,11 @@ pub fn walk_bench(bench: &mut Bench, queue: &mut FsQueue, loaded: &[u8]) -> (FsS
             u32::from(ChainError::BadArgument.number()),
         );
     };
-    match go(bench, &mut kept, loaded) {
+    match go(held, &mut kept, loaded) {
         Ok(went) => {
             queue.put(&kept);
-            told(bench, went)
+            told(held, went)
         }
-        Err(error) => (still_wanted(bench), u32::from(error.number())),
+        Err(error) => (still_wanted(held), u32::from(error.number())),
     }
 }

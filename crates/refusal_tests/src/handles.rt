@@ -1,7 +1,7 @@
 //! The handle for a chain in parts: made, told its memory, walked over a chain of many entries, asked, and given back.
 
 use crate::given::{Trial, Unmet, expect, expect_kept, met};
-use fs_chain::{KeptQueue, Told, Walked, Workbench};
+use fs_chain::{KeptQueue, Told, WalkOutcome, Workbench};
 use fs_queue::QueueLayout;
 use fs_regions::{GuestRegions, MemoryRegion, RegionsError};
 use fuse_values::{FileAnswer, FileCall};
@@ -84,7 +84,7 @@ fn walk(
     workbench: &mut Workbench,
     queue: &mut KeptQueue,
     load: &[u8],
-) -> Result<Walked, Unmet> {
+) -> Result<WalkOutcome, Unmet> {
     match workbench.walk(queue, load) {
         Ok(walked) => Ok(walked),
         Err(error) => {
@@ -108,8 +108,8 @@ fn walk_entries(
     trial: Trial,
     workbench: &mut Workbench,
     queue: &mut KeptQueue,
-) -> Result<Walked, Unmet> {
-    let mut walked = Walked::Idle;
+) -> Result<WalkOutcome, Unmet> {
+    let mut walked = WalkOutcome::Idle;
     for number in 0..ENTRIES {
         walked = walk(trial, workbench, queue, &entry(number))?;
     }
@@ -117,9 +117,9 @@ fn walk_entries(
 }
 
 // The chain is out of its queue.
-fn expect_chain(walked: Walked, queue: &KeptQueue) -> Result<(), Unmet> {
+fn expect_chain(walked: WalkOutcome, queue: &KeptQueue) -> Result<(), Unmet> {
     match walked {
-        Walked::Chain {
+        WalkOutcome::Chain {
             head,
             request_len,
             room_len,

@@ -1,12 +1,13 @@
 //! What a reply is written to (virtiofsd's `Writer`).
 
 ghost use Rattle.std.specs.Prelude.{◌≡◌, ℕ, ◌+◌, ◌<◌, ◌≤◌, ◌^◌, min, sum, List, [], ◌∷◌, ◌++◌, length, take, drop};
-ghost use Rattle.std.specs.Prelude.{cond, nat_lt, nat_le, Some, IsOk, IfOk, OnOk, IfErr, IfSome, IfNone, vec_len};
+ghost use Rattle.std.specs.Prelude.{cond, nat_lt, nat_le, Some, IsOk, IfOk, OnOk, OnErr, IfErr, IfSome, IfNone, vec_len};
 ghost use Rattle.std.specs.Prelude.{vec_capacity};
 ghost use Rattle.smallvec.specs.SmallVec.{small_vec_len, HasRoomFor};
 ghost use Rattle.std.specs.Io.{WritesAtMost};
 ghost use Rattle.std.specs.Io.KnownBytes.{Appends, WriteAppends, Keeps};
 ghost use Rattle.std.specs.IoError.{error_kind};
+ghost use Rattle.memory_requests.specs.Refused.{MemoryWasRefused, RoomWasRefused};
 ghost use Rattle.vm_values.specs.Fields.{spelled, AllFit};
 ghost use Rattle.server_segments.specs.SegmentPlaces.{bytes_before, IsIn};
 ghost use Rattle.fuse_fs.specs.Lengths.{filled, first, past, up_to};
@@ -17,6 +18,7 @@ use crate::error::Error;
 use crate::reader::write_front;
 use fuse_fs::PositionedFile;
 use fuse_wire::Errno;
+use memory_requests::list_with_room;
 use smallvec::SmallVec;
 use std::alloc::Global;
 use std::io;
@@ -207,12 +209,15 @@ impl Writer {
         Writer::over(alloc, room, segments)
     }
 
-    /// A writer with one segment of this length in bytes; with none if that is 0. `OutOfMemory` is its only error.
+    /// A writer with one segment of this length in bytes; with none if that is 0. `OutOfMemory` is its only error, if the allocator
+    /// refuses it.
     pub fn of_length(alloc: Global, size: usize) -> Result<Writer, Error>
         ensures written { IfOk result (λ w. w.written ≡ []) }
         ensures room { IfOk result (λ w. (w.free ≡ size) × (w.segments ≡ filled (size ∷ []))) }
         ensures rejoin { IfOk result (λ w. (w.rejoin ≡ 0) × (w.spare ≡ 0)) }
         ensures err { IfErr result (λ e. e ≡ Error.OutOfMemory) }
+        ensures asked { OnErr result (RoomWasRefused size) }
+        ensures refused { OnErr result MemoryWasRefused }
     {
         let mut segments = SmallVec::new(alloc);
         push_filled(&mut segments, size);
@@ -243,8 +248,10 @@ impl Writer {
         ensures room { IfOk result (λ w. (w.free ≡ room) × (w.segments ≡ segments.items)) }
         ensures rejoin { IfOk result (λ w. (w.rejoin ≡ 0) × (w.spare ≡ 0)) }
         ensures err { IfErr result (λ e. e ≡ Error.OutOfMemory) }
+        ensures asked { OnErr result (RoomWasRefused room) }
+        ensures refused { OnErr result MemoryWasRefused }
     {
-        let Ok(bytes) = Vec::with_capacity(alloc, room) else {
+        let Ok(bytes) = list_with_room(alloc, room) else {
             return Err(Error::OutOfMemory);
         };
         let place = behind(&segments, START, 0);

@@ -174,7 +174,7 @@ pub refused_for : (l : List Region) (fault : GuestRegionCollectionError) → fau
 refused_for l NoMemoryRegion is = is
 refused_for l MemoryRegionOverlap is = is
 refused_for l UnsortedMemoryRegions is = is
-refused_for [] OutOfMemory is = cc
+refused_for [] OutOfMemory is = absurd (cc)
 refused_for (r ∷ l) OutOfMemory is = absurd (wants_none l r is)
 
 -- one shared region more was copied

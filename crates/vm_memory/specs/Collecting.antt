@@ -4,6 +4,7 @@ use Rattle.std.specs.List.{list_any}
 use Rattle.std.specs.Option.{option_or}
 use Rattle.std.specs.Arc.{arc_value}
 use Rattle.std.specs.declared.sync.Arc.{Arc}
+use Rattle.memory_requests.specs.Refused.{MemoryWasRefused}
 use Rattle.vm_memory.specs.Layout.{Region, overlap, with_region, is_region, without_region}
 use Rattle.vm_memory.specs.declared.error.GuestRegionCollectionError.{GuestRegionCollectionError}
 use Rattle.vm_memory.specs.declared.error.GuestRegionCollectionError.TheVariants.{NoMemoryRegion, MemoryRegionOverlap, UnsortedMemoryRegions, OutOfMemory}
@@ -30,13 +31,13 @@ abbrev pub unless : Option GuestRegionCollectionError → List Region → Result
 unless None regions = Ok regions
 unless (Some fault) regions = Err fault
 
--- some regions are a layout, or what is wrong with them; an allocation may fail if nothing is
+-- some regions are a layout, or what is wrong with them; if nothing is, the allocator may refuse
 abbrev pub Collects : List Region → Result (List Region) GuestRegionCollectionError → Type 0
 Collects regions (Ok layout) = (fault_of regions ≡ None) × (layout ≡ regions)
 Collects regions (Err NoMemoryRegion) = fault_of regions ≡ Some NoMemoryRegion
 Collects regions (Err MemoryRegionOverlap) = fault_of regions ≡ Some MemoryRegionOverlap
 Collects regions (Err UnsortedMemoryRegions) = fault_of regions ≡ Some UnsortedMemoryRegions
-Collects regions (Err OutOfMemory) = fault_of regions ≡ None
+Collects regions (Err OutOfMemory) = (fault_of regions ≡ None) × MemoryWasRefused
 
 -- a layout with one more region, which has no address in common with any that is there; an allocation may fail if it has none
 abbrev pub Inserts : Region → List Region → Result (List Region) GuestRegionCollectionError → Type 0

@@ -1,14 +1,16 @@
 //! Regions that ascend and have no address in common (vm-memory's `GuestRegionCollection`).
 
-ghost use Rattle.std.specs.Prelude.{◌≡◌, ◌+◌, ◌-◌, ◌<◌, ◌≤◌, [], length, map, option_map, slice_get, Some, None, IfOk};
+ghost use Rattle.std.specs.Prelude.{◌≡◌, ◌+◌, ◌-◌, ◌<◌, ◌≤◌, [], length, map, option_map, slice_get, Some, None, IfOk, OnErr};
 ghost use Rattle.std.specs.Bool.{OnFalse, OnTrue};
 ghost use Rattle.std.specs.List.{list_any};
 ghost use Rattle.std.specs.Arc.{arc_value};
+ghost use Rattle.memory_requests.specs.Refused.{MemoryWasRefused};
 ghost use Rattle.vm_memory.specs.Layout.{Region, end_at, overlap, region_at, start_at, regions_of, IsLawful, IsLayout};
 ghost use Rattle.vm_memory.specs.Collecting.{fault_between, fault_of, unless, with_removed, Collects, Inserts, Removes};
 
 use crate::error::GuestRegionCollectionError;
 use crate::region::GuestMemoryRegion;
+use memory_requests::{list_with_room, reserve, shared};
 use std::alloc::{AllocError, Global};
 use std::marker::Model;
 use std::sync::Arc;
@@ -263,12 +265,15 @@ impl<R: GuestMemoryRegion> GuestRegionCollection<R> {
 
 // Regions that others may share.
 fn share<R: GuestMemoryRegion>(alloc: Global, regions: Vec<R>) -> Result<Vec<Arc<R>>, AllocError>
-    ensures { IfOk result (λ v. regions_of R.region v.items ≡ map R.region regions.items) }
+    ensures shared { IfOk result (λ v. regions_of R.region v.items ≡ map R.region regions.items) }
+    ensures refused { OnErr result MemoryWasRefused }
 {
-    let mut all = Vec::with_capacity(alloc, regions.len())?;
+    let mut all = list_with_room(alloc, regions.len())?;
     for region in regions {
-        match Arc::new(alloc, region) {
-            Ok(region) => all.push(region)?,
+        // There is room already, which no clause says here.
+        reserve(&mut all, 1)?;
+        match shared(alloc, region) {
+            Ok(region) => all.push(region).unwrap(),
             Err(_) => return Err(AllocError),
         }
     }

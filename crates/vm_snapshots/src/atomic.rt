@@ -1,11 +1,14 @@
 //! Guest memory that is replaced while others use it (vm-memory's `GuestMemoryAtomic`).
 
-ghost use Rattle.std.specs.Prelude.{◌≡◌, true, IfErr, IfOk};
+ghost use Rattle.std.specs.Prelude.{◌≡◌, true, IfErr, IfOk, OnErr};
 ghost use Rattle.std.specs.Arc.{arc_value};
 ghost use Rattle.std.specs.Fn.{FnOnceReturnsAt};
+ghost use Rattle.std.specs.Sync.RwLock.{write_guard_value};
+ghost use Rattle.memory_requests.specs.Refused.{MemoryWasRefused};
 
 use crate::address_space::GuestAddressSpace;
 use crate::law::MemoryLaw;
+use memory_requests::shared;
 use std::alloc::{AllocError, Global};
 use std::marker::{Model, PhantomData};
 use std::ops::Deref;
@@ -60,33 +63,26 @@ pub struct GuestMemoryExclusiveGuard<'a, M: Drop, L: MemoryLaw<M>> {
 #[derive(Drop)]
 pub struct GuestMemoryReplaceGuard<'a, M: Drop, L: MemoryLaw<M>> {
     newest: RwLockWriteGuard<'a, Newest<M, L>>,
+    lock: &'a RwLock<Newest<M, L>>,
     turn: MutexGuard<'a, ()>,
 }
 
-impl<'a, M: Drop, L: MemoryLaw<M>> Model for GuestMemoryReplaceGuard<'a, M, L> {
-    ghost use Rattle.std.specs.Arc.{arc_value};
-    ghost use Rattle.std.specs.Sync.RwLock.{write_guard_value};
-
-    ghost Value = { M };
-
-    ghost view = { λ guard. arc_value (write_guard_value guard.newest).snapshot };
-}
-
 impl<M: GuestMemory + Drop, L: MemoryLaw<M>> GuestMemoryAtomic<M, L> {
-    /// Memory that can be replaced, which is this one at first.
+    /// Memory that can be replaced, which is this one at first; AllocError only if the allocator refuses it.
     pub fn new(alloc: Global, memory: M) -> Result<GuestMemoryAtomic<M, L>, AllocError>
         requires { L.allows memory ≡ true }
+        ensures refused { OnErr result MemoryWasRefused }
     {
         let newest = Newest {
-            snapshot: Arc::new(alloc, memory)?,
+            snapshot: shared(alloc, memory)?,
             law: PhantomData,
         };
-        let shared = Snapshots {
+        let snapshots = Snapshots {
             newest: RwLock::new(newest),
             turn: Mutex::new(()),
         };
         Ok(GuestMemoryAtomic {
-            shared: Arc::new(alloc, shared)?,
+            shared: shared(alloc, snapshots)?,
         })
     }
 
@@ -148,8 +144,8 @@ impl<M: Drop> GuestMemoryLoadGuard<M> {
 
 impl<'a, M: GuestMemory + Drop, L: MemoryLaw<M>> GuestMemoryExclusiveGuard<'a, M, L> {
     /// Puts other memory in the place of the newest snapshot; older ones stay as they are with whoever holds them. Whoever
-    /// asks for memory waits until the answer is dropped. An error is a failed allocation: what was handed in comes back,
-    /// and the newest snapshot stays.
+    /// asks for memory waits until the answer is dropped, which is of this lock. An error is a refused allocation: what was
+    /// handed in comes back, and the newest snapshot stays.
     pub fn replace<R: Wait>(
         self,
         rt: &R,
@@ -157,18 +153,20 @@ impl<'a, M: GuestMemory + Drop, L: MemoryLaw<M>> GuestMemoryExclusiveGuard<'a, M
         memory: M,
     ) -> Result<GuestMemoryReplaceGuard<'a, M, L>, M>
         requires { L.allows memory ≡ true }
-        ensures put { IfOk result (λ guard. guard ≡ memory) }
-        ensures refused { IfErr result (λ m. m ≡ memory) }
+        ensures put { IfOk result (λ guard. arc_value (write_guard_value guard.newest).snapshot ≡ memory) }
+        ensures lock { IfOk result (λ guard. guard.lock.now ≡ self.entry.newest.now) }
+        ensures kept { IfErr result (λ m. m ≡ memory) }
+        ensures refused { OnErr result MemoryWasRefused }
     {
-        let GuestMemoryExclusiveGuard { newest, turn } = self;
-        match Arc::new(alloc, memory) {
+        let GuestMemoryExclusiveGuard { newest: lock, turn } = self;
+        match shared(alloc, memory) {
             Ok(snapshot) => {
-                let mut newest = newest.write(rt);
+                let mut newest = lock.write(rt);
                 *newest = Newest {
                     snapshot,
                     law: PhantomData,
                 };
-                Ok(GuestMemoryReplaceGuard { newest, turn })
+                Ok(GuestMemoryReplaceGuard { newest, lock, turn })
             }
             Err(refused) => Err(refused.value),
         }
@@ -178,7 +176,7 @@ impl<'a, M: GuestMemory + Drop, L: MemoryLaw<M>> GuestMemoryExclusiveGuard<'a, M
 impl<M: Drop, L: MemoryLaw<M>> GuestMemoryReplaceGuard<'_, M, L> {
     /// The memory that was put there.
     pub fn get(&self) -> &M
-        ensures { result.now ≡ self.now }
+        ensures { result.now ≡ arc_value (write_guard_value self.now.newest).snapshot }
     {
         &*self.newest.snapshot
     }

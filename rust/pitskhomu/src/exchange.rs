@@ -3,7 +3,7 @@ use crate::chain::Chain;
 use crate::data::{load_request, store_room};
 use crate::errno::Errno;
 use crate::memory::{GuestMemory, Window};
-use core::convert::TryInto;
+use core::fmt;
 
 /// A reply's header (struct fuse_out_header).
 const HEADER_LEN: usize = 16;
@@ -18,6 +18,16 @@ pub struct Exchange<'a> {
     room_len: u64,
     /// How many bytes of the room, from its front on, may have been written.
     written: u64,
+}
+
+impl fmt::Debug for Exchange<'_> {
+    fn fmt(&self, f: &mut fmt::Formatter<'_>) -> fmt::Result {
+        f.debug_struct("Exchange")
+            .field("front", &self.front)
+            .field("request_len", &self.request_len)
+            .field("room_len", &self.room_len)
+            .finish_non_exhaustive()
+    }
 }
 
 impl<'a> Exchange<'a> {

@@ -50,8 +50,8 @@ pub trait FileSystem {
         Err(Errno::ENOSYS)
     }
 
-    /// READLINK: puts what a link leads to at the front of `target`, and says how many bytes it has. `target` has what bytes it has. A
-    /// longer one than `target` is answered ERANGE.
+    /// READLINK: puts what a link leads to at the front of `target`, and says how many bytes it has. What stands in `target` before means
+    /// nothing. More bytes than `target` has are answered ERANGE.
     fn readlink(&self, context: &Context, node: Node, target: &mut [u8]) -> Answer<usize> {
         Err(Errno::ENOSYS)
     }
@@ -91,7 +91,7 @@ pub trait FileSystem {
         Err(Errno::ENOSYS)
     }
 
-    /// OPEN.
+    /// OPEN: what it answers, READ and its kin bring back until RELEASE.
     fn open(&self, context: &Context, node: Node, open: Open) -> Answer<Opened> {
         Ok(Opened::default())
     }
@@ -111,7 +111,7 @@ pub trait FileSystem {
         Err(Errno::ENOSYS)
     }
 
-    /// STATFS.
+    /// STATFS: what the file system holds and has room for.
     fn statfs(&self, context: &Context, node: Node) -> Answer<Statistics> {
         Ok(Statistics::default())
     }
@@ -137,7 +137,7 @@ pub trait FileSystem {
     }
 
     /// GETXATTR: puts the value at the front of `value`, and says how many bytes it has. An empty `value` asks for the number alone. ERANGE if
-    /// it doesn't fit, ENODATA if there is none. `value` has what bytes it has.
+    /// it doesn't fit, ENODATA if there is none. What stands in `value` before means nothing.
     fn getxattr(&self, context: &Context, node: Node, name: &CStr, value: &mut [u8]) -> Answer<usize> {
         Err(Errno::ENOSYS)
     }
@@ -147,12 +147,12 @@ pub trait FileSystem {
         Err(Errno::ENOSYS)
     }
 
-    /// REMOVEXATTR.
+    /// REMOVEXATTR: takes an extended attribute away. ENODATA if there is none.
     fn removexattr(&self, context: &Context, node: Node, name: &CStr) -> Answer<()> {
         Err(Errno::ENOSYS)
     }
 
-    /// OPENDIR; `flags` as of `Open`.
+    /// OPENDIR: what it answers, READDIR and its kin bring back until RELEASEDIR; `flags` as of `Open`.
     fn opendir(&self, context: &Context, node: Node, flags: u32) -> Answer<Opened> {
         Ok(Opened::default())
     }
@@ -162,12 +162,12 @@ pub trait FileSystem {
         Err(Errno::ENOSYS)
     }
 
-    /// RELEASEDIR; `flags` as of `Open`.
+    /// RELEASEDIR: the last of those who had a directory open closed it; `flags` as of `Open`.
     fn releasedir(&self, context: &Context, node: Node, handle: Handle, flags: u32) -> Answer<()> {
         Ok(())
     }
 
-    /// FSYNCDIR; as `fsync`.
+    /// FSYNCDIR: a directory's entries last; as `fsync`.
     fn fsyncdir(&self, context: &Context, node: Node, handle: Handle, data_only: bool) -> Answer<()> {
         Err(Errno::ENOSYS)
     }
@@ -177,7 +177,7 @@ pub trait FileSystem {
         Err(Errno::ENOSYS)
     }
 
-    /// FALLOCATE.
+    /// FALLOCATE: has a stretch of a file take place, or give it back, as `mode` says.
     fn fallocate(&self, context: &Context, node: Node, allocate: Allocate) -> Answer<()> {
         Err(Errno::ENOSYS)
     }

@@ -41,7 +41,7 @@
 //! The feature `std`, which is on by default, has [`Errno`] made of `std::io::Error`, and makes it and [`Status`] errors. Without it the crate
 //! is `no_std` with `alloc`.
 #![no_std]
-#![deny(missing_docs, unsafe_code, unsafe_op_in_unsafe_fn)]
+#![deny(missing_docs, missing_debug_implementations, unsafe_code, unsafe_op_in_unsafe_fn)]
 
 extern crate alloc;
 #[cfg(feature = "std")]

@@ -3,6 +3,7 @@ use crate::chain::{Added, Chain};
 use crate::errno::{Answer, Errno};
 use crate::file_system::FileSystem;
 use crate::values::{Attributes, Context, DirectoryEntry, Entry, Node};
+use core::fmt;
 
 /// The longest name (NAME_MAX of linux/limits.h).
 const NAME_MAX: usize = 255;
@@ -17,6 +18,17 @@ pub struct Listing<'a> {
     with_nodes: bool,
     used: usize,
     ended: bool,
+}
+
+impl fmt::Debug for Listing<'_> {
+    fn fmt(&self, f: &mut fmt::Formatter<'_>) -> fmt::Result {
+        f.debug_struct("Listing")
+            .field("directory", &self.directory)
+            .field("with_nodes", &self.with_nodes)
+            .field("used", &self.used)
+            .field("ended", &self.ended)
+            .finish_non_exhaustive()
+    }
 }
 
 impl<'a> Listing<'a> {

@@ -9,13 +9,13 @@ pub trait GuestMemory {
     fn load(&self, at: usize, bytes: &mut [u8]);
 
     /// Takes a little-endian number of two bytes out of a ring, by one atomic load (relaxed is enough: the worker has the fences). `at` is
-    /// even, if `host` and `guest` of each region are multiples of 4096.
+    /// even.
     fn load_u16(&self, at: usize) -> u16;
 
     /// Copies bytes in, to any place.
     fn store(&self, at: usize, bytes: &[u8]);
 
-    /// Stores a little-endian number of two bytes in a ring, by one atomic store (relaxed is enough). `at` is even, as of `load_u16`.
+    /// Stores a little-endian number of two bytes in a ring, by one atomic store (relaxed is enough). `at` is even.
     fn store_u16(&self, at: usize, value: u16);
 
     /// Whether `mark` is to be told what was written: while a migration's log is on.

@@ -12,6 +12,7 @@ use crate::queue::Queue;
 use crate::status::{Fault, RequestFault, Status};
 use crate::sys;
 use alloc::vec::Vec;
+use core::fmt;
 use core::sync::atomic::{fence, Ordering};
 
 /// What came of a chain that went back.
@@ -59,7 +60,6 @@ enum Phase {
 
 /// What serves the chains of queues, one at a time: the handle of the library and its buffers, which grow as they are needed, to some 2 MiB
 /// at most. A thread has one of its own; it may be handed from thread to thread.
-#[derive(Debug)]
 pub struct Worker {
     chain: Chain,
     phase: Phase,
@@ -75,6 +75,12 @@ pub struct Worker {
     replied: Replied,
     /// How many bytes of the room, from its front on, the file system may have written.
     written: u64,
+}
+
+impl fmt::Debug for Worker {
+    fn fmt(&self, f: &mut fmt::Formatter<'_>) -> fmt::Result {
+        f.debug_struct("Worker").field("phase", &self.phase).field("step", &self.step).finish_non_exhaustive()
+    }
 }
 
 impl Default for Worker {

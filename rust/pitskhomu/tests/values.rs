@@ -87,6 +87,12 @@ fn flags() {
 }
 
 #[test]
+fn workers_are_printed() {
+    let printed = format!("{:?}", Worker::new());
+    assert!(printed.starts_with("Worker { phase: Free, "), "{printed}");
+}
+
+#[test]
 fn kinds_of_files() {
     assert_eq!(
         (FileKind::of_mode(0o40755), FileKind::of_mode(0o120777)),

@@ -231,7 +231,8 @@ impl Guest {
         (served, self.reply(served.reply_len as usize))
     }
 
-    fn reply(&self, len: usize) -> Reply {
+    /// What a reply of so many bytes says.
+    pub fn reply(&self, len: usize) -> Reply {
         if len == 0 {
             return Reply::None;
         }

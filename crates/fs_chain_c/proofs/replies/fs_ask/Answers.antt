@@ -1,6 +1,6 @@
 use Rattle.std.proofs.Common.{rules}
-use Rattle.fs_chain_c.proofs.BenchLemmas.{on_bench}
+use Rattle.fs_chain_c.proofs.HeldLemmas.{on_held}
 use Rattle.fs_chain_c.proofs.replies.fs_ask.Goals as goal
 
 pub returns : goal.returns
-returns c = on_bench _ _ c.args.chain.now.seat.value c.of_box.result.seat.value c.deref_mut.result.now c.ask_bench-status.new.bench (search rules) (search rules) c.ask_bench-status.ensures
+returns c = on_held _ _ c.args.chain.now.seat.value c.of_box.result.seat.value c.deref_mut.result.now c.ask_held-status.new.held (search rules) (search rules) c.ask_held-status.ensures

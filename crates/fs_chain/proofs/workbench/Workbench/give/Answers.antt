@@ -1,6 +1,6 @@
 use Rattle.std.proofs.Common.{refl, ap}
 use Rattle.fs_regions.specs.declared.step.Step.TheVariants as step
-use Rattle.fs_chain.specs.declared.walking.Walked.TheVariants as tells
+use Rattle.fs_chain.specs.declared.walking.WalkOutcome.TheVariants as tells
 use Rattle.fs_chain.proofs.Steps.{comes_left, comes_taken, leaves_none, walks_on}
 use Rattle.fs_chain.proofs.workbench.Workbench.give.Goals as goal
 

@@ -1,5 +1,5 @@
 use Rattle.std.proofs.Common.{rules, inl, inr}
-use Rattle.fs_chain_c.proofs.walking.walk_bench.Goals as goal
+use Rattle.fs_chain_c.proofs.walking.walk_held.Goals as goal
 
 pub returns-in-Ok : goal.returns-in-Ok
 returns-in-Ok c =

@@ -1,10 +1,10 @@
 use Rattle.std.proofs.Common.{rules, refl, inl, inr, ap, ◌∙◌, Err}
-use Rattle.fs_chain_c.specs.declared.bench.Bench.{Bench}
-use Rattle.fs_chain_c.proofs.asking.ask_bench.Goals as goal
+use Rattle.fs_chain_c.specs.declared.held.Held.{Held}
+use Rattle.fs_chain_c.proofs.asking.ask_held.Goals as goal
 
 pub returns-in-Ok : goal.returns-in-Ok
 returns-in-Ok c =
-    let asked : Bench = record { workbench = c.ask.new.self; part = c.args.bench.now.part; session = c.resume-session.result } in
+    let asked : Held = record { workbench = c.ask.new.self; part = c.args.held.now.part; session = c.resume-session.result } in
     inr (inr (
       search rules,
       (asked, c.in-Ok.told, search rules, refl, record { can = search rules; tells = search rules; wanted = search rules; stays = search rules }, search rules),
