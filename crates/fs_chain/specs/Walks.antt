@@ -1,6 +1,7 @@
 -- What a walk comes to, and what is kept of it.
 use Rattle.std.specs.Prelude.{◌≡◌, ℕ, ◌-◌, ◌^◌, min, [], List, Bool, true, false, Option, Some, None}
 use Rattle.smallvec.specs.SmallVec.{HasRoomFor}
+use Rattle.memory_requests.specs.Refused.{RoomWasRefused}
 use Rattle.fs_queue.specs.declared.fault.QueueError.{QueueError}
 use Rattle.fs_queue.specs.declared.fault.QueueError.TheVariants.{Stopped}
 use Rattle.fs_queue.specs.Chain.{Descriptor}
@@ -120,6 +121,6 @@ WalksFrom _ bytes old new before after told = ⊥
 abbrev pub WalksOn : (bytes : List ℕ) → (old new : Workbench) → (before after : KeptQueue) → walked.WalkOutcome → Type 0
 WalksOn bytes old new before after told = WalksFrom old.state bytes old new before after told
 
--- a walk asks for an entry of a table, and its descriptor has no room beside those that joined: only then the walk takes memory
+-- a walk asks for an entry of a table, its descriptor has no room beside those that joined, and the allocator refused that: only then the walk lacks memory
 abbrev pub LacksRoom : Workbench → Type 0
-LacksRoom w = AsksTable w.state × (HasRoomFor w.descriptors 1 → ⊥)
+LacksRoom w = AsksTable w.state × (HasRoomFor w.descriptors 1 → ⊥) × RoomWasRefused 1

@@ -16,6 +16,7 @@ use crate::walking::WalkOutcome;
 use crate::workbench::Workbench;
 use fs_queue::{QueueError, Walk};
 use fs_regions::{Course, GuestRegions, QueueWalk, Step};
+use memory_requests::reserve_small;
 use std::mem;
 use vm_memory_core::VolatileSlice;
 
@@ -122,7 +123,7 @@ impl Workbench {
         if !walk.asks_table() {
             return Ok(());
         }
-        match self.descriptors.reserve(1) {
+        match reserve_small(&mut self.descriptors, 1) {
             Ok(()) => Ok(()),
             Err(_) => Err(ChainError::OutOfMemory),
         }

@@ -6,6 +6,7 @@ mod asking;
 mod error;
 mod giving_up;
 mod going_on;
+pub mod laws;
 mod listing;
 mod looking;
 mod own_reply;

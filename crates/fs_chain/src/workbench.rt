@@ -1,6 +1,7 @@
 //! The handle: a workbench for one chain at a time.
 
 ghost use Rattle.std.specs.Prelude.{◌≡◌, ◌≤◌, [], Some, None, IfOk, IfErr, IfSome, OnOk, OnErr, OnSome, true, false};
+ghost use Rattle.memory_requests.specs.Refused.{MemoryWasRefused, RoomWasRefused};
 ghost use Rattle.fs_queue.specs.Taking.{all_reach, total_len};
 ghost use Rattle.fs_queue.specs.Windows.{access_of, of_direction};
 ghost use Rattle.fs_regions.specs.Places.{places_in};
@@ -40,12 +41,14 @@ pub struct Workbench {
 }
 
 impl Workbench {
-    /// A workbench over no memory.
+    /// A workbench over no memory; `OutOfMemory` only if the allocator refuses it the place of a reply.
     pub fn new(alloc: Global) -> Result<Workbench, ChainError>
         ensures ok { IfOk result (λ w. (w.regions ≡ []) × (w.limit ≡ 0x101000) × (w.descriptors.items ≡ []) × (w.state ≡ at.Free)) }
         ensures err { IfErr result (λ e. e ≡ ChainError.OutOfMemory) }
+        ensures asked { OnErr result (RoomWasRefused 80) }
+        ensures refused { OnErr result MemoryWasRefused }
     {
-        match Writer::new(alloc, &[REPLY_WITHOUT_CALL]) {
+        match Writer::of_length(alloc, REPLY_WITHOUT_CALL) {
             Ok(place) => Ok(Workbench {
                 alloc,
                 regions: GuestRegions::none(alloc),
