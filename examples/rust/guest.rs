@@ -163,6 +163,8 @@ impl<F: FileSystem> Guest<F> {
         self.asks("READDIRPLUS", 44, 1, &read, room);
         let text = self.asks("READ", 15, 2, &read, room);
         println!("The guest reads: {}", String::from_utf8_lossy(&text));
+        let text = self.asks("an opcode of the monitor's own", 0x1000, 0, b"hello, monitor", room);
+        println!("The guest has in its memory: {}", String::from_utf8_lossy(&text));
     }
 
     /// Requests that come to no good.

@@ -13,6 +13,11 @@ const O_TRUNC: u32 = 0o1000;
 const S_IFREG: u32 = 0o100_000;
 const S_IFDIR: u32 = 0o40_000;
 const CONTENTS: u64 = 0x4000;
+/// An opcode that no FUSE has, and this monitor serves.
+const CAPITALS: u32 = 0x1000;
+/// How long the headers of a request and a reply are (struct fuse_in_header, struct fuse_out_header).
+const IN_HEADER: u64 = 40;
+const OUT_HEADER: u64 = 16;
 
 /// For so long the guest need not ask again for a name or for attributes.
 const GOOD_FOR: Duration = Duration::from_secs(1);
@@ -75,6 +80,23 @@ impl Files {
 }
 
 impl FileSystem for Files {
+    /// A FUSE server of this monitor's own, for an opcode that the library doesn't serve: what was asked, in capitals.
+    fn reply_by_bytes(&self, exchange: &mut Exchange<'_>) -> Option<u64> {
+        let text_len = exchange.request_len().checked_sub(IN_HEADER).filter(|_| exchange.opcode() == CAPITALS)?;
+        let len = OUT_HEADER + text_len;
+        if len > exchange.room_len() {
+            return Some(0); // silence
+        }
+        let mut text = vec![0; text_len as usize];
+        exchange.load(IN_HEADER, &mut text);
+        text.make_ascii_uppercase();
+        let error = 0u32;
+        exchange.store(0, &[(len as u32).to_le_bytes(), error.to_le_bytes()].concat());
+        exchange.store(8, &exchange.unique().to_le_bytes());
+        exchange.store(OUT_HEADER, &text);
+        Some(len)
+    }
+
     fn init(&self, init: Init) -> Answer<Options> {
         self.lock().iter_mut().flatten().for_each(|file| file.held = 0);
         Ok(init.capable & Options::DO_READDIRPLUS)
