@@ -166,7 +166,7 @@ pub struct Options {
     #[arg(long)]
     pub preserve_noatime: bool,
     /// How inodes are held
-    #[arg(long, value_enum, default_value = "never", num_args = 0..=1, default_missing_value = "prefer")]
+    #[arg(long, value_enum, default_value = "never", num_args = 0..=1, require_equals = true, default_missing_value = "prefer")]
     pub inode_file_handles: Handles,
     /// Users of the namespace, as `:inside:outside:count:` (not as root)
     #[arg(long)]
@@ -235,10 +235,6 @@ impl Options {
             (asked.posix_acl, "--posix-acl: the core doesn't tell the flags of FUSE_SETXATTR_EXT, which these want"),
             (asked.security_label, "--security-label: the core doesn't tell the label of a new file"),
             (!asked.o.is_empty(), "-o: these are options of the C virtiofsd; take --shared-dir and its kin"),
-            (
-                self.allow_mmap && !matches!(self.cache, CachePolicy::Metadata | CachePolicy::Never),
-                "--allow-mmap: with this --cache files may be mapped anyway",
-            ),
         ];
         refusals.into_iter().find_map(|(is_asked, why)| is_asked.then(|| why.into()))
     }

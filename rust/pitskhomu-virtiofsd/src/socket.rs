@@ -7,7 +7,13 @@ use std::os::fd::{AsRawFd, FromRawFd, IntoRawFd};
 use std::os::unix::fs::{chown, FileTypeExt, OpenOptionsExt, PermissionsExt};
 use std::os::unix::net::UnixListener;
 use std::path::{Path, PathBuf};
+use std::thread;
+use std::time::Duration;
 use vhost::vhost_user::Listener;
+
+/// How often, and how far apart, a lock is tried that another daemon holds.
+const LOCK_TRIES: u32 = 40;
+const LOCK_PAUSE: Duration = Duration::from_millis(50);
 
 /// The listener, and the file with the daemon's number, whose lock lasts as long as it is open.
 pub struct Socket {
@@ -24,19 +30,27 @@ fn group_number(name: &str) -> io::Result<u32> {
     group.map(|group| group.gr_gid).ok_or_else(|| io::Error::other("there is no such group"))
 }
 
+/// Whether the file could be locked. A daemon that is ending holds its lock for a moment yet.
+fn lock(file: &File) -> bool {
+    (0..LOCK_TRIES).any(|attempt| {
+        if attempt > 0 {
+            thread::sleep(LOCK_PAUSE);
+        }
+        // SAFETY: the descriptor is open, and no memory is touched.
+        unsafe { libc::flock(file.as_raw_fd(), libc::LOCK_EX | libc::LOCK_NB) == 0 }
+    })
+}
+
 /// Locks `PATH.pid`, so that no second daemon takes the socket of one that runs, and writes the daemon's number there.
 fn number_file(socket: &Path) -> io::Result<File> {
     let mut path = PathBuf::from(socket).into_os_string();
     path.push(".pid");
-    let options =
-        OpenOptions::new().write(true).create(true).truncate(false).mode(0o644).custom_flags(libc::O_NOFOLLOW).clone();
+    let mut options = OpenOptions::new();
+    options.write(true).create(true).truncate(false).mode(0o644).custom_flags(libc::O_NOFOLLOW);
     let mut file = options.open(&path)?;
-    // SAFETY: the descriptor is open, and no memory is touched.
-    if unsafe { libc::flock(file.as_raw_fd(), libc::LOCK_EX | libc::LOCK_NB) } != 0 {
-        return Err(io::Error::new(
-            io::ErrorKind::AddrInUse,
-            format!("a daemon runs that has locked {}", path.display()),
-        ));
+    if !lock(&file) {
+        let why = format!("a daemon runs that has locked {}", path.display());
+        return Err(io::Error::new(io::ErrorKind::AddrInUse, why));
     }
     file.set_len(0)?;
     writeln!(file, "{}", std::process::id())?;
@@ -68,13 +82,16 @@ impl Socket {
         let (listener, number) = match (&options.socket_path, options.fd) {
             (Some(path), _) => {
                 let number = number_file(path)?;
-                (bind(path, options.socket_group.as_deref())?.into_raw_fd(), Some(number))
+                (bind(path, options.socket_group.as_deref())?, Some(number))
             }
-            (None, Some(fd)) => (fd, None),
+            // SAFETY: whoever started the daemon handed the descriptor in, for this one use.
+            (None, Some(fd)) => (unsafe { UnixListener::from_raw_fd(fd) }, None),
             (None, None) => return Err(io::Error::other("neither --socket-path nor --fd")),
         };
-        // crate vhost's own would remove the path when it is dropped, which in the sandbox is a path of the guest's.
-        // SAFETY: the descriptor was given up above, or is handed in by whoever started the daemon, for this one use.
-        Ok(Socket { listener: unsafe { Listener::from_raw_fd(listener) }, number })
+        // Whoever made it may want no waiting.
+        listener.set_nonblocking(false)?;
+        // Crate vhost's own would remove the path when it is dropped, which in the sandbox is a path of the guest's.
+        // SAFETY: the descriptor is open, and is given up here.
+        Ok(Socket { listener: unsafe { Listener::from_raw_fd(listener.into_raw_fd()) }, number })
     }
 }
