@@ -16,8 +16,10 @@
 #include <unistd.h>
 
 enum {
+    GET_FEATURES = 1,
     SET_FEATURES = 2,
     SET_MEM_TABLE = 5,
+    SET_LOG_BASE = 6,
     SET_VRING_NUM = 8,
     SET_VRING_ADDR,
     SET_VRING_BASE,
@@ -25,6 +27,7 @@ enum {
     SET_VRING_KICK,
     SET_VRING_CALL,
     SET_VRING_ERR,
+    GET_PROTOCOL_FEATURES = 15,
     SET_PROTOCOL_FEATURES = 16,
     SET_VRING_ENABLE = 18
 };
@@ -92,9 +95,13 @@ static void receive_reply(struct front *front, uint32_t request, void *body, uin
     struct head head;
     if (recv(front->connection, &head, sizeof head, MSG_WAITALL) != sizeof head)
         die("message %u has no answer", request);
-    if (head.request != request || head.size != len) die("message %u has another answer", request);
-    if (recv(front->connection, body, len, MSG_WAITALL) != (ssize_t)len)
+    /* SET_LOG_BASE may be answered by its own words. */
+    uint64_t own[2] = {0};
+    bool is_log = request == SET_LOG_BASE && head.size == sizeof own;
+    if (head.request != request || (head.size != len && !is_log)) die("message %u has another answer", request);
+    if (recv(front->connection, is_log ? (void *)own : body, head.size, MSG_WAITALL) != (ssize_t)head.size)
         die("message %u: its answer is short", request);
+    if (is_log) memset(body, 0, len);
 }
 
 uint64_t front_tell(struct front *front, uint32_t request, const void *body, uint32_t len, const int *fds,
@@ -110,6 +117,15 @@ void front_query(struct front *front, uint32_t request, void *body, uint32_t len
     struct head head = {request, VERSION, len};
     send_message(front, &head, body, NULL, 0);
     receive_reply(front, request, body, len);
+}
+
+/* A number that a message without a body asks for. */
+static uint64_t number(struct front *front, uint32_t request) {
+    struct head head = {request, VERSION, 0};
+    uint64_t word;
+    send_message(front, &head, NULL, NULL, 0);
+    receive_reply(front, request, &word, sizeof word);
+    return word;
 }
 
 static void must_tell(struct front *front, uint32_t request, const void *body, uint32_t len, const int *fds,
@@ -131,8 +147,11 @@ void front_set_memory(struct front *front) {
     must_tell(front, SET_MEM_TABLE, &table, sizeof table, fds, REGIONS);
 }
 
+/* Asks before it tells, as QEMU does: some back-ends answer nothing else before. */
 void front_set_up(struct front *front) {
-    uint64_t protocol = 1ull << 0 | 1ull << 1 | 1ull << 3 | 1ull << 15;
+    uint64_t protocol = 1ull << 0 | 1ull << 1 | 1ull << 3 | 1ull << 9 | 1ull << 15;
+    if ((number(front, GET_FEATURES) & front->features) != front->features) die("features are wanting");
+    protocol &= number(front, GET_PROTOCOL_FEATURES);
     must_tell(front, SET_PROTOCOL_FEATURES, &protocol, sizeof protocol, NULL, 0);
     must_tell(front, SET_FEATURES, &front->features, sizeof front->features, NULL, 0);
     front_set_memory(front);

@@ -41,6 +41,9 @@ END
     chmod +x "$work/server"
 }
 
+# What virtiofsd answers otherwise than the C example: what is no file can't be opened at all, and root makes devices.
+otherwise='(link|pipe|size): Bad file descriptor|^FAILED: MKNOD of (a disk|memory): done'
+
 # Runs a program of the tests over the daemon; what it prints is shown.
 try() {
     local program=$1 what=$2 status=0
@@ -50,8 +53,11 @@ try() {
         exec timeout $((SECONDS_EACH + 600)) "$work/$program" "$work/server" "$work/yard/share" "${@:2}"
     ) > "$work/$program-$what" 2> "$work/$program-$what.errors" || status=$?
     cat "$work/$program-$what"
-    [ $status = 0 ] || failure "$program $what: it ended with $status: $(tail -n 3 "$work/$program-$what.errors")"
-    ! grep -E 'FAILED|panicked' "$work/$program-$what.errors" || failure "$program $what"
+    if grep -v -E "$otherwise" "$work/$program-$what.errors" | grep -E 'FAILED|panicked'; then
+        failure "$program $what"
+    elif [ $status != 0 ] && ! { [ $status = 1 ] && grep -q -E "$otherwise" "$work/$program-$what.errors"; }; then
+        failure "$program $what: it ended with $status: $(tail -n 3 "$work/$program-$what.errors")"
+    fi
     snapshot | cmp - "$work/yard.before" || failure "$program $what: a file outside the directory changed"
     echo "$program $what: done"
 }

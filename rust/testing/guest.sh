@@ -28,13 +28,13 @@ other() {
 take_module() {
     local file name
     ! grep -qx "$1" "$work/root/mod/order" || return 0
-    file=$(find "$root/usr/lib/modules" "$root/lib/modules" -name "$1.ko*" 2> "$work/none" | head -n 1)
+    file=$(find "$root" -path "*/lib/modules/*" -name "$1.ko*" -print -quit)
     [ -n "$file" ] || return 0 # it is a part of the kernel itself
     case $file in
-    *.xz) xz -dc "$file" > "$work/root/mod/$1.ko" ;;
+    *.xz) "$busybox" xz -dc "$file" > "$work/root/mod/$1.ko" ;;
     *) cp "$file" "$work/root/mod/$1.ko" ;;
     esac
-    for name in $(modinfo -F depends "$work/root/mod/$1.ko" | tr ',' ' '); do take_module "$name"; done
+    for name in $("$busybox" modinfo -F depends "$work/root/mod/$1.ko" | tr ',' ' '); do take_module "$name"; done
     echo "$1" >> "$work/root/mod/order"
 }
 
@@ -43,7 +43,7 @@ make_image() {
     rm -rf "$work/root"
     mkdir -p "$work"/root/{bin,dev,proc,sys,mnt,mod,tmp}
     : > "$work/root/mod/order"
-    cp "$root/usr/bin/busybox" "$work/root/bin/busybox" 2> "$work/none" || cp "$root/bin/busybox" "$work/root/bin/busybox"
+    cp "$busybox" "$work/root/bin/busybox"
     gcc -std=c11 -O2 -static -o "$work/root/bin/ask" "$example"/guest/{ask,calls}.c
     gcc -std=c11 -O2 -static -o "$work/root/bin/hold" "$here/testing/hold.c"
     cp "$example/guest/init" "$work/root/init"
@@ -51,7 +51,7 @@ make_image() {
     chmod 755 "$work/root/init"
     take_module virtio_pci
     take_module virtiofs
-    (cd "$work/root" && find . | cpio -o -H newc --quiet | gzip -1) > "$work/image"
+    (cd "$work/root" && find . | "$busybox" cpio -o -H newc 2> "$work/none" | gzip -1) > "$work/image"
 }
 
 # What is shared: files by chance, one of 64 MiB, a directory of 300, one within another, and links.
@@ -109,6 +109,7 @@ qemu() {
         -chardev "socket,id=fs,path=$socket" -kernel "$work/vmlinuz" -initrd "$work/image" \
         -append "console=ttyS0 quiet loglevel=3 panic=-1 rdinit=/init scenario=$scenario" "$@") > "$run/qemu" 2>&1
 }
+busybox=$root/usr/bin/busybox
 export root
 
 device() { echo "vhost-user-fs-pci,chardev=fs,tag=shared,queue-size=128,num-request-queues=${QUEUES:-1}${1:-}"; }

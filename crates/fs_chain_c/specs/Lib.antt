@@ -1,6 +1,6 @@
 pub mod Asking
-pub mod Handles
 pub mod Calls
+pub mod Handles
 pub mod Listing
 pub mod Memory
 pub mod Numbers

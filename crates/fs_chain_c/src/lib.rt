@@ -17,6 +17,7 @@ mod parts;
 mod queue;
 mod ranges;
 mod record;
+mod record_place;
 mod replies;
 mod returning;
 mod saved_bytes;

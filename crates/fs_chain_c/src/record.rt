@@ -9,11 +9,12 @@ ghost use Rattle.fs_chain_c.specs.Records.{HasNoneOut, Restores, Saves, SavesSo,
 
 use crate::device::FsDevice;
 use crate::queue::FsQueue;
+use crate::record_place::record_of;
 use crate::saved_bytes::SavedBytes;
 use bitflags::Flags;
 use fs_chain::ChainError;
 use fs_queue::Queue;
-use fs_record::{Stream, restore_record, save_record};
+use fs_record::restore_record;
 use fuse_base::FsOptions;
 use memory_requests::list_with_room;
 use std::alloc::Global;
@@ -113,16 +114,13 @@ fn save(
         Ok(queues) => queues,
         Err(error) => return (0, Some(error)),
     };
-    let mut sink = Stream::new(Vec::new(alloc));
-    if save_record(&mut sink, options, &queues, device.page_size, device.limit).is_err() {
-        return (0, Some(ChainError::OutOfMemory));
-    }
-    let bytes = sink.into_inner();
+    let record = record_of(options, &queues, device.page_size, device.limit);
+    let bytes = record.bytes.as_slice();
     let len = bytes.len();
     if len > buffer.len() {
         return (len, Some(ChainError::ShortBuffer));
     }
-    buffer[..len].copy_from_slice(&bytes);
+    buffer[..len].copy_from_slice(bytes);
     (len, None)
 }
 

@@ -57,7 +57,7 @@ impl<F: Served> FrontEnd<F> {
 
     fn set_memory(&self, table: io::Result<Table>) -> Result<()> {
         let table = table.map_err(told)?;
-        table.set_log(self.active_log()).map_err(told)?;
+        table.set_log(self.active_log());
         self.core.set_memory(table);
         Ok(())
     }
@@ -111,7 +111,8 @@ impl<F: Served> VhostUserBackendReqHandlerMut for FrontEnd<F> {
             self.migration.cancel();
             self.log = None;
         }
-        self.core.memory().set_log(self.active_log()).map_err(told)
+        self.core.memory().set_log(self.active_log());
+        Ok(())
     }
 
     fn set_mem_table(&mut self, regions: &[VhostUserMemoryRegion], files: Vec<File>) -> Result<()> {
@@ -269,6 +270,7 @@ impl<F: Served> VhostUserBackendReqHandlerMut for FrontEnd<F> {
         })?;
         self.log = Some(Arc::new(log));
         info!("pages are logged");
-        self.core.memory().set_log(self.active_log()).map_err(|_| Error::InvalidParam)
+        self.core.memory().set_log(self.active_log());
+        Ok(())
     }
 }

@@ -25,15 +25,11 @@ impl Log {
         Ok(Log { map })
     }
 
-    /// Whether it has a bit for each page of `len` bytes from a guest address on.
-    pub fn covers(&self, guest: u64, len: u64) -> bool {
-        guest.checked_add(len).is_some_and(|end| end.div_ceil(PAGE).div_ceil(8) <= self.map.size() as u64)
-    }
-
     fn mark(&self, first: u64, last: u64) {
-        for page in first / PAGE..=last / PAGE {
-            // A region is logged only if the log covers it, so there is such a byte.
-            if let Ok(byte) = self.map.as_volatile_slice().get_atomic_ref::<AtomicU8>((page / 8) as usize) {
+        let bits = self.map.as_volatile_slice();
+        let pages = 8 * self.map.size() as u64;
+        for page in first / PAGE..(last / PAGE + 1).min(pages) {
+            if let Ok(byte) = bits.get_atomic_ref::<AtomicU8>((page / 8) as usize) {
                 byte.fetch_or(1 << (page % 8), Ordering::Relaxed);
             }
         }
@@ -155,10 +151,14 @@ mod tests {
     }
 
     #[test]
-    fn covers_what_it_has_bits_for() {
-        let (_, log) = log(4096);
-        assert!(log.covers(0, 4096 * 8 * 4096));
-        assert!(!log.covers(1, 4096 * 8 * 4096));
-        assert!(!log.covers(u64::MAX, 1));
+    fn what_the_log_has_no_bits_for_is_not_marked() {
+        let (file, log) = log(4096);
+        let marks = Marks::default();
+        marks.set(Some(log.clone()), 8 * 4096 * 4096 - 4096);
+        marks.mark_dirty(0, 0x100000);
+        assert_eq!(bytes(&file, 4096)[4094..], [0, 0x80]);
+        marks.set(Some(log), u64::MAX - 0xfff);
+        marks.mark_dirty(0xfff, 1);
+        marks.mark_dirty(usize::MAX, usize::MAX);
     }
 }

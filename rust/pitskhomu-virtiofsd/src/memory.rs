@@ -86,16 +86,11 @@ impl Table {
             .ok_or_else(|| invalid("an address outside the memory"))
     }
 
-    /// Marks what is written in a log, or in none any more.
-    pub fn set_log(&self, log: Option<&Arc<Log>>) -> io::Result<()> {
-        let is_covered = |log: &Arc<Log>| self.places.iter().all(|place| log.covers(place.guest, place.len));
-        if !log.is_none_or(is_covered) {
-            return Err(invalid("a log that is shorter than the memory"));
-        }
+    /// Marks what is written in a log, or in none any more. Pages that a log has no bits for aren't marked.
+    pub fn set_log(&self, log: Option<&Arc<Log>>) {
         for region in self.guest.iter() {
             region.bitmap().set(log.cloned(), region.start_addr().raw_value());
         }
-        Ok(())
     }
 
     /// The regions as the library takes them.
