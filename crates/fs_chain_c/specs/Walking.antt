@@ -51,7 +51,7 @@ AreOthers b len = HasNoPlace b.workbench (came b) ⊎ ((v : Window) × IsLoadWin
 abbrev pub whole : Held → List ℕ → List ℕ
 whole b loaded = if load_len b.workbench.state == 0 then loaded else b.part.items ++ loaded
 
--- what these bytes come to: a part of a load, or the walk goes on, if nothing is wrong with it
+-- what these bytes come to: a part of a load, or the walk goes on, if nothing is wrong with it; the session stays
 abbrev pub GoesSo : (before : Held) → (q : KeptQueue) → (loaded : List ℕ) → went.Went → (after : Held) → (q' : KeptQueue) → Type 0
 GoesSo b q loaded goes.Part b' q' =
     AreWanted b (length loaded) × (came b + length loaded < load_len b.workbench.state) × (walk_error b.workbench.state q (load_len b.workbench.state) ≡ None)

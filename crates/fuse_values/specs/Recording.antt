@@ -1,5 +1,6 @@
 -- What a file system writes down that is told of a call.
 use Rattle.std.specs.Prelude.{◌≡◌, Bool, true, false, [], if◌then◌else◌}
+use Rattle.memory_requests.specs.Refused.{MemoryWasRefused}
 use Rattle.fuse_fs.specs.Calls.{FileCall, FileAnswer, Failed, Done, never_fails, Lookup, Symlink, Mknod, Mkdir, Unlink, Rmdir, Rename, Link, Setxattr}
 use Rattle.fuse_fs.specs.Calls.{Getxattr, Removexattr, Create, Read, Write}
 use Rattle.fuse_values.specs.declared.recorder.Recorded.{Recorded}
@@ -33,7 +34,7 @@ is_transfer _ = false
 abbrev pub Records : FileCall → Recorded → Type 0
 Records call recorded.Nothing = ⊥
 Records call (recorded.Call made) = call_of [] made ≡ call
-Records call recorded.OutOfMemory = has_name call ≡ true
+Records call recorded.OutOfMemory = (has_name call ≡ true) × MemoryWasRefused
 Records call recorded.Transfer = is_transfer call ≡ true
 
 -- EIO (errno.h, 5), or that it is done where the call can't fail

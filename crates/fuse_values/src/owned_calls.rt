@@ -1,6 +1,7 @@
 //! Calls that own their names and values.
 
-ghost use Rattle.std.specs.Prelude.{◌≡◌, [], IfOk};
+ghost use Rattle.std.specs.Prelude.{◌≡◌, ◌⊎◌, [], length, IfOk, OnErr};
+ghost use Rattle.memory_requests.specs.Refused.{MemoryWasRefused, RoomWasRefused};
 ghost use Rattle.fuse_fs.specs.Answers.{extra_of};
 ghost use Rattle.fuse_fs.specs.Calls as call;
 ghost use Rattle.fuse_values.specs.Values.{call_of};
@@ -8,25 +9,30 @@ ghost use Rattle.fuse_values.specs.Values.{call_of};
 use crate::call::FileCall;
 use fuse_base::SetxattrFlags;
 use fuse_fs::{Context, Extensions};
+use memory_requests::list_with_room;
 use std::alloc::{AllocError, Global};
 
 // The same bytes in memory of their own.
 fn owned(alloc: Global, bytes: &[u8]) -> Result<Vec<u8>, AllocError>
-    ensures { IfOk result (λ copy. copy.items ≡ bytes.now) }
+    ensures copy { IfOk result (λ copy. copy.items ≡ bytes.now) }
+    ensures asked { OnErr result (RoomWasRefused (length bytes.now)) }
+    ensures refused { OnErr result MemoryWasRefused }
 {
-    let mut copy = Vec::with_capacity(alloc, bytes.len())?;
+    let mut copy = list_with_room(alloc, bytes.len())?;
     copy.extend_from_slice(bytes).unwrap();
     Ok(copy)
 }
 
-/// A call of `lookup` in memory of its own; AllocError if an allocation fails.
+/// A call of `lookup` in memory of its own; AllocError only if the allocator refuses that.
 pub(crate) fn lookup_call(
     alloc: Global,
     context: Context,
     node: u64,
     name: &[u8],
 ) -> Result<FileCall, AllocError>
-    ensures { IfOk result (λ made. call_of [] made ≡ call.Lookup context node name.now) }
+    ensures made { IfOk result (λ made. call_of [] made ≡ call.Lookup context node name.now) }
+    ensures asked { OnErr result (RoomWasRefused (length name.now)) }
+    ensures refused { OnErr result MemoryWasRefused }
 {
     let name = owned(alloc, name)?;
     Ok(FileCall::Lookup {
@@ -36,7 +42,7 @@ pub(crate) fn lookup_call(
     })
 }
 
-/// A call of `symlink` in memory of its own; AllocError if an allocation fails.
+/// A call of `symlink` in memory of its own; AllocError only if the allocator refuses that.
 pub(crate) fn symlink_call(
     alloc: Global,
     context: Context,
@@ -45,7 +51,9 @@ pub(crate) fn symlink_call(
     name: &[u8],
     extra: Extensions,
 ) -> Result<FileCall, AllocError>
-    ensures { IfOk result (λ made. call_of [] made ≡ call.Symlink context link.now node name.now (extra_of extra)) }
+    ensures made { IfOk result (λ made. call_of [] made ≡ call.Symlink context link.now node name.now (extra_of extra)) }
+    ensures asked { OnErr result (RoomWasRefused (length link.now) ⊎ RoomWasRefused (length name.now)) }
+    ensures refused { OnErr result MemoryWasRefused }
 {
     let link = owned(alloc, link)?;
     let name = owned(alloc, name)?;
@@ -58,7 +66,7 @@ pub(crate) fn symlink_call(
     })
 }
 
-/// A call of `mknod` in memory of its own; AllocError if an allocation fails.
+/// A call of `mknod` in memory of its own; AllocError only if the allocator refuses that.
 pub(crate) fn mknod_call(
     alloc: Global,
     context: Context,
@@ -69,7 +77,9 @@ pub(crate) fn mknod_call(
     umask: u32,
     extra: Extensions,
 ) -> Result<FileCall, AllocError>
-    ensures { IfOk result (λ made. call_of [] made ≡ call.Mknod context node name.now mode rdev umask (extra_of extra)) }
+    ensures made { IfOk result (λ made. call_of [] made ≡ call.Mknod context node name.now mode rdev umask (extra_of extra)) }
+    ensures asked { OnErr result (RoomWasRefused (length name.now)) }
+    ensures refused { OnErr result MemoryWasRefused }
 {
     let name = owned(alloc, name)?;
     Ok(FileCall::Mknod {
@@ -83,7 +93,7 @@ pub(crate) fn mknod_call(
     })
 }
 
-/// A call of `mkdir` in memory of its own; AllocError if an allocation fails.
+/// A call of `mkdir` in memory of its own; AllocError only if the allocator refuses that.
 pub(crate) fn mkdir_call(
     alloc: Global,
     context: Context,
@@ -93,7 +103,9 @@ pub(crate) fn mkdir_call(
     umask: u32,
     extra: Extensions,
 ) -> Result<FileCall, AllocError>
-    ensures { IfOk result (λ made. call_of [] made ≡ call.Mkdir context node name.now mode umask (extra_of extra)) }
+    ensures made { IfOk result (λ made. call_of [] made ≡ call.Mkdir context node name.now mode umask (extra_of extra)) }
+    ensures asked { OnErr result (RoomWasRefused (length name.now)) }
+    ensures refused { OnErr result MemoryWasRefused }
 {
     let name = owned(alloc, name)?;
     Ok(FileCall::Mkdir {
@@ -106,14 +118,16 @@ pub(crate) fn mkdir_call(
     })
 }
 
-/// A call of `unlink` in memory of its own; AllocError if an allocation fails.
+/// A call of `unlink` in memory of its own; AllocError only if the allocator refuses that.
 pub(crate) fn unlink_call(
     alloc: Global,
     context: Context,
     node: u64,
     name: &[u8],
 ) -> Result<FileCall, AllocError>
-    ensures { IfOk result (λ made. call_of [] made ≡ call.Unlink context node name.now) }
+    ensures made { IfOk result (λ made. call_of [] made ≡ call.Unlink context node name.now) }
+    ensures asked { OnErr result (RoomWasRefused (length name.now)) }
+    ensures refused { OnErr result MemoryWasRefused }
 {
     let name = owned(alloc, name)?;
     Ok(FileCall::Unlink {
@@ -123,14 +137,16 @@ pub(crate) fn unlink_call(
     })
 }
 
-/// A call of `rmdir` in memory of its own; AllocError if an allocation fails.
+/// A call of `rmdir` in memory of its own; AllocError only if the allocator refuses that.
 pub(crate) fn rmdir_call(
     alloc: Global,
     context: Context,
     node: u64,
     name: &[u8],
 ) -> Result<FileCall, AllocError>
-    ensures { IfOk result (λ made. call_of [] made ≡ call.Rmdir context node name.now) }
+    ensures made { IfOk result (λ made. call_of [] made ≡ call.Rmdir context node name.now) }
+    ensures asked { OnErr result (RoomWasRefused (length name.now)) }
+    ensures refused { OnErr result MemoryWasRefused }
 {
     let name = owned(alloc, name)?;
     Ok(FileCall::Rmdir {
@@ -140,7 +156,7 @@ pub(crate) fn rmdir_call(
     })
 }
 
-/// A call of `rename` in memory of its own; AllocError if an allocation fails.
+/// A call of `rename` in memory of its own; AllocError only if the allocator refuses that.
 pub(crate) fn rename_call(
     alloc: Global,
     context: Context,
@@ -150,7 +166,9 @@ pub(crate) fn rename_call(
     new: &[u8],
     flags: u32,
 ) -> Result<FileCall, AllocError>
-    ensures { IfOk result (λ made. call_of [] made ≡ call.Rename context node old.now new_dir new.now flags) }
+    ensures made { IfOk result (λ made. call_of [] made ≡ call.Rename context node old.now new_dir new.now flags) }
+    ensures asked { OnErr result (RoomWasRefused (length old.now) ⊎ RoomWasRefused (length new.now)) }
+    ensures refused { OnErr result MemoryWasRefused }
 {
     let old = owned(alloc, old)?;
     let new = owned(alloc, new)?;
@@ -164,7 +182,7 @@ pub(crate) fn rename_call(
     })
 }
 
-/// A call of `link` in memory of its own; AllocError if an allocation fails.
+/// A call of `link` in memory of its own; AllocError only if the allocator refuses that.
 pub(crate) fn link_call(
     alloc: Global,
     context: Context,
@@ -172,7 +190,9 @@ pub(crate) fn link_call(
     node: u64,
     name: &[u8],
 ) -> Result<FileCall, AllocError>
-    ensures { IfOk result (λ made. call_of [] made ≡ call.Link context old_node node name.now) }
+    ensures made { IfOk result (λ made. call_of [] made ≡ call.Link context old_node node name.now) }
+    ensures asked { OnErr result (RoomWasRefused (length name.now)) }
+    ensures refused { OnErr result MemoryWasRefused }
 {
     let name = owned(alloc, name)?;
     Ok(FileCall::Link {
@@ -183,7 +203,7 @@ pub(crate) fn link_call(
     })
 }
 
-/// A call of `setxattr` in memory of its own; AllocError if an allocation fails.
+/// A call of `setxattr` in memory of its own; AllocError only if the allocator refuses that.
 pub(crate) fn setxattr_call(
     alloc: Global,
     context: Context,
@@ -193,7 +213,9 @@ pub(crate) fn setxattr_call(
     flags: u32,
     extra: SetxattrFlags,
 ) -> Result<FileCall, AllocError>
-    ensures { IfOk result (λ made. call_of [] made ≡ call.Setxattr context node name.now value.now flags extra.0) }
+    ensures made { IfOk result (λ made. call_of [] made ≡ call.Setxattr context node name.now value.now flags extra.0) }
+    ensures asked { OnErr result (RoomWasRefused (length name.now) ⊎ RoomWasRefused (length value.now)) }
+    ensures refused { OnErr result MemoryWasRefused }
 {
     let name = owned(alloc, name)?;
     let value = owned(alloc, value)?;
@@ -207,7 +229,7 @@ pub(crate) fn setxattr_call(
     })
 }
 
-/// A call of `getxattr` in memory of its own; AllocError if an allocation fails.
+/// A call of `getxattr` in memory of its own; AllocError only if the allocator refuses that.
 pub(crate) fn getxattr_call(
     alloc: Global,
     context: Context,
@@ -215,7 +237,9 @@ pub(crate) fn getxattr_call(
     name: &[u8],
     size: u32,
 ) -> Result<FileCall, AllocError>
-    ensures { IfOk result (λ made. call_of [] made ≡ call.Getxattr context node name.now size) }
+    ensures made { IfOk result (λ made. call_of [] made ≡ call.Getxattr context node name.now size) }
+    ensures asked { OnErr result (RoomWasRefused (length name.now)) }
+    ensures refused { OnErr result MemoryWasRefused }
 {
     let name = owned(alloc, name)?;
     Ok(FileCall::Getxattr {
@@ -226,14 +250,16 @@ pub(crate) fn getxattr_call(
     })
 }
 
-/// A call of `removexattr` in memory of its own; AllocError if an allocation fails.
+/// A call of `removexattr` in memory of its own; AllocError only if the allocator refuses that.
 pub(crate) fn removexattr_call(
     alloc: Global,
     context: Context,
     node: u64,
     name: &[u8],
 ) -> Result<FileCall, AllocError>
-    ensures { IfOk result (λ made. call_of [] made ≡ call.Removexattr context node name.now) }
+    ensures made { IfOk result (λ made. call_of [] made ≡ call.Removexattr context node name.now) }
+    ensures asked { OnErr result (RoomWasRefused (length name.now)) }
+    ensures refused { OnErr result MemoryWasRefused }
 {
     let name = owned(alloc, name)?;
     Ok(FileCall::Removexattr {
@@ -243,7 +269,7 @@ pub(crate) fn removexattr_call(
     })
 }
 
-/// A call of `create` in memory of its own; AllocError if an allocation fails.
+/// A call of `create` in memory of its own; AllocError only if the allocator refuses that.
 pub(crate) fn create_call(
     alloc: Global,
     context: Context,
@@ -255,7 +281,9 @@ pub(crate) fn create_call(
     umask: u32,
     extra: Extensions,
 ) -> Result<FileCall, AllocError>
-    ensures { IfOk result (λ made. call_of [] made ≡ call.Create context node name.now mode kill flags umask (extra_of extra)) }
+    ensures made { IfOk result (λ made. call_of [] made ≡ call.Create context node name.now mode kill flags umask (extra_of extra)) }
+    ensures asked { OnErr result (RoomWasRefused (length name.now)) }
+    ensures refused { OnErr result MemoryWasRefused }
 {
     let name = owned(alloc, name)?;
     Ok(FileCall::Create {

@@ -1,6 +1,7 @@
 //! A file system that writes down the call that it is asked.
 
-ghost use Rattle.std.specs.Prelude.{◌≡◌, [], true, IfOk, option_map};
+ghost use Rattle.std.specs.Prelude.{◌≡◌, [], true, IfOk, OnErr, option_map};
+ghost use Rattle.memory_requests.specs.Refused.{MemoryWasRefused};
 ghost use Rattle.fuse_fs.specs.Answers.{attr_answer, pair_numbers};
 ghost use Rattle.fuse_fs.specs.Calls as call;
 ghost use Rattle.fuse_values.specs.Values.{call_of};
@@ -26,7 +27,7 @@ pub enum Recorded {
     Nothing,
     /// The call that came last.
     Call(FileCall),
-    /// A call came whose names have no memory.
+    /// A call came to whose names the allocator refused memory.
     OutOfMemory,
     /// A READ or a WRITE came, whose data a value doesn't hold.
     Transfer,
@@ -59,9 +60,9 @@ impl Recorder {
         told
     }
 
-    // Writes down a call that has names, or that they have no memory.
+    // Writes down a call that has names, or that the allocator refused them memory.
     fn note(&mut self, made: Result<FileCall, AllocError>)
-        ensures { (asked : call.FileCall) → has_name asked ≡ true → IfOk made (λ c. call_of [] c ≡ asked) → Records asked self.new.told }
+        ensures { (asked : call.FileCall) → has_name asked ≡ true → IfOk made (λ c. call_of [] c ≡ asked) → OnErr made MemoryWasRefused → Records asked self.new.told }
     {
         match made {
             Ok(call) => self.told = Recorded::Call(call),

@@ -95,16 +95,22 @@ or_right true b e = refl
 or_right false b e = e
 
 -- an allocation fails for what a call is handed
-pub wants_handed : (options room : ℕ) (request : List ℕ) (options_before free : ℕ) (v : ReaderView) (result : Result ℕ Error)
+pub takes_handed : (options room : ℕ) (request : List ℕ) (options_before free : ℕ) (v : ReaderView) (result : Result ℕ Error)
     → options_before ≡ options → free ≡ 80 → v.left ≡ request → v.segments ≡ filled (length request ∷ []) → v.read ≡ 0
-    → (may_take_memory options_before v free ≡ false → lacks_memory result ≡ false) → lacks_memory result ≡ true → may_want_memory options request room ≡ true
-wants_handed options room request options_before free v result a b l s n memory lacks =
+    → (may_take_memory options_before v free ≡ false → lacks_memory result ≡ false) → lacks_memory result ≡ true → may_take_memory options (in_one_piece request) room ≡ true
+takes_handed options room request options_before free v result a b l s n memory lacks =
     let whole : v ≡ in_one_piece request = same_view request v.left v.segments v.read l s n in
     let enough : may_take_memory options_before v free ≡ true =
     true_by (may_take_memory options_before v free) (λ none. let clash : true ≡ false = sym lacks ∙ memory none in absurd (cc)) in
     let here : may_take_memory options (in_one_piece request) 80 ≡ true =
     sym (ap (λ o. may_take_memory o v free) a ∙ ap (λ f. may_take_memory options v f) b ∙ ap (λ w. may_take_memory options w 80) whole) ∙ enough in
-    or_left _ _ (header_takes options room 80 (past 40 (in_one_piece request).segments) (reading_of in_header request) ∙ here)
+    header_takes options room 80 (past 40 (in_one_piece request).segments) (reading_of in_header request) ∙ here
+
+pub wants_handed : (options room : ℕ) (request : List ℕ) (options_before free : ℕ) (v : ReaderView) (result : Result ℕ Error)
+    → options_before ≡ options → free ≡ 80 → v.left ≡ request → v.segments ≡ filled (length request ∷ []) → v.read ≡ 0
+    → (may_take_memory options_before v free ≡ false → lacks_memory result ≡ false) → lacks_memory result ≡ true → may_want_memory options request room ≡ true
+wants_handed options room request options_before free v result a b l s n memory lacks =
+    or_left _ _ (takes_handed options room request options_before free v result a b l s n memory lacks)
 
 -- an allocation fails for the names of a call
 pub wants_names : (options room : ℕ) (request more : List ℕ) (h : InHeader) (command : FileCommand) → reading_of in_header request ≡ Ok (h, more)
