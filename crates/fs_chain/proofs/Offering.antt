@@ -1,5 +1,5 @@
 -- What a walk comes to is what the memory offers.
-use Rattle.std.proofs.Common.{◌≡◌, ◌<◌, ℕ, List, [], length, Some, None, sym, absurd, arith}
+use Rattle.std.proofs.Common.{◌≡◌, ◌<◌, ℕ, List, [], length, Some, None, sym, arith}
 use Rattle.vm_memory.specs.Memory.{Memory, memory_of}
 use Rattle.fs_queue.specs.Queue.{Queue}
 use Rattle.fs_regions.specs.declared.step.Step.TheVariants as step
