@@ -50,13 +50,13 @@ AreOthers b len = HasNoPlace b.workbench (came b) ⊎ ((v : Window) × IsLoadWin
 abbrev pub whole : Bench → List ℕ → List ℕ
 whole b loaded = if load_len b.workbench.state == 0 then loaded else b.part.items ++ loaded
 
--- what these bytes come to: a part of a load, or the walk goes on, if nothing is wrong with it
+-- what these bytes come to: a part of a load, or the walk goes on, if nothing is wrong with it; the session stays
 abbrev pub GoesSo : (before : Bench) → (q : KeptQueue) → (loaded : List ℕ) → went.Went → (after : Bench) → (q' : KeptQueue) → Type 0
 GoesSo b q loaded goes.Part b' q' =
     AreWanted b (length loaded) × (came b + length loaded < load_len b.workbench.state) × (walk_error b.workbench.state q (load_len b.workbench.state) ≡ None)
-    × (b'.workbench ≡ b.workbench) × (b'.part.items ≡ b.part.items ++ loaded) × (q' ≡ q)
+    × (b'.workbench ≡ b.workbench) × (b'.part.items ≡ b.part.items ++ loaded) × (b'.session ≡ b.session) × (q' ≡ q)
 GoesSo b q loaded (goes.Walked told) b' q' =
-    ((load_len b.workbench.state ≡ 0) ⊎ AreWanted b (length loaded)) × (b'.part.items ≡ [])
+    ((load_len b.workbench.state ≡ 0) ⊎ AreWanted b (length loaded)) × (b'.part.items ≡ []) × (b'.session ≡ b.session)
     × (walk_error b.workbench.state q (length (whole b loaded)) ≡ None) × WalksOn (whole b loaded) b.workbench b'.workbench q q' told
 
 -- nothing was done: regions, limit, place and descriptors are as they were, what came of a load, and the session
