@@ -95,7 +95,7 @@ extern "C" {
 #define FS_QUEUES_MAX 64u      /* queues in a record */
 #define FS_LOAD_MAX 4096u      /* no load of a walk is longer; today's have 2 or 16 bytes, or parts of these */
 #define FS_FIRST 80u           /* as much of a request is loaded first: header and record of the longest fixed one, WRITE's */
-#define FS_REQUEST_MAX 0x101000u /* the least limit: with it no request is loaded beyond; with a greater one, none beyond that (data of WRITE isn't loaded) */
+#define FS_REQUEST_MAX 0x101000u /* the least limit, in bytes of a request. With a greater limit a request may be as long as that; a WRITE's data isn't loaded */
 #define FS_FRONT_MAX 160u      /* no front of a reply is longer (CREATE's) */
 #define FS_HEADER 16u          /* the reply's header: data stands behind it in the room */
 
@@ -179,7 +179,7 @@ enum fs_call_kind {
     FS_CALL_LOOKUP = 1,       /* name */
     FS_CALL_FORGET = 2,       /* count: the guest holds node so many times less */
     FS_CALL_GETATTR = 3,      /* handle, if has_handle */
-    FS_CALL_SETATTR = 4,      /* valid (FATTR_ bits), attr, handle if has_handle, owner (with FATTR_LOCKOWNER) */
+    FS_CALL_SETATTR = 4,      /* valid (FATTR_ bits; FATTR_LOCKOWNER isn't told), attr, handle if has_handle, owner (0, or of whom a lock is) */
     FS_CALL_READLINK = 5,     /* data_len */
     FS_CALL_SYMLINK = 6,      /* name, value: what it leads to; group, if has_group: one of the caller's besides gid. So with MKNOD, MKDIR and
                                  CREATE. The label of a new node isn't told: don't want FUSE_SECURITY_CTX at INIT */
@@ -207,7 +207,7 @@ enum fs_call_kind {
     FS_CALL_FSYNCDIR = 30,    /* handle, data_only */
     FS_CALL_ACCESS = 34,      /* mode: R_OK, W_OK, X_OK */
     FS_CALL_CREATE = 35,      /* name, mode, flags, umask, kill_priv; group, if has_group */
-    FS_CALL_DESTROY = 38,     /* the session ends: set the device's options to 0 */
+    FS_CALL_DESTROY = 38,     /* the session ends: set the device's options to 0. It has no reply, whatever is answered */
     FS_CALL_BATCH_FORGET = 42, /* value: count pairs (fs_pair) */
     FS_CALL_FALLOCATE = 43,   /* handle, mode, offset, size */
     FS_CALL_READDIRPLUS = 44, /* handle, offset, size: fs_add_direntry_plus */
