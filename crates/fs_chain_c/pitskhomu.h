@@ -17,7 +17,7 @@
  * A request that it doesn't serve, or each one, by a FUSE server of yours, is replied with bytes of your own: fs_reply_bytes.
  *
  * WHO OWNS WHAT. `struct fs_device` and `struct fs_queue` are numbers: you keep them, copy them, read and set their fields, and
- * nothing of the library's hangs on them. `struct fs_chain` is the one handle: the workbench of a worker, zeros before its first
+ * nothing of the library's depends on them. `struct fs_chain` is the one handle: the workbench of a worker, zeros before its first
  * use; it holds memory of malloc's, is never copied, and is freed by fs_chain_free. No call keeps a pointer that it was given,
  * and none hands one out: names and values are places (`struct fs_span`) in the request's bytes that you loaded and keep.
  *
@@ -522,7 +522,8 @@ uint32_t fs_reply_entries(struct fs_chain *chain, uint64_t *len) FS_CHECK FS_NON
  * from 0 on, where you put them (fs_room_windows) or will have put them before the index is stored; 0 is silence, as after FORGET. In place of fs_ask,
  * for a request that the library doesn't serve: its opcode are the bytes 4 to 7 of the request, its number `unique` 8 to 15. So each chain of a queue may go
  * to a FUSE server of yours. Or in place of the answer that a call waits for; then the library has no part in what the guest is told: after LOOKUP and its
- * kin the node is held once more, after INIT device->options are yours to set.
+ * kin the node is held once more, after INIT device->options are yours to set; of a listing that was begun nothing is kept, and each node that
+ * fs_add_direntry_plus told and your bytes don't have is yours to forget. That the header's len is `len` isn't looked at.
  * fs_return tells no front then (front_len 0), and `len` in the used element (VIRTIO 1.2, 2.7.8). No memory is wanted.
  * Errors: FS_WRONG_ORDER (no chain is out, a faulty one, or it has a reply: it was answered, or fs_ask told FS_ANSWER_NONE), FS_LONG_REPLY (more than room_len
  * bytes of the step, or 2^32 and more); the chain waits still. */
@@ -532,7 +533,7 @@ uint32_t fs_reply_bytes(struct fs_chain *chain, uint64_t len) FS_CHECK FS_NONNUL
 
 /* What is to be stored and loaded for a return, in this order (VIRTIO 1.2, 2.7.8 and 2.7.7). All is little-endian. */
 struct fs_stores {
-    size_t front_len;           /* 1. so many bytes of `front` over the room from 0 on; data stands behind them. 0: no reply */
+    size_t front_len;           /* 1. so many bytes of `front` over the room from 0 on; data stands behind them. 0: no reply, or one of your own bytes */
     uintptr_t id_at, len_at;    /* 2. the used element: 4 bytes each */
     uint32_t id, len;
     uintptr_t index_at;         /* 3. the used index: 2 bytes, one store that releases */
