@@ -30,12 +30,7 @@ static uint64_t least(uint64_t a, uint64_t b) { return a < b ? a : b; }
 /* ------------------------------------------------------------- 1. the loads and stores that the library asks for
  * What it tells of the guest's memory are places of this process, since `host` of the region in main says so. */
 
-static uint64_t written; /* one bit for each page that this monitor stored to: a migration's log */
-
-static void mark(uintptr_t at, size_t len) {
-    size_t from = at - (uintptr_t)memory;
-    for (size_t page = from / PAGE; len > 0 && page <= (from + len - 1) / PAGE; page++) written |= (uint64_t)1 << page;
-}
+static void mark(uintptr_t at, size_t len); /* part 3: what was stored to, for a migration */
 
 static uint16_t load_two(uintptr_t at) { return atomic_load_explicit((_Atomic uint16_t *)at, memory_order_acquire); }
 
@@ -248,6 +243,21 @@ static uint32_t do_readdir(const struct fs_call *call) {
 
 /* ------------------------------------------------------------- 3. the monitor */
 
+/* A migration's log: whether this monitor stored to a page. */
+static bool written[MEMORY / PAGE];
+
+static void mark(uintptr_t at, size_t len) {
+    size_t from = at - (uintptr_t)memory;
+    for (size_t page = from / PAGE; page < MEMORY / PAGE && page * PAGE < from + len; page++) written[page] = true;
+}
+
+static void print_written(void) {
+    printf("The pages that were written:");
+    for (size_t page = 0; page < MEMORY / PAGE; page++)
+        if (written[page]) printf(" %zu", page);
+    printf("\n");
+}
+
 /* FS_DONE: answered. FS_NO_ROOM: the chain has no room for the reply, and goes back with none. Others: the call waits still. */
 static uint32_t answer(const struct fs_call *call) {
     uint64_t node, count;
@@ -353,7 +363,7 @@ int main(void) {
     expect(fs_chain_set_memory(&chain, &device, &region, 1), FS_DONE);
     guest_uses_a_file();
     guest_errs();
-    printf("The pages that were written: %#llx\n", (unsigned long long)written);
+    print_written();
     move();
     guest_removes_it();
     fs_chain_free(&chain);

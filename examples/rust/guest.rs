@@ -2,7 +2,7 @@
 //! copied, and stands still while it is served: so its memory is a plain list of bytes, where a monitor has mapped memory, whose
 //! `load_u16` and `store_u16` are atomic.
 use pitskhomu::{Device, FileSystem, GuestMemory, GuestRange, Queue, QueueLayout, Region, Status, Worker};
-use std::cell::{Cell, RefCell};
+use std::cell::RefCell;
 
 const PAGE: usize = 4096;
 const MEMORY: usize = 16 * PAGE;
@@ -15,8 +15,8 @@ const ROOM: usize = 8 * PAGE;
 
 struct Memory {
     bytes: RefCell<Vec<u8>>,
-    /// A migration's log: one bit for each page that was written.
-    written: Cell<u64>,
+    /// A migration's log: whether a page was written.
+    written: RefCell<[bool; MEMORY / PAGE]>,
 }
 
 impl GuestMemory for Memory {
@@ -43,9 +43,8 @@ impl GuestMemory for Memory {
     }
 
     fn mark(&self, written: GuestRange) {
-        for page in written.guest / PAGE as u64..=(written.guest + written.len.max(1) - 1) / PAGE as u64 {
-            self.written.set(self.written.get() | 1 << page);
-        }
+        let (from, end) = (written.guest as usize, (written.guest + written.len) as usize);
+        self.written.borrow_mut()[from / PAGE..(end + PAGE - 1) / PAGE].fill(true);
     }
 }
 
@@ -76,16 +75,17 @@ pub struct Guest<F> {
 
 impl<F: FileSystem> Guest<F> {
     pub fn new(files: F) -> Guest<F> {
-        let memory = Memory { bytes: RefCell::new(vec![0; MEMORY]), written: Cell::new(0) };
+        let memory = Memory { bytes: RefCell::new(vec![0; MEMORY]), written: RefCell::new([false; MEMORY / PAGE]) };
         let layout = QueueLayout { size: SIZE, descriptors: DESC as u64, available: AVAIL as u64, used: USED as u64 };
         let (device, mut worker) = (Device::default(), Worker::new());
         worker.set_memory(&device, &[Region { guest: 0, len: MEMORY as u64, host: 0 }]).expect("one region is taken");
         Guest { memory, offered: 0, worker, queue: Queue::new(layout, 0), device, files }
     }
 
-    /// One bit for each page that was written.
-    pub fn written(&self) -> u64 {
-        self.memory.written.get()
+    /// The numbers of the pages that were written.
+    pub fn written(&self) -> Vec<String> {
+        let written = self.memory.written.borrow();
+        (0..).zip(&*written).filter(|(_, is_written)| **is_written).map(|(page, _): (u32, _)| page.to_string()).collect()
     }
 
     fn draw(&self, index: u16, addr: usize, len: u32, flags: u16) {

@@ -12,7 +12,9 @@ use std::time::Duration;
 const O_TRUNC: u32 = 0o1000;
 const S_IFREG: u32 = 0o100_000;
 const S_IFDIR: u32 = 0o40_000;
+const FILES: usize = 8;
 const CONTENTS: u64 = 0x4000;
+const NAME_MOST: usize = 255;
 /// An opcode that no FUSE has, and this monitor serves.
 const CAPITALS: u32 = 0x1000;
 /// How long the headers of a request and a reply are (struct fuse_in_header, struct fuse_out_header).
@@ -27,11 +29,16 @@ struct File {
     name: Option<CString>,
     /// How often the guest was told the node, less what it forgot.
     held: u64,
+    generation: u64,
     attributes: Attributes,
     contents: Vec<u8>,
 }
 
 impl File {
+    fn lives(&self) -> bool {
+        self.name.is_some() || self.held > 0
+    }
+
     fn set_size(&mut self, size: u64) -> Answer<()> {
         if size > CONTENTS {
             return Err(Errno::EFBIG);
@@ -47,7 +54,7 @@ impl File {
         self.held += 1;
         Entry {
             node: Node(self.attributes.inode),
-            generation: 0,
+            generation: self.generation,
             attributes: self.attributes,
             attributes_timeout: GOOD_FOR,
             entry_timeout: GOOD_FOR,
@@ -55,26 +62,35 @@ impl File {
     }
 }
 
-/// All files stand in the root. File k is node k + 2, and no number comes twice.
+/// All files stand in the root. File k is node k + 2.
 #[derive(Default)]
-struct Files(Mutex<Vec<Option<File>>>);
+struct Places {
+    files: [Option<File>; FILES],
+    /// How many files were made: so no two have had one node and one generation.
+    made: u64,
+}
+
+#[derive(Default)]
+struct Files(Mutex<Places>);
 
 impl Files {
-    fn lock(&self) -> MutexGuard<'_, Vec<Option<File>>> {
+    fn lock(&self) -> MutexGuard<'_, Places> {
         self.0.lock().unwrap_or_else(|broken| broken.into_inner())
     }
 
     /// Does something with a node's file.
     fn with<T>(&self, node: Node, f: impl FnOnce(&mut File) -> Answer<T>) -> Answer<T> {
         let place = usize::try_from(node.0.wrapping_sub(2)).map_err(|_| Errno::ENOENT)?;
-        self.lock().get_mut(place).and_then(Option::as_mut).map_or(Err(Errno::ENOENT), f)
+        let mut places = self.lock();
+        let file = places.files.get_mut(place).and_then(Option::as_mut).filter(|file| file.lives());
+        file.map_or(Err(Errno::ENOENT), f)
     }
 
     /// Does something with the file of a name; names are the guest's bytes, and here they are just compared.
     fn named<T>(&self, parent: Node, name: &CStr, f: impl FnOnce(&mut File) -> T) -> Answer<T> {
-        let mut files = self.lock();
+        let mut places = self.lock();
         let mut found =
-            files.iter_mut().flatten().filter(|file| parent == Node::ROOT && file.name.as_deref() == Some(name));
+            places.files.iter_mut().flatten().filter(|file| parent == Node::ROOT && file.name.as_deref() == Some(name));
         found.next().map(f).ok_or(Errno::ENOENT)
     }
 }
@@ -98,7 +114,7 @@ impl FileSystem for Files {
     }
 
     fn init(&self, init: Init) -> Answer<Options> {
-        self.lock().iter_mut().flatten().for_each(|file| file.held = 0);
+        self.lock().files.iter_mut().flatten().for_each(|file| file.held = 0);
         Ok(init.capable & Options::DO_READDIRPLUS)
     }
 
@@ -107,14 +123,10 @@ impl FileSystem for Files {
     }
 
     fn forget(&self, node: Node, count: u64) {
-        for place in self.lock().iter_mut() {
-            if let Some(file) = place.as_mut().filter(|file| file.attributes.inode == node.0) {
-                file.held = file.held.saturating_sub(count);
-                if file.held == 0 && file.name.is_none() {
-                    *place = None;
-                }
-            }
-        }
+        let _ = self.with(node, |file| {
+            file.held = file.held.saturating_sub(count);
+            Ok(())
+        });
     }
 
     fn getattr(&self, _context: &Context, node: Node, _handle: Option<Handle>) -> Answer<(Attributes, Duration)> {
@@ -137,15 +149,21 @@ impl FileSystem for Files {
     }
 
     fn create(&self, context: &Context, name: Child<'_>, create: Create) -> Answer<(Entry, Opened)> {
-        let mut files = self.lock();
+        let mut places = self.lock();
         if name.parent != Node::ROOT {
             return Err(Errno::ENOTDIR);
         }
-        if files.iter().flatten().any(|file| file.name.as_deref() == Some(name.name)) {
+        if name.name.to_bytes().len() > NAME_MOST {
+            return Err(Errno::ENAMETOOLONG);
+        }
+        if places.files.iter().flatten().any(|file| file.name.as_deref() == Some(name.name)) {
             return Err(Errno::EEXIST);
         }
+        let is_free = |file: &Option<File>| !file.as_ref().map_or(false, File::lives);
+        let place = places.files.iter().position(is_free).ok_or(Errno::ENOSPC)?;
+        places.made += 1;
         let attributes = Attributes {
-            inode: files.len() as u64 + 2,
+            inode: place as u64 + 2,
             mode: S_IFREG | (create.mode & !create.umask & 0o7777),
             links: 1,
             uid: context.uid,
@@ -153,9 +171,10 @@ impl FileSystem for Files {
             block_size: 4096,
             ..Attributes::default()
         };
-        let mut file = File { name: Some(name.name.into()), held: 0, attributes, contents: Vec::new() };
+        let contents = Vec::new();
+        let mut file = File { name: Some(name.name.into()), held: 0, generation: places.made, attributes, contents };
         let entry = file.entry();
-        files.push(Some(file));
+        places.files[place] = Some(file);
         Ok((entry, Opened::default()))
     }
 
@@ -189,7 +208,8 @@ impl FileSystem for Files {
     }
 
     fn readdir(&self, _context: &Context, _node: Node, read: ReadDirectory, list: &mut Listing<'_>) -> Answer<()> {
-        let names: Vec<_> = self.lock().iter().map(|file| file.as_ref().and_then(|file| file.name.clone())).collect();
+        let name_of = |file: &Option<File>| file.as_ref().and_then(|file| file.name.clone());
+        let names: Vec<_> = self.lock().files.iter().map(name_of).collect();
         let named = (0..).zip(&names).skip(read.offset as usize).filter_map(|(k, name)| Some((k, name.as_ref()?)));
         for (k, name) in named {
             // With READDIRPLUS it looks the name up by itself.
@@ -205,7 +225,7 @@ fn main() {
     let mut guest = Guest::new(Files::default());
     guest.uses_a_file();
     guest.errs();
-    println!("The pages that were written: {:#x}", guest.written());
+    println!("The pages that were written: {}", guest.written().join(" "));
     guest.moves();
     guest.removes_it();
 }

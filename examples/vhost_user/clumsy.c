@@ -19,6 +19,8 @@ struct bench {
     struct fs_region regions[REGIONS];
     size_t region_count, have;
     uint64_t request_len, room_len; /* of the chain that is out */
+    bool replied;                   /* it has a reply of the author's own bytes, */
+    uint64_t replied_len;           /* so many of them */
     struct fs_step step;
     struct fs_call call;
     uint8_t *request;
@@ -28,7 +30,7 @@ static uint8_t *memory;
 static struct bench benches[CHAINS];
 static struct fs_queue queues[QUEUES];
 static struct fs_device device = FS_DEVICE;
-static uint64_t calls, taken, asked, returned;
+static uint64_t calls, taken, asked, replied, returned;
 
 static _Noreturn void wrong(const char *what, uint64_t number) {
     fprintf(stderr, "FAILED: %s (%llu) after %llu calls\n", what, (unsigned long long)number,
@@ -187,6 +189,7 @@ static uint32_t do_walk(struct bench *b, struct fs_queue *queue) {
     if (status != FS_DONE) return status;
     taken++;
     b->have = 0;
+    b->replied = false;
     b->request_len = b->step.request_len;
     b->room_len = b->step.room_len;
     return status;
@@ -318,6 +321,26 @@ static void do_reply(struct bench *b) {
     }
 }
 
+/* A reply of the author's own bytes: in place of fs_ask or of an answer, behind one, or of a chain that isn't out. */
+static void do_bytes(struct bench *b) {
+    uint64_t room = b->room_len, none;
+    uint64_t len = ONE_OF(0, FS_HEADER, below(room + 1), room, room + 1, room + below(100), UINT32_MAX, chance());
+    uint32_t status = named(fs_reply_bytes(&b->chain, len));
+    if (status == FS_LONG_REPLY ? len <= room : status != FS_DONE && status != FS_WRONG_ORDER)
+        wrong("bytes are refused otherwise", status);
+    if (status != FS_DONE) return;
+    if (len > room) wrong("bytes are longer than the room", len);
+    if (b->replied) wrong("bytes are taken twice", len);
+    b->replied = true;
+    b->replied_len = len;
+    replied++;
+    memset(buffer, 'b', BUFFER);
+    scatter(&b->chain, 0, buffer, len < BUFFER ? (size_t)len : BUFFER);
+    if (named(fs_reply_bytes(&b->chain, 0)) != FS_WRONG_ORDER || named(fs_reply_err(&b->chain, 0)) != FS_WRONG_ORDER ||
+        named(fs_reply_entries(&b->chain, &none)) != FS_WRONG_ORDER)
+        wrong("a chain has two replies", len);
+}
+
 static void check_stores(const struct bench *b, const struct fs_queue *queue, const struct fs_stores *stores) {
     uint64_t element = queue->used + 4 + 8 * (uint64_t)(queue->position & (queue->size - 1u));
     if (!is_told(b, stores->id_at, 4) || !is_told(b, stores->len_at, 4) || !is_told(b, stores->index_at, 2) ||
@@ -327,6 +350,7 @@ static void check_stores(const struct bench *b, const struct fs_queue *queue, co
     if (stores->index != (uint16_t)(queue->position + 1)) wrong("another index", stores->index);
     if (stores->front_len > stores->len || stores->len > b->room_len)
         wrong("the reply is longer than the room", stores->len);
+    if (b->replied && (stores->front_len || stores->len != b->replied_len)) wrong("other bytes go back", stores->len);
 }
 
 static void do_return(struct bench *b, struct fs_queue *queue) {
@@ -388,12 +412,16 @@ static void stumble(void) {
     case 7: do_ask(b); break;
     case 8: do_return(b, queue); break;
     case 9: do_move(); break;
+    case 10: do_bytes(b); break;
     default:
         walk_on(b, queue);
+        if (below(12) == 0) do_bytes(b);
         for (int k = 0; k < 3; k++) do_ask(b);
         if (below(8) == 0) do_windows(b);
+        if (below(12) == 0) do_bytes(b);
         do_reply(b);
         do_reply(b);
+        if (below(12) == 0) do_bytes(b);
         do_return(b, queue);
     }
 }
@@ -411,7 +439,8 @@ int main(int argc, char **argv) {
     while (calls % 1024 > 40 || time(NULL) < end) stumble();
     for (size_t k = 0; k < CHAINS; k++) fs_chain_free(&benches[k].chain), free(benches[k].request);
     free(memory);
-    printf("clumsy author: %llu calls, %llu chains taken, %llu asked, %llu returned\n", (unsigned long long)calls,
-           (unsigned long long)taken, (unsigned long long)asked, (unsigned long long)returned);
+    printf("clumsy author: %llu calls, %llu chains taken, %llu asked, %llu replied with bytes, %llu returned\n",
+           (unsigned long long)calls, (unsigned long long)taken, (unsigned long long)asked, (unsigned long long)replied,
+           (unsigned long long)returned);
     return 0;
 }
