@@ -1,6 +1,7 @@
 //! A workbench is told its memory.
 
 ghost use Rattle.std.specs.Prelude.{◌≡◌, ◌⊎◌, IfOk, IfErr, OnErr, OnOk, option_map};
+ghost use Rattle.memory_requests.specs.Refused.{MemoryWasRefused};
 ghost use Rattle.fs_chain.specs.declared.error.ChainError.TheVariants.{OutOfMemory};
 ghost use Rattle.fs_chain_c.specs.Handles.{GoesOver, IsNewHeld, MakesHeld, RefusesMemory, RefusesNew, SetsHeld};
 
@@ -15,6 +16,7 @@ use std::alloc::Global;
 fn new_held(alloc: Global) -> Result<Held, ChainError>
     ensures ok { IfOk result IsNewHeld }
     ensures err { IfErr result (λ e. e ≡ OutOfMemory) }
+    ensures refused { OnErr result MemoryWasRefused }
 {
     match Workbench::new(alloc) {
         Ok(workbench) => Ok(Held {

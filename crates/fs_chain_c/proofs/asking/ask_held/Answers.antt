@@ -17,7 +17,7 @@ returns-in-Err c =
       c.resume-session.result,
       search rules,
       c.in-Err.error,
-      record { why = search rules; memory = λ wants. c.ask.ensures.memory (c.in-Err.is ∙ ap Err wants); stays = search rules },
+      record { why = search rules; memory = λ wants. c.ask.ensures.memory (c.in-Err.is ∙ ap Err wants); refused = λ wants. c.ask.ensures.refused (c.in-Err.is ∙ ap Err wants); stays = search rules },
       search rules,
       search rules,
       search rules,
