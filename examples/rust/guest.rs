@@ -85,7 +85,7 @@ impl<F: FileSystem> Guest<F> {
     /// The numbers of the pages that were written.
     pub fn written(&self) -> Vec<String> {
         let written = self.memory.written.borrow();
-        (0..).zip(&*written).filter(|(_, is_written)| **is_written).map(|(page, _): (u32, _)| page.to_string()).collect()
+        (0..written.len()).filter(|page| written[*page]).map(|page| page.to_string()).collect()
     }
 
     fn draw(&self, index: u16, addr: usize, len: u32, flags: u16) {

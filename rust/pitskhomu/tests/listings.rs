@@ -134,11 +134,13 @@ fn names_that_no_directory_has() {
             list.add(entry).map(|_| ())
         }
     }
+    static LONG: [u8; 257] = {
+        let mut long = [b'x'; 257];
+        long[256] = 0;
+        long
+    };
     let mut guest = Guest::new();
-    let mut long = [b'x'; 257];
-    long[256] = 0;
-    let long: &'static [u8] = Box::leak(Box::new(long));
-    for name in [c(b"\0"), c(long)] {
+    for name in [c(b"\0"), c(&LONG)] {
         assert_eq!(guest.ask(&Long(name), READDIR, 5, read(4096), 16 + 4096), Reply::Error(36));
     }
 }
