@@ -5,8 +5,7 @@ use Rattle.vm_memory.specs.Layout.{Region}
 use Rattle.vm_memory.specs.Memory.{memory_of}
 use Rattle.fs_queue.specs.Chain.{Descriptor}
 use Rattle.fs_queue.specs.Queue.{Queue}
-use Rattle.fs_queue.specs.Taking.{readable, writable, total_len, offer, Offer, Idle, Refuses, Offers, CannotFetch, IsRequest}
-use Rattle.fs_queue.specs.Windows.{addresses_of}
+use Rattle.fs_queue.specs.Taking.{readable, writable, total_len, offer, Offer, Idle, Refuses, Offers, CannotFetch, IsRequest, addresses_of}
 use Rattle.fs_regions.specs.declared.step.Step as comes
 use Rattle.fs_regions.specs.declared.step.Step.TheVariants as step
 use Rattle.fs_regions.specs.Laws.{HasLoaded}

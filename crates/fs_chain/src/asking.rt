@@ -1,7 +1,6 @@
 //! What a chain's request asks.
 
 ghost use Rattle.std.specs.Prelude.{◌≡◌, ◌⊎◌, ℕ, List, Ok, Err, Some, None, true, false, IfErr, IfOk, OnOk, OnErr, drop, length, if◌then◌else◌};
-ghost use Rattle.memory_requests.specs.Refused.{MemoryWasRefused};
 ghost use Rattle.fuse_fs.specs.Answers.{context_of};
 ghost use Rattle.fuse_fs.specs.declared.answers.Context.{Context};
 ghost use Rattle.fuse_in.specs.Records.{in_header};
@@ -10,7 +9,7 @@ ghost use Rattle.server_requests.specs.Reading.{reading_of};
 ghost use Rattle.virtiofsd_fuse.specs.Grammar.{Meaning, meaning};
 ghost use Rattle.virtiofsd_fuse.specs.Serving.{Setting, setting};
 ghost use Rattle.virtiofsd_fuse.specs.WantOfMemory.{may_take_memory};
-ghost use Rattle.server_phases.specs.Asking.{AsksCall, HasAskerByFront, IsAskedBy, IsFront, IsTold, IsToldByFront, in_one_piece, is_told, may_want_memory};
+ghost use Rattle.server_phases.specs.Asking.{AsksCall, HasAskerByFront, IsAskedBy, IsFront, IsTold, IsToldByFront, NamesWereRefused, in_one_piece, is_told, may_want_memory};
 ghost use Rattle.fs_chain.specs.Asking.{IfTaken, IsKeptFor, KeepsCall, TellsMeaning, wanted, wanted_after, wanted_by};
 ghost use Rattle.fs_chain.specs.Orders.{ask_error};
 ghost use Rattle.fs_chain.specs.Walks.{IsAllBut};
@@ -115,7 +114,8 @@ impl Workbench {
         requires { self.old.state ≡ at.Taken out }
         ensures error { IfErr result (λ e. (ask_error (at.Taken out) (length request.now) ≡ Some e)
             ⊎ ((e ≡ ChainError.OutOfMemory) × (length request.now ≡ out.request_len) × (may_want_memory session.now.options.0 request.now out.room_len ≡ true))) }
-        ensures refused { result ≡ Err ChainError.OutOfMemory → may_take_memory session.now.options.0 (in_one_piece request.now) out.room_len ≡ false → MemoryWasRefused }
+        ensures refused { result ≡ Err ChainError.OutOfMemory → may_take_memory session.now.options.0 (in_one_piece request.now) out.room_len ≡ false
+            → NamesWereRefused (meaning session.now.options.0 request.now out.room_len) }
         ensures ok { OnOk result (ask_error (at.Taken out) (length request.now) ≡ None) }
         ensures tells { IfOk result (λ told. (whole : List ℕ) → out.request_len ≡ length whole → IsFront request.now whole
             → TellsMeaning (setting session.now.page_size session.now.options.0 out.room_len) (meaning session.now.options.0 whole out.room_len) (drop 80 whole) out told self.new.state) }
@@ -140,7 +140,8 @@ impl Workbench {
         ensures error { IfErr result (λ e. (ask_error self.old.state (length request.now) ≡ Some e)
             ⊎ ((e ≡ ChainError.OutOfMemory) × (ask_error self.old.state (length request.now) ≡ None))) }
         ensures memory { result ≡ Err ChainError.OutOfMemory → IfTaken self.old.state (λ out. (length request.now ≡ out.request_len) × (may_want_memory session.now.options.0 request.now out.room_len ≡ true)) }
-        ensures refused { result ≡ Err ChainError.OutOfMemory → IfTaken self.old.state (λ out. may_take_memory session.now.options.0 (in_one_piece request.now) out.room_len ≡ false → MemoryWasRefused) }
+        ensures refused { result ≡ Err ChainError.OutOfMemory → IfTaken self.old.state (λ out. may_take_memory session.now.options.0 (in_one_piece request.now) out.room_len ≡ false
+            → NamesWereRefused (meaning session.now.options.0 request.now out.room_len)) }
         ensures ok { OnOk result (ask_error self.old.state (length request.now) ≡ None) }
         ensures tells { IfOk result (λ told. IfTaken self.old.state (λ out. (whole : List ℕ) → out.request_len ≡ length whole → IsFront request.now whole
             → TellsMeaning (setting session.now.page_size session.now.options.0 out.room_len) (meaning session.now.options.0 whole out.room_len) (drop 80 whole) out told self.new.state)) }

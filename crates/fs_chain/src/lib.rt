@@ -24,4 +24,4 @@ pub use queue::KeptQueue;
 pub use returning::Stores;
 pub use state::{Out, Reply, State};
 pub use walking::WalkOutcome;
-pub use workbench::{LEAST_LIMIT, MOST_LIMIT, Workbench};
+pub use workbench::{LEAST_LIMIT, Workbench};

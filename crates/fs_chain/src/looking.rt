@@ -3,8 +3,7 @@
 ghost use Rattle.std.specs.Prelude.{◌≡◌, ◌<◌, ◌≤◌, IfSome, OnSome, None, true, min};
 ghost use Rattle.vm_memory.specs.Layout.{left_at, place};
 ghost use Rattle.vm_memory.specs.Slices.{IsWindowAt};
-ghost use Rattle.fs_queue.specs.Taking.{total_len};
-ghost use Rattle.fs_queue.specs.Windows.{of_direction};
+ghost use Rattle.fs_queue.specs.Taking.{total_len, of_direction};
 ghost use Rattle.fs_regions.specs.Walks.{asked_len};
 ghost use Rattle.fs_regions.specs.Windows.{IsRangeFrom};
 ghost use Rattle.fs_chain.specs.Orders.{is_free, is_listing, is_out, is_returning, load_len, room_len};

@@ -1,9 +1,8 @@
 //! The handle: a workbench for one chain at a time.
 
 ghost use Rattle.std.specs.Prelude.{◌≡◌, ◌≤◌, [], Some, None, IfOk, IfErr, IfSome, OnOk, OnErr, OnSome, true, false};
-ghost use Rattle.memory_requests.specs.Refused.{MemoryWasRefused, RoomWasRefused};
-ghost use Rattle.fs_queue.specs.Taking.{all_reach, total_len};
-ghost use Rattle.fs_queue.specs.Windows.{access_of, of_direction};
+ghost use Rattle.memory_requests.specs.Refused.{RoomWasRefused};
+ghost use Rattle.fs_queue.specs.Taking.{all_reach, total_len, access_of, of_direction};
 ghost use Rattle.fs_regions.specs.Places.{places_in};
 ghost use Rattle.fs_regions.specs.Windows.{IsWindowFrom};
 ghost use Rattle.fs_chain.specs.Orders.{is_out, memory_error};
@@ -11,8 +10,9 @@ ghost use Rattle.fs_chain.specs.declared.state.State.TheVariants as at;
 
 use crate::error::ChainError;
 use crate::state::State;
-use fs_queue::Descriptors;
+use fs_queue::{Descriptors, MOST_LIMIT};
 use fs_regions::{GuestRegions, window_from};
+use server_phases::REPLY_WITHOUT_CALL_LEN;
 use server_segments::Writer;
 use std::alloc::Global;
 use virtiofsd_fuse::MAX_REQUEST_LEN;
@@ -20,12 +20,6 @@ use vm_memory_core::VolatileSlice;
 
 /// The least limit of a request and of a room, in bytes: the longest request that the server serves.
 pub const LEAST_LIMIT: u32 = MAX_REQUEST_LEN;
-
-/// The greatest limit, in bytes.
-pub const MOST_LIMIT: u32 = 1 << 31;
-
-/// How many bytes the longest reply has that is made without a call.
-const REPLY_WITHOUT_CALL: usize = 80;
 
 /// A workbench for one chain at a time: from the walk that finds it to the stores that give it back.
 #[derive(Drop)]
@@ -46,9 +40,8 @@ impl Workbench {
         ensures ok { IfOk result (λ w. (w.regions ≡ []) × (w.limit ≡ 0x101000) × (w.descriptors.items ≡ []) × (w.state ≡ at.Free)) }
         ensures err { IfErr result (λ e. e ≡ ChainError.OutOfMemory) }
         ensures asked { OnErr result (RoomWasRefused 80) }
-        ensures refused { OnErr result MemoryWasRefused }
     {
-        match Writer::of_length(alloc, REPLY_WITHOUT_CALL) {
+        match Writer::of_length(alloc, REPLY_WITHOUT_CALL_LEN) {
             Ok(place) => Ok(Workbench {
                 alloc,
                 regions: GuestRegions::none(alloc),

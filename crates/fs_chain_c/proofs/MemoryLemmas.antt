@@ -6,11 +6,10 @@ use Rattle.std.specs.List.Sorted.{IsNonDecreasingBy}
 use Rattle.std.specs.Option.{option_or}
 use Rattle.std.proofs.lemmas.List.Sorted.{All-permutation, length_permutation}
 use Rattle.vm_memory.specs.Layout.{Region}
-use Rattle.vm_memory.specs.Collecting.{fault_between, fault_of}
+use Rattle.vm_memory.specs.Collecting.{RegionsWereRefused, fault_between, fault_of}
 use Rattle.vm_memory.proofs.LayoutLemmas.{fault_from, fault_pair, region_of-map}
 use Rattle.vm_memory.specs.declared.error.GuestRegionCollectionError.{GuestRegionCollectionError}
 use Rattle.vm_memory.specs.declared.error.GuestRegionCollectionError.TheVariants.{UnsortedMemoryRegions, MemoryRegionOverlap}
-use Rattle.memory_requests.specs.Refused.{MemoryWasRefused}
 use Rattle.fs_chain.specs.declared.error.ChainError.{ChainError}
 use Rattle.fs_chain.specs.declared.error.ChainError.TheVariants as error
 use Rattle.fs_chain_c.specs.Memory.{HaveFault, IsMemory, IsNoMemory, IsNoSortedMemory, IsRegion, StandApart, region_of}
@@ -87,12 +86,12 @@ stand_apart (r ∷ rest) right = (right, omega (arith))
 
 module _ (regions sorted : List FsRegion) (same : IsPermutation regions sorted) (up : IsNonDecreasingBy (λ (r : FsRegion). r.guest) sorted)
     (few : length regions ≤ 64) (are : All IsRegion regions) where
-  memory_of : fault_of (map region_of sorted) ≡ None → MemoryWasRefused → IsNoMemory regions error.OutOfMemory
+  memory_of : fault_of (map region_of sorted) ≡ None → RegionsWereRefused (length sorted) → IsNoMemory regions error.OutOfMemory
   memory_of right refused =
       let apart = stand_apart sorted right in
       let len = length_permutation regions sorted same in (
         omega (arith, apart.1, len),
-        refused,
+        subst RegionsWereRefused (sym len) refused,
         map region_of sorted,
         (few, sorted, same, All-permutation IsRegion regions sorted same are, refl, apart.0),
       )

@@ -1,11 +1,10 @@
 -- What C is told of a request, and what comes of an answer.
 use Rattle.std.specs.Prelude.{◌≡◌, ◌⊎◌, ℕ, List, length, drop, bit_and, Option, Some, None, Result, Ok, Err, IfOk, IfErr, OnOk, OnErr, if◌then◌else◌, true, false}
-use Rattle.memory_requests.specs.Refused.{MemoryWasRefused}
 use Rattle.fuse_values.specs.declared.answer.FileAnswer.{FileAnswer}
 use Rattle.fuse_values.specs.declared.answer.FileAnswer.TheVariants as answer
 use Rattle.fuse_values.specs.declared.call.FileCall.{FileCall}
 use Rattle.fuse_values.specs.declared.call.FileCall.TheVariants as value
-use Rattle.server_phases.specs.Asking.{IsFront, in_one_piece, may_want_memory}
+use Rattle.server_phases.specs.Asking.{IsFront, NamesWereRefused, in_one_piece, may_want_memory}
 use Rattle.server_phases.specs.declared.session.Session.{Session}
 use Rattle.server_segments.specs.Errors.{error_number}
 use Rattle.virtiofsd_fuse.specs.Grammar.{known_options, meaning}
@@ -79,11 +78,12 @@ pub record Asks (w : Workbench) (s : Session) (request : List ℕ) (made : told.
   pub wanted : IfTaken w.state (λ out. wanted_by made ≡ wanted_after request out.request_len)
   pub stays : IsAllBut w w' × (w'.descriptors ≡ w.descriptors)
 
--- it can't be asked: it isn't where a request is asked, more bytes came than the request has, or memory is wanting, which only a whole request wants, and if none of it takes any in one piece, the allocator refused it
+-- it can't be asked: it isn't where a request is asked, more bytes came than the request has, or memory is wanting, which only a whole request wants, and if none of it takes any in one piece, the allocator refused it for a name
 pub record CannotAsk (w : Workbench) (s : Session) (request : List ℕ) (e : ChainError) (w' : Workbench) : Type 0 where
   pub why : (ask_error w.state (length request) ≡ Some e) ⊎ ((e ≡ OutOfMemory) × (ask_error w.state (length request) ≡ None))
   pub memory : e ≡ OutOfMemory → IfTaken w.state (λ out. (length request ≡ out.request_len) × (may_want_memory s.options.0 request out.room_len ≡ true))
-  pub refused : e ≡ OutOfMemory → IfTaken w.state (λ out. may_take_memory s.options.0 (in_one_piece request) out.room_len ≡ false → MemoryWasRefused)
+  pub refused : e ≡ OutOfMemory → IfTaken w.state (λ out. may_take_memory s.options.0 (in_one_piece request) out.room_len ≡ false
+      → NamesWereRefused (meaning s.options.0 request out.room_len))
   pub stays : IsAllBut w w' × (w'.descriptors ≡ w.descriptors) × (w'.state ≡ w.state)
 
 -- the session that goes on with a device's numbers; bits of no option are dropped

@@ -1,9 +1,8 @@
 -- The memory that C tells: regions in any order.
 use Rattle.std.specs.Prelude.{◌≡◌, ◌≤◌, ◌<◌, ◌+◌, ◌%◌, ◌^◌, ◌⊎◌, IsTrue, List, [], ◌∷◌, All, map, length, Some, None, IsPermutation}
 use Rattle.std.specs.List.Sorted.{IsNonDecreasingBy}
-use Rattle.memory_requests.specs.Refused.{MemoryWasRefused}
 use Rattle.vm_memory.specs.Layout.{Region}
-use Rattle.vm_memory.specs.Collecting.{fault_of}
+use Rattle.vm_memory.specs.Collecting.{RegionsWereRefused, fault_of}
 use Rattle.vm_memory.specs.declared.error.GuestRegionCollectionError.{GuestRegionCollectionError}
 use Rattle.fs_regions.specs.Places.{HasWholePages}
 use Rattle.server_replies.specs.PageSizes.{is_page_size}
@@ -43,7 +42,7 @@ DoOverlap regions =
 -- why these regions are no memory: too many, one that is none, or two have an address in common; memory is wanting only for some that are one, and if the allocator refused it
 abbrev pub IsNoMemory : List FsRegion → ChainError → Type 0
 IsNoMemory regions BadArgument = (64 < length regions) ⊎ (All IsRegion regions → ⊥) ⊎ DoOverlap regions
-IsNoMemory regions OutOfMemory = (0 < length regions) × MemoryWasRefused × (memory : List Region) × IsMemory regions memory
+IsNoMemory regions OutOfMemory = (0 < length regions) × RegionsWereRefused (length regions) × (memory : List Region) × IsMemory regions memory
 IsNoMemory regions _ = ⊥
 
 -- there are some regions, and among them is a fault, taken in their order
@@ -53,5 +52,5 @@ HaveFault regions = (0 < length regions) × (fault : GuestRegionCollectionError)
 -- why these regions, taken in their order, are no memory: there is a fault, or memory is wanting
 abbrev pub IsNoSortedMemory : List FsRegion → ChainError → Type 0
 IsNoSortedMemory regions BadArgument = HaveFault regions
-IsNoSortedMemory regions OutOfMemory = (fault_of (map region_of regions) ≡ None) × MemoryWasRefused
+IsNoSortedMemory regions OutOfMemory = (fault_of (map region_of regions) ≡ None) × RegionsWereRefused (length regions)
 IsNoSortedMemory regions _ = ⊥

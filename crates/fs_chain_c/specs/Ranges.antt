@@ -1,7 +1,6 @@
 -- Where a room's bytes stand for the guest, one stretch after another, as C is told.
 use Rattle.std.specs.Prelude.{◌≡◌, ◌≤◌, ◌<◌, ◌+◌, ◌-◌, ◌^◌, ◌++◌, ℕ, true, List, [], ◌∷◌, length, drop, min, Option}
-use Rattle.fs_queue.specs.Taking.{total_len}
-use Rattle.fs_queue.specs.Windows.{of_direction}
+use Rattle.fs_queue.specs.Taking.{total_len, of_direction}
 use Rattle.fs_regions.specs.Windows.{IsRangeFrom}
 use Rattle.fs_chain.specs.Orders.{is_out}
 use Rattle.fs_chain.specs.declared.workbench.Workbench.{Workbench}

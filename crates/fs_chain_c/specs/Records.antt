@@ -1,6 +1,6 @@
 -- The record of a device and its queues, as C has them.
 use Rattle.std.specs.Prelude.{◌≡◌, ◌==◌, ◌≤◌, ◌<◌, ◌+◌, ◌++◌, ℕ, false, not, List, All, map, length, drop, Option, Some, None, if◌then◌else◌}
-use Rattle.memory_requests.specs.Refused.{MemoryWasRefused}
+use Rattle.memory_requests.specs.Refused.{RoomWasRefused}
 use Rattle.fs_queue.specs.Queue.{Queue, resumed}
 use Rattle.fs_record.specs.Numbers.{restore_error_number}
 use Rattle.fs_record.specs.Record.{HasKnownBits, IsRecordFor, Second, record_bytes}
@@ -40,7 +40,7 @@ SavesSo d qs buffer (Some ShortBuffer) len buffer' =
     CanSave d qs × All HasNoneOut qs × (len ≡ length (bytes_of d qs)) × (length buffer < len) × (buffer' ≡ buffer)
 SavesSo d qs buffer (Some BadArgument) len buffer' = (CanSave d qs → ⊥) × (len ≡ 0) × (buffer' ≡ buffer)
 SavesSo d qs buffer (Some ChainOut) len buffer' = (All HasNoneOut qs → ⊥) × (len ≡ 0) × (buffer' ≡ buffer)
-SavesSo d qs buffer (Some OutOfMemory) len buffer' = CanSave d qs × All HasNoneOut qs × MemoryWasRefused × (len ≡ 0) × (buffer' ≡ buffer)
+SavesSo d qs buffer (Some OutOfMemory) len buffer' = CanSave d qs × All HasNoneOut qs × RoomWasRefused (length qs) × (len ≡ 0) × (buffer' ≡ buffer)
 SavesSo d qs buffer (Some _) len buffer' = ⊥
 
 -- what is told of it

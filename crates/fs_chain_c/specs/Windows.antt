@@ -1,8 +1,7 @@
 -- Where a chain's bytes stand, one stretch after another, as C is told.
 use Rattle.std.specs.Prelude.{◌≡◌, ◌≤◌, ◌<◌, ◌+◌, ◌-◌, ◌++◌, ℕ, Bool, true, List, [], ◌∷◌, length, drop, min}
 use Rattle.vm_memory_core.specs.Window.{Window}
-use Rattle.fs_queue.specs.Taking.{all_reach, total_len}
-use Rattle.fs_queue.specs.Windows.{access_of, of_direction}
+use Rattle.fs_queue.specs.Taking.{all_reach, total_len, access_of, of_direction}
 use Rattle.fs_regions.specs.Places.{places_in}
 use Rattle.fs_regions.specs.Windows.{IsWindowFrom}
 use Rattle.fs_chain.specs.Orders.{is_out}

@@ -4,7 +4,8 @@ ghost use Rattle.std.specs.Prelude.{◌≡◌, ◌↔◌, IsTrue};
 ghost use Rattle.server_replies.specs.PageSizes.{is_page_size};
 ghost use Rattle.fs_chain_c.specs.Memory.{IsDevice};
 
-use fs_chain::{LEAST_LIMIT, MOST_LIMIT};
+use fs_chain::LEAST_LIMIT;
+use fs_queue::MOST_LIMIT;
 
 /// The sizes that a guest's pages may have.
 const PAGE_SIZES: [u32; 5] = [4 << 10, 8 << 10, 16 << 10, 32 << 10, 64 << 10];

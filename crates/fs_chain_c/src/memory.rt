@@ -2,7 +2,7 @@
 
 ghost use Rattle.std.specs.Prelude.{◌≡◌, ◌⊎◌, ◌<◌, ◌≤◌, true, false, Err, None, All, IsPermutation, IfOk, IfErr, IfSome, IfNone, OnOk, OnSome, map, length};
 ghost use Rattle.fs_chain.specs.declared.error.ChainError.TheVariants.{BadArgument, OutOfMemory};
-ghost use Rattle.memory_requests.specs.Refused.{MemoryWasRefused};
+ghost use Rattle.memory_requests.specs.Refused.{RoomWasRefused};
 ghost use Rattle.std.specs.List.Sorted.{IsNonDecreasingBy};
 ghost use Rattle.vm_memory.specs.Collecting.{fault_of};
 ghost use Rattle.fs_chain_c.specs.Memory.{HaveFault, IsMemory, IsNoMemory, IsNoSortedMemory, IsRegion, StandApart, region_of};
@@ -63,7 +63,7 @@ fn regions_of(alloc: Global, regions: &[FsRegion]) -> Result<Vec<MemoryRegion>, 
     ensures ok { IfOk result (λ made. made.items ≡ map region_of regions.now) }
     ensures are { OnOk result (All IsRegion regions.now) }
     ensures bad { result ≡ Err BadArgument → All IsRegion regions.now → ⊥ }
-    ensures err { IfErr result (λ e. (e ≡ BadArgument) ⊎ ((e ≡ OutOfMemory) × MemoryWasRefused)) }
+    ensures err { IfErr result (λ e. (e ≡ BadArgument) ⊎ ((e ≡ OutOfMemory) × RoomWasRefused (length regions.now))) }
 {
     let Ok(mut made) = list_with_room(alloc, regions.len()) else {
         return Err(ChainError::OutOfMemory);

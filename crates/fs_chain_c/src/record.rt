@@ -2,7 +2,7 @@
 
 ghost use Rattle.std.specs.Prelude.{◌≡◌, ◌⊎◌, ◌++◌, ◌≤◌, All, Err, IfErr, IfOk, IfSome, None, OnOk, drop, length, map};
 ghost use Rattle.fs_chain.specs.declared.error.ChainError.TheVariants.{BadArgument, ChainOut, OutOfMemory};
-ghost use Rattle.memory_requests.specs.Refused.{MemoryWasRefused};
+ghost use Rattle.memory_requests.specs.Refused.{RoomWasRefused};
 ghost use Rattle.fs_record.specs.Record.{HasKnownBits};
 ghost use Rattle.fs_chain_c.specs.Queues.{IsQueue};
 ghost use Rattle.fs_chain_c.specs.Records.{HasNoneOut, Restores, Saves, SavesSo, numbers_of, queue_of, saved_status};
@@ -65,7 +65,7 @@ fn queues_of(alloc: Global, queues: &[FsQueue]) -> Result<Vec<Queue>, ChainError
     ensures none_out { OnOk result (All HasNoneOut queues.now) }
     ensures bad { result ≡ Err BadArgument → All IsQueue queues.now → ⊥ }
     ensures out { result ≡ Err ChainOut → All HasNoneOut queues.now → ⊥ }
-    ensures err { IfErr result (λ e. (e ≡ BadArgument) ⊎ (e ≡ ChainOut) ⊎ ((e ≡ OutOfMemory) × MemoryWasRefused)) }
+    ensures err { IfErr result (λ e. (e ≡ BadArgument) ⊎ (e ≡ ChainOut) ⊎ ((e ≡ OutOfMemory) × RoomWasRefused (length queues.now))) }
 {
     let Ok(mut made) = list_with_room(alloc, queues.len()) else {
         return Err(ChainError::OutOfMemory);

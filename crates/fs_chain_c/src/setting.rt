@@ -1,7 +1,7 @@
 //! A workbench is told its memory.
 
 ghost use Rattle.std.specs.Prelude.{◌≡◌, ◌⊎◌, IfOk, IfErr, OnErr, OnOk, option_map};
-ghost use Rattle.memory_requests.specs.Refused.{MemoryWasRefused};
+ghost use Rattle.memory_requests.specs.Refused.{RoomWasRefused};
 ghost use Rattle.fs_chain.specs.declared.error.ChainError.TheVariants.{OutOfMemory};
 ghost use Rattle.fs_chain_c.specs.Handles.{GoesOver, IsNewHeld, MakesHeld, RefusesMemory, RefusesNew, SetsHeld};
 
@@ -9,6 +9,7 @@ use crate::device::FsDevice;
 use crate::held::Held;
 use crate::memory::{FsRegion, memory_of};
 use fs_chain::{ChainError, Workbench};
+use memory_requests::boxed;
 use server_phases::Session;
 use std::alloc::Global;
 
@@ -16,7 +17,7 @@ use std::alloc::Global;
 fn new_held(alloc: Global) -> Result<Held, ChainError>
     ensures ok { IfOk result IsNewHeld }
     ensures err { IfErr result (λ e. e ≡ OutOfMemory) }
-    ensures refused { OnErr result MemoryWasRefused }
+    ensures asked { OnErr result (RoomWasRefused 80) }
 {
     match Workbench::new(alloc) {
         Ok(workbench) => Ok(Held {
@@ -69,7 +70,7 @@ fn made(alloc: Global, device: &FsDevice, regions: &[FsRegion]) -> Result<Box<He
     let memory = memory_of(alloc, regions)?;
     let mut held = new_held(alloc)?;
     held.workbench.set_memory(memory, device.limit)?;
-    match Box::new(alloc, held) {
+    match boxed(alloc, held) {
         Ok(held) => Ok(held),
         Err(_) => Err(ChainError::OutOfMemory),
     }

@@ -16,8 +16,7 @@ use Rattle.fs_queue.specs.Queue.{Queue, avail_index_at, ring_entry_at, element_a
 use Rattle.fs_queue.specs.NextAvail.{NextAvail, next_avail}
 use Rattle.fs_queue.specs.NextAvail as avail
 use Rattle.fs_queue.specs.Chain.{Descriptor, Visit, entry_address, WalkStep, walk_step, next_visit, onward, path, first_visit, after_walk_step, Found, IsChain, HasFault, StopsQueue, chain}
-use Rattle.fs_queue.specs.Taking.{IsRequest, CannotFetch, readable, writable, total_len, all_reach, Offer, Idle, Refuses, Offers, offer_of, offer}
-use Rattle.fs_queue.specs.Windows.{addresses_of}
+use Rattle.fs_queue.specs.Taking.{IsRequest, CannotFetch, readable, writable, total_len, all_reach, Offer, Idle, Refuses, Offers, offer_of, offer, addresses_of}
 use Rattle.fs_queue.specs.Loads.{Load, Ahead, Reads, Ends, holding, reads_entry, step_by, ahead_at, ahead_after, ahead_of_next, is_whole, found_exactly, chain_exactly}
 use Rattle.fs_queue.specs.Loads.{index_load, entry_load, asks_entry, IsEntryOf, AreEntriesOf, IsLoadOf}
 use Rattle.fs_queue.specs.OfferLoads.{without_request, without_chain, without_loads, without_entry, waits_by, with_request, with_loaded, on_waits}

@@ -19,7 +19,7 @@ use Rattle.fs_queue.specs.Chain.{HasFault, StopsQueue, found, chain}
 use Rattle.fs_queue.specs.Loads.{Load, reads_entry}
 use Rattle.fs_queue.specs.Taking.{RequestAndRoom, IsRequest, CannotFetch, readable, writable, total_len, all_reach, request_and_room, Offer, Idle, Refuses, Offers, offer_of, on_next_avail, offer}
 use Rattle.fs_queue.specs.Returning.{wants_notice}
-use Rattle.fs_queue.specs.Windows.{addresses_of}
+use Rattle.fs_queue.specs.Taking.{addresses_of}
 use Rattle.fs_queue.proofs.LoadLemmas.{step_still}
 use Rattle.fs_queue.proofs.StillLemmas.{outside}
 use Rattle.fs_confinement.specs.ReadSet.{place_if, places_for, ring_reads, entry_reads, walk_reads, request_reads, chain_reads, waiting_reads, offer_reads}

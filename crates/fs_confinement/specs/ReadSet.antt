@@ -13,8 +13,7 @@ use Rattle.fs_queue.specs.NextAvail.{NextAvail, next_avail}
 use Rattle.fs_queue.specs.NextAvail as avail
 use Rattle.fs_queue.specs.Chain.{Visit, entry_address, Found, IsChain, HasFault, StopsQueue, walk, chain}
 use Rattle.fs_queue.specs.Loads.{reads_entry}
-use Rattle.fs_queue.specs.Taking.{Offer, Idle, Refuses, Offers, IsRequest, CannotFetch, readable, room_of, offer}
-use Rattle.fs_queue.specs.Windows.{addresses_of}
+use Rattle.fs_queue.specs.Taking.{Offer, Idle, Refuses, Offers, IsRequest, CannotFetch, readable, room_of, offer, addresses_of}
 use Rattle.virtiofsd_fuse.specs.Serving.{May}
 use Rattle.fs_device.specs.declared.error.DeviceError.{DeviceError}
 use Rattle.fs_device.specs.MarkedPages.{returned_addresses}

@@ -6,8 +6,7 @@ use Rattle.vm_memory.specs.Memory.{Memory}
 use Rattle.fs_queue.specs.Chain.{Descriptor}
 use Rattle.fs_queue.specs.declared.fault.ChainFault.{ChainFault}
 use Rattle.fs_queue.specs.declared.fault.ChainFault.TheVariants.{OverLimit, RequestUnreachable, RoomUnreachable}
-use Rattle.fs_queue.specs.Taking.{readable, writable, total_len, all_reach, IsRequest, CannotFetch, request_and_room}
-use Rattle.fs_queue.specs.Windows.{addresses_of}
+use Rattle.fs_queue.specs.Taking.{readable, writable, total_len, all_reach, IsRequest, CannotFetch, request_and_room, addresses_of}
 use Rattle.fs_queue.proofs.TakeLemmas.{length-addresses_of}
 use Rattle.fs_queue.proofs.OfferedLemmas.{offered_fetches}
 use Rattle.virtiofsd_fuse.specs.Serving.{May}

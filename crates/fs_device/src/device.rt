@@ -21,11 +21,8 @@ use vm_memory_core::HostBlocks;
 /// with a page for its headers.
 pub const LEAST_LIMIT: u32 = MAX_REQUEST_LEN;
 
-/// The greatest limit that a device may have, in bytes.
-pub const MOST_LIMIT: u32 = 1 << 31;
-
 /// A virtio-fs device (VIRTIO 1.2, 5.11): a server behind its queues, of which there are 1 to 64, numbered from 0. A
-/// request or a room longer than the limit, from `LEAST_LIMIT` to `MOST_LIMIT` bytes, makes a chain faulty (`ChainFault::OverLimit`).
+/// request or a room longer than the limit, from `LEAST_LIMIT` to `fs_queue::MOST_LIMIT` bytes, makes a chain faulty (`ChainFault::OverLimit`).
 #[derive(Drop)]
 pub struct Device<F> {
     pub(crate) server: Server<F>,

@@ -33,7 +33,7 @@ mod whole;
 
 pub use applying::{ApplyError, apply};
 pub use command::{Answer, Command};
-pub use device::{Device, LEAST_LIMIT, MOST_LIMIT};
+pub use device::{Device, LEAST_LIMIT};
 pub use error::DeviceError;
 pub use exchange::{Exchange, Fault};
 pub use fetched_request::FetchedRequest;

@@ -21,10 +21,10 @@ use Rattle.fs_queue.specs.declared.chain.Chain.{Chain}
 use Rattle.fs_queue.specs.declared.fault.ChainFault.{ChainFault}
 use Rattle.fs_queue.specs.declared.fault.ChainFault.TheVariants.{RequestUnreachable, RoomUnreachable}
 use Rattle.fs_queue.specs.WalkingView.{AllEndIn64Bits}
-use Rattle.fs_queue.specs.Taking.{readable, writable, total_len, all_reach, request_and_room, IsRequest, CannotFetch}
+use Rattle.fs_queue.specs.Taking.{readable, writable, total_len, all_reach, request_and_room, IsRequest, CannotFetch, of_direction, addresses_of}
 use Rattle.fs_queue.specs.Queue.{Queue, element_at, index_at}
 use Rattle.fs_queue.specs.Chain.{Descriptor, is_writable, IsChain}
-use Rattle.fs_queue.specs.Windows.{of_direction, addresses_of, used_addresses, unreachable, unreachable_of, room_places, HoldsChain, HoldsWindows, ChainLiesIn, unless_faulty}
+use Rattle.fs_queue.specs.Windows.{used_addresses, unreachable, unreachable_of, room_places, HoldsChain, HoldsWindows, ChainLiesIn, unless_faulty}
 use Rattle.vm_memory.proofs.Places.{Where, addresses-append, length-addresses, located-append, after-after, bytes-located}
 use Rattle.vm_memory.proofs.RangeLemmas.{all_located}
 

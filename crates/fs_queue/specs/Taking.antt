@@ -21,6 +21,20 @@ readable ds = filter (λ d. not (is_writable d)) ds
 abbrev pub writable : List Descriptor → List Descriptor
 writable ds = filter is_writable ds
 
+-- the descriptors of one direction: those that the device writes, or those that it reads
+abbrev pub of_direction : Bool → List Descriptor → List Descriptor
+of_direction true ds = writable ds
+of_direction false ds = readable ds
+
+-- the access that the device needs to them
+abbrev pub access_of : Bool → Permissions
+access_of true = Write
+access_of false = Read
+
+-- the addresses of some descriptors, joined
+abbrev pub addresses_of : List Descriptor → List ℕ
+addresses_of ds = flat_map (λ d. addresses d.addr d.len) ds
+
 -- how many bytes some descriptors have
 abbrev pub total_len : List Descriptor → ℕ
 total_len ds = sum_by (λ d. d.len) ds

@@ -2,7 +2,6 @@
 use Rattle.std.specs.Prelude.{◌≡◌, ◌<◌, ◌≤◌, ◌⊎◌, ℕ, Bool, true, false, IsTrue, List, [], ◌++◌, length, map, Option, Some, None, Result, Ok, Err}
 use Rattle.vm_iotlb.specs.declared.permissions.Permissions.{Permissions}
 use Rattle.vm_iotlb.specs.declared.permissions.Permissions.TheVariants.{Read, Write}
-use Rattle.std.specs.List.{flat_map}
 use Rattle.vm_memory_core.specs.Host.{Place}
 use Rattle.vm_memory_core.specs.Window.{places, AllLieIn, byte_in}
 use Rattle.vm_memory.specs.Memory.{Memory, addresses, location, located}
@@ -14,7 +13,7 @@ use Rattle.fs_queue.specs.declared.chain.Chain.{Chain}
 use Rattle.fs_queue.specs.declared.chain.ReturnWindows.{ReturnWindows}
 use Rattle.fs_queue.specs.Queue.{Queue, element_at, index_at}
 use Rattle.fs_queue.specs.Chain.{Descriptor, Found, IsChain, HasFault, StopsQueue, chain}
-use Rattle.fs_queue.specs.Taking.{readable, writable, total_len, request_and_room, RequestAndRoom, IsRequest, CannotFetch, Idle, Refuses, Offers, offer, may_lack_memory, after_refusal}
+use Rattle.fs_queue.specs.Taking.{readable, writable, addresses_of, total_len, request_and_room, RequestAndRoom, IsRequest, CannotFetch, Idle, Refuses, Offers, offer, may_lack_memory, after_refusal}
 
 -- the places of the used element and the used index, and of the available flags (2.7.8 and 2.7.7), or which of them has an address without a place
 pub data ReturnPlaces : Type 0 where
@@ -44,20 +43,6 @@ missing_of (Lacks e) = Some e
 abbrev pub return_places_of : Option QueueError → ReturnWindows → ReturnPlaces
 return_places_of None windows = Holds (places windows.used.items) (places windows.flags.items)
 return_places_of (Some e) windows = Lacks e
-
--- the descriptors of one direction: those that the device writes, or those that it reads
-abbrev pub of_direction : Bool → List Descriptor → List Descriptor
-of_direction true ds = writable ds
-of_direction false ds = readable ds
-
--- the access that the device needs to them
-abbrev pub access_of : Bool → Permissions
-access_of true = Write
-access_of false = Read
-
--- the addresses of some descriptors, joined
-abbrev pub addresses_of : List Descriptor → List ℕ
-addresses_of ds = flat_map (λ d. addresses d.addr d.len) ds
 
 -- windows of these places, for writing: of the used element and then the used index; for reading: of the available flags
 pub record HoldsReturnWindows (m : Memory) (q : Queue) (windows : ReturnWindows) : Type 0 where

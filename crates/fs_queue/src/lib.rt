@@ -21,7 +21,7 @@ mod written;
 pub use chain::{Chain, ReturnWindows, Taken};
 pub use chain_walk::{ChainWalk, Given, Progress, Walked};
 pub use descriptor::{Descriptor, Descriptors};
-pub use fault::{ChainFault, QueueError, QueueLayoutError};
+pub use fault::{ChainFault, MOST_LIMIT, QueueError, QueueLayoutError};
 pub use layout::QueueLayout;
 pub use loads::{EntryLoad, walk_loads};
 pub use queue::Queue;

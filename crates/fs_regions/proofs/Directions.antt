@@ -12,8 +12,7 @@ use Rattle.vm_memory.specs.Memory.{addresses, located, reach}
 use Rattle.vm_memory.specs.Slices.{IsWindowAt}
 use Rattle.vm_memory.proofs.Places.{addresses-append, length-addresses}
 use Rattle.fs_queue.specs.Chain.{Descriptor, is_writable}
-use Rattle.fs_queue.specs.Taking.{all_reach, total_len}
-use Rattle.fs_queue.specs.Windows.{access_of, addresses_of, of_direction}
+use Rattle.fs_queue.specs.Taking.{all_reach, total_len, access_of, addresses_of, of_direction}
 use Rattle.fs_regions.specs.Places.{places_in}
 use Rattle.fs_regions.specs.Windows.{IsWindowFrom, StandsIn}
 

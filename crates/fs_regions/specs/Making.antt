@@ -1,8 +1,7 @@
 -- Which regions are a guest's memory.
-use Rattle.std.specs.Prelude.{◌≡◌, List, Some, None, Result, Ok, Err}
-use Rattle.memory_requests.specs.Refused.{MemoryWasRefused}
+use Rattle.std.specs.Prelude.{◌≡◌, List, length, Some, None, Result, Ok, Err}
 use Rattle.vm_memory.specs.Layout.{Region}
-use Rattle.vm_memory.specs.Collecting.{fault_of}
+use Rattle.vm_memory.specs.Collecting.{RegionsWereRefused, fault_of}
 use Rattle.vm_memory.specs.declared.error.GuestRegionCollectionError.TheVariants as collection
 use Rattle.fs_regions.specs.declared.regions.RegionsError.{RegionsError}
 use Rattle.fs_regions.specs.declared.regions.RegionsError.TheVariants.{NoRegion, Unsorted, Overlap, OutOfMemory}
@@ -13,4 +12,4 @@ Makes regions (Ok memory) = (fault_of regions ≡ None) × (memory ≡ regions)
 Makes regions (Err NoRegion) = fault_of regions ≡ Some collection.NoMemoryRegion
 Makes regions (Err Unsorted) = fault_of regions ≡ Some collection.UnsortedMemoryRegions
 Makes regions (Err Overlap) = fault_of regions ≡ Some collection.MemoryRegionOverlap
-Makes regions (Err OutOfMemory) = (fault_of regions ≡ None) × MemoryWasRefused
+Makes regions (Err OutOfMemory) = (fault_of regions ≡ None) × RegionsWereRefused (length regions)

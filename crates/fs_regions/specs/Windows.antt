@@ -10,8 +10,7 @@ use Rattle.fs_queue.specs.declared.fault.QueueError.{QueueError}
 use Rattle.fs_queue.specs.declared.fault.QueueError.TheVariants.{UsedUnreachable, AvailFlagsUnreachable}
 use Rattle.fs_queue.specs.Queue.{Queue, element_at, index_at}
 use Rattle.fs_queue.specs.Chain.{Descriptor}
-use Rattle.fs_queue.specs.Taking.{readable, writable, total_len, all_reach}
-use Rattle.fs_queue.specs.Windows.{of_direction, addresses_of}
+use Rattle.fs_queue.specs.Taking.{readable, writable, total_len, all_reach, of_direction, addresses_of}
 
 -- why a chain can't go back, if it can't: the used element or the used index can't be written, the available flags can't be read (2.7.8 and 2.7.7)
 abbrev pub return_fault : Memory → Queue → Option QueueError

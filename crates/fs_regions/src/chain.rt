@@ -1,9 +1,8 @@
 //! Where the bytes of a chain and of its return stand.
 
 ghost use Rattle.std.specs.Prelude.{◌≡◌, ◌≤◌, [], ◌∷◌, true, IfSome, None};
-ghost use Rattle.fs_queue.specs.Taking.{all_reach, total_len};
+ghost use Rattle.fs_queue.specs.Taking.{all_reach, total_len, access_of, of_direction};
 ghost use Rattle.fs_queue.specs.WalkingView.{at_position};
-ghost use Rattle.fs_queue.specs.Windows.{access_of, of_direction};
 ghost use Rattle.fs_regions.specs.Places.{places_in};
 ghost use Rattle.fs_regions.specs.Windows.{return_fault, why_not, IsRangeFrom, IsWindowFrom};
 

@@ -1,7 +1,7 @@
 //! Calls that own their names and values.
 
 ghost use Rattle.std.specs.Prelude.{◌≡◌, ◌⊎◌, [], length, IfOk, OnErr};
-ghost use Rattle.memory_requests.specs.Refused.{MemoryWasRefused, RoomWasRefused};
+ghost use Rattle.memory_requests.specs.Refused.{RoomWasRefused};
 ghost use Rattle.fuse_fs.specs.Answers.{extra_of};
 ghost use Rattle.fuse_fs.specs.Calls as call;
 ghost use Rattle.fuse_values.specs.Values.{call_of};
@@ -16,7 +16,6 @@ use std::alloc::{AllocError, Global};
 fn owned(alloc: Global, bytes: &[u8]) -> Result<Vec<u8>, AllocError>
     ensures copy { IfOk result (λ copy. copy.items ≡ bytes.now) }
     ensures asked { OnErr result (RoomWasRefused (length bytes.now)) }
-    ensures refused { OnErr result MemoryWasRefused }
 {
     let mut copy = list_with_room(alloc, bytes.len())?;
     copy.extend_from_slice(bytes).unwrap();
@@ -32,7 +31,6 @@ pub(crate) fn lookup_call(
 ) -> Result<FileCall, AllocError>
     ensures made { IfOk result (λ made. call_of [] made ≡ call.Lookup context node name.now) }
     ensures asked { OnErr result (RoomWasRefused (length name.now)) }
-    ensures refused { OnErr result MemoryWasRefused }
 {
     let name = owned(alloc, name)?;
     Ok(FileCall::Lookup {
@@ -53,7 +51,6 @@ pub(crate) fn symlink_call(
 ) -> Result<FileCall, AllocError>
     ensures made { IfOk result (λ made. call_of [] made ≡ call.Symlink context link.now node name.now (extra_of extra)) }
     ensures asked { OnErr result (RoomWasRefused (length link.now) ⊎ RoomWasRefused (length name.now)) }
-    ensures refused { OnErr result MemoryWasRefused }
 {
     let link = owned(alloc, link)?;
     let name = owned(alloc, name)?;
@@ -79,7 +76,6 @@ pub(crate) fn mknod_call(
 ) -> Result<FileCall, AllocError>
     ensures made { IfOk result (λ made. call_of [] made ≡ call.Mknod context node name.now mode rdev umask (extra_of extra)) }
     ensures asked { OnErr result (RoomWasRefused (length name.now)) }
-    ensures refused { OnErr result MemoryWasRefused }
 {
     let name = owned(alloc, name)?;
     Ok(FileCall::Mknod {
@@ -105,7 +101,6 @@ pub(crate) fn mkdir_call(
 ) -> Result<FileCall, AllocError>
     ensures made { IfOk result (λ made. call_of [] made ≡ call.Mkdir context node name.now mode umask (extra_of extra)) }
     ensures asked { OnErr result (RoomWasRefused (length name.now)) }
-    ensures refused { OnErr result MemoryWasRefused }
 {
     let name = owned(alloc, name)?;
     Ok(FileCall::Mkdir {
@@ -127,7 +122,6 @@ pub(crate) fn unlink_call(
 ) -> Result<FileCall, AllocError>
     ensures made { IfOk result (λ made. call_of [] made ≡ call.Unlink context node name.now) }
     ensures asked { OnErr result (RoomWasRefused (length name.now)) }
-    ensures refused { OnErr result MemoryWasRefused }
 {
     let name = owned(alloc, name)?;
     Ok(FileCall::Unlink {
@@ -146,7 +140,6 @@ pub(crate) fn rmdir_call(
 ) -> Result<FileCall, AllocError>
     ensures made { IfOk result (λ made. call_of [] made ≡ call.Rmdir context node name.now) }
     ensures asked { OnErr result (RoomWasRefused (length name.now)) }
-    ensures refused { OnErr result MemoryWasRefused }
 {
     let name = owned(alloc, name)?;
     Ok(FileCall::Rmdir {
@@ -168,7 +161,6 @@ pub(crate) fn rename_call(
 ) -> Result<FileCall, AllocError>
     ensures made { IfOk result (λ made. call_of [] made ≡ call.Rename context node old.now new_dir new.now flags) }
     ensures asked { OnErr result (RoomWasRefused (length old.now) ⊎ RoomWasRefused (length new.now)) }
-    ensures refused { OnErr result MemoryWasRefused }
 {
     let old = owned(alloc, old)?;
     let new = owned(alloc, new)?;
@@ -192,7 +184,6 @@ pub(crate) fn link_call(
 ) -> Result<FileCall, AllocError>
     ensures made { IfOk result (λ made. call_of [] made ≡ call.Link context old_node node name.now) }
     ensures asked { OnErr result (RoomWasRefused (length name.now)) }
-    ensures refused { OnErr result MemoryWasRefused }
 {
     let name = owned(alloc, name)?;
     Ok(FileCall::Link {
@@ -215,7 +206,6 @@ pub(crate) fn setxattr_call(
 ) -> Result<FileCall, AllocError>
     ensures made { IfOk result (λ made. call_of [] made ≡ call.Setxattr context node name.now value.now flags extra.0) }
     ensures asked { OnErr result (RoomWasRefused (length name.now) ⊎ RoomWasRefused (length value.now)) }
-    ensures refused { OnErr result MemoryWasRefused }
 {
     let name = owned(alloc, name)?;
     let value = owned(alloc, value)?;
@@ -239,7 +229,6 @@ pub(crate) fn getxattr_call(
 ) -> Result<FileCall, AllocError>
     ensures made { IfOk result (λ made. call_of [] made ≡ call.Getxattr context node name.now size) }
     ensures asked { OnErr result (RoomWasRefused (length name.now)) }
-    ensures refused { OnErr result MemoryWasRefused }
 {
     let name = owned(alloc, name)?;
     Ok(FileCall::Getxattr {
@@ -259,7 +248,6 @@ pub(crate) fn removexattr_call(
 ) -> Result<FileCall, AllocError>
     ensures made { IfOk result (λ made. call_of [] made ≡ call.Removexattr context node name.now) }
     ensures asked { OnErr result (RoomWasRefused (length name.now)) }
-    ensures refused { OnErr result MemoryWasRefused }
 {
     let name = owned(alloc, name)?;
     Ok(FileCall::Removexattr {
@@ -283,7 +271,6 @@ pub(crate) fn create_call(
 ) -> Result<FileCall, AllocError>
     ensures made { IfOk result (λ made. call_of [] made ≡ call.Create context node name.now mode kill flags umask (extra_of extra)) }
     ensures asked { OnErr result (RoomWasRefused (length name.now)) }
-    ensures refused { OnErr result MemoryWasRefused }
 {
     let name = owned(alloc, name)?;
     Ok(FileCall::Create {

@@ -1,11 +1,10 @@
 //! A file system that writes down the call that it is asked.
 
 ghost use Rattle.std.specs.Prelude.{◌≡◌, [], true, IfOk, OnErr, option_map};
-ghost use Rattle.memory_requests.specs.Refused.{MemoryWasRefused};
 ghost use Rattle.fuse_fs.specs.Answers.{attr_answer, pair_numbers};
 ghost use Rattle.fuse_fs.specs.Calls as call;
 ghost use Rattle.fuse_values.specs.Values.{call_of};
-ghost use Rattle.fuse_values.specs.Recording.{MayRecord, Records, has_name};
+ghost use Rattle.fuse_values.specs.Recording.{MayRecord, NameWasRefused, Records, has_name};
 
 use crate::call::FileCall;
 use crate::owned_calls::{
@@ -62,7 +61,7 @@ impl Recorder {
 
     // Writes down a call that has names, or that the allocator refused them memory.
     fn note(&mut self, made: Result<FileCall, AllocError>)
-        ensures { (asked : call.FileCall) → has_name asked ≡ true → IfOk made (λ c. call_of [] c ≡ asked) → OnErr made MemoryWasRefused → Records asked self.new.told }
+        ensures { (asked : call.FileCall) → has_name asked ≡ true → IfOk made (λ c. call_of [] c ≡ asked) → OnErr made (NameWasRefused asked) → Records asked self.new.told }
     {
         match made {
             Ok(call) => self.told = Recorded::Call(call),

@@ -10,6 +10,7 @@ ghost use Rattle.memory_requests.specs.Refused.{MemoryWasRefused, RoomWasRefused
 
 use smallvec::SmallVec;
 use std::alloc::{AllocError, AllocFailed, Global};
+use std::boxed::Box;
 use std::default::MadeWith;
 use std::sync::Arc;
 
@@ -64,4 +65,25 @@ pub fn shared<T>(alloc: Global, value: T) -> Result<Arc<T, Global>, AllocFailed<
     ensures refused { OnErr result MemoryWasRefused }
 {
     Arc::new(alloc, value)
+}
+
+/// A value in a box; if the allocator refuses it memory, the value comes back.
+#[tactic(auto, using(crate::proofs::Asking::room_was_refused, crate::proofs::Asking::memory_was_refused))]
+pub fn boxed<T>(alloc: Global, value: T) -> Result<Box<T, Global>, AllocFailed<T>>
+    ensures boxed { IfOk result (λ made. made.value ≡ value) }
+    ensures kept { IfErr result (λ failed. failed.value ≡ value) }
+    ensures asked { OnErr result (RoomWasRefused 1) }
+    ensures refused { OnErr result MemoryWasRefused }
+{
+    Box::new(alloc, value)
+}
+
+/// A shared value, held once more; AllocError if it can't be, since its holders aren't counted further.
+#[tactic(auto, using(crate::proofs::Asking::room_was_refused, crate::proofs::Asking::memory_was_refused))]
+pub fn held_again<T>(value: &Arc<T, Global>) -> Result<Arc<T, Global>, AllocError>
+    ensures again { IfOk result (λ again. arc_value again ≡ arc_value value.now) }
+    ensures asked { OnErr result (RoomWasRefused 1) }
+    ensures refused { OnErr result MemoryWasRefused }
+{
+    Arc::try_clone(value)
 }

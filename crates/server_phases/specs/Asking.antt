@@ -2,7 +2,7 @@
 use Rattle.std.specs.Prelude.{◌≡◌, ◌==◌, ◌<◌, ℕ, Bool, true, false, ◌||◌, ◌&&◌, List, [], ◌∷◌, length, take, nat_lt, nat_le, Some, None, Ok, if◌then◌else◌}
 use Rattle.fuse_values.specs.declared.call.FileCall.{FileCall}
 use Rattle.fuse_values.specs.declared.call.FileCall.TheVariants as value
-use Rattle.fuse_values.specs.Recording.{has_name}
+use Rattle.fuse_values.specs.Recording.{NameWasRefused, has_name}
 use Rattle.fuse_values.specs.Values.{call_of}
 use Rattle.fuse_in.specs.declared.session.InHeader.{InHeader}
 use Rattle.fuse_in.specs.Records.{in_header}
@@ -61,6 +61,11 @@ told_reply room reply = if nat_lt room (length reply) then asked.Fault EncodeMes
 abbrev pub has_names : Meaning → Bool
 has_names (Asks command) = has_name (first_call command)
 has_names _ = false
+
+-- the allocator refused room for one of its names, or for its value
+abbrev pub NamesWereRefused : Meaning → Type 0
+NamesWereRefused (Asks command) = NameWasRefused (first_call command)
+NamesWereRefused _ = ⊥
 
 -- a request in one piece, of which nothing was read
 abbrev pub in_one_piece : List ℕ → ReaderView

@@ -16,5 +16,5 @@ pub use answering::{Answered, Refused, RefusedAnswer, Sent};
 pub use asking::{Asked, AskedFront};
 pub use front::Front;
 pub use listing::{Listing, ListingReply, NotAdded};
-pub use session::Session;
+pub use session::{REPLY_WITHOUT_CALL_LEN, Session};
 pub use waiting::{Awaits, Waiting};

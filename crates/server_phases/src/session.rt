@@ -1,7 +1,6 @@
 //! What client and server have agreed on, by which requests are asked and answers told.
 
 ghost use Rattle.std.specs.Prelude.{◌≡◌, ◌+◌, ◌^◌, ◌<◌, [], List, ℕ, true, false, length, Ok, drop, IsTrue, IfOk, IfErr, OnOk, bit_and};
-ghost use Rattle.memory_requests.specs.Refused.{MemoryWasRefused};
 ghost use Rattle.fuse_in.specs.Records.{in_header};
 ghost use Rattle.fuse_fs.specs.Answers.{context_of};
 ghost use Rattle.fuse_fs.specs.Lengths.{filled};
@@ -11,7 +10,7 @@ ghost use Rattle.virtiofsd_fuse.specs.Grammar.{given, meant, meaning, known_opti
 ghost use Rattle.virtiofsd_fuse.specs.Serving.{setting};
 ghost use Rattle.virtiofsd_fuse.specs.WantOfMemory.{may_take_memory};
 ghost use Rattle.server_phases.specs.Apart.{apart_of};
-ghost use Rattle.server_phases.specs.Asking.{IsTold, IsAskedBy, HasAsker, HasAskerByFront, IsFront, IsToldByFront, front_tells, in_one_piece, is_told, may_want_memory};
+ghost use Rattle.server_phases.specs.Asking.{IsTold, IsAskedBy, HasAsker, HasAskerByFront, IsFront, IsToldByFront, NamesWereRefused, front_tells, in_one_piece, is_told, may_want_memory};
 
 use crate::apart::{Apart, apart_of};
 use crate::asking::{
@@ -105,7 +104,8 @@ impl Session {
         ensures memory { IfErr result (λ e. (more : List ℕ) → reading_of in_header request.now ≡ Ok (head.now, more) → apart_of head.now ≡ Apart.Neither
             → may_want_memory self.now.options.0 request.now room ≡ true) }
         ensures refused { IfErr result (λ e. (more : List ℕ) → reading_of in_header request.now ≡ Ok (head.now, more) → apart_of head.now ≡ Apart.Neither
-            → may_take_memory self.now.options.0 (in_one_piece request.now) room ≡ false → MemoryWasRefused) }
+            → may_take_memory self.now.options.0 (in_one_piece request.now) room ≡ false
+            → NamesWereRefused (meant (given head.now self.now.options.0 room) more)) }
         ensures free { length w.new.written + w.new.free ≡ 80 }
     {
         let r = Reader::of_slice(alloc, request);
@@ -138,7 +138,8 @@ impl Session {
         ensures memory { IfErr result (λ e. (more : List ℕ) → reading_of in_header request.now ≡ Ok (head.now, more) → apart_of head.now ≡ Apart.Neither
             → may_want_memory self.now.options.0 request.now room ≡ true) }
         ensures refused { IfErr result (λ e. (more : List ℕ) → reading_of in_header request.now ≡ Ok (head.now, more) → apart_of head.now ≡ Apart.Neither
-            → may_take_memory self.now.options.0 (in_one_piece request.now) room ≡ false → MemoryWasRefused) }
+            → may_take_memory self.now.options.0 (in_one_piece request.now) room ≡ false
+            → NamesWereRefused (meant (given head.now self.now.options.0 room) more)) }
         ensures fresh { w.new.written ≡ [] }
         ensures place { w.new.free ≡ 80 }
     {
@@ -163,7 +164,8 @@ impl Session {
         ensures asker { IfOk result (λ asked. HasAsker request.now asked) }
         ensures err { IfErr result (λ e. e ≡ Error.OutOfMemory) }
         ensures memory { IfErr result (λ e. may_want_memory self.now.options.0 request.now room ≡ true) }
-        ensures refused { IfErr result (λ e. may_take_memory self.now.options.0 (in_one_piece request.now) room ≡ false → MemoryWasRefused) }
+        ensures refused { IfErr result (λ e. may_take_memory self.now.options.0 (in_one_piece request.now) room ≡ false
+            → NamesWereRefused (meaning self.now.options.0 request.now room)) }
         ensures fresh { w.new.written ≡ [] }
         ensures place { w.new.free ≡ 80 }
     {
@@ -202,7 +204,8 @@ impl Session {
         ensures more { IfOk result (λ asked. is_told asked ≡ front_tells front.now len) }
         ensures err { IfErr result (λ e. e ≡ Error.OutOfMemory) }
         ensures memory { IfErr result (λ e. (length front.now ≡ len) × (may_want_memory self.now.options.0 front.now room ≡ true)) }
-        ensures refused { IfErr result (λ e. may_take_memory self.now.options.0 (in_one_piece front.now) room ≡ false → MemoryWasRefused) }
+        ensures refused { IfErr result (λ e. may_take_memory self.now.options.0 (in_one_piece front.now) room ≡ false
+            → NamesWereRefused (meaning self.now.options.0 front.now room)) }
         ensures fresh { w.new.written ≡ [] }
         ensures place { w.new.free ≡ 80 }
     {

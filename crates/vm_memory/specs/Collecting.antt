@@ -1,10 +1,10 @@
 -- Which regions are a layout, and how a layout changes.
-use Rattle.std.specs.Prelude.{◌≡◌, ℕ, false, true, nat_lt, List, [], ◌∷◌, find, Option, Some, None, IsSome, if◌then◌else◌, Result, Ok, Err}
+use Rattle.std.specs.Prelude.{◌≡◌, ◌⊎◌, ℕ, length, false, true, nat_lt, List, [], ◌∷◌, find, Option, Some, None, IsSome, if◌then◌else◌, Result, Ok, Err}
 use Rattle.std.specs.List.{list_any}
 use Rattle.std.specs.Option.{option_or}
 use Rattle.std.specs.Arc.{arc_value}
 use Rattle.std.specs.declared.sync.Arc.{Arc}
-use Rattle.memory_requests.specs.Refused.{MemoryWasRefused}
+use Rattle.memory_requests.specs.Refused.{MemoryWasRefused, RoomWasRefused}
 use Rattle.vm_memory.specs.Layout.{Region, overlap, with_region, is_region, without_region}
 use Rattle.vm_memory.specs.declared.error.GuestRegionCollectionError.{GuestRegionCollectionError}
 use Rattle.vm_memory.specs.declared.error.GuestRegionCollectionError.TheVariants.{NoMemoryRegion, MemoryRegionOverlap, UnsortedMemoryRegions, OutOfMemory}
@@ -31,21 +31,25 @@ abbrev pub unless : Option GuestRegionCollectionError → List Region → Result
 unless None regions = Ok regions
 unless (Some fault) regions = Err fault
 
+-- the allocator refused so many regions: their list, or one of them
+abbrev pub RegionsWereRefused : ℕ → Type 0
+RegionsWereRefused n = RoomWasRefused n ⊎ RoomWasRefused 1
+
 -- some regions are a layout, or what is wrong with them; if nothing is, the allocator may refuse
 abbrev pub Collects : List Region → Result (List Region) GuestRegionCollectionError → Type 0
 Collects regions (Ok layout) = (fault_of regions ≡ None) × (layout ≡ regions)
 Collects regions (Err NoMemoryRegion) = fault_of regions ≡ Some NoMemoryRegion
 Collects regions (Err MemoryRegionOverlap) = fault_of regions ≡ Some MemoryRegionOverlap
 Collects regions (Err UnsortedMemoryRegions) = fault_of regions ≡ Some UnsortedMemoryRegions
-Collects regions (Err OutOfMemory) = (fault_of regions ≡ None) × MemoryWasRefused
+Collects regions (Err OutOfMemory) = (fault_of regions ≡ None) × RegionsWereRefused (length regions)
 
--- a layout with one more region, which has no address in common with any that is there; an allocation may fail if it has none
+-- a layout with one more region, which has no address in common with any that is there; the allocator may refuse if it has none
 abbrev pub Inserts : Region → List Region → Result (List Region) GuestRegionCollectionError → Type 0
 Inserts r layout (Ok new) = (list_any (overlap r) layout ≡ false) × (new ≡ with_region r layout)
 Inserts r layout (Err NoMemoryRegion) = ⊥
 Inserts r layout (Err MemoryRegionOverlap) = list_any (overlap r) layout ≡ true
 Inserts r layout (Err UnsortedMemoryRegions) = ⊥
-Inserts r layout (Err OutOfMemory) = list_any (overlap r) layout ≡ false
+Inserts r layout (Err OutOfMemory) = (list_any (overlap r) layout ≡ false) × MemoryWasRefused
 
 -- the layout that is left, and the region that was shared
 abbrev pub with_removed : {X Z : Type 0} → (X → Region) → Result (List Region × Arc X Z) GuestRegionCollectionError
@@ -53,10 +57,10 @@ abbrev pub with_removed : {X Z : Type 0} → (X → Region) → Result (List Reg
 with_removed region (Ok left) = Ok (left.0, region (arc_value left.1))
 with_removed region (Err e) = Err e
 
--- a layout without the region of this base and size, and that region; an allocation may fail if it is there
+-- a layout without the region of this base and size, and that region; the allocator may refuse if it is there
 abbrev pub Removes : (base size : ℕ) → List Region → Result (List Region × Region) GuestRegionCollectionError → Type 0
 Removes base size layout (Ok left) = (find (is_region base size) layout ≡ Some left.1) × (left.0 ≡ without_region base size layout)
 Removes base size layout (Err NoMemoryRegion) = find (is_region base size) layout ≡ None
 Removes base size layout (Err MemoryRegionOverlap) = ⊥
 Removes base size layout (Err UnsortedMemoryRegions) = ⊥
-Removes base size layout (Err OutOfMemory) = IsSome (find (is_region base size) layout)
+Removes base size layout (Err OutOfMemory) = IsSome (find (is_region base size) layout) × MemoryWasRefused

@@ -6,11 +6,11 @@ ghost use Rattle.std.specs.List.{list_any};
 ghost use Rattle.std.specs.Arc.{arc_value};
 ghost use Rattle.memory_requests.specs.Refused.{MemoryWasRefused};
 ghost use Rattle.vm_memory.specs.Layout.{Region, end_at, overlap, region_at, start_at, regions_of, IsLawful, IsLayout};
-ghost use Rattle.vm_memory.specs.Collecting.{fault_between, fault_of, unless, with_removed, Collects, Inserts, Removes};
+ghost use Rattle.vm_memory.specs.Collecting.{fault_between, fault_of, unless, with_removed, Collects, Inserts, RegionsWereRefused, Removes};
 
 use crate::error::GuestRegionCollectionError;
 use crate::region::GuestMemoryRegion;
-use memory_requests::{list_with_room, reserve, shared};
+use memory_requests::{held_again, list_with_room, reserve, shared};
 use std::alloc::{AllocError, Global};
 use std::marker::Model;
 use std::sync::Arc;
@@ -91,16 +91,17 @@ impl<R: GuestMemoryRegion> GuestRegionCollection<R> {
         if self.collides(at, start, last) {
             return Err(GuestRegionCollectionError::MemoryRegionOverlap);
         }
-        let Ok(mut regions) = self.copied(1) else {
+        let Ok(mut regions) = self.copied() else {
             return Err(GuestRegionCollectionError::OutOfMemory);
         };
-        match regions.insert(at, region) {
-            Ok(()) => Ok(GuestRegionCollection {
-                alloc: self.alloc,
-                regions,
-            }),
-            Err(_) => Err(GuestRegionCollectionError::OutOfMemory),
+        if reserve(&mut regions, 1).is_err() {
+            return Err(GuestRegionCollectionError::OutOfMemory);
         }
+        regions.insert(at, region).unwrap();
+        Ok(GuestRegionCollection {
+            alloc: self.alloc,
+            regions,
+        })
     }
 
     // Whether one of the regions has an address from one to another; `at` of them begin at the first address or below
@@ -162,7 +163,7 @@ impl<R: GuestMemoryRegion> GuestRegionCollection<R> {
         if last.len() != size {
             return Err(GuestRegionCollectionError::NoMemoryRegion);
         }
-        let Ok(mut regions) = self.copied(0) else {
+        let Ok(mut regions) = self.copied() else {
             return Err(GuestRegionCollectionError::OutOfMemory);
         };
         let removed = regions.remove(begun - 1);
@@ -175,25 +176,28 @@ impl<R: GuestMemoryRegion> GuestRegionCollection<R> {
         ))
     }
 
-    /// The same regions once more; AllocError if an allocation fails.
+    /// The same regions once more; AllocError only if the allocator refuses it.
     pub fn try_clone(&self) -> Result<GuestRegionCollection<R>, AllocError>
-        ensures { IfOk result (λ m. m ≡ self.now) }
+        ensures same { IfOk result (λ m. m ≡ self.now) }
+        ensures refused { OnErr result MemoryWasRefused }
     {
-        let regions = self.copied(0)?;
+        let regions = self.copied()?;
         Ok(GuestRegionCollection {
             alloc: self.alloc,
             regions,
         })
     }
 
-    // The regions, with room for more.
-    fn copied(&self, more: usize) -> Result<Vec<Arc<R>>, AllocError>
-        requires { more ≤ 1 }
-        ensures { IfOk result (λ v. regions_of R.region v.items ≡ self.now) }
+    // The regions, in a list of its own.
+    fn copied(&self) -> Result<Vec<Arc<R>>, AllocError>
+        ensures copy { IfOk result (λ v. regions_of R.region v.items ≡ self.now) }
+        ensures refused { OnErr result MemoryWasRefused }
     {
-        let mut all = Vec::with_capacity(self.alloc, self.regions.len().saturating_add(more))?;
+        let mut all = list_with_room(self.alloc, self.regions.len())?;
         for region in &self.regions {
-            all.push(Arc::try_clone(region)?)?;
+            // There is room already, which no clause says here.
+            reserve(&mut all, 1)?;
+            all.push(held_again(region)?).unwrap();
         }
         Ok(all)
     }
@@ -266,7 +270,7 @@ impl<R: GuestMemoryRegion> GuestRegionCollection<R> {
 // Regions that others may share.
 fn share<R: GuestMemoryRegion>(alloc: Global, regions: Vec<R>) -> Result<Vec<Arc<R>>, AllocError>
     ensures shared { IfOk result (λ v. regions_of R.region v.items ≡ map R.region regions.items) }
-    ensures refused { OnErr result MemoryWasRefused }
+    ensures refused { OnErr result (RegionsWereRefused (length regions.items)) }
 {
     let mut all = list_with_room(alloc, regions.len())?;
     for region in regions {

@@ -4,7 +4,7 @@ ghost use Rattle.std.specs.Prelude.{◌≡◌, true, IfErr, IfOk, OnErr};
 ghost use Rattle.std.specs.Arc.{arc_value};
 ghost use Rattle.std.specs.Fn.{FnOnceReturnsAt};
 ghost use Rattle.std.specs.Sync.RwLock.{write_guard_value};
-ghost use Rattle.memory_requests.specs.Refused.{MemoryWasRefused};
+ghost use Rattle.memory_requests.specs.Refused.{RoomWasRefused};
 
 use crate::address_space::GuestAddressSpace;
 use crate::law::MemoryLaw;
@@ -71,7 +71,7 @@ impl<M: GuestMemory + Drop, L: MemoryLaw<M>> GuestMemoryAtomic<M, L> {
     /// Memory that can be replaced, which is this one at first; AllocError only if the allocator refuses it.
     pub fn new(alloc: Global, memory: M) -> Result<GuestMemoryAtomic<M, L>, AllocError>
         requires { L.allows memory ≡ true }
-        ensures refused { OnErr result MemoryWasRefused }
+        ensures refused { OnErr result (RoomWasRefused 1) }
     {
         let newest = Newest {
             snapshot: shared(alloc, memory)?,
@@ -154,9 +154,8 @@ impl<'a, M: GuestMemory + Drop, L: MemoryLaw<M>> GuestMemoryExclusiveGuard<'a, M
     ) -> Result<GuestMemoryReplaceGuard<'a, M, L>, M>
         requires { L.allows memory ≡ true }
         ensures put { IfOk result (λ guard. arc_value (write_guard_value guard.newest).snapshot ≡ memory) }
-        ensures lock { IfOk result (λ guard. guard.lock.now ≡ self.entry.newest.now) }
         ensures kept { IfErr result (λ m. m ≡ memory) }
-        ensures refused { OnErr result MemoryWasRefused }
+        ensures refused { OnErr result (RoomWasRefused 1) }
     {
         let GuestMemoryExclusiveGuard { newest: lock, turn } = self;
         match shared(alloc, memory) {

@@ -7,7 +7,7 @@ use Rattle.vm_memory.specs.Memory.{addresses, location}
 use Rattle.vm_memory_core.proofs.WindowLemmas.{drop_item}
 use Rattle.fs_queue.specs.Chain.{Descriptor}
 use Rattle.fs_queue.specs.WalkingView.{AllEndIn64Bits}
-use Rattle.fs_queue.specs.Windows.{access_of, addresses_of, of_direction}
+use Rattle.fs_queue.specs.Taking.{access_of, addresses_of, of_direction}
 use Rattle.fs_queue.proofs.TakeLemmas.{direction_begun, direction_next, direction_other, direction_done, none_lies}
 use Rattle.fs_queue.proofs.take.add_direction.Goals as goal
 use Rattle.fs_queue.proofs.take.add_direction.Goals.{else-is_write_only-write_only-via-then-is_write_only-write_only+in_ok-extend_range+else-not-branch}

@@ -2,7 +2,7 @@ use Rattle.std.proofs.Common.{◌≡◌, ◌+◌, ◌<◌, ◌^◌, ◌++◌, dr
 use Rattle.vm_memory_core.specs.Host.{lengths}
 use Rattle.vm_memory_core.specs.Window.{places, AllLieIn}
 use Rattle.vm_memory.specs.Memory.{addresses, located, location, after}
-use Rattle.fs_queue.specs.Windows.{of_direction, access_of, addresses_of}
+use Rattle.fs_queue.specs.Taking.{of_direction, access_of, addresses_of}
 use Rattle.fs_queue.proofs.take.add_direction.Given as goal
 
 abbrev pub invariant-loop-descriptor : goal.invariant-loop-descriptor

@@ -1,6 +1,5 @@
 use Rattle.std.proofs.Common.{◌≡◌, drop}
-use Rattle.fs_queue.specs.Taking.{all_reach}
-use Rattle.fs_queue.specs.Windows.{access_of, of_direction}
+use Rattle.fs_queue.specs.Taking.{all_reach, access_of, of_direction}
 use Rattle.fs_regions.specs.Places.{places_in}
 use Rattle.fs_regions.proofs.chain.has_bytes.Given as goal
 

@@ -2,7 +2,7 @@ use Rattle.std.proofs.Common.{◌≡◌, ◌∙◌, ℕ, ◌+◌, ◌-◌, ◌%�
 use mathlib.Core.Bool.{beq}
 use Rattle.vm_memory_core.proofs.WindowLemmas.{drop_item}
 use Rattle.fs_queue.specs.Chain.{Descriptor, is_writable}
-use Rattle.fs_queue.specs.Windows.{addresses_of, of_direction}
+use Rattle.fs_queue.specs.Taking.{addresses_of, of_direction}
 use Rattle.vm_memory.specs.Memory.{addresses}
 use Rattle.fs_regions.proofs.Directions.{Skips, range_of, skips_on, skips_other, stands}
 use Rattle.fs_regions.proofs.chain.range_from.Goals as goal

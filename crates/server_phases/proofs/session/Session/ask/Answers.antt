@@ -3,7 +3,7 @@ use Rattle.std.proofs.lemmas.List.{length-drop}
 use Rattle.fuse_in.specs.Records.{in_header}
 use Rattle.server_requests.specs.Reading.{reading_of}
 use Rattle.virtiofsd_fuse.proofs.Rows.{meaning_head, meaning_fault}
-use Rattle.server_phases.proofs.Plain.{means_read, means_write, means_readdir, means_readdirplus, data_behind, if_ok_map}
+use Rattle.server_phases.proofs.Plain.{means_read, means_write, means_readdir, means_readdirplus, data_behind, if_err_map, if_ok_map}
 use Rattle.server_phases.proofs.Telling.{has_asker}
 use Rattle.server_phases.proofs.session.Session.ask.Goals as goal
 
@@ -73,3 +73,11 @@ returns-in-Readdirplus-clause-asker c = has_asker c.args.request.now c.read_reco
 pub returns-in-Ok-clause-asker : goal.returns-in-Ok-clause-asker
 returns-in-Ok-clause-asker c = if_ok_map c.ask_plain.result _ _ c.ask_plain.ensures.asker (λ asked by.
     has_asker c.args.request.now c.read_record.new.r.left c.in-Ok.head asked (c.in-Ok.ensures.reads ∙ ap (reading_of in_header) c.of_slice-r.ensures.left) by)
+
+pub returns-in-Ok-clause-refused : goal.returns-in-Ok-clause-refused
+returns-in-Ok-clause-refused c =
+    let s = c.args.self.now in
+    let reads = c.in-Ok.ensures.reads ∙ ap (reading_of in_header) c.of_slice-r.ensures.left in
+    if_err_map c.ask_plain.result _ _ c.ask_plain.ensures.refused (λ e k none.
+    rw (meaning_head s.options.0 c.args.room c.args.request.now c.read_record.new.r.left c.in-Ok.head reads)
+    (k c.read_record.new.r.left (sym reads) (sym c.apart_of.ensures ∙ c.in-Neither.is) none))

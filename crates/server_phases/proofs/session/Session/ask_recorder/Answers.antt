@@ -4,7 +4,7 @@ use Rattle.fuse_values.specs.declared.recorder.Recorded.{Recorded}
 use Rattle.server_segments.specs.Errors.{lacks_memory, is_memory}
 use Rattle.virtiofsd_fuse.specs.Grammar.{Meaning, given, meant}
 use Rattle.virtiofsd_fuse.specs.Serving.{setting}
-use Rattle.server_phases.specs.Asking.{IsTold}
+use Rattle.server_phases.specs.Asking.{IsTold, NamesWereRefused}
 use Rattle.server_phases.specs.Saying.{Says}
 use Rattle.server_phases.proofs.Meanings.{meant_says}
 use Rattle.server_phases.proofs.Recorded.{CameOf}
@@ -93,7 +93,7 @@ returns-in-OutOfMemory-clause-refused c = λ more e plain none.
     (ap (λ (r : Recorder). r.told) c.resume-server.ensures.fs ∙ c.new.ensures) c.handle_message-answer.ensures.handles e plain in
     let T : Recorded → Type 0 = CameOf (setting s.page_size s.options.0 80) m c.handle_message-answer.result c.handle_message-answer.new.w.written in
     let told = subst T (sym (c.into_told.ensures ∙ ap (λ (r : Recorder). r.told) c.into_fs.ensures) ∙ c.in-OutOfMemory.is) went in
-    told.2.1
+    subst NamesWereRefused (sym told.1) told.2.1
 
 pub returns-in-Transfer-clause-refused : goal.returns-in-Transfer-clause-refused
 returns-in-Transfer-clause-refused c = λ more e plain none.

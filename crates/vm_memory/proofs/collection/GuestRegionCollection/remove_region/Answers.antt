@@ -1,4 +1,4 @@
-use Rattle.std.proofs.Common.{◌≡◌, List, true, ◌-◌, ◌+◌, ◌<◌, length, arith, subst, sym, ap, ◌∙◌}
+use Rattle.std.proofs.Common.{rules, ◌≡◌, List, true, ◌-◌, ◌+◌, ◌<◌, length, arith, subst, sym, ap, ◌∙◌}
 use Rattle.std.specs.Prelude.{remove, is_some}
 use Rattle.vm_memory.specs.Layout.{Region, start_at, regions_of, is_region, IsLayout}
 use Rattle.vm_memory.proofs.LayoutLemmas.{start_at-get}
@@ -32,7 +32,7 @@ invariant_of-result g c =
     let r : Region = g.R.GuestMemoryRegion.region c.region-last.result.now in
     let this : is_region c.args.base.0 c.args.size r ≡ true = is_this r c.args.base.0 c.args.size (omega arith) (omega arith) in
     let left = ap (regions_of g.R.GuestMemoryRegion.region) c.remove-removed.ensures.items ∙ shared-remove g.R.GuestMemoryRegion.region c.in-Ok.regions.items (c.begun-begun.result - 1) ∙ ap
-    (λ (l : List Region). remove l (c.begun-begun.result - 1)) c.in-Ok.ensures
+    (λ (l : List Region). remove l (c.begun-begun.result - 1)) c.in-Ok.ensures.copy
     ∙ without-remove c.args.self.now (c.begun-begun.result - 1) c.args.base.0 c.args.size r c.begun-begun.ensures.layout c.region-last.ensures this in
     subst IsLayout (sym left) (layout_without c.args.self.now c.args.base.0 c.args.size c.begun-begun.ensures.layout)
 
@@ -41,10 +41,10 @@ returns g c =
     let r : Region = g.R.GuestMemoryRegion.region c.region-last.result.now in
     let this : is_region c.args.base.0 c.args.size r ≡ true = is_this r c.args.base.0 c.args.size (omega arith) (omega arith) in
     let left = ap (regions_of g.R.GuestMemoryRegion.region) c.remove-removed.ensures.items ∙ shared-remove g.R.GuestMemoryRegion.region c.in-Ok.regions.items (c.begun-begun.result - 1) ∙ ap
-    (λ (l : List Region). remove l (c.begun-begun.result - 1)) c.in-Ok.ensures
+    (λ (l : List Region). remove l (c.begun-begun.result - 1)) c.in-Ok.ensures.copy
     ∙ without-remove c.args.self.now (c.begun-begun.result - 1) c.args.base.0 c.args.size r c.begun-begun.ensures.layout c.region-last.ensures this in (
       found_there c.args.self.now (c.begun-begun.result - 1) c.args.base.0 c.args.size r c.begun-begun.ensures.layout c.region-last.ensures this
-          ∙ removed_item g.R.GuestMemoryRegion.region c.in-Ok.regions.items c.args.self.now (c.begun-begun.result - 1) r c.remove-removed.result c.in-Ok.ensures
+          ∙ removed_item g.R.GuestMemoryRegion.region c.in-Ok.regions.items c.args.self.now (c.begun-begun.result - 1) r c.remove-removed.result c.in-Ok.ensures.copy
           c.region-last.ensures c.remove-removed.ensures.value,
       left,
     )
@@ -53,4 +53,4 @@ pub returns-in_default : goal.returns-in_default
 returns-in_default g c =
     let r : Region = g.R.GuestMemoryRegion.region c.region-last.result.now in
     let this : is_region c.args.base.0 c.args.size r ≡ true = is_this r c.args.base.0 c.args.size (omega arith) (omega arith) in
-    ap is_some (found_there c.args.self.now (c.begun-begun.result - 1) c.args.base.0 c.args.size r c.begun-begun.ensures.layout c.region-last.ensures this)
+    (ap is_some (found_there c.args.self.now (c.begun-begun.result - 1) c.args.base.0 c.args.size r c.begun-begun.ensures.layout c.region-last.ensures this), search rules)
