@@ -47,10 +47,10 @@ comes_to law h regions limit q loaded ds (step.Chain head None) request runs cam
 begins : OffersAreTheMemorys → (h : Host) (bytes request : List ℕ) (old new : Workbench) (before after : KeptQueue) (told : walked.WalkOutcome) → before.stopped ≡ None → old.state ≡ at.Free
     → WalksOn bytes old new before after told → HasLoaded (memory_of h old.regions) (queue_of (course_of before old.limit)) nothing request
     → TellsOffer (memory_of h old.regions) (course_of before old.limit) new told request
-begins law h bytes request old new before after told open free walks has =
+begins law h bytes request old new before after told running free walks has =
     let course : Course = course_of before old.limit in
     let from : WalksFrom at.Free bytes old new before after told = subst (λ (s : state.State). WalksFrom s bytes old new before after told) free walks in
-    let went : BeginsUnless None old new before after told = subst (λ (o : Option QueueError). BeginsUnless o old new before after told) open from in
+    let went : BeginsUnless None old new before after told = subst (λ (o : Option QueueError). BeginsUnless o old new before after told) running from in
     subst (λ (t : walked.WalkOutcome). TellsOffer (memory_of h old.regions) course new t request) (sym went.1.0)
     (comes_to law h old.regions course.limit (queue_of course) nothing new.descriptors.items went.0 request refl went.2 has)
 
@@ -58,9 +58,9 @@ goes_on : OffersAreTheMemorys → (h : Host) (loaded : Loaded) (course : Course)
     → before.stopped ≡ None → old.state ≡ at.Walking course walk → WalksOn bytes old new before after told
     → StandsAt (places_in old.regions) (queue_of course) loaded old.descriptors.items walk → HasLoaded (memory_of h old.regions) (queue_of course) (with_bytes loaded walk bytes) request
     → TellsOffer (memory_of h old.regions) course new told request
-goes_on law h loaded course walk bytes request old new before after told open here walks stands has =
+goes_on law h loaded course walk bytes request old new before after told running here walks stands has =
     let from : WalksFrom (at.Walking course walk) bytes old new before after told = subst (λ (s : state.State). WalksFrom s bytes old new before after told) here walks in
-    let went : GoesOnUnless None course walk bytes old new before after told = subst (λ (o : Option QueueError). GoesOnUnless o course walk bytes old new before after told) open from in
+    let went : GoesOnUnless None course walk bytes old new before after told = subst (λ (o : Option QueueError). GoesOnUnless o course walk bytes old new before after told) running from in
     subst (λ (t : walked.WalkOutcome). TellsOffer (memory_of h old.regions) course new t request) (sym went.1.0)
     (comes_to law h old.regions course.limit (queue_of course) (with_bytes loaded walk bytes) new.descriptors.items went.0 request refl (went.2 loaded stands) has)
 
