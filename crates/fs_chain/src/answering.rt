@@ -100,7 +100,8 @@ impl Workbench {
 
     /// Answers a chain's call, in the session in which it was asked. A listing is answered entry by entry, or by `fail`: else `OtherKind`.
     pub fn answer(&mut self, answer: FileAnswer) -> Result<Replied, ChainError>
-        ensures given { IfOk result (λ told. IfWaits self.old.state (λ out w. IsGiven (setting self.old.session.page_size self.old.session.options.0 w.room) w answer out self.new.session.options.0 told self.new.state)) }
+        ensures given { IfOk result (λ told. IfWaits self.old.state (λ out w.
+            IsGiven (setting self.old.session.page_size self.old.session.options.0 w.room) w answer out self.new.session.options.0 told self.new.state)) }
         ensures taken { OnOk result (IsWaiting self.old.state × IfWaits self.old.state (λ out w. CanBeGiven w answer)) }
         ensures refused { IfErr result (λ e. AnswerFails self.old.state answer e) }
         ensures same { OnErr result (self.new ≡ self.old) }

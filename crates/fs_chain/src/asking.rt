@@ -143,7 +143,8 @@ impl Workbench {
     pub fn ask(&mut self, session: Session, request: &[u8]) -> Result<Told, ChainError>
         ensures error { IfErr result (λ e. (ask_error self.old.state (length request.now) ≡ Some e)
             ⊎ ((e ≡ ChainError.OutOfMemory) × (ask_error self.old.state (length request.now) ≡ None))) }
-        ensures memory { result ≡ Err ChainError.OutOfMemory → IfTaken self.old.state (λ out. (length request.now ≡ out.request_len) × (may_want_memory session.options.0 request.now out.room_len ≡ true)) }
+        ensures memory { result ≡ Err ChainError.OutOfMemory → IfTaken self.old.state (λ out.
+            (length request.now ≡ out.request_len) × (may_want_memory session.options.0 request.now out.room_len ≡ true)) }
         ensures refused { result ≡ Err ChainError.OutOfMemory → IfTaken self.old.state (λ out. may_take_memory session.options.0 (in_one_piece request.now) out.room_len ≡ false
             → NamesWereRefused (meaning session.options.0 request.now out.room_len)) }
         ensures ok { OnOk result (ask_error self.old.state (length request.now) ≡ None) }
