@@ -12,7 +12,7 @@ ghost use Rattle.virtiofsd_fuse.specs.WantOfMemory.{may_take_memory};
 ghost use Rattle.server_phases.specs.Asking.{AsksCall, HasAskerByFront, IsAskedBy, IsFront, IsTold, IsToldByFront, NamesWereRefused, in_one_piece, is_told, may_want_memory};
 ghost use Rattle.fs_chain.specs.Asking.{IfTaken, IsKeptFor, KeepsCall, TellsMeaning, wanted, wanted_after, wanted_by};
 ghost use Rattle.fs_chain.specs.Orders.{ask_error};
-ghost use Rattle.fs_chain.specs.Walks.{IsAllBut};
+ghost use Rattle.fs_chain.specs.Walks.{IsAllBut, IsAllButPlace};
 ghost use Rattle.fs_chain.specs.declared.state.State.TheVariants as at;
 
 use crate::error::ChainError;
@@ -71,7 +71,7 @@ impl Workbench {
         ensures tells { (s : Setting) (m : Meaning) (bytes : List ℕ) → IsTold s m bytes asked → TellsMeaning s m bytes out result self.new.state }
         ensures asker { (who : Context) → IsAskedBy who asked → IsKeptFor who self.new.state }
         ensures told { wanted_by result ≡ None }
-        ensures same { IsAllBut self.old self.new × (self.new.descriptors ≡ self.old.descriptors) }
+        ensures same { IsAllButPlace self.old self.new }
     {
         match asked {
             Asked::Call(call, waiting) => {
@@ -98,7 +98,7 @@ impl Workbench {
         ensures tells { (s : Setting) (m : Meaning) (bytes : List ℕ) → IsToldByFront s m bytes asked → TellsMeaning s m bytes out result self.new.state }
         ensures asker { (request : List ℕ) → HasAskerByFront request asked → (h : InHeader) (more : List ℕ) → reading_of in_header request ≡ Ok (h, more) → IsKeptFor (context_of h) self.new.state }
         ensures wanted { wanted_by result ≡ (if is_told asked then None else Some (wanted len out.request_len)) }
-        ensures same { IsAllBut self.old self.new × (self.new.descriptors ≡ self.old.descriptors) }
+        ensures same { IsAllButPlace self.old self.new }
     {
         match asked {
             AskedFront::Told(asked) => self.keep_asked(out, asked),
@@ -110,46 +110,52 @@ impl Workbench {
     }
 
     // Asks by some first bytes of a request.
-    fn ask_out(&mut self, session: &Session, out: Out, request: &[u8]) -> Result<Told, ChainError>
+    fn ask_out(&mut self, session: Session, out: Out, request: &[u8]) -> Result<Told, ChainError>
         requires { self.old.state ≡ at.Taken out }
         ensures error { IfErr result (λ e. (ask_error (at.Taken out) (length request.now) ≡ Some e)
-            ⊎ ((e ≡ ChainError.OutOfMemory) × (length request.now ≡ out.request_len) × (may_want_memory session.now.options.0 request.now out.room_len ≡ true))) }
-        ensures refused { result ≡ Err ChainError.OutOfMemory → may_take_memory session.now.options.0 (in_one_piece request.now) out.room_len ≡ false
-            → NamesWereRefused (meaning session.now.options.0 request.now out.room_len) }
+            ⊎ ((e ≡ ChainError.OutOfMemory) × (length request.now ≡ out.request_len) × (may_want_memory session.options.0 request.now out.room_len ≡ true))) }
+        ensures refused { result ≡ Err ChainError.OutOfMemory → may_take_memory session.options.0 (in_one_piece request.now) out.room_len ≡ false
+            → NamesWereRefused (meaning session.options.0 request.now out.room_len) }
         ensures ok { OnOk result (ask_error (at.Taken out) (length request.now) ≡ None) }
         ensures tells { IfOk result (λ told. (whole : List ℕ) → out.request_len ≡ length whole → IsFront request.now whole
-            → TellsMeaning (setting session.now.page_size session.now.options.0 out.room_len) (meaning session.now.options.0 whole out.room_len) (drop 80 whole) out told self.new.state) }
+            → TellsMeaning (setting session.page_size session.options.0 out.room_len) (meaning session.options.0 whole out.room_len) (drop 80 whole) out told self.new.state) }
         ensures asker { OnOk result ((whole : List ℕ) → out.request_len ≡ length whole → IsFront request.now whole
             → (h : InHeader) (more : List ℕ) → reading_of in_header whole ≡ Ok (h, more) → IsKeptFor (context_of h) self.new.state) }
         ensures wanted { IfOk result (λ told. wanted_by told ≡ wanted_after request.now out.request_len) }
-        ensures same { IsAllBut self.old self.new × (self.new.descriptors ≡ self.old.descriptors) }
-        ensures stays { OnErr result (self.new.state ≡ at.Taken out) }
+        ensures same { IsAllBut self.old self.new × (self.new.descriptors ≡ self.old.descriptors) × (self.new.part ≡ self.old.part) }
+        ensures session { OnOk result (self.new.session ≡ session) }
+        ensures stays { OnErr result ((self.new.state ≡ at.Taken out) × (self.new.session ≡ self.old.session)) }
     {
         let len = out.request_len;
         if len < request.len() {
             return Err(ChainError::BadArgument);
         }
         match session.ask_front(self.alloc, request, len, out.room_len, &mut self.place) {
-            Ok(asked) => Ok(self.keep_front(out, request.len(), asked)),
+            Ok(asked) => {
+                self.session = session;
+                Ok(self.keep_front(out, request.len(), asked))
+            }
             Err(_) => Err(ChainError::OutOfMemory),
         }
     }
 
-    /// Tells what a chain's request asks, by its first bytes. A call that is told waits for its answer.
-    pub fn ask(&mut self, session: &Session, request: &[u8]) -> Result<Told, ChainError>
+    /// Tells what a chain's request asks, by its first bytes, in this session, which is kept. A call that is told waits for its answer.
+    pub fn ask(&mut self, session: Session, request: &[u8]) -> Result<Told, ChainError>
         ensures error { IfErr result (λ e. (ask_error self.old.state (length request.now) ≡ Some e)
             ⊎ ((e ≡ ChainError.OutOfMemory) × (ask_error self.old.state (length request.now) ≡ None))) }
-        ensures memory { result ≡ Err ChainError.OutOfMemory → IfTaken self.old.state (λ out. (length request.now ≡ out.request_len) × (may_want_memory session.now.options.0 request.now out.room_len ≡ true)) }
-        ensures refused { result ≡ Err ChainError.OutOfMemory → IfTaken self.old.state (λ out. may_take_memory session.now.options.0 (in_one_piece request.now) out.room_len ≡ false
-            → NamesWereRefused (meaning session.now.options.0 request.now out.room_len)) }
+        ensures memory { result ≡ Err ChainError.OutOfMemory → IfTaken self.old.state (λ out.
+            (length request.now ≡ out.request_len) × (may_want_memory session.options.0 request.now out.room_len ≡ true)) }
+        ensures refused { result ≡ Err ChainError.OutOfMemory → IfTaken self.old.state (λ out. may_take_memory session.options.0 (in_one_piece request.now) out.room_len ≡ false
+            → NamesWereRefused (meaning session.options.0 request.now out.room_len)) }
         ensures ok { OnOk result (ask_error self.old.state (length request.now) ≡ None) }
         ensures tells { IfOk result (λ told. IfTaken self.old.state (λ out. (whole : List ℕ) → out.request_len ≡ length whole → IsFront request.now whole
-            → TellsMeaning (setting session.now.page_size session.now.options.0 out.room_len) (meaning session.now.options.0 whole out.room_len) (drop 80 whole) out told self.new.state)) }
+            → TellsMeaning (setting session.page_size session.options.0 out.room_len) (meaning session.options.0 whole out.room_len) (drop 80 whole) out told self.new.state)) }
         ensures asker { OnOk result (IfTaken self.old.state (λ out. (whole : List ℕ) → out.request_len ≡ length whole → IsFront request.now whole
             → (h : InHeader) (more : List ℕ) → reading_of in_header whole ≡ Ok (h, more) → IsKeptFor (context_of h) self.new.state)) }
         ensures wanted { IfOk result (λ told. IfTaken self.old.state (λ out. wanted_by told ≡ wanted_after request.now out.request_len)) }
-        ensures same { IsAllBut self.old self.new × (self.new.descriptors ≡ self.old.descriptors) }
-        ensures stays { OnErr result (self.new.state ≡ self.old.state) }
+        ensures same { IsAllBut self.old self.new × (self.new.descriptors ≡ self.old.descriptors) × (self.new.part ≡ self.old.part) }
+        ensures session { OnOk result (self.new.session ≡ session) }
+        ensures stays { OnErr result ((self.new.state ≡ self.old.state) × (self.new.session ≡ self.old.session)) }
     {
         match &self.state {
             State::Taken(out) => {

@@ -12,7 +12,7 @@ use crate::error::ChainError;
 use crate::state::State;
 use fs_queue::{Descriptors, MOST_LIMIT};
 use fs_regions::{GuestRegions, window_from};
-use server_phases::REPLY_WITHOUT_CALL_LEN;
+use server_phases::{REPLY_WITHOUT_CALL_LEN, Session};
 use server_segments::Writer;
 use std::alloc::Global;
 use virtiofsd_fuse::MAX_REQUEST_LEN;
@@ -21,7 +21,11 @@ use vm_memory_core::VolatileSlice;
 /// The least limit of a request and of a room, in bytes: the longest request that the server serves.
 pub const LEAST_LIMIT: u32 = MAX_REQUEST_LEN;
 
-/// A workbench for one chain at a time: from the walk that finds it to the stores that give it back.
+/// The page size of a session in which no chain was asked yet, in bytes.
+const PAGE_SIZE_AT_FIRST: u32 = 4096;
+
+/// A workbench for one chain at a time: from the walk that finds it to the stores that give it back. It keeps the first bytes of the load that its walk
+/// asks for, if the load is made in parts, and the session in which its chain was asked.
 #[derive(Drop)]
 pub struct Workbench {
     pub(crate) alloc: Global,
@@ -30,6 +34,8 @@ pub struct Workbench {
     pub(crate) descriptors: Descriptors,
     pub(crate) place: Writer,
     pub(crate) state: State,
+    pub(crate) part: Vec<u8>,
+    pub(crate) session: Session,
     ghost fresh: { place.written ≡ [] },
     ghost room: { place.free ≡ 80 },
 }
@@ -37,7 +43,7 @@ pub struct Workbench {
 impl Workbench {
     /// A workbench over no memory; `OutOfMemory` only if the allocator refuses it the place of a reply.
     pub fn new(alloc: Global) -> Result<Workbench, ChainError>
-        ensures ok { IfOk result (λ w. (w.regions ≡ []) × (w.limit ≡ 0x101000) × (w.descriptors.items ≡ []) × (w.state ≡ at.Free)) }
+        ensures ok { IfOk result (λ w. (w.regions ≡ []) × (w.limit ≡ 0x101000) × (w.descriptors.items ≡ []) × (w.state ≡ at.Free) × (w.part.items ≡ [])) }
         ensures err { IfErr result (λ e. e ≡ ChainError.OutOfMemory) }
         ensures asked { OnErr result (RoomWasRefused 80) }
     {
@@ -49,6 +55,8 @@ impl Workbench {
                 descriptors: Descriptors::new(alloc),
                 place,
                 state: State::Free,
+                part: Vec::new(alloc),
+                session: Session::new(PAGE_SIZE_AT_FIRST),
             }),
             Err(_) => Err(ChainError::OutOfMemory),
         }
@@ -60,7 +68,8 @@ impl Workbench {
         ensures error { IfErr result (λ e. memory_error self.old.state limit ≡ Some e) }
         ensures ok { OnOk result (memory_error self.old.state limit ≡ None) }
         ensures same { OnErr result (self.new ≡ self.old) }
-        ensures set { OnOk result ((self.new.regions ≡ regions) × (self.new.limit ≡ limit) × (self.new.state ≡ self.old.state)) }
+        ensures set { OnOk result ((self.new.regions ≡ regions) × (self.new.limit ≡ limit) × (self.new.state ≡ self.old.state)
+            × (self.new.part ≡ self.old.part) × (self.new.session ≡ self.old.session)) }
     {
         match self.state {
             State::Free => self.take_memory(regions, limit),
@@ -73,7 +82,8 @@ impl Workbench {
         ensures error { IfErr result (λ e. memory_error at.Free limit ≡ Some e) }
         ensures ok { OnOk result (memory_error at.Free limit ≡ None) }
         ensures same { OnErr result (self.new ≡ self.old) }
-        ensures set { OnOk result ((self.new.regions ≡ regions) × (self.new.limit ≡ limit) × (self.new.state ≡ self.old.state)) }
+        ensures set { OnOk result ((self.new.regions ≡ regions) × (self.new.limit ≡ limit) × (self.new.state ≡ self.old.state)
+            × (self.new.part ≡ self.old.part) × (self.new.session ≡ self.old.session)) }
     {
         if limit < LEAST_LIMIT || MOST_LIMIT < limit {
             return Err(ChainError::BadArgument);

@@ -1,8 +1,8 @@
 -- A chain's seat is one of those whose functions are proved for any.
 use mathlib.Core.Path.{refl}
 use Rattle.fs_chain_c.proofs.Seats.{Seat}
-use Rattle.fs_chain_c.specs.contracts.held.Held as State
-use Rattle.fs_chain_c.proofs.held.Held.TheLaws as state
+use Rattle.fs_chain.specs.contracts.workbench.Workbench as State
+use Rattle.fs_chain.proofs.workbench.Workbench.TheLaws as state
 use Rattle.fs_chain_c.specs.contracts.seat.ChainSeat as Chain
 
 abbrev pub chain_seat : Seat State.the_row state.the_row_laws

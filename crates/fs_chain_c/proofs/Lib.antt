@@ -1,6 +1,5 @@
 mod ChainAsSeat
-pub mod HeldLemmas
-pub mod LoadLemmas
+pub mod HandleLemmas
 pub mod MemoryLemmas
 mod Moving
 pub mod QueueLemmas

@@ -7,9 +7,9 @@ use crate::device::FsDevice;
 use crate::handle::FsChain;
 use crate::memory::FsRegion;
 use crate::queue::FsQueue;
-use crate::returning::{FsStores, drop_held, end_held, return_held};
-use crate::setting::{make_held, set_held};
-use crate::walking::{FsStep, walk_held};
+use crate::returning::{FsStores, drop_workbench, end_workbench, return_workbench};
+use crate::setting::{make_workbench, set_workbench};
+use crate::walking::{FsStep, walk_workbench};
 use crate::windows::{FsWindow, fill};
 use fs_chain::ChainError;
 use std::alloc::Global;
@@ -43,16 +43,16 @@ pub extern "C" fn fs_chain_set_memory(
     ensures { SetsMemory chain.old.seat.value device.now regions.now result chain.new.seat.value }
 {
     match chain.take(alloc) {
-        Some(mut held) => {
-            let status = set_held(alloc, &mut held, device, regions);
-            *chain = FsChain::of_box(held);
+        Some(mut workbench) => {
+            let status = set_workbench(alloc, &mut workbench, device, regions);
+            *chain = FsChain::of_box(workbench);
             status
         }
         None => {
-            let (made, status) = make_held(alloc, device, regions);
+            let (made, status) = make_workbench(alloc, device, regions);
             match made {
-                Some(held) => {
-                    *chain = FsChain::of_box(held);
+                Some(workbench) => {
+                    *chain = FsChain::of_box(workbench);
                     status
                 }
                 None => status,
@@ -80,13 +80,13 @@ pub extern "C" fn fs_walk(
 ) -> u32
     ensures { Walks chain.old.seat.value queue.old loaded.now result step.new chain.new.seat.value queue.new }
 {
-    let Some(mut held) = chain.take(alloc) else {
+    let Some(mut workbench) = chain.take(alloc) else {
         *step = FsStep::nothing();
         return wrong_order();
     };
-    let (told, status) = walk_held(&mut held, queue, loaded);
+    let (told, status) = walk_workbench(&mut workbench, queue, loaded);
     *step = told;
-    *chain = FsChain::of_box(held);
+    *chain = FsChain::of_box(workbench);
     status
 }
 
@@ -95,11 +95,11 @@ pub extern "C" fn fs_walk(
 pub extern "C" fn fs_drop(alloc: Global, chain: &mut FsChain, queue: &mut FsQueue) -> u32
     ensures { Drops chain.old.seat.value queue.old result chain.new.seat.value queue.new }
 {
-    let Some(mut held) = chain.take(alloc) else {
+    let Some(mut workbench) = chain.take(alloc) else {
         return 0;
     };
-    let status = drop_held(&mut held, queue);
-    *chain = FsChain::of_box(held);
+    let status = drop_workbench(&mut workbench, queue);
+    *chain = FsChain::of_box(workbench);
     status
 }
 
@@ -114,11 +114,11 @@ pub extern "C" fn fs_request_windows(
 ) -> usize
     ensures { TellsStretches chain.old.seat.value false from len windows.old result chain.new.seat.value windows.new }
 {
-    let Some(held) = chain.take(alloc) else {
+    let Some(workbench) = chain.take(alloc) else {
         return 0;
     };
-    let count = fill(&held.workbench, false, from, len, windows);
-    *chain = FsChain::of_box(held);
+    let count = fill(&workbench, false, from, len, windows);
+    *chain = FsChain::of_box(workbench);
     count
 }
 
@@ -133,11 +133,11 @@ pub extern "C" fn fs_room_windows(
 ) -> usize
     ensures { TellsStretches chain.old.seat.value true from len windows.old result chain.new.seat.value windows.new }
 {
-    let Some(held) = chain.take(alloc) else {
+    let Some(workbench) = chain.take(alloc) else {
         return 0;
     };
-    let count = fill(&held.workbench, true, from, len, windows);
-    *chain = FsChain::of_box(held);
+    let count = fill(&workbench, true, from, len, windows);
+    *chain = FsChain::of_box(workbench);
     count
 }
 
@@ -152,13 +152,13 @@ pub extern "C" fn fs_return(
 ) -> u32
     ensures { Returns chain.old.seat.value queue.now front.old result stores.new chain.new.seat.value front.new }
 {
-    let Some(mut held) = chain.take(alloc) else {
+    let Some(mut workbench) = chain.take(alloc) else {
         *stores = FsStores::nothing();
         return wrong_order();
     };
-    let (told, status) = return_held(&mut held, queue, front);
+    let (told, status) = return_workbench(&mut workbench, queue, front);
     *stores = told;
-    *chain = FsChain::of_box(held);
+    *chain = FsChain::of_box(workbench);
     status
 }
 
@@ -173,12 +173,12 @@ pub extern "C" fn fs_returned(
 ) -> u32
     ensures { Ends chain.old.seat.value queue.old seen result notify.new chain.new.seat.value queue.new }
 {
-    let Some(mut held) = chain.take(alloc) else {
+    let Some(mut workbench) = chain.take(alloc) else {
         *notify = 0;
         return wrong_order();
     };
-    let (told, status) = end_held(&mut held, queue, seen);
+    let (told, status) = end_workbench(&mut workbench, queue, seen);
     *notify = told;
-    *chain = FsChain::of_box(held);
+    *chain = FsChain::of_box(workbench);
     status
 }

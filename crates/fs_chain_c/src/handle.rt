@@ -2,8 +2,8 @@
 
 ghost use Rattle.std.specs.Prelude.{◌≡◌, Option, Some, None, is_some, option_map, if◌then◌else◌};
 
-use crate::held::Held;
 use crate::seat::ChainSeat;
+use fs_chain::Workbench;
 use std::alloc::Global;
 use std::mem;
 
@@ -27,17 +27,17 @@ impl FsChain {
     }
 
     /// A workbench.
-    pub fn of_box(held: Box<Held>) -> FsChain
-        ensures { result.seat.value ≡ Some held.value }
+    pub fn of_box(workbench: Box<Workbench>) -> FsChain
+        ensures { result.seat.value ≡ Some workbench.value }
     {
         FsChain {
-            seat: ChainSeat::of_box(held),
+            seat: ChainSeat::of_box(workbench),
             full: 1,
         }
     }
 
     /// The workbench, if there is one.
-    pub fn into_box(self) -> Option<Box<Held>>
+    pub fn into_box(self) -> Option<Box<Workbench>>
         ensures { self.seat.value ≡ option_map (λ b. b.value) result }
     {
         let FsChain { seat, full } = self;
@@ -49,7 +49,7 @@ impl FsChain {
     }
 
     /// Takes the workbench out, if there is one.
-    pub fn take(&mut self, alloc: Global) -> Option<Box<Held>>
+    pub fn take(&mut self, alloc: Global) -> Option<Box<Workbench>>
         ensures taken { self.old.seat.value ≡ option_map (λ b. b.value) result }
         ensures none { self.new.seat.value ≡ None }
     {
@@ -62,7 +62,7 @@ impl Drop for FsChain {
     #[inline(always)]
     fn drop(self) {
         match self.into_box() {
-            Some(held) => drop(held),
+            Some(workbench) => drop(workbench),
             None => {}
         }
     }

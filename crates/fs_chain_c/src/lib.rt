@@ -10,7 +10,6 @@ mod device;
 mod exports;
 mod fields;
 mod handle;
-mod held;
 mod listing;
 mod memory;
 mod parts;

@@ -8,14 +8,13 @@ use crate::answers::{
     FsEntry, FsStatfs, attr_said, create_said, entry_of, entry_said, open_said, statfs_said,
     wish_said,
 };
-use crate::asking::{NO_ROOM, answer_held, ask_held};
+use crate::asking::{NO_ROOM, answer_workbench, ask_workbench};
 use crate::call::{FsAttr, FsCall};
 use crate::device::FsDevice;
 use crate::exports::wrong_order;
 use crate::handle::FsChain;
-use crate::held::Held;
 use bitflags::Flags;
-use fs_chain::ChainError;
+use fs_chain::{ChainError, Workbench};
 use fuse_values::FileAnswer;
 use std::alloc::Global;
 
@@ -23,11 +22,11 @@ use std::alloc::Global;
 pub(crate) fn reply(alloc: Global, chain: &mut FsChain, said: FileAnswer) -> u32
     ensures { Replies said chain.old.seat.value result chain.new.seat.value }
 {
-    let Some(mut held) = chain.take(alloc) else {
+    let Some(mut workbench) = chain.take(alloc) else {
         return wrong_order();
     };
-    let status = answer_held(&mut held, said);
-    *chain = FsChain::of_box(held);
+    let status = answer_workbench(&mut workbench, said);
+    *chain = FsChain::of_box(workbench);
     status
 }
 
@@ -52,12 +51,12 @@ pub extern "C" fn fs_ask(
 ) -> u32
     ensures { AsksChain chain.old.seat.value device.now request.now result call.new chain.new.seat.value }
 {
-    let Some(mut held) = chain.take(alloc) else {
+    let Some(mut workbench) = chain.take(alloc) else {
         *call = FsCall::none();
         return wrong_order();
     };
-    let status = ask_held(&mut held, device, request, call);
-    *chain = FsChain::of_box(held);
+    let status = ask_workbench(&mut workbench, device, request, call);
+    *chain = FsChain::of_box(workbench);
     status
 }
 
@@ -166,22 +165,22 @@ pub extern "C" fn fs_reply_init(
 ) -> u32
     ensures { Starts wanted chain.old.seat.value device.old result chain.new.seat.value device.new }
 {
-    let Some(mut held) = chain.take(alloc) else {
+    let Some(mut workbench) = chain.take(alloc) else {
         return wrong_order();
     };
-    let status = answer_held(&mut held, wish_said(wanted));
+    let status = answer_workbench(&mut workbench, wish_said(wanted));
     if status == 0 || status == NO_ROOM {
-        device.options = held.session.options().bits();
+        device.options = workbench.session().options().bits();
     }
-    *chain = FsChain::of_box(held);
+    *chain = FsChain::of_box(workbench);
     status
 }
 
 // Replies so many bytes of C's own, and says a status.
-fn reply_own(held: &mut Held, len: usize) -> u32
-    ensures { RepliesOwn len held.old result held.new }
+fn reply_own(workbench: &mut Workbench, len: usize) -> u32
+    ensures { RepliesOwn len workbench.old result workbench.new }
 {
-    match held.workbench.reply(len) {
+    match workbench.reply(len) {
         Ok(()) => 0,
         Err(error) => u32::from(error.number()),
     }
@@ -192,10 +191,10 @@ fn reply_own(held: &mut Held, len: usize) -> u32
 pub extern "C" fn fs_reply_bytes(alloc: Global, chain: &mut FsChain, len: u64) -> u32
     ensures { RepliesBytes len chain.old.seat.value result chain.new.seat.value }
 {
-    let Some(mut held) = chain.take(alloc) else {
+    let Some(mut workbench) = chain.take(alloc) else {
         return wrong_order();
     };
-    let status = reply_own(&mut held, len as usize);
-    *chain = FsChain::of_box(held);
+    let status = reply_own(&mut workbench, len as usize);
+    *chain = FsChain::of_box(workbench);
     status
 }

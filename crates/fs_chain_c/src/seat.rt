@@ -1,11 +1,11 @@
 //! A boxed chain behind a pointer whose type C may see, or none.
 
 ghost use Rattle.std.specs.Prelude.{◌≡◌, Option, Some, None, IsSome};
-ghost use Rattle.fs_chain_c.specs.declared.held.Held.{Held};
+ghost use Rattle.fs_chain.specs.declared.workbench.Workbench.{Workbench};
 ghost use Rattle.fs_chain_c.specs.Owned.{chain_seat_owns, chain_value_coded};
 
-use crate::held::Held;
 use crate::parts::Parts;
+use fs_chain::Workbench;
 use std::alloc::Global;
 use std::marker::Model;
 
@@ -16,7 +16,7 @@ pub struct ChainSeat {
     at: *mut (),
     alloc: Global,
     /// The chain behind the pointer, if there is one.
-    pub ghost value: { Option Held } by { chain_value_coded },
+    pub ghost value: { Option Workbench } by { chain_value_coded },
 }
 
 impl Model for ChainSeat {
@@ -35,14 +35,14 @@ impl ChainSeat {
     }
 
     /// A chain, which leaves its box for the pointer.
-    pub fn of_box(state: Box<Held>) -> ChainSeat
+    pub fn of_box(state: Box<Workbench>) -> ChainSeat
         ensures { result.value ≡ Some state.value }
     {
         ChainSeat::of_parts(Parts::of(state))
     }
 
     /// The chain, in a box again.
-    pub fn into_box(self) -> Box<Held>
+    pub fn into_box(self) -> Box<Workbench>
         requires { IsSome self.value }
         ensures { self.value ≡ Some result.value }
     {
@@ -50,7 +50,7 @@ impl ChainSeat {
     }
 
     // The pointer to a box that was taken apart.
-    fn of_parts(parts: Parts<Held, Global>) -> ChainSeat
+    fn of_parts(parts: Parts<Workbench, Global>) -> ChainSeat
         ensures { result.value ≡ Some parts.value }
     {
         let Parts { ptr, alloc } = parts;
@@ -61,13 +61,13 @@ impl ChainSeat {
     }
 
     // The parts of a box behind the pointer.
-    fn into_parts(self) -> Parts<Held, Global>
+    fn into_parts(self) -> Parts<Workbench, Global>
         requires { IsSome self.value }
         ensures { self.value ≡ Some result.value }
     {
         let ChainSeat { at, alloc } = self;
         Parts {
-            ptr: at as *mut Held,
+            ptr: at as *mut Workbench,
             alloc,
         }
     }

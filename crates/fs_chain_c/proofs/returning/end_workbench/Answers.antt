@@ -1,5 +1,5 @@
 use Rattle.std.proofs.Common.{rules, refl, inl, inr}
-use Rattle.fs_chain_c.proofs.returning.end_held.Goals as goal
+use Rattle.fs_chain_c.proofs.returning.end_workbench.Goals as goal
 
 pub returns-in-Some : goal.returns-in-Some
 returns-in-Some c = inr (inr (search rules, search rules, c.in-Some.kept, search rules, search rules))

@@ -1,13 +1,18 @@
-use Rattle.std.proofs.Common.{rules, refl, inl, inr, ap, ◌∙◌, Err}
-use Rattle.fs_chain_c.specs.declared.held.Held.{Held}
-use Rattle.fs_chain_c.proofs.asking.ask_held.Goals as goal
+use Rattle.std.proofs.Common.{rules, inl, inr, ap, ◌∙◌, Err}
+use Rattle.fs_chain_c.proofs.asking.ask_workbench.Goals as goal
 
 pub returns-in-Ok : goal.returns-in-Ok
 returns-in-Ok c =
-    let asked : Held = record { workbench = c.ask.new.self; part = c.args.held.now.part; session = c.resume-session.result } in
     inr (inr (
       search rules,
-      (asked, c.in-Ok.told, search rules, refl, record { can = search rules; tells = search rules; wanted = search rules; stays = search rules }, search rules),
+      (
+        c.resume-session.result,
+        search rules,
+        c.ask.new.self,
+        c.in-Ok.told,
+        record { can = search rules; tells = search rules; wanted = search rules; session = search rules; stays = search rules },
+        search rules,
+      ),
     ))
 
 pub returns-in-Err : goal.returns-in-Err
@@ -18,8 +23,6 @@ returns-in-Err c =
       search rules,
       c.in-Err.error,
       record { why = search rules; memory = λ wants. c.ask.ensures.memory (c.in-Err.is ∙ ap Err wants); refused = λ wants. c.ask.ensures.refused (c.in-Err.is ∙ ap Err wants); stays = search rules },
-      search rules,
-      search rules,
       search rules,
       search rules,
     ))
