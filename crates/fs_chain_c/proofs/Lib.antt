@@ -1,9 +1,7 @@
-mod ChainAsSeat
+mod ChainValues
 pub mod HandleLemmas
 pub mod MemoryLemmas
-mod Moving
 pub mod QueueLemmas
 pub mod RangeLemmas
 pub mod RecordLemmas
-mod Seats
 pub mod WindowLemmas

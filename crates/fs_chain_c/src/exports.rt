@@ -40,7 +40,7 @@ pub extern "C" fn fs_chain_set_memory(
     device: &FsDevice,
     regions: &[FsRegion],
 ) -> u32
-    ensures { SetsMemory chain.old.seat.value device.now regions.now result chain.new.seat.value }
+    ensures { SetsMemory chain.old.value device.now regions.now result chain.new.value }
 {
     match chain.take(alloc) {
         Some(mut workbench) => {
@@ -64,7 +64,7 @@ pub extern "C" fn fs_chain_set_memory(
 /// Frees what a handle holds; then it has no workbench. The queue of a chain that is out isn't told.
 #[unsafe(no_mangle)]
 pub extern "C" fn fs_chain_free(alloc: Global, chain: &mut FsChain)
-    ensures { chain.new.seat.value ≡ None }
+    ensures { chain.new.value ≡ None }
 {
     *chain = FsChain::empty(alloc);
 }
@@ -78,7 +78,7 @@ pub extern "C" fn fs_walk(
     loaded: &[u8],
     step: &mut FsStep,
 ) -> u32
-    ensures { Walks chain.old.seat.value queue.old loaded.now result step.new chain.new.seat.value queue.new }
+    ensures { Walks chain.old.value queue.old loaded.now result step.new chain.new.value queue.new }
 {
     let Some(mut workbench) = chain.take(alloc) else {
         *step = FsStep::nothing();
@@ -93,7 +93,7 @@ pub extern "C" fn fs_walk(
 /// Gives a chain up; the queue hands it out again at its next walk.
 #[unsafe(no_mangle)]
 pub extern "C" fn fs_drop(alloc: Global, chain: &mut FsChain, queue: &mut FsQueue) -> u32
-    ensures { Drops chain.old.seat.value queue.old result chain.new.seat.value queue.new }
+    ensures { Drops chain.old.value queue.old result chain.new.value queue.new }
 {
     let Some(mut workbench) = chain.take(alloc) else {
         return 0;
@@ -112,7 +112,7 @@ pub extern "C" fn fs_request_windows(
     len: u64,
     windows: &mut [FsWindow],
 ) -> usize
-    ensures { TellsStretches chain.old.seat.value false from len windows.old result chain.new.seat.value windows.new }
+    ensures { TellsStretches chain.old.value false from len windows.old result chain.new.value windows.new }
 {
     let Some(workbench) = chain.take(alloc) else {
         return 0;
@@ -131,7 +131,7 @@ pub extern "C" fn fs_room_windows(
     len: u64,
     windows: &mut [FsWindow],
 ) -> usize
-    ensures { TellsStretches chain.old.seat.value true from len windows.old result chain.new.seat.value windows.new }
+    ensures { TellsStretches chain.old.value true from len windows.old result chain.new.value windows.new }
 {
     let Some(workbench) = chain.take(alloc) else {
         return 0;
@@ -150,7 +150,7 @@ pub extern "C" fn fs_return(
     front: &mut [u8],
     stores: &mut FsStores,
 ) -> u32
-    ensures { Returns chain.old.seat.value queue.now front.old result stores.new chain.new.seat.value front.new }
+    ensures { Returns chain.old.value queue.now front.old result stores.new chain.new.value front.new }
 {
     let Some(mut workbench) = chain.take(alloc) else {
         *stores = FsStores::nothing();
@@ -171,7 +171,7 @@ pub extern "C" fn fs_returned(
     seen: u16,
     notify: &mut u8,
 ) -> u32
-    ensures { Ends chain.old.seat.value queue.old seen result notify.new chain.new.seat.value queue.new }
+    ensures { Ends chain.old.value queue.old seen result notify.new chain.new.value queue.new }
 {
     let Some(mut workbench) = chain.take(alloc) else {
         *notify = 0;

@@ -20,7 +20,6 @@ mod record_place;
 mod replies;
 mod returning;
 mod saved_bytes;
-mod seat;
 mod setting;
 mod walking;
 mod windows;

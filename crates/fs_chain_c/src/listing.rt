@@ -4,7 +4,8 @@ ghost use Rattle.std.specs.Prelude.{◌≡◌, true, length};
 ghost use Rattle.fuse_fs.specs.Answers.{listed};
 ghost use Rattle.server_replies.specs.Entries.{no_node};
 ghost use Rattle.server_phases.specs.Gathering.{added_found, added_plain};
-ghost use Rattle.fs_chain_c.specs.Listing.{AddsEntry, AddsNode, AddsWorkbench, EndsList, EndsWorkbench, FailsListing, FailsWorkbench, RepliesError, added_status, errno_of, is_name, listed_as, type_of};
+ghost use Rattle.fs_chain_c.specs.Listing.{AddsEntry, AddsNode, AddsWorkbench, EndsList, EndsWorkbench, FailsListing, FailsWorkbench, RepliesError};
+ghost use Rattle.fs_chain_c.specs.Listing.{added_status, errno_of, is_name, listed_as, type_of};
 ghost use Rattle.fs_chain.specs.Orders.{is_listing};
 ghost use Rattle.fs_chain_c.specs.Handles.{OnWorkbench};
 ghost use Rattle.fs_chain_c.specs.Replies.{entry_of};
@@ -81,7 +82,7 @@ pub extern "C" fn fs_add_direntry(
     next_offset: u64,
     type_: u32,
 ) -> u32
-    ensures { AddsEntry (is_name name.now) (listed_as name.now ino next_offset type_) chain.old.seat.value list.old result chain.new.seat.value list.new }
+    ensures { AddsEntry (is_name name.now) (listed_as name.now ino next_offset type_) chain.old.value list.old result chain.new.value list.new }
 {
     if !is_name(name) {
         return u32::from(ChainError::BadArgument.number());
@@ -108,7 +109,7 @@ fn add_node(
     entry: &DirEntry<'_>,
     node: Option<Entry<u64>>,
 ) -> u32
-    ensures { AddsNode true (listed entry.now) node chain.old.seat.value list.old result chain.new.seat.value list.new }
+    ensures { AddsNode true (listed entry.now) node chain.old.value list.old result chain.new.value list.new }
 {
     let Some(node) = node else {
         return u32::from(ChainError::BadArgument.number());
@@ -132,7 +133,7 @@ pub extern "C" fn fs_add_direntry_plus(
     next_offset: u64,
 ) -> u32
     ensures { AddsNode (is_name name.now) (listed_as name.now entry.now.attr.ino next_offset (type_of entry.now)) (entry_of entry.now)
-        chain.old.seat.value list.old result chain.new.seat.value list.new }
+        chain.old.value list.old result chain.new.value list.new }
 {
     if !is_name(name) {
         return u32::from(ChainError::BadArgument.number());
@@ -159,7 +160,7 @@ fn end_workbench(workbench: &mut Workbench) -> (u32, u64)
 /// Replies the entries so far: how many bytes of the list are the data.
 #[unsafe(no_mangle)]
 pub extern "C" fn fs_reply_entries(alloc: Global, chain: &mut FsChain, len: &mut u64) -> u32
-    ensures { EndsList chain.old.seat.value result len.new chain.new.seat.value }
+    ensures { EndsList chain.old.value result len.new chain.new.value }
 {
     let Some(mut workbench) = chain.take(alloc) else {
         *len = 0;
@@ -201,7 +202,7 @@ fn errno_of(number: u32) -> Option<Errno>
 
 // A handle's call fails by an errno.
 fn fail_chain(alloc: Global, chain: &mut FsChain, error: Errno) -> u32
-    ensures { OnWorkbench (λ b b'. FailsWorkbench (is_listing b.state) error b result b') (result ≡ 73) chain.old.seat.value chain.new.seat.value }
+    ensures { OnWorkbench (λ b b'. FailsWorkbench (is_listing b.state) error b result b') (result ≡ 73) chain.old.value chain.new.value }
 {
     let Some(mut workbench) = chain.take(alloc) else {
         return wrong_order();
@@ -214,7 +215,7 @@ fn fail_chain(alloc: Global, chain: &mut FsChain, error: Errno) -> u32
 /// A chain's call is done (0), or fails by an errno.
 #[unsafe(no_mangle)]
 pub extern "C" fn fs_reply_err(alloc: Global, chain: &mut FsChain, error: u32) -> u32
-    ensures { RepliesError error chain.old.seat.value result chain.new.seat.value }
+    ensures { RepliesError error chain.old.value result chain.new.value }
 {
     match errno_of(error) {
         Some(errno) => fail_chain(alloc, chain, errno),

@@ -61,7 +61,7 @@ pub extern "C" fn fs_room_ranges(
     len: u64,
     ranges: &mut [FsRange],
 ) -> usize
-    ensures { TellsRanges chain.old.seat.value from len ranges.old result chain.new.seat.value ranges.new }
+    ensures { TellsRanges chain.old.value from len ranges.old result chain.new.value ranges.new }
 {
     let Some(workbench) = chain.take(alloc) else {
         return 0;
