@@ -62,8 +62,14 @@ try() {
     echo "$program $what: done"
 }
 
-# Two trials are the C example's own: `again` wants a server that goes on at the used index whatever base it is told, and `cut` one that
-# outlives a front-end which cuts off the memory that it lent.
+# A front-end cuts off the memory that it lent: its daemon ends, and says why.
+cut() {
+    make_yard
+    ! timeout 60 "$work/hostile" "$work/server" "$work/yard/share" cut 1 > "$work/cut" 2>&1 || failure "cut: the daemon goes on"
+    grep 'lent is gone (SIGBUS)' "$work/cut" || failure "cut: the daemon doesn't say why it ended: $(tail -n 1 "$work/cut")"
+}
+
+# One trial is the C example's own: `again` wants a server that goes on at the used index whatever base it is told.
 alone() {
     SECONDS_EACH=${SECONDS_EACH:-60}
     gcc -std=c11 -pthread -O2 -o "$work/checks" "$example"/{checks,escape,front}.c
@@ -82,4 +88,5 @@ alone() {
     try checks sleeps "${SLEEPS:-500000}"
     try hostile guest "$SECONDS_EACH"
     try hostile front-end "$SECONDS_EACH"
+    cut
 }
