@@ -55,7 +55,7 @@ static void sleeps(uint64_t wanted) {
             front_offer(&front, 1, (uint16_t)(2 * r->offered % RING_SIZE));
         front_kick(&front, 1);
         for (volatile unsigned wait = seed >> 40 & 255; wait > 0;) wait = wait - 1;
-        if (!front_wait(&front, 1, 5000)) die("a notification is lost after %llu sleeps", (unsigned long long)slept);
+        if (!front_wait(&front, 1, 20000)) die("a notification is lost after %llu sleeps", (unsigned long long)slept);
         slept++;
     }
     printf("%llu sleeps, %llu chains: none lost\n", (unsigned long long)slept, (unsigned long long)chains);
@@ -338,7 +338,7 @@ static int mkdir_with(uint64_t parent, const char *name, uint32_t group) {
     put_descriptor(&front, desc_at(1), 2, room_at(1) + 0x1000, 4096, 2, 0);
     front_offer(&front, 1, 0);
     front_kick(&front, 1);
-    if (!front_wait(&front, 1, 5000)) die("MKDIR isn't answered");
+    if (!front_wait(&front, 1, 20000)) die("MKDIR isn't answered");
     front_read(&front, 1, &reply);
     return reply.error;
 }

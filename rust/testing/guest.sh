@@ -107,7 +107,8 @@ qemu() {
         -object "memory-backend-memfd,id=mem,size=256M,share=on" -nodefaults -no-user-config -nic none -display none \
         -serial "file:$run/console" -chardev "pipe,id=mon,path=$run/monitor" -mon chardev=mon,mode=readline \
         -chardev "socket,id=fs,path=$socket" -kernel "$work/vmlinuz" -initrd "$work/image" \
-        -append "console=ttyS0 quiet loglevel=3 panic=-1 rdinit=/init scenario=$scenario" "$@") > "$run/qemu" 2>&1
+        -append "console=ttyS0 quiet loglevel=3 panic=-1 nowatchdog rcupdate.rcu_cpu_stall_suppress=1 \
+rdinit=/init scenario=$scenario" "$@") > "$run/qemu" 2>&1
 }
 busybox=$root/usr/bin/busybox
 export root
@@ -176,7 +177,8 @@ run_guest() {
     check_end "$name" "$kind"
 }
 
-# The guest came to its end, its kernel complains of nothing but a timer that a busy host is late with, and the server met no fault.
+# The guest came to its end, its kernel complains of nothing but a timer that a busy host is late with (it doesn't look for stalls), and
+# the server met no fault.
 check_end() {
     grep -q '^== end' "$run/lines" || failure "$1: the guest didn't come to its end"
     ! sed -n '/^== kernel/,/^== end/p' "$run/lines" | grep -v -e '^==' -e '8254 timer' -e 'clocksource' ||
