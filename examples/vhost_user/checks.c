@@ -13,6 +13,7 @@
 #include <sys/mman.h>
 #include <sys/stat.h>
 #include <sys/wait.h>
+#include <time.h>
 #include <unistd.h>
 
 enum { SET_LOG_BASE = 6, SET_VRING_ENABLE = 18, GET_CONFIG = 24, ADD_MEM_REG = 37, REM_MEM_REG = 38 };
@@ -286,8 +287,10 @@ static void two_queues(unsigned seconds) {
 
 /* ------------------------------------------------------------- a slow file */
 
-/* OPEN of a file on which somebody has a lease waits for the lease; another queue goes on. */
+/* OPEN of a file on which somebody has a lease waits for the lease, 45 seconds at most; another queue goes on. */
 static void slow_file(const char *dir) {
+    unsigned asked = 0;
+    time_t end;
     char path[200];
     struct fuse_getattr_in in = {0};
     struct fuse_open_in open_in = {.flags = O_RDONLY};
@@ -299,14 +302,14 @@ static void slow_file(const char *dir) {
     front_start_ring(&front, 2, 0);
     front_send(&front, 1, FUSE_OPEN, node, &open_in, sizeof open_in, 16 + 16);
     if (front_wait(&front, 1, 300)) die("the file isn't slow");
-    for (int k = 0; k < 1000; k++) {
+    for (end = time(NULL) + 20; asked < 1000 && time(NULL) < end; asked++) {
         front_ask(&front, 2, FUSE_GETATTR, ROOT, &in, sizeof in, &reply);
         expect("GETATTR beside a slow file", reply.error, 0);
     }
     if (atomic_load(index_at(&front, used_at(1) + 2)) == front.rings[1].offered) die("the file isn't slow");
     close(fd);
     if (!front_wait(&front, 1, 20000)) die("the slow file isn't opened");
-    printf("a slow file: 1000 chains of another queue meanwhile\n");
+    printf("a slow file: %u chains of another queue meanwhile\n", asked);
 }
 
 /* ------------------------------------------------------------- a group besides the caller's own */

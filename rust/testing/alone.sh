@@ -82,7 +82,7 @@ alone() {
     try checks log
     try checks rings
     try checks config
-    try checks memory 500
+    try checks memory "${CHANGES:-500}"
     try checks two 5
     try checks slow
     try checks sleeps "${SLEEPS:-500000}"

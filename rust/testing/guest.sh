@@ -56,7 +56,7 @@ make_image() {
 
 # What is shared: files by chance, one of 64 MiB, a directory of 300, one within another, and links.
 make_files() {
-    local files=$share/files k
+    local files=$share/files k largest=${LARGEST:-67108864}
     mkdir -p "$share"
     rm -rf "$share/work"
     mkdir "$share/work"
@@ -64,9 +64,9 @@ make_files() {
     mkdir -p "$files/many" "$files/one/two/three"
     echo 'Good morning from the host!' > "$files/greeting"
     : > "$files/empty"
-    head -c 1048589 /dev/urandom > "$files/m1"
-    head -c 8388608 /dev/urandom > "$files/m8"
-    head -c 67108864 /dev/urandom > "$files/big"
+    head -c $((largest / 64 + 13)) /dev/urandom > "$files/m1"
+    head -c $((largest / 8)) /dev/urandom > "$files/m8"
+    head -c "$largest" /dev/urandom > "$files/big"
     for k in $(seq 1 40); do head -c $((RANDOM % 9000)) /dev/urandom > "$files/one/two/$k"; done
     for k in $(seq 1 300); do echo "$k" > "$files/many/name-$k"; done
     ln -s greeting "$files/link"
@@ -117,7 +117,7 @@ device() { echo "vhost-user-fs-pci,chardev=fs,tag=shared,queue-size=128,num-requ
 
 # Waits for a line of the guest's.
 wait_for() {
-    for _ in $(seq "${3:-1200}"); do
+    for _ in $(seq $((4 * ${GUEST_SECONDS:-900}))); do
         ! grep -q "$2" "$1/console" 2> "$work/none" || return 0
         sleep 0.25
     done
