@@ -181,7 +181,7 @@ run_guest() {
 # the server met no fault.
 check_end() {
     grep -q '^== end' "$run/lines" || failure "$1: the guest didn't come to its end"
-    ! sed -n '/^== kernel/,/^== end/p' "$run/lines" | grep -v -e '^==' -e '8254 timer' -e 'clocksource' ||
+    ! sed -n '/^== kernel/,/^== end/p' "$run/lines" | grep -v -e '^==' -e '8254 timer' -e 'clocksource' -e 'stall warnings suppressed' ||
         failure "$1: the guest's kernel complains"
     [ "$2" = virtiofsd ] || ! grep -E 'ERROR|panicked' "$run/server" || failure "$1: the server has an error"
 }
