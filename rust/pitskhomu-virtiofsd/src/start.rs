@@ -90,7 +90,7 @@ fn config(options: Options, sandbox: &mut Sandbox, descriptors: u64) -> Config {
         writeback: options.writeback,
         xattr: options.has_xattr(),
         xattrmap: options.xattrmap,
-        announce_submounts: options.announce_submounts,
+        announce_submounts: !options.no_announce_submounts,
         inode_file_handles: options.inode_file_handles.into(),
         readdirplus: !options.no_readdirplus && !matches!(options.cache, CachePolicy::Never),
         cache_policy: options.cache,
