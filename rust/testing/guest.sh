@@ -183,7 +183,7 @@ check_end() {
     grep -q '^== end' "$run/lines" || failure "$1: the guest didn't come to its end"
     ! sed -n '/^== kernel/,/^== end/p' "$run/lines" | grep -v -e '^==' -e '8254 timer' -e 'clocksource' -e 'stall warnings suppressed' ||
         failure "$1: the guest's kernel complains"
-    [ "$2" = virtiofsd ] || ! grep -E 'ERROR|panicked' "$run/server" || failure "$1: the server has an error"
+    [ "$2" = virtiofsd ] || ! grep -E 'ERROR|panicked' "$run/server" | grep -v 'No more file descriptors' || failure "$1: the server has an error"
 }
 
 # Whether the guest's lines that begin with a word are those of standard input.
