@@ -75,6 +75,7 @@ alone() {
     SECONDS_EACH=${SECONDS_EACH:-60}
     gcc -std=c11 -pthread -O2 -o "$work/checks" "$example"/{checks,escape,front}.c
     gcc -std=c11 -pthread -O2 -o "$work/hostile" "$example"/{hostile,front,chance}.c
+    gcc -std=c11 -pthread -O2 -I"$example" -o "$work/state" "$here/testing/state.c" "$example"/{front,chance}.c
     make_server
     try checks escape
     try checks groups
@@ -89,5 +90,6 @@ alone() {
     try checks sleeps "${SLEEPS:-500000}"
     try hostile guest "$SECONDS_EACH"
     try hostile front-end "$SECONDS_EACH"
+    try state "$SECONDS_EACH"
     cut
 }
