@@ -14,7 +14,10 @@ use fs_chain::laws::law_walks;
 use fs_chain::{ChainError, KeptQueue, WalkOutcome, Went, Workbench};
 
 // Begins a walk: what it tells is what each memory offers that has no load of it yet.
-fn begin(workbench: &mut Workbench, queue: &mut KeptQueue) -> Result<Option<WalkOutcome>, ChainError>
+fn begin(
+    workbench: &mut Workbench,
+    queue: &mut KeptQueue,
+) -> Result<Option<WalkOutcome>, ChainError>
     ensures offered { IfOk result (λ on. IfSome on (λ told. (h : Host) → queue.old.stopped ≡ None → workbench.old.state ≡ at.Free
         → HasLoaded (memory_of h workbench.old.regions) (queue_of (course_of queue.old workbench.old.limit)) nothing []
         → TellsOffer (memory_of h workbench.old.regions) (course_of queue.old workbench.old.limit) workbench.new told [])) }
