@@ -4,7 +4,6 @@
 mod acting;
 mod auditing;
 mod calls;
-mod deeds;
 mod device;
 mod entry;
 mod harvest;
