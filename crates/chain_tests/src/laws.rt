@@ -1,15 +1,19 @@
 //! What the memories of the handle's regions offer, by what a call of walk told.
 
-ghost use Rattle.std.specs.Prelude.{◌≡◌, [], None, IfOk, IfSome};
+ghost use Rattle.std.specs.Prelude.{◌≡◌, ℕ, List, [], None, IfOk, IfSome};
 ghost use Rattle.vm_memory_core.specs.Host.{Host};
 ghost use Rattle.vm_memory.specs.Memory.{memory_of};
 ghost use Rattle.fs_regions.specs.Laws.{HasLoaded};
-ghost use Rattle.fs_regions.specs.Walks.{nothing, queue_of};
+ghost use Rattle.fs_regions.specs.Places.{places_in};
+ghost use Rattle.fs_regions.specs.Walks.{Loaded, StandsAt, nothing, queue_of, with_bytes};
+ghost use Rattle.fs_regions.specs.declared.course.Course.{Course};
+ghost use Rattle.fs_regions.specs.declared.walk.QueueWalk.{QueueWalk};
 ghost use Rattle.fs_chain.specs.Laws.{TellsOffer};
+ghost use Rattle.fs_chain.specs.Loads.{whole};
 ghost use Rattle.fs_chain.specs.Walks.{course_of};
 ghost use Rattle.fs_chain.specs.declared.state.State.TheVariants as at;
 
-use crate::given::{expect_same, queue, workbench};
+use crate::given::{LOADS, expect_same, queue, workbench};
 use fs_chain::laws::law_walks;
 use fs_chain::{ChainError, KeptQueue, WalkOutcome, Went, Workbench};
 
@@ -30,10 +34,46 @@ fn begin(
     }
 }
 
+// Goes on with a walk: what it tells is what each memory offers that has its loads, and the request's bytes.
+fn go_on(
+    workbench: &mut Workbench,
+    queue: &mut KeptQueue,
+    bytes: &[u8],
+) -> Result<Option<WalkOutcome>, ChainError>
+    ensures offered { IfOk result (λ on. IfSome on (λ told. (h : Host) (loaded : Loaded) (course : Course) (walk : QueueWalk) (request : List ℕ)
+        → queue.old.stopped ≡ None → workbench.old.state ≡ at.Walking course walk
+        → StandsAt (places_in workbench.old.regions) (queue_of course) loaded workbench.old.descriptors.items walk
+        → HasLoaded (memory_of h workbench.old.regions) (queue_of course) (with_bytes loaded walk (whole workbench.old bytes.now)) request
+        → TellsOffer (memory_of h workbench.old.regions) course workbench.new told request)) }
+{
+    law_walks();
+    match workbench.walk(queue, bytes) {
+        Ok(Went::On(told)) => Ok(Some(told)),
+        Ok(Went::Part) => Ok(None),
+        Err(error) => Err(error),
+    }
+}
+
 #[test]
 fn a_walk_that_begins_tells_what_a_memory_offers(rt: HostRuntime) {
     let mut workbench = workbench(&rt, rt.alloc());
     let mut queue = queue(&rt);
     let told = begin(&mut workbench, &mut queue).expect(&rt, "a walk");
     expect_same(&rt, told, Some(WalkOutcome::Load(2)));
+}
+
+#[test]
+fn a_walk_that_goes_on_tells_what_a_memory_offers(rt: HostRuntime) {
+    let mut workbench = workbench(&rt, rt.alloc());
+    let mut queue = queue(&rt);
+    let mut told = begin(&mut workbench, &mut queue).expect(&rt, "a walk");
+    for load in LOADS {
+        told = go_on(&mut workbench, &mut queue, load).expect(&rt, "a walk");
+    }
+    let chain = WalkOutcome::Chain {
+        head: 1,
+        request_len: 46,
+        room_len: 144,
+    };
+    expect_same(&rt, told, Some(chain));
 }

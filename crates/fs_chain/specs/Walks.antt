@@ -74,7 +74,7 @@ abbrev pub LeavesNone : comes.Step → List Descriptor → Type 0
 LeavesNone (step.Chain head (Some fault)) ds = ds ≡ []
 LeavesNone _ ds = Unit {0}
 
--- all of the handle stays but where its chain is, the chain's descriptors, what came of a load, and the session
+-- the handle goes over the same regions, by the same limit
 abbrev pub IsAllBut : (old new : Workbench) → Type 0
 IsAllBut old new = (new.regions ≡ old.regions) × (new.limit ≡ old.limit)
 

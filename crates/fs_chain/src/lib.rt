@@ -26,4 +26,4 @@ pub use queue::KeptQueue;
 pub use returning::Stores;
 pub use state::{Out, Reply, State};
 pub use walking::WalkOutcome;
-pub use workbench::{LEAST_LIMIT, Workbench};
+pub use workbench::Workbench;

@@ -18,9 +18,6 @@ use std::alloc::Global;
 use virtiofsd_fuse::MAX_REQUEST_LEN;
 use vm_memory_core::VolatileSlice;
 
-/// The least limit of a request and of a room, in bytes: the longest request that the server serves.
-pub const LEAST_LIMIT: u32 = MAX_REQUEST_LEN;
-
 /// The page size of a session in which no chain was asked yet, in bytes.
 const PAGE_SIZE_AT_FIRST: u32 = 4096;
 
@@ -43,7 +40,8 @@ pub struct Workbench {
 impl Workbench {
     /// A workbench over no memory; `OutOfMemory` only if the allocator refuses it the place of a reply.
     pub fn new(alloc: Global) -> Result<Workbench, ChainError>
-        ensures ok { IfOk result (λ w. (w.regions ≡ []) × (w.limit ≡ 0x101000) × (w.descriptors.items ≡ []) × (w.state ≡ at.Free) × (w.part.items ≡ [])) }
+        ensures ok { IfOk result (λ w. (w.regions ≡ []) × (w.limit ≡ 0x101000) × (w.descriptors.items ≡ []) × (w.state ≡ at.Free) × (w.part.items ≡ [])
+            × (w.session.page_size ≡ 4096) × (w.session.options.0 ≡ 0)) }
         ensures err { IfErr result (λ e. e ≡ ChainError.OutOfMemory) }
         ensures asked { OnErr result (RoomWasRefused 80) }
     {
@@ -51,7 +49,7 @@ impl Workbench {
             Ok(place) => Ok(Workbench {
                 alloc,
                 regions: GuestRegions::none(alloc),
-                limit: LEAST_LIMIT,
+                limit: MAX_REQUEST_LEN,
                 descriptors: Descriptors::new(alloc),
                 place,
                 state: State::Free,
@@ -85,7 +83,7 @@ impl Workbench {
         ensures set { OnOk result ((self.new.regions ≡ regions) × (self.new.limit ≡ limit) × (self.new.state ≡ self.old.state)
             × (self.new.part ≡ self.old.part) × (self.new.session ≡ self.old.session)) }
     {
-        if limit < LEAST_LIMIT || MOST_LIMIT < limit {
+        if limit < MAX_REQUEST_LEN || MOST_LIMIT < limit {
             return Err(ChainError::BadArgument);
         }
         self.regions = regions;

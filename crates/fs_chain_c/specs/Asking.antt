@@ -79,7 +79,8 @@ pub record Asks (w : Workbench) (s : Session) (request : List ℕ) (made : told.
   pub session : w'.session ≡ s
   pub stays : IsAllBut w w' × (w'.descriptors ≡ w.descriptors) × (w'.part ≡ w.part)
 
--- it can't be asked: it isn't where a request is asked, more bytes came than the request has, or memory is wanting, which only a whole request wants, and if none of it takes any in one piece, the allocator refused it for a name
+-- it can't be asked: it isn't where a request is asked, more bytes came than the request has, or memory is wanting, which only a whole request wants;
+-- if none of it takes any in one piece, the allocator refused it for a name
 pub record CannotAsk (w : Workbench) (s : Session) (request : List ℕ) (e : ChainError) (w' : Workbench) : Type 0 where
   pub why : (ask_error w.state (length request) ≡ Some e) ⊎ ((e ≡ OutOfMemory) × (ask_error w.state (length request) ≡ None))
   pub memory : e ≡ OutOfMemory → IfTaken w.state (λ out. (length request ≡ out.request_len) × (may_want_memory s.options.0 request out.room_len ≡ true))

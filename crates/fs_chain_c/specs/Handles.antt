@@ -32,6 +32,7 @@ OnWorkbench Does Nothing (Some b) (Some b') = Does b b'
 abbrev pub IsNewWorkbench : Workbench → Type 0
 IsNewWorkbench b =
     (b.regions ≡ []) × (b.limit ≡ 0x101000) × (b.descriptors.items ≡ []) × (b.state ≡ at.Free) × (b.part.items ≡ [])
+    × (b.session.page_size ≡ 4096) × (b.session.options.0 ≡ 0)
 
 -- the next walks go over these regions, by the device's limit
 abbrev pub GoesOver : Workbench → FsDevice → List FsRegion → Workbench → Type 0

@@ -79,13 +79,13 @@ ended_len (Ok n) = n
 ended_len (Err e) = 0
 
 -- a workbench's listing ends by the entries so far
-abbrev pub EndsWorkbench : Workbench → (status len : ℕ) → Workbench → Type 0
-EndsWorkbench b status len b' =
+abbrev pub EndsListing : Workbench → (status len : ℕ) → Workbench → Type 0
+EndsListing b status len b' =
     (told : Result ℕ ChainError) × Ends b.state b'.state told × IsAllButPlace b b' × (status ≡ ended_status told) × (len ≡ ended_len told)
 
 -- a handle's listing ends so
 abbrev pub EndsList : Option Workbench → (status len : ℕ) → Option Workbench → Type 0
-EndsList before status len after = OnWorkbench (λ b b'. EndsWorkbench b status len b') ((status ≡ chain_error_number WrongOrder) × (len ≡ 0)) before after
+EndsList before status len after = OnWorkbench (λ b b'. EndsListing b status len b') ((status ≡ chain_error_number WrongOrder) × (len ≡ 0)) before after
 
 -- a workbench's listing fails by an errno
 abbrev pub FailsListing : (errno : ℕ) → Workbench → (status : ℕ) → Workbench → Type 0

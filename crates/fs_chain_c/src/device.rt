@@ -4,8 +4,8 @@ ghost use Rattle.std.specs.Prelude.{◌≡◌, ◌↔◌, IsTrue};
 ghost use Rattle.server_replies.specs.PageSizes.{is_page_size};
 ghost use Rattle.fs_chain_c.specs.Memory.{IsDevice};
 
-use fs_chain::LEAST_LIMIT;
 use fs_queue::MOST_LIMIT;
+use virtiofsd_fuse::MAX_REQUEST_LEN;
 
 /// The sizes that a guest's pages may have.
 const PAGE_SIZES: [u32; 5] = [4 << 10, 8 << 10, 16 << 10, 32 << 10, 64 << 10];
@@ -34,6 +34,6 @@ impl FsDevice {
     pub fn is_lawful(&self) -> bool
         ensures { IsTrue result ↔ IsDevice self.now }
     {
-        is_page_size(self.page_size) && self.limit >= LEAST_LIMIT && self.limit <= MOST_LIMIT
+        is_page_size(self.page_size) && self.limit >= MAX_REQUEST_LEN && self.limit <= MOST_LIMIT
     }
 }

@@ -4,7 +4,7 @@ ghost use Rattle.std.specs.Prelude.{◌≡◌, true, length};
 ghost use Rattle.fuse_fs.specs.Answers.{listed};
 ghost use Rattle.server_replies.specs.Entries.{no_node};
 ghost use Rattle.server_phases.specs.Gathering.{added_found, added_plain};
-ghost use Rattle.fs_chain_c.specs.Listing.{AddsEntry, AddsNode, AddsWorkbench, EndsList, EndsWorkbench, FailsListing, FailsWorkbench, RepliesError};
+ghost use Rattle.fs_chain_c.specs.Listing.{AddsEntry, AddsNode, AddsWorkbench, EndsList, EndsListing, FailsListing, FailsWorkbench, RepliesError};
 ghost use Rattle.fs_chain_c.specs.Listing.{added_status, errno_of, is_name, listed_as, type_of};
 ghost use Rattle.fs_chain.specs.Orders.{is_listing};
 ghost use Rattle.fs_chain_c.specs.Handles.{OnWorkbench};
@@ -148,8 +148,8 @@ pub extern "C" fn fs_add_direntry_plus(
 }
 
 // Replies the entries so far: a status, and how many bytes of the list are the data.
-fn end_workbench(workbench: &mut Workbench) -> (u32, u64)
-    ensures { EndsWorkbench workbench.old result.0 result.1 workbench.new }
+fn end_listing(workbench: &mut Workbench) -> (u32, u64)
+    ensures { EndsListing workbench.old result.0 result.1 workbench.new }
 {
     match workbench.end() {
         Ok(len) => (0, len as u64),
@@ -166,7 +166,7 @@ pub extern "C" fn fs_reply_entries(alloc: Global, chain: &mut FsChain, len: &mut
         *len = 0;
         return wrong_order();
     };
-    let (status, told) = end_workbench(&mut workbench);
+    let (status, told) = end_listing(&mut workbench);
     *len = told;
     *chain = FsChain::of_box(workbench);
     status
@@ -182,7 +182,7 @@ fn fail_listing(workbench: &mut Workbench, error: Errno) -> u32
     }
 }
 
-// A workbench chain's call fails by an errno.
+// A chain's call fails by an errno.
 fn fail_workbench(workbench: &mut Workbench, error: Errno) -> u32
     ensures { FailsWorkbench (is_listing workbench.old.state) error workbench.old result workbench.new }
 {

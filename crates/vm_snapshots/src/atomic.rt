@@ -8,7 +8,7 @@ ghost use Rattle.memory_requests.specs.Refused.{RoomWasRefused};
 
 use crate::address_space::GuestAddressSpace;
 use crate::law::MemoryLaw;
-use memory_requests::shared;
+use memory_requests::{held_again, shared};
 use std::alloc::{AllocError, Global};
 use std::marker::{Model, PhantomData};
 use std::ops::Deref;
@@ -88,20 +88,22 @@ impl<M: GuestMemory + Drop, L: MemoryLaw<M>> GuestMemoryAtomic<M, L> {
 
     /// The same memory, held once more: what replaces the one replaces the other (vm-memory's `clone`).
     pub fn try_clone(&self) -> Result<GuestMemoryAtomic<M, L>, AllocError>
-        ensures { IfOk result (λ other. arc_value other.shared ≡ arc_value self.now.shared) }
+        ensures same { IfOk result (λ other. arc_value other.shared ≡ arc_value self.now.shared) }
+        ensures refused { OnErr result (RoomWasRefused 1) }
     {
         Ok(GuestMemoryAtomic {
-            shared: Arc::try_clone(&self.shared)?,
+            shared: held_again(&self.shared)?,
         })
     }
 
     /// The newest snapshot, once nobody is putting another in its place.
     pub fn memory<R: Wait>(&self, rt: &R) -> Result<GuestMemoryLoadGuard<M>, AllocError>
-        ensures { IfOk result (λ guard. L.allows guard ≡ true) }
+        ensures lent { IfOk result (λ guard. L.allows guard ≡ true) }
+        ensures refused { OnErr result (RoomWasRefused 1) }
     {
         let newest = self.shared.newest.read(rt);
         Ok(GuestMemoryLoadGuard {
-            snapshot: Arc::try_clone(&newest.snapshot)?,
+            snapshot: held_again(&newest.snapshot)?,
         })
     }
 
@@ -127,10 +129,11 @@ impl<M: Drop> GuestMemoryLoadGuard<M> {
 
     /// The same snapshot, held once more (vm-memory's `clone`).
     pub fn try_clone(&self) -> Result<GuestMemoryLoadGuard<M>, AllocError>
-        ensures { IfOk result (λ guard. guard ≡ self.now) }
+        ensures same { IfOk result (λ guard. guard ≡ self.now) }
+        ensures refused { OnErr result (RoomWasRefused 1) }
     {
         Ok(GuestMemoryLoadGuard {
-            snapshot: Arc::try_clone(&self.snapshot)?,
+            snapshot: held_again(&self.snapshot)?,
         })
     }
 
@@ -154,6 +157,7 @@ impl<'a, M: GuestMemory + Drop, L: MemoryLaw<M>> GuestMemoryExclusiveGuard<'a, M
     ) -> Result<GuestMemoryReplaceGuard<'a, M, L>, M>
         requires { L.allows memory ≡ true }
         ensures put { IfOk result (λ guard. arc_value (write_guard_value guard.newest).snapshot ≡ memory) }
+        ensures lock { IfOk result (λ guard. guard.lock.now ≡ self.entry.newest.now) }
         ensures kept { IfErr result (λ m. m ≡ memory) }
         ensures refused { OnErr result (RoomWasRefused 1) }
     {
