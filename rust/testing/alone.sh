@@ -91,5 +91,6 @@ alone() {
     try hostile guest "$SECONDS_EACH"
     try hostile front-end "$SECONDS_EACH"
     try state "$SECONDS_EACH"
+    try state full
     cut
 }
