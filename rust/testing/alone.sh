@@ -92,5 +92,7 @@ alone() {
     try hostile front-end "$SECONDS_EACH"
     try state "$SECONDS_EACH"
     try state full
+    try state lost
+    grep -q refused "$work/state-lost" || failure "lost: a file that no path leads to is taken"
     cut
 }

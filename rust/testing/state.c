@@ -1,7 +1,8 @@
-/* Migration streams of one's own: state SERVER DIR SECONDS|full. A state is taken out of the daemon, changed by chance, and handed in, again and
+/* Migration streams of one's own: state SERVER DIR SECONDS|full|lost. A state is taken out of the daemon, changed by chance, and handed in, again and
  * again. Each time the daemon says whether it takes it; no node and no handle that came so leads out of DIR, beside which a file has
  * the word `secret`; and a device that is reset after it serves as a new one. With `full` the daemon has no descriptor left for the guest:
- * memory comes all the same, and the state goes out, and in again. */
+ * memory comes all the same, and the state goes out, and in again. With `lost` the guest holds a file that it has removed, which no path
+ * leads to: such a state isn't taken. */
 #define _GNU_SOURCE
 #include "chance.h"
 #include "front.h"
@@ -156,9 +157,26 @@ static void full(void) {
     printf("state: with %u files open none more; memory came, and %zu bytes of state went out and in\n", count, len);
 }
 
+static void lost(void) {
+    struct {
+        struct fuse_create_in in;
+        char name[5];
+    } create = {{.flags = O_RDWR | O_CREAT, .mode = 0600}, "lost"};
+    static uint8_t state[MOST];
+    begin_anew();
+    front_ask(&front, 1, FUSE_CREATE, ROOT, &create, sizeof create.in + sizeof create.name, &reply);
+    if (reply.error) die("CREATE: %s", strerror(reply.error));
+    front_ask(&front, 1, FUSE_UNLINK, ROOT, create.name, sizeof create.name, &reply);
+    if (reply.error) die("UNLINK: %s", strerror(reply.error));
+    stop();
+    size_t len = save(state);
+    if (front_tell(&front, RESET_DEVICE, NULL, 0, NULL, 0)) die("no reset");
+    printf("state: a file that is held and removed: %s\n", load(state, len) ? "taken" : "refused");
+}
+
 int main(int argc, char **argv) {
     static const char *const few[] = {"--rlimit-nofile", "1600", NULL};
-    if (argc < 4) die("usage: state SERVER DIR SECONDS|full");
+    if (argc < 4) die("usage: state SERVER DIR SECONDS|full|lost");
     bool is_full = !strcmp(argv[3], "full");
     time_t now = time(NULL);
     chance_begin((uint64_t)now * 0x9e3779b97f4a7c15u | 1);
@@ -168,6 +186,8 @@ int main(int argc, char **argv) {
     front_start_ring(&front, 1, 0);
     if (is_full)
         full();
+    else if (!strcmp(argv[3], "lost"))
+        lost();
     else
         hostile_streams(now + (time_t)strtoul(argv[3], NULL, 10));
     begin_anew();
