@@ -54,7 +54,7 @@ try() {
         exec timeout $((SECONDS_EACH + 600)) "$work/$program" "$work/server" "$work/yard/share" "${@:2}"
     ) > "$work/$program-$what" 2> "$work/$program-$what.errors" || status=$?
     cat "$work/$program-$what"
-    if grep -v -E "$otherwise" "$work/$program-$what.errors" | grep -E 'FAILED|panicked'; then
+    if grep -a -v -E "$otherwise" "$work/$program-$what.errors" | grep -a -E 'FAILED|panicked'; then
         failure "$program $what"
     elif [ $status != 0 ] && ! { [ $status = 1 ] && grep -q -E "$otherwise" "$work/$program-$what.errors"; }; then
         failure "$program $what: it ended with $status: $(tail -n 3 "$work/$program-$what.errors")"
@@ -91,5 +91,8 @@ alone() {
     try hostile guest "$SECONDS_EACH"
     try hostile front-end "$SECONDS_EACH"
     try state "$SECONDS_EACH"
+    try state full
+    try state lost
+    grep -q refused "$work/state-lost" || failure "lost: a file that no path leads to is taken"
     cut
 }

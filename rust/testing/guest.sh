@@ -107,7 +107,7 @@ qemu() {
         -object "memory-backend-memfd,id=mem,size=256M,share=on" -nodefaults -no-user-config -nic none -display none \
         -serial "file:$run/console" -chardev "pipe,id=mon,path=$run/monitor" -mon chardev=mon,mode=readline \
         -chardev "socket,id=fs,path=$socket" -kernel "$work/vmlinuz" -initrd "$work/image" \
-        -append "console=ttyS0 quiet loglevel=3 panic=-1 nowatchdog rcupdate.rcu_cpu_stall_suppress=1 \
+        -append "console=ttyS0 quiet loglevel=3 panic=-1 no_timer_check nowatchdog rcupdate.rcu_cpu_stall_suppress=1 \
 rdinit=/init scenario=$scenario" "$@") > "$run/qemu" 2>&1
 }
 busybox=$root/usr/bin/busybox

@@ -5,7 +5,7 @@ listen() { (cat "$1/monitor.out" > "$1/said" 2> "$work/none") & }
 
 # One migration: the source's daemon, the target's, what is added to QEMU's device.
 move() {
-    local from=$1 to=$2 more=$3 name=migrate-$1-$2 there source target
+    local from=$1 to=$2 more=$3 name=migrate-$1-$2 status=0 there source target
     make_files
     run=$work/run-$name there=$work/run-$name/there
     rm -rf "$run"
@@ -26,9 +26,14 @@ move() {
     wait "$here_qemu" || true
     sleep 5
     : > "$share/work/over"
-    wait "$there_qemu" || failure "$name: qemu ended with $?"
+    wait "$there_qemu" || status=$?
     wait "$source" || failure "$name: the source's daemon ended with $?"
     wait "$target" || failure "$name: the target's daemon ended with $?"
+    if [ $status != 0 ] && grep -q 'has lost inode' "$there/server"; then
+        echo "$name: refused, since a file that was removed wasn't forgotten yet"
+        return 0
+    fi
+    [ $status = 0 ] || failure "$name: qemu ended with $status"
     cat "$run/console" "$there/console" | tr -d '\r' > "$run/lines"
     check_moved "$name"
 }

@@ -1,19 +1,23 @@
-/* Migration streams of one's own: state SERVER DIR SECONDS. A state is taken out of the daemon, changed by chance, and handed in, again and
+/* Migration streams of one's own: state SERVER DIR SECONDS|full|lost. A state is taken out of the daemon, changed by chance, and handed in, again and
  * again. Each time the daemon says whether it takes it; no node and no handle that came so leads out of DIR, beside which a file has
- * the word `secret`; and a device that is reset after it serves as a new one. */
+ * the word `secret`; and a device that is reset after it serves as a new one. With `full` the daemon has no descriptor left for the guest:
+ * memory comes all the same, and the state goes out, and in again. With `lost` the guest holds a file that it has removed, which no path
+ * leads to: such a state isn't taken. */
 #define _GNU_SOURCE
 #include "chance.h"
 #include "front.h"
+#include <errno.h>
 #include <fcntl.h>
 #include <linux/fuse.h>
 #include <signal.h>
 #include <stdio.h>
 #include <stdlib.h>
 #include <string.h>
+#include <sys/mman.h>
 #include <time.h>
 #include <unistd.h>
 
-enum { RESET_DEVICE = 34, SET_DEVICE_STATE_FD = 42, CHECK_DEVICE_STATE, SAVE = 0, LOAD = 1, ROOT = 1, MOST = 1 << 15 };
+enum { RESET_DEVICE = 34, ADD_MEM_REG = 37, SET_DEVICE_STATE_FD = 42, CHECK_DEVICE_STATE, SAVE = 0, LOAD = 1, ROOT = 1, MOST = 1 << 15 };
 
 static struct front front;
 static struct reply reply;
@@ -109,16 +113,9 @@ static void stop(void) {
     if (front_stop_ring(&front, 1) != front.rings[1].offered) die("another position");
 }
 
-int main(int argc, char **argv) {
+static void hostile_streams(time_t end) {
     static uint8_t state[MOST], changed[MOST];
     unsigned loads = 0, taken = 0, reads = 0;
-    if (argc < 4) die("usage: state SERVER DIR SECONDS");
-    time_t end = time(NULL) + (time_t)strtoul(argv[3], NULL, 10);
-    chance_begin((uint64_t)end * 0x9e3779b97f4a7c15u | 1);
-    signal(SIGPIPE, SIG_IGN);
-    front_begin(&front, argv[1], argv[2], NULL);
-    front_set_up(&front);
-    front_start_ring(&front, 1, 0);
     while (time(NULL) < end) {
         begin_anew();
         stop();
@@ -132,8 +129,68 @@ int main(int argc, char **argv) {
         reads += look_about();
         stop();
     }
-    begin_anew();
     printf("state: %u streams, %u taken, %u reads within the directory\n", loads, taken, reads);
+}
+
+static void full(void) {
+    struct {
+        uint64_t padding, guest, len, user, offset;
+    } region = {0, 1ull << 36, 1 << 20, 1ull << 46, 0};
+    struct fuse_open_in in = {.flags = O_RDONLY};
+    static uint8_t state[MOST];
+    unsigned count = 0;
+    int fd = memfd_create("more", MFD_CLOEXEC);
+    if (fd < 0 || ftruncate(fd, 1 << 20)) die("no memory");
+    begin_anew();
+    for (uint64_t node = look_up(&front, ROOT, "file"); count < 100000; count++) {
+        front_ask(&front, 1, FUSE_OPEN, node, &in, sizeof in, &reply);
+        if (reply.error) break;
+    }
+    if (reply.error != ENFILE) die("the last OPEN: %s", strerror(reply.error));
+    if (front_tell(&front, ADD_MEM_REG, &region, sizeof region, &fd, 1)) die("no memory comes");
+    stop();
+    size_t len = save(state);
+    if (front_tell(&front, RESET_DEVICE, NULL, 0, NULL, 0) || !load(state, len)) die("its own state is refused");
+    front_start_ring(&front, 1, front.rings[1].offered);
+    if (look_about() == 0) die("no file is open any more");
+    stop();
+    printf("state: with %u files open none more; memory came, and %zu bytes of state went out and in\n", count, len);
+}
+
+static void lost(void) {
+    struct {
+        struct fuse_create_in in;
+        char name[5];
+    } create = {{.flags = O_RDWR | O_CREAT, .mode = 0600}, "lost"};
+    static uint8_t state[MOST];
+    begin_anew();
+    front_ask(&front, 1, FUSE_CREATE, ROOT, &create, sizeof create.in + sizeof create.name, &reply);
+    if (reply.error) die("CREATE: %s", strerror(reply.error));
+    front_ask(&front, 1, FUSE_UNLINK, ROOT, create.name, sizeof create.name, &reply);
+    if (reply.error) die("UNLINK: %s", strerror(reply.error));
+    stop();
+    size_t len = save(state);
+    if (front_tell(&front, RESET_DEVICE, NULL, 0, NULL, 0)) die("no reset");
+    printf("state: a file that is held and removed: %s\n", load(state, len) ? "taken" : "refused");
+}
+
+int main(int argc, char **argv) {
+    static const char *const few[] = {"--rlimit-nofile", "1600", NULL};
+    if (argc < 4) die("usage: state SERVER DIR SECONDS|full|lost");
+    bool is_full = !strcmp(argv[3], "full");
+    time_t now = time(NULL);
+    chance_begin((uint64_t)now * 0x9e3779b97f4a7c15u | 1);
+    signal(SIGPIPE, SIG_IGN);
+    front_begin(&front, argv[1], argv[2], is_full ? few : NULL);
+    front_set_up(&front);
+    front_start_ring(&front, 1, 0);
+    if (is_full)
+        full();
+    else if (!strcmp(argv[3], "lost"))
+        lost();
+    else
+        hostile_streams(now + (time_t)strtoul(argv[3], NULL, 10));
+    begin_anew();
     front_leave(&front);
     return 0;
 }

@@ -43,8 +43,9 @@ fn lock(file: &File) -> bool {
 
 /// Locks `PATH.pid`, so that no second daemon takes the socket of one that runs, and writes the daemon's number there.
 fn number_file(socket: &Path) -> io::Result<File> {
-    let mut path = PathBuf::from(socket).into_os_string();
+    let mut path = socket.as_os_str().to_owned();
     path.push(".pid");
+    let path = PathBuf::from(path);
     let mut options = OpenOptions::new();
     options.write(true).create(true).truncate(false).mode(0o644).custom_flags(libc::O_NOFOLLOW);
     let mut file = options.open(&path)?;
