@@ -4,6 +4,7 @@
  * The core never sees the guest's memory, a file or a socket. It says which bytes it wants, is given them, tells the one file
  * call that they ask for, is told the answer, and says what is to be stored. You load, store, and call the file system:
  *
+ *     struct fs_step step = {0};                                       // a walk begins without bytes
  *     while ((s = fs_walk(&chain, &queue, bytes, step.len, &step)) == FS_LOAD)
  *         load(bytes, step.at, step.len);                              // acquire, once
  *     if (s != FS_DONE) ..;                                            // FS_IDLE, or why the queue stops
@@ -333,7 +334,7 @@ struct fs_chain {
 uint32_t fs_chain_set_memory(struct fs_chain *chain, const struct fs_device *device, const struct fs_region *regions,
                          size_t region_count) FS_CHECK FS_NONNULL(1, 2) FS_READS(3, 4);
 
-/* Frees what the chain holds; then it is zeros. Of zeros it does nothing. A chain that is out counts as dropped, but its queue
+/* Frees what the chain holds (that is tried, not proved); then it is zeros. Of zeros it does nothing. A chain that is out counts as dropped, but its queue
  * isn't told: set its `out` to 0. */
 void fs_chain_free(struct fs_chain *chain) FS_NONNULL(1);
 
