@@ -19,7 +19,7 @@ pub fn workbench(rt: &impl Abort, alloc: Global) -> Workbench {
     let region = MemoryRegion::new(0, 0x1000, 0).expect(rt, "a region");
     regions.push(region).expect(rt, "memory");
     let memory = GuestRegions::of_regions(alloc, regions).expect(rt, "memory");
-    let mut workbench = Workbench::new(alloc).expect(rt, "memory");
+    let mut workbench = Workbench::new(alloc);
     workbench.set_memory(memory, 0x101000).expect(rt, "memory");
     workbench
 }

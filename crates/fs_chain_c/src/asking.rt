@@ -30,7 +30,7 @@ pub fn answer_held(held: &mut Held, answer: FileAnswer) -> u32
 }
 
 // The answer to a call that nobody waits for, or that no file system of C's has: ENOSYS, as by its default.
-fn answer_unasked(call: &FileCall) -> Option<FileAnswer>
+fn answer_unasked(call: &FileCall<'_>) -> Option<FileAnswer>
     ensures { result ≡ answer_unasked call.now }
 {
     match call {
@@ -60,8 +60,8 @@ fn settle(held: &mut Held, answer: Option<FileAnswer>)
 }
 
 // Tells what a request asks.
-fn tell(held: &mut Held, request: &[u8], told: Told, call: &mut FsCall) -> u32
-    ensures { TellsAsked held.old request.now told call.new result held.new }
+fn tell(held: &mut Held, request: &[u8], told: Told<'_>, call: &mut FsCall) -> u32
+    ensures { TellsAsked held.old request.now told.entry call.new result held.new }
 {
     match told {
         Told::Call(made) => {

@@ -1,8 +1,6 @@
 //! A workbench is told its memory.
 
-ghost use Rattle.std.specs.Prelude.{◌≡◌, ◌⊎◌, IfOk, IfErr, OnErr, OnOk, option_map};
-ghost use Rattle.memory_requests.specs.Refused.{RoomWasRefused};
-ghost use Rattle.fs_chain.specs.declared.error.ChainError.TheVariants.{OutOfMemory};
+ghost use Rattle.std.specs.Prelude.{◌≡◌, IfOk, IfErr, OnErr, OnOk, option_map};
 ghost use Rattle.fs_chain_c.specs.Handles.{GoesOver, IsNewHeld, MakesHeld, RefusesMemory, RefusesNew, SetsHeld};
 
 use crate::device::FsDevice;
@@ -14,18 +12,13 @@ use server_phases::Session;
 use std::alloc::Global;
 
 // A workbench over no memory.
-fn new_held(alloc: Global) -> Result<Held, ChainError>
-    ensures ok { IfOk result IsNewHeld }
-    ensures err { IfErr result (λ e. e ≡ OutOfMemory) }
-    ensures asked { OnErr result (RoomWasRefused 80) }
+fn new_held(alloc: Global) -> Held
+    ensures { IsNewHeld result }
 {
-    match Workbench::new(alloc) {
-        Ok(workbench) => Ok(Held {
-            workbench,
-            part: Vec::new(alloc),
-            session: Session::new(4096),
-        }),
-        Err(error) => Err(error),
+    Held {
+        workbench: Workbench::new(alloc),
+        part: Vec::new(alloc),
+        session: Session::new(4096),
     }
 }
 
@@ -68,7 +61,7 @@ fn made(alloc: Global, device: &FsDevice, regions: &[FsRegion]) -> Result<Box<He
         return Err(ChainError::BadArgument);
     }
     let memory = memory_of(alloc, regions)?;
-    let mut held = new_held(alloc)?;
+    let mut held = new_held(alloc);
     held.workbench.set_memory(memory, device.limit)?;
     match boxed(alloc, held) {
         Ok(held) => Ok(held),

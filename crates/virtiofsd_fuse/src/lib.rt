@@ -15,6 +15,7 @@ mod writes;
 mod xattrs;
 
 pub use data_apart::{REPLY_FRONT, REQUEST_FRONT, writes_data};
+pub use forgets::MAX_FORGETS;
 pub use fuse_fs::{
     ChangeCalls, ChangesNothing, Context, DirEntry, DirectoryIterator, Entry, Extensions, FewCalls,
     FileNumber, FileSystem, FileSystemBase, GetxattrReply, ListxattrReply, NoEntries, OpenCalls,
