@@ -1,6 +1,6 @@
 //! What a request asks.
 
-ghost use Rattle.std.specs.Prelude.{◌≡◌, ℕ, ◌≤◌, [], List, Some, true, drop, length, bit_and};
+ghost use Rattle.std.specs.Prelude.{◌≡◌, ℕ, ◌≤◌, [], List, true, drop, length, bit_and};
 ghost use Rattle.fuse_fs.specs.Answers.{context_of};
 ghost use Rattle.fuse_fs.specs.Calls as call;
 ghost use Rattle.fuse_values.specs.Values.{call_of};
@@ -25,7 +25,7 @@ use server_replies::init::MAX_BUFFER_SIZE;
 use server_replies::replies::OUT_HEADER_LEN;
 use server_requests::source::{Flat, Source};
 use server_segments::Error;
-use virtiofsd_fuse::{MAX_REQUEST_LEN, REQUEST_FRONT};
+use virtiofsd_fuse::{MAX_REQUEST_LEN, REQUEST_FRONT, opcode_of};
 
 /// How many bytes a record of a WRITE has (`struct fuse_write_in`).
 pub(crate) const WRITE_IN_LEN: usize = 40;
@@ -278,21 +278,11 @@ pub(crate) fn ask_write_row<'a>(
     }
 }
 
-// Whether an opcode is that of a WRITE.
-fn writes(opcode: Opcode) -> bool
-    ensures { result ≡ is_write (Some opcode) }
-{
-    matches!(opcode, Opcode::Write)
-}
-
 // Whether a header is that of a WRITE.
 fn is_write(header: &InHeader) -> bool
     ensures { result ≡ is_write (opcode_of header.now.opcode) }
 {
-    match Opcode::try_from(header.opcode) {
-        Ok(opcode) => writes(opcode),
-        Err(()) => false,
-    }
+    matches!(opcode_of(header.opcode), Some(Opcode::Write))
 }
 
 /// Whether a request begins with the header of a WRITE.

@@ -21,7 +21,7 @@ use server_calls::open_files::{
 use server_calls::plain_requests::{Bmap, Getlk, Ioctl, NotifyReply, Poll, Setlk, Setlkw, TmpFile};
 use server_calls::session::Destroy;
 use server_requests::source::Flat;
-use virtiofsd_fuse::MAX_REQUEST_LEN;
+use virtiofsd_fuse::{MAX_REQUEST_LEN, opcode_of};
 
 impl Session {
     // What a request asks, by its opcode.
@@ -97,9 +97,9 @@ impl Session {
         if head.len > MAX_REQUEST_LEN {
             return refused(head, Errno::ENOMEM, room);
         }
-        match Opcode::try_from(head.opcode) {
-            Ok(opcode) => self.ask_row(opcode, head, room, source),
-            Err(()) => refused(head, Errno::ENOSYS, room),
+        match opcode_of(head.opcode) {
+            Some(opcode) => self.ask_row(opcode, head, room, source),
+            None => refused(head, Errno::ENOSYS, room),
         }
     }
 }

@@ -23,5 +23,5 @@ pub use fuse_fs::{
     ZeroCopyReader, ZeroCopyWriter, defaults,
 };
 pub use reads::{ReadReply, ReadRequest};
-pub use server::{MAX_REQUEST_LEN, Server};
+pub use server::{MAX_REQUEST_LEN, Server, opcode_of};
 pub use server_segments::{DescriptorType, Error, Reader, Writer, ZcReader, ZcWriter};
