@@ -91,7 +91,7 @@ module _ (regions sorted : List FsRegion) (same : IsPermutation regions sorted) 
       let apart = stand_apart sorted right in
       let len = length_permutation regions sorted same in (
         omega (arith, apart.1, len),
-        subst RegionsWereRefused (sym len) refused,
+        subst RegionsWereRefused len refused,
         map region_of sorted,
         (few, sorted, same, All-permutation IsRegion regions sorted same are, refl, apart.0),
       )

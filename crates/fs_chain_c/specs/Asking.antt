@@ -1,5 +1,5 @@
 -- What C is told of a request, and what comes of an answer.
-use Rattle.std.specs.Prelude.{◌≡◌, ◌⊎◌, ℕ, List, length, drop, bit_and, Option, Some, None, Result, Ok, Err, IfOk, IfErr, OnOk, OnErr, if◌then◌else◌, true, false}
+use Rattle.std.specs.Prelude.{◌≡◌, ◌⊎◌, ℕ, List, length, drop, bit_and, Option, Some, None, Result, Ok, Err, IfOk, IfErr, OnOk, OnErr, if◌then◌else◌}
 use Rattle.fuse_values.specs.declared.answer.FileAnswer.{FileAnswer}
 use Rattle.fuse_values.specs.declared.answer.FileAnswer.TheVariants as answer
 use Rattle.fuse_values.specs.declared.call.FileCall.{FileCall}

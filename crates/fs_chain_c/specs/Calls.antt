@@ -1,5 +1,5 @@
 -- What a request asks, as C is told.
-use Rattle.std.specs.Prelude.{◌==◌, ◌+◌, ◌-◌, ◌/◌, ◌^◌, ℕ, Bool, true, false, List, length, take, drop, min, nat_lt, bit_and, Option, Some, None, is_some, unwrap_or, if◌then◌else◌}
+use Rattle.std.specs.Prelude.{◌==◌, ◌+◌, ◌-◌, ◌/◌, ◌^◌, ℕ, Bool, true, false, List, length, take, drop, min, nat_lt, bit_and, is_some, unwrap_or, if◌then◌else◌}
 use Rattle.std.specs.Int.{w32, w64, cast_unsigned, from_le_bytes}
 use Rattle.fuse_fs.specs.declared.answers.Context.{Context}
 use Rattle.fuse_in.specs.declared.nodes.SetattrIn.{SetattrIn}

@@ -1,7 +1,6 @@
 -- What is kept of a request while its call waits for an answer.
-use Rattle.std.specs.Prelude.{◌≡◌, ℕ, ◌≤◌, ◌^◌}
+use Rattle.std.specs.Prelude.{◌≡◌, ◌≤◌, ◌^◌}
 use Rattle.std.specs.Prelude.{Bool, true, false, bit_and}
-use Rattle.fuse_fs.specs.declared.answers.Context.{Context}
 use Rattle.fuse_fs.specs.Calls.{FileCall, Init, Destroy, Lookup, Forget, BatchForget, Getattr, Setattr, Readlink, Symlink, Mknod, Mkdir, Link, Open, Read, Write}
 use Rattle.fuse_fs.specs.Calls.{Statfs, Readdir, Getxattr, Listxattr, Opendir, Getlk, Setlk, Setlkw, Bmap, Ioctl, Poll, NotifyReply, Create, Lseek, CopyFileRange, TmpFile}
 use Rattle.server_calls.specs.Callers.{IsFor}

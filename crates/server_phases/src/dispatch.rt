@@ -1,6 +1,6 @@
 //! What a request asks, by its header.
 
-ghost use Rattle.std.specs.Prelude.{◌≡◌, drop};
+ghost use Rattle.std.specs.Prelude.{drop};
 ghost use Rattle.fuse_fs.specs.Answers.{context_of};
 ghost use Rattle.virtiofsd_fuse.specs.Grammar.{given, meant, row};
 ghost use Rattle.virtiofsd_fuse.specs.Serving.{setting};

@@ -1,6 +1,6 @@
 //! What requests of one shape ask, read where their bytes stand.
 
-ghost use Rattle.std.specs.Prelude.{◌≡◌, ℕ, List};
+ghost use Rattle.std.specs.Prelude.{ℕ, List};
 ghost use Rattle.fuse_fs.specs.Answers.{context_of};
 ghost use Rattle.virtiofsd_fuse.specs.Grammar.{plain_row, record_row, name_row, record_name_row, two_names_row, new_name_row};
 ghost use Rattle.virtiofsd_fuse.specs.Grammar.{symlink_row, getxattr_row, listxattr_row, setxattr_row, forgets_asked, batch_forget_row, ended, given};

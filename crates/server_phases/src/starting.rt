@@ -1,6 +1,6 @@
 //! What an INIT asks.
 
-ghost use Rattle.std.specs.Prelude.{◌≡◌, ℕ, List};
+ghost use Rattle.std.specs.Prelude.{ℕ, List};
 ghost use Rattle.fuse_fs.specs.Answers.{context_of};
 ghost use Rattle.virtiofsd_fuse.specs.Grammar.{ended, given, init_row, started};
 ghost use Rattle.virtiofsd_fuse.specs.Serving.{setting};

@@ -4,8 +4,6 @@ use crate::given::expect_same;
 use crate::rows::{ASKER, Digits, UNIQUE, spelled};
 use fuse_values::FileCall;
 use server_phases::{Asked, AskedFront, Session};
-use std::alloc::Global;
-use std::process::Abort;
 
 /// The first bytes of a request that has so many in all, and what they tell.
 #[derive(Clone, Copy)]

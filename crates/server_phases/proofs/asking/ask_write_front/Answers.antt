@@ -1,4 +1,4 @@
-use Rattle.std.proofs.Common.{◌≡◌, ◌-◌, Ok, drop, length, refl, sym, ap, subst, ◌∙◌, arith, List, ℕ}
+use Rattle.std.proofs.Common.{◌≡◌, ◌-◌, Ok, drop, length, refl, sym, subst, arith, List, ℕ}
 use Rattle.std.proofs.lemmas.List.{drop-drop, length-drop}
 use Rattle.fuse_in.specs.Records.{in_header}
 use Rattle.server_requests.specs.Reading.{reading_of}

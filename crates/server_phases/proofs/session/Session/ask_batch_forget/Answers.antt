@@ -1,4 +1,4 @@
-use Rattle.std.proofs.Common.{sym, ap, subst, drop}
+use Rattle.std.proofs.Common.{ap, subst, drop}
 use Rattle.virtiofsd_fuse.specs.Serving.{setting}
 use Rattle.virtiofsd_fuse.specs.Grammar.{Meaning, ended, forgets_asked, given}
 use Rattle.server_requests.specs.Reading.{and_then}

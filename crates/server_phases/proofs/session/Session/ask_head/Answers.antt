@@ -1,6 +1,5 @@
 use Rattle.std.proofs.Common.{Some, sym}
 use Rattle.virtiofsd_fuse.specs.Grammar.{given}
-use Rattle.virtiofsd_fuse.specs.Serving.{setting}
 use Rattle.virtiofsd_fuse.proofs.Rows.{meant_long, meant_none, meant_row}
 use Rattle.server_phases.proofs.session.Session.ask_head.Goals as goal
 

@@ -5,7 +5,7 @@ use Rattle.server_requests.specs.Fronts.{with_bytes}
 use Rattle.virtiofsd_fuse.proofs.Serve.{ask_of}
 use Rattle.virtiofsd_fuse.proofs.Rows.{bytes_read, bytes_fault}
 use Rattle.server_phases.proofs.Telling.{fault_told}
-use Rattle.server_requests.specs.Extras.{new_name, parts_of, sent_of}
+use Rattle.server_requests.specs.Extras.{new_name}
 use Rattle.server_phases.proofs.session.Session.ask_new_name.Goals as goal
 
 pub returns-in-Ok-new_name-clause-told : goal.returns-in-Ok-new_name-clause-told
