@@ -13,6 +13,7 @@
 #include <sys/mman.h>
 #include <sys/stat.h>
 #include <sys/wait.h>
+#include <time.h>
 #include <unistd.h>
 
 enum { SET_LOG_BASE = 6, SET_VRING_ENABLE = 18, GET_CONFIG = 24, ADD_MEM_REG = 37, REM_MEM_REG = 38 };
@@ -55,7 +56,7 @@ static void sleeps(uint64_t wanted) {
             front_offer(&front, 1, (uint16_t)(2 * r->offered % RING_SIZE));
         front_kick(&front, 1);
         for (volatile unsigned wait = seed >> 40 & 255; wait > 0;) wait = wait - 1;
-        if (!front_wait(&front, 1, 5000)) die("a notification is lost after %llu sleeps", (unsigned long long)slept);
+        if (!front_wait(&front, 1, 20000)) die("a notification is lost after %llu sleeps", (unsigned long long)slept);
         slept++;
     }
     printf("%llu sleeps, %llu chains: none lost\n", (unsigned long long)slept, (unsigned long long)chains);
@@ -286,8 +287,10 @@ static void two_queues(unsigned seconds) {
 
 /* ------------------------------------------------------------- a slow file */
 
-/* OPEN of a file on which somebody has a lease waits for the lease; another queue goes on. */
+/* OPEN of a file on which somebody has a lease waits for the lease, 45 seconds at most; another queue goes on. */
 static void slow_file(const char *dir) {
+    unsigned asked = 0;
+    time_t end;
     char path[200];
     struct fuse_getattr_in in = {0};
     struct fuse_open_in open_in = {.flags = O_RDONLY};
@@ -299,14 +302,14 @@ static void slow_file(const char *dir) {
     front_start_ring(&front, 2, 0);
     front_send(&front, 1, FUSE_OPEN, node, &open_in, sizeof open_in, 16 + 16);
     if (front_wait(&front, 1, 300)) die("the file isn't slow");
-    for (int k = 0; k < 1000; k++) {
+    for (end = time(NULL) + 20; asked < 1000 && time(NULL) < end; asked++) {
         front_ask(&front, 2, FUSE_GETATTR, ROOT, &in, sizeof in, &reply);
         expect("GETATTR beside a slow file", reply.error, 0);
     }
     if (atomic_load(index_at(&front, used_at(1) + 2)) == front.rings[1].offered) die("the file isn't slow");
     close(fd);
     if (!front_wait(&front, 1, 20000)) die("the slow file isn't opened");
-    printf("a slow file: 1000 chains of another queue meanwhile\n");
+    printf("a slow file: %u chains of another queue meanwhile\n", asked);
 }
 
 /* ------------------------------------------------------------- a group besides the caller's own */
@@ -338,7 +341,7 @@ static int mkdir_with(uint64_t parent, const char *name, uint32_t group) {
     put_descriptor(&front, desc_at(1), 2, room_at(1) + 0x1000, 4096, 2, 0);
     front_offer(&front, 1, 0);
     front_kick(&front, 1);
-    if (!front_wait(&front, 1, 5000)) die("MKDIR isn't answered");
+    if (!front_wait(&front, 1, 20000)) die("MKDIR isn't answered");
     front_read(&front, 1, &reply);
     return reply.error;
 }

@@ -149,7 +149,7 @@ void front_set_memory(struct front *front) {
 
 /* Asks before it tells, as QEMU does: some back-ends answer nothing else before. */
 void front_set_up(struct front *front) {
-    uint64_t protocol = 1ull << 0 | 1ull << 1 | 1ull << 3 | 1ull << 9 | 1ull << 15;
+    uint64_t protocol = 1ull << 0 | 1ull << 1 | 1ull << 3 | 1ull << 9 | 1ull << 13 | 1ull << 15 | 1ull << 19;
     if ((number(front, GET_FEATURES) & front->features) != front->features) die("features are wanting");
     protocol &= number(front, GET_PROTOCOL_FEATURES);
     must_tell(front, SET_PROTOCOL_FEATURES, &protocol, sizeof protocol, NULL, 0);

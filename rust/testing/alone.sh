@@ -41,8 +41,9 @@ END
     chmod +x "$work/server"
 }
 
-# What virtiofsd answers otherwise than the C example: what is no file can't be opened at all, and root makes devices.
-otherwise='(link|pipe|size): Bad file descriptor|^FAILED: MKNOD of (a disk|memory): done'
+# What virtiofsd answers otherwise than the C example: what is no file, and a node that isn't there, is EBADF, root makes devices, and
+# OPEN that cuts a file to be read is EINVAL where all is read-only.
+otherwise='(link|pipe|size|node): Bad file descriptor|^FAILED: MKNOD of (a disk|memory): done|OPEN and cut: Invalid argument'
 
 # Runs a program of the tests over the daemon; what it prints is shown.
 try() {
@@ -62,12 +63,19 @@ try() {
     echo "$program $what: done"
 }
 
-# Two trials are the C example's own: `again` wants a server that goes on at the used index whatever base it is told, and `cut` one that
-# outlives a front-end which cuts off the memory that it lent.
+# A front-end cuts off the memory that it lent: its daemon ends, and says why.
+cut() {
+    make_yard
+    ! timeout 60 "$work/hostile" "$work/server" "$work/yard/share" cut 1 > "$work/cut" 2>&1 || failure "cut: the daemon goes on"
+    grep 'lent is gone (SIGBUS)' "$work/cut" || failure "cut: the daemon doesn't say why it ended: $(tail -n 1 "$work/cut")"
+}
+
+# One trial is the C example's own: `again` wants a server that goes on at the used index whatever base it is told.
 alone() {
     SECONDS_EACH=${SECONDS_EACH:-60}
     gcc -std=c11 -pthread -O2 -o "$work/checks" "$example"/{checks,escape,front}.c
     gcc -std=c11 -pthread -O2 -o "$work/hostile" "$example"/{hostile,front,chance}.c
+    gcc -std=c11 -pthread -O2 -I"$example" -o "$work/state" "$here/testing/state.c" "$example"/{front,chance}.c
     make_server
     try checks escape
     try checks groups
@@ -76,10 +84,12 @@ alone() {
     try checks log
     try checks rings
     try checks config
-    try checks memory 500
+    try checks memory "${CHANGES:-500}"
     try checks two 5
     try checks slow
     try checks sleeps "${SLEEPS:-500000}"
     try hostile guest "$SECONDS_EACH"
     try hostile front-end "$SECONDS_EACH"
+    try state "$SECONDS_EACH"
+    cut
 }

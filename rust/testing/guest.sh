@@ -56,7 +56,7 @@ make_image() {
 
 # What is shared: files by chance, one of 64 MiB, a directory of 300, one within another, and links.
 make_files() {
-    local files=$share/files k
+    local files=$share/files k largest=${LARGEST:-67108864}
     mkdir -p "$share"
     rm -rf "$share/work"
     mkdir "$share/work"
@@ -64,9 +64,9 @@ make_files() {
     mkdir -p "$files/many" "$files/one/two/three"
     echo 'Good morning from the host!' > "$files/greeting"
     : > "$files/empty"
-    head -c 1048589 /dev/urandom > "$files/m1"
-    head -c 8388608 /dev/urandom > "$files/m8"
-    head -c 67108864 /dev/urandom > "$files/big"
+    head -c $((largest / 64 + 13)) /dev/urandom > "$files/m1"
+    head -c $((largest / 8)) /dev/urandom > "$files/m8"
+    head -c "$largest" /dev/urandom > "$files/big"
     for k in $(seq 1 40); do head -c $((RANDOM % 9000)) /dev/urandom > "$files/one/two/$k"; done
     for k in $(seq 1 300); do echo "$k" > "$files/many/name-$k"; done
     ln -s greeting "$files/link"
@@ -107,7 +107,8 @@ qemu() {
         -object "memory-backend-memfd,id=mem,size=256M,share=on" -nodefaults -no-user-config -nic none -display none \
         -serial "file:$run/console" -chardev "pipe,id=mon,path=$run/monitor" -mon chardev=mon,mode=readline \
         -chardev "socket,id=fs,path=$socket" -kernel "$work/vmlinuz" -initrd "$work/image" \
-        -append "console=ttyS0 quiet loglevel=3 panic=-1 rdinit=/init scenario=$scenario" "$@") > "$run/qemu" 2>&1
+        -append "console=ttyS0 quiet loglevel=3 panic=-1 nowatchdog rcupdate.rcu_cpu_stall_suppress=1 \
+rdinit=/init scenario=$scenario" "$@") > "$run/qemu" 2>&1
 }
 busybox=$root/usr/bin/busybox
 export root
@@ -116,7 +117,7 @@ device() { echo "vhost-user-fs-pci,chardev=fs,tag=shared,queue-size=128,num-requ
 
 # Waits for a line of the guest's.
 wait_for() {
-    for _ in $(seq "${3:-1200}"); do
+    for _ in $(seq $((4 * ${GUEST_SECONDS:-900}))); do
         ! grep -q "$2" "$1/console" 2> "$work/none" || return 0
         sleep 0.25
     done
@@ -176,12 +177,13 @@ run_guest() {
     check_end "$name" "$kind"
 }
 
-# The guest came to its end, its kernel complains of nothing but a timer that a busy host is late with, and the server met no fault.
+# The guest came to its end, its kernel complains of nothing but a timer that a busy host is late with (it doesn't look for stalls), and
+# the server met no fault.
 check_end() {
     grep -q '^== end' "$run/lines" || failure "$1: the guest didn't come to its end"
-    ! sed -n '/^== kernel/,/^== end/p' "$run/lines" | grep -v -e '^==' -e '8254 timer' -e 'clocksource' ||
+    ! sed -n '/^== kernel/,/^== end/p' "$run/lines" | grep -v -e '^==' -e '8254 timer' -e 'clocksource' -e 'stall warnings suppressed' ||
         failure "$1: the guest's kernel complains"
-    [ "$2" = virtiofsd ] || ! grep -E 'ERROR|panicked' "$run/server" || failure "$1: the server has an error"
+    [ "$2" = virtiofsd ] || ! grep -E 'ERROR|panicked' "$run/server" | grep -v 'No more file descriptors' || failure "$1: the server has an error"
 }
 
 # Whether the guest's lines that begin with a word are those of standard input.

@@ -1,6 +1,6 @@
 //! What the tests share: a queue, a workbench, and a chain that asks for a name.
 
-use fs_chain::{KeptQueue, WalkOutcome, Workbench};
+use fs_chain::{KeptQueue, WalkOutcome, Went, Workbench};
 use fs_queue::QueueLayout;
 use fs_regions::{GuestRegions, MemoryRegion};
 use server_phases::Session;
@@ -15,9 +15,16 @@ pub fn expect_same<T: PartialEq + Debug + Drop>(rt: &impl Abort, found: T, want:
 
 /// A workbench over one page at 0.
 pub fn workbench(rt: &impl Abort, alloc: Global) -> Workbench {
+    workbench_over(rt, alloc, &[0])
+}
+
+/// A workbench over pages at these addresses: the number of each is its place here.
+pub fn workbench_over(rt: &impl Abort, alloc: Global, pages: &[u64]) -> Workbench {
     let mut regions = Vec::new(alloc);
-    let region = MemoryRegion::new(0, 0x1000, 0).expect(rt, "a region");
-    regions.push(region).expect(rt, "memory");
+    for page in pages {
+        let region = MemoryRegion::new(*page, 0x1000, regions.len()).expect(rt, "a region");
+        regions.push(region).expect(rt, "memory");
+    }
     let memory = GuestRegions::of_regions(alloc, regions).expect(rt, "memory");
     let mut workbench = Workbench::new(alloc);
     workbench.set_memory(memory, 0x101000).expect(rt, "memory");
@@ -101,16 +108,25 @@ pub const READDIR: &[u8] = &[
     0, 0, 0, 0, 0, 0, 0, 0, 0, 0, 0, 0, 0, 0, 0, 0, 0, 0, 0,
 ];
 
-/// What a walk comes to by some loads.
+/// What a walk came to that went on.
+pub fn came_to(rt: &impl Abort, went: Went) -> WalkOutcome {
+    match went {
+        Went::On(walked) => Some(walked),
+        Went::Part => None,
+    }
+    .expect(rt, "a walk that went on")
+}
+
+/// What a walk comes to by some loads, none of which goes over the end of a region.
 pub fn take(
     rt: &impl Abort,
     workbench: &mut Workbench,
     queue: &mut KeptQueue,
     loads: &[&[u8]],
 ) -> WalkOutcome {
-    let mut walked = workbench.walk(queue, &[]).expect(rt, "a walk");
+    let mut went = workbench.walk(queue, &[]).expect(rt, "a walk");
     for load in loads {
-        walked = workbench.walk(queue, load).expect(rt, "a walk");
+        went = workbench.walk(queue, load).expect(rt, "a walk");
     }
-    walked
+    came_to(rt, went)
 }

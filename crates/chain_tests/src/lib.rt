@@ -4,6 +4,8 @@
 #[cfg(test)]
 mod given;
 #[cfg(test)]
+mod laws;
+#[cfg(test)]
 mod orders;
 #[cfg(test)]
 mod regions;

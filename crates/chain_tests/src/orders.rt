@@ -4,7 +4,6 @@ use crate::given::{LOADS, LOOKUP, expect_same, queue, session, take, workbench};
 use fs_chain::{ChainError, KeptQueue, Workbench};
 use fuse_values::FileAnswer;
 use fuse_wire::Errno;
-use server_phases::Session;
 use std::alloc::Global;
 use std::process::Abort;
 
@@ -22,19 +21,12 @@ enum Call {
 }
 
 // What a call answers: its error, if it did nothing.
-fn called(
-    call: Call,
-    workbench: &mut Workbench,
-    queue: &mut KeptQueue,
-    session: &mut Session,
-) -> Option<ChainError> {
+fn called(call: Call, workbench: &mut Workbench, queue: &mut KeptQueue) -> Option<ChainError> {
     match call {
         Call::Walk => workbench.walk(queue, &[]).err(),
-        Call::Ask => workbench.ask(session, LOOKUP).err(),
-        Call::Done => workbench.answer(session, FileAnswer::Done).err(),
-        Call::Failed => workbench
-            .answer(session, FileAnswer::Failed(Errno::EIO))
-            .err(),
+        Call::Ask => workbench.ask(session(), LOOKUP).err(),
+        Call::Done => workbench.answer(FileAnswer::Done).err(),
+        Call::Failed => workbench.answer(FileAnswer::Failed(Errno::EIO)).err(),
         Call::End => workbench.end().err(),
         Call::Return => workbench.begin_return(queue, &mut [0u8; 160]).err(),
         Call::EndReturn => workbench.end_return(queue, [0, 0]).err(),
@@ -69,9 +61,8 @@ fn expect_call(
     row: &(Call, Option<ChainError>),
     workbench: &mut Workbench,
     queue: &mut KeptQueue,
-    session: &mut Session,
 ) {
-    let found = called(row.0, workbench, queue, session);
+    let found = called(row.0, workbench, queue);
     expect_same(rt, found, row.1);
 }
 
@@ -79,9 +70,8 @@ fn expect_call(
 fn calls_in_a_wrong_order_change_nothing(rt: HostRuntime) {
     let mut workbench = workbench(&rt, rt.alloc());
     let mut queue = queue(&rt);
-    let mut session = session();
     take(&rt, &mut workbench, &mut queue, LOADS);
     for row in CALLS {
-        expect_call(&rt, row, &mut workbench, &mut queue, &mut session);
+        expect_call(&rt, row, &mut workbench, &mut queue);
     }
 }

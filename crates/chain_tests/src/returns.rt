@@ -9,6 +9,7 @@ use fs_queue::ChainFault;
 use fuse_fs::{DirEntry, Entry, Timeout};
 use fuse_values::{FileAnswer, FileCall};
 use fuse_wire::{Attr, Errno};
+use server_phases::Session;
 
 // Whether a request asks for `hello` in node 1.
 fn is_hello(told: &Told<'_>) -> bool {
@@ -24,7 +25,6 @@ fn is_hello(told: &Told<'_>) -> bool {
 fn a_name_that_is_not_there_goes_back(rt: HostRuntime) {
     let mut workbench = workbench(&rt, rt.alloc());
     let mut queue = queue(&rt);
-    let mut session = session();
     let walked = take(&rt, &mut workbench, &mut queue, LOADS);
     let chain = WalkOutcome::Chain {
         head: 1,
@@ -32,10 +32,10 @@ fn a_name_that_is_not_there_goes_back(rt: HostRuntime) {
         room_len: 144,
     };
     expect_same(&rt, walked, chain);
-    let told = workbench.ask(&session, LOOKUP).expect(&rt, "a call");
+    let told = workbench.ask(session(), LOOKUP).expect(&rt, "a call");
     expect_same(&rt, is_hello(&told), true);
     workbench
-        .answer(&mut session, FileAnswer::Failed(Errno::ENOENT))
+        .answer(FileAnswer::Failed(Errno::ENOENT))
         .expect(&rt, "an answer");
     let mut front = [0u8; 160];
     let stores = workbench
@@ -88,8 +88,11 @@ fn a_request_of_two_names_is_asked(rt: HostRuntime) {
     let mut workbench = workbench(&rt, rt.alloc());
     let mut queue = queue(&rt);
     take(&rt, &mut workbench, &mut queue, LOADS_OF_80);
-    let told = workbench.ask(&session(), RENAME).expect(&rt, "a call");
+    let told = workbench
+        .ask(Session::new(0x4000), RENAME)
+        .expect(&rt, "a call");
     expect_same(&rt, is_renaming(&told), true);
+    expect_same(&rt, workbench.session().page_size(), 0x4000);
 }
 
 #[test]
@@ -110,9 +113,8 @@ fn a_faulty_chain_goes_back_without_a_reply(rt: HostRuntime) {
 fn an_entry_without_room_is_to_be_forgotten(rt: HostRuntime) {
     let mut workbench = workbench(&rt, rt.alloc());
     let mut queue = queue(&rt);
-    let mut session = session();
     take(&rt, &mut workbench, &mut queue, LOADS_OF_SMALL_ROOM);
-    workbench.ask(&session, LOOKUP).expect(&rt, "a call");
+    workbench.ask(session(), LOOKUP).expect(&rt, "a call");
     let second = Timeout::new(1, 0).expect(&rt, "a time");
     let entry = Entry {
         inode: 2,
@@ -122,7 +124,7 @@ fn an_entry_without_room_is_to_be_forgotten(rt: HostRuntime) {
         entry_timeout: second,
     };
     let replied = workbench
-        .answer(&mut session, FileAnswer::HasEntry(entry))
+        .answer(FileAnswer::HasEntry(entry))
         .expect(&rt, "an answer");
     let node = match replied.forget {
         Some((_, node)) => Some(node),
@@ -139,7 +141,7 @@ fn a_directory_goes_back_entry_by_entry(rt: HostRuntime) {
     let mut workbench = workbench(&rt, rt.alloc());
     let mut queue = queue(&rt);
     take(&rt, &mut workbench, &mut queue, LOADS_OF_80);
-    workbench.ask(&session(), READDIR).expect(&rt, "a call");
+    workbench.ask(session(), READDIR).expect(&rt, "a call");
     let mut list = [0u8; 64];
     for row in NAMES {
         let entry = DirEntry {
@@ -210,7 +212,7 @@ fn a_call_that_waits_is_replied_by_a_header_alone(rt: HostRuntime) {
     let mut workbench = workbench(&rt, rt.alloc());
     let mut queue = queue(&rt);
     take(&rt, &mut workbench, &mut queue, LOADS_OF_80);
-    workbench.ask(&session(), READDIR).expect(&rt, "a call");
+    workbench.ask(session(), READDIR).expect(&rt, "a call");
     // struct fuse_out_header of linux/fuse.h has 16 bytes.
     expect_same(&rt, workbench.reply(16), Ok(()));
     expect_same(&rt, workbench.end(), Err(ChainError::WrongOrder));

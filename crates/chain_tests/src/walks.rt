@@ -2,8 +2,10 @@
 
 ghost use Rattle.std.specs.Prelude.{◌<◌};
 
-use crate::given::{LOADS, expect_same, long_queue, queue, take, workbench};
-use fs_chain::WalkOutcome;
+use crate::given::{
+    LOADS, came_to, expect_same, long_queue, queue, take, workbench, workbench_over,
+};
+use fs_chain::{ChainError, WalkOutcome, Went};
 use fs_queue::QueueError;
 
 // The available index is the queue's position.
@@ -25,8 +27,9 @@ fn a_queue_that_was_stopped_in_mid_walk_gives_no_chain(rt: HostRuntime) {
     let walked = take(&rt, &mut workbench, &mut queue, &[&[0, 0]]);
     expect_same(&rt, walked, WalkOutcome::Load(2));
     queue.stopped = Some(QueueError::AvailTooFar);
-    let walked = workbench.walk(&mut queue, &[1, 0]).expect(&rt, "a walk");
-    expect_same(&rt, walked, WalkOutcome::Refused(QueueError::Stopped));
+    let went = workbench.walk(&mut queue, &[1, 0]).expect(&rt, "a walk");
+    let refused = WalkOutcome::Refused(QueueError::Stopped);
+    expect_same(&rt, came_to(&rt, went), refused);
     queue.stopped = None;
     let walked = take(&rt, &mut workbench, &mut queue, LOADS);
     expect_same(&rt, queue.out, true);
@@ -58,15 +61,65 @@ fn a_chain_of_ten_descriptors_in_a_table_of_its_own_is_taken(rt: HostRuntime) {
         &[&[0, 0], &[0, 0], OWN_TABLE],
     );
     for k in 0..9u8 {
-        let walked = workbench.walk(&mut queue, &part_of_request(k));
-        expect_same(&rt, walked.expect(&rt, "a walk"), WalkOutcome::Load(16));
+        let went = workbench.walk(&mut queue, &part_of_request(k));
+        let load = Went::On(WalkOutcome::Load(16));
+        expect_same(&rt, went.expect(&rt, "a walk"), load);
     }
     let room = [0, 4, 0, 0, 0, 0, 0, 0, 100, 0, 0, 0, 2, 0, 0, 0];
-    let walked = workbench.walk(&mut queue, &room).expect(&rt, "a walk");
+    let went = workbench.walk(&mut queue, &room).expect(&rt, "a walk");
     let chain = WalkOutcome::Chain {
         head: 0,
         request_len: 45,
         room_len: 100,
     };
-    expect_same(&rt, walked, chain);
+    expect_same(&rt, came_to(&rt, went), chain);
+}
+
+// An entry that leads to a table of two entries at 0xff8, of which the first goes over the end of a page.
+const OVER_THE_END: &[u8] = &[0xf8, 0x0f, 0, 0, 0, 0, 0, 0, 32, 0, 0, 0, 4, 0, 0, 0];
+
+// What is given of that table's loads: the window that is wanted (region, offset and length), the bytes, and what they come to.
+type Given = (
+    (usize, usize, usize),
+    &'static [u8],
+    Result<Went, ChainError>,
+);
+
+const PARTS: &[Given] = &[
+    (
+        (0, 0xff8, 8),
+        &[0, 1, 0, 0, 0, 0, 0, 0, 46, 0, 0, 0, 1, 0, 1, 0],
+        Err(ChainError::BadArgument),
+    ),
+    ((0, 0xff8, 8), &[0, 1, 0, 0, 0, 0, 0, 0], Ok(Went::Part)),
+    ((1, 0, 8), &[46, 0], Err(ChainError::BadArgument)),
+    (
+        (1, 0, 8),
+        &[46, 0, 0, 0, 1, 0, 1, 0],
+        Ok(Went::On(WalkOutcome::Load(16))),
+    ),
+    (
+        (1, 8, 16),
+        &[0, 2, 0, 0, 0, 0, 0, 0, 144, 0, 0, 0, 2, 0, 0, 0],
+        Ok(Went::On(WalkOutcome::Chain {
+            head: 0,
+            request_len: 46,
+            room_len: 144,
+        })),
+    ),
+];
+
+#[test]
+fn a_load_over_the_end_of_a_region_comes_in_two_parts(rt: HostRuntime) {
+    let mut workbench = workbench_over(&rt, rt.alloc(), &[0, 0x1000]);
+    let mut queue = queue(&rt);
+    let loads = &[[0, 0].as_slice(), [0, 0].as_slice(), OVER_THE_END];
+    take(&rt, &mut workbench, &mut queue, loads);
+    for row in PARTS {
+        let window = workbench.still_wanted().expect(&rt, "a window");
+        let at = (window.block(), window.block_offset(), window.len());
+        expect_same(&rt, at, row.0);
+        expect_same(&rt, workbench.walk(&mut queue, row.1), row.2);
+    }
+    expect_same(&rt, workbench.still_wanted().is_some(), false);
 }

@@ -97,6 +97,23 @@ fn is_kicked(serving: &AtomicBool) -> bool {
     false
 }
 
+// Each worker kicks in a thread of its own.
+fn serve_all<L: Ledger + Send + Sync, R: Clock + Threads + Wait + Sync>(
+    rt: &R,
+    workers: &mut [Worker<'_, L, R>],
+    serving: &AtomicBool,
+    stop: &AtomicBool,
+) {
+    for_each_mut(
+        rt,
+        workers,
+        4,
+        &|_, worker| {
+            serve_until(worker, serving, stop);
+        },
+    );
+}
+
 // Measures gathers while each worker kicks in a thread of its own, once one of them does. It is a fault if none does and
 // times are asked for.
 fn measure_beside<L: Ledger + Send + Sync, R: Clock + Eprint + Threads + Wait + Sync>(
@@ -110,16 +127,7 @@ fn measure_beside<L: Ledger + Send + Sync, R: Clock + Eprint + Threads + Wait + 
     let stop = AtomicBool::new(false);
     let (_, measured) = join(
         rt,
-        || {
-            for_each_mut(
-                rt,
-                workers,
-                4,
-                &|_, worker| {
-                    serve_until(worker, &serving, &stop);
-                },
-            );
-        },
+        || serve_all(rt, workers, &serving, &stop),
         || {
             let measured = if meter.asked().is_none() || is_kicked(&serving) {
                 measure_gathers(meter, rt, alloc, harvest, "gather-262144-4-kickers")

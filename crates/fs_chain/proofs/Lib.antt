@@ -1,3 +1,4 @@
 pub mod Adding
+pub mod LoadLemmas
 pub mod Offering
 pub mod Steps

@@ -1,11 +1,26 @@
--- What a walk comes to is what the memory offers.
-use Rattle.std.proofs.Common.{◌≡◌, ◌<◌, ℕ, List, [], length, Some, None, sym, arith}
+-- What a walk tells is what the memory offers.
+use Rattle.std.proofs.Common.{◌≡◌, ◌<◌, ℕ, List, [], length, false, Option, Some, None, sym, subst, refl, arith}
+use Rattle.fs_queue.specs.declared.fault.QueueError.{QueueError}
+use Rattle.vm_memory_core.specs.Host.{Host}
+use Rattle.vm_memory.specs.Layout.{Region}
 use Rattle.vm_memory.specs.Memory.{Memory, memory_of}
+use Rattle.fs_queue.specs.Chain.{Descriptor}
 use Rattle.fs_queue.specs.Queue.{Queue}
+use Rattle.fs_queue.specs.Taking.{Offer, offer}
+use Rattle.fs_regions.specs.declared.course.Course.{Course}
+use Rattle.fs_regions.specs.declared.step.Step as comes
 use Rattle.fs_regions.specs.declared.step.Step.TheVariants as step
+use Rattle.fs_regions.specs.declared.walk.QueueWalk.{QueueWalk}
 use Rattle.fs_regions.specs.Laws.{HasLoaded, OffersAreTheMemorys}
-use Rattle.fs_regions.specs.Walks.{Loaded}
-use Rattle.fs_chain.specs.Laws.{WalksAreOffers}
+use Rattle.fs_regions.specs.Places.{places_in}
+use Rattle.fs_regions.specs.Walks.{ComesTo, Loaded, StandsAt, nothing, queue_of, with_bytes}
+use Rattle.fs_chain.specs.declared.queue.KeptQueue.{KeptQueue}
+use Rattle.fs_chain.specs.declared.state.State as state
+use Rattle.fs_chain.specs.declared.state.State.TheVariants as at
+use Rattle.fs_chain.specs.declared.walking.WalkOutcome as walked
+use Rattle.fs_chain.specs.declared.workbench.Workbench.{Workbench}
+use Rattle.fs_chain.specs.Laws.{IsTold, TellsOffer, WalksAreOffers}
+use Rattle.fs_chain.specs.Walks.{Begins, BeginsUnless, GoesOnUnless, WalksFrom, WalksOn, course_of, told_of}
 
 -- without a request nothing is owed of it
 unasked : (m : Memory) (q : Queue) (loaded : Loaded) (request : List ℕ) → HasLoaded m q loaded request → HasLoaded m q loaded []
@@ -16,13 +31,38 @@ unasked m q loaded request has = record {
   request_is = λ head waits some. absurd (omega (arith, some));
 }
 
-pub walks_are_offers : OffersAreTheMemorys → WalksAreOffers
-walks_are_offers law h regions limit q loaded ds (step.Load walk) request runs came has = tt
-walks_are_offers law h regions limit q loaded ds step.Idle request runs came has =
+-- what a walk comes to is offered, as it is told
+comes_to : OffersAreTheMemorys → (h : Host) (regions : List Region) (limit : ℕ) (q : Queue) (loaded : Loaded) (ds : List Descriptor) (came : comes.Step) (request : List ℕ) → q.stopped ≡ false
+    → ComesTo (places_in regions) limit q loaded ds came → HasLoaded (memory_of h regions) q loaded request → IsTold ds (told_of ds came) request (offer (memory_of h regions) limit q)
+comes_to law h regions limit q loaded ds (step.Load walk) request runs came has = tt
+comes_to law h regions limit q loaded ds step.Idle request runs came has =
     sym (law h regions limit q loaded [] _ runs came (unasked (memory_of h regions) q loaded request has))
-walks_are_offers law h regions limit q loaded ds (step.Refused e) request runs came has =
+comes_to law h regions limit q loaded ds (step.Refused e) request runs came has =
     sym (law h regions limit q loaded [] _ runs came (unasked (memory_of h regions) q loaded request has))
-walks_are_offers law h regions limit q loaded ds (step.Chain head (Some fault)) request runs came has =
+comes_to law h regions limit q loaded ds (step.Chain head (Some fault)) request runs came has =
     sym (law h regions limit q loaded [] _ runs came (unasked (memory_of h regions) q loaded request has))
-walks_are_offers law h regions limit q loaded ds (step.Chain head None) request runs came has =
+comes_to law h regions limit q loaded ds (step.Chain head None) request runs came has =
     λ len. sym (law h regions limit q loaded request _ runs (came.1 request len) has)
+
+begins : OffersAreTheMemorys → (h : Host) (bytes request : List ℕ) (old new : Workbench) (before after : KeptQueue) (told : walked.WalkOutcome) → before.stopped ≡ None → old.state ≡ at.Free
+    → WalksOn bytes old new before after told → HasLoaded (memory_of h old.regions) (queue_of (course_of before old.limit)) nothing request
+    → TellsOffer (memory_of h old.regions) (course_of before old.limit) new told request
+begins law h bytes request old new before after told running free walks has =
+    let course : Course = course_of before old.limit in
+    let from : WalksFrom at.Free bytes old new before after told = subst (λ (s : state.State). WalksFrom s bytes old new before after told) free walks in
+    let went : BeginsUnless None old new before after told = subst (λ (o : Option QueueError). BeginsUnless o old new before after told) running from in
+    subst (λ (t : walked.WalkOutcome). TellsOffer (memory_of h old.regions) course new t request) (sym went.1.0)
+    (comes_to law h old.regions course.limit (queue_of course) nothing new.descriptors.items went.0 request refl went.2 has)
+
+goes_on : OffersAreTheMemorys → (h : Host) (loaded : Loaded) (course : Course) (walk : QueueWalk) (bytes request : List ℕ) (old new : Workbench) (before after : KeptQueue) (told : walked.WalkOutcome)
+    → before.stopped ≡ None → old.state ≡ at.Walking course walk → WalksOn bytes old new before after told
+    → StandsAt (places_in old.regions) (queue_of course) loaded old.descriptors.items walk → HasLoaded (memory_of h old.regions) (queue_of course) (with_bytes loaded walk bytes) request
+    → TellsOffer (memory_of h old.regions) course new told request
+goes_on law h loaded course walk bytes request old new before after told running here walks stands has =
+    let from : WalksFrom (at.Walking course walk) bytes old new before after told = subst (λ (s : state.State). WalksFrom s bytes old new before after told) here walks in
+    let went : GoesOnUnless None course walk bytes old new before after told = subst (λ (o : Option QueueError). GoesOnUnless o course walk bytes old new before after told) running from in
+    subst (λ (t : walked.WalkOutcome). TellsOffer (memory_of h old.regions) course new t request) (sym went.1.0)
+    (comes_to law h old.regions course.limit (queue_of course) (with_bytes loaded walk bytes) new.descriptors.items went.0 request refl (went.2 loaded stands) has)
+
+pub walks_are_offers : OffersAreTheMemorys → WalksAreOffers
+walks_are_offers law = record { begins = begins law; goes_on = goes_on law }

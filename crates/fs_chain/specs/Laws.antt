@@ -1,27 +1,39 @@
 -- What a walk of the handle says of the memories that have its loads.
-use Rattle.std.specs.Prelude.{◌≡◌, ℕ, false, List, length, Some, None}
+use Rattle.std.specs.Prelude.{◌≡◌, ℕ, List, length, None}
 use Rattle.vm_memory_core.specs.Host.{Host}
-use Rattle.vm_memory.specs.Layout.{Region}
-use Rattle.vm_memory.specs.Memory.{memory_of}
+use Rattle.vm_memory.specs.Memory.{Memory, memory_of}
 use Rattle.fs_queue.specs.Chain.{Descriptor}
-use Rattle.fs_queue.specs.Queue.{Queue}
 use Rattle.fs_queue.specs.Taking.{readable, writable, total_len, offer, Offer, Idle, Refuses, Offers, CannotFetch, IsRequest, addresses_of}
-use Rattle.fs_regions.specs.declared.step.Step as comes
-use Rattle.fs_regions.specs.declared.step.Step.TheVariants as step
+use Rattle.fs_regions.specs.declared.course.Course.{Course}
+use Rattle.fs_regions.specs.declared.walk.QueueWalk.{QueueWalk}
 use Rattle.fs_regions.specs.Laws.{HasLoaded}
 use Rattle.fs_regions.specs.Places.{places_in}
-use Rattle.fs_regions.specs.Walks.{Loaded, ComesTo}
+use Rattle.fs_regions.specs.Walks.{Loaded, StandsAt, nothing, queue_of, with_bytes}
+use Rattle.fs_chain.specs.declared.queue.KeptQueue.{KeptQueue}
+use Rattle.fs_chain.specs.declared.state.State.TheVariants as at
+use Rattle.fs_chain.specs.declared.walking.WalkOutcome as walked
+use Rattle.fs_chain.specs.declared.walking.WalkOutcome.TheVariants as tells
+use Rattle.fs_chain.specs.declared.workbench.Workbench.{Workbench}
+use Rattle.fs_chain.specs.Walks.{WalksOn, course_of}
 
--- what a walk came to, with these descriptors, is this offer; a chain without a fault, if so many bytes are its request
-abbrev pub IsOffer : List Descriptor → comes.Step → (request : List ℕ) → Offer → Type 0
-IsOffer ds (step.Load walk) request o = Unit {0}
-IsOffer ds step.Idle request o = o ≡ Idle
-IsOffer ds (step.Refused e) request o = o ≡ Refuses e
-IsOffer ds (step.Chain head (Some fault)) request o = o ≡ Offers head (CannotFetch fault)
-IsOffer ds (step.Chain head None) request o = length request ≡ total_len (readable ds) → o ≡ Offers head (IsRequest request (addresses_of (writable ds)))
+-- what a walk tells, of these descriptors, is this offer; a chain without a fault, if so many bytes are its request; a load leaves it open
+abbrev pub IsTold : List Descriptor → walked.WalkOutcome → (request : List ℕ) → Offer → Type 0
+IsTold ds (tells.Load n) request o = Unit {0}
+IsTold ds tells.Idle request o = o ≡ Idle
+IsTold ds (tells.Refused e) request o = o ≡ Refuses e
+IsTold ds (tells.Chain head request_len room_len) request o = length request ≡ total_len (readable ds) → o ≡ Offers head (IsRequest request (addresses_of (writable ds)))
+IsTold ds (tells.Faulty head fault) request o = o ≡ Offers head (CannotFetch fault)
 
--- what a walk over some regions comes to is what the queue offers in each memory of these regions that has its loads, and the request's bytes
-abbrev pub WalksAreOffers : Type 0
-WalksAreOffers =
-    (h : Host) (regions : List Region) (limit : ℕ) (q : Queue) (loaded : Loaded) (ds : List Descriptor) (came : comes.Step) (request : List ℕ) → q.stopped ≡ false →
-    ComesTo (places_in regions) limit q loaded ds came → HasLoaded (memory_of h regions) q loaded request → IsOffer ds came request (offer (memory_of h regions) limit q)
+-- what a walk tells is what the course's queue offers in a memory
+abbrev pub TellsOffer : Memory → Course → Workbench → walked.WalkOutcome → (request : List ℕ) → Type 0
+TellsOffer m course new told request = IsTold new.descriptors.items told request (offer m course.limit (queue_of course))
+
+-- what a call of walk tells, of a queue that wasn't stopped, is what the queue offers in each memory of the handle's regions that has all loads of the walk, and the request's bytes
+pub record WalksAreOffers : Type 0 where
+  pub begins : (h : Host) (bytes request : List ℕ) (old new : Workbench) (before after : KeptQueue) (told : walked.WalkOutcome) → before.stopped ≡ None → old.state ≡ at.Free
+      → WalksOn bytes old new before after told → HasLoaded (memory_of h old.regions) (queue_of (course_of before old.limit)) nothing request
+      → TellsOffer (memory_of h old.regions) (course_of before old.limit) new told request
+  pub goes_on : (h : Host) (loaded : Loaded) (course : Course) (walk : QueueWalk) (bytes request : List ℕ) (old new : Workbench) (before after : KeptQueue) (told : walked.WalkOutcome)
+      → before.stopped ≡ None → old.state ≡ at.Walking course walk → WalksOn bytes old new before after told
+      → StandsAt (places_in old.regions) (queue_of course) loaded old.descriptors.items walk → HasLoaded (memory_of h old.regions) (queue_of course) (with_bytes loaded walk bytes) request
+      → TellsOffer (memory_of h old.regions) course new told request

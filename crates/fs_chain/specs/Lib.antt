@@ -2,6 +2,7 @@ pub mod Answers
 pub mod Asking
 pub mod Laws
 pub mod Listings
+pub mod Loads
 pub mod Numbers
 pub mod Orders
 pub mod OwnReplies

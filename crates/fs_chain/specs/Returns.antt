@@ -1,5 +1,5 @@
 -- How a chain goes back: its reply's front, and what is stored and loaded then (VIRTIO 1.2, 2.7.8 and 2.7.7).
-use Rattle.std.specs.Prelude.{◌≡◌, ℕ, ◌++◌, List, drop}
+use Rattle.std.specs.Prelude.{◌≡◌, ℕ, ◌++◌, List, [], drop}
 use Rattle.fs_queue.specs.Returning.{stores_after_reply}
 use Rattle.fs_queue.specs.ReturningView.{stores_of}
 use Rattle.fs_regions.specs.Walks.{queue_of}
@@ -8,7 +8,9 @@ use Rattle.fs_chain.specs.declared.state.Out.{Out}
 use Rattle.fs_chain.specs.declared.state.Reply.{Reply}
 use Rattle.fs_chain.specs.declared.state.State as state
 use Rattle.fs_chain.specs.declared.state.State.TheVariants as at
+use Rattle.fs_chain.specs.declared.workbench.Workbench.{Workbench}
 use Rattle.fs_chain.specs.Orders.{front_len, front_of, reply_len}
+use Rattle.fs_chain.specs.Walks.{IsAllButPart}
 
 -- a reply's front over the first bytes of a buffer
 abbrev pub put_front : Reply → (buffer : List ℕ) → List ℕ
@@ -23,3 +25,7 @@ ReturnsBy out reply s =
 abbrev pub IfHasReply : state.State → (Out → Reply → Type 0) → Type 0
 IfHasReply (at.HasReply out reply) P = P out reply
 IfHasReply _ P = Unit {0}
+
+-- the handle is free, and nothing came of a load
+abbrev pub IsFreed : (old new : Workbench) → Type 0
+IsFreed old new = IsAllButPart (record old { state = at.Free }) new × (new.part.items ≡ [])

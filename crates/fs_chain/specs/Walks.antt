@@ -74,9 +74,19 @@ abbrev pub LeavesNone : comes.Step → List Descriptor → Type 0
 LeavesNone (step.Chain head (Some fault)) ds = ds ≡ []
 LeavesNone _ ds = Unit {0}
 
--- all of the handle stays but where its chain is, and the chain's descriptors
+-- all of the handle stays but where its chain is, the chain's descriptors, what came of a load, and the session
 abbrev pub IsAllBut : (old new : Workbench) → Type 0
 IsAllBut old new = (new.regions ≡ old.regions) × (new.limit ≡ old.limit)
+
+-- all but where its chain is stays
+abbrev pub IsAllButPlace : (old new : Workbench) → Type 0
+IsAllButPlace old new = IsAllBut old new × (new.descriptors ≡ old.descriptors) × (new.session ≡ old.session) × (new.part ≡ old.part)
+
+-- all stays but what came of a load
+abbrev pub IsAllButPart : (old new : Workbench) → Type 0
+IsAllButPart old new =
+    IsAllBut old new × (new.alloc ≡ old.alloc) × (new.descriptors ≡ old.descriptors) × (new.place ≡ old.place) × (new.state ≡ old.state)
+    × (new.session ≡ old.session)
 
 -- handle and queue keep what a walk on this course came to, and this is told of it; of a faulty chain no descriptor is kept
 abbrev pub Keeps : Course → comes.Step → (old new : Workbench) → (before after : KeptQueue) → walked.WalkOutcome → Type 0
@@ -99,7 +109,7 @@ GoesOn course walk bytes old new before after told =
 
 -- a stopped queue refuses each walk
 abbrev pub BeginsUnless : (stopped : Option QueueError) → (old new : Workbench) → (before after : KeptQueue) → walked.WalkOutcome → Type 0
-BeginsUnless (Some why) old new before after told = (told ≡ tells.Refused Stopped) × (new ≡ old) × (after ≡ before)
+BeginsUnless (Some why) old new before after told = (told ≡ tells.Refused Stopped) × IsAllButPart old new × (after ≡ before)
 BeginsUnless None old new before after told = BeginsOn (course_of before old.limit) old new before after told
 
 abbrev pub Begins : (old new : Workbench) → (before after : KeptQueue) → walked.WalkOutcome → Type 0
@@ -108,7 +118,7 @@ Begins old new before after told = BeginsUnless before.stopped old new before af
 -- a walk goes on, unless its queue was stopped meanwhile: then it is refused as each walk of a stopped queue, and the handle has no chain
 abbrev pub GoesOnUnless : (stopped : Option QueueError) → Course → QueueWalk → (bytes : List ℕ) → (old new : Workbench) → (before after : KeptQueue) → walked.WalkOutcome → Type 0
 GoesOnUnless (Some why) course walk bytes old new before after told =
-    (told ≡ tells.Refused Stopped) × (new ≡ record old { state = at.Free }) × (after ≡ before)
+    (told ≡ tells.Refused Stopped) × IsAllButPart (record old { state = at.Free }) new × (after ≡ before)
 GoesOnUnless None course walk bytes old new before after told = GoesOn course walk bytes old new before after told
 
 -- a walk goes on from where its chain is, by the bytes of the load that it asked for, and by none at its beginning

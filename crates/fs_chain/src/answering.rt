@@ -11,7 +11,7 @@ use crate::state::{Out, Reply, State};
 use crate::workbench::Workbench;
 use fuse_fs::Context;
 use fuse_values::FileAnswer;
-use server_phases::{Answered, Refused, Sent, Session, Waiting};
+use server_phases::{Answered, Refused, Sent, Waiting};
 use std::mem;
 
 /// What comes of an answer.
@@ -76,20 +76,19 @@ impl Workbench {
     // Answers a call that waits.
     fn answer_waiting(
         &mut self,
-        session: &mut Session,
         out: Out,
         waiting: Waiting,
         answer: FileAnswer,
     ) -> Result<Replied, ChainError>
-        ensures given { IfOk result (λ told. IsGiven (setting session.old.page_size session.old.options.0 waiting.room) waiting answer out session.new.options.0 told self.new.state) }
+        ensures given { IfOk result (λ told. IsGiven (setting self.old.session.page_size self.old.session.options.0 waiting.room) waiting answer out self.new.session.options.0 told self.new.state) }
         ensures taken { OnOk result (CanBeGiven waiting answer) }
         ensures refused { IfErr result (λ e. IsRefused waiting answer e) }
-        ensures same { OnErr result ((self.new ≡ record self.old { state = at.Waits out waiting }) × (session.new ≡ session.old)) }
-        ensures page_size { session.new.page_size ≡ session.old.page_size }
-        ensures stays { IsAllBut self.old self.new × (self.new.descriptors ≡ self.old.descriptors) }
+        ensures same { OnErr result (self.new ≡ record self.old { state = at.Waits out waiting }) }
+        ensures page_size { self.new.session.page_size ≡ self.old.session.page_size }
+        ensures stays { IsAllBut self.old self.new × (self.new.descriptors ≡ self.old.descriptors) × (self.new.part ≡ self.old.part) }
     {
         let behind = data_len(&answer);
-        match session.answer(waiting, answer) {
+        match self.session.answer(waiting, answer) {
             Ok(answered) => Ok(self.keep_answered(out, answered, behind)),
             Err(refusal) => {
                 let why = refusal.why;
@@ -99,21 +98,18 @@ impl Workbench {
         }
     }
 
-    /// Answers a chain's call. A listing is answered entry by entry, or by `fail`: else `OtherKind`.
-    pub fn answer(
-        &mut self,
-        session: &mut Session,
-        answer: FileAnswer,
-    ) -> Result<Replied, ChainError>
-        ensures given { IfOk result (λ told. IfWaits self.old.state (λ out w. IsGiven (setting session.old.page_size session.old.options.0 w.room) w answer out session.new.options.0 told self.new.state)) }
+    /// Answers a chain's call, in the session in which it was asked. A listing is answered entry by entry, or by `fail`: else `OtherKind`.
+    pub fn answer(&mut self, answer: FileAnswer) -> Result<Replied, ChainError>
+        ensures given { IfOk result (λ told. IfWaits self.old.state (λ out w.
+            IsGiven (setting self.old.session.page_size self.old.session.options.0 w.room) w answer out self.new.session.options.0 told self.new.state)) }
         ensures taken { OnOk result (IsWaiting self.old.state × IfWaits self.old.state (λ out w. CanBeGiven w answer)) }
         ensures refused { IfErr result (λ e. AnswerFails self.old.state answer e) }
-        ensures same { OnErr result ((self.new ≡ self.old) × (session.new ≡ session.old)) }
-        ensures page_size { session.new.page_size ≡ session.old.page_size }
-        ensures stays { IsAllBut self.old self.new × (self.new.descriptors ≡ self.old.descriptors) }
+        ensures same { OnErr result (self.new ≡ self.old) }
+        ensures page_size { self.new.session.page_size ≡ self.old.session.page_size }
+        ensures stays { IsAllBut self.old self.new × (self.new.descriptors ≡ self.old.descriptors) × (self.new.part ≡ self.old.part) }
     {
         match mem::replace(&mut self.state, State::Free) {
-            State::Waits(out, waiting) => self.answer_waiting(session, out, waiting, answer),
+            State::Waits(out, waiting) => self.answer_waiting(out, waiting, answer),
             State::Lists(out, listing) => {
                 self.state = State::Lists(out, listing);
                 Err(ChainError::OtherKind)

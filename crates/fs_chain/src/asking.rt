@@ -12,7 +12,7 @@ ghost use Rattle.virtiofsd_fuse.specs.Serving.{Setting, setting};
 ghost use Rattle.server_phases.specs.Asking.{AsksCall, HasAskerByFront, IsAskedBy, IsFront, IsTold, IsToldByFront, is_told};
 ghost use Rattle.fs_chain.specs.Asking.{IfTaken, IsKeptFor, KeepsCall, TellsMeaning, wanted, wanted_after, wanted_by};
 ghost use Rattle.fs_chain.specs.Orders.{ask_error};
-ghost use Rattle.fs_chain.specs.Walks.{IsAllBut};
+ghost use Rattle.fs_chain.specs.Walks.{IsAllBut, IsAllButPlace};
 ghost use Rattle.fs_chain.specs.declared.state.State.TheVariants as at;
 
 use crate::error::ChainError;
@@ -71,7 +71,7 @@ impl Workbench {
         ensures tells { (s : Setting) (m : Meaning) (bytes : List ℕ) → IsTold s m bytes asked.entry → TellsMeaning s m bytes out result self.new.state }
         ensures asker { (who : Context) → IsAskedBy who asked.entry → IsKeptFor who self.new.state }
         ensures told { wanted_by result ≡ None }
-        ensures same { IsAllBut self.old self.new × (self.new.descriptors ≡ self.old.descriptors) }
+        ensures same { IsAllButPlace self.old self.new }
     {
         match asked {
             Asked::Call(call, waiting) => {
@@ -98,7 +98,7 @@ impl Workbench {
         ensures tells { (s : Setting) (m : Meaning) (bytes : List ℕ) → IsToldByFront s m bytes asked.entry → TellsMeaning s m bytes out result self.new.state }
         ensures asker { (request : List ℕ) → HasAskerByFront request asked.entry → (h : InHeader) (more : List ℕ) → reading_of in_header request ≡ Ok (h, more) → IsKeptFor (context_of h) self.new.state }
         ensures wanted { wanted_by result ≡ (if is_told asked.entry then None else Some (wanted len out.request_len)) }
-        ensures same { IsAllBut self.old self.new × (self.new.descriptors ≡ self.old.descriptors) }
+        ensures same { IsAllButPlace self.old self.new }
     {
         match asked {
             AskedFront::Told(asked) => self.keep_asked(out, asked),
@@ -112,7 +112,7 @@ impl Workbench {
     // Asks by some first bytes of a request.
     fn ask_out<'a>(
         &mut self,
-        session: &Session,
+        session: Session,
         out: Out,
         request: &'a [u8],
     ) -> Result<Told<'a>, ChainError>
@@ -120,32 +120,36 @@ impl Workbench {
         ensures error { IfErr result (λ e. ask_error (at.Taken out) (length request.now) ≡ Some e) }
         ensures ok { OnOk result (ask_error (at.Taken out) (length request.now) ≡ None) }
         ensures tells { IfOk result (λ told. (whole : List ℕ) → out.request_len ≡ length whole → IsFront request.now whole
-            → TellsMeaning (setting session.now.page_size session.now.options.0 out.room_len) (meaning session.now.options.0 whole out.room_len) (drop 80 whole) out told self.new.state) }
+            → TellsMeaning (setting session.page_size session.options.0 out.room_len) (meaning session.options.0 whole out.room_len) (drop 80 whole) out told self.new.state) }
         ensures asker { OnOk result ((whole : List ℕ) → out.request_len ≡ length whole → IsFront request.now whole
             → (h : InHeader) (more : List ℕ) → reading_of in_header whole ≡ Ok (h, more) → IsKeptFor (context_of h) self.new.state) }
         ensures wanted { IfOk result (λ told. wanted_by told ≡ wanted_after request.now out.request_len) }
-        ensures same { IsAllBut self.old self.new × (self.new.descriptors ≡ self.old.descriptors) }
-        ensures stays { OnErr result (self.new.state ≡ at.Taken out) }
+        ensures same { IsAllBut self.old self.new × (self.new.descriptors ≡ self.old.descriptors) × (self.new.part ≡ self.old.part) }
+        ensures session { OnOk result (self.new.session ≡ session) }
+        ensures stays { OnErr result ((self.new.state ≡ at.Taken out) × (self.new.session ≡ self.old.session)) }
     {
         let len = out.request_len;
         if len < request.len() {
             return Err(ChainError::BadArgument);
         }
         let asked = session.ask_front(request, len, out.room_len);
+        self.session = session;
         Ok(self.keep_front(out, request.len(), asked))
     }
 
-    /// Tells what a chain's request asks, by its first bytes. A call that is told waits for its answer. It takes no memory.
-    pub fn ask<'a>(&mut self, session: &Session, request: &'a [u8]) -> Result<Told<'a>, ChainError>
+    /// Tells what a chain's request asks, by its first bytes, in this session, which is kept. A call that is told waits for its answer. It takes
+    /// no memory.
+    pub fn ask<'a>(&mut self, session: Session, request: &'a [u8]) -> Result<Told<'a>, ChainError>
         ensures error { IfErr result (λ e. ask_error self.old.state (length request.now) ≡ Some e) }
         ensures ok { OnOk result (ask_error self.old.state (length request.now) ≡ None) }
         ensures tells { IfOk result (λ told. IfTaken self.old.state (λ out. (whole : List ℕ) → out.request_len ≡ length whole → IsFront request.now whole
-            → TellsMeaning (setting session.now.page_size session.now.options.0 out.room_len) (meaning session.now.options.0 whole out.room_len) (drop 80 whole) out told self.new.state)) }
+            → TellsMeaning (setting session.page_size session.options.0 out.room_len) (meaning session.options.0 whole out.room_len) (drop 80 whole) out told self.new.state)) }
         ensures asker { OnOk result (IfTaken self.old.state (λ out. (whole : List ℕ) → out.request_len ≡ length whole → IsFront request.now whole
             → (h : InHeader) (more : List ℕ) → reading_of in_header whole ≡ Ok (h, more) → IsKeptFor (context_of h) self.new.state)) }
         ensures wanted { IfOk result (λ told. IfTaken self.old.state (λ out. wanted_by told ≡ wanted_after request.now out.request_len)) }
-        ensures same { IsAllBut self.old self.new × (self.new.descriptors ≡ self.old.descriptors) }
-        ensures stays { OnErr result (self.new.state ≡ self.old.state) }
+        ensures same { IsAllBut self.old self.new × (self.new.descriptors ≡ self.old.descriptors) × (self.new.part ≡ self.old.part) }
+        ensures session { OnOk result (self.new.session ≡ session) }
+        ensures stays { OnErr result ((self.new.state ≡ self.old.state) × (self.new.session ≡ self.old.session)) }
     {
         match &self.state {
             State::Taken(out) => {

@@ -2,6 +2,7 @@
 
 ghost use Rattle.std.specs.Prelude.{◌≡◌, Some, None, IfErr, OnOk, OnErr, true, false, if◌then◌else◌};
 ghost use Rattle.fs_chain.specs.Orders.{give_up_error, is_out, is_out_of};
+ghost use Rattle.fs_chain.specs.Returns.{IsFreed};
 ghost use Rattle.fs_chain.specs.declared.state.State.TheVariants as at;
 
 use crate::error::ChainError;
@@ -49,10 +50,11 @@ impl Workbench {
         }
     }
 
-    /// Frees a handle whose queue was begun anew after the stores were told, or while its chain was out: the queue isn't told.
+    /// Frees a handle whose queue was begun anew after the stores were told, or while its chain was out: the queue isn't told. Nothing is kept of a load.
     pub fn abandon(&mut self)
-        ensures { self.new ≡ record self.old { state = at.Free } }
+        ensures { IsFreed self.old self.new }
     {
         self.state = State::Free;
+        self.part.clear();
     }
 }

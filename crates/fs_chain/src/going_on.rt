@@ -87,7 +87,8 @@ impl Workbench {
         requires bytes { IfWalking self.old.state (λ walk. length loaded.now ≡ asked_len walk) }
         requires room { AsksTable self.old.state → HasRoomFor self.old.descriptors 1 }
         requires goes { queue.old.stopped ≡ None }
-        ensures { WalksOn loaded.now self.old self.new queue.old queue.new result }
+        ensures walks { WalksOn loaded.now self.old self.new queue.old queue.new result }
+        ensures apart { (self.new.part ≡ self.old.part) × (self.new.session ≡ self.old.session) }
     {
         match &mut self.state {
             State::Walking(course, walk) => {
@@ -116,6 +117,7 @@ impl Workbench {
         ensures room { OnOk result (AsksTable self.new.state → HasRoomFor self.new.descriptors 1) }
         ensures memory { IfErr result (λ e. (e ≡ ChainError.OutOfMemory) × LacksRoom self.old) }
         ensures same { IsAllBut self.old self.new × (self.new.state ≡ self.old.state) × (self.new.descriptors.items ≡ self.old.descriptors.items) }
+        ensures apart { (self.new.part ≡ self.old.part) × (self.new.session ≡ self.old.session) }
     {
         let State::Walking(_, walk) = &self.state else {
             unreachable!()
@@ -140,6 +142,7 @@ impl Workbench {
         ensures memory { IfErr result (λ e. e ≡ ChainError.OutOfMemory → LacksRoom self.old) }
         ensures same { OnErr result (IsAllBut self.old self.new × (self.new.state ≡ self.old.state) × (self.new.descriptors.items ≡ self.old.descriptors.items) × (queue.new ≡ queue.old)) }
         ensures walks { IfOk result (λ walked. WalksOn loaded.now self.old self.new queue.old queue.new walked) }
+        ensures apart { (self.new.part ≡ self.old.part) × (self.new.session ≡ self.old.session) }
     {
         match &self.state {
             State::Walking(course, walk) => {
@@ -159,14 +162,19 @@ impl Workbench {
         }
     }
 
-    /// Takes the next chain of a queue: at first without bytes, then with those of each load that was asked for.
-    pub fn walk(&mut self, queue: &mut KeptQueue, loaded: &[u8]) -> Result<WalkOutcome, ChainError>
+    /// Takes the next chain of a queue by whole loads: at first without bytes, then with those of each load that was asked for.
+    pub(crate) fn walk_load(
+        &mut self,
+        queue: &mut KeptQueue,
+        loaded: &[u8],
+    ) -> Result<WalkOutcome, ChainError>
         ensures error { IfErr result (λ e. (walk_error self.old.state queue.old (length loaded.now) ≡ Some e)
             ⊎ ((e ≡ ChainError.OutOfMemory) × (walk_error self.old.state queue.old (length loaded.now) ≡ None))) }
         ensures ok { OnOk result (walk_error self.old.state queue.old (length loaded.now) ≡ None) }
         ensures memory { IfErr result (λ e. e ≡ ChainError.OutOfMemory → LacksRoom self.old) }
         ensures same { OnErr result (IsAllBut self.old self.new × (self.new.state ≡ self.old.state) × (self.new.descriptors.items ≡ self.old.descriptors.items) × (queue.new ≡ queue.old)) }
         ensures walks { IfOk result (λ walked. WalksOn loaded.now self.old self.new queue.old queue.new walked) }
+        ensures apart { (self.new.part ≡ self.old.part) × (self.new.session ≡ self.old.session) }
     {
         match self.state {
             State::Free => self.begin_walk(queue, loaded),
@@ -175,7 +183,7 @@ impl Workbench {
         }
     }
 
-    /// Why a walk doesn't go on by so many bytes, of a queue as it stands, or begin by none; None if only memory may be wanting.
+    /// Why a walk doesn't go on by a whole load of so many bytes, of a queue as it stands, or begin by none; None if only memory may be wanting.
     pub fn walk_refusal(&self, queue: &KeptQueue, len: usize) -> Option<ChainError>
         ensures { result ≡ walk_error self.now.state queue.now len }
     {

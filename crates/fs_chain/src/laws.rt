@@ -4,8 +4,8 @@ ghost use Rattle.fs_chain.specs.Laws.{WalksAreOffers};
 
 use fs_regions::laws::law_offers;
 
-/// Whatever a walk of the handle comes to, a memory of these regions that has its loads offers just that: nothing, a refusal, or the
-/// chain, with its fault or with its request and the addresses of its room.
+/// Whatever a call of `Workbench::walk` tells, a memory of the handle's regions that has all loads of the walk offers just that: nothing,
+/// a refusal, or the chain, with its fault or with its request and the addresses of its room.
 pub fn law_walks()
     ensures { WalksAreOffers }
 {

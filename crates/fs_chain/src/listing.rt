@@ -5,7 +5,7 @@ ghost use Rattle.fuse_fs.specs.Answers.{listed};
 ghost use Rattle.server_replies.specs.Entries.{no_node};
 ghost use Rattle.server_phases.specs.Gathering.{added_found, added_plain};
 ghost use Rattle.fs_chain.specs.Listings.{AddsTo, Ends, Fails, answered_by, told_added};
-ghost use Rattle.fs_chain.specs.Walks.{IsAllBut};
+ghost use Rattle.fs_chain.specs.Walks.{IsAllButPlace};
 ghost use Rattle.fs_chain.specs.declared.state.State.TheVariants as at;
 
 use crate::error::ChainError;
@@ -54,7 +54,7 @@ impl Workbench {
     ) -> Result<Added, ChainError>
         ensures adds { AddsTo (at.Lists out listing) self.new.state list.old list.new (listed entry.now, no_node (listed entry.now))
             (λ l. added_plain l (length list.old) (length entry.now.name.now)) result }
-        ensures stays { IsAllBut self.old self.new × (self.new.descriptors ≡ self.old.descriptors) }
+        ensures stays { IsAllButPlace self.old self.new }
     {
         let outcome = listing.add(list, entry);
         self.state = State::Lists(out, listing);
@@ -72,7 +72,7 @@ impl Workbench {
     ) -> Result<Added, ChainError>
         ensures adds { AddsTo (at.Lists out listing) self.new.state list.old list.new (listed entry.now, node)
             (λ l. added_found l (length list.old) (length entry.now.name.now)) result }
-        ensures stays { IsAllBut self.old self.new × (self.new.descriptors ≡ self.old.descriptors) }
+        ensures stays { IsAllButPlace self.old self.new }
     {
         let outcome = listing.add_with_node(list, entry, node);
         self.state = State::Lists(out, listing);
@@ -83,7 +83,7 @@ impl Workbench {
     pub fn add(&mut self, list: &mut [u8], entry: &DirEntry<'_>) -> Result<Added, ChainError>
         ensures adds { AddsTo self.old.state self.new.state list.old list.new (listed entry.now, no_node (listed entry.now))
             (λ l. added_plain l (length list.old) (length entry.now.name.now)) result }
-        ensures stays { IsAllBut self.old self.new × (self.new.descriptors ≡ self.old.descriptors) }
+        ensures stays { IsAllButPlace self.old self.new }
     {
         match mem::replace(&mut self.state, State::Free) {
             State::Lists(out, listing) => self.add_to(out, listing, list, entry),
@@ -107,7 +107,7 @@ impl Workbench {
     ) -> Result<Added, ChainError>
         ensures adds { AddsTo self.old.state self.new.state list.old list.new (listed entry.now, node)
             (λ l. added_found l (length list.old) (length entry.now.name.now)) result }
-        ensures stays { IsAllBut self.old self.new × (self.new.descriptors ≡ self.old.descriptors) }
+        ensures stays { IsAllButPlace self.old self.new }
     {
         match mem::replace(&mut self.state, State::Free) {
             State::Lists(out, listing) => self.add_node_to(out, listing, list, entry, node),
@@ -136,7 +136,7 @@ impl Workbench {
     /// Replies the entries so far: how many bytes of the list are the data.
     pub fn end(&mut self) -> Result<usize, ChainError>
         ensures ended { Ends self.old.state self.new.state result }
-        ensures stays { IsAllBut self.old self.new × (self.new.descriptors ≡ self.old.descriptors) }
+        ensures stays { IsAllButPlace self.old self.new }
     {
         match mem::replace(&mut self.state, State::Free) {
             State::Lists(out, listing) => Ok(self.keep_listed(out, listing.end())),
@@ -154,7 +154,7 @@ impl Workbench {
     /// Replies that the listing failed: how many bytes of the list are the data.
     pub fn fail(&mut self, error: Errno) -> Result<usize, ChainError>
         ensures failed { Fails error self.old.state self.new.state result }
-        ensures stays { IsAllBut self.old self.new × (self.new.descriptors ≡ self.old.descriptors) }
+        ensures stays { IsAllButPlace self.old self.new }
     {
         match mem::replace(&mut self.state, State::Free) {
             State::Lists(out, listing) => Ok(self.keep_listed(out, listing.fail(error))),

@@ -11,6 +11,7 @@ ghost use Rattle.fs_chain.specs.Orders.{is_free, is_listing, is_out, is_returnin
 use crate::state::State;
 use crate::workbench::Workbench;
 use fs_regions::range_from;
+use server_phases::Session;
 use vm_memory_core::VolatileSlice;
 
 impl Workbench {
@@ -29,6 +30,13 @@ impl Workbench {
         ensures { result ≡ is_free self.now.state }
     {
         matches!(self.state, State::Free)
+    }
+
+    /// The session in which the chain was asked.
+    pub fn session(&self) -> &Session
+        ensures { result.now ≡ self.now.session }
+    {
+        &self.session
     }
 
     /// Whether the stores of a return were told.

@@ -76,6 +76,7 @@ impl Workbench {
         ensures state { self.new.state ≡ state_after course self.new.descriptors.items (Step.Chain head (Some fault)) }
         ensures empty { self.new.descriptors.items ≡ [] }
         ensures same { IsAllBut self.old self.new }
+        ensures apart { (self.new.part ≡ self.old.part) × (self.new.session ≡ self.old.session) }
         ensures queue { queue.new ≡ record queue.old { out = true } }
     {
         self.descriptors.clear();
@@ -107,6 +108,7 @@ impl Workbench {
         ensures state { self.new.state ≡ state_after course self.new.descriptors.items step }
         ensures left { self.new.descriptors.items ≡ left_of step self.old.descriptors.items }
         ensures same { IsAllBut self.old self.new }
+        ensures apart { (self.new.part ≡ self.old.part) × (self.new.session ≡ self.old.session) }
         ensures queue { queue.new ≡ queue_after queue.old step }
     {
         match step {
@@ -131,6 +133,7 @@ impl Workbench {
         requires free { self.old.state ≡ at.Free }
         requires goes { queue.old.stopped ≡ None }
         ensures begins { Begins self.old self.new queue.old queue.new result }
+        ensures apart { (self.new.part ≡ self.old.part) × (self.new.session ≡ self.old.session) }
     {
         let course = Course {
             layout: queue.layout,
@@ -154,6 +157,7 @@ impl Workbench {
         ensures memory { IfErr result (λ e. e ≡ ChainError.OutOfMemory → ⊥) }
         ensures same { OnErr result ((self.new ≡ self.old) × (queue.new ≡ queue.old)) }
         ensures begins { IfOk result (λ walked. Begins self.old self.new queue.old queue.new walked) }
+        ensures apart { (self.new.part ≡ self.old.part) × (self.new.session ≡ self.old.session) }
     {
         if !loaded.is_empty() {
             return Err(ChainError::BadArgument);

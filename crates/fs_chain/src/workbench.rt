@@ -11,6 +11,7 @@ use crate::error::ChainError;
 use crate::state::State;
 use fs_queue::{Descriptors, MOST_LIMIT};
 use fs_regions::{GuestRegions, window_from};
+use server_phases::Session;
 use std::alloc::Global;
 use virtiofsd_fuse::MAX_REQUEST_LEN;
 use vm_memory_core::VolatileSlice;
@@ -18,13 +19,20 @@ use vm_memory_core::VolatileSlice;
 /// The least limit of a request and of a room, in bytes: the longest request that the server serves.
 pub const LEAST_LIMIT: u32 = MAX_REQUEST_LEN;
 
-/// A workbench for one chain at a time: from the walk that finds it to the stores that give it back.
+/// The page size of a session in which no chain was asked yet, in bytes.
+const PAGE_SIZE_AT_FIRST: u32 = 4096;
+
+/// A workbench for one chain at a time: from the walk that finds it to the stores that give it back. It keeps the first bytes of the load that its walk
+/// asks for, if the load is made in parts, and the session in which its chain was asked.
 #[derive(Drop)]
 pub struct Workbench {
+    pub(crate) alloc: Global,
     pub(crate) regions: GuestRegions,
     pub(crate) limit: u32,
     pub(crate) descriptors: Descriptors,
     pub(crate) state: State,
+    pub(crate) part: Vec<u8>,
+    pub(crate) session: Session,
 }
 
 impl Workbench {
@@ -34,12 +42,16 @@ impl Workbench {
         ensures limit { result.limit ≡ 0x101000 }
         ensures descriptors { result.descriptors.items ≡ [] }
         ensures state { result.state ≡ at.Free }
+        ensures part { result.part.items ≡ [] }
     {
         Workbench {
+            alloc,
             regions: GuestRegions::none(alloc),
             limit: LEAST_LIMIT,
             descriptors: Descriptors::new(alloc),
             state: State::Free,
+            part: Vec::new(alloc),
+            session: Session::new(PAGE_SIZE_AT_FIRST),
         }
     }
 
@@ -49,7 +61,8 @@ impl Workbench {
         ensures error { IfErr result (λ e. memory_error self.old.state limit ≡ Some e) }
         ensures ok { OnOk result (memory_error self.old.state limit ≡ None) }
         ensures same { OnErr result (self.new ≡ self.old) }
-        ensures set { OnOk result ((self.new.regions ≡ regions) × (self.new.limit ≡ limit) × (self.new.state ≡ self.old.state)) }
+        ensures set { OnOk result ((self.new.regions ≡ regions) × (self.new.limit ≡ limit) × (self.new.state ≡ self.old.state)
+            × (self.new.part ≡ self.old.part) × (self.new.session ≡ self.old.session)) }
     {
         match self.state {
             State::Free => self.take_memory(regions, limit),
@@ -62,7 +75,8 @@ impl Workbench {
         ensures error { IfErr result (λ e. memory_error at.Free limit ≡ Some e) }
         ensures ok { OnOk result (memory_error at.Free limit ≡ None) }
         ensures same { OnErr result (self.new ≡ self.old) }
-        ensures set { OnOk result ((self.new.regions ≡ regions) × (self.new.limit ≡ limit) × (self.new.state ≡ self.old.state)) }
+        ensures set { OnOk result ((self.new.regions ≡ regions) × (self.new.limit ≡ limit) × (self.new.state ≡ self.old.state)
+            × (self.new.part ≡ self.old.part) × (self.new.session ≡ self.old.session)) }
     {
         if limit < LEAST_LIMIT || MOST_LIMIT < limit {
             return Err(ChainError::BadArgument);

@@ -1,10 +1,7 @@
-mod ChainAsSeat
-pub mod HeldLemmas
-pub mod LoadLemmas
+mod ChainValues
+pub mod HandleLemmas
 pub mod MemoryLemmas
-mod Moving
 pub mod QueueLemmas
 pub mod RangeLemmas
 pub mod RecordLemmas
-mod Seats
 pub mod WindowLemmas

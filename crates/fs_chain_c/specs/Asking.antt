@@ -19,8 +19,7 @@ use Rattle.fs_chain.specs.Answers.{AnswerFails, CanBeGiven, IfWaits, IsGiven, Is
 use Rattle.fs_chain.specs.Asking.{IfTaken, TellsMeaning, wanted_after, wanted_by}
 use Rattle.fs_chain.specs.Numbers.{chain_error_number}
 use Rattle.fs_chain.specs.Orders.{ask_error, room_len}
-use Rattle.fs_chain.specs.Walks.{IsAllBut}
-use Rattle.fs_chain_c.specs.declared.held.Held.{Held}
+use Rattle.fs_chain.specs.Walks.{IsAllBut, IsAllButPlace}
 use Rattle.fs_chain_c.specs.declared.call.FsCall.{FsCall}
 use Rattle.fs_chain_c.specs.declared.device.FsDevice.{FsDevice}
 use Rattle.fs_chain_c.specs.Calls.{call_fields, low, no_call, numbered}
@@ -28,25 +27,25 @@ use Rattle.fs_chain_c.specs.Memory.{IsDevice}
 
 -- ---- an answer
 
--- what comes of an answer in a session: what is given of it, or why it is refused, and then nothing changes
-pub record Answers (w : Workbench) (s : Session) (a : FileAnswer) (told : Result Replied ChainError) (w' : Workbench) (s' : Session) : Type 0 where
+-- what comes of an answer in the session in which a workbench's chain was asked: what is given of it, or why it is refused, and then nothing changes
+pub record Answers (w : Workbench) (a : FileAnswer) (told : Result Replied ChainError) (w' : Workbench) : Type 0 where
   pub given : IfOk told (λ r. IfWaits w.state (λ out waiting.
-      IsGiven (setting s.page_size s.options.0 waiting.room) waiting a out s'.options.0 r w'.state))
+      IsGiven (setting w.session.page_size w.session.options.0 waiting.room) waiting a out w'.session.options.0 r w'.state))
   pub taken : OnOk told (IsWaiting w.state × IfWaits w.state (λ out waiting. CanBeGiven waiting a))
   pub refused : IfErr told (λ e. AnswerFails w.state a e)
-  pub same : OnErr told ((w' ≡ w) × (s' ≡ s))
-  pub page_size : s'.page_size ≡ s.page_size
-  pub stays : IsAllBut w w' × (w'.descriptors ≡ w.descriptors)
+  pub same : OnErr told (w' ≡ w)
+  pub page_size : w'.session.page_size ≡ w.session.page_size
+  pub stays : IsAllBut w w' × (w'.descriptors ≡ w.descriptors) × (w'.part ≡ w.part)
 
 -- what is told of what comes of it: done, that the room holds no such reply (35), or why it is refused
 abbrev pub replied_status : Result Replied ChainError → ℕ
 replied_status (Ok r) = if r.has_room then 0 else 35
 replied_status (Err e) = chain_error_number e
 
--- a held chain's call is answered
-abbrev pub AnswersHeld : Held → FileAnswer → (status : ℕ) → Held → Type 0
-AnswersHeld b a status b' =
-    (told : Result Replied ChainError) × Answers b.workbench b.session a told b'.workbench b'.session × (status ≡ replied_status told) × (b'.part ≡ b.part)
+-- a workbench's call is answered, and a status tells what comes of it
+abbrev pub AnswersWorkbench : Workbench → FileAnswer → (status : ℕ) → Workbench → Type 0
+AnswersWorkbench b a status b' =
+    (told : Result Replied ChainError) × Answers b a told b' × (status ≡ replied_status told)
 
 -- ---- a request
 
@@ -65,46 +64,46 @@ answer_unasked value.TmpFile = Some (answer.Failed 38)
 answer_unasked _ = None
 
 -- such a call is answered at once; others wait
-abbrev pub Settles : Held → Option FileAnswer → Held → Type 0
+abbrev pub Settles : Workbench → Option FileAnswer → Workbench → Type 0
 Settles b None b' = b' ≡ b
-Settles b (Some a) b' = (status : ℕ) × AnswersHeld b a status b'
+Settles b (Some a) b' = (status : ℕ) × AnswersWorkbench b a status b'
 
--- a workbench is asked by the first bytes of a request, and tells this: all requests that begin so, and are as long as its chain's, mean it
+-- a workbench is asked in a session, which it keeps, by the first bytes of a request, and tells this: all requests that begin so, and are as long as its
+-- chain's, mean it
 pub record Asks (w : Workbench) (s : Session) (request : List ℕ) (made : told.Told) (w' : Workbench) : Type 0 where
   pub can : ask_error w.state (length request) ≡ None
   pub tells : IfTaken w.state (λ out. (all : List ℕ) → out.request_len ≡ length all → IsFront request all
       → TellsMeaning (setting s.page_size s.options.0 out.room_len) (meaning s.options.0 all out.room_len) (drop 80 all) out made w'.state)
   pub wanted : IfTaken w.state (λ out. wanted_by made ≡ wanted_after request out.request_len)
-  pub stays : IsAllBut w w' × (w'.descriptors ≡ w.descriptors)
+  pub session : w'.session ≡ s
+  pub stays : IsAllBut w w' × (w'.descriptors ≡ w.descriptors) × (w'.part ≡ w.part)
 
 -- it can't be asked: it isn't where a request is asked, or more bytes came than the request has
 pub record CannotAsk (w : Workbench) (request : List ℕ) (e : ChainError) (w' : Workbench) : Type 0 where
   pub why : ask_error w.state (length request) ≡ Some e
-  pub stays : IsAllBut w w' × (w'.descriptors ≡ w.descriptors) × (w'.state ≡ w.state)
+  pub stays : IsAllButPlace w w' × (w'.state ≡ w.state)
 
 -- the session that goes on with a device's numbers; bits of no option are dropped
 abbrev pub IsSessionOf : FsDevice → Session → Type 0
 IsSessionOf d s = (s.page_size ≡ d.page_size) × (s.options.0 ≡ bit_and d.options known_options)
 
 -- what C is told of what a request asks: the call, how many bytes are wanted (34), nothing, or the fault
-abbrev pub TellsAsked : Held → (request : List ℕ) → told.Told → FsCall → (status : ℕ) → Held → Type 0
+abbrev pub TellsAsked : Workbench → (request : List ℕ) → told.Told → FsCall → (status : ℕ) → Workbench → Type 0
 TellsAsked b request (tells.Call made) call status b' =
-    (status ≡ 0) × (call ≡ call_fields request b.session.options.0 (room_len b.workbench.state) made) × Settles b (answer_unasked made) b'
+    (status ≡ 0) × (call ≡ call_fields request b.session.options.0 (room_len b.state) made) × Settles b (answer_unasked made) b'
 TellsAsked b request (tells.More n) call status b' = (status ≡ 34) × (call ≡ numbered request (record no_call { needed = low n })) × (b' ≡ b)
 TellsAsked b request tells.Nothing call status b' = (status ≡ 0) × (call ≡ numbered request no_call) × (b' ≡ b)
 TellsAsked b request (tells.Fault e) call status b' =
     (status ≡ 0) × (call ≡ numbered request (record no_call { fault = error_number e })) × (b' ≡ b)
 
--- a held chain that was asked: by its workbench, in the session of the device
-abbrev pub AsksSo : Held → FsDevice → (request : List ℕ) → FsCall → (status : ℕ) → Held → Type 0
+-- a workbench that was asked in the session of the device
+abbrev pub AsksSo : Workbench → FsDevice → (request : List ℕ) → FsCall → (status : ℕ) → Workbench → Type 0
 AsksSo b d request call status b' =
-    (asked : Held) × (made : told.Told) × IsSessionOf d asked.session × (asked.part ≡ b.part)
-    × Asks b.workbench asked.session request made asked.workbench × TellsAsked asked request made call status b'
+    (s : Session) × IsSessionOf d s × (asked : Workbench) × (made : told.Told) × Asks b s request made asked × TellsAsked asked request made call status b'
 
--- a held chain is asked by the first bytes of a request; a bad argument, if the device's numbers are none
-abbrev pub AsksHeld : Held → FsDevice → (request : List ℕ) → FsCall → (status : ℕ) → Held → Type 0
-AsksHeld b d request call status b' =
+-- a workbench is asked by the first bytes of a request; a bad argument, if the device's numbers are none
+abbrev pub AsksWorkbench : Workbench → FsDevice → (request : List ℕ) → FsCall → (status : ℕ) → Workbench → Type 0
+AsksWorkbench b d request call status b' =
     ((IsDevice d → ⊥) × (status ≡ chain_error_number BadArgument) × (call ≡ no_call) × (b' ≡ b))
-    ⊎ (IsDevice d × (e : ChainError) × CannotAsk b.workbench request e b'.workbench × (status ≡ chain_error_number e) × (call ≡ no_call)
-    × (b'.session ≡ b.session) × (b'.part ≡ b.part))
+    ⊎ (IsDevice d × (e : ChainError) × CannotAsk b request e b' × (status ≡ chain_error_number e) × (call ≡ no_call))
     ⊎ (IsDevice d × AsksSo b d request call status b')

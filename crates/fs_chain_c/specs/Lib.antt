@@ -10,6 +10,5 @@ pub mod Ranges
 pub mod Records
 pub mod Replies
 pub mod Returning
-pub mod Seats
 pub mod Walking
 pub mod Windows

@@ -14,16 +14,11 @@ use Rattle.fs_chain.specs.declared.listing.Added.TheVariants as added
 use Rattle.fs_chain.specs.Listings.{AddsTo, Ends, Fails}
 use Rattle.fs_chain.specs.Numbers.{chain_error_number}
 use Rattle.fs_chain.specs.Orders.{is_listing}
-use Rattle.fs_chain.specs.Walks.{IsAllBut}
+use Rattle.fs_chain.specs.Walks.{IsAllButPlace}
 use Rattle.fs_chain_c.specs.declared.answers.FsEntry.{FsEntry}
-use Rattle.fs_chain_c.specs.declared.held.Held.{Held}
-use Rattle.fs_chain_c.specs.Asking.{AnswersHeld}
-use Rattle.fs_chain_c.specs.Handles.{OnHeld}
-
--- all but where the chain is stays
-abbrev pub IsAllButPlace : Held → Held → Type 0
-IsAllButPlace b b' =
-    IsAllBut b.workbench b'.workbench × (b'.workbench.descriptors ≡ b.workbench.descriptors) × (b'.session ≡ b.session) × (b'.part ≡ b.part)
+use Rattle.fs_chain.specs.declared.workbench.Workbench.{Workbench}
+use Rattle.fs_chain_c.specs.Asking.{AnswersWorkbench}
+use Rattle.fs_chain_c.specs.Handles.{OnWorkbench}
 
 -- ---- entries
 
@@ -35,10 +30,10 @@ added_status (Ok added.NoRoom) = 37
 added_status (Ok added.TooLong) = 37
 added_status (Err e) = chain_error_number e
 
--- an entry is brought to a held chain's listing
-abbrev pub AddsHeld : Held → Brought → (outcome : Listing → Result (Unit {0}) reason.NotAdded) → (list : List ℕ) → (status : ℕ) → Held → (list' : List ℕ) → Type 0
-AddsHeld b e outcome list status b' list' =
-    (told : Result Added ChainError) × AddsTo b.workbench.state b'.workbench.state list list' e outcome told × IsAllButPlace b b' × (status ≡ added_status told)
+-- an entry is brought to a workbench's listing
+abbrev pub AddsWorkbench : Workbench → Brought → (outcome : Listing → Result (Unit {0}) reason.NotAdded) → (list : List ℕ) → (status : ℕ) → Workbench → (list' : List ℕ) → Type 0
+AddsWorkbench b e outcome list status b' list' =
+    (told : Result Added ChainError) × AddsTo b.state b'.state list list' e outcome told × IsAllButPlace b b' × (status ≡ added_status told)
 
 -- whether a name has a length that a directory's may have
 abbrev pub is_name : List ℕ → Bool
@@ -49,10 +44,10 @@ abbrev pub listed_as : (name : List ℕ) → (ino offset type : ℕ) → Listed
 listed_as name ino offset type = record { ino = ino; offset = offset; kind = type; name = name }
 
 -- an entry of READDIR is brought; a bad argument, if it has no name
-abbrev pub AddsEntry : (is : Bool) → Listed → Option Held → (list : List ℕ) → (status : ℕ) → Option Held → (list' : List ℕ) → Type 0
+abbrev pub AddsEntry : (is : Bool) → Listed → Option Workbench → (list : List ℕ) → (status : ℕ) → Option Workbench → (list' : List ℕ) → Type 0
 AddsEntry false d before list status after list' = (status ≡ chain_error_number BadArgument) × (after ≡ before) × (list' ≡ list)
 AddsEntry true d before list status after list' =
-    OnHeld (λ b b'. AddsHeld b (d, no_node d) (λ l. added_plain l (length list) (length d.name)) list status b' list')
+    OnWorkbench (λ b b'. AddsWorkbench b (d, no_node d) (λ l. added_plain l (length list) (length d.name)) list status b' list')
     ((status ≡ chain_error_number WrongOrder) × (list' ≡ list)) before after
 
 -- the kind of an entry with these attributes: the bits of S_IFMT
@@ -60,9 +55,9 @@ abbrev pub type_of : FsEntry → ℕ
 type_of e = e.attr.mode / 4096 % 16
 
 -- an entry of READDIRPLUS is brought; a bad argument, if it has no name, or a time isn't one
-abbrev pub AddsNode : (is : Bool) → Listed → Option (Entry ℕ) → Option Held → (list : List ℕ) → (status : ℕ) → Option Held → (list' : List ℕ) → Type 0
+abbrev pub AddsNode : (is : Bool) → Listed → Option (Entry ℕ) → Option Workbench → (list : List ℕ) → (status : ℕ) → Option Workbench → (list' : List ℕ) → Type 0
 AddsNode true d (Some entry) before list status after list' =
-    OnHeld (λ b b'. AddsHeld b (d, entry) (λ l. added_found l (length list) (length d.name)) list status b' list')
+    OnWorkbench (λ b b'. AddsWorkbench b (d, entry) (λ l. added_found l (length list) (length d.name)) list status b' list')
     ((status ≡ chain_error_number WrongOrder) × (list' ≡ list)) before after
 AddsNode true d None before list status after list' = (status ≡ chain_error_number BadArgument) × (after ≡ before) × (list' ≡ list)
 AddsNode false d entry before list status after list' = (status ≡ chain_error_number BadArgument) × (after ≡ before) × (list' ≡ list)
@@ -83,35 +78,35 @@ abbrev pub ended_len : Result ℕ ChainError → ℕ
 ended_len (Ok n) = n
 ended_len (Err e) = 0
 
--- a held chain's listing ends by the entries so far
-abbrev pub EndsHeld : Held → (status len : ℕ) → Held → Type 0
-EndsHeld b status len b' =
-    (told : Result ℕ ChainError) × Ends b.workbench.state b'.workbench.state told × IsAllButPlace b b' × (status ≡ ended_status told) × (len ≡ ended_len told)
+-- a workbench's listing ends by the entries so far
+abbrev pub EndsWorkbench : Workbench → (status len : ℕ) → Workbench → Type 0
+EndsWorkbench b status len b' =
+    (told : Result ℕ ChainError) × Ends b.state b'.state told × IsAllButPlace b b' × (status ≡ ended_status told) × (len ≡ ended_len told)
 
 -- a handle's listing ends so
-abbrev pub EndsList : Option Held → (status len : ℕ) → Option Held → Type 0
-EndsList before status len after = OnHeld (λ b b'. EndsHeld b status len b') ((status ≡ chain_error_number WrongOrder) × (len ≡ 0)) before after
+abbrev pub EndsList : Option Workbench → (status len : ℕ) → Option Workbench → Type 0
+EndsList before status len after = OnWorkbench (λ b b'. EndsWorkbench b status len b') ((status ≡ chain_error_number WrongOrder) × (len ≡ 0)) before after
 
--- a held chain's listing fails by an errno
-abbrev pub FailsListing : (errno : ℕ) → Held → (status : ℕ) → Held → Type 0
+-- a workbench's listing fails by an errno
+abbrev pub FailsListing : (errno : ℕ) → Workbench → (status : ℕ) → Workbench → Type 0
 FailsListing errno b status b' =
-    (told : Result ℕ ChainError) × Fails errno b.workbench.state b'.workbench.state told × IsAllButPlace b b' × (status ≡ failed_status told)
+    (told : Result ℕ ChainError) × Fails errno b.state b'.state told × IsAllButPlace b b' × (status ≡ failed_status told)
 
--- a held chain's call fails by an errno: a listing by what it has, another call by its answer
-abbrev pub FailsHeld : (listing : Bool) → (errno : ℕ) → Held → (status : ℕ) → Held → Type 0
-FailsHeld true errno b status b' = FailsListing errno b status b'
-FailsHeld false errno b status b' = AnswersHeld b (answer.Failed errno) status b'
+-- a workbench's call fails by an errno: a listing by what it has, another call by its answer
+abbrev pub FailsWorkbench : (listing : Bool) → (errno : ℕ) → Workbench → (status : ℕ) → Workbench → Type 0
+FailsWorkbench true errno b status b' = FailsListing errno b status b'
+FailsWorkbench false errno b status b' = AnswersWorkbench b (answer.Failed errno) status b'
 
 -- the errno of a number, from 1 to 4095
 abbrev pub errno_of : ℕ → Option ℕ
 errno_of n = if nat_le 1 n && nat_le n 4095 then Some n else None
 
 -- a handle's call fails by an errno, or is done (0), or the number is a bad argument
-abbrev pub RepliesBy : (errno : Option ℕ) → (done : Bool) → Option Held → (status : ℕ) → Option Held → Type 0
+abbrev pub RepliesBy : (errno : Option ℕ) → (done : Bool) → Option Workbench → (status : ℕ) → Option Workbench → Type 0
 RepliesBy (Some errno) done before status after =
-    OnHeld (λ b b'. FailsHeld (is_listing b.workbench.state) errno b status b') (status ≡ chain_error_number WrongOrder) before after
-RepliesBy None true before status after = OnHeld (λ b b'. AnswersHeld b answer.Done status b') (status ≡ chain_error_number WrongOrder) before after
+    OnWorkbench (λ b b'. FailsWorkbench (is_listing b.state) errno b status b') (status ≡ chain_error_number WrongOrder) before after
+RepliesBy None true before status after = OnWorkbench (λ b b'. AnswersWorkbench b answer.Done status b') (status ≡ chain_error_number WrongOrder) before after
 RepliesBy None false before status after = (status ≡ chain_error_number BadArgument) × (after ≡ before)
 
-abbrev pub RepliesError : (error : ℕ) → Option Held → (status : ℕ) → Option Held → Type 0
+abbrev pub RepliesError : (error : ℕ) → Option Workbench → (status : ℕ) → Option Workbench → Type 0
 RepliesError error before status after = RepliesBy (errno_of error) (error == 0) before status after

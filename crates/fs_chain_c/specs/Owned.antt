@@ -1,15 +1,19 @@
--- What the handle owns.
-use base.Fml.{Fml}
+-- What the handle owns: a struct of a pointer and of the heap's allocator, which C may see.
+use base.Fml.{Fml, ftrue}
 use base.Stored.{Coded}
 use denote.RawPtr.{Ptr}
-use Rattle.std.specs.Prelude.{Option}
+use Rattle.std.specs.Prelude.{Option, Some, None}
+use Rattle.std.specs.Coded.{coded_option}
+use Rattle.std.specs.Box.Ownership.{box_owns}
 use Rattle.std.specs.Global.{Global}
-use Rattle.fs_chain_c.specs.Seats.{seat_owns, seat_coded}
-use Rattle.fs_chain_c.specs.contracts.held.Held as held
+use Rattle.std_heap.specs.contracts.GlobalAllocator.TheImpl.{ghosts}
+use Rattle.fs_chain.specs.contracts.workbench.Workbench as workbench
 
--- what a chain's seat owns: the box behind its pointer, if it has one
-abbrev pub chain_seat_owns : Global → Ptr → Option (held.the_row).Denot → Fml
-chain_seat_owns = seat_owns held.the_row
+-- the box behind its pointer, if it has one
+abbrev pub chain_owns : Global → Ptr → Option (workbench.the_row).Denot → Fml
+chain_owns alloc p None = ftrue
+chain_owns alloc p (Some w) = box_owns (ghosts.dealloc_token alloc) workbench.the_row p w
 
-abbrev pub chain_value_coded : Coded (Option (held.the_row).Denot)
-chain_value_coded = seat_coded held.the_row
+-- how the workbench there is coded
+abbrev pub chain_value_coded : Coded (Option (workbench.the_row).Denot)
+chain_value_coded = coded_option (workbench.the_row).coded

@@ -4,9 +4,8 @@ use Rattle.fs_queue.specs.Taking.{total_len, of_direction}
 use Rattle.fs_regions.specs.Windows.{IsRangeFrom}
 use Rattle.fs_chain.specs.Orders.{is_out}
 use Rattle.fs_chain.specs.declared.workbench.Workbench.{Workbench}
-use Rattle.fs_chain_c.specs.declared.held.Held.{Held}
 use Rattle.fs_chain_c.specs.declared.ranges.FsRange.{FsRange}
-use Rattle.fs_chain_c.specs.Handles.{OnHeld}
+use Rattle.fs_chain_c.specs.Handles.{OnWorkbench}
 
 -- a stretch of the guest's addresses of the room's bytes from one on, at least one and at most so many: in one descriptor, as long as it goes on
 abbrev pub IsRange : Workbench → (from most : ℕ) → FsRange → Type 0
@@ -34,6 +33,6 @@ FillsRanges w from most ranges ranges' count =
     × (count < length ranges → range_bytes rs < most → RoomEnds w (from + range_bytes rs))
 
 -- the stretches of a handle's room are told, and its workbench stays as it was
-abbrev pub TellsRanges : Option Held → (from most : ℕ) → (ranges : List FsRange) → (count : ℕ) → Option Held → (ranges' : List FsRange) → Type 0
+abbrev pub TellsRanges : Option Workbench → (from most : ℕ) → (ranges : List FsRange) → (count : ℕ) → Option Workbench → (ranges' : List FsRange) → Type 0
 TellsRanges before from most ranges count after ranges' =
-    OnHeld (λ b b'. FillsRanges b.workbench from (min most (2 ^ 64 - 1 - from)) ranges ranges' count × (b' ≡ b)) ((count ≡ 0) × (ranges' ≡ ranges)) before after
+    OnWorkbench (λ b b'. FillsRanges b from (min most (2 ^ 64 - 1 - from)) ranges ranges' count × (b' ≡ b)) ((count ≡ 0) × (ranges' ≡ ranges)) before after

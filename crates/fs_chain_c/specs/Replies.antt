@@ -11,10 +11,10 @@ use Rattle.fs_chain.specs.Numbers.{chain_error_number}
 use Rattle.fs_chain.specs.OwnReplies.{IfUnanswered, own_error, own_reply}
 use Rattle.fs_chain_c.specs.declared.answers.FsEntry.{FsEntry}
 use Rattle.fs_chain_c.specs.declared.answers.FsStatfs.{FsStatfs}
-use Rattle.fs_chain_c.specs.declared.held.Held.{Held}
+use Rattle.fs_chain.specs.declared.workbench.Workbench.{Workbench}
 use Rattle.fs_chain_c.specs.declared.call.FsAttr.{FsAttr}
-use Rattle.fs_chain_c.specs.Asking.{AnswersHeld, AsksHeld}
-use Rattle.fs_chain_c.specs.Handles.{OnHeld}
+use Rattle.fs_chain_c.specs.Asking.{AnswersWorkbench, AsksWorkbench}
+use Rattle.fs_chain_c.specs.Handles.{OnWorkbench}
 use Rattle.fs_chain_c.specs.Calls.{no_call}
 use Rattle.fs_chain_c.specs.declared.call.FsCall.{FsCall}
 use Rattle.fs_chain_c.specs.declared.device.FsDevice.{FsDevice}
@@ -87,39 +87,38 @@ abbrev pub wish_said : ℕ → FileAnswer
 wish_said wanted = answer.Wants (record { 0 = wanted; 1 = record {} })
 
 -- a handle's call is answered by this; a bad argument, if C's numbers are no answer
-abbrev pub MayReply : Option FileAnswer → Option Held → (status : ℕ) → Option Held → Type 0
+abbrev pub MayReply : Option FileAnswer → Option Workbench → (status : ℕ) → Option Workbench → Type 0
 MayReply None before status after = (status ≡ chain_error_number BadArgument) × (after ≡ before)
-MayReply (Some a) before status after = OnHeld (λ b b'. AnswersHeld b a status b') (status ≡ chain_error_number WrongOrder) before after
+MayReply (Some a) before status after = OnWorkbench (λ b b'. AnswersWorkbench b a status b') (status ≡ chain_error_number WrongOrder) before after
 
 -- the same by an answer that is always one
-abbrev pub Replies : FileAnswer → Option Held → (status : ℕ) → Option Held → Type 0
-Replies a before status after = OnHeld (λ b b'. AnswersHeld b a status b') (status ≡ chain_error_number WrongOrder) before after
+abbrev pub Replies : FileAnswer → Option Workbench → (status : ℕ) → Option Workbench → Type 0
+Replies a before status after = OnWorkbench (λ b b'. AnswersWorkbench b a status b') (status ≡ chain_error_number WrongOrder) before after
 
 -- an INIT is answered, and the device has the options that were agreed
-abbrev pub Starts : (wanted : ℕ) → Option Held → FsDevice → (status : ℕ) → Option Held → FsDevice → Type 0
+abbrev pub Starts : (wanted : ℕ) → Option Workbench → FsDevice → (status : ℕ) → Option Workbench → FsDevice → Type 0
 Starts wanted before d status after d' =
-    OnHeld
-    (λ b b'. AnswersHeld b (wish_said wanted) status b'
+    OnWorkbench
+    (λ b b'. AnswersWorkbench b (wish_said wanted) status b'
     × (d' ≡ (if status == 0 || status == 35 then record d { options = b'.session.options.0 } else d)))
     ((status ≡ chain_error_number WrongOrder) × (d' ≡ d)) before after
 
 -- a handle's chain is asked
-abbrev pub AsksChain : Option Held → FsDevice → (request : List ℕ) → (status : ℕ) → FsCall → Option Held → Type 0
+abbrev pub AsksChain : Option Workbench → FsDevice → (request : List ℕ) → (status : ℕ) → FsCall → Option Workbench → Type 0
 AsksChain before d request status call after =
-    OnHeld (λ b b'. AsksHeld b d request call status b') ((status ≡ chain_error_number WrongOrder) × (call ≡ no_call)) before after
+    OnWorkbench (λ b b'. AsksWorkbench b d request call status b') ((status ≡ chain_error_number WrongOrder) × (call ≡ no_call)) before after
 
--- a held chain keeps a reply of so many bytes of C's own, and all else as it is
-abbrev pub KeepsOwn : (len : ℕ) → Held → Held → Type 0
+-- a workbench keeps a reply of so many bytes of C's own, and all else as it is
+abbrev pub KeepsOwn : (len : ℕ) → Workbench → Workbench → Type 0
 KeepsOwn len b b' =
-    IfUnanswered b.workbench.state (λ out. b'.workbench ≡ record (b.workbench) { state = at.HasReply out (own_reply len) })
-    × (b'.part ≡ b.part) × (b'.session ≡ b.session)
+    IfUnanswered b.state (λ out. b' ≡ record b { state = at.HasReply out (own_reply len) })
 
 -- it replies them, or says why not, and nothing is done
-abbrev pub RepliesOwn : (len : ℕ) → Held → (status : ℕ) → Held → Type 0
+abbrev pub RepliesOwn : (len : ℕ) → Workbench → (status : ℕ) → Workbench → Type 0
 RepliesOwn len b status b' =
-    ((own_error b.workbench.state len ≡ None) × (status ≡ 0) × KeepsOwn len b b')
-    ⊎ ((e : ChainError) × (own_error b.workbench.state len ≡ Some e) × (status ≡ chain_error_number e) × (b' ≡ b))
+    ((own_error b.state len ≡ None) × (status ≡ 0) × KeepsOwn len b b')
+    ⊎ ((e : ChainError) × (own_error b.state len ≡ Some e) × (status ≡ chain_error_number e) × (b' ≡ b))
 
 -- a handle's chain is replied so
-abbrev pub RepliesBytes : (len : ℕ) → Option Held → (status : ℕ) → Option Held → Type 0
-RepliesBytes len before status after = OnHeld (λ b b'. RepliesOwn len b status b') (status ≡ chain_error_number WrongOrder) before after
+abbrev pub RepliesBytes : (len : ℕ) → Option Workbench → (status : ℕ) → Option Workbench → Type 0
+RepliesBytes len before status after = OnWorkbench (λ b b'. RepliesOwn len b status b') (status ≡ chain_error_number WrongOrder) before after

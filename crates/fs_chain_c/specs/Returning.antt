@@ -1,5 +1,5 @@
 -- How a chain goes back, as C is told, and how it is given up.
-use Rattle.std.specs.Prelude.{◌≡◌, ◌⊎◌, ◌+◌, ◌<◌, ◌%◌, ◌^◌, ℕ, true, false, List, [], length, min, Some, None}
+use Rattle.std.specs.Prelude.{◌≡◌, ◌⊎◌, ◌+◌, ◌<◌, ◌%◌, ◌^◌, ℕ, true, false, List, length, min, Some, None}
 use Rattle.std.specs.Int.{w16, to_le_bytes}
 use Rattle.vm_memory_core.specs.Window.{Window}
 use Rattle.vm_memory.specs.Layout.{Region, left_at, place}
@@ -12,8 +12,8 @@ use Rattle.fs_chain.specs.declared.returning.Stores.{Stores}
 use Rattle.fs_chain.specs.declared.state.State.TheVariants as at
 use Rattle.fs_chain.specs.Numbers.{chain_error_number}
 use Rattle.fs_chain.specs.Orders.{end_error, give_up_error, is_out, is_returning, return_error}
-use Rattle.fs_chain.specs.Returns.{IfHasReply, ReturnsBy, put_front}
-use Rattle.fs_chain_c.specs.declared.held.Held.{Held}
+use Rattle.fs_chain.specs.Returns.{IfHasReply, IsFreed, ReturnsBy, put_front}
+use Rattle.fs_chain.specs.declared.workbench.Workbench.{Workbench}
 use Rattle.fs_chain_c.specs.declared.queue.FsQueue.{FsQueue}
 use Rattle.fs_chain_c.specs.declared.returning.FsStores.{FsStores}
 use Rattle.fs_chain_c.specs.Queues.{IsKept, IsQueue, put, out_number}
@@ -49,61 +49,57 @@ HaveNoPlaces regions s =
     ⊎ IsNotHere regions s.used.flags 2
 
 -- a chain whose reply is known goes back by these stores, with the front at the front of the buffer; if they have no places, that is told by 77
-abbrev pub ReturnsSo : Held → (front : List ℕ) → FsStores → (status : ℕ) → Held → (front' : List ℕ) → Type 0
+abbrev pub ReturnsSo : Workbench → (front : List ℕ) → FsStores → (status : ℕ) → Workbench → (front' : List ℕ) → Type 0
 ReturnsSo b front told status b' front' =
-    (s : Stores) × IfHasReply b.workbench.state (λ out reply. b'.workbench ≡ record (b.workbench) { state = at.Returning out }) × (b'.part ≡ b.part)
-    × IfHasReply b.workbench.state (λ out reply. ReturnsBy out reply s) × IfHasReply b.workbench.state (λ out reply. front' ≡ put_front reply front)
-    × (((status ≡ 0) × TellsStores b'.workbench.regions s told) ⊎ ((status ≡ 77) × (told ≡ no_stores) × HaveNoPlaces b'.workbench.regions s))
+    (s : Stores) × IfHasReply b.state (λ out reply. b' ≡ record b { state = at.Returning out })
+    × IfHasReply b.state (λ out reply. ReturnsBy out reply s) × IfHasReply b.state (λ out reply. front' ≡ put_front reply front)
+    × (((status ≡ 0) × TellsStores b'.regions s told) ⊎ ((status ≡ 77) × (told ≡ no_stores) × HaveNoPlaces b'.regions s))
 
 -- over the core's queue; refused by its error, and nothing is done: a buffer of 160 bytes is never too short
-abbrev pub ReturnsKept : Held → KeptQueue → (front : List ℕ) → FsStores → (status : ℕ) → Held → (front' : List ℕ) → Type 0
+abbrev pub ReturnsKept : Workbench → KeptQueue → (front : List ℕ) → FsStores → (status : ℕ) → Workbench → (front' : List ℕ) → Type 0
 ReturnsKept b k front told status b' front' =
-    ((return_error b.workbench.state k (length front) ≡ None) × ReturnsSo b front told status b' front')
-    ⊎ ((e : ChainError) × (return_error b.workbench.state k (length front) ≡ Some e) × (e ≡ ShortBuffer → length front < 160)
+    ((return_error b.state k (length front) ≡ None) × ReturnsSo b front told status b' front')
+    ⊎ ((e : ChainError) × (return_error b.state k (length front) ≡ Some e) × (e ≡ ShortBuffer → length front < 160)
     × (status ≡ chain_error_number e) × (told ≡ no_stores) × (b' ≡ b) × (front' ≡ front))
 
 -- over a queue of C's; a bad argument, if its numbers are none
-abbrev pub ReturnsHeld : Held → FsQueue → (front : List ℕ) → FsStores → (status : ℕ) → Held → (front' : List ℕ) → Type 0
-ReturnsHeld b q front told status b' front' =
+abbrev pub ReturnsWorkbench : Workbench → FsQueue → (front : List ℕ) → FsStores → (status : ℕ) → Workbench → (front' : List ℕ) → Type 0
+ReturnsWorkbench b q front told status b' front' =
     ((IsQueue q → ⊥) × (status ≡ chain_error_number BadArgument) × (told ≡ no_stores) × (b' ≡ b) × (front' ≡ front))
     ⊎ (IsQueue q × (k : KeptQueue) × IsKept q k × ReturnsKept b k front told status b' front')
 
 -- ---- a return ends
 
--- the handle is free, and nothing came of a load
-abbrev pub IsFreed : Held → Held → Type 0
-IsFreed b b' = (b'.workbench ≡ record (b.workbench) { state = at.Free }) × (b'.part.items ≡ [])
-
 -- the queue isn't told, and the handle is free all the same
-abbrev pub FreesOther : Held → FsQueue → (status : ℕ) → Held → FsQueue → Type 0
+abbrev pub FreesOther : Workbench → FsQueue → (status : ℕ) → Workbench → FsQueue → Type 0
 FreesOther b q status b' q' = (status ≡ chain_error_number OtherQueue) × IsFreed b b' × (q' ≡ q)
 
 -- the stores are made, of the core's queue: it goes on by one; or they were another queue's
-abbrev pub EndsKept : Held → FsQueue → KeptQueue → (seen notify status : ℕ) → Held → FsQueue → Type 0
+abbrev pub EndsKept : Workbench → FsQueue → KeptQueue → (seen notify status : ℕ) → Workbench → FsQueue → Type 0
 EndsKept b q k seen notify status b' q' =
-    ((end_error b.workbench.state k ≡ None) × (status ≡ 0) × (notify ≡ out_number (tells (to_le_bytes w16 seen))) × IsFreed b b'
+    ((end_error b.state k ≡ None) × (status ≡ 0) × (notify ≡ out_number (tells (to_le_bytes w16 seen))) × IsFreed b b'
     × (q' ≡ put q (record k { out = false; position = (k.position + 1) % 2 ^ 16 })))
-    ⊎ ((e : ChainError) × (end_error b.workbench.state k ≡ Some e) × (notify ≡ 0) × FreesOther b q status b' q')
+    ⊎ ((e : ChainError) × (end_error b.state k ≡ Some e) × (notify ≡ 0) × FreesOther b q status b' q')
 
 -- a return ends over a queue of C's, which is another one if its numbers are none; refused if its stores weren't told
-abbrev pub EndsHeld : Held → FsQueue → (seen notify status : ℕ) → Held → FsQueue → Type 0
-EndsHeld b q seen notify status b' q' =
-    ((is_returning b.workbench.state ≡ false) × (status ≡ chain_error_number WrongOrder) × (notify ≡ 0) × (b' ≡ b) × (q' ≡ q))
-    ⊎ ((is_returning b.workbench.state ≡ true) × (IsQueue q → ⊥) × (notify ≡ 0) × FreesOther b q status b' q')
-    ⊎ ((is_returning b.workbench.state ≡ true) × IsQueue q × (k : KeptQueue) × IsKept q k × EndsKept b q k seen notify status b' q')
+abbrev pub EndsWorkbench : Workbench → FsQueue → (seen notify status : ℕ) → Workbench → FsQueue → Type 0
+EndsWorkbench b q seen notify status b' q' =
+    ((is_returning b.state ≡ false) × (status ≡ chain_error_number WrongOrder) × (notify ≡ 0) × (b' ≡ b) × (q' ≡ q))
+    ⊎ ((is_returning b.state ≡ true) × (IsQueue q → ⊥) × (notify ≡ 0) × FreesOther b q status b' q')
+    ⊎ ((is_returning b.state ≡ true) × IsQueue q × (k : KeptQueue) × IsKept q k × EndsKept b q k seen notify status b' q')
 
 -- ---- a chain is given up
 
 -- over the core's queue, which hands it out again; or it is another queue's
-abbrev pub DropsKept : Held → FsQueue → KeptQueue → (status : ℕ) → Held → FsQueue → Type 0
+abbrev pub DropsKept : Workbench → FsQueue → KeptQueue → (status : ℕ) → Workbench → FsQueue → Type 0
 DropsKept b q k status b' q' =
-    ((give_up_error b.workbench.state k ≡ None) × (status ≡ 0) × IsFreed b b' × (q' ≡ put q (record k { out = false })))
-    ⊎ ((e : ChainError) × (give_up_error b.workbench.state k ≡ Some e) × FreesOther b q status b' q')
+    ((give_up_error b.state k ≡ None) × (status ≡ 0) × IsFreed b b' × (q' ≡ put q (record k { out = false })))
+    ⊎ ((e : ChainError) × (give_up_error b.state k ≡ Some e) × FreesOther b q status b' q')
 
 -- over a queue of C's, which is another one if its numbers are none; refused if its stores were told, and done by nothing if none is out
-abbrev pub DropsHeld : Held → FsQueue → (status : ℕ) → Held → FsQueue → Type 0
-DropsHeld b q status b' q' =
-    ((is_returning b.workbench.state ≡ true) × (status ≡ chain_error_number WrongOrder) × (b' ≡ b) × (q' ≡ q))
-    ⊎ ((is_out b.workbench.state ≡ false) × (status ≡ 0) × IsFreed b b' × (q' ≡ q))
-    ⊎ ((is_returning b.workbench.state ≡ false) × (is_out b.workbench.state ≡ true) × (IsQueue q → ⊥) × FreesOther b q status b' q')
-    ⊎ ((is_returning b.workbench.state ≡ false) × (is_out b.workbench.state ≡ true) × IsQueue q × (k : KeptQueue) × IsKept q k × DropsKept b q k status b' q')
+abbrev pub DropsWorkbench : Workbench → FsQueue → (status : ℕ) → Workbench → FsQueue → Type 0
+DropsWorkbench b q status b' q' =
+    ((is_returning b.state ≡ true) × (status ≡ chain_error_number WrongOrder) × (b' ≡ b) × (q' ≡ q))
+    ⊎ ((is_out b.state ≡ false) × (status ≡ 0) × IsFreed b b' × (q' ≡ q))
+    ⊎ ((is_returning b.state ≡ false) × (is_out b.state ≡ true) × (IsQueue q → ⊥) × FreesOther b q status b' q')
+    ⊎ ((is_returning b.state ≡ false) × (is_out b.state ≡ true) × IsQueue q × (k : KeptQueue) × IsKept q k × DropsKept b q k status b' q')

@@ -1,14 +1,13 @@
 //! What a chain's request asks.
 
 ghost use Rattle.std.specs.Prelude.{◌≡◌};
-ghost use Rattle.fs_chain_c.specs.Asking.{AnswersHeld, AsksHeld, Settles, TellsAsked, answer_unasked};
+ghost use Rattle.fs_chain_c.specs.Asking.{AnswersWorkbench, AsksWorkbench, Settles, TellsAsked, answer_unasked};
 
 use crate::call::FsCall;
 use crate::device::FsDevice;
 use crate::fields::{call_fields, number};
-use crate::held::Held;
 use bitflags::Flags;
-use fs_chain::{ChainError, Told};
+use fs_chain::{ChainError, Told, Workbench};
 use fuse_base::{Errno, FsOptions};
 use fuse_values::{FileAnswer, FileCall};
 use server_phases::Session;
@@ -20,10 +19,10 @@ const MORE: u32 = 34;
 pub const NO_ROOM: u32 = 35;
 
 /// Answers the call that waits, and says a status.
-pub fn answer_held(held: &mut Held, answer: FileAnswer) -> u32
-    ensures { AnswersHeld held.old answer result held.new }
+pub fn answer_workbench(workbench: &mut Workbench, answer: FileAnswer) -> u32
+    ensures { AnswersWorkbench workbench.old answer result workbench.new }
 {
-    match held.workbench.answer(&mut held.session, answer) {
+    match workbench.answer(answer) {
         Ok(replied) => { if replied.has_room { 0 } else { NO_ROOM } }
         Err(error) => u32::from(error.number()),
     }
@@ -48,26 +47,26 @@ fn answer_unasked(call: &FileCall<'_>) -> Option<FileAnswer>
 }
 
 // Answers a call at once, if there is an answer.
-fn settle(held: &mut Held, answer: Option<FileAnswer>)
-    ensures { Settles held.old answer held.new }
+fn settle(workbench: &mut Workbench, answer: Option<FileAnswer>)
+    ensures { Settles workbench.old answer workbench.new }
 {
     match answer {
         Some(answer) => {
-            let _status = answer_held(held, answer);
+            let _status = answer_workbench(workbench, answer);
         }
         None => {}
     }
 }
 
 // Tells what a request asks.
-fn tell(held: &mut Held, request: &[u8], told: Told<'_>, call: &mut FsCall) -> u32
-    ensures { TellsAsked held.old request.now told.entry call.new result held.new }
+fn tell(workbench: &mut Workbench, request: &[u8], told: Told<'_>, call: &mut FsCall) -> u32
+    ensures { TellsAsked workbench.old request.now told.entry call.new result workbench.new }
 {
     match told {
         Told::Call(made) => {
-            let options = held.session.options().bits();
-            *call = call_fields(request, options, held.workbench.room_len(), &made);
-            settle(held, answer_unasked(&made));
+            let options = workbench.session().options().bits();
+            *call = call_fields(request, options, workbench.room_len(), &made);
+            settle(workbench, answer_unasked(&made));
             0
         }
         Told::More(needed) => {
@@ -91,8 +90,13 @@ fn tell(held: &mut Held, request: &[u8], told: Told<'_>, call: &mut FsCall) -> u
 }
 
 /// Tells what a request asks, by its first bytes, and says a status.
-pub fn ask_held(held: &mut Held, device: &FsDevice, request: &[u8], call: &mut FsCall) -> u32
-    ensures { AsksHeld held.old device.now request.now call.new result held.new }
+pub fn ask_workbench(
+    workbench: &mut Workbench,
+    device: &FsDevice,
+    request: &[u8],
+    call: &mut FsCall,
+) -> u32
+    ensures { AsksWorkbench workbench.old device.now request.now call.new result workbench.new }
 {
     if !device.is_lawful() {
         *call = FsCall::none();
@@ -100,11 +104,8 @@ pub fn ask_held(held: &mut Held, device: &FsDevice, request: &[u8], call: &mut F
     }
     let options = FsOptions::from_bits_retain(device.options);
     let session = Session::resume(device.page_size, options);
-    match held.workbench.ask(&session, request) {
-        Ok(told) => {
-            held.session = session;
-            tell(held, request, told, call)
-        }
+    match workbench.ask(session, request) {
+        Ok(told) => tell(workbench, request, told, call),
         Err(error) => {
             *call = FsCall::none();
             u32::from(error.number())

@@ -7,9 +7,9 @@ use crate::device::FsDevice;
 use crate::handle::FsChain;
 use crate::memory::FsRegion;
 use crate::queue::FsQueue;
-use crate::returning::{FsStores, drop_held, end_held, return_held};
-use crate::setting::{make_held, set_held};
-use crate::walking::{FsStep, walk_held};
+use crate::returning::{FsStores, drop_workbench, end_workbench, return_workbench};
+use crate::setting::{make_workbench, set_workbench};
+use crate::walking::{FsStep, walk_workbench};
 use crate::windows::{FsWindow, fill};
 use fs_chain::ChainError;
 use std::alloc::Global;
@@ -40,19 +40,19 @@ pub extern "C" fn fs_chain_set_memory(
     device: &FsDevice,
     regions: &[FsRegion],
 ) -> u32
-    ensures { SetsMemory chain.old.seat.value device.now regions.now result chain.new.seat.value }
+    ensures { SetsMemory chain.old.value device.now regions.now result chain.new.value }
 {
     match chain.take(alloc) {
-        Some(mut held) => {
-            let status = set_held(alloc, &mut held, device, regions);
-            *chain = FsChain::of_box(held);
+        Some(mut workbench) => {
+            let status = set_workbench(alloc, &mut workbench, device, regions);
+            *chain = FsChain::of_box(workbench);
             status
         }
         None => {
-            let (made, status) = make_held(alloc, device, regions);
+            let (made, status) = make_workbench(alloc, device, regions);
             match made {
-                Some(held) => {
-                    *chain = FsChain::of_box(held);
+                Some(workbench) => {
+                    *chain = FsChain::of_box(workbench);
                     status
                 }
                 None => status,
@@ -64,7 +64,7 @@ pub extern "C" fn fs_chain_set_memory(
 /// Frees what a handle holds; then it has no workbench. The queue of a chain that is out isn't told.
 #[unsafe(no_mangle)]
 pub extern "C" fn fs_chain_free(alloc: Global, chain: &mut FsChain)
-    ensures { chain.new.seat.value ≡ None }
+    ensures { chain.new.value ≡ None }
 {
     *chain = FsChain::empty(alloc);
 }
@@ -78,28 +78,28 @@ pub extern "C" fn fs_walk(
     loaded: &[u8],
     step: &mut FsStep,
 ) -> u32
-    ensures { Walks chain.old.seat.value queue.old loaded.now result step.new chain.new.seat.value queue.new }
+    ensures { Walks chain.old.value queue.old loaded.now result step.new chain.new.value queue.new }
 {
-    let Some(mut held) = chain.take(alloc) else {
+    let Some(mut workbench) = chain.take(alloc) else {
         *step = FsStep::nothing();
         return wrong_order();
     };
-    let (told, status) = walk_held(&mut held, queue, loaded);
+    let (told, status) = walk_workbench(&mut workbench, queue, loaded);
     *step = told;
-    *chain = FsChain::of_box(held);
+    *chain = FsChain::of_box(workbench);
     status
 }
 
 /// Gives a chain up; the queue hands it out again at its next walk.
 #[unsafe(no_mangle)]
 pub extern "C" fn fs_drop(alloc: Global, chain: &mut FsChain, queue: &mut FsQueue) -> u32
-    ensures { Drops chain.old.seat.value queue.old result chain.new.seat.value queue.new }
+    ensures { Drops chain.old.value queue.old result chain.new.value queue.new }
 {
-    let Some(mut held) = chain.take(alloc) else {
+    let Some(mut workbench) = chain.take(alloc) else {
         return 0;
     };
-    let status = drop_held(&mut held, queue);
-    *chain = FsChain::of_box(held);
+    let status = drop_workbench(&mut workbench, queue);
+    *chain = FsChain::of_box(workbench);
     status
 }
 
@@ -112,13 +112,13 @@ pub extern "C" fn fs_request_windows(
     len: u64,
     windows: &mut [FsWindow],
 ) -> usize
-    ensures { TellsStretches chain.old.seat.value false from len windows.old result chain.new.seat.value windows.new }
+    ensures { TellsStretches chain.old.value false from len windows.old result chain.new.value windows.new }
 {
-    let Some(held) = chain.take(alloc) else {
+    let Some(workbench) = chain.take(alloc) else {
         return 0;
     };
-    let count = fill(&held.workbench, false, from, len, windows);
-    *chain = FsChain::of_box(held);
+    let count = fill(&workbench, false, from, len, windows);
+    *chain = FsChain::of_box(workbench);
     count
 }
 
@@ -131,13 +131,13 @@ pub extern "C" fn fs_room_windows(
     len: u64,
     windows: &mut [FsWindow],
 ) -> usize
-    ensures { TellsStretches chain.old.seat.value true from len windows.old result chain.new.seat.value windows.new }
+    ensures { TellsStretches chain.old.value true from len windows.old result chain.new.value windows.new }
 {
-    let Some(held) = chain.take(alloc) else {
+    let Some(workbench) = chain.take(alloc) else {
         return 0;
     };
-    let count = fill(&held.workbench, true, from, len, windows);
-    *chain = FsChain::of_box(held);
+    let count = fill(&workbench, true, from, len, windows);
+    *chain = FsChain::of_box(workbench);
     count
 }
 
@@ -150,15 +150,15 @@ pub extern "C" fn fs_return(
     front: &mut [u8],
     stores: &mut FsStores,
 ) -> u32
-    ensures { Returns chain.old.seat.value queue.now front.old result stores.new chain.new.seat.value front.new }
+    ensures { Returns chain.old.value queue.now front.old result stores.new chain.new.value front.new }
 {
-    let Some(mut held) = chain.take(alloc) else {
+    let Some(mut workbench) = chain.take(alloc) else {
         *stores = FsStores::nothing();
         return wrong_order();
     };
-    let (told, status) = return_held(&mut held, queue, front);
+    let (told, status) = return_workbench(&mut workbench, queue, front);
     *stores = told;
-    *chain = FsChain::of_box(held);
+    *chain = FsChain::of_box(workbench);
     status
 }
 
@@ -171,14 +171,14 @@ pub extern "C" fn fs_returned(
     seen: u16,
     notify: &mut u8,
 ) -> u32
-    ensures { Ends chain.old.seat.value queue.old seen result notify.new chain.new.seat.value queue.new }
+    ensures { Ends chain.old.value queue.old seen result notify.new chain.new.value queue.new }
 {
-    let Some(mut held) = chain.take(alloc) else {
+    let Some(mut workbench) = chain.take(alloc) else {
         *notify = 0;
         return wrong_order();
     };
-    let (told, status) = end_held(&mut held, queue, seen);
+    let (told, status) = end_workbench(&mut workbench, queue, seen);
     *notify = told;
-    *chain = FsChain::of_box(held);
+    *chain = FsChain::of_box(workbench);
     status
 }

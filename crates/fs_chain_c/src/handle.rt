@@ -1,59 +1,90 @@
-//! What C holds: a chain's workbench, or none.
+//! What C holds: a chain's workbench in a box behind a pointer whose type C may see, or none.
 
 ghost use Rattle.std.specs.Prelude.{◌≡◌, Option, Some, None, is_some, option_map, if◌then◌else◌};
+ghost use Rattle.fs_chain.specs.declared.workbench.Workbench.{Workbench};
+ghost use Rattle.fs_chain_c.specs.Owned.{chain_owns, chain_value_coded};
 
-use crate::held::Held;
-use crate::seat::ChainSeat;
+use crate::parts::Parts;
+use fs_chain::Workbench;
 use std::alloc::Global;
+use std::marker::Model;
 use std::mem;
 
-/// A workbench that C holds, or none: all zeros is none.
+/// A workbench that C holds, in a box, or none: all zeros is none.
 #[repr(C)]
 pub struct FsChain {
-    seat: ChainSeat,
+    at: *mut (),
+    alloc: Global,
     full: u32,
-    ghost known: { full ≡ (if is_some seat.value then 1 else 0) },
+    /// The workbench behind the pointer, if there is one.
+    pub ghost value: { Option Workbench } by { chain_value_coded },
+    ghost known: { full ≡ (if is_some value then 1 else 0) },
+}
+
+impl Model for FsChain {
+    ghost also_owns = { λ c. chain_owns c.alloc c.at c.value };
 }
 
 impl FsChain {
-    /// No workbench.
+    /// No workbench: a null pointer.
     pub fn empty(alloc: Global) -> FsChain
-        ensures { result.seat.value ≡ None }
+        ensures { result.value ≡ None }
     {
         FsChain {
-            seat: ChainSeat::empty(alloc),
+            at: std::ptr::null_mut(),
+            alloc,
             full: 0,
         }
     }
 
-    /// A workbench.
-    pub fn of_box(held: Box<Held>) -> FsChain
-        ensures { result.seat.value ≡ Some held.value }
+    /// A workbench, which leaves its box for the pointer.
+    pub fn of_box(workbench: Box<Workbench>) -> FsChain
+        ensures { result.value ≡ Some workbench.value }
     {
-        FsChain {
-            seat: ChainSeat::of_box(held),
-            full: 1,
-        }
+        FsChain::of_parts(Parts::of(workbench))
     }
 
-    /// The workbench, if there is one.
-    pub fn into_box(self) -> Option<Box<Held>>
-        ensures { self.seat.value ≡ option_map (λ b. b.value) result }
+    /// The workbench in a box again, if there is one.
+    pub fn into_box(self) -> Option<Box<Workbench>>
+        ensures { self.value ≡ option_map (λ b. b.value) result }
     {
-        let FsChain { seat, full } = self;
-        if full != 0 {
-            Some(seat.into_box())
-        } else {
-            None
+        match self.into_parts() {
+            Some(parts) => Some(parts.into_box()),
+            None => None,
         }
     }
 
     /// Takes the workbench out, if there is one.
-    pub fn take(&mut self, alloc: Global) -> Option<Box<Held>>
-        ensures taken { self.old.seat.value ≡ option_map (λ b. b.value) result }
-        ensures none { self.new.seat.value ≡ None }
+    pub fn take(&mut self, alloc: Global) -> Option<Box<Workbench>>
+        ensures taken { self.old.value ≡ option_map (λ b. b.value) result }
+        ensures none { self.new.value ≡ None }
     {
         mem::replace(self, FsChain::empty(alloc)).into_box()
+    }
+
+    // The pointer to a box that was taken apart.
+    fn of_parts(parts: Parts<Workbench, Global>) -> FsChain
+        ensures { result.value ≡ Some parts.value }
+    {
+        let Parts { ptr, alloc } = parts;
+        FsChain {
+            at: ptr as *mut (),
+            alloc,
+            full: 1,
+        }
+    }
+
+    // The parts of the box behind the pointer, if there is one.
+    fn into_parts(self) -> Option<Parts<Workbench, Global>>
+        ensures { self.value ≡ option_map (λ p. p.value) result }
+    {
+        let FsChain { at, alloc, full } = self;
+        if full == 0 {
+            None
+        } else {
+            let ptr = at as *mut Workbench;
+            Some(Parts { ptr, alloc })
+        }
     }
 }
 
@@ -62,7 +93,7 @@ impl Drop for FsChain {
     #[inline(always)]
     fn drop(self) {
         match self.into_box() {
-            Some(held) => drop(held),
+            Some(workbench) => drop(workbench),
             None => {}
         }
     }

@@ -4,18 +4,18 @@ ghost use Rattle.std.specs.Prelude.{◌≡◌, true, length};
 ghost use Rattle.fuse_fs.specs.Answers.{listed};
 ghost use Rattle.server_replies.specs.Entries.{no_node};
 ghost use Rattle.server_phases.specs.Gathering.{added_found, added_plain};
-ghost use Rattle.fs_chain_c.specs.Listing.{AddsHeld, AddsEntry, AddsNode, EndsHeld, EndsList, FailsHeld, FailsListing, RepliesError, added_status, errno_of, is_name, listed_as, type_of};
+ghost use Rattle.fs_chain_c.specs.Listing.{AddsEntry, AddsNode, AddsWorkbench, EndsList, EndsWorkbench, FailsListing, FailsWorkbench, RepliesError};
+ghost use Rattle.fs_chain_c.specs.Listing.{added_status, errno_of, is_name, listed_as, type_of};
 ghost use Rattle.fs_chain.specs.Orders.{is_listing};
-ghost use Rattle.fs_chain_c.specs.Handles.{OnHeld};
+ghost use Rattle.fs_chain_c.specs.Handles.{OnWorkbench};
 ghost use Rattle.fs_chain_c.specs.Replies.{entry_of};
 
 use crate::answers::{FsEntry, entry_of};
-use crate::asking::answer_held;
+use crate::asking::answer_workbench;
 use crate::exports::wrong_order;
 use crate::handle::FsChain;
-use crate::held::Held;
 use crate::replies::reply;
-use fs_chain::{Added, ChainError};
+use fs_chain::{Added, ChainError, Workbench};
 use fuse_base::Errno;
 use fuse_fs::{DirEntry, Entry};
 use fuse_values::FileAnswer;
@@ -53,17 +53,22 @@ fn is_name(name: &[u8]) -> bool
 }
 
 // Brings an entry of READDIR.
-fn add_held(held: &mut Held, list: &mut [u8], entry: &DirEntry<'_>) -> u32
-    ensures { AddsHeld held.old (listed entry.now, no_node (listed entry.now)) (λ l. added_plain l (length list.old) (length entry.now.name.now)) list.old result held.new list.new }
+fn add_workbench(workbench: &mut Workbench, list: &mut [u8], entry: &DirEntry<'_>) -> u32
+    ensures { AddsWorkbench workbench.old (listed entry.now, no_node (listed entry.now)) (λ l. added_plain l (length list.old) (length entry.now.name.now)) list.old result workbench.new list.new }
 {
-    added_status(held.workbench.add(list, entry))
+    added_status(workbench.add(list, entry))
 }
 
 // Brings an entry of READDIRPLUS.
-fn add_node_held(held: &mut Held, list: &mut [u8], entry: &DirEntry<'_>, node: Entry<u64>) -> u32
-    ensures { AddsHeld held.old (listed entry.now, node) (λ l. added_found l (length list.old) (length entry.now.name.now)) list.old result held.new list.new }
+fn add_node_workbench(
+    workbench: &mut Workbench,
+    list: &mut [u8],
+    entry: &DirEntry<'_>,
+    node: Entry<u64>,
+) -> u32
+    ensures { AddsWorkbench workbench.old (listed entry.now, node) (λ l. added_found l (length list.old) (length entry.now.name.now)) list.old result workbench.new list.new }
 {
-    added_status(held.workbench.add_with_node(list, entry, node))
+    added_status(workbench.add_with_node(list, entry, node))
 }
 
 /// Puts an entry of READDIR behind those before it.
@@ -77,12 +82,12 @@ pub extern "C" fn fs_add_direntry(
     next_offset: u64,
     type_: u32,
 ) -> u32
-    ensures { AddsEntry (is_name name.now) (listed_as name.now ino next_offset type_) chain.old.seat.value list.old result chain.new.seat.value list.new }
+    ensures { AddsEntry (is_name name.now) (listed_as name.now ino next_offset type_) chain.old.value list.old result chain.new.value list.new }
 {
     if !is_name(name) {
         return u32::from(ChainError::BadArgument.number());
     }
-    let Some(mut held) = chain.take(alloc) else {
+    let Some(mut workbench) = chain.take(alloc) else {
         return wrong_order();
     };
     let entry = DirEntry {
@@ -91,8 +96,8 @@ pub extern "C" fn fs_add_direntry(
         type_,
         name,
     };
-    let status = add_held(&mut held, list, &entry);
-    *chain = FsChain::of_box(held);
+    let status = add_workbench(&mut workbench, list, &entry);
+    *chain = FsChain::of_box(workbench);
     status
 }
 
@@ -104,16 +109,16 @@ fn add_node(
     entry: &DirEntry<'_>,
     node: Option<Entry<u64>>,
 ) -> u32
-    ensures { AddsNode true (listed entry.now) node chain.old.seat.value list.old result chain.new.seat.value list.new }
+    ensures { AddsNode true (listed entry.now) node chain.old.value list.old result chain.new.value list.new }
 {
     let Some(node) = node else {
         return u32::from(ChainError::BadArgument.number());
     };
-    let Some(mut held) = chain.take(alloc) else {
+    let Some(mut workbench) = chain.take(alloc) else {
         return wrong_order();
     };
-    let status = add_node_held(&mut held, list, entry, node);
-    *chain = FsChain::of_box(held);
+    let status = add_node_workbench(&mut workbench, list, entry, node);
+    *chain = FsChain::of_box(workbench);
     status
 }
 
@@ -128,7 +133,7 @@ pub extern "C" fn fs_add_direntry_plus(
     next_offset: u64,
 ) -> u32
     ensures { AddsNode (is_name name.now) (listed_as name.now entry.now.attr.ino next_offset (type_of entry.now)) (entry_of entry.now)
-        chain.old.seat.value list.old result chain.new.seat.value list.new }
+        chain.old.value list.old result chain.new.value list.new }
 {
     if !is_name(name) {
         return u32::from(ChainError::BadArgument.number());
@@ -143,10 +148,10 @@ pub extern "C" fn fs_add_direntry_plus(
 }
 
 // Replies the entries so far: a status, and how many bytes of the list are the data.
-fn end_held(held: &mut Held) -> (u32, u64)
-    ensures { EndsHeld held.old result.0 result.1 held.new }
+fn end_workbench(workbench: &mut Workbench) -> (u32, u64)
+    ensures { EndsWorkbench workbench.old result.0 result.1 workbench.new }
 {
-    match held.workbench.end() {
+    match workbench.end() {
         Ok(len) => (0, len as u64),
         Err(error) => (u32::from(error.number()), 0),
     }
@@ -155,36 +160,36 @@ fn end_held(held: &mut Held) -> (u32, u64)
 /// Replies the entries so far: how many bytes of the list are the data.
 #[unsafe(no_mangle)]
 pub extern "C" fn fs_reply_entries(alloc: Global, chain: &mut FsChain, len: &mut u64) -> u32
-    ensures { EndsList chain.old.seat.value result len.new chain.new.seat.value }
+    ensures { EndsList chain.old.value result len.new chain.new.value }
 {
-    let Some(mut held) = chain.take(alloc) else {
+    let Some(mut workbench) = chain.take(alloc) else {
         *len = 0;
         return wrong_order();
     };
-    let (status, told) = end_held(&mut held);
+    let (status, told) = end_workbench(&mut workbench);
     *len = told;
-    *chain = FsChain::of_box(held);
+    *chain = FsChain::of_box(workbench);
     status
 }
 
 // A listing fails by an errno.
-fn fail_listing(held: &mut Held, error: Errno) -> u32
-    ensures { FailsListing error held.old result held.new }
+fn fail_listing(workbench: &mut Workbench, error: Errno) -> u32
+    ensures { FailsListing error workbench.old result workbench.new }
 {
-    match held.workbench.fail(error) {
+    match workbench.fail(error) {
         Ok(behind) => { if behind == 0 { 0 } else { ENTRIES } }
         Err(error) => u32::from(error.number()),
     }
 }
 
-// A held chain's call fails by an errno.
-fn fail_held(held: &mut Held, error: Errno) -> u32
-    ensures { FailsHeld (is_listing held.old.workbench.state) error held.old result held.new }
+// A workbench chain's call fails by an errno.
+fn fail_workbench(workbench: &mut Workbench, error: Errno) -> u32
+    ensures { FailsWorkbench (is_listing workbench.old.state) error workbench.old result workbench.new }
 {
-    if held.workbench.is_listing() {
-        fail_listing(held, error)
+    if workbench.is_listing() {
+        fail_listing(workbench, error)
     } else {
-        answer_held(held, FileAnswer::Failed(error))
+        answer_workbench(workbench, FileAnswer::Failed(error))
     }
 }
 
@@ -197,20 +202,20 @@ fn errno_of(number: u32) -> Option<Errno>
 
 // A handle's call fails by an errno.
 fn fail_chain(alloc: Global, chain: &mut FsChain, error: Errno) -> u32
-    ensures { OnHeld (λ b b'. FailsHeld (is_listing b.workbench.state) error b result b') (result ≡ 73) chain.old.seat.value chain.new.seat.value }
+    ensures { OnWorkbench (λ b b'. FailsWorkbench (is_listing b.state) error b result b') (result ≡ 73) chain.old.value chain.new.value }
 {
-    let Some(mut held) = chain.take(alloc) else {
+    let Some(mut workbench) = chain.take(alloc) else {
         return wrong_order();
     };
-    let status = fail_held(&mut held, error);
-    *chain = FsChain::of_box(held);
+    let status = fail_workbench(&mut workbench, error);
+    *chain = FsChain::of_box(workbench);
     status
 }
 
 /// A chain's call is done (0), or fails by an errno.
 #[unsafe(no_mangle)]
 pub extern "C" fn fs_reply_err(alloc: Global, chain: &mut FsChain, error: u32) -> u32
-    ensures { RepliesError error chain.old.seat.value result chain.new.seat.value }
+    ensures { RepliesError error chain.old.value result chain.new.value }
 {
     match errno_of(error) {
         Some(errno) => fail_chain(alloc, chain, errno),

@@ -61,12 +61,12 @@ pub extern "C" fn fs_room_ranges(
     len: u64,
     ranges: &mut [FsRange],
 ) -> usize
-    ensures { TellsRanges chain.old.seat.value from len ranges.old result chain.new.seat.value ranges.new }
+    ensures { TellsRanges chain.old.value from len ranges.old result chain.new.value ranges.new }
 {
-    let Some(held) = chain.take(alloc) else {
+    let Some(workbench) = chain.take(alloc) else {
         return 0;
     };
-    let count = fill_ranges(&held.workbench, from, len, ranges);
-    *chain = FsChain::of_box(held);
+    let count = fill_ranges(&workbench, from, len, ranges);
+    *chain = FsChain::of_box(workbench);
     count
 }

@@ -8,32 +8,31 @@ use crate::answers::{
     FsEntry, FsStatfs, attr_said, create_said, entry_of, entry_said, open_said, statfs_said,
     wish_said,
 };
-use crate::asking::{NO_ROOM, answer_held, ask_held};
+use crate::asking::{NO_ROOM, answer_workbench, ask_workbench};
 use crate::call::{FsAttr, FsCall};
 use crate::device::FsDevice;
 use crate::exports::wrong_order;
 use crate::handle::FsChain;
-use crate::held::Held;
 use bitflags::Flags;
-use fs_chain::ChainError;
+use fs_chain::{ChainError, Workbench};
 use fuse_values::FileAnswer;
 use std::alloc::Global;
 
 /// Answers the call of a handle's chain.
 pub(crate) fn reply(alloc: Global, chain: &mut FsChain, said: FileAnswer) -> u32
-    ensures { Replies said chain.old.seat.value result chain.new.seat.value }
+    ensures { Replies said chain.old.value result chain.new.value }
 {
-    let Some(mut held) = chain.take(alloc) else {
+    let Some(mut workbench) = chain.take(alloc) else {
         return wrong_order();
     };
-    let status = answer_held(&mut held, said);
-    *chain = FsChain::of_box(held);
+    let status = answer_workbench(&mut workbench, said);
+    *chain = FsChain::of_box(workbench);
     status
 }
 
 // The same, if there is an answer.
 fn may_reply(alloc: Global, chain: &mut FsChain, said: Option<FileAnswer>) -> u32
-    ensures { MayReply said chain.old.seat.value result chain.new.seat.value }
+    ensures { MayReply said chain.old.value result chain.new.value }
 {
     match said {
         Some(said) => reply(alloc, chain, said),
@@ -50,21 +49,21 @@ pub extern "C" fn fs_ask(
     request: &[u8],
     call: &mut FsCall,
 ) -> u32
-    ensures { AsksChain chain.old.seat.value device.now request.now result call.new chain.new.seat.value }
+    ensures { AsksChain chain.old.value device.now request.now result call.new chain.new.value }
 {
-    let Some(mut held) = chain.take(alloc) else {
+    let Some(mut workbench) = chain.take(alloc) else {
         *call = FsCall::none();
         return wrong_order();
     };
-    let status = ask_held(&mut held, device, request, call);
-    *chain = FsChain::of_box(held);
+    let status = ask_workbench(&mut workbench, device, request, call);
+    *chain = FsChain::of_box(workbench);
     status
 }
 
 /// Answers a call that wants an entry.
 #[unsafe(no_mangle)]
 pub extern "C" fn fs_reply_entry(alloc: Global, chain: &mut FsChain, entry: &FsEntry) -> u32
-    ensures { MayReply (entry_said (entry_of entry.now)) chain.old.seat.value result chain.new.seat.value }
+    ensures { MayReply (entry_said (entry_of entry.now)) chain.old.value result chain.new.value }
 {
     may_reply(alloc, chain, entry_said(entry_of(entry)))
 }
@@ -78,7 +77,7 @@ pub extern "C" fn fs_reply_create(
     handle: u64,
     open_flags: u32,
 ) -> u32
-    ensures { MayReply (create_said (entry_of entry.now) handle open_flags) chain.old.seat.value result chain.new.seat.value }
+    ensures { MayReply (create_said (entry_of entry.now) handle open_flags) chain.old.value result chain.new.value }
 {
     may_reply(
         alloc,
@@ -96,7 +95,7 @@ pub extern "C" fn fs_reply_attr(
     secs: u64,
     nanos: u32,
 ) -> u32
-    ensures { MayReply (attr_said attr.now secs nanos) chain.old.seat.value result chain.new.seat.value }
+    ensures { MayReply (attr_said attr.now secs nanos) chain.old.value result chain.new.value }
 {
     may_reply(alloc, chain, attr_said(attr, secs, nanos))
 }
@@ -109,7 +108,7 @@ pub extern "C" fn fs_reply_open(
     handle: u64,
     open_flags: u32,
 ) -> u32
-    ensures { Replies (open_said handle open_flags) chain.old.seat.value result chain.new.seat.value }
+    ensures { Replies (open_said handle open_flags) chain.old.value result chain.new.value }
 {
     reply(alloc, chain, open_said(handle, open_flags))
 }
@@ -117,7 +116,7 @@ pub extern "C" fn fs_reply_open(
 /// Answers a call that wants data: so many bytes, which stand in the room behind the header.
 #[unsafe(no_mangle)]
 pub extern "C" fn fs_reply_data(alloc: Global, chain: &mut FsChain, len: u64) -> u32
-    ensures { Replies (answer.Bytes len) chain.old.seat.value result chain.new.seat.value }
+    ensures { Replies (answer.Bytes len) chain.old.value result chain.new.value }
 {
     let len = len as usize;
     reply(alloc, chain, FileAnswer::Bytes { len })
@@ -126,7 +125,7 @@ pub extern "C" fn fs_reply_data(alloc: Global, chain: &mut FsChain, len: u64) ->
 /// Answers GETXATTR and LISTXATTR with size 0: how many bytes there are.
 #[unsafe(no_mangle)]
 pub extern "C" fn fs_reply_xattr(alloc: Global, chain: &mut FsChain, len: u32) -> u32
-    ensures { Replies (answer.Count len) chain.old.seat.value result chain.new.seat.value }
+    ensures { Replies (answer.Count len) chain.old.value result chain.new.value }
 {
     reply(alloc, chain, FileAnswer::Count(len))
 }
@@ -134,7 +133,7 @@ pub extern "C" fn fs_reply_xattr(alloc: Global, chain: &mut FsChain, len: u32) -
 /// Answers WRITE and COPY_FILE_RANGE: how many bytes were written.
 #[unsafe(no_mangle)]
 pub extern "C" fn fs_reply_write(alloc: Global, chain: &mut FsChain, count: u32) -> u32
-    ensures { Replies (answer.Wrote count) chain.old.seat.value result chain.new.seat.value }
+    ensures { Replies (answer.Wrote count) chain.old.value result chain.new.value }
 {
     reply(alloc, chain, FileAnswer::Wrote(count))
 }
@@ -142,7 +141,7 @@ pub extern "C" fn fs_reply_write(alloc: Global, chain: &mut FsChain, count: u32)
 /// Answers STATFS.
 #[unsafe(no_mangle)]
 pub extern "C" fn fs_reply_statfs(alloc: Global, chain: &mut FsChain, statfs: &FsStatfs) -> u32
-    ensures { Replies (statfs_said statfs.now) chain.old.seat.value result chain.new.seat.value }
+    ensures { Replies (statfs_said statfs.now) chain.old.value result chain.new.value }
 {
     reply(alloc, chain, statfs_said(statfs))
 }
@@ -150,7 +149,7 @@ pub extern "C" fn fs_reply_statfs(alloc: Global, chain: &mut FsChain, statfs: &F
 /// Answers LSEEK.
 #[unsafe(no_mangle)]
 pub extern "C" fn fs_reply_lseek(alloc: Global, chain: &mut FsChain, offset: u64) -> u32
-    ensures { Replies (answer.Offset offset) chain.old.seat.value result chain.new.seat.value }
+    ensures { Replies (answer.Offset offset) chain.old.value result chain.new.value }
 {
     reply(alloc, chain, FileAnswer::Offset(offset))
 }
@@ -164,24 +163,24 @@ pub extern "C" fn fs_reply_init(
     device: &mut FsDevice,
     wanted: u64,
 ) -> u32
-    ensures { Starts wanted chain.old.seat.value device.old result chain.new.seat.value device.new }
+    ensures { Starts wanted chain.old.value device.old result chain.new.value device.new }
 {
-    let Some(mut held) = chain.take(alloc) else {
+    let Some(mut workbench) = chain.take(alloc) else {
         return wrong_order();
     };
-    let status = answer_held(&mut held, wish_said(wanted));
+    let status = answer_workbench(&mut workbench, wish_said(wanted));
     if status == 0 || status == NO_ROOM {
-        device.options = held.session.options().bits();
+        device.options = workbench.session().options().bits();
     }
-    *chain = FsChain::of_box(held);
+    *chain = FsChain::of_box(workbench);
     status
 }
 
 // Replies so many bytes of C's own, and says a status.
-fn reply_own(held: &mut Held, len: usize) -> u32
-    ensures { RepliesOwn len held.old result held.new }
+fn reply_own(workbench: &mut Workbench, len: usize) -> u32
+    ensures { RepliesOwn len workbench.old result workbench.new }
 {
-    match held.workbench.reply(len) {
+    match workbench.reply(len) {
         Ok(()) => 0,
         Err(error) => u32::from(error.number()),
     }
@@ -190,12 +189,12 @@ fn reply_own(held: &mut Held, len: usize) -> u32
 /// Replies so many bytes of C's own, which stand in the room from its first place on: in place of `fs_ask`, or of an answer.
 #[unsafe(no_mangle)]
 pub extern "C" fn fs_reply_bytes(alloc: Global, chain: &mut FsChain, len: u64) -> u32
-    ensures { RepliesBytes len chain.old.seat.value result chain.new.seat.value }
+    ensures { RepliesBytes len chain.old.value result chain.new.value }
 {
-    let Some(mut held) = chain.take(alloc) else {
+    let Some(mut workbench) = chain.take(alloc) else {
         return wrong_order();
     };
-    let status = reply_own(&mut held, len as usize);
-    *chain = FsChain::of_box(held);
+    let status = reply_own(&mut workbench, len as usize);
+    *chain = FsChain::of_box(workbench);
     status
 }

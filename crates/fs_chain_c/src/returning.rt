@@ -2,9 +2,8 @@
 
 ghost use Rattle.std.specs.Prelude.{◌≡◌, ◌<◌, true, None, IfSome};
 ghost use Rattle.fs_chain.specs.Orders.{is_out};
-ghost use Rattle.fs_chain_c.specs.Returning.{DropsHeld, DropsKept, EndsHeld, EndsKept, HaveNoPlaces, IsFreed, IsNotHere, ReturnsHeld, ReturnsKept, StandsHere, TellsStores, no_stores};
+ghost use Rattle.fs_chain_c.specs.Returning.{DropsWorkbench, DropsKept, EndsWorkbench, EndsKept, HaveNoPlaces, IsNotHere, ReturnsWorkbench, ReturnsKept, StandsHere, TellsStores, no_stores};
 
-use crate::held::Held;
 use crate::queue::FsQueue;
 use crate::walking::{NO_PLACE, host_at};
 use fs_chain::{ChainError, KeptQueue, Stores, Workbench};
@@ -98,11 +97,11 @@ fn told_stores(workbench: &Workbench, stores: &Stores) -> Option<FsStores>
 }
 
 // Tells how a chain goes back to the core's queue.
-fn return_kept(held: &mut Held, kept: &KeptQueue, front: &mut [u8]) -> (FsStores, u32)
-    ensures { ReturnsKept held.old kept.now front.old result.0 result.1 held.new front.new }
+fn return_kept(workbench: &mut Workbench, kept: &KeptQueue, front: &mut [u8]) -> (FsStores, u32)
+    ensures { ReturnsKept workbench.old kept.now front.old result.0 result.1 workbench.new front.new }
 {
-    match held.workbench.begin_return(kept, front) {
-        Ok(stores) => match told_stores(&held.workbench, &stores) {
+    match workbench.begin_return(kept, front) {
+        Ok(stores) => match told_stores(workbench, &stores) {
             Some(told) => (told, 0),
             None => (FsStores::nothing(), NO_PLACE),
         },
@@ -111,11 +110,15 @@ fn return_kept(held: &mut Held, kept: &KeptQueue, front: &mut [u8]) -> (FsStores
 }
 
 /// Tells how a chain goes back: the reply's front at the front of a buffer, and the stores.
-pub fn return_held(held: &mut Held, queue: &FsQueue, front: &mut [u8]) -> (FsStores, u32)
-    ensures { ReturnsHeld held.old queue.now front.old result.0 result.1 held.new front.new }
+pub fn return_workbench(
+    workbench: &mut Workbench,
+    queue: &FsQueue,
+    front: &mut [u8],
+) -> (FsStores, u32)
+    ensures { ReturnsWorkbench workbench.old queue.now front.old result.0 result.1 workbench.new front.new }
 {
     match queue.kept() {
-        Some(kept) => return_kept(held, &kept, front),
+        Some(kept) => return_kept(workbench, &kept, front),
         None => (
             FsStores::nothing(),
             u32::from(ChainError::BadArgument.number()),
@@ -123,80 +126,77 @@ pub fn return_held(held: &mut Held, queue: &FsQueue, front: &mut [u8]) -> (FsSto
     }
 }
 
-// Frees a handle; no queue is told.
-fn free(held: &mut Held)
-    ensures { IsFreed held.old held.new }
-{
-    held.workbench.abandon();
-    held.part.clear();
-}
-
 // Ends the return of a chain of the core's queue.
-fn end_kept(held: &mut Held, queue: &mut FsQueue, mut kept: KeptQueue, seen: u16) -> (u8, u32)
-    ensures { EndsKept held.old queue.old kept seen result.0 result.1 held.new queue.new }
+fn end_kept(
+    workbench: &mut Workbench,
+    queue: &mut FsQueue,
+    mut kept: KeptQueue,
+    seen: u16,
+) -> (u8, u32)
+    ensures { EndsKept workbench.old queue.old kept seen result.0 result.1 workbench.new queue.new }
 {
-    match held.workbench.end_return(&mut kept, seen.to_le_bytes()) {
+    match workbench.end_return(&mut kept, seen.to_le_bytes()) {
         Ok(told) => {
             queue.put(&kept);
-            free(held);
+            workbench.abandon();
             (u8::from(told), 0)
         }
         Err(_) => {
-            free(held);
+            workbench.abandon();
             (0, u32::from(ChainError::OtherQueue.number()))
         }
     }
 }
 
 /// The stores are made: whether the driver wants to be told (1 or 0), and a status.
-pub fn end_held(held: &mut Held, queue: &mut FsQueue, seen: u16) -> (u8, u32)
-    ensures { EndsHeld held.old queue.old seen result.0 result.1 held.new queue.new }
+pub fn end_workbench(workbench: &mut Workbench, queue: &mut FsQueue, seen: u16) -> (u8, u32)
+    ensures { EndsWorkbench workbench.old queue.old seen result.0 result.1 workbench.new queue.new }
 {
-    if !held.workbench.is_returning() {
+    if !workbench.is_returning() {
         return (0, u32::from(ChainError::WrongOrder.number()));
     }
     match queue.kept() {
-        Some(kept) => end_kept(held, queue, kept, seen),
+        Some(kept) => end_kept(workbench, queue, kept, seen),
         None => {
-            free(held);
+            workbench.abandon();
             (0, u32::from(ChainError::OtherQueue.number()))
         }
     }
 }
 
 // Gives up a chain that is out, over the core's queue.
-fn drop_kept(held: &mut Held, queue: &mut FsQueue, mut kept: KeptQueue) -> u32
-    requires { is_out held.old.workbench.state ≡ true }
-    ensures { DropsKept held.old queue.old kept result held.new queue.new }
+fn drop_kept(workbench: &mut Workbench, queue: &mut FsQueue, mut kept: KeptQueue) -> u32
+    requires { is_out workbench.old.state ≡ true }
+    ensures { DropsKept workbench.old queue.old kept result workbench.new queue.new }
 {
-    match held.workbench.give_up(&mut kept) {
+    match workbench.give_up(&mut kept) {
         Ok(()) => {
             queue.put(&kept);
-            free(held);
+            workbench.abandon();
             0
         }
         Err(_) => {
-            free(held);
+            workbench.abandon();
             u32::from(ChainError::OtherQueue.number())
         }
     }
 }
 
 /// Gives a chain up; the queue hands it out again at its next walk.
-pub fn drop_held(held: &mut Held, queue: &mut FsQueue) -> u32
-    ensures { DropsHeld held.old queue.old result held.new queue.new }
+pub fn drop_workbench(workbench: &mut Workbench, queue: &mut FsQueue) -> u32
+    ensures { DropsWorkbench workbench.old queue.old result workbench.new queue.new }
 {
-    if held.workbench.is_returning() {
+    if workbench.is_returning() {
         return u32::from(ChainError::WrongOrder.number());
     }
-    if !held.workbench.is_out() {
-        free(held);
+    if !workbench.is_out() {
+        workbench.abandon();
         return 0;
     }
     match queue.kept() {
-        Some(kept) => drop_kept(held, queue, kept),
+        Some(kept) => drop_kept(workbench, queue, kept),
         None => {
-            free(held);
+            workbench.abandon();
             u32::from(ChainError::OtherQueue.number())
         }
     }

@@ -98,7 +98,7 @@ pub lacks_room : (base size : ℕ) (l : List Region) (e : GuestRegionCollectionE
 lacks_room base size l fault.NoMemoryRegion other is = absurd (other refl)
 lacks_room base size l fault.MemoryRegionOverlap other is = absurd is
 lacks_room base size l fault.UnsortedMemoryRegions other is = absurd is
-lacks_room base size l fault.OutOfMemory other is = found_some (is_region base size) l is
+lacks_room base size l fault.OutOfMemory other is = found_some (is_region base size) l is.0
 
 pub has_none : (base size : ℕ) (l : List Region) (e : GuestRegionCollectionError) → e ≡ fault.NoMemoryRegion → Removes base size l (Err e) → list_any (is_region base size) l ≡ false
 has_none base size l e none is = found_none (is_region base size) l (subst (λ (k : GuestRegionCollectionError). Removes base size l (Err k)) none is)

@@ -1,6 +1,7 @@
 -- What stands in an input from which a record is restored.
 use Rattle.std.specs.Prelude.{◌≡◌, ◌≢◌, ℕ, ◌<◌, ◌≤◌, ◌^◌, ◌⊎◌, Bool, true, false, List, [], ◌++◌, length, All, Option, Some}
 use Rattle.std.specs.Io.KnownBytes.{IsAtEnd}
+use Rattle.memory_requests.specs.Refused.{RoomWasRefused}
 use Rattle.vm_values.specs.Fields.{spelled, AllFit}
 use Rattle.fs_queue.specs.Queue.{Queue}
 use Rattle.fs_record.specs.Fields.{head_fields, queue_fields, limit_fields}
@@ -57,7 +58,7 @@ RefusesRecord bytes page_size limit BadReserved = IsBadHead bytes page_size BadR
 RefusesRecord bytes page_size limit (BadQueue i) = HasBadQueue bytes page_size limit i
 RefusesRecord bytes page_size limit BadOptions = IsBadHead bytes page_size BadOptions
 RefusesRecord bytes page_size limit ReadFault = EndsWithin bytes page_size limit
-RefusesRecord bytes page_size limit OutOfMemory = (v : Version) × (options count : ℕ) × GoesWith page_size limit v × IsRecordFront bytes v options count []
+RefusesRecord bytes page_size limit OutOfMemory = (v : Version) × (options count : ℕ) × GoesWith page_size limit v × IsRecordFront bytes v options count [] × RoomWasRefused count
 RefusesRecord bytes page_size limit Mismatch = IsBadHead bytes page_size Mismatch ⊎ HasOtherLimit bytes page_size limit
 
 -- what a refusal says of the source: it is at its end, it failed, or it failed no more than before

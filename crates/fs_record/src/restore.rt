@@ -15,6 +15,7 @@ use crate::source::RecordSource;
 use bitflags::Flags;
 use fs_queue::{Queue, QueueLayout};
 use fuse_wire::FsOptions;
+use memory_requests::list_with_room;
 use std::alloc::Global;
 use vm_values::ByteValued;
 
@@ -195,7 +196,7 @@ pub fn restore_record<S: RecordSource>(
         × RefusesRecord taken page_size limit e × LeavesSource e (S.left source.new) (S.failed source.old) (S.failed source.new)) }
 {
     let head = read_head(source, page_size)?;
-    let Ok(mut queues) = Vec::with_capacity(alloc, head.count) else {
+    let Ok(mut queues) = list_with_room(alloc, head.count) else {
         return Err(RestoreError::OutOfMemory);
     };
     for index in 0..head.count {

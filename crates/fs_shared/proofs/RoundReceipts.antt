@@ -1,9 +1,10 @@
--- The receipts of a round: those of a kick more, and the greatest number of some.
-use Rattle.std.proofs.Common.{◌≡◌, ◌⊎◌, ℕ, ◌+◌, ◌<◌, ◌≤◌, ◌∙◌, List, [], ◌∷◌, ◌++◌, All, Option, Some, None, IfNone, IfSome, take, get_or, length, inl, inr, refl, sym, ap, subst, arith}
-use Rattle.std.proofs.lemmas.List.{append_assoc, append-nil, take_all, take_more}
+-- The receipts of a round: those of a kick more, what the share did, and the greatest number of some.
+use Rattle.std.proofs.Common.{◌≡◌, ◌⊎◌, ℕ, ◌+◌, ◌<◌, ◌≤◌, ◌∙◌, List, [], ◌∷◌, ◌++◌, All, Option, Some, None, IfNone, IfSome, map, take, get_or, length, inl, inr, refl, sym, ap, subst, arith}
+use Rattle.std.proofs.lemmas.List.{append_assoc, append-nil, length-map, map-append, take_all, take_more}
 use Rattle.std.proofs.lemmas.List.Elements.{All-push, All-weaker}
 use Rattle.fs_shared.specs.declared.entry.Receipt.{Receipt}
-use Rattle.fs_shared.specs.Rounds.{GoesOnWith, IsGreatest, IsNumberOf, following}
+use Rattle.fs_shared.specs.Deeds.{Deed, deed_of}
+use Rattle.fs_shared.specs.Rounds.{GoesOnWith, IsGreatest, IsNumberOf, KeepsReceipts, following}
 
 -- none more, and some after some
 pub none_more : (receipts : List Receipt) → GoesOnWith receipts receipts
@@ -12,6 +13,26 @@ none_more receipts = ([], sym (append-nil receipts))
 pub goes_on : (first then last : List Receipt) → GoesOnWith first then → GoesOnWith then last → GoesOnWith first last
 goes_on first then last one two =
     (one.0 ++ two.0, two.1 ∙ ap (λ (l : List Receipt). l ++ two.0) one.1 ∙ append_assoc first one.0 two.0)
+
+-- so it is with what the share did
+pub none_kept : (old new : List Deed) (receipts : List Receipt) → new ≡ old → KeepsReceipts old new receipts receipts
+none_kept old new receipts same = ([], sym (append-nil receipts), same ∙ sym (append-nil old))
+
+pub kept_then : (first then last : List Deed) (before mid after : List Receipt) → KeepsReceipts first then before mid → KeepsReceipts then last mid after →
+    KeepsReceipts first last before after
+kept_then first then last before mid after one two = (
+  one.0 ++ two.0,
+  two.1 ∙ ap (λ (l : List Receipt). l ++ two.0) one.1 ∙ append_assoc before one.0 two.0,
+  two.2 ∙ ap (λ (l : List Deed). l ++ map deed_of two.0) one.2 ∙ append_assoc first (map deed_of one.0) (map deed_of two.0)
+      ∙ ap (λ (l : List Deed). first ++ l) (sym (map-append deed_of one.0 two.0)),
+)
+
+-- where there were none before, there are as many as the share did calls
+pub each_once : (first last : List Deed) (before after : List Receipt) → first ≡ [] → before ≡ [] → KeepsReceipts first last before after → length after ≡ length last
+each_once first last before after none empty kept =
+    let more = kept.0 in
+    ap length (kept.1 ∙ ap (λ (l : List Receipt). l ++ more) empty)
+    ∙ sym (ap length (kept.2 ∙ ap (λ (l : List Deed). l ++ map deed_of more) none) ∙ length-map more deed_of)
 
 number_more : (n : ℕ) (xs : List Receipt) (r : Receipt) → IsNumberOf n xs → IsNumberOf n (xs ++ r ∷ [])
 number_more n xs r is =

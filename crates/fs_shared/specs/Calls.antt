@@ -1,5 +1,5 @@
 -- What the calls on the state under the lock do, by cases on the answer.
-use Rattle.std.specs.Prelude.{◌≡◌, ℕ, Bool, true, false, [], ◌∷◌, ◌++◌, length, Result, Ok, Err, Vec}
+use Rattle.std.specs.Prelude.{◌≡◌, ℕ, [], ◌∷◌, ◌++◌, length, Option, None, Some, Result, Ok, Err, Vec}
 use Rattle.std.specs.Global.{Global}
 use Rattle.fs_queue.specs.declared.fault.QueueError.TheVariants as stop
 use Rattle.virtiofsd_fuse.specs.Serving.{May}
@@ -13,6 +13,7 @@ use Rattle.fs_device.specs.Run.{Command, GuestRead, Kick, Affects, Bytes, IsRefu
 use Rattle.fs_device.specs.CommandView.{command_of}
 use Rattle.fs_shared.specs.declared.entry.Kicked as kicked
 use Rattle.fs_shared.specs.declared.entry.Receipt.{Receipt}
+use Rattle.fs_shared.specs.Deeds.{Deed, deed_of}
 use Rattle.fs_shared.specs.Replay.{Plays}
 use Rattle.fs_shared.specs.Held.{HasWaiting, Held, WouldDo, came_of}
 
@@ -51,12 +52,12 @@ abbrev pub ReadsBy : {F : Type 0} → May F → Held F → (addr len : ℕ) → 
 ReadsBy may held addr len (Ok bytes) = Performs may held.machine (GuestRead addr len) [] (Bytes bytes.items) held.machine
 ReadsBy may held addr len (Err e) = Performs may held.machine (GuestRead addr len) [] (IsRefused e) held.machine
 
--- whether a kick was journaled
-abbrev pub did_kick : Result (kicked.Kicked) DeviceError → Bool
-did_kick (Ok (kicked.TheVariants.Done r)) = true
-did_kick _ = false
+-- what a kick did that was journaled, as its own answer tells
+abbrev pub did_kick : Result (kicked.Kicked) DeviceError → Option Deed
+did_kick (Ok (kicked.TheVariants.Done r)) = Some (deed_of r)
+did_kick _ = None
 
--- whether another call was
-abbrev pub did : Result Receipt Refusal → Bool
-did (Ok r) = true
-did (Err e) = false
+-- what another call did
+abbrev pub did : Result Receipt Refusal → Option Deed
+did (Ok r) = Some (deed_of r)
+did (Err e) = None

@@ -13,3 +13,5 @@ pub mod Rounds
 pub mod Pages
 pub mod Runs
 pub mod Portion
+pub mod Deeds
+pub mod DeedsView

@@ -1,19 +1,22 @@
 -- What a share says.
-use Rattle.std.specs.Prelude.{◌≡◌, ℕ, ◌+◌, ◌/◌, ◌<◌, ◌≤◌, Bool, true, if◌then◌else◌, List, length}
+use Rattle.std.specs.Prelude.{◌≡◌, ℕ, ◌+◌, ◌/◌, ◌<◌, ◌≤◌, true, List, [], ◌∷◌, ◌++◌, length, Option, None, Some}
 use Rattle.std.specs.List.{Contains}
 use Rattle.vm_atomic_bitmaps.specs.declared.counts.Tally.{Tally}
 use Rattle.vm_atomic_bitmaps.specs.Counts.{tally_of, kept_half, new_half, both_passes}
 use Rattle.vm_atomic_bitmaps.specs.Passes.{Pass, SharedPages, IsPassOf}
+use Rattle.fs_shared.specs.Deeds.{Deed}
 
--- how many of a device's parts it has, how many calls were journaled by it, and what it marked in the device's bitmap
+-- how many of a device's parts it has, how many calls were journaled by it, what these did, and what it marked in the device's bitmap
 pub record Portion : Type 0 where
   pub parts : ℕ
   pub count : ℕ
+  pub done : List Deed
   pub pass : Pass
 
--- a call that was journaled counts by one, and no other does
-abbrev pub counted : Portion → (journaled : Bool) → Portion
-counted p journaled = if journaled then record p { count = p.count + 1 } else p
+-- a call that was journaled counts by one, and what it did is the last of what was done; no other call counts
+abbrev pub counted : Portion → (journaled : Option Deed) → Portion
+counted p None = p
+counted p (Some deed) = record p { count = p.count + 1; done = p.done ++ deed ∷ [] }
 
 -- the share's pass is of this bitmap, and cleared no page of it
 pub record IsShareOf (bitmap : SharedPages) (s : Portion) : Type 0 where
@@ -30,7 +33,7 @@ new_pass p = record { name = p.name; counts = new_half p.counts }
 
 -- two shares in one
 abbrev pub joined : Portion → Portion → Portion
-joined s t = record { parts = s.parts + t.parts; count = s.count + t.count; pass = record { name = s.pass.name; counts = both_passes s.pass.counts t.pass.counts } }
+joined s t = record { parts = s.parts + t.parts; count = s.count + t.count; done = s.done ++ t.done; pass = record { name = s.pass.name; counts = both_passes s.pass.counts t.pass.counts } }
 
 -- the page is marked, and more marks than clears of it are known of
 abbrev pub IsMarked : Tally → Type 0

@@ -1,5 +1,5 @@
 -- What a round of a device leaves of the pages that it wrote.
-use Rattle.std.specs.Prelude.{◌≡◌, ◌≢◌, ◌⊎◌, ℕ, ◌+◌, ◌<◌, ◌≤◌, List, [], ◌∷◌, ◌++◌, All, length, Option, Some, None, drop}
+use Rattle.std.specs.Prelude.{◌≡◌, ◌≢◌, ◌⊎◌, ℕ, ◌+◌, ◌<◌, ◌≤◌, List, [], ◌∷◌, ◌++◌, All, length, map, Option, Some, None, drop}
 use Rattle.vm_bitmaps.specs.Words.{page_bit}
 use Rattle.vm_atomic_bitmaps.specs.declared.counts.Tally.{Tally}
 use Rattle.fs_shared.specs.Portion.{HasSeen}
@@ -8,6 +8,7 @@ use Rattle.fs_shared.specs.Pages.{page_of}
 use Rattle.fs_device.specs.Step.{State}
 use Rattle.fs_shared.specs.declared.entry.JournalEntry.{JournalEntry}
 use Rattle.fs_shared.specs.declared.entry.Receipt.{Receipt}
+use Rattle.fs_shared.specs.Deeds.{Deed, deed_of}
 use Rattle.fs_shared.specs.Held.{journal_of}
 use Rattle.fs_shared.specs.Marks.{HasMarkedSince}
 use Rattle.fs_shared.specs.Replay.{Replays}
@@ -41,6 +42,10 @@ KeepsSince old new before after =
 -- the same receipts, and some more behind them
 abbrev pub GoesOnWith : (before after : List Receipt) → Type 0
 GoesOnWith before after = (more : List Receipt) × (after ≡ before ++ more)
+
+-- the same receipts, and behind them those of the calls that a share did meanwhile: each of them once, in their order
+abbrev pub KeepsReceipts : (old new : List Deed) → (before after : List Receipt) → Type 0
+KeepsReceipts old new before after = (more : List Receipt) × (after ≡ before ++ more) × (new ≡ old ++ map deed_of more)
 
 -- the number of one of some receipts
 abbrev pub IsNumberOf : ℕ → List Receipt → Type 0

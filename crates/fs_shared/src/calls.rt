@@ -1,6 +1,6 @@
 //! The calls on what lies under the lock. Each is one event, and is journaled with its receipt or changes nothing.
 
-ghost use Rattle.std.specs.Prelude.{◌≡◌, IfErr, List, OnOk, Err, false, vec_len};
+ghost use Rattle.std.specs.Prelude.{◌≡◌, IfErr, List, OnOk, Err, None, vec_len};
 ghost use Rattle.fs_shared.specs.Portion.{counted};
 ghost use Rattle.fs_device.specs.MachineView.{machine_of};
 ghost use Rattle.fs_device.specs.Run.{GuestWrite, SetLayout};
@@ -54,7 +54,7 @@ fn kick_without_room<F: FileSystem, I: Iommu + Drop>(
     ensures kick { (start : State (Unit {0})) (journal : List Entry) →
         KicksBy F.may (record { machine = machine_of machine.now; start = start; journal = journal }) queue result
         (record { machine = machine_of machine.now; start = start; journal = journal }) }
-    ensures none { did_kick result ≡ false }
+    ensures none { did_kick result ≡ None }
 {
     let Some(there) = machine.device.queue(queue) else {
         // It takes chains.

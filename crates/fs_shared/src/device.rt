@@ -1,6 +1,6 @@
 //! The machine behind one lock, for threads that share it.
 
-ghost use Rattle.std.specs.Prelude.{◌≡◌, ℕ, ◌+◌, ◌/◌, ◌<◌, ◌≤◌, IfErr, IfNone, IfOk, IfSome, IsOk, OnErr, length, true};
+ghost use Rattle.std.specs.Prelude.{◌≡◌, ℕ, ◌+◌, ◌/◌, ◌<◌, ◌≤◌, [], IfErr, IfNone, IfOk, IfSome, IsOk, OnErr, length, true};
 ghost use Rattle.std.specs.Int.{div_ceil};
 ghost use Rattle.vm_bitmaps.specs.Words.{page_bit};
 ghost use Rattle.vm_atomic_bitmaps.specs.Counts.{both_passes, met_with};
@@ -68,7 +68,7 @@ impl<L: Ledger, F: FileSystem, I: Iommu + Drop> SharedDevice<L, F, I> {
         requires parts { blank.parts ≡ parts }
         requires some { 0 < parts }
         ensures pages { IfOk result (λ made. HasPagesOf machine.host made.0) }
-        ensures whole { IfOk result (λ made. made.1 ≡ record { parts = L.parts; count = 0; pass = kept_pass (first_of made.0) }) }
+        ensures whole { IfOk result (λ made. made.1 ≡ record { parts = L.parts; count = 0; done = []; pass = kept_pass (first_of made.0) }) }
         ensures own { IfOk result (λ made. IsShareOf made.0 made.1) }
         ensures harvest { IfOk result (λ made. made.2 ≡ record { bitmap = made.0; pass = new_pass (first_of made.0) }) }
         ensures refused { IfErr result (λ back. back.0 ≡ OutOfMemory) }
@@ -87,12 +87,13 @@ impl<L: Ledger, F: FileSystem, I: Iommu + Drop> SharedDevice<L, F, I> {
         Ok((SharedDevice { state, bitmap }, share, harvest))
     }
 
-    /// Half of a share's parts, rounded down, with count 0 and half of its pass; None, changing nothing, if it has one part.
+    /// Half of a share's parts, rounded down, with count 0, nothing done, and half of its pass; None, changing nothing, if it has one part.
     pub fn split_share(&self, share: &mut Share<L>) -> Option<Share<L>>
         requires { IsShareOf self.now share.old }
-        ensures half { IfSome result (λ s. s ≡ record { parts = share.old.parts / 2; count = 0; pass = new_pass share.old.pass }) }
+        ensures half { IfSome result (λ s. s ≡ record { parts = share.old.parts / 2; count = 0; done = []; pass = new_pass share.old.pass }) }
         ensures rest { IfSome result (λ s. share.new.parts + s.parts ≡ share.old.parts) }
         ensures count { share.new.count ≡ share.old.count }
+        ensures done { share.new.done ≡ share.old.done }
         ensures pass { IfSome result (λ s. share.new.pass ≡ kept_pass share.old.pass) }
         ensures one { IfNone result (share.old.parts ≡ 1) }
         ensures same { IfNone result (share.new ≡ share.old) }
@@ -102,7 +103,7 @@ impl<L: Ledger, F: FileSystem, I: Iommu + Drop> SharedDevice<L, F, I> {
         share.split(&self.bitmap)
     }
 
-    /// Takes another share's parts, count and pass.
+    /// Takes another share's parts, count, what was done by it, and its pass.
     pub fn join_share(&self, share: &mut Share<L>, other: Share<L>)
         requires own { IsShareOf self.now share.old }
         requires other { IsShareOf self.now other }
@@ -218,6 +219,7 @@ impl<L: Ledger, F: FileSystem, I: Iommu + Drop> SharedDevice<L, F, I> {
     ) -> Result<Parts<F, I>, (SharedDevice<L, F, I>, Share<L>)>
         ensures whole { share.parts ≡ L.parts → IsOk result }
         ensures count { IfOk result (λ p. share.count ≡ length p.journal.items) }
+        ensures done { IfOk result (λ p. length share.done ≡ length p.journal.items) }
         ensures replays { IfOk result (λ p. Replays (start_of p.start (fixed_of (machine_of p.machine))) (journal_of p.journal.items)
             (forget (machine_of p.machine))) }
         ensures pages { IfOk result (λ p. DiffersWithin (joined_pages (journal_of p.journal.items)) p.start.host p.machine.host) }
@@ -252,6 +254,7 @@ impl<L: Ledger, F: FileSystem, I: Iommu + Drop> SharedDevice<L, F, I> {
         requires room { length words.old ≡ div_ceil self.len 64 }
         ensures whole { share.parts ≡ L.parts → IsOk result }
         ensures count { IfOk result (λ p. share.count ≡ length p.journal.items) }
+        ensures done { IfOk result (λ p. length share.done ≡ length p.journal.items) }
         ensures replays { IfOk result (λ p. Replays (start_of p.start (fixed_of (machine_of p.machine))) (journal_of p.journal.items)
             (forget (machine_of p.machine))) }
         ensures pages { IfOk result (λ p. DiffersWithin (joined_pages (journal_of p.journal.items)) p.start.host p.machine.host) }

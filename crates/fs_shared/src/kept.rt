@@ -1,8 +1,9 @@
 //! What a call did, kept for its entry in the journal and for its receipt.
 
-ghost use Rattle.std.specs.Prelude.{◌≡◌, ◌<◌, ◌+◌, ◌++◌, ◌∷◌, [], true, length, vec_len, vec_capacity};
+ghost use Rattle.std.specs.Prelude.{◌≡◌, ◌<◌, ◌+◌, ◌++◌, ◌∷◌, [], Some, length, vec_len, vec_capacity};
 ghost use Rattle.fs_shared.specs.Portion.{counted};
 ghost use Rattle.fs_device.specs.CommandView.{command_of};
+ghost use Rattle.fs_shared.specs.Deeds.{deed_of};
 ghost use Rattle.fs_shared.specs.Held.{came_of, journal_of};
 
 use crate::entry::{JournalEntry, Outcome, Receipt};
@@ -27,7 +28,7 @@ pub(crate) struct Kept {
     pub receipt: Event,
 }
 
-/// Journals what a call did, with the options after it, and answers the receipt.
+/// Journals what a call did, with the options after it, counts it, and answers the receipt, which the share is told of.
 pub(crate) fn journal_kept<L: Ledger>(
     journal: &mut Vec<JournalEntry>,
     calls: &mut Book<L>,
@@ -44,7 +45,7 @@ pub(crate) fn journal_kept<L: Ledger>(
     } ∷ [] }
     ensures len { vec_len journal.new ≡ vec_len journal.old + 1 }
     ensures total { calls.new.total ≡ calls.old.total + 1 }
-    ensures share { share.new ≡ counted share.old true }
+    ensures share { share.new ≡ counted share.old (Some (deed_of result)) }
     ensures number { result.number ≡ length (journal_of journal.old.items) }
     ensures command { result.command ≡ kept.receipt.command }
     ensures outcome { result.outcome ≡ kept.receipt.outcome }
@@ -57,11 +58,13 @@ pub(crate) fn journal_kept<L: Ledger>(
         options,
         pages: entry.pages,
     };
-    let number = append(journal, calls, share, entry);
-    Receipt {
+    let number = append(journal, entry);
+    let receipt = Receipt {
         number,
         command: receipt.command,
         outcome: receipt.outcome,
         pages: receipt.pages,
-    }
+    };
+    share.add(calls, &receipt);
+    receipt
 }

@@ -4,6 +4,7 @@
 mod acting;
 mod auditing;
 mod calls;
+mod deeds;
 mod device;
 mod entry;
 mod harvest;

@@ -11,7 +11,7 @@ ghost use Rattle.fs_shared.specs.Audit.{AreAllReceipts};
 ghost use Rattle.fs_shared.specs.Held.{fixed_of, journal_of, start_of};
 ghost use Rattle.fs_shared.specs.Marks.{HasMarked, first_of};
 ghost use Rattle.fs_shared.specs.Replay.{Replays, forget};
-ghost use Rattle.fs_shared.specs.Rounds.{GoesOnWith, IsGreatest, IsGreatestOfFirst, KeepsSince, LeavesSince, TellsPages};
+ghost use Rattle.fs_shared.specs.Rounds.{GoesOnWith, IsGreatest, IsGreatestOfFirst, KeepsReceipts, KeepsSince, LeavesSince, TellsPages};
 ghost use Rattle.fs_shared.specs.declared.share_error.ShareError.TheVariants.{OutOfMemory};
 
 use crate::auditing::audit;
@@ -88,6 +88,7 @@ fn kick_once<L: Ledger, F: FileSystem, I: Iommu + Drop, R: Wait>(
     ensures marked { HasMarked share.new.pass.counts.pages receipts.new.items }
     ensures since { KeepsSince share.old.pass.counts.pages share.new.pass.counts.pages receipts.old.items receipts.new.items }
     ensures more { GoesOnWith receipts.old.items receipts.new.items }
+    ensures done { KeepsReceipts share.old.done share.new.done receipts.old.items receipts.new.items }
     ensures parts { share.new.parts ≡ share.old.parts }
     ensures pass { share.new.pass ≡ counting share.old.pass share.new.pass.counts.pages }
     ensures len { vec_len receipts.new ≤ vec_len receipts.old + 1 }
@@ -120,6 +121,7 @@ fn kick_often<L: Ledger, F: FileSystem, I: Iommu + Drop, R: Wait>(
     ensures marked { HasMarked share.new.pass.counts.pages receipts.new.items }
     ensures since { KeepsSince share.old.pass.counts.pages share.new.pass.counts.pages receipts.old.items receipts.new.items }
     ensures more { GoesOnWith receipts.old.items receipts.new.items }
+    ensures done { KeepsReceipts share.old.done share.new.done receipts.old.items receipts.new.items }
     ensures parts { share.new.parts ≡ share.old.parts }
     ensures pass { share.new.pass ≡ counting share.old.pass share.new.pass.counts.pages }
     ensures len { vec_len receipts.new ≤ vec_len receipts.old + most }
@@ -163,7 +165,7 @@ fn go_round<L: Ledger, F: FileSystem + Drop, I: Iommu + Drop, R: Wait>(
     queue: usize,
     most: u16,
 ) -> Round<F, I>
-    requires share { made.1 ≡ record { parts = L.parts; count = 0; pass = kept_pass (first_of made.0) } }
+    requires share { made.1 ≡ record { parts = L.parts; count = 0; done = []; pass = kept_pass (first_of made.0) } }
     requires own { IsShareOf made.0 made.1 }
     requires harvest { made.2 ≡ record { bitmap = made.0; pass = new_pass (first_of made.0) } }
     requires receipts { room.receipts.items ≡ [] }
@@ -178,6 +180,7 @@ fn go_round<L: Ledger, F: FileSystem + Drop, I: Iommu + Drop, R: Wait>(
     ensures since { IsTrue result.is_audited →
         LeavesSince made.0.len result.last_before result.parts.journal.items result.left.items (forget (machine_of result.parts.machine)) }
     ensures last { IsGreatestOfFirst most result.last_before result.receipts.items }
+    ensures each { length result.receipts.items ≡ length result.parts.journal.items }
 {
     let (device, mut share, mut harvest) = made;
     let RoundRoom {
@@ -205,11 +208,12 @@ fn go_round<L: Ledger, F: FileSystem + Drop, I: Iommu + Drop, R: Wait>(
     }
 }
 
-/// A round of a machine by one thread: a device is made over it (`SharedDevice::new`), a queue is kicked until nothing waits, a kick
-/// is refused or `most` chains were served, the harvest gathers, the share meets it, the queue is kicked so once more, and the device
-/// is taken apart. If the receipts pass the audit, each page, below the number of pages of the host, in which the machine's host
-/// differs from the start's was gathered or is left; and each in which it differs from what it was after the entry `last_before` is
-/// left. Refused only `OutOfMemory`, if an allocation fails before anything was served, and then blank and machine come back.
+/// A round of a machine by one thread: a device is made over it (`SharedDevice::new`), a queue is kicked until nothing waits, a
+/// kick is refused or `most` chains were served, the harvest gathers, the share meets it, the queue is kicked so once more, and the
+/// device is taken apart. If the receipts pass the audit, each page, below the number of pages of the host, in which the machine's
+/// host differs from the start's was gathered or is left; and each in which it differs from what it was after the entry
+/// `last_before` is left. There are as many receipts as entries of the journal. Refused only `OutOfMemory`, if an allocation fails
+/// before anything was served, and then blank and machine come back.
 pub fn serve_round<L: Ledger, F: FileSystem + Drop, I: Iommu + Drop, R: Wait>(
     rt: &R,
     alloc: Global,
@@ -231,6 +235,7 @@ pub fn serve_round<L: Ledger, F: FileSystem + Drop, I: Iommu + Drop, R: Wait>(
     ensures since { IfOk result (λ round. IsTrue round.is_audited → LeavesSince (first_page (lengths machine.host) (length (lengths machine.host)))
         round.last_before round.parts.journal.items round.left.items (forget (machine_of round.parts.machine))) }
     ensures last { IfOk result (λ round. IsGreatestOfFirst most round.last_before round.receipts.items) }
+    ensures each { IfOk result (λ round. length round.receipts.items ≡ length round.parts.journal.items) }
     ensures refused { IfErr result (λ back. back.0 ≡ OutOfMemory) }
     ensures blank { IfErr result (λ back. back.1 ≡ blank) }
     ensures machine { IfErr result (λ back. back.2 ≡ machine) }

@@ -1,36 +1,41 @@
 //! A thread's share of a device.
 
-ghost use Rattle.std.specs.Prelude.{◌≡◌, ℕ, ◌+◌, ◌<◌, ◌/◌, ◌^◌, ◌==◌, true, IfSome, IfNone};
+ghost use Rattle.std.specs.Prelude.{◌≡◌, ℕ, ◌+◌, ◌<◌, ◌/◌, ◌^◌, ◌==◌, [], true, length, Some, IfSome, IfNone};
 ghost use Rattle.vm_atomic_bitmaps.specs.Counts.{met_with};
 ghost use Rattle.vm_atomic_bitmaps.specs.Passes.{IsPassOf, counting};
 
+use crate::deeds::Deeds;
+use crate::entry::Receipt;
 use std::marker::Model;
 use std::sync::ledger;
 use std::sync::ledger::{Book, Ledger};
 use vm_atomic_bitmaps::{AtomicBitmap, BitmapPass};
 
-/// Some of the parts of a device, at least one, how many calls were journaled by them (`std::sync::ledger`), and a pass of
-/// the device's bitmap, by which the pages that those calls wrote were marked.
+/// Some of the parts of a device, at least one, how many calls were journaled by them (`std::sync::ledger`), what these told,
+/// and a pass of the device's bitmap, by which the pages that those calls wrote were marked.
 #[derive(Drop)]
 pub struct Share<L: Ledger> {
     parts: u64,
     // Modulo 2^64: without the book nothing bounds a sum of two counts.
     count: u64,
     token: ledger::Share<L>,
+    done: Deeds,
     pass: BitmapPass,
 }
 
 impl<L: Ledger> Model for Share<L> {
-    ghost use Rattle.std.specs.Prelude.{◌≡◌, ◌<◌, ◌%◌, ◌^◌};
+    ghost use Rattle.std.specs.Prelude.{◌≡◌, ◌<◌, ◌%◌, ◌^◌, length};
     ghost use Rattle.fs_shared.specs.Portion.{Portion};
 
     ghost Value = { Portion };
 
-    ghost view = { λ s. record { parts = s.token.parts; count = s.token.amount; pass = s.pass } };
+    ghost view = { λ s. record { parts = s.token.parts; count = s.token.amount; done = s.done; pass = s.pass } };
 
-    ghost invariant = { λ s. (s.token.parts ≡ s.parts) × (s.count ≡ s.token.amount % (2 ^ 64)) × (0 < s.parts) × (L.parts < 2 ^ 64) };
+    ghost invariant = { λ s. (s.token.parts ≡ s.parts) × (s.count ≡ s.token.amount % (2 ^ 64)) × (0 < s.parts) × (L.parts < 2 ^ 64)
+        × (length s.done ≡ s.token.amount) };
 }
 
+ghost use Rattle.fs_shared.specs.Deeds.{deed_of};
 ghost use Rattle.fs_shared.specs.Portion.{HasSeen, HasSeenItsOwn, IsShareOf, MarksPages, Portion, counted, joined, kept_pass, new_pass};
 
 impl<L: Ledger> Share<L> {
@@ -40,23 +45,25 @@ impl<L: Ledger> Share<L> {
         requires none { token.amount ≡ 0 }
         requires some { 0 < parts }
         requires fit { L.parts < 2 ^ 64 }
-        ensures { result ≡ record { parts = parts; count = 0; pass = pass } }
+        ensures { result ≡ record { parts = parts; count = 0; done = []; pass = pass } }
     {
         Share {
             parts,
             count: 0,
             token,
+            done: Deeds::none(),
             pass,
         }
     }
 
-    /// Counts one call that was journaled.
-    pub fn add(&mut self, book: &mut Book<L>)
+    /// Counts one call that was journaled, and is told its receipt.
+    pub fn add(&mut self, book: &mut Book<L>, receipt: &Receipt)
         ensures total { book.new.total ≡ book.old.total + 1 }
-        ensures count { self.new ≡ counted self.old true }
+        ensures count { self.new ≡ counted self.old (Some (deed_of receipt.now)) }
     {
         book.add(&mut self.token, 1);
         self.count = self.count.wrapping_add(1);
+        self.done.push(receipt);
     }
 
     /// Whether its count is the book's total. So it is where the share has every part.
@@ -65,18 +72,20 @@ impl<L: Ledger> Share<L> {
         ensures same { self.new ≡ self.old }
         ensures book { book.new.total ≡ book.old.total }
         ensures count { result ≡ (self.old.count == total) }
+        ensures done { length self.old.done ≡ self.old.count }
         ensures whole { self.old.parts ≡ L.parts → result ≡ true }
     {
         book.audit(&mut self.token);
         self.count == total
     }
 
-    /// Half of its parts, rounded down, with count 0 and half of its pass; None, changing nothing, if it has one part.
+    /// Half of its parts, rounded down, with count 0, nothing done, and half of its pass; None, changing nothing, if it has one part.
     pub fn split(&mut self, bitmap: &AtomicBitmap) -> Option<Share<L>>
         requires { IsShareOf bitmap.now self.old }
-        ensures half { IfSome result (λ s. s ≡ record { parts = self.old.parts / 2; count = 0; pass = new_pass self.old.pass }) }
+        ensures half { IfSome result (λ s. s ≡ record { parts = self.old.parts / 2; count = 0; done = []; pass = new_pass self.old.pass }) }
         ensures rest { IfSome result (λ s. self.new.parts + s.parts ≡ self.old.parts) }
         ensures count { self.new.count ≡ self.old.count }
+        ensures done { self.new.done ≡ self.old.done }
         ensures pass { IfSome result (λ s. self.new.pass ≡ kept_pass self.old.pass) }
         ensures one { IfNone result (self.old.parts ≡ 1) }
         ensures same { IfNone result (self.new ≡ self.old) }
@@ -93,7 +102,7 @@ impl<L: Ledger> Share<L> {
         Some(Share::new(half, token, pass))
     }
 
-    /// Takes another share's parts, count and pass.
+    /// Takes another share's parts, count, what was done by it, and its pass.
     pub fn join(&mut self, bitmap: &AtomicBitmap, other: Share<L>)
         requires own { IsShareOf bitmap.now self.old }
         requires other { IsShareOf bitmap.now other }
@@ -104,11 +113,13 @@ impl<L: Ledger> Share<L> {
             parts,
             count,
             token,
+            done,
             pass,
         } = other;
         self.token.merge(token);
         self.parts += parts;
         self.count = self.count.wrapping_add(count);
+        self.done.append(done);
         bitmap.join_pass(&mut self.pass, pass);
     }
 

@@ -2,7 +2,6 @@
 
 ghost use Rattle.std.specs.Prelude.{◌≡◌, ◌<◌, ◌+◌, ◌++◌, ◌∷◌, ◌==◌, [], true, length, vec_len, vec_capacity};
 ghost use Rattle.fs_device.specs.MachineView.{machine_of};
-ghost use Rattle.fs_shared.specs.Portion.{counted};
 ghost use Rattle.fs_shared.specs.Replay.{forget, Replays};
 ghost use Rattle.fs_shared.specs.Held.{fixed_of, journal_of, start_of};
 ghost use Rattle.fs_shared.specs.Laws.{HoldsReplay};
@@ -47,23 +46,15 @@ impl<L: Ledger, F, I: Iommu + Drop> Model for SharedState<L, F, I> {
         × (s.calls.total ≡ vec_len s.journal) };
 }
 
-// Puts an entry, which has room, at the journal's end, counts it, and answers its number.
-pub(crate) fn append<L: Ledger>(
-    journal: &mut Vec<JournalEntry>,
-    calls: &mut Book<L>,
-    share: &mut Share<L>,
-    entry: JournalEntry,
-) -> usize
+// Puts an entry, which has room, at the journal's end, and answers its number.
+pub(crate) fn append(journal: &mut Vec<JournalEntry>, entry: JournalEntry) -> usize
     requires { vec_len journal.old < vec_capacity journal.old }
     ensures journal { journal.new.items ≡ journal.old.items ++ entry ∷ [] }
     ensures len { vec_len journal.new ≡ vec_len journal.old + 1 }
     ensures number { result ≡ vec_len journal.old }
-    ensures total { calls.new.total ≡ calls.old.total + 1 }
-    ensures share { share.new ≡ counted share.old true }
 {
     let number = journal.len();
     journal.push_reserved(entry);
-    share.add(calls);
     number
 }
 
@@ -94,6 +85,7 @@ impl<L: Ledger, F: FileSystem, I: Iommu + Drop> SharedState<L, F, I> {
         ensures state { self.new ≡ self.old }
         ensures share { share.new ≡ share.old }
         ensures count { result ≡ (share.old.count == length self.old.journal) }
+        ensures done { length share.old.done ≡ share.old.count }
         ensures whole { share.old.parts ≡ L.parts → result ≡ true }
         ensures replays { HoldsReplay self.new }
     {

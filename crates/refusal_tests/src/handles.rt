@@ -1,7 +1,7 @@
 //! The handle for a chain in parts: made, told its memory, walked over a chain of many entries, asked, and given back.
 
 use crate::given::{Trial, Unmet, expect, expect_kept, met};
-use fs_chain::{KeptQueue, Told, WalkOutcome, Workbench};
+use fs_chain::{KeptQueue, Told, WalkOutcome, Went, Workbench};
 use fs_queue::QueueLayout;
 use fs_regions::{GuestRegions, MemoryRegion, RegionsError};
 use fuse_values::{FileAnswer, FileCall};
@@ -73,9 +73,9 @@ fn walk(
     workbench: &mut Workbench,
     queue: &mut KeptQueue,
     load: &[u8],
-) -> Result<WalkOutcome, Unmet> {
+) -> Result<Went, Unmet> {
     match workbench.walk(queue, load) {
-        Ok(walked) => Ok(walked),
+        Ok(went) => Ok(went),
         Err(error) => {
             trial.expect_told(error.number() == 9)?;
             expect_kept(!queue.out && workbench.load_len() == load.len())?;
@@ -97,22 +97,24 @@ fn walk_entries(
     trial: Trial,
     workbench: &mut Workbench,
     queue: &mut KeptQueue,
-) -> Result<WalkOutcome, Unmet> {
-    let mut walked = WalkOutcome::Idle;
+) -> Result<Went, Unmet> {
+    let mut went = Went::Part;
     for number in 0..ENTRIES {
-        walked = walk(trial, workbench, queue, &entry(number))?;
+        went = walk(trial, workbench, queue, &entry(number))?;
     }
-    Ok(walked)
+    Ok(went)
 }
 
 // The chain is out of its queue.
-fn expect_chain(walked: WalkOutcome, queue: &KeptQueue) -> Result<(), Unmet> {
-    match walked {
-        WalkOutcome::Chain {
-            head,
-            request_len,
-            room_len,
-        } => expect((head, request_len, room_len) == (0, 46, 144) && queue.out),
+fn expect_chain(went: Went, queue: &KeptQueue) -> Result<(), Unmet> {
+    match went {
+        Went::On(
+            WalkOutcome::Chain {
+                head,
+                request_len,
+                room_len,
+            },
+        ) => expect((head, request_len, room_len) == (0, 46, 144) && queue.out),
         _ => Err(Unmet::Answer),
     }
 }
@@ -128,13 +130,9 @@ fn expect_hello(told: &Told<'_>) -> Result<(), Unmet> {
 }
 
 // The chain goes back: there is no such name.
-fn give_back(
-    workbench: &mut Workbench,
-    queue: &mut KeptQueue,
-    session: &mut Session,
-) -> Result<(), Unmet> {
+fn give_back(workbench: &mut Workbench, queue: &mut KeptQueue) -> Result<(), Unmet> {
     let answer = FileAnswer::Failed(Errno::ENOENT);
-    met(workbench.answer(session, answer), Unmet::Answer)?;
+    met(workbench.answer(answer), Unmet::Answer)?;
     let mut front = [0u8; 16];
     let stores = met(workbench.begin_return(queue, &mut front), Unmet::Answer)?;
     let told = met(workbench.end_return(queue, [0, 0]), Unmet::Answer)?;
@@ -145,32 +143,26 @@ fn give_back(
 // The chain is walked.
 fn take(trial: Trial, workbench: &mut Workbench, queue: &mut KeptQueue) -> Result<(), Unmet> {
     walk_rings(trial, workbench, queue)?;
-    let walked = walk_entries(trial, workbench, queue)?;
-    expect_chain(walked, queue)
+    let went = walk_entries(trial, workbench, queue)?;
+    expect_chain(went, queue)
 }
 
 // The chain is asked, which takes no memory, and given back.
-fn answer(
-    trial: Trial,
-    workbench: &mut Workbench,
-    queue: &mut KeptQueue,
-    session: &mut Session,
-) -> Result<usize, Unmet> {
+fn answer(trial: Trial, workbench: &mut Workbench, queue: &mut KeptQueue) -> Result<usize, Unmet> {
     let walked = trial.made();
-    let told = met(workbench.ask(session, LOOKUP), Unmet::Answer)?;
+    let told = met(workbench.ask(Session::new(4096), LOOKUP), Unmet::Answer)?;
     let made = trial.end();
     expect_kept(made == walked)?;
     expect_hello(&told)?;
-    give_back(workbench, queue, session)?;
+    give_back(workbench, queue)?;
     Ok(made)
 }
 
 // The chain is walked, asked and given back.
 fn serve(trial: Trial, workbench: &mut Workbench) -> Result<usize, Unmet> {
     let mut queue = queue()?;
-    let mut session = Session::new(4096);
     take(trial, workbench, &mut queue)?;
-    answer(trial, workbench, &mut queue, &mut session)
+    answer(trial, workbench, &mut queue)
 }
 
 // A handle over some memory serves the chain.

@@ -1,6 +1,7 @@
 //! How a listing gathers its entries, and what it replies.
 
-ghost use Rattle.std.specs.Prelude.{◌≡◌, ℕ, ◌+◌, ◌-◌, ◌<◌, ◌≤◌, ◌^◌, ◌&&◌, [], ◌∷◌, ◌++◌, List, length, take, Some, Ok, Err, true, false, min, nat_lt, IfOk, IfErr, OnOk, OnErr, if◌then◌else◌};
+ghost use Rattle.std.specs.Prelude.{◌≡◌, ℕ, ◌+◌, ◌-◌, ◌<◌, ◌≤◌, ◌^◌, ◌&&◌, [], ◌∷◌, ◌++◌, List, length, take, min, nat_lt};
+ghost use Rattle.std.specs.Prelude.{Some, Ok, Err, true, false, IfOk, IfErr, OnOk, OnErr, if◌then◌else◌};
 ghost use Rattle.fuse_fs.specs.Answers.{listed};
 ghost use Rattle.fuse_fs.specs.Calls.{Listed, Failed, Entries};
 ghost use Rattle.server_replies.specs.Entries.{dirent_bytes, entry_len, is_dot, no_node};

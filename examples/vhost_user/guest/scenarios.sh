@@ -13,10 +13,12 @@ names() { (cd "$1" && find . | sort | sed 's/^/NAME /'); }
 sums() { (cd "$1" && find . -type f | sort | while read -r f; do echo "SUM $(sha256sum "$f")"; done); }
 kilobytes() { sed -n 's/MemTotal: *\([0-9]*\).*/\1/p' /proc/meminfo; }
 
-# Bytes by chance are written in three ways, and read back when no cache has them. The host sums the files.
+# Bytes by chance are written in three ways, and read back when no cache has them. The host sums the files. (A file that is made
+# with O_DIRECT has it on the host too, over virtiofsd, and takes no odd length; one that is there already hasn't.)
 write_back() {
     head -c 5000001 /dev/urandom > /tmp/r
     cp /tmp/r /mnt/work/copy
+    : > /mnt/work/direct
     dd if=/tmp/r of=/mnt/work/direct bs=1M oflag=direct conv=fsync 2> /tmp/dd || cat /tmp/dd
     dd if=/tmp/r of=/mnt/work/odd bs=4097 conv=fsync 2> /tmp/dd || cat /tmp/dd
     sync

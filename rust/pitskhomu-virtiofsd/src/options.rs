@@ -144,9 +144,12 @@ pub struct Options {
     /// Files may be mapped although --cache is metadata or never
     #[arg(long)]
     pub allow_mmap: bool,
-    /// Mount points below the directory are told to the guest
-    #[arg(long)]
+    /// Mount points below the directory are told to the guest (the default)
+    #[arg(long, overrides_with = "no_announce_submounts")]
     pub announce_submounts: bool,
+    /// They aren't told
+    #[arg(long)]
+    pub no_announce_submounts: bool,
     /// Extended attributes
     #[arg(long)]
     pub xattr: bool,
@@ -265,6 +268,13 @@ mod tests {
             assert!(options(words).expect(words).refusal().expect(words).starts_with(name));
         }
         assert_eq!(options("--thread-pool-size=0 --xattr").expect("options").refusal(), None);
+    }
+
+    #[test]
+    fn the_last_of_two_opposites_holds() {
+        let opposite = |words| options(words).expect(words).no_announce_submounts;
+        assert!(!opposite("") && !opposite("--no-announce-submounts --announce-submounts"));
+        assert!(opposite("--announce-submounts --no-announce-submounts"));
     }
 
     #[test]

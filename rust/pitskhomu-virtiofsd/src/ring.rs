@@ -42,6 +42,8 @@ pub struct State {
     wants_kicks: Option<bool>,
     kick: Option<Arc<File>>,
     call: Option<File>,
+    /// The driver was to be interrupted while nobody had said where: QEMU says so after it has started a ring that chains wait in.
+    owes_call: bool,
     err: Option<File>,
 }
 
@@ -70,8 +72,9 @@ impl State {
         (self.layout.size != 0 && self.layout.descriptors != 0).then(|| self.queue())
     }
 
-    /// Interrupts the driver.
+    /// Interrupts the driver, as soon as it is known where.
     pub fn notify(&mut self) {
+        self.owes_call = self.call.is_none();
         if let Some(Err(e)) = self.call.as_mut().map(|call| call.write(&1u64.to_ne_bytes())) {
             // An event that is full already is seen all the same.
             if e.kind() != ErrorKind::WouldBlock {
@@ -177,7 +180,11 @@ impl Ring {
 
     /// Where the driver is interrupted.
     pub fn set_call(&self, call: Option<File>) {
-        self.state().call = call;
+        let mut state = self.state();
+        state.call = call;
+        if state.owes_call {
+            state.notify();
+        }
     }
 
     /// Where the front-end hears of a refusal.
@@ -269,5 +276,38 @@ impl Ring {
             }
             wait = if self.serve_all(server, &memory) == Looked::Again { AGAIN_MILLISECONDS } else { -1 };
         }
+    }
+}
+
+#[cfg(test)]
+mod tests {
+    use super::*;
+    use std::os::fd::FromRawFd;
+
+    fn event() -> File {
+        // SAFETY: no memory is touched.
+        let fd = unsafe { libc::eventfd(0, libc::EFD_NONBLOCK | libc::EFD_CLOEXEC) };
+        assert!(fd >= 0);
+        // SAFETY: the descriptor is new, and nobody else's.
+        unsafe { File::from_raw_fd(fd) }
+    }
+
+    /// Whether it was written to since the last look.
+    fn is_called(mut event: &File) -> bool {
+        event.read(&mut [0; 8]).is_ok()
+    }
+
+    #[test]
+    fn an_interrupt_waits_for_its_place() {
+        let (ring, event) = (Ring::new(0).expect("a ring"), event());
+        let call = || Some(event.try_clone().expect("a descriptor"));
+        ring.state().notify();
+        ring.set_call(None);
+        ring.set_call(call());
+        assert!(is_called(&event));
+        ring.set_call(call()); // nothing is owed any more
+        assert!(!is_called(&event));
+        ring.state().notify();
+        assert!(is_called(&event));
     }
 }

@@ -45,11 +45,26 @@ extern "C" fn end(_signal: libc::c_int) {
     unsafe { libc::_exit(0) }
 }
 
-/// As the first process of its namespace the daemon would be deaf to these signals without a handler.
+/// A page of lent memory isn't there any more (or the host's own is faulty): no thread can go on that looks at it, and whoever lent it
+/// is the only one that is served.
+extern "C" fn end_for_lost_memory(_signal: libc::c_int) {
+    const WHY: &[u8] =
+        b"pitskhomu-virtiofsd: memory that the front-end lent is gone (SIGBUS), so nothing more can be served\n";
+    // SAFETY: both may be called by a signal's handler, and the bytes are static.
+    unsafe {
+        libc::write(libc::STDERR_FILENO, WHY.as_ptr().cast(), WHY.len());
+        libc::_exit(1)
+    }
+}
+
+/// As the first process of its namespace the daemon would be deaf to the first three signals without a handler.
 fn end_by_signals() {
-    for signal in [libc::SIGHUP, libc::SIGINT, libc::SIGTERM] {
-        // SAFETY: the handler does nothing but what a handler may.
-        unsafe { libc::signal(signal, end as *const () as libc::sighandler_t) };
+    let end = end as *const () as libc::sighandler_t;
+    let lost = end_for_lost_memory as *const () as libc::sighandler_t;
+    let handlers = [(libc::SIGHUP, end), (libc::SIGINT, end), (libc::SIGTERM, end), (libc::SIGBUS, lost)];
+    for (signal, handler) in handlers {
+        // SAFETY: the handlers do nothing but what a handler may.
+        unsafe { libc::signal(signal, handler) };
     }
 }
 
@@ -75,7 +90,7 @@ fn config(options: Options, sandbox: &mut Sandbox, descriptors: u64) -> Config {
         writeback: options.writeback,
         xattr: options.has_xattr(),
         xattrmap: options.xattrmap,
-        announce_submounts: options.announce_submounts,
+        announce_submounts: !options.no_announce_submounts,
         inode_file_handles: options.inode_file_handles.into(),
         readdirplus: !options.no_readdirplus && !matches!(options.cache, CachePolicy::Never),
         cache_policy: options.cache,

@@ -1,8 +1,8 @@
 use Rattle.std.proofs.Common.{rules}
-use Rattle.fs_chain_c.proofs.HeldLemmas.{sets_some}
+use Rattle.fs_chain_c.proofs.HandleLemmas.{sets_some}
 use Rattle.fs_chain_c.proofs.exports.fs_chain_set_memory.Goals as goal
 
 pub returns-in-Some : goal.returns-in-Some
 returns-in-Some c =
-    sets_some c.args.device.now c.args.regions.now c.set_held-status.result c.args.chain.now.seat.value c.of_box.result.seat.value
-    c.deref_mut.result.now c.set_held-status.new.held (search rules) (search rules) c.set_held-status.ensures
+    sets_some c.args.device.now c.args.regions.now c.set_workbench-status.result c.args.chain.now.value c.of_box.result.value
+    c.deref_mut.result.now c.set_workbench-status.new.workbench (search rules) (search rules) c.set_workbench-status.ensures

@@ -1,6 +1,7 @@
 use Rattle.std.proofs.Common.{rules}
-use Rattle.fs_chain_c.proofs.HeldLemmas.{on_held}
+use Rattle.fs_chain_c.proofs.HandleLemmas.{on_workbench}
 use Rattle.fs_chain_c.proofs.exports.fs_returned.Goals as goal
 
 pub returns : goal.returns
-returns c = on_held _ _ c.args.chain.now.seat.value c.of_box.result.seat.value c.deref_mut.result.now c.end_held-told.new.held (search rules) (search rules) c.end_held-told.ensures
+returns c =
+    on_workbench _ _ c.args.chain.now.value c.of_box.result.value c.deref_mut.result.now c.end_workbench-told.new.workbench (search rules) (search rules) c.end_workbench-told.ensures

@@ -54,6 +54,7 @@ returns-in_default-clause-err g c =
         head.count,
         goes_with head.version c.args.page_size c.args.limit,
         with_limit head.version read.0 c.args.page_size c.args.limit head.options.0 head.count [] read.2,
+        Prim.search rules,
       ),
       read.3,
     )

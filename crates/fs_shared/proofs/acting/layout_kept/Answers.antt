@@ -13,4 +13,4 @@ returns-clause-keeps g c =
     let second = c.layout_event-2.ensures in
     let done = layout_performed g.F.FileSystemBase.may before after c.args.layout (answer_of c.set_layout.result) c.requires c.set_layout.ensures in
     layout_keeps g.F.FileSystemBase.may before after c.args.layout (record { entry = c.layout_event.result; receipt = c.layout_event-2.result }) done
-    (first.command ∙ ap SetLayout c.in_ok-first.ensures, first.outcome, first.pages) (second.command ∙ ap SetLayout c.in_ok-second.ensures, second.outcome, second.pages)
+    (first.command ∙ ap SetLayout c.in_ok-first.ensures.same, first.outcome, first.pages) (second.command ∙ ap SetLayout c.in_ok-second.ensures.same, second.outcome, second.pages)

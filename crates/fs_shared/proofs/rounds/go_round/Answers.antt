@@ -11,10 +11,11 @@ use Rattle.fs_shared.specs.declared.entry.Receipt.{Receipt}
 use Rattle.fs_shared.specs.Audit.{AreAllReceipts}
 use Rattle.fs_shared.specs.Marks.{Harvest, HasMarked, HasMarkedSince, first_of}
 use Rattle.fs_shared.specs.Replay.{forget}
-use Rattle.fs_shared.specs.Rounds.{IsGreatest, LeavesSince, TellsPages, following}
+use Rattle.fs_shared.specs.Deeds.{Deed}
+use Rattle.fs_shared.specs.Rounds.{IsGreatest, KeepsReceipts, LeavesSince, TellsPages, following}
 use Rattle.fs_shared.proofs.MarksKept.{meets_keep}
 use Rattle.fs_shared.proofs.RoundPages.{all_earlier, leaves_since, tells}
-use Rattle.fs_shared.proofs.RoundReceipts.{below_following}
+use Rattle.fs_shared.proofs.RoundReceipts.{below_following, each_once, kept_then}
 use Rattle.fs_shared.proofs.rounds.go_round.Goals as goal
 
 -- the share met the harvest, and keeps what it marked
@@ -88,3 +89,15 @@ returns-clause-last g c =
     let len = c.kick_often.ensures.len in
     let none = ap length c.requires.receipts in
     (c.kick_often.new.receipts.items, omega (arith, len, none), subst (IsGreatest last) c.deref.ensures.value c.greatest_number-last_before.ensures, c.kick_often-2.ensures.more)
+
+pub returns-clause-each : goal.returns-clause-each
+returns-clause-each g c =
+    let first = c.args.made.1.done in
+    let before = c.kick_often.new.share.done in
+    let last = c.kick_often-2.new.share.done in
+    let met = ap (λ (s : Portion). s.done) c.meet.ensures.share in
+    let receipts = c.kick_often-2.new.receipts.items in
+    let later = subst (λ (done : List Deed). KeepsReceipts done last c.kick_often.new.receipts.items receipts) met c.kick_often-2.ensures.done in
+    let kept = kept_then first before last c.args.room.receipts.items c.kick_often.new.receipts.items receipts c.kick_often.ensures.done later in
+    each_once first last c.args.room.receipts.items receipts (ap (λ (s : Portion). s.done) c.requires.share) c.requires.receipts kept
+    ∙ c.in-Ok.ensures.done

@@ -1,7 +1,7 @@
 use Rattle.std.proofs.Common.{ap, ◌∙◌, arith}
 use Rattle.vm_atomic_bitmaps.specs.Passes.{Pass, counting}
 use Rattle.fs_shared.proofs.RoundPages.{since_then}
-use Rattle.fs_shared.proofs.RoundReceipts.{goes_on, none_more}
+use Rattle.fs_shared.proofs.RoundReceipts.{goes_on, kept_then, none_kept, none_more}
 use Rattle.fs_shared.proofs.rounds.kick_often.Goals as goal
 
 pub returns-then-not-kick_once-clause-since : goal.returns-then-not-kick_once-clause-since
@@ -13,6 +13,11 @@ pub returns-then-not-kick_once-clause-more : goal.returns-then-not-kick_once-cla
 returns-then-not-kick_once-clause-more g c =
     goes_on c.args.receipts.now.items c.loop.receipts.items c.kick_once.new.receipts.items c.loop.invariant.more c.kick_once.ensures.more
 
+pub returns-then-not-kick_once-clause-done : goal.returns-then-not-kick_once-clause-done
+returns-then-not-kick_once-clause-done g c =
+    kept_then c.args.share.now.done c.loop.share.done c.kick_once.new.share.done c.args.receipts.now.items c.loop.receipts.items c.kick_once.new.receipts.items
+    c.loop.invariant.done c.kick_once.ensures.done
+
 pub loop-preserved : goal.loop-preserved
 loop-preserved g c =
     let kept = c.loop.invariant in
@@ -23,6 +28,7 @@ loop-preserved g c =
       marked = done.marked;
       since = since_then c.args.share.now.pass.counts.pages c.loop.share.pass.counts.pages new c.args.receipts.now.items c.loop.receipts.items c.kick_once.new.receipts.items kept.since done.since;
       more = goes_on c.args.receipts.now.items c.loop.receipts.items c.kick_once.new.receipts.items kept.more done.more;
+      done = kept_then c.args.share.now.done c.loop.share.done c.kick_once.new.share.done c.args.receipts.now.items c.loop.receipts.items c.kick_once.new.receipts.items kept.done done.done;
       parts = done.parts ∙ kept.parts;
       pass = done.pass ∙ ap (λ (q : Pass). counting q new) kept.pass;
       most = let more = c.loop-test.true in omega arith;

@@ -1,11 +1,14 @@
-use Rattle.std.proofs.Common.{[], List, Ok, sym, subst}
-use Rattle.fs_shared.specs.Portion.{MarksPages}
+use Rattle.std.proofs.Common.{◌≡◌, [], ◌∷◌, List, Ok, ap, sym, subst}
+use Rattle.vm_atomic_bitmaps.specs.Passes.{counting}
+use Rattle.fs_shared.specs.Calls.{did_kick}
+use Rattle.fs_shared.specs.Portion.{MarksPages, Portion, counted}
 use Rattle.fs_shared.specs.declared.entry.Kicked as kicked
 use Rattle.fs_shared.specs.declared.entry.Receipt.{Receipt}
 use Rattle.fs_shared.specs.Marks.{HasMarked, kicked_pages}
 use Rattle.fs_shared.specs.Rounds.{KeepsSince}
 use Rattle.fs_shared.proofs.MarksKept.{calls_keep}
 use Rattle.fs_shared.proofs.RoundPages.{none_since, one_since, one_told}
+use Rattle.fs_shared.proofs.RoundReceipts.{none_kept}
 use Rattle.fs_shared.proofs.rounds.kick_once.Goals as goal
 
 pub returns-in-Ok-Done-clause-marked : goal.returns-in-Ok-Done-clause-marked
@@ -45,3 +48,23 @@ returns-in-Ok-Idle-clause-since g c =
 pub returns-in-Err-clause-since : goal.returns-in-Err-clause-since
 returns-in-Err-clause-since g c =
     none_since c.args.receipts.now.items c.args.share.now.pass.counts.pages c.kick.new.share.pass.counts.pages c.in-Err.ensures.pages
+
+pub returns-in-Ok-Done-clause-done : goal.returns-in-Ok-Done-clause-done
+returns-in-Ok-Done-clause-done g c =
+    let old = c.args.share.now in
+    let new = c.kick.new.share in
+    let share = subst (λ (k : kicked.Kicked). new ≡ record (counted old (did_kick (Ok k))) { pass = counting old.pass new.pass.counts.pages })
+    c.in-Ok-Done.field-0-is c.in-Ok-Done.ensures.share in
+    (c.in-Ok-Done.receipt ∷ [], c.push_reserved.ensures.items, ap (λ (s : Portion). s.done) share)
+
+pub returns-in-Ok-Idle-clause-done : goal.returns-in-Ok-Idle-clause-done
+returns-in-Ok-Idle-clause-done g c =
+    let old = c.args.share.now in
+    let new = c.kick.new.share in
+    let share = subst (λ (k : kicked.Kicked). new ≡ record (counted old (did_kick (Ok k))) { pass = counting old.pass new.pass.counts.pages })
+    c.in-Ok-Idle.field-0-is c.in-Ok-Idle.ensures.share in
+    none_kept old.done new.done c.args.receipts.now.items (ap (λ (s : Portion). s.done) share)
+
+pub returns-in-Err-clause-done : goal.returns-in-Err-clause-done
+returns-in-Err-clause-done g c =
+    none_kept c.args.share.now.done c.kick.new.share.done c.args.receipts.now.items (ap (λ (s : Portion). s.done) c.in-Err.ensures.share)

@@ -4,8 +4,8 @@ use Rattle.fs_chain.specs.declared.walking.WalkOutcome.TheVariants as tells
 use Rattle.fs_chain.proofs.Steps.{comes_left, comes_taken, leaves_none, walks_on}
 use Rattle.fs_chain.proofs.workbench.Workbench.give.Goals as goal
 
-pub returns-in-Load : goal.returns-in-Load
-returns-in-Load c =
+pub returns-in-Load-clause-walks : goal.returns-in-Load-clause-walks
+returns-in-Load-clause-walks c =
     let w = c.args.self.now in
     walks_on c.in-Walking.course c.in-Walking.walk _ _ _ _ _ _ c.requires.goes c.in-Walking.is (
       step.Load c.in-Load.next,
@@ -14,8 +14,8 @@ returns-in-Load c =
           c.take-taken.ensures c.in-Load.ensures,
     )
 
-pub returns-in_default-give : goal.returns-in_default-give
-returns-in_default-give c =
+pub returns-in_default-give-clause-walks : goal.returns-in_default-give-clause-walks
+returns-in_default-give-clause-walks c =
     let comes = comes_taken c.in-Walking.course c.in-Walking.walk c.take-taken.result c.args.loaded.now _ _ _ _ c.take-taken.ensures c.give.ensures in
     let settled = c.settle.ensures in
     walks_on c.in-Walking.course c.in-Walking.walk _ _ _ _ _ _ c.requires.goes c.in-Walking.is (

@@ -21,6 +21,9 @@ returns-then-is_counted-clause-count g c =
     ∙ sym (ap length c.open.ensures.journal)
     ∙ length-map items entry_of
 
+pub returns-then-is_counted-clause-done : goal.returns-then-is_counted-clause-done
+returns-then-is_counted-clause-done g c = c.is_counted.ensures.done ∙ returns-then-is_counted-clause-count g c
+
 pub returns-then-is_counted-clause-pages : goal.returns-then-is_counted-clause-pages
 returns-then-is_counted-clause-pages g c =
     let p = c.open.result in

@@ -1,0 +1,77 @@
+-- A walk by loads that are made in parts, where one goes over the end of a region.
+use Rattle.std.specs.Prelude.{◌≡◌, ◌<◌, ◌+◌, ◌-◌, ◌⊎◌, ◌==◌, ℕ, List, [], ◌++◌, length, min, Some, None, if◌then◌else◌, vec_capacity}
+use Rattle.memory_requests.specs.Refused.{RoomWasRefused}
+use Rattle.vm_memory_core.specs.Window.{Window}
+use Rattle.vm_memory.specs.Layout.{place, left_at}
+use Rattle.vm_memory.specs.Slices.{IsWindowAt}
+use Rattle.fs_regions.specs.Walks.{asked_by, asked_len}
+use Rattle.fs_chain.specs.declared.error.ChainError.{ChainError}
+use Rattle.fs_chain.specs.declared.error.ChainError.TheVariants.{OutOfMemory, BadArgument}
+use Rattle.fs_chain.specs.declared.loads.Went as went
+use Rattle.fs_chain.specs.declared.loads.Went.TheVariants as goes
+use Rattle.fs_chain.specs.declared.queue.KeptQueue.{KeptQueue}
+use Rattle.fs_chain.specs.declared.workbench.Workbench.{Workbench}
+use Rattle.fs_chain.specs.Orders.{IfWalking, IsWalking, load_len, walk_error}
+use Rattle.fs_chain.specs.Walks.{IsAllBut, IsAllButPart, LacksRoom, WalksOn}
+
+-- the window of the bytes that a walk still asks for, after so many of them: as long as its region goes on
+abbrev pub IsLoadWindow : Workbench → (from : ℕ) → Window → Type 0
+IsLoadWindow w from v = IsWalking w.state × IfWalking w.state (λ walk.
+    (from < asked_len walk) × IsWindowAt (place w.regions) (asked_by walk + from) (asked_len walk - from) v
+    × (v.len ≡ min (asked_len walk - from) (left_at w.regions (asked_by walk + from))))
+
+-- what a walk still asks for has no place
+abbrev pub HasNoPlace : Workbench → (from : ℕ) → Type 0
+HasNoPlace w from = IfWalking w.state (λ walk. from < asked_len walk → place w.regions (asked_by walk + from) ≡ None)
+
+-- how many bytes of the load came
+abbrev pub came : Workbench → ℕ
+came w = length w.part.items
+
+-- so many bytes are those that a walk still asks for, as long as their region goes on
+abbrev pub AreWanted : Workbench → (len : ℕ) → Type 0
+AreWanted w len = (v : Window) × IsLoadWindow w (came w) v × (v.len ≡ len)
+
+-- or they aren't
+abbrev pub AreOthers : Workbench → (len : ℕ) → Type 0
+AreOthers w len = HasNoPlace w (came w) ⊎ ((v : Window) × IsLoadWindow w (came w) v × (v.len ≡ len → ⊥))
+
+-- the bytes of a load, if one is asked for: those that came before, and these
+abbrev pub whole : Workbench → List ℕ → List ℕ
+whole w loaded = if load_len w.state == 0 then loaded else w.part.items ++ loaded
+
+-- what these bytes come to: a part of a load, or the walk goes on, if nothing is wrong with it; the session stays
+abbrev pub GoesSo : (before : Workbench) → (q : KeptQueue) → (loaded : List ℕ) → went.Went → (after : Workbench) → (q' : KeptQueue) → Type 0
+GoesSo w q loaded goes.Part w' q' =
+    AreWanted w (length loaded) × (came w + length loaded < load_len w.state) × (walk_error w.state q (load_len w.state) ≡ None)
+    × IsAllButPart w w' × (w'.part.items ≡ w.part.items ++ loaded) × (q' ≡ q)
+GoesSo w q loaded (goes.On told) w' q' =
+    ((load_len w.state ≡ 0) ⊎ AreWanted w (length loaded)) × (w'.part.items ≡ []) × (w'.session ≡ w.session)
+    × (walk_error w.state q (length (whole w loaded)) ≡ None) × WalksOn (whole w loaded) w w' q q' told
+
+-- nothing was done: regions, limit, place and descriptors are as they were, what came of a load, and the session
+abbrev pub IsSame : Workbench → Workbench → Type 0
+IsSame w w' =
+    IsAllBut w w' × (w'.state ≡ w.state) × (w'.descriptors.items ≡ w.descriptors.items) × (w'.part.items ≡ w.part.items) × (w'.session ≡ w.session)
+
+-- these bytes begin a walk, or they are some of the load that is asked for
+abbrev pub AreDue : Workbench → (loaded : List ℕ) → Type 0
+AreDue w loaded = (load_len w.state ≡ 0) ⊎ ((0 < load_len w.state) × AreWanted w (length loaded))
+
+-- how many bytes the walk takes next
+abbrev pub due_len : Workbench → (loaded : List ℕ) → ℕ
+due_len w loaded = if load_len w.state == 0 then length loaded else load_len w.state
+
+-- memory may be wanting for so many bytes that are due: they end the load, and the walk lacks room for its entry's descriptor; or they are a part of
+-- the load, those that came lack room for them, and the allocator refused it
+abbrev pub LacksMemory : Workbench → (len : ℕ) → Type 0
+LacksMemory w len =
+    ((came w + len ≡ load_len w.state) × LacksRoom w) ⊎ ((len < load_len w.state) × (vec_capacity w.part < came w + len) × RoomWasRefused len)
+
+-- why a walk doesn't go on by these bytes: by where its chain is or by the queue, also if they are only a part of the load; for want of memory, if nothing
+-- else is wrong; or since they are others than those that are wanted
+abbrev pub RefusesWalk : Workbench → KeptQueue → (loaded : List ℕ) → ChainError → Type 0
+RefusesWalk w q loaded e =
+    (AreDue w loaded × (walk_error w.state q (due_len w loaded) ≡ Some e))
+    ⊎ ((e ≡ OutOfMemory) × LacksMemory w (length loaded) × AreDue w loaded × (walk_error w.state q (due_len w loaded) ≡ None))
+    ⊎ ((e ≡ BadArgument) × (0 < load_len w.state) × AreOthers w (length loaded))

@@ -1,0 +1,177 @@
+//! A walk through what waits in a queue, by loads that its caller makes: in parts, if one goes over the end of a region.
+
+ghost use Rattle.std.specs.Prelude.{◌≡◌, ◌⊎◌, ◌<◌, ◌+◌, ◌++◌, [], Some, None, true, false, length, take, IfOk, IfErr, IfSome, OnOk, OnErr, vec_capacity};
+ghost use Rattle.memory_requests.specs.Refused.{RoomWasRefused};
+ghost use Rattle.fs_chain.specs.Loads.{AreDue, AreOthers, AreWanted, GoesSo, HasNoPlace, IsLoadWindow, IsSame, RefusesWalk, came, due_len, whole};
+ghost use Rattle.fs_chain.specs.Orders.{load_len, walk_error};
+ghost use Rattle.fs_chain.specs.Walks.{IsAllBut, IsAllButPart, LacksRoom, WalksOn};
+
+use crate::error::ChainError;
+use crate::queue::KeptQueue;
+use crate::walking::WalkOutcome;
+use crate::workbench::Workbench;
+use memory_requests::reserve;
+use std::mem;
+use vm_memory_core::VolatileSlice;
+
+/// What some bytes came to.
+#[derive(Clone, Copy, Debug, PartialEq, Eq)]
+pub enum Went {
+    /// They are a part of the load, of which more is wanted.
+    Part,
+    /// The walk went on.
+    On(WalkOutcome),
+}
+
+impl Workbench {
+    /// The window of the bytes that a walk still asks for: of its load what didn't come yet, as long as its region goes on. None if it asks for
+    /// none, or if they have no place.
+    pub fn still_wanted(&self) -> Option<VolatileSlice>
+        ensures some { IfSome result (IsLoadWindow self.now (came self.now)) }
+        ensures none { result ≡ None → HasNoPlace self.now (came self.now) }
+    {
+        self.load_window(self.part.len())
+    }
+
+    // Whether so many bytes are those that a walk still asks for.
+    fn are_wanted(&self, len: usize) -> bool
+        ensures wanted { result ≡ true → AreWanted self.now len }
+        ensures others { result ≡ false → AreOthers self.now len }
+    {
+        match self.still_wanted() {
+            Some(window) => window.len() == len,
+            None => false,
+        }
+    }
+
+    // Puts some bytes behind the first ones of the load.
+    fn join_part(&mut self, loaded: &[u8]) -> Result<(), ChainError>
+        ensures joined { OnOk result (self.new.part.items ≡ self.old.part.items ++ loaded.now) }
+        ensures memory { IfErr result (λ e. (e ≡ ChainError.OutOfMemory) × (vec_capacity self.old.part < came self.old + length loaded.now) × RoomWasRefused (length loaded.now)) }
+        ensures same { OnErr result (self.new.part.items ≡ self.old.part.items) }
+        ensures apart { self.new ≡ record self.old { part = self.new.part } }
+        ensures stays { IsAllButPart self.old self.new }
+    {
+        if reserve(&mut self.part, loaded.len()).is_err() {
+            return Err(ChainError::OutOfMemory);
+        }
+        self.part.extend_from_slice(loaded).unwrap();
+        Ok(())
+    }
+
+    // Takes the first bytes of the load out.
+    fn take_part(&mut self) -> Vec<u8>
+        ensures taken { result ≡ self.old.part }
+        ensures apart { self.new ≡ record self.old { part = self.new.part } }
+        ensures stays { IsAllButPart self.old self.new }
+    {
+        mem::replace(&mut self.part, Vec::new(self.alloc))
+    }
+
+    // Keeps some first bytes of the load, or none.
+    fn keep_part(&mut self, part: Vec<u8>)
+        ensures kept { self.new.part ≡ part }
+        ensures apart { self.new ≡ record self.old { part = self.new.part } }
+        ensures stays { IsAllButPart self.old self.new }
+    {
+        self.part = part;
+    }
+
+    // Gives the walk its load, all of which came: on a refusal only so many of its first bytes stay.
+    fn walk_joined(
+        &mut self,
+        queue: &mut KeptQueue,
+        before: usize,
+    ) -> Result<WalkOutcome, ChainError>
+        ensures error { IfErr result (λ e. (walk_error self.old.state queue.old (came self.old) ≡ Some e)
+            ⊎ ((e ≡ ChainError.OutOfMemory) × (walk_error self.old.state queue.old (came self.old) ≡ None))) }
+        ensures ok { OnOk result (walk_error self.old.state queue.old (came self.old) ≡ None) }
+        ensures memory { IfErr result (λ e. e ≡ ChainError.OutOfMemory → LacksRoom self.old) }
+        ensures same { OnErr result (IsAllBut self.old self.new × (self.new.state ≡ self.old.state) × (self.new.descriptors.items ≡ self.old.descriptors.items) × (queue.new ≡ queue.old)) }
+        ensures part { OnErr result (self.new.part.items ≡ take before self.old.part.items) }
+        ensures none { OnOk result (self.new.part.items ≡ []) }
+        ensures session { self.new.session ≡ self.old.session }
+        ensures walks { IfOk result (λ walked. WalksOn self.old.part.items self.old self.new queue.old queue.new walked) }
+    {
+        let mut part = self.take_part();
+        match self.walk_load(queue, &part) {
+            Ok(walked) => {
+                part.clear();
+                self.keep_part(part);
+                Ok(walked)
+            }
+            Err(error) => {
+                part.truncate(before);
+                self.keep_part(part);
+                Err(error)
+            }
+        }
+    }
+
+    // Gives the walk its whole load, or begins it: no part came before.
+    fn walk_whole(&mut self, queue: &mut KeptQueue, loaded: &[u8]) -> Result<Went, ChainError>
+        requires whole { whole self.old loaded.now ≡ loaded.now }
+        requires due { AreDue self.old loaded.now }
+        requires len { length loaded.now ≡ due_len self.old loaded.now }
+        ensures goes { IfOk result (λ went. GoesSo self.old queue.old loaded.now went self.new queue.new) }
+        ensures error { IfErr result (RefusesWalk self.old queue.old loaded.now) }
+        ensures same { OnErr result (IsSame self.old self.new × (queue.new ≡ queue.old)) }
+    {
+        match self.walk_load(queue, loaded) {
+            Ok(walked) => {
+                let mut part = self.take_part();
+                part.clear();
+                self.keep_part(part);
+                Ok(Went::On(walked))
+            }
+            Err(error) => Err(error),
+        }
+    }
+
+    // Takes some bytes of the load that is asked for.
+    #[tactic(auto, using(crate::proofs::LoadLemmas::fits))]
+    fn give_part(&mut self, queue: &mut KeptQueue, loaded: &[u8]) -> Result<Went, ChainError>
+        requires { 0 < load_len self.old.state }
+        ensures goes { IfOk result (λ went. GoesSo self.old queue.old loaded.now went self.new queue.new) }
+        ensures error { IfErr result (RefusesWalk self.old queue.old loaded.now) }
+        ensures same { OnErr result (IsSame self.old self.new × (queue.new ≡ queue.old)) }
+    {
+        if !self.are_wanted(loaded.len()) {
+            return Err(ChainError::BadArgument);
+        }
+        let asked = self.load_len();
+        let before = self.part.len();
+        if before == 0 && loaded.len() == asked {
+            return self.walk_whole(queue, loaded);
+        }
+        if let Some(error) = self.walk_refusal(queue, asked) {
+            return Err(error);
+        }
+        if let Err(error) = self.join_part(loaded) {
+            return Err(error);
+        }
+        if self.part.len() != asked {
+            return Ok(Went::Part);
+        }
+        match self.walk_joined(queue, before) {
+            Ok(walked) => Ok(Went::On(walked)),
+            Err(error) => Err(error),
+        }
+    }
+
+    /// Takes the next chain of a queue: at first without bytes, then with those of the window that is still wanted (`still_wanted`), until the walk
+    /// goes on. A load that goes over the end of a region comes in parts.
+    ///
+    /// `BadArgument` for other bytes than those, or if a walk begins by some. `WrongOrder` if a chain is out. `OtherQueue` if the walk is another queue's,
+    /// `ChainOut` if the queue has a chain out, `OutOfMemory` if one more descriptor or a part of a load has no room. Then nothing is done.
+    pub fn walk(&mut self, queue: &mut KeptQueue, loaded: &[u8]) -> Result<Went, ChainError>
+        ensures goes { IfOk result (λ went. GoesSo self.old queue.old loaded.now went self.new queue.new) }
+        ensures error { IfErr result (RefusesWalk self.old queue.old loaded.now) }
+        ensures same { OnErr result (IsSame self.old self.new × (queue.new ≡ queue.old)) }
+    {
+        if self.load_len() != 0 {
+            return self.give_part(queue, loaded);
+        }
+        self.walk_whole(queue, loaded)
+    }
+}

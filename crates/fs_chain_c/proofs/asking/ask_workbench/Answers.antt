@@ -1,0 +1,20 @@
+use Rattle.std.proofs.Common.{rules, inl, inr}
+use Rattle.fs_chain_c.proofs.asking.ask_workbench.Goals as goal
+
+pub returns-in-Ok : goal.returns-in-Ok
+returns-in-Ok c =
+    inr (inr (
+      search rules,
+      (
+        c.resume-session.result,
+        search rules,
+        c.ask.new.self,
+        c.in-Ok.told,
+        record { can = search rules; tells = search rules; wanted = search rules; session = search rules; stays = search rules },
+        search rules,
+      ),
+    ))
+
+pub returns-in-Err : goal.returns-in-Err
+returns-in-Err c =
+    inr (inl (search rules, c.in-Err.error, record { why = search rules; stays = search rules }, search rules, search rules))
