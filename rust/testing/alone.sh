@@ -41,9 +41,10 @@ END
     chmod +x "$work/server"
 }
 
-# What virtiofsd answers otherwise than the C example: what is no file, and a node that isn't there, is EBADF, root makes devices, and
-# OPEN that cuts a file to be read is EINVAL where all is read-only.
+# What virtiofsd answers otherwise than the C example: what is no file, and a node that isn't there, is EBADF, root makes devices, OPEN
+# that cuts a file to be read is EINVAL where all is read-only, and a look-up beside renames may be EAGAIN (openat2(2) gives it).
 otherwise='(link|pipe|size|node): Bad file descriptor|^FAILED: MKNOD of (a disk|memory): done|OPEN and cut: Invalid argument'
+otherwise+='|one of two queues: Resource temporarily unavailable'
 
 # Runs a program of the tests over the daemon; what it prints is shown.
 try() {
