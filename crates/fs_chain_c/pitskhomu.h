@@ -426,8 +426,8 @@ struct fs_call {
  * FS_MORE as many as it needs (so it does if fewer came); load only the new ones, and call again with all. A buffer as long as the device's limit holds any; WRITE
  * never needs more than FS_FIRST. The library keeps no pointer, and wants the bytes no more; but `call` speaks of places in them.
  * A call whose `answer` is FS_ANSWER_NONE is answered: make it, if there is one, and go on with fs_return.
- * Errors: FS_WRONG_ORDER (no memory was told), FS_BAD_ARGUMENT (page size or limit are none), FS_WRONG_ORDER (no chain, a faulty one, or it was asked),
- * FS_BAD_ARGUMENT (more bytes than the request has), FS_OUT_OF_MEMORY; then `call` is zeros. */
+ * It takes no memory. Errors: FS_WRONG_ORDER (no memory was told), FS_BAD_ARGUMENT (page size or limit are none), FS_WRONG_ORDER (no chain, a faulty one,
+ * or it was asked), FS_BAD_ARGUMENT (more bytes than the request has); then `call` is zeros. */
 uint32_t fs_ask(struct fs_chain *chain, const struct fs_device *device, const uint8_t *request, size_t request_len, struct fs_call *call)
     FS_CHECK FS_NONNULL(1, 2, 5) FS_READS(3, 4) FS_FILLS(5);
 

@@ -133,7 +133,7 @@ static const char *differs(const struct world *a, const struct world *b) {
 
 /* ------------------------------------------------------------- calls */
 
-enum kind { SET_MEMORY, WALK, ASK, SAVE, RESTORE, DROP, REPLY, RETURN, RETURNED, FREE, KINDS };
+enum kind { SET_MEMORY, WALK, SAVE, RESTORE, ASK, DROP, REPLY, RETURN, RETURNED, FREE, KINDS };
 
 static const struct {
     const char *name;
@@ -143,9 +143,9 @@ static const struct {
 } kinds[KINDS] = {
     [SET_MEMORY] = {"fs_chain_set_memory", FS_OUT_OF_MEMORY, .stays = true},
     [WALK] = {"fs_walk", FS_OUT_OF_MEMORY, PLACE(step), .stays = true},
-    [ASK] = {"fs_ask", FS_OUT_OF_MEMORY, PLACE(call), .stays = false},
     [SAVE] = {"fs_save", FS_OUT_OF_MEMORY, PLACE(len), .stays = false},
     [RESTORE] = {"fs_restore", FS_RECORD_OUT_OF_MEMORY, PLACE(count), .stays = false},
+    [ASK] = {.name = "fs_ask"},
     [DROP] = {.name = "fs_drop"},
     [REPLY] = {.name = "an answer"},
     [RETURN] = {.name = "fs_return"},

@@ -26,7 +26,7 @@ pub fn workbench_over(rt: &impl Abort, alloc: Global, pages: &[u64]) -> Workbenc
         regions.push(region).expect(rt, "memory");
     }
     let memory = GuestRegions::of_regions(alloc, regions).expect(rt, "memory");
-    let mut workbench = Workbench::new(alloc).expect(rt, "memory");
+    let mut workbench = Workbench::new(alloc);
     workbench.set_memory(memory, 0x101000).expect(rt, "memory");
     workbench
 }

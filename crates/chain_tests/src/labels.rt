@@ -1,4 +1,4 @@
-//! A new node with a security label: what is asked takes memory for the label, and lacks none that is there.
+//! A new node with a security label: it is asked for as any other.
 
 use crate::given::{expect_same, queue, take, workbench};
 use fs_chain::{Told, WalkOutcome};
@@ -23,11 +23,9 @@ const MKDIR: &[u8] = &[
 ];
 
 // Whether a request asks for a new directory `d` in node 1.
-fn is_mkdir(told: &Told) -> bool {
+fn is_mkdir(told: &Told<'_>) -> bool {
     match told {
-        Told::Call(FileCall::Mkdir { node, name, .. }) => {
-            *node == 1 && name.as_slice() == b"d".as_slice()
-        }
+        Told::Call(FileCall::Mkdir { node, name, .. }) => { *node == 1 && *name == b"d".as_slice() }
         _ => false,
     }
 }

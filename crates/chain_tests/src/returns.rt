@@ -12,10 +12,10 @@ use fuse_wire::{Attr, Errno};
 use server_phases::Session;
 
 // Whether a request asks for `hello` in node 1.
-fn is_hello(told: &Told) -> bool {
+fn is_hello(told: &Told<'_>) -> bool {
     match told {
         Told::Call(FileCall::Lookup { node, name, .. }) => {
-            *node == 1 && name.as_slice() == b"hello".as_slice()
+            *node == 1 && *name == b"hello".as_slice()
         }
         _ => false,
     }
@@ -64,7 +64,7 @@ fn a_name_that_is_not_there_goes_back(rt: HostRuntime) {
 }
 
 // Whether a request asks for 15 letters a in node 1 to become 15 letters b in node 2.
-fn is_renaming(told: &Told) -> bool {
+fn is_renaming(told: &Told<'_>) -> bool {
     match told {
         Told::Call(
             FileCall::Rename {
@@ -76,8 +76,8 @@ fn is_renaming(told: &Told) -> bool {
             },
         ) => {
             (*node, *new_dir) == (1, 2)
-                && old.as_slice() == [b'a'; 15].as_slice()
-                && new.as_slice() == [b'b'; 15].as_slice()
+                && *old == [b'a'; 15].as_slice()
+                && *new == [b'b'; 15].as_slice()
         }
         _ => false,
     }

@@ -85,8 +85,7 @@ IsAllButPlace old new = IsAllBut old new × (new.descriptors ≡ old.descriptors
 -- all stays but what came of a load
 abbrev pub IsAllButPart : (old new : Workbench) → Type 0
 IsAllButPart old new =
-    IsAllBut old new × (new.alloc ≡ old.alloc) × (new.descriptors ≡ old.descriptors) × (new.place ≡ old.place) × (new.state ≡ old.state)
-    × (new.session ≡ old.session)
+    IsAllBut old new × (new.alloc ≡ old.alloc) × (new.descriptors ≡ old.descriptors) × (new.state ≡ old.state) × (new.session ≡ old.session)
 
 -- handle and queue keep what a walk on this course came to, and this is told of it; of a faulty chain no descriptor is kept
 abbrev pub Keeps : Course → comes.Step → (old new : Workbench) → (before after : KeptQueue) → walked.WalkOutcome → Type 0

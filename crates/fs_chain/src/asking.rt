@@ -1,15 +1,15 @@
 //! What a chain's request asks.
 
-ghost use Rattle.std.specs.Prelude.{◌≡◌, ◌⊎◌, ℕ, List, Ok, Err, Some, None, true, false, IfErr, IfOk, OnOk, OnErr, drop, length, if◌then◌else◌};
+ghost use Rattle.std.specs.Prelude.{◌≡◌, ℕ, List, Ok, Some, None, IfErr, IfOk, OnOk, OnErr, drop, length, if◌then◌else◌};
 ghost use Rattle.fuse_fs.specs.Answers.{context_of};
 ghost use Rattle.fuse_fs.specs.declared.answers.Context.{Context};
 ghost use Rattle.fuse_in.specs.Records.{in_header};
 ghost use Rattle.fuse_in.specs.declared.session.InHeader.{InHeader};
+ghost use Rattle.fuse_values.specs.declared.call.FileCall as value;
 ghost use Rattle.server_requests.specs.Reading.{reading_of};
 ghost use Rattle.virtiofsd_fuse.specs.Grammar.{Meaning, meaning};
 ghost use Rattle.virtiofsd_fuse.specs.Serving.{Setting, setting};
-ghost use Rattle.virtiofsd_fuse.specs.WantOfMemory.{may_take_memory};
-ghost use Rattle.server_phases.specs.Asking.{AsksCall, HasAskerByFront, IsAskedBy, IsFront, IsTold, IsToldByFront, NamesWereRefused, in_one_piece, is_told, may_want_memory};
+ghost use Rattle.server_phases.specs.Asking.{AsksCall, HasAskerByFront, IsAskedBy, IsFront, IsTold, IsToldByFront, is_told};
 ghost use Rattle.fs_chain.specs.Asking.{IfTaken, IsKeptFor, KeepsCall, TellsMeaning, wanted, wanted_after, wanted_by};
 ghost use Rattle.fs_chain.specs.Orders.{ask_error};
 ghost use Rattle.fs_chain.specs.Walks.{IsAllBut, IsAllButPlace};
@@ -25,9 +25,9 @@ use virtiofsd_fuse::REQUEST_FRONT;
 
 /// What a request asks.
 #[derive(Drop)]
-pub enum Told {
-    /// This call, whose answer is waited for.
-    Call(FileCall),
+pub enum Told<'a> {
+    /// This call, whose answer is waited for. Its names and values stand in the request.
+    Call(FileCall<'a>),
     /// So many bytes of the request are wanted, from its start.
     More(usize),
     /// No call: the reply is known, or there is none.
@@ -38,7 +38,7 @@ pub enum Told {
 
 // Where a chain is whose call waits: a listing gathers entries.
 fn waiting_state(out: Out, waiting: Waiting) -> State
-    ensures keeps { (s : Setting) (m : Meaning) (bytes : List ℕ) (made : FileCall) → AsksCall s m bytes made waiting → KeepsCall s m bytes made out result }
+    ensures keeps { (s : Setting) (m : Meaning) (bytes : List ℕ) (made : value.FileCall) → AsksCall s m bytes made waiting → KeepsCall s m bytes made out result }
     ensures asker { IsKeptFor waiting.context result }
 {
     match Listing::begin(waiting) {
@@ -67,9 +67,9 @@ fn wanted(len: usize, whole: usize) -> usize
 
 impl Workbench {
     // Keeps what a request asks, and tells it.
-    fn keep_asked(&mut self, out: Out, asked: Asked) -> Told
-        ensures tells { (s : Setting) (m : Meaning) (bytes : List ℕ) → IsTold s m bytes asked → TellsMeaning s m bytes out result self.new.state }
-        ensures asker { (who : Context) → IsAskedBy who asked → IsKeptFor who self.new.state }
+    fn keep_asked<'a>(&mut self, out: Out, asked: Asked<'a>) -> Told<'a>
+        ensures tells { (s : Setting) (m : Meaning) (bytes : List ℕ) → IsTold s m bytes asked.entry → TellsMeaning s m bytes out result self.new.state }
+        ensures asker { (who : Context) → IsAskedBy who asked.entry → IsKeptFor who self.new.state }
         ensures told { wanted_by result ≡ None }
         ensures same { IsAllButPlace self.old self.new }
     {
@@ -94,10 +94,10 @@ impl Workbench {
     }
 
     // Keeps what the first bytes of a request tell.
-    fn keep_front(&mut self, out: Out, len: usize, asked: AskedFront) -> Told
-        ensures tells { (s : Setting) (m : Meaning) (bytes : List ℕ) → IsToldByFront s m bytes asked → TellsMeaning s m bytes out result self.new.state }
-        ensures asker { (request : List ℕ) → HasAskerByFront request asked → (h : InHeader) (more : List ℕ) → reading_of in_header request ≡ Ok (h, more) → IsKeptFor (context_of h) self.new.state }
-        ensures wanted { wanted_by result ≡ (if is_told asked then None else Some (wanted len out.request_len)) }
+    fn keep_front<'a>(&mut self, out: Out, len: usize, asked: AskedFront<'a>) -> Told<'a>
+        ensures tells { (s : Setting) (m : Meaning) (bytes : List ℕ) → IsToldByFront s m bytes asked.entry → TellsMeaning s m bytes out result self.new.state }
+        ensures asker { (request : List ℕ) → HasAskerByFront request asked.entry → (h : InHeader) (more : List ℕ) → reading_of in_header request ≡ Ok (h, more) → IsKeptFor (context_of h) self.new.state }
+        ensures wanted { wanted_by result ≡ (if is_told asked.entry then None else Some (wanted len out.request_len)) }
         ensures same { IsAllButPlace self.old self.new }
     {
         match asked {
@@ -110,12 +110,14 @@ impl Workbench {
     }
 
     // Asks by some first bytes of a request.
-    fn ask_out(&mut self, session: Session, out: Out, request: &[u8]) -> Result<Told, ChainError>
+    fn ask_out<'a>(
+        &mut self,
+        session: Session,
+        out: Out,
+        request: &'a [u8],
+    ) -> Result<Told<'a>, ChainError>
         requires { self.old.state ≡ at.Taken out }
-        ensures error { IfErr result (λ e. (ask_error (at.Taken out) (length request.now) ≡ Some e)
-            ⊎ ((e ≡ ChainError.OutOfMemory) × (length request.now ≡ out.request_len) × (may_want_memory session.options.0 request.now out.room_len ≡ true))) }
-        ensures refused { result ≡ Err ChainError.OutOfMemory → may_take_memory session.options.0 (in_one_piece request.now) out.room_len ≡ false
-            → NamesWereRefused (meaning session.options.0 request.now out.room_len) }
+        ensures error { IfErr result (λ e. ask_error (at.Taken out) (length request.now) ≡ Some e) }
         ensures ok { OnOk result (ask_error (at.Taken out) (length request.now) ≡ None) }
         ensures tells { IfOk result (λ told. (whole : List ℕ) → out.request_len ≡ length whole → IsFront request.now whole
             → TellsMeaning (setting session.page_size session.options.0 out.room_len) (meaning session.options.0 whole out.room_len) (drop 80 whole) out told self.new.state) }
@@ -130,23 +132,15 @@ impl Workbench {
         if len < request.len() {
             return Err(ChainError::BadArgument);
         }
-        match session.ask_front(self.alloc, request, len, out.room_len, &mut self.place) {
-            Ok(asked) => {
-                self.session = session;
-                Ok(self.keep_front(out, request.len(), asked))
-            }
-            Err(_) => Err(ChainError::OutOfMemory),
-        }
+        let asked = session.ask_front(request, len, out.room_len);
+        self.session = session;
+        Ok(self.keep_front(out, request.len(), asked))
     }
 
-    /// Tells what a chain's request asks, by its first bytes, in this session, which is kept. A call that is told waits for its answer.
-    pub fn ask(&mut self, session: Session, request: &[u8]) -> Result<Told, ChainError>
-        ensures error { IfErr result (λ e. (ask_error self.old.state (length request.now) ≡ Some e)
-            ⊎ ((e ≡ ChainError.OutOfMemory) × (ask_error self.old.state (length request.now) ≡ None))) }
-        ensures memory { result ≡ Err ChainError.OutOfMemory → IfTaken self.old.state (λ out.
-            (length request.now ≡ out.request_len) × (may_want_memory session.options.0 request.now out.room_len ≡ true)) }
-        ensures refused { result ≡ Err ChainError.OutOfMemory → IfTaken self.old.state (λ out. may_take_memory session.options.0 (in_one_piece request.now) out.room_len ≡ false
-            → NamesWereRefused (meaning session.options.0 request.now out.room_len)) }
+    /// Tells what a chain's request asks, by its first bytes, in this session, which is kept. A call that is told waits for its answer. It takes
+    /// no memory.
+    pub fn ask<'a>(&mut self, session: Session, request: &'a [u8]) -> Result<Told<'a>, ChainError>
+        ensures error { IfErr result (λ e. ask_error self.old.state (length request.now) ≡ Some e) }
         ensures ok { OnOk result (ask_error self.old.state (length request.now) ≡ None) }
         ensures tells { IfOk result (λ told. IfTaken self.old.state (λ out. (whole : List ℕ) → out.request_len ≡ length whole → IsFront request.now whole
             → TellsMeaning (setting session.page_size session.options.0 out.room_len) (meaning session.options.0 whole out.room_len) (drop 80 whole) out told self.new.state)) }

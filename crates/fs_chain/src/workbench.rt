@@ -1,7 +1,6 @@
 //! The handle: a workbench for one chain at a time.
 
-ghost use Rattle.std.specs.Prelude.{◌≡◌, ◌≤◌, [], Some, None, IfOk, IfErr, IfSome, OnOk, OnErr, OnSome, true, false};
-ghost use Rattle.memory_requests.specs.Refused.{RoomWasRefused};
+ghost use Rattle.std.specs.Prelude.{◌≡◌, ◌≤◌, [], Some, None, IfErr, IfSome, OnOk, OnErr, OnSome, true, false};
 ghost use Rattle.fs_queue.specs.Taking.{all_reach, total_len, access_of, of_direction};
 ghost use Rattle.fs_regions.specs.Places.{places_in};
 ghost use Rattle.fs_regions.specs.Windows.{IsWindowFrom};
@@ -12,14 +11,11 @@ use crate::error::ChainError;
 use crate::state::State;
 use fs_queue::{Descriptors, MOST_LIMIT};
 use fs_regions::{GuestRegions, window_from};
-use server_phases::{REPLY_WITHOUT_CALL_LEN, Session};
-use server_segments::Writer;
+use server_phases::Session;
 use std::alloc::Global;
 use virtiofsd_fuse::MAX_REQUEST_LEN;
+use vm_bitmaps::PAGE_SIZE;
 use vm_memory_core::VolatileSlice;
-
-/// The page size of a session in which no chain was asked yet, in bytes.
-const PAGE_SIZE_AT_FIRST: u32 = 4096;
 
 /// A workbench for one chain at a time: from the walk that finds it to the stores that give it back. It keeps the first bytes of the load that its walk
 /// asks for, if the load is made in parts, and the session in which its chain was asked.
@@ -29,34 +25,29 @@ pub struct Workbench {
     pub(crate) regions: GuestRegions,
     pub(crate) limit: u32,
     pub(crate) descriptors: Descriptors,
-    pub(crate) place: Writer,
     pub(crate) state: State,
     pub(crate) part: Vec<u8>,
     pub(crate) session: Session,
-    ghost fresh: { place.written ≡ [] },
-    ghost room: { place.free ≡ 80 },
 }
 
 impl Workbench {
-    /// A workbench over no memory; `OutOfMemory` only if the allocator refuses it the place of a reply.
-    pub fn new(alloc: Global) -> Result<Workbench, ChainError>
-        ensures ok { IfOk result (λ w. (w.regions ≡ []) × (w.limit ≡ 0x101000) × (w.descriptors.items ≡ []) × (w.state ≡ at.Free) × (w.part.items ≡ [])
-            × (w.session.page_size ≡ 4096) × (w.session.options.0 ≡ 0)) }
-        ensures err { IfErr result (λ e. e ≡ ChainError.OutOfMemory) }
-        ensures asked { OnErr result (RoomWasRefused 80) }
+    /// A workbench over no memory.
+    pub fn new(alloc: Global) -> Workbench
+        ensures regions { result.regions ≡ [] }
+        ensures limit { result.limit ≡ 0x101000 }
+        ensures descriptors { result.descriptors.items ≡ [] }
+        ensures state { result.state ≡ at.Free }
+        ensures part { result.part.items ≡ [] }
+        ensures session { (result.session.page_size ≡ 4096) × (result.session.options.0 ≡ 0) }
     {
-        match Writer::of_length(alloc, REPLY_WITHOUT_CALL_LEN) {
-            Ok(place) => Ok(Workbench {
-                alloc,
-                regions: GuestRegions::none(alloc),
-                limit: MAX_REQUEST_LEN,
-                descriptors: Descriptors::new(alloc),
-                place,
-                state: State::Free,
-                part: Vec::new(alloc),
-                session: Session::new(PAGE_SIZE_AT_FIRST),
-            }),
-            Err(_) => Err(ChainError::OutOfMemory),
+        Workbench {
+            alloc,
+            regions: GuestRegions::none(alloc),
+            limit: MAX_REQUEST_LEN,
+            descriptors: Descriptors::new(alloc),
+            state: State::Free,
+            part: Vec::new(alloc),
+            session: Session::new(PAGE_SIZE as u32),
         }
     }
 

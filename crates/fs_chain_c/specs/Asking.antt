@@ -1,20 +1,19 @@
 -- What C is told of a request, and what comes of an answer.
-use Rattle.std.specs.Prelude.{◌≡◌, ◌⊎◌, ℕ, List, length, drop, bit_and, Option, Some, None, Result, Ok, Err, IfOk, IfErr, OnOk, OnErr, if◌then◌else◌, true, false}
+use Rattle.std.specs.Prelude.{◌≡◌, ◌⊎◌, ℕ, List, length, drop, bit_and, Option, Some, None, Result, Ok, Err, IfOk, IfErr, OnOk, OnErr, if◌then◌else◌}
 use Rattle.fuse_values.specs.declared.answer.FileAnswer.{FileAnswer}
 use Rattle.fuse_values.specs.declared.answer.FileAnswer.TheVariants as answer
 use Rattle.fuse_values.specs.declared.call.FileCall.{FileCall}
 use Rattle.fuse_values.specs.declared.call.FileCall.TheVariants as value
-use Rattle.server_phases.specs.Asking.{IsFront, NamesWereRefused, in_one_piece, may_want_memory}
+use Rattle.server_phases.specs.Asking.{IsFront}
 use Rattle.server_phases.specs.declared.session.Session.{Session}
 use Rattle.server_segments.specs.Errors.{error_number}
 use Rattle.virtiofsd_fuse.specs.Grammar.{known_options, meaning}
-use Rattle.virtiofsd_fuse.specs.WantOfMemory.{may_take_memory}
 use Rattle.virtiofsd_fuse.specs.Serving.{setting}
 use Rattle.fs_chain.specs.declared.answering.Replied.{Replied}
 use Rattle.fs_chain.specs.declared.asking.Told as told
 use Rattle.fs_chain.specs.declared.asking.Told.TheVariants as tells
 use Rattle.fs_chain.specs.declared.error.ChainError.{ChainError}
-use Rattle.fs_chain.specs.declared.error.ChainError.TheVariants.{BadArgument, OutOfMemory}
+use Rattle.fs_chain.specs.declared.error.ChainError.TheVariants.{BadArgument}
 use Rattle.fs_chain.specs.declared.workbench.Workbench.{Workbench}
 use Rattle.fs_chain.specs.Answers.{AnswerFails, CanBeGiven, IfWaits, IsGiven, IsWaiting}
 use Rattle.fs_chain.specs.Asking.{IfTaken, TellsMeaning, wanted_after, wanted_by}
@@ -79,13 +78,9 @@ pub record Asks (w : Workbench) (s : Session) (request : List ℕ) (made : told.
   pub session : w'.session ≡ s
   pub stays : IsAllBut w w' × (w'.descriptors ≡ w.descriptors) × (w'.part ≡ w.part)
 
--- it can't be asked: it isn't where a request is asked, more bytes came than the request has, or memory is wanting, which only a whole request wants;
--- if none of it takes any in one piece, the allocator refused it for a name
-pub record CannotAsk (w : Workbench) (s : Session) (request : List ℕ) (e : ChainError) (w' : Workbench) : Type 0 where
-  pub why : (ask_error w.state (length request) ≡ Some e) ⊎ ((e ≡ OutOfMemory) × (ask_error w.state (length request) ≡ None))
-  pub memory : e ≡ OutOfMemory → IfTaken w.state (λ out. (length request ≡ out.request_len) × (may_want_memory s.options.0 request out.room_len ≡ true))
-  pub refused : e ≡ OutOfMemory → IfTaken w.state (λ out. may_take_memory s.options.0 (in_one_piece request) out.room_len ≡ false
-      → NamesWereRefused (meaning s.options.0 request out.room_len))
+-- it can't be asked: it isn't where a request is asked, or more bytes came than the request has
+pub record CannotAsk (w : Workbench) (request : List ℕ) (e : ChainError) (w' : Workbench) : Type 0 where
+  pub why : ask_error w.state (length request) ≡ Some e
   pub stays : IsAllButPlace w w' × (w'.state ≡ w.state)
 
 -- the session that goes on with a device's numbers; bits of no option are dropped
@@ -110,5 +105,5 @@ AsksSo b d request call status b' =
 abbrev pub AsksWorkbench : Workbench → FsDevice → (request : List ℕ) → FsCall → (status : ℕ) → Workbench → Type 0
 AsksWorkbench b d request call status b' =
     ((IsDevice d → ⊥) × (status ≡ chain_error_number BadArgument) × (call ≡ no_call) × (b' ≡ b))
-    ⊎ (IsDevice d × (s : Session) × IsSessionOf d s × (e : ChainError) × CannotAsk b s request e b' × (status ≡ chain_error_number e) × (call ≡ no_call))
+    ⊎ (IsDevice d × (e : ChainError) × CannotAsk b request e b' × (status ≡ chain_error_number e) × (call ≡ no_call))
     ⊎ (IsDevice d × AsksSo b d request call status b')

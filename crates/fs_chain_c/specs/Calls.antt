@@ -1,9 +1,7 @@
 -- What a request asks, as C is told.
-use Rattle.std.specs.Prelude.{◌==◌, ◌+◌, ◌-◌, ◌*◌, ◌^◌, ℕ, Bool, true, false, List, length, take, drop, min, nat_lt, bit_and, Option, Some, None, is_some, unwrap_or, if◌then◌else◌}
+use Rattle.std.specs.Prelude.{◌==◌, ◌+◌, ◌-◌, ◌/◌, ◌^◌, ℕ, Bool, true, false, List, length, take, drop, min, nat_lt, bit_and, is_some, unwrap_or, if◌then◌else◌}
 use Rattle.std.specs.Int.{w32, w64, cast_unsigned, from_le_bytes}
-use Rattle.fuse_base.specs.declared.ids.GuestGid.{GuestGid}
 use Rattle.fuse_fs.specs.declared.answers.Context.{Context}
-use Rattle.fuse_fs.specs.declared.extensions.Extensions.{Extensions}
 use Rattle.fuse_in.specs.declared.nodes.SetattrIn.{SetattrIn}
 use Rattle.fuse_values.specs.declared.call.FileCall.{FileCall}
 use Rattle.fuse_values.specs.declared.call.FileCall.TheVariants as value
@@ -130,14 +128,6 @@ attr_told a = record no_attr {
   gid = a.gid.0;
 }
 
--- a group of the caller's besides its own, if the request tells one (FUSE_CREATE_SUPP_GROUP of linux/fuse.h)
-abbrev pub group_number : Option GuestGid → ℕ
-group_number None = 0
-group_number (Some group) = group.0
-
-abbrev pub group_of : Extensions → ℕ
-group_of extra = group_number extra.sup_gid
-
 -- where the first name of RENAME or RENAME2 stands, by its record (struct fuse_rename_in, struct fuse_rename2_in)
 abbrev pub at_rename : (opcode : ℕ) → ℕ
 at_rename opcode = if opcode == call_number op.Rename2 then 56 else 48
@@ -151,10 +141,10 @@ at_setxattr options = if bit_and options (2 ^ 29) == 0 then 48 else 56
 abbrev pub told_call : (opcode options room : ℕ) → FileCall → FsCall
 told_call opcode options room (value.Init capable) = record (made op.Init awaits.Init) { options = capable.0 }
 told_call opcode options room value.Destroy = made op.Destroy awaits.Done
-told_call opcode options room (value.Lookup context node name) = record (made_by op.Lookup awaits.Entry context node) { name = span 40 (length name.items) }
+told_call opcode options room (value.Lookup context node name) = record (made_by op.Lookup awaits.Entry context node) { name = span 40 (length name.now) }
 told_call opcode options room (value.Forget context node count) = record (made_by op.Forget awaits.None context node) { count = count }
 told_call opcode options room (value.BatchForget context counts) =
-    record (made_by op.BatchForget awaits.None context 0) { count = length counts.items; value = span 48 (min (16 * length counts.items) (2 ^ 64 - 1)) }
+    record (made_by op.BatchForget awaits.None context 0) { count = length counts.now / 16; value = span 48 (length counts.now) }
 told_call opcode options room (value.Getattr context node handle) =
     record (made_by op.Getattr awaits.Attr context node) { has_handle = flag (is_some handle); handle = unwrap_or handle 0 }
 told_call opcode options room (value.Setattr context node attr handle valid) =
@@ -162,33 +152,33 @@ told_call opcode options room (value.Setattr context node attr handle valid) =
 told_call opcode options room (value.Readlink context node) = record (made_by op.Readlink awaits.Data context node) { data_at = 16; data_len = room - 16 }
 told_call opcode options room (value.Symlink context link node name extra) =
     record (made_by op.Symlink awaits.Entry context node) {
-      name = span 40 (length name.items);
-      value = span (behind 40 (length name.items)) (length link.items);
+      name = span 40 (length name.now);
+      value = span (behind 40 (length name.now)) (length link.now);
       has_group = flag (is_some extra.sup_gid);
-      group = group_of extra;
+      group = unwrap_or extra.sup_gid 0;
     }
 told_call opcode options room (value.Mknod context node name mode rdev umask extra) =
     record (made_by op.Mknod awaits.Entry context node) {
-      name = span 56 (length name.items);
+      name = span 56 (length name.now);
       mode = mode;
       rdev = rdev;
       umask = umask;
       has_group = flag (is_some extra.sup_gid);
-      group = group_of extra;
+      group = unwrap_or extra.sup_gid 0;
     }
 told_call opcode options room (value.Mkdir context node name mode umask extra) =
-    record (made_by op.Mkdir awaits.Entry context node) { name = span 48 (length name.items); mode = mode; umask = umask; has_group = flag (is_some extra.sup_gid); group = group_of extra }
-told_call opcode options room (value.Unlink context node name) = record (made_by op.Unlink awaits.Done context node) { name = span 40 (length name.items) }
-told_call opcode options room (value.Rmdir context node name) = record (made_by op.Rmdir awaits.Done context node) { name = span 40 (length name.items) }
+    record (made_by op.Mkdir awaits.Entry context node) { name = span 48 (length name.now); mode = mode; umask = umask; has_group = flag (is_some extra.sup_gid); group = unwrap_or extra.sup_gid 0 }
+told_call opcode options room (value.Unlink context node name) = record (made_by op.Unlink awaits.Done context node) { name = span 40 (length name.now) }
+told_call opcode options room (value.Rmdir context node name) = record (made_by op.Rmdir awaits.Done context node) { name = span 40 (length name.now) }
 told_call opcode options room (value.Rename context node old new_dir new flags) =
     record (made_by op.Rename awaits.Done context node) {
-      name = span (at_rename opcode) (length old.items);
-      name2 = span (behind (at_rename opcode) (length old.items)) (length new.items);
+      name = span (at_rename opcode) (length old.now);
+      name2 = span (behind (at_rename opcode) (length old.now)) (length new.now);
       node2 = new_dir;
       flags = flags;
     }
 told_call opcode options room (value.Link context old_node node name) =
-    record (made_by op.Link awaits.Entry context old_node) { name = span 48 (length name.items); node2 = node }
+    record (made_by op.Link awaits.Entry context old_node) { name = span 48 (length name.now); node2 = node }
 told_call opcode options room (value.Open context node kill flags) = record (made_by op.Open awaits.Open context node) { flags = flags; kill_priv = flag kill }
 told_call opcode options room (value.Read context node handle most size offset owner flags) =
     record (made_by op.Read awaits.Data context node) {
@@ -230,14 +220,14 @@ told_call opcode options room (value.Fsyncdir context node data_only handle) =
     record (made_by op.Fsyncdir awaits.Done context node) { handle = handle; data_only = flag data_only }
 told_call opcode options room (value.Setxattr context node name value flags extra) =
     record (made_by op.Setxattr awaits.Done context node) {
-      name = span (at_setxattr options) (length name.items);
-      value = span (behind (at_setxattr options) (length name.items)) (length value.items);
+      name = span (at_setxattr options) (length name.now);
+      value = span (behind (at_setxattr options) (length name.now)) (length value.now);
       flags = flags;
     }
 told_call opcode options room (value.Getxattr context node name size) =
     record (made_by op.Getxattr awaits.Data context node) {
       answer = answer_number (sized size);
-      name = span 48 (length name.items);
+      name = span 48 (length name.now);
       size = size;
       data_at = 16;
       data_len = data_len size room;
@@ -245,7 +235,7 @@ told_call opcode options room (value.Getxattr context node name size) =
 told_call opcode options room (value.Listxattr context node size) =
     record (made_by op.Listxattr awaits.Data context node) { answer = answer_number (sized size); size = size; data_at = 16; data_len = data_len size room }
 told_call opcode options room (value.Removexattr context node name) =
-    record (made_by op.Removexattr awaits.Done context node) { name = span 40 (length name.items) }
+    record (made_by op.Removexattr awaits.Done context node) { name = span 40 (length name.now) }
 told_call opcode options room (value.Flush context node handle owner) = record (made_by op.Flush awaits.Done context node) { handle = handle; owner = owner }
 told_call opcode options room (value.Opendir context node flags) = record (made_by op.Opendir awaits.Open context node) { flags = flags }
 told_call opcode options room (value.Readdir context node handle size offset) =
@@ -262,13 +252,13 @@ told_call opcode options room (value.Releasedir context node flags handle) =
 told_call opcode options room (value.Access context node mask) = record (made_by op.Access awaits.Done context node) { mode = mask }
 told_call opcode options room (value.Create context node name mode kill flags umask extra) =
     record (made_by op.Create awaits.Create context node) {
-      name = span 56 (length name.items);
+      name = span 56 (length name.now);
       mode = mode;
       flags = flags;
       umask = umask;
       kill_priv = flag kill;
       has_group = flag (is_some extra.sup_gid);
-      group = group_of extra;
+      group = unwrap_or extra.sup_gid 0;
     }
 told_call opcode options room (value.Fallocate context node handle mode offset len) =
     record (made_by op.Fallocate awaits.Done context node) { handle = handle; mode = mode; offset = offset; size = len }

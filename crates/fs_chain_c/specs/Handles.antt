@@ -50,11 +50,11 @@ abbrev pub SetsWorkbench : Workbench → FsDevice → List FsRegion → (status 
 SetsWorkbench b d regions status b' =
     ((status ≡ 0) × GoesOver b d regions b') ⊎ ((e : ChainError) × (status ≡ chain_error_number e) × RefusesMemory b d regions e × (b' ≡ b))
 
--- why no workbench is made: the device's numbers are none, the regions are no memory, or they are one, and the allocator refused the workbench its place for a reply, or its own
+-- why no workbench is made: the device's numbers are none, the regions are no memory, or they are one, and the allocator refused the workbench its place
 abbrev pub RefusesNew : FsDevice → List FsRegion → ChainError → Type 0
 RefusesNew d regions e =
     ((e ≡ BadArgument) × (IsDevice d → ⊥)) ⊎ (IsDevice d × IsNoMemory regions e)
-    ⊎ ((e ≡ OutOfMemory) × IsDevice d × ((memory : List Region) × IsMemory regions memory) × (RoomWasRefused 80 ⊎ RoomWasRefused 1))
+    ⊎ ((e ≡ OutOfMemory) × IsDevice d × ((memory : List Region) × IsMemory regions memory) × RoomWasRefused 1)
 
 -- a new workbench is told its memory, or none is made
 abbrev pub MakesWorkbench : FsDevice → List FsRegion → (status : ℕ) → Option Workbench → Type 0

@@ -29,7 +29,7 @@ pub fn answer_workbench(workbench: &mut Workbench, answer: FileAnswer) -> u32
 }
 
 // The answer to a call that nobody waits for, or that no file system of C's has: ENOSYS, as by its default.
-fn answer_unasked(call: &FileCall) -> Option<FileAnswer>
+fn answer_unasked(call: &FileCall<'_>) -> Option<FileAnswer>
     ensures { result ≡ answer_unasked call.now }
 {
     match call {
@@ -59,8 +59,8 @@ fn settle(workbench: &mut Workbench, answer: Option<FileAnswer>)
 }
 
 // Tells what a request asks.
-fn tell(workbench: &mut Workbench, request: &[u8], told: Told, call: &mut FsCall) -> u32
-    ensures { TellsAsked workbench.old request.now told call.new result workbench.new }
+fn tell(workbench: &mut Workbench, request: &[u8], told: Told<'_>, call: &mut FsCall) -> u32
+    ensures { TellsAsked workbench.old request.now told.entry call.new result workbench.new }
 {
     match told {
         Told::Call(made) => {

@@ -1,12 +1,11 @@
 //! What C is told of each call of a file system: one row for each.
 
 ghost use Rattle.std.specs.Prelude.{◌≡◌};
-ghost use Rattle.fs_chain_c.specs.Calls.{at_rename, at_setxattr, group_of, told_call};
+ghost use Rattle.fs_chain_c.specs.Calls.{at_rename, at_setxattr, told_call};
 
 use crate::answer_kind::{AnswerKind, call_number, listing, sized};
 use crate::call::{FsCall, HEADER, attr_told, behind, behind_header, data_len, span};
 use bitflags::Flags;
-use fuse_fs::Extensions;
 use fuse_values::FileCall;
 use fuse_wire::Opcode;
 use virtiofsd_fuse::REQUEST_FRONT;
@@ -45,16 +44,6 @@ fn at_setxattr(options: u64) -> usize
     }
 }
 
-// A group of the caller's besides its own; 0 if the request tells none.
-fn group_of(extra: &Extensions) -> u32
-    ensures { result ≡ group_of extra.now }
-{
-    match &extra.sup_gid {
-        Some(group) => group.0,
-        None => 0,
-    }
-}
-
 // A match over all calls. A row of a call that somebody makes of a node: its fields besides, what it waits for, what is told besides;
 // and one of another: its fields, what is told, what is told besides.
 macro_rules! told {
@@ -77,7 +66,7 @@ macro_rules! told {
 }
 
 /// What is told of a call: by the opcode of its request, the options that were agreed, and the room.
-pub(crate) fn told_call(opcode: u32, options: u64, room: usize, call: &FileCall) -> FsCall
+pub(crate) fn told_call(opcode: u32, options: u64, room: usize, call: &FileCall<'_>) -> FsCall
     ensures { result ≡ told_call opcode options room call.now }
 {
     told!(call, of_a_node {
@@ -88,11 +77,11 @@ pub(crate) fn told_call(opcode: u32, options: u64, room: usize, call: &FileCall)
             has_handle: u8::from(handle.is_some()), handle: handle.unwrap_or(0), valid: valid.bits(), owner: attr.lock_owner, attr: attr_told(attr);
         Readlink {} Data, data_at: HEADER, data_len: behind_header(room);
         Symlink { link, name, extra } Entry,
-            name: span(AT, name.len()), value: span(behind(AT, name.len()), link.len()), has_group: u8::from(extra.sup_gid.is_some()), group: group_of(extra);
+            name: span(AT, name.len()), value: span(behind(AT, name.len()), link.len()), has_group: u8::from(extra.sup_gid.is_some()), group: extra.sup_gid.unwrap_or(0);
         Mknod { name, mode, rdev, umask, extra } Entry,
-            name: span(AT_16, name.len()), mode: *mode, rdev: *rdev, umask: *umask, has_group: u8::from(extra.sup_gid.is_some()), group: group_of(extra);
+            name: span(AT_16, name.len()), mode: *mode, rdev: *rdev, umask: *umask, has_group: u8::from(extra.sup_gid.is_some()), group: extra.sup_gid.unwrap_or(0);
         Mkdir { name, mode, umask, extra } Entry,
-            name: span(AT_8, name.len()), mode: *mode, umask: *umask, has_group: u8::from(extra.sup_gid.is_some()), group: group_of(extra);
+            name: span(AT_8, name.len()), mode: *mode, umask: *umask, has_group: u8::from(extra.sup_gid.is_some()), group: extra.sup_gid.unwrap_or(0);
         Unlink { name } Done, name: span(AT, name.len());
         Rmdir { name } Done, name: span(AT, name.len());
         Rename { old, new_dir, new, flags } Done,
@@ -121,7 +110,7 @@ pub(crate) fn told_call(opcode: u32, options: u64, room: usize, call: &FileCall)
         Releasedir { flags, handle } Done, handle: *handle, flags: *flags;
         Access { mask } Done, mode: *mask;
         Create { name, mode, kill, flags, umask, extra } Create,
-            name: span(AT_16, name.len()), mode: *mode, flags: *flags, umask: *umask, kill_priv: u8::from(*kill), has_group: u8::from(extra.sup_gid.is_some()), group: group_of(extra);
+            name: span(AT_16, name.len()), mode: *mode, flags: *flags, umask: *umask, kill_priv: u8::from(*kill), has_group: u8::from(extra.sup_gid.is_some()), group: extra.sup_gid.unwrap_or(0);
         Fallocate { handle, mode, offset, len } Done, handle: *handle, mode: *mode, offset: *offset, size: *len;
         Lseek { handle, offset, whence } Lseek, handle: *handle, offset: *offset, flags: *whence;
         CopyFileRange { handle, offset, node_out, handle_out, offset_out, len, .. } Write,
@@ -131,7 +120,7 @@ pub(crate) fn told_call(opcode: u32, options: u64, room: usize, call: &FileCall)
         Init { capable } = FsCall::made(Opcode::Init, AnswerKind::Init), options: capable.bits();
         Destroy {} = FsCall::made(Opcode::Destroy, AnswerKind::Done);
         BatchForget { context, counts } = FsCall::made_by(Opcode::BatchForget, AnswerKind::None, context, 0),
-            count: counts.len() as u64, value: span(AT_8, counts.len().saturating_mul(16));
+            count: (counts.len() / 16) as u64, value: span(AT_8, counts.len());
         Link { context, old_node, node, name } = FsCall::made_by(Opcode::Link, AnswerKind::Entry, context, *old_node), name: span(AT_8, name.len()), node2: *node;
         Getlk {} = FsCall::none();
         Setlk {} = FsCall::none();

@@ -51,7 +51,7 @@ pub fn number(request: &[u8], call: &mut FsCall)
 }
 
 /// The fields of a call, by its request, the options that were agreed, and the room.
-pub fn call_fields(request: &[u8], options: u64, room: usize, call: &FileCall) -> FsCall
+pub fn call_fields(request: &[u8], options: u64, room: usize, call: &FileCall<'_>) -> FsCall
     ensures { result ≡ call_fields request.now options room call.now }
 {
     let mut told = told_call(opcode_in(request), options, room, call);

@@ -57,7 +57,7 @@ fn made(
         return Err(ChainError::BadArgument);
     }
     let memory = memory_of(alloc, regions)?;
-    let mut workbench = Workbench::new(alloc)?;
+    let mut workbench = Workbench::new(alloc);
     workbench.set_memory(memory, device.limit)?;
     match boxed(alloc, workbench) {
         Ok(workbench) => Ok(workbench),

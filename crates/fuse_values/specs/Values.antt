@@ -1,27 +1,52 @@
 -- What the values of calls say.
-use Rattle.std.specs.Prelude.{ℕ, List}
-use Rattle.fuse_fs.specs.Answers.{extra_of, pair_numbers}
+use Rattle.std.specs.Prelude.{ℕ, zero, suc, ◌/◌, List, [], ◌∷◌, length, take, drop, option_map}
+use Rattle.fuse_in.specs.Shapes.{made}
+use Rattle.fuse_wire.specs.Records.{forget_one}
 use Rattle.fuse_fs.specs.Calls as call
+use Rattle.fuse_fs.specs.Calls.{SecurityContext, Extra}
 use Rattle.fuse_values.specs.declared.call.FileCall.{FileCall}
 use Rattle.fuse_values.specs.declared.call.FileCall.TheVariants as value
+use Rattle.fuse_values.specs.declared.received.Label.{Label}
+use Rattle.fuse_values.specs.declared.received.Received.{Received}
+
+-- a label, where it stands
+abbrev pub label_of : Label → SecurityContext
+label_of l = record { name = l.name.now; label = l.secctx.now }
+
+-- what comes with a node that is made, where it stands
+abbrev pub extra_of : Received → Extra
+extra_of r = record { security = option_map label_of r.secctx; group = r.sup_gid }
+
+-- the pair in front of some bytes (struct fuse_forget_one): a node, and how many times less it is held
+abbrev pub pair_in : List ℕ → ℕ × ℕ
+pair_in bytes = let r = made forget_one.parts forget_one.make (take 16 bytes) in (r.nodeid, r.nlookup)
+
+-- n of them, one after another
+unfoldable pub pairs_of : (n : ℕ) → List ℕ → List (ℕ × ℕ)
+pairs_of zero bytes = []
+pairs_of (suc n) bytes = pair_in bytes ∷ pairs_of n (drop 16 bytes)
+
+-- as many as there are
+abbrev pub pairs_in : List ℕ → List (ℕ × ℕ)
+pairs_in bytes = pairs_of (length bytes / 16) bytes
 
 -- the call that a value says; bytes: those that a WRITE writes, which stand elsewhere
 abbrev pub call_of : (bytes : List ℕ) → FileCall → call.FileCall
 call_of bytes (value.Init capable) = call.Init capable.0
 call_of bytes value.Destroy = call.Destroy
-call_of bytes (value.Lookup context node name) = call.Lookup context node name.items
+call_of bytes (value.Lookup context node name) = call.Lookup context node name.now
 call_of bytes (value.Forget context node count) = call.Forget context node count
-call_of bytes (value.BatchForget context counts) = call.BatchForget context (pair_numbers (λ n. n) counts.items)
+call_of bytes (value.BatchForget context counts) = call.BatchForget context (pairs_in counts.now)
 call_of bytes (value.Getattr context node handle) = call.Getattr context node handle
 call_of bytes (value.Setattr context node attr handle valid) = call.Setattr context node attr handle valid.0
 call_of bytes (value.Readlink context node) = call.Readlink context node
-call_of bytes (value.Symlink context link node name extra) = call.Symlink context link.items node name.items (extra_of extra)
-call_of bytes (value.Mknod context node name mode rdev umask extra) = call.Mknod context node name.items mode rdev umask (extra_of extra)
-call_of bytes (value.Mkdir context node name mode umask extra) = call.Mkdir context node name.items mode umask (extra_of extra)
-call_of bytes (value.Unlink context node name) = call.Unlink context node name.items
-call_of bytes (value.Rmdir context node name) = call.Rmdir context node name.items
-call_of bytes (value.Rename context node old new_dir new flags) = call.Rename context node old.items new_dir new.items flags
-call_of bytes (value.Link context old_node node name) = call.Link context old_node node name.items
+call_of bytes (value.Symlink context link node name extra) = call.Symlink context link.now node name.now (extra_of extra)
+call_of bytes (value.Mknod context node name mode rdev umask extra) = call.Mknod context node name.now mode rdev umask (extra_of extra)
+call_of bytes (value.Mkdir context node name mode umask extra) = call.Mkdir context node name.now mode umask (extra_of extra)
+call_of bytes (value.Unlink context node name) = call.Unlink context node name.now
+call_of bytes (value.Rmdir context node name) = call.Rmdir context node name.now
+call_of bytes (value.Rename context node old new_dir new flags) = call.Rename context node old.now new_dir new.now flags
+call_of bytes (value.Link context old_node node name) = call.Link context old_node node name.now
 call_of bytes (value.Open context node kill flags) = call.Open context node kill flags
 call_of bytes (value.Read context node handle room size offset owner flags) = call.Read context node handle room size offset owner flags
 call_of bytes (value.Write context node handle len size offset owner delayed kill flags) = call.Write context node handle bytes size offset owner delayed kill flags
@@ -29,10 +54,10 @@ call_of bytes (value.Statfs context node) = call.Statfs context node
 call_of bytes (value.Release context node flags handle flush unlock owner) = call.Release context node flags handle flush unlock owner
 call_of bytes (value.Fsync context node data_only handle) = call.Fsync context node data_only handle
 call_of bytes (value.Fsyncdir context node data_only handle) = call.Fsyncdir context node data_only handle
-call_of bytes (value.Setxattr context node name value flags extra) = call.Setxattr context node name.items value.items flags extra.0
-call_of bytes (value.Getxattr context node name size) = call.Getxattr context node name.items size
+call_of bytes (value.Setxattr context node name value flags extra) = call.Setxattr context node name.now value.now flags extra.0
+call_of bytes (value.Getxattr context node name size) = call.Getxattr context node name.now size
 call_of bytes (value.Listxattr context node size) = call.Listxattr context node size
-call_of bytes (value.Removexattr context node name) = call.Removexattr context node name.items
+call_of bytes (value.Removexattr context node name) = call.Removexattr context node name.now
 call_of bytes (value.Flush context node handle owner) = call.Flush context node handle owner
 call_of bytes (value.Opendir context node flags) = call.Opendir context node flags
 call_of bytes (value.Readdir context node handle size offset) = call.Readdir context node handle size offset
@@ -45,7 +70,7 @@ call_of bytes value.Ioctl = call.Ioctl
 call_of bytes value.Poll = call.Poll
 call_of bytes value.NotifyReply = call.NotifyReply
 call_of bytes (value.Access context node mask) = call.Access context node mask
-call_of bytes (value.Create context node name mode kill flags umask extra) = call.Create context node name.items mode kill flags umask (extra_of extra)
+call_of bytes (value.Create context node name mode kill flags umask extra) = call.Create context node name.now mode kill flags umask (extra_of extra)
 call_of bytes (value.Fallocate context node handle mode offset len) = call.Fallocate context node handle mode offset len
 call_of bytes (value.Lseek context node handle offset whence) = call.Lseek context node handle offset whence
 call_of bytes (value.CopyFileRange context node handle offset node_out handle_out offset_out len flags) = call.CopyFileRange context node handle offset node_out handle_out offset_out len flags

@@ -1,13 +1,15 @@
 //! A call of a file system as a value.
 
+use crate::received::Received;
 use fuse_base::{FsOptions, SetattrValid, SetxattrFlags};
-use fuse_fs::{Context, Extensions};
+use fuse_fs::Context;
 use fuse_in::SetattrIn;
 
 /// A call of a file system with its arguments, named as those of `FileSystem` are. Nodes and open files are the numbers
-/// of linux/fuse.h; offsets and lengths count bytes; names have no zero byte. Who asks stands in `context`.
-#[derive(Drop)]
-pub enum FileCall {
+/// of linux/fuse.h; offsets and lengths count bytes; names have no zero byte. Who asks stands in `context`. Names, values
+/// and pairs are borrowed: they stand in the request.
+#[derive(Clone, Copy)]
+pub enum FileCall<'a> {
     /// The start of a conversation (FUSE_INIT).
     Init {
         capable: FsOptions,
@@ -18,7 +20,7 @@ pub enum FileCall {
     Lookup {
         context: Context,
         node: u64,
-        name: Vec<u8>,
+        name: &'a [u8],
     },
     /// A node is held this many times less (FUSE_FORGET).
     Forget {
@@ -26,10 +28,11 @@ pub enum FileCall {
         node: u64,
         count: u64,
     },
-    /// Nodes, each with how many times less it is held (FUSE_BATCH_FORGET).
+    /// Nodes, each with how many times less it is held (FUSE_BATCH_FORGET): 16 bytes a pair, two numbers with the lowest
+    /// byte first (`struct fuse_forget_one`).
     BatchForget {
         context: Context,
-        counts: Vec<(u64, u64)>,
+        counts: &'a [u8],
     },
     /// A node's attributes (FUSE_GETATTR).
     Getattr {
@@ -53,49 +56,49 @@ pub enum FileCall {
     /// A symbolic link is made that leads to `link` (FUSE_SYMLINK).
     Symlink {
         context: Context,
-        link: Vec<u8>,
+        link: &'a [u8],
         node: u64,
-        name: Vec<u8>,
-        extra: Extensions,
+        name: &'a [u8],
+        extra: Received<'a>,
     },
     /// A file of a kind is made (FUSE_MKNOD).
     Mknod {
         context: Context,
         node: u64,
-        name: Vec<u8>,
+        name: &'a [u8],
         mode: u32,
         rdev: u32,
         umask: u32,
-        extra: Extensions,
+        extra: Received<'a>,
     },
     /// A directory is made (FUSE_MKDIR).
     Mkdir {
         context: Context,
         node: u64,
-        name: Vec<u8>,
+        name: &'a [u8],
         mode: u32,
         umask: u32,
-        extra: Extensions,
+        extra: Received<'a>,
     },
     /// A name goes that is no directory's (FUSE_UNLINK).
     Unlink {
         context: Context,
         node: u64,
-        name: Vec<u8>,
+        name: &'a [u8],
     },
     /// An empty directory goes (FUSE_RMDIR).
     Rmdir {
         context: Context,
         node: u64,
-        name: Vec<u8>,
+        name: &'a [u8],
     },
     /// A name moves (FUSE_RENAME and FUSE_RENAME2).
     Rename {
         context: Context,
         node: u64,
-        old: Vec<u8>,
+        old: &'a [u8],
         new_dir: u64,
-        new: Vec<u8>,
+        new: &'a [u8],
         flags: u32,
     },
     /// `old_node` gets a name in `node` (FUSE_LINK).
@@ -103,7 +106,7 @@ pub enum FileCall {
         context: Context,
         old_node: u64,
         node: u64,
-        name: Vec<u8>,
+        name: &'a [u8],
     },
     /// A file is opened (FUSE_OPEN).
     Open {
@@ -169,8 +172,8 @@ pub enum FileCall {
     Setxattr {
         context: Context,
         node: u64,
-        name: Vec<u8>,
-        value: Vec<u8>,
+        name: &'a [u8],
+        value: &'a [u8],
         flags: u32,
         extra: SetxattrFlags,
     },
@@ -178,7 +181,7 @@ pub enum FileCall {
     Getxattr {
         context: Context,
         node: u64,
-        name: Vec<u8>,
+        name: &'a [u8],
         size: u32,
     },
     /// The names of the extended attributes (FUSE_LISTXATTR).
@@ -191,7 +194,7 @@ pub enum FileCall {
     Removexattr {
         context: Context,
         node: u64,
-        name: Vec<u8>,
+        name: &'a [u8],
     },
     /// A descriptor of an open file was closed (FUSE_FLUSH).
     Flush {
@@ -245,12 +248,12 @@ pub enum FileCall {
     Create {
         context: Context,
         node: u64,
-        name: Vec<u8>,
+        name: &'a [u8],
         mode: u32,
         kill: bool,
         flags: u32,
         umask: u32,
-        extra: Extensions,
+        extra: Received<'a>,
     },
     /// Room of a file is set aside or freed (FUSE_FALLOCATE).
     Fallocate {

@@ -3,9 +3,8 @@
 
 mod answer;
 mod call;
-mod owned_calls;
-mod recorder;
+mod received;
 
 pub use answer::FileAnswer;
 pub use call::FileCall;
-pub use recorder::{Recorded, Recorder};
+pub use received::{Label, Received};

@@ -54,17 +54,6 @@ fn memory_again(alloc: Global) -> Result<GuestRegions, Unmet> {
     met(GuestRegions::of_regions(alloc, regions), Unmet::Memory)
 }
 
-// A handle.
-fn workbench(trial: Trial) -> Result<Workbench, Unmet> {
-    match Workbench::new(trial.alloc) {
-        Ok(workbench) => Ok(workbench),
-        Err(error) => {
-            trial.expect_told(error.number() == 9)?;
-            met(Workbench::new(trial.alloc), Unmet::Memory)
-        }
-    }
-}
-
 // A queue of 64 descriptors: its table at 0, its rings at 0x400 and 0x500.
 fn queue() -> Result<KeptQueue, Unmet> {
     match QueueLayout::new(64, 0, 0x400, 0x500) {
@@ -130,23 +119,11 @@ fn expect_chain(went: Went, queue: &KeptQueue) -> Result<(), Unmet> {
     }
 }
 
-// What the chain asks. What is refused leaves it out.
-fn ask(trial: Trial, workbench: &mut Workbench) -> Result<Told, Unmet> {
-    match workbench.ask(Session::new(4096), LOOKUP) {
-        Ok(told) => Ok(told),
-        Err(error) => {
-            trial.expect_told(error.number() == 9)?;
-            expect_kept(workbench.is_out() && workbench.room_len() == 144)?;
-            met(workbench.ask(Session::new(4096), LOOKUP), Unmet::Memory)
-        }
-    }
-}
-
 // It asks for `hello` in node 1.
-fn expect_hello(told: &Told) -> Result<(), Unmet> {
+fn expect_hello(told: &Told<'_>) -> Result<(), Unmet> {
     match told {
         Told::Call(FileCall::Lookup { node, name, .. }) => {
-            expect(*node == 1 && name.as_slice() == b"hello".as_slice())
+            expect(*node == 1 && *name == b"hello".as_slice())
         }
         _ => Err(Unmet::Answer),
     }
@@ -170,10 +147,12 @@ fn take(trial: Trial, workbench: &mut Workbench, queue: &mut KeptQueue) -> Resul
     expect_chain(went, queue)
 }
 
-// The chain is asked, and given back.
+// The chain is asked, which takes no memory, and given back.
 fn answer(trial: Trial, workbench: &mut Workbench, queue: &mut KeptQueue) -> Result<usize, Unmet> {
-    let told = ask(trial, workbench)?;
+    let walked = trial.made();
+    let told = met(workbench.ask(Session::new(4096), LOOKUP), Unmet::Answer)?;
     let made = trial.end();
+    expect_kept(made == walked)?;
     expect_hello(&told)?;
     give_back(workbench, queue)?;
     Ok(made)
@@ -188,13 +167,9 @@ fn serve(trial: Trial, workbench: &mut Workbench) -> Result<usize, Unmet> {
 
 // A handle over some memory serves the chain.
 fn serve_over(trial: Trial, memory: GuestRegions) -> Result<usize, Unmet> {
-    match workbench(trial) {
-        Ok(mut workbench) => {
-            met(workbench.set_memory(memory, 0x101000), Unmet::Answer)?;
-            serve(trial, &mut workbench)
-        }
-        Err(unmet) => Err(unmet),
-    }
+    let mut workbench = Workbench::new(trial.alloc);
+    met(workbench.set_memory(memory, 0x101000), Unmet::Answer)?;
+    serve(trial, &mut workbench)
 }
 
 /// A handle serves a chain.

@@ -59,7 +59,7 @@ impl<F: FileSystem> TwoPartsRequest<F> for Rename {
 }
 
 /// The flags of `renameat2(2)`: RENAME_NOREPLACE, RENAME_EXCHANGE and RENAME_WHITEOUT.
-const RENAME_FLAGS: u32 = 7;
+pub(crate) const RENAME_FLAGS: u32 = 7;
 
 /// RENAME2 (`struct fuse_rename2_in`): a name moves, by flags.
 pub struct Rename2;

@@ -77,7 +77,7 @@ impl<F: FileSystem> RecordRequest<F> for Getattr {
 
 // The attributes that are set, of those that are known.
 #[tactic(auto, using(crate::proofs::Options::known_setattr_are))]
-fn known_valid(valid: u32) -> SetattrValid
+pub(crate) fn known_valid(valid: u32) -> SetattrValid
     ensures { result.0 ≡ bit_and valid known_setattr }
 {
     SetattrValid::from_bits_truncate(valid)

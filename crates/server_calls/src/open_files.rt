@@ -18,7 +18,7 @@ use fuse_wire::constants::{
 use fuse_wire::{Errno, OpenOptions};
 
 // Who holds the lock, where a flag says that it is told.
-fn releasing_owner(request: &ReleaseIn) -> Option<u64>
+pub(crate) fn releasing_owner(request: &ReleaseIn) -> Option<u64>
     ensures { result ≡ if_set (has_bit request.now.release_flags 0 || has_bit request.now.release_flags 1) request.now.lock_owner }
 {
     let told = request.release_flags & RELEASE_FLUSH != 0

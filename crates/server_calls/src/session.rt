@@ -9,6 +9,9 @@ use bitflags::Flags;
 use fuse_fs::FileSystem;
 use fuse_wire::{Errno, FsOptions};
 
+/// DESTROY: the end of a conversation.
+pub struct Destroy;
+
 /// INIT (`struct fuse_init_in`): of the options that both sides have, those that the file system asks for; or its errno,
 /// from 1 to 4095.
 pub fn make_init_call<F: FileSystem>(fs: &mut F, capable: FsOptions) -> Result<FsOptions, Errno>

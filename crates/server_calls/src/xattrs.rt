@@ -54,7 +54,7 @@ impl<F: FileSystem> RecordRequest<F> for Listxattr {
 
 // The flags that are known.
 #[tactic(auto, using(crate::proofs::Options::known_setxattr_are))]
-fn known(flags: u32) -> SetxattrFlags
+pub(crate) fn known(flags: u32) -> SetxattrFlags
     ensures { result.0 ≡ bit_and flags known_setxattr }
 {
     SetxattrFlags::from_bits_truncate(flags)

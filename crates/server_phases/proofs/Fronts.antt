@@ -2,7 +2,9 @@
 use Rattle.std.proofs.Common.{◌≡◌, ◌≤◌, ℕ, Bool, true, false, List, ◌++◌, length, take, drop, Ok, Err, Option, Some, None, cond, refl, sym, ap, ◌∙◌, arith}
 use Rattle.std.specs.Prelude.{nat_lt}
 use Rattle.std.proofs.lemmas.Bool.Decides.{nat_tests}
-use Rattle.std.proofs.lemmas.List.{length-take, length-drop, take-append-drop, take-append-le, drop-append-le}
+use Rattle.std.proofs.lemmas.List.{length-take, length-drop, take-append-drop, take-append-le, drop-append-le, drop-drop}
+use Rattle.fuse_in.specs.declared.session.InHeader.{InHeader}
+use Rattle.fuse_in.specs.Records.{in_header}
 use Rattle.fuse_in.specs.Shapes.{Shape, size, made}
 use Rattle.fuse_wire.specs.declared.opcodes.Opcode.{Opcode}
 use Rattle.fuse_wire.specs.declared.opcodes.Opcode.TheVariants as op
@@ -68,3 +70,22 @@ pub write_is : (o : Option Opcode) → is_write o ≡ true → o ≡ Some op.Wri
 write_is (Some op.Write) e = refl
 write_is (Some _) e = absurd (cc)
 write_is None e = absurd (cc)
+
+-- the bytes behind a record that was read
+abbrev pub left_over : {R : Type 0} → List ℕ → reading.Read R → List ℕ
+left_over bytes (Ok x) = x.1
+left_over bytes (Err e) = bytes
+
+behind_by : {R : Type 0} → (t : Bool) (n : ℕ) (make : List ℕ → R) (bytes more : List ℕ) (r : R)
+    → ◌≡◌ {A = reading.Read R} (Ok (r, more)) (and_then {A = List ℕ × List ℕ} {B = R × List ℕ} (cond t (Err (Faults DecodeMessage)) (Ok (take n bytes, drop n bytes))) (λ x. Ok (make x.0, x.1)))
+    → drop n bytes ≡ more
+behind_by true n make bytes more r e = absurd (cc)
+behind_by false n make bytes more r e = sym (ap (left_over bytes) e)
+
+pub behind : {R : Type 0} → (s : Shape R) (bytes more : List ℕ) (r : R) → Ok (r, more) ≡ reading_of s bytes → drop (size s.parts) bytes ≡ more
+unfolding reading_of
+behind s bytes more r e = behind_by (nat_lt (length bytes) (size s.parts)) (size s.parts) (λ b. made s.parts s.make b) bytes more r e
+
+-- the data of a WRITE stands behind 80 bytes
+pub data_behind : (request more : List ℕ) (h : InHeader) → Ok (h, more) ≡ reading_of in_header request → drop 40 more ≡ drop 80 request
+data_behind request more h e = ap (drop 40) (sym (behind in_header request more h e)) ∙ drop-drop 40 40 request

@@ -24,7 +24,10 @@ use Rattle.server_phases.specs.declared.listing.NotAdded.TheVariants.{TooLong, F
 use Rattle.server_phases.specs.Gathering.{Brought, EndsList, FailsList, Holds, IsListingFor, StaysBut, is_looked_up, node_of, bytes_of, all_bytes}
 use Rattle.server_phases.specs.Gathering.{all_found, found_of, entries_of, look_up, look_ups, node_given_back, placed, put_at, error_of}
 use Rattle.server_phases.specs.Waiting.{first_call}
-use Rattle.server_phases.proofs.Plain.{if_err_map}
+
+if_err_map : {A E : Type 0} → (r : Result A E) (P Q : E → Type 0) → IfErr r P → ((e : E) → P e → Q e) → IfErr r Q
+if_err_map (Ok a) P Q p k = tt
+if_err_map (Err e) P Q p k = k e p
 
 length_head : (d : Dirent) → length (spelled (dirent d)) ≡ 24
 unfolding field_bytes

@@ -20,7 +20,8 @@ use Rattle.server_phases.specs.declared.answering.Sent.TheVariants as sent
 use Rattle.server_phases.specs.declared.waiting.Awaits.{Awaits}
 use Rattle.server_phases.specs.declared.waiting.Awaits.TheVariants as awaits
 use Rattle.server_phases.specs.declared.waiting.Waiting.{Waiting}
-use Rattle.server_phases.specs.Waiting.{awaits_of, IsFor, WaitsFor, first_call}
+use Rattle.server_calls.specs.Callers.{IsFor}
+use Rattle.server_phases.specs.Waiting.{awaits_of, WaitsFor, first_call}
 use Rattle.server_phases.specs.Answering.{TellsBytes, tells_nothing, leaves_options, brings_entry, takes, back_by, served_by, data_of, wish_of}
 
 silent_same : (call : FileCall) → is_silent call ≡ tells_nothing (awaits_of call)

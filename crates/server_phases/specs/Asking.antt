@@ -1,21 +1,17 @@
 -- What a request asks, as it is told to who owns the files.
-use Rattle.std.specs.Prelude.{◌≡◌, ◌==◌, ◌<◌, ℕ, Bool, true, false, ◌||◌, ◌&&◌, List, [], ◌∷◌, length, take, nat_lt, nat_le, Some, None, Ok, if◌then◌else◌}
+use Rattle.std.specs.Prelude.{◌≡◌, ◌==◌, ◌<◌, ℕ, Bool, true, false, ◌||◌, ◌&&◌, List, [], length, take, drop, nat_lt, nat_le, Some, None, Ok, if◌then◌else◌}
 use Rattle.fuse_values.specs.declared.call.FileCall.{FileCall}
 use Rattle.fuse_values.specs.declared.call.FileCall.TheVariants as value
-use Rattle.fuse_values.specs.Recording.{NameWasRefused, has_name}
 use Rattle.fuse_values.specs.Values.{call_of}
 use Rattle.fuse_in.specs.declared.session.InHeader.{InHeader}
 use Rattle.fuse_in.specs.Records.{in_header}
 use Rattle.fuse_fs.specs.declared.answers.Context.{Context}
 use Rattle.fuse_fs.specs.Answers.{context_of}
-use Rattle.fuse_fs.specs.Lengths.{filled}
-use Rattle.server_requests.specs.Reading.{reading_of}
-use Rattle.server_segments.specs.ReaderAndWriterView.{ReaderView}
-use Rattle.virtiofsd_fuse.specs.WantOfMemory.{may_take_memory}
+use Rattle.server_requests.specs.Reading.{Reading, reading_of}
 use Rattle.server_segments.specs.declared.error.Error.TheVariants.{EncodeMessage}
 use Rattle.virtiofsd_fuse.specs.DataApart.{begins_a_write}
-use Rattle.virtiofsd_fuse.specs.Grammar.{Meaning, Asks, FileCommand, meaning}
-use Rattle.virtiofsd_fuse.specs.Serving.{Setting, served, Served, no_reply}
+use Rattle.virtiofsd_fuse.specs.Grammar.{Meaning, Asks, FileCommand, Given, ended, given}
+use Rattle.virtiofsd_fuse.specs.Serving.{Setting, setting, served, Served, no_reply}
 use Rattle.server_phases.specs.declared.waiting.Waiting.{Waiting}
 use Rattle.server_phases.specs.declared.asking.Asked.{Asked}
 use Rattle.server_phases.specs.declared.asking.Asked.TheVariants as asked
@@ -57,23 +53,10 @@ HasAsker request asked = (h : InHeader) (more : List ℕ) → reading_of in_head
 abbrev pub told_reply : (room : ℕ) → List ℕ → Asked
 told_reply room reply = if nat_lt room (length reply) then asked.Fault EncodeMessage else asked.Reply reply
 
--- whether the call that is asked for has names, which it owns
-abbrev pub has_names : Meaning → Bool
-has_names (Asks command) = has_name (first_call command)
-has_names _ = false
-
--- the allocator refused room for one of its names, or for its value
-abbrev pub NamesWereRefused : Meaning → Type 0
-NamesWereRefused (Asks command) = NameWasRefused (first_call command)
-NamesWereRefused _ = ⊥
-
--- a request in one piece, of which nothing was read
-abbrev pub in_one_piece : List ℕ → ReaderView
-in_one_piece request = record { left = request; segments = filled (length request ∷ []); read = 0 }
-
--- whether an allocation may fail: for what the call is handed, or for its names
-abbrev pub may_want_memory : (options : ℕ) → (request : List ℕ) → (room : ℕ) → Bool
-may_want_memory options request room = may_take_memory options (in_one_piece request) room || has_names (meaning options request room)
+-- a row of the grammar is told so, of a request whose header is this one; bytes: those behind the header
+abbrev pub IsRowTold : (page_size options : ℕ) → InHeader → (room : ℕ) → (Given → Reading Meaning) → (bytes : List ℕ) → Asked → Type 0
+IsRowTold page_size options h room row bytes asked =
+    IsTold (setting page_size options room) (ended h.unique (row (given h options room) bytes)) (drop 40 bytes) asked
 
 -- the first bytes of a request
 abbrev pub IsFront : (front request : List ℕ) → Type 0

@@ -1,12 +1,9 @@
 -- What is kept of a request while its call waits for an answer.
-use Rattle.std.specs.Prelude.{◌≡◌, ℕ, [], ◌≤◌, ◌^◌}
+use Rattle.std.specs.Prelude.{◌≡◌, ◌≤◌, ◌^◌}
 use Rattle.std.specs.Prelude.{Bool, true, false, bit_and}
-use Rattle.fuse_fs.specs.declared.answers.Context.{Context}
 use Rattle.fuse_fs.specs.Calls.{FileCall, Init, Destroy, Lookup, Forget, BatchForget, Getattr, Setattr, Readlink, Symlink, Mknod, Mkdir, Link, Open, Read, Write}
 use Rattle.fuse_fs.specs.Calls.{Statfs, Readdir, Getxattr, Listxattr, Opendir, Getlk, Setlk, Setlkw, Bmap, Ioctl, Poll, NotifyReply, Create, Lseek, CopyFileRange, TmpFile}
-use Rattle.fuse_values.specs.declared.call.FileCall as made
-use Rattle.fuse_values.specs.declared.call.FileCall.TheVariants as value
-use Rattle.fuse_values.specs.Values.{call_of}
+use Rattle.server_calls.specs.Callers.{IsFor}
 use Rattle.virtiofsd_fuse.specs.Listings.{readdir_call}
 use Rattle.virtiofsd_fuse.specs.Grammar.{FileCommand, One, Starts, Lists, known_options}
 use Rattle.server_phases.specs.declared.waiting.Awaits.{Awaits}
@@ -46,16 +43,6 @@ awaits_of Destroy = awaits.End
 awaits_of TmpFile = awaits.Failure
 awaits_of _ = awaits.Done
 
--- who gets an entry, of the calls that have one
-abbrev pub IsFor : Context → FileCall → Type 0
-IsFor who (Lookup c n name) = c ≡ who
-IsFor who (Symlink c l n name x) = c ≡ who
-IsFor who (Mknod c n name m r u x) = c ≡ who
-IsFor who (Mkdir c n name m u x) = c ≡ who
-IsFor who (Link c o n name) = c ≡ who
-IsFor who (Create c n name m k f u x) = c ≡ who
-IsFor who _ = Unit {0}
-
 -- the calls that requests of one call make
 abbrev pub is_single : FileCall → Bool
 is_single (Init capable) = false
@@ -75,8 +62,3 @@ abbrev pub first_call : FileCommand → FileCall
 first_call (One unique call) = call
 first_call (Starts unique capable readahead) = Init capable
 first_call (Lists unique l) = readdir_call l
-
--- what a call that was written down waits for
-abbrev pub awaits_for : made.FileCall → (readahead : ℕ) → Awaits
-awaits_for (value.Init capable) readahead = awaits.Wish capable.0 readahead
-awaits_for call readahead = awaits_of (call_of [] call)

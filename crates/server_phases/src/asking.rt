@@ -1,42 +1,40 @@
 //! What a request asks.
 
-ghost use Rattle.std.specs.Prelude.{◌≡◌, ℕ, ◌≤◌, [], List, Ok, Err, true, false, IfOk, OnOk, IfErr, drop, length};
-ghost use Rattle.fuse_in.specs.Records.{in_header};
+ghost use Rattle.std.specs.Prelude.{◌≡◌, ℕ, ◌≤◌, [], List, true, drop, length, bit_and};
 ghost use Rattle.fuse_fs.specs.Answers.{context_of};
+ghost use Rattle.fuse_fs.specs.Calls as call;
 ghost use Rattle.fuse_values.specs.Values.{call_of};
-ghost use Rattle.server_requests.specs.Reading.{reading_of};
-ghost use Rattle.server_calls.specs.Requests.{if_set, read_call, write_call};
-ghost use Rattle.virtiofsd_fuse.specs.Grammar.{Meaning, FileCommand, Asks, One, given, ended, meant, meaning, read_row, read_asked, listing_row, listing_asked, write_row};
-ghost use Rattle.virtiofsd_fuse.specs.Serving.{Setting, setting, served, served_of};
-ghost use Rattle.server_segments.specs.Errors.{lacks_memory};
-ghost use Rattle.server_phases.specs.Asking.{IsTold, IsAskedBy, HasAsker, TellsData, IsFront, BeginsRecord, told_reply};
 ghost use Rattle.fuse_wire.specs.Opcodes.{opcode_of};
+ghost use Rattle.server_calls.specs.Callers.{CallSays};
+ghost use Rattle.server_calls.specs.Requests.{if_set, read_call, write_call};
+ghost use Rattle.server_replies.specs.WholeReplies.{error_bytes};
 ghost use Rattle.virtiofsd_fuse.specs.DataApart.{begins_a_write, is_write};
-ghost use Rattle.server_phases.specs.Saying.{ReadsAhead, Says};
-ghost use Rattle.server_phases.specs.Waiting.{first_call};
+ghost use Rattle.virtiofsd_fuse.specs.Grammar.{Meaning, Replies, Asks, One, Starts, given, ended, known_options, meant, meaning, read_row, read_asked, listing_row, listing_asked, write_row};
+ghost use Rattle.virtiofsd_fuse.specs.Serving.{Setting, setting};
+ghost use Rattle.server_phases.specs.Asking.{IsTold, IsAskedBy, HasAsker, TellsData, IsFront, BeginsRecord, told_reply};
 
 use crate::front::Front;
-use crate::waiting::{Awaits, Waiting, awaits_for};
+use crate::waiting::{Awaits, Waiting, awaits_of};
+use bitflags::Flags;
 use fuse_fs::Context;
-use fuse_in::{InHeader, InitInCompat, ReadIn, WriteIn};
+use fuse_in::{InHeader, ReadIn, WriteIn};
 use fuse_values::FileCall;
-use fuse_wire::Errno;
 use fuse_wire::constants::{READ_LOCKOWNER, WRITE_CACHE, WRITE_KILL_PRIV, WRITE_LOCKOWNER};
+use fuse_wire::{Errno, FsOptions, Opcode};
 use server_replies::init::MAX_BUFFER_SIZE;
 use server_replies::replies::OUT_HEADER_LEN;
-use server_requests::records::read_record;
-use server_segments::{Error, Reader, Writer};
-use std::alloc::Global;
-use virtiofsd_fuse::{MAX_REQUEST_LEN, REQUEST_FRONT};
+use server_requests::source::{Flat, Source};
+use server_segments::Error;
+use virtiofsd_fuse::{MAX_REQUEST_LEN, REQUEST_FRONT, opcode_of};
 
 /// How many bytes a record of a WRITE has (`struct fuse_write_in`).
 pub(crate) const WRITE_IN_LEN: usize = 40;
 
 /// What a request asks.
 #[derive(Drop)]
-pub enum Asked {
+pub enum Asked<'a> {
     /// This call, whose answer is waited for.
-    Call(FileCall, Waiting),
+    Call(FileCall<'a>, Waiting),
     /// No call; this is the reply.
     Reply(Front),
     /// No call, and there is no reply.
@@ -47,15 +45,15 @@ pub enum Asked {
 
 /// What the first bytes of a request tell.
 #[derive(Drop)]
-pub enum AskedFront {
+pub enum AskedFront<'a> {
     /// What the request asks.
-    Told(Asked),
+    Told(Asked<'a>),
     /// Nothing yet: all of the request's bytes are wanted.
     More,
 }
 
-// An immediate reply, if it has room.
-pub(crate) fn replied(room: usize, reply: Front) -> Asked
+/// An immediate reply, if it has room.
+pub(crate) fn replied<'a>(room: usize, reply: Front) -> Asked<'a>
     ensures { result ≡ told_reply room reply }
 {
     if room < reply.bytes().len() {
@@ -65,8 +63,16 @@ pub(crate) fn replied(room: usize, reply: Front) -> Asked
     }
 }
 
+/// The reply of an error, if it has room.
+pub(crate) fn refused<'a>(head: &InHeader, error: Errno, room: usize) -> Asked<'a>
+    ensures told { (page_size options : ℕ) (m : Meaning) (bytes : List ℕ) → m ≡ Replies (error_bytes head.now.unique error) → IsTold (setting page_size options room) m bytes result }
+    ensures asker { IsAskedBy (context_of head.now) result }
+{
+    replied(room, Front::error(head.unique, error))
+}
+
 // READ, by its record.
-fn ask_read(head: &InHeader, request: &ReadIn, room: usize) -> Asked
+fn ask_read<'a>(head: &InHeader, request: &ReadIn, room: usize) -> Asked<'a>
     ensures told { (page_size options : ℕ) (more bytes : List ℕ)
         → IsTold (setting page_size options room) (ended head.now.unique (read_asked (given head.now options room) request.now more)) bytes result }
     ensures asker { IsAskedBy (context_of head.now) result }
@@ -85,7 +91,7 @@ fn ask_read(head: &InHeader, request: &ReadIn, room: usize) -> Asked
 }
 
 // The call of a READ that has room for so many bytes.
-fn read_value(head: &InHeader, request: &ReadIn, most: usize) -> FileCall
+fn read_value<'a>(head: &InHeader, request: &ReadIn, most: usize) -> FileCall<'a>
     ensures call { (bytes : List ℕ) → call_of bytes result ≡ read_call head.now most request.now }
     ensures data_apart { (bytes : List ℕ) → TellsData bytes result }
 {
@@ -109,16 +115,16 @@ fn owner_if(told: bool, owner: u64) -> Option<u64>
 }
 
 // READDIR and READDIRPLUS, by their record.
-fn ask_listing(head: &InHeader, request: &ReadIn, with_nodes: bool, room: usize) -> Asked
+fn ask_listing<'a>(head: &InHeader, request: &ReadIn, with_nodes: bool, room: usize) -> Asked<'a>
     ensures told { (page_size options : ℕ) (more bytes : List ℕ)
         → IsTold (setting page_size options room) (ended head.now.unique (listing_asked with_nodes request.now (given head.now options room) more)) bytes result }
     ensures asker { IsAskedBy (context_of head.now) result }
 {
     if request.size > MAX_BUFFER_SIZE {
-        return replied(room, Front::error(head.unique, Errno::ENOMEM));
+        return refused(head, Errno::ENOMEM, room);
     }
     if room < request.size as usize {
-        return replied(room, Front::error(head.unique, Errno::ENOMEM));
+        return refused(head, Errno::ENOMEM, room);
     }
     if room < OUT_HEADER_LEN {
         return Asked::Fault(Error::EncodeMessage);
@@ -148,7 +154,7 @@ fn ask_listing(head: &InHeader, request: &ReadIn, with_nodes: bool, room: usize)
 }
 
 // WRITE, by its record; so many bytes of data stand behind it.
-fn ask_write(head: &InHeader, request: &WriteIn, len: usize, room: usize) -> Asked
+fn ask_write<'a>(head: &InHeader, request: &WriteIn, len: usize, room: usize) -> Asked<'a>
     ensures told { (page_size options : ℕ) (bytes : List ℕ) → len ≡ length bytes
         → IsTold (setting page_size options room) (Asks (One head.now.unique (write_call head.now request.now bytes))) bytes result }
     ensures asker { IsAskedBy (context_of head.now) result }
@@ -163,7 +169,7 @@ fn ask_write(head: &InHeader, request: &WriteIn, len: usize, room: usize) -> Ask
 }
 
 // The call of a WRITE of so many bytes.
-fn write_value(head: &InHeader, request: &WriteIn, len: usize) -> FileCall
+fn write_value<'a>(head: &InHeader, request: &WriteIn, len: usize) -> FileCall<'a>
     ensures call { (bytes : List ℕ) → call_of bytes result ≡ write_call head.now request.now bytes }
     ensures data_apart { (bytes : List ℕ) → len ≡ length bytes → TellsData bytes result }
 {
@@ -184,98 +190,114 @@ fn write_value(head: &InHeader, request: &WriteIn, len: usize) -> FileCall
     }
 }
 
-// How far the client of an INIT reads ahead.
-pub(crate) fn readahead(alloc: Global, request: &[u8]) -> u32
-    ensures { (h : InHeader) (more : List ℕ) (n : ℕ) → reading_of in_header request.now ≡ Ok (h, more) → ReadsAhead more n → result ≡ n }
-{
-    let mut r = Reader::of_slice(alloc, request);
-    match read_record::<InHeader>(&mut r) {
-        Ok(_) => match read_record::<InitInCompat>(&mut r) {
-            Ok(record) => record.max_readahead,
-            Err(_) => 0,
-        },
-        Err(_) => 0,
-    }
-}
-
-// A call that was written down, with what is kept of its request.
-pub(crate) fn call_told(head: &InHeader, call: FileCall, readahead: u32, room: usize) -> Asked
-    ensures told { (s : Setting) (all bytes : List ℕ) (command : FileCommand) → s.room ≡ room → Says head.now all (Asks command) → ((n : ℕ) → ReadsAhead all n → readahead ≡ n)
-        → call_of [] call ≡ first_call command → IsTold s (Asks command) bytes result }
+/// One call, which waits for its answer.
+pub(crate) fn called<'a>(head: &InHeader, made: FileCall<'a>, room: usize) -> Asked<'a>
+    ensures told { (s : Setting) (m : Meaning) (bytes : List ℕ) (c : call.FileCall) → s.room ≡ room → m ≡ Asks (One head.now.unique c) → CallSays head.now c
+        → call_of [] made.entry ≡ c → IsTold s m bytes result }
     ensures asker { IsAskedBy (context_of head.now) result }
 {
-    let awaits = awaits_for(&call, readahead);
+    let awaits = awaits_of(&made);
     let waiting = Waiting {
         unique: head.unique,
         context: Context::from(*head),
         awaits,
         room,
     };
-    Asked::Call(call, waiting)
+    Asked::Call(made, waiting)
 }
 
-// What a request is told that makes no call, by what it was served so; the reply stands in the writer.
-pub(crate) fn no_call(answer: Result<usize, Error>, room: usize, w: &Writer) -> Result<Asked, Error>
-    requires { length w.now.written ≤ 80 }
-    ensures told { IfOk result (λ asked. (page_size options : ℕ) (h : InHeader) (all bytes : List ℕ) (m : Meaning) → Says h all m
-        → IfOk answer (λ n. n ≡ length w.now.written)
-        → served (setting page_size options 80) m [] ≡ served_of [] options answer w.now.written
-        → IsTold (setting page_size options room) m bytes asked) }
-    ensures asker { IfOk result (λ asked. (who : Context) → IsAskedBy who asked) }
-    ensures enough { OnOk result (lacks_memory answer ≡ false) }
-    ensures err { IfErr result (λ e. (e ≡ Error.OutOfMemory) × (answer ≡ Err e)) }
+/// The call of an INIT, whose client reads `readahead` bytes ahead.
+pub(crate) fn started<'a>(
+    head: &InHeader,
+    capable: FsOptions,
+    readahead: u32,
+    room: usize,
+) -> Asked<'a>
+    requires { bit_and capable.0 known_options ≡ capable.0 }
+    ensures told { (s : Setting) (m : Meaning) (bytes : List ℕ) → s.room ≡ room → m ≡ Asks (Starts head.now.unique capable.0 readahead) → IsTold s m bytes result }
+    ensures asker { IsAskedBy (context_of head.now) result }
 {
-    match answer {
-        Ok(0) => Ok(Asked::Silence),
-        Ok(_) => Ok(replied(room, Front::written(w))),
-        Err(Error::OutOfMemory) => Err(Error::OutOfMemory),
-        Err(error) => Ok(Asked::Fault(error)),
-    }
+    let waiting = Waiting {
+        unique: head.unique,
+        context: Context::from(*head),
+        awaits: Awaits::Wish {
+            capable: capable.bits(),
+            readahead,
+        },
+        room,
+    };
+    Asked::Call(FileCall::Init { capable }, waiting)
 }
 
 // READ: its record is read.
-pub(crate) fn ask_read_row(head: &InHeader, room: usize, r: &mut Reader<'_>) -> Asked
+pub(crate) fn ask_read_row<'a>(head: &InHeader, room: usize, source: Flat<'a>) -> Asked<'a>
     ensures told { (page_size options : ℕ) (bytes : List ℕ)
-        → IsTold (setting page_size options room) (ended head.now.unique (read_row (given head.now options room) r.old.left)) bytes result }
+        → IsTold (setting page_size options room) (ended head.now.unique (read_row (given head.now options room) source.entry.bytes.now)) bytes result }
     ensures asker { IsAskedBy (context_of head.now) result }
 {
-    match read_record(r) {
+    let mut source = source;
+    match source.record() {
         Ok(request) => ask_read(head, &request, room),
         Err(error) => Asked::Fault(error),
     }
 }
 
 // READDIR and READDIRPLUS: their record is read.
-pub(crate) fn ask_listing_row(
+pub(crate) fn ask_listing_row<'a>(
     head: &InHeader,
     with_nodes: bool,
     room: usize,
-    r: &mut Reader<'_>,
-) -> Asked
+    source: Flat<'a>,
+) -> Asked<'a>
     ensures told { (page_size options : ℕ) (bytes : List ℕ)
-        → IsTold (setting page_size options room) (ended head.now.unique (listing_row with_nodes (given head.now options room) r.old.left)) bytes result }
+        → IsTold (setting page_size options room) (ended head.now.unique (listing_row with_nodes (given head.now options room) source.entry.bytes.now)) bytes result }
     ensures asker { IsAskedBy (context_of head.now) result }
 {
-    match read_record(r) {
+    let mut source = source;
+    match source.record() {
         Ok(request) => ask_listing(head, &request, with_nodes, room),
         Err(error) => Asked::Fault(error),
     }
 }
 
 // WRITE: its record is read, behind which so many bytes of data stand, here or elsewhere.
-pub(crate) fn ask_write_row(head: &InHeader, len: usize, room: usize, r: &mut Reader<'_>) -> Asked
-    ensures told { (page_size options : ℕ) (bytes : List ℕ) → BeginsRecord r.old.left bytes → len ≡ length (drop 40 bytes)
+pub(crate) fn ask_write_row<'a>(
+    head: &InHeader,
+    len: usize,
+    room: usize,
+    source: Flat<'a>,
+) -> Asked<'a>
+    ensures told { (page_size options : ℕ) (bytes : List ℕ) → BeginsRecord source.entry.bytes.now bytes → len ≡ length (drop 40 bytes)
         → IsTold (setting page_size options room) (ended head.now.unique (write_row (given head.now options room) bytes)) (drop 40 bytes) result }
     ensures asker { IsAskedBy (context_of head.now) result }
 {
-    match read_record(r) {
+    let mut source = source;
+    match source.record() {
         Ok(request) => ask_write(head, &request, len, room),
         Err(error) => Asked::Fault(error),
     }
 }
 
+// Whether a header is that of a WRITE.
+fn is_write(header: &InHeader) -> bool
+    ensures { result ≡ is_write (opcode_of header.now.opcode) }
+{
+    matches!(opcode_of(header.opcode), Some(Opcode::Write))
+}
+
+/// Whether a request begins with the header of a WRITE.
+pub(crate) fn begins_a_write(front: &[u8]) -> bool
+    ensures { result ≡ begins_a_write front.now }
+{
+    let mut source = Flat { bytes: front };
+    match source.record::<InHeader>() {
+        Ok(header) => is_write(&header),
+        Err(_) => false,
+    }
+}
+
 /// What a WRITE asks, by its bytes before the data; it has `len` bytes in all.
-pub(crate) fn ask_write_front(alloc: Global, front: &[u8], len: usize, room: usize) -> Asked
+pub(crate) fn ask_write_front<'a>(front: &'a [u8], len: usize, room: usize) -> Asked<'a>
     requires write { begins_a_write front.now ≡ true }
     requires front { 80 ≤ length front.now }
     requires len { 80 ≤ len }
@@ -283,22 +305,22 @@ pub(crate) fn ask_write_front(alloc: Global, front: &[u8], len: usize, room: usi
         → IsTold (setting page_size options room) (meaning options request room) (drop 80 request) result }
     ensures asker { (request : List ℕ) → IsFront front.now request → HasAsker request result }
 {
-    let mut r = Reader::of_slice(alloc, front);
-    match read_record::<InHeader>(&mut r) {
-        Ok(head) => ask_write_head(&head, len - REQUEST_FRONT, room, &mut r),
+    let mut source = Flat { bytes: front };
+    match source.record::<InHeader>() {
+        Ok(head) => ask_write_head(&head, len - REQUEST_FRONT, room, source),
         Err(error) => Asked::Fault(error),
     }
 }
 
 // WRITE: its header is read.
-fn ask_write_head(head: &InHeader, len: usize, room: usize, r: &mut Reader<'_>) -> Asked
+fn ask_write_head<'a>(head: &InHeader, len: usize, room: usize, source: Flat<'a>) -> Asked<'a>
     requires { is_write (opcode_of head.now.opcode) ≡ true }
-    ensures told { (page_size options : ℕ) (bytes : List ℕ) → BeginsRecord r.old.left bytes → len ≡ length (drop 40 bytes)
+    ensures told { (page_size options : ℕ) (bytes : List ℕ) → BeginsRecord source.entry.bytes.now bytes → len ≡ length (drop 40 bytes)
         → IsTold (setting page_size options room) (meant (given head.now options room) bytes) (drop 40 bytes) result }
     ensures asker { IsAskedBy (context_of head.now) result }
 {
     if head.len > MAX_REQUEST_LEN {
-        return replied(room, Front::error(head.unique, Errno::ENOMEM));
+        return refused(head, Errno::ENOMEM, room);
     }
-    ask_write_row(head, len, room, r)
+    ask_write_row(head, len, room, source)
 }

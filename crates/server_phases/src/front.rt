@@ -5,7 +5,6 @@ ghost use Rattle.server_replies.specs.WholeReplies.{reply_bytes, error_bytes};
 
 use fuse_wire::Errno;
 use server_replies::replies::{OUT_HEADER_LEN, data_header};
-use server_segments::Writer;
 use std::marker::Model;
 
 /// The longest front: that of CREATE, a header, `struct fuse_entry_out` and `struct fuse_open_out`.
@@ -55,17 +54,6 @@ impl Front {
         let mut bytes = [0; MOST_FRONT_LEN];
         let len = first.len() + second.len();
         put_parts(&mut bytes[..len], first, second);
-        Front { bytes, len }
-    }
-
-    // What was written to a writer.
-    pub(crate) fn written(w: &Writer) -> Front
-        requires { length w.now.written ≤ 160 }
-        ensures { result ≡ w.now.written }
-    {
-        let mut bytes = [0; MOST_FRONT_LEN];
-        let len = w.bytes_written();
-        w.copy_written(&mut bytes[..len]);
         Front { bytes, len }
     }
 

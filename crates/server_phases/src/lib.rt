@@ -2,19 +2,21 @@
 #![tactic(auto)]
 
 mod answering;
-mod apart;
 mod asking;
+mod dispatch;
 mod ending;
 mod entries;
 mod front;
 mod gathering;
 mod listing;
+mod rows;
 mod session;
+mod starting;
 mod waiting;
 
 pub use answering::{Answered, Refused, RefusedAnswer, Sent};
 pub use asking::{Asked, AskedFront};
 pub use front::Front;
 pub use listing::{Listing, ListingReply, NotAdded};
-pub use session::{REPLY_WITHOUT_CALL_LEN, Session};
+pub use session::Session;
 pub use waiting::{Awaits, Waiting};

@@ -2,9 +2,8 @@
 
 ghost use Rattle.std.specs.Prelude.{◌≡◌, []};
 ghost use Rattle.fuse_values.specs.Values.{call_of};
-ghost use Rattle.server_phases.specs.Waiting.{awaits_of, awaits_for};
+ghost use Rattle.server_phases.specs.Waiting.{awaits_of};
 
-use bitflags::Flags;
 use fuse_fs::Context;
 use fuse_values::FileCall;
 
@@ -87,8 +86,8 @@ impl Waiting {
     }
 }
 
-// What one call waits for.
-fn awaits_of(call: &FileCall) -> Awaits
+/// What one call waits for.
+pub(crate) fn awaits_of(call: &FileCall<'_>) -> Awaits
     ensures { result ≡ awaits_of (call_of [] call.now) }
 {
     match call {
@@ -117,18 +116,5 @@ fn awaits_of(call: &FileCall) -> Awaits
         FileCall::TmpFile => Awaits::Failure,
         FileCall::Read { room, .. } => Awaits::FileBytes { most: *room },
         _ => Awaits::Done,
-    }
-}
-
-/// What a call that was written down waits for.
-pub(crate) fn awaits_for(call: &FileCall, readahead: u32) -> Awaits
-    ensures { result ≡ awaits_for call.now readahead }
-{
-    match call {
-        FileCall::Init { capable } => Awaits::Wish {
-            capable: capable.bits(),
-            readahead,
-        },
-        other => awaits_of(other),
     }
 }

@@ -1,13 +1,14 @@
 -- Pairs of BATCH_FORGET, one after another.
-use Rattle.std.proofs.Common.{◌≡◌, ℕ, zero, suc, ◌*◌, ◌<◌, ◌≤◌, true, List, [], ◌∷◌, ◌++◌, length, drop, take, Ok, Err, refl, sym, ap, ◌∙◌, arith, append_assoc, append-nil, ⊎_elim}
+use Rattle.std.proofs.Common.{◌≡◌, ℕ, zero, suc, ◌+◌, ◌*◌, ◌<◌, ◌≤◌, true, List, [], ◌∷◌, ◌++◌, length, drop, take, Ok, Err, refl, sym, ap, ◌∙◌, arith, append_assoc, append-nil, ⊎_elim}
 use Rattle.std.proofs.lemmas.Bool.{cases_lt, lt-ltb, le-ltb}
-use Rattle.std.proofs.lemmas.List.{length-drop}
-use Rattle.fuse_in.specs.Shapes.{made}
+use Rattle.std.specs.Prelude.{◌/◌}
+use Rattle.std.proofs.lemmas.List.{length-drop, length-take-le, take-take, drop-take}
 use Rattle.server_segments.specs.declared.error.Error.TheVariants.{DecodeMessage}
 use Rattle.fuse_wire.specs.declared.others.ForgetOne.{ForgetOne}
 use Rattle.fuse_wire.specs.Records.{forget_one}
 use Rattle.server_segments.specs.declared.error.Error.{Error}
-use Rattle.server_requests.specs.Reading.{Read, Faults, and_then, many, reading_of}
+use Rattle.fuse_values.specs.Values.{pair_in, pairs_of, pairs_in}
+use Rattle.server_requests.specs.Reading.{Read, Faults, and_then, many, reading_of, value_of}
 use Rattle.server_requests.specs.Fronts.{forget_pair, has_pairs}
 
 -- a list that was read, behind another
@@ -40,11 +41,7 @@ pub many_short : (left n : ℕ) (whole : Read (List (ℕ × ℕ))) (done : List 
 unfolding many
 many_short left n whole done bytes e k w h = sym (w ∙ rw (k, h) refl)
 
--- a pair by its bytes
-abbrev first_pair : List ℕ → ℕ × ℕ
-first_pair bytes = let r = made forget_one.parts forget_one.make (take 16 bytes) in (r.nodeid, r.nlookup)
-
-pair_there : (bytes : List ℕ) → 16 ≤ length bytes → forget_pair bytes ≡ Ok (first_pair bytes, drop 16 bytes)
+pair_there : (bytes : List ℕ) → 16 ≤ length bytes → forget_pair bytes ≡ Ok (pair_in bytes, drop 16 bytes)
 unfolding reading_of
 pair_there bytes h = rw (le-ltb (length bytes) 16 h) refl
 
@@ -66,18 +63,38 @@ many_few (suc n) bytes h =
 
 -- enough for all of them
 abbrev Pairs : ℕ → List ℕ → Type 0
-Pairs n bytes = (pairs : List (ℕ × ℕ)) × (more : List ℕ) × (many n forget_pair bytes ≡ Ok (pairs, more)) × (length pairs ≡ n)
+Pairs n bytes = (more : List ℕ) × (many n forget_pair bytes ≡ Ok (pairs_of n bytes, more)) × (length (pairs_of n bytes) ≡ n)
 
 many_there : (n : ℕ) (bytes : List ℕ) → n * 16 ≤ length bytes → Pairs n bytes
-unfolding many
-many_there zero bytes h = ([], bytes, refl, refl)
+unfolding many pairs_of
+many_there zero bytes h = (bytes, refl, refl)
 many_there (suc n) bytes h =
     let one : 16 ≤ length bytes = omega (arith, h) in
     let others = many_there n (drop 16 bytes) (rw (length-drop 16 bytes) (omega (arith, h))) in
-    (first_pair bytes ∷ others.0, others.1, rw (pair_there bytes one, others.2) refl, ap suc others.3)
+    (others.0, rw (pair_there bytes one, others.1) refl, ap suc others.2)
 
 pub pairs_there : (n : ℕ) (bytes : List ℕ) → n * 16 ≤ length bytes → 0 < n → has_pairs (many n forget_pair bytes) ≡ true
 pairs_there n bytes h l =
     let all = many_there n bytes h in
-    let some : 0 < length all.0 = rw all.3 l in
-    rw all.2 (lt-ltb 0 (length all.0) some)
+    let some : 0 < length (pairs_of n bytes) = rw all.2 l in
+    rw all.1 (lt-ltb 0 (length (pairs_of n bytes)) some)
+
+-- the pairs of the bytes that hold them alone
+pairs_kept : (n : ℕ) (bytes : List ℕ) → pairs_of n (take (n * 16) bytes) ≡ pairs_of n bytes
+unfolding pairs_of
+pairs_kept zero bytes = refl
+pairs_kept (suc n) bytes =
+    let front : take 16 (take (suc n * 16) bytes) ≡ take 16 bytes = take-take 16 (suc n * 16) bytes (omega arith) in
+    let more : suc n * 16 ≡ 16 + n * 16 = omega arith in
+    let rest : drop 16 (take (suc n * 16) bytes) ≡ take (n * 16) (drop 16 bytes) = ap (λ k. drop 16 (take k bytes)) more ∙ drop-take 16 (n * 16) bytes in
+    rw (front, rest, pairs_kept n (drop 16 bytes)) refl
+
+pub pairs_read : (n : ℕ) (bytes : List ℕ) → n * 16 ≤ length bytes → value_of (many n forget_pair bytes) ≡ Ok (pairs_in (take (n * 16) bytes))
+pairs_read n bytes h =
+    let all = many_there n bytes h in
+    let long : length (take (n * 16) bytes) ≡ n * 16 = length-take-le (n * 16) bytes h in
+    let count : length (take (n * 16) bytes) / 16 ≡ n = rw long (omega arith) in
+    ap value_of all.1 ∙ ap Ok (sym (rw count (pairs_kept n bytes)))
+
+pub pairs_cut : (n : ℕ) (bytes : List ℕ) → length bytes < n * 16 → value_of (many n forget_pair bytes) ≡ Err (Faults DecodeMessage)
+pairs_cut n bytes h = rw (many_few n bytes h) refl

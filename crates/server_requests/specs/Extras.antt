@@ -5,8 +5,8 @@ use Rattle.fuse_in.specs.Shapes.{Shape, u32, ◌&◌, end}
 use Rattle.fuse_wire.specs.Records.{ext_header, secctx, supp_groups}
 use Rattle.fuse_fs.specs.Calls.{SecurityContext, Extra, NewLink}
 use Rattle.server_segments.specs.declared.error.Error.TheVariants.{DecodeMessage, MissingParameter, MissingExtension, InvalidHeaderLength, InvalidCString}
-use Rattle.server_requests.specs.declared.extensions.Label.{Label}
-use Rattle.server_requests.specs.declared.extensions.Received.{Received}
+use Rattle.fuse_values.specs.declared.received.Received.{Received}
+use Rattle.fuse_values.specs.Values.{label_of}
 use Rattle.server_requests.specs.Reading.{ReadFailure, Faults, Reading, and_then, ◌>>=◌, ◌>>◌, give, refuse, needs, rest, exactly, within, name_or, front_name, reading_of}
 
 -- FUSE_SECURITY_CTX (bit 32 of the options) is agreed
@@ -26,10 +26,6 @@ pub record Sent : Type 0 where
 -- before the first extension
 abbrev pub nothing_sent : Sent
 nothing_sent = record { was_sent = false; security = None; group = None }
-
--- a label where it stands
-abbrev pub label_of : Label → SecurityContext
-label_of l = record { name = l.name.now; label = l.secctx.now }
 
 -- what has come, where it stands
 abbrev pub sent_of : Received → Sent

@@ -3,7 +3,8 @@
 ghost use Rattle.std.specs.Prelude.{◌≡◌, ◌+◌, ◌<◌, ◌&&◌, ◌||◌, not, nat_le, length, is_none, Ok, Err, IfOk, IfErr, false};
 ghost use Rattle.fuse_fs.specs.Answers.{extra_of, security_of};
 ghost use Rattle.server_requests.specs.Reading.{Faults, outcome, reading_of, value_of};
-ghost use Rattle.server_requests.specs.Extras.{takes_security, takes_group, label_of, sent_of, parts_of, nothing_sent};
+ghost use Rattle.fuse_values.specs.Values.{label_of};
+ghost use Rattle.server_requests.specs.Extras.{takes_security, takes_group, sent_of, parts_of, nothing_sent};
 ghost use Rattle.server_requests.specs.Extras.{security_context, one_group, part, extension, extensions, extra_in};
 ghost use Rattle.server_requests.specs.Extras.{security_part, group_part};
 ghost use Rattle.server_segments.specs.Errors.{is_memory};
@@ -12,26 +13,11 @@ use crate::names::first_name;
 use bitflags::Flags;
 use fuse_fs::{Extensions, SecContext};
 use fuse_in::InRecord;
+use fuse_values::{Label, Received};
 use fuse_wire::{ExtHeader, FsOptions, GuestGid, Secctx, SuppGroups};
 use server_segments::Error;
 use std::alloc::{AllocError, Global};
 use vm_values::ByteValued;
-
-/// A security label where it stands in a request.
-#[derive(Clone, Copy)]
-pub struct Label<'a> {
-    name: &'a [u8],
-    secctx: &'a [u8],
-}
-
-/// What has come of the extensions, where it stands in a request.
-#[derive(Clone, Copy)]
-pub struct Received<'a> {
-    // Whether a context was sent, be it empty.
-    was_sent: bool,
-    secctx: Option<Label<'a>>,
-    sup_gid: Option<u32>,
-}
 
 // A record from the front of some bytes, and those after it.
 #[derive(Clone, Copy)]
@@ -253,16 +239,14 @@ fn extension<'a>(
     }
 }
 
-impl<'a> Received<'a> {
-    // Nothing has come.
-    fn nothing() -> Received<'a>
-        ensures { sent_of result ≡ nothing_sent }
-    {
-        Received {
-            was_sent: false,
-            secctx: None,
-            sup_gid: None,
-        }
+// Nothing has come.
+fn nothing<'a>() -> Received<'a>
+    ensures { sent_of result ≡ nothing_sent }
+{
+    Received {
+        was_sent: false,
+        secctx: None,
+        sup_gid: None,
     }
 }
 
@@ -272,7 +256,7 @@ fn extensions<'a>(options: FsOptions, bytes: &'a [u8]) -> Result<Received<'a>, E
     ensures fault { IfErr result (λ e. is_memory e ≡ false) }
 {
     let mut progress = Progress {
-        received: Received::nothing(),
+        received: nothing(),
         rest: bytes,
     };
     while !progress.rest.is_empty() {
@@ -317,7 +301,7 @@ pub(crate) fn received_extensions<'a>(
             Err(error) => Err(error),
         }
     } else {
-        Ok(Received::nothing())
+        Ok(nothing())
     }
 }
 

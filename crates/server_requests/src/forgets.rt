@@ -13,7 +13,7 @@ use server_segments::{Error, Reader};
 use std::alloc::Global;
 
 /// How many bytes `struct fuse_forget_one` has.
-const FORGET_ONE_LEN: usize = 16;
+pub(crate) const FORGET_ONE_LEN: usize = 16;
 
 /// The next `count` pairs of a node and how many times less it is held (`struct fuse_forget_one`, 16 bytes each), or
 /// `DecodeMessage` if they are not all there. The memory for all of them is had first, where they are there.

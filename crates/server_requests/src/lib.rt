@@ -6,4 +6,5 @@ pub mod forgets;
 pub mod names;
 pub mod new_names;
 pub mod records;
+pub mod source;
 pub mod xattrs;

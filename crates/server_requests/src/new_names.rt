@@ -5,8 +5,9 @@ ghost use Rattle.server_segments.specs.Errors.{is_memory};
 ghost use Rattle.server_requests.specs.Reading.{Faults, value_of};
 ghost use Rattle.server_requests.specs.Extras.{sent_of, parts_of, new_name, new_link};
 
-use crate::extensions::{Received, received_extensions};
+use crate::extensions::received_extensions;
 use crate::names::front_name;
+use fuse_values::Received;
 use fuse_wire::FsOptions;
 use server_segments::Error;
 

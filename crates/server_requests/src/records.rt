@@ -9,7 +9,7 @@ use fuse_in::{InRecord, InitInCompat, InitInExt};
 use server_segments::{Error, Reader};
 
 /// In `InitInCompat::flags`: the record goes on.
-const INIT_EXT: u32 = 1 << 30;
+pub(crate) const INIT_EXT: u32 = 1 << 30;
 
 /// The record that the next bytes spell, or `DecodeMessage` if there are too few.
 #[inline(always)]

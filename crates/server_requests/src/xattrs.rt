@@ -5,7 +5,7 @@ ghost use Rattle.std.specs.Cow.{cow_slice_items};
 ghost use Rattle.vm_values.specs.Bits.{has_bit};
 ghost use Rattle.server_segments.specs.Errors.{is_memory};
 ghost use Rattle.server_requests.specs.Reading.{Faults, value_of};
-ghost use Rattle.server_requests.specs.Fronts.{counted_split, setxattr_front, setxattr_len};
+ghost use Rattle.server_requests.specs.Fronts.{counted_split, setxattr_front, setxattr_len, without_flags};
 
 use crate::names::{WithBytes, read_with_bytes};
 use bitflags::Flags;
@@ -15,10 +15,22 @@ use server_segments::{Error, Reader};
 use std::alloc::Global;
 
 // Whether SETXATTR has its longer record.
-fn has_setxattr_ext(options: FsOptions) -> bool
+pub(crate) fn has_setxattr_ext(options: FsOptions) -> bool
     ensures { result ≡ has_bit options.0 29 }
 {
     (options & FsOptions::SETXATTR_EXT).bits() != 0
+}
+
+// The longer record, of a client that sends the shorter one.
+pub(crate) fn with_no_flags(request: &SetxattrInCompat) -> SetxattrIn
+    ensures { result ≡ without_flags request.now }
+{
+    SetxattrIn {
+        size: request.size,
+        flags: request.flags,
+        setxattr_flags: 0,
+        padding: 0,
+    }
 }
 
 /// The record of SETXATTR (`struct fuse_setxattr_in`: 16 bytes with `SETXATTR_EXT`, else 8), and the bytes after it:
@@ -39,12 +51,7 @@ pub fn read_setxattr<'a>(
     }
     match read_with_bytes::<SetxattrInCompat>(alloc, len, r) {
         Ok(front) => Ok(WithBytes {
-            record: SetxattrIn {
-                size: front.record.size,
-                flags: front.record.flags,
-                setxattr_flags: 0,
-                padding: 0,
-            },
+            record: with_no_flags(&front.record),
             bytes: front.bytes,
         }),
         Err(error) => Err(error),

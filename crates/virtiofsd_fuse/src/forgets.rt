@@ -17,7 +17,7 @@ use server_segments::{Error, Reader, Writer};
 use std::alloc::Global;
 
 /// How many pairs one request may have: 2^20 bytes of them.
-const MAX_FORGETS: u32 = 65536;
+pub const MAX_FORGETS: u32 = 65536;
 
 impl<F: FileSystem> Server<F> {
     // BATCH_FORGET, by how many pairs it says.

@@ -15,6 +15,7 @@ mod writes;
 mod xattrs;
 
 pub use data_apart::{REPLY_FRONT, REQUEST_FRONT, writes_data};
+pub use forgets::MAX_FORGETS;
 pub use fuse_fs::{
     ChangeCalls, ChangesNothing, Context, DirEntry, DirectoryIterator, Entry, Extensions, FewCalls,
     FileNumber, FileSystem, FileSystemBase, GetxattrReply, ListxattrReply, NoEntries, OpenCalls,
@@ -22,5 +23,5 @@ pub use fuse_fs::{
     ZeroCopyReader, ZeroCopyWriter, defaults,
 };
 pub use reads::{ReadReply, ReadRequest};
-pub use server::{MAX_REQUEST_LEN, Server};
+pub use server::{MAX_REQUEST_LEN, Server, opcode_of};
 pub use server_segments::{DescriptorType, Error, Reader, Writer, ZcReader, ZcWriter};

@@ -39,8 +39,8 @@ pub struct Server<F> {
     ghost known: { bit_and options.0 known_options ≡ options.0 },
 }
 
-// The request that a number asks for.
-pub(crate) fn opcode_of(number: u32) -> Option<Opcode>
+/// The request that a number asks for.
+pub fn opcode_of(number: u32) -> Option<Opcode>
     ensures { result ≡ opcode_of number }
 {
     match Opcode::try_from(number) {

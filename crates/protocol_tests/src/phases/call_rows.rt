@@ -1,7 +1,7 @@
 //! Requests and what they are told: the call and what it waits for, or what there is without one.
 
 use crate::given::expect_same;
-use crate::phases::given::{UNIQUE_NUMBER, asked};
+use crate::phases::given::UNIQUE_NUMBER;
 use crate::phases::said::{NOBODY, NONE, Said, call_said, in_words, who};
 use crate::rows::{ASKER, Digits, UNIQUE, spelled};
 use bitflags::Flags;
@@ -54,7 +54,7 @@ enum Seen<'a> {
 }
 
 // What was told.
-fn shown(asked: &Asked) -> Seen<'_> {
+fn shown<'a>(asked: &'a Asked<'_>) -> Seen<'a> {
     match asked {
         Asked::Call(call, waiting) => Seen::Call(
             call_said(call),
@@ -101,7 +101,8 @@ fn reply_of(told: Told) -> Digits {
 fn expect_told(rt: &impl Abort, alloc: Global, options: u64, rows: &[Row]) {
     let session = Session::resume(4096, FsOptions::from_bits_retain(options));
     for row in rows {
-        let found = asked(rt, alloc, &session, row.request, row.room);
+        let request = spelled(rt, alloc, row.request);
+        let found = session.ask(&request, row.room);
         let reply = spelled(rt, alloc, reply_of(row.told));
         let want = wanted(row.told, &reply);
         expect_same(rt, (row.name, shown(&found)), (row.name, want));

@@ -1,12 +1,9 @@
 //! Requests that are told by their first bytes.
 
 use crate::given::expect_same;
-use crate::phases::given::place;
 use crate::rows::{ASKER, Digits, UNIQUE, spelled};
 use fuse_values::FileCall;
 use server_phases::{Asked, AskedFront, Session};
-use std::alloc::Global;
-use std::process::Abort;
 
 /// The first bytes of a request that has so many in all, and what they tell.
 #[derive(Clone, Copy)]
@@ -33,7 +30,7 @@ enum Told {
 }
 
 // What was told.
-fn shown(told: &AskedFront) -> Told {
+fn shown(told: &AskedFront<'_>) -> Told {
     match told {
         AskedFront::Told(Asked::Call(FileCall::Write { len, .. }, _)) => Told::Write(*len),
         AskedFront::Told(Asked::Call(..)) => Told::Call,
@@ -123,10 +120,7 @@ fn requests_are_told_by_their_first_bytes(rt: HostRuntime) {
     let session = Session::new(4096);
     for row in ROWS {
         let front = spelled(&rt, alloc, row.front);
-        let mut w = place(&rt, alloc);
-        let told = session
-            .ask_front(alloc, &front, row.len, 24, &mut w)
-            .expect(&rt, "memory");
+        let told = session.ask_front(&front, row.len, 24);
         expect_same(&rt, (row.name, shown(&told)), (row.name, row.told));
     }
 }

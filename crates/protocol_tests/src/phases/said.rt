@@ -1,8 +1,8 @@
 //! Calls in words and numbers that tests compare.
 
 use bitflags::Flags;
-use fuse_fs::{Context, Extensions};
-use fuse_values::FileCall;
+use fuse_fs::Context;
+use fuse_values::{FileCall, Received};
 use fuse_wire::{SetattrIn, SetattrValid};
 
 /// Stands for a number that isn't there.
@@ -63,15 +63,25 @@ fn bare<'a>(name: &'a str, numbers: &[u64]) -> Said<'a> {
 }
 
 // The group of extensions, if there is one.
-fn group(extra: &Extensions) -> u64 {
+fn group(extra: &Received<'_>) -> u64 {
     match extra.sup_gid {
-        Some(gid) => u64::from(gid.0),
+        Some(group) => u64::from(group),
         None => NONE,
     }
 }
 
+// The number of eight bytes that stands there, the lowest byte first; NONE if it isn't there whole.
+fn number_at(bytes: &[u8], at: u8) -> u64 {
+    let mut eight = [0; 8];
+    if bytes.len() < usize::from(at) + 8 {
+        return NONE;
+    }
+    eight.copy_from_slice(&bytes[usize::from(at)..][..8]);
+    u64::from_le_bytes(eight)
+}
+
 /// A call of a session or of nodes in words.
-pub fn call_said(call: &FileCall) -> Said<'_> {
+pub fn call_said<'a>(call: &FileCall<'a>) -> Said<'a> {
     match call {
         FileCall::Init { capable } => bare("init", &[capable.bits()]),
         FileCall::Destroy => bare("destroy", &[]),
@@ -82,12 +92,15 @@ pub fn call_said(call: &FileCall) -> Said<'_> {
             node,
             count,
         } => nameless("forget", context, &[*node, *count]),
-        FileCall::BatchForget { context, counts } => match counts.as_slice() {
-            [(first, less), (second, fewer)] => {
-                nameless("batch_forget", context, &[*first, *less, *second, *fewer])
-            }
-            _ => nameless("batch_forget", context, &[]),
-        },
+        FileCall::BatchForget { context, counts } => {
+            let numbers = [
+                number_at(*counts, 0),
+                number_at(*counts, 8),
+                number_at(*counts, 16),
+                number_at(*counts, 24),
+            ];
+            nameless("batch_forget", context, &numbers)
+        }
         FileCall::Getattr {
             context,
             node,
@@ -100,13 +113,13 @@ pub fn call_said(call: &FileCall) -> Said<'_> {
 }
 
 // A call that has names.
-fn named_said(call: &FileCall) -> Said<'_> {
+fn named_said<'a>(call: &FileCall<'a>) -> Said<'a> {
     match call {
         FileCall::Lookup {
             context,
             node,
             name,
-        } => in_words("lookup", who(context), &[*node], (name, &[])),
+        } => in_words("lookup", who(context), &[*node], (*name, &[])),
         FileCall::Rename {
             context,
             node,
@@ -116,7 +129,7 @@ fn named_said(call: &FileCall) -> Said<'_> {
             flags,
         } => {
             let numbers = [*node, *new_dir, u64::from(*flags)];
-            in_words("rename", who(context), &numbers, (old, new))
+            in_words("rename", who(context), &numbers, (*old, *new))
         }
         FileCall::Setxattr {
             context,
@@ -127,7 +140,7 @@ fn named_said(call: &FileCall) -> Said<'_> {
             extra,
         } => {
             let numbers = [*node, u64::from(*flags), u64::from(extra.bits())];
-            in_words("setxattr", who(context), &numbers, (name, value))
+            in_words("setxattr", who(context), &numbers, (*name, *value))
         }
         FileCall::Getxattr {
             context,
@@ -136,14 +149,14 @@ fn named_said(call: &FileCall) -> Said<'_> {
             size,
         } => {
             let numbers = [*node, u64::from(*size)];
-            in_words("getxattr", who(context), &numbers, (name, &[]))
+            in_words("getxattr", who(context), &numbers, (*name, &[]))
         }
         other => opening_said(other),
     }
 }
 
 // A call that opens a file.
-fn opening_said(call: &FileCall) -> Said<'_> {
+fn opening_said<'a>(call: &FileCall<'a>) -> Said<'a> {
     match call {
         FileCall::Open {
             context,
@@ -172,14 +185,14 @@ fn opening_said(call: &FileCall) -> Said<'_> {
                 u64::from(*umask),
                 group(extra),
             ];
-            in_words("create", who(context), &numbers, (name, &[]))
+            in_words("create", who(context), &numbers, (*name, &[]))
         }
         other => file_said(other),
     }
 }
 
 // A call of an open file.
-fn file_said(call: &FileCall) -> Said<'_> {
+fn file_said<'a>(call: &FileCall<'a>) -> Said<'a> {
     match call {
         FileCall::Read {
             context,
@@ -207,7 +220,7 @@ fn file_said(call: &FileCall) -> Said<'_> {
 }
 
 // A call about a place in an open file or directory.
-fn place_said(call: &FileCall) -> Said<'_> {
+fn place_said<'a>(call: &FileCall<'a>) -> Said<'a> {
     match call {
         FileCall::Lseek {
             context,
@@ -236,7 +249,7 @@ fn place_said(call: &FileCall) -> Said<'_> {
 }
 
 // A call that changes a file's bytes or attributes, or any other, which has no words.
-fn written_said(call: &FileCall) -> Said<'_> {
+fn written_said<'a>(call: &FileCall<'a>) -> Said<'a> {
     match call {
         FileCall::Write {
             context,

@@ -1,4 +1,4 @@
-use Rattle.std.proofs.Common.{rules, inl, inr, ap, ◌∙◌, Err}
+use Rattle.std.proofs.Common.{rules, inl, inr}
 use Rattle.fs_chain_c.proofs.asking.ask_workbench.Goals as goal
 
 pub returns-in-Ok : goal.returns-in-Ok
@@ -17,12 +17,4 @@ returns-in-Ok c =
 
 pub returns-in-Err : goal.returns-in-Err
 returns-in-Err c =
-    inr (inl (
-      search rules,
-      c.resume-session.result,
-      search rules,
-      c.in-Err.error,
-      record { why = search rules; memory = λ wants. c.ask.ensures.memory (c.in-Err.is ∙ ap Err wants); refused = λ wants. c.ask.ensures.refused (c.in-Err.is ∙ ap Err wants); stays = search rules },
-      search rules,
-      search rules,
-    ))
+    inr (inl (search rules, c.in-Err.error, record { why = search rules; stays = search rules }, search rules, search rules))

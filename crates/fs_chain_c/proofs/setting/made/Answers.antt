@@ -4,10 +4,10 @@ use Rattle.fs_chain_c.proofs.setting.made.Goals as goal
 
 pub returns-in-Ok-clause-ok : goal.returns-in-Ok-clause-ok
 returns-in-Ok-clause-ok c =
-    let b = c.in_ok-workbench.workbench in
+    let b = c.new-workbench.result in
     let set = c.in_ok-set_memory.ensures.set in (
       b,
-      c.in_ok-workbench.ensures.ok,
+      search rules,
       goes_along b c.args.device.now c.args.regions.now c.set_memory.new.self c.in-Ok.workbench.value (search rules)
           (c.in_ok-set_memory.ensures.ok, search rules, rw set.0 c.in_ok-memory.ensures.ok, set.1, set.2, set.3, set.4),
     )

@@ -4,22 +4,17 @@ use Rattle.fuse_fs.specs.Calls.{Readdir}
 use Rattle.virtiofsd_fuse.specs.Grammar.{Lists, given}
 use Rattle.virtiofsd_fuse.specs.Listings.{listing_of}
 use Rattle.virtiofsd_fuse.proofs.Rows.{listing_asks, listing_long, listing_wide}
-use Rattle.server_phases.proofs.Telling.{error_told}
 use Rattle.server_phases.proofs.asking.ask_listing.Goals as goal
 
 pub returns-then-request-gt-MAX_BUFFER_SIZE-clause-told : goal.returns-then-request-gt-MAX_BUFFER_SIZE-clause-told
 returns-then-request-gt-MAX_BUFFER_SIZE-clause-told c = λ page_size options more bytes.
-    rw (listing_long c.args.with_nodes (given c.args.head.now options c.args.room) c.args.request.now more c.if-request-gt-MAX_BUFFER_SIZE.true, c.replied.ensures, c.error.ensures)
-    (error_told page_size options c.args.room c.args.head.now.unique 12 bytes)
+    c.refused.ensures.told page_size options _ bytes
+    (listing_long c.args.with_nodes (given c.args.head.now options c.args.room) c.args.request.now more c.if-request-gt-MAX_BUFFER_SIZE.true)
 
 pub returns-then-room-request-clause-told : goal.returns-then-room-request-clause-told
 returns-then-room-request-clause-told c = λ page_size options more bytes.
-    rw (
-      listing_wide c.args.with_nodes (given c.args.head.now options c.args.room) c.args.request.now more c.if-request-gt-MAX_BUFFER_SIZE.false c.if-room-request.true,
-      c.replied-then-room-request.ensures,
-      c.error-then-room-request.ensures,
-    )
-    (error_told page_size options c.args.room c.args.head.now.unique 12 bytes)
+    c.refused-then-room-request.ensures.told page_size options _ bytes
+    (listing_wide c.args.with_nodes (given c.args.head.now options c.args.room) c.args.request.now more c.if-request-gt-MAX_BUFFER_SIZE.false c.if-room-request.true)
 
 pub returns-clause-told : goal.returns-clause-told
 returns-clause-told c = λ page_size options more bytes. (

@@ -1,11 +1,10 @@
-use Rattle.std.proofs.Common.{◌≡◌, ◌-◌, Ok, drop, length, refl, sym, ap, subst, ◌∙◌, arith, List, ℕ}
+use Rattle.std.proofs.Common.{◌≡◌, ◌-◌, Ok, drop, length, refl, sym, subst, arith, List, ℕ}
 use Rattle.std.proofs.lemmas.List.{drop-drop, length-drop}
 use Rattle.fuse_in.specs.Records.{in_header}
 use Rattle.server_requests.specs.Reading.{reading_of}
 use Rattle.virtiofsd_fuse.proofs.Rows.{meaning_head}
 use Rattle.server_phases.specs.Asking.{BeginsRecord}
-use Rattle.server_phases.proofs.Fronts.{front_begins, record_begins, record_by_front}
-use Rattle.server_phases.proofs.Plain.{behind}
+use Rattle.server_phases.proofs.Fronts.{behind, front_begins, record_begins, record_by_front}
 use Rattle.server_phases.proofs.Telling.{has_asker}
 use Rattle.server_phases.proofs.asking.ask_write_front.Goals as goal
 
@@ -13,9 +12,9 @@ pub returns-in-Ok-clause-told : goal.returns-in-Ok-clause-told
 returns-in-Ok-clause-told c = λ page_size options request len is.
     let front = c.args.front.now in
     let head = c.in-Ok.head in
-    let left = c.read_record.new.r.left in
+    let left = c.record.new.self.bytes.now in
     let long = c.requires.front in
-    let reads : Ok (head, left) ≡ reading_of in_header front = c.in-Ok.ensures.reads ∙ ap (reading_of in_header) c.of_slice-r.ensures.left in
+    let reads : Ok (head, left) ≡ reading_of in_header front = c.in-Ok.ensures.reads in
     let begins = record_by_front in_header front request left head (front_begins 40 front request is (omega arith)) reads in
     let same = behind in_header front left head reads in
     let joined : drop 40 (drop 40 request) ≡ drop 80 request = drop-drop 40 40 request in
@@ -28,6 +27,6 @@ returns-in-Ok-clause-asker c = λ request is.
     let front = c.args.front.now in
     let head = c.in-Ok.head in
     let long = c.requires.front in
-    let reads : Ok (head, c.read_record.new.r.left) ≡ reading_of in_header front = c.in-Ok.ensures.reads ∙ ap (reading_of in_header) c.of_slice-r.ensures.left in
-    let begins = record_by_front in_header front request c.read_record.new.r.left head (front_begins 40 front request is (omega arith)) reads in
+    let reads : Ok (head, c.record.new.self.bytes.now) ≡ reading_of in_header front = c.in-Ok.ensures.reads in
+    let begins = record_by_front in_header front request c.record.new.self.bytes.now head (front_begins 40 front request is (omega arith)) reads in
     has_asker request (drop 40 request) head c.ask_write_head.result begins c.ask_write_head.ensures.asker

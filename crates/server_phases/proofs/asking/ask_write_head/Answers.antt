@@ -4,13 +4,11 @@ use Rattle.fuse_wire.specs.Opcodes.{opcode_of}
 use Rattle.virtiofsd_fuse.specs.Grammar.{given, row}
 use Rattle.virtiofsd_fuse.proofs.Rows.{meant_long, meant_row}
 use Rattle.server_phases.proofs.Fronts.{write_is}
-use Rattle.server_phases.proofs.Telling.{error_told}
 use Rattle.server_phases.proofs.asking.ask_write_head.Goals as goal
 
 pub returns-then-head-gt-MAX_REQUEST_LEN-clause-told : goal.returns-then-head-gt-MAX_REQUEST_LEN-clause-told
 returns-then-head-gt-MAX_REQUEST_LEN-clause-told c = λ page_size options bytes begins len.
-    rw (meant_long (given c.args.head.now options c.args.room) bytes c.if-head-gt-MAX_REQUEST_LEN.true, c.replied.ensures, c.error.ensures)
-    (error_told page_size options c.args.room c.args.head.now.unique 12 (drop 40 bytes))
+    c.refused.ensures.told page_size options _ (drop 40 bytes) (meant_long (given c.args.head.now options c.args.room) bytes c.if-head-gt-MAX_REQUEST_LEN.true)
 
 pub returns-clause-told : goal.returns-clause-told
 unfolding row

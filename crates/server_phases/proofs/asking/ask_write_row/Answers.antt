@@ -8,10 +8,10 @@ use Rattle.server_phases.proofs.asking.ask_write_row.Goals as goal
 pub returns-in-Ok-clause-told : goal.returns-in-Ok-clause-told
 returns-in-Ok-clause-told c = λ page_size options bytes begins len.
     rw (write_asks (given c.args.head.now options c.args.room) bytes (drop 40 bytes) c.in-Ok.request
-    (record_by_front write_in c.args.r.now.left bytes c.read_record.new.r.left c.in-Ok.request begins c.in-Ok.ensures.reads))
+    (record_by_front write_in c.args.source.bytes.now bytes c.record.new.self.bytes.now c.in-Ok.request begins c.in-Ok.ensures.reads))
     (c.ask_write.ensures.told page_size options (drop 40 bytes) len)
 
 pub returns-in-Err-clause-told : goal.returns-in-Err-clause-told
 returns-in-Err-clause-told c = λ page_size options bytes begins len.
     rw (write_short (given c.args.head.now options c.args.room) bytes c.in-Err.error
-    (fault_by_front write_in c.args.r.now.left bytes c.in-Err.error begins c.in-Err.ensures.reads)) refl
+    (fault_by_front write_in c.args.source.bytes.now bytes c.in-Err.error begins c.in-Err.ensures.reads)) refl

@@ -1,0 +1,199 @@
+//! The calls of requests on open files and directories.
+
+ghost use Rattle.std.specs.Prelude.{refl};
+ghost use Rattle.server_calls.specs.Requests.{open_call, release_call, fsync_call, fsyncdir_call, flush_call, opendir_call};
+ghost use Rattle.server_calls.specs.Requests.{releasedir_call, fallocate_call, lseek_call, copy_file_range_call};
+
+use crate::open_files::{
+    CopyFileRange, Fallocate, Flush, Fsync, Fsyncdir, Lseek, Open, Opendir, Release, Releasedir,
+    releasing_owner,
+};
+use crate::values::RecordValue;
+use fuse_fs::Context;
+use fuse_in::{
+    CopyfilerangeIn, FallocateIn, FlushIn, FsyncIn, InHeader, LseekIn, OpenIn, ReleaseIn,
+};
+use fuse_values::FileCall;
+use fuse_wire::constants::{
+    FSYNC_FDATASYNC, OPEN_KILL_SUIDGID, RELEASE_FLOCK_UNLOCK, RELEASE_FLUSH,
+};
+
+impl RecordValue for Open {
+    type Record = OpenIn;
+
+    ghost call = { open_call };
+
+    ghost says = { λ h r. (refl, tt) };
+
+    fn value<'a>(head: &InHeader, request: &OpenIn) -> FileCall<'a> {
+        FileCall::Open {
+            context: Context::from(*head),
+            node: head.nodeid,
+            kill: request.open_flags & OPEN_KILL_SUIDGID != 0,
+            flags: request.flags,
+        }
+    }
+}
+
+impl RecordValue for Release {
+    type Record = ReleaseIn;
+
+    ghost call = { release_call };
+
+    ghost says = { λ h r. (refl, tt) };
+
+    fn value<'a>(head: &InHeader, request: &ReleaseIn) -> FileCall<'a> {
+        FileCall::Release {
+            context: Context::from(*head),
+            node: head.nodeid,
+            flags: request.flags,
+            handle: request.fh,
+            flush: request.release_flags & RELEASE_FLUSH != 0,
+            unlock: request.release_flags & RELEASE_FLOCK_UNLOCK != 0,
+            owner: releasing_owner(request),
+        }
+    }
+}
+
+impl RecordValue for Fsync {
+    type Record = FsyncIn;
+
+    ghost call = { fsync_call };
+
+    ghost says = { λ h r. (refl, tt) };
+
+    fn value<'a>(head: &InHeader, request: &FsyncIn) -> FileCall<'a> {
+        FileCall::Fsync {
+            context: Context::from(*head),
+            node: head.nodeid,
+            data_only: request.fsync_flags & FSYNC_FDATASYNC != 0,
+            handle: request.fh,
+        }
+    }
+}
+
+impl RecordValue for Fsyncdir {
+    type Record = FsyncIn;
+
+    ghost call = { fsyncdir_call };
+
+    ghost says = { λ h r. (refl, tt) };
+
+    fn value<'a>(head: &InHeader, request: &FsyncIn) -> FileCall<'a> {
+        FileCall::Fsyncdir {
+            context: Context::from(*head),
+            node: head.nodeid,
+            data_only: request.fsync_flags & FSYNC_FDATASYNC != 0,
+            handle: request.fh,
+        }
+    }
+}
+
+impl RecordValue for Flush {
+    type Record = FlushIn;
+
+    ghost call = { flush_call };
+
+    ghost says = { λ h r. (refl, tt) };
+
+    fn value<'a>(head: &InHeader, request: &FlushIn) -> FileCall<'a> {
+        FileCall::Flush {
+            context: Context::from(*head),
+            node: head.nodeid,
+            handle: request.fh,
+            owner: request.lock_owner,
+        }
+    }
+}
+
+impl RecordValue for Opendir {
+    type Record = OpenIn;
+
+    ghost call = { opendir_call };
+
+    ghost says = { λ h r. (refl, tt) };
+
+    fn value<'a>(head: &InHeader, request: &OpenIn) -> FileCall<'a> {
+        FileCall::Opendir {
+            context: Context::from(*head),
+            node: head.nodeid,
+            flags: request.flags,
+        }
+    }
+}
+
+impl RecordValue for Releasedir {
+    type Record = ReleaseIn;
+
+    ghost call = { releasedir_call };
+
+    ghost says = { λ h r. (refl, tt) };
+
+    fn value<'a>(head: &InHeader, request: &ReleaseIn) -> FileCall<'a> {
+        FileCall::Releasedir {
+            context: Context::from(*head),
+            node: head.nodeid,
+            flags: request.flags,
+            handle: request.fh,
+        }
+    }
+}
+
+impl RecordValue for Fallocate {
+    type Record = FallocateIn;
+
+    ghost call = { fallocate_call };
+
+    ghost says = { λ h r. (refl, tt) };
+
+    fn value<'a>(head: &InHeader, request: &FallocateIn) -> FileCall<'a> {
+        FileCall::Fallocate {
+            context: Context::from(*head),
+            node: head.nodeid,
+            handle: request.fh,
+            mode: request.mode,
+            offset: request.offset,
+            len: request.length,
+        }
+    }
+}
+
+impl RecordValue for Lseek {
+    type Record = LseekIn;
+
+    ghost call = { lseek_call };
+
+    ghost says = { λ h r. (refl, tt) };
+
+    fn value<'a>(head: &InHeader, request: &LseekIn) -> FileCall<'a> {
+        FileCall::Lseek {
+            context: Context::from(*head),
+            node: head.nodeid,
+            handle: request.fh,
+            offset: request.offset,
+            whence: request.whence,
+        }
+    }
+}
+
+impl RecordValue for CopyFileRange {
+    type Record = CopyfilerangeIn;
+
+    ghost call = { copy_file_range_call };
+
+    ghost says = { λ h r. (refl, tt) };
+
+    fn value<'a>(head: &InHeader, request: &CopyfilerangeIn) -> FileCall<'a> {
+        FileCall::CopyFileRange {
+            context: Context::from(*head),
+            node: head.nodeid,
+            handle: request.fh_in,
+            offset: request.off_in,
+            node_out: request.nodeid_out,
+            handle_out: request.fh_out,
+            offset_out: request.off_out,
+            len: request.len,
+            flags: request.flags,
+        }
+    }
+}

@@ -1,0 +1,107 @@
+//! Requests by their shape: the call that each of them asks for, as a value whose names stand in the request.
+
+ghost use Rattle.std.specs.Prelude.{◌≡◌, ℕ, List, []};
+ghost use Rattle.fuse_in.specs.declared.session.InHeader.{InHeader};
+ghost use Rattle.fuse_fs.specs.Calls as call;
+ghost use Rattle.fuse_fs.specs.Calls.{Extra};
+ghost use Rattle.fuse_values.specs.Values.{call_of, extra_of};
+ghost use Rattle.server_calls.specs.Callers.{CallSays};
+
+use fuse_in::{InHeader, InRecord};
+use fuse_values::{FileCall, Received};
+
+/// A request that is nothing but its header.
+pub trait PlainValue {
+    // The call that it asks for.
+    ghost call: { InHeader → call.FileCall };
+
+    // It is made for who sent the request.
+    ghost says: { (h : InHeader) → CallSays h (call h) };
+
+    /// The call.
+    fn value<'a>(head: &InHeader) -> FileCall<'a>
+        ensures { call_of [] result ≡ call head.now };
+}
+
+/// A request that is one record.
+pub trait RecordValue {
+    type Record: InRecord;
+
+    // The call that it asks for.
+    ghost call: { InHeader → Self.Record → call.FileCall };
+
+    // It is made for who sent the request.
+    ghost says: { (h : InHeader) (r : Self.Record) → CallSays h (call h r) };
+
+    /// The call.
+    fn value<'a>(head: &InHeader, request: &Self::Record) -> FileCall<'a>
+        ensures { call_of [] result ≡ call head.now request.now };
+}
+
+/// A request that is one name.
+pub trait NameValue {
+    // The call that it asks for.
+    ghost call: { InHeader → List ℕ → call.FileCall };
+
+    // It is made for who sent the request.
+    ghost says: { (h : InHeader) (name : List ℕ) → CallSays h (call h name) };
+
+    /// The call.
+    fn value<'a>(head: &InHeader, name: &'a [u8]) -> FileCall<'a>
+        ensures { call_of [] result ≡ call head.now name.now };
+}
+
+/// A request that is one record and one name.
+pub trait RecordNameValue {
+    type Record: InRecord;
+
+    // The call that it asks for.
+    ghost call: { InHeader → Self.Record → List ℕ → call.FileCall };
+
+    // It is made for who sent the request.
+    ghost says: { (h : InHeader) (r : Self.Record) (name : List ℕ) → CallSays h (call h r name) };
+
+    /// The call.
+    fn value<'a>(head: &InHeader, request: &Self::Record, name: &'a [u8]) -> FileCall<'a>
+        ensures { call_of [] result ≡ call head.now request.now name.now };
+}
+
+/// A request that is one record and two parts: two names, or a name and a value.
+pub trait TwoPartsValue {
+    type Record: InRecord;
+
+    // The call that it asks for.
+    ghost call: { InHeader → Self.Record → List ℕ × List ℕ → call.FileCall };
+
+    // It is made for who sent the request.
+    ghost says: { (h : InHeader) (r : Self.Record) (parts : List ℕ × List ℕ) → CallSays h (call h r parts) };
+
+    /// The call.
+    fn value<'a>(
+        head: &InHeader,
+        request: &Self::Record,
+        first: &'a [u8],
+        second: &'a [u8],
+    ) -> FileCall<'a>
+        ensures { call_of [] result ≡ call head.now request.now (first.now, second.now) };
+}
+
+/// A request that is one record and the name of a node that is made.
+pub trait NewNameValue {
+    type Record: InRecord;
+
+    // The call that it asks for.
+    ghost call: { InHeader → Self.Record → List ℕ × Extra → call.FileCall };
+
+    // It is made for who sent the request.
+    ghost says: { (h : InHeader) (r : Self.Record) (x : List ℕ × Extra) → CallSays h (call h r x) };
+
+    /// The call.
+    fn value<'a>(
+        head: &InHeader,
+        request: &Self::Record,
+        name: &'a [u8],
+        extra: Received<'a>,
+    ) -> FileCall<'a>
+        ensures { call_of [] result ≡ call head.now request.now (name.now, extra_of extra.entry) };
+}
