@@ -1,4 +1,5 @@
-//! The handle for a chain in parts: made, told its memory, walked over a chain of many entries, asked, and given back.
+//! The handle for a chain in parts: made, told its memory, walked over a chain of many entries and then over one whose table goes over the
+//! end of a region, asked, and given back.
 
 use crate::given::{Trial, Unmet, expect, expect_kept, met};
 use fs_chain::{KeptQueue, Told, WalkOutcome, Went, Workbench};
@@ -30,15 +31,29 @@ fn entry(number: u8) -> [u8; 16] {
     [0, 8, 0, 0, 0, 0, 0, 0, len, 0, 0, 0, flags, 0, next, 0]
 }
 
-// One page at 0.
-fn regions(alloc: Global) -> Result<Vec<MemoryRegion>, Unmet> {
-    match MemoryRegion::new(0, 0x1000, 0) {
-        Some(region) => met(Vec::from_array(alloc, [region]), Unmet::Drawing),
+// A chain whose table goes over the end of the first page: its descriptor, the first entry in two parts, and the second one.
+const OVER_THE_END: [&[u8]; 4] = [
+    &[0xf8, 15, 0, 0, 0, 0, 0, 0, 32, 0, 0, 0, 4, 0, 0, 0],
+    &[0, 8, 0, 0, 0, 0, 0, 0],
+    &[46, 0, 0, 0, 1, 0, 1, 0],
+    &[0, 2, 0, 0, 0, 0, 0, 0, 144, 0, 0, 0, 2, 0, 0, 0],
+];
+
+// A page from an address on, as a region of this number.
+fn region(start: u64, number: usize) -> Result<MemoryRegion, Unmet> {
+    match MemoryRegion::new(start, 0x1000, number) {
+        Some(region) => Ok(region),
         None => Err(Unmet::Drawing),
     }
 }
 
-// The memory of that page.
+// Two pages from 0 on.
+fn regions(alloc: Global) -> Result<Vec<MemoryRegion>, Unmet> {
+    let (first, second) = (region(0, 0)?, region(0x1000, 1)?);
+    met(Vec::from_array(alloc, [first, second]), Unmet::Drawing)
+}
+
+// The memory of these pages.
 fn memory(trial: Trial, regions: Vec<MemoryRegion>) -> Result<GuestRegions, Unmet> {
     match GuestRegions::of_regions(trial.alloc, regions) {
         Ok(memory) => Ok(memory),
@@ -67,7 +82,15 @@ fn queue() -> Result<KeptQueue, Unmet> {
     }
 }
 
-// A walk goes on by a load. What is refused asks for the same load still.
+// How many bytes a walk still asks for.
+fn wanted_len(workbench: &Workbench) -> usize {
+    match workbench.still_wanted() {
+        Some(window) => window.len(),
+        None => 0,
+    }
+}
+
+// A walk goes on by a load, or by a part of it. What is refused asks for the same bytes still.
 fn walk(
     trial: Trial,
     workbench: &mut Workbench,
@@ -78,31 +101,48 @@ fn walk(
         Ok(went) => Ok(went),
         Err(error) => {
             trial.expect_told(error.number() == 9)?;
-            expect_kept(!queue.out && workbench.load_len() == load.len())?;
+            expect_kept(!queue.out && wanted_len(workbench) == load.len())?;
             met(workbench.walk(queue, load), Unmet::Memory)
         }
     }
 }
 
-// The walk up to the chain's first entry.
-fn walk_rings(trial: Trial, workbench: &mut Workbench, queue: &mut KeptQueue) -> Result<(), Unmet> {
-    for load in [[].as_slice(), [1, 0].as_slice(), [0, 0].as_slice()] {
+// The walk up to the first entry of the chain that comes after so many.
+fn walk_rings(
+    trial: Trial,
+    workbench: &mut Workbench,
+    queue: &mut KeptQueue,
+    before: u8,
+) -> Result<(), Unmet> {
+    let index = [before.wrapping_add(1), 0];
+    for load in [[].as_slice(), index.as_slice(), [0, 0].as_slice()] {
         walk(trial, workbench, queue, load)?;
     }
     Ok(())
 }
 
-// The walk over its entries.
-fn walk_entries(
-    trial: Trial,
-    workbench: &mut Workbench,
-    queue: &mut KeptQueue,
-) -> Result<Went, Unmet> {
+// The chain of many entries is walked.
+fn take_long(trial: Trial, workbench: &mut Workbench, queue: &mut KeptQueue) -> Result<(), Unmet> {
+    walk_rings(trial, workbench, queue, 0)?;
     let mut went = Went::Part;
     for number in 0..ENTRIES {
         went = walk(trial, workbench, queue, &entry(number))?;
     }
-    Ok(went)
+    expect_chain(went, queue)
+}
+
+// The chain whose table goes over the end is walked.
+fn take_over_the_end(
+    trial: Trial,
+    workbench: &mut Workbench,
+    queue: &mut KeptQueue,
+) -> Result<(), Unmet> {
+    walk_rings(trial, workbench, queue, 1)?;
+    let mut went = Went::Part;
+    for load in OVER_THE_END {
+        went = walk(trial, workbench, queue, load)?;
+    }
+    expect_chain(went, queue)
 }
 
 // The chain is out of its queue.
@@ -129,50 +169,49 @@ fn expect_hello(told: &Told<'_>) -> Result<(), Unmet> {
     }
 }
 
-// The chain goes back: there is no such name.
-fn give_back(workbench: &mut Workbench, queue: &mut KeptQueue) -> Result<(), Unmet> {
+// The chain goes back, as one of so many: there is no such name.
+fn give_back(workbench: &mut Workbench, queue: &mut KeptQueue, number: u16) -> Result<(), Unmet> {
     let answer = FileAnswer::Failed(Errno::ENOENT);
     met(workbench.answer(answer), Unmet::Answer)?;
     let mut front = [0u8; 16];
     let stores = met(workbench.begin_return(queue, &mut front), Unmet::Answer)?;
     let told = met(workbench.end_return(queue, [0, 0]), Unmet::Answer)?;
     expect(stores.front_len == 16 && front[0] == 16 && front[8] == 7)?;
-    expect(told && queue.position == 1 && !queue.out)
-}
-
-// The chain is walked.
-fn take(trial: Trial, workbench: &mut Workbench, queue: &mut KeptQueue) -> Result<(), Unmet> {
-    walk_rings(trial, workbench, queue)?;
-    let went = walk_entries(trial, workbench, queue)?;
-    expect_chain(went, queue)
+    expect(told && queue.position == number && !queue.out)
 }
 
 // The chain is asked, which takes no memory, and given back.
-fn answer(trial: Trial, workbench: &mut Workbench, queue: &mut KeptQueue) -> Result<usize, Unmet> {
+fn answer(
+    trial: Trial,
+    workbench: &mut Workbench,
+    queue: &mut KeptQueue,
+    number: u16,
+) -> Result<(), Unmet> {
     let walked = trial.made();
     let told = met(workbench.ask(Session::new(4096), LOOKUP), Unmet::Answer)?;
-    let made = trial.end();
-    expect_kept(made == walked)?;
+    expect_kept(trial.made() == walked)?;
     expect_hello(&told)?;
-    give_back(workbench, queue)?;
-    Ok(made)
+    give_back(workbench, queue, number)
 }
 
-// The chain is walked, asked and given back.
+// Both chains are walked, asked and given back.
 fn serve(trial: Trial, workbench: &mut Workbench) -> Result<usize, Unmet> {
     let mut queue = queue()?;
-    take(trial, workbench, &mut queue)?;
-    answer(trial, workbench, &mut queue)
+    take_long(trial, workbench, &mut queue)?;
+    answer(trial, workbench, &mut queue, 1)?;
+    take_over_the_end(trial, workbench, &mut queue)?;
+    answer(trial, workbench, &mut queue, 2)?;
+    Ok(trial.end())
 }
 
-// A handle over some memory serves the chain.
+// A handle over some memory serves the chains.
 fn serve_over(trial: Trial, memory: GuestRegions) -> Result<usize, Unmet> {
     let mut workbench = Workbench::new(trial.alloc);
     met(workbench.set_memory(memory, 0x101000), Unmet::Answer)?;
     serve(trial, &mut workbench)
 }
 
-/// A handle serves a chain.
+/// A handle serves two chains.
 pub fn play_handle(trial: Trial) -> Result<usize, Unmet> {
     let regions = regions(trial.alloc)?;
     trial.begin();
