@@ -1,2 +1,1 @@
-pub mod NoEntry
 pub mod Options

@@ -5,16 +5,12 @@
 pub mod directories;
 pub mod entries;
 pub mod links;
-pub mod name_values;
 pub mod new_nodes;
-mod node_values;
 pub mod nodes;
-mod open_file_values;
 pub mod open_files;
 pub mod plain_requests;
 pub mod reads;
 pub mod received;
-pub mod requests;
 pub mod session;
 pub mod values;
 pub mod writes;

@@ -1,113 +1,112 @@
 //! Requests of which a file system is told nothing but that they came.
 
+ghost use Rattle.std.specs.Prelude.{refl};
 ghost use Rattle.fuse_fs.specs.Calls as call;
 
-use crate::received::{received, silent};
-use crate::requests::PlainRequest;
-use fuse_fs::{FileSystem, Silence};
+use crate::values::PlainValue;
 use fuse_in::InHeader;
-use fuse_wire::Errno;
+use fuse_values::FileCall;
 
 /// GETLK: a lock that is in the way.
 pub struct Getlk;
 
-impl<F: FileSystem> PlainRequest<F> for Getlk {
-    type Answer = Silence;
-
+impl PlainValue for Getlk {
     ghost call = { λ h. call.Getlk };
 
-    fn make_call(fs: &mut F, head: &InHeader) -> Result<Silence, Errno> {
-        silent(fs.getlk())
+    ghost says = { λ h. (refl, (refl, tt)) };
+
+    fn value<'a>(head: &InHeader) -> FileCall<'a> {
+        FileCall::Getlk
     }
 }
 
 /// SETLK: a lock.
 pub struct Setlk;
 
-impl<F: FileSystem> PlainRequest<F> for Setlk {
-    type Answer = Silence;
-
+impl PlainValue for Setlk {
     ghost call = { λ h. call.Setlk };
 
-    fn make_call(fs: &mut F, head: &InHeader) -> Result<Silence, Errno> {
-        silent(fs.setlk())
+    ghost says = { λ h. (refl, (refl, tt)) };
+
+    fn value<'a>(head: &InHeader) -> FileCall<'a> {
+        FileCall::Setlk
     }
 }
 
 /// SETLKW: a lock that is waited for.
 pub struct Setlkw;
 
-impl<F: FileSystem> PlainRequest<F> for Setlkw {
-    type Answer = Silence;
-
+impl PlainValue for Setlkw {
     ghost call = { λ h. call.Setlkw };
 
-    fn make_call(fs: &mut F, head: &InHeader) -> Result<Silence, Errno> {
-        silent(fs.setlkw())
+    ghost says = { λ h. (refl, (refl, tt)) };
+
+    fn value<'a>(head: &InHeader) -> FileCall<'a> {
+        FileCall::Setlkw
     }
 }
 
 /// BMAP: a block of the disk.
 pub struct Bmap;
 
-impl<F: FileSystem> PlainRequest<F> for Bmap {
-    type Answer = Silence;
-
+impl PlainValue for Bmap {
     ghost call = { λ h. call.Bmap };
 
-    fn make_call(fs: &mut F, head: &InHeader) -> Result<Silence, Errno> {
-        silent(fs.bmap())
+    ghost says = { λ h. (refl, (refl, tt)) };
+
+    fn value<'a>(head: &InHeader) -> FileCall<'a> {
+        FileCall::Bmap
     }
 }
 
 /// IOCTL: a command of a device.
 pub struct Ioctl;
 
-impl<F: FileSystem> PlainRequest<F> for Ioctl {
-    type Answer = Silence;
-
+impl PlainValue for Ioctl {
     ghost call = { λ h. call.Ioctl };
 
-    fn make_call(fs: &mut F, head: &InHeader) -> Result<Silence, Errno> {
-        silent(fs.ioctl())
+    ghost says = { λ h. (refl, (refl, tt)) };
+
+    fn value<'a>(head: &InHeader) -> FileCall<'a> {
+        FileCall::Ioctl
     }
 }
 
 /// POLL: what a file is ready for.
 pub struct Poll;
 
-impl<F: FileSystem> PlainRequest<F> for Poll {
-    type Answer = Silence;
-
+impl PlainValue for Poll {
     ghost call = { λ h. call.Poll };
 
-    fn make_call(fs: &mut F, head: &InHeader) -> Result<Silence, Errno> {
-        silent(fs.poll())
+    ghost says = { λ h. (refl, (refl, tt)) };
+
+    fn value<'a>(head: &InHeader) -> FileCall<'a> {
+        FileCall::Poll
     }
 }
 
 /// NOTIFY_REPLY: the answer to a notice.
 pub struct NotifyReply;
 
-impl<F: FileSystem> PlainRequest<F> for NotifyReply {
-    type Answer = Silence;
-
+impl PlainValue for NotifyReply {
     ghost call = { λ h. call.NotifyReply };
 
-    fn make_call(fs: &mut F, head: &InHeader) -> Result<Silence, Errno> {
-        silent(fs.notify_reply())
+    ghost says = { λ h. (refl, (refl, tt)) };
+
+    fn value<'a>(head: &InHeader) -> FileCall<'a> {
+        FileCall::NotifyReply
     }
 }
 
 /// TMPFILE: a file without a name; refused by each file system.
 pub struct TmpFile;
 
-impl<F: FileSystem> PlainRequest<F> for TmpFile {
-    type Answer = ();
-
+impl PlainValue for TmpFile {
     ghost call = { λ h. call.TmpFile };
 
-    fn make_call(fs: &mut F, head: &InHeader) -> Result<(), Errno> {
-        received(Err(fs.tmpfile()))
+    ghost says = { λ h. (refl, (refl, tt)) };
+
+    fn value<'a>(head: &InHeader) -> FileCall<'a> {
+        FileCall::TmpFile
     }
 }

@@ -5,7 +5,7 @@ ghost use Rattle.fuse_fs.specs.Answers.{data_answer};
 ghost use Rattle.server_calls.specs.Requests.{read_call};
 
 use crate::received::received;
-use crate::requests::owner_if;
+use crate::values::number_if;
 use fuse_fs::{Context, FileNumber, FileSystem, ZeroCopyWriter};
 use fuse_in::{InHeader, ReadIn};
 use fuse_wire::Errno;
@@ -33,7 +33,7 @@ pub fn make_read_call<F: FileSystem, W: ZeroCopyWriter>(
         into,
         request.size,
         request.offset,
-        owner_if(request.read_flags & READ_LOCKOWNER != 0, request.lock_owner),
+        number_if(request.read_flags & READ_LOCKOWNER != 0, request.lock_owner),
         request.flags,
     ))
 }

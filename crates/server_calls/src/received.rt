@@ -23,9 +23,7 @@ pub fn received<T>(answer: Result<T, Errno>) -> Result<T, Errno>
 }
 
 /// An entry as it came. The number of its node is below 2^64.
-pub(crate) fn received_entry<I: FileNumber>(
-    answer: Result<Entry<I>, Errno>,
-) -> Result<Entry<I>, Errno>
+pub fn received_entry<I: FileNumber>(answer: Result<Entry<I>, Errno>) -> Result<Entry<I>, Errno>
     ensures same { result ≡ answer }
     ensures errno { IfErr result (λ e. (0 < e) × (e < 4096)) }
     ensures node { IfOk result (λ e. I.number e.inode < 2 ^ 64) }
@@ -56,7 +54,7 @@ fn received_handle<H: FileNumber>(handle: Option<H>) -> Option<H>
 }
 
 /// An opened file as it came. Its number is below 2^64.
-pub(crate) fn received_opened<H: FileNumber>(
+pub fn received_opened<H: FileNumber>(
     answer: Result<(Option<H>, OpenOptions), Errno>,
 ) -> Result<(Option<H>, OpenOptions), Errno>
     ensures same { result ≡ answer }
@@ -70,7 +68,7 @@ pub(crate) fn received_opened<H: FileNumber>(
 }
 
 /// A created file as it came. The numbers of its node and of the open file are below 2^64.
-pub(crate) fn received_file<I: FileNumber, H: FileNumber>(
+pub fn received_file<I: FileNumber, H: FileNumber>(
     answer: Result<(Entry<I>, Option<H>, OpenOptions), Errno>,
 ) -> Result<(Entry<I>, Option<H>, OpenOptions), Errno>
     ensures same { result ≡ answer }
@@ -101,7 +99,7 @@ pub fn received_count(answer: Result<u32, Errno>) -> Result<u32, Errno>
 }
 
 /// A place in a file as it came, below 2^64.
-pub(crate) fn received_offset(answer: Result<u64, Errno>) -> Result<u64, Errno>
+pub fn received_offset(answer: Result<u64, Errno>) -> Result<u64, Errno>
     ensures same { result ≡ answer }
     ensures errno { IfErr result (λ e. (0 < e) × (e < 4096)) }
     ensures offset { IfOk result (λ n. n < 2 ^ 64) }
@@ -113,7 +111,7 @@ pub(crate) fn received_offset(answer: Result<u64, Errno>) -> Result<u64, Errno>
 }
 
 /// A value, or its count, as it came.
-pub(crate) fn received_value(answer: Result<GetxattrReply, Errno>) -> Result<GetxattrReply, Errno>
+pub fn received_value(answer: Result<GetxattrReply, Errno>) -> Result<GetxattrReply, Errno>
     ensures same { result ≡ answer }
     ensures errno { IfErr result (λ e. (0 < e) × (e < 4096)) }
     ensures value { IfOk result (λ r. is_of IsBytesOrCount (value_answer (Ok r)) ≡ true) }
@@ -126,7 +124,7 @@ pub(crate) fn received_value(answer: Result<GetxattrReply, Errno>) -> Result<Get
 }
 
 /// Names, or their count, as they came.
-pub(crate) fn received_names(answer: Result<ListxattrReply, Errno>) -> Result<ListxattrReply, Errno>
+pub fn received_names(answer: Result<ListxattrReply, Errno>) -> Result<ListxattrReply, Errno>
     ensures same { result ≡ answer }
     ensures errno { IfErr result (λ e. (0 < e) × (e < 4096)) }
     ensures names { IfOk result (λ r. is_of IsBytesOrCount (names_answer (Ok r)) ≡ true) }

@@ -1,22 +1,30 @@
 //! Requests by their shape: the call that each of them asks for, as a value whose names stand in the request.
 
-ghost use Rattle.std.specs.Prelude.{◌≡◌, ℕ, List, []};
+ghost use Rattle.std.specs.Prelude.{◌≡◌, ℕ, List, [], true};
 ghost use Rattle.fuse_in.specs.declared.session.InHeader.{InHeader};
 ghost use Rattle.fuse_fs.specs.Calls as call;
 ghost use Rattle.fuse_fs.specs.Calls.{Extra};
 ghost use Rattle.fuse_values.specs.Values.{call_of, extra_of};
-ghost use Rattle.server_calls.specs.Callers.{CallSays};
+ghost use Rattle.server_calls.specs.Callers.{CallSays, Header, Named, NamedRecord, Made, shape_of, is_record};
+ghost use Rattle.server_calls.specs.Requests.{if_set};
 
 use fuse_in::{InHeader, InRecord};
 use fuse_values::{FileCall, Received};
+
+/// A number, where it is told.
+pub fn number_if(told: bool, number: u64) -> Option<u64>
+    ensures { result ≡ if_set told number }
+{
+    if told { Some(number) } else { None }
+}
 
 /// A request that is nothing but its header.
 pub trait PlainValue {
     // The call that it asks for.
     ghost call: { InHeader → call.FileCall };
 
-    // It is made for who sent the request.
-    ghost says: { (h : InHeader) → CallSays h (call h) };
+    // It is of this shape, and made for who sent the request.
+    ghost says: { (h : InHeader) → (shape_of (call h) ≡ Header) × CallSays h (call h) };
 
     /// The call.
     fn value<'a>(head: &InHeader) -> FileCall<'a>
@@ -30,8 +38,8 @@ pub trait RecordValue {
     // The call that it asks for.
     ghost call: { InHeader → Self.Record → call.FileCall };
 
-    // It is made for who sent the request.
-    ghost says: { (h : InHeader) (r : Self.Record) → CallSays h (call h r) };
+    // It is of this shape, and made for who sent the request.
+    ghost says: { (h : InHeader) (r : Self.Record) → (is_record (shape_of (call h r)) ≡ true) × CallSays h (call h r) };
 
     /// The call.
     fn value<'a>(head: &InHeader, request: &Self::Record) -> FileCall<'a>
@@ -43,8 +51,8 @@ pub trait NameValue {
     // The call that it asks for.
     ghost call: { InHeader → List ℕ → call.FileCall };
 
-    // It is made for who sent the request.
-    ghost says: { (h : InHeader) (name : List ℕ) → CallSays h (call h name) };
+    // It is of this shape, and made for who sent the request.
+    ghost says: { (h : InHeader) (name : List ℕ) → (shape_of (call h name) ≡ Named) × CallSays h (call h name) };
 
     /// The call.
     fn value<'a>(head: &InHeader, name: &'a [u8]) -> FileCall<'a>
@@ -58,8 +66,8 @@ pub trait RecordNameValue {
     // The call that it asks for.
     ghost call: { InHeader → Self.Record → List ℕ → call.FileCall };
 
-    // It is made for who sent the request.
-    ghost says: { (h : InHeader) (r : Self.Record) (name : List ℕ) → CallSays h (call h r name) };
+    // It is of this shape, and made for who sent the request.
+    ghost says: { (h : InHeader) (r : Self.Record) (name : List ℕ) → (shape_of (call h r name) ≡ NamedRecord) × CallSays h (call h r name) };
 
     /// The call.
     fn value<'a>(head: &InHeader, request: &Self::Record, name: &'a [u8]) -> FileCall<'a>
@@ -73,8 +81,8 @@ pub trait TwoPartsValue {
     // The call that it asks for.
     ghost call: { InHeader → Self.Record → List ℕ × List ℕ → call.FileCall };
 
-    // It is made for who sent the request.
-    ghost says: { (h : InHeader) (r : Self.Record) (parts : List ℕ × List ℕ) → CallSays h (call h r parts) };
+    // It is of this shape, and made for who sent the request.
+    ghost says: { (h : InHeader) (r : Self.Record) (parts : List ℕ × List ℕ) → (shape_of (call h r parts) ≡ NamedRecord) × CallSays h (call h r parts) };
 
     /// The call.
     fn value<'a>(
@@ -93,8 +101,8 @@ pub trait NewNameValue {
     // The call that it asks for.
     ghost call: { InHeader → Self.Record → List ℕ × Extra → call.FileCall };
 
-    // It is made for who sent the request.
-    ghost says: { (h : InHeader) (r : Self.Record) (x : List ℕ × Extra) → CallSays h (call h r x) };
+    // It is of this shape, and made for who sent the request.
+    ghost says: { (h : InHeader) (r : Self.Record) (x : List ℕ × Extra) → (shape_of (call h r x) ≡ Made) × CallSays h (call h r x) };
 
     /// The call.
     fn value<'a>(

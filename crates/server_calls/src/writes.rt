@@ -5,7 +5,7 @@ ghost use Rattle.fuse_fs.specs.Answers.{written_answer};
 ghost use Rattle.server_calls.specs.Requests.{write_call};
 
 use crate::received::received_count;
-use crate::requests::owner_if;
+use crate::values::number_if;
 use fuse_fs::{Context, FileNumber, FileSystem, ZeroCopyReader};
 use fuse_in::{InHeader, WriteIn};
 use fuse_wire::Errno;
@@ -32,7 +32,7 @@ pub fn make_write_call<F: FileSystem, R: ZeroCopyReader>(
         from,
         request.size,
         request.offset,
-        owner_if(
+        number_if(
             request.write_flags & WRITE_LOCKOWNER != 0,
             request.lock_owner,
         ),

@@ -6,10 +6,10 @@ ghost use Rattle.fuse_fs.specs.Calls as call;
 ghost use Rattle.fuse_values.specs.Values.{call_of};
 ghost use Rattle.fuse_wire.specs.Opcodes.{opcode_of};
 ghost use Rattle.server_calls.specs.Callers.{CallSays};
-ghost use Rattle.server_calls.specs.Requests.{if_set, read_call, write_call};
+ghost use Rattle.server_calls.specs.Requests.{read_call, write_call};
 ghost use Rattle.server_replies.specs.WholeReplies.{error_bytes};
 ghost use Rattle.virtiofsd_fuse.specs.DataApart.{begins_a_write, is_write};
-ghost use Rattle.virtiofsd_fuse.specs.Grammar.{Meaning, Replies, Asks, One, Starts, given, ended, known_options, meant, meaning, read_row, read_asked, listing_row, listing_asked, write_row};
+ghost use Rattle.virtiofsd_fuse.specs.Grammar.{Meaning, Replies, Asks, One, Starts, given, ended, known_options, meant, meaning, read_asked, listing_asked, write_row};
 ghost use Rattle.virtiofsd_fuse.specs.Serving.{Setting, setting};
 ghost use Rattle.server_phases.specs.Asking.{IsTold, IsAskedBy, HasAsker, TellsData, IsFront, BeginsRecord, told_reply};
 
@@ -21,6 +21,7 @@ use fuse_in::{InHeader, ReadIn, WriteIn};
 use fuse_values::FileCall;
 use fuse_wire::constants::{READ_LOCKOWNER, WRITE_CACHE, WRITE_KILL_PRIV, WRITE_LOCKOWNER};
 use fuse_wire::{Errno, FsOptions, Opcode};
+use server_calls::values::number_if;
 use server_replies::init::MAX_BUFFER_SIZE;
 use server_replies::replies::OUT_HEADER_LEN;
 use server_requests::source::{Flat, Source};
@@ -71,8 +72,8 @@ pub(crate) fn refused<'a>(head: &InHeader, error: Errno, room: usize) -> Asked<'
     replied(room, Front::error(head.unique, error))
 }
 
-// READ, by its record.
-fn ask_read<'a>(head: &InHeader, request: &ReadIn, room: usize) -> Asked<'a>
+/// READ, by its record.
+pub(crate) fn ask_read<'a>(head: &InHeader, request: &ReadIn, room: usize) -> Asked<'a>
     ensures told { (page_size options : ℕ) (more bytes : List ℕ)
         → IsTold (setting page_size options room) (ended head.now.unique (read_asked (given head.now options room) request.now more)) bytes result }
     ensures asker { IsAskedBy (context_of head.now) result }
@@ -102,20 +103,18 @@ fn read_value<'a>(head: &InHeader, request: &ReadIn, most: usize) -> FileCall<'a
         room: most,
         size: request.size,
         offset: request.offset,
-        owner: owner_if(request.read_flags & READ_LOCKOWNER != 0, request.lock_owner),
+        owner: number_if(request.read_flags & READ_LOCKOWNER != 0, request.lock_owner),
         flags: request.flags,
     }
 }
 
-// Who holds a lock, where it is told.
-fn owner_if(told: bool, owner: u64) -> Option<u64>
-    ensures { result ≡ if_set told owner }
-{
-    if told { Some(owner) } else { None }
-}
-
-// READDIR and READDIRPLUS, by their record.
-fn ask_listing<'a>(head: &InHeader, request: &ReadIn, with_nodes: bool, room: usize) -> Asked<'a>
+/// READDIR and READDIRPLUS, by their record.
+pub(crate) fn ask_listing<'a>(
+    head: &InHeader,
+    request: &ReadIn,
+    with_nodes: bool,
+    room: usize,
+) -> Asked<'a>
     ensures told { (page_size options : ℕ) (more bytes : List ℕ)
         → IsTold (setting page_size options room) (ended head.now.unique (listing_asked with_nodes request.now (given head.now options room) more)) bytes result }
     ensures asker { IsAskedBy (context_of head.now) result }
@@ -180,7 +179,7 @@ fn write_value<'a>(head: &InHeader, request: &WriteIn, len: usize) -> FileCall<'
         len,
         size: request.size,
         offset: request.offset,
-        owner: owner_if(
+        owner: number_if(
             request.write_flags & WRITE_LOCKOWNER != 0,
             request.lock_owner,
         ),
@@ -227,37 +226,6 @@ pub(crate) fn started<'a>(
         room,
     };
     Asked::Call(FileCall::Init { capable }, waiting)
-}
-
-// READ: its record is read.
-pub(crate) fn ask_read_row<'a>(head: &InHeader, room: usize, source: Flat<'a>) -> Asked<'a>
-    ensures told { (page_size options : ℕ) (bytes : List ℕ)
-        → IsTold (setting page_size options room) (ended head.now.unique (read_row (given head.now options room) source.entry.bytes.now)) bytes result }
-    ensures asker { IsAskedBy (context_of head.now) result }
-{
-    let mut source = source;
-    match source.record() {
-        Ok(request) => ask_read(head, &request, room),
-        Err(error) => Asked::Fault(error),
-    }
-}
-
-// READDIR and READDIRPLUS: their record is read.
-pub(crate) fn ask_listing_row<'a>(
-    head: &InHeader,
-    with_nodes: bool,
-    room: usize,
-    source: Flat<'a>,
-) -> Asked<'a>
-    ensures told { (page_size options : ℕ) (bytes : List ℕ)
-        → IsTold (setting page_size options room) (ended head.now.unique (listing_row with_nodes (given head.now options room) source.entry.bytes.now)) bytes result }
-    ensures asker { IsAskedBy (context_of head.now) result }
-{
-    let mut source = source;
-    match source.record() {
-        Ok(request) => ask_listing(head, &request, with_nodes, room),
-        Err(error) => Asked::Fault(error),
-    }
 }
 
 // WRITE: its record is read, behind which so many bytes of data stand, here or elsewhere.

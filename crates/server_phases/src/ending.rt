@@ -4,7 +4,7 @@ ghost use Rattle.std.specs.Prelude.{◌≡◌, ℕ, ◌<◌, ◌^◌, [], ◌∷
 ghost use Rattle.fuse_fs.specs.Calls.{FileCall, Init, suits};
 ghost use Rattle.fuse_values.specs.Answers.{answer_of};
 ghost use Rattle.virtiofsd_fuse.specs.Grammar.{FileCommand, known_options};
-ghost use Rattle.virtiofsd_fuse.specs.Serving.{setting, replied, agreed, start_options, start_answered};
+ghost use Rattle.virtiofsd_fuse.specs.Serving.{setting, replied, start_options, start_answered};
 ghost use Rattle.server_phases.specs.Answering.{Gives, TellsBytes, takes, forget_call, served_by, data_of, wish_of, leaves_options, is_too_long, IsRefusedFor};
 ghost use Rattle.server_phases.specs.Waiting.{WaitsFor, first_call};
 
@@ -13,22 +13,13 @@ use crate::answering::{
     suits,
 };
 use crate::front::Front;
-use crate::session::{Session, known};
+use crate::session::Session;
 use crate::waiting::{Awaits, Waiting};
 use bitflags::Flags;
 use fuse_values::FileAnswer;
 use fuse_wire::FsOptions;
 use server_replies::init::start_bytes;
-
-// What both sides have, and the file system asks for or is agreed on anyway.
-#[tactic(auto, using(virtiofsd_fuse::proofs::Options::some_known))]
-fn agree(capable: FsOptions, wanted: FsOptions) -> FsOptions
-    requires { bit_and capable.0 known_options ≡ capable.0 }
-    ensures options { result.0 ≡ agreed capable.0 wanted.0 }
-    ensures known { bit_and result.0 known_options ≡ result.0 }
-{
-    capable & (wanted | FsOptions::DEFAULT)
-}
+use virtiofsd_fuse::{agree, known};
 
 // The options after a call that is no INIT.
 fn left_options(options: FsOptions, awaits: &Awaits) -> FsOptions

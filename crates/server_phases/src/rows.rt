@@ -8,13 +8,12 @@ ghost use Rattle.virtiofsd_fuse.specs.Grammar.{listing_row, read_row, silent_row
 ghost use Rattle.virtiofsd_fuse.specs.Serving.{setting};
 ghost use Rattle.server_phases.specs.Asking.{IsAskedBy, IsRowTold, IsTold};
 
-use crate::asking::{
-    Asked, WRITE_IN_LEN, ask_listing_row, ask_read_row, ask_write_row, called, refused,
-};
+use crate::asking::{Asked, WRITE_IN_LEN, ask_listing, ask_read, ask_write_row, called, refused};
 use crate::session::Session;
 use fuse_in::{BatchForgetIn, GetxattrIn, InHeader};
 use fuse_wire::Errno;
-use server_calls::name_values::{batch_forget_value, symlink_value};
+use server_calls::new_nodes::symlink_value;
+use server_calls::session::batch_forget_value;
 use server_calls::values::{
     NameValue, NewNameValue, PlainValue, RecordNameValue, RecordValue, TwoPartsValue,
 };
@@ -256,12 +255,17 @@ impl Session {
             Err(error) => Asked::Fault(error),
         }
     }
+
     /// READ.
     pub(crate) fn ask_read<'a>(&self, head: &InHeader, room: usize, source: Flat<'a>) -> Asked<'a>
         ensures told { IsRowTold self.now.page_size self.now.options.0 head.now room read_row source.entry.bytes.now result }
         ensures asker { IsAskedBy (context_of head.now) result }
     {
-        ask_read_row(head, room, source)
+        let mut source = source;
+        match source.record() {
+            Ok(request) => ask_read(head, &request, room),
+            Err(error) => Asked::Fault(error),
+        }
     }
 
     /// READDIR, or READDIRPLUS.
@@ -275,7 +279,11 @@ impl Session {
         ensures told { IsRowTold self.now.page_size self.now.options.0 head.now room (listing_row with_nodes) source.entry.bytes.now result }
         ensures asker { IsAskedBy (context_of head.now) result }
     {
-        ask_listing_row(head, with_nodes, room, source)
+        let mut source = source;
+        match source.record() {
+            Ok(request) => ask_listing(head, &request, with_nodes, room),
+            Err(error) => Asked::Fault(error),
+        }
     }
 
     /// WRITE, whose data stands behind its record.

@@ -11,7 +11,7 @@ use bitflags::Flags;
 use fuse_in::InHeader;
 use fuse_wire::FsOptions;
 use server_requests::source::{Flat, Source};
-use virtiofsd_fuse::REQUEST_FRONT;
+use virtiofsd_fuse::{REQUEST_FRONT, known};
 
 /// What client and server have agreed on: the guest's page size, and the options of INIT.
 #[derive(Drop)]
@@ -20,15 +20,6 @@ pub struct Session {
     pub(crate) options: FsOptions,
     ghost pages: { IsTrue (is_page_size page_size) },
     ghost known: { bit_and options.0 known_options ≡ options.0 },
-}
-
-/// The options that are known.
-#[tactic(auto, using(virtiofsd_fuse::proofs::Options::known_bits_are, virtiofsd_fuse::proofs::Options::known_twice))]
-pub(crate) fn known(bits: u64) -> FsOptions
-    ensures options { result.0 ≡ bit_and bits known_options }
-    ensures known { bit_and result.0 known_options ≡ result.0 }
-{
-    FsOptions::from_bits_truncate(bits)
 }
 
 impl Session {

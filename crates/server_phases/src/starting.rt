@@ -8,12 +8,13 @@ ghost use Rattle.server_phases.specs.Asking.{IsAskedBy, IsRowTold, IsTold};
 
 use crate::asking::{Asked, refused, replied, started};
 use crate::front::Front;
-use crate::session::{Session, known};
+use crate::session::Session;
 use fuse_in::{InHeader, InitInCompat};
 use fuse_wire::Errno;
 use fuse_wire::constants::{KERNEL_VERSION, MIN_KERNEL_MINOR_VERSION};
 use server_replies::init::versions;
 use server_requests::source::{Flat, Source, flags2};
+use virtiofsd_fuse::known;
 
 impl Session {
     // INIT, by its records: the versions first, and then what both sides can.

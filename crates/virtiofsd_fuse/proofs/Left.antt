@@ -1,15 +1,14 @@
 -- What a row leaves, by how it ended.
-use Rattle.std.proofs.Common.{◌≡◌, ℕ, ◌+◌, Bool, true, false, not, List, length, Result, Ok, Err, ap, ◌∙◌}
-use Rattle.std.specs.Prelude.{IfOk, OnOk, OnErr, ◌||◌, is_none}
+use Rattle.std.proofs.Common.{◌≡◌, ℕ, ◌+◌, Bool, true, false, List, length, Result, Ok, Err, refl, sym, ap, ◌∙◌}
+use Rattle.std.specs.Prelude.{IfOk, OnOk, OnErr, ◌||◌}
 use Rattle.fuse_in.specs.declared.session.InHeader.{InHeader}
 use Rattle.fuse_in.specs.Records.{in_header}
 use Rattle.fuse_fs.specs.Lengths.{past}
-use Rattle.fuse_fs.specs.Calls.{FileCall, Extra}
-use Rattle.server_segments.specs.Errors.{is_memory}
+use Rattle.fuse_fs.specs.Calls.{FileCall}
 use Rattle.server_segments.specs.declared.error.Error.{Error}
 use Rattle.server_segments.specs.ReaderAndWriterView.{ReaderView, WriterView}
 use Rattle.server_requests.specs.Reading.{reading_of}
-use Rattle.server_calls.specs.Requests.{has_security, owns_memory}
+use Rattle.server_calls.specs.Requests.{owns_memory}
 use Rattle.server_replies.specs.WholeReplies.{LeavesWriter}
 use Rattle.virtiofsd_fuse.specs.Grammar.{Meaning, Asks, One, given}
 use Rattle.virtiofsd_fuse.specs.WantOfMemory.{meaning_owns, body_takes_memory, may_take_memory}
@@ -27,12 +26,13 @@ pub left_same : (result : Result ℕ Error) (old new : WriterView) → LeavesWri
 left_same (Ok n) old new h = tt
 left_same (Err e) old new h = h
 
--- a context is what memory is taken for
-pub context_owned : (m : Meaning) (split : Bool) (unique : ℕ) (call : FileCall) (x : Extra) (e : Error) → m ≡ Asks (One unique call) → owns_memory call ≡ has_security x
-    → is_none x.security ≡ false → (meaning_owns m || split) ≡ false → is_memory e ≡ false
-context_owned m split unique call x e a o s h =
-    let owned : meaning_owns m ≡ true = ap meaning_owns a ∙ o ∙ ap not s in
-    absurd (let wrong : true ≡ false = rw owned at h in cc)
+or_none : (a b : Bool) → (a || b) ≡ false → a ≡ false
+or_none true b e = absurd (cc)
+or_none false b e = refl
+
+-- memory is taken for what the call that is asked for owns
+pub owned_none : (m : Meaning) (split : Bool) (unique : ℕ) (made call : FileCall) → m ≡ Asks (One unique call) → made ≡ call → (meaning_owns m || split) ≡ false → owns_memory made ≡ false
+owned_none m split unique made call e f none = ap owns_memory f ∙ sym (ap meaning_owns e) ∙ or_none (meaning_owns m) split none
 
 -- a request that takes no memory takes none behind its header
 pub takes_none : (options room : ℕ) (r : ReaderView) (h : InHeader) (segments more : List ℕ) → Ok (h, more) ≡ reading_of in_header r.left → segments ≡ past 40 r.segments

@@ -106,6 +106,11 @@ module _ {F : Type 0} (may : F → FileCall → FileAnswer → F → Type 0) whe
       let none : undone s.room bytes [] ≡ [] = none_undone (nat_lt s.room (length bytes)) [] refl in
       handles_entry s m unique call answer [] before after after result written options e fits step o back (rw none refl) h
 
+  -- one call that was performed as its value says
+  pub handles_asked : (s : Setting) (m : Meaning) (unique : ℕ) (made call : FileCall) (before after : F) (result : Result ℕ Error) (written : List ℕ) (options : ℕ)
+      → m ≡ Asks (One unique call) → made ≡ call → Handles may s (Asks (One unique made)) before result written options after → Handles may s m before result written options after
+  handles_asked s m unique made call before after result written options e f h = rw (e, ← f) h
+
   -- INIT
   pub handles_start : (s : Setting) (m : Meaning) (unique capable readahead : ℕ) (answer : FileAnswer) (before after : F) (result : Result ℕ Error)
       (written : List ℕ) (options : ℕ) → m ≡ Asks (Starts unique capable readahead) → IsTrue (suits (Init capable) answer)

@@ -1,7 +1,6 @@
 //! Answers of calls that may have an entry: the client is told, or the entry is given back.
 
 ghost use Rattle.std.specs.Prelude.{◌≡◌, ◌<◌, ◌^◌, [], false, option_map};
-ghost use Rattle.fuse_fs.specs.Answers.{context_of};
 ghost use Rattle.fuse_fs.specs.Calls.{FileRun};
 ghost use Rattle.server_segments.specs.Errors.{lacks_memory};
 ghost use Rattle.server_replies.specs.WholeReplies.{with_written, whole_or_none, told_bytes, LeavesWriter};
@@ -10,7 +9,6 @@ ghost use Rattle.virtiofsd_fuse.specs.Serving.{undone, all_done};
 
 use crate::server::Server;
 use fuse_fs::{Context, FileSystem};
-use fuse_in::InHeader;
 use fuse_wire::Errno;
 use server_calls::entries::{EntryAnswer, answered_node};
 use server_replies::answers::{AsReply, reply_answer};
@@ -18,13 +16,13 @@ use server_segments::{Error, Writer};
 
 impl<F: FileSystem> Server<F> {
     // Gives a node back, if there is one.
-    fn give_back(&mut self, head: &InHeader, node: Option<F::Inode>)
-        ensures run { FileRun F.may self.old.fs (all_done (give_back (context_of head.now) (option_map F.Inode.number node))) self.new.fs }
+    fn give_back(&mut self, context: Context, node: Option<F::Inode>)
+        ensures run { FileRun F.may self.old.fs (all_done (give_back context (option_map F.Inode.number node))) self.new.fs }
         ensures options { self.new.options ≡ self.old.options }
         ensures page_size { self.new.page_size ≡ self.old.page_size }
     {
         match node {
-            Some(inode) => self.fs.forget(Context::from(*head), inode, 1),
+            Some(inode) => self.fs.forget(context, inode, 1),
             None => {}
         }
     }
@@ -33,15 +31,16 @@ impl<F: FileSystem> Server<F> {
     /// answer is `EncodeMessage`.
     pub(crate) fn reply_entry<A: AsReply + EntryAnswer<F::Inode>>(
         &mut self,
-        head: &InHeader,
+        context: Context,
+        unique: u64,
         answer: Result<A, Errno>,
         w: &mut Writer,
     ) -> Result<usize, Error>
         requires fresh { w.old.written ≡ [] }
         requires room { w.old.free < 2 ^ 32 }
-        ensures sent { with_written result w.new.written ≡ whole_or_none w.old.free (told_bytes A.silent head.now.unique (A.said answer)) }
+        ensures sent { with_written result w.new.written ≡ whole_or_none w.old.free (told_bytes A.silent unique (A.said answer)) }
         ensures back { FileRun F.may self.old.fs
-            (all_done (undone w.old.free (told_bytes A.silent head.now.unique (A.said answer)) (give_back (context_of head.now) (entry_node (A.said answer)))))
+            (all_done (undone w.old.free (told_bytes A.silent unique (A.said answer)) (give_back context (entry_node (A.said answer)))))
             self.new.fs }
         ensures writer { LeavesWriter result w.old w.new }
         ensures memory { lacks_memory result ≡ false }
@@ -49,10 +48,10 @@ impl<F: FileSystem> Server<F> {
         ensures page_size { self.new.page_size ≡ self.old.page_size }
     {
         let node = answered_node(&answer);
-        match reply_answer(w, head.unique, answer) {
+        match reply_answer(w, unique, answer) {
             Ok(len) => Ok(len),
             Err(error) => {
-                self.give_back(head, node);
+                self.give_back(context, node);
                 Err(error)
             }
         }

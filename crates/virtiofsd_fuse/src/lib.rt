@@ -6,6 +6,8 @@ mod data_apart;
 mod forgets;
 mod listings;
 mod new_nodes;
+mod performing;
+mod performing_names;
 mod reads;
 mod requests;
 mod serialization;
@@ -25,3 +27,4 @@ pub use fuse_fs::{
 pub use reads::{ReadReply, ReadRequest};
 pub use server::{MAX_REQUEST_LEN, Server, opcode_of};
 pub use server_segments::{DescriptorType, Error, Reader, Writer, ZcReader, ZcWriter};
+pub use session::{agree, known};

@@ -11,12 +11,11 @@ ghost use Rattle.virtiofsd_fuse.specs.Grammar.{listing_row, listing_asked};
 ghost use Rattle.virtiofsd_fuse.specs.Serving.{RowHandles, Leaves};
 
 use crate::server::Server;
-use fuse_fs::{Context, DirEntry, DirectoryIterator, Entry, FileSystem};
+use fuse_fs::{Context, DirEntry, DirectoryIterator, Entry, FileNumber, FileSystem};
 use fuse_in::{InHeader, ReadIn};
 use fuse_wire::Errno;
 use server_calls::directories::make_readdir_call;
-use server_calls::nodes::Lookup;
-use server_calls::requests::NameRequest;
+use server_calls::received::received_entry;
 use server_replies::entries::{is_dot, no_node, node_bytes, put_entry, reply_listing};
 use server_replies::init::MAX_BUFFER_SIZE;
 use server_replies::replies::{OUT_HEADER_LEN, append, reply_error};
@@ -69,7 +68,8 @@ impl<F: FileSystem> Server<F> {
         ensures options { self.new.options ≡ self.old.options }
         ensures page_size { self.new.page_size ≡ self.old.page_size }
     {
-        match Lookup::make_call(&mut self.fs, head, entry.name) {
+        let parent = F::Inode::numbered(head.nodeid);
+        match received_entry(self.fs.lookup(Context::from(*head), parent, entry.name)) {
             Ok(node) => self.put_node(head, node, entry, left, w),
             Err(error) => Err(Some(error)),
         }

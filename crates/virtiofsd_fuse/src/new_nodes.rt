@@ -9,10 +9,8 @@ ghost use Rattle.virtiofsd_fuse.specs.Serving.{RowHandles, Leaves};
 use crate::server::Server;
 use fuse_fs::FileSystem;
 use fuse_in::InHeader;
-use server_calls::new_nodes::make_symlink_call;
-use server_calls::requests::NewNameRequest;
-use server_replies::answers::AsReply;
-use server_requests::extensions::owned_extensions;
+use server_calls::new_nodes::symlink_value;
+use server_calls::values::NewNameValue;
 use server_requests::names::{read_counted, read_with_bytes};
 use server_requests::new_names::{new_link, new_name};
 use server_segments::{Error, Reader, Writer};
@@ -20,15 +18,13 @@ use std::alloc::Global;
 
 impl<F: FileSystem> Server<F> {
     /// Serves a request that is one record and the name of a node that is made.
-    pub(crate) fn new_name_request<R: NewNameRequest<F>>(
+    pub(crate) fn new_name_request<R: NewNameValue>(
         &mut self,
         alloc: Global,
         head: &InHeader,
         r: &mut Reader<'_>,
         w: &mut Writer,
     ) -> Result<usize, Error>
-    where
-        R::Answer: AsReply,
         requires fresh { w.old.written ≡ [] }
         requires room { w.old.free < 2 ^ 32 }
         ensures handles { RowHandles F.may self.old w.old.free head.now
@@ -38,19 +34,10 @@ impl<F: FileSystem> Server<F> {
     {
         match read_with_bytes::<R::Record>(alloc, head.len, r) {
             Ok(front) => match new_name(self.options, &front.bytes) {
-                Ok(new) => match owned_extensions(alloc, new.received) {
-                    Ok(extensions) => {
-                        let answer = R::make_call(
-                            &mut self.fs,
-                            head,
-                            &front.record,
-                            new.name,
-                            extensions,
-                        );
-                        self.reply_entry(head, answer, w)
-                    }
-                    Err(error) => Err(error),
-                },
+                Ok(new) => {
+                    let call = R::value(head, &front.record, new.name, new.received);
+                    self.perform_made(alloc, head.unique, call, w)
+                }
                 Err(error) => Err(error),
             },
             Err(error) => Err(error),
@@ -73,19 +60,10 @@ impl<F: FileSystem> Server<F> {
     {
         match read_counted(alloc, head.len, 0, r) {
             Ok(bytes) => match new_link(self.options, &bytes) {
-                Ok(parts) => match owned_extensions(alloc, parts.received) {
-                    Ok(extensions) => {
-                        let answer = make_symlink_call(
-                            &mut self.fs,
-                            head,
-                            parts.link,
-                            parts.name,
-                            extensions,
-                        );
-                        self.reply_entry(head, answer, w)
-                    }
-                    Err(error) => Err(error),
-                },
+                Ok(parts) => {
+                    let call = symlink_value(head, parts.link, parts.name, parts.received);
+                    self.perform_made(alloc, head.unique, call, w)
+                }
                 Err(error) => Err(error),
             },
             Err(error) => Err(error),

@@ -21,6 +21,7 @@ use server_calls::open_files::{
     CopyFileRange, Fallocate, Flush, Fsync, Fsyncdir, Lseek, Open, Opendir, Release, Releasedir,
 };
 use server_calls::plain_requests::{Bmap, Getlk, Ioctl, NotifyReply, Poll, Setlk, Setlkw, TmpFile};
+use server_calls::session::Destroy;
 use server_replies::replies::reply_error;
 use server_requests::records::read_record;
 use server_segments::{Error, Reader, Writer};
@@ -170,7 +171,7 @@ impl<F: FileSystem> Server<F> {
             Opcode::Read => self.read(alloc, head, r, w),
             Opcode::Setattr => self.record_request::<Setattr>(head, r, w),
             Opcode::Interrupt => self.interrupt(head, r, w),
-            Opcode::Destroy => self.end(head, r, w),
+            Opcode::Destroy => self.plain_request::<Destroy>(head, r, w),
             Opcode::Write => self.write(alloc, head, r, w),
             Opcode::Readdir => self.read_directory(head, false, r, w),
             Opcode::Readdirplus => self.read_directory(head, true, r, w),

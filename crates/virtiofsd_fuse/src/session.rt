@@ -2,7 +2,7 @@
 
 ghost use Rattle.std.specs.Prelude.{◌≡◌, ℕ, ◌<◌, ◌^◌, List, [], bit_and, Ok, false};
 ghost use Rattle.fuse_fs.specs.Calls.{Destroy, Done};
-ghost use Rattle.virtiofsd_fuse.specs.Grammar.{plain_row, silent_row, init_row, started, known_options};
+ghost use Rattle.virtiofsd_fuse.specs.Grammar.{silent_row, init_row, started, known_options};
 ghost use Rattle.virtiofsd_fuse.specs.Serving.{RowHandles, Leaves, agreed};
 
 use crate::server::Server;
@@ -17,18 +17,18 @@ use server_replies::replies::{reply, reply_error};
 use server_requests::records::{read_flags2, read_record};
 use server_segments::{Error, Reader, Writer};
 
-// The options that are known.
+/// The options that are known, of these bits.
 #[tactic(auto, using(crate::proofs::Options::known_bits_are, crate::proofs::Options::known_twice))]
-pub(crate) fn known(bits: u64) -> FsOptions
+pub fn known(bits: u64) -> FsOptions
     ensures options { result.0 ≡ bit_and bits known_options }
     ensures known { bit_and result.0 known_options ≡ result.0 }
 {
     FsOptions::from_bits_truncate(bits)
 }
 
-// What both sides have, and the file system asks for or is agreed on anyway.
+/// What both sides have, and the file system asks for or is agreed on anyway.
 #[tactic(auto, using(crate::proofs::Options::some_known))]
-fn agree(capable: FsOptions, wanted: FsOptions) -> FsOptions
+pub fn agree(capable: FsOptions, wanted: FsOptions) -> FsOptions
     requires { bit_and capable.0 known_options ≡ capable.0 }
     ensures options { result.0 ≡ agreed capable.0 wanted.0 }
     ensures known { bit_and result.0 known_options ≡ result.0 }
@@ -115,21 +115,6 @@ impl<F: FileSystem> Server<F> {
     {
         self.fs.destroy();
         self.options = FsOptions::from_bits_retain(0);
-    }
-
-    /// DESTROY: the end of a conversation.
-    pub(crate) fn end(
-        &mut self,
-        head: &InHeader,
-        r: &Reader<'_>,
-        w: &Writer,
-    ) -> Result<usize, Error>
-        requires fresh { w.now.written ≡ [] }
-        ensures handles { RowHandles F.may self.old w.now.free head.now (plain_row (λ h. Destroy)) r.now.left result w.now.written self.new }
-        ensures rest { Leaves false result w.now w.now self.old self.new }
-    {
-        self.destroy();
-        silence()
     }
 }
 

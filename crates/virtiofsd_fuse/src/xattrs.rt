@@ -9,9 +9,8 @@ use crate::server::Server;
 use fuse_fs::FileSystem;
 use fuse_in::{GetxattrIn, InHeader};
 use fuse_wire::Errno;
-use server_calls::requests::{RecordNameRequest, RecordRequest, TwoPartsRequest};
+use server_calls::values::{RecordNameValue, RecordValue, TwoPartsValue};
 use server_calls::xattrs::{Getxattr, Listxattr, Setxattr};
-use server_replies::answers::reply_answer;
 use server_replies::init::MAX_BUFFER_SIZE;
 use server_replies::replies::reply_error;
 use server_requests::names::{last_name, name_and_value, read_with_bytes};
@@ -41,8 +40,8 @@ impl<F: FileSystem> Server<F> {
                 }
                 match last_name(&front.bytes) {
                     Ok(name) => {
-                        let answer = Getxattr::make_call(&mut self.fs, head, &front.record, name);
-                        reply_answer(w, head.unique, answer)
+                        let call = Getxattr::value(head, &front.record, name);
+                        self.perform_recorded(head.unique, call, w)
                     }
                     Err(error) => Err(error),
                 }
@@ -68,8 +67,7 @@ impl<F: FileSystem> Server<F> {
                 if request.size > MAX_BUFFER_SIZE {
                     return reply_error(w, head.unique, Errno::ENOMEM);
                 }
-                let answer = Listxattr::make_call(&mut self.fs, head, &request);
-                reply_answer(w, head.unique, answer)
+                self.perform_record(head.unique, Listxattr::value(head, &request), w)
             }
             Err(error) => Err(error),
         }
@@ -91,14 +89,8 @@ impl<F: FileSystem> Server<F> {
         match read_setxattr(alloc, self.options, head.len, r) {
             Ok(front) => match name_and_value(&front.bytes, front.record.size) {
                 Ok((name, value)) => {
-                    let answer = Setxattr::make_call(
-                        &mut self.fs,
-                        head,
-                        &front.record,
-                        name,
-                        value,
-                    );
-                    reply_answer(w, head.unique, answer)
+                    let call = Setxattr::value(head, &front.record, name, value);
+                    self.perform_recorded(head.unique, call, w)
                 }
                 Err(error) => Err(error),
             },

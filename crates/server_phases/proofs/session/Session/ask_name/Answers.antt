@@ -10,7 +10,7 @@ pub returns-in-Ok-last_name-clause-told : goal.returns-in-Ok-last_name-clause-to
 returns-in-Ok-last_name-clause-told g c =
     c.called.ensures.told (setting c.args.self.now.page_size c.args.self.now.options.0 c.args.room) _ _ _ refl
     (name_read (given c.args.head.now c.args.self.now.options.0 c.args.room) g.R.NameValue.call _ _ c.in-Ok.ensures.bytes ∙ ap (ask_of c.args.head.now.unique (g.R.NameValue.call c.args.head.now)) (sym c.in-Ok-last_name.ensures.ok))
-    (g.R.NameValue.says c.args.head.now _) c.value.ensures
+    (g.R.NameValue.says c.args.head.now _).1 c.value.ensures
 
 pub returns-in-Err-last_name-clause-told : goal.returns-in-Err-last_name-clause-told
 returns-in-Err-last_name-clause-told g c =

@@ -8,7 +8,7 @@ use Rattle.server_phases.proofs.session.Session.ask_record.Goals as goal
 pub returns-in-Ok-clause-told : goal.returns-in-Ok-clause-told
 returns-in-Ok-clause-told g c =
     c.called.ensures.told (setting c.args.self.now.page_size c.args.self.now.options.0 c.args.room) _ _ (g.R.RecordValue.call c.args.head.now c.in-Ok.request) refl
-    (record_asks (given c.args.head.now c.args.self.now.options.0 c.args.room) g.R.Record.InRecord.shape g.R.RecordValue.call _ _ _ c.in-Ok.ensures.reads) (g.R.RecordValue.says c.args.head.now c.in-Ok.request) c.value.ensures
+    (record_asks (given c.args.head.now c.args.self.now.options.0 c.args.room) g.R.Record.InRecord.shape g.R.RecordValue.call _ _ _ c.in-Ok.ensures.reads) (g.R.RecordValue.says c.args.head.now c.in-Ok.request).1 c.value.ensures
 
 pub returns-in-Err-clause-told : goal.returns-in-Err-clause-told
 returns-in-Err-clause-told g c =

@@ -1,4 +1,4 @@
-use Rattle.std.proofs.Common.{true, [], ◌∷◌, refl, ap}
+use Rattle.std.proofs.Common.{true, [], ◌∷◌, refl, ap, rules}
 use Rattle.server_segments.specs.ReaderAndWriterView.{WriterView}
 use Rattle.fuse_fs.specs.Answers.{listed, numbered, context_of}
 use Rattle.fuse_fs.specs.Calls.{Done}
@@ -12,7 +12,7 @@ returns-in-Ok-clause-run g c = λ request.
     let undo = undo_call (context_of c.args.head.now) node.inode in
     let put = c.put_node.ensures in
     found_run g.F.FileSystemBase.may (listing_of true c.args.head.now request) (listed c.args.entry.now) node _ _ _ _ _ _ _ _ c.put_node.result refl c.requires
-    c.in-Ok.ensures.suits c.in-Ok.ensures.may
+    (search rules) (search rules)
     (placed_one g.F.FileSystemBase.may true (listed c.args.entry.now) node (undo ∷ []) _ _ _ _ _ _ _ c.put_node.result put.outcome put.written put.free put.kept
     (on_error c.put_node.result (λ same. ap (λ (w : WriterView). w.written) same) put.same)
     (on_error c.put_node.result (λ step. ((undo, Done) ∷ [], refl, (_, refl, step, refl))) put.undone))
@@ -20,4 +20,4 @@ returns-in-Ok-clause-run g c = λ request.
 pub returns-in-Err-clause-run : goal.returns-in-Err-clause-run
 returns-in-Err-clause-run g c = λ request.
     unfound_run g.F.FileSystemBase.may (listing_of true c.args.head.now request) (listed c.args.entry.now) _ _ c.args.w.now.free c.in-Err.error _ _ _ refl c.requires
-    c.in-Err.ensures.suits c.in-Err.ensures.may
+    (search rules) (search rules)

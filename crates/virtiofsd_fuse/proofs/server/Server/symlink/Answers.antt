@@ -1,27 +1,22 @@
 use Rattle.std.proofs.Common.{ap, sym, refl, ◌∙◌}
-use Rattle.fuse_base.specs.Options.{FsOptions}
 use Rattle.virtiofsd_fuse.specs.Serving.{setting}
 use Rattle.server_calls.specs.Requests.{symlink_call}
-use Rattle.fuse_fs.specs.Calls.{NewLink}
 use Rattle.virtiofsd_fuse.specs.Grammar.{given}
-use Rattle.virtiofsd_fuse.proofs.Serve.{ask_of, handles_entry, handles_refusal}
-use Rattle.server_requests.specs.Extras.{parts_of, sent_of}
-use Rattle.virtiofsd_fuse.proofs.Left.{context_owned}
+use Rattle.virtiofsd_fuse.proofs.Serve.{ask_of, handles_asked, handles_refusal}
+use Rattle.virtiofsd_fuse.proofs.Left.{owned_none}
 use Rattle.virtiofsd_fuse.proofs.Rows.{symlink_read, symlink_fault}
 use Rattle.virtiofsd_fuse.proofs.server.Server.symlink.Goals as goal
 
-pub returns-in-Ok-owned_extensions-clause-handles : goal.returns-in-Ok-owned_extensions-clause-handles
-returns-in-Ok-owned_extensions-clause-handles g c =
-    let h = given c.args.head.now c.args.self.now.options.0 c.args.w.now.free in
-    handles_entry g.F.FileSystemBase.may _ _ _ _ _ _ _ _ _ _ _ _
-    (symlink_read h _ _ c.in-Ok.ensures.bytes
-    ∙ ap (ask_of c.args.head.now.unique (symlink_call c.args.head.now)) (sym (rw (c.deref.ensures.value, ← c.in-Ok-owned_extensions.ensures.ok) at c.in-Ok-new_link.ensures.reads)))
-    c.make_symlink_call-answer.ensures.suits c.make_symlink_call-answer.ensures.may (ap (λ (o : FsOptions). o.0) c.reply_entry.ensures.options) c.make_symlink_call-answer.ensures.back
-    c.reply_entry.ensures.back c.reply_entry.ensures.sent
+pub perform_made-requires-clause-shape : goal.perform_made-requires-clause-shape
+perform_made-requires-clause-shape g c = rw c.symlink_value-call.ensures refl
 
 pub returns-in-Ok-new_link-clause-handles : goal.returns-in-Ok-new_link-clause-handles
 returns-in-Ok-new_link-clause-handles g c =
-    rw c.in-Err-owned_extensions.ensures.err.0 (refl, refl)
+    let h = given c.args.head.now c.args.self.now.options.0 c.args.w.now.free in
+    handles_asked g.F.FileSystemBase.may _ _ _ _ _ _ _ _ _ _
+    (symlink_read h _ _ c.in-Ok.ensures.bytes
+    ∙ ap (ask_of c.args.head.now.unique (symlink_call c.args.head.now)) (sym (rw c.deref.ensures.value at c.in-Ok-new_link.ensures.reads)))
+    c.symlink_value-call.ensures c.perform_made.ensures.handles
 
 pub returns-in-Ok-clause-handles : goal.returns-in-Ok-clause-handles
 returns-in-Ok-clause-handles g c =
@@ -39,12 +34,11 @@ returns-clause-handles g c =
 pub returns-in-Ok-new_link-clause-rest : goal.returns-in-Ok-new_link-clause-rest
 returns-in-Ok-new_link-clause-rest g c =
     let h = given c.args.head.now c.args.self.now.options.0 c.args.w.now.free in
-    let parts = c.in-Ok-new_link.parts in
-    let link : NewLink = record { name = parts.name.now; link = parts.link.now; extra = parts_of (sent_of parts.received) } in (
-      refl,
-      λ none. context_owned _ _ c.args.head.now.unique (symlink_call c.args.head.now link) link.extra _
+    let rest = c.perform_made.ensures.rest in (
+      rest.0,
+      λ none. rest.1 (owned_none _ _ c.args.head.now.unique _ _
           (symlink_read h _ _ c.in-Ok.ensures.bytes
           ∙ ap (ask_of c.args.head.now.unique (symlink_call c.args.head.now)) (sym (rw c.deref.ensures.value at c.in-Ok-new_link.ensures.reads)))
-          refl c.in-Err-owned_extensions.ensures.err.1 none,
-      refl,
+          c.symlink_value-call.ensures none),
+      rest.2,
     )

@@ -1,5 +1,0 @@
-use Rattle.std.proofs.Common.{sym}
-use Rattle.server_phases.proofs.asking.ask_read_row.Goals as goal
-
-pub returns-in-Ok-clause-told : goal.returns-in-Ok-clause-told
-returns-in-Ok-clause-told c = λ page_size options bytes. rw (sym c.in-Ok.ensures.reads) (c.ask_read.ensures.told page_size options c.record.new.self.bytes.now bytes)

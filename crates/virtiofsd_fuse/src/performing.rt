@@ -1,0 +1,339 @@
+//! Calls of requests without names, performed: the file system is asked, and the client is told its answer.
+
+ghost use Rattle.std.specs.Prelude.{◌≡◌, ◌<◌, ◌^◌, [], true, false, option_map};
+ghost use Rattle.fuse_values.specs.Values.{call_of};
+ghost use Rattle.server_calls.specs.Callers.{Header, Fixed, OnFile, shape_of, is_record};
+ghost use Rattle.virtiofsd_fuse.specs.Grammar.{Asks, One};
+ghost use Rattle.virtiofsd_fuse.specs.Serving.{ServerHandles, Leaves};
+
+use crate::server::Server;
+use crate::session::silence;
+use fuse_fs::{FileNumber, FileSystem};
+use fuse_values::FileCall;
+use server_calls::received::{
+    received, received_count, received_names, received_offset, received_opened, silent,
+};
+use server_replies::answers::reply_answer;
+use server_segments::{Error, Writer};
+
+// An open file, where it is told.
+fn numbered_if<H: FileNumber>(handle: Option<u64>) -> Option<H>
+    ensures { option_map H.number result ≡ handle }
+{
+    match handle {
+        Some(handle) => Some(H::numbered(handle)),
+        None => None,
+    }
+}
+
+impl<F: FileSystem> Server<F> {
+    /// Performs a call whose request is nothing but its header.
+    #[inline(always)]
+    pub(crate) fn perform_plain(
+        &mut self,
+        unique: u64,
+        call: FileCall<'_>,
+        w: &mut Writer,
+    ) -> Result<usize, Error>
+        requires fresh { w.old.written ≡ [] }
+        requires room { w.old.free < 2 ^ 32 }
+        requires shape { shape_of (call_of [] call) ≡ Header }
+        ensures handles { ServerHandles F.may self.old w.old.free (Asks (One unique (call_of [] call.entry))) result w.new.written self.new }
+        ensures rest { Leaves false result w.old w.new self.old self.new }
+    {
+        match call {
+            FileCall::Readlink { context, node } => {
+                let answer = received(self.fs.readlink(context, F::Inode::numbered(node)));
+                reply_answer(w, unique, answer)
+            }
+            FileCall::Statfs { context, node } => {
+                let answer = received(self.fs.statfs(context, F::Inode::numbered(node)));
+                reply_answer(w, unique, answer)
+            }
+            FileCall::Syncfs { context, node } => {
+                let answer = received(self.fs.syncfs(context, F::Inode::numbered(node)));
+                reply_answer(w, unique, answer)
+            }
+            FileCall::Destroy => {
+                self.destroy();
+                silence()
+            }
+            FileCall::Getlk => reply_answer(w, unique, silent(self.fs.getlk())),
+            FileCall::Setlk => reply_answer(w, unique, silent(self.fs.setlk())),
+            FileCall::Setlkw => reply_answer(w, unique, silent(self.fs.setlkw())),
+            FileCall::Bmap => reply_answer(w, unique, silent(self.fs.bmap())),
+            FileCall::Ioctl => reply_answer(w, unique, silent(self.fs.ioctl())),
+            FileCall::Poll => reply_answer(w, unique, silent(self.fs.poll())),
+            FileCall::NotifyReply => reply_answer(w, unique, silent(self.fs.notify_reply())),
+            FileCall::TmpFile => reply_answer(w, unique, received(Err::<(), _>(self.fs.tmpfile()))),
+
+            _ => unreachable!(),
+        }
+    }
+
+    /// Performs a call whose request is one record.
+    #[inline(always)]
+    pub(crate) fn perform_record(
+        &mut self,
+        unique: u64,
+        call: FileCall<'_>,
+        w: &mut Writer,
+    ) -> Result<usize, Error>
+        requires fresh { w.old.written ≡ [] }
+        requires room { w.old.free < 2 ^ 32 }
+        requires shape { is_record (shape_of (call_of [] call)) ≡ true }
+        ensures handles { ServerHandles F.may self.old w.old.free (Asks (One unique (call_of [] call.entry))) result w.new.written self.new }
+        ensures rest { Leaves false result w.old w.new self.old self.new }
+    {
+        match call {
+            FileCall::Forget {
+                context,
+                node,
+                count,
+            } => {
+                self.fs.forget(context, F::Inode::numbered(node), count);
+                silence()
+            }
+            FileCall::Getattr {
+                context,
+                node,
+                handle,
+            } => {
+                let answer = received(
+                    self.fs
+                        .getattr(context, F::Inode::numbered(node), numbered_if(handle)),
+                );
+                reply_answer(w, unique, answer)
+            }
+            FileCall::Setattr {
+                context,
+                node,
+                attr,
+                handle,
+                valid,
+            } => {
+                let answer = received(
+                    self.fs.setattr(
+                        context,
+                        F::Inode::numbered(node),
+                        attr,
+                        numbered_if(handle),
+                        valid,
+                    ),
+                );
+                reply_answer(w, unique, answer)
+            }
+            FileCall::Access {
+                context,
+                node,
+                mask,
+            } => {
+                let answer = received(self.fs.access(context, F::Inode::numbered(node), mask));
+                reply_answer(w, unique, answer)
+            }
+            FileCall::Listxattr {
+                context,
+                node,
+                size,
+            } => {
+                let answer = received_names(
+                    self.fs.listxattr(context, F::Inode::numbered(node), size),
+                );
+                reply_answer(w, unique, answer)
+            }
+            FileCall::Open {
+                context,
+                node,
+                kill,
+                flags,
+            } => {
+                let answer = received_opened(
+                    self.fs.open(context, F::Inode::numbered(node), kill, flags),
+                );
+                reply_answer(w, unique, answer)
+            }
+            FileCall::Opendir {
+                context,
+                node,
+                flags,
+            } => {
+                let answer = received_opened(
+                    self.fs.opendir(context, F::Inode::numbered(node), flags),
+                );
+                reply_answer(w, unique, answer)
+            }
+
+            _ => self.perform_file(unique, call, w),
+        }
+    }
+
+    // Performs a call on an open file or directory whose request is one record.
+    #[inline(always)]
+    fn perform_file(
+        &mut self,
+        unique: u64,
+        call: FileCall<'_>,
+        w: &mut Writer,
+    ) -> Result<usize, Error>
+        requires fresh { w.old.written ≡ [] }
+        requires room { w.old.free < 2 ^ 32 }
+        requires shape { shape_of (call_of [] call) ≡ OnFile }
+        ensures handles { ServerHandles F.may self.old w.old.free (Asks (One unique (call_of [] call.entry))) result w.new.written self.new }
+        ensures rest { Leaves false result w.old w.new self.old self.new }
+    {
+        match call {
+            FileCall::Release {
+                context,
+                node,
+                flags,
+                handle,
+                flush,
+                unlock,
+                owner,
+            } => {
+                let answer = received(
+                    self.fs.release(
+                        context,
+                        F::Inode::numbered(node),
+                        flags,
+                        F::Handle::numbered(handle),
+                        flush,
+                        unlock,
+                        owner,
+                    ),
+                );
+                reply_answer(w, unique, answer)
+            }
+            FileCall::Releasedir {
+                context,
+                node,
+                flags,
+                handle,
+            } => {
+                let answer = received(
+                    self.fs.releasedir(
+                        context,
+                        F::Inode::numbered(node),
+                        flags,
+                        F::Handle::numbered(handle),
+                    ),
+                );
+                reply_answer(w, unique, answer)
+            }
+            FileCall::Fsync {
+                context,
+                node,
+                data_only,
+                handle,
+            } => {
+                let answer = received(
+                    self.fs.fsync(
+                        context,
+                        F::Inode::numbered(node),
+                        data_only,
+                        F::Handle::numbered(handle),
+                    ),
+                );
+                reply_answer(w, unique, answer)
+            }
+            FileCall::Fsyncdir {
+                context,
+                node,
+                data_only,
+                handle,
+            } => {
+                let answer = received(
+                    self.fs.fsyncdir(
+                        context,
+                        F::Inode::numbered(node),
+                        data_only,
+                        F::Handle::numbered(handle),
+                    ),
+                );
+                reply_answer(w, unique, answer)
+            }
+            FileCall::Flush {
+                context,
+                node,
+                handle,
+                owner,
+            } => {
+                let answer = received(
+                    self.fs.flush(
+                        context,
+                        F::Inode::numbered(node),
+                        F::Handle::numbered(handle),
+                        owner,
+                    ),
+                );
+                reply_answer(w, unique, answer)
+            }
+            FileCall::Fallocate {
+                context,
+                node,
+                handle,
+                mode,
+                offset,
+                len,
+            } => {
+                let answer = received(
+                    self.fs.fallocate(
+                        context,
+                        F::Inode::numbered(node),
+                        F::Handle::numbered(handle),
+                        mode,
+                        offset,
+                        len,
+                    ),
+                );
+                reply_answer(w, unique, answer)
+            }
+            FileCall::Lseek {
+                context,
+                node,
+                handle,
+                offset,
+                whence,
+            } => {
+                let answer = received_offset(
+                    self.fs.lseek(
+                        context,
+                        F::Inode::numbered(node),
+                        F::Handle::numbered(handle),
+                        offset,
+                        whence,
+                    ),
+                );
+                reply_answer(w, unique, answer)
+            }
+            FileCall::CopyFileRange {
+                context,
+                node,
+                handle,
+                offset,
+                node_out,
+                handle_out,
+                offset_out,
+                len,
+                flags,
+            } => {
+                let answer = received_count(
+                    self.fs.copyfilerange(
+                        context,
+                        F::Inode::numbered(node),
+                        F::Handle::numbered(handle),
+                        offset,
+                        F::Inode::numbered(node_out),
+                        F::Handle::numbered(handle_out),
+                        offset_out,
+                        len,
+                        flags,
+                    ),
+                );
+                reply_answer(w, unique, answer)
+            }
+
+            _ => unreachable!(),
+        }
+    }
+}
