@@ -353,9 +353,9 @@ struct fs_step {
  * law_any_loads), not of the handle's calls together. A queue that another chain's walk stopped meanwhile refuses: FS_STOPPED.
  * FS_DONE: the chain is out of the queue, its windows stay as they are until it is returned or dropped. FS_IDLE, a refusal
  * from 1 to 8: the chain is free. A chain whose walk has begun isn't out yet: fs_drop ends it, and so does a refusal. An entry that goes over the
- * end of a region (the next one begins there) is loaded in two parts, by two calls.
- * Errors: FS_WRONG_ORDER (no memory was told), FS_BAD_ARGUMENT (the queue's numbers are none; or `loaded` isn't as long as the load: that is still
- * wanted, and told again), FS_WRONG_ORDER (it is out), FS_OTHER_QUEUE (it walks another), FS_CHAIN_OUT; then in no order FS_OUT_OF_MEMORY, 1 to 8, FS_NO_PLACE. */
+ * end of a region (the next one begins there) is loaded in two parts, by two calls; a caller who has it whole may give it whole.
+ * Errors: FS_WRONG_ORDER (no memory was told), FS_BAD_ARGUMENT (the queue's numbers are none; or `loaded` isn't as long as the load, whole or as
+ * it was told: that is still wanted, and told again), FS_WRONG_ORDER (it is out), FS_OTHER_QUEUE (it walks another), FS_CHAIN_OUT; then in no order FS_OUT_OF_MEMORY, 1 to 8, FS_NO_PLACE. */
 uint32_t fs_walk(struct fs_chain *chain, struct fs_queue *queue, const uint8_t *loaded, size_t loaded_len, struct fs_step *step)
     FS_CHECK FS_NONNULL(1, 2, 5) FS_READS(3, 4) FS_FILLS(5);
 
@@ -378,7 +378,8 @@ struct fs_range {
 
 /* The windows of the bytes from `from` on, up to `len` of them, of a chain's request or room: as many as there is place for and
  * bytes for, each as long as its descriptor and its region go on. They answer how many they filled: 0 where nothing is there, also of a chain
- * that isn't out. What they cover is the sum of their lengths; go on from there for more. fs_room_ranges tells the same of the room by the
+ * that isn't out. What they cover is the sum of their lengths; go on from there for more. A call goes once through the descriptors
+ * of the chain: many windows in one call take less time than in many. fs_room_ranges tells the same of the room by the
  * guest's addresses, for a log: each range as long as its descriptor goes on. */
 size_t fs_request_windows(struct fs_chain *chain, uint64_t from, uint64_t len, struct fs_window *windows, size_t window_count)
     FS_NONNULL(1) FS_WRITES(4, 5);

@@ -1,4 +1,5 @@
 pub mod Adding
 pub mod LoadLemmas
 pub mod Offering
+pub mod Passing
 pub mod Steps

@@ -18,7 +18,7 @@ use Rattle.fs_chain.specs.Orders.{AsksTable, IfWalking, IsWalking, load_len, wal
 use Rattle.fs_chain.specs.Walks.{BeginsUnless, GoesOnUnless, LacksRoom, WalksFrom, WalksOn}
 use Rattle.fs_chain.specs.declared.walking.WalkOutcome as walked
 use Rattle.fs_chain.specs.declared.workbench.Workbench.{Workbench}
-use Rattle.fs_chain.specs.Loads.{AreDue, AreWanted, RefusesWalk, came, due_len, whole}
+use Rattle.fs_chain.specs.Loads.{AreDue, AreWanted, AreWhole, RefusesWalk, came, due_len, whole}
 
 within : (s : state.State) (P : QueueWalk → Type 0) (n : ℕ) → IsWalking s → IfWalking s P → ((walk : QueueWalk) → P walk → n ≤ asked_len walk) → n ≤ load_len s
 within (at.Walking course walk) P n is p h = h walk p
@@ -68,17 +68,12 @@ refuses_walk w q loaded e due len all (inr lacks) memory =
     let room = memory lacks.0 in
     inr (inl (lacks.0, inl (ends_load w loaded all len room.0, room), due, subst (λ (n : ℕ). walk_error w.state q n ≡ None) len lacks.1))
 
--- bytes that are due begin a walk, or they are wanted
-pub due : (w : Workbench) (loaded : List ℕ) → AreDue w loaded → (load_len w.state ≡ 0) ⊎ AreWanted w (length loaded)
+-- bytes that are due begin a walk, or they are a whole load, or they are wanted
+pub due : (w : Workbench) (loaded : List ℕ) → AreDue w loaded → (load_len w.state ≡ 0) ⊎ AreWhole w (length loaded) ⊎ AreWanted w (length loaded)
 due w loaded (inl none) = inl none
 due w loaded (inr some) = inr some.1
 
 -- ---- a walk is the same, whatever part of a load the handle keeps
-
--- one part after another
-pub both_apart : (w between after : Workbench) → between ≡ record w { part = between.part } → after ≡ record between { part = after.part }
-    → after ≡ record w { part = after.part }
-both_apart w between after from to = to ∙ ap (λ (x : Workbench). record x { part = after.part }) from
 
 module _ (w w' : Workbench) (aside kept : Vec ℕ) (q q' : KeptQueue) (told : walked.WalkOutcome) where
   abbrev before : Workbench

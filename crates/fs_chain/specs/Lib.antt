@@ -6,5 +6,6 @@ pub mod Loads
 pub mod Numbers
 pub mod Orders
 pub mod OwnReplies
+pub mod Passing
 pub mod Returns
 pub mod Walks

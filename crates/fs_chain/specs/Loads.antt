@@ -28,13 +28,17 @@ HasNoPlace w from = IfWalking w.state (λ walk. from < asked_len walk → place 
 abbrev pub came : Workbench → ℕ
 came w = length w.part.items
 
+-- so many bytes are a load that is given whole: all that is asked for, and none of them came before
+abbrev pub AreWhole : Workbench → (len : ℕ) → Type 0
+AreWhole w len = (w.part.items ≡ []) × (len ≡ load_len w.state)
+
 -- so many bytes are those that a walk still asks for, as long as their region goes on
 abbrev pub AreWanted : Workbench → (len : ℕ) → Type 0
 AreWanted w len = (v : Window) × IsLoadWindow w (came w) v × (v.len ≡ len)
 
--- or they aren't
+-- they are neither a whole load, nor those that it still asks for
 abbrev pub AreOthers : Workbench → (len : ℕ) → Type 0
-AreOthers w len = HasNoPlace w (came w) ⊎ ((v : Window) × IsLoadWindow w (came w) v × (v.len ≡ len → ⊥))
+AreOthers w len = (AreWhole w len → ⊥) × (HasNoPlace w (came w) ⊎ ((v : Window) × IsLoadWindow w (came w) v × (v.len ≡ len → ⊥)))
 
 -- the bytes of a load, if one is asked for: those that came before, and these
 abbrev pub whole : Workbench → List ℕ → List ℕ
@@ -46,7 +50,7 @@ GoesSo w q loaded goes.Part w' q' =
     AreWanted w (length loaded) × (came w + length loaded < load_len w.state) × (walk_error w.state q (load_len w.state) ≡ None)
     × IsAllButPart w w' × (w'.part.items ≡ w.part.items ++ loaded) × (q' ≡ q)
 GoesSo w q loaded (goes.On told) w' q' =
-    ((load_len w.state ≡ 0) ⊎ AreWanted w (length loaded)) × (w'.part.items ≡ []) × (w'.session ≡ w.session)
+    ((load_len w.state ≡ 0) ⊎ AreWhole w (length loaded) ⊎ AreWanted w (length loaded)) × (w'.part.items ≡ []) × (w'.session ≡ w.session)
     × (walk_error w.state q (length (whole w loaded)) ≡ None) × WalksOn (whole w loaded) w w' q q' told
 
 -- nothing was done: regions, limit, place and descriptors are as they were, what came of a load, and the session
@@ -54,9 +58,9 @@ abbrev pub IsSame : Workbench → Workbench → Type 0
 IsSame w w' =
     IsAllBut w w' × (w'.state ≡ w.state) × (w'.descriptors.items ≡ w.descriptors.items) × (w'.part.items ≡ w.part.items) × (w'.session ≡ w.session)
 
--- these bytes begin a walk, or they are some of the load that is asked for
+-- these bytes begin a walk, or they are the load that is asked for, or those that are wanted of it
 abbrev pub AreDue : Workbench → (loaded : List ℕ) → Type 0
-AreDue w loaded = (load_len w.state ≡ 0) ⊎ ((0 < load_len w.state) × AreWanted w (length loaded))
+AreDue w loaded = (load_len w.state ≡ 0) ⊎ ((0 < load_len w.state) × (AreWhole w (length loaded) ⊎ AreWanted w (length loaded)))
 
 -- how many bytes the walk takes next
 abbrev pub due_len : Workbench → (loaded : List ℕ) → ℕ
@@ -69,7 +73,7 @@ LacksMemory w len =
     ((came w + len ≡ load_len w.state) × LacksRoom w) ⊎ ((len < load_len w.state) × (vec_capacity w.part < came w + len) × RoomWasRefused len)
 
 -- why a walk doesn't go on by these bytes: by where its chain is or by the queue, also if they are only a part of the load; for want of memory, if nothing
--- else is wrong; or since they are others than those that are wanted
+-- else is wrong; or since they are neither the whole load nor those that are wanted
 abbrev pub RefusesWalk : Workbench → KeptQueue → (loaded : List ℕ) → ChainError → Type 0
 RefusesWalk w q loaded e =
     (AreDue w loaded × (walk_error w.state q (due_len w loaded) ≡ Some e))

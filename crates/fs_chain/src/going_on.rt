@@ -101,7 +101,6 @@ impl Workbench {
                     }
                     ended => {
                         let course = *course;
-                        self.state = State::Free;
                         self.settle(queue, course, ended)
                     }
                 }
@@ -153,7 +152,7 @@ impl Workbench {
             _ => return Err(ChainError::WrongOrder),
         }
         if queue.stopped.is_some() {
-            self.state = State::Free;
+            self.end_walk();
             return Ok(WalkOutcome::Refused(QueueError::Stopped));
         }
         match self.make_room() {
@@ -163,6 +162,7 @@ impl Workbench {
     }
 
     /// Takes the next chain of a queue by whole loads: at first without bytes, then with those of each load that was asked for.
+    #[inline(always)]
     pub(crate) fn walk_load(
         &mut self,
         queue: &mut KeptQueue,

@@ -2,7 +2,7 @@
 
 ghost use Rattle.std.specs.Prelude.{◌≡◌, ◌⊎◌, ◌<◌, ◌+◌, ◌++◌, [], Some, None, true, false, length, take, IfOk, IfErr, IfSome, OnOk, OnErr, vec_capacity};
 ghost use Rattle.memory_requests.specs.Refused.{RoomWasRefused};
-ghost use Rattle.fs_chain.specs.Loads.{AreDue, AreOthers, AreWanted, GoesSo, HasNoPlace, IsLoadWindow, IsSame, RefusesWalk, came, due_len, whole};
+ghost use Rattle.fs_chain.specs.Loads.{AreDue, AreOthers, AreWanted, AreWhole, GoesSo, HasNoPlace, IsLoadWindow, IsSame, RefusesWalk, came, due_len, whole};
 ghost use Rattle.fs_chain.specs.Orders.{load_len, walk_error};
 ghost use Rattle.fs_chain.specs.Walks.{IsAllBut, IsAllButPart, LacksRoom, WalksOn};
 
@@ -33,8 +33,9 @@ impl Workbench {
         self.load_window(self.part.len())
     }
 
-    // Whether so many bytes are those that a walk still asks for.
+    // Whether so many bytes, which aren't a whole load, are those that a walk still asks for.
     fn are_wanted(&self, len: usize) -> bool
+        requires { AreWhole self.now len → ⊥ }
         ensures wanted { result ≡ true → AreWanted self.now len }
         ensures others { result ≡ false → AreOthers self.now len }
     {
@@ -77,7 +78,17 @@ impl Workbench {
         self.part = part;
     }
 
+    // Lets the first bytes of the load go.
+    fn clear_part(&mut self)
+        ensures cleared { self.new.part.items ≡ [] }
+        ensures apart { self.new ≡ record self.old { part = self.new.part } }
+        ensures stays { IsAllButPart self.old self.new }
+    {
+        self.part.clear();
+    }
+
     // Gives the walk its load, all of which came: on a refusal only so many of its first bytes stay.
+    #[inline(never)]
     fn walk_joined(
         &mut self,
         queue: &mut KeptQueue,
@@ -109,6 +120,7 @@ impl Workbench {
     }
 
     // Gives the walk its whole load, or begins it: no part came before.
+    #[inline(always)]
     fn walk_whole(&mut self, queue: &mut KeptQueue, loaded: &[u8]) -> Result<Went, ChainError>
         requires whole { whole self.old loaded.now ≡ loaded.now }
         requires due { AreDue self.old loaded.now }
@@ -119,9 +131,7 @@ impl Workbench {
     {
         match self.walk_load(queue, loaded) {
             Ok(walked) => {
-                let mut part = self.take_part();
-                part.clear();
-                self.keep_part(part);
+                self.clear_part();
                 Ok(Went::On(walked))
             }
             Err(error) => Err(error),
@@ -136,13 +146,13 @@ impl Workbench {
         ensures error { IfErr result (RefusesWalk self.old queue.old loaded.now) }
         ensures same { OnErr result (IsSame self.old self.new × (queue.new ≡ queue.old)) }
     {
-        if !self.are_wanted(loaded.len()) {
-            return Err(ChainError::BadArgument);
-        }
         let asked = self.load_len();
         let before = self.part.len();
         if before == 0 && loaded.len() == asked {
             return self.walk_whole(queue, loaded);
+        }
+        if !self.are_wanted(loaded.len()) {
+            return Err(ChainError::BadArgument);
         }
         if let Some(error) = self.walk_refusal(queue, asked) {
             return Err(error);
@@ -159,8 +169,8 @@ impl Workbench {
         }
     }
 
-    /// Takes the next chain of a queue: at first without bytes, then with those of the window that is still wanted (`still_wanted`), until the walk
-    /// goes on. A load that goes over the end of a region comes in parts.
+    /// Takes the next chain of a queue: at first without bytes, then with those of each load that is asked for. A load is given whole, also if it goes
+    /// over the end of a region, or in parts: each time those of the window that is still wanted (`still_wanted`), until the walk goes on.
     ///
     /// `BadArgument` for other bytes than those, or if a walk begins by some. `WrongOrder` if a chain is out. `OtherQueue` if the walk is another queue's,
     /// `ChainOut` if the queue has a chain out, `OutOfMemory` if one more descriptor or a part of a load has no room. Then nothing is done.

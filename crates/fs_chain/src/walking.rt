@@ -95,6 +95,14 @@ impl Workbench {
         WalkOutcome::Faulty { head, fault }
     }
 
+    /// No chain is walked any more.
+    #[inline(never)]
+    pub(crate) fn end_walk(&mut self)
+        ensures { self.new ≡ record self.old { state = at.Free } }
+    {
+        self.state = State::Free;
+    }
+
     /// Keeps what a walk comes to, and tells it.
     #[inline(always)]
     pub(crate) fn settle(
@@ -103,7 +111,6 @@ impl Workbench {
         course: Course,
         step: Step,
     ) -> WalkOutcome
-        requires free { self.old.state ≡ at.Free }
         ensures told { result ≡ told_of self.new.descriptors.items step }
         ensures state { self.new.state ≡ state_after course self.new.descriptors.items step }
         ensures left { self.new.descriptors.items ≡ left_of step self.old.descriptors.items }
@@ -117,8 +124,12 @@ impl Workbench {
                 self.state = State::Walking(course, walk);
                 WalkOutcome::Load(len)
             }
-            Step::Idle => WalkOutcome::Idle,
+            Step::Idle => {
+                self.end_walk();
+                WalkOutcome::Idle
+            }
             Step::Refused(error) => {
+                self.end_walk();
                 queue.stopped = Some(error);
                 WalkOutcome::Refused(error)
             }

@@ -5,9 +5,11 @@ ghost use Rattle.fs_queue.specs.Taking.{all_reach, total_len, access_of, of_dire
 ghost use Rattle.fs_regions.specs.Places.{places_in};
 ghost use Rattle.fs_regions.specs.Windows.{IsWindowFrom};
 ghost use Rattle.fs_chain.specs.Orders.{is_out, memory_error};
+ghost use Rattle.fs_chain.specs.Passing.{HasPassed};
 ghost use Rattle.fs_chain.specs.declared.state.State.TheVariants as at;
 
 use crate::error::ChainError;
+use crate::passed::Passed;
 use crate::state::State;
 use fs_queue::{Descriptors, MOST_LIMIT};
 use fs_regions::{GuestRegions, window_from};
@@ -87,6 +89,30 @@ impl Workbench {
         ensures { result ≡ is_out self.now.state }
     {
         !matches!(self.state, State::Free | State::Walking(_, _))
+    }
+
+    /// The longest window of one direction of a chain from a byte on, behind the descriptors that were passed; those before that byte are passed
+    /// then. None past the end of the direction's bytes, or if no chain is out. So all windows of a chain take time for its descriptors once.
+    pub fn next_window(
+        &self,
+        write_only: bool,
+        from: u64,
+        passed: &mut Passed,
+    ) -> Option<VolatileSlice>
+        requires passed { HasPassed write_only self.now.descriptors.items passed.old }
+        ensures passed { HasPassed write_only self.now.descriptors.items passed.new }
+        ensures some { IfSome result (IsWindowFrom self.now.regions write_only self.now.descriptors.items from) }
+        ensures out { OnSome result (is_out self.now.state ≡ true) }
+        ensures none { result ≡ None → is_out self.now.state ≡ true
+            → all_reach (places_in self.now.regions) (access_of write_only) (of_direction write_only self.now.descriptors.items) ≡ true
+            → total_len (of_direction write_only self.now.descriptors.items) ≤ from }
+    {
+        if !self.is_out() {
+            return None;
+        }
+        passed.pass_to(&self.descriptors, write_only, from);
+        let left = passed.left(&self.descriptors);
+        window_from(&self.regions, left, write_only, from - passed.bytes)
     }
 
     // The longest window of one direction of the chain that is out, from a byte on.

@@ -1,10 +1,11 @@
 //! Where a chain's bytes stand.
 
 ghost use Rattle.std.specs.Prelude.{◌≡◌, ◌<◌, ◌≤◌, ◌-◌, ◌^◌, min, true, IfSome, None};
+ghost use Rattle.fs_chain.specs.Passing.{HasPassed};
 ghost use Rattle.fs_chain_c.specs.Windows.{Fills, HasNoMore, IsStretch};
 
 use crate::walking::host_at;
-use fs_chain::Workbench;
+use fs_chain::{Passed, Workbench};
 
 /// A stretch of memory here, laid out as `struct iovec` is.
 #[repr(C)]
@@ -16,19 +17,22 @@ pub struct FsWindow {
     pub len: usize,
 }
 
-// The stretch of the bytes of one direction from one on, at most so many.
-fn stretch(workbench: &Workbench, write_only: bool, from: u64, most: u64) -> Option<FsWindow>
-    requires { 0 < most }
+// The stretch of the bytes of one direction from one on, at most so many, behind the descriptors that were passed.
+fn stretch(
+    workbench: &Workbench,
+    write_only: bool,
+    from: u64,
+    most: u64,
+    passed: &mut Passed,
+) -> Option<FsWindow>
+    requires some { 0 < most }
+    requires passed { HasPassed write_only workbench.now.descriptors.items passed.old }
+    ensures passed { HasPassed write_only workbench.now.descriptors.items passed.new }
     ensures some { IfSome result (IsStretch workbench.now write_only from most) }
     ensures none { result ≡ None → HasNoMore workbench.now write_only from }
     ensures low { IfSome result (λ s. s.len ≤ most) }
 {
-    let window = if write_only {
-        workbench.room_window(from)
-    } else {
-        workbench.request_window(from)
-    };
-    match window {
+    match workbench.next_window(write_only, from, passed) {
         Some(window) => {
             let at = host_at(&window);
             let len = (window.len() as u64).min(most) as usize;
@@ -50,11 +54,12 @@ pub fn fill(
     ensures { Fills workbench.now write_only from (min most (2 ^ 64 - 1 - from)) windows.old windows.new result }
 {
     let (mut at, mut left) = (from, most.min(u64::MAX - from));
+    let mut passed = Passed::none();
     for k in 0..windows.len() {
         if left == 0 {
             return k;
         }
-        let Some(stretch) = stretch(workbench, write_only, at, left) else {
+        let Some(stretch) = stretch(workbench, write_only, at, left, &mut passed) else {
             return k;
         };
         windows[k] = stretch;

@@ -3,7 +3,7 @@ use Rattle.fs_chain_c.proofs.WindowLemmas.{covered_more, put_next, stretches_nex
 use Rattle.fs_chain_c.proofs.windows.fill.Goals as goal
 
 pub loop-k-init : goal.loop-k-init
-loop-k-init c = record { found = []; count = refl; fits = omega arith; put = refl; are = tt; left = omega arith; at = omega arith }
+loop-k-init c = record { found = []; count = refl; fits = omega arith; put = refl; are = tt; left = omega arith; at = omega arith; passed = search rules }
 
 pub loop-k-preserved : goal.loop-k-preserved
 loop-k-preserved c =
@@ -17,4 +17,5 @@ loop-k-preserved c =
       are = stretches_next c.args.workbench.now c.args.write_only c.args.from _ inv.found s c.loop-k.at c.loop-k.left inv.are inv.at inv.left c.in-Some.ensures.some;
       left = omega (arith, more, inv.left, c.in-Some.ensures.low);
       at = omega (arith, more, inv.at);
+      passed = search rules;
     }

@@ -1,4 +1,5 @@
 use Rattle.std.proofs.Common.{◌≡◌, ◌≤◌, ◌+◌, ◌-◌, ◌^◌, ◌++◌, drop, length, List, min}
+use Rattle.fs_chain.specs.Passing.{HasPassed}
 use Rattle.fs_chain_c.specs.Windows.{AreStretches, covered}
 use Rattle.fs_chain_c.specs.declared.windows.FsWindow.{FsWindow}
 use Rattle.fs_chain_c.proofs.windows.fill.Given as goal
@@ -13,4 +14,5 @@ invariant-loop-k l = record {
   are : AreStretches l.workbench l.write_only l.from (min l.most (2 ^ 64 - 1 - l.from)) found;
   left : l.left + covered found ≡ min l.most (2 ^ 64 - 1 - l.from);
   at : l.at ≡ l.from + covered found;
+  passed : HasPassed l.write_only l.workbench.descriptors.items l.passed;
 }

@@ -1,5 +1,5 @@
 use Rattle.std.proofs.Common.{rules, refl, sym}
-use Rattle.fs_chain.proofs.LoadLemmas.{both_apart, due, refuses_walk, walks_apart}
+use Rattle.fs_chain.proofs.LoadLemmas.{due, refuses_walk, walks_apart}
 use Rattle.fs_chain.proofs.workbench.Workbench.walk_whole.Goals as goal
 
 pub returns-in-Ok-clause-goes : goal.returns-in-Ok-clause-goes
@@ -8,8 +8,7 @@ returns-in-Ok-clause-goes c = (
   search rules,
   search rules,
   search rules,
-  walks_apart c.args.self.now c.args.self.now c.walk_load.new.self c.keep_part.new.self _ _ _ c.args.loaded.now _ refl
-      (both_apart c.walk_load.new.self c.take_part-part.new.self c.keep_part.new.self c.take_part-part.ensures.apart c.keep_part.ensures.apart) (sym c.requires.whole) c.in-Ok.ensures.walks,
+  walks_apart c.args.self.now c.args.self.now c.walk_load.new.self c.clear_part.new.self _ _ _ c.args.loaded.now _ refl c.clear_part.ensures.apart (sym c.requires.whole) c.in-Ok.ensures.walks,
 )
 
 pub returns-in-Err-clause-error : goal.returns-in-Err-clause-error
