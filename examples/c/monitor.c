@@ -1,18 +1,16 @@
-/* A monitor over pitskhomu.h with a file system in memory. It is here to be copied: part 1 stays as it is, part 2 is yours, and
- * part 3 gets the transport that you have; here a guest of the same process draws a ring by hand (guest.h), and stands still
- * while it is served.
+/* A monitor over pitskhomu.h with a file system in memory. It is here to be copied: access.c stays as it is, part 1 is yours, and
+ * part 2 gets the transport that you have; here a guest of the same process draws a ring by hand (guest.h), and stands still
+ * while it is served. (live.c serves one that runs.)
  *
- *     cc -std=c11 -o monitor monitor.c $(pkg-config --cflags --libs pitskhomu)
+ *     cc -std=c11 -o monitor monitor.c access.c $(pkg-config --cflags --libs pitskhomu)
  */
 #define _GNU_SOURCE
+#include "access.h"
 #include "guest.h"
 #include <ctype.h>
 #include <dirent.h> /* DT_REG */
 #include <errno.h>
 #include <linux/fuse.h> /* FUSE_ and FATTR_ bits */
-#include <pitskhomu.h>
-#include <stdatomic.h>
-#include <stdbool.h>
 #include <stdlib.h>
 #include <sys/mman.h>
 
@@ -27,83 +25,7 @@ static uint8_t list[PAGE];              /* READDIR's entries */
 
 static uint64_t least(uint64_t a, uint64_t b) { return a < b ? a : b; }
 
-/* ------------------------------------------------------------- 1. the loads and stores that the library asks for
- * What it tells of the guest's memory are places of this process, since `host` of the region in main says so. */
-
-static void mark(uintptr_t at, size_t len); /* part 3: what was stored to, for a migration */
-
-static uint16_t load_two(uintptr_t at) { return atomic_load_explicit((_Atomic uint16_t *)at, memory_order_acquire); }
-
-/* Each byte once. The fence holds the compiler, which might look at the guest's bytes again in place of the copy. */
-static void copy_out(void *to, uintptr_t at, size_t len) {
-    memcpy(to, (const void *)at, len);
-    atomic_signal_fence(memory_order_seq_cst);
-}
-
-/* Copies `len` bytes of the request out, from byte `from` on. */
-static void gather(void *to, uint64_t from, uint64_t len) {
-    struct fs_window windows[16];
-    size_t count;
-    while (len > 0 && (count = fs_request_windows(&chain, from, len, windows, 16)) > 0)
-        for (size_t k = 0; k < count; k++) {
-            copy_out(to, windows[k].at, windows[k].len);
-            to = (uint8_t *)to + windows[k].len, from += windows[k].len, len -= windows[k].len;
-        }
-}
-
-/* Copies bytes into the room of the reply, from its byte `from` on. */
-static void scatter(uint64_t from, const void *bytes, uint64_t len) {
-    struct fs_window windows[16];
-    size_t count;
-    while (len > 0 && (count = fs_room_windows(&chain, from, len, windows, 16)) > 0)
-        for (size_t k = 0; k < count; k++) {
-            memcpy((void *)windows[k].at, bytes, windows[k].len);
-            mark(windows[k].at, windows[k].len);
-            bytes = (const uint8_t *)bytes + windows[k].len, from += windows[k].len, len -= windows[k].len;
-        }
-}
-
-/* Takes the next chain. FS_DONE, FS_IDLE, or why there is none. A load of two bytes is at an even place, and is one load. */
-static uint32_t take_chain(struct fs_step *step) {
-    uint8_t bytes[FS_LOAD_MAX] = {0};
-    uint32_t status;
-    *step = (struct fs_step){0};
-    while ((status = fs_walk(&chain, &queue, bytes, step->len, step)) == FS_LOAD) {
-        uint16_t two = step->len == 2 ? load_two(step->at) : 0;
-        if (step->len == 2) memcpy(bytes, &two, 2);
-        else copy_out(bytes, step->at, step->len);
-    }
-    return status;
-}
-
-/* What a request asks, of which `have` bytes were loaded; the library says whether it wants more. */
-static uint32_t ask(uint64_t have, struct fs_call *call) {
-    uint32_t status;
-    while ((status = fs_ask(&chain, &device, request, have, call)) == FS_MORE && call->needed <= sizeof request) {
-        gather(request + have, have, call->needed - have);
-        have = call->needed;
-    }
-    return status;
-}
-
-/* Stores the reply's front, the used element and the index; `notify`: whether the driver wants an interrupt. */
-static uint32_t give_back(bool *notify) {
-    uint8_t front[FS_FRONT_MAX], wanted = 0;
-    struct fs_stores s;
-    uint32_t status = fs_return(&chain, &queue, front, sizeof front, &s);
-    if (status != FS_DONE) return status;
-    scatter(0, front, s.front_len);
-    atomic_store_explicit((_Atomic uint32_t *)s.id_at, s.id, memory_order_relaxed);
-    atomic_store_explicit((_Atomic uint32_t *)s.len_at, s.len, memory_order_relaxed);
-    atomic_store_explicit((_Atomic uint16_t *)s.index_at, s.index, memory_order_release);
-    mark(s.id_at, 4), mark(s.len_at, 4), mark(s.index_at, 2);
-    atomic_thread_fence(memory_order_seq_cst); /* else the flags may be loaded before the driver sees the index */
-    status = fs_returned(&chain, &queue, load_two(s.seen_at), &wanted);
-    *notify = *notify || wanted;
-    return status;
-}
-
-/* ------------------------------------------------------------- 2. a file system in memory
+/* ------------------------------------------------------------- 1. a file system in memory
  * File k is node k + 2; all of them stand in the root, node 1. One that has no name lives as long as the guest holds it. */
 
 struct file {
@@ -207,7 +129,7 @@ static uint32_t do_read(const struct fs_call *call) {
     if (!f) return fs_reply_err(&chain, ENOENT);
     uint64_t from = least(call->offset, f->attr.size);
     uint64_t len = least(f->attr.size - from, least(call->size, call->data_len));
-    scatter(call->data_at, f->contents + from, len);
+    scatter(&chain, call->data_at, f->contents + from, len);
     return fs_reply_data(&chain, len);
 }
 
@@ -216,7 +138,7 @@ static uint32_t do_write(const struct fs_call *call) {
     if (!f) return fs_reply_err(&chain, ENOENT);
     if (call->offset > CONTENTS || call->data_len > CONTENTS - call->offset) return fs_reply_err(&chain, EFBIG);
     if (call->offset + call->data_len > f->attr.size) set_size(f, call->offset + call->data_len);
-    gather(f->contents + call->offset, call->data_at, call->data_len);
+    gather(&chain, call->data_at, f->contents + call->offset, call->data_len);
     return fs_reply_write(&chain, (uint32_t)call->data_len);
 }
 
@@ -237,19 +159,22 @@ static uint32_t do_readdir(const struct fs_call *call) {
     }
     if (len == 0 && used > 0) return fs_reply_err(&chain, EINVAL); /* an empty list would end the directory */
     uint32_t status = fs_reply_entries(&chain, &len);
-    scatter(call->data_at, list, len);
+    scatter(&chain, call->data_at, list, len);
     return status;
 }
 
-/* ------------------------------------------------------------- 3. the monitor */
+/* ------------------------------------------------------------- 2. the monitor */
 
 /* A migration's log: whether this monitor stored to a page. */
 static bool written[MEMORY / PAGE];
 
-static void mark(uintptr_t at, size_t len) {
+static void mark(void *log, uintptr_t at, uint64_t len) {
+    bool *pages = log;
     size_t from = at - (uintptr_t)memory;
-    for (size_t page = from / PAGE; page < MEMORY / PAGE && page * PAGE < from + len; page++) written[page] = true;
+    for (size_t page = from / PAGE; page < MEMORY / PAGE && page * PAGE < from + len; page++) pages[page] = true;
 }
+
+static const struct marker marker = {mark, written};
 
 static void print_written(void) {
     printf("The pages that were written:");
@@ -294,22 +219,21 @@ static uint32_t reply_capitals(const struct fs_step *step, const struct fuse_in_
     uint64_t len = step->request_len - sizeof *in;
     struct fuse_out_header out = {.len = (uint32_t)(sizeof out + len), .unique = in->unique};
     if (out.len > step->room_len) return fs_reply_bytes(&chain, 0); /* silence */
-    gather(request + have, have, step->request_len - have);
+    gather(&chain, have, request + have, step->request_len - have);
     for (uint64_t k = sizeof *in; k < step->request_len; k++) request[k] = (uint8_t)toupper(request[k]);
-    scatter(0, &out, sizeof out);
-    scatter(sizeof out, request + sizeof *in, len);
+    scatter(&chain, 0, &out, sizeof out);
+    scatter(&chain, sizeof out, request + sizeof *in, len);
     return fs_reply_bytes(&chain, out.len);
 }
 
 /* FS_DONE: the chain may go back. Each byte of the request is loaded once. */
 static uint32_t serve_request(const struct fs_step *step) {
-    uint64_t have = least(step->request_len, FS_FIRST);
+    size_t have = load_front(&chain, step, request);
     struct fuse_in_header in = {0};
     struct fs_call call;
-    gather(request, 0, have);
     if (have >= sizeof in) memcpy(&in, request, sizeof in);
     if (in.opcode == CAPITALS) return reply_capitals(step, &in, have);
-    uint32_t status = ask(have, &call);
+    uint32_t status = ask(&chain, &device, request, have, &call);
     if (status != FS_DONE) return status;
     status = answer(&call);
     return status == FS_DONE || status == FS_NO_ROOM ? FS_DONE : fs_reply_err(&chain, EIO);
@@ -321,13 +245,13 @@ static uint32_t serve(bool *notify) {
     struct fs_step step;
     uint32_t status;
     *notify = false;
-    while ((status = take_chain(&step)) == FS_DONE) {
+    while ((status = take_chain(&chain, &queue, &step)) == FS_DONE) {
         if (step.fault) printf("Chain %u goes back with no reply: %s\n", step.head, fs_fault_name(step.fault));
         else status = serve_request(&step);
-        if (status == FS_DONE) status = give_back(notify);
+        if (status == FS_DONE) status = give_back(&chain, &queue, &marker, notify);
         if (status != FS_DONE) break;
     }
-    if (status != FS_IDLE) fs_drop(&chain, &queue); /* what was taken and isn't given back waits as before */
+    if (status != FS_IDLE) give_up(&chain, &queue); /* what was taken and isn't given back waits as before */
     return status;
 }
 

@@ -1,4 +1,4 @@
-# A Linux guest under QEMU: sourced by ./test. Its first files and scenarios are the C example's, and those of testing/scenarios.sh.
+# A Linux guest under QEMU: sourced by ./test. Its first files and scenarios stand in testing/guest.
 
 # QEMU, virtiofsd, busybox and a kernel, unpacked.
 take_guest() {
@@ -14,6 +14,15 @@ take_guest() {
     }
     make_image
     make_files
+}
+
+# virtiofsd alone.
+take_virtiofsd() {
+    [ ! -x "$root/usr/libexec/virtiofsd" ] || return 0
+    make_apt
+    theirs apt-get update > "$work/apt" 2>&1
+    # shellcheck disable=SC2046
+    unpack virtiofsd "$root" $(needed . virtiofsd) >> "$work/apt" 2>&1
 }
 
 # Runs a program of the other Debian with its own libraries.
@@ -44,10 +53,9 @@ make_image() {
     mkdir -p "$work"/root/{bin,dev,proc,sys,mnt,mod,tmp}
     : > "$work/root/mod/order"
     cp "$busybox" "$work/root/bin/busybox"
-    gcc -std=c11 -O2 -static -o "$work/root/bin/ask" "$example"/guest/{ask,calls}.c
-    gcc -std=c11 -O2 -static -o "$work/root/bin/hold" "$here/testing/hold.c"
-    cp "$example/guest/init" "$work/root/init"
-    cat "$example/guest/scenarios.sh" "$here/testing/scenarios.sh" > "$work/root/scenarios.sh"
+    gcc -std=c11 -O2 -static -o "$work/root/bin/ask" "$here"/testing/guest/{ask,calls}.c
+    gcc -std=c11 -O2 -static -o "$work/root/bin/hold" "$here/testing/guest/hold.c"
+    cp "$here"/testing/guest/{init,scenarios.sh} "$work/root/"
     chmod 755 "$work/root/init"
     take_module virtio_pci
     take_module virtiofs

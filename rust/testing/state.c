@@ -1,4 +1,4 @@
-/* Migration streams of one's own: state SERVER DIR SECONDS|full|lost. A state is taken out of the daemon, changed by chance, and handed in, again and
+/* Migration streams of one's own: state DAEMON DIR SECONDS|full|lost. A state is taken out of the daemon, changed by chance, and handed in, again and
  * again. Each time the daemon says whether it takes it; no node and no handle that came so leads out of DIR, beside which a file has
  * the word `secret`; and a device that is reset after it serves as a new one. With `full` the daemon has no descriptor left for the guest:
  * memory comes all the same, and the state goes out, and in again. With `lost` the guest holds a file that it has removed, which no path
@@ -176,7 +176,7 @@ static void lost(void) {
 
 int main(int argc, char **argv) {
     static const char *const few[] = {"--rlimit-nofile", "1600", NULL};
-    if (argc < 4) die("usage: state SERVER DIR SECONDS|full|lost");
+    if (argc < 4) die("usage: state DAEMON DIR SECONDS|full|lost");
     bool is_full = !strcmp(argv[3], "full");
     time_t now = time(NULL);
     chance_begin((uint64_t)now * 0x9e3779b97f4a7c15u | 1);

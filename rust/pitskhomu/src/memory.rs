@@ -4,8 +4,8 @@
 /// regions have. The guest and other threads write to it meanwhile, so no reference to its bytes may be had: each method copies, and
 /// looks at each byte once. No method fails: keep the memory mapped while a worker has regions of it.
 pub trait GuestMemory {
-    /// Copies bytes out, from any place: `bytes` is filled. What a guest puts into its request may have any length and stand at any
-    /// place, so two bytes here aren't a ring's.
+    /// Copies bytes out, from any place: `bytes` is filled. It is asked for tables of descriptors, up to 4,096 bytes of one at a time, and
+    /// for what a guest puts into its request, which may have any length and stand at any place: so two bytes here aren't a ring's.
     fn load(&self, at: usize, bytes: &mut [u8]);
 
     /// Takes a little-endian number of two bytes out of a ring, by one atomic load (relaxed is enough: the worker has the fences). `at` is

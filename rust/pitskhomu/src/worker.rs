@@ -233,8 +233,8 @@ impl Worker {
         }
     }
 
-    /// Loads what a walk wants. Its two bytes are a ring's: index, entry or flags; or they are the part of a descriptor on one side of a
-    /// region's end, and so at an even place too.
+    /// Loads what a walk wants. Two bytes are a ring's: index, entry or flags; or they are the part of a table on one side of a region's
+    /// end, and so at an even place too. Of a table it wants up to 4,096 bytes at once.
     fn load(&mut self, memory: &dyn GuestMemory) -> Result<(), Status> {
         let sys::Step { at, len, .. } = self.step;
         grow(&mut self.loaded, len)?;

@@ -199,6 +199,27 @@ fn an_indirect_table_over_two_regions() {
     assert_eq!((served.head, reply.data().len()), (7, 128));
 }
 
+/// An indirect table of 300 descriptors, longer than a load, whose chain goes to and fro in it; at odd places too.
+#[test]
+fn a_long_indirect_table() {
+    let (mut guest, recorder) = (Guest::new(), Recorder::default());
+    guest.memory.write(REQUEST, &request(1, 1, HELLO));
+    for table in [TABLE, TABLE + 7, LEN as u64 - 4800] {
+        let mut at = 0;
+        for (buffer, next) in [(Buffer(REQUEST, 40, false), 299), (Buffer(REQUEST + 40, 6, false), 150)] {
+            guest.descriptor(table, at, (buffer.0, buffer.1, NEXT, next));
+            at = next;
+        }
+        guest.descriptor(table, 150, (ROOM, 16, NEXT | DEVICE_WRITES, 1));
+        guest.descriptor(table, 1, (ROOM + 0x1000, 128, DEVICE_WRITES, 0));
+        guest.descriptor(DESCRIPTORS, 3, (table, 16 * 300, INDIRECT, 0));
+        guest.offer(3);
+        let (served, reply) = guest.serve(&recorder);
+        assert_eq!((served.head, served.fault, reply.data().len()), (3, None, 128));
+    }
+    assert_eq!(recorder.taken().len(), 3);
+}
+
 #[test]
 fn answers_without_room_are_taken_back() {
     let (mut guest, recorder) = (Guest::new(), Recorder::default());

@@ -55,7 +55,7 @@ void __wrap_free(void *block) {
 enum { PAGE = 4096, PAGES = 7, HIGH = 1, LOW = 3, LOW_MOVED = 5, BOUND = 2 * PAGE, SIZE = 64, JUNK = 0xa5 };
 enum { DESC = 0, AVAIL = 0x400, USED = 0x800, ROOM = 0xc00, REQUEST = 0x1000, ROOM_LEN = 0x400, CALLS = 400 };
 /* A table of descriptors one of which goes over the end of a region: the ninth, when a list of eight grows. */
-enum { SPLIT = 8, TABLE = BOUND - 16 * SPLIT - 8, PIECE = 4, ROOM_PIECE = 16, ROOM_PIECES = 10, WINDOWS = 64 };
+enum { SPLIT = 8, TABLE = BOUND - 16 * SPLIT - 8, PIECE = 4, ROOM_PIECE = 16, ROOM_PIECES = 10, WINDOWS = 64, NO_LOAD = FS_LOAD_MAX + 1 };
 
 /* What a handle shows of itself by calls that change nothing. */
 struct seen {
@@ -178,7 +178,7 @@ static _Noreturn void wrong_status(uint32_t status, uint32_t wanted) {
 /* A walk is handed more than any load has, a question more than any request has, an answer is of another kind: so each
  * says where the chain is, and does nothing. A free handle begins a walk, which tells its memory. */
 static void look(void) {
-    static const uint8_t nothing[FS_LOAD_MAX];
+    static const uint8_t nothing[NO_LOAD];
     struct seen *seen = &now.seen;
     struct fs_queue *queue = &now.queues[0];
     struct fs_call call;
@@ -316,10 +316,9 @@ static void put_request(const struct row *row) {
     for (size_t k = 0; k < row->byte_count; k++) put(guest++, (uint8_t)row->bytes[k], 1);
 }
 
-/* Offers it in two descriptors, or piece by piece. Answers how many loads its walk has: two of the rings, the
- * descriptors, and a second part of the one that is split. */
-static unsigned offer(const struct row *row) {
-    unsigned count = 0, loads = 4;
+/* Offers it in two descriptors, or piece by piece. */
+static void offer(const struct row *row) {
+    unsigned count = 0;
     size_t len = length(row);
     put_request(row);
     if (row->is_wide) {
@@ -328,14 +327,12 @@ static unsigned offer(const struct row *row) {
         for (unsigned k = 1; k <= ROOM_PIECES; k++)
             put_descriptor(TABLE, count++, ROOM + 2 * ROOM_PIECE * k, ROOM_PIECE, k < ROOM_PIECES ? 3 : 2);
         put_descriptor(DESC, 0, TABLE, 16 * (uint64_t)count, 4);
-        loads = count + 4;
     } else {
         put_descriptor(DESC, 0, REQUEST, len, 1);
         put_descriptor(DESC, 1, ROOM, ROOM_LEN, 2);
     }
     put(AVAIL + 4 + 2 * (now.offered % SIZE), 0, 2);
     put(AVAIL + 2, ++now.offered, 2);
-    return loads;
 }
 
 /* ------------------------------------------------------------- the script */
@@ -347,17 +344,23 @@ static void tell_memory(unsigned low, uint64_t high, uint32_t wanted) {
     while (again(fs_chain_set_memory(&chain, &now.device, regions, 2), wanted));
 }
 
-static void walk(unsigned loads, uint32_t wanted) {
+/* Walks on to a place that is to be loaded, or to the end where there is none. How many bytes a load has is the library's. */
+static void walk_to(uintptr_t end, uint32_t wanted) {
     uint8_t bytes[FS_LOAD_MAX];
+    uint32_t status;
     size_t len = 0;
     now.step = (struct fs_step){0};
-    for (unsigned k = 0; k <= loads; k++) {
-        do begin(WALK);
-        while (again(fs_walk(&chain, &now.queues[0], bytes, len, &now.step), k < loads ? FS_LOAD : wanted));
+    do {
+        do {
+            begin(WALK);
+            status = fs_walk(&chain, &now.queues[0], bytes, len, &now.step);
+        } while (again(status, status == FS_LOAD ? FS_LOAD : wanted));
         len = now.step.len;
         if (len > 0) memcpy(bytes, (const void *)now.step.at, len);
-    }
+    } while (status == FS_LOAD && now.step.at != end);
 }
+
+static void walk(uint32_t wanted) { walk_to(0, wanted); }
 
 static void drop(void) {
     do begin(DROP);
@@ -443,18 +446,18 @@ static void give_back(void) {
 }
 
 static void play(const struct row *row) {
-    unsigned loads = offer(row);
+    offer(row);
     row_name = row->name;
     if (row->is_wide) {
-        walk(SPLIT + 4, FS_LOAD); /* to the second part of what is split */
+        walk_to((uintptr_t)at(BOUND), FS_LOAD); /* to the second part of what is split */
         tell_memory(LOW_MOVED, BOUND, FS_CHAIN_OUT);
         drop();
     }
-    walk(loads, FS_DONE);
+    walk(FS_DONE);
     if (row->slips) {
         tell_memory(LOW_MOVED, BOUND, FS_CHAIN_OUT);
         drop();
-        walk(loads, FS_DONE);
+        walk(FS_DONE);
     }
     ask(row);
     answer(row);
@@ -494,7 +497,7 @@ static void free_chain(void) {
 static void play_script(void) {
     row_name = "memory";
     tell_memory(LOW, BOUND, FS_DONE);
-    walk(1, FS_IDLE);
+    walk(FS_IDLE);
     for (size_t k = 0; k < sizeof rows / sizeof rows[0]; k++) play(&rows[k]);
     move();
     row_name = "other memory";

@@ -2,7 +2,7 @@
  * SECONDS Pointers are good for their lengths, as the header asks; nothing else is. Checked after each call: the
  * status has a name; what is to be loaded, stored and moved lies in regions that were told; no buffer is written
  * beyond its end; a refusal changes no number. */
-#include "access.h"
+#include "../access.h"
 #include "chance.h"
 #include <stdio.h>
 #include <stdlib.h>
@@ -175,7 +175,7 @@ static void check_same(uint32_t status, const struct fs_queue *before, const str
 
 static uint32_t do_walk(struct bench *b, struct fs_queue *queue) {
     static uint8_t bytes[FS_LOAD_MAX];
-    size_t len = below(30) ? b->step.len : below(FS_LOAD_MAX + 1);
+    size_t len = below(30) ? b->step.len : (size_t)ONE_OF(16, below(FS_LOAD_MAX + 1));
     struct fs_queue before = *queue;
     struct fs_step step;
     if (len == b->step.len && len > 0 && is_told(b, b->step.at, len)) memcpy(bytes, (const void *)b->step.at, len);
@@ -216,7 +216,7 @@ static void do_ask(struct bench *b) {
     if (b->call.needed > want && b->have > 0) want = b->call.needed;
     if (below(20) == 0) want = below(4096);
     if (want > FS_REQUEST_MAX) return;
-    gather(&b->chain, b->request, 0, want);
+    gather(&b->chain, 0, b->request, want);
     b->have = want;
     uint32_t status = named(fs_ask(&b->chain, &device, b->request, want, &b->call));
     if (status == FS_DONE) asked++;

@@ -2,7 +2,7 @@
  * pieces of their own, by direct descriptors; answers and data are at hand.
  * cost [CHAINS]: prints for each kind of request the least of nine runs, in nanoseconds for a chain. */
 #define _POSIX_C_SOURCE 200809L
-#include "access.h"
+#include "../access.h"
 #include <stdio.h>
 #include <stdlib.h>
 #include <string.h>
@@ -94,10 +94,10 @@ static void serve_next(const struct row *row, struct fs_chain *chain, struct fs_
     struct fs_step step;
     struct fs_call call;
     uint8_t request[FS_FIRST];
-    bool notify;
+    bool notify = false;
     put(AVAIL + 2, (uint16_t)(queue->position + 1), 2);
-    if (take_chain(chain, queue, &step) || ask(chain, device, &step, request, &call) || row->answer(chain, &call) ||
-        give_back(chain, queue, NULL, &notify))
+    if (take_chain(chain, queue, &step) || ask(chain, device, request, load_front(chain, &step, request), &call) ||
+        row->answer(chain, &call) || give_back(chain, queue, NULL, &notify))
         abort();
 }
 

@@ -184,10 +184,11 @@ uint16_t front_stop_ring(struct front *front, size_t ring) {
 /* ------------------------------------------------------------- the back-end */
 
 void front_connect(struct front *front) {
-    const char *argv[16] = {front->server,          "--socket", front->socket, "--shared-dir", front->dir,
-                            "--num-request-queues", "2"};
+    enum { OPTIONS = 9, MOST = 16 };
+    const char *argv[MOST] = {front->server, "--socket-path", front->socket, "--shared-dir", front->dir, "--num-request-queues", "2",
+                              "--xattr", "--log-level=warn"};
     struct sockaddr_un address = {.sun_family = AF_UNIX};
-    for (size_t k = 0; front->options && front->options[k]; k++) argv[7 + k] = front->options[k];
+    for (size_t k = 0; front->options && front->options[k]; k++) argv[OPTIONS + k] = front->options[k];
     front->pid = fork();
     if (front->pid == 0) {
         execv(front->server, (char *const *)(uintptr_t)argv);

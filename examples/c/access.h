@@ -1,0 +1,43 @@
+/* Loads and stores in the memory of a guest that runs meanwhile, as pitskhomu.h asks for them. A monitor of your own
+ * can take access.h and access.c as they are. */
+#ifndef ACCESS_H
+#define ACCESS_H
+#include <pitskhomu.h>
+#include <stdbool.h>
+
+/* Who is told of each stretch that was stored to, by its place here: a migration's log. */
+struct marker {
+    void (*mark)(void *log, uintptr_t at, uint64_t len);
+    void *log;
+};
+
+/* One load of 2 bytes that acquires. */
+uint16_t load_index(uintptr_t at);
+
+/* One store of 2 bytes, and a full barrier. */
+void store_flags(uintptr_t at, uint16_t flags);
+
+/* Walks to the next chain of a queue: the status is FS_DONE with a chain, FS_IDLE, or why there is none. */
+uint32_t take_chain(struct fs_chain *chain, struct fs_queue *queue, struct fs_step *step);
+
+/* Copies `len` bytes of the request out, from its byte `from` on. */
+void gather(struct fs_chain *chain, uint64_t from, void *to, uint64_t len);
+
+/* Copies `len` bytes into the room of the reply, from its byte `from` on. */
+void scatter(struct fs_chain *chain, uint64_t from, const void *bytes, uint64_t len);
+
+/* Loads the request's first bytes, and says how many: at most FS_FIRST. */
+size_t load_front(struct fs_chain *chain, const struct fs_step *step, uint8_t *request);
+
+/* Asks what the request means, of which `have` bytes were loaded, and loads more as they are wanted, each once. `request` has
+ * FS_REQUEST_MAX bytes, which hold any request if the device's limit is that; a longer one is FS_SHORT_BUFFER. */
+uint32_t ask(struct fs_chain *chain, const struct fs_device *device, uint8_t *request, size_t have, struct fs_call *call);
+
+/* Gives a chain back in the order of VIRTIO 1.2, 2.7.8, and marks the stores and as much of the room as the reply has (what else
+ * was put into the room, mark yourself); `marker` may be NULL. `notify` becomes true if the driver wants to be told. */
+uint32_t give_back(struct fs_chain *chain, struct fs_queue *queue, const struct marker *marker, bool *notify);
+
+/* Has no chain out of the queue, whatever this one came to: what was taken and isn't given back waits as before. */
+void give_up(struct fs_chain *chain, struct fs_queue *queue);
+
+#endif

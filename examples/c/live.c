@@ -1,0 +1,152 @@
+#define _GNU_SOURCE
+#include "live.h"
+#include <errno.h>
+#include <poll.h>
+#include <stdatomic.h>
+#include <stdlib.h>
+#include <sys/eventfd.h>
+#include <unistd.h>
+
+enum { PAGE_SIZE = 4096, LIMIT = FS_REQUEST_MAX, RETRY_MILLISECONDS = 10, NO_NOTIFY = 1 };
+
+/* What came of looking for a chain: one went back, none waits, or one waits for which there is no memory yet. */
+enum found { SERVED, NOTHING, LATER };
+
+static void signal_event(int fd) {
+    uint64_t one = 1;
+    if (write(fd, &one, sizeof one) < 0) return; /* a full counter wakes as well */
+}
+
+/* ------------------------------------------------------------- one chain */
+
+/* From the request to the reply, without the lock: a slow file holds its own chain alone. */
+static uint32_t serve_request(struct worker *worker, const struct fs_step *step) {
+    struct live *live = worker->live;
+    struct fs_device device = {PAGE_SIZE, LIMIT, atomic_load(live->options)};
+    uint64_t options = device.options;
+    struct fs_call call;
+    size_t have = load_front(&worker->chain, step, worker->request);
+    uint32_t status = ask(&worker->chain, &device, worker->request, have, &call);
+    if (status != FS_DONE) return status;
+    status = live->answer(live->files, &worker->chain, &device, &call, worker->request);
+    if (device.options != options) atomic_store(live->options, device.options);
+    return status == FS_DONE || status == FS_NO_ROOM ? FS_DONE : fs_reply_err(&worker->chain, EIO);
+}
+
+/* Takes the next chain. The library lets one out of a queue at a time, so threads of one queue take turns. */
+static uint32_t take(struct worker *worker, struct fs_step *step) {
+    struct live *live = worker->live;
+    uint32_t status;
+    while ((status = take_chain(&worker->chain, &live->queue, step)) == FS_CHAIN_OUT) {
+        live->busy++;
+        pthread_cond_wait(&live->returned, &live->lock);
+    }
+    return status;
+}
+
+/* The lock is held, but while the request is served. */
+static enum found serve_one(struct worker *worker) {
+    struct live *live = worker->live;
+    struct fs_step step;
+    bool notify = false;
+    uint32_t status = live->refused ? FS_IDLE : take(worker, &step);
+    if (status == FS_IDLE) return NOTHING;
+    if (status == FS_DONE && step.fault == 0) {
+        pthread_mutex_unlock(&live->lock);
+        status = serve_request(worker, &step);
+        pthread_mutex_lock(&live->lock);
+    } else if (status == FS_DONE) {
+        live->faulty++;
+    }
+    if (status == FS_DONE) status = give_back(&worker->chain, &live->queue, live->marker, &notify);
+    if (status != FS_DONE) give_up(&worker->chain, &live->queue);
+    pthread_cond_broadcast(&live->returned);
+    if (status == FS_OUT_OF_MEMORY) return LATER;
+    if (status == FS_DONE) live->served++;
+    else if (!live->refused) live->refused = status;
+    if (notify) signal_event(live->call);
+    return status == FS_DONE ? SERVED : NOTHING;
+}
+
+/* ------------------------------------------------------------- sleep and wake */
+
+/* Says in the used ring's flags whether the driver has to kick (VIRTIO 1.2, 2.7.10). */
+static void want_kicks(struct live *live, bool wanted) {
+    store_flags(live->used_at, wanted ? 0 : NO_NOTIFY);
+    if (live->marker) live->marker->mark(live->marker->log, live->used_at, 2);
+}
+
+/* Serves chains until none waits. While somebody looks for chains anyway, a kick would cost the guest an exit for nothing. Behind the
+ * barrier it looks once more: the driver may have read the flags before they changed. */
+static enum found serve_all(struct worker *worker) {
+    struct live *live = worker->live;
+    enum found found;
+    pthread_mutex_lock(&live->lock);
+    do {
+        if (live->looking++ == 0) want_kicks(live, false);
+        while ((found = serve_one(worker)) == SERVED) {}
+        if (--live->looking == 0) want_kicks(live, true);
+    } while (found == NOTHING && (found = serve_one(worker)) == SERVED);
+    pthread_mutex_unlock(&live->lock);
+    return found;
+}
+
+/* A kick wakes the threads, each of which goes on until no chain waits: what comes behind the last walk brings a kick of its own. */
+static void *work(void *at) {
+    struct worker *worker = at;
+    struct live *live = worker->live;
+    struct pollfd events[2] = {{live->quit, POLLIN, 0}, {live->kick, POLLIN, 0}};
+    uint64_t kicks;
+    do {
+        int limit = serve_all(worker) == LATER ? RETRY_MILLISECONDS : -1;
+        if (poll(events, 2, limit) < 0 && errno != EINTR) break;
+        if (events[1].revents & POLLIN && read(live->kick, &kicks, sizeof kicks) < 0 && errno != EAGAIN) break;
+    } while (!(events[0].revents & POLLIN));
+    return NULL;
+}
+
+/* ------------------------------------------------------------- start and stop */
+
+static int start_worker(struct live *live, const struct fs_region *regions, size_t region_count) {
+    struct worker *worker = &live->workers[live->count];
+    struct fs_device device = {PAGE_SIZE, LIMIT, 0};
+    *worker = (struct worker){.live = live, .request = malloc(FS_REQUEST_MAX)};
+    live->count++;
+    if (!worker->request) return ENOMEM;
+    if (fs_chain_set_memory(&worker->chain, &device, regions, region_count) != FS_DONE) return EINVAL;
+    int error = pthread_create(&worker->thread, NULL, work, worker);
+    if (error) fs_chain_free(&worker->chain);
+    return error;
+}
+
+int live_start(struct live *live, const struct fs_region *regions, size_t region_count, size_t thread_count) {
+    live->quit = eventfd(0, EFD_CLOEXEC);
+    live->workers = calloc(thread_count, sizeof *live->workers);
+    if (live->quit < 0 || !live->workers || pthread_mutex_init(&live->lock, NULL) || pthread_cond_init(&live->returned, NULL))
+        return ENOMEM;
+    for (size_t k = 0; k < thread_count; k++) {
+        int error = start_worker(live, regions, region_count);
+        if (error) return error;
+    }
+    return 0;
+}
+
+uint32_t live_refusal(struct live *live) {
+    pthread_mutex_lock(&live->lock);
+    uint32_t refused = live->refused;
+    pthread_mutex_unlock(&live->lock);
+    return refused;
+}
+
+void live_stop(struct live *live) {
+    signal_event(live->quit);
+    for (size_t k = 0; k < live->count; k++) {
+        pthread_join(live->workers[k].thread, NULL);
+        fs_chain_free(&live->workers[k].chain);
+        free(live->workers[k].request);
+    }
+    free(live->workers);
+    live->workers = NULL;
+    live->count = 0;
+    close(live->quit);
+}

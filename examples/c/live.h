@@ -1,0 +1,50 @@
+/* A queue that is served while its guest runs: threads that wait for the driver's kicks, and call it. A monitor of your own can
+ * take live.h and live.c as they are, with access.h and access.c: `kick` and `call` are eventfds that don't block, as KVM's ioeventfd
+ * and irqfd and vhost-user have them. */
+#ifndef LIVE_H
+#define LIVE_H
+#include "access.h"
+#include <pthread.h>
+
+/* What answers a call: FS_DONE or FS_NO_ROOM, or why the chain gets no such answer (it is told EIO then). `device` is a copy of
+ * the device's numbers, whose options INIT may change. Threads of other queues answer meanwhile. */
+typedef uint32_t answerer(void *files, struct fs_chain *chain, struct fs_device *device, const struct fs_call *call,
+                          const uint8_t *request);
+
+/* A thread's own: a chain, and the bytes of its request. */
+struct worker {
+    struct live *live;
+    struct fs_chain chain;
+    pthread_t thread;
+    uint8_t *request;
+};
+
+/* Set the first eight, and the rest to 0. `used_at` is the place here of the used ring's flags. */
+struct live {
+    struct fs_queue queue; /* from here on the threads', under the lock */
+    uintptr_t used_at;
+    int kick, call;
+    _Atomic uint64_t *options; /* what INIT agreed on: all queues of a device share it */
+    answerer *answer;
+    void *files;
+    const struct marker *marker; /* or NULL */
+    uint64_t served, faulty, busy; /* chains that went back, with a fault too; how often a thread waited for another's chain */
+    uint32_t refused;              /* why the queue isn't served any more, or 0 */
+    unsigned looking;              /* threads that look for chains: meanwhile no kick is wanted */
+    pthread_mutex_t lock;
+    pthread_cond_t returned;
+    struct worker *workers;
+    size_t count;
+    int quit;
+};
+
+/* Starts so many threads over the guest's memory. 0 or an errno. */
+int live_start(struct live *live, const struct fs_region *regions, size_t region_count, size_t thread_count);
+
+/* Why the queue isn't served any more (set DEVICE_NEEDS_RESET), or 0. */
+uint32_t live_refusal(struct live *live);
+
+/* Ends the threads, when their chains are back: `queue.position` is where the queue stands. */
+void live_stop(struct live *live);
+
+#endif

@@ -1,0 +1,129 @@
+#define _GNU_SOURCE
+#include "driver.h"
+#include <errno.h>
+#include <poll.h>
+#include <stdarg.h>
+#include <stdio.h>
+#include <stdlib.h>
+#include <string.h>
+#include <sys/eventfd.h>
+#include <sys/mman.h>
+#include <unistd.h>
+
+enum { MEMORY_LEN = 2 * REGION_LEN + QUIET_LEN, NO_INTERRUPT = 1, NO_NOTIFY = 1 };
+
+void die(const char *format, ...) {
+    va_list args;
+    va_start(args, format);
+    fputs("FAILED: ", stderr);
+    vfprintf(stderr, format, args);
+    fputc('\n', stderr);
+    va_end(args);
+    exit(1);
+}
+
+/* ------------------------------------------------------------- places */
+
+uint8_t *place_of(const struct driver *driver, uint64_t guest) {
+    if (guest < REGION_LEN) return driver->memory + guest;
+    if (guest - HIGH < REGION_LEN) return driver->memory + REGION_LEN + (guest - HIGH);
+    if (guest - QUIET < QUIET_LEN) return driver->memory + 2 * REGION_LEN + (guest - QUIET);
+    die("no such place: %#llx", (unsigned long long)guest);
+}
+
+_Atomic uint16_t *index_of(const struct driver *driver, uint64_t guest) {
+    return (_Atomic uint16_t *)(void *)place_of(driver, guest);
+}
+
+/* ------------------------------------------------------------- the queue */
+
+static void start(struct driver *driver, uint16_t position) {
+    uintptr_t host = (uintptr_t)driver->memory;
+    const struct fs_region regions[REGIONS] = {
+        {QUIET, QUIET_LEN, host + 2 * REGION_LEN}, {0, REGION_LEN, host}, {HIGH, REGION_LEN, host + REGION_LEN}};
+    driver->live = (struct live){.queue = {.desc = DESC, .avail = AVAIL, .used = USED, .size = RING_SIZE, .position = position},
+                                 .used_at = (uintptr_t)place_of(driver, USED),
+                                 .kick = driver->live.kick,
+                                 .call = driver->live.call,
+                                 .options = &driver->options,
+                                 .answer = answer_some,
+                                 .files = &driver->answers};
+    driver->offered = driver->seen = position;
+    int error = live_start(&driver->live, regions, REGIONS, driver->thread_count);
+    if (error) die("the queue doesn't start: %s", strerror(error));
+}
+
+static void stop(struct driver *driver) {
+    live_stop(&driver->live);
+    driver->served += driver->live.served;
+    driver->busy += driver->live.busy;
+}
+
+void driver_begin(struct driver *driver, size_t thread_count) {
+    *driver = (struct driver){.thread_count = thread_count, .answers = {.yields = thread_count > 1}};
+    driver->memory = mmap(NULL, MEMORY_LEN, PROT_READ | PROT_WRITE, MAP_SHARED | MAP_ANONYMOUS, -1, 0);
+    driver->live.kick = eventfd(0, EFD_NONBLOCK | EFD_CLOEXEC);
+    driver->live.call = eventfd(0, EFD_NONBLOCK | EFD_CLOEXEC);
+    if (driver->memory == MAP_FAILED || driver->live.kick < 0 || driver->live.call < 0) die("no memory");
+    start(driver, 0);
+}
+
+void driver_reset(struct driver *driver) {
+    stop(driver);
+    memset(place_of(driver, AVAIL), 0, 0x1000);
+    memset(place_of(driver, USED), 0, 0x1000);
+    start(driver, 0);
+}
+
+void driver_end(struct driver *driver) {
+    stop(driver);
+    close(driver->live.kick);
+    close(driver->live.call);
+    munmap(driver->memory, MEMORY_LEN);
+}
+
+/* ------------------------------------------------------------- the driver */
+
+void put_descriptor(const struct driver *driver, uint64_t table, unsigned k, uint64_t addr, uint64_t len, unsigned flags,
+                    unsigned next) {
+    struct {
+        uint64_t addr;
+        uint32_t len;
+        uint16_t flags, next;
+    } d = {addr, (uint32_t)len, (uint16_t)flags, (uint16_t)next};
+    memcpy(place_of(driver, table) + 16 * (size_t)k, &d, sizeof d);
+}
+
+void offer(struct driver *driver, uint16_t head) {
+    _Atomic uint16_t *entry = index_of(driver, AVAIL + 4 + 2u * (driver->offered % RING_SIZE));
+    atomic_store_explicit(entry, head, memory_order_relaxed);
+    driver->offered++;
+    atomic_store_explicit(index_of(driver, AVAIL + 2), driver->offered, memory_order_release);
+}
+
+void kick(struct driver *driver) {
+    uint64_t one = 1;
+    atomic_thread_fence(memory_order_seq_cst);
+    if (atomic_load_explicit(index_of(driver, USED), memory_order_relaxed) & NO_NOTIFY) return;
+    if (write(driver->live.kick, &one, sizeof one) < 0) die("no kick");
+}
+
+static bool is_back(struct driver *driver) {
+    driver->seen = atomic_load_explicit(index_of(driver, USED + 2), memory_order_acquire);
+    return driver->seen == driver->offered;
+}
+
+bool wait_for_all(struct driver *driver, int milliseconds) {
+    _Atomic uint16_t *flags = index_of(driver, AVAIL);
+    struct pollfd event = {driver->live.call, POLLIN, 0};
+    uint64_t calls;
+    for (;;) {
+        atomic_store_explicit(flags, NO_INTERRUPT, memory_order_relaxed);
+        if (is_back(driver)) return true;
+        atomic_store_explicit(flags, 0, memory_order_relaxed);
+        atomic_thread_fence(memory_order_seq_cst);
+        if (is_back(driver)) return true;
+        if (poll(&event, 1, milliseconds) <= 0) return is_back(driver);
+        if (read(event.fd, &calls, sizeof calls) < 0 && errno != EAGAIN) die("no call");
+    }
+}
