@@ -91,7 +91,7 @@ extern "C" {
 
 /* ---------------------------------------------------------------- numbers */
 
-#define FS_VERSION 4u          /* of this header; fs_version() is the archive's */
+#define FS_VERSION 5u          /* of this header; fs_version() is the archive's */
 #define FS_REGIONS_MAX 64u     /* regions of the guest's memory */
 #define FS_QUEUES_MAX 64u      /* queues in a record */
 #define FS_LOAD_MAX 4096u      /* no load of a walk is longer; today's have 2 or 16 bytes, or parts of these */
@@ -290,6 +290,10 @@ static inline const char *fs_call_name(uint32_t kind) {
 
 /* The archive's FS_VERSION: compare it once where header and archive may be of two releases. */
 uint32_t fs_version(void);
+
+/* Whether a name is one component of a path, which is looked up in its directory alone: 1, or 0 if it is empty, "." or "..", or has a slash or a
+ * zero byte (POSIX.1-2017, 3.170 and 4.13). A guest's names may be any of these: who serves a directory of the host asks at each. */
+uint8_t fs_is_name(const uint8_t *name, size_t len) FS_CHECK FS_NONNULL(1);
 
 /* ---------------------------------------------------------------- device and queues: numbers that you keep */
 

@@ -3,6 +3,7 @@ pub mod Calls
 pub mod Handles
 pub mod Listing
 pub mod Memory
+pub mod Names
 pub mod Numbers
 pub mod Owned
 pub mod Queues

@@ -15,7 +15,7 @@ use fs_chain::ChainError;
 use std::alloc::Global;
 
 /// The header's number.
-const VERSION: u32 = 4;
+const VERSION: u32 = 5;
 
 /// What is told of a handle that has no workbench.
 pub(crate) fn wrong_order() -> u32
@@ -27,7 +27,7 @@ pub(crate) fn wrong_order() -> u32
 /// The number of the header that the archive goes with.
 #[unsafe(no_mangle)]
 pub extern "C" fn fs_version() -> u32
-    ensures { result ≡ 4 }
+    ensures { result ≡ 5 }
 {
     VERSION
 }

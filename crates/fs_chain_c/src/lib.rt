@@ -12,6 +12,7 @@ mod fields;
 mod handle;
 mod listing;
 mod memory;
+mod names;
 mod parts;
 mod queue;
 mod ranges;
@@ -29,6 +30,7 @@ pub use exports::{
     fs_room_windows, fs_version, fs_walk,
 };
 pub use listing::{fs_add_direntry, fs_add_direntry_plus, fs_reply_entries, fs_reply_err};
+pub use names::fs_is_name;
 pub use ranges::fs_room_ranges;
 pub use record::{fs_restore, fs_save};
 pub use replies::{

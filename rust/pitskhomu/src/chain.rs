@@ -248,6 +248,12 @@ pub(crate) fn version() -> u32 {
     unsafe { sys::fs_version() }
 }
 
+/// Whether a name is one component of a path.
+pub(crate) fn is_name(name: &[u8]) -> bool {
+    // SAFETY: as the module says.
+    unsafe { sys::fs_is_name(name.as_ptr(), name.len()) == 1 }
+}
+
 /// How long the record is, also with `ShortBuffer`, and whether it stands in the buffer.
 pub(crate) fn save(device: &sys::Device, queues: &[Queue], buffer: &mut [u8]) -> (usize, Result<(), Status>) {
     let mut len = 0;

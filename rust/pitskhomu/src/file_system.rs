@@ -10,7 +10,7 @@ use crate::CStr;
 use core::time::Duration;
 
 /// A file system, which workers of several threads share by reference. Numbers of nodes and open files are its own. A name is any bytes but
-/// zero: who serves a directory of the host refuses `..` and slashes. What isn't implemented answers ENOSYS, or "done" where that is
+/// zero: who serves a directory of the host refuses what [`is_name`](crate::is_name) does. What isn't implemented answers ENOSYS, or "done" where that is
 /// harmless. An answer whose reply has no room is taken back: an entry by `forget`, an open file by `release`.
 #[allow(unused_variables)]
 pub trait FileSystem {

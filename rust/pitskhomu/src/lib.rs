@@ -92,3 +92,9 @@ pub const VERSION: u32 = sys::VERSION;
 pub fn version() -> u32 {
     chain::version()
 }
+
+/// Whether a name is one component of a path, which is looked up in its directory alone. If not, it is empty, `.` or `..`, or has a
+/// slash or a zero byte.
+pub fn is_name(name: &[u8]) -> bool {
+    chain::is_name(name)
+}

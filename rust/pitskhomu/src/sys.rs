@@ -4,7 +4,7 @@ use crate::memory::{GuestRange as Range, Region, Window};
 use crate::queue::Queue;
 use core::ffi::c_void;
 
-pub const VERSION: u32 = 4;
+pub const VERSION: u32 = 5;
 pub const REGIONS_MAX: usize = 64;
 pub const QUEUES_MAX: usize = 64;
 pub const FIRST: usize = 80;
@@ -212,6 +212,7 @@ pub struct Stores {
 #[rustfmt::skip]
 extern "C" {
     pub fn fs_version() -> u32;
+    pub fn fs_is_name(name: *const u8, len: usize) -> u8;
     pub fn fs_chain_set_memory(chain: &mut Chain, device: &Device, regions: *const Region, region_count: usize) -> u32;
     pub fn fs_chain_free(chain: &mut Chain);
     pub fn fs_walk(chain: &mut Chain, queue: &mut Queue, loaded: *const u8, loaded_len: usize, step: &mut Step) -> u32;
